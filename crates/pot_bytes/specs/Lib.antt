@@ -1,0 +1,4 @@
+pub mod Digests
+pub mod KeptNames
+pub mod Names
+pub mod Sums

@@ -1,0 +1,64 @@
+ghost use Rattle.std.specs.Prelude.{◌≡◌, ◌<◌, ◌≤◌, ℕ, List, length};
+ghost use Rattle.pot_bytes.specs.Sums.{xor, zero_block};
+
+use std::marker::Model;
+
+/// What an archive holds in one slot: 1,024 bytes. Contracts see the list of its bytes.
+#[derive(Clone, Copy)]
+pub struct Block {
+    bytes: [u8; 1024],
+}
+
+impl Model for Block {
+    ghost use Rattle.std.specs.Prelude.{◌≡◌, ℕ, List, length};
+
+    ghost Value = { List ℕ };
+
+    ghost view = { λ b. b.bytes };
+
+    ghost invariant = { λ b. length b.bytes ≡ 1024 };
+
+    ghost inverse = { λ v. record { bytes = v } };
+}
+
+impl Block {
+    /// The block of zeros.
+    pub fn zero() -> Block
+        ensures { result ≡ zero_block }
+    {
+        Block { bytes: [0; 1024] }
+    }
+
+    /// The block of these bytes.
+    pub fn from_bytes(bytes: [u8; 1024]) -> Block
+        ensures { result ≡ bytes }
+    {
+        Block { bytes }
+    }
+
+    /// Its bytes.
+    pub fn bytes(&self) -> &[u8; 1024]
+        ensures value { result.now ≡ self.now }
+        ensures len { length self.now ≡ 1024 }
+    {
+        &self.bytes
+    }
+
+    /// XORs another block into it.
+    pub fn xor(&mut self, from: &Block)
+        ensures value { self.new ≡ xor self.old from.now }
+        ensures len { length self.new ≡ 1024 }
+    {
+        xor_into(&mut self.bytes, &from.bytes);
+    }
+}
+
+/// XORs `from` into `into`, place by place.
+pub fn xor_into(into: &mut [u8], from: &[u8])
+    requires { length into.old ≡ length from.now }
+    ensures { into.new ≡ xor into.old from.now }
+{
+    for i in 0..into.len() {
+        into[i] ^= from[i];
+    }
+}
