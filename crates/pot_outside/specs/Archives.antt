@@ -1,0 +1,58 @@
+-- What a call of an archive does to its blocks, and what a room means by a number.
+use Rattle.std.specs.Prelude.{◌≡◌, ◌≢◌, ◌<◌, ◌≤◌, ◌-◌, ◌^◌, ◌==◌, ◌⊎◌, ◌++◌, ℕ, List, [], ◌∷◌, Option, Some, None, Result, Ok, Err, Contains, if◌then◌else◌}
+use Rattle.pot_outside.specs.declared.archive.Held.{Held as IsHeld}
+use Rattle.pot_outside.specs.declared.archive.Held.TheVariants.{Held, Absent}
+use Rattle.pot_outside.specs.declared.faults.Failed.{Failed}
+
+-- the block of each slot
+abbrev pub Contents : Type 0
+Contents = ℕ → Option (List ℕ)
+
+-- the contents with this in the place of one slot's
+abbrev pub at_slot : Contents → ℕ → Option (List ℕ) → Contents
+at_slot held slot block k = if k == slot then block else held k
+
+-- No block is new or altered. While the count of losses stays below its last value and does not rise, none is gone.
+pub record OnlyLoses (old new : Contents) (before now : ℕ) : Type 0 where
+  pub later : before ≤ now
+  pub keeps : (k : ℕ) (b : List ℕ) → new k ≡ Some b → old k ≡ Some b
+  pub same : (k : ℕ) → now ≡ before → now < 2 ^ 64 - 1 → new k ≡ old k
+
+-- `Held`: the buffer is the slot's block; `Absent`: the slot has none
+abbrev pub ReadTells : Contents → ℕ → List ℕ → Result IsHeld Failed → Type 0
+ReadTells held slot into (Ok Held) = held slot ≡ Some into
+ReadTells held slot into (Ok Absent) = held slot ≡ None
+ReadTells held slot into (Err e) = Unit {0}
+
+-- what a failed write may leave in its slot: the old block, the new one or none
+abbrev pub MayLeave : Contents → ℕ → List ℕ → Option (List ℕ) → Type 0
+MayLeave old slot block left = (left ≡ old slot) ⊎ ((left ≡ Some block) ⊎ (left ≡ None))
+
+-- a write puts the block into its slot, or fails and leaves what it may; then blocks may be lost
+abbrev pub WriteTells : Contents → Contents → ℕ → ℕ → ℕ → List ℕ → Result (Unit {0}) Failed → Type 0
+WriteTells old new before now slot block (Ok u) = OnlyLoses (at_slot old slot (Some block)) new before now
+WriteTells old new before now slot block (Err e) =
+    (left : Option (List ℕ)) × MayLeave old slot block left × OnlyLoses (at_slot old slot left) new before now
+
+-- a write adds its block to the blocks that were ever held, and one that fails may add none
+abbrev pub Remembers : List (List ℕ) → List (List ℕ) → List ℕ → Result (Unit {0}) Failed → Type 0
+Remembers old new block (Ok u) = new ≡ old ++ block ∷ []
+Remembers old new block (Err e) = (new ≡ old) ⊎ (new ≡ old ++ block ∷ [])
+
+-- every block that is held is among those that were ever held
+abbrev pub IsRemembered : Contents → List (List ℕ) → Type 0
+IsRemembered held history = (k : ℕ) (b : List ℕ) → held k ≡ Some b → Contains history b
+
+-- what a room means by one number: the blocks, those ever held, and the two counts
+pub record Meaning : Type 0 where
+  pub held : Contents
+  pub history : List (List ℕ)
+  pub faults : ℕ
+  pub losses : ℕ
+
+-- an archive is as the room means it
+pub record IsMeant (meaning : Meaning) (held : Contents) (history : List (List ℕ)) (faults losses : ℕ) : Type 0 where
+  pub blocks : (slot : ℕ) → held slot ≡ meaning.held slot
+  pub past : history ≡ meaning.history
+  pub faulted : faults ≡ meaning.faults
+  pub lost : losses ≡ meaning.losses
