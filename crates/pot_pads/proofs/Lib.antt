@@ -1,0 +1,2 @@
+pub mod PadsLemmas
+pub mod PlaceLemmas
