@@ -1,4 +1,4 @@
-ghost use Rattle.std.specs.Prelude.{◌≡◌, ◌<◌, ◌≤◌, ℕ, List, length};
+ghost use Rattle.std.specs.Prelude.{◌≡◌, ◌≤◌, ◌-◌, ◌++◌, length, drop, replicate};
 ghost use Rattle.pot_bytes.specs.Sums.{xor, zero_block};
 
 use std::marker::Model;
@@ -36,6 +36,16 @@ impl Block {
         Block { bytes }
     }
 
+    /// The block of these bytes, at most 1,024, with zeros behind them.
+    pub fn padded(front: &[u8]) -> Block
+        requires { length front.now ≤ 1024 }
+        ensures { result ≡ front.now ++ replicate (1024 - length front.now) 0 }
+    {
+        let mut bytes = [0u8; 1024];
+        put_front(&mut bytes, front);
+        Block { bytes }
+    }
+
     /// Its bytes.
     pub fn bytes(&self) -> &[u8; 1024]
         ensures value { result.now ≡ self.now }
@@ -51,6 +61,14 @@ impl Block {
     {
         xor_into(&mut self.bytes, &from.bytes);
     }
+}
+
+/// Writes `from` over the first bytes of `into`.
+pub(crate) fn put_front(into: &mut [u8], from: &[u8])
+    requires { length from.now ≤ length into.old }
+    ensures { into.new ≡ from.now ++ drop (length from.now) into.old }
+{
+    into[..from.len()].copy_from_slice(from);
 }
 
 /// XORs `from` into `into`, place by place.

@@ -6,6 +6,7 @@ ghost use Rattle.std.specs.Ordering.{nat_cmp, as_partial_cmp};
 ghost use Rattle.std.proofs.Common.{rules};
 ghost use Rattle.pot_bytes.specs.Names.{IsName, is_name_byte};
 
+use crate::block::put_front;
 use std::cmp::Ordering;
 use std::marker::Model;
 
@@ -64,14 +65,6 @@ fn is_name(bytes: &[u8]) -> bool
     ensures { IsTrue result ↔ IsName bytes.now }
 {
     !bytes.is_empty() && bytes.len() <= 64 && bytes.iter().all(|b| is_name_byte(*b))
-}
-
-/// Writes `from` over the first bytes of `into`.
-fn put_front(into: &mut [u8], from: &[u8])
-    requires { length from.now ≤ length into.old }
-    ensures { into.new ≡ from.now ++ drop (length from.now) into.old }
-{
-    into[..from.len()].copy_from_slice(from);
 }
 
 fn is_name_byte(byte: u8) -> bool
