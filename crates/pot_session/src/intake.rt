@@ -1,0 +1,59 @@
+//! Reads a source to its end.
+
+ghost use Rattle.std.specs.Prelude.{◌≡◌, ◌<◌, ◌^◌, ◌≤◌, ◌++◌, [], List, ℕ, length, IsTrue, IfOk, IsErrOf};
+ghost use Rattle.pot_outside.specs.Counts.{Caused};
+ghost use Rattle.pot_session.specs.Streams.{IsReadOut};
+
+use pot_outside::{Failed, Source};
+use std::alloc::{AllocError, Global};
+
+/// Why a source was not read.
+#[derive(Clone, Copy, PartialEq, Eq, Debug)]
+pub enum IntakeFault {
+    Failed,
+    NoMemory,
+}
+
+impl From<Failed> for IntakeFault {
+    ghost use Rattle.std.specs.Prelude.{◌≡◌};
+    ghost use Rattle.pot_session.specs.declared.intake.IntakeFault.TheVariants.{Failed};
+
+    ghost from_gives = { λ _ e. e ≡ Failed };
+
+    fn from(_: Failed) -> Self {
+        IntakeFault::Failed
+    }
+}
+
+impl From<AllocError> for IntakeFault {
+    ghost use Rattle.std.specs.Prelude.{◌≡◌};
+    ghost use Rattle.pot_session.specs.declared.intake.IntakeFault.TheVariants.{NoMemory};
+
+    ghost from_gives = { λ _ e. e ≡ NoMemory };
+
+    fn from(_: AllocError) -> Self {
+        IntakeFault::NoMemory
+    }
+}
+
+/// The bytes of the source up to its end, or its first bytes, more than `limit`.
+pub fn read_out<S: Source>(
+    alloc: Global,
+    source: &mut S,
+    limit: usize,
+) -> Result<Vec<u8>, IntakeFault>
+    requires { limit < 2 ^ 32 }
+    ensures told { IsTrue S.tells → IfOk result (λ bytes. IsReadOut (S.left source.old) (S.left source.new) bytes.items limit) }
+    ensures cause { Caused (S.faults source.old) (S.faults source.new) (IsErrOf result IntakeFault.Failed) }
+{
+    let mut bytes = Vec::new(alloc);
+    let mut buffer = [0u8; 4096];
+    while bytes.len() <= limit {
+        let count = source.read(&mut buffer)?;
+        if count == 0 {
+            return Ok(bytes);
+        }
+        bytes.extend_from_slice(&buffer[..count])?;
+    }
+    Ok(bytes)
+}

@@ -1,0 +1,6 @@
+//! The top call.
+#![tactic(auto)]
+
+mod intake;
+mod output;
+mod pair;
