@@ -2,7 +2,9 @@
 #![tactic(auto)]
 
 mod decimal_number;
+mod printing;
 mod reply;
 
 pub use decimal_number::read_number;
+pub use printing::{print_bad_line, print_reply, print_words_refused};
 pub use reply::Reply;

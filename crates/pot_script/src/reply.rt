@@ -1,3 +1,5 @@
+ghost use Rattle.std.specs.Prelude.{◌≡◌};
+
 use pot_bytes::{Bytes, Name};
 
 /// What a command of the script answers.
