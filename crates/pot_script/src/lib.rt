@@ -1,10 +1,15 @@
 //! The script that a run reads and the replies that it writes, as texts.
 #![tactic(auto)]
 
+mod command;
 mod decimal_number;
+mod fault;
+mod line;
 mod printing;
 mod reply;
 
+pub use command::Command;
 pub use decimal_number::read_number;
+pub use fault::ScriptFault;
 pub use printing::{print_bad_line, print_reply, print_words_refused};
 pub use reply::Reply;
