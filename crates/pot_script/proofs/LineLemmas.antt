@@ -41,10 +41,10 @@ one_cut byte (h ∷ a) (k ∷ b) x y p q e =
     (ap (λ (c : ℕ). c ∷ a) hs ∙ ap (λ (l : List ℕ). k ∷ l) t.0, t.1)
 
 -- no name and no number has a space (32) or a LF (10)
-IsName-without : (byte : ℕ) (name : List ℕ) → is_name_byte byte ≡ false → IsName name → Without byte name
+pub IsName-without : (byte : ℕ) (name : List ℕ) → is_name_byte byte ≡ false → IsName name → Without byte name
 IsName-without byte name other is k d lt e = true≢false (sym (is.each k d lt) ∙ ap is_name_byte e ∙ other)
 
-decimal-without : (byte n : ℕ) → byte < 48 → n < 2 ^ 64 → Without byte (decimal n)
+pub decimal-without : (byte n : ℕ) → byte < 48 → n < 2 ^ 64 → Without byte (decimal n)
 decimal-without byte n low small k d lt e =
     let range = digit_at (decimal n) k (IsDecimal-decimal n small).digits lt in
     omega (arith, range, e, get_or_default (decimal n) k d 0 lt)
