@@ -1,0 +1,15 @@
+-- What is cut off again after a refusal.
+use Rattle.std.proofs.Common.{◌≡◌, ℕ, Bool, true, List, ◌++◌, length, take, drop, Result, Ok, Err, refl, sym, ap, ◌∙◌, append_assoc}
+use Rattle.std.specs.Prelude.{OnErr, is_err}
+use Rattle.std.proofs.lemmas.List.{take_at, take-append-drop}
+
+pub fact_of_err : {T E P : Type 0} (r : Result T E) → is_err r ≡ true → OnErr r P → P
+fact_of_err (Ok x) e h = absurd cc
+fact_of_err (Err x) e h = h
+
+-- `middle` begins with `was`, and `now` begins with `middle`
+pub cut_back : (was more middle now : List ℕ) (start : ℕ) → start ≡ length was → middle ≡ was ++ more → take (length middle) now ≡ middle → take start now ≡ was
+cut_back was more middle now start start-is grown begins =
+    let rest = drop (length middle) now in
+    let whole : now ≡ was ++ (more ++ rest) = sym (take-append-drop (length middle) now) ∙ ap (λ (t : List ℕ). t ++ rest) (begins ∙ grown) ∙ append_assoc was more rest in
+    ap (take start) whole ∙ take_at was (more ++ rest) start (sym start-is)

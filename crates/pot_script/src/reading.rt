@@ -1,0 +1,41 @@
+//! Reads a script from left to right.
+
+ghost use Rattle.std.specs.Prelude.{◌≡◌, ◌++◌, IfOk, IfErr};
+ghost use Rattle.pot_script.specs.Scripts.{IsScript, LeavesAt};
+ghost use Rattle.pot_script.specs.Faults.{IfBadLine};
+
+use crate::command::Command;
+use crate::fault::ScriptFault;
+use crate::spelled::{find_command, owned_command};
+use std::alloc::Global;
+
+/// The most bytes of a script.
+const LONGEST_SCRIPT: usize = 67_108_864;
+
+/// The commands of a script, in the order of their lines. `BadLine` has the number of the first line
+/// that leaves the grammar.
+pub fn read_script(alloc: Global, bytes: &[u8]) -> Result<Vec<Command>, ScriptFault>
+    ensures ok { IfOk result (λ commands. IsScript bytes.now commands.items) }
+    ensures bad { IfErr result (IfBadLine (LeavesAt bytes.now)) }
+{
+    if bytes.len() > LONGEST_SCRIPT {
+        return Err(ScriptFault::BadLine { number: 0 });
+    }
+    let mut commands = Vec::new(alloc);
+    let mut rest = bytes;
+    let mut number = 1;
+    while let Some((spelled, after)) = find_command(rest) {
+        let command = owned_command(alloc, spelled)?;
+        if matches!(command, Command::Quit) {
+            if !after.is_empty() {
+                return Err(ScriptFault::BadLine { number: number + 1 });
+            }
+            commands.push(command)?;
+            return Ok(commands);
+        }
+        commands.push(command)?;
+        rest = after;
+        number += 1;
+    }
+    Err(ScriptFault::BadLine { number })
+}
