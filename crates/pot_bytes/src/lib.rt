@@ -13,12 +13,14 @@ mod block;
 mod digest;
 mod memory;
 mod name;
+mod parts;
 mod strings;
 
 pub use block::{Block, xor_into};
 pub use digest::{Digest, digest_of};
 pub use memory::NoMemory;
 pub use name::Name;
+pub use parts::digest_of_two;
 pub use strings::Bytes;
 
 #[cfg(test)]
@@ -36,6 +38,7 @@ mod tests {
     #[test]
     fn digests_and_blocks(rt: HostRuntime) -> Result<(), Fail> {
         assert_eq!(rt; digest_of(b"abc").bytes, ABC);
+        assert_eq!(rt; digest_of_two(b"a", b"bc").bytes, ABC);
         let mut block = Block::from_bytes([0x5a; 1024]);
         block.xor(&Block::from_bytes([0x0f; 1024]));
         assert_eq!(rt; block.bytes()[1023], 0x55);

@@ -1,0 +1,4 @@
+pub mod FieldLemmas
+pub mod ObjectLemmas
+pub mod PieceLemmas
+pub mod SealLemmas

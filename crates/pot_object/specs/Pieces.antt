@@ -1,0 +1,15 @@
+-- The pieces of a file.
+use Rattle.std.specs.Prelude.{ℕ, ◌*◌, List, take, drop, max}
+use Rattle.std.specs.Int.{div_ceil}
+
+-- the bytes of the longest file, 1,024 pieces of 864
+abbrev pub longest : ℕ
+longest = 884736
+
+-- the number of pieces of a file of this length: 864 bytes each, and one for the empty file
+abbrev pub pieces_of : ℕ → ℕ
+pieces_of n = max 1 (div_ceil n 864)
+
+-- the part of a file that a piece carries: 864 bytes, or those that are left
+abbrev pub part_of : List ℕ → ℕ → List ℕ
+part_of file piece = take 864 (drop (piece * 864) file)

@@ -1,0 +1,14 @@
+//! The pieces of a file in bytes: an object carries one piece with its place in the file, sealed by a
+//! digest over all its other bytes.
+//!
+//! It knows no archive, no share and no randomness. It keeps nothing and takes no memory.
+//!
+//! 1. An object is `object_bytes` of its head and its part of the file: `write_object`.
+#![tactic(auto)]
+
+mod object;
+mod pieces;
+mod sealing;
+
+pub use object::{ObjectHead, write_object};
+pub use pieces::{LONGEST, PIECE, TooLong, cut_file};
