@@ -12,10 +12,10 @@ pub loses_beside : (old mid new : Contents) (first before now slot at : ℕ) (a 
 loses_beside old mid new first before now slot at a b next o p = record {
   later = omega (arith, o.later, p.later);
   keeps = (λ k x q r h.
-    sym (at_slot-else old slot a k q) ∙ o.keeps k x (sym (at_slot-else mid at b k (λ e. r (e ∙ next))) ∙ p.keeps k x h));
+      sym (at_slot-else old slot a k q) ∙ o.keeps k x (sym (at_slot-else mid at b k (λ e. r (e ∙ next))) ∙ p.keeps k x h));
   same = (λ k q r u l.
-    p.same k (omega (arith, o.later, p.later)) l ∙ at_slot-else mid at b k (λ e. r (e ∙ next))
-    ∙ o.same k (omega (arith, o.later, p.later)) (omega (arith, o.later, p.later)) ∙ at_slot-else old slot a k q);
+      p.same k (omega (arith, o.later, p.later)) l ∙ at_slot-else mid at b k (λ e. r (e ∙ next))
+      ∙ o.same k (omega (arith, o.later, p.later)) (omega (arith, o.later, p.later)) ∙ at_slot-else old slot a k q);
 }
 
 pub pair_written : (old mid new : Contents) (first before now slot : ℕ) (a b : List ℕ) (r : Result (Unit {0}) Failed)

@@ -91,3 +91,11 @@ meaning-secrecy object pads some rows =
     ∙ xor_comm pad (xor object pad) ∙ xor_assoc object pad pad
     ∙ ap (λ z. xor object z) (xor_self pad) ∙ xor_comm object (replicate (length pad) 0)
     ∙ xor_replicate (length pad) object (omega (arith, wide))
+
+-- one row alone means itself
+pub meaning-one : (size : ℕ) (row : List ℕ) → 0 < size → length row ≡ size → meaning size row ≡ row
+meaning-one size row some wide =
+    let counted : length row / size ≡ 1 = ap (λ n. n / size) (wide ∙ omega arith) ∙ mul-div_cancel 1 some in
+    ap (λ n. sum_of size (rows_of n size row)) counted
+    ∙ ap (λ r. xor r (replicate size 0)) (take_all size row (omega (arith, wide)))
+    ∙ xor_comm row (replicate size 0) ∙ xor_replicate size row (omega (arith, wide))
