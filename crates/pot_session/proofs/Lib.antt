@@ -1,2 +1,4 @@
+pub mod ListLemmas
 pub mod PairLemmas
+pub mod StandingLemmas
 pub mod StreamLemmas

@@ -1,3 +1,5 @@
+pub mod Answers
 pub mod Pairs
 pub mod Runs
+pub mod Standing
 pub mod Streams

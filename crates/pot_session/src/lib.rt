@@ -1,6 +1,7 @@
 //! The top call.
 #![tactic(auto)]
 
+mod answering;
 mod catalog;
 mod fragments;
 mod intake;

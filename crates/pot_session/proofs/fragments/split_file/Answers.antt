@@ -25,9 +25,9 @@ returns-clause-partner c =
     let pad : length c.split_at.result.1.now ≡ 928 = omega (arith, c.split_at.ensures.back_len) in
     let partner = xor (object c.split_at.result.0.now c.args.file.now 0) c.split_at.result.1.now in
     let wide : length partner ≡ 928 =
-        length-xor (object c.split_at.result.0.now c.args.file.now 0) c.split_at.result.1.now
-        (length-object c.split_at.result.0.now c.args.file.now 0 id ∙ sym pad)
-        ∙ length-object c.split_at.result.0.now c.args.file.now 0 id in
+    length-xor (object c.split_at.result.0.now c.args.file.now 0) c.split_at.result.1.now
+    (length-object c.split_at.result.0.now c.args.file.now 0 id ∙ sym pad)
+    ∙ length-object c.split_at.result.0.now c.args.file.now 0 id in
     let padded = rw c.partner_of-partner.ensures at c.padded-2.ensures in
     (rw wide at padded)
     ∙ ap (λ i. xor (object i c.args.file.now 0) c.split_at.result.1.now ++ replicate 96 0) front

@@ -1,0 +1,63 @@
+//! Answers one command: stores a file, or fetches one.
+
+ghost use Rattle.std.specs.Prelude.{◌≡◌, ◌<◌, ◌+◌, ◌*◌, ◌^◌, ℕ, IsTrue, IfOk, IsOkAnd};
+ghost use Rattle.pot_outside.specs.Counts.{Caused};
+ghost use Rattle.pot_script.specs.declared.command.Command.TheVariants.{Store, Fetch};
+ghost use Rattle.pot_session.specs.Runs.{State};
+ghost use Rattle.pot_session.specs.Standing.{IsKept, Stands};
+ghost use Rattle.pot_session.specs.Answers.{Answers, IsFault};
+
+use crate::catalog::{Catalog, KeptFile};
+use crate::fragments::{join_file, split_file};
+use crate::pair::{Fetched, read_pair, write_pair};
+use pot_bytes::{Block, Bytes, Name, NoMemory};
+use pot_outside::{Archive, Failed};
+use pot_script::Reply;
+use std::alloc::Global;
+
+/// The most bytes of a file, which is one piece.
+const LONGEST: usize = 864;
+
+/// Stores a file: its two blocks go into the next two slots that no attempt took.
+pub fn store<A: Archive>(
+    drawn: &[u8; 32],
+    place: u32,
+    name: &Name,
+    file: &Bytes,
+    catalog: &mut Catalog,
+    archive: &mut A,
+) -> Result<Reply, NoMemory>
+    requires few { 2 * catalog.old.attempts + 1 < 2 ^ 32 }
+    ensures answer { (s : State) → (first : ℕ) → IsKept catalog.old.files.items catalog.old.attempts s → Stands (IsTrue A.tells) drawn.now (A.held archive.old) first (A.losses archive.old) s → IfOk result (λ reply. Answers (IsTrue A.tells) drawn.now place s (Store name.now file.now) reply catalog.new.files.items catalog.new.attempts (A.held archive.new) first (A.losses archive.new)) }
+    ensures cause { Caused (A.faults archive.old) (A.faults archive.new) (IsOkAnd result IsFault) }
+{
+    let length = file.as_slice().len();
+    if length > LONGEST {
+        return Ok(Reply::Long {
+            name: *name,
+            length: length as u64,
+        });
+    }
+    if catalog.find(name).is_some() {
+        return Ok(Reply::Exists { name: *name });
+    }
+    catalog.make_room()?;
+    let (pad, partner) = split_file(drawn, place, file.as_slice());
+    match write_pair(archive, 2 * catalog.attempts, &pad, &partner) {
+        Ok(()) => {
+            catalog.publish(*name, length as u32);
+            Ok(Reply::Stored {
+                name: *name,
+                pieces: 1,
+                shards: 2,
+            })
+        }
+        Err(Failed) => {
+            catalog.pass();
+            Ok(Reply::Fault {
+                group: 0,
+                column: 0,
+            })
+        }
+    }
+}
