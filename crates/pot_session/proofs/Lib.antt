@@ -1,3 +1,5 @@
+pub mod FetchLemmas
+pub mod FileLemmas
 pub mod ListLemmas
 pub mod PairLemmas
 pub mod StandingLemmas

@@ -56,11 +56,11 @@ file_later told drawn old new attempts attempts' first before now f from more o 
   pad = (λ t b e. p.pad t b ((o t).keeps (2 * f.attempt) b (omega (arith, p.early)) e));
   partner = (λ t b e. p.partner t b ((o t).keeps (2 * f.attempt + 1) b (omega (arith, p.early)) e));
   pad_there = (λ t q l.
-    (o t).same (2 * f.attempt) (omega (arith, p.early)) (omega (arith, from t, (o t).later)) l
-    ∙ p.pad_there t (omega (arith, from t, (o t).later)) (omega (arith, from t, (o t).later)));
+      (o t).same (2 * f.attempt) (omega (arith, p.early)) (omega (arith, from t, (o t).later)) l
+      ∙ p.pad_there t (omega (arith, from t, (o t).later)) (omega (arith, from t, (o t).later)));
   partner_there = (λ t q l.
-    (o t).same (2 * f.attempt + 1) (omega (arith, p.early)) (omega (arith, from t, (o t).later)) l
-    ∙ p.partner_there t (omega (arith, from t, (o t).later)) (omega (arith, from t, (o t).later)));
+      (o t).same (2 * f.attempt + 1) (omega (arith, p.early)) (omega (arith, from t, (o t).later)) l
+      ∙ p.partner_there t (omega (arith, from t, (o t).later)) (omega (arith, from t, (o t).later)));
 }
 
 absent_stays : (old new : Contents) (before now bound slot : ℕ) → LosesBelow old new before now bound → slot < bound → old slot ≡ None → new slot ≡ None
@@ -84,9 +84,9 @@ pub stands_later : (told : Type 0) (drawn : List ℕ) (old new : Contents) (firs
 stands_later told drawn old new first before now more s h o p = record {
   later = (λ t. omega (arith, p.later t, (o t).later));
   files = all_map (FileStands told drawn old s.attempts first before) (FileStands told drawn new more first now) s.stored
-    (λ f q. file_later told drawn old new s.attempts more first before now f p.later h o q) p.files;
+      (λ f q. file_later told drawn old new s.attempts more first before now f p.later h o q) p.files;
   slots = all_map (SlotStands told old s.attempts) (SlotStands told new more) s.absent
-    (λ k q. slot_later told old new s.attempts more before now k h o q) p.slots;
+      (λ k q. slot_later told old new s.attempts more before now k h o q) p.slots;
 }
 
 -- the catalog knows the names that are stored
@@ -125,7 +125,7 @@ stands_stored told drawn old new first before now place s name file short o p =
     let below : told → LosesBelow old new before now slot = (λ t. below_pair old new before now slot (beside_pair old new before now slot pad partner (o t))) in
     let later = stands_later told drawn old new first before now (s.attempts + 1) s (omega arith) below p in
     let at_pad : both slot ≡ Some pad =
-        at_slot-else (at_slot old slot (Some pad)) (slot + 1) (Some partner) slot (λ e. omega arith) ∙ at_slot-here old slot (Some pad) in
+    at_slot-else (at_slot old slot (Some pad)) (slot + 1) (Some partner) slot (λ e. omega arith) ∙ at_slot-here old slot (Some pad) in
     let at_partner : both (slot + 1) ≡ Some partner = at_slot-here (at_slot old slot (Some pad)) (slot + 1) (Some partner) in
     record {
       later = later.later;
@@ -159,8 +159,8 @@ pub kept_stored : (files files' : List KeptFile) (attempts attempts' place : ℕ
     → IsKept files' attempts' (after place s (Store name file) (Stored name 1 2))
 kept_stored files files' attempts attempts' place s name file k e n = record {
   all =
-    e ∙ rw (k.all, k.counted) refl
-    ∙ sym (map-append kept_of s.stored (record { name = name; file = file; attempt = s.attempts; place = place } ∷ []));
+      e ∙ rw (k.all, k.counted) refl
+      ∙ sym (map-append kept_of s.stored (record { name = name; file = file; attempt = s.attempts; place = place } ∷ []));
   counted = n ∙ ap (λ a. a + 1) k.counted;
 }
 
@@ -179,8 +179,8 @@ pub stands_written : (told : Type 0) (drawn : List ℕ) (old new : Contents) (fi
 stands_written told drawn old new first before now place attempts s name file pad partner short a p q o h =
     stands_stored told drawn old new first before now place s name file short
     (λ t. subst (λ n. OnlyLoses (with_pair old (2 * n) (pad_block drawn place) (partner_block drawn place file)) new before now) a
-        (subst (λ x. OnlyLoses (with_pair old (2 * attempts) x (partner_block drawn place file)) new before now) p
-            (subst (λ y. OnlyLoses (with_pair old (2 * attempts) pad y) new before now) q (o t)))) h
+    (subst (λ x. OnlyLoses (with_pair old (2 * attempts) x (partner_block drawn place file)) new before now) p
+    (subst (λ y. OnlyLoses (with_pair old (2 * attempts) pad y) new before now) q (o t)))) h
 
 pub stands_faulted : (told : Type 0) (drawn : List ℕ) (old new : Contents) (first before now attempts : ℕ) (s : State)
     → attempts ≡ s.attempts → (told → LosesBeside old new before now (2 * attempts))

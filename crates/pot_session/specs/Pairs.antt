@@ -31,3 +31,8 @@ abbrev pub ReadsPair : Contents → Contents → ℕ → ℕ → ℕ → List �
 ReadsPair old new before now slot first second (Ok fetched) =
     OnlyLoses old new before now × IsFetched old new slot first second fetched
 ReadsPair old new before now slot first second (Err e) = OnlyLoses old new before now
+
+-- the fragment that is told is the first or the second
+abbrev pub NamesFragment : Fetched → Type 0
+NamesFragment Both = Unit {0}
+NamesFragment (Absent fragment) = (fragment ≡ 1) ⊎ (fragment ≡ 2)

@@ -15,6 +15,10 @@ pub record IsKept (files : List KeptFile) (attempts : ℕ) (s : State) : Type 0 
   pub all : files ≡ map kept_of s.stored
   pub counted : attempts ≡ s.attempts
 
+-- a file of one piece in slots that have numbers
+abbrev pub IsSmall : KeptFile → Type 0
+IsSmall f = (2 * f.attempt + 1 < 2 ^ 32) × (f.length ≤ 864)
+
 -- a slot has no other block than this one
 abbrev pub HasAtMost : Contents → ℕ → List ℕ → Type 0
 HasAtMost held slot block = (b : List ℕ) → held slot ≡ Some b → b ≡ block

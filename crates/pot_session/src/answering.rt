@@ -1,10 +1,11 @@
 //! Answers one command: stores a file, or fetches one.
 
-ghost use Rattle.std.specs.Prelude.{◌≡◌, ◌<◌, ◌+◌, ◌*◌, ◌^◌, ℕ, IsTrue, IfOk, IsOkAnd};
+ghost use Rattle.std.specs.Prelude.{◌≡◌, ◌<◌, ◌+◌, ◌*◌, ◌^◌, ℕ, List, IsTrue, IfOk, IsOkAnd};
+ghost use Rattle.std.specs.List.{AllByRecursion};
 ghost use Rattle.pot_outside.specs.Counts.{Caused};
 ghost use Rattle.pot_script.specs.declared.command.Command.TheVariants.{Store, Fetch};
 ghost use Rattle.pot_session.specs.Runs.{State};
-ghost use Rattle.pot_session.specs.Standing.{IsKept, Stands};
+ghost use Rattle.pot_session.specs.Standing.{IsKept, IsSmall, Stands};
 ghost use Rattle.pot_session.specs.Answers.{Answers, IsFault};
 
 use crate::catalog::{Catalog, KeptFile};
@@ -59,5 +60,44 @@ pub fn store<A: Archive>(
                 column: 0,
             })
         }
+    }
+}
+
+/// Fetches a file: reads its two blocks and joins them.
+pub fn fetch<A: Archive>(
+    alloc: Global,
+    name: &Name,
+    catalog: &Catalog,
+    archive: &mut A,
+) -> Result<Reply, NoMemory>
+    requires small { AllByRecursion IsSmall catalog.now.files.items }
+    ensures answer { (drawn : List ℕ) → (place : ℕ) → (s : State) → (first : ℕ) → IsKept catalog.now.files.items catalog.now.attempts s → Stands (IsTrue A.tells) drawn (A.held archive.old) first (A.losses archive.old) s → IfOk result (λ reply. Answers (IsTrue A.tells) drawn place s (Fetch name.now) reply catalog.now.files.items catalog.now.attempts (A.held archive.new) first (A.losses archive.new)) }
+    ensures cause { Caused (A.faults archive.old) (A.faults archive.new) (IsOkAnd result IsFault) }
+{
+    let file = match catalog.find(name) {
+        Some(file) => file,
+        None => return Ok(Reply::Absent { name: *name }),
+    };
+    let mut pad = Block::zero();
+    let mut partner = Block::zero();
+    match read_pair(archive, 2 * file.attempt, &mut pad, &mut partner) {
+        Ok(Fetched::Both) => {
+            let bytes = join_file(alloc, &pad, &partner, file.length)?;
+            Ok(Reply::File {
+                name: *name,
+                bytes: Bytes::from_vec(bytes),
+            })
+        }
+        Ok(Fetched::Absent { fragment }) => Ok(Reply::Lost {
+            name: *name,
+            piece: 0,
+            fragment,
+            have: 0,
+            need: 1,
+        }),
+        Err(Failed) => Ok(Reply::Fault {
+            group: 0,
+            column: 0,
+        }),
     }
 }

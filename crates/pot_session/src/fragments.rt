@@ -1,6 +1,6 @@
 //! The two fragments of a file in blocks: a pad, and the file's object XOR the pad.
 
-ghost use Rattle.std.specs.Prelude.{◌≡◌, ◌≤◌, ◌+◌, ◌++◌, take, drop, length, IfOk};
+ghost use Rattle.std.specs.Prelude.{◌≡◌, ◌≤◌, ◌+◌, ◌++◌, take, drop, length, length as count_of, IfOk};
 ghost use Rattle.pot_bytes.specs.Sums.{xor};
 ghost use Rattle.pot_object.specs.Objects.{object};
 ghost use Rattle.pot_split.specs.Secrecy.{meaning};
@@ -49,7 +49,8 @@ pub fn join_file(
     length: u32,
 ) -> Result<Vec<u8>, NoMemory>
     requires { length ≤ 864 }
-    ensures { IfOk result (λ bytes. bytes.items ≡ take length (drop 64 (meaning 928 (take 928 first.now ++ take 928 second.now)))) }
+    ensures value { IfOk result (λ bytes. bytes.items ≡ take length (drop 64 (meaning 928 (take 928 first.now ++ take 928 second.now)))) }
+    ensures count { IfOk result (λ bytes. count_of bytes.items ≡ length) }
 {
     let object = join_blocks(first, second);
     let file = &object[64..64 + length as usize];

@@ -1,8 +1,8 @@
 //! The two blocks of a file, in two neighbouring slots of one archive.
 
-ghost use Rattle.std.specs.Prelude.{◌≡◌, ◌<◌, ◌+◌, ◌^◌, IsTrue, IsErr};
+ghost use Rattle.std.specs.Prelude.{◌≡◌, ◌<◌, ◌+◌, ◌^◌, IsTrue, IfOk, IsErr};
 ghost use Rattle.pot_outside.specs.Counts.{Caused};
-ghost use Rattle.pot_session.specs.Pairs.{WritesPair, ReadsPair};
+ghost use Rattle.pot_session.specs.Pairs.{WritesPair, ReadsPair, NamesFragment};
 
 use pot_bytes::Block;
 use pot_outside::{Archive, Failed, Held};
@@ -41,6 +41,7 @@ pub fn read_pair<A: Archive>(
 ) -> Result<Fetched, Failed>
     requires { slot + 1 < 2 ^ 32 }
     ensures told { IsTrue A.tells → ReadsPair (A.held archive.old) (A.held archive.new) (A.losses archive.old) (A.losses archive.new) slot first.new second.new result }
+    ensures fragment { IfOk result NamesFragment }
     ensures cause { Caused (A.faults archive.old) (A.faults archive.new) (IsErr result) }
 {
     match archive.read(slot, first) {
