@@ -27,7 +27,7 @@ line_text-line_of (Store name file) = refl
 line_text-line_of (Fetch name) = refl
 line_text-line_of Quit = refl
 
-IsLine-line_of : (c : Command) → IsCommand c → IsLine (line_of c)
+pub IsLine-line_of : (c : Command) → IsCommand c → IsLine (line_of c)
 IsLine-line_of (Store name file) is = is
 IsLine-line_of (Fetch name) is = is
 IsLine-line_of Quit is = tt
@@ -43,7 +43,7 @@ tested bytes h k d lt e = false≢true (sym (ap (λ (b : ℕ). not (nat_eq b 10)
 both : (a b : List ℕ) → Without 10 a → Without 10 b → Without 10 (a ++ b)
 both a b p q = All-append (λ b. b ≢ 10) a b p q
 
-line_text-without : (l : Line) → IsLine l → Without 10 (line_text l)
+pub line_text-without : (l : Line) → IsLine l → Without 10 (line_text l)
 unfolding other
 line_text-without (lines.Store name n) is =
     both ((codes "store " ++ name) ++ codes " ") (decimal n) (both (codes "store " ++ name) (codes " ") (both (codes "store ") name (tested (codes "store ") refl) (IsName-without 10 name refl is.0)) (tested (codes " ") refl)) (decimal-without 10 n (omega arith) (omega (arith, is.1)))
@@ -72,7 +72,7 @@ line_text_injective lines.Quit (lines.Fetch b) p q e = absurd (apart 113 102 _ _
 line_text_injective lines.Quit lines.Quit p q e = refl
 
 -- the text of a command is its line, a LF and what follows that
-text_at_line : (c : Command) (after : List ℕ) → command_text c ++ after ≡ line_text (line_of c) ++ 10 ∷ (stated_bytes c ++ after)
+pub text_at_line : (c : Command) (after : List ℕ) → command_text c ++ after ≡ line_text (line_of c) ++ 10 ∷ (stated_bytes c ++ after)
 text_at_line c after = ap (λ (t : List ℕ). ((t ++ codes "\n") ++ stated_bytes c) ++ after) (line_text-line_of c) ∙ simp append_assoc
 
 -- where a command stands, the first LF ends its line
