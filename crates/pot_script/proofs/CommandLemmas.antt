@@ -6,7 +6,7 @@ use Rattle.std.proofs.lemmas.Bool.{false≢true}
 use Rattle.std.proofs.lemmas.List.Sums.{AllPass-from_list_all}
 use Rattle.std.proofs.lemmas.List.{append_cancel_left}
 use Rattle.std.proofs.lemmas.List.Elements.{All-append}
-use Rattle.std.proofs.lemmas.Fmt.{decimal_injective}
+use Rattle.std.proofs.lemmas.Fmt.{decimal_injective, length-decimal-le}
 use Rattle.pot_bytes.specs.Names.{IsName}
 use Rattle.pot_script.specs.declared.command.Command.{Command}
 use Rattle.pot_script.specs.declared.command.Command.TheVariants.{Store, Fetch, Quit}
@@ -103,3 +103,10 @@ no_file bytes line rest name n cut is_line line_is none c after is e =
     let ends = ends_line c after bytes line rest is cut e in
     let same = line_text_injective (line_of c) (lines.Store name n) (IsLine-line_of c is) is_line (sym ends.line_is ∙ line_is) in
     no_file_for c name n after rest same none ends.rest_is
+
+-- the longest line is that of a file of eight digits under a name of 64 bytes
+pub length-command_line : (c : Command) → IsCommand c → length (command_line c) ≤ 79
+length-command_line (Store name file) is =
+    simp length-append (omega (arith, is.0.few, length-decimal-le 8 (length file) (omega arith) (omega (arith, is.1)) (omega (arith, is.1))))
+length-command_line (Fetch name) is = simp length-append (omega (arith, is.few))
+length-command_line Quit is = omega arith
