@@ -1,6 +1,6 @@
 -- The bytes tell the commands, and the line at which they leave the grammar.
-use Rattle.std.proofs.Common.{◌≡◌, ◌≢◌, ◌≤◌, ◌<◌, ◌+◌, ℕ, List, [], ◌∷◌, ◌++◌, length, take, drop, refl, sym, ap, subst, ◌∙◌, append_assoc, arith, length-append}
-use Rattle.std.specs.Prelude.{codes, flat_map, Vec, Result, Ok, Err, IfOk, IfErr}
+use Rattle.std.proofs.Common.{◌≡◌, ◌≢◌, ◌+◌, ℕ, List, [], ◌∷◌, ◌++◌, length, take, drop, refl, sym, ap, ◌∙◌, append_assoc, arith}
+use Rattle.std.specs.Prelude.{codes, Vec, Result, Ok, Err, IfOk, IfErr}
 use Rattle.std.specs.Global.{Global}
 use Rattle.std.proofs.lemmas.List.{append_cancel_left, take_at, drop_at}
 use Rattle.std.proofs.lemmas.Grind.{flat_map-append}
@@ -11,14 +11,15 @@ use Rattle.pot_script.specs.Lines.{line_text}
 use Rattle.pot_script.specs.declared.fault.ScriptFault.{ScriptFault}
 use Rattle.pot_script.specs.declared.fault.ScriptFault.TheVariants.{BadLine, NoMemory}
 use Rattle.pot_script.specs.Faults.{IfBadLine, ReadsAs, RefusesAt}
-use Rattle.pot_script.specs.Scripts.{most_bytes, IsCommand, AreSteps, IsScript, NoCommandAt, BreaksAt, GoesOnAt, LeavesAt, TooLong, Breaks, GoesOn, command_text, stated_bytes, script_text}
+use Rattle.pot_script.specs.Scripts.{IsCommand, AreSteps, IsScript, BreaksAt, GoesOnAt, LeavesAt, TooLong, Breaks, GoesOn, command_text, stated_bytes, script_text}
 use Rattle.pot_script.proofs.LineLemmas.{one_cut, tails}
 use Rattle.pot_script.proofs.CommandLemmas.{line_of, IsLine-line_of, line_text-without, line_text_injective, text_at_line}
 
 equal_parts : (a b x y : List ℕ) → length a ≡ length b → a ++ x ≡ b ++ y → (a ≡ b) × (x ≡ y)
-equal_parts a b x y len e =
-    (sym (take_at a x (length a) refl) ∙ ap (take (length a)) e ∙ take_at b y (length a) (sym len),
-     sym (drop_at a x (length a) refl) ∙ ap (drop (length a)) e ∙ drop_at b y (length a) (sym len))
+equal_parts a b x y len e = (
+  sym (take_at a x (length a) refl) ∙ ap (take (length a)) e ∙ take_at b y (length a) (sym len),
+  sym (drop_at a x (length a) refl) ∙ ap (drop (length a)) e ∙ drop_at b y (length a) (sym len),
+)
 
 -- two commands of one line, and what follows them
 same_store : (name other file more x y : List ℕ) → lines.Store name (length file) ≡ lines.Store other (length more) → stated_bytes (Store name file) ++ x ≡ stated_bytes (Store other more) ++ y → (Store name file ≡ Store other more) × (x ≡ y)
@@ -73,7 +74,7 @@ stands_script : {bytes : List ℕ} {commands : List Command} (s : IsScript bytes
 stands_script {bytes} {commands} s = record {
   each = s.each;
   whole = s.spelled ∙ ap script_text s.ended ∙ flat_map-append command_text s.steps (Quit ∷ []);
-  ended = quit_ends []
+  ended = quit_ends [];
 }
 
 stands_break : {bytes : List ℕ} {number : ℕ} (b : BreaksAt bytes number) → Stands bytes b.steps b.rest

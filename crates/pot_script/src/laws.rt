@@ -11,12 +11,10 @@ pub fn one_reading()
     ensures script { (bytes : List ℕ) (c d : List Command) → IsScript bytes c → IsScript bytes d → c ≡ d }
     ensures line { (bytes : List ℕ) (m n : ℕ) → LeavesAt bytes m → LeavesAt bytes n → m ≡ n }
     ensures either { (bytes : List ℕ) (c : List Command) (n : ℕ) → IsScript bytes c → LeavesAt bytes n → ⊥ }
-{
-}
+{}
 
 /// No line of the grammar has more than 4,096 bytes without its LF, so this limit of a line refuses
 /// nothing more.
 pub fn lines_are_short()
     ensures { (c : Command) → IsCommand c → length (command_line c) ≤ 4096 }
-{
-}
+{}

@@ -104,7 +104,10 @@ fn prints_replies(rt: HostRuntime) -> Result<(), Fail> {
     let mut out = b"before\n".to_vec(rt.alloc())?;
     print_bad_line(0, &mut out)?;
     print_words_refused(&mut out)?;
-    assert_eq!(rt; out.as_slice(), b"before\nbad line 0\nwords refused\n".as_slice());
+    assert_eq!(rt;
+        out.as_slice(),
+        b"before\nbad line 0\nwords refused\n".as_slice()
+    );
     Ok(())
 }
 

@@ -8,7 +8,7 @@ invariant-loop-spelled l = record {
   spelled : l.bytes ≡ script_text l.commands.items ++ l.rest;
   each : AreSteps l.commands.items;
   counted : l.number ≡ length l.commands.items + 1;
-  room : length l.commands.items + length l.rest ≤ length l.bytes
+  room : length l.commands.items + length l.rest ≤ length l.bytes;
 }
 
 abbrev pub decreases-loop-spelled : goal.decreases-loop-spelled
