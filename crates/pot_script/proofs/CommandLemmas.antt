@@ -1,13 +1,12 @@
 -- Commands at the front of bytes.
-use Rattle.std.proofs.Common.{◌≡◌, ◌≢◌, ◌≤◌, ◌<◌, ◌+◌, ◌^◌, ℕ, zero, suc, Bool, true, false, List, [], ◌∷◌, ◌++◌, length, get_or, refl, sym, ap, subst, ◌∙◌, append_assoc, arith, length-append}
-use Rattle.std.specs.Prelude.{All, codes, decimal, nat_eq, not}
+use Rattle.std.proofs.Common.{◌≡◌, ◌≢◌, ◌≤◌, ℕ, Bool, true, List, ◌∷◌, ◌++◌, length, refl, sym, ap, ◌∙◌, append_assoc, arith, length-append}
+use Rattle.std.specs.Prelude.{codes, decimal, nat_eq, not}
 use Rattle.std.specs.List.{list_all}
 use Rattle.std.proofs.lemmas.Bool.{false≢true}
 use Rattle.std.proofs.lemmas.List.Sums.{AllPass-from_list_all}
 use Rattle.std.proofs.lemmas.List.{append_cancel_left}
 use Rattle.std.proofs.lemmas.List.Elements.{All-append}
-use Rattle.std.proofs.lemmas.Fmt.{decimal_injective}
-use Rattle.pot_bytes.specs.Names.{IsName}
+use Rattle.std.proofs.lemmas.Fmt.{decimal_injective, length-decimal-le}
 use Rattle.pot_script.specs.declared.command.Command.{Command}
 use Rattle.pot_script.specs.declared.command.Command.TheVariants.{Store, Fetch, Quit}
 use Rattle.pot_script.specs.declared.line.Line.{Line}
@@ -27,7 +26,7 @@ line_text-line_of (Store name file) = refl
 line_text-line_of (Fetch name) = refl
 line_text-line_of Quit = refl
 
-IsLine-line_of : (c : Command) → IsCommand c → IsLine (line_of c)
+pub IsLine-line_of : (c : Command) → IsCommand c → IsLine (line_of c)
 IsLine-line_of (Store name file) is = is
 IsLine-line_of (Fetch name) is = is
 IsLine-line_of Quit is = tt
@@ -43,7 +42,7 @@ tested bytes h k d lt e = false≢true (sym (ap (λ (b : ℕ). not (nat_eq b 10)
 both : (a b : List ℕ) → Without 10 a → Without 10 b → Without 10 (a ++ b)
 both a b p q = All-append (λ b. b ≢ 10) a b p q
 
-line_text-without : (l : Line) → IsLine l → Without 10 (line_text l)
+pub line_text-without : (l : Line) → IsLine l → Without 10 (line_text l)
 unfolding other
 line_text-without (lines.Store name n) is =
     both ((codes "store " ++ name) ++ codes " ") (decimal n) (both (codes "store " ++ name) (codes " ") (both (codes "store ") name (tested (codes "store ") refl) (IsName-without 10 name refl is.0)) (tested (codes " ") refl)) (decimal-without 10 n (omega arith) (omega (arith, is.1)))
@@ -72,7 +71,7 @@ line_text_injective lines.Quit (lines.Fetch b) p q e = absurd (apart 113 102 _ _
 line_text_injective lines.Quit lines.Quit p q e = refl
 
 -- the text of a command is its line, a LF and what follows that
-text_at_line : (c : Command) (after : List ℕ) → command_text c ++ after ≡ line_text (line_of c) ++ 10 ∷ (stated_bytes c ++ after)
+pub text_at_line : (c : Command) (after : List ℕ) → command_text c ++ after ≡ line_text (line_of c) ++ 10 ∷ (stated_bytes c ++ after)
 text_at_line c after = ap (λ (t : List ℕ). ((t ++ codes "\n") ++ stated_bytes c) ++ after) (line_text-line_of c) ∙ simp append_assoc
 
 -- where a command stands, the first LF ends its line
@@ -103,3 +102,10 @@ no_file bytes line rest name n cut is_line line_is none c after is e =
     let ends = ends_line c after bytes line rest is cut e in
     let same = line_text_injective (line_of c) (lines.Store name n) (IsLine-line_of c is) is_line (sym ends.line_is ∙ line_is) in
     no_file_for c name n after rest same none ends.rest_is
+
+-- the longest line is that of a file of eight digits under a name of 64 bytes
+pub length-command_line : (c : Command) → IsCommand c → length (command_line c) ≤ 79
+length-command_line (Store name file) is =
+    simp length-append (omega (arith, is.0.few, length-decimal-le 8 (length file) (omega arith) (omega (arith, is.1)) (omega (arith, is.1))))
+length-command_line (Fetch name) is = simp length-append (omega (arith, is.few))
+length-command_line Quit is = omega arith

@@ -1,8 +1,6 @@
 -- Lines and words: where they are cut, and what they spell.
-use Rattle.std.proofs.Common.{◌≡◌, ◌≢◌, ◌≤◌, ◌<◌, ◌+◌, ◌^◌, ℕ, zero, suc, List, [], ◌∷◌, ◌++◌, length, get_or, Bool, true, false, refl, sym, ap, subst, ◌∙◌, append_assoc, arith, length-append}
-use Rattle.std.specs.Prelude.{All, codes, decimal, MatchOption}
-use Rattle.std.specs.Int.{IsInRange}
-use Rattle.std.specs.Str.Parse.{AllDigits}
+use Rattle.std.proofs.Common.{◌≡◌, ◌≢◌, ◌≤◌, ◌<◌, ◌^◌, ℕ, List, [], ◌∷◌, ◌++◌, false, refl, sym, ap, subst, ◌∙◌, append_assoc, arith}
+use Rattle.std.specs.Prelude.{All, codes, decimal}
 use Rattle.std.proofs.lemmas.List.{append_cancel_left, get_or_default}
 use Rattle.std.proofs.lemmas.Bool.{true≢false}
 use Rattle.std.proofs.lemmas.List.Elements.{All-tail}
@@ -11,7 +9,7 @@ use Rattle.pot_bytes.specs.Names.{IsName, is_name_byte}
 use Rattle.pot_script.specs.declared.line.Line.{Line}
 use Rattle.pot_script.specs.declared.line.Line.TheVariants.{Store, Fetch, Quit}
 use Rattle.pot_script.specs.Lines.{Cuts, IsLine, line_text}
-use Rattle.pot_script.proofs.Decimal.{IsDecimal, IsDecimal-decimal}
+use Rattle.pot_script.proofs.Decimal.{IsDecimal-decimal}
 
 -- the byte stands nowhere in the list
 abbrev pub Without : ℕ → List ℕ → Type 0
@@ -24,7 +22,7 @@ not_without byte (b ∷ front) back h = not_without byte front back (All-tail (�
 heads : (a b : ℕ) (x y : List ℕ) → a ∷ x ≡ b ∷ y → a ≡ b
 heads a b x y e = cc
 
-tails : (a b : ℕ) (x y : List ℕ) → a ∷ x ≡ b ∷ y → x ≡ y
+pub tails : (a b : ℕ) (x y : List ℕ) → a ∷ x ≡ b ∷ y → x ≡ y
 tails a b x y e = cc
 
 pub apart : (a b : ℕ) (x y : List ℕ) → a ≢ b → a ∷ x ≢ b ∷ y

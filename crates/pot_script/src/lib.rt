@@ -1,9 +1,23 @@
-//! The script that a run reads and the replies that it writes, as texts.
+//! The script that a run reads, and the replies that it writes.
+//!
+//! It turns bytes into commands and replies into bytes. It runs no command and knows no archive, and
+//! it reads and writes no file.
+//!
+//! A script is lines. A line ends with LF, and its words are separated by one space. `store NAME LEN`
+//! is followed by LEN bytes and one LF, `fetch NAME` by nothing, and `quit` ends the script. A number
+//! is decimal digits without a sign and without a leading zero, but for `0` itself.
+//!
+//! 1. Each command is spelled in one way, and no command's text begins another's: `one_reading`.
+//! 2. `read_script` answers the commands exactly where the bytes are their text, and the number of
+//!    the first line that leaves the grammar exactly where there is one. Only for want of memory it
+//!    answers neither.
+//! 3. `print_reply`, `print_bad_line` and `print_words_refused` append the whole text or nothing.
 #![tactic(auto)]
 
 mod command;
 mod decimal_number;
 mod fault;
+mod laws;
 mod line;
 mod printing;
 mod reading;
@@ -13,6 +27,10 @@ mod spelled;
 pub use command::Command;
 pub use decimal_number::read_number;
 pub use fault::ScriptFault;
+pub use laws::{lines_are_short, one_reading};
 pub use printing::{print_bad_line, print_reply, print_words_refused};
 pub use reading::read_script;
 pub use reply::Reply;
+
+#[cfg(test)]
+mod tests;

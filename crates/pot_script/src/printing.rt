@@ -103,11 +103,7 @@ pub fn print_bad_line(number: u32, out: &mut Vec<u8>) -> Result<(), NoMemory>
     use Part::{Number, Text};
     append_parts(
         out,
-        &[
-            Text(b"bad line"),
-            Number(u64::from(number)),
-            Text(b"\n"),
-        ],
+        &[Text(b"bad line"), Number(u64::from(number)), Text(b"\n")],
     )
 }
 

@@ -1,8 +1,9 @@
 //! Reads a script from left to right.
 
-ghost use Rattle.std.specs.Prelude.{◌≡◌, ◌++◌, IfOk, IfErr};
+ghost use Rattle.std.specs.Prelude.{◌≤◌, ℕ, List, length, IfOk, IfErr};
+ghost use Rattle.pot_script.specs.declared.command.Command.{Command};
 ghost use Rattle.pot_script.specs.Scripts.{IsScript, LeavesAt};
-ghost use Rattle.pot_script.specs.Faults.{IfBadLine};
+ghost use Rattle.pot_script.specs.Faults.{IfBadLine, ReadsAs, RefusesAt};
 
 use crate::command::Command;
 use crate::fault::ScriptFault;
@@ -13,14 +14,27 @@ use std::alloc::Global;
 const LONGEST_SCRIPT: usize = 67_108_864;
 
 /// The commands of a script, in the order of their lines. `BadLine` has the number of the first line
-/// that leaves the grammar.
+/// that leaves the grammar, or 0 where the script is too long.
 pub fn read_script(alloc: Global, bytes: &[u8]) -> Result<Vec<Command>, ScriptFault>
     ensures ok { IfOk result (λ commands. IsScript bytes.now commands.items) }
     ensures bad { IfErr result (IfBadLine (LeavesAt bytes.now)) }
+
+    // Each script is read, and each other text is refused, unless memory runs out.
+    ensures each_script { (script : List Command) → IsScript bytes.now script → ReadsAs result script }
+    ensures each_fault { (line : ℕ) → LeavesAt bytes.now line → RefusesAt result line }
 {
     if bytes.len() > LONGEST_SCRIPT {
         return Err(ScriptFault::BadLine { number: 0 });
     }
+    read_lines(alloc, bytes)
+}
+
+// The commands of a script that is not too long.
+fn read_lines(alloc: Global, bytes: &[u8]) -> Result<Vec<Command>, ScriptFault>
+    requires { length bytes.now ≤ 67108864 }
+    ensures ok { IfOk result (λ commands. IsScript bytes.now commands.items) }
+    ensures bad { IfErr result (IfBadLine (LeavesAt bytes.now)) }
+{
     let mut commands = Vec::new(alloc);
     let mut rest = bytes;
     let mut number = 1;

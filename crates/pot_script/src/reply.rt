@@ -12,13 +12,23 @@ pub enum Reply {
         shards: u32,
     },
     /// The bytes of a stored file.
-    File { name: Name, bytes: Bytes },
+    File {
+        name: Name,
+        bytes: Bytes,
+    },
     /// The file of a store line is longer, in bytes, than a file may be.
-    Long { name: Name, length: u64 },
+    Long {
+        name: Name,
+        length: u64,
+    },
     /// A file of this name is stored already.
-    Exists { name: Name },
+    Exists {
+        name: Name,
+    },
     /// No file of this name is stored.
-    Absent { name: Name },
+    Absent {
+        name: Name,
+    },
     /// Of one fragment of a piece fewer shards can be had than it needs.
     Lost {
         name: Name,
@@ -28,7 +38,10 @@ pub enum Reply {
         need: u8,
     },
     /// The archive of a group's column failed.
-    Fault { group: u8, column: u8 },
+    Fault {
+        group: u8,
+        column: u8,
+    },
 }
 
 impl Reply {

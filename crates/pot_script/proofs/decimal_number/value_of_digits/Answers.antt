@@ -1,8 +1,7 @@
-use Rattle.std.proofs.Common.{◌≡◌, ◌≤◌, ◌<◌, ◌+◌, ℕ, List, length, take, get_or, arith, sym, subst}
+use Rattle.std.proofs.Common.{◌≡◌, ◌+◌, take, get_or, arith}
 use Rattle.std.proofs.lemmas.List.{take_all}
 use Rattle.std.proofs.lemmas.Str.Parse.{digit_at, digits_value-take-le}
 use Rattle.std.specs.Int.{IsInRange}
-use Rattle.std.specs.Str.Parse.{AllDigits, digits_value}
 use Rattle.pot_script.proofs.Decimal.{value_with_digit, digits_with_digit}
 use Rattle.pot_script.proofs.decimal_number.value_of_digits.Goals as goal
 
@@ -22,7 +21,7 @@ loop-digit-preserved c =
     record {
       are_digits = digits_with_digit c.args.digits.now c.loop-digit.digit-index c.loop-digit-test.true range c.loop-digit.invariant.are_digits;
       is_value = omega (arith, value_with_digit c.args.digits.now c.loop-digit.digit-index c.loop-digit.value c.loop-digit-test.true range c.loop-digit.invariant.is_value);
-      small = omega arith
+      small = omega arith;
     }
 
 pub returns : goal.returns

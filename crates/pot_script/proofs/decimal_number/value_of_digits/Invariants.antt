@@ -7,5 +7,5 @@ abbrev pub invariant-loop-digit : goal.invariant-loop-digit
 invariant-loop-digit l = record {
   are_digits : AllDigits 10 (take l.digit-index l.digits);
   is_value : l.value ≡ digits_value 10 (take l.digit-index l.digits);
-  small : l.value ≤ l.most
+  small : l.value ≤ l.most;
 }
