@@ -21,6 +21,7 @@ pub struct Marks {
 }
 
 /// An archive with its number.
+#[derive(Drop)]
 pub struct Shelf<A> {
     pub number: u32,
     pub archive: A,

@@ -1,0 +1,6 @@
+pub mod Archives
+pub mod Calls
+pub mod Kept
+pub mod Losses
+pub mod Rooms
+pub mod Streams

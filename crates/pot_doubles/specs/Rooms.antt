@@ -1,0 +1,31 @@
+-- Rooms of archives in memory.
+use Rattle.std.specs.Prelude.{◌≡◌, ◌≢◌, ◌<◌, ◌==◌, ℕ, Bool, List, [], ◌∷◌, Option, Some, None, length, slice_index_or, if◌then◌else◌}
+use Rattle.std.specs.List.{list_any}
+use Rattle.pot_outside.specs.declared.archive.Shelf.{Shelf}
+use Rattle.pot_outside.specs.Archives.{Meaning}
+use Rattle.pot_doubles.specs.Archives.{held_in}
+use Rattle.pot_doubles.specs.declared.archive.LossyArchive.{LossyArchive}
+
+-- the archive of the first shelf with this number
+abbrev pub archive_of : List (Shelf LossyArchive) → ℕ → Option LossyArchive
+archive_of [] number = None
+archive_of (shelf ∷ shelves) number = if shelf.number == number then Some shelf.archive else archive_of shelves number
+
+-- what an archive means; a number without one means an empty archive with counts of 0
+abbrev pub meaning_of : Option LossyArchive → Meaning
+meaning_of None = record { held = λ k. None; history = []; faults = 0; losses = 0 }
+meaning_of (Some a) = record { held = held_in a; history = a.past.items; faults = a.calls.faults; losses = a.lost }
+
+-- what some shelves mean by a number
+abbrev pub meaning_in : List (Shelf LossyArchive) → ℕ → Meaning
+meaning_in shelves number = meaning_of (archive_of shelves number)
+
+-- the shelf at this place has the number, and no shelf before it has
+pub record IsFirst (shelves : List (Shelf LossyArchive)) (number place : ℕ) : Type 0 where
+  pub within : place < length shelves
+  pub here : (d : Shelf LossyArchive) → (slice_index_or shelves place d).number ≡ number
+  pub before : (k : ℕ) (d : Shelf LossyArchive) → k < place → (slice_index_or shelves k d).number ≢ number
+
+-- whether an archive of these shelves found no memory
+abbrev pub any_starved : List (Shelf LossyArchive) → Bool
+any_starved shelves = list_any (λ s. s.archive.calls.starved) shelves

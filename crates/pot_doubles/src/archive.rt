@@ -1,0 +1,135 @@
+ghost use Rattle.pot_doubles.specs.Kept.{IsKept};
+
+use crate::calls::Calls;
+use crate::losses::{Loss, lose_listed};
+use pot_bytes::Block;
+use pot_outside::{Archive, Failed, Held, Marks};
+use std::alloc::Global;
+use std::collections::BTreeMap;
+
+/// Blocks in memory, of which some go missing where a test says so.
+#[derive(Drop)]
+pub struct LossyArchive {
+    blocks: BTreeMap<u32, Block>,
+    past: Vec<Block>,
+    losses: Vec<Loss>,
+    lost: u64,
+    calls: Calls,
+    ghost kept: { IsKept blocks past.items },
+}
+
+impl LossyArchive {
+    ghost use Rattle.std.specs.Prelude.{◌≡◌, ℕ, [], None, false, IsTrue};
+    ghost use Rattle.std.specs.Option.{option_copied};
+    ghost use Rattle.pot_outside.specs.Archives.{OnlyLoses};
+    ghost use Rattle.pot_outside.specs.Counts.{Caused};
+    ghost use Rattle.pot_doubles.specs.Calls.{is_due, begun};
+    ghost use Rattle.pot_doubles.specs.Archives.{held_in, LosesListed, LosesOne};
+
+    /// An archive without blocks. The calls of the numbers `fails` are to fail, and the losses come at the
+    /// start of their calls.
+    pub fn new(alloc: Global, fails: Vec<u32>, losses: Vec<Loss>) -> LossyArchive
+        ensures held { (k : ℕ) → held_in result k ≡ None }
+        ensures past { result.past.items ≡ [] }
+        ensures lost { result.lost ≡ 0 }
+        ensures losses { result.losses ≡ losses }
+        ensures calls { result.calls ≡ record { fails = fails; made = 0; faults = 0; starved = false } }
+    {
+        LossyArchive {
+            blocks: BTreeMap::new(alloc),
+            past: Vec::new(alloc),
+            losses,
+            lost: 0,
+            calls: Calls::new(fails),
+        }
+    }
+
+    /// Loses the block of a slot at once, and counts a loss. It is no call that is numbered.
+    pub fn lose(&mut self, slot: u32)
+        ensures { LosesOne self.old self.new slot }
+    {
+        let _ = self.blocks.remove(&slot);
+        self.lost = self.lost.saturating_add(1);
+    }
+
+    /// The block of a slot, for a look from outside. It is no call that is numbered.
+    pub fn block(&self, slot: u32) -> Option<&Block>
+        ensures { option_copied result ≡ held_in self.now slot }
+    {
+        self.blocks.get(&slot)
+    }
+
+    /// Whether a call found no memory. It then failed.
+    pub fn starved(&self) -> bool
+        ensures { result ≡ self.now.calls.starved }
+    {
+        self.calls.starved()
+    }
+
+    /// Begins a call: loses what is listed for it, and says whether it is to fail.
+    fn begin(&mut self) -> bool
+        ensures loses { OnlyLoses (held_in self.old) (held_in self.new) self.old.lost self.new.lost }
+        ensures listed { LosesListed self.old self.new }
+        ensures due { result ≡ is_due self.old.calls }
+        ensures counted { self.new.calls ≡ begun self.old.calls }
+        ensures cause { Caused self.old.calls.faults self.new.calls.faults (IsTrue result) }
+    {
+        let call = self.calls.number();
+        lose_listed(&mut self.blocks, &self.losses, call, &mut self.lost);
+        self.calls.begin()
+    }
+}
+
+impl Archive for LossyArchive {
+    ghost use Rattle.std.specs.Prelude.{◌≡◌, ℕ, List, Option, true, IsTrue, IsErr};
+    ghost use Rattle.pot_outside.specs.Archives.{OnlyLoses, ReadTells, WriteTells, Remembers, IsRemembered};
+    ghost use Rattle.pot_outside.specs.Counts.{Caused};
+    ghost use Rattle.pot_doubles.specs.Archives.{held_in};
+
+    ghost tells = { true };
+
+    ghost held = { held_in };
+
+    ghost history = { λ a. a.past.items };
+
+    ghost faults = { λ a. a.calls.faults };
+
+    ghost losses = { λ a. a.lost };
+
+    fn read(&mut self, slot: u32, into: &mut Block) -> Result<Held, Failed> {
+        if self.begin() {
+            return Err(Failed);
+        }
+        match self.blocks.get(&slot) {
+            None => Ok(Held::Absent),
+            Some(block) => {
+                *into = *block;
+                Ok(Held::Held)
+            }
+        }
+    }
+
+    fn write(&mut self, slot: u32, block: &Block) -> Result<(), Failed> {
+        if self.begin() {
+            return Err(Failed);
+        }
+        if self.past.push(*block).is_err() {
+            self.calls.starve();
+            return Err(Failed);
+        }
+        match self.blocks.insert(slot, *block) {
+            Ok(_) => Ok(()),
+            Err(_) => {
+                self.calls.starve();
+                Err(Failed)
+            }
+        }
+    }
+
+    fn marks(&self) -> Marks {
+        Marks {
+            faults: self.calls.faults(),
+            losses: self.lost,
+        }
+    }
+}

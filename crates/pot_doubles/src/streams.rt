@@ -1,0 +1,142 @@
+ghost use Rattle.std.specs.Prelude.{◌≡◌, ◌≤◌, [], length, drop, false, Ok};
+ghost use Rattle.pot_outside.specs.Streams.{ReadsNext};
+
+use crate::calls::Calls;
+use pot_outside::{Failed, Sink, Source};
+use std::alloc::Global;
+
+/// Bytes in memory that are read as input.
+#[derive(Drop)]
+pub struct MemSource {
+    bytes: Vec<u8>,
+    at: usize,
+    calls: Calls,
+    ghost within: { at ≤ length bytes.items },
+}
+
+impl MemSource {
+    ghost use Rattle.pot_doubles.specs.Streams.{left_of};
+
+    /// All these bytes are left, and the calls of these numbers are to fail.
+    pub fn new(bytes: Vec<u8>, fails: Vec<u32>) -> MemSource
+        ensures left { left_of result ≡ bytes.items }
+        ensures calls { result.calls ≡ record { fails = fails; made = 0; faults = 0; starved = false } }
+    {
+        MemSource {
+            bytes,
+            at: 0,
+            calls: Calls::new(fails),
+        }
+    }
+
+    /// Whether a call found no memory. No call of a source takes any.
+    pub fn starved(&self) -> bool
+        ensures { result ≡ self.now.calls.starved }
+    {
+        self.calls.starved()
+    }
+}
+
+impl Source for MemSource {
+    ghost use Rattle.std.specs.Prelude.{◌≡◌, List, ℕ, true, IsErr, IsTrue};
+    ghost use Rattle.pot_outside.specs.Counts.{Caused};
+    ghost use Rattle.pot_outside.specs.Streams.{ReadsNext, Within};
+    ghost use Rattle.pot_doubles.specs.Calls.{Counted};
+    ghost use Rattle.pot_doubles.specs.Streams.{left_of};
+
+    ghost tells = { true };
+
+    ghost left = { left_of };
+
+    ghost faults = { λ s. s.calls.faults };
+
+    fn read(&mut self, into: &mut [u8]) -> Result<usize, Failed>
+        ensures told { ReadsNext (left_of self.old) (left_of self.new) into.new result }
+        ensures within { Within into.new result }
+        ensures cause { Caused self.old.calls.faults self.new.calls.faults (IsErr result) }
+        ensures counted { Counted self.old.calls self.new.calls result }
+    {
+        if self.calls.begin() {
+            return Err(Failed);
+        }
+        let count = copy_front(&self.bytes[self.at..], into);
+        self.at += count;
+        Ok(count)
+    }
+}
+
+/// Copies as many first bytes of `from` as `into` has room for, and answers how many.
+fn copy_front(from: &[u8], into: &mut [u8]) -> usize
+    ensures copied { ReadsNext from.now (drop result from.now) into.new (Ok result) }
+    ensures fits { result ≤ length from.now }
+{
+    let count = into.len().min(from.len());
+    into[..count].copy_from_slice(&from[..count]);
+    count
+}
+
+/// Bytes in memory that are written as output.
+#[derive(Drop)]
+pub struct MemSink {
+    written: Vec<u8>,
+    calls: Calls,
+}
+
+impl MemSink {
+    /// Nothing is written, and the calls of these numbers are to fail.
+    pub fn new(alloc: Global, fails: Vec<u32>) -> MemSink
+        ensures written { result.written.items ≡ [] }
+        ensures calls { result.calls ≡ record { fails = fails; made = 0; faults = 0; starved = false } }
+    {
+        MemSink {
+            written: Vec::new(alloc),
+            calls: Calls::new(fails),
+        }
+    }
+
+    /// The bytes written so far.
+    pub fn written(&self) -> &[u8]
+        ensures { result.now ≡ self.now.written.items }
+    {
+        &self.written
+    }
+
+    /// Whether a call found no memory. It then failed.
+    pub fn starved(&self) -> bool
+        ensures { result ≡ self.now.calls.starved }
+    {
+        self.calls.starved()
+    }
+}
+
+impl Sink for MemSink {
+    ghost use Rattle.std.specs.Prelude.{◌≡◌, List, ℕ, true, IsErr, IsTrue};
+    ghost use Rattle.pot_outside.specs.Counts.{Caused};
+    ghost use Rattle.pot_outside.specs.Streams.{Appends, Within, TakesSome};
+    ghost use Rattle.pot_doubles.specs.Calls.{Counted};
+
+    ghost tells = { true };
+
+    ghost written = { λ s. s.written.items };
+
+    ghost faults = { λ s. s.calls.faults };
+
+    fn write(&mut self, from: &[u8]) -> Result<usize, Failed>
+        ensures told { Appends self.old.written.items self.new.written.items from.now result }
+        ensures within { Within from.now result }
+        ensures some { TakesSome from.now result }
+        ensures cause { Caused self.old.calls.faults self.new.calls.faults (IsErr result) }
+        ensures counted { Counted self.old.calls self.new.calls result }
+    {
+        if self.calls.begin() {
+            return Err(Failed);
+        }
+        match self.written.extend_from_slice(from) {
+            Ok(()) => Ok(from.len()),
+            Err(_) => {
+                self.calls.starve();
+                Err(Failed)
+            }
+        }
+    }
+}
