@@ -1,0 +1,5 @@
+pub mod BlurLemmas
+pub mod CandidateLemmas
+pub mod FilterLemmas
+pub mod OrderLemmas
+pub mod TableLemmas
