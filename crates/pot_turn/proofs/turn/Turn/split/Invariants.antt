@@ -1,5 +1,0 @@
-use Rattle.pot_turn.proofs.turn.Turn.split.Given as goal
-
--- the number of parts of this call
-abbrev pub ghosts-cut : goal.ghosts-cut
-ghosts-cut g a = record { parts = a.parts }
