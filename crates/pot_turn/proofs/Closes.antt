@@ -36,7 +36,7 @@ module _ {T E O : Type 0} (log : T → List E) (origin : T → O) (opened : T) w
         once = λ i. let none = between-empty i (length (log opened)) in omega (arith, none);
         each = λ k u e. subst (Fits log origin opened (log opened)) (only v u k e) (record {
           begins = starts_self (log opened);
-          before = (log opened, refl);
+          agrees = ((log opened, refl), refl, refl);
           holder = λ p. absurd (true≢false (sym p));
           spent = λ p. absurd (omega (arith, p));
           since = starts_self (log opened);

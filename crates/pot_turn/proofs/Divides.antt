@@ -11,7 +11,8 @@ use Rattle.pot_turn.specs.Stretches.{times, between, LieIn}
 use Rattle.pot_turn.specs.Views.{stretches_of}
 use Rattle.pot_turn.specs.Rules.{total, holding, made_by, parts_of, times_in, Fits, Ruled, Looked, cut_sight, new_sight, both_sights, spent_sight}
 use Rattle.pot_turn.proofs.LogLemmas.{starts_self, starts_trans, starts_length, longer_starts, longer_covers}
-use Rattle.pot_turn.proofs.StretchLemmas.{between_most, times-append, lies_longer, lies_append, lies_front, lies_rest}
+use Rattle.pot_turn.proofs.StretchLemmas.{between_most, lies_longer, lies_append, lies_front, lies_rest}
+use Rattle.pot_turn.proofs.PassLemmas.{both-times}
 use Rattle.pot_turn.proofs.Sums.{SumStays, sum_stays, total_at}
 use Rattle.pot_turn.proofs.Seats.{bit}
 use Rattle.pot_turn.proofs.Enters.{same_state}
@@ -40,7 +41,7 @@ module _ {T E O : Type 0} (log : T → List E) (origin : T → O) (opened : T) w
             (λ (old : get_elem? (set s.views id left) k ≡ some u). ⊎_elim
             (λ (x : (k ≡ id) × (left ≡ u)). subst (Fits log origin opened r.whole) x.1 (record {
               begins = mine.begins;
-              before = mine.before;
+              agrees = mine.agrees;
               holder = mine.holder;
               spent = λ p. absurd (omega (arith, p, fewer));
               since = mine.since;
@@ -51,7 +52,7 @@ module _ {T E O : Type 0} (log : T → List E) (origin : T → O) (opened : T) w
             (at_set s.views id k left u old))
             (λ (new : right ≡ u). subst (Fits log origin opened r.whole) new (record {
               begins = mine.begins;
-              before = (v.view.seen, refl);
+              agrees = ((v.view.seen, refl), refl, refl);
               holder = λ p. absurd (true≢false (sym p));
               spent = λ p. absurd (omega (arith, p, some_parts));
               since = mine.since;
@@ -64,11 +65,7 @@ module _ {T E O : Type 0} (log : T → List E) (origin : T → O) (opened : T) w
       }
 
   both_times : (i : ℕ) (v w : Sight E O) → times_in i (both_sights v w) + times_in i (spent_sight {E = E} {O = O}) ≡ times_in i v + times_in i w
-  both_times i v w =
-      let own = times-append i v.view.turns v.view.joined in
-      let its = times-append i v.view.joined (w.view.turns ++ w.view.joined) in
-      let all = times-append i v.view.turns (v.view.joined ++ (w.view.turns ++ w.view.joined)) in
-      omega (arith, own, its, all)
+  both_times i v w = let both = both-times v.view w.view i in omega (arith, both)
 
   both_lie : (v w : Sight E O) → v.view.opened ≡ w.view.opened → StartsWith (longer v.view.seen w.view.seen) v.view.seen → StartsWith (longer v.view.seen w.view.seen) w.view.seen
       → LieIn (length v.view.opened) (stretches_of v.view) (length v.view.seen) → LieIn (length w.view.opened) (stretches_of w.view) (length w.view.seen)
@@ -113,7 +110,7 @@ module _ {T E O : Type 0} (log : T → List E) (origin : T → O) (opened : T) w
         each = λ k u e. ⊎_elim
             (λ (x : (k ≡ other) × (spent_sight ≡ u)). subst (Fits log origin opened r.whole) x.1 (record {
               begins = (r.whole, refl);
-              before = ([], refl);
+              agrees = (([], refl), refl, refl);
               holder = λ p. absurd (true≢false (sym p));
               spent = λ _. refl;
               since = ([], refl);
@@ -123,7 +120,7 @@ module _ {T E O : Type 0} (log : T → List E) (origin : T → O) (opened : T) w
             (λ (y : (k ≢ other) × (get_elem? views1 k ≡ some u)). ⊎_elim
             (λ (x : (k ≡ id) × (both ≡ u)). subst (Fits log origin opened r.whole) x.1 (record {
               begins = logs.0;
-              before = logs.1;
+              agrees = (logs.1, sym opening, (its.named some_parts').1 ∙ sym (mine.named some_parts).1);
               holder = λ p. absurd (true≢false (sym p ∙ idle));
               spent = λ p. absurd (omega (arith, p, some_parts));
               since = starts_trans (longer v.view.seen w.view.seen) v.view.seen v.view.opened grown.0 mine.since;
@@ -147,7 +144,7 @@ module _ {T E O : Type 0} (log : T → List E) (origin : T → O) (opened : T) w
           let all = r.once i in
           let once = between_most i (length (log opened)) (length r.whole) in
           omega (arith, own, all, once) in
-      (v, keeps, tt, same_state log origin opened s r id v at (slice_index s.words 0) (sym first), (refl, mine.before, mine.lies, most))
+      (v, keeps, tt, same_state log origin opened s r id v at (slice_index s.words 0) (sym first), (refl, mine.agrees, mine.lies, most))
 
   pub looks_it : (id : ℕ) (m : Me (Option T) (Sight E O)) → m.1 ≡ [] → Allows (Ruled log origin opened) 1 id m 0 (λ n. n) (λ _. Looked m)
   looks_it id m out =

@@ -57,7 +57,7 @@ module _ {T E O : Type 0} (log : T → List E) (origin : T → O) (opened : T) w
           each = λ k u e. ⊎_elim
               (λ (x : (k ≡ id) × (w ≡ u)). subst (Fits log origin opened r.whole) x.1 (record {
                 begins = subst (λ l. StartsWith r.whole l) (sym home.2) (starts_self r.whole);
-                before = starts_trans (log value) v.view.seen v.before begins mine.before;
+                agrees = (starts_trans (log value) v.view.seen v.told.seen begins mine.agrees.0, mine.agrees.1, mine.agrees.2);
                 holder = λ _. home.2;
                 spent = λ p. absurd (omega (arith, p, some_parts));
                 since = starts_trans (log value) v.view.seen v.view.opened begins mine.since;

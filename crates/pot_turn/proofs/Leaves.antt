@@ -8,11 +8,12 @@ use Rattle.atomic_table.proofs.Lists.{at_set}
 use Rattle.std.proofs.lemmas.Option.{same_Some}
 use Rattle.pot_turn.specs.declared.view.Sight.{Sight}
 use Rattle.pot_turn.specs.Logs.{StartsWith}
-use Rattle.pot_turn.specs.Stretches.{stretch, between, times, LieIn}
+use Rattle.pot_turn.specs.Stretches.{stretch, between, LieIn}
 use Rattle.pot_turn.specs.Views.{stretches_of}
 use Rattle.pot_turn.specs.Rules.{total, holding, made_by, parts_of, times_in, Fits, Ruled, Raised, Freed, raised_sight, freed_sight}
 use Rattle.pot_turn.proofs.LogLemmas.{starts_self, starts_trans, starts_length}
-use Rattle.pot_turn.proofs.StretchLemmas.{between-split, times-append, lies_longer, lies_append, lies_rest, lies_front}
+use Rattle.pot_turn.proofs.StretchLemmas.{between-split, lies_longer, lies_append, lies_rest, lies_front}
+use Rattle.pot_turn.proofs.PassLemmas.{left-times}
 use Rattle.pot_turn.proofs.Sums.{total-set, total-same, total_at, total_two}
 use Rattle.pot_turn.proofs.Seats.{bit, IsHolder}
 
@@ -22,14 +23,6 @@ value_of y [] = y
 value_of y (x ∷ xs) = x.1
 
 module _ {T E O : Type 0} (log : T → List E) (origin : T → O) (opened : T) where
-  -- the new stretch has what came after the whole log
-  raised_times : (i : ℕ) (v : Sight E O) (l : List E) → times_in i (raised_sight l v) ≡ times_in i v + between i (length v.view.seen) (length l)
-  raised_times i v l =
-      let own = times-append i v.view.turns (stretch (length v.view.seen) (length l) ∷ []) in
-      let before = times-append i v.view.turns v.view.joined in
-      let after = times-append i (v.view.turns ++ stretch (length v.view.seen) (length l) ∷ []) v.view.joined in
-      omega (arith, own, before, after)
-
   raised_lies : (v : Sight E O) (l : List E) → StartsWith v.view.seen v.view.opened → length v.view.seen ≤ length l → LieIn (length v.view.opened) (stretches_of v.view) (length v.view.seen)
       → LieIn (length v.view.opened) (stretches_of (raised_sight l v).view) (length l)
   raised_lies v l since more lies =
@@ -73,7 +66,7 @@ module _ {T E O : Type 0} (log : T → List E) (origin : T → O) (opened : T) w
           parts = parts ∙ r.parts;
           once = λ i.
               let set1 = total-set (times_in i) s.views id v w at in
-              let new = raised_times i v (log x) in
+              let new = left-times v.view (log x) i in
               let before = r.once i in
               let parted = between-split i (length (log opened)) (length v.view.seen) (length (log x)) (omega (arith, start_length, old_length)) fits_length in
               let same : between i (length (log opened)) (length r.whole) ≡ between i (length (log opened)) (length v.view.seen) = ap (between i (length (log opened))) (sym old_length) in
@@ -81,7 +74,7 @@ module _ {T E O : Type 0} (log : T → List E) (origin : T → O) (opened : T) w
           each = λ k u e. ⊎_elim
               (λ (y : (k ≡ id) × (w ≡ u)). subst (Fits log origin opened (log x)) y.1 (record {
                 begins = starts_self (log x);
-                before = starts_trans (log x) v.view.seen v.before grown mine.before;
+                agrees = (starts_trans (log x) v.view.seen v.told.seen grown mine.agrees.0, mine.agrees.1, mine.agrees.2);
                 holder = λ _. refl;
                 spent = λ p. absurd (omega (arith, p, some_parts));
                 since = starts_trans (log x) v.view.seen v.view.opened grown mine.since;
@@ -93,7 +86,7 @@ module _ {T E O : Type 0} (log : T → List E) (origin : T → O) (opened : T) w
               let both = total_two holding s.views k id u v y.0 y.1 at in
               record {
                 begins = starts_trans (log x) r.whole u.view.seen longer other.begins;
-                before = other.before;
+                agrees = other.agrees;
                 holder = λ h. let bit_u : holding u ≡ 1 = ap bit h in absurd (omega (arith, both, bit_u, bit_v, one));
                 spent = other.spent;
                 since = other.since;
@@ -144,7 +137,7 @@ module _ {T E O : Type 0} (log : T → List E) (origin : T → O) (opened : T) w
           each = λ k u e. ⊎_elim
               (λ (y : (k ≡ id) × (w ≡ u)). subst (Fits log origin opened r.whole) y.1 (record {
                 begins = mine.begins;
-                before = mine.before;
+                agrees = mine.agrees;
                 holder = λ h. absurd (true≢false (sym h));
                 spent = λ p. absurd (omega (arith, p, some_parts));
                 since = mine.since;

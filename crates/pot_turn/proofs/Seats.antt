@@ -29,5 +29,8 @@ module _ {T E O : Type 0} (m : Me (Option T) (Sight E O)) where
   pub slots_at : (s : Sight E O) → m ≡ (s, slots_of s.view.holds) → m.1 ≡ slots_of m.0.view.holds
   slots_at s e = subst (λ (k : Me (Option T) (Sight E O)). k.1 ≡ slots_of k.0.view.holds) (sym e) refl
 
+  pub slots_out : (s : Sight E O) (c : List (ℕ × Option T)) → m ≡ (s, c) → c ≡ [] → m.1 ≡ []
+  slots_out s c e out = ap (λ (k : Me (Option T) (Sight E O)). k.1) e ∙ out
+
   pub pass_at : (s : Sight E O) (c : List (ℕ × Option T)) → m ≡ (s, c) → IsPass s.view → IsPass m.0.view
   pass_at s c e is = subst (λ (k : Me (Option T) (Sight E O)). IsPass k.0.view) (sym e) is

@@ -7,42 +7,50 @@ use lib.ListN.{get_elem?}
 use Rattle.atomic_table.specs.Table.{State, Me}
 use Rattle.pot_turn.specs.declared.view.View.{View}
 use Rattle.pot_turn.specs.declared.view.Sight.{Sight}
+use Rattle.pot_turn.specs.declared.view.Told.{Told}
 use Rattle.pot_turn.specs.Logs.{StartsWith, shorter}
 use Rattle.pot_turn.specs.Stretches.{stretch, between, times, LieIn}
 use Rattle.pot_turn.specs.Views.{stretches_of, first_view, took_view, left_view, cut_view, new_view, both_views, spent_view}
 
 module _ {E O : Type 0} where
-  abbrev pub sight : View E O → List E → Sight E O
-  sight v before = record { view = v; before = before }
+  abbrev pub told : List E → List E → Option O → Told E O
+  told seen opened origin = record { seen = seen; opened = opened; origin = origin }
+
+  abbrev pub sight : View E O → Told E O → Sight E O
+  sight v t = record { view = v; told = t }
+
+  -- a pass to which nothing was joined
+  abbrev pub alone : View E O → Sight E O
+  alone v = sight v (told [] v.opened v.origin)
 
   abbrev pub first_sight : List E → O → Sight E O
-  first_sight log origin = sight (first_view log origin) []
+  first_sight log origin = alone (first_view log origin)
 
   abbrev pub took_sight : List E → Sight E O → Sight E O
-  took_sight log s = sight (took_view log s.view) s.before
+  took_sight log s = sight (took_view log s.view) s.told
 
   -- the turn is not over, and what was logged in it is counted
   abbrev pub raised_sight : List E → Sight E O → Sight E O
   raised_sight log s =
       let left : View E O = left_view log s.view in
-      sight (record { holds = s.view.holds; opened = left.opened; seen = left.seen; turns = left.turns; joined = left.joined; made = left.made; parts = left.parts; origin = left.origin }) s.before
+      sight (record { holds = s.view.holds; opened = left.opened; seen = left.seen; turns = left.turns; joined = left.joined; made = left.made; parts = left.parts; origin = left.origin }) s.told
 
   abbrev pub freed_sight : Sight E O → Sight E O
   freed_sight s =
       let v : View E O = s.view in
-      sight (record { holds = false; opened = v.opened; seen = v.seen; turns = v.turns; joined = v.joined; made = v.made; parts = v.parts; origin = v.origin }) s.before
+      sight (record { holds = false; opened = v.opened; seen = v.seen; turns = v.turns; joined = v.joined; made = v.made; parts = v.parts; origin = v.origin }) s.told
 
   abbrev pub cut_sight : ℕ → Sight E O → Sight E O
-  cut_sight n s = sight (cut_view n s.view) s.before
+  cut_sight n s = sight (cut_view n s.view) s.told
 
   abbrev pub new_sight : ℕ → Sight E O → Sight E O
-  new_sight n s = sight (new_view n s.view) []
+  new_sight n s = alone (new_view n s.view)
 
   abbrev pub both_sights : Sight E O → Sight E O → Sight E O
-  both_sights s t = sight (both_views s.view t.view) (shorter s.view.seen t.view.seen)
+  both_sights s t = sight (both_views s.view t.view) (told (shorter s.view.seen t.view.seen) t.view.opened t.view.origin)
 
   abbrev pub spent_sight : Sight E O
-  spent_sight = sight spent_view []
+  spent_sight = alone spent_view
 
   -- the amounts that are added up over all passes
   abbrev pub holding : Sight E O → ℕ
@@ -57,6 +65,10 @@ module _ {E O : Type 0} where
   abbrev pub times_in : ℕ → Sight E O → ℕ
   times_in i s = times i (stretches_of s.view)
 
+  -- the log seen begins with what was told, and the opening log and the origin are the same
+  abbrev pub Agrees : View E O → Told E O → Type 0
+  Agrees v t = StartsWith v.seen t.seen × (t.opened ≡ v.opened) × (t.origin ≡ v.origin)
+
 -- the sum over all members
 abbrev pub total : {V : Type 0} → (V → ℕ) → List V → ℕ
 total f [] = 0
@@ -66,7 +78,7 @@ module _ {T E O : Type 0} (log : T → List E) (origin : T → O) (opened : T) w
   -- A pass has seen a beginning of the whole log, and the holder all of it. A spent pass knows nothing, and any other has seen the opening log and carries the origin
   pub record Fits (whole : List E) (s : Sight E O) : Type 0 where
     pub begins : StartsWith whole s.view.seen
-    pub before : StartsWith s.view.seen s.before
+    pub agrees : Agrees s.view s.told
     pub holder : s.view.holds ≡ true → s.view.seen ≡ whole
     pub spent : s.view.parts ≡ 0 → s ≡ spent_sight
     pub since : StartsWith s.view.seen s.view.opened
@@ -103,9 +115,9 @@ module _ {T E O : Type 0} (log : T → List E) where
 abbrev pub Freed : {T E O : Type 0} → Me (Option T) (Sight E O) → Me (Option T) (Sight E O) → Type 0
 Freed m m' = m' ≡ (freed_sight m.0, [])
 
--- nothing changed; the log that a join left behind begins the one seen, the stretches lie in it, and no position stands in two of them
+-- nothing changed; what a join left agrees with what the pass knows, its stretches lie in the log seen, and no position stands in two of them
 abbrev pub Looked : {T E O : Type 0} → Me T (Sight E O) → Me T (Sight E O) → Type 0
-Looked m m' = (m' ≡ m) × StartsWith m.0.view.seen m.0.before × LieIn (length m.0.view.opened) (stretches_of m.0.view) (length m.0.view.seen) × ((i : ℕ) → times_in i m.0 ≤ 1)
+Looked m m' = (m' ≡ m) × Agrees m.0.view m.0.told × LieIn (length m.0.view.opened) (stretches_of m.0.view) (length m.0.view.seen) × ((i : ℕ) → times_in i m.0 ≤ 1)
 
 -- the slots that a pass has: the turn's own, empty, while it has the value
 abbrev pub slots_of : {T : Type 0} → Bool → List (ℕ × Option T)

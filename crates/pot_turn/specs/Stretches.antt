@@ -1,5 +1,5 @@
 -- Stretches of positions of a log.
-use Rattle.std.specs.Prelude.{◌≡◌, ℕ, ◌+◌, ◌-◌, ◌<◌, ◌≤◌, List, [], ◌∷◌, ◌++◌, length, take, drop, filter, slice_get, Some, Bool, false, if◌then◌else◌, nat_le, nat_lt, ◌&&◌}
+use Rattle.std.specs.Prelude.{◌≡◌, ℕ, ◌+◌, ◌-◌, ◌≤◌, List, [], ◌∷◌, ◌++◌, length, take, drop, if◌then◌else◌, nat_le, nat_lt, ◌&&◌}
 use native.Mathlib.Bridge.{le_prop}
 use mathlib.Core.HLevel.{×₃_prop}
 use Rattle.pot_turn.specs.declared.view.Stretch.{Stretch}
@@ -45,17 +45,6 @@ abbrev pub entries_in : {E : Type 0} → List E → List Stretch → List E
 entries_in log [] = []
 entries_in log (s ∷ ss) = take (s.upto - s.from) (drop s.from log) ++ entries_in log ss
 
--- no entry of the log that stands in these stretches is of the job
-abbrev pub NoneIn : {E : Type 0} → (E → Bool) → List E → List Stretch → Type 0
-NoneIn {E} is_of log ss = (i : ℕ) (e : E) → slice_get log i ≡ Some e → 0 < times i ss → is_of e ≡ false
-
 -- each position since the opening log stands in just one of the stretches, and no other position in any
 abbrev pub IsOnceEach : {E : Type 0} → List E → List E → List Stretch → Type 0
 IsOnceEach opened log ss = (i : ℕ) → times i ss ≡ between i (length opened) (length log)
-
--- However the entries of a job are told: where all stretches are those of the passes that carried it and those of others, and the others logged none of its entries, the job's entries since the opening log are those of its own stretches, in their order
-abbrev pub EntriesAreOfTheirTurns : {E : Type 0} → List E → List E → List Stretch → Type 0
-EntriesAreOfTheirTurns {E} opened log all =
-    (is_of : E → Bool) (own others : List Stretch) → Ascends (length opened) own (length log)
-    → ((i : ℕ) → times i all ≡ times i own + times i others) → NoneIn is_of log others
-    → filter is_of log ≡ filter is_of opened ++ filter is_of (entries_in log own)

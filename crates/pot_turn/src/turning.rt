@@ -39,7 +39,8 @@ pub struct NoMemory;
 impl<T: Kept> Turn<T> {
     ghost use Rattle.std.specs.Prelude.{◌≡◌, ◌≤◌, ◌<◌, ◌+◌, ◌^◌, ℕ, IfOk, IfErr, IsOk, length, true, false, Some, MatchOption};
     ghost use Rattle.pot_turn.specs.Logs.{StartsWith};
-    ghost use Rattle.pot_turn.specs.Stretches.{times, IsOnceEach, EntriesAreOfTheirTurns};
+    ghost use Rattle.pot_turn.specs.Stretches.{times, IsOnceEach};
+    ghost use Rattle.pot_turn.specs.Jobs.{EntriesAreCarried};
     ghost use Rattle.pot_turn.specs.Views.{stretches_of, first_view, took_view, left_view, cut_view, new_view, both_views};
     ghost use Rattle.pot_turn.specs.Passes.{view, turn_of, IsPassOf};
 
@@ -160,6 +161,7 @@ impl<T: Kept> Turn<T> {
         ensures both { view pass.new ≡ both_views (view pass.old) (view other) }
         ensures begins { StartsWith (view pass.new).seen (view pass.old).seen }
         ensures its_begins { StartsWith (view pass.new).seen (view other).seen }
+        ensures alike { ((view other).opened ≡ (view pass.old).opened) × ((view other).origin ≡ (view pass.old).origin) }
         ensures apart { (i : ℕ) → times i (stretches_of (view pass.new)) ≤ 1 }
     {
         let shared = &self.table.shared;
@@ -178,7 +180,7 @@ impl<T: Kept> Turn<T> {
         ensures origin { Some (T.origin result) ≡ (view pass).origin }
         ensures made { length (T.log result) ≡ length (view pass).opened + (view pass).made }
         ensures once { IsOnceEach (view pass).opened (T.log result) (stretches_of (view pass)) }
-        ensures jobs { EntriesAreOfTheirTurns (view pass).opened (T.log result) (stretches_of (view pass)) }
+        ensures jobs { EntriesAreCarried (view pass) (T.log result) }
     {
         let Turn { table } = self;
         let Pass { seat } = pass;

@@ -27,9 +27,18 @@ pub struct View<E, O> {
     pub origin: Option<O>,
 }
 
+/// What a join leaves for a look to tell.
+pub struct Told<E, O> {
+    /// The shorter of the two logs.
+    pub seen: LinkedList<E>,
+    /// The opening log of the pass that was joined.
+    pub opened: LinkedList<E>,
+    /// Its origin.
+    pub origin: Option<O>,
+}
+
 /// What the rule keeps for a pass.
 pub struct Sight<E, O> {
     pub view: View<E, O>,
-    /// A log that the one seen begins with. A join leaves the shorter of the two logs here, and a look tells it.
-    pub before: LinkedList<E>,
+    pub told: Told<E, O>,
 }

@@ -1,7 +1,6 @@
 use Rattle.std.proofs.Common.{ap}
 use Rattle.pot_turn.proofs.Closes.{Ended, closes, closes_with}
-use Rattle.pot_turn.proofs.Jobs.{entries_are_of_their_turns}
-use Rattle.pot_turn.specs.Views.{stretches_of}
+use Rattle.pot_turn.proofs.Jobs.{entries_are_carried}
 use Rattle.std.specs.Slots.{slots_items}
 use Rattle.pot_turn.proofs.turning.Turn.close.Goals as goal
 
@@ -28,5 +27,5 @@ returns g c =
       origin = it.named;
       made = it.made;
       once = it.once;
-      jobs = entries_are_of_their_turns pass.seat.me.0.view.opened (g.T.Kept.log c.in-Some.value) (stretches_of pass.seat.me.0.view) it.since it.once;
+      jobs = entries_are_carried pass.seat.me.0.view (g.T.Kept.log c.in-Some.value) it.seen it.since it.once;
     }

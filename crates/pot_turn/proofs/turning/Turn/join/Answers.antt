@@ -1,5 +1,5 @@
 use Rattle.std.proofs.Common.{◌∙◌, ap, arith, [], length, subst, sym}
-use Rattle.pot_turn.proofs.Seats.{is_idle, slots_at, pass_at}
+use Rattle.pot_turn.proofs.Seats.{is_idle, slots_at, slots_out, pass_at}
 use Rattle.pot_turn.proofs.Divides.{joins, looks_it}
 use Rattle.pot_turn.proofs.LogLemmas.{longer_covers}
 use Rattle.pot_turn.proofs.PassLemmas.{pass_both}
@@ -28,7 +28,9 @@ load-requires g c =
     let words = shape.0 in
     let pass = c.args.pass.now in
     let joined = c.join_seat.ensures in
-    let about = looks_it g.T.Kept.log g.T.Kept.origin c.args.self.now.table.shared.key.value c.join_seat.new.seat.id c.join_seat.new.seat.me (ap (λ k. k.1) joined.2 ∙ (is_idle pass.seat.me pass.slots pass.known c.requires.idle).2) in (
+    let s = both_sights pass.seat.me.0 c.args.other.seat.me.0 in
+    let out = slots_out c.join_seat.new.seat.me s pass.seat.me.1 joined.2 (is_idle pass.seat.me pass.slots pass.known c.requires.idle).2 in
+    let about = looks_it g.T.Kept.log g.T.Kept.origin c.args.self.now.table.shared.key.value c.join_seat.new.seat.id c.join_seat.new.seat.me out in (
       joined.0 ∙ ap (λ n. n.id) c.requires.own,
       omega (arith, words),
       rw shape.1 about,
@@ -45,7 +47,7 @@ invariant_of-pass g c =
     let joined = c.join_seat.ensures.2 in
     let looked = c.load.ensures.2 in
     let e = looked.0 ∙ (joined ∙ ap (λ l. (s, l)) idle.2) in
-    let begins : StartsWith (longer old.view.seen its.view.seen) (shorter old.view.seen its.view.seen) = subst (λ k. StartsWith k.0.view.seen k.0.before) joined looked.1 in
+    let begins : StartsWith (longer old.view.seen its.view.seen) (shorter old.view.seen its.view.seen) = subst (λ k. StartsWith k.0.view.seen k.0.told.seen) joined looked.1.0 in
     let lies : LieIn (length old.view.opened) (stretches_of s.view) (length (longer old.view.seen its.view.seen)) =
     subst (λ k. LieIn (length k.0.view.opened) (stretches_of k.0.view) (length k.0.view.seen)) joined looked.2 in
     record {
