@@ -1,0 +1,193 @@
+//! The turn and its passes.
+ghost use Rattle.std.specs.Prelude.{◌≡◌};
+ghost use Rattle.pot_turn.specs.Rules.{slots_of};
+ghost use Rattle.pot_turn.specs.Views.{IsPass, IsPass-prop};
+
+use crate::rule::{Cut, Free, Look, Pair, Parts, Raise, Take, TurnRule};
+use crate::{Kept, Sight};
+use atomic_table::{Refused, Seat, Table};
+use std::alloc::{AllocFailed, Global};
+use std::marker::Brand;
+use std::snapshot::Snapshot;
+use std::sync::Wait;
+
+/// A value that one pass at a time can have.
+#[derive(Drop)]
+pub struct Turn<T: Kept> {
+    table: Table<Option<T>, Sight<T::Entry, T::Origin>, Snapshot<T>, TurnRule<T>, Global>,
+    ghost shape: { (table.shared.table_id.words ≡ 2) × (table.shared.table_id.slots ≡ 1) },
+}
+
+/// The leave to take the value of one turn. It has no bytes.
+#[derive(Drop)]
+pub struct Pass<T: Kept> {
+    seat: Seat<Option<T>, Sight<T::Entry, T::Origin>>,
+    ghost slots: { seat.me.1 ≡ slots_of seat.me.0.view.holds },
+    ghost known: { IsPass seat.me.0.view } by { IsPass-prop seat.me.0.view },
+}
+
+/// There was no memory for a turn. The value comes back.
+#[derive(Drop)]
+pub struct TurnRefused<T> {
+    pub value: T,
+}
+
+/// There was no memory for a pass.
+#[derive(Debug, Clone, Copy, PartialEq, Eq)]
+pub struct NoMemory;
+
+impl<T: Kept> Turn<T> {
+    ghost use Rattle.std.specs.Prelude.{◌≡◌, ◌≤◌, ◌<◌, ◌+◌, ◌^◌, ℕ, IfOk, IfErr, IsOk, length, true, false, Some, MatchOption};
+    ghost use Rattle.pot_turn.specs.Logs.{StartsWith};
+    ghost use Rattle.pot_turn.specs.Stretches.{times, IsOnceEach};
+    ghost use Rattle.pot_turn.specs.Jobs.{EntriesAreCarried};
+    ghost use Rattle.pot_turn.specs.Views.{stretches_of, first_view, took_view, left_view, cut_view, new_view, both_views};
+    ghost use Rattle.pot_turn.specs.Passes.{view, turn_of, IsPassOf};
+
+    /// A turn over the value, and its first pass, which has all parts and has seen the value's log.
+    pub fn new(alloc: Global, value: T) -> Result<(Turn<T>, Pass<T>), TurnRefused<T>>
+        ensures own { IfOk result (λ p. IsPassOf p.0 p.1) }
+        ensures first { IfOk result (λ p. view p.1 ≡ first_view (T.log value) (T.origin value)) }
+        ensures back { IfErr result (λ r. r.value ≡ value) }
+    {
+        let count = value.length();
+        let opened = Snapshot::of(&value);
+        let mut slots = Vec::new(alloc);
+        if let Err(failed) = slots.push(Some(value)) {
+            slots.destroy_empty();
+            let AllocFailed { value: back } = failed;
+            let Some(value) = back else { unreachable!() };
+            return Err(TurnRefused { value });
+        }
+        match Table::new(alloc, &[0, count], slots, &opened) {
+            Ok((table, seat)) => Ok((Turn { table }, Pass { seat })),
+            Err(refused) => {
+                let Refused { mut slots } = refused;
+                let Some(Some(value)) = slots.pop() else {
+                    unreachable!()
+                };
+                slots.destroy_empty();
+                Err(TurnRefused { value })
+            }
+        }
+    }
+
+    fn try_take(&self, pass: &mut Pass<T>) -> Option<T>
+        requires own { IsPassOf self.now pass.old }
+        requires idle { (view pass.old).holds ≡ false }
+        ensures same { turn_of pass.new ≡ turn_of pass.old }
+        ensures told { MatchOption result (view pass.new ≡ view pass.old)
+            (λ v. StartsWith (T.log v) (view pass.old).seen × (Some (T.origin v) ≡ (view pass.old).origin)
+            × (view pass.new ≡ took_view (T.log v) (view pass.old))) }
+    {
+        let shared = &self.table.shared;
+        if shared.compare_exchange::<Take<T>>(&mut pass.seat, 0, 0, 1) == 0 {
+            shared.exchange(&mut pass.seat, 0, None)
+        } else {
+            None
+        }
+    }
+
+    /// Waits for the value and takes it.
+    pub fn enter<R: Wait>(&self, rt: &R, pass: &mut Pass<T>) -> T
+        requires own { IsPassOf self.now pass.old }
+        requires idle { (view pass.old).holds ≡ false }
+        ensures same { turn_of pass.new ≡ turn_of pass.old }
+        ensures begins { StartsWith (T.log result) (view pass.old).seen }
+        ensures origin { Some (T.origin result) ≡ (view pass.old).origin }
+        ensures seen { view pass.new ≡ took_view (T.log result) (view pass.old) }
+    {
+        for _ in rt.forever() {
+            if let Some(value) = self.try_take(pass) {
+                return value;
+            }
+            self.table.shared.park(rt, 0, 1);
+        }
+        unreachable!()
+    }
+
+    /// Gives the value back. What its log has gained is one more stretch of the pass.
+    pub fn leave(&self, pass: &mut Pass<T>, value: T)
+        requires own { IsPassOf self.now pass.old }
+        requires had { (view pass.old).holds ≡ true }
+        requires grown { StartsWith (T.log value) (view pass.old).seen }
+        requires origin { Some (T.origin value) ≡ (view pass.old).origin }
+        ensures same { turn_of pass.new ≡ turn_of pass.old }
+        ensures left { view pass.new ≡ left_view (T.log value) (view pass.old) }
+    {
+        let shared = &self.table.shared;
+        let length = value.length();
+        let out = shared.exchange(&mut pass.seat, 0, Some(value));
+        let None = out else { unreachable!() };
+        shared.store::<Raise<T>>(&mut pass.seat, 1, length);
+        shared.store::<Free>(&mut pass.seat, 0, 0);
+        shared.wake_one(0);
+    }
+
+    fn cut<N: Parts>(&self, pass: &mut Pass<T>, parts: u64) -> Pass<T>
+        requires own { IsPassOf self.now pass.old }
+        requires idle { (view pass.old).holds ≡ false }
+        requires some { (0 < parts) × (parts < (view pass.old).parts) × (parts ≡ N.parts) }
+        ensures same { (turn_of pass.new ≡ turn_of pass.old) × (turn_of result ≡ turn_of pass.old) }
+        ensures left { view pass.new ≡ cut_view parts (view pass.old) }
+        ensures given { view result ≡ new_view parts (view pass.old) }
+    {
+        Pass {
+            seat: self.table.shared.split_seat::<Cut<N>>(&mut pass.seat),
+        }
+    }
+
+    /// A new pass, which has seen what the old one has, and takes these parts of it. It is never refused.
+    pub fn split(&self, pass: &mut Pass<T>, parts: u64) -> Result<Pass<T>, NoMemory>
+        requires own { IsPassOf self.now pass.old }
+        requires idle { (view pass.old).holds ≡ false }
+        requires some { (0 < parts) × (parts < (view pass.old).parts) }
+        ensures succeeds { IsOk result }
+        ensures same { turn_of pass.new ≡ turn_of pass.old }
+        ensures left { view pass.new ≡ cut_view parts (view pass.old) }
+        ensures own { IfOk result (λ p. turn_of p ≡ turn_of pass.old) }
+        ensures given { IfOk result (λ p. view p ≡ new_view parts (view pass.old)) }
+    {
+        Ok(self.cut::<Brand>(pass, parts))
+    }
+
+    /// The pass has then seen what either has, and has the parts of both.
+    pub fn join(&self, pass: &mut Pass<T>, other: Pass<T>)
+        requires own { IsPassOf self.now pass.old }
+        requires idle { (view pass.old).holds ≡ false }
+        requires its_own { IsPassOf self.now other }
+        requires its_idle { (view other).holds ≡ false }
+        ensures same { turn_of pass.new ≡ turn_of pass.old }
+        ensures both { view pass.new ≡ both_views (view pass.old) (view other) }
+        ensures begins { StartsWith (view pass.new).seen (view pass.old).seen }
+        ensures its_begins { StartsWith (view pass.new).seen (view other).seen }
+        ensures alike { ((view other).opened ≡ (view pass.old).opened) × ((view other).origin ≡ (view pass.old).origin) }
+        ensures apart { (i : ℕ) → times i (stretches_of (view pass.new)) ≤ 1 }
+    {
+        let shared = &self.table.shared;
+        let Pass { seat: other } = other;
+        shared.join_seat::<Pair>(&mut pass.seat, other);
+        shared.load::<Look>(&mut pass.seat, 0);
+    }
+
+    /// Ends the turn with its last pass, and hands out the value.
+    pub fn close(self, pass: Pass<T>) -> T
+        requires own { IsPassOf self pass }
+        requires idle { (view pass).holds ≡ false }
+        requires all { (view pass).parts ≡ 2 ^ 62 }
+        ensures seen { T.log result ≡ (view pass).seen }
+        ensures opened { StartsWith (T.log result) (view pass).opened }
+        ensures origin { Some (T.origin result) ≡ (view pass).origin }
+        ensures made { length (T.log result) ≡ length (view pass).opened + (view pass).made }
+        ensures once { IsOnceEach (view pass).opened (T.log result) (stretches_of (view pass)) }
+        ensures jobs { EntriesAreCarried (view pass) (T.log result) }
+    {
+        let Turn { table } = self;
+        let Pass { seat } = pass;
+        let mut closed = table.close_with(seat);
+        let slot = closed.take(0);
+        closed.free();
+        let Some(value) = slot else { unreachable!() };
+        value
+    }
+}
