@@ -67,14 +67,16 @@ file_row told s name bytes f e l h =
 pub was_counted : (new : Contents) (old : Contents) (first before now slot : ℕ) (block : List ℕ) → first ≤ before
     → OnlyLoses old new before now → new slot ≡ None → (before ≡ first → before < 2 ^ 64 - 1 → old slot ≡ Some block) → Rose first now
 was_counted new old first before now slot block from o gone there = elim (cases_lt first now) [
-    inl rose ↦ inl rose
+  | inl rose ↦ inl rose
   | inr still ↦ elim (cases_lt now (2 ^ 64 - 1)) [
-      inl few ↦
+    | inl few ↦
         let q : before ≡ first = omega (arith, from, o.later, still) in
         let same : new slot ≡ old slot = o.same slot (omega (arith, from, o.later, still)) few in
         let was : old slot ≡ Some block = there q (omega (arith, o.later, few)) in
         absurd (cc)
-    | inr most ↦ inr most ] ]
+    | inr most ↦ inr most
+  ]
+]
 
 pub is_stored : (o : Option StoredFile) (f : StoredFile) → o ≡ Some f → IsSome o
 is_stored o f e = ap is_some e
@@ -101,11 +103,11 @@ stands_gone told drawn old new first before now fragment place s name f pad part
       later = later.later;
       files = later.files;
       slots =
-        subst (λ g. AllByRecursion (SlotStands told new s.attempts) (s.absent ++ gone g fragment)) (sym found)
-        (all_snoc (SlotStands told new s.attempts) s.absent (slot_of f fragment) later.slots (record {
-          early = slot_early f fragment s.attempts named file.early;
-          none = (λ t. slot_named f fragment new old pad partner (fetched t));
-        }));
+          subst (λ g. AllByRecursion (SlotStands told new s.attempts) (s.absent ++ gone g fragment)) (sym found)
+          (all_snoc (SlotStands told new s.attempts) s.absent (slot_of f fragment) later.slots (record {
+            early = slot_early f fragment s.attempts named file.early;
+            none = (λ t. slot_named f fragment new old pad partner (fetched t));
+          }));
     }
 
 counted_by : (told : Type 0) (drawn : List ℕ) (old new : Contents) (first before now fragment attempts : ℕ) (f : StoredFile)

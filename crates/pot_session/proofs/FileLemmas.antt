@@ -21,10 +21,10 @@ joined : (object pad : List ℕ) → length object ≡ 928 → length pad ≡ 92
 joined object pad o p =
     let some : 0 < length object = omega (arith, o) in
     let whole : length pad ≡ length pad / length object * length object =
-        p ∙ sym (rw (p, o) refl) in
+    p ∙ sym (rw (p, o) refl) in
     let one : meaning 928 pad ≡ pad = meaning-one 928 pad (omega arith) p in
     let split : meaning 928 (pad ++ xor object (meaning 928 pad)) ≡ object =
-        rw o at (meaning-secrecy object pad some whole) in
+    rw o at (meaning-secrecy object pad some whole) in
     ap (λ r. meaning 928 (pad ++ xor object r)) (sym one) ∙ split
 
 pub joined_file : (drawn : List ℕ) (place : ℕ) (file : List ℕ) → length file ≤ 864

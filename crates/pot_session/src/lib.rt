@@ -7,3 +7,4 @@ mod fragments;
 mod intake;
 mod output;
 mod pair;
+mod working;

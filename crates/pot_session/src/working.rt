@@ -1,0 +1,72 @@
+//! Works the commands of a script, one after another.
+
+ghost use Rattle.std.specs.Prelude.{◌≡◌, ◌≢◌, ◌<◌, ◌≤◌, ◌+◌, ◌*◌, ◌++◌, ◌^◌, ℕ, List, [], ◌∷◌, length, IsTrue, IsErr, IfOk, IsOkAnd, IsErrOf};
+ghost use Rattle.std.specs.List.{AllByRecursion};
+ghost use Rattle.pot_outside.specs.Counts.{Caused};
+ghost use Rattle.pot_script.specs.declared.command.Command.TheVariants.{Quit};
+ghost use Rattle.pot_script.specs.Replies.{reply_text};
+ghost use Rattle.pot_session.specs.Runs.{State};
+ghost use Rattle.pot_session.specs.Standing.{IsKept, IsSmall, Stands};
+ghost use Rattle.pot_session.specs.Answers.{Answers, IsFault};
+ghost use Rattle.pot_session.specs.Streams.{IsReplyWritten};
+
+use crate::answering::{fetch, store};
+use crate::catalog::Catalog;
+use crate::output::write_out;
+use pot_bytes::NoMemory;
+use pot_outside::{Archive, Failed, Sink};
+use pot_script::{Command, Reply, print_reply};
+use std::alloc::Global;
+
+/// How the commands of a script ended.
+#[derive(Clone, Copy, PartialEq, Eq, Debug)]
+pub enum Ending {
+    /// All were answered, and some reply is a refusal or none is.
+    Done { refused: bool },
+    SinkFailed,
+    NoMemory,
+}
+
+/// Answers the command at a place among the commands, from 1.
+fn answer<A: Archive>(
+    alloc: Global,
+    drawn: &[u8; 32],
+    place: u32,
+    command: &Command,
+    catalog: &mut Catalog,
+    archive: &mut A,
+) -> Result<Reply, NoMemory>
+    requires goes_on { command.now ≢ Quit }
+    requires few { 2 * catalog.old.attempts + 1 < 2 ^ 32 }
+    requires small { AllByRecursion IsSmall catalog.old.files.items }
+    ensures answer { (s : State) → (first : ℕ) → IsKept catalog.old.files.items catalog.old.attempts s → Stands (IsTrue A.tells) drawn.now (A.held archive.old) first (A.losses archive.old) s → IfOk result (λ reply. Answers (IsTrue A.tells) drawn.now place s command.now reply catalog.new.files.items catalog.new.attempts (A.held archive.new) first (A.losses archive.new)) }
+    ensures cause { Caused (A.faults archive.old) (A.faults archive.new) (IsOkAnd result IsFault) }
+{
+    match command {
+        Command::Store { name, file } => store(drawn, place, name, file, catalog, archive),
+        Command::Fetch { name } => fetch(alloc, name, catalog, archive),
+        Command::Quit => unreachable!(),
+    }
+}
+
+/// Why a reply was not written.
+#[derive(Clone, Copy, PartialEq, Eq, Debug)]
+enum Unwritten {
+    Failed,
+    NoMemory,
+}
+
+/// Writes a reply.
+fn write_reply<K: Sink>(alloc: Global, reply: &Reply, sink: &mut K) -> Result<(), Unwritten>
+    ensures told { IsTrue K.tells → IsReplyWritten (K.written sink.old) (K.written sink.new) (reply_text reply.now) result }
+    ensures cause { Caused (K.faults sink.old) (K.faults sink.new) (IsErrOf result Unwritten.Failed) }
+{
+    let mut text = Vec::new(alloc);
+    if print_reply(reply, &mut text).is_err() {
+        return Err(Unwritten::NoMemory);
+    }
+    match write_out(sink, &text) {
+        Ok(()) => Ok(()),
+        Err(Failed) => Err(Unwritten::Failed),
+    }
+}
