@@ -4,3 +4,4 @@ pub mod ListLemmas
 pub mod PairLemmas
 pub mod StandingLemmas
 pub mod StreamLemmas
+pub mod WorkingLemmas

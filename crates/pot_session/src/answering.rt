@@ -1,6 +1,6 @@
 //! Answers one command: stores a file, or fetches one.
 
-ghost use Rattle.std.specs.Prelude.{◌≡◌, ◌<◌, ◌+◌, ◌*◌, ◌^◌, ℕ, List, IsTrue, IfOk, IsOkAnd};
+ghost use Rattle.std.specs.Prelude.{◌≡◌, ◌<◌, ◌≤◌, ◌+◌, ◌*◌, ◌^◌, ℕ, List, IsTrue, IfOk, IsOkAnd};
 ghost use Rattle.std.specs.List.{AllByRecursion};
 ghost use Rattle.pot_outside.specs.Counts.{Caused};
 ghost use Rattle.pot_script.specs.declared.command.Command.TheVariants.{Store, Fetch};
@@ -30,6 +30,7 @@ pub fn store<A: Archive>(
 ) -> Result<Reply, NoMemory>
     requires few { 2 * catalog.old.attempts + 1 < 2 ^ 32 }
     ensures answer { (s : State) → (first : ℕ) → IsKept catalog.old.files.items catalog.old.attempts s → Stands (IsTrue A.tells) drawn.now (A.held archive.old) first (A.losses archive.old) s → IfOk result (λ reply. Answers (IsTrue A.tells) drawn.now place s (Store name.now file.now) reply catalog.new.files.items catalog.new.attempts (A.held archive.new) first (A.losses archive.new)) }
+    ensures loses { IsTrue A.tells → A.losses archive.old ≤ A.losses archive.new }
     ensures cause { Caused (A.faults archive.old) (A.faults archive.new) (IsOkAnd result IsFault) }
 {
     let length = file.as_slice().len();
@@ -72,6 +73,7 @@ pub fn fetch<A: Archive>(
 ) -> Result<Reply, NoMemory>
     requires small { AllByRecursion IsSmall catalog.now.files.items }
     ensures answer { (drawn : List ℕ) → (place : ℕ) → (s : State) → (first : ℕ) → IsKept catalog.now.files.items catalog.now.attempts s → Stands (IsTrue A.tells) drawn (A.held archive.old) first (A.losses archive.old) s → IfOk result (λ reply. Answers (IsTrue A.tells) drawn place s (Fetch name.now) reply catalog.now.files.items catalog.now.attempts (A.held archive.new) first (A.losses archive.new)) }
+    ensures loses { IsTrue A.tells → A.losses archive.old ≤ A.losses archive.new }
     ensures cause { Caused (A.faults archive.old) (A.faults archive.new) (IsOkAnd result IsFault) }
 {
     let file = match catalog.find(name) {

@@ -9,6 +9,7 @@ ghost use Rattle.pot_session.specs.Runs.{State};
 ghost use Rattle.pot_session.specs.Standing.{IsKept, IsSmall, Stands};
 ghost use Rattle.pot_session.specs.Answers.{Answers, IsFault};
 ghost use Rattle.pot_session.specs.Streams.{IsReplyWritten};
+ghost use Rattle.pot_session.specs.Endings.{Ends};
 
 use crate::answering::{fetch, store};
 use crate::catalog::Catalog;
@@ -40,6 +41,7 @@ fn answer<A: Archive>(
     requires few { 2 * catalog.old.attempts + 1 < 2 ^ 32 }
     requires small { AllByRecursion IsSmall catalog.old.files.items }
     ensures answer { (s : State) → (first : ℕ) → IsKept catalog.old.files.items catalog.old.attempts s → Stands (IsTrue A.tells) drawn.now (A.held archive.old) first (A.losses archive.old) s → IfOk result (λ reply. Answers (IsTrue A.tells) drawn.now place s command.now reply catalog.new.files.items catalog.new.attempts (A.held archive.new) first (A.losses archive.new)) }
+    ensures loses { IsTrue A.tells → A.losses archive.old ≤ A.losses archive.new }
     ensures cause { Caused (A.faults archive.old) (A.faults archive.new) (IsOkAnd result IsFault) }
 {
     match command {
@@ -69,4 +71,37 @@ fn write_reply<K: Sink>(alloc: Global, reply: &Reply, sink: &mut K) -> Result<()
         Ok(()) => Ok(()),
         Err(Failed) => Err(Unwritten::Failed),
     }
+}
+
+/// Answers the commands in order, and writes the reply of each after it. It ends at the first reply that
+/// can't be written, and where memory runs out.
+pub fn work<A: Archive, K: Sink>(
+    alloc: Global,
+    drawn: &[u8; 32],
+    steps: &[Command],
+    archive: &mut A,
+    sink: &mut K,
+) -> Ending
+    requires few { length steps.now < 2 ^ 31 }
+    requires goes_on { AllByRecursion (λ c. c ≢ Quit) steps.now }
+    ensures ends { Ends (IsTrue A.tells) drawn.now steps.now (IsTrue K.tells) (K.written sink.old) (K.written sink.new) (A.held archive.new) (A.losses archive.old) (A.losses archive.new) (A.faults archive.old) (A.faults archive.new) result }
+    ensures cause { Caused (K.faults sink.old) (K.faults sink.new) (result ≡ Ending.SinkFailed) }
+    ensures later { A.faults archive.old ≤ A.faults archive.new }
+{
+    let mut catalog = Catalog::new(alloc);
+    let mut refused = false;
+    for (index, command) in steps.iter().enumerate() {
+        let place = index as u32 + 1;
+        let reply = match answer(alloc, drawn, place, command, &mut catalog, archive) {
+            Ok(reply) => reply,
+            Err(NoMemory) => return Ending::NoMemory,
+        };
+        match write_reply(alloc, &reply, sink) {
+            Ok(()) => {}
+            Err(Unwritten::Failed) => return Ending::SinkFailed,
+            Err(Unwritten::NoMemory) => return Ending::NoMemory,
+        }
+        refused |= reply.is_refusal();
+    }
+    Ending::Done { refused }
 }
