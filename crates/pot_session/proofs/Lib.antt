@@ -2,6 +2,8 @@ pub mod FetchLemmas
 pub mod FileLemmas
 pub mod ListLemmas
 pub mod PairLemmas
+pub mod RoomLemmas
 pub mod StandingLemmas
 pub mod StreamLemmas
+pub mod WordLemmas
 pub mod WorkingLemmas

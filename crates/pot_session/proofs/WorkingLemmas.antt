@@ -32,7 +32,7 @@ pub record IsWorking (told : Type 0) (drawn : List ℕ) (steps : List Command) (
   pub lost : told → OnlyFor IsLost (Rose first now) replies
 
 -- a reason that stays, as a count that rose
-rose_later : (first before now : ℕ) → before ≤ now → Rose first before → Rose first now
+pub rose_later : (first before now : ℕ) → before ≤ now → Rose first before → Rose first now
 rose_later first before now h (inl r) = inl (omega arith)
 rose_later first before now h (inr r) = inr (omega arith)
 
@@ -40,7 +40,7 @@ pub rose_since : (first before now : ℕ) → first ≤ before → Rose before n
 rose_since first before now h (inl r) = inl (omega arith)
 rose_since first before now h (inr r) = inr (omega arith)
 
-only_for_later : (kind : Reply → Type 0) (P Q : Type 0) (rs : List Reply) → (P → Q) → OnlyFor kind P rs → OnlyFor kind Q rs
+pub only_for_later : (kind : Reply → Type 0) (P Q : Type 0) (rs : List Reply) → (P → Q) → OnlyFor kind P rs → OnlyFor kind Q rs
 only_for_later kind P Q rs f h = all_map (λ r. kind r → P) (λ r. kind r → Q) rs (λ r g k. f (g k)) h
 
 -- one command more
@@ -51,10 +51,11 @@ answered_snoc told place s [] [] t c r e row =
     (subst (λ u. Row told u c r) (sym e) row, ap (λ u. after place u c r) e ∙ ap (λ p. after p t c r) (omega arith))
 answered_snoc told place s [] (q ∷ rs) t c r e row = absurd e
 answered_snoc told place s (d ∷ cs) [] t c r e row = absurd e
-answered_snoc told place s (d ∷ cs) (q ∷ rs) t c r e row =
-    (e.0
-    , subst (λ p. Answered told (place + 1) (after place s d q) (cs ++ c ∷ []) (rs ++ r ∷ []) (after p t c r)) (omega arith)
-      (answered_snoc told (place + 1) (after place s d q) cs rs t c r e.1 row))
+answered_snoc told place s (d ∷ cs) (q ∷ rs) t c r e row = (
+  e.0,
+  subst (λ p. Answered told (place + 1) (after place s d q) (cs ++ c ∷ []) (rs ++ r ∷ []) (after p t c r)) (omega arith)
+      (answered_snoc told (place + 1) (after place s d q) cs rs t c r e.1 row),
+)
 
 -- the first commands and the next
 take_next : {X : Type 0} (xs : List X) (i : ℕ) (x : X) → i < length xs → x ≡ get_or xs i x → take (suc i) xs ≡ take i xs ++ x ∷ []
@@ -90,20 +91,20 @@ pub goes_on_working : (told : Type 0) (drawn : List ℕ) (steps : List Command) 
 goes_on_working told drawn steps place replies s files files' attempts attempts' held held' first now now' faulted faults faults' c r w h e a l f = record {
   within = omega arith;
   answered =
-    rw (add-one place, take_next steps place c h e)
-    (subst (λ p. Answered told 1 beginning (take place steps ++ c ∷ []) (replies ++ r ∷ []) (after p s c r))
+      rw (add-one place, take_next steps place c h e)
+      (subst (λ p. Answered told 1 beginning (take place steps ++ c ∷ []) (replies ++ r ∷ []) (after p s c r))
       (ap (λ n. 1 + n) (length-take-le place steps (omega arith)) ∙ omega arith)
       (answered_snoc told 1 beginning (take place steps) replies s c r w.answered a.row));
   caused = all_snoc (λ q. IsFault q → Rose faulted faults') replies r
-    (only_for_later IsFault (Rose faulted faults) (Rose faulted faults') replies (rose_later faulted faults faults' f.later) w.caused)
-    (λ k. rose_since faulted faults faults' w.later (f.rose k));
+      (only_for_later IsFault (Rose faulted faults) (Rose faulted faults') replies (rose_later faulted faults faults' f.later) w.caused)
+      (λ k. rose_since faulted faults faults' w.later (f.rose k));
   later = omega (arith, w.later, f.later);
   kept = a.kept;
   few = omega (arith, a.kept.counted, after_attempts (place + 1) s c r, w.kept.counted, w.few);
   stands = a.stands;
   lost = (λ t. all_snoc (λ q. IsLost q → Rose first now') replies r
-    (only_for_later IsLost (Rose first now) (Rose first now') replies (rose_later first now now' (l t)) (w.lost t))
-    (a.lost t));
+      (only_for_later IsLost (Rose first now) (Rose first now') replies (rose_later first now now' (l t)) (w.lost t))
+      (a.lost t));
 }
 
 -- the catalog's files are small
@@ -152,11 +153,12 @@ left_so_far told drawn steps place replies s files attempts held first now fault
 -- a reply that was cut off behind others
 pub cut_behind : (before now after : List ℕ) (replies : List Reply) (r : Reply) (count : ℕ) → now ≡ before ++ texts_of replies
     → after ≡ now ++ take count (reply_text r) → (n : ℕ) × (after ≡ before ++ take n (texts_of (replies ++ r ∷ [])))
-cut_behind before now after replies r count e h =
-    (length (texts_of replies) + count
-    , h ∙ ap (λ t. t ++ take count (reply_text r)) e ∙ append_assoc before (texts_of replies) (take count (reply_text r))
-    ∙ ap (λ t. before ++ t) (sym (take-append-add (texts_of replies) (reply_text r) count)
-    ∙ ap (λ t. take (length (texts_of replies) + count) t) (sym (texts-snoc replies r))))
+cut_behind before now after replies r count e h = (
+  length (texts_of replies) + count,
+  h ∙ ap (λ t. t ++ take count (reply_text r)) e ∙ append_assoc before (texts_of replies) (take count (reply_text r))
+      ∙ ap (λ t. before ++ t) (sym (take-append-add (texts_of replies) (reply_text r) count)
+      ∙ ap (λ t. take (length (texts_of replies) + count) t) (sym (texts-snoc replies r))),
+)
 
 pub more_texts : (before now after : List ℕ) (replies : List Reply) (r : Reply) → now ≡ before ++ texts_of replies
     → after ≡ now ++ reply_text r → after ≡ before ++ texts_of (replies ++ r ∷ [])

@@ -1,7 +1,10 @@
 pub mod Answers
 pub mod Endings
 pub mod Pairs
+pub mod Refusals
 pub mod Replied
 pub mod Runs
+pub mod Sessions
 pub mod Standing
 pub mod Streams
+pub mod Words

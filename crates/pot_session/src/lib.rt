@@ -7,4 +7,6 @@ mod fragments;
 mod intake;
 mod output;
 mod pair;
+mod status;
+mod top;
 mod working;

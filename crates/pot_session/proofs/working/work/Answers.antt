@@ -7,10 +7,14 @@ use Rattle.pot_session.proofs.WorkingLemmas.{IsWorking, begins_working, goes_on_
 use Rattle.pot_session.proofs.working.work.Goals as goal
 
 pub loop-index-init : goal.loop-index-init
-loop-index-init g c =
-    ([], beginning
-    , begins_working _ _ _ _ _ _ _ _ c.new-catalog.ensures.files c.new-catalog.ensures.attempts
-    , refl, (λ t. sym (append-nil _)), omega arith)
+loop-index-init g c = (
+  [],
+  beginning,
+  begins_working _ _ _ _ _ _ _ _ c.new-catalog.ensures.files c.new-catalog.ensures.attempts,
+  refl,
+  (λ t. sym (append-nil _)),
+  omega arith,
+)
 
 pub answer-requires-clause-few : goal.answer-requires-clause-few
 answer-requires-clause-few g c =
@@ -44,7 +48,7 @@ returns-in-Err-Failed-clause-ends g c =
     let r : Reply = c.in-Ok.reply in
     let a = c.in-Ok.ensures.answer i.1 _ i.2.kept i.2.stands in
     let w = goes_on_working _ _ _ _ i.0 i.1 _ _ _ _ _ _ _ _ _ _ _ _ c.index-steps-index.result r i.2 c.loop-index-test.true c.index-steps-index.is
-      a c.in-Ok.ensures.loses c.in-Ok.ensures.cause in
+    a c.in-Ok.ensures.loses c.in-Ok.ensures.cause in
     record {
       replies = i.0 ++ r ∷ [];
       state = after (c.loop-index.index + 1) i.1 c.index-steps-index.result r;
@@ -85,13 +89,15 @@ pub loop-index-preserved : goal.loop-index-preserved
 loop-index-preserved g c =
     let i = c.loop-index.invariant in
     let r : Reply = c.in-Ok.reply in
-    let a = c.in-Ok.ensures.answer i.1 _ i.2.kept i.2.stands in
-    (i.0 ++ r ∷ [], after (c.loop-index.index + 1) i.1 c.index-steps-index.result r
-    , goes_on_working _ _ _ _ i.0 i.1 _ _ _ _ _ _ _ _ _ _ _ _ c.index-steps-index.result r i.2 c.loop-index-test.true c.index-steps-index.is
-      a c.in-Ok.ensures.loses c.in-Ok.ensures.cause
-    , ap (λ b. b || c.is_refusal-refused.result) i.3 ∙ ap (λ b. any_refusal i.0 || b) c.is_refusal-refused.ensures ∙ sym (refusal-snoc i.0 r)
-    , (λ t. more_texts _ _ _ i.0 r (i.4 t) (c.in-Ok-write_reply.ensures.told t))
-    , omega (arith, i.5, c.in-Ok-write_reply.ensures.cause.later))
+    let a = c.in-Ok.ensures.answer i.1 _ i.2.kept i.2.stands in (
+      i.0 ++ r ∷ [],
+      after (c.loop-index.index + 1) i.1 c.index-steps-index.result r,
+      goes_on_working _ _ _ _ i.0 i.1 _ _ _ _ _ _ _ _ _ _ _ _ c.index-steps-index.result r i.2 c.loop-index-test.true c.index-steps-index.is
+          a c.in-Ok.ensures.loses c.in-Ok.ensures.cause,
+      ap (λ b. b || c.is_refusal-refused.result) i.3 ∙ ap (λ b. any_refusal i.0 || b) c.is_refusal-refused.ensures ∙ sym (refusal-snoc i.0 r),
+      (λ t. more_texts _ _ _ i.0 r (i.4 t) (c.in-Ok-write_reply.ensures.told t)),
+      omega (arith, i.5, c.in-Ok-write_reply.ensures.cause.later),
+    )
 
 pub returns-clause-ends : goal.returns-clause-ends
 returns-clause-ends g c =

@@ -1,0 +1,128 @@
+//! The top call, step by step.
+
+ghost use Rattle.std.specs.Prelude.{◌≡◌, ◌≢◌, ◌<◌, ◌-◌, ◌^◌, ◌↔◌, ◌++◌, ◌⊎◌, take, [], ◌∷◌, ℕ, List, length, IsTrue, IfOk, IfErr, IsErrOf, false, codes};
+ghost use Rattle.std.specs.List.{AllByRecursion};
+ghost use Rattle.pot_outside.specs.Counts.{Caused};
+ghost use Rattle.pot_script.specs.declared.command.Command.{Command};
+ghost use Rattle.pot_script.specs.declared.command.Command.TheVariants.{Quit};
+ghost use Rattle.pot_script.specs.Scripts.{IsScript, LeavesAt};
+ghost use Rattle.pot_script.specs.Replies.{bad_line_text, words_refused_text};
+ghost use Rattle.pot_session.specs.Words.{IsRun};
+ghost use Rattle.pot_session.specs.Sessions.{Comes, Runs, seen_by};
+ghost use Rattle.pot_session.specs.Refusals.{IsRead, IfBadLine, RefusesLine};
+
+use crate::intake::{IntakeFault, read_out};
+use crate::output::write_out;
+use crate::status::Status;
+use crate::working::{Ending, work};
+use pot_outside::{Failed, Room, RoomFault, Sink, Source};
+use pot_script::{Command, ScriptFault, print_bad_line, read_script};
+use std::alloc::Global;
+
+/// The most bytes of a script.
+const LONGEST_SCRIPT: usize = 67_108_864;
+
+/// Why there are no commands.
+#[derive(Clone, Copy, PartialEq, Eq, Debug)]
+pub enum Unread {
+    Failed,
+    BadLine { number: u32 },
+    NoMemory,
+}
+
+/// Whether the words of the command line are the one word `run`.
+pub fn is_run(words: &[String]) -> bool
+    ensures { IsTrue result ↔ IsRun words.now }
+{
+    match words {
+        [word] => word.as_str() == "run",
+        _ => false,
+    }
+}
+
+/// Reads the source to its end, and its commands.
+pub fn read_commands<S: Source>(alloc: Global, source: &mut S) -> Result<Vec<Command>, Unread>
+    ensures script { IfOk result (λ commands. IsRead (IsTrue S.tells) (S.left source.old) commands.items) }
+    ensures bad { IfErr result (IfBadLine (λ n. IsTrue S.tells → LeavesAt (S.left source.old) n)) }
+    ensures cause { Caused (S.faults source.old) (S.faults source.new) (IsErrOf result Unread.Failed) }
+{
+    let bytes = match read_out(alloc, source, LONGEST_SCRIPT) {
+        Ok(bytes) => bytes,
+        Err(IntakeFault::Failed) => return Err(Unread::Failed),
+        Err(IntakeFault::NoMemory) => return Err(Unread::NoMemory),
+    };
+    match read_script(alloc, &bytes) {
+        Ok(commands) => Ok(commands),
+        Err(ScriptFault::BadLine { number }) => Err(Unread::BadLine { number }),
+        Err(ScriptFault::NoMemory) => Err(Unread::NoMemory),
+    }
+}
+
+/// Writes why a session was refused.
+fn refuse<K: Sink>(sink: &mut K, text: &[u8], status: Status) -> Status
+    requires { status ≢ Status.SinkFault }
+    ensures told { (result ≡ status) × (IsTrue K.tells → K.written sink.new ≡ K.written sink.old ++ text.now) ⊎ (result ≡ Status.SinkFault) × (IsTrue K.tells → (count : ℕ) × (K.written sink.new ≡ K.written sink.old ++ take count text.now)) }
+    ensures cause { Caused (K.faults sink.old) (K.faults sink.new) (result ≡ Status.SinkFault) }
+{
+    match write_out(sink, text) {
+        Ok(()) => status,
+        Err(Failed) => Status::SinkFault,
+    }
+}
+
+/// Works the commands of a script over archive 0 of the room, and gives it back.
+fn run_commands<K: Sink, R: Room>(
+    alloc: Global,
+    drawn: &[u8; 32],
+    steps: &[Command],
+    sink: &mut K,
+    room: &mut R,
+) -> Status
+    requires home { R.out room.old 0 ≡ false }
+    requires few { length steps.now < 2 ^ 31 }
+    requires goes_on { AllByRecursion (λ c. c ≢ Quit) steps.now }
+    ensures comes { Comes (seen_by (IsTrue R.A.tells) (IsTrue K.tells) (K.written sink.old) (K.written sink.new) (R.means room.old 0) (R.means room.new 0) (R.faults room.old) (R.faults room.new)) drawn.now steps.now result }
+    ensures home { R.out room.new 0 ≡ false }
+    ensures sink { Caused (K.faults sink.old) (K.faults sink.new) (result ≡ Status.SinkFault) }
+    ensures room { Caused (R.faults room.old) (R.faults room.new) (result ≡ Status.RoomFault) }
+{
+    let mut archive = match room.take(0) {
+        Ok(archive) => archive,
+        Err(RoomFault::Failed) => return Status::RoomFault,
+        Err(RoomFault::NoMemory) => return Status::NoMemory,
+    };
+    let ending = work(alloc, drawn, steps, &mut archive, sink);
+    let given = room.give(0, archive);
+    match (ending, given) {
+        (Ending::SinkFailed, _) => Status::SinkFault,
+        (Ending::NoMemory, _) => Status::NoMemory,
+        (Ending::Done { .. }, Err(Failed)) => Status::RoomFault,
+        (Ending::Done { refused }, Ok(())) => {
+            if refused {
+                Status::Refusals
+            } else {
+                Status::Good
+            }
+        }
+    }
+}
+
+/// The commands before the last one, which is `quit`.
+fn before_quit(commands: &[Command]) -> &[Command]
+    requires { 0 < length commands.now }
+    ensures { result.now ≡ take (length commands.now - 1) commands.now }
+{
+    &commands[..commands.len() - 1]
+}
+
+/// Writes the number of the line at which the script left its grammar.
+fn refuse_line<K: Sink>(alloc: Global, number: u32, sink: &mut K) -> Status
+    ensures told { RefusesLine (IsTrue K.tells) (K.written sink.old) (K.written sink.new) number result }
+    ensures cause { Caused (K.faults sink.old) (K.faults sink.new) (result ≡ Status.SinkFault) }
+{
+    let mut text = Vec::new(alloc);
+    if print_bad_line(number, &mut text).is_err() {
+        return Status::NoMemory;
+    }
+    refuse(sink, &text, Status::ScriptRefused)
+}
