@@ -3,6 +3,8 @@ pub mod FileLemmas
 pub mod ListLemmas
 pub mod PairLemmas
 pub mod RoomLemmas
+pub mod ScriptLemmas
+pub mod SessionLemmas
 pub mod StandingLemmas
 pub mod StreamLemmas
 pub mod WordLemmas

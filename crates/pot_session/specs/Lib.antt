@@ -1,5 +1,6 @@
 pub mod Answers
 pub mod Endings
+pub mod Ideal
 pub mod Pairs
 pub mod Refusals
 pub mod Replied

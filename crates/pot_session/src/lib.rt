@@ -10,3 +10,6 @@ mod pair;
 mod status;
 mod top;
 mod working;
+
+pub use status::Status;
+pub use top::run;

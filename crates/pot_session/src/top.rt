@@ -8,14 +8,16 @@ ghost use Rattle.pot_script.specs.declared.command.Command.TheVariants.{Quit};
 ghost use Rattle.pot_script.specs.Scripts.{IsScript, LeavesAt};
 ghost use Rattle.pot_script.specs.Replies.{bad_line_text, words_refused_text};
 ghost use Rattle.pot_session.specs.Words.{IsRun};
-ghost use Rattle.pot_session.specs.Sessions.{Comes, Runs, seen_by};
+ghost use Rattle.pot_session.specs.Sessions.{Comes, Runs, seen_by, code_of};
+ghost use Rattle.pot_session.specs.Ideal.{IsQuiet, IsExact};
+ghost use Rattle.pot_session.specs.declared.status.Status.{Status};
 ghost use Rattle.pot_session.specs.Refusals.{IsRead, IfBadLine, RefusesLine};
 
 use crate::intake::{IntakeFault, read_out};
 use crate::output::write_out;
 use crate::status::Status;
 use crate::working::{Ending, work};
-use pot_outside::{Failed, Room, RoomFault, Sink, Source};
+use pot_outside::{Desk, Failed, Gate, Room, RoomFault, Sink, Source};
 use pot_script::{Command, ScriptFault, print_bad_line, read_script};
 use std::alloc::Global;
 
@@ -125,4 +127,59 @@ fn refuse_line<K: Sink>(alloc: Global, number: u32, sink: &mut K) -> Status
         return Status::NoMemory;
     }
     refuse(sink, &text, Status::ScriptRefused)
+}
+
+/// Holds a session: reads the words and the script, works its commands and closes.
+pub fn hold_session<S: Source, K: Sink, R: Room>(
+    alloc: Global,
+    words: &[String],
+    drawn: &[u8; 32],
+    source: &mut S,
+    sink: &mut K,
+    room: &mut R,
+) -> Status
+    requires home { R.out room.old 0 ≡ false }
+    ensures runs { Runs (seen_by (IsTrue R.A.tells) (IsTrue K.tells) (K.written sink.old) (K.written sink.new) (R.means room.old 0) (R.means room.new 0) (R.faults room.old) (R.faults room.new)) words.now (IsTrue S.tells) (S.left source.old) drawn.now result }
+    ensures home { R.out room.new 0 ≡ false }
+    ensures source { Caused (S.faults source.old) (S.faults source.new) (result ≡ Status.SourceFault) }
+    ensures sink { Caused (K.faults sink.old) (K.faults sink.new) (result ≡ Status.SinkFault) }
+    ensures room { Caused (R.faults room.old) (R.faults room.new) (result ≡ Status.RoomFault) }
+{
+    if !is_run(words) {
+        return refuse(sink, b"words refused\n", Status::WordsRefused);
+    }
+    match read_commands(alloc, source) {
+        Ok(commands) => run_commands(alloc, drawn, before_quit(&commands), sink, room),
+        Err(Unread::Failed) => Status::SourceFault,
+        Err(Unread::BadLine { number }) => refuse_line(alloc, number, sink),
+        Err(Unread::NoMemory) => Status::NoMemory,
+    }
+}
+
+/// The top call: all that the program does. It reads the words, reads the source to its end, works the
+/// commands of the script in order over archive 0 of the room, writes the reply of each after it, and
+/// gives the archive back. The answer is the exit status. The desk and the gate are not used yet.
+///
+/// 0 and 1 say that all commands were answered, and 1 that some reply is a refusal; 2 that the words are
+/// not the one word `run`; 3 that the script leaves its grammar; 4, 5 and 8 that the source, the sink or
+/// the room failed; 70 that memory ran out, and nothing else.
+pub fn run<S: Source, K: Sink, R: Room, D: Desk, W: Gate>(
+    alloc: Global,
+    words: &[String],
+    drawn: [u8; 32],
+    source: &mut S,
+    sink: &mut K,
+    room: &mut R,
+    _desk: &mut D,
+    _gate: &W,
+) -> u8
+    requires home { R.out room.old 0 ≡ false }
+    ensures runs { (status : Status) × (result ≡ code_of status) × Runs (seen_by (IsTrue R.A.tells) (IsTrue K.tells) (K.written sink.old) (K.written sink.new) (R.means room.old 0) (R.means room.new 0) (R.faults room.old) (R.faults room.new)) words.now (IsTrue S.tells) (S.left source.old) drawn status }
+    ensures exact { IsTrue S.tells → IsTrue K.tells → IsTrue R.A.tells → IsQuiet (S.faults source.old) (S.faults source.new) (K.faults sink.old) (K.faults sink.new) (R.faults room.old) (R.faults room.new) (R.means room.old 0).losses (R.means room.new 0).losses → IsExact words.now (S.left source.old) (K.written sink.old) (K.written sink.new) result }
+    ensures home { R.out room.new 0 ≡ false }
+    ensures source { Caused (S.faults source.old) (S.faults source.new) (result ≡ 4) }
+    ensures sink { Caused (K.faults sink.old) (K.faults sink.new) (result ≡ 5) }
+    ensures room { Caused (R.faults room.old) (R.faults room.new) (result ≡ 8) }
+{
+    hold_session(alloc, words, &drawn, source, sink, room).code()
 }
