@@ -1,5 +1,6 @@
 pub mod FetchLemmas
 pub mod FileLemmas
+pub mod IdealLemmas
 pub mod ListLemmas
 pub mod PairLemmas
 pub mod RoomLemmas

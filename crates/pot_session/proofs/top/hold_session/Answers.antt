@@ -5,12 +5,12 @@ use Rattle.pot_session.proofs.SessionLemmas.{runs_script}
 use Rattle.pot_session.proofs.top.hold_session.Goals as goal
 
 pub run_commands-requires-clause-few : goal.run_commands-requires-clause-few
-run_commands-requires-clause-few g c = λ κs.
+run_commands-requires-clause-few g c = λ κs bounds.
     let s = c.in-Ok.ensures.script in
     (subst (λ l. AreBeforeQuit s.bytes l) (sym c.before_quit.ensures) (rw c.deref.ensures.value (are_before_quit s.bytes _ s.script))).few
 
 pub run_commands-requires-clause-goes_on : goal.run_commands-requires-clause-goes_on
-run_commands-requires-clause-goes_on g c = λ κs.
+run_commands-requires-clause-goes_on g c = λ κs bounds.
     let s = c.in-Ok.ensures.script in
     (subst (λ l. AreBeforeQuit s.bytes l) (sym c.before_quit.ensures) (rw c.deref.ensures.value (are_before_quit s.bytes _ s.script))).go_on
 
