@@ -1,3 +1,4 @@
+pub mod ExactLemmas
 pub mod FetchLemmas
 pub mod FileLemmas
 pub mod IdealLemmas

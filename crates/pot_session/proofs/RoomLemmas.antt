@@ -49,12 +49,12 @@ left_in_room told drawn replies s held means first first' now now' a b c l = rec
   stands = record {
     later = (λ t. omega (arith, l.stands.later t, a t, c t));
     files = all_map (FileStands told drawn held s.attempts first now) (FileStands told drawn means s.attempts first' now') s.stored
-      (λ f. file_meant told drawn held means s.attempts first first' now now' f a b c) l.stands.files;
+        (λ f. file_meant told drawn held means s.attempts first first' now now' f a b c) l.stands.files;
     slots = all_map (SlotStands told held s.attempts) (SlotStands told means s.attempts) s.absent
-      (λ k. slot_meant told held means s.attempts k b) l.stands.slots;
+        (λ k. slot_meant told held means s.attempts k b) l.stands.slots;
   };
   counted = (λ t. only_for_later IsLost (Rose first now) (Rose first' now') replies
-    (λ r. subst (λ n. Rose n now') (a t) (subst (λ n. Rose first n) (c t) r)) (l.counted t));
+      (λ r. subst (λ n. Rose n now') (a t) (subst (λ n. Rose first n) (c t) r)) (l.counted t));
 }
 
 pub ended : (told seen : Type 0) (drawn : List ℕ) (steps : List Command) (before after : List ℕ) (refused refused' : Bool) (held : Contents)
@@ -79,18 +79,21 @@ pub completed : (told seen : Type 0) (drawn : List ℕ) (steps : List Command) (
     → AllReplied told drawn steps seen before after refused held first now fA0 fA1
     → (Rose fA0 fA1 → Rose old new)
     → (replies : List Reply) × (state : State) × Completes (seen_by told seen before after meant means old new) steps replies state
-completed told seen drawn steps before after refused held first now fA0 fA1 meant means old new r f =
-    (r.replies, r.state, record {
-      answers = replied_in_room told steps (length steps) r.replies r.state fA0 fA1 old new f r.answers;
-      writes = r.written;
-    })
+completed told seen drawn steps before after refused held first now fA0 fA1 meant means old new r f = (
+  r.replies,
+  r.state,
+  record {
+    answers = replied_in_room told steps (length steps) r.replies r.state fA0 fA1 old new f r.answers;
+    writes = r.written;
+  },
+)
 
 pub cut : (told seen : Type 0) (drawn : List ℕ) (steps : List Command) (before after : List ℕ) (held : Contents)
     (first now fA0 fA1 : ℕ) (meant means : Meaning) (old new : ℕ)
     → CutOff told drawn steps seen before after held first now fA0 fA1
     → (Rose fA0 fA1 → Rose old new)
     → (replies : List Reply) × Begins (seen_by told seen before after meant means old new) steps replies
-      × CutsOff (seen_by told seen before after meant means old new) (texts_of replies)
+    × CutsOff (seen_by told seen before after meant means old new) (texts_of replies)
 cut told seen drawn steps before after held first now fA0 fA1 meant means old new r f =
     (r.replies, (r.state, r.done, replied_in_room told steps r.done r.replies r.state fA0 fA1 old new f r.answers), r.written)
 
@@ -98,6 +101,6 @@ pub starved : (told seen : Type 0) (steps : List Command) (before after : List �
     → OutOfMemory told steps seen before after fA0 fA1
     → (Rose fA0 fA1 → Rose old new)
     → (replies : List Reply) × Begins (seen_by told seen before after meant means old new) steps replies
-      × Writes (seen_by told seen before after meant means old new) (texts_of replies)
+    × Writes (seen_by told seen before after meant means old new) (texts_of replies)
 starved told seen steps before after fA0 fA1 meant means old new r f =
     (r.replies, (r.state, r.done, replied_in_room told steps r.done r.replies r.state fA0 fA1 old new f r.answers), r.written)

@@ -18,7 +18,7 @@ texts_many [] = omega arith
 texts_many (c ∷ cs) =
     omega (arith, text_some c, texts_many cs, length-append {A = ℕ} (command_text c) (script_text cs))
 
-all_but_last : (cs : List Command) → take (length (cs ++ Quit ∷ []) - 1) (cs ++ Quit ∷ []) ≡ cs
+pub all_but_last : (cs : List Command) → take (length (cs ++ Quit ∷ []) - 1) (cs ++ Quit ∷ []) ≡ cs
 all_but_last cs =
     ap (λ n. take n (cs ++ Quit ∷ [])) (omega (arith, length-append {A = Command} cs (Quit ∷ []))) ∙ take-append_seam cs (Quit ∷ [])
 
@@ -37,7 +37,13 @@ are_before_quit bytes cs s =
     subst (λ l. AreBeforeQuit bytes l) (sym steps) (record {
       script = subst (λ l. IsScript bytes l) s.ended s;
       few =
-        omega (arith, ap (λ l. length l) s.ended, length-append {A = Command} s.steps (Quit ∷ []), texts_many cs
-        , ap (λ l. length l) s.spelled, s.short);
+          omega (
+            arith,
+            ap (λ l. length l) s.ended,
+            length-append {A = Command} s.steps (Quit ∷ []),
+            texts_many cs,
+            ap (λ l. length l) s.spelled,
+            s.short,
+          );
       go_on = all_map (λ c. IsCommand c × (c ≢ Quit)) (λ c. c ≢ Quit) s.steps (λ c h. h.1) s.each;
     })

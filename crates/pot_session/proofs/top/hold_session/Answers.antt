@@ -18,6 +18,6 @@ pub returns-in-Ok-clause-runs : goal.returns-in-Ok-clause-runs
 returns-in-Ok-clause-runs g c =
     let s = c.in-Ok.ensures.script in
     runs_script _ c.args.words.now (IsTrue g.S.Source.tells) (g.S.Source.left c.args.source.now) c.args.drawn.now s.bytes c.before_quit.result.now
-      c.run_commands.result (c.is_run.ensures.0 c.if-not-is_run.false) s.read
-      (subst (λ l. AreBeforeQuit s.bytes l) (sym c.before_quit.ensures) (rw c.deref.ensures.value (are_before_quit s.bytes _ s.script)))
-      c.run_commands.ensures.comes
+    c.run_commands.result (c.is_run.ensures.0 c.if-not-is_run.false) s.read
+    (subst (λ l. AreBeforeQuit s.bytes l) (sym c.before_quit.ensures) (rw c.deref.ensures.value (are_before_quit s.bytes _ s.script)))
+    c.run_commands.ensures.comes
