@@ -1,6 +1,6 @@
 //! Writes a reply, or the line with which a run is refused, at the end of a text.
 
-ghost use Rattle.std.specs.Prelude.{◌≡◌, ◌++◌, take, length, codes, flat_map, OnOk, OnErr};
+ghost use Rattle.std.specs.Prelude.{◌≡◌, ◌+◌, ◌<◌, ◌≤◌, ◌++◌, take, length, vec_capacity, codes, flat_map, OnOk, OnErr};
 ghost use Rattle.pot_script.specs.Replies.{reply_text, bad_line_text, words_refused_text, spaced};
 ghost use Rattle.pot_script.specs.Parts.{part_text};
 
@@ -21,6 +21,7 @@ enum Part<'a> {
 pub fn print_reply(reply: &Reply, out: &mut Vec<u8>) -> Result<(), NoMemory>
     ensures ok { OnOk result (out.new.items ≡ out.old.items ++ reply_text reply.now) }
     ensures err { OnErr result (out.new.items ≡ out.old.items) }
+    ensures full { OnErr result (vec_capacity out.old < length out.old.items + length (reply_text reply.now)) }
 {
     use Part::{Number, Text};
     match reply {
@@ -99,6 +100,7 @@ pub fn print_reply(reply: &Reply, out: &mut Vec<u8>) -> Result<(), NoMemory>
 pub fn print_bad_line(number: u32, out: &mut Vec<u8>) -> Result<(), NoMemory>
     ensures ok { OnOk result (out.new.items ≡ out.old.items ++ bad_line_text number) }
     ensures err { OnErr result (out.new.items ≡ out.old.items) }
+    ensures full { OnErr result (vec_capacity out.old < length out.old.items + length (bad_line_text number)) }
 {
     use Part::{Number, Text};
     append_parts(
@@ -112,6 +114,7 @@ pub fn print_bad_line(number: u32, out: &mut Vec<u8>) -> Result<(), NoMemory>
 pub fn print_words_refused(out: &mut Vec<u8>) -> Result<(), NoMemory>
     ensures ok { OnOk result (out.new.items ≡ out.old.items ++ words_refused_text) }
     ensures err { OnErr result (out.new.items ≡ out.old.items) }
+    ensures full { OnErr result (vec_capacity out.old < length out.old.items + length words_refused_text) }
 {
     append_parts(out, &[Part::Text(b"words refused\n")])
 }
@@ -120,6 +123,7 @@ pub fn print_words_refused(out: &mut Vec<u8>) -> Result<(), NoMemory>
 fn append_parts(out: &mut Vec<u8>, parts: &[Part]) -> Result<(), NoMemory>
     ensures ok { OnOk result (out.new.items ≡ out.old.items ++ flat_map part_text parts.now) }
     ensures err { OnErr result (out.new.items ≡ out.old.items) }
+    ensures full { OnErr result (vec_capacity out.old < length out.old.items + length (flat_map part_text parts.now)) }
 {
     let start = out.len();
     for part in parts {
@@ -135,6 +139,8 @@ fn append_parts(out: &mut Vec<u8>, parts: &[Part]) -> Result<(), NoMemory>
 fn append_part(out: &mut Vec<u8>, part: &Part) -> Result<(), AllocError>
     ensures ok { OnOk result (out.new.items ≡ out.old.items ++ part_text part.now) }
     ensures err { OnErr result (take (length out.old.items) out.new.items ≡ out.old.items) }
+    ensures full { OnErr result (vec_capacity out.old < length out.old.items + length (part_text part.now)) }
+    ensures capacity { vec_capacity out.old ≤ vec_capacity out.new }
 {
     match part {
         Part::Text(bytes) => out.extend_from_slice(bytes),
@@ -146,6 +152,8 @@ fn append_part(out: &mut Vec<u8>, part: &Part) -> Result<(), AllocError>
 fn append_number(out: &mut Vec<u8>, number: u64) -> Result<(), AllocError>
     ensures ok { OnOk result (out.new.items ≡ out.old.items ++ spaced number) }
     ensures err { OnErr result (take (length out.old.items) out.new.items ≡ out.old.items) }
+    ensures full { OnErr result (vec_capacity out.old < length out.old.items + length (spaced number)) }
+    ensures capacity { vec_capacity out.old ≤ vec_capacity out.new }
 {
     let mut digits = Buffer::new();
     out.extend_from_slice(b" ")?;
