@@ -1,6 +1,7 @@
 -- What is cut off again after a refusal.
-use Rattle.std.proofs.Common.{◌≡◌, ℕ, true, List, ◌++◌, length, take, drop, Result, Ok, Err, sym, ap, ◌∙◌, append_assoc}
-use Rattle.std.specs.Prelude.{OnErr, is_err}
+use Rattle.std.proofs.Common.{◌≡◌, ◌+◌, ◌<◌, ◌≤◌, ℕ, true, List, ◌++◌, length, take, drop, Result, Ok, Err, sym, ap, ◌∙◌, get_or, append_assoc, arith, length-append}
+use Rattle.std.specs.Prelude.{OnErr, is_err, flat_map}
+use Rattle.std.proofs.lemmas.List.Folds.{length-flat_map-take}
 use Rattle.std.proofs.lemmas.List.{take_at, take-append-drop}
 
 pub fact_of_err : {T E P : Type 0} (r : Result T E) → is_err r ≡ true → OnErr r P → P
@@ -13,3 +14,9 @@ cut_back was more middle now start start-is grown begins =
     let rest = drop (length middle) now in
     let whole : now ≡ was ++ (more ++ rest) = sym (take-append-drop (length middle) now) ∙ ap (λ (t : List ℕ). t ++ rest) (begins ∙ grown) ∙ append_assoc was more rest in
     ap (take start) whole ∙ take_at was (more ++ rest) start (sym start-is)
+
+-- what was appended and the part for which there is no room are no longer than all parts
+pub no_room : {X : Type 0} (text : X → List ℕ) (was middle : List ℕ) (parts : List X) (i : ℕ) (d : X) (old now : ℕ) → i < length parts → middle ≡ was ++ flat_map text (take i parts) → old ≤ now → now < length middle + length (text (get_or parts i d))
+    → old < length was + length (flat_map text parts)
+no_room text was middle parts i d old now lt grown capacity full =
+    omega (arith, length-flat_map-take text parts i d lt, ap length grown, length-append was (flat_map text (take i parts)))

@@ -11,7 +11,8 @@
 //! 2. `read_script` answers the commands exactly where the bytes are their text, and the number of
 //!    the first line that leaves the grammar exactly where there is one. Only for want of memory it
 //!    answers neither.
-//! 3. `print_reply`, `print_bad_line` and `print_words_refused` append the whole text or nothing.
+//! 3. `print_reply`, `print_bad_line` and `print_words_refused` append the whole text or nothing, and
+//!    nothing only where the vector had no room for it.
 #![tactic(auto)]
 
 mod command;

@@ -19,7 +19,7 @@ pub fn read_script(alloc: Global, bytes: &[u8]) -> Result<Vec<Command>, ScriptFa
     ensures ok { IfOk result (λ commands. IsScript bytes.now commands.items) }
     ensures bad { IfErr result (IfBadLine (LeavesAt bytes.now)) }
 
-    // Each script is read, and each other text is refused, unless memory runs out.
+    // Unless memory runs out each script is read, and what leaves the grammar is refused there.
     ensures each_script { (script : List Command) → IsScript bytes.now script → ReadsAs result script }
     ensures each_fault { (line : ℕ) → LeavesAt bytes.now line → RefusesAt result line }
 {
