@@ -1,8 +1,7 @@
 //! The random bytes of a job, by a ChaCha20 key stream.
 //!
-//! It is the stream alone: it takes no seed from the system, gives no two jobs apart and keeps no
-//! bytes secret after their use. Who calls it sees to it that a seed serves one desk, and that a
-//! session and a job are named once.
+//! It is the stream alone: it takes no seed from the system, and erases nothing after its use. Who
+//! calls it sees to it that no seed, session and job are taken twice.
 //!
 //! 1. Each byte of a stream is given once and in order, whatever the cuts between the calls:
 //!    `PadStream`'s invariant, and `fill`.
