@@ -1,19 +1,19 @@
 -- A pass is split, and two passes become one: both keep the rule.
-use Rattle.std.proofs.Common.{◌≡◌, ◌≢◌, ℕ, ◌+◌, ◌^◌, ◌<◌, ◌≤◌, true, false, true≢false, List, [], ◌∷◌, ◌++◌, length, set, sym, refl, ap, ◌∙◌, subst, ⊎_elim, arith, slice_index}
-use Rattle.std.specs.Prelude.{Option, Some}
+use Rattle.std.proofs.Common.{◌≡◌, ◌≢◌, ℕ, ◌+◌, ◌<◌, ◌≤◌, false, true≢false, List, [], ◌∷◌, ◌++◌, length, set, sym, refl, ap, ◌∙◌, subst, ⊎_elim, arith, slice_index}
+use Rattle.std.specs.Prelude.{Option}
 use mathlib.Core.Option.{some}
 use lib.ListN.{get_elem?}
-use Rattle.atomic_table.specs.Table.{State, Me, keeps, Allows, Splits, Joins}
+use Rattle.atomic_table.specs.Table.{Me, keeps, Allows, Splits, Joins}
 use Rattle.atomic_table.proofs.Lists.{at_set, at_snoc, set_else}
 use Rattle.pot_turn.specs.declared.view.Sight.{Sight}
 use Rattle.pot_turn.specs.Logs.{StartsWith, longer}
-use Rattle.pot_turn.specs.Stretches.{times, between, LieIn}
+use Rattle.pot_turn.specs.Stretches.{LieIn}
 use Rattle.pot_turn.specs.Views.{stretches_of}
 use Rattle.pot_turn.specs.Rules.{total, holding, made_by, parts_of, times_in, Fits, Ruled, Looked, cut_sight, new_sight, both_sights, spent_sight}
-use Rattle.pot_turn.proofs.LogLemmas.{starts_self, starts_trans, starts_length, longer_starts, longer_covers}
+use Rattle.pot_turn.proofs.LogLemmas.{starts_trans, starts_length, longer_starts, longer_covers}
 use Rattle.pot_turn.proofs.StretchLemmas.{between_most, lies_longer, lies_append, lies_front, lies_rest}
 use Rattle.pot_turn.proofs.PassLemmas.{both-times}
-use Rattle.pot_turn.proofs.Sums.{SumStays, sum_stays, total_at}
+use Rattle.pot_turn.proofs.Sums.{sum_stays, total_at}
 use Rattle.pot_turn.proofs.Seats.{bit}
 use Rattle.pot_turn.proofs.Enters.{same_state}
 
@@ -140,10 +140,10 @@ module _ {T E O : Type 0} (log : T → List E) (origin : T → O) (opened : T) w
       let first : slice_index s.words 0 ≡ total holding s.views = ap (λ ws. slice_index ws 0) r.words in
       let mine = r.each id v at in
       let most : (i : ℕ) → times_in i v ≤ 1 = λ i.
-          let own = total_at (times_in i) s.views id v at in
-          let all = r.once i in
-          let once = between_most i (length (log opened)) (length r.whole) in
-          omega (arith, own, all, once) in
+      let own = total_at (times_in i) s.views id v at in
+      let all = r.once i in
+      let once = between_most i (length (log opened)) (length r.whole) in
+      omega (arith, own, all, once) in
       (v, keeps, tt, same_state log origin opened s r id v at (slice_index s.words 0) (sym first), (refl, mine.agrees, mine.lies, most))
 
   pub looks_it : (id : ℕ) (m : Me (Option T) (Sight E O)) → m.1 ≡ [] → Allows (Ruled log origin opened) 1 id m 0 (λ n. n) (λ _. Looked m)

@@ -1,5 +1,5 @@
 -- The rule of a turn, over one lock word, one count word and one slot, and what its steps tell.
-use Rattle.std.specs.Prelude.{◌≡◌, ℕ, zero, suc, ◌+◌, ◌-◌, ◌^◌, ◌<◌, ◌≤◌, List, [], ◌∷◌, ◌++◌, length, Bool, true, false, if◌then◌else◌}
+use Rattle.std.specs.Prelude.{◌≡◌, ℕ, zero, suc, ◌+◌, ◌^◌, ◌<◌, ◌≤◌, List, [], ◌∷◌, length, Bool, true, false, if◌then◌else◌}
 use Rattle.std.specs.Prelude.{Option}
 use Rattle.std.specs.Prelude.{Some, None}
 use mathlib.Core.Option.{some, none}
@@ -9,7 +9,7 @@ use Rattle.pot_turn.specs.declared.view.View.{View}
 use Rattle.pot_turn.specs.declared.view.Sight.{Sight}
 use Rattle.pot_turn.specs.declared.view.Told.{Told}
 use Rattle.pot_turn.specs.Logs.{StartsWith, shorter}
-use Rattle.pot_turn.specs.Stretches.{stretch, between, times, LieIn}
+use Rattle.pot_turn.specs.Stretches.{between, times, LieIn}
 use Rattle.pot_turn.specs.Views.{stretches_of, first_view, took_view, left_view, cut_view, new_view, both_views, spent_view}
 
 module _ {E O : Type 0} where
