@@ -6,7 +6,7 @@ use lib.ListN.{get_elem?}
 use Rattle.atomic_table.specs.Table.{Me, keeps, Allows, Splits, Joins}
 use Rattle.atomic_table.proofs.Lists.{at_set, at_snoc, set_else}
 use Rattle.pot_turn.specs.declared.view.Sight.{Sight}
-use Rattle.pot_turn.specs.Logs.{StartsWith, longer}
+use Rattle.pot_turn.specs.Logs.{StartsWith, longer, shorter}
 use Rattle.pot_turn.specs.Stretches.{LieIn}
 use Rattle.pot_turn.specs.Views.{stretches_of}
 use Rattle.pot_turn.specs.Rules.{total, holding, made_by, parts_of, times_in, Fits, Ruled, Looked, cut_sight, new_sight, both_sights, spent_sight}
@@ -14,7 +14,7 @@ use Rattle.pot_turn.proofs.LogLemmas.{starts_trans, starts_length, longer_starts
 use Rattle.pot_turn.proofs.StretchLemmas.{between_most, lies_longer, lies_append, lies_front, lies_rest}
 use Rattle.pot_turn.proofs.PassLemmas.{both-times}
 use Rattle.pot_turn.proofs.Sums.{sum_stays, total_at}
-use Rattle.pot_turn.proofs.Seats.{bit}
+use Rattle.pot_turn.proofs.Seats.{bit, IsIdle}
 use Rattle.pot_turn.proofs.Enters.{same_state}
 
 module _ {T E O : Type 0} (log : T → List E) (origin : T → O) (opened : T) where
@@ -150,3 +150,20 @@ module _ {T E O : Type 0} (log : T → List E) (origin : T → O) (opened : T) w
   looks_it id m out =
       subst (λ (c : List (ℕ × Option T)). Allows (Ruled log origin opened) 1 id (m.0, c) 0 (λ n. n) (λ _. Looked (m.0, c))) (sym out)
       (looks id m.0)
+
+module _ {T E O : Type 0} (m m' m'' : Me (Option T) (Sight E O)) (w : Sight E O) where
+  -- the pass m took in w, and is m'' after its look
+  pub joined_is : IsIdle m → m' ≡ (both_sights m.0 w, m.1) → Looked m' m'' → m'' ≡ (both_sights m.0 w, [])
+  joined_is idle joined looked = looked.0 ∙ (joined ∙ ap (λ (c : List (ℕ × Option T)). (both_sights m.0 w, c)) idle.2)
+
+  -- which tells that its log begins with both logs, and that the stretches of both lie in it
+  pub joined_tells : m' ≡ (both_sights m.0 w, m.1) → Looked m' m''
+      → StartsWith (longer m.0.view.seen w.view.seen) m.0.view.seen × StartsWith (longer m.0.view.seen w.view.seen) w.view.seen
+      × LieIn (length m.0.view.opened) (stretches_of (both_sights m.0 w).view) (length (longer m.0.view.seen w.view.seen))
+  joined_tells joined looked =
+      let begins : StartsWith (longer m.0.view.seen w.view.seen) (shorter m.0.view.seen w.view.seen) = subst (λ (k : Me (Option T) (Sight E O)). StartsWith k.0.view.seen k.0.told.seen) joined looked.1.0 in
+      let both = longer_covers m.0.view.seen w.view.seen begins in (
+        both.0,
+        both.1,
+        subst (λ (k : Me (Option T) (Sight E O)). LieIn (length k.0.view.opened) (stretches_of k.0.view) (length k.0.view.seen)) joined looked.2,
+      )
