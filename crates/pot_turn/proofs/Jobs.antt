@@ -53,6 +53,10 @@ module _ {E : Type 0} (is_of : E → Bool) (log : List E) where
 
 -- What a pass logged, and what it did not log, after each call
 module _ {E : Type 0} (is_of : E → Bool) where
+  -- without a stretch there is no entry
+  pub none_nothing : (log : List E) → NoneIn is_of log []
+  none_nothing log i e is some = absurd (omega (arith, some))
+
   -- what no stretch of a beginning has, none has in the whole
   pub none_longer : (log seen : List E) (ss : List Stretch) → StartsWith log seen → ((i : ℕ) → 0 < times i ss → i < length seen) → NoneIn is_of seen ss → NoneIn is_of log ss
   none_longer log seen ss grown inside none i e is some =

@@ -3,8 +3,9 @@ ghost use Rattle.std.specs.Prelude.{◌≡◌};
 ghost use Rattle.pot_turn.specs.Rules.{slots_of};
 ghost use Rattle.pot_turn.specs.Views.{IsPass, IsPass-prop};
 
+use crate::Kept;
 use crate::rule::{Cut, Free, Look, Pair, Parts, Raise, Take, TurnRule};
-use crate::{Kept, Sight};
+use crate::view::Sight;
 use atomic_table::{Refused, Seat, Table};
 use std::alloc::{AllocFailed, Global};
 use std::marker::Brand;
