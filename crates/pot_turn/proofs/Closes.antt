@@ -1,5 +1,5 @@
 -- The table of a new turn meets the rule, and the last pass closes it.
-use Rattle.std.proofs.Common.{◌≡◌, ◌≢◌, ℕ, zero, suc, map, ◌+◌, ◌^◌, ◌<◌, ◌≤◌, false, true≢false, List, [], ◌∷◌, length, set, sym, refl, ap, ◌∙◌, subst, ⊎_elim, arith}
+use Rattle.std.proofs.Common.{◌≡◌, ◌≢◌, ℕ, zero, suc, map, ◌+◌, ◌^◌, ◌<◌, false, true≢false, List, [], ◌∷◌, length, set, sym, refl, ap, ◌∙◌, subst, ⊎_elim, arith}
 use Rattle.std.specs.Prelude.{Option, Some}
 use mathlib.Core.Option.{some, some-injective, some-ne-none}
 use lib.ListN.{get_elem?}
@@ -8,8 +8,8 @@ use Rattle.atomic_table.proofs.Lists.{at_set}
 use Rattle.std.proofs.lemmas.Option.{same_Some}
 use Rattle.pot_turn.specs.declared.view.Sight.{Sight}
 use Rattle.pot_turn.specs.Logs.{StartsWith}
-use Rattle.pot_turn.specs.Stretches.{between, times, IsOnceEach}
-use Rattle.pot_turn.specs.Views.{stretches_of, first_view}
+use Rattle.pot_turn.specs.Stretches.{between, IsOnceEach}
+use Rattle.pot_turn.specs.Views.{stretches_of}
 use Rattle.pot_turn.specs.Rules.{total, holding, made_by, parts_of, times_in, Fits, Ruled, first_sight, spent_sight}
 use Rattle.pot_turn.proofs.LogLemmas.{starts_self, starts_length, starts_all}
 use Rattle.pot_turn.proofs.StretchLemmas.{between-empty, between_least, times_behind}
@@ -80,11 +80,11 @@ module _ {T E O : Type 0} (log : T → List E) (origin : T → O) (opened : T) w
       let names = mine.named some_parts in
       let start : length v.view.opened ≡ length (log opened) = ap length names.0 in
       let once : IsOnceEach v.view.opened r.whole (stretches_of v.view) = λ i.
-          let changed = total-set (times_in i) s.views id v spent_sight at in
-          let none = total_none (times_in i) others (λ k u e. ap (times_in i) (spent k u e)) in
-          let whole = r.once i in
-          let same : between i (length v.view.opened) (length r.whole) ≡ between i (length (log opened)) (length r.whole) = ap (λ k. between i k (length r.whole)) start in
-          omega (arith, changed, none, whole, same) in
+      let changed = total-set (times_in i) s.views id v spent_sight at in
+      let none = total_none (times_in i) others (λ k u e. ap (times_in i) (spent k u e)) in
+      let whole = r.once i in
+      let same : between i (length v.view.opened) (length r.whole) ≡ between i (length (log opened)) (length r.whole) = ap (λ k. between i k (length r.whole)) start in
+      omega (arith, changed, none, whole, same) in
       let last = length v.view.seen in
       let behind = times_behind (length v.view.opened) (stretches_of v.view) last last mine.lies (omega arith) in
       let seen_all = between_least last (length v.view.opened) (length r.whole) (sym (once last) ∙ behind) (starts_length v.view.seen v.view.opened mine.since) in

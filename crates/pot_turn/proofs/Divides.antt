@@ -1,20 +1,20 @@
 -- A pass is split, and two passes become one: both keep the rule.
-use Rattle.std.proofs.Common.{◌≡◌, ◌≢◌, ℕ, ◌+◌, ◌^◌, ◌<◌, ◌≤◌, true, false, true≢false, List, [], ◌∷◌, ◌++◌, length, set, sym, refl, ap, ◌∙◌, subst, ⊎_elim, arith, slice_index}
-use Rattle.std.specs.Prelude.{Option, Some}
+use Rattle.std.proofs.Common.{◌≡◌, ◌≢◌, ℕ, ◌+◌, ◌<◌, ◌≤◌, false, true≢false, List, [], ◌∷◌, ◌++◌, length, set, sym, refl, ap, ◌∙◌, subst, ⊎_elim, arith, slice_index}
+use Rattle.std.specs.Prelude.{Option}
 use mathlib.Core.Option.{some}
 use lib.ListN.{get_elem?}
-use Rattle.atomic_table.specs.Table.{State, Me, keeps, Allows, Splits, Joins}
+use Rattle.atomic_table.specs.Table.{Me, keeps, Allows, Splits, Joins}
 use Rattle.atomic_table.proofs.Lists.{at_set, at_snoc, set_else}
 use Rattle.pot_turn.specs.declared.view.Sight.{Sight}
-use Rattle.pot_turn.specs.Logs.{StartsWith, longer}
-use Rattle.pot_turn.specs.Stretches.{times, between, LieIn}
+use Rattle.pot_turn.specs.Logs.{StartsWith, longer, shorter}
+use Rattle.pot_turn.specs.Stretches.{LieIn}
 use Rattle.pot_turn.specs.Views.{stretches_of}
 use Rattle.pot_turn.specs.Rules.{total, holding, made_by, parts_of, times_in, Fits, Ruled, Looked, cut_sight, new_sight, both_sights, spent_sight}
-use Rattle.pot_turn.proofs.LogLemmas.{starts_self, starts_trans, starts_length, longer_starts, longer_covers}
+use Rattle.pot_turn.proofs.LogLemmas.{starts_trans, starts_length, longer_starts, longer_covers}
 use Rattle.pot_turn.proofs.StretchLemmas.{between_most, lies_longer, lies_append, lies_front, lies_rest}
 use Rattle.pot_turn.proofs.PassLemmas.{both-times}
-use Rattle.pot_turn.proofs.Sums.{SumStays, sum_stays, total_at}
-use Rattle.pot_turn.proofs.Seats.{bit}
+use Rattle.pot_turn.proofs.Sums.{sum_stays, total_at}
+use Rattle.pot_turn.proofs.Seats.{bit, IsIdle}
 use Rattle.pot_turn.proofs.Enters.{same_state}
 
 module _ {T E O : Type 0} (log : T → List E) (origin : T → O) (opened : T) where
@@ -140,13 +140,30 @@ module _ {T E O : Type 0} (log : T → List E) (origin : T → O) (opened : T) w
       let first : slice_index s.words 0 ≡ total holding s.views = ap (λ ws. slice_index ws 0) r.words in
       let mine = r.each id v at in
       let most : (i : ℕ) → times_in i v ≤ 1 = λ i.
-          let own = total_at (times_in i) s.views id v at in
-          let all = r.once i in
-          let once = between_most i (length (log opened)) (length r.whole) in
-          omega (arith, own, all, once) in
+      let own = total_at (times_in i) s.views id v at in
+      let all = r.once i in
+      let once = between_most i (length (log opened)) (length r.whole) in
+      omega (arith, own, all, once) in
       (v, keeps, tt, same_state log origin opened s r id v at (slice_index s.words 0) (sym first), (refl, mine.agrees, mine.lies, most))
 
   pub looks_it : (id : ℕ) (m : Me (Option T) (Sight E O)) → m.1 ≡ [] → Allows (Ruled log origin opened) 1 id m 0 (λ n. n) (λ _. Looked m)
   looks_it id m out =
       subst (λ (c : List (ℕ × Option T)). Allows (Ruled log origin opened) 1 id (m.0, c) 0 (λ n. n) (λ _. Looked (m.0, c))) (sym out)
       (looks id m.0)
+
+module _ {T E O : Type 0} (m m' m'' : Me (Option T) (Sight E O)) (w : Sight E O) where
+  -- the pass m took in w, and is m'' after its look
+  pub joined_is : IsIdle m → m' ≡ (both_sights m.0 w, m.1) → Looked m' m'' → m'' ≡ (both_sights m.0 w, [])
+  joined_is idle joined looked = looked.0 ∙ (joined ∙ ap (λ (c : List (ℕ × Option T)). (both_sights m.0 w, c)) idle.2)
+
+  -- which tells that its log begins with both logs, and that the stretches of both lie in it
+  pub joined_tells : m' ≡ (both_sights m.0 w, m.1) → Looked m' m''
+      → StartsWith (longer m.0.view.seen w.view.seen) m.0.view.seen × StartsWith (longer m.0.view.seen w.view.seen) w.view.seen
+      × LieIn (length m.0.view.opened) (stretches_of (both_sights m.0 w).view) (length (longer m.0.view.seen w.view.seen))
+  joined_tells joined looked =
+      let begins : StartsWith (longer m.0.view.seen w.view.seen) (shorter m.0.view.seen w.view.seen) = subst (λ (k : Me (Option T) (Sight E O)). StartsWith k.0.view.seen k.0.told.seen) joined looked.1.0 in
+      let both = longer_covers m.0.view.seen w.view.seen begins in (
+        both.0,
+        both.1,
+        subst (λ (k : Me (Option T) (Sight E O)). LieIn (length k.0.view.opened) (stretches_of k.0.view) (length k.0.view.seen)) joined looked.2,
+      )

@@ -1,6 +1,6 @@
 -- The entries of a job are those of the stretches of the passes that carried it.
 -- A crate above keeps, for each pass, the entries of its job (`Carries`) and that it logged none of any other (`NoneIn`), by the laws below, one for each call.
-use Rattle.std.proofs.Common.{◌≡◌, ℕ, zero, suc, ◌+◌, ◌-◌, ◌<◌, ◌≤◌, Bool, true, false, List, [], ◌∷◌, ◌++◌, length, take, drop, refl, ap, sym, ◌∙◌, arith, subst, ⊎_elim}
+use Rattle.std.proofs.Common.{◌≡◌, ℕ, ◌+◌, ◌-◌, ◌<◌, ◌≤◌, Bool, false, List, [], ◌∷◌, ◌++◌, length, take, drop, refl, ap, sym, ◌∙◌, arith, subst, ⊎_elim}
 use Rattle.std.specs.Prelude.{filter, slice_get, Some}
 use Rattle.std.proofs.lemmas.List.{take-append-drop, drop-drop}
 use Rattle.std.proofs.lemmas.List.Elements.{filter-append}
@@ -13,8 +13,8 @@ use Rattle.pot_turn.specs.Stretches.{stretch, times, Ascends, entries_in, IsOnce
 use Rattle.pot_turn.specs.Jobs.{NoneIn, Carries, EntriesAreCarried}
 use Rattle.pot_turn.specs.Views.{stretches_of, logged_by, first_view, took_view, left_view, cut_view, new_view, both_views, IsPass}
 use Rattle.pot_turn.proofs.LogLemmas.{starts_length, get_front, get_back, get_drop, get_take, filter_none}
-use Rattle.pot_turn.proofs.StretchLemmas.{between_in, between_out, between_ahead, between_from, some_of, ascends_longer, ascends_snoc, times-append, times_behind, times_ahead, ascends_lies, ascends_bounds, entries_in-longer, entries_in-snoc, stretch_rest}
-use Rattle.pot_turn.proofs.PassLemmas.{pass_lies, pass_within, left-times, both-times}
+use Rattle.pot_turn.proofs.StretchLemmas.{between_in, between_out, between_ahead, between_from, some_of, ascends_longer, ascends_snoc, times-append, times_ahead, ascends_lies, ascends_bounds, entries_in-longer, entries_in-snoc, stretch_rest}
+use Rattle.pot_turn.proofs.PassLemmas.{pass_within, left-times, both-times}
 
 module _ {E : Type 0} (is_of : E → Bool) (log : List E) where
   -- from this position on, an entry of the job stands in a stretch
@@ -37,12 +37,12 @@ module _ {E : Type 0} (is_of : E → Bool) (log : List E) where
       sym (take-append-drop gap (drop at log)) ∙ ap (λ w. ahead ++ w) (later ∙ (sym (take-append-drop (s.upto - s.from) (drop s.from log)) ∙ ap (λ w. mine ++ w) last)) in
       let none : filter is_of ahead ≡ [] =
       filter_none is_of ahead (λ i e is.
-          let there = get_take gap (drop at log) i e is in
-          let i' = at + i in
-          let small : i' < s.from = omega (arith, there.0, h.0) in
-          let others = times_ahead s.upto ss (length log) i' (ascends_lies s.upto ss (length log) h.2) (omega (arith, small, h.1)) in
-          let here = between_ahead i' s.from s.upto small in
-          picked i' e (omega arith) (sym (get_drop at log i) ∙ there.1) (omega (arith, here, others))) in
+      let there = get_take gap (drop at log) i e is in
+      let i' = at + i in
+      let small : i' < s.from = omega (arith, there.0, h.0) in
+      let others = times_ahead s.upto ss (length log) i' (ascends_lies s.upto ss (length log) h.2) (omega (arith, small, h.1)) in
+      let here = between_ahead i' s.from s.upto small in
+      picked i' e (omega arith) (sym (get_drop at log i) ∙ there.1) (omega (arith, here, others))) in
       let rest = filter-drop s.upto ss h.2 (λ i e le is none. picked i e (omega (arith, le, h.0, h.1)) is (let here = between_out i s.from s.upto le in omega (arith, here, none))) in
       ap (filter is_of) parted
       ∙ (filter-append is_of ahead (mine ++ drop s.upto log)
@@ -53,6 +53,10 @@ module _ {E : Type 0} (is_of : E → Bool) (log : List E) where
 
 -- What a pass logged, and what it did not log, after each call
 module _ {E : Type 0} (is_of : E → Bool) where
+  -- without a stretch there is no entry
+  pub none_nothing : (log : List E) → NoneIn is_of log []
+  none_nothing log i e is some = absurd (omega (arith, some))
+
   -- what no stretch of a beginning has, none has in the whole
   pub none_longer : (log seen : List E) (ss : List Stretch) → StartsWith log seen → ((i : ℕ) → 0 < times i ss → i < length seen) → NoneIn is_of seen ss → NoneIn is_of log ss
   none_longer log seen ss grown inside none i e is some =
@@ -182,11 +186,11 @@ entries_are_carried v log seen begins once is_of entries c =
     let start = length v.opened in
     let rest : drop start log ≡ begins.0 = ap (drop start) begins.1 ∙ drop-append_seam v.opened begins.0 in
     let picked : Picked is_of log start c.own = λ i e le is none.
-        let inside = slice_get_within log i e is in
-        let here = between_in i start (length log) le inside in
-        let whole = once i in
-        let parts = c.parted i in
-        c.foreign i e (ap (λ w. slice_get w i) (sym seen) ∙ is) (omega (arith, here, whole, parts, none)) in
+    let inside = slice_get_within log i e is in
+    let here = between_in i start (length log) le inside in
+    let whole = once i in
+    let parts = c.parted i in
+    c.foreign i e (ap (λ w. slice_get w i) (sym seen) ∙ is) (omega (arith, here, whole, parts, none)) in
     let ascends = subst (λ (k : List _). Ascends start c.own (length k)) (sym seen) c.ascends in
     let later = filter-drop is_of log start c.own ascends picked in
     ap (filter is_of) begins.1

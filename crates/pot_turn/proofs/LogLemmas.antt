@@ -1,6 +1,6 @@
 -- Beginnings of one log.
 use Rattle.std.proofs.Common.{◌≡◌, ℕ, zero, suc, ◌+◌, ◌<◌, ◌≤◌, Bool, true, false, List, [], ◌∷◌, ◌++◌, length, refl, ap, sym, ◌∙◌, arith, append_assoc, append-nil, length-append, take, drop}
-use Rattle.std.specs.Prelude.{if◌then◌else◌, nat_lt, slice_get, Some, None, filter}
+use Rattle.std.specs.Prelude.{if◌then◌else◌, nat_lt, slice_get, Some, filter}
 use Rattle.std.proofs.lemmas.Bool.Decides.{nat_tests}
 use Rattle.pot_turn.specs.Logs.{StartsWith, longer, shorter}
 

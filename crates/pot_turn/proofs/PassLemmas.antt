@@ -1,9 +1,8 @@
 -- What is true of every pass stays true.
-use Rattle.std.proofs.Common.{◌≡◌, ℕ, ◌+◌, ◌-◌, ◌<◌, ◌≤◌, List, [], ◌∷◌, ◌++◌, length, refl, arith}
+use Rattle.std.proofs.Common.{◌≡◌, ℕ, ◌+◌, ◌<◌, ◌≤◌, List, [], ◌∷◌, ◌++◌, length, arith}
 use Rattle.pot_turn.specs.declared.view.View.{View}
-use Rattle.pot_turn.specs.declared.view.Stretch.{Stretch}
 use Rattle.pot_turn.specs.Logs.{StartsWith, longer}
-use Rattle.pot_turn.specs.Stretches.{stretch, between, times, LieIn, size_of}
+use Rattle.pot_turn.specs.Stretches.{stretch, between, times, LieIn}
 use Rattle.pot_turn.specs.Views.{stretches_of, first_view, took_view, left_view, cut_view, new_view, both_views, IsPass}
 use Rattle.pot_turn.proofs.LogLemmas.{starts_length}
 use Rattle.pot_turn.proofs.StretchLemmas.{times-append, lies_within, size_of-snoc, size_of-append, ascends_longer, ascends_snoc, ascends_lies, lies_longer, lies_append, lies_rest}

@@ -1,5 +1,5 @@
 -- The rule of a turn, over one lock word, one count word and one slot, and what its steps tell.
-use Rattle.std.specs.Prelude.{◌≡◌, ℕ, zero, suc, ◌+◌, ◌-◌, ◌^◌, ◌<◌, ◌≤◌, List, [], ◌∷◌, ◌++◌, length, Bool, true, false, if◌then◌else◌}
+use Rattle.std.specs.Prelude.{◌≡◌, ℕ, zero, suc, ◌+◌, ◌^◌, ◌<◌, ◌≤◌, List, [], ◌∷◌, length, Bool, true, false, if◌then◌else◌}
 use Rattle.std.specs.Prelude.{Option}
 use Rattle.std.specs.Prelude.{Some, None}
 use mathlib.Core.Option.{some, none}
@@ -9,9 +9,10 @@ use Rattle.pot_turn.specs.declared.view.View.{View}
 use Rattle.pot_turn.specs.declared.view.Sight.{Sight}
 use Rattle.pot_turn.specs.declared.view.Told.{Told}
 use Rattle.pot_turn.specs.Logs.{StartsWith, shorter}
-use Rattle.pot_turn.specs.Stretches.{stretch, between, times, LieIn}
+use Rattle.pot_turn.specs.Stretches.{between, times, LieIn}
 use Rattle.pot_turn.specs.Views.{stretches_of, first_view, took_view, left_view, cut_view, new_view, both_views, spent_view}
 
+-- What the rule keeps for a pass is its view, and what its last join left to be told
 module _ {E O : Type 0} where
   abbrev pub told : List E → List E → Option O → Told E O
   told seen opened origin = record { seen = seen; opened = opened; origin = origin }
@@ -35,6 +36,7 @@ module _ {E O : Type 0} where
       let left : View E O = left_view log s.view in
       sight (record { holds = s.view.holds; opened = left.opened; seen = left.seen; turns = left.turns; joined = left.joined; made = left.made; parts = left.parts; origin = left.origin }) s.told
 
+  -- the value is back, and the turn is over
   abbrev pub freed_sight : Sight E O → Sight E O
   freed_sight s =
       let v : View E O = s.view in
@@ -46,6 +48,7 @@ module _ {E O : Type 0} where
   abbrev pub new_sight : ℕ → Sight E O → Sight E O
   new_sight n s = alone (new_view n s.view)
 
+  -- which of the two logs is the longer is not known, and a look tells it
   abbrev pub both_sights : Sight E O → Sight E O → Sight E O
   both_sights s t = sight (both_views s.view t.view) (told (shorter s.view.seen t.view.seen) t.view.opened t.view.origin)
 

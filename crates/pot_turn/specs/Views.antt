@@ -1,6 +1,5 @@
 -- What a pass knows of its turn, and what each call makes of it.
 use Rattle.std.specs.Prelude.{◌≡◌, ℕ, ◌+◌, ◌-◌, ◌^◌, ◌<◌, List, [], ◌∷◌, ◌++◌, length, false, true}
-use Rattle.std.specs.Prelude.{Option}
 use Rattle.std.specs.Prelude.{Some, None}
 use native.Mathlib.Bridge.{le_prop}
 use Rattle.std.proofs.Math.Nat.{ℕ_set}

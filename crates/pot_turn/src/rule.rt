@@ -1,5 +1,6 @@
 //! The rule of a turn and its steps, each of which keeps the rule.
-use crate::{Kept, Sight};
+use crate::Kept;
+use crate::view::Sight;
 use atomic_table::{Join, Play, Split, TableRule};
 use std::marker::{Brand, PhantomData};
 use std::snapshot::Snapshot;

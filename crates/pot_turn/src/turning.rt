@@ -3,8 +3,9 @@ ghost use Rattle.std.specs.Prelude.{◌≡◌};
 ghost use Rattle.pot_turn.specs.Rules.{slots_of};
 ghost use Rattle.pot_turn.specs.Views.{IsPass, IsPass-prop};
 
+use crate::Kept;
 use crate::rule::{Cut, Free, Look, Pair, Parts, Raise, Take, TurnRule};
-use crate::{Kept, Sight};
+use crate::view::Sight;
 use atomic_table::{Refused, Seat, Table};
 use std::alloc::{AllocFailed, Global};
 use std::marker::Brand;
@@ -18,12 +19,13 @@ pub struct Turn<T: Kept> {
     ghost shape: { (table.shared.table_id.words ≡ 2) × (table.shared.table_id.slots ≡ 1) },
 }
 
-/// The leave to take the value of one turn. It has no bytes.
+/// The leave to take the value of one turn. It has no bytes, and it may be dropped; but only all 2^62 parts together close the turn.
 #[derive(Drop)]
 pub struct Pass<T: Kept> {
     seat: Seat<Option<T>, Sight<T::Entry, T::Origin>>,
+    // While it has the value, the turn's slot is out with it, and empty.
     ghost slots: { seat.me.1 ≡ slots_of seat.me.0.view.holds },
-    ghost known: { IsPass seat.me.0.view } by { IsPass-prop seat.me.0.view },
+    pub ghost known: { IsPass seat.me.0.view } by { IsPass-prop seat.me.0.view },
 }
 
 /// There was no memory for a turn. The value comes back.
@@ -72,6 +74,7 @@ impl<T: Kept> Turn<T> {
         }
     }
 
+    /// Takes the value if it is at home.
     fn try_take(&self, pass: &mut Pass<T>) -> Option<T>
         requires own { IsPassOf self.now pass.old }
         requires idle { (view pass.old).holds ≡ false }
@@ -88,7 +91,7 @@ impl<T: Kept> Turn<T> {
         }
     }
 
-    /// Waits for the value and takes it.
+    /// Waits for the value and takes it. Its log begins with all that the pass had seen, and the pass has then seen that log.
     pub fn enter<R: Wait>(&self, rt: &R, pass: &mut Pass<T>) -> T
         requires own { IsPassOf self.now pass.old }
         requires idle { (view pass.old).holds ≡ false }
@@ -106,7 +109,7 @@ impl<T: Kept> Turn<T> {
         unreachable!()
     }
 
-    /// Gives the value back. What its log has gained is one more stretch of the pass.
+    /// Gives the value back. What its log has gained since `enter` is one more stretch of the pass.
     pub fn leave(&self, pass: &mut Pass<T>, value: T)
         requires own { IsPassOf self.now pass.old }
         requires had { (view pass.old).holds ≡ true }
@@ -124,6 +127,7 @@ impl<T: Kept> Turn<T> {
         shared.wake_one(0);
     }
 
+    /// As `split`, with the number of parts as a type too, since a split of a seat takes no operand.
     fn cut<N: Parts>(&self, pass: &mut Pass<T>, parts: u64) -> Pass<T>
         requires own { IsPassOf self.now pass.old }
         requires idle { (view pass.old).holds ≡ false }
@@ -151,7 +155,7 @@ impl<T: Kept> Turn<T> {
         Ok(self.cut::<Brand>(pass, parts))
     }
 
-    /// The pass has then seen what either has, and has the parts of both.
+    /// The pass takes in the other, which is spent: it has then seen what either had, and has the parts of both. Its own stretches stay, and those of the other stand beside them.
     pub fn join(&self, pass: &mut Pass<T>, other: Pass<T>)
         requires own { IsPassOf self.now pass.old }
         requires idle { (view pass.old).holds ≡ false }
@@ -170,7 +174,7 @@ impl<T: Kept> Turn<T> {
         shared.load::<Look>(&mut pass.seat, 0);
     }
 
-    /// Ends the turn with its last pass, and hands out the value.
+    /// Ends the turn with the pass that has all parts, and hands out the value. Every other pass is spent, so this one has seen the whole log, and each entry since `new` stands in just one of its stretches.
     pub fn close(self, pass: Pass<T>) -> T
         requires own { IsPassOf self pass }
         requires idle { (view pass).holds ≡ false }

@@ -1,6 +1,6 @@
 -- What the authors wrote, step by step.
-use Rattle.std.proofs.Common.{◌≡◌, ◌≢◌, ℕ, zero, suc, ◌+◌, ◌-◌, ◌*◌, ◌<◌, ◌≤◌, true, false, List, [], ◌∷◌, ◌++◌, length, refl, ap, sym, ◌∙◌, subst, arith, eq-eqb, ne_eqb, ⊎_elim, ◌⊎◌, inl, inr, length-append}
-use Rattle.std.specs.Prelude.{filter, slice_get, Some, if◌then◌else◌}
+use Rattle.std.proofs.Common.{◌≡◌, ◌≢◌, ℕ, zero, suc, ◌+◌, ◌-◌, ◌*◌, ◌<◌, ◌≤◌, false, List, [], ◌∷◌, ◌++◌, length, refl, ap, sym, ◌∙◌, subst, arith, eq-eqb, ne_eqb, ⊎_elim, ◌⊎◌, inl, inr, length-append}
+use Rattle.std.specs.Prelude.{filter, slice_get, Some}
 use Rattle.std.proofs.Math.Nat.{add-mul}
 use Rattle.pot_turn.specs.declared.view.View.{View}
 use Rattle.pot_turn.specs.Logs.{StartsWith, longer}

@@ -1,7 +1,7 @@
-use Rattle.std.proofs.Common.{◌≡◌, ◌<◌, ◌^◌, ◌++◌, ◌∙◌, ap, [], ℕ, arith, rules}
+use Rattle.std.proofs.Common.{◌≡◌, ◌^◌, ◌++◌, ◌∙◌, ap, [], arith, rules}
 use Rattle.std.specs.Prelude.{filter}
 use Rattle.pot_turn.specs.Passes.{view}
-use Rattle.pot_turn.specs.Views.{first_view, cut_view, new_view}
+use Rattle.pot_turn.specs.Views.{first_view, new_view}
 use Rattle.turn_demo.specs.Books.{lines_of, by, Wrote}
 use Rattle.turn_demo.proofs.Wrote.{wrote_joined}
 use Rattle.turn_demo.proofs.writing.write_four.Goals as goal

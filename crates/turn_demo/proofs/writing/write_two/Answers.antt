@@ -1,6 +1,6 @@
 use Rattle.std.proofs.Common.{◌≡◌, ◌+◌, arith, rules}
 use Rattle.pot_turn.specs.Passes.{view}
-use Rattle.pot_turn.specs.Views.{cut_view, new_view}
+use Rattle.pot_turn.specs.Views.{new_view}
 use Rattle.turn_demo.specs.Books.{Wrote}
 use Rattle.turn_demo.proofs.Wrote.{wrote_joined}
 use Rattle.turn_demo.proofs.writing.write_two.Goals as goal

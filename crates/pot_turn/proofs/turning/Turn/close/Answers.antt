@@ -1,5 +1,5 @@
 use Rattle.std.proofs.Common.{ap}
-use Rattle.pot_turn.proofs.Closes.{Ended, closes, closes_with}
+use Rattle.pot_turn.proofs.Closes.{closes, closes_with}
 use Rattle.pot_turn.proofs.Jobs.{entries_are_carried}
 use Rattle.std.specs.Slots.{slots_items}
 use Rattle.pot_turn.proofs.turning.Turn.close.Goals as goal

@@ -1,4 +1,4 @@
-use Rattle.std.proofs.Common.{◌∙◌, arith, ap, sym, [], ◌<◌, subst}
+use Rattle.std.proofs.Common.{arith, ap, sym, [], ◌<◌, subst}
 use Rattle.pot_turn.proofs.Divides.{splits}
 use Rattle.pot_turn.proofs.Seats.{slots_at, pass_at}
 use Rattle.pot_turn.proofs.StretchLemmas.{ascends_bounds}

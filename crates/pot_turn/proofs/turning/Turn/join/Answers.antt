@@ -1,11 +1,7 @@
-use Rattle.std.proofs.Common.{◌∙◌, ap, arith, [], length, subst, sym}
+use Rattle.std.proofs.Common.{◌∙◌, ap, arith, [], sym}
 use Rattle.pot_turn.proofs.Seats.{is_idle, slots_at, slots_out, pass_at}
-use Rattle.pot_turn.proofs.Divides.{joins, looks_it}
-use Rattle.pot_turn.proofs.LogLemmas.{longer_covers}
+use Rattle.pot_turn.proofs.Divides.{joins, looks_it, joined_is, joined_tells}
 use Rattle.pot_turn.proofs.PassLemmas.{pass_both}
-use Rattle.pot_turn.specs.Logs.{StartsWith, longer, shorter}
-use Rattle.pot_turn.specs.Stretches.{LieIn}
-use Rattle.pot_turn.specs.Views.{stretches_of}
 use Rattle.pot_turn.specs.Rules.{both_sights, slots_of}
 use Rattle.pot_turn.proofs.turning.Turn.join.Goals as goal
 
@@ -39,18 +35,15 @@ load-requires g c =
 pub invariant_of-pass : goal.invariant_of-pass
 invariant_of-pass g c =
     let pass = c.args.pass.now in
-    let old = pass.seat.me.0 in
-    let its = c.args.other.seat.me.0 in
+    let other = c.args.other in
+    let old = pass.seat.me in
+    let its = other.seat.me.0 in
+    let m' = c.join_seat.new.seat.me in
     let m = c.load.new.seat.me in
-    let idle = is_idle pass.seat.me pass.slots pass.known c.requires.idle in
-    let s = both_sights old its in
-    let joined = c.join_seat.ensures.2 in
-    let looked = c.load.ensures.2 in
-    let e = looked.0 ∙ (joined ∙ ap (λ l. (s, l)) idle.2) in
-    let begins : StartsWith (longer old.view.seen its.view.seen) (shorter old.view.seen its.view.seen) = subst (λ k. StartsWith k.0.view.seen k.0.told.seen) joined looked.1.0 in
-    let lies : LieIn (length old.view.opened) (stretches_of s.view) (length (longer old.view.seen its.view.seen)) =
-    subst (λ k. LieIn (length k.0.view.opened) (stretches_of k.0.view) (length k.0.view.seen)) joined looked.2 in
+    let s = both_sights old.0 its in
+    let e = joined_is old m' m its (is_idle old pass.slots pass.known c.requires.idle) c.join_seat.ensures.2 c.load.ensures.2 in
+    let told = joined_tells old m' m its c.join_seat.ensures.2 c.load.ensures.2 in
     record {
       slots = slots_at m s (e ∙ ap (λ b. (s, slots_of b)) (sym c.requires.idle));
-      known = pass_at m s [] e (pass_both old.view pass.known its.view c.args.other.known (longer_covers old.view.seen its.view.seen begins).0 lies);
+      known = pass_at m s [] e (pass_both old.0.view pass.known its.view other.known told.0 told.2);
     }
