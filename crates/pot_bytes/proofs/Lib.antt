@@ -4,3 +4,4 @@ pub mod NameLemmas
 pub mod ProductLemmas
 pub mod SumLemmas
 pub mod TotalLemmas
+pub mod WeightedLemmas

@@ -196,3 +196,25 @@ byte_product-step a b ha hb =
     ap (byte_product a) (sym split) ∙ byte_product-xor_right a (b / 2 * 2) (b % 2)
     ∙ ap₂ bit_xor (shift_over a (b / 2) ha (omega arith)) (by_bit a (b % 2) ha (omega arith))
     ∙ xor_comm (byte_product (byte_product a 2) (b / 2)) (b % 2 * a)
+
+commuting : every 8 (λ i. every 8 (λ j. nat_eq (byte_product (2 ^ i) (2 ^ j)) (byte_product (2 ^ j) (2 ^ i)))) ≡ true
+unfolding every total coefficient polynomial_product remainder byte_product
+commuting = refl
+
+bytes_commute : (a b : ℕ) → a < 2 ^ 8 → b < 2 ^ 8 → byte_product a b ≡ byte_product b a
+bytes_commute a b ha hb =
+    from_basis 8 (λ x. byte_product x b) (byte_product b) (linear_left b) (linear_right b)
+    (λ i hi. from_basis 8 (byte_product (2 ^ i)) (λ y. byte_product y (2 ^ i)) (linear_right (2 ^ i)) (linear_left (2 ^ i))
+    (λ j hj. same _ _ (every_at 8 (λ j. nat_eq (byte_product (2 ^ i) (2 ^ j)) (byte_product (2 ^ j) (2 ^ i))) j
+    (every_at 8 (λ i. every 8 (λ j. nat_eq (byte_product (2 ^ i) (2 ^ j)) (byte_product (2 ^ j) (2 ^ i)))) i commuting hi) hj)) b hb) a ha
+
+pub byte_product-comm : (a b : ℕ) → byte_product a b ≡ byte_product b a
+byte_product-comm a b =
+    byte_product-bytes a b ∙ bytes_commute (a % 256) (b % 256) (byte a) (byte b) ∙ sym (byte_product-bytes b a)
+
+-- a factor goes into a sum
+pub byte_product-total : (n a : ℕ) (f : ℕ → ℕ) → byte_product a (total n f) ≡ total n (λ c. byte_product a (f c))
+unfolding total
+byte_product-total zero a f = byte_product-zero_right a
+byte_product-total (suc n) a f =
+    byte_product-xor_right a (total n f) (f n) ∙ ap (λ z. bit_xor z (byte_product a (f n))) (byte_product-total n a f)

@@ -4,3 +4,4 @@ pub mod Names
 pub mod Product
 pub mod Sums
 pub mod Totals
+pub mod Weighted

@@ -14,16 +14,20 @@ mod digest;
 mod memory;
 mod name;
 mod parts;
+mod numbers;
 mod product;
 mod strings;
+mod weighted;
 
 pub use block::{Block, xor_into};
 pub use digest::{Digest, digest_of};
 pub use memory::NoMemory;
 pub use name::Name;
 pub use parts::digest_of_two;
+pub use numbers::{read_be32, read_be64};
 pub use product::gf_times;
 pub use strings::Bytes;
+pub use weighted::{add_weighted, fold_weighted, stripe_sum};
 
 #[cfg(test)]
 mod tests {

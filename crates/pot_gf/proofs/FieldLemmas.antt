@@ -4,26 +4,11 @@ use Rattle.std.proofs.Common.{◌≡◌, ◌≢◌, ◌⊎◌, inl, inr, ℕ, ze
 use Rattle.pot_bytes.specs.Totals.{total}
 use Rattle.pot_bytes.specs.Product.{coefficient, polynomial_product, remainder, byte_product}
 use Rattle.pot_bytes.proofs.Basis.{every, every_at, same, from_basis}
-use Rattle.pot_bytes.proofs.ProductLemmas.{byte_product-xor_left, byte_product-xor_right, byte_product-bytes, byte_product-below, byte_product-zero_left, byte_product-zero_right, byte_product-one_left, byte_product-one_right, linear_left, linear_right}
+use Rattle.pot_bytes.proofs.ProductLemmas.{byte_product-xor_left, byte_product-xor_right, byte_product-bytes, byte_product-comm, byte_product-below, byte_product-zero_left, byte_product-zero_right, byte_product-one_left, byte_product-one_right, linear_left, linear_right}
 use Rattle.pot_gf.specs.Field.{power, inverse, FieldLaws}
 
 byte : (a : ℕ) → a % 256 < 2 ^ 8
 byte a = omega arith
-
-commuting : every 8 (λ i. every 8 (λ j. nat_eq (byte_product (2 ^ i) (2 ^ j)) (byte_product (2 ^ j) (2 ^ i)))) ≡ true
-unfolding every total coefficient polynomial_product remainder byte_product
-commuting = refl
-
-bytes_commute : (a b : ℕ) → a < 2 ^ 8 → b < 2 ^ 8 → byte_product a b ≡ byte_product b a
-bytes_commute a b ha hb =
-    from_basis 8 (λ x. byte_product x b) (byte_product b) (linear_left b) (linear_right b)
-      (λ i hi. from_basis 8 (byte_product (2 ^ i)) (λ y. byte_product y (2 ^ i)) (linear_right (2 ^ i)) (linear_left (2 ^ i))
-        (λ j hj. same _ _ (every_at 8 (λ j. nat_eq (byte_product (2 ^ i) (2 ^ j)) (byte_product (2 ^ j) (2 ^ i))) j
-          (every_at 8 (λ i. every 8 (λ j. nat_eq (byte_product (2 ^ i) (2 ^ j)) (byte_product (2 ^ j) (2 ^ i)))) i commuting hi) hj)) b hb) a ha
-
-pub byte_product-comm : (a b : ℕ) → byte_product a b ≡ byte_product b a
-byte_product-comm a b =
-    byte_product-bytes a b ∙ bytes_commute (a % 256) (b % 256) (byte a) (byte b) ∙ sym (byte_product-bytes b a)
 
 associating : every 8 (λ i. every 8 (λ j. every 8 (λ k. nat_eq (byte_product (byte_product (2 ^ i) (2 ^ j)) (2 ^ k)) (byte_product (2 ^ i) (byte_product (2 ^ j) (2 ^ k)))))) ≡ true
 unfolding every total coefficient polynomial_product remainder byte_product
