@@ -1,6 +1,6 @@
 -- The laws of the field. Those on two or three elements are computed for single bits, and hold of all by linearity; the
 -- inverses are computed for each of the 255 elements.
-use Rattle.std.proofs.Common.{◌≡◌, ◌≢◌, ◌⊎◌, inl, inr, ℕ, zero, suc, ◌+◌, ◌*◌, ◌%◌, ◌^◌, ◌<◌, bit_xor, true, nat_eq, refl, sym, ap, ap₂, ◌∙◌, arith}
+use Rattle.std.proofs.Common.{◌≡◌, ◌⊎◌, inl, inr, ℕ, zero, suc, ◌+◌, ◌%◌, ◌^◌, ◌<◌, true, nat_eq, refl, sym, ap, ap₂, ◌∙◌, arith}
 use Rattle.pot_bytes.specs.Totals.{total}
 use Rattle.pot_bytes.specs.Product.{coefficient, polynomial_product, remainder, byte_product}
 use Rattle.pot_bytes.proofs.Basis.{every, every_at, same, from_basis}
@@ -17,17 +17,17 @@ associating = refl
 bytes_associate : (a b c : ℕ) → a < 2 ^ 8 → b < 2 ^ 8 → c < 2 ^ 8 → byte_product (byte_product a b) c ≡ byte_product a (byte_product b c)
 bytes_associate a b c ha hb hc =
     from_basis 8 (λ x. byte_product (byte_product x b) c) (λ x. byte_product x (byte_product b c))
-      (record { keeps = λ x y. ap (λ z. byte_product z c) (byte_product-xor_left x y b) ∙ byte_product-xor_left (byte_product x b) (byte_product y b) c })
-      (linear_left (byte_product b c))
-      (λ i hi. from_basis 8 (λ x. byte_product (byte_product (2 ^ i) x) c) (λ x. byte_product (2 ^ i) (byte_product x c))
-        (record { keeps = λ x y. ap (λ z. byte_product z c) (byte_product-xor_right (2 ^ i) x y) ∙ byte_product-xor_left (byte_product (2 ^ i) x) (byte_product (2 ^ i) y) c })
-        (record { keeps = λ x y. ap (byte_product (2 ^ i)) (byte_product-xor_left x y c) ∙ byte_product-xor_right (2 ^ i) (byte_product x c) (byte_product y c) })
-        (λ j hj. from_basis 8 (byte_product (byte_product (2 ^ i) (2 ^ j))) (λ x. byte_product (2 ^ i) (byte_product (2 ^ j) x))
-          (linear_right (byte_product (2 ^ i) (2 ^ j)))
-          (record { keeps = λ x y. ap (byte_product (2 ^ i)) (byte_product-xor_right (2 ^ j) x y) ∙ byte_product-xor_right (2 ^ i) (byte_product (2 ^ j) x) (byte_product (2 ^ j) y) })
-          (λ k hk. same _ _ (every_at 8 (λ k. nat_eq (byte_product (byte_product (2 ^ i) (2 ^ j)) (2 ^ k)) (byte_product (2 ^ i) (byte_product (2 ^ j) (2 ^ k)))) k
-            (every_at 8 (λ j. every 8 (λ k. nat_eq (byte_product (byte_product (2 ^ i) (2 ^ j)) (2 ^ k)) (byte_product (2 ^ i) (byte_product (2 ^ j) (2 ^ k))))) j
-              (every_at 8 (λ i. every 8 (λ j. every 8 (λ k. nat_eq (byte_product (byte_product (2 ^ i) (2 ^ j)) (2 ^ k)) (byte_product (2 ^ i) (byte_product (2 ^ j) (2 ^ k)))))) i associating hi) hj) hk)) c hc) b hb) a ha
+    (record { keeps = λ x y. ap (λ z. byte_product z c) (byte_product-xor_left x y b) ∙ byte_product-xor_left (byte_product x b) (byte_product y b) c })
+    (linear_left (byte_product b c))
+    (λ i hi. from_basis 8 (λ x. byte_product (byte_product (2 ^ i) x) c) (λ x. byte_product (2 ^ i) (byte_product x c))
+    (record { keeps = λ x y. ap (λ z. byte_product z c) (byte_product-xor_right (2 ^ i) x y) ∙ byte_product-xor_left (byte_product (2 ^ i) x) (byte_product (2 ^ i) y) c })
+    (record { keeps = λ x y. ap (byte_product (2 ^ i)) (byte_product-xor_left x y c) ∙ byte_product-xor_right (2 ^ i) (byte_product x c) (byte_product y c) })
+    (λ j hj. from_basis 8 (byte_product (byte_product (2 ^ i) (2 ^ j))) (λ x. byte_product (2 ^ i) (byte_product (2 ^ j) x))
+    (linear_right (byte_product (2 ^ i) (2 ^ j)))
+    (record { keeps = λ x y. ap (byte_product (2 ^ i)) (byte_product-xor_right (2 ^ j) x y) ∙ byte_product-xor_right (2 ^ i) (byte_product (2 ^ j) x) (byte_product (2 ^ j) y) })
+    (λ k hk. same _ _ (every_at 8 (λ k. nat_eq (byte_product (byte_product (2 ^ i) (2 ^ j)) (2 ^ k)) (byte_product (2 ^ i) (byte_product (2 ^ j) (2 ^ k)))) k
+    (every_at 8 (λ j. every 8 (λ k. nat_eq (byte_product (byte_product (2 ^ i) (2 ^ j)) (2 ^ k)) (byte_product (2 ^ i) (byte_product (2 ^ j) (2 ^ k))))) j
+    (every_at 8 (λ i. every 8 (λ j. every 8 (λ k. nat_eq (byte_product (byte_product (2 ^ i) (2 ^ j)) (2 ^ k)) (byte_product (2 ^ i) (byte_product (2 ^ j) (2 ^ k)))))) i associating hi) hj) hk)) c hc) b hb) a ha
 
 -- the lowest eight bits of one operand
 byte_of_right : (a b : ℕ) → byte_product a b ≡ byte_product a (b % 256)
@@ -101,11 +101,12 @@ no_zero_divisors (suc a) b ha hb e = inr (byte_product-cancel (suc a) b (omega a
 
 pub field_laws : FieldLaws
 field_laws = record {
-    is_byte = byte_product-below;
-    commutes = byte_product-comm;
-    associates = byte_product-assoc;
-    distributes = byte_product-xor_right;
-    one = byte_product-one_left;
-    zero_times = byte_product-zero_left;
-    has_inverse = byte_product-inverse;
-    no_zero_divisors = no_zero_divisors }
+  is_byte = byte_product-below;
+  commutes = byte_product-comm;
+  associates = byte_product-assoc;
+  distributes = byte_product-xor_right;
+  one = byte_product-one_left;
+  zero_times = byte_product-zero_left;
+  has_inverse = byte_product-inverse;
+  no_zero_divisors = no_zero_divisors;
+}

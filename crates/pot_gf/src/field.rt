@@ -30,5 +30,4 @@ pub fn inv(a: u8) -> u8
 /// The sum and the product are those of a field.
 pub fn field_laws()
     ensures { FieldLaws }
-{
-}
+{}

@@ -2,5 +2,7 @@
 #![tactic(auto)]
 
 mod field;
+mod polynomial;
 
 pub use field::{field_laws, inv, mul};
+pub use polynomial::{Poly, polynomial_laws};
