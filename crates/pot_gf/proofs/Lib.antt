@@ -1,5 +1,6 @@
 pub mod Built
 pub mod FieldLemmas
+pub mod LagrangeLemmas
 pub mod Polys
 pub mod Values
 pub mod Zeros

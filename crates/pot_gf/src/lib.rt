@@ -2,7 +2,9 @@
 #![tactic(auto)]
 
 mod field;
+mod lagrange;
 mod polynomial;
 
 pub use field::{field_laws, inv, mul};
+pub use lagrange::weight_at_zero;
 pub use polynomial::{Poly, polynomial_laws};

@@ -5,8 +5,10 @@
 #![tactic(auto)]
 
 mod secrecy;
+mod threshold;
 
 pub use secrecy::{secrecy_join, secrecy_laws, secrecy_split};
+pub use threshold::share_out;
 
 #[cfg(test)]
 mod tests {
