@@ -3,4 +3,5 @@ pub mod FieldLemmas
 pub mod LagrangeLemmas
 pub mod Polys
 pub mod Values
+pub mod Vanishing
 pub mod Zeros

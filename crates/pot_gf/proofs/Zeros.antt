@@ -8,7 +8,7 @@ use Rattle.std.proofs.lemmas.Map.Keys.{IsDistinct-head, IsDistinct-tail}
 use Rattle.pot_bytes.specs.Product.{byte_product}
 use Rattle.pot_bytes.proofs.TotalLemmas.{interchange, from_zero}
 use Rattle.pot_bytes.proofs.ProductLemmas.{byte_product-xor_left, byte_product-xor_right, byte_product-zero_right, byte_product-one_right}
-use Rattle.pot_gf.specs.Polynomials.{value, IsBelowDegree, AreBytes, VanishesAt, PassesThrough, IsSame, PolynomialLaws}
+use Rattle.pot_gf.specs.Polynomials.{value, IsBelowDegree, AreBytes, VanishesAt, PassesThrough, IsSame}
 use Rattle.pot_gf.proofs.FieldLemmas.{byte_product-cancel}
 use Rattle.pot_gf.proofs.Values.{byte_product-swap, value-nil, value-cons, value-below, value-zero, added, get_or-added, value-added}
 
@@ -120,6 +120,3 @@ unique_law points values p q bp b c d hp hq zp zq t =
     ∙ zero_law points (added p q) bp (λ k. rw get_or-added (xor_of_8 (get_or p k 0) (get_or q k 0) (b k) (c k))) d
     (λ k l. get_or-added p q k ∙ ap₂ bit_xor (hp k l) (hq k l) ∙ xor_self 0)
     (λ i l. value-added p q (get_or points i 0) ∙ ap₂ bit_xor (zp i l) (zq i l) ∙ xor_self (get_or values i 0)) t)
-
-pub polynomial_laws : PolynomialLaws
-polynomial_laws = record { zero = zero_law; unique = unique_law }

@@ -1,9 +1,11 @@
 -- Polynomials over the field, each the list of its coefficients, that of x^t at place t.
-use Rattle.std.specs.Prelude.{◌≡◌, ℕ, ◌+◌, ◌<◌, ◌≤◌, List, length, slice_index, nat_eq, bit_xor}
+use Rattle.std.specs.Prelude.{◌≡◌, ℕ, ◌+◌, ◌<◌, ◌≤◌, List, [], ◌∷◌, ◌++◌, length, slice_index, nat_eq, bit_xor}
 use Rattle.std.specs.List.{IsDistinct}
 use Rattle.pot_bytes.specs.Product.{byte_product}
 use Rattle.pot_bytes.specs.Totals.{total}
-use Rattle.pot_gf.specs.Field.{power}
+use Rattle.pot_bytes.specs.Sums.{xor}
+use Rattle.pot_bytes.specs.Weighted.{scaled}
+use Rattle.pot_gf.specs.Field.{power, inverse}
 
 -- the value at x: the sum of all c_t x^t
 unfoldable pub value : List ℕ → ℕ → ℕ
@@ -12,6 +14,10 @@ value p x = total (length p) (λ t. byte_product (slice_index p t) (power x t))
 -- each coefficient of x^n and above is 0
 abbrev pub IsBelowDegree : ℕ → List ℕ → Type 0
 IsBelowDegree n p = (t : ℕ) → n ≤ t → slice_index p t ≡ 0
+
+-- p + factor x p
+abbrev pub plus_raised : ℕ → List ℕ → List ℕ
+plus_raised factor p = xor (p ++ 0 ∷ []) (0 ∷ scaled factor p)
 
 -- each element is a byte
 abbrev pub AreBytes : List ℕ → Type 0
@@ -50,6 +56,11 @@ pub record Meets (point wanted : ℕ) (node old new : List ℕ) : Type 0 where
   pub elsewhere : (x : ℕ) → value node x ≡ 0 → value new x ≡ value old x
   pub degree : (n : ℕ) → IsBelowDegree n old → IsBelowDegree n node → IsBelowDegree n new
 
+-- The polynomial that is 1 at 0 and 0 at the points, none of which is 0: the product of all 1 + x / a.
+abbrev pub vanishing : List ℕ → List ℕ
+vanishing [] = 1 ∷ []
+vanishing (a ∷ points) = plus_raised (inverse a) (vanishing points)
+
 -- What holds of polynomials over a field.
 pub record PolynomialLaws : Type 0 where
   -- a polynomial of degree below m with m distinct zeros is zero
@@ -59,3 +70,6 @@ pub record PolynomialLaws : Type 0 where
   pub unique : (points values p q : List ℕ) → AreBytes points → AreBytes p → AreBytes q → IsDistinct nat_eq points
       → IsBelowDegree (length points) p → IsBelowDegree (length points) q
       → PassesThrough points values p → PassesThrough points values q → IsSame p q
+  -- and there is one that is 1 at 0 and 0 at the points, of degree at most their number
+  pub vanishes : (points : List ℕ) → AreBytes points → ((i : ℕ) → i < length points → 0 < slice_index points i)
+    → (slice_index (vanishing points) 0 ≡ 1) × VanishesAt points (vanishing points) × IsBelowDegree (length points + 1) (vanishing points)

@@ -1,4 +1,4 @@
-use Rattle.pot_gf.proofs.Zeros.{polynomial_laws}
+use Rattle.pot_gf.proofs.Vanishing.{polynomial_laws}
 use Rattle.pot_gf.proofs.polynomial.polynomial_laws.Goals as goal
 
 pub returns : goal.returns
