@@ -1,7 +1,7 @@
 -- Rows that are added one after another, each times its weight.
-use Rattle.std.proofs.Common.{◌≡◌, ◌<◌, ◌≤◌, ◌+◌, ◌*◌, ◌-◌, ◌/◌, ◌++◌, ℕ, zero, suc, List, [], ◌∷◌, length, take, drop, get_or, refl, ap, ap₂, sym, ◌∙◌, subst, arith, rules, length-append, length-drop, replicate, drop-cons}
+use Rattle.std.proofs.Common.{◌≡◌, ◌<◌, ◌≤◌, ◌+◌, ◌*◌, ◌-◌, ℕ, suc, List, ◌∷◌, length, take, drop, get_or, refl, ap, ap₂, sym, ◌∙◌, subst, arith, length-drop, replicate, drop-cons}
 use Rattle.std.proofs.Math.ListN.{drop_of_length-le}
-use Rattle.std.proofs.lemmas.List.{length-take-le, length-replicate, length-map}
+use Rattle.std.proofs.lemmas.List.{length-take-le, length-map}
 use Rattle.pot_bytes.specs.Product.{byte_product}
 use Rattle.pot_bytes.specs.Sums.{xor}
 use Rattle.pot_bytes.specs.Weighted.{scaled, weighted_sum}
@@ -13,7 +13,7 @@ pub record IsAdding (size done : ℕ) (weights start rows into rest : List ℕ) 
   pub wide : length into ≡ size
   pub left : length rest ≡ (length weights - done) * size
   pub sum : xor into (weighted_sum size (drop done weights) (rows_of (length weights - done) size rest))
-    ≡ xor start (weighted_sum size weights (rows_of (length weights) size rows))
+      ≡ xor start (weighted_sum size weights (rows_of (length weights) size rows))
 
 pub adding_begins : (size : ℕ) (weights start rows : List ℕ) → length start ≡ size → length rows ≡ length weights * size
     → IsAdding size 0 weights start rows start rows

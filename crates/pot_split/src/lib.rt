@@ -8,7 +8,7 @@ mod secrecy;
 mod threshold;
 
 pub use secrecy::{secrecy_join, secrecy_laws, secrecy_split};
-pub use threshold::share_out;
+pub use threshold::{share_join, share_out, threshold_laws};
 
 #[cfg(test)]
 mod tests {

@@ -1,4 +1,4 @@
-use Rattle.std.proofs.Common.{arith, rules, refl, subst, ◌∙◌, sym}
+use Rattle.std.proofs.Common.{refl}
 use Rattle.pot_split.proofs.WeightedRows.{adding_begins, adding_fits, adding_goes_on, adding_ends}
 use Rattle.pot_split.proofs.threshold.add_weighted_rows.Goals as goal
 
