@@ -25,8 +25,8 @@ value-plus_raised : (factor : ℕ) (p : List ℕ) (x : ℕ) → value (plus_rais
 value-plus_raised factor p x =
     value-xor (p ++ 0 ∷ []) (0 ∷ scaled factor p) x (length-append p (0 ∷ []) ∙ (let e : length p + 1 ≡ suc (length p) = omega arith in e) ∙ ap suc (sym (length-map p (byte_product factor))))
     ∙ ap₂ bit_xor (value-same (p ++ 0 ∷ []) p x (behind p) ∙ sym (byte_product-one_left (value p x) (value-below p x)))
-      (value-cons 0 (scaled factor p) x ∙ ap₂ bit_xor (byte_product-zero_left 1) (ap (byte_product x) (value-scaled factor p x))
-      ∙ byte_product-swap x factor (value p x) ∙ sym (byte_product-assoc factor x (value p x)))
+    (value-cons 0 (scaled factor p) x ∙ ap₂ bit_xor (byte_product-zero_left 1) (ap (byte_product x) (value-scaled factor p x))
+    ∙ byte_product-swap x factor (value p x) ∙ sym (byte_product-assoc factor x (value p x)))
     ∙ sym (byte_product-xor_left 1 (byte_product factor x) (value p x))
 
 -- both summands are one longer than the polynomial
@@ -63,6 +63,7 @@ vanishing-zeros (a ∷ points) b h (suc i) lt =
 
 pub polynomial_laws : PolynomialLaws
 polynomial_laws = record {
-    zero = zero_law;
-    unique = unique_law;
-    vanishes = λ points b h. (vanishing-first points, vanishing-zeros points b h, vanishing-degree points) }
+  zero = zero_law;
+  unique = unique_law;
+  vanishes = λ points b h. (vanishing-first points, vanishing-zeros points b h, vanishing-degree points);
+}

@@ -72,4 +72,4 @@ pub record PolynomialLaws : Type 0 where
       → PassesThrough points values p → PassesThrough points values q → IsSame p q
   -- and there is one that is 1 at 0 and 0 at the points, of degree at most their number
   pub vanishes : (points : List ℕ) → AreBytes points → ((i : ℕ) → i < length points → 0 < slice_index points i)
-    → (slice_index (vanishing points) 0 ≡ 1) × VanishesAt points (vanishing points) × IsBelowDegree (length points + 1) (vanishing points)
+      → (slice_index (vanishing points) 0 ≡ 1) × VanishesAt points (vanishing points) × IsBelowDegree (length points + 1) (vanishing points)

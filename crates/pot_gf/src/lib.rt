@@ -8,3 +8,6 @@ mod polynomial;
 pub use field::{field_laws, inv, mul};
 pub use lagrange::weight_at_zero;
 pub use polynomial::{Poly, polynomial_laws};
+
+#[cfg(test)]
+mod tests;
