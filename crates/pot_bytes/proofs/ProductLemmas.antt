@@ -1,13 +1,15 @@
 -- The product is linear in each operand, and what holds of single bits so holds of all bytes.
-use Rattle.std.proofs.Common.{nat_lt, ◌≡◌, ℕ, zero, suc, ◌+◌, ◌*◌, ◌/◌, ◌%◌, ◌^◌, ◌<◌, bit_xor, true, nat_eq, refl, sym, ap, ap₂, ◌∙◌, arith, lit<}
+use Rattle.std.proofs.Common.{Bool, false, nat_lt, ◌≡◌, ℕ, zero, suc, ◌+◌, ◌*◌, ◌/◌, ◌%◌, ◌^◌, ◌<◌, bit_xor, true, nat_eq, refl, sym, ap, ap₂, ◌∙◌, arith, lit<}
 use native.Mathlib.Nat.{zero-mul, one-mul}
-use Rattle.std.specs.Int.Bits.{xor_self, xor_zero_r, xor_zero_l}
+use Rattle.std.specs.Int.Bits.{xor_assoc, xor_self, xor_zero_r, xor_zero_l}
 use Rattle.std.proofs.lemmas.Nat.{xor_comm, xor_shr, xor_mod, xor_block}
+use Rattle.std.proofs.lemmas.Bool.Decides.{nat_tests}
 use lib.Bits.{xor_shifted}
 use Rattle.pot_bytes.proofs.Basis.{every, every_at, same, less, IsLinear, linear_zero, from_basis, below_from_basis}
+use Rattle.std.specs.Prelude.{if◌then◌else◌}
 use Rattle.pot_bytes.specs.Totals.{total}
-use Rattle.pot_bytes.specs.Product.{coefficient, polynomial_product, modulus, remainder, byte_product}
-use Rattle.pot_bytes.proofs.TotalLemmas.{interchange, total_same, total_xor}
+use Rattle.pot_bytes.specs.Product.{coefficient, polynomial_product, modulus, remainder, byte_product, ProductLaws}
+use Rattle.pot_bytes.proofs.TotalLemmas.{xor_cancel, interchange, total_same, total_xor}
 
 coefficient-below : (a i : ℕ) → coefficient a i < 2
 unfolding coefficient
@@ -218,3 +220,63 @@ unfolding total
 byte_product-total zero a f = byte_product-zero_right a
 byte_product-total (suc n) a f =
     byte_product-xor_right a (total n f) (f n) ∙ ap (λ z. bit_xor z (byte_product a (f n))) (byte_product-total n a f)
+
+-- the coefficients of a quotient, with its top one
+with_top : ℕ → ℕ → (ℕ → ℕ) → ℕ → ℕ
+with_top n top q i = if nat_eq i n then top else q i
+
+chosen : (b : Bool) (x y : ℕ) → x < 2 → y < 2 → (if b then x else y) < 2
+chosen true x y hx hy = hx
+chosen false x y hx hy = hy
+
+with_top-below : (n top : ℕ) (q : ℕ → ℕ) → top < 2 → ((i : ℕ) → q i < 2) → (i : ℕ) → with_top n top q i < 2
+unfolding with_top
+with_top-below n top q h k i = chosen (nat_eq i n) top (q i) h (k i)
+
+with_top-same : (n top : ℕ) (q : ℕ → ℕ) → with_top n top q n ≡ top
+unfolding with_top
+with_top-same n top q = ap (λ (b : Bool). if b then top else q n) (equal n)
+  where
+    equal : (n : ℕ) → nat_eq n n ≡ true
+    equal n = grind (arith, nat_tests)
+
+with_top-other : (n top : ℕ) (q : ℕ → ℕ) (i : ℕ) → i < n → with_top n top q i ≡ q i
+unfolding with_top
+with_top-other n top q i lt = ap (λ (b : Bool). if b then top else q i) (unequal i n lt)
+  where
+    unequal : (i n : ℕ) → i < n → nat_eq i n ≡ false
+    unequal i n lt = grind (arith, nat_tests)
+
+-- what division takes away is a sum of multiples of the modulus
+divided : (n p : ℕ) → (q : ℕ → ℕ) × ((i : ℕ) → q i < 2) × (p ≡ bit_xor (total n (λ i. q i * (modulus * 2 ^ i))) (remainder n p))
+unfolding remainder total
+divided zero p = ((λ i. 0), (λ i. lit< tt), sym (xor_zero_l p))
+divided (suc n) p =
+    let top : ℕ = coefficient p (8 + n) in
+    let rest = divided n (bit_xor p (top * (modulus * 2 ^ n))) in (
+      with_top n top rest.0,
+      with_top-below n top rest.0 (coefficient-below p (8 + n)) rest.1,
+      sym (xor_cancel p (top * (modulus * 2 ^ n)))
+          ∙ ap (λ z. bit_xor z (top * (modulus * 2 ^ n))) rest.2
+          ∙ xor_assoc (total n (λ i. rest.0 i * (modulus * 2 ^ i))) (remainder n (bit_xor p (top * (modulus * 2 ^ n)))) (top * (modulus * 2 ^ n))
+          ∙ ap (bit_xor (total n (λ i. rest.0 i * (modulus * 2 ^ i)))) (xor_comm (remainder n (bit_xor p (top * (modulus * 2 ^ n)))) (top * (modulus * 2 ^ n)))
+          ∙ sym (xor_assoc (total n (λ i. rest.0 i * (modulus * 2 ^ i))) (top * (modulus * 2 ^ n)) (remainder n (bit_xor p (top * (modulus * 2 ^ n)))))
+          ∙ ap (λ z. bit_xor z (remainder n (bit_xor p (top * (modulus * 2 ^ n)))))
+          (ap₂ bit_xor (total_same n _ _ (λ i lt. ap (λ z. z * (modulus * 2 ^ i)) (sym (with_top-other n top rest.0 i lt))))
+          (ap (λ z. z * (modulus * 2 ^ n)) (sym (with_top-same n top rest.0)))),
+    )
+
+is_remainder : (a b : ℕ) → (q : ℕ → ℕ) × ((i : ℕ) → q i < 2)
+    × (polynomial_product a b ≡ bit_xor (total 7 (λ i. q i * (modulus * 2 ^ i))) (byte_product a b))
+unfolding byte_product
+is_remainder a b = divided 7 (polynomial_product a b)
+
+pub product_laws : ProductLaws
+product_laws = record {
+  is_byte = byte_product-below;
+  is_remainder = is_remainder;
+  commutes = byte_product-comm;
+  linear = byte_product-xor_right;
+  zero = byte_product-zero_right;
+  one = byte_product-one_right;
+}

@@ -4,7 +4,7 @@ use Rattle.std.proofs.lemmas.List.{length-map, length-replicate}
 use Rattle.std.specs.Simd.Lanes.{zip2}
 use Rattle.pot_bytes.specs.Sums.{xor, sum_of}
 use Rattle.pot_bytes.specs.Product.{byte_product}
-use Rattle.pot_bytes.specs.Weighted.{scaled, weighted_sum}
+use Rattle.pot_bytes.specs.Weighted.{scaled, weighted_sum, WeightedLaws}
 use Rattle.pot_bytes.proofs.ProductLemmas.{byte_product-xor_left, byte_product-xor_right, byte_product-zero_left, byte_product-zero_right, byte_product-one_left}
 use Rattle.pot_bytes.proofs.SumLemmas.{xor_comm, xor_assoc, xor_again, xor_replicate, length-xor_le}
 
@@ -35,6 +35,14 @@ pub get_or-scaled : (w : ℕ) (a : List ℕ) (k : ℕ) → get_or (scaled w a) k
 get_or-scaled w [] k = sym (byte_product-zero_right w)
 get_or-scaled w (x ∷ a) zero = refl
 get_or-scaled w (x ∷ a) (suc k) = get_or-scaled w a k
+
+-- each place of an XOR
+pub get_or-xor : (p q : List ℕ) (t : ℕ) → length p ≡ length q → get_or (xor p q) t 0 ≡ bit_xor (get_or p t 0) (get_or q t 0)
+get_or-xor [] [] t e = refl
+get_or-xor [] (d ∷ q) t e = absurd (omega arith)
+get_or-xor (c ∷ p) [] t e = absurd (omega arith)
+get_or-xor (c ∷ p) (d ∷ q) zero e = refl
+get_or-xor (c ∷ p) (d ∷ q) (suc t) e = get_or-xor p q t (omega arith)
 
 pub length-sum_of : (n : ℕ) (bs : List (List ℕ)) → length (sum_of n bs) ≤ n
 length-sum_of n [] = omega (arith, length-replicate {A = ℕ} n 0)
@@ -86,3 +94,14 @@ weighted_sum-changed n (v ∷ vs) w ws [] after old new e h = absurd (omega arit
 weighted_sum-changed n (v ∷ vs) w ws (b ∷ before) after old new e h =
     ap (λ z. xor (scaled v b) z) (weighted_sum-changed n vs w ws before after old new (omega arith) h)
     ∙ sym (xor_assoc (scaled v b) (weighted_sum n (vs ++ w ∷ ws) (before ++ old ∷ after)) (scaled w (xor old new)))
+
+pub weighted_laws : WeightedLaws
+weighted_laws = record {
+  weights = scaled-xor_weight;
+  lists = scaled-xor;
+  zero = scaled-zero;
+  one = scaled-one;
+  sum_weights = weighted_sum-xor_weights;
+  sum_lists = weighted_sum-xor_lists;
+  changed = weighted_sum-changed;
+}

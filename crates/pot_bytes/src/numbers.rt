@@ -18,3 +18,16 @@ pub fn read_be64(bytes: &[u8], at: usize) -> u64
 {
     BigEndian::read_u64(&bytes[at..])
 }
+
+#[cfg(test)]
+mod tests {
+    use super::*;
+
+    #[test]
+    fn numbers_in_bytes(rt: HostRuntime) {
+        let bytes = [0xff, 0x01, 0x02, 0x03, 0x04, 0x05, 0x06, 0x07, 0x08];
+        assert_eq!(rt; read_be32(&bytes, 1), 0x0102_0304);
+        assert_eq!(rt; read_be64(&bytes, 1), 0x0102_0304_0506_0708);
+        assert_eq!(rt; read_be32(&bytes, 0), 0xff01_0203);
+    }
+}

@@ -1,5 +1,5 @@
 ghost use Rattle.std.specs.Prelude.{◌≡◌, ◌*◌, ◌<◌};
-ghost use Rattle.pot_bytes.specs.Product.{byte_product};
+ghost use Rattle.pot_bytes.specs.Product.{ProductLaws, byte_product};
 
 // The byte where the bit is 1, and else 0, without a branch.
 #[inline(always)]
@@ -34,3 +34,8 @@ pub fn gf_times(a: u8, b: u8) -> u8
     }
     product
 }
+
+/// The product is that of polynomials modulo z^8 + z^4 + z^3 + z + 1, and is linear.
+pub fn product_laws()
+    ensures { ProductLaws }
+{}

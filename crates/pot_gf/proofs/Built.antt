@@ -12,7 +12,7 @@ use Rattle.pot_gf.proofs.FieldLemmas.{byte_product-cancel}
 use Rattle.pot_gf.proofs.Values.{value-cons, value-zero, value-below}
 use Rattle.pot_gf.proofs.Zeros.{apart}
 
-zeros-below : (n t : ℕ) → get_or {A = ℕ} (replicate n 0) t 0 ≡ 0
+pub zeros-below : (n t : ℕ) → get_or {A = ℕ} (replicate n 0) t 0 ≡ 0
 zeros-below zero t = refl
 zeros-below (suc n) zero = refl
 zeros-below (suc n) (suc t) = zeros-below n t

@@ -7,7 +7,7 @@ use Rattle.pot_bytes.specs.Sums.{xor}
 use Rattle.pot_bytes.specs.Weighted.{scaled}
 use Rattle.pot_bytes.proofs.SumLemmas.{length-xor}
 use Rattle.pot_bytes.proofs.ProductLemmas.{byte_product-below}
-use Rattle.pot_bytes.proofs.WeightedLemmas.{get_or-scaled}
+use Rattle.pot_bytes.proofs.WeightedLemmas.{get_or-scaled, get_or-xor}
 use Rattle.std.specs.Int.Bits.{xor_zero_l, xor_zero_r, xor_self}
 use Rattle.std.proofs.lemmas.Nat.{xor_comm}
 use Rattle.pot_bytes.proofs.TotalLemmas.{xor_cancel_left}
@@ -16,13 +16,6 @@ use Rattle.pot_bytes.proofs.ProductLemmas.{byte_product-xor_left, byte_product-c
 use Rattle.pot_gf.specs.Polynomials.{value, IsPoly, AreBytes, IsBelowDegree, IsSame, IsTimesLine, Meets}
 use Rattle.pot_gf.proofs.FieldLemmas.{byte_product-assoc}
 use Rattle.pot_gf.proofs.Values.{value-cons, value-same, value-xor, value-scaled, get_or-end}
-
-pub get_or-xor : (p q : List ℕ) (t : ℕ) → length p ≡ length q → get_or (xor p q) t 0 ≡ bit_xor (get_or p t 0) (get_or q t 0)
-get_or-xor [] [] t e = refl
-get_or-xor [] (d ∷ q) t e = absurd (omega arith)
-get_or-xor (c ∷ p) [] t e = absurd (omega arith)
-get_or-xor (c ∷ p) (d ∷ q) zero e = refl
-get_or-xor (c ∷ p) (d ∷ q) (suc t) e = get_or-xor p q t (omega arith)
 
 pub IsPoly-added : (factor : ℕ) (p q : List ℕ) → IsPoly p → IsPoly q → IsPoly (xor p (scaled factor q))
 IsPoly-added factor p q hp hq =
@@ -33,7 +26,7 @@ IsPoly-added factor p q hp hq =
       bytes = λ k. rw (get_or-xor p (scaled factor q) k same, get_or-scaled factor q k) (xor_of_8 (get_or p k 0) (byte_product factor (get_or q k 0)) (hp.bytes k) (byte_product-below factor (get_or q k 0)));
     }
 
-get_or-take : (n t : ℕ) (p : List ℕ) → t < n → get_or (take n p) t 0 ≡ get_or p t 0
+pub get_or-take : (n t : ℕ) (p : List ℕ) → t < n → get_or (take n p) t 0 ≡ get_or p t 0
 get_or-take zero t p h = absurd (omega arith)
 get_or-take (suc n) t [] h = refl
 get_or-take (suc n) zero (c ∷ p) h = refl

@@ -1,17 +1,15 @@
 -- The polynomial that is 1 at 0 and 0 at the points.
-use Rattle.std.proofs.Common.{◌≡◌, ℕ, zero, suc, ◌+◌, ◌^◌, ◌<◌, ◌≤◌, bit_xor, List, [], ◌∷◌, ◌++◌, length, get_or, refl, sym, ap, ap₂, ◌∙◌, arith, lit<, length-append}
-use Rattle.std.specs.Int.Bits.{xor_self, xor_zero_r}
+use Rattle.std.proofs.Common.{◌≡◌, ℕ, zero, suc, ◌+◌, ◌<◌, bit_xor, List, [], ◌∷◌, ◌++◌, length, get_or, refl, sym, ap, ap₂, ◌∙◌, arith, length-append}
 use Rattle.std.proofs.lemmas.List.{length-map}
 use Rattle.pot_bytes.specs.Product.{byte_product}
-use Rattle.pot_bytes.specs.Sums.{xor}
 use Rattle.pot_bytes.specs.Weighted.{scaled}
 use Rattle.pot_bytes.proofs.SumLemmas.{length-xor}
-use Rattle.pot_bytes.proofs.ProductLemmas.{byte_product-xor_left, byte_product-zero_left, byte_product-zero_right, byte_product-one_left, byte_product-one_right, byte_product-comm}
+use Rattle.pot_bytes.proofs.ProductLemmas.{byte_product-xor_left, byte_product-zero_left, byte_product-zero_right, byte_product-one_left, byte_product-comm}
+use Rattle.pot_bytes.proofs.WeightedLemmas.{get_or-xor}
 use Rattle.pot_gf.specs.Field.{inverse}
 use Rattle.pot_gf.specs.Polynomials.{value, AreBytes, IsBelowDegree, VanishesAt, IsSame, plus_raised, vanishing, PolynomialLaws}
 use Rattle.pot_gf.proofs.FieldLemmas.{byte_product-assoc, byte_product-inverse}
-use Rattle.pot_gf.proofs.Values.{byte_product-swap, value-nil, value-cons, value-xor, value-scaled, value-below, value-same, get_or-end}
-use Rattle.pot_gf.proofs.Polys.{get_or-xor}
+use Rattle.pot_gf.proofs.Values.{byte_product-swap, value-cons, value-xor, value-scaled, value-below, value-same, get_or-end}
 use Rattle.pot_gf.proofs.Zeros.{zero_law, unique_law}
 
 -- a zero behind the coefficients changes nothing

@@ -10,13 +10,14 @@ use Rattle.pot_bytes.specs.Weighted.{scaled, weighted_sum}
 use Rattle.pot_bytes.proofs.TotalLemmas.{total_first, total_same}
 use Rattle.pot_bytes.proofs.ProductLemmas.{byte_product-xor_right, byte_product-zero_right, byte_product-one_left, byte_product-one_right, byte_product-below}
 use Rattle.pot_bytes.proofs.SumLemmas.{length-xor, xor_replicate}
-use Rattle.pot_bytes.proofs.WeightedLemmas.{get_or-scaled}
+use Rattle.pot_bytes.proofs.WeightedLemmas.{get_or-scaled, get_or-xor}
 use Rattle.pot_gf.specs.Field.{power}
 use Rattle.pot_gf.specs.Lagrange.{lagrange_weight}
 use Rattle.pot_gf.specs.Polynomials.{value, AreBytes, PassesThrough}
 use Rattle.pot_gf.proofs.FieldLemmas.{byte_product-assoc}
 use Rattle.pot_gf.proofs.Values.{byte_product-swap, value-nil, value-cons, value-below}
-use Rattle.pot_gf.proofs.Polys.{get_or-xor}
+use Rattle.pot_gf.proofs.Built.{zeros-below}
+use Rattle.pot_gf.proofs.Polys.{get_or-take}
 use Rattle.pot_gf.proofs.LagrangeLemmas.{value-lagrange}
 use Rattle.pot_split.specs.Secrecy.{rows_of, IsRows}
 use Rattle.pot_split.specs.Threshold.{column, polynomial_at, share, IsJoin}
@@ -33,17 +34,6 @@ fits size n bytes e = grind arith
 rest : (size n : ℕ) (bytes : List ℕ) → length bytes ≡ suc n * size → length (drop size bytes) ≡ n * size
 rest size n bytes e = grind (arith, length-drop)
 
-get_or-take : (n t : ℕ) (p : List ℕ) → t < n → get_or (take n p) t 0 ≡ get_or p t 0
-get_or-take zero t p h = absurd (omega arith)
-get_or-take (suc n) t [] h = refl
-get_or-take (suc n) zero (c ∷ p) h = refl
-get_or-take (suc n) (suc t) (c ∷ p) h = get_or-take n t p (omega arith)
-
-zeros : (n t : ℕ) → get_or {A = ℕ} (replicate n 0) t 0 ≡ 0
-zeros zero t = refl
-zeros (suc n) zero = refl
-zeros (suc n) (suc t) = zeros n t
-
 pub length-weighted_rows : (size n : ℕ) (ws bytes : List ℕ) → length bytes ≡ n * size → length (weighted_sum size ws (rows_of n size bytes)) ≡ size
 length-weighted_rows size n [] bytes e = length-replicate {A = ℕ} size 0
 length-weighted_rows size zero (w ∷ ws) bytes e = length-replicate {A = ℕ} size 0
@@ -56,8 +46,8 @@ length-weighted_rows size (suc n) (w ∷ ws) bytes e =
 get_or-weighted_rows : (size n k : ℕ) (ws bytes : List ℕ) → length bytes ≡ n * size
     → get_or (weighted_sum size ws (rows_of n size bytes)) k 0 ≡ dot ws (column k (rows_of n size bytes))
 unfolding dot
-get_or-weighted_rows size n k [] bytes e = zeros size k
-get_or-weighted_rows size zero k (w ∷ ws) bytes e = zeros size k
+get_or-weighted_rows size n k [] bytes e = zeros-below size k
+get_or-weighted_rows size zero k (w ∷ ws) bytes e = zeros-below size k
 get_or-weighted_rows size (suc n) k (w ∷ ws) bytes e =
     let row : length (scaled w (take size bytes)) ≡ size = length-map (take size bytes) (byte_product w) ∙ length-take-le size bytes (fits size n bytes e) in
     get_or-xor (scaled w (take size bytes)) (weighted_sum size ws (rows_of n size (drop size bytes))) k

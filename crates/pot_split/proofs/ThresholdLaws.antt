@@ -12,10 +12,9 @@ use Rattle.pot_bytes.specs.Weighted.{scaled}
 use Rattle.pot_bytes.proofs.TotalLemmas.{xor_cancel_left}
 use Rattle.pot_bytes.proofs.ProductLemmas.{byte_product-zero_right, byte_product-one_right, byte_product-comm}
 use Rattle.pot_bytes.proofs.SumLemmas.{length-xor}
-use Rattle.pot_bytes.proofs.WeightedLemmas.{get_or-scaled}
+use Rattle.pot_bytes.proofs.WeightedLemmas.{get_or-scaled, get_or-xor}
 use Rattle.pot_gf.specs.Polynomials.{value, AreBytes, IsBelowDegree, vanishing}
 use Rattle.pot_gf.proofs.Values.{added, get_or-added, value-added, value-scaled, value-same, value-at_zero, get_or-end}
-use Rattle.pot_gf.proofs.Polys.{get_or-xor}
 use Rattle.pot_gf.proofs.Vanishing.{vanishing-first, vanishing-degree, vanishing-zeros}
 use Rattle.pot_split.specs.Secrecy.{rows_of, IsRows}
 use Rattle.pot_split.specs.Threshold.{column, polynomial_at, share, shares_at, IsJoin, changed_rows, explaining, ArePoints, ThresholdLaws}
