@@ -1,3 +1,7 @@
 pub mod DigestLemmas
+pub mod Basis
 pub mod NameLemmas
+pub mod ProductLemmas
 pub mod SumLemmas
+pub mod TotalLemmas
+pub mod WeightedLemmas

@@ -6,7 +6,7 @@ use std::marker::Model;
 /// What an archive holds in one slot: 1,024 bytes. Contracts see the list of its bytes.
 #[derive(Clone, Copy)]
 pub struct Block {
-    bytes: [u8; 1024],
+    pub(crate) bytes: [u8; 1024],
 }
 
 impl Model for Block {

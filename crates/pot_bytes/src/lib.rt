@@ -13,15 +13,21 @@ mod block;
 mod digest;
 mod memory;
 mod name;
+mod numbers;
 mod parts;
+mod product;
 mod strings;
+mod weighted;
 
 pub use block::{Block, xor_into};
 pub use digest::{Digest, digest_of};
 pub use memory::NoMemory;
 pub use name::Name;
+pub use numbers::{read_be32, read_be64};
 pub use parts::digest_of_two;
+pub use product::{gf_times, product_laws};
 pub use strings::Bytes;
+pub use weighted::{add_weighted, fold_weighted, stripe_sum, weighted_laws};
 
 #[cfg(test)]
 mod tests {

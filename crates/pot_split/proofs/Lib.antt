@@ -1,1 +1,4 @@
 pub mod RowLemmas
+pub mod ShareLemmas
+pub mod ThresholdLaws
+pub mod WeightedRows

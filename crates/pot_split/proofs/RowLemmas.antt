@@ -1,9 +1,9 @@
 -- Rows that are XORed one after another.
-use Rattle.std.proofs.Common.{◌≡◌, ◌<◌, ◌≤◌, ◌+◌, ◌*◌, ◌-◌, ◌/◌, ◌++◌, ℕ, zero, suc, List, [], ◌∷◌, length, take, drop, refl, ap, sym, ◌∙◌, subst, arith, rules, length-append, length-drop, replicate}
+use Rattle.std.proofs.Common.{◌≡◌, ◌<◌, ◌≤◌, ◌+◌, ◌*◌, ◌-◌, ◌/◌, ◌++◌, ℕ, zero, suc, List, [], ◌∷◌, length, take, drop, refl, ap, sym, ◌∙◌, subst, arith, length-append, length-drop, replicate}
 use Rattle.std.proofs.lemmas.List.{length-take-le, length-replicate, take_all, take-append-le, drop-append-le}
 use Rattle.std.proofs.Math.Nat.{mul-div_cancel}
 use Rattle.pot_bytes.specs.Sums.{xor, sum_of}
-use Rattle.pot_bytes.proofs.SumLemmas.{xor_assoc, xor_comm, xor_self, xor_replicate, xor_again, length-xor, length-xor_le}
+use Rattle.pot_bytes.proofs.SumLemmas.{xor_assoc, xor_comm, xor_self, xor_replicate, length-xor, length-xor_le}
 use Rattle.pot_split.specs.Secrecy.{rows_of, IsRows, meaning, secrecy}
 
 -- `done` of `count` rows are in place

@@ -1,1 +1,2 @@
 pub mod Secrecy
+pub mod Threshold

@@ -5,8 +5,10 @@
 #![tactic(auto)]
 
 mod secrecy;
+mod threshold;
 
 pub use secrecy::{secrecy_join, secrecy_laws, secrecy_split};
+pub use threshold::{share_join, share_out, threshold_laws};
 
 #[cfg(test)]
 mod tests {
@@ -30,5 +32,28 @@ mod tests {
         secrecy_split(&[7, 8], &[], &mut alone);
         assert_eq!(rt; alone, [7, 8]);
         Ok(())
+    }
+
+    /// A content byte of hexadecimal 57 with the coefficient 83, and a content of two bytes with two
+    /// rows, computed from the polynomials apart from this crate.
+    #[test]
+    fn splits_by_threshold(rt: HostRuntime) {
+        let mut out = [0];
+        share_out(&[0x57], &[0x83], 1, &mut out);
+        assert_eq!(rt; out, [0xd4]);
+        share_out(&[0x57], &[0x83], 2, &mut out);
+        assert_eq!(rt; out, [0x4a]);
+        share_out(&[0x57], &[0x83], 3, &mut out);
+        assert_eq!(rt; out, [0xc9]);
+        share_join(&[1, 2], &[0xd4, 0x4a], &mut out);
+        assert_eq!(rt; out, [0x57]);
+        share_out(&[0x57], &[], 9, &mut out);
+        assert_eq!(rt; out, [0x57]);
+        let mut wide = [0; 2];
+        share_out(&[0x00, 0xff], &[0x10, 0x20, 0x01, 0x80], 5, &mut wide);
+        assert_eq!(rt; wide, [0x41, 0x07]);
+        let shares = [0x7a, 0x6e, 0x11, 0x5f, 0x41, 0x07];
+        share_join(&[255, 1, 5], &shares, &mut wide);
+        assert_eq!(rt; wide, [0x00, 0xff]);
     }
 }

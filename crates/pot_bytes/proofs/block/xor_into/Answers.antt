@@ -1,4 +1,4 @@
-use Rattle.std.proofs.Common.{◌<◌, length, arith, rules, add-one, sym, ◌∙◌}
+use Rattle.std.proofs.Common.{arith, add-one, sym, ◌∙◌}
 use Rattle.pot_bytes.proofs.SumLemmas.{xor-step, xor-end}
 use Rattle.pot_bytes.proofs.block.xor_into.Goals as goal
 

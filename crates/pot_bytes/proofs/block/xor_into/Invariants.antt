@@ -1,4 +1,4 @@
-use Rattle.std.proofs.Common.{◌≡◌, ◌<◌, ◌≤◌, ℕ, List, length, take, drop, ◌++◌}
+use Rattle.std.proofs.Common.{◌≡◌, take, drop, ◌++◌}
 use Rattle.pot_bytes.specs.Sums.{xor}
 use Rattle.pot_bytes.proofs.block.xor_into.Given as goal
 

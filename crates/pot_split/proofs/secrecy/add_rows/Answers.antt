@@ -1,4 +1,4 @@
-use Rattle.std.proofs.Common.{arith, rules, refl, subst, ◌∙◌, sym}
+use Rattle.std.proofs.Common.{refl}
 use Rattle.pot_split.proofs.RowLemmas.{begins, next_fits, goes_on, ends}
 use Rattle.pot_split.proofs.secrecy.add_rows.Goals as goal
 

@@ -1,0 +1,7 @@
+use Rattle.std.proofs.Common.{refl}
+use Rattle.std.specs.List.{IsDistinct}
+use Rattle.pot_gf.proofs.tests.polynomials.Goals as goal
+
+pub interpolate-through-requires-clause-distinct : goal.interpolate-through-requires-clause-distinct
+unfolding IsDistinct
+interpolate-through-requires-clause-distinct g c = ((refl, (refl, tt)), ((refl, tt), (tt, tt)))
