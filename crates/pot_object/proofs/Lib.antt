@@ -1,4 +1,5 @@
 pub mod FieldLemmas
 pub mod ObjectLemmas
 pub mod PieceLemmas
+pub mod ReadLemmas
 pub mod SealLemmas

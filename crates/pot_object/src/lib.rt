@@ -10,5 +10,5 @@ mod object;
 mod pieces;
 mod sealing;
 
-pub use object::{ObjectHead, write_object};
+pub use object::{ObjectHead, read_object, write_object};
 pub use pieces::{LONGEST, PIECE, TooLong, cut_file};

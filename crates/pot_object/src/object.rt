@@ -1,9 +1,9 @@
-ghost use Rattle.std.specs.Prelude.{◌≡◌, ◌≤◌, ◌<◌, ◌-◌, ◌++◌, length, drop, replicate};
+ghost use Rattle.std.specs.Prelude.{◌≡◌, ◌≤◌, ◌<◌, ◌↔◌, ◌-◌, ◌++◌, length, drop, replicate, IsTrue, MatchOption};
 ghost use Rattle.pot_object.specs.Pieces.{longest, pieces_of};
-ghost use Rattle.pot_object.specs.Objects.{head_bytes, object};
+ghost use Rattle.pot_object.specs.Objects.{head_at, head_bytes, object, part_length, IsHead, IsObject};
 
-use crate::pieces::PIECE;
-use crate::sealing::seal;
+use crate::pieces::{LONGEST, PIECE};
+use crate::sealing::{is_sealed, is_zeros, seal};
 use byteorder::{BigEndian, ByteOrder};
 
 /// What an object says of the piece that it carries.
@@ -36,6 +36,54 @@ pub fn write_object(file_id: &[u8; 16], file: &[u8], piece: u32, out: &mut [u8; 
     put_head(&head, out);
     put_part(part, &mut out[64..]);
     seal(out);
+}
+
+/// Reads an object. None exactly where the bytes are none.
+pub fn read_object(bytes: &[u8; 928]) -> Option<ObjectHead>
+    ensures { MatchOption result ((h : ObjectHead) → ¬ IsObject h bytes.now) (λ h. IsObject h bytes.now) }
+{
+    let head = head_in(bytes);
+    if !is_head(&head) {
+        return None;
+    }
+    let end = 64 + part_len(&head);
+    if is_sealed(bytes) && is_zeros(&bytes[end..]) {
+        Some(head)
+    } else {
+        None
+    }
+}
+
+/// The head that stands in bytes 0..32.
+fn head_in(bytes: &[u8]) -> ObjectHead
+    requires { 32 ≤ length bytes.now }
+    ensures { result ≡ head_at bytes.now }
+{
+    let mut file_id = [0; 16];
+    file_id.copy_from_slice(&bytes[..16]);
+    ObjectHead {
+        file_id,
+        piece: BigEndian::read_u32(&bytes[16..]),
+        pieces: BigEndian::read_u32(&bytes[20..]),
+        length: BigEndian::read_u64(&bytes[24..]),
+    }
+}
+
+/// Whether some file has this head.
+fn is_head(head: &ObjectHead) -> bool
+    ensures { IsTrue result ↔ IsHead head.now }
+{
+    head.length <= LONGEST
+        && u64::from(head.pieces) == head.length.div_ceil(PIECE).max(1)
+        && head.piece < head.pieces
+}
+
+/// How many bytes of the file the piece carries.
+fn part_len(head: &ObjectHead) -> usize
+    requires { IsHead head.now }
+    ensures { result ≡ part_length head.now }
+{
+    (head.length - u64::from(head.piece) * PIECE).min(PIECE) as usize
 }
 
 /// Writes a head into bytes 0..32.
