@@ -1,19 +1,18 @@
 -- What stands in an object is what was written.
-use Rattle.std.proofs.Common.{◌≡◌, ◌≤◌, ◌<◌, ◌+◌, ◌-◌, ◌^◌, ◌++◌, ℕ, List, length, take, drop, min, replicate, get_or, inl, inr, refl, ap, sym, ◌∙◌, arith, length-append, length-drop}
+use Rattle.std.proofs.Common.{◌≡◌, ◌≤◌, ◌<◌, ◌+◌, ◌-◌, ◌++◌, ℕ, List, length, take, drop, replicate, get_or, inl, inr, refl, ap, sym, ◌∙◌, arith, length-append, length-drop}
 use Rattle.std.proofs.Math.Seq.{take-add}
-use Rattle.std.proofs.lemmas.List.{append_assoc, drop_at, drop-drop, get_or_past, get_or-drop, get_or-take, length-replicate, length-take, length-take-le, take_at, take_rest, take-append-drop}
+use Rattle.std.proofs.lemmas.List.{append_assoc, drop_at, drop-drop, get_or_past, get_or-drop, get_or-take, length-take, length-take-le, take_at, take_rest, take-append-drop}
 use Rattle.std.proofs.lemmas.Bool.{cases_lt}
 use Rattle.std.proofs.lemmas.Nat.{be_bytes_4, be_bytes_8}
 use Rattle.std.specs.Int.{w32, w64, from_be_bytes}
 use Rattle.byteorder.specs.Endian.{big_bytes, big_number}
-use Rattle.byteorder.specs.Numbers.{big_from-take, big_number-reads_back, length-bytes_high_first}
+use Rattle.byteorder.specs.Numbers.{big_from-take, big_number-reads_back}
 use Rattle.pot_bytes.specs.Digests.{digest_bytes}
-use Rattle.pot_object.specs.Pieces.{pieces_of}
 use Rattle.pot_object.specs.Sealing.{sealed}
 use Rattle.pot_object.specs.Objects.{head_at, head_bytes, object_bytes, part_length, IsHead, IsObject}
 use Rattle.pot_object.specs.declared.object.ObjectHead.{ObjectHead}
-use Rattle.pot_object.proofs.ObjectLemmas.{length-head_bytes, length-padded}
-use Rattle.pot_object.proofs.SealLemmas.{head-sealed, rest-sealed, sealed_again}
+use Rattle.pot_object.proofs.ObjectLemmas.{length-head_bytes}
+use Rattle.pot_object.proofs.SealLemmas.{rest-sealed, sealed_again}
 
 -- joined fields, grouped from the right
 spread : (a b c d e : List ℕ) → (((a ++ b) ++ c) ++ d) ++ e ≡ a ++ (b ++ (c ++ (d ++ e)))

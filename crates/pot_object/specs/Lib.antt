@@ -1,3 +1,4 @@
+pub mod Contents
 pub mod Objects
 pub mod Pieces
 pub mod Sealing

@@ -1,6 +1,5 @@
-use Rattle.std.proofs.Common.{◌≡◌, ◌≤◌, ℕ, List, length, take, drop, IsTrue, false, arith, sym, subst, refl, ap, ◌∙◌}
-use Rattle.pot_object.specs.Objects.{head_at, head_bytes, part_length, IsHead, IsObject}
-use Rattle.pot_object.specs.declared.object.ObjectHead.{ObjectHead}
+use Rattle.std.proofs.Common.{◌≡◌, IsTrue, false, arith, sym, subst, refl, ap, ◌∙◌}
+use Rattle.pot_object.specs.Objects.{head_bytes, part_length, IsHead}
 use Rattle.pot_object.proofs.ReadLemmas.{head_at-object, head_bytes-head_at, sealed-object, zeros-object, IsObject-from_parts, zeros_there, zeros_as_read}
 use Rattle.pot_object.proofs.object.read_object.Goals as goal
 use Rattle.pot_object.proofs.object.read_object.Goals.{else-is_sealed-via-then-is_sealed+else-is_zeros, else-is_sealed-via-else-is_sealed}
