@@ -1,3 +1,4 @@
+pub mod AssemblyLemmas
 pub mod ContentLemmas
 pub mod FieldLemmas
 pub mod ObjectLemmas

@@ -1,3 +1,4 @@
+pub mod Assembly
 pub mod Contents
 pub mod Objects
 pub mod Pieces

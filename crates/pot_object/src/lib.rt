@@ -6,11 +6,13 @@
 //! 1. An object is `object_bytes` of its head and its part of the file: `write_object`.
 #![tactic(auto)]
 
+mod assembly;
 mod content;
 mod object;
 mod pieces;
 mod sealing;
 
+pub use assembly::{AssembleFault, assemble};
 pub use content::{FragmentHead, read_content, write_content};
 pub use object::{ObjectHead, read_object, write_object};
 pub use pieces::{LONGEST, PIECE, TooLong, cut_file};

@@ -55,7 +55,7 @@ pub fn read_object(bytes: &[u8; 928]) -> Option<ObjectHead>
 }
 
 /// The head that stands in bytes 0..32.
-fn head_in(bytes: &[u8]) -> ObjectHead
+pub fn head_in(bytes: &[u8]) -> ObjectHead
     requires { 32 ≤ length bytes.now }
     ensures { result ≡ head_at bytes.now }
 {
@@ -79,7 +79,7 @@ fn is_head(head: &ObjectHead) -> bool
 }
 
 /// How many bytes of the file the piece carries.
-fn part_len(head: &ObjectHead) -> usize
+pub fn part_len(head: &ObjectHead) -> usize
     requires { IsHead head.now }
     ensures { result ≡ part_length head.now }
 {
