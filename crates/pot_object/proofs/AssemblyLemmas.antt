@@ -1,10 +1,10 @@
 -- Objects that stand one after another, and the file that their parts make.
-use Rattle.std.proofs.Common.{◌≡◌, ◌≢◌, ◌≤◌, ◌<◌, ◌+◌, ◌-◌, ◌*◌, ◌++◌, ℕ, zero, suc, List, [], length, take, drop, min, inl, inr, refl, ap, sym, subst, ◌∙◌, arith, length-append, length-drop}
+use Rattle.std.proofs.Common.{◌≡◌, ◌≢◌, ◌≤◌, ◌<◌, ◌+◌, ◌-◌, ◌*◌, ◌++◌, ℕ, zero, suc, List, length, take, drop, min, inl, inr, refl, ap, sym, subst, ◌∙◌, arith, length-append, length-drop}
 use Rattle.std.proofs.lemmas.Bool.{cases_lt}
-use Rattle.std.proofs.lemmas.List.{drop_all, drop_at, drop-append-le, drop-drop, length-take, length-take-le, take_all, take-append-drop, take-append-le}
+use Rattle.std.proofs.lemmas.List.{drop_all, drop_at, drop-append-le, drop-drop, length-take-le, take_all, take-append-drop, take-append-le}
 use Rattle.pot_object.specs.Pieces.{longest, part_of, pieces_of}
-use Rattle.pot_object.specs.Objects.{head_at, head_of, object, object_bytes, part_length, IsHead, IsObject}
-use Rattle.pot_object.specs.Assembly.{count_of, joined, object_at, objects_from, objects_of, part_at, piece_at, AreObjects, AreObjectsOf, BeginsWhole, IsLeastMissing, IsMissing, IsSeries}
+use Rattle.pot_object.specs.Objects.{head_at, object, object_bytes, part_length, IsHead}
+use Rattle.pot_object.specs.Assembly.{count_of, joined, object_at, objects_from, objects_of, part_at, piece_at, AreObjects, BeginsWhole}
 use Rattle.pot_object.specs.declared.object.ObjectHead.{ObjectHead}
 use Rattle.pot_object.proofs.ReadLemmas.{head_at-object}
 
@@ -84,7 +84,7 @@ from_each id file objects whole (suc n) p e long each =
     ∙ ap (λ (z : List ℕ). z ++ drop 928 rest) (each p (omega arith))
     ∙ ap (λ (z : List ℕ). object id file p ++ z)
     (drop-drop 928 (p * 928) objects ∙ ap (λ (z : ℕ). drop z objects) next
-     ∙ from_each id file objects whole n (suc p) (omega arith) long each)
+    ∙ from_each id file objects whole n (suc p) (omega arith) long each)
 
 -- the range that an object of the row fills
 pub whole_object : (objects : List ℕ) (k : ℕ) → take (k * 928 + 928 - k * 928) (drop (k * 928) objects) ≡ object_at objects k

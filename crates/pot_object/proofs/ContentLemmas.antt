@@ -116,3 +116,9 @@ IsContent-written h part ok long = record {
   head = ok;
   spelled = ap (content_bytes h) (sym (part-content h part ok.id));
 }
+
+pub one_head : (h g : FragmentHead) (bytes : List ℕ) → IsContent h bytes → IsContent g bytes → h ≡ g
+one_head h g bytes a b = sym (fragment_head_at-content h bytes a) ∙ fragment_head_at-content g bytes b
+
+pub one_spelling : (h : FragmentHead) (a b : List ℕ) → IsContent h a → IsContent h b → drop 64 a ≡ drop 64 b → a ≡ b
+one_spelling h a b x y same = x.spelled ∙ ap (content_bytes h) same ∙ sym y.spelled

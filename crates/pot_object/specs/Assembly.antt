@@ -1,5 +1,5 @@
 -- Objects of one file, one after another, and the file that they carry.
-use Rattle.std.specs.Prelude.{◌≡◌, ◌≢◌, ◌<◌, ◌≤◌, ℕ, zero, suc, ◌+◌, ◌*◌, ◌/◌, List, [], ◌++◌, length, take, drop, ⊤}
+use Rattle.std.specs.Prelude.{◌≡◌, ◌≢◌, ◌<◌, ◌≤◌, ℕ, zero, suc, ◌+◌, ◌*◌, ◌/◌, List, [], ◌++◌, length, take, drop}
 use Rattle.pot_object.specs.Pieces.{longest, pieces_of}
 use Rattle.pot_object.specs.Objects.{head_at, object, part_length, IsObject}
 use Rattle.pot_object.specs.declared.object.ObjectHead.{ObjectHead}
@@ -53,10 +53,10 @@ pub record IsLeastMissing (objects : List ℕ) (piece : ℕ) : Type 0 where
   pub missing : IsMissing objects piece
   pub least : (q : ℕ) → q < piece → (k : ℕ) × (k < count_of objects) × (piece_at objects k ≡ q)
 
--- the piece that a refusal names is the least that is missing
+-- the piece that a refusal names is the least that is missing; want of memory comes where none is
 abbrev pub NamesLeast : List ℕ → AssembleFault → Type 0
 NamesLeast objects (Incomplete piece) = IsLeastMissing objects piece
-NamesLeast objects NoMemory = ⊤
+NamesLeast objects NoMemory = (piece : ℕ) → piece < (head_at objects).pieces → ¬ IsMissing objects piece
 
 -- object number k is there and carries piece k
 abbrev pub IsInPlace : List ℕ → ℕ → Type 0

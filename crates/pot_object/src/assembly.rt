@@ -1,6 +1,7 @@
-ghost use Rattle.std.specs.Prelude.{◌≡◌, ◌≤◌, ◌<◌, ◌↔◌, ◌*◌, ℕ, length, IfOk, IfErr, MatchOption, IsTrue};
+ghost use Rattle.std.specs.Prelude.{◌≡◌, ◌≤◌, ◌<◌, ◌↔◌, ◌*◌, ℕ, List, length, IfOk, IfErr, MatchOption, IsTrue};
+ghost use Rattle.pot_object.specs.Pieces.{longest};
 ghost use Rattle.pot_object.specs.Objects.{head_at, IsHead};
-ghost use Rattle.pot_object.specs.Assembly.{count_of, object_at, joined, part_at, AreObjectsOf, BeginsWhole, IsInPlace, IsLeastMissing, IsSeries, NamesLeast};
+ghost use Rattle.pot_object.specs.Assembly.{count_of, object_at, objects_of, joined, part_at, AreObjectsOf, BeginsWhole, IsInPlace, IsLeastMissing, IsSeries, NamesLeast};
 
 use crate::object::{head_in, part_len};
 use std::alloc::{AllocError, Global};
@@ -25,6 +26,14 @@ impl From<AllocError> for AssembleFault {
         AssembleFault::NoMemory
     }
 }
+
+/// The laws of the objects of all pieces of a file, in order: they may be assembled, none is missing, and they
+/// are those of no other file. So they are assembled to the file.
+pub fn assemble_laws()
+    ensures series { (id file : List ℕ) → length id ≡ 16 → length file ≤ longest → IsSeries (objects_of id file) }
+    ensures whole { (id file : List ℕ) (piece : ℕ) → length id ≡ 16 → length file ≤ longest → ¬ IsLeastMissing (objects_of id file) piece }
+    ensures file { (id file other : List ℕ) → length id ≡ 16 → length file ≤ longest → AreObjectsOf (objects_of id file) other → other ≡ file }
+{}
 
 /// The file whose objects these are: one or more, one after another, of one file id, number of pieces and
 /// length, their pieces ascending.

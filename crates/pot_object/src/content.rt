@@ -1,5 +1,5 @@
-ghost use Rattle.std.specs.Prelude.{◌≡◌, ◌≤◌, ◌↔◌, ◌∷◌, ◌++◌, length, take, drop, replicate, IsTrue, MatchOption};
-ghost use Rattle.pot_object.specs.Contents.{content, fragment_head_at, fragment_head_bytes, IsContent, IsFragmentHead};
+ghost use Rattle.std.specs.Prelude.{◌≡◌, ◌≤◌, ◌↔◌, ◌∷◌, ◌++◌, ℕ, List, length, take, drop, replicate, IsTrue, MatchOption};
+ghost use Rattle.pot_object.specs.Contents.{content, content_bytes, fragment_head_at, fragment_head_bytes, IsContent, IsFragmentHead};
 
 use crate::sealing::{is_sealed, is_zeros, seal};
 
@@ -12,6 +12,15 @@ pub struct FragmentHead {
     /// The number of fragments of the object.
     pub count: u8,
 }
+
+/// The laws of contents: what is written is a content of its head, with its fragment; a content has one head,
+/// and a head and a fragment have one content.
+pub fn content_laws()
+    ensures written { (h : FragmentHead) (part : List ℕ) → IsFragmentHead h → length part ≡ 928 → IsContent h (content_bytes h part) }
+    ensures part { (h : FragmentHead) (part : List ℕ) → IsFragmentHead h → drop 64 (content_bytes h part) ≡ part }
+    ensures one_head { (h g : FragmentHead) (bytes : List ℕ) → IsContent h bytes → IsContent g bytes → h ≡ g }
+    ensures one_spelling { (h : FragmentHead) (a b : List ℕ) → IsContent h a → IsContent h b → drop 64 a ≡ drop 64 b → a ≡ b }
+{}
 
 /// Writes the content of one fragment of an object.
 pub fn write_content(

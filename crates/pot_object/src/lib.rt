@@ -12,7 +12,7 @@ mod object;
 mod pieces;
 mod sealing;
 
-pub use assembly::{AssembleFault, assemble};
-pub use content::{FragmentHead, read_content, write_content};
-pub use object::{ObjectHead, read_object, write_object};
+pub use assembly::{AssembleFault, assemble, assemble_laws};
+pub use content::{FragmentHead, content_laws, read_content, write_content};
+pub use object::{ObjectHead, object_laws, read_object, write_object};
 pub use pieces::{LONGEST, PIECE, TooLong, cut_file};

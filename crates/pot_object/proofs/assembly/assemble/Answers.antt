@@ -1,7 +1,8 @@
-use Rattle.std.proofs.Common.{◌≡◌, ◌≤◌, ◌<◌, ◌*◌, ◌++◌, ℕ, List, length, take, drop, arith, ap, sym, subst, ◌∙◌}
+use Rattle.std.proofs.Common.{◌≡◌, ◌≤◌, ℕ, List, length, take, arith, ap, sym, subst, ◌∙◌}
+use Rattle.std.proofs.lemmas.Result.{err_from_is_err_and}
 use Rattle.pot_object.specs.Pieces.{longest}
 use Rattle.pot_object.specs.Objects.{head_at}
-use Rattle.pot_object.specs.Assembly.{count_of, joined, objects_of, part_at, BeginsWhole}
+use Rattle.pot_object.specs.Assembly.{joined, objects_of, part_at, BeginsWhole}
 use Rattle.pot_object.specs.declared.object.ObjectHead.{ObjectHead}
 use Rattle.pot_object.proofs.AssemblyLemmas.{all_there, objects_of-joined, some_piece, IsHead-object_at}
 use Rattle.pot_object.proofs.assembly.assemble.Goals as goal
@@ -35,3 +36,10 @@ returns-clause-file c =
       fits = subst (λ (z : List ℕ). length z ≤ longest) (sym file) (omega (arith, made.1, made.2));
       all = made.0 ∙ ap (objects_of (take 16 objects)) (sym file);
     }
+
+pub returns-in_err-join_parts-clause-fault : goal.returns-in_err-join_parts-clause-fault
+returns-in_err-join_parts-clause-fault c =
+    let p = err_from_is_err_and c.from_residual.result c.from_residual.ensures.1 in
+    let pieces = ap (λ (z : ObjectHead). z.pieces) c.head_in-pieces.ensures in
+    rw (p.1, p.2)
+    (λ piece l missing. let place = c.in_default.ensures piece (omega (arith, pieces)) in missing piece place.0 place.1)

@@ -1,5 +1,5 @@
-use Rattle.std.proofs.Common.{◌≡◌, ◌≤◌, ◌<◌, ℕ, IsTrue, false, List, arith}
-use Rattle.pot_object.specs.Assembly.{count_of, piece_at, IsInPlace}
+use Rattle.std.proofs.Common.{IsTrue, false, arith}
+use Rattle.pot_object.specs.Assembly.{count_of, piece_at}
 use Rattle.pot_object.proofs.AssemblyLemmas.{gap}
 use Rattle.pot_object.proofs.assembly.first_gap.Goals as goal
 

@@ -1,7 +1,6 @@
-use Rattle.std.proofs.Common.{◌≡◌, ◌≤◌, ◌<◌, ◌+◌, ◌-◌, ◌*◌, ◌++◌, ℕ, List, length, take, drop, arith, add-one, ap, sym, subst, ◌∙◌}
+use Rattle.std.proofs.Common.{◌≡◌, ◌+◌, ◌-◌, ◌++◌, ℕ, List, take, drop, arith, add-one, ap, sym, subst, ◌∙◌}
 use Rattle.pot_object.specs.Objects.{head_at, part_length, IsHead}
-use Rattle.pot_object.specs.Assembly.{joined, object_at, part_at}
-use Rattle.pot_object.specs.declared.object.ObjectHead.{ObjectHead}
+use Rattle.pot_object.specs.Assembly.{object_at, part_at}
 use Rattle.pot_object.proofs.AssemblyLemmas.{whole_object}
 use Rattle.pot_object.proofs.assembly.join_parts.Goals as goal
 
@@ -20,6 +19,6 @@ loop-number-preserved c =
     omega (arith, c.part_len-end.ensures ∙ ap part_length head) in
     rw add-one
     (c.in_ok-extend_from_slice.ensures.items
-     ∙ ap (λ (z : List ℕ). c.loop-number.file.items ++ take (64 + c.part_len-end.result - 64) (drop 64 z)) bytes
-     ∙ ap (λ (z : ℕ). c.loop-number.file.items ++ take z (drop 64 (object_at objects n))) end
-     ∙ ap (λ (z : List ℕ). z ++ part_at objects n) c.loop-number.invariant)
+    ∙ ap (λ (z : List ℕ). c.loop-number.file.items ++ take (64 + c.part_len-end.result - 64) (drop 64 z)) bytes
+    ∙ ap (λ (z : ℕ). c.loop-number.file.items ++ take z (drop 64 (object_at objects n))) end
+    ∙ ap (λ (z : List ℕ). z ++ part_at objects n) c.loop-number.invariant)
