@@ -1,7 +1,7 @@
 -- What is written is in the grammar, and the objects of a file are those of no other.
 use Rattle.std.proofs.Common.{◌≡◌, ◌≤◌, ◌<◌, ◌+◌, ◌-◌, ◌*◌, ◌++◌, ℕ, zero, suc, List, length, take, drop, min, replicate, refl, ap, sym, subst, ◌∙◌, arith, length-append, length-drop}
 use Rattle.std.proofs.Math.Seq.{take-add}
-use Rattle.std.proofs.lemmas.List.{append_assoc, drop_at, drop-drop, length-take, take_all, take_at}
+use Rattle.std.proofs.lemmas.List.{append_assoc, append-nil, drop_at, drop-drop, length-take, take_all, take_at}
 use Rattle.pot_bytes.specs.Digests.{digest_bytes}
 use Rattle.pot_object.specs.Pieces.{longest, part_of, pieces_of}
 use Rattle.pot_object.specs.Objects.{head_at, head_bytes, head_of, object, object_bytes, part_length, IsHead, IsObject}
@@ -170,3 +170,40 @@ pub only_file : (id file other : List ℕ) → IsFile id file → AreObjectsOf (
 only_file id file other is are =
     let front : take 16 (objects_of id file) ≡ id = ap (λ (z : ObjectHead). z.file_id) (head_at-objects_of id file is) in
     same_file id file other is (record { whole = is.whole; fits = are.fits }) (are.all ∙ ap (λ (z : List ℕ). objects_of z other) front)
+
+-- one object more
+pub objects_from_more : (id file : List ℕ) (p n : ℕ) → objects_from id file p n ++ object id file (p + n) ≡ objects_from id file p (suc n)
+objects_from_more id file p zero =
+    let same : p + 0 ≡ p = omega arith in
+    ap (object id file) same ∙ sym (append-nil (object id file p))
+objects_from_more id file p (suc n) =
+    let same : p + suc n ≡ suc p + n = omega arith in
+    append_assoc (object id file p) (objects_from id file (suc p) n) (object id file (p + suc n))
+    ∙ ap (λ (z : ℕ). object id file p ++ (objects_from id file (suc p) n ++ object id file z)) same
+    ∙ ap (λ (z : List ℕ). object id file p ++ z) (objects_from_more id file (suc p) n)
+
+-- one object is a series
+IsSeries-one : (h : ObjectHead) (bytes : List ℕ) → length bytes ≡ 928 → IsObject h bytes → IsSeries bytes
+IsSeries-one h bytes long is =
+    let whole : object_at bytes 0 ≡ bytes = take_all 928 bytes (omega arith) in
+    let first : IsObject (head_at bytes) bytes = subst (λ (z : ObjectHead). IsObject z bytes) (sym (head_at-object h bytes is)) is in
+    let placed : IsObject (record (head_at bytes) { piece = piece_at bytes 0 }) (object_at bytes 0) =
+    subst (λ (z : List ℕ). IsObject (record (head_at bytes) { piece = (head_at z).piece }) z) (sym whole) first in
+    record {
+      some = omega (arith, long);
+      objects_are = record {
+        long = omega (arith, long);
+        each = λ k l.
+            let same : 0 ≡ k = omega (arith, long) in
+            subst (λ (z : ℕ). IsObject (record (head_at bytes) { piece = piece_at bytes z }) (object_at bytes z)) same placed;
+        ascending = λ k l. absurd (omega (arith, long));
+      };
+    }
+
+-- one object of a file is a series
+pub IsSeries-alone : (id file bytes : List ℕ) (piece : ℕ) → IsFile id file → piece < pieces_of (length file)
+    → bytes ≡ object id file piece → IsSeries bytes
+IsSeries-alone id file bytes piece is exists same =
+    subst IsSeries (sym same)
+    (IsSeries-one (head_of id file piece) (object id file piece) (length-object id file piece is.whole)
+    (IsObject-written id file piece is.whole is.fits exists))

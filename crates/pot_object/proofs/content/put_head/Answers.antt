@@ -21,6 +21,10 @@ returns c =
     let filled : c.fill.new.self ≡ zeros =
     c.fill.ensures.after (λ y e. e)
     ∙ ap (λ (z : List ℕ). replicate (length (take 14 (drop 18 z))) 0) first ∙ ap (λ (k : ℕ). replicate k 0) room in
-    put_field (id ++ two) old (put_mid 16 2 (id ++ drop 16 old) c.copy_from_slice-2.new.self) c.fill.new.self zeros 18 14 (omega (arith, length-append {A = ℕ} id two)) first filled
-    ∙ ap (λ (z : List ℕ). z ++ drop 32 old) (append_assoc id two zeros)
-    ∙ ap (λ (z : List ℕ). (z ++ c.args.head.now.number ∷ c.args.head.now.count ∷ zeros) ++ drop 32 old) c.copy_from_slice.ensures.after
+    let fields : put_mid 18 14 (put_mid 16 2 (id ++ drop 16 old) c.copy_from_slice-2.new.self) c.fill.new.self ≡ ((id ++ two) ++ zeros) ++ drop 32 old =
+    put_field (id ++ two) old (put_mid 16 2 (id ++ drop 16 old) c.copy_from_slice-2.new.self) c.fill.new.self zeros 18 14 (omega (arith, length-append {A = ℕ} id two)) first filled in
+    let last = c.args.head.now.number ∷ c.args.head.now.count ∷ zeros in
+    let regrouped : ((id ++ two) ++ zeros) ++ drop 32 old ≡ (c.args.head.now.object_id ++ last) ++ drop 32 old =
+    ap (λ (z : List ℕ). z ++ drop 32 old) (append_assoc id two zeros)
+    ∙ ap (λ (z : List ℕ). (z ++ last) ++ drop 32 old) c.copy_from_slice.ensures.after in
+    fields ∙ regrouped
