@@ -1,5 +1,5 @@
 use Rattle.std.proofs.Common.{◌≡◌, ◌++◌, ℕ, List, take, drop, arith, sym, ap, ◌∙◌}
-use Rattle.std.proofs.lemmas.List.{length-take-le, take_rest}
+use Rattle.std.proofs.lemmas.List.{length-take, take_rest}
 use Rattle.std.proofs.lemmas.Bool.Decides.{Decides-eqb}
 use Rattle.std.proofs.lemmas.Slice.Eq.{slice_eq-Decides}
 use Rattle.pot_bytes.specs.Digests.{digest_bytes}
@@ -7,7 +7,7 @@ use Rattle.pot_object.proofs.SealLemmas.{digest_of_sealed, sealed_by_digest}
 use Rattle.pot_object.proofs.sealing.is_sealed.Goals as goal
 
 pub slice_bounds-digest_of_two-end : goal.slice_bounds-digest_of_two-end
-slice_bounds-digest_of_two-end c = sym (length-take-le 32 c.args.bytes.now (omega arith))
+slice_bounds-digest_of_two-end c = omega (arith, length-take {A = ℕ} 32 c.args.bytes.now)
 
 pub returns : goal.returns
 returns c =
