@@ -20,6 +20,18 @@ put_next w old xs ys b at n whole before written =
     ∙ ap (λ (z : List ℕ). w ++ z) (append-nil ys ∙ next)
     ∙ sym (append_assoc w b (drop (at + n) old))
 
+-- the same where `k` bytes are lent and written
+pub put_field : (w old xs ys b : List ℕ) (at k : ℕ) → length w ≡ at → xs ≡ w ++ drop at old → ys ≡ b
+    → put_mid at k xs ys ≡ (w ++ b) ++ drop (at + k) old
+put_field w old xs ys b at k whole before written =
+    let front : take at xs ≡ w = ap (take at) before ∙ take_at w (drop at old) at whole in
+    let back : drop k (drop at xs) ≡ drop (at + k) old =
+    ap (λ (z : List ℕ). drop k (drop at z)) before ∙ ap (drop k) (drop_at w (drop at old) at whole) ∙ drop-drop k at old in
+    ap (λ (z : List ℕ). z ++ (ys ++ post_of at k xs)) front
+    ∙ ap (λ (z : List ℕ). w ++ (ys ++ z)) back
+    ∙ ap (λ (z : List ℕ). w ++ (z ++ drop (at + k) old)) written
+    ∙ sym (append_assoc w b (drop (at + k) old))
+
 -- the head before a rest that was written from byte 64 on
 pub head_before : (head old ys : List ℕ) (k : ℕ) → length head ≡ 32 → length old ≡ 64 + k
     → take 32 (put_mid 64 k (head ++ drop 32 old) ys) ≡ head

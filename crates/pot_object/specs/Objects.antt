@@ -1,7 +1,7 @@
 -- The bytes of an object.
-use Rattle.std.specs.Prelude.{ℕ, ◌-◌, List, ◌++◌, length, replicate}
-use Rattle.byteorder.specs.Endian.{big_bytes}
-use Rattle.pot_object.specs.Pieces.{pieces_of, part_of}
+use Rattle.std.specs.Prelude.{◌≡◌, ◌≤◌, ◌<◌, ℕ, ◌-◌, ◌*◌, List, ◌++◌, length, take, drop, min, replicate}
+use Rattle.byteorder.specs.Endian.{big_bytes, big_number}
+use Rattle.pot_object.specs.Pieces.{longest, pieces_of, part_of}
 use Rattle.pot_object.specs.Sealing.{sealed}
 use Rattle.pot_object.specs.declared.object.ObjectHead.{ObjectHead}
 
@@ -20,3 +20,28 @@ head_of id file piece = record { file_id = id; piece = piece; pieces = pieces_of
 -- the object of a piece of a file
 unfoldable pub object : List ℕ → List ℕ → ℕ → List ℕ
 object id file piece = object_bytes (head_of id file piece) (part_of file piece)
+
+-- a head that some file has
+pub record IsHead (h : ObjectHead) : Type 0 where
+  pub id : length h.file_id ≡ 16
+  pub fits : h.length ≤ longest
+  pub cut : h.pieces ≡ pieces_of h.length
+  pub exists : h.piece < h.pieces
+
+-- how many bytes of the file the piece carries
+abbrev pub part_length : ObjectHead → ℕ
+part_length h = min 864 (h.length - h.piece * 864)
+
+-- these bytes are the object of this head and of the part that stands from byte 64 on
+pub record IsObject (h : ObjectHead) (bytes : List ℕ) : Type 0 where
+  pub head : IsHead h
+  pub spelled : bytes ≡ object_bytes h (take (part_length h) (drop 64 bytes))
+
+-- the fields where a head has them
+abbrev pub head_at : List ℕ → ObjectHead
+head_at bytes = record {
+  file_id = take 16 bytes;
+  piece = big_number 4 (drop 16 bytes);
+  pieces = big_number 4 (drop 20 bytes);
+  length = big_number 8 (drop 24 bytes);
+}

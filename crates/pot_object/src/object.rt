@@ -1,9 +1,9 @@
-ghost use Rattle.std.specs.Prelude.{◌≡◌, ◌≤◌, ◌<◌, ◌-◌, ◌++◌, length, drop, replicate};
-ghost use Rattle.pot_object.specs.Pieces.{longest, pieces_of};
-ghost use Rattle.pot_object.specs.Objects.{head_bytes, object};
+ghost use Rattle.std.specs.Prelude.{◌≡◌, ◌≤◌, ◌<◌, ◌↔◌, ◌-◌, ◌++◌, ℕ, List, length, take, drop, replicate, IsTrue, MatchOption};
+ghost use Rattle.pot_object.specs.Pieces.{longest, part_of, pieces_of};
+ghost use Rattle.pot_object.specs.Objects.{head_at, head_bytes, head_of, object, part_length, IsHead, IsObject};
 
-use crate::pieces::PIECE;
-use crate::sealing::seal;
+use crate::pieces::{LONGEST, PIECE};
+use crate::sealing::{is_sealed, is_zeros, seal};
 use byteorder::{BigEndian, ByteOrder};
 
 /// What an object says of the piece that it carries.
@@ -17,6 +17,19 @@ pub struct ObjectHead {
     /// The length of the file in bytes.
     pub length: u64,
 }
+
+/// The laws of objects: what is written is an object of its head, with its part of the file; an object has
+/// one head, and a head and a part have one object.
+pub fn object_laws()
+    ensures written { (id file : List ℕ) (piece : ℕ) → length id ≡ 16 → length file ≤ longest → piece < pieces_of (length file)
+        → IsObject (head_of id file piece) (object id file piece) }
+    ensures part { (id file : List ℕ) (piece : ℕ) → length id ≡ 16
+        → take (part_length (head_of id file piece)) (drop 64 (object id file piece)) ≡ part_of file piece }
+    ensures bytes { (id file : List ℕ) (piece : ℕ) → length id ≡ 16 → length (object id file piece) ≡ 928 }
+    ensures one_head { (h g : ObjectHead) (bytes : List ℕ) → IsObject h bytes → IsObject g bytes → h ≡ g }
+    ensures one_spelling { (h : ObjectHead) (a b : List ℕ) → IsObject h a → IsObject h b
+        → take (part_length h) (drop 64 a) ≡ take (part_length h) (drop 64 b) → a ≡ b }
+{}
 
 /// Writes the object of one piece of a file.
 pub fn write_object(file_id: &[u8; 16], file: &[u8], piece: u32, out: &mut [u8; 928])
@@ -36,6 +49,54 @@ pub fn write_object(file_id: &[u8; 16], file: &[u8], piece: u32, out: &mut [u8; 
     put_head(&head, out);
     put_part(part, &mut out[64..]);
     seal(out);
+}
+
+/// Reads an object. None exactly where the bytes are none.
+pub fn read_object(bytes: &[u8; 928]) -> Option<ObjectHead>
+    ensures { MatchOption result ((h : ObjectHead) → ¬ IsObject h bytes.now) (λ h. IsObject h bytes.now) }
+{
+    let head = head_in(bytes);
+    if !is_head(&head) {
+        return None;
+    }
+    let end = 64 + part_len(&head);
+    if is_sealed(bytes) && is_zeros(&bytes[end..]) {
+        Some(head)
+    } else {
+        None
+    }
+}
+
+/// The head that stands in bytes 0..32.
+pub fn head_in(bytes: &[u8]) -> ObjectHead
+    requires { 32 ≤ length bytes.now }
+    ensures { result ≡ head_at bytes.now }
+{
+    let mut file_id = [0; 16];
+    file_id.copy_from_slice(&bytes[..16]);
+    ObjectHead {
+        file_id,
+        piece: BigEndian::read_u32(&bytes[16..]),
+        pieces: BigEndian::read_u32(&bytes[20..]),
+        length: BigEndian::read_u64(&bytes[24..]),
+    }
+}
+
+/// Whether some file has this head.
+fn is_head(head: &ObjectHead) -> bool
+    ensures { IsTrue result ↔ IsHead head.now }
+{
+    head.length <= LONGEST
+        && u64::from(head.pieces) == head.length.div_ceil(PIECE).max(1)
+        && head.piece < head.pieces
+}
+
+/// How many bytes of the file the piece carries.
+pub fn part_len(head: &ObjectHead) -> usize
+    requires { IsHead head.now }
+    ensures { result ≡ part_length head.now }
+{
+    (head.length - u64::from(head.piece) * PIECE).min(PIECE) as usize
 }
 
 /// Writes a head into bytes 0..32.

@@ -1,10 +1,10 @@
 use Rattle.std.proofs.Common.{◌≡◌, ◌++◌, ℕ, List, take, drop, arith, sym, ap, ◌∙◌}
-use Rattle.std.proofs.lemmas.List.{append_assoc, drop-drop, length-take-le, take_rest}
+use Rattle.std.proofs.lemmas.List.{append_assoc, drop-drop, length-take, take_rest}
 use Rattle.pot_bytes.specs.Digests.{digest_bytes}
 use Rattle.pot_object.proofs.sealing.seal.Goals as goal
 
 pub slice_bounds-digest_of_two-end : goal.slice_bounds-digest_of_two-end
-slice_bounds-digest_of_two-end c = sym (length-take-le 32 c.args.bytes.now (omega arith))
+slice_bounds-digest_of_two-end c = omega (arith, length-take {A = ℕ} 32 c.args.bytes.now)
 
 pub returns : goal.returns
 returns c =
