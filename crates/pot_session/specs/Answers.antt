@@ -1,10 +1,10 @@
 -- One command and its reply.
-use Rattle.std.specs.Prelude.{◌≡◌, ◌<◌, ◌≤◌, ℕ, List}
+use Rattle.std.specs.Prelude.{◌≡◌, ◌+◌, ◌*◌, ℕ, List, Option, Some, None, IsSome}
 use Rattle.pot_outside.specs.Archives.{Contents}
 use Rattle.pot_outside.specs.Counts.{Rose}
 use Rattle.pot_script.specs.declared.command.Command.{Command}
 use Rattle.pot_script.specs.declared.reply.Reply.{Reply}
-use Rattle.pot_script.specs.declared.reply.Reply.TheVariants.{Lost, Fault}
+use Rattle.pot_script.specs.declared.reply.Reply.TheVariants.{File, Lost, Fault}
 use Rattle.pot_session.specs.declared.catalog.KeptFile.{KeptFile}
 use Rattle.pot_session.specs.Runs.{State, Row, after}
 use Rattle.pot_session.specs.Standing.{IsKept, Stands}
@@ -27,3 +27,9 @@ pub record Answers (told : Type 0) (drawn : List ℕ) (place : ℕ) (s : State) 
   pub kept : IsKept files attempts (after place s c r)
   pub stands : Stands told drawn held first now (after place s c r)
   pub lost : told → IsLost r → Rose first now
+
+-- a file is answered only where its two slots held blocks when the fetch began
+abbrev pub HasRead : Contents → Option KeptFile → Reply → Type 0
+HasRead held (Some f) (File name bytes) = IsSome (held (2 * f.attempt)) × IsSome (held (2 * f.attempt + 1))
+HasRead held None (File name bytes) = ⊥
+HasRead held found _ = Unit {0}

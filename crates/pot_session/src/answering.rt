@@ -1,12 +1,13 @@
 //! Answers one command: stores a file, or fetches one.
 
-ghost use Rattle.std.specs.Prelude.{◌≡◌, ◌<◌, ◌≤◌, ◌+◌, ◌*◌, ◌^◌, ℕ, List, IsTrue, IfOk, IsOkAnd};
+ghost use Rattle.std.specs.Prelude.{◌≡◌, ◌<◌, ◌≤◌, ◌+◌, ◌*◌, ◌^◌, ◌==◌, ℕ, List, find, IsTrue, IfOk, IsOkAnd};
+ghost use Rattle.std.specs.Cmp.Lexicographic.{pointwise};
 ghost use Rattle.std.specs.List.{AllByRecursion};
 ghost use Rattle.pot_outside.specs.Counts.{Caused};
 ghost use Rattle.pot_script.specs.declared.command.Command.TheVariants.{Store, Fetch};
 ghost use Rattle.pot_session.specs.Runs.{State};
 ghost use Rattle.pot_session.specs.Standing.{IsKept, IsSmall, Stands};
-ghost use Rattle.pot_session.specs.Answers.{Answers, IsFault};
+ghost use Rattle.pot_session.specs.Answers.{Answers, IsFault, HasRead};
 
 use crate::catalog::{Catalog, KeptFile};
 use crate::fragments::{join_file, split_file};
@@ -73,6 +74,7 @@ pub fn fetch<A: Archive>(
 ) -> Result<Reply, NoMemory>
     requires small { AllByRecursion IsSmall catalog.now.files.items }
     ensures answer { (drawn : List ℕ) → (place : ℕ) → (s : State) → (first : ℕ) → IsKept catalog.now.files.items catalog.now.attempts s → Stands (IsTrue A.tells) drawn (A.held archive.old) first (A.losses archive.old) s → IfOk result (λ reply. Answers (IsTrue A.tells) drawn place s (Fetch name.now) reply catalog.now.files.items catalog.now.attempts (A.held archive.new) first (A.losses archive.new)) }
+    ensures reads { IsTrue A.tells → IfOk result (HasRead (A.held archive.old) (find (λ f. pointwise ◌==◌ f.name name.now) catalog.now.files.items)) }
     ensures loses { IsTrue A.tells → A.losses archive.old ≤ A.losses archive.new }
     ensures cause { Caused (A.faults archive.old) (A.faults archive.new) (IsOkAnd result IsFault) }
 {
