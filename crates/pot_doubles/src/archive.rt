@@ -81,10 +81,11 @@ impl LossyArchive {
 }
 
 impl Archive for LossyArchive {
-    ghost use Rattle.std.specs.Prelude.{◌≡◌, ℕ, List, Option, true, IsTrue, IsErr};
+    ghost use Rattle.std.specs.Prelude.{◌≡◌, ℕ, List, Option, true, IsErr};
     ghost use Rattle.pot_outside.specs.Archives.{OnlyLoses, ReadTells, WriteTells, Remembers, IsRemembered};
     ghost use Rattle.pot_outside.specs.Counts.{Caused};
-    ghost use Rattle.pot_doubles.specs.Archives.{held_in};
+    ghost use Rattle.pot_doubles.specs.Calls.{Counted};
+    ghost use Rattle.pot_doubles.specs.Archives.{held_in, LosesListed, Writes, lost_after_losses};
 
     ghost tells = { true };
 
@@ -96,7 +97,14 @@ impl Archive for LossyArchive {
 
     ghost losses = { λ a. a.lost };
 
-    fn read(&mut self, slot: u32, into: &mut Block) -> Result<Held, Failed> {
+    fn read(&mut self, slot: u32, into: &mut Block) -> Result<Held, Failed>
+        ensures told { ReadTells (held_in self.new) slot into.new result }
+        ensures loses { OnlyLoses (held_in self.old) (held_in self.new) self.old.lost self.new.lost }
+        ensures past { self.new.past.items ≡ self.old.past.items }
+        ensures cause { Caused self.old.calls.faults self.new.calls.faults (IsErr result) }
+        ensures listed { LosesListed self.old self.new }
+        ensures counted { Counted self.old.calls self.new.calls result }
+    {
         if self.begin() {
             return Err(Failed);
         }
@@ -109,7 +117,14 @@ impl Archive for LossyArchive {
         }
     }
 
-    fn write(&mut self, slot: u32, block: &Block) -> Result<(), Failed> {
+    fn write(&mut self, slot: u32, block: &Block) -> Result<(), Failed>
+        ensures told { WriteTells (held_in self.old) (held_in self.new) self.old.lost self.new.lost slot block.now result }
+        ensures past { Remembers self.old.past.items self.new.past.items block.now result }
+        ensures cause { Caused self.old.calls.faults self.new.calls.faults (IsErr result) }
+        ensures writes { Writes self.old self.new slot block.now result }
+        ensures lost { self.new.lost ≡ lost_after_losses self.old }
+        ensures counted { Counted self.old.calls self.new.calls result }
+    {
         if self.begin() {
             return Err(Failed);
         }
@@ -131,5 +146,60 @@ impl Archive for LossyArchive {
             faults: self.calls.faults(),
             losses: self.lost,
         }
+    }
+}
+
+#[cfg(test)]
+mod tests {
+    use super::*;
+    use std::test::Fail;
+
+    #[test]
+    fn loses_what_is_listed(rt: HostRuntime) -> Result<(), Fail> {
+        let alloc = rt.alloc();
+        let losses = [Loss { call: 2, slot: 7 }, Loss { call: 2, slot: 9 }];
+        let mut archive = LossyArchive::new(alloc, [3, 4].to_vec(alloc)?, losses.to_vec(alloc)?);
+        let mut into = Block::zero();
+        assert_eq!(rt; archive.write(7, &Block::from_bytes([3; 1024])), Ok(()));
+        assert_eq!(rt; archive.read(7, &mut into), Ok(Held::Held));
+        assert_eq!(rt; into.bytes()[5], 3);
+        assert_eq!(rt;
+            archive.marks(),
+            Marks {
+                faults: 0,
+                losses: 0
+            }
+        );
+        assert_eq!(rt; archive.read(7, &mut into), Ok(Held::Absent));
+        assert_eq!(rt;
+            archive.marks(),
+            Marks {
+                faults: 0,
+                losses: 2
+            }
+        );
+        assert_eq!(rt; archive.write(8, &into), Err(Failed));
+        assert_eq!(rt; archive.read(8, &mut into), Err(Failed));
+        assert_eq!(rt;
+            archive.marks(),
+            Marks {
+                faults: 2,
+                losses: 2
+            }
+        );
+        assert!(rt; archive.block(8).is_none());
+        assert_eq!(rt; archive.write(8, &Block::from_bytes([4; 1024])), Ok(()));
+        assert!(rt; archive.block(8).is_some_and(|block| block.bytes()[0] == 4));
+        archive.lose(8);
+        assert_eq!(rt; archive.read(8, &mut into), Ok(Held::Absent));
+        assert_eq!(rt;
+            archive.marks(),
+            Marks {
+                faults: 2,
+                losses: 3
+            }
+        );
+        assert!(rt; !archive.starved());
+        Ok(())
     }
 }

@@ -7,11 +7,11 @@ use Rattle.pot_doubles.proofs.archive.LossyArchiveArchive.write.Goals as goal
 
 pub returns-then-begin-clause-told : goal.returns-then-begin-clause-told
 returns-then-begin-clause-told c =
-    λ t. (_, inl refl, loses_at_same (held_in c.args.self.now) (held_in c.begin.new.self) c.args.slot _ _ c.begin.ensures.loses)
+    (_, inl refl, loses_at_same (held_in c.args.self.now) (held_in c.begin.new.self) c.args.slot _ _ c.begin.ensures.loses)
 
 pub returns-then-is_err-clause-told : goal.returns-then-is_err-clause-told
 returns-then-is_err-clause-told c =
-    λ t. (_, inl refl, loses_at_same (held_in c.args.self.now) (held_in c.begin.new.self) c.args.slot _ _ c.begin.ensures.loses)
+    (_, inl refl, loses_at_same (held_in c.args.self.now) (held_in c.begin.new.self) c.args.slot _ _ c.begin.ensures.loses)
 
 pub invariant_of-self-in-Ok : goal.invariant_of-self-in-Ok
 invariant_of-self-in-Ok c =
