@@ -1,5 +1,5 @@
 -- Archives in memory.
-use Rattle.std.specs.Prelude.{◌≡◌, ℕ, List, Some, None, Result, Ok, Err}
+use Rattle.std.specs.Prelude.{◌≡◌, ℕ, List, map, Some, None, Result, Ok, Err}
 use Rattle.std.specs.Ordering.{nat_cmp}
 use Rattle.std.specs.BTreeMap.{get}
 use Rattle.pot_outside.specs.Archives.{Contents, at_slot}
@@ -11,6 +11,10 @@ use Rattle.pot_doubles.specs.declared.archive.LossyArchive.{LossyArchive}
 -- the block of each slot
 abbrev pub held_in : LossyArchive → Contents
 held_in a k = get nat_cmp a.blocks k
+
+-- the sums heard, each with its slot
+abbrev pub heard_by : LossyArchive → List (ℕ × List ℕ)
+heard_by a = map (λ h. (h.slot, h.sum)) a.heard.items
 
 -- the block of each slot, and the count of losses, after those that are listed for the next call
 abbrev pub held_after_losses : LossyArchive → Contents
@@ -32,6 +36,7 @@ pub record LosesOne (old new : LossyArchive) (slot : ℕ) : Type 0 where
   pub count : new.lost ≡ raised old.lost
   pub listed : new.losses ≡ old.losses
   pub past : new.past ≡ old.past
+  pub heard : new.heard ≡ old.heard
   pub calls : new.calls ≡ old.calls
 
 -- after the losses listed for its call a write puts the block into its slot, or fails and writes nothing

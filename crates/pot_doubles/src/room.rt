@@ -114,7 +114,7 @@ impl Room for MemRoom {
     ghost use Rattle.std.specs.Prelude.{◌≡◌, ◌≢◌, ◌↔◌, ℕ, true, false, IsTrue, IsErr, IsErrOf, IfOk, OnOk, OnErr};
     ghost use Rattle.pot_outside.specs.Counts.{Caused, Rose};
     ghost use Rattle.pot_outside.specs.Archives.{IsMeant};
-    ghost use Rattle.pot_doubles.specs.Archives.{held_in};
+    ghost use Rattle.pot_doubles.specs.Archives.{held_in, heard_by};
     ghost use Rattle.pot_doubles.specs.Calls.{begun, is_due, covering, Answered};
     ghost use Rattle.pot_doubles.specs.Rooms.{means_in, is_out, lent_of, SameAt};
 
@@ -130,7 +130,7 @@ impl Room for MemRoom {
 
     fn take(&mut self, number: u32) -> Result<LossyArchive, RoomFault>
         requires { is_out self.old number ≡ false }
-        ensures told { IfOk result (λ a. IsMeant (means_in self.old number) (held_in a) a.past.items a.calls.faults a.lost) }
+        ensures told { IfOk result (λ a. IsMeant (means_in self.old number) (held_in a) a.past.items (heard_by a) a.calls.faults a.lost) }
         ensures lends { IfOk result (λ a. lent_of self.new number ≡ a.calls.faults) }
         ensures taken { OnOk result (is_out self.new number ≡ true) }
         ensures refused { OnErr result (is_out self.new number ≡ false) }
@@ -158,7 +158,7 @@ impl Room for MemRoom {
 
     fn give(&mut self, number: u32, archive: LossyArchive) -> Result<(), Failed>
         requires { is_out self.old number ≡ true }
-        ensures told { OnOk result (IsMeant (means_in self.new number) (held_in archive) archive.past.items archive.calls.faults archive.lost) }
+        ensures told { OnOk result (IsMeant (means_in self.new number) (held_in archive) archive.past.items (heard_by archive) archive.calls.faults archive.lost) }
         ensures back { is_out self.new number ≡ false }
         ensures others { (n : ℕ) → n ≢ number → SameAt self.old self.new n }
         ensures covers { Rose (lent_of self.old number) archive.calls.faults → Rose self.old.calls.faults self.new.calls.faults }
