@@ -1,6 +1,5 @@
 -- Faults after faults.
-use Rattle.std.proofs.Common.{◌<◌, ◌≤◌, ◌≡◌, ℕ, inl, inr, arith}
-use Rattle.std.specs.Prelude.{◌⊎◌, ◌-◌, ◌^◌}
+use Rattle.std.proofs.Common.{◌≤◌, ℕ, inl, inr, arith}
 use Rattle.pot_outside.specs.Counts.{Caused, Rose}
 
 -- a count that rose after it fell nowhere has risen in all

@@ -1,5 +1,5 @@
 -- The first shelf with a number.
-use Rattle.std.proofs.Common.{◌≡◌, ◌≢◌, ◌<◌, ◌≤◌, ℕ, zero, suc, List, [], ◌∷◌, ◌++◌, length, get_or, refl, ap, sym, ◌∙◌, arith, inl, inr, drop, drop-cons}
+use Rattle.std.proofs.Common.{◌≡◌, ◌≢◌, ◌<◌, ℕ, zero, suc, List, [], ◌∷◌, ◌++◌, length, get_or, refl, sym, ◌∙◌, arith, inl, inr}
 use Rattle.std.specs.Prelude.{Some, None}
 use Rattle.std.proofs.Math.ListN.{set}
 use Rattle.std.proofs.lemmas.Bool.Decides.{eqb_tells}
@@ -68,9 +68,10 @@ pub archive_of-push : (shelves : List (Shelf LossyArchive)) (t : Shelf LossyArch
     → archive_of (shelves ++ t ∷ []) t.number ≡ Some t.archive
 archive_of-push [] t e = head_is t [] t.number refl
 archive_of-push (s ∷ rest) t e =
-    elim (eqb_tells s.number t.number)
-    [ inl q ↦ absurd (let h : Some s.archive ≡ None = sym (head_is s rest t.number q.1) ∙ e in cc)
-    | inr q ↦ head_not s (rest ++ t ∷ []) t.number q.1 ∙ archive_of-push rest t (sym (head_not s rest t.number q.1) ∙ e) ]
+    elim (eqb_tells s.number t.number) [
+      | inl q ↦ absurd (let h : Some s.archive ≡ None = sym (head_is s rest t.number q.1) ∙ e in cc)
+      | inr q ↦ head_not s (rest ++ t ∷ []) t.number q.1 ∙ archive_of-push rest t (sym (head_not s rest t.number q.1) ∙ e)
+    ]
 
 pub archive_of-push_other : (shelves : List (Shelf LossyArchive)) (t : Shelf LossyArchive) (m : ℕ) → m ≢ t.number
     → archive_of (shelves ++ t ∷ []) m ≡ archive_of shelves m

@@ -1,5 +1,5 @@
 -- The calls of a double: which ones are to fail, and how often it failed.
-use Rattle.std.specs.Prelude.{◌≡◌, ◌+◌, ◌-◌, ◌^◌, ◌==◌, ◌⊎◌, ℕ, Bool, true, false, min, Result, Ok, Err, if◌then◌else◌}
+use Rattle.std.specs.Prelude.{◌≡◌, ◌+◌, ◌-◌, ◌^◌, ◌==◌, ◌⊎◌, ◌||◌, nat_lt, ℕ, Bool, true, false, min, Result, Ok, Err, if◌then◌else◌}
 use Rattle.std.specs.List.{list_any}
 use Rattle.pot_doubles.specs.declared.calls.Calls.{Calls}
 
@@ -19,8 +19,16 @@ begun c = record c { made = raised c.made; faults = (if is_due c then raised c.f
 abbrev pub starving : Calls → Calls
 starving c = record c { faults = raised c.faults; starved = true }
 
--- A call is answered by a failure exactly where it is to fail or found no memory, and a fault is counted
--- exactly then.
+-- after a fault was counted where another count rose from `before` to `now`, or stands at its last value
+abbrev pub covering : ℕ → ℕ → Calls → Calls
+covering before now c = record c { faults = (if nat_lt before now || now == 2 ^ 64 - 1 then raised c.faults else c.faults) }
+
+-- A call whose first steps leave `first` is answered by a failure exactly where it was due to fail or then
+-- found no memory, and only the latter counts one more fault.
+abbrev pub Answered : {T E : Type 0} → Bool → Calls → Calls → Result T E → Type 0
+Answered due first new (Ok x) = (due ≡ false) × (new ≡ first)
+Answered due first new (Err e) = ((due ≡ true) × (new ≡ first)) ⊎ ((due ≡ false) × (new ≡ starving first))
+
+-- a call that fails exactly where it is to fail or found no memory, and counts a fault exactly then
 abbrev pub Counted : {T E : Type 0} → Calls → Calls → Result T E → Type 0
-Counted old new (Ok x) = (is_due old ≡ false) × (new ≡ begun old)
-Counted old new (Err e) = ((is_due old ≡ true) × (new ≡ begun old)) ⊎ ((is_due old ≡ false) × (new ≡ starving (begun old)))
+Counted old new result = Answered (is_due old) (begun old) new result

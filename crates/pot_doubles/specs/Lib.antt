@@ -1,5 +1,6 @@
 pub mod Archives
 pub mod Calls
+pub mod Desks
 pub mod Kept
 pub mod Losses
 pub mod Rooms

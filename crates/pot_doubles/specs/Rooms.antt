@@ -1,9 +1,12 @@
 -- Rooms of archives in memory.
-use Rattle.std.specs.Prelude.{◌≡◌, ◌≢◌, ◌<◌, ◌==◌, ℕ, Bool, List, [], ◌∷◌, Option, Some, None, length, slice_index_or, if◌then◌else◌}
+use Rattle.std.specs.Prelude.{◌≡◌, ◌≢◌, ◌<◌, ◌==◌, ℕ, Bool, List, [], ◌∷◌, Option, Some, None, length, slice_index_or, if◌then◌else◌, is_some, unwrap_or}
 use Rattle.std.specs.List.{list_any}
+use Rattle.std.specs.Ordering.{nat_cmp}
+use Rattle.std.specs.BTreeMap.{get}
 use Rattle.pot_outside.specs.declared.archive.Shelf.{Shelf}
 use Rattle.pot_outside.specs.Archives.{Meaning}
-use Rattle.pot_doubles.specs.Archives.{held_in}
+use Rattle.pot_doubles.specs.Archives.{held_in, heard_by}
+use Rattle.pot_doubles.specs.declared.room.MemRoom.{MemRoom}
 use Rattle.pot_doubles.specs.declared.archive.LossyArchive.{LossyArchive}
 
 -- the archive of the first shelf with this number
@@ -13,12 +16,24 @@ archive_of (shelf ∷ shelves) number = if shelf.number == number then Some shel
 
 -- what an archive means; a number without one means an empty archive with counts of 0
 abbrev pub meaning_of : Option LossyArchive → Meaning
-meaning_of None = record { held = λ k. None; history = []; faults = 0; losses = 0 }
-meaning_of (Some a) = record { held = held_in a; history = a.past.items; faults = a.calls.faults; losses = a.lost }
+meaning_of None = record { held = λ k. None; history = []; heard = []; faults = 0; losses = 0 }
+meaning_of (Some a) = record { held = held_in a; history = a.past.items; heard = heard_by a; faults = a.calls.faults; losses = a.lost }
 
--- what some shelves mean by a number
-abbrev pub meaning_in : List (Shelf LossyArchive) → ℕ → Meaning
-meaning_in shelves number = meaning_of (archive_of shelves number)
+-- what a room means by a number
+abbrev pub means_in : MemRoom → ℕ → Meaning
+means_in r number = meaning_of (archive_of r.shelves.items number)
+
+-- whether the archive of a number is out
+abbrev pub is_out : MemRoom → ℕ → Bool
+is_out r number = is_some (get nat_cmp r.lent number)
+
+-- for a number that is out, the archive's count of faults when it was taken
+abbrev pub lent_of : MemRoom → ℕ → ℕ
+lent_of r number = unwrap_or (get nat_cmp r.lent number) 0
+
+-- a call leaves a number as it was
+abbrev pub SameAt : MemRoom → MemRoom → ℕ → Type 0
+SameAt old new n = (means_in new n ≡ means_in old n) × (is_out new n ≡ is_out old n) × (lent_of new n ≡ lent_of old n)
 
 -- the shelf at this place has the number, and no shelf before it has
 pub record IsFirst (shelves : List (Shelf LossyArchive)) (number place : ℕ) : Type 0 where

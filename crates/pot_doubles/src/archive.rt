@@ -2,16 +2,24 @@ ghost use Rattle.pot_doubles.specs.Kept.{IsKept};
 
 use crate::calls::Calls;
 use crate::losses::{Loss, lose_listed};
-use pot_bytes::Block;
+use pot_bytes::{Block, fold_weighted};
 use pot_outside::{Archive, Failed, Held, Marks};
 use std::alloc::Global;
 use std::collections::BTreeMap;
+
+/// A sum that an archive heard, as it was before the block of this slot came to it.
+#[derive(Clone, Copy)]
+pub struct Heard {
+    pub slot: u32,
+    pub sum: Block,
+}
 
 /// Blocks in memory, of which some go missing where a test says so.
 #[derive(Drop)]
 pub struct LossyArchive {
     blocks: BTreeMap<u32, Block>,
     past: Vec<Block>,
+    heard: Vec<Heard>,
     losses: Vec<Loss>,
     lost: u64,
     calls: Calls,
@@ -19,18 +27,19 @@ pub struct LossyArchive {
 }
 
 impl LossyArchive {
-    ghost use Rattle.std.specs.Prelude.{◌≡◌, ℕ, [], None, false, IsTrue};
+    ghost use Rattle.std.specs.Prelude.{◌≡◌, ℕ, [], None, false, IsTrue, map};
     ghost use Rattle.std.specs.Option.{option_copied};
     ghost use Rattle.pot_outside.specs.Archives.{OnlyLoses};
     ghost use Rattle.pot_outside.specs.Counts.{Caused};
     ghost use Rattle.pot_doubles.specs.Calls.{is_due, begun};
-    ghost use Rattle.pot_doubles.specs.Archives.{held_in, LosesListed, LosesOne};
+    ghost use Rattle.pot_doubles.specs.Archives.{held_in, heard_by, LosesListed, LosesOne};
 
     /// An archive without blocks. The calls of the numbers `fails` are to fail, and the losses come at the
     /// start of their calls.
     pub fn new(alloc: Global, fails: Vec<u32>, losses: Vec<Loss>) -> LossyArchive
         ensures held { (k : ℕ) → held_in result k ≡ None }
         ensures past { result.past.items ≡ [] }
+        ensures heard { heard_by result ≡ [] }
         ensures lost { result.lost ≡ 0 }
         ensures losses { result.losses ≡ losses }
         ensures calls { result.calls ≡ record { fails = fails; made = 0; faults = 0; starved = false } }
@@ -38,6 +47,7 @@ impl LossyArchive {
         LossyArchive {
             blocks: BTreeMap::new(alloc),
             past: Vec::new(alloc),
+            heard: Vec::new(alloc),
             losses,
             lost: 0,
             calls: Calls::new(fails),
@@ -59,6 +69,13 @@ impl LossyArchive {
         self.blocks.get(&slot)
     }
 
+    /// The sums heard, in order.
+    pub fn heard(&self) -> &[Heard]
+        ensures { map (λ h. (h.slot, h.sum)) result.now ≡ heard_by self.now }
+    {
+        &self.heard
+    }
+
     /// Whether a call found no memory. It then failed.
     pub fn starved(&self) -> bool
         ensures { result ≡ self.now.calls.starved }
@@ -70,6 +87,7 @@ impl LossyArchive {
     fn begin(&mut self) -> bool
         ensures loses { OnlyLoses (held_in self.old) (held_in self.new) self.old.lost self.new.lost }
         ensures listed { LosesListed self.old self.new }
+        ensures heard { self.new.heard ≡ self.old.heard }
         ensures due { result ≡ is_due self.old.calls }
         ensures counted { self.new.calls ≡ begun self.old.calls }
         ensures cause { Caused self.old.calls.faults self.new.calls.faults (IsTrue result) }
@@ -81,10 +99,11 @@ impl LossyArchive {
 }
 
 impl Archive for LossyArchive {
-    ghost use Rattle.std.specs.Prelude.{◌≡◌, ℕ, List, Option, true, IsTrue, IsErr};
-    ghost use Rattle.pot_outside.specs.Archives.{OnlyLoses, ReadTells, WriteTells, Remembers, IsRemembered};
+    ghost use Rattle.std.specs.Prelude.{◌≡◌, ◌<◌, ℕ, List, Option, true, IsErr};
+    ghost use Rattle.pot_outside.specs.Archives.{OnlyLoses, ReadTells, FoldTells, LeavesSum, HearsFold, WriteTells, Remembers, IsRemembered};
     ghost use Rattle.pot_outside.specs.Counts.{Caused};
-    ghost use Rattle.pot_doubles.specs.Archives.{held_in};
+    ghost use Rattle.pot_doubles.specs.Calls.{Counted};
+    ghost use Rattle.pot_doubles.specs.Archives.{held_in, heard_by, LosesListed, Writes, lost_after_losses};
 
     ghost tells = { true };
 
@@ -92,11 +111,21 @@ impl Archive for LossyArchive {
 
     ghost history = { λ a. a.past.items };
 
+    ghost heard = { heard_by };
+
     ghost faults = { λ a. a.calls.faults };
 
     ghost losses = { λ a. a.lost };
 
-    fn read(&mut self, slot: u32, into: &mut Block) -> Result<Held, Failed> {
+    fn read(&mut self, slot: u32, into: &mut Block) -> Result<Held, Failed>
+        ensures told { ReadTells (held_in self.new) slot into.new result }
+        ensures loses { OnlyLoses (held_in self.old) (held_in self.new) self.old.lost self.new.lost }
+        ensures past { self.new.past.items ≡ self.old.past.items }
+        ensures heard { heard_by self.new ≡ heard_by self.old }
+        ensures cause { Caused self.old.calls.faults self.new.calls.faults (IsErr result) }
+        ensures listed { LosesListed self.old self.new }
+        ensures counted { Counted self.old.calls self.new.calls result }
+    {
         if self.begin() {
             return Err(Failed);
         }
@@ -109,7 +138,40 @@ impl Archive for LossyArchive {
         }
     }
 
-    fn write(&mut self, slot: u32, block: &Block) -> Result<(), Failed> {
+    fn fold(&mut self, slot: u32, weight: u8, sum: &mut Block) -> Result<Held, Failed>
+        requires { 0 < weight }
+        ensures told { FoldTells (held_in self.new) slot weight sum.old sum.new result }
+        ensures leaves { LeavesSum sum.old sum.new result }
+        ensures loses { OnlyLoses (held_in self.old) (held_in self.new) self.old.lost self.new.lost }
+        ensures past { self.new.past.items ≡ self.old.past.items }
+        ensures hears { HearsFold (heard_by self.old) (heard_by self.new) slot sum.old result }
+        ensures cause { Caused self.old.calls.faults self.new.calls.faults (IsErr result) }
+        ensures listed { LosesListed self.old self.new }
+        ensures counted { Counted self.old.calls self.new.calls result }
+    {
+        if self.begin() {
+            return Err(Failed);
+        }
+        if self.heard.push(Heard { slot, sum: *sum }).is_err() {
+            self.calls.starve();
+            return Err(Failed);
+        }
+        let Some(block) = self.blocks.get(&slot) else {
+            return Ok(Held::Absent);
+        };
+        fold_weighted(sum, weight, block);
+        Ok(Held::Held)
+    }
+
+    fn write(&mut self, slot: u32, block: &Block) -> Result<(), Failed>
+        ensures told { WriteTells (held_in self.old) (held_in self.new) self.old.lost self.new.lost slot block.now result }
+        ensures past { Remembers self.old.past.items self.new.past.items block.now result }
+        ensures heard { heard_by self.new ≡ heard_by self.old }
+        ensures cause { Caused self.old.calls.faults self.new.calls.faults (IsErr result) }
+        ensures writes { Writes self.old self.new slot block.now result }
+        ensures lost { self.new.lost ≡ lost_after_losses self.old }
+        ensures counted { Counted self.old.calls self.new.calls result }
+    {
         if self.begin() {
             return Err(Failed);
         }
@@ -131,5 +193,84 @@ impl Archive for LossyArchive {
             faults: self.calls.faults(),
             losses: self.lost,
         }
+    }
+}
+
+#[cfg(test)]
+mod tests {
+    use super::*;
+    use std::test::Fail;
+
+    #[test]
+    fn loses_what_is_listed(rt: HostRuntime) -> Result<(), Fail> {
+        let alloc = rt.alloc();
+        let losses = [Loss { call: 2, slot: 7 }, Loss { call: 2, slot: 9 }];
+        let mut archive = LossyArchive::new(alloc, [3, 4].to_vec(alloc)?, losses.to_vec(alloc)?);
+        let mut into = Block::zero();
+        assert_eq!(rt; archive.write(7, &Block::from_bytes([3; 1024])), Ok(()));
+        assert_eq!(rt; archive.read(7, &mut into), Ok(Held::Held));
+        assert_eq!(rt; into.bytes()[5], 3);
+        assert_eq!(rt;
+            archive.marks(),
+            Marks {
+                faults: 0,
+                losses: 0
+            }
+        );
+        assert_eq!(rt; archive.read(7, &mut into), Ok(Held::Absent));
+        assert_eq!(rt;
+            archive.marks(),
+            Marks {
+                faults: 0,
+                losses: 2
+            }
+        );
+        assert_eq!(rt; archive.write(8, &into), Err(Failed));
+        assert_eq!(rt; archive.read(8, &mut into), Err(Failed));
+        assert_eq!(rt;
+            archive.marks(),
+            Marks {
+                faults: 2,
+                losses: 2
+            }
+        );
+        assert!(rt; archive.block(8).is_none());
+        assert_eq!(rt; archive.write(8, &Block::from_bytes([4; 1024])), Ok(()));
+        assert!(rt; archive.block(8).is_some_and(|block| block.bytes()[0] == 4));
+        archive.lose(8);
+        assert_eq!(rt; archive.read(8, &mut into), Ok(Held::Absent));
+        assert_eq!(rt;
+            archive.marks(),
+            Marks {
+                faults: 2,
+                losses: 3
+            }
+        );
+        assert!(rt; !archive.starved());
+        Ok(())
+    }
+
+    #[test]
+    fn hears_what_is_folded(rt: HostRuntime) -> Result<(), Fail> {
+        let alloc = rt.alloc();
+        let mut archive = LossyArchive::new(alloc, [3].to_vec(alloc)?, Vec::new(alloc));
+        assert_eq!(rt; archive.write(8, &Block::from_bytes([4; 1024])), Ok(()));
+        let mut sum = Block::from_bytes([1; 1024]);
+        // 2 times 83 is 1d in the field of FIPS 197, 4.2, and 4 times 83 is 3a.
+        let wanted = [
+            (7, Ok(Held::Absent), 1),
+            (8, Ok(Held::Held), 0x3b),
+            (8, Err(Failed), 0x3b),
+        ];
+        for (slot, answer, byte) in wanted {
+            assert_eq!(rt; archive.fold(slot, 0x83, &mut sum), answer);
+            assert_eq!(rt; sum.bytes()[9], byte);
+        }
+        let [first, second] = archive.heard() else {
+            return Err("heard".into());
+        };
+        assert_eq!(rt; (first.slot, first.sum.bytes()[0]), (7, 1));
+        assert_eq!(rt; (second.slot, second.sum.bytes()[0]), (8, 1));
+        Ok(())
     }
 }

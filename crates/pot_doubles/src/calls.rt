@@ -1,6 +1,6 @@
 ghost use Rattle.std.specs.Prelude.{◌≡◌, ◌≤◌, false, IsTrue};
 ghost use Rattle.pot_outside.specs.Counts.{Caused, Rose};
-ghost use Rattle.pot_doubles.specs.Calls.{is_due, begun, starving};
+ghost use Rattle.pot_doubles.specs.Calls.{is_due, begun, starving, covering};
 
 /// The calls of a double so far: which ones are to fail, and how often it failed.
 #[derive(Drop)]
@@ -60,7 +60,7 @@ impl Calls {
     pub fn cover(&mut self, before: u64, now: u64)
         ensures covers { Rose before now → Rose self.old.faults self.new.faults }
         ensures later { self.old.faults ≤ self.new.faults }
-        ensures rest { self.new ≡ record self.old { faults = self.new.faults } }
+        ensures counted { self.new ≡ covering before now self.old }
     {
         if before < now || now == u64::MAX {
             self.faults = self.faults.saturating_add(1);

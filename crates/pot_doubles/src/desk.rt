@@ -1,5 +1,3 @@
-ghost use Rattle.std.specs.Prelude.{◌≡◌, false};
-
 use crate::calls::Calls;
 use pot_outside::{Desk, DeskFault, Failed};
 use std::alloc::Global;
@@ -13,9 +11,12 @@ pub struct MemDesk {
 }
 
 impl MemDesk {
+    ghost use Rattle.std.specs.Prelude.{◌≡◌, false, option_map};
+    ghost use Rattle.pot_doubles.specs.Desks.{image_of};
+
     /// A desk with this image, or none. The calls of the numbers `fails` are to fail.
     pub fn new(alloc: Global, image: Option<Vec<u8>>, fails: Vec<u32>) -> MemDesk
-        ensures image { result.image ≡ image }
+        ensures image { image_of result ≡ option_map (λ v. v.items) image }
         ensures calls { result.calls ≡ record { fails = fails; made = 0; faults = 0; starved = false } }
     {
         MemDesk {
@@ -34,17 +35,25 @@ impl MemDesk {
 }
 
 impl Desk for MemDesk {
-    ghost use Rattle.std.specs.Prelude.{◌≡◌, List, ℕ, Option, Some, None, true, option_map, IfOk, MatchOption, IsErr, IsErrOf};
+    ghost use Rattle.std.specs.Prelude.{◌≡◌, ◌↔◌, List, ℕ, Option, Some, None, true, IfOk, OnErr, MatchOption, IsTrue, IsErr, IsErrOf};
     ghost use Rattle.pot_outside.specs.Counts.{Caused};
     ghost use Rattle.pot_outside.specs.Streams.{Replaces};
+    ghost use Rattle.pot_doubles.specs.Calls.{Counted, begun, is_due};
+    ghost use Rattle.pot_doubles.specs.Desks.{image_of};
 
     ghost tells = { true };
 
-    ghost held = { λ d. option_map (λ v. v.items) d.image };
+    ghost held = { image_of };
 
     ghost faults = { λ d. d.calls.faults };
 
-    fn read(&mut self) -> Result<Option<Vec<u8>>, DeskFault> {
+    fn read(&mut self) -> Result<Option<Vec<u8>>, DeskFault>
+        ensures told { IfOk result (λ o. MatchOption o (image_of self.old ≡ None) (λ v. image_of self.old ≡ Some v.items)) }
+        ensures keeps { image_of self.new ≡ image_of self.old }
+        ensures cause { Caused self.old.calls.faults self.new.calls.faults (IsErrOf result DeskFault.Failed) }
+        ensures fails { IsErrOf result DeskFault.Failed ↔ IsTrue (is_due self.old.calls) }
+        ensures counted { self.new.calls ≡ begun self.old.calls }
+    {
         if self.calls.begin() {
             return Err(DeskFault::Failed);
         }
@@ -57,7 +66,12 @@ impl Desk for MemDesk {
         }
     }
 
-    fn replace(&mut self, image: &[u8]) -> Result<(), Failed> {
+    fn replace(&mut self, image: &[u8]) -> Result<(), Failed>
+        ensures told { Replaces (image_of self.old) (image_of self.new) image.now result }
+        ensures cause { Caused self.old.calls.faults self.new.calls.faults (IsErr result) }
+        ensures err { OnErr result (image_of self.new ≡ image_of self.old) }
+        ensures counted { Counted self.old.calls self.new.calls result }
+    {
         if self.calls.begin() {
             return Err(Failed);
         }
@@ -71,5 +85,30 @@ impl Desk for MemDesk {
                 Err(Failed)
             }
         }
+    }
+}
+
+#[cfg(test)]
+mod tests {
+    use super::*;
+    use std::test::Fail;
+
+    #[test]
+    fn reads_and_replaces(rt: HostRuntime) -> Result<(), Fail> {
+        let alloc = rt.alloc();
+        let mut desk = MemDesk::new(alloc, None, [3, 4].to_vec(alloc)?);
+        assert!(rt; desk.read().is_ok_and(|image| image.is_none()));
+        assert_eq!(rt; desk.replace(b"one"), Ok(()));
+        assert!(rt;
+            desk.read().is_ok_and(|image| image.is_some_and(|v| v.as_slice() == b"one".as_slice()))
+        );
+        assert!(rt; desk.read().is_err_and(|fault| fault == DeskFault::Failed));
+        assert_eq!(rt; desk.replace(b"two"), Err(Failed));
+        assert!(rt;
+            desk.read().is_ok_and(|image| image.is_some_and(|v| v.as_slice() == b"one".as_slice()))
+        );
+        assert_eq!(rt; desk.calls.faults(), 2);
+        assert!(rt; !desk.starved());
+        Ok(())
     }
 }

@@ -60,3 +60,27 @@ impl Gate for PairGate {
         }
     }
 }
+
+#[cfg(test)]
+mod tests {
+    use super::*;
+    use std::test::Fail;
+
+    #[test]
+    fn waits_for_position_1(rt: HostRuntime) -> Result<(), Fail> {
+        OpenGate.before(0);
+        OpenGate.after(0);
+        let gate = PairGate::new(5);
+        assert!(rt; !gate.met());
+        gate.before(0);
+        assert!(rt; !gate.met());
+        gate.after(0);
+        gate.before(0);
+        assert!(rt; !gate.met());
+        gate.before(1);
+        gate.after(1);
+        gate.before(0);
+        assert!(rt; gate.met());
+        Ok(())
+    }
+}

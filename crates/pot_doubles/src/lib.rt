@@ -18,7 +18,7 @@ mod losses;
 mod room;
 mod streams;
 
-pub use archive::LossyArchive;
+pub use archive::{Heard, LossyArchive};
 pub use desk::MemDesk;
 pub use gate::{OpenGate, PairGate};
 pub use losses::Loss;

@@ -1,8 +1,6 @@
 ghost use Rattle.std.specs.Prelude.{◌≡◌, ◌≢◌, ◌||◌, ℕ, OnOk, OnErr, IfOk, IfErr, MatchOption, false};
 ghost use Rattle.std.specs.Option.{option_copied};
-ghost use Rattle.std.specs.Ordering.{nat_cmp};
-ghost use Rattle.std.specs.BTreeMap.{get};
-ghost use Rattle.pot_doubles.specs.Rooms.{archive_of, any_starved, IsFirst};
+ghost use Rattle.pot_doubles.specs.Rooms.{archive_of, meaning_of, means_in, is_out, any_starved, IsFirst};
 
 use crate::LossyArchive;
 use crate::calls::Calls;
@@ -23,8 +21,8 @@ pub struct MemRoom {
 impl MemRoom {
     /// A room of these archives, with none out. The calls of the numbers `fails` are to fail.
     pub fn new(alloc: Global, archives: Vec<Shelf<LossyArchive>>, fails: Vec<u32>) -> MemRoom
-        ensures shelves { result.shelves.items ≡ archives.items }
-        ensures lent { (n : ℕ) → get nat_cmp result.lent n ≡ None }
+        ensures means { (n : ℕ) → means_in result n ≡ meaning_of (archive_of archives.items n) }
+        ensures lent { (n : ℕ) → is_out result n ≡ false }
         ensures calls { result.calls ≡ record { fails = fails; made = 0; faults = 0; starved = false } }
     {
         MemRoom {
@@ -113,22 +111,35 @@ fn place_of(shelves: &[Shelf<LossyArchive>], number: u32) -> Option<usize>
 }
 
 impl Room for MemRoom {
-    ghost use Rattle.std.specs.Prelude.{◌≡◌, ◌≢◌, ℕ, Bool, is_some, unwrap_or};
-    ghost use Rattle.std.specs.Ordering.{nat_cmp};
-    ghost use Rattle.std.specs.BTreeMap.{get};
-    ghost use Rattle.pot_doubles.specs.Rooms.{meaning_in};
+    ghost use Rattle.std.specs.Prelude.{◌≡◌, ◌≢◌, ◌↔◌, ℕ, true, false, IsTrue, IsErr, IsErrOf, IfOk, OnOk, OnErr};
+    ghost use Rattle.pot_outside.specs.Counts.{Caused, Rose};
+    ghost use Rattle.pot_outside.specs.Archives.{IsMeant};
+    ghost use Rattle.pot_doubles.specs.Archives.{held_in, heard_by};
+    ghost use Rattle.pot_doubles.specs.Calls.{begun, is_due, covering, Answered};
+    ghost use Rattle.pot_doubles.specs.Rooms.{means_in, is_out, lent_of, SameAt};
 
     type A = LossyArchive;
 
-    ghost means = { λ r n. meaning_in r.shelves.items n };
+    ghost means = { means_in };
 
-    ghost out = { λ r n. is_some (get nat_cmp r.lent n) };
+    ghost out = { is_out };
 
-    ghost lent = { λ r n. unwrap_or (get nat_cmp r.lent n) 0 };
+    ghost lent = { lent_of };
 
     ghost faults = { λ r. r.calls.faults };
 
-    fn take(&mut self, number: u32) -> Result<LossyArchive, RoomFault> {
+    fn take(&mut self, number: u32) -> Result<LossyArchive, RoomFault>
+        requires { is_out self.old number ≡ false }
+        ensures told { IfOk result (λ a. IsMeant (means_in self.old number) (held_in a) a.past.items (heard_by a) a.calls.faults a.lost) }
+        ensures lends { IfOk result (λ a. lent_of self.new number ≡ a.calls.faults) }
+        ensures taken { OnOk result (is_out self.new number ≡ true) }
+        ensures refused { OnErr result (is_out self.new number ≡ false) }
+        ensures unchanged { OnErr result (means_in self.new number ≡ means_in self.old number) }
+        ensures others { (n : ℕ) → n ≢ number → SameAt self.old self.new n }
+        ensures cause { Caused self.old.calls.faults self.new.calls.faults (IsErrOf result RoomFault.Failed) }
+        ensures fails { IsErrOf result RoomFault.Failed ↔ IsTrue (is_due self.old.calls) }
+        ensures counted { self.new.calls ≡ begun self.old.calls }
+    {
         if self.calls.begin() {
             return Err(RoomFault::Failed);
         }
@@ -145,7 +156,15 @@ impl Room for MemRoom {
         }
     }
 
-    fn give(&mut self, number: u32, archive: LossyArchive) -> Result<(), Failed> {
+    fn give(&mut self, number: u32, archive: LossyArchive) -> Result<(), Failed>
+        requires { is_out self.old number ≡ true }
+        ensures told { OnOk result (IsMeant (means_in self.new number) (held_in archive) archive.past.items (heard_by archive) archive.calls.faults archive.lost) }
+        ensures back { is_out self.new number ≡ false }
+        ensures others { (n : ℕ) → n ≢ number → SameAt self.old self.new n }
+        ensures covers { Rose (lent_of self.old number) archive.calls.faults → Rose self.old.calls.faults self.new.calls.faults }
+        ensures cause { Caused self.old.calls.faults self.new.calls.faults (IsErr result) }
+        ensures counted { Answered (is_due self.old.calls) (covering (lent_of self.old number) archive.calls.faults (begun self.old.calls)) self.new.calls result }
+    {
         let fails = self.calls.begin();
         let before = self.lent.remove(&number).unwrap_or(0);
         self.calls.cover(before, archive.marks().faults);
@@ -159,5 +178,58 @@ impl Room for MemRoom {
                 Err(Failed)
             }
         }
+    }
+}
+
+#[cfg(test)]
+mod tests {
+    use super::*;
+    use pot_bytes::Block;
+    use std::test::Fail;
+
+    /// An archive whose slot 0 is filled with this byte, and of which the second call fails.
+    fn filled(alloc: Global, byte: u8) -> Result<LossyArchive, Fail> {
+        let mut archive = LossyArchive::new(alloc, [1].to_vec(alloc)?, Vec::new(alloc));
+        archive
+            .write(0, &Block::from_bytes([byte; 1024]))
+            .map_err(|_| "no memory")?;
+        Ok(archive)
+    }
+
+    fn first_byte(room: &MemRoom, number: u32) -> Option<u8> {
+        Some(room.archive(number)?.block(0)?.bytes()[0])
+    }
+
+    #[test]
+    fn lends_and_takes_back(rt: HostRuntime) -> Result<(), Fail> {
+        let alloc = rt.alloc();
+        let mut shelves = Vec::new(alloc);
+        for (number, byte) in [(5, 50), (6, 60), (5, 55)] {
+            shelves.push(Shelf {
+                number,
+                archive: filled(alloc, byte)?,
+            })?;
+        }
+        let mut room = MemRoom::new(alloc, shelves, [2, 5].to_vec(alloc)?);
+        assert_eq!(rt; first_byte(&room, 5), Some(50));
+        let mut archive = room.take(5).map_err(|_| "take")?;
+        let mut into = Block::zero();
+        assert!(rt; archive.read(0, &mut into).is_err());
+        assert!(rt; archive.read(0, &mut into).is_ok());
+        assert_eq!(rt; into.bytes()[0], 50);
+        let empty = room.take(9).map_err(|_| "take")?;
+        assert!(rt; empty.block(0).is_none());
+        assert!(rt; room.take(6).is_err_and(|fault| fault == RoomFault::Failed));
+        assert_eq!(rt; first_byte(&room, 6), Some(60));
+        assert_eq!(rt; room.calls.faults(), 1);
+        assert_eq!(rt; room.give(5, archive), Ok(()));
+        assert_eq!(rt; room.calls.faults(), 2);
+        assert_eq!(rt; first_byte(&room, 5), Some(50));
+        assert_eq!(rt; room.give(9, empty), Ok(()));
+        let taken = room.take(9);
+        assert!(rt; taken.is_err());
+        assert_eq!(rt; room.calls.faults(), 3);
+        assert!(rt; room.archive(9).is_some() && !room.starved());
+        Ok(())
     }
 }

@@ -140,3 +140,39 @@ impl Sink for MemSink {
         }
     }
 }
+
+#[cfg(test)]
+mod tests {
+    use super::*;
+    use std::test::Fail;
+
+    #[test]
+    fn sources_and_sinks(rt: HostRuntime) -> Result<(), Fail> {
+        let alloc = rt.alloc();
+        let mut source = MemSource::new([1, 2, 3, 4, 5].to_vec(alloc)?, [1].to_vec(alloc)?);
+        let mut into = [0; 3];
+        let wanted: [(Result<usize, Failed>, [u8; 3]); 5] = [
+            (Ok(3), [1, 2, 3]),
+            (Err(Failed), [1, 2, 3]),
+            (Ok(2), [4, 5, 3]),
+            (Ok(0), [4, 5, 3]),
+            (Ok(0), [4, 5, 3]),
+        ];
+        for (answer, bytes) in wanted {
+            assert_eq!(rt; source.read(&mut into), answer);
+            assert_eq!(rt; into, bytes);
+        }
+        assert_eq!(rt; source.calls.faults(), 1);
+        assert!(rt; !source.starved());
+
+        let mut sink = MemSink::new(alloc, [1].to_vec(alloc)?);
+        assert_eq!(rt; sink.write(b"ab"), Ok(2));
+        assert_eq!(rt; sink.write(b"cd"), Err(Failed));
+        assert_eq!(rt; sink.write(b""), Ok(0));
+        assert_eq!(rt; sink.write(b"ef"), Ok(2));
+        assert_eq!(rt; sink.written(), b"abef".as_slice());
+        assert_eq!(rt; sink.calls.faults(), 1);
+        assert!(rt; !sink.starved());
+        Ok(())
+    }
+}

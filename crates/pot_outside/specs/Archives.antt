@@ -1,5 +1,7 @@
 -- What a call of an archive does to its blocks, and what a room means by a number.
 use Rattle.std.specs.Prelude.{◌≡◌, ◌≢◌, ◌<◌, ◌≤◌, ◌-◌, ◌^◌, ◌==◌, ◌⊎◌, ◌++◌, ℕ, List, [], ◌∷◌, Option, Some, None, Result, Ok, Err, Contains, if◌then◌else◌}
+use Rattle.pot_bytes.specs.Sums.{xor}
+use Rattle.pot_bytes.specs.Weighted.{scaled}
 use Rattle.pot_outside.specs.declared.archive.Held.{Held as IsHeld}
 use Rattle.pot_outside.specs.declared.archive.Held.TheVariants.{Held, Absent}
 use Rattle.pot_outside.specs.declared.faults.Failed.{Failed}
@@ -24,6 +26,24 @@ ReadTells held slot into (Ok Held) = held slot ≡ Some into
 ReadTells held slot into (Ok Absent) = held slot ≡ None
 ReadTells held slot into (Err e) = Unit {0}
 
+-- `Held`: the sum became the old sum XOR the weight times the slot's block; `Absent`: the slot has none
+abbrev pub FoldTells : Contents → ℕ → ℕ → List ℕ → List ℕ → Result IsHeld Failed → Type 0
+FoldTells held slot weight before after (Ok Held) =
+    (block : List ℕ) × (held slot ≡ Some block) × (after ≡ xor before (scaled weight block))
+FoldTells held slot weight before after (Ok Absent) = held slot ≡ None
+FoldTells held slot weight before after (Err e) = Unit {0}
+
+-- where no block was added the sum is as it was
+abbrev pub LeavesSum : List ℕ → List ℕ → Result IsHeld Failed → Type 0
+LeavesSum before after (Ok Held) = Unit {0}
+LeavesSum before after (Ok Absent) = after ≡ before
+LeavesSum before after (Err e) = after ≡ before
+
+-- a fold is heard with its slot and the sum before it, and one that fails may not be heard
+abbrev pub HearsFold : List (ℕ × List ℕ) → List (ℕ × List ℕ) → ℕ → List ℕ → Result IsHeld Failed → Type 0
+HearsFold old new slot sum (Ok h) = new ≡ old ++ (slot, sum) ∷ []
+HearsFold old new slot sum (Err e) = (new ≡ old) ⊎ (new ≡ old ++ (slot, sum) ∷ [])
+
 -- what a failed write may leave in its slot: the old block, the new one or none
 abbrev pub MayLeave : Contents → ℕ → List ℕ → Option (List ℕ) → Type 0
 MayLeave old slot block left = (left ≡ old slot) ⊎ ((left ≡ Some block) ⊎ (left ≡ None))
@@ -43,16 +63,19 @@ Remembers old new block (Err e) = (new ≡ old) ⊎ (new ≡ old ++ block ∷ []
 abbrev pub IsRemembered : Contents → List (List ℕ) → Type 0
 IsRemembered held history = (k : ℕ) (b : List ℕ) → held k ≡ Some b → Contains history b
 
--- what a room means by one number: the blocks, those ever held, and the two counts
+-- what a room means by one number: the blocks, those ever held, the sums heard, and the two counts
 pub record Meaning : Type 0 where
   pub held : Contents
   pub history : List (List ℕ)
+  pub heard : List (ℕ × List ℕ)
   pub faults : ℕ
   pub losses : ℕ
 
 -- an archive is as the room means it
-pub record IsMeant (meaning : Meaning) (held : Contents) (history : List (List ℕ)) (faults losses : ℕ) : Type 0 where
+pub record IsMeant (meaning : Meaning) (held : Contents) (history : List (List ℕ)) (heard : List (ℕ × List ℕ)) (faults losses : ℕ)
+    : Type 0 where
   pub blocks : (slot : ℕ) → held slot ≡ meaning.held slot
   pub past : history ≡ meaning.history
+  pub sums : heard ≡ meaning.heard
   pub faulted : faults ≡ meaning.faults
   pub lost : losses ≡ meaning.losses

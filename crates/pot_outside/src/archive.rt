@@ -1,6 +1,6 @@
-ghost use Rattle.std.specs.Prelude.{◌≡◌, ℕ, List, Bool, Option, IsTrue, IsErr, false};
+ghost use Rattle.std.specs.Prelude.{◌≡◌, ◌<◌, ℕ, List, Bool, Option, IsTrue, IsErr, false};
 ghost use Rattle.pot_outside.specs.Counts.{Caused};
-ghost use Rattle.pot_outside.specs.Archives.{OnlyLoses, ReadTells, WriteTells, Remembers, IsRemembered};
+ghost use Rattle.pot_outside.specs.Archives.{OnlyLoses, ReadTells, FoldTells, LeavesSum, HearsFold, WriteTells, Remembers, IsRemembered};
 
 use crate::Failed;
 use pot_bytes::Block;
@@ -30,7 +30,7 @@ pub struct Shelf<A> {
 /// Blocks by slot number.
 ///
 /// Any call but `marks` may lose blocks, and a loss raises the count of losses. No call alters a block
-/// other than that of the slot which it writes.
+/// other than that of the slot which it writes. Only `fold` changes the sums heard.
 pub trait Archive {
     /// Whether archives of this type tell their contents.
     ghost tells: { Bool };
@@ -40,6 +40,9 @@ pub trait Archive {
 
     /// Every block that was held at the beginning or written since.
     ghost history: { Self → List (List ℕ) };
+
+    /// The sums that `fold` was given, in order, each with the slot that it was to read.
+    ghost heard: { Self → List (ℕ × List ℕ) };
 
     /// How often the archive failed.
     ghost faults: { Self → ℕ };
@@ -55,6 +58,21 @@ pub trait Archive {
         ensures told { IsTrue tells → ReadTells (held self.new) slot into.new result }
         ensures loses { IsTrue tells → OnlyLoses (held self.old) (held self.new) (losses self.old) (losses self.new) }
         ensures past { IsTrue tells → history self.new ≡ history self.old }
+        ensures heard { IsTrue tells → heard self.new ≡ heard self.old }
+        ensures cause { Caused (faults self.old) (faults self.new) (IsErr result) };
+
+    /// XORs the block of a slot, times a weight, into `sum`, where the slot has one. The archive hears the
+    /// sum as it was before.
+    ///
+    /// # Errors
+    /// `Failed` only where the count of faults rose; the sum is then as it was, and was heard or not.
+    fn fold(&mut self, slot: u32, weight: u8, sum: &mut Block) -> Result<Held, Failed>
+        requires { 0 < weight }
+        ensures told { IsTrue tells → FoldTells (held self.new) slot weight sum.old sum.new result }
+        ensures leaves { LeavesSum sum.old sum.new result }
+        ensures loses { IsTrue tells → OnlyLoses (held self.old) (held self.new) (losses self.old) (losses self.new) }
+        ensures past { IsTrue tells → history self.new ≡ history self.old }
+        ensures hears { IsTrue tells → HearsFold (heard self.old) (heard self.new) slot sum.old result }
         ensures cause { Caused (faults self.old) (faults self.new) (IsErr result) };
 
     /// Writes the block of a slot. After `Ok` the slot holds it or has lost it.
@@ -64,6 +82,7 @@ pub trait Archive {
     fn write(&mut self, slot: u32, block: &Block) -> Result<(), Failed>
         ensures told { IsTrue tells → WriteTells (held self.old) (held self.new) (losses self.old) (losses self.new) slot block.now result }
         ensures past { IsTrue tells → Remembers (history self.old) (history self.new) block.now result }
+        ensures heard { IsTrue tells → heard self.new ≡ heard self.old }
         ensures cause { Caused (faults self.old) (faults self.new) (IsErr result) };
 
     /// The counts now. It loses nothing.

@@ -7,13 +7,13 @@ use Rattle.pot_doubles.proofs.archive.LossyArchiveArchive.write.Goals as goal
 
 pub returns-then-begin-clause-told : goal.returns-then-begin-clause-told
 returns-then-begin-clause-told c =
-    λ t. (_, inl refl, loses_at_same (held_in c.args.self.now) (held_in c.begin.new.self) c.args.slot _ _ c.begin.ensures.loses)
+    (_, inl refl, loses_at_same (held_in c.args.self.now) (held_in c.begin.new.self) c.args.slot _ _ c.begin.ensures.loses)
 
 pub returns-then-is_err-clause-told : goal.returns-then-is_err-clause-told
 returns-then-is_err-clause-told c =
-    λ t. (_, inl refl, loses_at_same (held_in c.args.self.now) (held_in c.begin.new.self) c.args.slot _ _ c.begin.ensures.loses)
+    (_, inl refl, loses_at_same (held_in c.args.self.now) (held_in c.begin.new.self) c.args.slot _ _ c.begin.ensures.loses)
 
 pub invariant_of-self-in-Ok : goal.invariant_of-self-in-Ok
 invariant_of-self-in-Ok c =
     let stored : is_ok c.push.result ≡ true = grind (arith, common_steps, c.is_err.ensures.value, c.is_err.ensures.negation) in
-    rw (c.push.ensures.items, stored) (record { kept = kept_written c.begin.new.self.blocks c.insert.new.self c.begin.new.self.past.items c.args.slot c.args.block.now c.begin.new.self.kept c.in-Ok.ensures.updates.0 })
+    rw (c.push.ensures.items, stored) (record { kept = kept_written c.begin.new.self.blocks c.insert.new.self c.begin.new.self.past.items _ c.args.block.now c.begin.new.self.kept c.in-Ok.ensures.updates.0 })
