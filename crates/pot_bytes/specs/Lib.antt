@@ -1,4 +1,5 @@
 pub mod Digests
 pub mod KeptNames
 pub mod Names
+pub mod Rack
 pub mod Sums

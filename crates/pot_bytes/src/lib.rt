@@ -14,6 +14,7 @@ mod digest;
 mod memory;
 mod name;
 mod parts;
+mod rack;
 mod strings;
 
 pub use block::{Block, xor_into};
@@ -21,6 +22,7 @@ pub use digest::{Digest, digest_of};
 pub use memory::NoMemory;
 pub use name::Name;
 pub use parts::digest_of_two;
+pub use rack::{Geometry, Place, Rack};
 pub use strings::Bytes;
 
 #[cfg(test)]
