@@ -1,0 +1,5 @@
+pub mod Slot
+pub mod Column
+pub mod Table
+pub mod Machine
+pub mod Rules

@@ -1,0 +1,17 @@
+//! The machine of a group: the table of its slots, columns and relays, and the entries of the log that change it.
+#![tactic(auto)]
+
+mod changes;
+mod column;
+mod entry;
+mod legality;
+mod parts;
+mod relay;
+mod slot;
+
+pub use column::{Column, Moving};
+pub use entry::Entry;
+pub use parts::Cursor;
+pub use pot_bytes::NoMemory;
+pub use relay::Relay;
+pub use slot::SlotState;

@@ -1,0 +1,14 @@
+//! Relays.
+
+/// A relay, which rebuilds one slot of a stripe.
+#[derive(Clone, Copy, Debug)]
+pub struct Relay {
+    /// The stripe that it stands in.
+    pub stripe: u32,
+    /// The column of the slot that it rebuilds.
+    pub target: u8,
+    /// The other Lost slot of the stripe, if there was one when it began.
+    pub skip: Option<u8>,
+    /// The last column that it went over, if it went over one.
+    pub last: Option<u8>,
+}
