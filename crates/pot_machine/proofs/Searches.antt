@@ -82,3 +82,13 @@ count_most (suc n) test = (let ih : count n test ≤ n = count_most n test in le
 -- another column whose slot passes
 pub other_passes : (k c : ℕ) (b : Bool) → k ≢ c → b ≡ true → not (nat_eq k c) && b ≡ true
 other_passes k c b ne h = grind (arith, nat_tests)
+
+-- where no number is counted, there is no least
+pub none_counted : (n : ℕ) (test : ℕ → Bool) → count n test ≡ 0 → least n test ≡ None
+unfolding least count
+none_counted zero test h = refl
+none_counted (suc n) test h = rw (none_counted n test (omega arith)) (step (test n) (omega arith))
+  where
+    step : (b : Bool) → ◌≡◌ {A = ℕ} (if b then 1 else 0) 0 → or_else None (if b then Some n else None) ≡ None
+    step true h = absurd (omega arith)
+    step false h = refl

@@ -6,7 +6,7 @@ use Rattle.pot_machine.specs.declared.column.Column.{Column}
 use Rattle.pot_machine.specs.declared.relay.Relay.{Relay}
 use Rattle.pot_machine.specs.declared.parts.Cursor.{Cursor}
 use Rattle.pot_machine.specs.Slot.{is_void, is_lost, is_unsound}
-use Rattle.pot_machine.specs.Column.{names}
+use Rattle.pot_machine.specs.Column.{names, serving}
 
 -- The data columns stand first, behind them the parity column P, and behind it Q where there are two.
 pub record Table : Type 0 where
@@ -40,6 +40,10 @@ column_at t c = slice_index_or t.columns c no_column
 
 abbrev pub relay_in : List Relay → ℕ → Option Relay
 relay_in relays s = find (λ r. r.stripe == s) relays
+
+-- the archive that serves a slot
+abbrev pub serving_at : Table → ℕ → ℕ → ℕ
+serving_at t s c = serving (column_at t c) s
 
 -- the relay that stands in a stripe
 abbrev pub relay_at : Table → ℕ → Option Relay

@@ -8,6 +8,7 @@ mod legality;
 mod parts;
 mod relay;
 mod slot;
+mod table;
 
 pub use column::{Column, Moving};
 pub use entry::Entry;
@@ -15,3 +16,4 @@ pub use parts::Cursor;
 pub use pot_bytes::NoMemory;
 pub use relay::Relay;
 pub use slot::SlotState;
+pub use table::GroupTable;

@@ -43,6 +43,36 @@ impl Model for Parts {
 }
 
 impl Parts {
+    pub(crate) fn cursor(&self) -> Cursor
+        ensures { result ≡ self.now.cursor }
+    {
+        self.cursor
+    }
+
+    pub(crate) fn stripes(&self) -> u32
+        ensures { result ≡ self.now.stripes }
+    {
+        self.stripes
+    }
+
+    pub(crate) fn parity(&self) -> u8
+        ensures { result ≡ self.now.parity }
+    {
+        self.parity
+    }
+
+    pub(crate) fn columns(&self) -> &[Column]
+        ensures { result.now ≡ self.now.columns }
+    {
+        &self.columns
+    }
+
+    pub(crate) fn relays(&self) -> &[Relay]
+        ensures { result.now ≡ self.now.relays }
+    {
+        &self.relays
+    }
+
     pub(crate) fn width(&self) -> u8
         ensures value { result ≡ width self.now }
         ensures small { result ≤ 18 }

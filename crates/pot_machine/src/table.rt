@@ -1,0 +1,118 @@
+//! The table of a group.
+ghost use Rattle.std.specs.Prelude.{◌≡◌, ◌<◌, ◌↔◌, IsTrue, length, IfOk, [], replicate};
+ghost use Rattle.pot_machine.specs.Table.{width, slot_at, column_at, serving_at, next_column};
+ghost use Rattle.pot_machine.specs.Machine.{Legal, after, Replayed, stuck_by};
+ghost use Rattle.pot_machine.specs.Rules.{IsTable};
+
+use crate::column::Column;
+use crate::entry::Entry;
+use crate::parts::{Cursor, Parts};
+use crate::relay::Relay;
+use crate::slot::SlotState;
+use std::marker::Model;
+
+/// The table of a group. Contracts see a record of its sizes, its cursor, its columns, its slots and its relays.
+#[derive(Drop)]
+pub struct GroupTable {
+    parts: Parts,
+}
+
+impl Model for GroupTable {
+    ghost use Rattle.pot_machine.specs.Table.{Table};
+
+    ghost Value = { Table };
+
+    ghost use Rattle.pot_machine.specs.Rules.{IsTable};
+
+    ghost view = { λ t. t.parts };
+
+    ghost invariant = { λ t. IsTable t.parts };
+}
+
+impl GroupTable {
+    /// Where the next put goes.
+    pub fn cursor(&self) -> Cursor
+        ensures value { result ≡ self.now.cursor }
+        ensures rules { IsTable self.now }
+    {
+        self.parts.cursor()
+    }
+
+    /// The number of stripes.
+    pub fn stripes(&self) -> u32
+        ensures value { result ≡ self.now.stripes }
+        ensures rules { IsTable self.now }
+    {
+        self.parts.stripes()
+    }
+
+    /// The number of parity columns, 1 or 2.
+    pub fn parity(&self) -> u8
+        ensures value { result ≡ self.now.parity }
+        ensures rules { IsTable self.now }
+    {
+        self.parts.parity()
+    }
+
+    /// The columns, data columns first.
+    pub fn columns(&self) -> &[Column]
+        ensures value { result.now ≡ self.now.columns }
+        ensures rules { IsTable self.now }
+    {
+        self.parts.columns()
+    }
+
+    /// The relays, in the order in which they began.
+    pub fn relays(&self) -> &[Relay]
+        ensures value { result.now ≡ self.now.relays }
+        ensures rules { IsTable self.now }
+    {
+        self.parts.relays()
+    }
+
+    /// The state of a slot.
+    pub fn slot(&self, stripe: u32, column: u8) -> SlotState
+        requires stripe { stripe < self.now.stripes }
+        requires column { column < width self.now }
+        ensures { result ≡ slot_at self.now stripe column }
+    {
+        self.parts.slot(stripe, column)
+    }
+
+    /// The number of the archive that serves a slot: the target of the column's move for stripes below its position,
+    /// else the column's home.
+    pub fn archive_of(&self, stripe: u32, column: u8) -> u32
+        requires { column < width self.now }
+        ensures { result ≡ serving_at self.now stripe column }
+    {
+        self.parts.column(column).serving(stripe)
+    }
+
+    /// Whether the entry is legal.
+    pub fn legal(&self, entry: &Entry) -> bool
+        ensures { IsTrue result ↔ Legal self.now entry.now }
+    {
+        self.parts.legal(entry)
+    }
+
+    /// Does what a legal entry says. It takes no memory.
+    pub fn apply(&mut self, entry: &Entry)
+        requires { Legal self.old entry.now }
+        ensures { self.new ≡ after self.old entry.now }
+    {
+        self.parts.apply(entry);
+    }
+
+    /// Applies the longest front of the entries of which each is legal in turn, and says whether that is all of them.
+    pub fn replay(&mut self, entries: &[Entry]) -> bool
+        ensures { Replayed self.old self.new entries.now result }
+    {
+        for entry in entries {
+            if !self.legal(entry) {
+                return false;
+            }
+            self.apply(entry);
+        }
+        true
+    }
+}
