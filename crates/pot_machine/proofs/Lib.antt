@@ -6,3 +6,5 @@ pub mod Voids
 pub mod Columns
 pub mod Relays
 pub mod Kept
+pub mod Logs
+pub mod Empty

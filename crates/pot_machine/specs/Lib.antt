@@ -3,3 +3,4 @@ pub mod Column
 pub mod Table
 pub mod Machine
 pub mod Rules
+pub mod Making

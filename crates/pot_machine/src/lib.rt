@@ -5,6 +5,7 @@ mod changes;
 mod column;
 mod entry;
 mod legality;
+mod making;
 mod parts;
 mod relay;
 mod slot;

@@ -3,12 +3,16 @@ ghost use Rattle.std.specs.Prelude.{◌≡◌, ◌<◌, ◌↔◌, IsTrue, lengt
 ghost use Rattle.pot_machine.specs.Table.{width, slot_at, column_at, serving_at, next_column};
 ghost use Rattle.pot_machine.specs.Machine.{Legal, after, Replayed, stuck_by};
 ghost use Rattle.pot_machine.specs.Rules.{IsTable};
+ghost use Rattle.pot_machine.specs.Making.{empty_table, table_of};
+ghost use Rattle.pot_bytes.specs.Rack.{IsRack};
 
 use crate::column::Column;
 use crate::entry::Entry;
 use crate::parts::{Cursor, Parts};
 use crate::relay::Relay;
 use crate::slot::SlotState;
+use pot_bytes::{NoMemory, Rack};
+use std::alloc::Global;
 use std::marker::Model;
 
 /// The table of a group. Contracts see a record of its sizes, its cursor, its columns, its slots and its relays.
@@ -30,6 +34,41 @@ impl Model for GroupTable {
 }
 
 impl GroupTable {
+    /// The table of a new group: no slot is used, the cursor is at the first place, and column c has the archive of
+    /// number group·w + c as its home, where w is the number of columns of a group.
+    pub fn empty(alloc: Global, rack: &Rack, group: u8) -> Result<GroupTable, NoMemory>
+        requires rack { IsRack rack.now }
+        requires group { group < rack.now.groups }
+        ensures { IfOk result (λ t. t ≡ empty_table rack.now group) }
+    {
+        let parts = Parts::empty(alloc, rack, group)?;
+        Ok(GroupTable { parts })
+    }
+
+    /// The table of these parts, without relays. The last columns are the parity columns, 1 or 2.
+    pub fn from_parts(
+        alloc: Global,
+        stripes: u32,
+        cursor: Cursor,
+        columns: Vec<Column>,
+        slots: Vec<SlotState>,
+        parity: u8,
+    ) -> Result<GroupTable, NoMemory>
+        requires { IsTable (table_of stripes cursor columns.items slots.items parity) }
+        ensures { IfOk result (λ t. t ≡ table_of stripes cursor columns.items slots.items parity) }
+    {
+        let parts = Parts::from_parts(alloc, stripes, cursor, columns, slots, parity)?;
+        Ok(GroupTable { parts })
+    }
+
+    /// An equal table.
+    pub fn copy(&self, alloc: Global) -> Result<GroupTable, NoMemory>
+        ensures { IfOk result (λ t. t ≡ self.now) }
+    {
+        let parts = self.parts.copy(alloc)?;
+        Ok(GroupTable { parts })
+    }
+
     /// Where the next put goes.
     pub fn cursor(&self) -> Cursor
         ensures value { result ≡ self.now.cursor }
