@@ -104,26 +104,23 @@ columns_keep t c x columns h = record {
 
 -- what a put has left of the table, but for its cursor
 module _ (t : Table) (s c : ℕ) (digest parity_digest : Digest) (kept : Bool) (stripe : s < t.stripes) (column : c < t.wide) (size : HasSize t) where
-  data_written : Table
-  data_written = with_slot t s c (Live digest)
-
-  size_put : HasSize (with_put t s c digest parity_digest kept)
+  pub size_put : HasSize (with_put t s c digest parity_digest kept)
   size_put = size_slot (with_slot t s c (Live digest)) s t.wide (parity_slot parity_digest kept) (size_slot t s c (Live digest) size)
 
-  p_column : t.wide < width t
+  pub p_column : t.wide < width t
   p_column = (let one : 1 ≤ t.parity = size.parity.0 in omega arith)
 
-  put_other : (n k : ℕ) → k < width t → ((n ≡ s) × (k ≡ c) → ⊥) → ((n ≡ s) × (k ≡ t.wide) → ⊥) → slot_at (with_put t s c digest parity_digest kept) n k ≡ slot_at t n k
+  pub put_other : (n k : ℕ) → k < width t → ((n ≡ s) × (k ≡ c) → ⊥) → ((n ≡ s) × (k ≡ t.wide) → ⊥) → slot_at (with_put t s c digest parity_digest kept) n k ≡ slot_at t n k
   put_other n k lk data_place parity_place =
       slot_other (with_slot t s c (Live digest)) s t.wide n k (parity_slot parity_digest kept) p_column lk parity_place
       ∙ slot_other t s c n k (Live digest) (omega arith) lk data_place
 
-  put_data : slot_at (with_put t s c digest parity_digest kept) s c ≡ Live digest
+  pub put_data : slot_at (with_put t s c digest parity_digest kept) s c ≡ Live digest
   put_data =
       slot_other (with_slot t s c (Live digest)) s t.wide s c (parity_slot parity_digest kept) p_column (omega arith) (λ e. (let q : c ≡ t.wide = e.1 in omega arith))
       ∙ slot_same t s c (Live digest) size.slots stripe (omega arith)
 
-  put_parity : slot_at (with_put t s c digest parity_digest kept) s t.wide ≡ parity_slot parity_digest kept
+  pub put_parity : slot_at (with_put t s c digest parity_digest kept) s t.wide ≡ parity_slot parity_digest kept
   put_parity = slot_same (with_slot t s c (Live digest)) s t.wide (parity_slot parity_digest kept) (size_slot t s c (Live digest) size).slots stripe p_column
 
   put_is_put : t.parity ≡ 1 → IsPut t (with_cursor (with_put t s c digest parity_digest kept) (past t s c)) s c
@@ -160,14 +157,14 @@ put_keeps t s c digest parity_digest kept single l h =
 
 -- with two parity columns the slot of Q is written too
 module _ (t : Table) (s c : ℕ) (digest parity_digest second_digest : Digest) (kept kept2 : Bool) (stripe : s < t.stripes) (column : c < t.wide) (size : HasSize t) (double : t.parity ≡ 2) where
-  q_column : t.wide + 1 < width t
+  pub q_column : t.wide + 1 < width t
   q_column = omega arith
 
-  put2_other : (n k : ℕ) → k < width t → ((n ≡ s) × (k ≡ t.wide + 1) → ⊥)
+  pub put2_other : (n k : ℕ) → k < width t → ((n ≡ s) × (k ≡ t.wide + 1) → ⊥)
     → slot_at (with_slot (with_put t s c digest parity_digest kept) s (t.wide + 1) (parity_slot second_digest kept2)) n k ≡ slot_at (with_put t s c digest parity_digest kept) n k
   put2_other n k lk ne = slot_other (with_put t s c digest parity_digest kept) s (t.wide + 1) n k (parity_slot second_digest kept2) q_column lk ne
 
-  put2_second : slot_at (with_slot (with_put t s c digest parity_digest kept) s (t.wide + 1) (parity_slot second_digest kept2)) s (t.wide + 1) ≡ parity_slot second_digest kept2
+  pub put2_second : slot_at (with_slot (with_put t s c digest parity_digest kept) s (t.wide + 1) (parity_slot second_digest kept2)) s (t.wide + 1) ≡ parity_slot second_digest kept2
   put2_second = slot_same (with_put t s c digest parity_digest kept) s (t.wide + 1) (parity_slot second_digest kept2)
       (size_put t s c digest parity_digest kept stripe column size).slots stripe q_column
 

@@ -8,3 +8,4 @@ pub mod Relays
 pub mod Kept
 pub mod Logs
 pub mod Empty
+pub mod LeftAlone

@@ -1,10 +1,11 @@
 -- Logs that grow.
-use Rattle.std.proofs.Common.{◌≡◌, ◌<◌, ◌≤◌, ◌+◌, ℕ, zero, suc, Bool, true, false, IsTrue, List, [], ◌∷◌, ◌++◌, length, get_or, take, Option, Some, None, slice_get, refl, sym, ap, ◌∙◌, subst, arith, add-one}
+use Rattle.std.proofs.Common.{◌≡◌, ◌⊎◌, ◌↔◌, inl, inr, ◌<◌, ◌≤◌, ◌+◌, ℕ, zero, suc, Bool, true, false, IsTrue, List, [], ◌∷◌, ◌++◌, length, get_or, take, Option, Some, None, slice_get, refl, sym, ap, ◌∙◌, subst, arith, add-one}
 use Rattle.std.proofs.Math.Seq.{take-suc}
 use Rattle.std.proofs.lemmas.Option.{slice_get_past, get_or_from_slice_get}
 use Rattle.pot_machine.specs.declared.entry.Entry.{Entry}
 use Rattle.pot_machine.specs.Table.{Table}
 use Rattle.pot_machine.specs.Machine.{Legal, after, Replays, Replayed}
+use Rattle.pot_machine.specs.Laws.{ReplayedOnce, LogsGoOn, LogsLeadOnce}
 
 -- a log goes on by an entry that is legal at its end
 pub replays_more : (t : Table) (log : List Entry) (u : Table) (e : Entry) → Replays t log u → Legal u e → Replays t (log ++ e ∷ []) (after u e)
@@ -48,3 +49,34 @@ replayed_front t u log i d r lt wrong = record {
 
 pub not_both : {b : Bool} → b ≡ true → b ≡ false → ⊥
 not_both p q = absurd (cc)
+
+-- where one front is longer than another, its next entry is legal behind the shorter one
+next_legal : (t : Table) (log : List Entry) (i j : ℕ) (u v : Table) → i < j → j ≤ length log → Replays t (take i log) u → Replays t (take j log) v → (e : Entry) × (slice_get log i ≡ Some e) × Legal u e
+next_legal t [] i j u v lt le r s = absurd (omega arith)
+next_legal t (x ∷ log) zero zero u v lt le r s = absurd (omega arith)
+next_legal t (x ∷ log) zero (suc j) u v lt le r s = (x, refl, subst (λ w. Legal w x) (sym r) s.0)
+next_legal t (x ∷ log) (suc i) zero u v lt le r s = absurd (omega arith)
+next_legal t (x ∷ log) (suc i) (suc j) u v lt le r s = next_legal (after t x) log i j u v (omega arith) (omega arith) r.1 s.1
+
+order : (i j : ℕ) → (i ≡ j) ⊎ ((i < j) ⊎ (j < i))
+order i j = grind arith
+
+same_truth : (a b : Bool) (m n k : ℕ) → m ≡ n → IsTrue a ↔ (m ≡ k) → IsTrue b ↔ (n ≡ k) → a ≡ b
+same_truth true true m n k e p q = refl
+same_truth true false m n k e p q = absurd (not_both (q.1 (sym e ∙ p.0 refl)) refl)
+same_truth false true m n k e p q = absurd (not_both (p.1 (e ∙ q.0 refl)) refl)
+same_truth false false m n k e p q = refl
+
+pub replayed_once : ReplayedOnce
+replayed_once t u v entries whole all r s = elim (order r.applied s.applied) [
+    | inl e ↦ (replays_once t (take r.applied entries) u v r.replays (subst (λ n. Replays t (take n entries) v) (sym e) s.replays),
+        same_truth whole all r.applied s.applied (length entries) e r.all s.all)
+    | inr ne ↦ absurd (elim ne [
+      | inl lt ↦ (let n : (e : Entry) × (slice_get entries r.applied ≡ Some e) × Legal u e = next_legal t entries r.applied s.applied u v lt s.within r.replays s.replays in r.stops n.0 n.1 n.2)
+      | inr lt ↦ (let n : (e : Entry) × (slice_get entries s.applied ≡ Some e) × Legal v e = next_legal t entries s.applied r.applied v u lt r.within s.replays r.replays in s.stops n.0 n.1 n.2) ]) ]
+
+pub logs_go_on : LogsGoOn
+logs_go_on t u log e r l = replays_more t log u e r l
+
+pub logs_lead_once : LogsLeadOnce
+logs_lead_once t u v log r s = replays_once t log u v r s

@@ -4,3 +4,4 @@ pub mod Table
 pub mod Machine
 pub mod Rules
 pub mod Making
+pub mod Laws

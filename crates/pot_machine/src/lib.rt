@@ -4,6 +4,7 @@
 mod changes;
 mod column;
 mod entry;
+mod laws;
 mod legality;
 mod making;
 mod parts;
@@ -13,6 +14,7 @@ mod table;
 
 pub use column::{Column, Moving};
 pub use entry::Entry;
+pub use laws::machine_laws;
 pub use parts::Cursor;
 pub use pot_bytes::NoMemory;
 pub use relay::Relay;
