@@ -22,13 +22,14 @@ column_other t c k x ne = get_or-set_other t.columns c k x no_column ne
 
 -- the same columns
 pub columns_kept : (t u : Table) → u.columns ≡ t.columns → width u ≡ width t → u.stripes ≡ t.stripes → HasColumns t → HasColumns u
-columns_kept t u e wide stripes h =
+columns_kept t u e data_columns stripes h =
     let at : (c : ℕ) → column_at u c ≡ column_at t c = λ c. ap (λ xs. get_or xs c no_column) e in
     record {
       target = λ c lt. subst (λ x. IfSome x.moving (λ m. (m.to ≢ x.home) × (m.upto ≤ u.stripes))) (sym (at c))
-        (subst (λ z. IfSome (column_at t c).moving (λ m. (m.to ≢ (column_at t c).home) × (m.upto ≤ z))) (sym stripes) (h.target c (omega arith)));
+          (subst (λ z. IfSome (column_at t c).moving (λ m. (m.to ≢ (column_at t c).home) × (m.upto ≤ z))) (sym stripes) (h.target c (omega arith)));
       distinct = λ c k number lc lk nc nk. h.distinct c k number (omega arith) (omega arith)
-        (sym (ap (λ x. names x number) (at c)) ∙ nc) (sym (ap (λ x. names x number) (at k)) ∙ nk) }
+          (sym (ap (λ x. names x number) (at c)) ∙ nc) (sym (ap (λ x. names x number) (at k)) ∙ nk);
+    }
 
 not_both : {b : Bool} → b ≡ true → b ≡ false → ⊥
 not_both p q = absurd (cc)
@@ -39,21 +40,27 @@ module _ (t : Table) (c : ℕ) (x : Column) (sized : length t.columns ≡ width 
     (own : (number : ℕ) → IsTrue (names x number) → IsTrue (names (column_at t c) number) ⊎ (holder_of t number ≡ None)) where
   alone : (k number : ℕ) → k < width t → k ≢ c → IsTrue (names x number) → IsTrue (names (column_at t k) number) → ⊥
   alone k number lk ne nx nk = elim (own number nx) [
-      | inl e ↦ ne (h.distinct k c number lk below nk e)
-      | inr e ↦ not_both nk (least_none (width t) (λ j. names (column_at t j) number) e k lk) ]
+    | inl e ↦ ne (h.distinct k c number lk below nk e)
+    | inr e ↦ not_both nk (least_none (width t) (λ j. names (column_at t j) number) e k lk)
+  ]
 
   pub columns_with : HasColumns (with_column t c x)
   columns_with = record {
-      target = λ k lt. elim (same_or k c) [
-        | inl e ↦ subst (λ y. IfSome y.moving (λ m. (m.to ≢ y.home) × (m.upto ≤ t.stripes))) (sym (ap (λ j. column_at (with_column t c x) j) e ∙ column_same t c x sized below)) target
-        | inr ne ↦ subst (λ y. IfSome y.moving (λ m. (m.to ≢ y.home) × (m.upto ≤ t.stripes))) (sym (column_other t c k x ne)) (h.target k lt) ];
-      distinct = λ j k number lj lk nj nk. elim (same_or j c) [
-        | inl e ↦ elim (same_or k c) [
-          | inl f ↦ e ∙ sym f
-          | inr nf ↦ absurd (alone k number lk nf (now_own j number e nj) (sym (ap (λ y. names y number) (column_other t c k x nf)) ∙ nk)) ]
-        | inr ne ↦ elim (same_or k c) [
-          | inl f ↦ absurd (alone j number lj ne (now_own k number f nk) (sym (ap (λ y. names y number) (column_other t c j x ne)) ∙ nj))
-          | inr nf ↦ h.distinct j k number lj lk (sym (ap (λ y. names y number) (column_other t c j x ne)) ∙ nj) (sym (ap (λ y. names y number) (column_other t c k x nf)) ∙ nk) ] ] }
+    target = λ k lt. elim (same_or k c) [
+      | inl e ↦ subst (λ y. IfSome y.moving (λ m. (m.to ≢ y.home) × (m.upto ≤ t.stripes))) (sym (ap (λ j. column_at (with_column t c x) j) e ∙ column_same t c x sized below)) target
+      | inr ne ↦ subst (λ y. IfSome y.moving (λ m. (m.to ≢ y.home) × (m.upto ≤ t.stripes))) (sym (column_other t c k x ne)) (h.target k lt)
+    ];
+    distinct = λ j k number lj lk nj nk. elim (same_or j c) [
+      | inl e ↦ elim (same_or k c) [
+        | inl f ↦ e ∙ sym f
+        | inr nf ↦ absurd (alone k number lk nf (now_own j number e nj) (sym (ap (λ y. names y number) (column_other t c k x nf)) ∙ nk))
+      ]
+      | inr ne ↦ elim (same_or k c) [
+        | inl f ↦ absurd (alone j number lj ne (now_own k number f nk) (sym (ap (λ y. names y number) (column_other t c j x ne)) ∙ nj))
+        | inr nf ↦ h.distinct j k number lj lk (sym (ap (λ y. names y number) (column_other t c j x ne)) ∙ nj) (sym (ap (λ y. names y number) (column_other t c k x nf)) ∙ nk)
+      ]
+    ];
+  }
     where
       now_own : (k number : ℕ) → k ≡ c → IsTrue (names (column_at (with_column t c x) k) number) → IsTrue (names x number)
       now_own k number e n = sym (ap (λ y. names y number) (ap (λ j. column_at (with_column t c x) j) e ∙ column_same t c x sized below)) ∙ n
@@ -91,12 +98,13 @@ not_named (Some m) home number h = other_number home number (neither (home == nu
 -- the four changes of a column
 
 pub move_begins : (t : Table) (c to : ℕ) → length t.columns ≡ width t → HasColumns t → TakesArchive t c to
-  → HasColumns (with_column t c (record (column_at t c) { moving = Some (record { to = to; upto = 0 }) }))
+    → HasColumns (with_column t c (record (column_at t c) { moving = Some (record { to = to; upto = 0 }) }))
 move_begins t c to sized h l = columns_with t c (record (column_at t c) { moving = Some (record { to = to; upto = 0 }) }) sized l.0 h
     ((λ e. not_named (column_at t c).moving (column_at t c).home to (least_none (width t) (λ j. names (column_at t j) to) l.1 c l.0) (sym e)), omega arith)
     (λ number n. elim (either ((column_at t c).home == number) (to == number) n) [
       | inl e ↦ inl (subst (λ j. names_moved (column_at t c).moving (column_at t c).home j ≡ true) (same_number (column_at t c).home number e) (names_home (column_at t c).moving (column_at t c).home))
-      | inr e ↦ inr (subst (λ j. holder_of t j ≡ None) (same_number to number e) l.1) ])
+      | inr e ↦ inr (subst (λ j. holder_of t j ≡ None) (same_number to number e) l.1)
+    ])
 
 pub swaps : (t : Table) (c to : ℕ) → length t.columns ≡ width t → HasColumns t → TakesArchive t c to → HasColumns (with_column t c (record { home = to; moving = None }))
 swaps t c to sized h l = columns_with t c (record { home = to; moving = None }) sized l.0 h tt
@@ -104,7 +112,7 @@ swaps t c to sized h l = columns_with t c (record { home = to; moving = None }) 
 
 -- a column that moves on, or is at home again, names no other archives
 moved_on_target : (o : Option Moving) (home s z : ℕ) → IsSomeAnd o (λ m. m.upto ≡ s) → s < z → IfSome o (λ m. (m.to ≢ home) × (m.upto ≤ z))
-  → IfSome (moved_on (record { home = home; moving = o })).moving (λ m. (m.to ≢ home) × (m.upto ≤ z))
+    → IfSome (moved_on (record { home = home; moving = o })).moving (λ m. (m.to ≢ home) × (m.upto ≤ z))
 moved_on_target None home s z at lt h = absurd at
 moved_on_target (Some m) home s z at lt h = (h.0, omega arith)
 

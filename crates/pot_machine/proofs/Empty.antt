@@ -42,24 +42,28 @@ module _ (rack : Rack) (group : ℕ) (fits : IsRack rack) where
 
   pub empty_is_table : IsTable (empty_table rack group)
   empty_is_table = record {
-      size = record {
-        wide = fits.columns;
-        parity = fits.parity;
-        stripes = fits.stripes;
-        columns = length-map-range_with_len column_home (group * (rack.columns + rack.parity)) (rack.columns + rack.parity);
-        slots = length-replicate (rack.stripes * (rack.columns + rack.parity)) Void;
-        relays = omega arith };
-      cursor = record { stripe = omega arith; column = fits.columns.0; behind = λ e. refl };
-      voids = record {
-        first = λ s c k ls le lk v. is_empty s k;
-        parity = λ s c ls lw lc. is_empty s c ∙ sym (is_empty s 0);
-        after = λ s c ls lz lc. is_empty s c;
-        cursor = λ c lz lc. is_empty 0 c ∙ sym (from_zero c) };
-      columns = record {
-        target = λ c lt. subst (λ x. IfSome x.moving (λ m. (m.to ≢ x.home) × (m.upto ≤ rack.stripes))) (sym (empty_column c lt)) tt;
-        distinct = λ c k number lc lk nc nk. (let e : group * (rack.columns + rack.parity) + c ≡ number = numbered c number lc nc in
-          let f : group * (rack.columns + rack.parity) + k ≡ number = numbered k number lk nk in omega arith) };
-      relays = record { apart = λ i j d li lj. absurd (omega arith); standing = λ k d lt. absurd (omega arith) } }
+    size = record {
+      data_columns = fits.columns;
+      parity = fits.parity;
+      stripes = fits.stripes;
+      columns = length-map-range_with_len column_home (group * (rack.columns + rack.parity)) (rack.columns + rack.parity);
+      slots = length-replicate (rack.stripes * (rack.columns + rack.parity)) Void;
+      relays = omega arith;
+    };
+    cursor = record { stripe = omega arith; column = fits.columns.0; behind = λ e. refl };
+    voids = record {
+      first = λ s c k ls le lk v. is_empty s k;
+      parity = λ s c ls lw lc. is_empty s c ∙ sym (is_empty s 0);
+      after = λ s c ls lz lc. is_empty s c;
+      cursor = λ c lz lc. is_empty 0 c ∙ sym (from_zero c);
+    };
+    columns = record {
+      target = λ c lt. subst (λ x. IfSome x.moving (λ m. (m.to ≢ x.home) × (m.upto ≤ rack.stripes))) (sym (empty_column c lt)) tt;
+      distinct = λ c k number lc lk nc nk. (let e : group * (rack.columns + rack.parity) + c ≡ number = numbered c number lc nc in
+          let f : group * (rack.columns + rack.parity) + k ≡ number = numbered k number lk nk in omega arith);
+    };
+    relays = record { apart = λ i j d li lj. absurd (omega arith); standing = λ k d lt. absurd (omega arith) };
+  }
     where
       from_zero : (c : ℕ) → nat_le 0 c ≡ true
       from_zero c = grind (arith, nat_tests)

@@ -11,8 +11,8 @@ use Rattle.pot_machine.specs.Slot.{is_void, is_live, digest_in, lost_of, broken_
 use Rattle.pot_machine.specs.Table.{Table, width, slot_at, column_at, no_column, relay_in, relay_at}
 use Rattle.pot_machine.specs.Machine.{Legal, after, TakesPut, with_slot, with_loss, with_losses, with_column, hopped, Replays}
 use Rattle.pot_machine.specs.Rules.{IsTable}
-use Rattle.pot_machine.specs.Laws.{PutsInto, WritesSlot, MakesLive, MovesCursor, ChangesColumn, ChangesRelay, SizesStay, SlotsStay, DigestsStay, DataStays, LiveByPut, CursorStays, ColumnsStay, RelaysStay, RulesStay, LogsWentOn}
-use Rattle.pot_machine.proofs.Sizes.{gave_up_range, wide-with_losses, width-with_losses, stripes-with_losses}
+use Rattle.pot_machine.specs.Laws.{PutsInto, WritesSlot, MakesLive, MovesCursor, ChangesColumn, ChangesRelay, SizesStay, SlotsStay, DigestsStay, DataStays, LiveByPut, CursorStays, ColumnsStay, RelaysStay, RulesStay, LogsWentOn, ParityVoid}
+use Rattle.pot_machine.proofs.Sizes.{gave_up_range, data_columns-with_losses, width-with_losses, stripes-with_losses}
 use Rattle.pot_machine.proofs.Places.{slot_after, slot_same, slot_other}
 use Rattle.pot_machine.proofs.Columns.{column_other}
 use Rattle.pot_machine.proofs.Kept.{put_other, put2_other, after_keeps}
@@ -36,7 +36,7 @@ relays-with_losses (suc n) t c = relays-with_losses n t c
 pub sizes_stay : SizesStay
 sizes_stay t (Moved job s c true) = (refl, refl, refl)
 sizes_stay t (Moved job s c false) = (refl, refl, refl)
-sizes_stay t (Swapped job c to) = (wide-with_losses t.stripes t c, parity-with_losses t.stripes t c, stripes-with_losses t.stripes t c)
+sizes_stay t (Swapped job c to) = (data_columns-with_losses t.stripes t c, parity-with_losses t.stripes t c, stripes-with_losses t.stripes t c)
 sizes_stay t _ = (refl, refl, refl)
 
 pub cursor_stays : CursorStays
@@ -70,6 +70,7 @@ find-hopped (x ∷ relays) s c n ne = step (x.stripe == n) refl ∙ ap (λ o. co
   where
     same : (a b c : ℕ) → (a == b) ≡ true → b ≢ c → (a == c) ≡ false
     same a b c e ne = grind (arith, nat_tests)
+
     step : (b : Bool) → (x.stripe == n) ≡ b → cond (x.stripe == n) (Some (hopped s c x)) (relay_in (map (hopped s c) relays) n) ≡ cond (x.stripe == n) (Some x) (relay_in (map (hopped s c) relays) n)
     step true e = ap (λ b. cond (x.stripe == n) (Some (record { stripe = x.stripe; target = x.target; skip = x.skip; last = if b then Some c else x.last })) (relay_in (map (hopped s c) relays) n)) (same x.stripe n s e ne)
     step false e = rw e refl
@@ -80,8 +81,10 @@ find-without (x ∷ relays) s n ne = step (x.stripe == s) refl ∙ ap (λ o. con
   where
     other : (a b c : ℕ) → (a == b) ≡ true → c ≢ b → (a == c) ≡ false
     other a b c e ne = grind (arith, nat_tests)
+
     rest : List Relay
     rest = filter (λ r. not (r.stripe == s)) relays
+
     step : (b : Bool) → (x.stripe == s) ≡ b → relay_in (cond (not (x.stripe == s)) (x ∷ rest) rest) n ≡ cond (x.stripe == n) (Some x) (relay_in rest n)
     step true e = rw e (sym (ap (λ b. cond b (Some x) (relay_in rest n)) (other x.stripe s n e ne)))
     step false e = rw e refl
@@ -104,15 +107,15 @@ losses_other (suc m) t c n k lc lk ne =
     let w : width (with_losses m t c) ≡ width t = width-with_losses m t c in
     slot_other (with_losses m t c) m c n k (lost_of (slot_at (with_losses m t c) m c)) (omega arith) (omega arith) (λ e. ne e.1) ∙ losses_other m t c n k lc lk ne
 
-put_column : (t : Table) (s c : ℕ) → IsTable t → TakesPut t s c → c < t.wide
-put_column t s c h l = let q : c ≡ t.cursor.column = l.1 in let b : t.cursor.column < t.wide = h.cursor.column in omega arith
+put_column : (t : Table) (s c : ℕ) → IsTable t → TakesPut t s c → c < t.data_columns
+put_column t s c h l = let q : c ≡ t.cursor.column = l.1 in let b : t.cursor.column < t.data_columns = h.cursor.column in omega arith
 
 pub slots_stay : SlotsStay
 slots_stay t (Put job s c digest parity_digest kept) n k h l lk apart =
-    put_other t s c digest parity_digest kept l.1.0.1 (put_column t s c h l.1) h.size n k lk (λ e. apart (e.0, inl e.1)) (λ e. apart (e.0, inr (let q : k ≡ t.wide = e.1 in omega arith)))
+    put_other t s c digest parity_digest kept l.1.0.1 (put_column t s c h l.1) h.size n k lk (λ e. apart (e.0, inl e.1)) (λ e. apart (e.0, inr (let q : k ≡ t.data_columns = e.1 in omega arith)))
 slots_stay t (Put2 job s c digest parity_digest second_digest kept kept2) n k h l lk apart =
-    put2_other t s c digest parity_digest second_digest kept kept2 l.1.0.1 (put_column t s c h l.1) h.size l.0 n k lk (λ e. apart (e.0, inr (let q : k ≡ t.wide + 1 = e.1 in omega arith)))
-    ∙ put_other t s c digest parity_digest kept l.1.0.1 (put_column t s c h l.1) h.size n k lk (λ e. apart (e.0, inl e.1)) (λ e. apart (e.0, inr (let q : k ≡ t.wide = e.1 in omega arith)))
+    put2_other t s c digest parity_digest second_digest kept kept2 l.1.0.1 (put_column t s c h l.1) h.size l.0 n k lk (λ e. apart (e.0, inr (let q : k ≡ t.data_columns + 1 = e.1 in omega arith)))
+    ∙ put_other t s c digest parity_digest kept l.1.0.1 (put_column t s c h l.1) h.size n k lk (λ e. apart (e.0, inl e.1)) (λ e. apart (e.0, inr (let q : k ≡ t.data_columns = e.1 in omega arith)))
 slots_stay t (Gone job s c) n k h l lk apart = slot_other t s c n k _ l.1 lk apart
 slots_stay t (Broke job s c) n k h l lk apart = slot_other t s c n k _ l.1.1 lk apart
 slots_stay t (Mended job s c) n k h l lk apart = slot_other t s c n k _ l.0.1 lk apart
@@ -165,7 +168,7 @@ digests_stay t _ n k h l lk apart = refl
 -- the slot of the cursor is Void
 cursor_void : (t : Table) (s c n k : ℕ) → IsTable t → TakesPut t s c → n ≡ s → k ≡ c → IsTrue (is_void (slot_at t n k))
 cursor_void t s c n k h l e f =
-    let column : c < t.wide = put_column t s c h l in
+    let column : c < t.data_columns = put_column t s c h l in
     let stripe : s < t.stripes = l.0.1 in
     let at : s ≡ t.cursor.stripe = l.0.0 in
     ap (λ j. is_void (slot_at t n j)) f ∙ ap (λ m. is_void (slot_at t m c)) (e ∙ at) ∙ h.voids.cursor c (omega arith) column ∙ reached t.cursor.column c (sym l.1)
@@ -181,7 +184,7 @@ data_stays t (Put job s c digest parity_digest kept) n k h l lk some = ap digest
     (λ e. elim e.1 [ inl q ↦ not_both (cursor_void t s c n k h l.1 e.0 q) some | inr q ↦ absurd (omega arith) ]))
 data_stays t (Put2 job s c digest parity_digest second_digest kept kept2) n k h l lk some =
     ap digest_in (slots_stay t (Put2 job s c digest parity_digest second_digest kept kept2) n k h l (omega arith)
-      (λ e. elim e.1 [ inl q ↦ not_both (cursor_void t s c n k h l.1 e.0 q) some | inr q ↦ absurd (omega arith) ]))
+    (λ e. elim e.1 [ inl q ↦ not_both (cursor_void t s c n k h l.1 e.0 q) some | inr q ↦ absurd (omega arith) ]))
 data_stays t (Gone job s c) n k h l lk some = digests_stay t (Gone job s c) n k h l (omega arith) (λ e. e)
 data_stays t (Broke job s c) n k h l lk some = digests_stay t (Broke job s c) n k h l (omega arith) (λ e. e)
 data_stays t (Mended job s c) n k h l lk some = digests_stay t (Mended job s c) n k h l (omega arith) (λ e. e)
@@ -216,18 +219,22 @@ same_or k c = grind arith
 
 pub live_by_put : LiveByPut
 live_by_put t (Put job s c digest parity_digest kept) n k h l lk e = elim (same_or n s) [
-    | inl q ↦ inr q
-    | inr ne ↦ inl (sym (ap is_live (slots_stay t (Put job s c digest parity_digest kept) n k h l lk (λ w. ne w.0))) ∙ e) ]
+  | inl q ↦ inr q
+  | inr ne ↦ inl (sym (ap is_live (slots_stay t (Put job s c digest parity_digest kept) n k h l lk (λ w. ne w.0))) ∙ e)
+]
 live_by_put t (Put2 job s c digest parity_digest second_digest kept kept2) n k h l lk e = elim (same_or n s) [
-    | inl q ↦ inr q
-    | inr ne ↦ inl (sym (ap is_live (slots_stay t (Put2 job s c digest parity_digest second_digest kept kept2) n k h l lk (λ w. ne w.0))) ∙ e) ]
+  | inl q ↦ inr q
+  | inr ne ↦ inl (sym (ap is_live (slots_stay t (Put2 job s c digest parity_digest second_digest kept kept2) n k h l lk (λ w. ne w.0))) ∙ e)
+]
 live_by_put t (Gone job s c) n k h l lk e = inl (live_before t s c _ n k (lost_is_not_live (slot_at t s c)) e)
 live_by_put t (Broke job s c) n k h l lk e = inl (live_before t s c _ n k (broken_is_not_live (slot_at t s c)) e)
 live_by_put t (Mended job s c) n k h l lk e = elim (same_or n s) [
-    | inl q ↦ elim (same_or k c) [
-      | inl r ↦ inr (q, r)
-      | inr ne ↦ inl (sym (ap is_live (slots_stay t (Mended job s c) n k h l lk (λ w. ne w.1))) ∙ e) ]
-    | inr ne ↦ inl (sym (ap is_live (slots_stay t (Mended job s c) n k h l lk (λ w. ne w.0))) ∙ e) ]
+  | inl q ↦ elim (same_or k c) [
+    | inl r ↦ inr (q, r)
+    | inr ne ↦ inl (sym (ap is_live (slots_stay t (Mended job s c) n k h l lk (λ w. ne w.1))) ∙ e)
+  ]
+  | inr ne ↦ inl (sym (ap is_live (slots_stay t (Mended job s c) n k h l lk (λ w. ne w.0))) ∙ e)
+]
 live_by_put t (GaveUp job s c other) n k h l lk e = inl (live_before t s other _ n k (lost_is_not_live (slot_at t s other)) e)
 live_by_put t (Moved job s c true) n k h l lk e = inl e
 live_by_put t (Moved job s c false) n k h l lk e = inl (live_before t s c _ n k (lost_is_not_live (slot_at t s c)) e)
@@ -244,3 +251,10 @@ logs_went_on t v [] e r = (t, refl, r.0, r.1)
 logs_went_on t v (x ∷ log) e r =
     let rest : (u : Table) × Replays (after t x) log u × Legal u e × (v ≡ after u e) = logs_went_on (after t x) v log e r.1 in
     (rest.0, (r.0, rest.1), rest.2, rest.3)
+
+pub parity_void : ParityVoid
+parity_void t s c h ls lw lc =
+    let one : 1 ≤ t.data_columns = h.size.data_columns.0 in (
+      λ v k lk. h.voids.first s 0 k ls (omega arith) lk (sym (h.voids.parity s c ls lw lc) ∙ v),
+      λ all. h.voids.parity s c ls lw lc ∙ all 0 (omega arith),
+    )

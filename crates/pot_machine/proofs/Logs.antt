@@ -26,26 +26,28 @@ replays_once t (x ∷ log) u v r s = replays_once (after t x) log u v r.1 s.1
 pub replay_more : (t : Table) (log : List Entry) (i : ℕ) (e : Entry) (u v : Table) → Replays t (take i log) u → i < length log → get_or log i e ≡ e → Legal u e → v ≡ after u e → Replays t (take (i + 1) log) v
 replay_more t log i e u v r lt at l is =
     subst (λ w. Replays t (take (i + 1) log) w) (sym is)
-      (subst (λ front. Replays t front (after u e)) (sym (ap (λ n. take n log) (add-one i) ∙ take-suc log i e lt ∙ ap (λ x. take i log ++ x ∷ []) at)) (replays_more t (take i log) u e r l))
+    (subst (λ front. Replays t front (after u e)) (sym (ap (λ n. take n log) (add-one i) ∙ take-suc log i e lt ∙ ap (λ x. take i log ++ x ∷ []) at)) (replays_more t (take i log) u e r l))
 
 none_some : {e : Entry} → None ≡ Some e → ⊥
 none_some h = cc
 
 pub replayed_whole : (t u : Table) (log : List Entry) (i : ℕ) → Replays t (take i log) u → length log ≤ i → i ≤ length log → Replayed t u log true
 replayed_whole t u log i r low high = record {
-    applied = i;
-    within = high;
-    replays = r;
-    stops = λ e at l. none_some (sym (slice_get_past log i low) ∙ at);
-    all = (λ _. omega arith, λ _. refl) }
+  applied = i;
+  within = high;
+  replays = r;
+  stops = λ e at l. none_some (sym (slice_get_past log i low) ∙ at);
+  all = (λ _. omega arith, λ _. refl);
+}
 
 pub replayed_front : (t u : Table) (log : List Entry) (i : ℕ) (d : Entry) → Replays t (take i log) u → i < length log → (Legal u (get_or log i d) → ⊥) → Replayed t u log false
 replayed_front t u log i d r lt wrong = record {
-    applied = i;
-    within = omega arith;
-    replays = r;
-    stops = λ e at l. wrong (subst (λ x. Legal u x) (sym (get_or_from_slice_get log i e d at)) l);
-    all = (λ h. absurd (cc), λ h. absurd (omega arith)) }
+  applied = i;
+  within = omega arith;
+  replays = r;
+  stops = λ e at l. wrong (subst (λ x. Legal u x) (sym (get_or_from_slice_get log i e d at)) l);
+  all = (λ h. absurd (cc), λ h. absurd (omega arith));
+}
 
 pub not_both : {b : Bool} → b ≡ true → b ≡ false → ⊥
 not_both p q = absurd (cc)
@@ -69,11 +71,15 @@ same_truth false false m n k e p q = refl
 
 pub replayed_once : ReplayedOnce
 replayed_once t u v entries whole all r s = elim (order r.applied s.applied) [
-    | inl e ↦ (replays_once t (take r.applied entries) u v r.replays (subst (λ n. Replays t (take n entries) v) (sym e) s.replays),
-        same_truth whole all r.applied s.applied (length entries) e r.all s.all)
-    | inr ne ↦ absurd (elim ne [
-      | inl lt ↦ (let n : (e : Entry) × (slice_get entries r.applied ≡ Some e) × Legal u e = next_legal t entries r.applied s.applied u v lt s.within r.replays s.replays in r.stops n.0 n.1 n.2)
-      | inr lt ↦ (let n : (e : Entry) × (slice_get entries s.applied ≡ Some e) × Legal v e = next_legal t entries s.applied r.applied v u lt r.within s.replays r.replays in s.stops n.0 n.1 n.2) ]) ]
+  | inl e ↦ (
+    replays_once t (take r.applied entries) u v r.replays (subst (λ n. Replays t (take n entries) v) (sym e) s.replays),
+    same_truth whole all r.applied s.applied (length entries) e r.all s.all,
+  )
+  | inr ne ↦ absurd (elim ne [
+    | inl lt ↦ (let n : (e : Entry) × (slice_get entries r.applied ≡ Some e) × Legal u e = next_legal t entries r.applied s.applied u v lt s.within r.replays s.replays in r.stops n.0 n.1 n.2)
+    | inr lt ↦ (let n : (e : Entry) × (slice_get entries s.applied ≡ Some e) × Legal v e = next_legal t entries s.applied r.applied v u lt r.within s.replays r.replays in s.stops n.0 n.1 n.2)
+  ])
+]
 
 pub logs_go_on : LogsGoOn
 logs_go_on t u log e r l = replays_more t log u e r l

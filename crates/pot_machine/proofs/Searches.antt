@@ -23,8 +23,9 @@ pub least_at : (n m : ℕ) (test : ℕ → Bool) → least n test ≡ None → t
 unfolding least
 least_at n zero test h f lt = absurd (omega arith)
 least_at n (suc m) test h f lt = elim (last_or n m lt) [
-    | inl e ↦ rw (← e, h, f) refl
-    | inr l ↦ rw (least_at n m test h f l) refl ]
+  | inl e ↦ rw (← e, h, f) refl
+  | inr l ↦ rw (least_at n m test h f l) refl
+]
   where
     last_or : (k n : ℕ) → k < suc n → (k ≡ n) ⊎ (k < n)
     last_or k n lt = grind arith
@@ -49,8 +50,9 @@ pub least_some : (n : ℕ) (test : ℕ → Bool) (k : ℕ) → least n test ≡ 
 unfolding least
 least_some zero test k h = absurd (cc)
 least_some (suc n) test k h = elim (or_some (least n test) (test n) n k h) [
-    | inl e ↦ (let ih : (k < n) × (test k ≡ true) × ((j : ℕ) → j < k → test j ≡ false) = least_some n test k e in (omega arith, ih.1, ih.2))
-    | inr e ↦ (let same : n ≡ k = e.2 in (omega arith, ap test (sym same) ∙ e.1, λ j lt. least_none n test e.0 j (omega arith))) ]
+  | inl e ↦ (let ih : (k < n) × (test k ≡ true) × ((j : ℕ) → j < k → test j ≡ false) = least_some n test k e in (omega arith, ih.1, ih.2))
+  | inr e ↦ (let same : n ≡ k = e.2 in (omega arith, ap test (sym same) ∙ e.1, λ j lt. least_none n test e.0 j (omega arith)))
+]
 
 -- where no number passes, there is no least
 pub none_least : (n : ℕ) (test : ℕ → Bool) → ((j : ℕ) → j < n → test j ≡ false) → least n test ≡ None

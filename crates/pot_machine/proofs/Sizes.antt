@@ -5,9 +5,9 @@ use Rattle.pot_machine.specs.Table.{Table, width, is_ahead, next_column, relay_a
 use Rattle.pot_machine.specs.Machine.{InRange, StandsAt, with_losses}
 use Rattle.pot_machine.proofs.Searches.{least_some}
 
-pub wide-with_losses : (n : ℕ) (t : Table) (c : ℕ) → (with_losses n t c).wide ≡ t.wide
-wide-with_losses zero t c = refl
-wide-with_losses (suc n) t c = wide-with_losses n t c
+pub data_columns-with_losses : (n : ℕ) (t : Table) (c : ℕ) → (with_losses n t c).data_columns ≡ t.data_columns
+data_columns-with_losses zero t c = refl
+data_columns-with_losses (suc n) t c = data_columns-with_losses n t c
 
 pub width-with_losses : (n : ℕ) (t : Table) (c : ℕ) → width (with_losses n t c) ≡ width t
 width-with_losses zero t c = refl

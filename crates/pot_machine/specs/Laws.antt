@@ -1,5 +1,5 @@
 -- What each entry leaves alone, and how logs go on.
-use Rattle.std.specs.Prelude.{◌≡◌, ◌⊎◌, ◌<◌, ◌≤◌, ℕ, Bool, false, Option, Some, IsTrue, List, [], ◌∷◌, ◌++◌}
+use Rattle.std.specs.Prelude.{◌≡◌, ◌⊎◌, ◌↔◌, ◌<◌, ◌≤◌, ℕ, Bool, false, Option, Some, IsTrue, List, [], ◌∷◌, ◌++◌}
 use Rattle.pot_machine.specs.declared.entry.Entry.{Entry}
 use Rattle.pot_machine.specs.declared.entry.Entry.TheVariants.{Put, Skip, Gone, Broke, Begin, Hop, Mended, GaveUp, Oddly, MoveBegin, Moved, MoveEnd, Swapped, Put2}
 use Rattle.pot_machine.specs.Slot.{is_void, is_live, digest_in}
@@ -15,8 +15,8 @@ PutsInto _ n = ⊥
 
 -- the entry writes the slot of this stripe and column
 abbrev pub WritesSlot : Table → Entry → ℕ → ℕ → Type 0
-WritesSlot t (Put job s c digest parity_digest kept) n k = (n ≡ s) × ((k ≡ c) ⊎ (t.wide ≤ k))
-WritesSlot t (Put2 job s c digest parity_digest second_digest kept kept2) n k = (n ≡ s) × ((k ≡ c) ⊎ (t.wide ≤ k))
+WritesSlot t (Put job s c digest parity_digest kept) n k = (n ≡ s) × ((k ≡ c) ⊎ (t.data_columns ≤ k))
+WritesSlot t (Put2 job s c digest parity_digest second_digest kept kept2) n k = (n ≡ s) × ((k ≡ c) ⊎ (t.data_columns ≤ k))
 WritesSlot t (Gone job s c) n k = (n ≡ s) × (k ≡ c)
 WritesSlot t (Broke job s c) n k = (n ≡ s) × (k ≡ c)
 WritesSlot t (Mended job s c) n k = (n ≡ s) × (k ≡ c)
@@ -56,7 +56,7 @@ ChangesRelay _ n = ⊥
 
 -- a group keeps its sizes
 abbrev pub SizesStay : Type 0
-SizesStay = (t : Table) (e : Entry) → ((after t e).wide ≡ t.wide) × ((after t e).parity ≡ t.parity) × ((after t e).stripes ≡ t.stripes)
+SizesStay = (t : Table) (e : Entry) → ((after t e).data_columns ≡ t.data_columns) × ((after t e).parity ≡ t.parity) × ((after t e).stripes ≡ t.stripes)
 
 abbrev pub SlotsStay : Type 0
 SlotsStay = (t : Table) (e : Entry) (n k : ℕ) → IsTable t → Legal t e → k < width t → (WritesSlot t e n k → ⊥) → slot_at (after t e) n k ≡ slot_at t n k
@@ -67,7 +67,7 @@ DigestsStay = (t : Table) (e : Entry) (n k : ℕ) → IsTable t → Legal t e �
 
 -- a data slot that has a digest keeps it for ever
 abbrev pub DataStays : Type 0
-DataStays = (t : Table) (e : Entry) (n k : ℕ) → IsTable t → Legal t e → k < t.wide → is_void (slot_at t n k) ≡ false → digest_in (slot_at (after t e) n k) ≡ digest_in (slot_at t n k)
+DataStays = (t : Table) (e : Entry) (n k : ℕ) → IsTable t → Legal t e → k < t.data_columns → is_void (slot_at t n k) ≡ false → digest_in (slot_at (after t e) n k) ≡ digest_in (slot_at t n k)
 
 -- a slot becomes Live by a put into its stripe, or as the target of a relay that ends
 abbrev pub LiveByPut : Type 0
@@ -81,6 +81,11 @@ ColumnsStay = (t : Table) (e : Entry) (k : ℕ) → (ChangesColumn e k → ⊥) 
 
 abbrev pub RelaysStay : Type 0
 RelaysStay = (t : Table) (e : Entry) (n : ℕ) → (ChangesRelay e n → ⊥) → relay_at (after t e) n ≡ relay_at t n
+
+-- each parity slot is Void exactly where all data slots of its stripe are
+abbrev pub ParityVoid : Type 0
+ParityVoid = (t : Table) (s c : ℕ) → IsTable t → s < t.stripes → t.data_columns ≤ c → c < width t
+    → IsTrue (is_void (slot_at t s c)) ↔ ((k : ℕ) → k < t.data_columns → IsTrue (is_void (slot_at t s k)))
 
 -- legal entries keep the rules of a table
 abbrev pub RulesStay : Type 0

@@ -21,9 +21,13 @@ InRange t s c = (s < t.stripes) × (c < width t)
 abbrev pub AtCursor : Table → ℕ → Type 0
 AtCursor t s = (s ≡ t.cursor.stripe) × (s < t.stripes)
 
--- the place is the cursor's, and its stripe has no relay and no slot that is Lost or Broken
+-- the stripe has no relay and no slot that is Lost or Broken
+abbrev pub TakesBlocks : Table → ℕ → Type 0
+TakesBlocks t s = (relay_at t s ≡ None) × (first t s is_unsound ≡ None)
+
+-- the place is the cursor's, and its stripe takes blocks
 abbrev pub TakesPut : Table → ℕ → ℕ → Type 0
-TakesPut t s c = AtCursor t s × (c ≡ t.cursor.column) × (relay_at t s ≡ None) × (first t s is_unsound ≡ None)
+TakesPut t s c = AtCursor t s × (c ≡ t.cursor.column) × TakesBlocks t s
 
 -- the stripe is the cursor's, and has a relay or a slot that is Lost or Broken
 abbrev pub TakesSkip : Table → ℕ → Type 0
@@ -102,11 +106,11 @@ with_column t c x = record t { columns = slice_set t.columns c x }
 
 -- the cursor goes one column on, or to column 0 of the next stripe after the last data column
 abbrev pub past : Table → ℕ → ℕ → Cursor
-past t s c = record { stripe = if nat_lt (c + 1) t.wide then s else s + 1; column = if nat_lt (c + 1) t.wide then c + 1 else 0 }
+past t s c = record { stripe = if nat_lt (c + 1) t.data_columns then s else s + 1; column = if nat_lt (c + 1) t.data_columns then c + 1 else 0 }
 
 -- a block is put in the data slot, and the digest of the new parity block in the slot of P
 abbrev pub with_put : Table → ℕ → ℕ → Digest → Digest → Bool → Table
-with_put t s c digest parity_digest kept = with_slot (with_slot t s c (Live digest)) s t.wide (parity_slot parity_digest kept)
+with_put t s c digest parity_digest kept = with_slot (with_slot t s c (Live digest)) s t.data_columns (parity_slot parity_digest kept)
 
 abbrev pub with_cursor : Table → Cursor → Table
 with_cursor t x = record t { cursor = x }
@@ -162,7 +166,7 @@ after t (MoveEnd job c) = with_column t c (moved_home (column_at t c))
 after t (Swapped job c to) = with_column (with_losses t.stripes t c) c (record { home = to; moving = None })
 after t (Counted job) = t
 after t (Put2 job s c digest parity_digest second_digest kept kept2) =
-    with_cursor (with_slot (with_put t s c digest parity_digest kept) s (t.wide + 1) (parity_slot second_digest kept2)) (past t s c)
+    with_cursor (with_slot (with_put t s c digest parity_digest kept) s (t.data_columns + 1) (parity_slot second_digest kept2)) (past t s c)
 
 -- WHOLE LOGS
 

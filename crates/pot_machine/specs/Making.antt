@@ -17,7 +17,7 @@ abbrev pub empty_table : Rack → ℕ → Table
 empty_table rack group =
     let width = rack.columns + rack.parity in
     record {
-      wide = rack.columns;
+      data_columns = rack.columns;
       parity = rack.parity;
       stripes = rack.stripes;
       cursor = record { stripe = 0; column = 0 };
@@ -29,4 +29,4 @@ empty_table rack group =
 -- the table of these parts, without relays
 abbrev pub table_of : ℕ → Cursor → List Column → List SlotState → ℕ → Table
 table_of stripes cursor columns slots parity =
-    record { wide = length columns - parity; parity = parity; stripes = stripes; cursor = cursor; columns = columns; slots = slots; relays = [] }
+    record { data_columns = length columns - parity; parity = parity; stripes = stripes; cursor = cursor; columns = columns; slots = slots; relays = [] }

@@ -7,7 +7,7 @@ use Rattle.pot_machine.specs.Table.{Table, width, slot_at, column_at}
 
 -- 1 to 16 data columns, one or two parity columns, 1 to 4,096 stripes, and a slot for each place
 pub record HasSize (t : Table) : Type 0 where
-  pub wide : (1 ≤ t.wide) × (t.wide ≤ 16)
+  pub data_columns : (1 ≤ t.data_columns) × (t.data_columns ≤ 16)
   pub parity : (1 ≤ t.parity) × (t.parity ≤ 2)
   pub stripes : (1 ≤ t.stripes) × (t.stripes ≤ 4096)
   pub columns : length t.columns ≡ width t
@@ -17,19 +17,19 @@ pub record HasSize (t : Table) : Type 0 where
 -- the cursor is at a data column of a stripe, or at column 0 behind the last stripe
 pub record HasCursor (t : Table) : Type 0 where
   pub stripe : t.cursor.stripe ≤ t.stripes
-  pub column : t.cursor.column < t.wide
+  pub column : t.cursor.column < t.data_columns
   pub behind : t.cursor.stripe ≡ t.stripes → t.cursor.column ≡ 0
 
 -- which slots are Void
 pub record HasVoids (t : Table) : Type 0 where
   -- in each stripe the data slots that are not Void are the first columns
-  pub first : (s c k : ℕ) → s < t.stripes → c ≤ k → k < t.wide → IsTrue (is_void (slot_at t s c)) → IsTrue (is_void (slot_at t s k))
+  pub first : (s c k : ℕ) → s < t.stripes → c ≤ k → k < t.data_columns → IsTrue (is_void (slot_at t s c)) → IsTrue (is_void (slot_at t s k))
   -- each parity slot is Void exactly where the first data slot is, and so where all data slots are
-  pub parity : (s c : ℕ) → s < t.stripes → t.wide ≤ c → c < width t → is_void (slot_at t s c) ≡ is_void (slot_at t s 0)
+  pub parity : (s c : ℕ) → s < t.stripes → t.data_columns ≤ c → c < width t → is_void (slot_at t s c) ≡ is_void (slot_at t s 0)
   -- all slots of the stripes after the cursor's are Void
   pub after : (s c : ℕ) → t.cursor.stripe < s → s < t.stripes → c < width t → IsTrue (is_void (slot_at t s c))
   -- in the cursor's stripe the data slots that are not Void are exactly those before the cursor
-  pub cursor : (c : ℕ) → t.cursor.stripe < t.stripes → c < t.wide → is_void (slot_at t t.cursor.stripe c) ≡ nat_le t.cursor.column c
+  pub cursor : (c : ℕ) → t.cursor.stripe < t.stripes → c < t.data_columns → is_void (slot_at t t.cursor.stripe c) ≡ nat_le t.cursor.column c
 
 -- homes and targets are distinct, and no move is past the last stripe
 pub record HasColumns (t : Table) : Type 0 where

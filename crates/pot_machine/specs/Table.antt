@@ -11,7 +11,7 @@ use Rattle.pot_machine.specs.Column.{names, serving}
 -- The data columns stand first, behind them the parity column P, and behind it Q where there are two.
 pub record Table : Type 0 where
   -- the number of data columns, and that of parity columns
-  pub wide : ℕ
+  pub data_columns : ℕ
   pub parity : ℕ
   pub stripes : ℕ
   -- where the next put goes
@@ -23,7 +23,7 @@ pub record Table : Type 0 where
   pub relays : List Relay
 
 abbrev pub width : Table → ℕ
-width t = t.wide + t.parity
+width t = t.data_columns + t.parity
 
 -- where the slots have the slot of this stripe and column
 abbrev pub place_of : Table → ℕ → ℕ → ℕ
@@ -78,8 +78,8 @@ count_beside t s c test = count (width t) (λ k. not (k == c) && test (slot_at t
 -- the column that a relay goes without: the other Lost slot, and where there is none the parity column whose equation
 -- it does not use. That is Q, or P for the target Q, and with one parity column there is no Q
 abbrev pub skipped : ℕ → Option ℕ → ℕ → ℕ
-skipped wide (Some u) target = u
-skipped wide None target = if nat_le target wide then wide + 1 else wide
+skipped data_columns (Some u) target = u
+skipped data_columns None target = if nat_le target data_columns then data_columns + 1 else data_columns
 
 abbrev pub is_after : Option ℕ → ℕ → Bool
 is_after None c = true
@@ -88,7 +88,7 @@ is_after (Some l) c = nat_lt l c
 -- the columns that a relay has yet to go over: those above its last one whose slot is not Void, but for the target and
 -- the column that it goes without
 abbrev pub is_ahead : Table → Relay → ℕ → Bool
-is_ahead t r c = is_after r.last c && (not (c == r.target) && (not (c == skipped t.wide r.skip r.target) && not (is_void (slot_at t r.stripe c))))
+is_ahead t r c = is_after r.last c && (not (c == r.target) && (not (c == skipped t.data_columns r.skip r.target) && not (is_void (slot_at t r.stripe c))))
 
 abbrev pub next_column : Table → Relay → Option ℕ
 next_column t r = least (width t) (is_ahead t r)

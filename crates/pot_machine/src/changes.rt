@@ -50,7 +50,7 @@ impl Parts {
         requires { stripe < 4096 }
         ensures { self.new ≡ with_cursor self.old (past self.old stripe column) }
     {
-        self.cursor = if column < self.wide - 1 {
+        self.cursor = if column < self.data_columns - 1 {
             Cursor {
                 stripe,
                 column: column + 1,
@@ -220,26 +220,27 @@ impl Parts {
                 ..
             } => {
                 self.put(stripe, column, digest, parity_digest, kept);
-                self.set_slot(stripe, self.wide + 1, SlotState::parity(second_digest, kept2));
+                self.set_slot(
+                    stripe,
+                    self.data_columns + 1,
+                    SlotState::parity(second_digest, kept2),
+                );
                 self.pass(stripe, column);
             }
         }
     }
 
-    fn put(
-        &mut self,
-        stripe: u32,
-        column: u8,
-        digest: Digest,
-        parity_digest: Digest,
-        kept: bool,
-    )
+    fn put(&mut self, stripe: u32, column: u8, digest: Digest, parity_digest: Digest, kept: bool)
         requires stripe { stripe < self.old.stripes }
-        requires column { column < self.old.wide }
+        requires column { column < self.old.data_columns }
         ensures { self.new ≡ with_put self.old stripe column digest parity_digest kept }
     {
         self.set_slot(stripe, column, SlotState::Live(digest));
-        self.set_slot(stripe, self.wide, SlotState::parity(parity_digest, kept));
+        self.set_slot(
+            stripe,
+            self.data_columns,
+            SlotState::parity(parity_digest, kept),
+        );
     }
 
     fn move_begin(&mut self, column: u8, to: u32)

@@ -14,21 +14,52 @@ pub enum Entry {
         kept: bool,
     },
     /// The cursor left a stripe that takes no put.
-    Skip { job: u32, stripe: u32 },
+    Skip {
+        job: u32,
+        stripe: u32,
+    },
     /// A block of the slot's digest was read.
-    Seen { job: u32, stripe: u32, column: u8 },
+    Seen {
+        job: u32,
+        stripe: u32,
+        column: u8,
+    },
     /// The slot's block is missing.
-    Gone { job: u32, stripe: u32, column: u8 },
+    Gone {
+        job: u32,
+        stripe: u32,
+        column: u8,
+    },
     /// The opening found that the stripe does not give the slot's block back.
-    Broke { job: u32, stripe: u32, column: u8 },
+    Broke {
+        job: u32,
+        stripe: u32,
+        column: u8,
+    },
     /// A call on the slot's archive failed.
-    Fault { job: u32, stripe: u32, column: u8 },
+    Fault {
+        job: u32,
+        stripe: u32,
+        column: u8,
+    },
     /// A relay began.
-    Begin { job: u32, stripe: u32, column: u8 },
+    Begin {
+        job: u32,
+        stripe: u32,
+        column: u8,
+    },
     /// The stripe's relay went over a column.
-    Hop { job: u32, stripe: u32, column: u8 },
+    Hop {
+        job: u32,
+        stripe: u32,
+        column: u8,
+    },
     /// The stripe's relay ended, and its target was written.
-    Mended { job: u32, stripe: u32, column: u8 },
+    Mended {
+        job: u32,
+        stripe: u32,
+        column: u8,
+    },
     /// The stripe's relay ended at a column whose block is missing.
     GaveUp {
         job: u32,
@@ -51,7 +82,11 @@ pub enum Entry {
         other: u8,
     },
     /// A column began to move.
-    MoveBegin { job: u32, column: u8, to: u32 },
+    MoveBegin {
+        job: u32,
+        column: u8,
+        to: u32,
+    },
     /// A move went over a stripe.
     Moved {
         job: u32,
@@ -60,11 +95,20 @@ pub enum Entry {
         copied: bool,
     },
     /// A move ended.
-    MoveEnd { job: u32, column: u8 },
+    MoveEnd {
+        job: u32,
+        column: u8,
+    },
     /// A column got another archive.
-    Swapped { job: u32, column: u8, to: u32 },
+    Swapped {
+        job: u32,
+        column: u8,
+        to: u32,
+    },
     /// The slots were counted.
-    Counted { job: u32 },
+    Counted {
+        job: u32,
+    },
     /// A block was put, and both parity blocks changed.
     Put2 {
         job: u32,

@@ -1,5 +1,5 @@
 //! What is proved of the machine as a whole.
-ghost use Rattle.pot_machine.specs.Laws.{SizesStay, SlotsStay, DigestsStay, DataStays, LiveByPut, CursorStays, ColumnsStay, RelaysStay, RulesStay, LogsGoOn, LogsWentOn, LogsLeadOnce, ReplayedOnce};
+ghost use Rattle.pot_machine.specs.Laws.{SizesStay, SlotsStay, DigestsStay, DataStays, LiveByPut, CursorStays, ColumnsStay, RelaysStay, ParityVoid, RulesStay, LogsGoOn, LogsWentOn, LogsLeadOnce, ReplayedOnce};
 
 /// What each entry leaves alone, and how logs go on. It does nothing.
 pub fn machine_laws()
@@ -11,10 +11,10 @@ pub fn machine_laws()
     ensures cursor { CursorStays }
     ensures columns { ColumnsStay }
     ensures relays { RelaysStay }
+    ensures parity { ParityVoid }
     ensures rules { RulesStay }
     ensures go_on { LogsGoOn }
     ensures went_on { LogsWentOn }
     ensures once { LogsLeadOnce }
     ensures replayed_once { ReplayedOnce }
-{
-}
+{}

@@ -1,7 +1,7 @@
 //! Which entries are legal in a table.
 ghost use Rattle.std.specs.Prelude.{◌≡◌, ◌<◌, ◌↔◌, IsTrue};
 ghost use Rattle.pot_machine.specs.Table.{width};
-ghost use Rattle.pot_machine.specs.Machine.{InRange, AtCursor, TakesPut, TakesSkip, TakesBroke, IsRebuilt, TakesRelay, GoesTo, StandsAt, TakesArchive, MovesAt, stuck_by, Legal};
+ghost use Rattle.pot_machine.specs.Machine.{InRange, AtCursor, TakesBlocks, TakesPut, TakesSkip, TakesBroke, IsRebuilt, TakesRelay, GoesTo, StandsAt, TakesArchive, MovesAt, stuck_by, Legal};
 
 use crate::entry::Entry;
 use crate::parts::Parts;
@@ -23,10 +23,15 @@ impl Parts {
     fn takes_put(&self, stripe: u32, column: u8) -> bool
         ensures { IsTrue result ↔ TakesPut self.now stripe column }
     {
-        self.at_cursor(stripe)
-            && column == self.cursor.column
-            && self.relay(stripe).is_none()
-            && self.first(stripe, Condition::Unsound).is_none()
+        self.at_cursor(stripe) && column == self.cursor.column && self.takes_blocks(stripe)
+    }
+
+    fn takes_blocks(&self, stripe: u32) -> bool
+        requires { stripe < self.now.stripes }
+        ensures { IsTrue result ↔ TakesBlocks self.now stripe }
+    {
+        let relay = self.relay(stripe);
+        relay.is_none() && self.first(stripe, Condition::Unsound).is_none()
     }
 
     fn takes_skip(&self, stripe: u32) -> bool
@@ -42,7 +47,9 @@ impl Parts {
         self.in_range(stripe, column)
             && self.is_rebuilt(stripe, column)
             && self.relay(stripe).is_none()
-            && self.first_beside(stripe, column, Condition::Broken).is_none()
+            && self
+                .first_beside(stripe, column, Condition::Broken)
+                .is_none()
             && self.count_beside(stripe, column, Condition::Lost) < self.parity
             && self.relays.len() < 16
     }
@@ -178,7 +185,8 @@ impl Parts {
             Entry::MoveEnd { column, .. } => self.moves_at(column, self.stripes),
             Entry::Swapped { column, to, .. } => self.takes_archive(column, to),
             Entry::Counted { .. } => true,
-            Entry::Put2 { stripe, column, .. } => self.parity == 2 && self.takes_put(stripe, column),
+            Entry::Put2 { stripe, column, .. } => self.parity == 2
+                && self.takes_put(stripe, column),
         }
     }
 

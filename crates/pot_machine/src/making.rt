@@ -39,7 +39,7 @@ impl Parts {
         let number = rack.stripes as usize * usize::from(width);
         let first = u32::from(group) * u32::from(width);
         Ok(Parts {
-            wide: rack.columns,
+            data_columns: rack.columns,
             parity: rack.parity,
             stripes: rack.stripes,
             cursor: Cursor {
@@ -63,9 +63,9 @@ impl Parts {
         requires { HasSize (table_of stripes cursor columns.items slots.items parity) }
         ensures { IfOk result (λ p. p ≡ table_of stripes cursor columns.items slots.items parity) }
     {
-        let wide = (columns.len() - usize::from(parity)) as u8;
+        let data_columns = (columns.len() - usize::from(parity)) as u8;
         Ok(Parts {
-            wide,
+            data_columns,
             parity,
             stripes,
             cursor,
@@ -81,7 +81,7 @@ impl Parts {
         let mut relays = Vec::with_capacity(alloc, RELAYS)?;
         relays.extend_from_slice(&self.relays)?;
         Ok(Parts {
-            wide: self.wide,
+            data_columns: self.data_columns,
             parity: self.parity,
             stripes: self.stripes,
             cursor: self.cursor,

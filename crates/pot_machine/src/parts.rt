@@ -20,7 +20,7 @@ pub struct Cursor {
 
 #[derive(Drop)]
 pub(crate) struct Parts {
-    pub(crate) wide: u8,
+    pub(crate) data_columns: u8,
     pub(crate) parity: u8,
     pub(crate) stripes: u32,
     pub(crate) cursor: Cursor,
@@ -37,9 +37,9 @@ impl Model for Parts {
     ghost use Rattle.std.specs.Prelude.{◌≤◌, vec_capacity};
     ghost use Rattle.pot_machine.specs.Rules.{HasSize};
 
-    ghost view = { λ p. record { wide = p.wide; parity = p.parity; stripes = p.stripes; cursor = p.cursor; columns = p.columns.items; slots = p.slots.items; relays = p.relays.items } };
+    ghost view = { λ p. record { data_columns = p.data_columns; parity = p.parity; stripes = p.stripes; cursor = p.cursor; columns = p.columns.items; slots = p.slots.items; relays = p.relays.items } };
 
-    ghost invariant = { λ p. HasSize (record { wide = p.wide; parity = p.parity; stripes = p.stripes; cursor = p.cursor; columns = p.columns.items; slots = p.slots.items; relays = p.relays.items }) × (16 ≤ vec_capacity p.relays) };
+    ghost invariant = { λ p. HasSize (record { data_columns = p.data_columns; parity = p.parity; stripes = p.stripes; cursor = p.cursor; columns = p.columns.items; slots = p.slots.items; relays = p.relays.items }) × (16 ≤ vec_capacity p.relays) };
 }
 
 impl Parts {
@@ -53,6 +53,12 @@ impl Parts {
         ensures { result ≡ self.now.stripes }
     {
         self.stripes
+    }
+
+    pub(crate) fn data_columns(&self) -> u8
+        ensures { result ≡ self.now.data_columns }
+    {
+        self.data_columns
     }
 
     pub(crate) fn parity(&self) -> u8
@@ -77,7 +83,7 @@ impl Parts {
         ensures value { result ≡ width self.now }
         ensures small { result ≤ 18 }
     {
-        self.wide + self.parity
+        self.data_columns + self.parity
     }
 
     pub(crate) fn slot(&self, stripe: u32, column: u8) -> SlotState
@@ -153,15 +159,15 @@ impl Parts {
 
     /// The column that a relay goes without.
     fn skipped(&self, relay: Relay) -> u8
-        ensures { result ≡ skipped self.now.wide relay.skip relay.target }
+        ensures { result ≡ skipped self.now.data_columns relay.skip relay.target }
     {
         match relay.skip {
             Some(column) => column,
             None => {
-                if relay.target <= self.wide {
-                    self.wide + 1
+                if relay.target <= self.data_columns {
+                    self.data_columns + 1
                 } else {
-                    self.wide
+                    self.data_columns
                 }
             }
         }

@@ -1,6 +1,6 @@
 //! The table of a group.
-ghost use Rattle.std.specs.Prelude.{◌≡◌, ◌<◌, ◌↔◌, IsTrue, length, IfOk, [], replicate};
-ghost use Rattle.pot_machine.specs.Table.{width, slot_at, column_at, serving_at, next_column};
+ghost use Rattle.std.specs.Prelude.{◌≡◌, ◌<◌, ◌↔◌, IsTrue, IfOk};
+ghost use Rattle.pot_machine.specs.Table.{width, slot_at, relay_at, serving_at, next_column, holder_of};
 ghost use Rattle.pot_machine.specs.Machine.{Legal, after, Replayed, stuck_by};
 ghost use Rattle.pot_machine.specs.Rules.{IsTable};
 ghost use Rattle.pot_machine.specs.Making.{empty_table, table_of};
@@ -107,6 +107,46 @@ impl GroupTable {
         ensures rules { IsTable self.now }
     {
         self.parts.relays()
+    }
+
+    /// The number of data columns, 1 to 16. They come before the parity columns.
+    pub fn data_columns(&self) -> u8
+        ensures value { result ≡ self.now.data_columns }
+        ensures rules { IsTable self.now }
+    {
+        self.parts.data_columns()
+    }
+
+    /// The relay that stands in a stripe.
+    pub fn relay(&self, stripe: u32) -> Option<Relay>
+        ensures { result ≡ relay_at self.now stripe }
+    {
+        self.parts.relay(stripe)
+    }
+
+    /// The column that a relay goes over next: the least one above its last that is neither its target nor the column
+    /// that it goes without, and whose slot is not Void.
+    pub fn next_column(&self, relay: Relay) -> Option<u8>
+        requires { relay.stripe < self.now.stripes }
+        ensures { result ≡ next_column self.now relay }
+    {
+        self.parts.next_column(relay)
+    }
+
+    /// The other column for which `Stuck` is legal at a slot that is Lost or Broken in a stripe without a relay. It is
+    /// `None` where a relay could begin there but for the number of relays.
+    pub fn stuck_by(&self, stripe: u32, column: u8) -> Option<u8>
+        requires { stripe < self.now.stripes }
+        ensures { result ≡ stuck_by self.now stripe column }
+    {
+        self.parts.stuck_by(stripe, column)
+    }
+
+    /// The column whose home or target is the archive of this number.
+    pub fn holder_of(&self, number: u32) -> Option<u8>
+        ensures { result ≡ holder_of self.now number }
+    {
+        self.parts.holder_of(number)
     }
 
     /// The state of a slot.

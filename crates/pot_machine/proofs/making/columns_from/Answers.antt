@@ -11,7 +11,7 @@ push_reserved-requires c =
 pub loop-column-preserved : goal.loop-column-preserved
 loop-column-preserved c = record {
   items = c.push_reserved.ensures.items
-    ∙ ap (λ xs. xs ++ column_home (c.args.first + c.from-in-loop-column.result) ∷ []) c.loop-column.invariant.items
-    ∙ sym (map-range_with_len_more column_home c.args.first c.loop-column.column (c.args.first + c.from-in-loop-column.result) (ap (λ k. c.args.first + k) (sym c.from-in-loop-column.ensures)));
+      ∙ ap (λ xs. xs ++ column_home (c.args.first + c.from-in-loop-column.result) ∷ []) c.loop-column.invariant.items
+      ∙ sym (map-range_with_len_more column_home c.args.first c.loop-column.column (c.args.first + c.from-in-loop-column.result) (ap (λ k. c.args.first + k) (sym c.from-in-loop-column.ensures)));
   room = omega (arith, c.loop-column.invariant.room, c.push_reserved.ensures.capacity);
 }

@@ -7,5 +7,5 @@ use Rattle.pot_machine.proofs.making.columns_from.Given as goal
 abbrev pub invariant-loop-column : goal.invariant-loop-column
 invariant-loop-column l = record {
   items : l.columns.items ≡ map column_home (range_with_len l.first l.column);
-  room : l.width ≤ vec_capacity l.columns
+  room : l.width ≤ vec_capacity l.columns;
 }

@@ -7,5 +7,5 @@ abbrev pub invariant-loop-stripe : goal.invariant-loop-stripe
 invariant-loop-stripe l = record {
   now : l.self ≡ with_losses l.stripe l.fn.self l.column;
   stripes : l.self.stripes ≡ l.fn.self.stripes;
-  width : width l.self ≡ width l.fn.self
+  width : width l.self ≡ width l.fn.self;
 }

@@ -6,4 +6,4 @@ use Rattle.pot_machine.proofs.parts.Parts.next_column.Goals as goal
 pub returns-then-is_ahead : goal.returns-then-is_ahead
 returns-then-is_ahead c =
     sym (least_at c.loop-column.column (width c.args.self.now) (is_ahead c.args.self.now c.args.relay) c.loop-column.invariant
-      (sym c.is_ahead.ensures ∙ c.if-is_ahead.true) (omega (arith, c.width-column-end.ensures.value)))
+    (sym c.is_ahead.ensures ∙ c.if-is_ahead.true) (omega (arith, c.width-column-end.ensures.value)))
