@@ -3,7 +3,7 @@ ghost use Rattle.std.specs.Prelude.{◌≡◌};
 ghost use Rattle.pot_machine.specs.Column.{names, serving};
 
 /// A column on its way to another archive.
-#[derive(Clone, Copy, Debug)]
+#[derive(Clone, Copy, PartialEq, Eq, Debug)]
 pub struct Moving {
     /// The number of the archive that it moves to.
     pub to: u32,
@@ -12,7 +12,7 @@ pub struct Moving {
 }
 
 /// A column of a group.
-#[derive(Clone, Copy, Debug)]
+#[derive(Clone, Copy, PartialEq, Eq, Debug)]
 pub struct Column {
     /// The number of the archive that serves it, or served it before it began to move.
     pub home: u32,

@@ -2,7 +2,7 @@
 use pot_bytes::Digest;
 
 /// An entry of a group's log. Each has the number of the job that logged it.
-#[derive(Clone, Copy, Debug)]
+#[derive(Clone, Copy, PartialEq, Eq, Debug)]
 pub enum Entry {
     /// A block was put, and the one parity block changed.
     Put {

@@ -10,7 +10,7 @@ use crate::slot::{Condition, SlotState};
 use std::marker::Model;
 
 /// Where the next put goes.
-#[derive(Clone, Copy, Debug)]
+#[derive(Clone, Copy, PartialEq, Eq, Debug)]
 pub struct Cursor {
     /// The stripe, or the number of stripes where the group is full.
     pub stripe: u32,

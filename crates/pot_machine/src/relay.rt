@@ -1,7 +1,7 @@
 //! Relays.
 
 /// A relay, which rebuilds one slot of a stripe.
-#[derive(Clone, Copy, Debug)]
+#[derive(Clone, Copy, PartialEq, Eq, Debug)]
 pub struct Relay {
     /// The stripe that it stands in.
     pub stripe: u32,

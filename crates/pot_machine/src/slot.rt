@@ -5,7 +5,7 @@ ghost use Rattle.pot_machine.specs.Slot.{digest_in, is_void, is_live, lost_of, b
 use pot_bytes::Digest;
 
 /// What a table knows of one slot.
-#[derive(Clone, Copy, Debug)]
+#[derive(Clone, Copy, PartialEq, Eq, Debug)]
 pub enum SlotState {
     /// Nothing was put there.
     Void,

@@ -98,6 +98,34 @@ fn letter(table: &GroupTable, stripe: u32, column: u8) -> char {
     }
 }
 
+/// The table of one data column, one parity column and one stripe, from its parts.
+fn smallest(alloc: Global) -> Result<GroupTable, Fail> {
+    let first = Column {
+        home: 0,
+        moving: None,
+    };
+    let second = Column {
+        home: 1,
+        moving: None,
+    };
+    let columns = vec![in alloc; first, second]?;
+    let slots = vec![in alloc; SlotState::Void, SlotState::Void]?;
+    let cursor = Cursor {
+        stripe: 0,
+        column: 0,
+    };
+    GroupTable::from_parts(alloc, 1, cursor, columns, slots, 1).map_err(|_| Fail::from("no memory"))
+}
+
+#[test]
+fn a_table_from_its_parts(rt: HostRuntime) -> Result<(), Fail> {
+    let mut table = smallest(rt.alloc())?;
+    assert!(rt; table.replay(&[put(0, 0)]));
+    assert!(rt; !table.legal(&put(1, 0)));
+    assert!(rt; table.cursor().stripe == 1);
+    Ok(())
+}
+
 #[test]
 fn a_relay_beside_puts(rt: HostRuntime) -> Result<(), Fail> {
     let mut table = group(rt.alloc(), 3, 1, 4)?;
