@@ -1,5 +1,5 @@
 -- The rule on homes, targets and positions, kept.
-use Rattle.std.proofs.Common.{◌≡◌, ◌≢◌, ◌<◌, ◌≤◌, ◌+◌, ◌⊎◌, inl, inr, ℕ, zero, suc, Bool, true, false, IsTrue, Option, Some, None, IfSome, IsSomeAnd, length, get_or, refl, ap, sym, ◌∙◌, subst, arith, nat_eq, ◌||◌}
+use Rattle.std.proofs.Common.{◌≡◌, ◌≢◌, ◌<◌, ◌≤◌, ◌⊎◌, inl, inr, ℕ, Bool, true, false, IsTrue, Option, Some, None, IfSome, IsSomeAnd, length, get_or, refl, ap, sym, ◌∙◌, subst, arith, ◌||◌}
 use Rattle.std.specs.Prelude.{◌==◌}
 use Rattle.std.proofs.lemmas.Bool.Decides.{nat_tests}
 use Rattle.std.proofs.lemmas.List.{get_or-set_same, get_or-set_other}

@@ -1,17 +1,15 @@
 -- The table of a new group keeps the rules of a table.
-use Rattle.std.proofs.Common.{◌≡◌, ◌≢◌, ◌<◌, ◌≤◌, ◌+◌, ◌*◌, ℕ, zero, suc, Bool, true, false, IsTrue, Option, Some, None, IfSome, List, [], ◌∷◌, length, get_or, map, replicate, refl, ap, sym, ◌∙◌, subst, arith, nat_le}
+use Rattle.std.proofs.Common.{◌≡◌, ◌≢◌, ◌<◌, ◌≤◌, ◌+◌, ◌*◌, ℕ, zero, suc, true, IsTrue, IfSome, get_or, replicate, refl, ap, sym, ◌∙◌, subst, arith, nat_le}
 use Rattle.std.specs.Prelude.{◌==◌}
-use Rattle.std.specs.List.{range_with_len}
 use Rattle.std.proofs.lemmas.Bool.Decides.{nat_tests}
 use Rattle.std.proofs.lemmas.List.{length-replicate}
 use Rattle.std.proofs.lemmas.List.FromFn.{length-map-range_with_len, get_or-map-range_with_len}
 use Rattle.pot_bytes.specs.declared.rack.Rack.{Rack}
 use Rattle.pot_bytes.specs.Rack.{IsRack}
-use Rattle.pot_machine.specs.declared.slot.SlotState.{SlotState}
 use Rattle.pot_machine.specs.declared.slot.SlotState.TheVariants.{Void}
 use Rattle.pot_machine.specs.Slot.{is_void}
 use Rattle.pot_machine.specs.Column.{names}
-use Rattle.pot_machine.specs.Table.{Table, width, place_of, slot_at, column_at, no_column}
+use Rattle.pot_machine.specs.Table.{Table, place_of, slot_at, column_at, no_column}
 use Rattle.pot_machine.specs.Making.{column_home, empty_table}
 use Rattle.pot_machine.specs.Rules.{IsTable}
 

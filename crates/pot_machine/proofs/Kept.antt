@@ -1,20 +1,20 @@
 -- Each legal entry keeps the rules of a table.
-use Rattle.std.proofs.Common.{◌≡◌, ◌≢◌, ◌<◌, ◌≤◌, ◌+◌, ◌*◌, ◌⊎◌, inl, inr, ℕ, zero, suc, Bool, true, false, not, IsTrue, Option, Some, None, List, [], ◌∷◌, ◌++◌, length, map, filter, count_by, refl, ap, sym, ◌∙◌, subst, arith, if◌then◌else◌}
+use Rattle.std.proofs.Common.{◌≡◌, ◌<◌, ◌≤◌, ◌+◌, ◌⊎◌, inl, inr, ℕ, zero, suc, Bool, true, false, not, IsTrue, None, List, [], ◌∷◌, length, map, filter, refl, ap, ◌∙◌, arith, if◌then◌else◌}
 use Rattle.std.specs.Prelude.{◌==◌}
 use Rattle.std.proofs.lemmas.List.{length-set, length-map, length-append}
 use Rattle.pot_bytes.specs.declared.digest.Digest.{Digest}
 use Rattle.pot_machine.specs.declared.slot.SlotState.{SlotState}
-use Rattle.pot_machine.specs.declared.slot.SlotState.TheVariants.{Void, Live, Lost, Broken}
+use Rattle.pot_machine.specs.declared.slot.SlotState.TheVariants.{Live}
 use Rattle.pot_machine.specs.declared.column.Column.{Column}
 use Rattle.pot_machine.specs.declared.relay.Relay.{Relay}
 use Rattle.pot_machine.specs.declared.entry.Entry.{Entry}
 use Rattle.pot_machine.specs.declared.entry.Entry.TheVariants.{Put, Skip, Seen, Gone, Broke, Fault, Begin, Hop, Mended, GaveUp, Oddly, Stuck, MoveBegin, Moved, MoveEnd, Swapped, Counted, Put2}
-use Rattle.pot_machine.specs.Slot.{is_void, is_unsound, is_lost, lost_of, broken_of, live_of, parity_slot}
-use Rattle.pot_machine.specs.Table.{Table, width, place_of, slot_at, column_at, relay_at, first_beside}
-use Rattle.pot_machine.specs.Machine.{Legal, after, TakesPut, TakesRelay, TakesArchive, InRange, with_slot, with_put, with_loss, with_losses, with_column, with_cursor, with_relay, with_hop, without_relay, past, hopped, moved_on, moved_home}
+use Rattle.pot_machine.specs.Slot.{is_void, is_unsound, lost_of, broken_of, live_of, parity_slot}
+use Rattle.pot_machine.specs.Table.{Table, width, place_of, slot_at, column_at, relay_at}
+use Rattle.pot_machine.specs.Machine.{Legal, after, TakesPut, TakesRelay, TakesArchive, with_slot, with_put, with_loss, with_losses, with_column, with_cursor, with_relay, with_hop, without_relay, past, hopped, moved_on, moved_home}
 use Rattle.pot_machine.specs.Rules.{IsTable, HasSize, HasColumns, HasRelays}
 use Rattle.pot_machine.proofs.Places.{slot_same, slot_other, void_same, unsound_kept, void-lost, void-broken, void-live, unsound-lost, unsound-broken, void-parity}
-use Rattle.pot_machine.proofs.Voids.{SameVoids, voids_kept, cursor_kept, IsPut, voids_put, cursor_put, voids_skip, cursor_skip}
+use Rattle.pot_machine.proofs.Voids.{voids_kept, cursor_kept, IsPut, voids_put, cursor_put, voids_skip, cursor_skip}
 use Rattle.pot_machine.proofs.Columns.{columns_kept, move_begins, moves_on, move_ends, swaps}
 use Rattle.pot_machine.proofs.Relays.{relays_kept, other_stripes, relays_begin, relays_hop, relays_end, others_left, relays_beside}
 

@@ -1,19 +1,18 @@
 -- What each entry leaves alone.
-use Rattle.std.proofs.Common.{◌≡◌, ◌≢◌, ◌⊎◌, inl, inr, ◌<◌, ◌≤◌, ◌+◌, ℕ, zero, suc, Bool, true, false, not, IsTrue, Option, Some, None, List, [], ◌∷◌, ◌++◌, map, filter, find, cond, get_or, refl, sym, ap, ◌∙◌, subst, arith, nat_le, if◌then◌else◌}
+use Rattle.std.proofs.Common.{◌≡◌, ◌≢◌, ◌⊎◌, inl, inr, ◌<◌, ◌≤◌, ◌+◌, ℕ, zero, suc, Bool, true, false, not, IsTrue, Some, List, [], ◌∷◌, ◌++◌, map, filter, cond, get_or, refl, sym, ap, ◌∙◌, subst, arith, nat_le, if◌then◌else◌}
 use Rattle.std.specs.Prelude.{◌==◌}
 use Rattle.std.proofs.lemmas.Bool.Decides.{nat_tests}
 use Rattle.pot_machine.specs.declared.slot.SlotState.{SlotState}
 use Rattle.pot_machine.specs.declared.slot.SlotState.TheVariants.{Void, Live, Lost, Broken}
 use Rattle.pot_machine.specs.declared.relay.Relay.{Relay}
-use Rattle.pot_machine.specs.declared.entry.Entry.{Entry}
-use Rattle.pot_machine.specs.declared.entry.Entry.TheVariants.{Put, Skip, Seen, Gone, Broke, Fault, Begin, Hop, Mended, GaveUp, Oddly, Stuck, MoveBegin, Moved, MoveEnd, Swapped, Counted, Put2}
+use Rattle.pot_machine.specs.declared.entry.Entry.TheVariants.{Put, Skip, Gone, Broke, Begin, Hop, Mended, GaveUp, Oddly, MoveBegin, Moved, MoveEnd, Swapped, Put2}
 use Rattle.pot_machine.specs.Slot.{is_void, is_live, digest_in, lost_of, broken_of, live_of}
-use Rattle.pot_machine.specs.Table.{Table, width, slot_at, column_at, no_column, relay_in, relay_at}
-use Rattle.pot_machine.specs.Machine.{Legal, after, TakesPut, with_slot, with_loss, with_losses, with_column, hopped, Replays}
+use Rattle.pot_machine.specs.Table.{Table, width, slot_at, no_column, relay_in}
+use Rattle.pot_machine.specs.Machine.{Legal, after, TakesPut, with_slot, with_loss, with_losses, hopped, Replays}
 use Rattle.pot_machine.specs.Rules.{IsTable}
-use Rattle.pot_machine.specs.Laws.{PutsInto, WritesSlot, MakesLive, MovesCursor, ChangesColumn, ChangesRelay, SizesStay, SlotsStay, DigestsStay, DataStays, LiveByPut, CursorStays, ColumnsStay, RelaysStay, RulesStay, LogsWentOn, ParityVoid}
+use Rattle.pot_machine.specs.Laws.{SizesStay, SlotsStay, DigestsStay, DataStays, LiveByPut, CursorStays, ColumnsStay, RelaysStay, RulesStay, LogsWentOn, ParityVoid}
 use Rattle.pot_machine.proofs.Sizes.{gave_up_range, data_columns-with_losses, width-with_losses, stripes-with_losses}
-use Rattle.pot_machine.proofs.Places.{slot_after, slot_same, slot_other}
+use Rattle.pot_machine.proofs.Places.{slot_after, slot_other}
 use Rattle.pot_machine.proofs.Columns.{column_other}
 use Rattle.pot_machine.proofs.Kept.{put_other, put2_other, after_keeps}
 

@@ -1,5 +1,5 @@
 -- A list whose first elements were replaced by what a function makes of them.
-use Rattle.std.proofs.Common.{◌≡◌, ℕ, zero, suc, ◌+◌, ◌<◌, ◌≤◌, refl, sym, ap, ap₂, ◌∙◌, arith, add-one, List, [], ◌∷◌, length, get_or, set, map}
+use Rattle.std.proofs.Common.{◌≡◌, ℕ, zero, suc, ◌+◌, ◌<◌, ◌≤◌, refl, sym, ap, ◌∙◌, arith, add-one, List, [], ◌∷◌, length, get_or, set, map}
 
 unfoldable pub mapped : {A : Type 0} → (A → A) → ℕ → List A → List A
 mapped f zero xs = xs

@@ -1,5 +1,5 @@
 -- The slots of a table after a change.
-use Rattle.std.proofs.Common.{◌≡◌, ◌≢◌, ◌<◌, ◌≤◌, ◌+◌, ◌*◌, ◌/◌, ◌⊎◌, inl, inr, ℕ, zero, suc, Bool, true, false, IsTrue, List, [], ◌∷◌, length, get_or, set, refl, ap, sym, ◌∙◌, subst, arith}
+use Rattle.std.proofs.Common.{◌≡◌, ◌<◌, ◌≤◌, ◌+◌, ◌*◌, ◌/◌, ◌⊎◌, inl, inr, ℕ, zero, suc, Bool, true, false, IsTrue, List, [], ◌∷◌, length, get_or, set, refl, ap, sym, ◌∙◌, arith}
 use Rattle.std.proofs.Math.Nat.{mul-le-mul_right}
 use Rattle.std.proofs.lemmas.List.{get_or-set_same, get_or-set_other}
 use Rattle.std.proofs.lemmas.Nat.{div-mul-add}
@@ -7,7 +7,7 @@ use Rattle.pot_machine.specs.declared.slot.SlotState.{SlotState}
 use Rattle.pot_machine.specs.declared.slot.SlotState.TheVariants.{Void, Live, Lost, Broken}
 use Rattle.pot_machine.specs.Slot.{is_void, is_unsound, lost_of, broken_of, live_of, parity_slot}
 use Rattle.pot_machine.specs.Table.{Table, width, place_of, slot_at}
-use Rattle.pot_machine.specs.Machine.{with_slot, with_loss}
+use Rattle.pot_machine.specs.Machine.{with_slot}
 
 set_cases : {X : Type 0} (l : List X) (p q : ℕ) (v d : X) → (get_or (set l p v) q d ≡ get_or l q d) ⊎ ((get_or (set l p v) q d ≡ v) × (q ≡ p))
 set_cases [] p q v d = inl refl

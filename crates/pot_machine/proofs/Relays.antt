@@ -1,5 +1,5 @@
 -- The rule on relays, kept.
-use Rattle.std.proofs.Common.{◌≡◌, ◌≢◌, ◌<◌, ◌≤◌, ◌+◌, ◌⊎◌, inl, inr, ℕ, zero, suc, Bool, true, false, not, ◌&&◌, IsTrue, Option, Some, None, IfSome, IsSomeAnd, List, [], ◌∷◌, ◌++◌, length, get_or, map, filter, find, All, AllPairs, cond, refl, ap, sym, ◌∙◌, subst, arith, if◌then◌else◌}
+use Rattle.std.proofs.Common.{◌≡◌, ◌≢◌, ◌<◌, ◌⊎◌, inl, inr, ℕ, zero, suc, Bool, true, false, not, ◌&&◌, IsTrue, Option, Some, None, IfSome, List, [], ◌∷◌, length, get_or, map, All, AllPairs, cond, refl, ap, sym, ◌∙◌, subst, arith, if◌then◌else◌}
 use Rattle.std.specs.Prelude.{◌==◌}
 use Rattle.std.proofs.lemmas.Bool.Decides.{nat_tests}
 use Rattle.std.proofs.lemmas.List.{get_or-map, length-map}
@@ -10,8 +10,8 @@ use Rattle.pot_machine.specs.declared.relay.Relay.{Relay}
 use Rattle.pot_machine.specs.declared.slot.SlotState.{SlotState}
 use Rattle.pot_machine.specs.declared.slot.SlotState.TheVariants.{Void, Live, Lost, Broken}
 use Rattle.pot_machine.specs.Slot.{is_unsound, is_lost, is_broken}
-use Rattle.pot_machine.specs.Table.{Table, width, slot_at, relay_in, relay_at, first_beside, count_beside, count, least}
-use Rattle.pot_machine.specs.Machine.{with_slot, with_relay, with_hop, without_relay, hopped, InRange, IsRebuilt, TakesRelay, GoesTo}
+use Rattle.pot_machine.specs.Table.{Table, width, slot_at, relay_in, first_beside, count_beside}
+use Rattle.pot_machine.specs.Machine.{with_slot, with_relay, with_hop, without_relay, hopped, TakesRelay}
 use Rattle.pot_machine.specs.Rules.{HasRelays, IsStanding}
 use Rattle.pot_machine.proofs.Searches.{least_some, none_counted}
 use Rattle.pot_machine.proofs.Places.{slot_other}

@@ -1,5 +1,5 @@
 -- What the changes of a table leave alone.
-use Rattle.std.proofs.Common.{◌≡◌, ◌<◌, ℕ, zero, suc, refl, ap, ◌∙◌, Option, Some, None, IsSomeAnd}
+use Rattle.std.proofs.Common.{◌≡◌, ◌<◌, ℕ, zero, suc, refl, Option, Some, None, IsSomeAnd}
 use Rattle.pot_machine.specs.declared.relay.Relay.{Relay}
 use Rattle.pot_machine.specs.Table.{Table, width, is_ahead, next_column, relay_at}
 use Rattle.pot_machine.specs.Machine.{InRange, StandsAt, with_losses}

@@ -1,10 +1,10 @@
 -- What each entry leaves alone, and how logs go on.
-use Rattle.std.specs.Prelude.{◌≡◌, ◌⊎◌, ◌↔◌, ◌<◌, ◌≤◌, ℕ, Bool, false, Option, Some, IsTrue, List, [], ◌∷◌, ◌++◌}
+use Rattle.std.specs.Prelude.{◌≡◌, ◌⊎◌, ◌↔◌, ◌<◌, ◌≤◌, ℕ, Bool, false, IsTrue, List, [], ◌∷◌, ◌++◌}
 use Rattle.pot_machine.specs.declared.entry.Entry.{Entry}
 use Rattle.pot_machine.specs.declared.entry.Entry.TheVariants.{Put, Skip, Gone, Broke, Begin, Hop, Mended, GaveUp, Oddly, MoveBegin, Moved, MoveEnd, Swapped, Put2}
 use Rattle.pot_machine.specs.Slot.{is_void, is_live, digest_in}
 use Rattle.pot_machine.specs.Table.{Table, width, slot_at, column_at, relay_at}
-use Rattle.pot_machine.specs.Machine.{InRange, Legal, after, Replays, Replayed}
+use Rattle.pot_machine.specs.Machine.{Legal, after, Replays, Replayed}
 use Rattle.pot_machine.specs.Rules.{IsTable}
 
 -- the entry puts a block into the stripe
@@ -56,28 +56,39 @@ ChangesRelay _ n = ⊥
 
 -- a group keeps its sizes
 abbrev pub SizesStay : Type 0
-SizesStay = (t : Table) (e : Entry) → ((after t e).data_columns ≡ t.data_columns) × ((after t e).parity ≡ t.parity) × ((after t e).stripes ≡ t.stripes)
+SizesStay =
+    (t : Table) (e : Entry)
+    → ((after t e).data_columns ≡ t.data_columns) × ((after t e).parity ≡ t.parity) × ((after t e).stripes ≡ t.stripes)
 
 abbrev pub SlotsStay : Type 0
-SlotsStay = (t : Table) (e : Entry) (n k : ℕ) → IsTable t → Legal t e → k < width t → (WritesSlot t e n k → ⊥) → slot_at (after t e) n k ≡ slot_at t n k
+SlotsStay =
+    (t : Table) (e : Entry) (n k : ℕ) → IsTable t → Legal t e → k < width t → (WritesSlot t e n k → ⊥)
+    → slot_at (after t e) n k ≡ slot_at t n k
 
 -- without a put into its stripe, a slot keeps its digest
 abbrev pub DigestsStay : Type 0
-DigestsStay = (t : Table) (e : Entry) (n k : ℕ) → IsTable t → Legal t e → k < width t → (PutsInto e n → ⊥) → digest_in (slot_at (after t e) n k) ≡ digest_in (slot_at t n k)
+DigestsStay =
+    (t : Table) (e : Entry) (n k : ℕ) → IsTable t → Legal t e → k < width t → (PutsInto e n → ⊥)
+    → digest_in (slot_at (after t e) n k) ≡ digest_in (slot_at t n k)
 
 -- a data slot that has a digest keeps it for ever
 abbrev pub DataStays : Type 0
-DataStays = (t : Table) (e : Entry) (n k : ℕ) → IsTable t → Legal t e → k < t.data_columns → is_void (slot_at t n k) ≡ false → digest_in (slot_at (after t e) n k) ≡ digest_in (slot_at t n k)
+DataStays =
+    (t : Table) (e : Entry) (n k : ℕ) → IsTable t → Legal t e → k < t.data_columns
+    → is_void (slot_at t n k) ≡ false → digest_in (slot_at (after t e) n k) ≡ digest_in (slot_at t n k)
 
 -- a slot becomes Live by a put into its stripe, or as the target of a relay that ends
 abbrev pub LiveByPut : Type 0
-LiveByPut = (t : Table) (e : Entry) (n k : ℕ) → IsTable t → Legal t e → k < width t → IsTrue (is_live (slot_at (after t e) n k)) → IsTrue (is_live (slot_at t n k)) ⊎ MakesLive e n k
+LiveByPut =
+    (t : Table) (e : Entry) (n k : ℕ) → IsTable t → Legal t e → k < width t
+    → IsTrue (is_live (slot_at (after t e) n k)) → IsTrue (is_live (slot_at t n k)) ⊎ MakesLive e n k
 
 abbrev pub CursorStays : Type 0
 CursorStays = (t : Table) (e : Entry) → (MovesCursor e → ⊥) → (after t e).cursor ≡ t.cursor
 
 abbrev pub ColumnsStay : Type 0
-ColumnsStay = (t : Table) (e : Entry) (k : ℕ) → (ChangesColumn e k → ⊥) → column_at (after t e) k ≡ column_at t k
+ColumnsStay =
+    (t : Table) (e : Entry) (k : ℕ) → (ChangesColumn e k → ⊥) → column_at (after t e) k ≡ column_at t k
 
 abbrev pub RelaysStay : Type 0
 RelaysStay = (t : Table) (e : Entry) (n : ℕ) → (ChangesRelay e n → ⊥) → relay_at (after t e) n ≡ relay_at t n
@@ -93,11 +104,15 @@ RulesStay = (t u : Table) (log : List Entry) → IsTable t → Replays t log u �
 
 -- a log goes on by an entry that is legal at its end
 abbrev pub LogsGoOn : Type 0
-LogsGoOn = (t u : Table) (log : List Entry) (e : Entry) → Replays t log u → Legal u e → Replays t (log ++ e ∷ []) (after u e)
+LogsGoOn =
+    (t u : Table) (log : List Entry) (e : Entry) → Replays t log u → Legal u e
+    → Replays t (log ++ e ∷ []) (after u e)
 
 -- and only so
 abbrev pub LogsWentOn : Type 0
-LogsWentOn = (t v : Table) (log : List Entry) (e : Entry) → Replays t (log ++ e ∷ []) v → (u : Table) × Replays t log u × Legal u e × (v ≡ after u e)
+LogsWentOn =
+    (t v : Table) (log : List Entry) (e : Entry) → Replays t (log ++ e ∷ []) v
+    → (u : Table) × Replays t log u × Legal u e × (v ≡ after u e)
 
 -- a log leads to one table
 abbrev pub LogsLeadOnce : Type 0
@@ -105,4 +120,6 @@ LogsLeadOnce = (t u v : Table) (log : List Entry) → Replays t log u → Replay
 
 -- the longest legal front of the entries is one, and leads to one table
 abbrev pub ReplayedOnce : Type 0
-ReplayedOnce = (t u v : Table) (entries : List Entry) (whole all : Bool) → Replayed t u entries whole → Replayed t v entries all → (u ≡ v) × (whole ≡ all)
+ReplayedOnce =
+    (t u v : Table) (entries : List Entry) (whole all : Bool) → Replayed t u entries whole
+    → Replayed t v entries all → (u ≡ v) × (whole ≡ all)

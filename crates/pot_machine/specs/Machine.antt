@@ -1,12 +1,11 @@
 -- The machine of a group: which entries are legal in a table, and what each does to it.
-use Rattle.std.specs.Prelude.{◌≡◌, ◌≢◌, ◌⊎◌, ◌↔◌, ◌<◌, ◌≤◌, ℕ, zero, suc, ◌+◌, ◌==◌, ◌&&◌, nat_lt, nat_le, Bool, true, false, not, Option, Some, None, is_some, IsSome, IsSomeAnd, IsTrue, List, [], ◌∷◌, ◌++◌, if◌then◌else◌, length, take, slice_get, slice_set, filter, map}
+use Rattle.std.specs.Prelude.{◌≡◌, ◌≢◌, ◌⊎◌, ◌↔◌, ◌<◌, ◌≤◌, ℕ, zero, suc, ◌+◌, ◌==◌, ◌&&◌, nat_lt, nat_le, Bool, not, Option, Some, None, is_some, IsSome, IsSomeAnd, IsTrue, List, [], ◌∷◌, ◌++◌, if◌then◌else◌, length, take, slice_get, slice_set, filter, map}
 use Rattle.pot_bytes.specs.declared.digest.Digest.{Digest}
 use Rattle.pot_machine.specs.declared.slot.SlotState.{SlotState}
 use Rattle.pot_machine.specs.declared.slot.SlotState.TheVariants.{Live}
 use Rattle.pot_machine.specs.declared.column.Column.{Column}
-use Rattle.pot_machine.specs.declared.column.Moving.{Moving}
 use Rattle.pot_machine.specs.declared.relay.Relay.{Relay}
-use Rattle.pot_machine.specs.declared.parts.Cursor.{Cursor}
+use Rattle.pot_machine.specs.declared.cursor.Cursor.{Cursor}
 use Rattle.pot_machine.specs.declared.entry.Entry.{Entry}
 use Rattle.pot_machine.specs.declared.entry.Entry.TheVariants.{Put, Skip, Seen, Gone, Broke, Fault, Begin, Hop, Mended, GaveUp, Oddly, Stuck, MoveBegin, Moved, MoveEnd, Swapped, Counted, Put2}
 use Rattle.pot_machine.specs.Slot.{digest_in, is_live, is_lost, is_broken, is_unsound, lost_of, broken_of, live_of, parity_slot}

@@ -1,11 +1,11 @@
 -- The tables that groups begin with.
-use Rattle.std.specs.Prelude.{ℕ, ◌+◌, ◌-◌, ◌*◌, Option, None, List, [], length, map, replicate}
+use Rattle.std.specs.Prelude.{ℕ, ◌+◌, ◌-◌, ◌*◌, None, List, [], length, map, replicate}
 use Rattle.std.specs.List.{range_with_len}
 use Rattle.pot_bytes.specs.declared.rack.Rack.{Rack}
 use Rattle.pot_machine.specs.declared.slot.SlotState.{SlotState}
 use Rattle.pot_machine.specs.declared.slot.SlotState.TheVariants.{Void}
 use Rattle.pot_machine.specs.declared.column.Column.{Column}
-use Rattle.pot_machine.specs.declared.parts.Cursor.{Cursor}
+use Rattle.pot_machine.specs.declared.cursor.Cursor.{Cursor}
 use Rattle.pot_machine.specs.Table.{Table}
 
 -- a column that does not move

@@ -1,5 +1,5 @@
 -- The rules that every table of a group keeps.
-use Rattle.std.specs.Prelude.{◌≡◌, ◌≢◌, ◌<◌, ◌≤◌, ℕ, ◌+◌, ◌*◌, None, IfSome, IsTrue, length, All, AllPairs, nat_le}
+use Rattle.std.specs.Prelude.{◌≡◌, ◌≢◌, ◌<◌, ◌≤◌, ℕ, ◌*◌, None, IfSome, IsTrue, length, All, AllPairs, nat_le}
 use Rattle.pot_machine.specs.declared.relay.Relay.{Relay}
 use Rattle.pot_machine.specs.Slot.{is_void, is_unsound}
 use Rattle.pot_machine.specs.Column.{names}

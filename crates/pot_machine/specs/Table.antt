@@ -1,11 +1,11 @@
 -- The table of a group, and how it is read.
-use Rattle.std.specs.Prelude.{◌≡◌, ◌≢◌, ◌<◌, ◌≤◌, ℕ, zero, suc, ◌+◌, ◌*◌, ◌==◌, ◌&&◌, ◌||◌, nat_lt, nat_le, Bool, true, false, not, Option, Some, None, IsTrue, List, [], ◌∷◌, if◌then◌else◌, length, slice_index_or, slice_set, find, filter, map}
+use Rattle.std.specs.Prelude.{ℕ, zero, suc, ◌+◌, ◌*◌, ◌==◌, ◌&&◌, nat_lt, nat_le, Bool, true, not, Option, Some, None, List, if◌then◌else◌, slice_index_or, find}
 use Rattle.pot_machine.specs.declared.slot.SlotState.{SlotState}
 use Rattle.pot_machine.specs.declared.slot.SlotState.TheVariants.{Void}
 use Rattle.pot_machine.specs.declared.column.Column.{Column}
 use Rattle.pot_machine.specs.declared.relay.Relay.{Relay}
-use Rattle.pot_machine.specs.declared.parts.Cursor.{Cursor}
-use Rattle.pot_machine.specs.Slot.{is_void, is_lost, is_unsound}
+use Rattle.pot_machine.specs.declared.cursor.Cursor.{Cursor}
+use Rattle.pot_machine.specs.Slot.{is_void}
 use Rattle.pot_machine.specs.Column.{names, serving}
 
 -- The data columns stand first, behind them the parity column P, and behind it Q where there are two.

@@ -5,8 +5,9 @@ ghost use Rattle.pot_machine.specs.Machine.{InRange, Legal, after, with_slot, wi
 ghost use Rattle.pot_machine.specs.Rules.{IsTable};
 
 use crate::column::{Column, Moving};
+use crate::cursor::Cursor;
 use crate::entry::Entry;
-use crate::parts::{Cursor, Parts, place};
+use crate::parts::{Parts, place};
 use crate::relay::Relay;
 use crate::slot::{Condition, SlotState};
 use pot_bytes::Digest;

@@ -6,7 +6,8 @@ ghost use Rattle.pot_machine.specs.Making.{column_home, empty_table, table_of};
 ghost use Rattle.pot_machine.specs.Rules.{HasSize};
 
 use crate::column::Column;
-use crate::parts::{Cursor, Parts};
+use crate::cursor::Cursor;
+use crate::parts::Parts;
 use crate::slot::SlotState;
 use pot_bytes::{NoMemory, Rack};
 use std::alloc::Global;

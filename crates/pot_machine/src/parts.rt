@@ -5,19 +5,13 @@ ghost use Rattle.pot_machine.specs.Table.{width, slot_at, column_at, relay_at, f
 ghost use Rattle.pot_machine.specs.Slot.{meets};
 
 use crate::column::Column;
+use crate::cursor::Cursor;
 use crate::relay::Relay;
 use crate::slot::{Condition, SlotState};
 use std::marker::Model;
 
-/// Where the next put goes.
-#[derive(Clone, Copy, PartialEq, Eq, Debug)]
-pub struct Cursor {
-    /// The stripe, or the number of stripes where the group is full.
-    pub stripe: u32,
-    /// The data column, or 0 where the group is full.
-    pub column: u8,
-}
-
+/// The parts of a table. Its type keeps that the sizes are within the limits, that the lists are as long as they ask for,
+/// and that there is room for 16 relays.
 #[derive(Drop)]
 pub(crate) struct Parts {
     pub(crate) data_columns: u8,

@@ -7,8 +7,9 @@ ghost use Rattle.pot_machine.specs.Making.{empty_table, table_of};
 ghost use Rattle.pot_bytes.specs.Rack.{IsRack};
 
 use crate::column::Column;
+use crate::cursor::Cursor;
 use crate::entry::Entry;
-use crate::parts::{Cursor, Parts};
+use crate::parts::Parts;
 use crate::relay::Relay;
 use crate::slot::SlotState;
 use pot_bytes::{NoMemory, Rack};

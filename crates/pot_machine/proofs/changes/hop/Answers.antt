@@ -1,4 +1,4 @@
-use Rattle.std.proofs.Common.{◌≡◌, refl, sym, ap, ◌∙◌, arith, length, get_or, set, None}
+use Rattle.std.proofs.Common.{refl, ap, ◌∙◌, get_or, set, None}
 use Rattle.pot_machine.specs.declared.relay.Relay.{Relay}
 use Rattle.pot_machine.specs.Machine.{hopped}
 use Rattle.pot_machine.proofs.Mapped.{mapped, mapped-get, mapped-more, mapped-all}

@@ -1,4 +1,4 @@
-use Rattle.std.proofs.Common.{◌≡◌, subst}
+use Rattle.std.proofs.Common.{subst}
 use Rattle.pot_machine.specs.Machine.{Legal}
 use Rattle.pot_machine.proofs.Sizes.{gave_up_range}
 use Rattle.pot_machine.proofs.parts.Parts.apply.Goals as goal

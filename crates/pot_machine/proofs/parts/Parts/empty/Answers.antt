@@ -1,4 +1,4 @@
-use Rattle.std.proofs.Common.{◌≡◌, ◌++◌, ◌∷◌, [], ◌+◌, ◌*◌, length, map, refl, sym, ap, ◌∙◌, arith, None}
+use Rattle.std.proofs.Common.{◌*◌, length, ap, ◌∙◌, arith}
 use Rattle.std.proofs.lemmas.List.FromFn.{length-map-range_with_len}
 use Rattle.pot_machine.specs.Making.{column_home}
 use Rattle.pot_machine.proofs.parts.Parts.empty.Goals as goal

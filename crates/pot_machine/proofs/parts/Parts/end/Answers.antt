@@ -1,4 +1,4 @@
-use Rattle.std.proofs.Common.{◌≡◌, sym, ap, ◌∙◌, rules, tests, not, filter}
+use Rattle.std.proofs.Common.{ap, ◌∙◌, rules, tests, not}
 use Rattle.std.specs.Prelude.{◌==◌}
 use Rattle.std.proofs.lemmas.Fn.{filter_same}
 use Rattle.pot_machine.specs.Machine.{without_relay}

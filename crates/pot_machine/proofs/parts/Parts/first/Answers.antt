@@ -1,4 +1,4 @@
-use Rattle.std.proofs.Common.{◌≡◌, sym, ap, ◌∙◌, arith}
+use Rattle.std.proofs.Common.{sym, ap, ◌∙◌, arith}
 use Rattle.pot_machine.specs.Table.{width, slot_at}
 use Rattle.pot_machine.specs.Slot.{meets}
 use Rattle.pot_machine.proofs.Searches.{least_at}

@@ -1,4 +1,4 @@
-use Rattle.std.proofs.Common.{◌≡◌, sym, ap, ◌∙◌, arith, not, ◌&&◌}
+use Rattle.std.proofs.Common.{sym, ap, ◌∙◌, arith, not, ◌&&◌}
 use Rattle.std.specs.Prelude.{◌==◌}
 use Rattle.pot_machine.specs.Table.{width, slot_at}
 use Rattle.pot_machine.specs.Slot.{meets}

@@ -1,4 +1,4 @@
-use Rattle.std.proofs.Common.{◌≡◌, sym, ap, ◌∙◌, arith}
+use Rattle.std.proofs.Common.{sym, ap, ◌∙◌, arith}
 use Rattle.pot_machine.specs.Column.{names}
 use Rattle.pot_machine.specs.Table.{width, column_at}
 use Rattle.pot_machine.proofs.Searches.{least_at}

@@ -1,4 +1,4 @@
-use Rattle.std.proofs.Common.{◌≡◌, sym, ap, ◌∙◌, arith}
+use Rattle.std.proofs.Common.{sym, ◌∙◌, arith}
 use Rattle.pot_machine.specs.Table.{width, is_ahead}
 use Rattle.pot_machine.proofs.Searches.{least_at}
 use Rattle.pot_machine.proofs.parts.Parts.next_column.Goals as goal

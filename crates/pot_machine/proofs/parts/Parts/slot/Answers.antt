@@ -1,4 +1,4 @@
-use Rattle.std.proofs.Common.{◌≡◌, ◌<◌, ◌+◌, ◌*◌, ℕ, length, ap, ap₂, ◌∙◌, mul_comm, arith}
+use Rattle.std.proofs.Common.{◌≡◌, ◌+◌, ◌*◌, length, ap, ap₂, ◌∙◌, mul_comm, arith}
 use Rattle.std.proofs.lemmas.Nat.{mul-add-lt}
 use Rattle.pot_machine.specs.Table.{width}
 use Rattle.pot_machine.proofs.parts.Parts.slot.Goals as goal

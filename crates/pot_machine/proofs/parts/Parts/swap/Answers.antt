@@ -1,4 +1,4 @@
-use Rattle.std.proofs.Common.{◌≡◌, ◌<◌, ◌∙◌, ap, arith}
+use Rattle.std.proofs.Common.{ap, arith}
 use Rattle.pot_machine.specs.Table.{width}
 use Rattle.pot_machine.proofs.Sizes.{width-with_losses}
 use Rattle.pot_machine.proofs.parts.Parts.swap.Goals as goal
