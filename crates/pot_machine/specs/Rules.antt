@@ -23,18 +23,23 @@ pub record HasCursor (t : Table) : Type 0 where
 -- which slots are Void
 pub record HasVoids (t : Table) : Type 0 where
   -- in each stripe the data slots that are not Void are the first columns
-  pub first : (s c k : ℕ) → s < t.stripes → c ≤ k → k < t.data_columns → IsTrue (is_void (slot_at t s c)) → IsTrue (is_void (slot_at t s k))
+  pub first : (s c k : ℕ) → s < t.stripes → c ≤ k → k < t.data_columns
+      → IsTrue (is_void (slot_at t s c)) → IsTrue (is_void (slot_at t s k))
   -- each parity slot is Void exactly where the first data slot is, and so where all data slots are
-  pub parity : (s c : ℕ) → s < t.stripes → t.data_columns ≤ c → c < width t → is_void (slot_at t s c) ≡ is_void (slot_at t s 0)
+  pub parity : (s c : ℕ) → s < t.stripes → t.data_columns ≤ c → c < width t
+      → is_void (slot_at t s c) ≡ is_void (slot_at t s 0)
   -- all slots of the stripes after the cursor's are Void
   pub after : (s c : ℕ) → t.cursor.stripe < s → s < t.stripes → c < width t → IsTrue (is_void (slot_at t s c))
   -- in the cursor's stripe the data slots that are not Void are exactly those before the cursor
-  pub cursor : (c : ℕ) → t.cursor.stripe < t.stripes → c < t.data_columns → is_void (slot_at t t.cursor.stripe c) ≡ nat_le t.cursor.column c
+  pub cursor : (c : ℕ) → t.cursor.stripe < t.stripes → c < t.data_columns
+      → is_void (slot_at t t.cursor.stripe c) ≡ nat_le t.cursor.column c
 
 -- homes and targets are distinct, and no move is past the last stripe
 pub record HasColumns (t : Table) : Type 0 where
-  pub target : (c : ℕ) → c < width t → IfSome (column_at t c).moving (λ m. (m.to ≢ (column_at t c).home) × (m.upto ≤ t.stripes))
-  pub distinct : (c k number : ℕ) → c < width t → k < width t → IsTrue (names (column_at t c) number) → IsTrue (names (column_at t k) number) → c ≡ k
+  pub target : (c : ℕ) → c < width t
+      → IfSome (column_at t c).moving (λ m. (m.to ≢ (column_at t c).home) × (m.upto ≤ t.stripes))
+  pub distinct : (c k number : ℕ) → c < width t → k < width t
+      → IsTrue (names (column_at t c) number) → IsTrue (names (column_at t k) number) → c ≡ k
 
 -- a relay whose target is Lost or Broken. It skips no column, or another than its target, which it can only where there
 -- are two parity columns

@@ -38,22 +38,23 @@ no_column = record { home = 0; moving = None }
 abbrev pub column_at : Table → ℕ → Column
 column_at t c = slice_index_or t.columns c no_column
 
-abbrev pub relay_in : List Relay → ℕ → Option Relay
-relay_in relays s = find (λ r. r.stripe == s) relays
-
 -- the archive that serves a slot
 abbrev pub serving_at : Table → ℕ → ℕ → ℕ
 serving_at t s c = serving (column_at t c) s
 
 -- the relay that stands in a stripe
+abbrev pub relay_in : List Relay → ℕ → Option Relay
+relay_in relays s = find (λ r. r.stripe == s) relays
+
 abbrev pub relay_at : Table → ℕ → Option Relay
 relay_at t s = relay_in t.relays s
 
--- the least number below `n` that passes the test
+-- the first of two answers
 abbrev pub or_else : Option ℕ → Option ℕ → Option ℕ
 or_else (Some k) o = Some k
 or_else None o = o
 
+-- the least number below `n` that passes the test
 unfoldable pub least : ℕ → (ℕ → Bool) → Option ℕ
 least zero test = None
 least (suc n) test = or_else (least n test) (if test n then Some n else None)

@@ -111,56 +111,6 @@ fn hop(relays: &mut [Relay], stripe: u32, column: u8)
     }
 }
 
-impl Relay {
-    /// The relay after a hop over a column, if it is this stripe's.
-    fn hopped(self, stripe: u32, column: u8) -> Relay
-        ensures { result ≡ hopped stripe column self }
-    {
-        Relay {
-            stripe: self.stripe,
-            target: self.target,
-            skip: self.skip,
-            last: if self.stripe == stripe {
-                Some(column)
-            } else {
-                self.last
-            },
-        }
-    }
-}
-
-impl Column {
-    /// A move goes on by one stripe.
-    fn moved_on(self) -> Column
-        requires { IfSome self.moving (λ m. m.upto < 4096) }
-        ensures { result ≡ moved_on self }
-    {
-        match self.moving {
-            None => self,
-            Some(moving) => Column {
-                home: self.home,
-                moving: Some(Moving {
-                    to: moving.to,
-                    upto: moving.upto + 1,
-                }),
-            },
-        }
-    }
-
-    /// The home becomes the target.
-    fn moved_home(self) -> Column
-        ensures { result ≡ moved_home self }
-    {
-        match self.moving {
-            None => self,
-            Some(moving) => Column {
-                home: moving.to,
-                moving: None,
-            },
-        }
-    }
-}
-
 impl Parts {
     pub(crate) fn apply(&mut self, entry: &Entry)
         requires rules { IsTable self.old }

@@ -1,6 +1,7 @@
 //! The columns of a group, and the archives that serve them.
-ghost use Rattle.std.specs.Prelude.{◌≡◌};
+ghost use Rattle.std.specs.Prelude.{◌≡◌, ◌<◌, IfSome};
 ghost use Rattle.pot_machine.specs.Column.{names, serving};
+ghost use Rattle.pot_machine.specs.Machine.{moved_on, moved_home};
 
 /// A column on its way to another archive.
 #[derive(Clone, Copy, PartialEq, Eq, Debug)]
@@ -44,6 +45,36 @@ impl Column {
                     self.home
                 }
             }
+        }
+    }
+
+    /// A move goes on by one stripe.
+    pub(crate) fn moved_on(self) -> Column
+        requires { IfSome self.moving (λ m. m.upto < 4096) }
+        ensures { result ≡ moved_on self }
+    {
+        match self.moving {
+            None => self,
+            Some(moving) => Column {
+                home: self.home,
+                moving: Some(Moving {
+                    to: moving.to,
+                    upto: moving.upto + 1,
+                }),
+            },
+        }
+    }
+
+    /// The home becomes the target.
+    pub(crate) fn moved_home(self) -> Column
+        ensures { result ≡ moved_home self }
+    {
+        match self.moving {
+            None => self,
+            Some(moving) => Column {
+                home: moving.to,
+                moving: None,
+            },
         }
     }
 }
