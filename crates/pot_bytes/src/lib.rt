@@ -1,4 +1,5 @@
-//! Plain values that every layer speaks of: blocks, digests, byte strings and names, and the XOR of lists.
+//! Plain values that every layer speaks of: blocks, digests, byte strings, names, racks and places; the XOR of
+//! lists, and the product of FIPS 197 over bytes and lists.
 //!
 //! It knows no archive, no format and no file. Its calls take no memory and refuse nothing, but for
 //! what their answers say.
@@ -16,6 +17,7 @@ mod name;
 mod numbers;
 mod parts;
 mod product;
+mod rack;
 mod strings;
 mod weighted;
 
@@ -26,6 +28,7 @@ pub use name::Name;
 pub use numbers::{read_be32, read_be64};
 pub use parts::digest_of_two;
 pub use product::{gf_times, product_laws};
+pub use rack::{Geometry, Place, Rack};
 pub use strings::Bytes;
 pub use weighted::{add_weighted, fold_weighted, stripe_sum, weighted_laws};
 

@@ -1,0 +1,20 @@
+-- The limits of a rack.
+use Rattle.std.specs.Prelude.{◌≤◌}
+use Rattle.pot_bytes.specs.declared.rack.Geometry.{Geometry}
+use Rattle.pot_bytes.specs.declared.rack.Rack.{Rack}
+
+-- 2 to 8 fragments, a threshold of 1 to the number of shards, at most 16 shards, and a blur of at most 63 bits
+pub record IsGeometry (g : Geometry) : Type 0 where
+  pub fragments : (2 ≤ g.fragments) × (g.fragments ≤ 8)
+  pub need : (1 ≤ g.need) × (g.need ≤ g.shards)
+  pub shards : g.shards ≤ 16
+  pub blur : g.blur ≤ 63
+
+-- a geometry within its limits, at least as many groups as shards and at most 16, 1 to 16 data columns, one or two
+-- parity columns, and 1 to 4,096 stripes
+pub record IsRack (r : Rack) : Type 0 where
+  pub geometry : IsGeometry r.geometry
+  pub groups : (r.geometry.shards ≤ r.groups) × (r.groups ≤ 16)
+  pub columns : (1 ≤ r.columns) × (r.columns ≤ 16)
+  pub parity : (1 ≤ r.parity) × (r.parity ≤ 2)
+  pub stripes : (1 ≤ r.stripes) × (r.stripes ≤ 4096)

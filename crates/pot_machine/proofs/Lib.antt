@@ -1,0 +1,11 @@
+pub mod Searches
+pub mod Mapped
+pub mod Sizes
+pub mod Places
+pub mod Voids
+pub mod Columns
+pub mod Relays
+pub mod Kept
+pub mod Logs
+pub mod Empty
+pub mod LeftAlone

@@ -1,0 +1,7 @@
+pub mod Slot
+pub mod Column
+pub mod Table
+pub mod Machine
+pub mod Rules
+pub mod Making
+pub mod Laws

@@ -1,0 +1,20 @@
+//! What is proved of the machine as a whole.
+ghost use Rattle.pot_machine.specs.Laws.{SizesStay, SlotsStay, DigestsStay, DataStays, LiveByPut, CursorStays, ColumnsStay, RelaysStay, ParityVoid, RulesStay, LogsGoOn, LogsWentOn, LogsLeadOnce, ReplayedOnce};
+
+/// What each entry leaves alone, and how logs go on. It does nothing.
+pub fn machine_laws()
+    ensures sizes { SizesStay }
+    ensures slots { SlotsStay }
+    ensures digests { DigestsStay }
+    ensures data_digests { DataStays }
+    ensures live { LiveByPut }
+    ensures cursor { CursorStays }
+    ensures columns { ColumnsStay }
+    ensures relays { RelaysStay }
+    ensures parity { ParityVoid }
+    ensures rules { RulesStay }
+    ensures go_on { LogsGoOn }
+    ensures went_on { LogsWentOn }
+    ensures once { LogsLeadOnce }
+    ensures replayed_once { ReplayedOnce }
+{}
