@@ -1,12 +1,9 @@
 -- What stands in an object is what was written.
-use Rattle.std.proofs.Common.{◌≡◌, ◌≤◌, ◌<◌, ◌+◌, ◌-◌, ◌++◌, ℕ, List, length, take, drop, replicate, get_or, inl, inr, refl, ap, sym, ◌∙◌, arith, length-append, length-drop}
+use Rattle.std.proofs.Common.{◌≡◌, ◌≤◌, ◌+◌, ◌-◌, ◌++◌, ℕ, List, length, take, drop, replicate, refl, ap, sym, ◌∙◌, arith, length-append, length-drop}
 use Rattle.std.proofs.Math.Seq.{take-add}
-use Rattle.std.proofs.lemmas.List.{append_assoc, drop_at, drop-drop, get_or_past, get_or-drop, get_or-take, length-take, length-take-le, take_at, take_rest, take-append-drop}
-use Rattle.std.proofs.lemmas.Bool.{cases_lt}
-use Rattle.std.proofs.lemmas.Nat.{be_bytes_4, be_bytes_8}
-use Rattle.std.specs.Int.{w32, w64, from_be_bytes}
+use Rattle.std.proofs.lemmas.List.{append_assoc, drop_at, drop-drop, length-take-le, take_at, take_rest, take-append-drop}
 use Rattle.byteorder.specs.Endian.{big_bytes, big_number}
-use Rattle.byteorder.specs.Numbers.{big_from-take, big_number-reads_back}
+use Rattle.byteorder.specs.Numbers.{big_number-reads_back}
 use Rattle.pot_bytes.specs.Digests.{digest_bytes}
 use Rattle.pot_object.specs.Sealing.{sealed}
 use Rattle.pot_object.specs.Objects.{head_at, head_bytes, object_bytes, part_length, IsHead, IsObject}

@@ -1,11 +1,11 @@
 -- What stands in the block of a shard is what was written.
-use Rattle.std.proofs.Common.{◌≡◌, ◌≤◌, ◌<◌, ◌+◌, ◌-◌, ◌^◌, ◌++◌, ◌∷◌, [], ℕ, List, length, take, drop, replicate, get_or, refl, ap, sym, ◌∙◌, arith, length-drop}
+use Rattle.std.proofs.Common.{◌≡◌, ◌≤◌, ◌-◌, ◌++◌, ◌∷◌, [], ℕ, List, length, take, drop, replicate, get_or, refl, ap, sym, ◌∙◌, arith, length-drop}
 use Rattle.std.proofs.Math.Seq.{take-add}
 use Rattle.std.proofs.lemmas.List.{drop_more, take_rest, take-append-drop}
 use Rattle.byteorder.specs.Endian.{big_bytes, big_number}
 use Rattle.byteorder.specs.Numbers.{big_from-lt, big_number-reads_back}
 use Rattle.pot_object.proofs.NumberLemmas.{big_bytes_8, AreBytes, AreBytes-drop}
-use Rattle.pot_shard.specs.Shards.{magic, shard_at, shard_bytes, HasWidths, IsFramed, IsShard, IsShardBlock}
+use Rattle.pot_shard.specs.Shards.{magic, shard_at, shard_bytes, HasWidths, IsFramed, IsShardBlock}
 use Rattle.pot_shard.specs.declared.shard.Shard.{Shard}
 
 unfoldable pub made : ℕ → ℕ → ℕ → ℕ → ℕ → ℕ → List ℕ → Shard

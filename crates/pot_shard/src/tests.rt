@@ -1,7 +1,11 @@
+ghost use Rattle.pot_shard.specs.Shards.{IsShard};
+
 use crate::*;
 use pot_bytes::Block;
 
-fn some_shard() -> Shard {
+fn some_shard() -> Shard
+    ensures { IsShard result }
+{
     Shard {
         x: 2,
         m: 2,
@@ -23,7 +27,7 @@ fn reads_what_it_writes(rt: HostRuntime) {
     bytes[..33].copy_from_slice(&start);
     let read = decode_shard(&Block::from_bytes(bytes));
     assert!(rt; read.is_some_and(|shard| shard == some_shard()));
-    let outside = [
+    let outside: [(u8, u8); 11] = [
         (0, 0x51),
         (4, 0),
         (4, 4),
@@ -38,7 +42,7 @@ fn reads_what_it_writes(rt: HostRuntime) {
     ];
     for (place, byte) in outside {
         let mut changed = bytes;
-        changed[place] = byte;
+        changed[usize::from(place)] = byte;
         assert!(rt;
             decode_shard(&Block::from_bytes(changed)).is_none(),
             "{byte} at {place}"

@@ -1,8 +1,8 @@
-use Rattle.std.proofs.Common.{◌≡◌, ◌≤◌, ◌+◌, ◌-◌, ◌++◌, ◌∷◌, [], ℕ, List, length, take, drop, replicate, arith, refl, ap, sym, ◌∙◌, length-append, length-drop}
-use Rattle.std.proofs.lemmas.List.{append-nil, drop_all, length-take-le}
+use Rattle.std.proofs.Common.{◌≡◌, ◌++◌, ◌∷◌, [], ℕ, List, length, replicate, arith, refl, ap, ◌∙◌, length-append}
+use Rattle.std.proofs.lemmas.List.{length-take-le}
 use Rattle.byteorder.specs.Endian.{big_bytes}
 use Rattle.pot_object.proofs.FieldLemmas.{put_field, put_last, put_next}
-use Rattle.pot_shard.specs.Shards.{magic, shard_bytes}
+use Rattle.pot_shard.specs.Shards.{shard_bytes}
 use Rattle.pot_shard.proofs.shard.put_shard.Goals as goal
 
 pub returns : goal.returns

@@ -1,6 +1,5 @@
-use Rattle.std.proofs.Common.{◌≡◌, ◌≤◌, ℕ, List, length, IsTrue, false, sym, subst, refl, ap, ◌∙◌}
-use Rattle.pot_shard.specs.Shards.{shard_at, shard_bytes, HasWidths, IsFramed, IsShard, IsShardBlock}
-use Rattle.pot_shard.specs.declared.shard.Shard.{Shard}
+use Rattle.std.proofs.Common.{◌≡◌, IsTrue, false, sym, subst, refl, ap, ◌∙◌}
+use Rattle.pot_shard.specs.Shards.{shard_bytes, HasWidths, IsFramed, IsShard}
 use Rattle.pot_shard.proofs.ShardLemmas.{shard_at-block, shard_bytes-shard_at, HasWidths-shard_at, IsFramed-shard_bytes}
 use Rattle.pot_shard.proofs.shard.shard_of.Goals as goal
 use Rattle.pot_shard.proofs.shard.shard_of.Goals.{else-is_framed-via-then-is_framed+else-is_shard, else-is_framed-via-else-is_framed}
