@@ -20,6 +20,17 @@ put_next w old xs ys b at n whole before written =
     ∙ ap (λ (z : List ℕ). w ++ z) (append-nil ys ∙ next)
     ∙ sym (append_assoc w b (drop (at + n) old))
 
+-- the same where all bytes that are left are written
+pub put_last : (w old xs ys b : List ℕ) (at : ℕ) → length w ≡ at → xs ≡ w ++ drop at old → ys ≡ b
+    → put_mid at (length xs - at) xs ys ≡ w ++ b
+put_last w old xs ys b at whole before written =
+    let front : take at xs ≡ w = ap (take at) before ∙ take_at w (drop at old) at whole in
+    let none : drop (length xs - at) (drop at xs) ≡ [] =
+    drop_all (length xs - at) (drop at xs) (omega (arith, length-drop {A = ℕ} at xs)) in
+    ap (λ (z : List ℕ). z ++ (ys ++ post_of at (length xs - at) xs)) front
+    ∙ ap (λ (z : List ℕ). w ++ (ys ++ z)) none
+    ∙ ap (λ (z : List ℕ). w ++ z) (append-nil ys ∙ written)
+
 -- the same where `k` bytes are lent and written
 pub put_field : (w old xs ys b : List ℕ) (at k : ℕ) → length w ≡ at → xs ≡ w ++ drop at old → ys ≡ b
     → put_mid at k xs ys ≡ (w ++ b) ++ drop (at + k) old

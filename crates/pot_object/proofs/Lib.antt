@@ -2,6 +2,7 @@ pub mod AssemblyLemmas
 pub mod ContentLemmas
 pub mod FieldLemmas
 pub mod LawLemmas
+pub mod NumberLemmas
 pub mod ObjectLemmas
 pub mod PieceLemmas
 pub mod ReadLemmas

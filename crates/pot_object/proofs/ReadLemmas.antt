@@ -1,16 +1,14 @@
 -- What stands in an object is what was written.
-use Rattle.std.proofs.Common.{◌≡◌, ◌≤◌, ◌<◌, ◌+◌, ◌-◌, ◌++◌, ℕ, List, length, take, drop, replicate, get_or, inl, inr, refl, ap, sym, ◌∙◌, arith, length-append, length-drop}
+use Rattle.std.proofs.Common.{◌≡◌, ◌≤◌, ◌+◌, ◌-◌, ◌++◌, ℕ, List, length, take, drop, replicate, refl, ap, sym, ◌∙◌, arith, length-append, length-drop}
 use Rattle.std.proofs.Math.Seq.{take-add}
-use Rattle.std.proofs.lemmas.List.{append_assoc, drop_at, drop-drop, get_or_past, get_or-drop, get_or-take, length-take, length-take-le, take_at, take_rest, take-append-drop}
-use Rattle.std.proofs.lemmas.Bool.{cases_lt}
-use Rattle.std.proofs.lemmas.Nat.{be_bytes_4, be_bytes_8}
-use Rattle.std.specs.Int.{w32, w64, from_be_bytes}
+use Rattle.std.proofs.lemmas.List.{append_assoc, drop_at, drop-drop, length-take-le, take_at, take_rest, take-append-drop}
 use Rattle.byteorder.specs.Endian.{big_bytes, big_number}
-use Rattle.byteorder.specs.Numbers.{big_from-take, big_number-reads_back}
+use Rattle.byteorder.specs.Numbers.{big_number-reads_back}
 use Rattle.pot_bytes.specs.Digests.{digest_bytes}
 use Rattle.pot_object.specs.Sealing.{sealed}
 use Rattle.pot_object.specs.Objects.{head_at, head_bytes, object_bytes, part_length, IsHead, IsObject}
 use Rattle.pot_object.specs.declared.object.ObjectHead.{ObjectHead}
+use Rattle.pot_object.proofs.NumberLemmas.{big_bytes_4, big_bytes_8, AreBytes, AreBytes-drop}
 use Rattle.pot_object.proofs.ObjectLemmas.{length-head_bytes}
 use Rattle.pot_object.proofs.SealLemmas.{rest-sealed, sealed_again}
 
@@ -58,38 +56,6 @@ head_at-head_bytes h rest ok =
     ∙ ap (λ (z : ℕ). made a z (big_number 4 (drop 20 all)) (big_number 8 (drop 24 all))) piece
     ∙ ap (λ (z : ℕ). made a h.piece z (big_number 8 (drop 24 all))) pieces
     ∙ ap (λ (z : ℕ). made a h.piece h.pieces z) count
-
--- each of these numbers is a byte
-abbrev pub AreBytes : List ℕ → Type 0
-AreBytes xs = (i : ℕ) → get_or xs i 0 < 256
-
-pub AreBytes-take : (n : ℕ) (xs : List ℕ) → AreBytes xs → AreBytes (take n xs)
-AreBytes-take n xs small i = elim (cases_lt i n) [
-  | inl inside ↦ rw (get_or-take n xs i 0 inside) (small i)
-  | inr past ↦ rw (get_or_past (take n xs) i 0 (omega (arith, length-take {A = ℕ} n xs))) (omega arith)
-]
-
-pub AreBytes-drop : (n : ℕ) (xs : List ℕ) → AreBytes xs → AreBytes (drop n xs)
-AreBytes-drop n xs small i = rw (get_or-drop n xs i 0) (small (n + i))
-
--- a number that was read is written again
-number_4 : (bs : List ℕ) (n : ℕ) → length bs ≡ 4 → AreBytes bs → n ≡ big_number 4 bs → big_bytes 4 n ≡ bs
-number_4 bs n long small e =
-    let same : big_number 4 bs ≡ from_be_bytes w32 bs = omega arith in
-    be_bytes_4 bs n long small (e ∙ same)
-
-number_8 : (bs : List ℕ) (n : ℕ) → length bs ≡ 8 → AreBytes bs → n ≡ big_number 8 bs → big_bytes 8 n ≡ bs
-number_8 bs n long small e =
-    let same : big_number 8 bs ≡ from_be_bytes w64 bs = omega arith in
-    be_bytes_8 bs n long small (e ∙ same)
-
-big_bytes_4 : (xs : List ℕ) → AreBytes xs → 4 ≤ length xs → big_bytes 4 (big_number 4 xs) ≡ take 4 xs
-big_bytes_4 xs small long =
-    number_4 (take 4 xs) (big_number 4 xs) (length-take-le 4 xs long) (AreBytes-take 4 xs small) (sym (big_from-take 0 4 4 xs (omega arith)))
-
-big_bytes_8 : (xs : List ℕ) → AreBytes xs → 8 ≤ length xs → big_bytes 8 (big_number 8 xs) ≡ take 8 xs
-big_bytes_8 xs small long =
-    number_8 (take 8 xs) (big_number 8 xs) (length-take-le 8 xs long) (AreBytes-take 8 xs small) (sym (big_from-take 0 8 8 xs (omega arith)))
 
 -- four fields that stand one after another
 joined : (a b c d xs : List ℕ) → a ≡ take 16 xs → b ≡ take 4 (drop 16 xs) → c ≡ take 4 (drop 20 xs) → d ≡ take 8 (drop 24 xs)
