@@ -1,0 +1,101 @@
+ghost use Rattle.std.specs.Prelude.{◌≡◌, length};
+
+use crate::faults::count_fault;
+use pot_bytes::Block;
+use pot_outside::{Archive, Failed, Held, Marks};
+use std::fs::File;
+use std::io::ErrorKind;
+use std::os::unix::fs::FileExt;
+
+/// The bytes of a slot: one that is 1 where a block is held, and the block.
+const SLOT: usize = 1025;
+
+/// Where a slot begins in its file.
+fn offset(slot: u32) -> u64 {
+    u64::from(slot) * (SLOT as u64)
+}
+
+/// The block of a slot's bytes, where the first byte says that one is held.
+fn block_of(bytes: &[u8; SLOT]) -> Option<Block> {
+    if bytes[0] != 1 {
+        return None;
+    }
+    let mut block = [0u8; 1024];
+    block.copy_from_slice(&bytes[1..]);
+    Some(Block::from_bytes(block))
+}
+
+/// The bytes of a slot that holds this block.
+fn slot_of(block: &Block) -> [u8; SLOT] {
+    let mut bytes = [1u8; SLOT];
+    bytes[1..].copy_from_slice(block.bytes());
+    bytes
+}
+
+/// An archive in a file. A slot that the file ends before or within is absent.
+#[derive(Drop)]
+pub struct FileArchive {
+    file: File,
+    faults: u64,
+}
+
+impl FileArchive {
+    /// The archive of a file that is open to be read and written.
+    pub fn new(file: File) -> FileArchive
+        ensures { result.faults ≡ 0 }
+    {
+        FileArchive { file, faults: 0 }
+    }
+}
+
+impl Archive for FileArchive {
+    ghost use Rattle.std.specs.Prelude.{◌≡◌, ℕ, List, Option, None, [], false, IsTrue, IsErr};
+    ghost use Rattle.pot_outside.specs.Archives.{OnlyLoses, ReadTells, WriteTells, Remembers, IsRemembered};
+    ghost use Rattle.pot_outside.specs.Counts.{Caused};
+
+    ghost tells = { false };
+
+    ghost held = { λ _ _. None };
+
+    ghost history = { λ _. [] };
+
+    ghost faults = { λ a. a.faults };
+
+    ghost losses = { λ _. 0 };
+
+    fn read(&mut self, slot: u32, into: &mut Block) -> Result<Held, Failed> {
+        let mut bytes = [0u8; SLOT];
+        match self.file.read_exact_at(&mut bytes, offset(slot)) {
+            Ok(()) => {}
+            Err(e) if e.kind() == ErrorKind::UnexpectedEof => return Ok(Held::Absent),
+            Err(_) => {
+                count_fault(&mut self.faults);
+                return Err(Failed);
+            }
+        }
+        match block_of(&bytes) {
+            Some(block) => {
+                *into = block;
+                Ok(Held::Held)
+            }
+            None => Ok(Held::Absent),
+        }
+    }
+
+    fn write(&mut self, slot: u32, block: &Block) -> Result<(), Failed> {
+        match self.file.write_all_at(&slot_of(block), offset(slot)) {
+            Ok(()) => Ok(()),
+            Err(_) => {
+                count_fault(&mut self.faults);
+                Err(Failed)
+            }
+        }
+    }
+
+    fn marks(&self) -> Marks {
+        Marks {
+            faults: self.faults,
+            losses: 0,
+        }
+    }
+}
