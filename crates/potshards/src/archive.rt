@@ -1,4 +1,4 @@
-ghost use Rattle.std.specs.Prelude.{◌≡◌, length};
+ghost use Rattle.std.specs.Prelude.{◌≡◌, ◌≢◌, ◌*◌, ◌∷◌, MatchOption, slice_index};
 
 use crate::faults::count_fault;
 use pot_bytes::Block;
@@ -11,12 +11,16 @@ use std::os::unix::fs::FileExt;
 const SLOT: usize = 1025;
 
 /// Where a slot begins in its file.
-fn offset(slot: u32) -> u64 {
+fn offset(slot: u32) -> u64
+    ensures { result ≡ slot * 1025 }
+{
     u64::from(slot) * (SLOT as u64)
 }
 
 /// The block of a slot's bytes, where the first byte says that one is held.
-fn block_of(bytes: &[u8; SLOT]) -> Option<Block> {
+fn block_of(bytes: &[u8; SLOT]) -> Option<Block>
+    ensures { MatchOption result (slice_index bytes.now 0 ≢ 1) (λ block. bytes.now ≡ 1 ∷ block) }
+{
     if bytes[0] != 1 {
         return None;
     }
@@ -26,7 +30,9 @@ fn block_of(bytes: &[u8; SLOT]) -> Option<Block> {
 }
 
 /// The bytes of a slot that holds this block.
-fn slot_of(block: &Block) -> [u8; SLOT] {
+fn slot_of(block: &Block) -> [u8; SLOT]
+    ensures { result ≡ 1 ∷ block.now }
+{
     let mut bytes = [1u8; SLOT];
     bytes[1..].copy_from_slice(block.bytes());
     bytes

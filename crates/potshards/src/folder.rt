@@ -64,9 +64,10 @@ impl Room for Folder {
     fn take(&mut self, number: u32) -> Result<FileArchive, RoomFault> {
         let archive = match open_archive(&self.rt, number) {
             Ok(archive) => archive,
-            Err(fault) => {
+            Err(RoomFault::NoMemory) => return Err(RoomFault::NoMemory),
+            Err(RoomFault::Failed) => {
                 count_fault(&mut self.faults);
-                return Err(fault);
+                return Err(RoomFault::Failed);
             }
         };
         match self.out.insert(number) {
