@@ -21,12 +21,14 @@ fn offset(slot: u32) -> u64
 fn block_of(bytes: &[u8; SLOT]) -> Option<Block>
     ensures { MatchOption result (slice_index bytes.now 0 ≢ 1) (λ block. bytes.now ≡ 1 ∷ block) }
 {
-    if bytes[0] != 1 {
-        return None;
+    match bytes.as_slice() {
+        [1, rest @ ..] => {
+            let mut block = [0u8; 1024];
+            block.copy_from_slice(rest);
+            Some(Block::from_bytes(block))
+        }
+        _ => None,
     }
-    let mut block = [0u8; 1024];
-    block.copy_from_slice(&bytes[1..]);
-    Some(Block::from_bytes(block))
 }
 
 /// The bytes of a slot that holds this block.

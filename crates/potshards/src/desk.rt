@@ -2,9 +2,8 @@ ghost use Rattle.std.specs.Prelude.{◌≡◌};
 
 use crate::faults::count_fault;
 use pot_outside::{Desk, DeskFault, Failed};
-use std::fs;
-use std::io;
 use std::io::ErrorKind;
+use std::{fs, io};
 
 /// The image in the file `desk.psi` of the working folder. None where there is no such file.
 #[derive(Drop)]

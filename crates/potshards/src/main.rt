@@ -24,10 +24,9 @@ use gate::NoGate;
 use pot_session::run;
 use rand::rngs::SysRng;
 use rand_core::TryRng;
-use std::env;
-use std::io;
 use std::io::ErrorKind;
 use std::process::ExitCode;
+use std::{env, io};
 use streams::{Input, Output};
 
 /// The exit status where standard input, or the system's source of random bytes, failed.
