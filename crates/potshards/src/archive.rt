@@ -1,7 +1,8 @@
-ghost use Rattle.std.specs.Prelude.{◌≡◌, ◌≢◌, ◌*◌, ◌∷◌, MatchOption, slice_index};
+ghost use Rattle.std.specs.Prelude.{◌≡◌, ◌≢◌, ◌*◌, ◌∷◌, IsErr, MatchOption, slice_index};
+ghost use Rattle.pot_outside.specs.Counts.{Caused};
 
 use crate::faults::count_fault;
-use pot_bytes::Block;
+use pot_bytes::{Block, fold_weighted};
 use pot_outside::{Archive, Failed, Held, Marks};
 use std::fs::File;
 use std::io::ErrorKind;
@@ -54,11 +55,26 @@ impl FileArchive {
     {
         FileArchive { file, faults: 0 }
     }
+
+    /// The block of a slot, where it has one.
+    fn load(&mut self, slot: u32) -> Result<Option<Block>, Failed>
+        ensures cause { Caused self.old.faults self.new.faults (IsErr result) }
+    {
+        let mut bytes = [0u8; SLOT];
+        match self.file.read_exact_at(&mut bytes, offset(slot)) {
+            Ok(()) => Ok(block_of(&bytes)),
+            Err(e) if e.kind() == ErrorKind::UnexpectedEof => Ok(None),
+            Err(_) => {
+                count_fault(&mut self.faults);
+                Err(Failed)
+            }
+        }
+    }
 }
 
 impl Archive for FileArchive {
-    ghost use Rattle.std.specs.Prelude.{◌≡◌, ℕ, List, Option, None, [], false, IsTrue, IsErr};
-    ghost use Rattle.pot_outside.specs.Archives.{OnlyLoses, ReadTells, WriteTells, Remembers, IsRemembered};
+    ghost use Rattle.std.specs.Prelude.{◌≡◌, ◌<◌, ℕ, List, Option, None, [], false, IsTrue, IsErr};
+    ghost use Rattle.pot_outside.specs.Archives.{OnlyLoses, ReadTells, FoldTells, LeavesSum, HearsFold, WriteTells, Remembers, IsRemembered};
     ghost use Rattle.pot_outside.specs.Counts.{Caused};
 
     ghost tells = { false };
@@ -67,23 +83,26 @@ impl Archive for FileArchive {
 
     ghost history = { λ _. [] };
 
+    ghost heard = { λ _. [] };
+
     ghost faults = { λ a. a.faults };
 
     ghost losses = { λ _. 0 };
 
     fn read(&mut self, slot: u32, into: &mut Block) -> Result<Held, Failed> {
-        let mut bytes = [0u8; SLOT];
-        match self.file.read_exact_at(&mut bytes, offset(slot)) {
-            Ok(()) => {}
-            Err(e) if e.kind() == ErrorKind::UnexpectedEof => return Ok(Held::Absent),
-            Err(_) => {
-                count_fault(&mut self.faults);
-                return Err(Failed);
-            }
-        }
-        match block_of(&bytes) {
+        match self.load(slot)? {
             Some(block) => {
                 *into = block;
+                Ok(Held::Held)
+            }
+            None => Ok(Held::Absent),
+        }
+    }
+
+    fn fold(&mut self, slot: u32, weight: u8, sum: &mut Block) -> Result<Held, Failed> {
+        match self.load(slot)? {
+            Some(block) => {
+                fold_weighted(sum, weight, &block);
                 Ok(Held::Held)
             }
             None => Ok(Held::Absent),

@@ -53,7 +53,7 @@ impl Room for Folder {
 
     type A = FileArchive;
 
-    ghost means = { λ _ _. record { held = λ k. None; history = []; faults = 0; losses = 0 } };
+    ghost means = { λ _ _. record { held = λ k. None; history = []; heard = []; faults = 0; losses = 0 } };
 
     ghost out = { λ f n. contains nat_cmp f.out n };
 
