@@ -1,0 +1,77 @@
+//! The program: it draws a seed, makes the real objects and holds one session.
+//!
+//! Nothing is decided here. The real objects stand on the C library, and no clause speaks of what a file or
+//! a stream holds, so they tell no contents.
+//!
+//! Invariants, each kept by the type that it names:
+//! 1. each count of faults (`Input`, `Output`, `FileArchive`, `Folder`, `DeskFile`) begins at 0, never falls,
+//!    and rises in each call that answers `Failed`;
+//! 2. a `Folder` keeps the numbers of the archives that are out, and an archive is handed out once until it
+//!    is given back;
+//! 3. an `Output` whose descriptor was closed at the start writes to no file that took its number.
+#![tactic(auto)]
+
+mod archive;
+mod desk;
+mod faults;
+mod folder;
+mod gate;
+mod streams;
+
+use desk::DeskFile;
+use folder::Folder;
+use gate::NoGate;
+use pot_session::run;
+use rand::rngs::SysRng;
+use rand_core::TryRng;
+use std::io::ErrorKind;
+use std::process::ExitCode;
+use std::{env, io};
+use streams::{Input, Output};
+
+/// The exit status where standard input, or the system's source of random bytes, failed.
+const SOURCE_FAULT: u8 = 4;
+
+/// The exit status where memory ran out.
+const NO_MEMORY: u8 = 70;
+
+/// The seed of a session, from the system.
+fn drawn(rt: &HostRuntime) -> io::Result<[u8; 32]> {
+    let mut seed = [0u8; 32];
+    SysRng::new(rt).try_fill_bytes(&mut seed)?;
+    Ok(seed)
+}
+
+/// The words after the program's name. Where one is not UTF-8 there are none, which a session refuses as it
+/// refuses any words but `run`.
+fn words(rt: &HostRuntime) -> Option<Vec<String>> {
+    match env::args(rt) {
+        Ok(all) => all.skip(1).collect::<Vec<String>>(rt.alloc()).ok(),
+        Err(e) if e.kind() == ErrorKind::OutOfMemory => None,
+        Err(_) => Some(Vec::new(rt.alloc())),
+    }
+}
+
+fn main(rt: HostRuntime) -> ExitCode {
+    let Ok(seed) = drawn(&rt) else {
+        return ExitCode::from(SOURCE_FAULT);
+    };
+    let Some(words) = words(&rt) else {
+        return ExitCode::from(NO_MEMORY);
+    };
+    let mut input = Input::new(&rt);
+    let mut output = Output::new(&rt);
+    let mut room = Folder::new(&rt);
+    let mut desk = DeskFile::new(&rt);
+    let status = run(
+        rt.alloc(),
+        &words,
+        seed,
+        &mut input,
+        &mut output,
+        &mut room,
+        &mut desk,
+        &NoGate,
+    );
+    ExitCode::from(status)
+}
