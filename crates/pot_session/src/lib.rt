@@ -13,3 +13,6 @@ mod working;
 
 pub use status::Status;
 pub use top::run;
+
+#[cfg(test)]
+mod tests;
