@@ -28,3 +28,6 @@ mod working;
 
 pub use status::Status;
 pub use top::run;
+
+#[cfg(test)]
+mod tests;
