@@ -1,7 +1,7 @@
 ghost use Rattle.std.specs.Prelude.{◌≡◌, ◌*◌, ◌<◌};
 ghost use Rattle.pot_bytes.specs.Product.{ProductLaws, byte_product};
 
-// The byte where the bit is 1, and else 0, without a branch.
+/// The byte where the bit is 1, and else 0, without a branch.
 #[inline(always)]
 fn where_set(bit: u8, byte: u8) -> u8
     requires { bit < 2 }
@@ -10,7 +10,7 @@ fn where_set(bit: u8, byte: u8) -> u8
     byte & 0u8.wrapping_sub(bit)
 }
 
-// A byte times z.
+/// A byte times z.
 #[inline(always)]
 fn twice(a: u8) -> u8
     ensures { result ≡ byte_product a 2 }

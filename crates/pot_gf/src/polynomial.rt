@@ -1,7 +1,7 @@
 ghost use Rattle.std.specs.Prelude.{◌≡◌, ◌∷◌, ◌+◌, ◌<◌, ◌≤◌, length, replicate, take, slice_index, nat_eq};
+ghost use Rattle.std.specs.List.{All, IsDistinct};
 ghost use Rattle.pot_bytes.specs.Sums.{xor};
 ghost use Rattle.pot_bytes.specs.Weighted.{scaled};
-ghost use Rattle.std.specs.List.{All, IsDistinct};
 ghost use Rattle.pot_gf.specs.Polynomials.{value, IsPoly, IsBelowDegree, VanishesAt, PassesThrough, IsTheOnlyOne, IsTimesLine, Meets, PolynomialLaws};
 
 use crate::field::{inv, mul};
@@ -32,7 +32,7 @@ impl Poly {
     /// The polynomial that is 0 everywhere.
     pub fn zero() -> Poly
         ensures value { result ≡ replicate 16 0 }
-        ensures of { IsPoly result }
+        ensures is_poly { IsPoly result }
     {
         Poly {
             coefficients: [0; 16],
@@ -42,7 +42,7 @@ impl Poly {
     /// The polynomial that is `constant` everywhere.
     pub fn constant(constant: u8) -> Poly
         ensures value { result ≡ constant ∷ replicate 15 0 }
-        ensures of { IsPoly result }
+        ensures is_poly { IsPoly result }
     {
         let mut coefficients = [0; 16];
         coefficients[0] = constant;
@@ -52,7 +52,7 @@ impl Poly {
     /// Its coefficients, that of x^t at place t.
     pub fn coefficients(&self) -> &[u8; 16]
         ensures value { result.now ≡ self.now }
-        ensures of { IsPoly self.now }
+        ensures is_poly { IsPoly self.now }
     {
         &self.coefficients
     }
@@ -60,7 +60,7 @@ impl Poly {
     /// Its value at x.
     pub fn eval(&self, x: u8) -> u8
         ensures value { result ≡ value self.now x }
-        ensures of { IsPoly self.now }
+        ensures is_poly { IsPoly self.now }
     {
         value_of(&self.coefficients, x)
     }
@@ -68,27 +68,27 @@ impl Poly {
     /// Adds `factor` times another polynomial to it.
     pub fn add_scaled(&mut self, factor: u8, other: &Poly)
         ensures value { self.new ≡ xor self.old (scaled factor other.now) }
-        ensures of { IsPoly self.new }
+        ensures is_poly { IsPoly self.new }
     {
         add_weighted(&mut self.coefficients, factor, &other.coefficients);
     }
 
-    // x times it, without what would be its coefficient of x^16.
+    /// x times it, without what would be its coefficient of x^16.
     fn raised(&self) -> Poly
         ensures value { result ≡ 0 ∷ take 15 self.now }
-        ensures of { IsPoly result }
-        ensures from { IsPoly self.now }
+        ensures is_poly { IsPoly result }
+        ensures from_poly { IsPoly self.now }
     {
         let mut coefficients = [0; 16];
         coefficients[1..].copy_from_slice(&self.coefficients[..15]);
         Poly { coefficients }
     }
 
-    // (constant + slope x) times it, where it has no term of x^15.
+    /// (constant + slope x) times it, where it has no term of x^15.
     fn times_line(&self, constant: u8, slope: u8) -> Poly
         requires { slice_index self.now 15 ≡ 0 }
         ensures value { IsTimesLine constant slope self.now result }
-        ensures of { IsPoly result }
+        ensures is_poly { IsPoly result }
     {
         let mut product = Poly::zero();
         product.add_scaled(constant, self);
@@ -96,11 +96,11 @@ impl Poly {
         product
     }
 
-    // Adds the multiple of `node` that makes its value at `point` be `wanted`.
+    /// Adds the multiple of `node` that makes its value at `point` be `wanted`.
     fn meet(&mut self, point: u8, wanted: u8, node: &Poly)
         requires { 0 < value node.now point }
         ensures value { Meets point wanted node.now self.old self.new }
-        ensures of { IsPoly self.new }
+        ensures is_poly { IsPoly self.new }
     {
         let missing = wanted ^ self.eval(point);
         self.add_scaled(mul(missing, inv(node.eval(point))), node);
@@ -116,7 +116,7 @@ impl Poly {
         ensures through { PassesThrough points.now values.now result }
         ensures degree { IsBelowDegree (length points.now) result }
         ensures only { IsTheOnlyOne points.now values.now result }
-        ensures of { IsPoly result }
+        ensures is_poly { IsPoly result }
     {
         let mut result = Poly::constant(values[0]);
         let mut node = Poly::constant(1);
@@ -134,7 +134,7 @@ impl Poly {
         ensures one { value result 0 ≡ 1 }
         ensures zeros { VanishesAt points.now result }
         ensures degree { IsBelowDegree (length points.now + 1) result }
-        ensures of { IsPoly result }
+        ensures is_poly { IsPoly result }
     {
         let mut result = Poly::constant(1);
         for point in points {
@@ -144,7 +144,7 @@ impl Poly {
     }
 }
 
-// The value at x of the polynomial with these coefficients, by Horner's form.
+/// The value at x of the polynomial with these coefficients, by Horner's form.
 fn value_of(coefficients: &[u8], x: u8) -> u8
     ensures { result ≡ value coefficients.now x }
 {

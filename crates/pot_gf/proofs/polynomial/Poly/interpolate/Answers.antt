@@ -7,7 +7,7 @@ pub loop-i-init : goal.loop-i-init
 loop-i-init c = (
   subst (IsThrough c.args.points.now c.args.values.now 1) (sym c.constant-result.ensures.value) (through_first c.args.points.now c.args.values.now (λ k. (c.type_inv.values k).fits)),
   subst (IsNode c.args.points.now 0) (sym c.constant-node.ensures.value) (node_none c.args.points.now),
-  c.constant-result.ensures.of,
+  c.constant-result.ensures.is_poly,
 )
 
 pub meet-requires : goal.meet-requires
@@ -21,7 +21,7 @@ loop-i-preserved c =
     let node = node_at c.args.points.now c.loop-i.i c.loop-i.node c.times_line-node.result c.loop-i.auto.i (λ k. (c.type_inv.points k).fits) c.loop-i.invariant.1 c.times_line-node.ensures.value in (
       rw add-one (through_more c.args.points.now c.args.values.now c.loop-i.i c.loop-i.result c.meet.new.self c.times_line-node.result c.loop-i.invariant.0 node c.meet.ensures.value),
       subst (λ k. IsNode c.args.points.now k c.times_line-node.result) (let e : c.loop-i.i ≡ c.loop-i.i + 1 - 1 = omega arith in e) node,
-      c.meet.ensures.of,
+      c.meet.ensures.is_poly,
     )
 
 pub returns-clause-only : goal.returns-clause-only

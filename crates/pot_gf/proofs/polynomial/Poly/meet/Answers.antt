@@ -8,7 +8,7 @@ use Rattle.pot_gf.proofs.polynomial.Poly.meet.Goals as goal
 pub returns-clause-value : goal.returns-clause-value
 returns-clause-value c =
     subst (Meets c.args.point c.args.wanted c.args.node.now c.args.self.now) (sym c.add_scaled.ensures.value)
-    (meeting c.args.point c.args.wanted c.mul.result c.inv.result c.args.node.now c.args.self.now c.eval-2.ensures.of c.eval.ensures.of c.ranges.wanted.fits
+    (meeting c.args.point c.args.wanted c.mul.result c.inv.result c.args.node.now c.args.self.now c.eval-2.ensures.is_poly c.eval.ensures.is_poly c.ranges.wanted.fits
     (ap (λ z. byte_product z c.inv.result) (sym c.eval-2.ensures.value) ∙ c.inv.ensures.inverse)
     (value-below c.args.self.now c.args.point)
     (c.mul.ensures ∙ ap (λ z. byte_product (bit_xor c.args.wanted z) c.inv.result) c.eval.ensures.value))

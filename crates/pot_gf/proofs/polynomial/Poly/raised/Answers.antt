@@ -7,6 +7,6 @@ pub invariant_of-result : goal.invariant_of-result
 invariant_of-result c =
     subst IsPoly (ap (λ p. 0 ∷ p) (sym (append-nil c.copy_from_slice.new.self ∙ c.copy_from_slice.ensures.after))) (IsPoly-raised c.self.inside.coefficients c.self.invariant)
 
-pub returns-clause-of : goal.returns-clause-of
-returns-clause-of c =
+pub returns-clause-is_poly : goal.returns-clause-is_poly
+returns-clause-is_poly c =
     subst IsPoly (ap (λ p. 0 ∷ p) (sym (append-nil c.copy_from_slice.new.self ∙ c.copy_from_slice.ensures.after))) (IsPoly-raised c.self.inside.coefficients c.self.invariant)

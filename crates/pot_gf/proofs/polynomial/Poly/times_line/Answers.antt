@@ -10,4 +10,4 @@ returns-clause-value c =
     subst (IsTimesLine c.args.constant c.args.slope c.args.self.now)
     (sym (c.add_scaled-2.ensures.value
     ∙ ap₂ (λ p q. xor p (scaled c.args.slope q)) (c.add_scaled.ensures.value ∙ ap (λ p. xor p (scaled c.args.constant c.args.self.now)) c.zero-product.ensures.value) c.raised.ensures.value))
-    (line c.args.constant c.args.slope c.args.self.now c.raised.ensures.from c.requires)
+    (line c.args.constant c.args.slope c.args.self.now c.raised.ensures.from_poly c.requires)
