@@ -1,5 +1,5 @@
 -- Contents with one slot changed, and losses after losses.
-use Rattle.std.proofs.Common.{◌≡◌, ◌≢◌, ◌<◌, ◌≤◌, ◌-◌, ◌^◌, ◌==◌, ℕ, Bool, true, false, List, Option, Some, None, refl, ap, sym, ◌∙◌, arith, inl, inr}
+use Rattle.std.proofs.Common.{◌≡◌, ◌≢◌, ◌==◌, ℕ, Bool, true, false, List, Option, Some, refl, ap, ◌∙◌, arith, inl, inr}
 use Rattle.std.proofs.lemmas.Bool.Decides.{eqb_tells}
 use Rattle.std.specs.Prelude.{cond}
 use Rattle.pot_outside.specs.Archives.{Contents, OnlyLoses, at_slot}
@@ -21,7 +21,7 @@ loses_more a b c first before now o p = record {
   later = omega (arith, o.later, p.later);
   keeps = (λ k x h. o.keeps k x (p.keeps k x h));
   same = (λ k q l.
-    p.same k (omega (arith, o.later, p.later)) l ∙ o.same k (omega (arith, o.later, p.later)) (omega (arith, o.later, p.later)));
+      p.same k (omega (arith, o.later, p.later)) l ∙ o.same k (omega (arith, o.later, p.later)) (omega (arith, o.later, p.later)));
 }
 
 -- losses before a write are losses after it
@@ -35,6 +35,7 @@ loses_under a b before now slot block o = record {
   where
     left : (t : Bool) (k : ℕ) → b k ≡ a k → cond t block (b k) ≡ cond t block (a k)
     left t k e = ap (λ v. cond t block v) e
+
     was : (t : Bool) (k : ℕ) (x : List ℕ) → (b k ≡ Some x → a k ≡ Some x) → cond t block (b k) ≡ Some x → cond t block (a k) ≡ Some x
     was true k x f h = h
     was false k x f h = f h

@@ -1,7 +1,6 @@
 -- What a call of a source or a sink does to its bytes, and a call of a desk to its image.
-use Rattle.std.specs.Prelude.{◌≡◌, ◌<◌, ◌≤◌, ◌++◌, ◌⊎◌, ℕ, List, [], length, take, drop, Option, Some, None, Result, Ok, Err}
+use Rattle.std.specs.Prelude.{◌≡◌, ◌<◌, ◌≤◌, ◌++◌, ◌⊎◌, ℕ, List, [], length, take, Option, Some, None, Result, Ok, Err}
 use Rattle.pot_outside.specs.declared.faults.Failed.{Failed}
-use Rattle.pot_outside.specs.declared.faults.DeskFault.{DeskFault}
 
 -- `Ok(count)`: the first `count` bytes of the buffer are the next `count` bytes. None into a buffer with
 -- room is the end of the input. A failed read takes nothing.
