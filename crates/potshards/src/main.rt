@@ -17,6 +17,8 @@ mod faults;
 mod folder;
 mod gate;
 mod streams;
+#[cfg(test)]
+mod tests;
 
 use desk::DeskFile;
 use folder::Folder;
