@@ -1,11 +1,18 @@
 -- The calls of a double: which ones are to fail, and how often it failed.
-use Rattle.std.specs.Prelude.{◌≡◌, ◌+◌, ◌-◌, ◌^◌, ◌==◌, ◌⊎◌, ◌||◌, nat_lt, ℕ, Bool, true, false, min, Result, Ok, Err, if◌then◌else◌}
+use Rattle.std.specs.Prelude.{◌≡◌, ◌+◌, ◌-◌, ◌^◌, ◌==◌, ◌⊎◌, ◌||◌, nat_lt, ℕ, List, Bool, true, false, min, Result, Ok, Err, if◌then◌else◌}
 use Rattle.std.specs.List.{list_any}
 use Rattle.pot_doubles.specs.declared.calls.Calls.{Calls}
 
 -- a count after one more; it stands still at the last value of 64 bits
 abbrev pub raised : ℕ → ℕ
 raised n = min (n + 1) (2 ^ 64 - 1)
+
+-- no call was made, and those of these numbers are to fail
+pub record IsFresh (calls : Calls) (fails : List ℕ) : Type 0 where
+  pub listed : calls.fails.items ≡ fails
+  pub none_made : calls.made ≡ 0
+  pub no_fault : calls.faults ≡ 0
+  pub fed : calls.starved ≡ false
 
 -- whether the next call is to fail
 abbrev pub is_due : Calls → Bool

@@ -5,9 +5,14 @@ use Rattle.std.specs.Ordering.{nat_cmp}
 use Rattle.std.specs.BTreeMap.{get}
 use Rattle.pot_outside.specs.declared.archive.Shelf.{Shelf}
 use Rattle.pot_outside.specs.Archives.{Meaning}
-use Rattle.pot_doubles.specs.Archives.{held_in, heard_by}
+use Rattle.pot_doubles.specs.Archives.{held_in, history_of, heard_by, archive_calls, lost_by}
+use Rattle.pot_doubles.specs.declared.calls.Calls.{Calls}
 use Rattle.pot_doubles.specs.declared.room.MemRoom.{MemRoom}
 use Rattle.pot_doubles.specs.declared.archive.LossyArchive.{LossyArchive}
+
+-- the shelves of a room, also those whose archives are out
+abbrev pub shelves_of : MemRoom → List (Shelf LossyArchive)
+shelves_of r = r.shelves.items
 
 -- the archive of the first shelf with this number
 abbrev pub archive_of : List (Shelf LossyArchive) → ℕ → Option LossyArchive
@@ -17,11 +22,11 @@ archive_of (shelf ∷ shelves) number = if shelf.number == number then Some shel
 -- what an archive means; a number without one means an empty archive with counts of 0
 abbrev pub meaning_of : Option LossyArchive → Meaning
 meaning_of None = record { held = λ k. None; history = []; heard = []; faults = 0; losses = 0 }
-meaning_of (Some a) = record { held = held_in a; history = a.past.items; heard = heard_by a; faults = a.calls.faults; losses = a.lost }
+meaning_of (Some a) = record { held = held_in a; history = history_of a; heard = heard_by a; faults = (archive_calls a).faults; losses = lost_by a }
 
 -- what a room means by a number
 abbrev pub means_in : MemRoom → ℕ → Meaning
-means_in r number = meaning_of (archive_of r.shelves.items number)
+means_in r number = meaning_of (archive_of (shelves_of r) number)
 
 -- whether the archive of a number is out
 abbrev pub is_out : MemRoom → ℕ → Bool
@@ -30,6 +35,10 @@ is_out r number = is_some (get nat_cmp r.lent number)
 -- for a number that is out, the archive's count of faults when it was taken
 abbrev pub lent_of : MemRoom → ℕ → ℕ
 lent_of r number = unwrap_or (get nat_cmp r.lent number) 0
+
+-- its calls so far
+abbrev pub room_calls : MemRoom → Calls
+room_calls r = r.calls
 
 -- a call leaves a number as it was
 abbrev pub SameAt : MemRoom → MemRoom → ℕ → Type 0
@@ -43,4 +52,4 @@ pub record IsFirst (shelves : List (Shelf LossyArchive)) (number place : ℕ) : 
 
 -- whether an archive of these shelves found no memory
 abbrev pub any_starved : List (Shelf LossyArchive) → Bool
-any_starved shelves = list_any (λ s. s.archive.calls.starved) shelves
+any_starved shelves = list_any (λ s. (archive_calls s.archive).starved) shelves

@@ -27,22 +27,22 @@ pub struct LossyArchive {
 }
 
 impl LossyArchive {
-    ghost use Rattle.std.specs.Prelude.{◌≡◌, ℕ, [], None, false, IsTrue, map};
+    ghost use Rattle.std.specs.Prelude.{◌≡◌, ℕ, [], None, IsTrue, map};
     ghost use Rattle.std.specs.Option.{option_copied};
     ghost use Rattle.pot_outside.specs.Archives.{OnlyLoses};
     ghost use Rattle.pot_outside.specs.Counts.{Caused};
-    ghost use Rattle.pot_doubles.specs.Calls.{is_due, begun};
-    ghost use Rattle.pot_doubles.specs.Archives.{held_in, heard_by, LosesListed, LosesOne};
+    ghost use Rattle.pot_doubles.specs.Calls.{IsFresh, is_due, begun};
+    ghost use Rattle.pot_doubles.specs.Archives.{held_in, history_of, heard_by, archive_calls, lost_by, losses_of, LosesListed, LosesOne};
 
     /// An archive without blocks. The calls of the numbers `fails` are to fail, and the losses come at the
     /// start of their calls.
     pub fn new(alloc: Global, fails: Vec<u32>, losses: Vec<Loss>) -> LossyArchive
         ensures held { (k : ℕ) → held_in result k ≡ None }
-        ensures past { result.past.items ≡ [] }
+        ensures past { history_of result ≡ [] }
         ensures heard { heard_by result ≡ [] }
-        ensures lost { result.lost ≡ 0 }
-        ensures losses { result.losses ≡ losses }
-        ensures calls { result.calls ≡ record { fails = fails; made = 0; faults = 0; starved = false } }
+        ensures lost { lost_by result ≡ 0 }
+        ensures losses { losses_of result ≡ losses.items }
+        ensures calls { IsFresh (archive_calls result) fails.items }
     {
         LossyArchive {
             blocks: BTreeMap::new(alloc),
@@ -78,19 +78,19 @@ impl LossyArchive {
 
     /// Whether a call found no memory. It then failed.
     pub fn starved(&self) -> bool
-        ensures { result ≡ self.now.calls.starved }
+        ensures { result ≡ (archive_calls self.now).starved }
     {
         self.calls.starved()
     }
 
     /// Begins a call: loses what is listed for it, and says whether it is to fail.
     fn begin(&mut self) -> bool
-        ensures loses { OnlyLoses (held_in self.old) (held_in self.new) self.old.lost self.new.lost }
+        ensures loses { OnlyLoses (held_in self.old) (held_in self.new) (lost_by self.old) (lost_by self.new) }
         ensures listed { LosesListed self.old self.new }
-        ensures heard { self.new.heard ≡ self.old.heard }
-        ensures due { result ≡ is_due self.old.calls }
-        ensures counted { self.new.calls ≡ begun self.old.calls }
-        ensures cause { Caused self.old.calls.faults self.new.calls.faults (IsTrue result) }
+        ensures heard { heard_by self.new ≡ heard_by self.old }
+        ensures due { result ≡ is_due (archive_calls self.old) }
+        ensures counted { archive_calls self.new ≡ begun (archive_calls self.old) }
+        ensures cause { Caused (archive_calls self.old).faults (archive_calls self.new).faults (IsTrue result) }
     {
         let call = self.calls.number();
         lose_listed(&mut self.blocks, &self.losses, call, &mut self.lost);
@@ -103,28 +103,28 @@ impl Archive for LossyArchive {
     ghost use Rattle.pot_outside.specs.Archives.{OnlyLoses, ReadTells, FoldTells, LeavesSum, HearsFold, WriteTells, Remembers, IsRemembered};
     ghost use Rattle.pot_outside.specs.Counts.{Caused};
     ghost use Rattle.pot_doubles.specs.Calls.{Counted};
-    ghost use Rattle.pot_doubles.specs.Archives.{held_in, heard_by, LosesListed, Writes, lost_after_losses};
+    ghost use Rattle.pot_doubles.specs.Archives.{held_in, history_of, heard_by, archive_calls, lost_by, losses_of, LosesListed, Writes, lost_after_losses};
 
     ghost tells = { true };
 
     ghost held = { held_in };
 
-    ghost history = { λ a. a.past.items };
+    ghost history = { history_of };
 
     ghost heard = { heard_by };
 
-    ghost faults = { λ a. a.calls.faults };
+    ghost faults = { λ a. (archive_calls a).faults };
 
-    ghost losses = { λ a. a.lost };
+    ghost losses = { lost_by };
 
     fn read(&mut self, slot: u32, into: &mut Block) -> Result<Held, Failed>
         ensures told { ReadTells (held_in self.new) slot into.new result }
-        ensures loses { OnlyLoses (held_in self.old) (held_in self.new) self.old.lost self.new.lost }
-        ensures past { self.new.past.items ≡ self.old.past.items }
+        ensures loses { OnlyLoses (held_in self.old) (held_in self.new) (lost_by self.old) (lost_by self.new) }
+        ensures past { history_of self.new ≡ history_of self.old }
         ensures heard { heard_by self.new ≡ heard_by self.old }
-        ensures cause { Caused self.old.calls.faults self.new.calls.faults (IsErr result) }
+        ensures cause { Caused (archive_calls self.old).faults (archive_calls self.new).faults (IsErr result) }
         ensures listed { LosesListed self.old self.new }
-        ensures counted { Counted self.old.calls self.new.calls result }
+        ensures counted { Counted (archive_calls self.old) (archive_calls self.new) result }
     {
         if self.begin() {
             return Err(Failed);
@@ -142,12 +142,12 @@ impl Archive for LossyArchive {
         requires { 0 < weight }
         ensures told { FoldTells (held_in self.new) slot weight sum.old sum.new result }
         ensures leaves { LeavesSum sum.old sum.new result }
-        ensures loses { OnlyLoses (held_in self.old) (held_in self.new) self.old.lost self.new.lost }
-        ensures past { self.new.past.items ≡ self.old.past.items }
+        ensures loses { OnlyLoses (held_in self.old) (held_in self.new) (lost_by self.old) (lost_by self.new) }
+        ensures past { history_of self.new ≡ history_of self.old }
         ensures hears { HearsFold (heard_by self.old) (heard_by self.new) slot sum.old result }
-        ensures cause { Caused self.old.calls.faults self.new.calls.faults (IsErr result) }
+        ensures cause { Caused (archive_calls self.old).faults (archive_calls self.new).faults (IsErr result) }
         ensures listed { LosesListed self.old self.new }
-        ensures counted { Counted self.old.calls self.new.calls result }
+        ensures counted { Counted (archive_calls self.old) (archive_calls self.new) result }
     {
         if self.begin() {
             return Err(Failed);
@@ -164,13 +164,14 @@ impl Archive for LossyArchive {
     }
 
     fn write(&mut self, slot: u32, block: &Block) -> Result<(), Failed>
-        ensures told { WriteTells (held_in self.old) (held_in self.new) self.old.lost self.new.lost slot block.now result }
-        ensures past { Remembers self.old.past.items self.new.past.items block.now result }
+        ensures told { WriteTells (held_in self.old) (held_in self.new) (lost_by self.old) (lost_by self.new) slot block.now result }
+        ensures past { Remembers (history_of self.old) (history_of self.new) block.now result }
         ensures heard { heard_by self.new ≡ heard_by self.old }
-        ensures cause { Caused self.old.calls.faults self.new.calls.faults (IsErr result) }
+        ensures cause { Caused (archive_calls self.old).faults (archive_calls self.new).faults (IsErr result) }
         ensures writes { Writes self.old self.new slot block.now result }
-        ensures lost { self.new.lost ≡ lost_after_losses self.old }
-        ensures counted { Counted self.old.calls self.new.calls result }
+        ensures lost { lost_by self.new ≡ lost_after_losses self.old }
+        ensures listed { losses_of self.new ≡ losses_of self.old }
+        ensures counted { Counted (archive_calls self.old) (archive_calls self.new) result }
     {
         if self.begin() {
             return Err(Failed);

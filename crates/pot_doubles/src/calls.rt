@@ -1,6 +1,6 @@
-ghost use Rattle.std.specs.Prelude.{◌≡◌, ◌≤◌, false, IsTrue};
+ghost use Rattle.std.specs.Prelude.{◌≡◌, ◌≤◌, IsTrue};
 ghost use Rattle.pot_outside.specs.Counts.{Caused, Rose};
-ghost use Rattle.pot_doubles.specs.Calls.{is_due, begun, starving, covering};
+ghost use Rattle.pot_doubles.specs.Calls.{IsFresh, is_due, begun, starving, covering};
 
 /// The calls of a double so far: which ones are to fail, and how often it failed.
 #[derive(Drop)]
@@ -14,7 +14,7 @@ pub struct Calls {
 impl Calls {
     /// No call was made, and those of these numbers are to fail.
     pub fn new(fails: Vec<u32>) -> Calls
-        ensures { result ≡ record { fails = fails; made = 0; faults = 0; starved = false } }
+        ensures { IsFresh result fails.items }
     {
         Calls {
             fails,

@@ -11,13 +11,14 @@ pub struct MemDesk {
 }
 
 impl MemDesk {
-    ghost use Rattle.std.specs.Prelude.{◌≡◌, false, option_map};
-    ghost use Rattle.pot_doubles.specs.Desks.{image_of};
+    ghost use Rattle.std.specs.Prelude.{◌≡◌, option_map};
+    ghost use Rattle.pot_doubles.specs.Calls.{IsFresh};
+    ghost use Rattle.pot_doubles.specs.Desks.{image_of, desk_calls};
 
     /// A desk with this image, or none. The calls of the numbers `fails` are to fail.
     pub fn new(alloc: Global, image: Option<Vec<u8>>, fails: Vec<u32>) -> MemDesk
         ensures image { image_of result ≡ option_map (λ v. v.items) image }
-        ensures calls { result.calls ≡ record { fails = fails; made = 0; faults = 0; starved = false } }
+        ensures calls { IsFresh (desk_calls result) fails.items }
     {
         MemDesk {
             alloc,
@@ -28,7 +29,7 @@ impl MemDesk {
 
     /// Whether a replacing found no memory. It then failed.
     pub fn starved(&self) -> bool
-        ensures { result ≡ self.now.calls.starved }
+        ensures { result ≡ (desk_calls self.now).starved }
     {
         self.calls.starved()
     }
@@ -39,20 +40,20 @@ impl Desk for MemDesk {
     ghost use Rattle.pot_outside.specs.Counts.{Caused};
     ghost use Rattle.pot_outside.specs.Streams.{Replaces};
     ghost use Rattle.pot_doubles.specs.Calls.{Counted, begun, is_due};
-    ghost use Rattle.pot_doubles.specs.Desks.{image_of};
+    ghost use Rattle.pot_doubles.specs.Desks.{image_of, desk_calls};
 
     ghost tells = { true };
 
     ghost held = { image_of };
 
-    ghost faults = { λ d. d.calls.faults };
+    ghost faults = { λ d. (desk_calls d).faults };
 
     fn read(&mut self) -> Result<Option<Vec<u8>>, DeskFault>
         ensures told { IfOk result (λ o. MatchOption o (image_of self.old ≡ None) (λ v. image_of self.old ≡ Some v.items)) }
         ensures keeps { image_of self.new ≡ image_of self.old }
-        ensures cause { Caused self.old.calls.faults self.new.calls.faults (IsErrOf result DeskFault.Failed) }
-        ensures fails { IsErrOf result DeskFault.Failed ↔ IsTrue (is_due self.old.calls) }
-        ensures counted { self.new.calls ≡ begun self.old.calls }
+        ensures cause { Caused (desk_calls self.old).faults (desk_calls self.new).faults (IsErrOf result DeskFault.Failed) }
+        ensures fails { IsErrOf result DeskFault.Failed ↔ IsTrue (is_due (desk_calls self.old)) }
+        ensures counted { desk_calls self.new ≡ begun (desk_calls self.old) }
     {
         if self.calls.begin() {
             return Err(DeskFault::Failed);
@@ -68,9 +69,9 @@ impl Desk for MemDesk {
 
     fn replace(&mut self, image: &[u8]) -> Result<(), Failed>
         ensures told { Replaces (image_of self.old) (image_of self.new) image.now result }
-        ensures cause { Caused self.old.calls.faults self.new.calls.faults (IsErr result) }
+        ensures cause { Caused (desk_calls self.old).faults (desk_calls self.new).faults (IsErr result) }
         ensures err { OnErr result (image_of self.new ≡ image_of self.old) }
-        ensures counted { Counted self.old.calls self.new.calls result }
+        ensures counted { Counted (desk_calls self.old) (desk_calls self.new) result }
     {
         if self.calls.begin() {
             return Err(Failed);

@@ -7,7 +7,8 @@
 //!    that found no memory and has no answer for that; a room counts one more for an archive that comes back
 //!    having failed;
 //! 2. every block that a `LossyArchive` holds stands among the blocks that it was ever written;
-//! 3. its count of losses rises exactly at a listed loss and at `lose`.
+//! 3. its count of losses rises exactly at a listed loss and at `lose`;
+//! 4. the sums that it heard are those that `fold` was given and had memory for.
 #![tactic(auto)]
 
 mod archive;

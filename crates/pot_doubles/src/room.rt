@@ -1,6 +1,7 @@
 ghost use Rattle.std.specs.Prelude.{◌≡◌, ◌≢◌, ◌||◌, ℕ, OnOk, OnErr, IfOk, IfErr, MatchOption, false};
 ghost use Rattle.std.specs.Option.{option_copied};
-ghost use Rattle.pot_doubles.specs.Rooms.{archive_of, meaning_of, means_in, is_out, any_starved, IsFirst};
+ghost use Rattle.pot_doubles.specs.Calls.{IsFresh};
+ghost use Rattle.pot_doubles.specs.Rooms.{archive_of, meaning_of, means_in, is_out, room_calls, shelves_of, any_starved, IsFirst};
 
 use crate::LossyArchive;
 use crate::calls::Calls;
@@ -23,7 +24,7 @@ impl MemRoom {
     pub fn new(alloc: Global, archives: Vec<Shelf<LossyArchive>>, fails: Vec<u32>) -> MemRoom
         ensures means { (n : ℕ) → means_in result n ≡ meaning_of (archive_of archives.items n) }
         ensures lent { (n : ℕ) → is_out result n ≡ false }
-        ensures calls { result.calls ≡ record { fails = fails; made = 0; faults = 0; starved = false } }
+        ensures calls { IsFresh (room_calls result) fails.items }
     {
         MemRoom {
             alloc,
@@ -35,7 +36,7 @@ impl MemRoom {
 
     /// The archive of a number, for a look from outside. None for a number that means an empty one.
     pub fn archive(&self, number: u32) -> Option<&LossyArchive>
-        ensures { option_copied result ≡ archive_of self.now.shelves.items number }
+        ensures { option_copied result ≡ archive_of (shelves_of self.now) number }
     {
         let place = place_of(&self.shelves, number)?;
         Some(&self.shelves[place].archive)
@@ -44,7 +45,7 @@ impl MemRoom {
     /// Whether a call of the room, or of an archive that it holds, found no memory and had no answer for
     /// that.
     pub fn starved(&self) -> bool
-        ensures { result ≡ (self.now.calls.starved || any_starved self.now.shelves.items) }
+        ensures { result ≡ ((room_calls self.now).starved || any_starved (shelves_of self.now)) }
     {
         self.calls.starved() || is_one_starved(&self.shelves)
     }
@@ -114,9 +115,9 @@ impl Room for MemRoom {
     ghost use Rattle.std.specs.Prelude.{◌≡◌, ◌≢◌, ◌↔◌, ℕ, true, false, IsTrue, IsErr, IsErrOf, IfOk, OnOk, OnErr};
     ghost use Rattle.pot_outside.specs.Counts.{Caused, Rose};
     ghost use Rattle.pot_outside.specs.Archives.{IsMeant};
-    ghost use Rattle.pot_doubles.specs.Archives.{held_in, heard_by};
+    ghost use Rattle.pot_doubles.specs.Archives.{held_in, history_of, heard_by, archive_calls, lost_by};
     ghost use Rattle.pot_doubles.specs.Calls.{begun, is_due, covering, Answered};
-    ghost use Rattle.pot_doubles.specs.Rooms.{means_in, is_out, lent_of, SameAt};
+    ghost use Rattle.pot_doubles.specs.Rooms.{means_in, is_out, lent_of, room_calls, SameAt};
 
     type A = LossyArchive;
 
@@ -126,19 +127,19 @@ impl Room for MemRoom {
 
     ghost lent = { lent_of };
 
-    ghost faults = { λ r. r.calls.faults };
+    ghost faults = { λ r. (room_calls r).faults };
 
     fn take(&mut self, number: u32) -> Result<LossyArchive, RoomFault>
         requires { is_out self.old number ≡ false }
-        ensures told { IfOk result (λ a. IsMeant (means_in self.old number) (held_in a) a.past.items (heard_by a) a.calls.faults a.lost) }
-        ensures lends { IfOk result (λ a. lent_of self.new number ≡ a.calls.faults) }
+        ensures told { IfOk result (λ a. IsMeant (means_in self.old number) (held_in a) (history_of a) (heard_by a) (archive_calls a).faults (lost_by a)) }
+        ensures lends { IfOk result (λ a. lent_of self.new number ≡ (archive_calls a).faults) }
         ensures taken { OnOk result (is_out self.new number ≡ true) }
         ensures refused { OnErr result (is_out self.new number ≡ false) }
         ensures unchanged { OnErr result (means_in self.new number ≡ means_in self.old number) }
         ensures others { (n : ℕ) → n ≢ number → SameAt self.old self.new n }
-        ensures cause { Caused self.old.calls.faults self.new.calls.faults (IsErrOf result RoomFault.Failed) }
-        ensures fails { IsErrOf result RoomFault.Failed ↔ IsTrue (is_due self.old.calls) }
-        ensures counted { self.new.calls ≡ begun self.old.calls }
+        ensures cause { Caused (room_calls self.old).faults (room_calls self.new).faults (IsErrOf result RoomFault.Failed) }
+        ensures fails { IsErrOf result RoomFault.Failed ↔ IsTrue (is_due (room_calls self.old)) }
+        ensures counted { room_calls self.new ≡ begun (room_calls self.old) }
     {
         if self.calls.begin() {
             return Err(RoomFault::Failed);
@@ -158,12 +159,12 @@ impl Room for MemRoom {
 
     fn give(&mut self, number: u32, archive: LossyArchive) -> Result<(), Failed>
         requires { is_out self.old number ≡ true }
-        ensures told { OnOk result (IsMeant (means_in self.new number) (held_in archive) archive.past.items (heard_by archive) archive.calls.faults archive.lost) }
+        ensures told { OnOk result (IsMeant (means_in self.new number) (held_in archive) (history_of archive) (heard_by archive) (archive_calls archive).faults (lost_by archive)) }
         ensures back { is_out self.new number ≡ false }
         ensures others { (n : ℕ) → n ≢ number → SameAt self.old self.new n }
-        ensures covers { Rose (lent_of self.old number) archive.calls.faults → Rose self.old.calls.faults self.new.calls.faults }
-        ensures cause { Caused self.old.calls.faults self.new.calls.faults (IsErr result) }
-        ensures counted { Answered (is_due self.old.calls) (covering (lent_of self.old number) archive.calls.faults (begun self.old.calls)) self.new.calls result }
+        ensures covers { Rose (lent_of self.old number) (archive_calls archive).faults → Rose (room_calls self.old).faults (room_calls self.new).faults }
+        ensures cause { Caused (room_calls self.old).faults (room_calls self.new).faults (IsErr result) }
+        ensures counted { Answered (is_due (room_calls self.old)) (covering (lent_of self.old number) (archive_calls archive).faults (begun (room_calls self.old))) (room_calls self.new) result }
     {
         let fails = self.calls.begin();
         let before = self.lent.remove(&number).unwrap_or(0);

@@ -1,4 +1,4 @@
-ghost use Rattle.std.specs.Prelude.{◌≡◌, ◌≤◌, [], length, drop, false, Ok};
+ghost use Rattle.std.specs.Prelude.{◌≡◌, ◌≤◌, length, drop, Ok};
 ghost use Rattle.pot_outside.specs.Streams.{ReadsNext};
 
 use crate::calls::Calls;
@@ -15,12 +15,13 @@ pub struct MemSource {
 }
 
 impl MemSource {
-    ghost use Rattle.pot_doubles.specs.Streams.{left_of};
+    ghost use Rattle.pot_doubles.specs.Calls.{IsFresh};
+    ghost use Rattle.pot_doubles.specs.Streams.{left_of, source_calls};
 
     /// All these bytes are left, and the calls of these numbers are to fail.
     pub fn new(bytes: Vec<u8>, fails: Vec<u32>) -> MemSource
         ensures left { left_of result ≡ bytes.items }
-        ensures calls { result.calls ≡ record { fails = fails; made = 0; faults = 0; starved = false } }
+        ensures calls { IsFresh (source_calls result) fails.items }
     {
         MemSource {
             bytes,
@@ -31,7 +32,7 @@ impl MemSource {
 
     /// Whether a call found no memory. No call of a source takes any.
     pub fn starved(&self) -> bool
-        ensures { result ≡ self.now.calls.starved }
+        ensures { result ≡ (source_calls self.now).starved }
     {
         self.calls.starved()
     }
@@ -42,19 +43,19 @@ impl Source for MemSource {
     ghost use Rattle.pot_outside.specs.Counts.{Caused};
     ghost use Rattle.pot_outside.specs.Streams.{ReadsNext, Within};
     ghost use Rattle.pot_doubles.specs.Calls.{Counted};
-    ghost use Rattle.pot_doubles.specs.Streams.{left_of};
+    ghost use Rattle.pot_doubles.specs.Streams.{left_of, source_calls};
 
     ghost tells = { true };
 
     ghost left = { left_of };
 
-    ghost faults = { λ s. s.calls.faults };
+    ghost faults = { λ s. (source_calls s).faults };
 
     fn read(&mut self, into: &mut [u8]) -> Result<usize, Failed>
         ensures told { ReadsNext (left_of self.old) (left_of self.new) into.new result }
         ensures within { Within into.new result }
-        ensures cause { Caused self.old.calls.faults self.new.calls.faults (IsErr result) }
-        ensures counted { Counted self.old.calls self.new.calls result }
+        ensures cause { Caused (source_calls self.old).faults (source_calls self.new).faults (IsErr result) }
+        ensures counted { Counted (source_calls self.old) (source_calls self.new) result }
     {
         if self.calls.begin() {
             return Err(Failed);
@@ -83,10 +84,14 @@ pub struct MemSink {
 }
 
 impl MemSink {
+    ghost use Rattle.std.specs.Prelude.{◌≡◌, []};
+    ghost use Rattle.pot_doubles.specs.Calls.{IsFresh};
+    ghost use Rattle.pot_doubles.specs.Streams.{written_to, sink_calls};
+
     /// Nothing is written, and the calls of these numbers are to fail.
     pub fn new(alloc: Global, fails: Vec<u32>) -> MemSink
-        ensures written { result.written.items ≡ [] }
-        ensures calls { result.calls ≡ record { fails = fails; made = 0; faults = 0; starved = false } }
+        ensures written { written_to result ≡ [] }
+        ensures calls { IsFresh (sink_calls result) fails.items }
     {
         MemSink {
             written: Vec::new(alloc),
@@ -96,14 +101,14 @@ impl MemSink {
 
     /// The bytes written so far.
     pub fn written(&self) -> &[u8]
-        ensures { result.now ≡ self.now.written.items }
+        ensures { result.now ≡ written_to self.now }
     {
         &self.written
     }
 
     /// Whether a call found no memory. It then failed.
     pub fn starved(&self) -> bool
-        ensures { result ≡ self.now.calls.starved }
+        ensures { result ≡ (sink_calls self.now).starved }
     {
         self.calls.starved()
     }
@@ -114,19 +119,20 @@ impl Sink for MemSink {
     ghost use Rattle.pot_outside.specs.Counts.{Caused};
     ghost use Rattle.pot_outside.specs.Streams.{Appends, Within, TakesSome};
     ghost use Rattle.pot_doubles.specs.Calls.{Counted};
+    ghost use Rattle.pot_doubles.specs.Streams.{written_to, sink_calls};
 
     ghost tells = { true };
 
-    ghost written = { λ s. s.written.items };
+    ghost written = { written_to };
 
-    ghost faults = { λ s. s.calls.faults };
+    ghost faults = { λ s. (sink_calls s).faults };
 
     fn write(&mut self, from: &[u8]) -> Result<usize, Failed>
-        ensures told { Appends self.old.written.items self.new.written.items from.now result }
+        ensures told { Appends (written_to self.old) (written_to self.new) from.now result }
         ensures within { Within from.now result }
         ensures some { TakesSome from.now result }
-        ensures cause { Caused self.old.calls.faults self.new.calls.faults (IsErr result) }
-        ensures counted { Counted self.old.calls self.new.calls result }
+        ensures cause { Caused (sink_calls self.old).faults (sink_calls self.new).faults (IsErr result) }
+        ensures counted { Counted (sink_calls self.old) (sink_calls self.new) result }
     {
         if self.calls.begin() {
             return Err(Failed);
