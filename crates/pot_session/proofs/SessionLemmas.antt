@@ -10,7 +10,7 @@ use Rattle.pot_session.specs.declared.status.Status.{Status}
 use Rattle.pot_session.specs.declared.status.Status.TheVariants.{Good, Refusals, WordsRefused, ScriptRefused, SourceFault, SinkFault, RoomFault, NoMemory}
 use Rattle.pot_session.specs.Words.{IsRun}
 use Rattle.pot_session.specs.Refusals.{RefusesLine}
-use Rattle.pot_session.specs.Sessions.{Seen, seen_by, Comes, Runs, Writes, CutsOff}
+use Rattle.pot_session.specs.Sessions.{Seen, seen_by, Comes, Runs, Writes, CutsOff, IsBeforeTaking}
 use Rattle.pot_session.proofs.ScriptLemmas.{AreBeforeQuit}
 
 -- the commands were worked
@@ -50,3 +50,14 @@ runs_refused told seen before after meant means faulted faults words tells input
     subst (λ s. Runs (seen_by told seen before after meant means faulted faults) words tells input drawn s) (sym h.0) (w, h.1)
 runs_refused told seen before after meant means faulted faults words tells input drawn status w (inr h) =
     subst (λ s. Runs (seen_by told seen before after meant means faulted faults) words tells input drawn s) (sym h.0) (inl (w, h.1))
+
+-- commands that were worked had an archive
+pub is_after_taking : (seen : Seen) (drawn : List ℕ) (steps : List Command) (status : Status) → Comes seen drawn steps status → IsBeforeTaking status → ⊥
+is_after_taking seen drawn steps Good c b = b
+is_after_taking seen drawn steps Refusals c b = b
+is_after_taking seen drawn steps WordsRefused c b = c
+is_after_taking seen drawn steps ScriptRefused c b = c
+is_after_taking seen drawn steps SourceFault c b = c
+is_after_taking seen drawn steps SinkFault c b = b
+is_after_taking seen drawn steps RoomFault c b = b
+is_after_taking seen drawn steps NoMemory c b = b

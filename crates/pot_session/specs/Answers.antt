@@ -28,8 +28,11 @@ pub record Answers (told : Type 0) (drawn : List ℕ) (place : ℕ) (s : State) 
   pub stands : Stands told drawn held first now (after place s c r)
   pub lost : told → IsLost r → Rose first now
 
--- a file is answered only where its two slots held blocks when the fetch began
+-- a file is answered only where its two slots held blocks when the fetch began, and the second fragment is called
+-- lost only where the first slot held its block
 abbrev pub HasRead : Contents → Option KeptFile → Reply → Type 0
 HasRead held (Some f) (File name bytes) = IsSome (held (2 * f.attempt)) × IsSome (held (2 * f.attempt + 1))
 HasRead held None (File name bytes) = ⊥
+HasRead held (Some f) (Lost name piece fragment have need) = fragment ≡ 2 → IsSome (held (2 * f.attempt))
+HasRead held None (Lost name piece fragment have need) = ⊥
 HasRead held found _ = Unit {0}

@@ -15,10 +15,15 @@ pub record LosesBeside (old new : Contents) (before now slot : ℕ) : Type 0 whe
   pub keeps : (k : ℕ) (b : List ℕ) → k ≢ slot → k ≢ slot + 1 → new k ≡ Some b → old k ≡ Some b
   pub same : (k : ℕ) → k ≢ slot → k ≢ slot + 1 → now ≡ before → now < 2 ^ 64 - 1 → new k ≡ old k
 
--- both blocks were written, or a write failed and the two slots have what it left
+-- a slot has no block but its old one and this one
+abbrev pub HasOldOr : Contents → Contents → ℕ → List ℕ → Type 0
+HasOldOr old new slot block = (b : List ℕ) → new slot ≡ Some b → (old slot ≡ Some b) ⊎ (b ≡ block)
+
+-- both blocks were written, or a write failed and the two slots have their old blocks or those meant for them, or none
 abbrev pub WritesPair : Contents → Contents → ℕ → ℕ → ℕ → List ℕ → List ℕ → Result (Unit {0}) Failed → Type 0
 WritesPair old new before now slot first second (Ok u) = OnlyLoses (with_pair old slot first second) new before now
-WritesPair old new before now slot first second (Err e) = LosesBeside old new before now slot
+WritesPair old new before now slot first second (Err e) =
+    LosesBeside old new before now slot × HasOldOr old new slot first × HasOldOr old new (slot + 1) second
 
 -- both blocks were read, or the first of the two slots that holds none is told
 abbrev pub IsFetched : Contents → Contents → ℕ → List ℕ → List ℕ → Fetched → Type 0

@@ -110,3 +110,10 @@ Runs seen words tells input drawn SinkFault =
 Runs seen words tells input drawn NoMemory =
     IsRun words × (Writes seen [] ⊎ OfScript tells input (λ steps. Comes seen drawn steps NoMemory))
 Runs seen words tells input drawn status = IsRun words × OfScript tells input (λ steps. Comes seen drawn steps status)
+
+-- the session ended before it took an archive
+abbrev pub IsBeforeTaking : Status → Type 0
+IsBeforeTaking WordsRefused = Unit {0}
+IsBeforeTaking ScriptRefused = Unit {0}
+IsBeforeTaking SourceFault = Unit {0}
+IsBeforeTaking _ = ⊥

@@ -8,7 +8,7 @@ ghost use Rattle.pot_script.specs.declared.command.Command.TheVariants.{Quit};
 ghost use Rattle.pot_script.specs.Scripts.{IsScript, LeavesAt};
 ghost use Rattle.pot_script.specs.Replies.{bad_line_text, words_refused_text};
 ghost use Rattle.pot_session.specs.Words.{IsRun};
-ghost use Rattle.pot_session.specs.Sessions.{Comes, Runs, seen_by, code_of};
+ghost use Rattle.pot_session.specs.Sessions.{Comes, Runs, IsBeforeTaking, seen_by, code_of};
 ghost use Rattle.pot_session.specs.Ideal.{IsQuiet, IsExact};
 ghost use Rattle.pot_session.specs.declared.status.Status.{Status};
 ghost use Rattle.pot_session.specs.Refusals.{IsRead, IfBadLine, RefusesLine};
@@ -84,6 +84,7 @@ fn run_commands<K: Sink, R: Room>(
     requires few { length steps.now < 2 ^ 31 }
     requires goes_on { AllByRecursion (λ c. c ≢ Quit) steps.now }
     ensures comes { Comes (seen_by (IsTrue R.A.tells) (IsTrue K.tells) (K.written sink.old) (K.written sink.new) (R.means room.old 0) (R.means room.new 0) (R.faults room.old) (R.faults room.new)) drawn.now steps.now result }
+    ensures others { (n : ℕ) → n ≢ 0 → (R.means room.new n ≡ R.means room.old n) × (R.out room.new n ≡ R.out room.old n) }
     ensures home { R.out room.new 0 ≡ false }
     ensures sink { Caused (K.faults sink.old) (K.faults sink.new) (result ≡ Status.SinkFault) }
     ensures room { Caused (R.faults room.old) (R.faults room.new) (result ≡ Status.RoomFault) }
@@ -140,6 +141,8 @@ pub fn hold_session<S: Source, K: Sink, R: Room>(
 ) -> Status
     requires home { R.out room.old 0 ≡ false }
     ensures runs { Runs (seen_by (IsTrue R.A.tells) (IsTrue K.tells) (K.written sink.old) (K.written sink.new) (R.means room.old 0) (R.means room.new 0) (R.faults room.old) (R.faults room.new)) words.now (IsTrue S.tells) (S.left source.old) drawn.now result }
+    ensures untouched { IsBeforeTaking result → room.new ≡ room.old }
+    ensures others { (n : ℕ) → n ≢ 0 → (R.means room.new n ≡ R.means room.old n) × (R.out room.new n ≡ R.out room.old n) }
     ensures home { R.out room.new 0 ≡ false }
     ensures source { Caused (S.faults source.old) (S.faults source.new) (result ≡ Status.SourceFault) }
     ensures sink { Caused (K.faults sink.old) (K.faults sink.new) (result ≡ Status.SinkFault) }
@@ -174,8 +177,10 @@ pub fn run<S: Source, K: Sink, R: Room, D: Desk, W: Gate>(
     _gate: &W,
 ) -> u8
     requires home { R.out room.old 0 ≡ false }
-    ensures runs { (status : Status) × (result ≡ code_of status) × Runs (seen_by (IsTrue R.A.tells) (IsTrue K.tells) (K.written sink.old) (K.written sink.new) (R.means room.old 0) (R.means room.new 0) (R.faults room.old) (R.faults room.new)) words.now (IsTrue S.tells) (S.left source.old) drawn status }
+    ensures runs { (status : Status) × (result ≡ code_of status) × Runs (seen_by (IsTrue R.A.tells) (IsTrue K.tells) (K.written sink.old) (K.written sink.new) (R.means room.old 0) (R.means room.new 0) (R.faults room.old) (R.faults room.new)) words.now (IsTrue S.tells) (S.left source.old) drawn status × (IsBeforeTaking status → room.new ≡ room.old) }
     ensures exact { IsTrue S.tells → IsTrue K.tells → IsTrue R.A.tells → IsQuiet (S.faults source.old) (S.faults source.new) (K.faults sink.old) (K.faults sink.new) (R.faults room.old) (R.faults room.new) (R.means room.old 0).losses (R.means room.new 0).losses → IsExact words.now (S.left source.old) (K.written sink.old) (K.written sink.new) result }
+    ensures others { (n : ℕ) → n ≢ 0 → (R.means room.new n ≡ R.means room.old n) × (R.out room.new n ≡ R.out room.old n) }
+    ensures desk { _desk.new ≡ _desk.old }
     ensures home { R.out room.new 0 ≡ false }
     ensures source { Caused (S.faults source.old) (S.faults source.new) (result ≡ 4) }
     ensures sink { Caused (K.faults sink.old) (K.faults sink.new) (result ≡ 5) }

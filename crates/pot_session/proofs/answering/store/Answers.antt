@@ -36,6 +36,6 @@ returns-in-Err-clause-answer g c = λ s first kept stands.
       row = (short, found_new _ _ _ s _ kept c.find.ensures c.if-is_some.ensures, refl, refl);
       kept = kept_passed _ _ _ _ c.args.place s kept (ap (λ f. f.items) c.pass.ensures.files ∙ c.in_ok-make_room.ensures.files)
           (rw (← c.in_ok-make_room.ensures.attempts) c.pass.ensures.attempts);
-      stands = stands_faulted _ _ _ _ first _ _ _ s (c.in_ok-make_room.ensures.attempts ∙ kept.counted) c.in-Err.ensures.told stands;
+      stands = stands_faulted _ _ _ _ first _ _ _ s (c.in_ok-make_room.ensures.attempts ∙ kept.counted) (λ t. (c.in-Err.ensures.told t).0) stands;
       lost = (λ t l. absurd l);
     }

@@ -1,7 +1,7 @@
 use Rattle.std.proofs.Common.{◌≡◌, ◌-◌, length, take, refl, sym, ap, subst, ◌∙◌, IsTrue, rules}
 use Rattle.pot_session.specs.Words.{IsRun}
 use Rattle.pot_session.proofs.ScriptLemmas.{AreBeforeQuit, are_before_quit, some_commands}
-use Rattle.pot_session.proofs.SessionLemmas.{runs_script}
+use Rattle.pot_session.proofs.SessionLemmas.{runs_script, is_after_taking}
 use Rattle.pot_session.proofs.top.hold_session.Goals as goal
 
 pub run_commands-requires-clause-few : goal.run_commands-requires-clause-few
@@ -21,3 +21,6 @@ returns-in-Ok-clause-runs g c =
     c.run_commands.result (c.is_run.ensures.0 c.if-not-is_run.false) s.read
     (subst (λ l. AreBeforeQuit s.bytes l) (sym c.before_quit.ensures) (rw c.deref.ensures.value (are_before_quit s.bytes _ s.script)))
     c.run_commands.ensures.comes
+
+pub returns-in-Ok-clause-untouched : goal.returns-in-Ok-clause-untouched
+returns-in-Ok-clause-untouched g c = λ b. absurd (is_after_taking _ _ _ _ c.run_commands.ensures.comes b)
