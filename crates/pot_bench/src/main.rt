@@ -1,0 +1,38 @@
+//! Times the loops that touch every byte of a file.
+//!
+//! To standard output goes a line for each loop with a checksum of what it computed, the same at each
+//! run. To standard error goes how fast it went, and how many times slower than `xor_into` of that run.
+//! The argument says over how many megabytes each loop goes: 1 without it. It is no part of the archive.
+#![tactic(auto)]
+
+mod kernels;
+mod report;
+mod rows;
+
+use report::Report;
+use rows::Rows;
+use std::{env, io};
+
+fn main(rt: HostRuntime) -> io::Result<()> {
+    let megabytes: u16 = match env::args(&rt)?.nth(1) {
+        Some(word) => word.parse().unwrap_or(1),
+        None => 1,
+    };
+    let rounds = 16 * u32::from(megabytes);
+    let mut rows = Rows::new(rt.alloc())?;
+    let mut report = Report::new(&rt, rounds)?;
+    rows.xor_into(rounds + 1);
+    report.line(&rt, "xor_into", 1, rows.out())?;
+    let sum = rows.fold_weighted(rounds);
+    report.line(&rt, "fold_weighted", 1, sum.bytes())?;
+    rows.join_two_of_three(rounds);
+    report.line(&rt, "share_join 2 of 3", 2, rows.out())?;
+    rows.join_three_of_five(rounds);
+    report.line(&rt, "share_join 3 of 5", 3, rows.out())?;
+    rows.digest_of(rounds);
+    report.line(&rt, "digest_of", 1, rows.out())?;
+    rows.fill(rounds);
+    report.line(&rt, "fill", 1, rows.out())?;
+    rows.fill_bytes(rounds);
+    report.line(&rt, "the kit's fill_bytes", 1, rows.out())
+}

@@ -1,0 +1,54 @@
+ghost use Rattle.std.specs.Prelude.{◌≡◌, drop};
+ghost use Rattle.byteorder.specs.Endian.{big_number};
+ghost use Rattle.pot_bytes.specs.Digests.{digest_bytes};
+
+use pot_bytes::{digest_of, read_be64};
+use std::io;
+use std::rt::Clock;
+use std::time::Instant;
+
+/// When the loop began that is timed, and how long the first one took, which the others are measured by.
+#[derive(Drop)]
+pub struct Report {
+    start: Instant,
+    rounds: f64,
+    measure: f64,
+}
+
+impl Report {
+    /// The clock starts.
+    pub fn new(clock: &impl Clock, rounds: u32) -> io::Result<Report> {
+        Ok(Report {
+            start: Instant::now(clock)?,
+            rounds: f64::from(rounds),
+            measure: 0.0,
+        })
+    }
+
+    /// Prints how fast the loop was that ends now, over `rows` rows a round, and starts the clock again.
+    pub fn line(
+        &mut self,
+        rt: &(impl Print + Eprint + Clock),
+        name: &str,
+        rows: u8,
+        bytes: &[u8],
+    ) -> io::Result<()> {
+        let seconds = self.start.elapsed(rt)?.as_secs_f64() / f64::from(rows);
+        if self.measure == 0.0 {
+            self.measure = seconds;
+        }
+        let speed = self.rounds / 16.0 / seconds;
+        let times = seconds / self.measure;
+        eprintln!(rt; "{name}: {speed:.0} MB/s, 1/{times:.1} of xor_into")?;
+        println!(rt; "{name} {:016x}", checksum(bytes))?;
+        self.start = Instant::now(rt)?;
+        Ok(())
+    }
+}
+
+/// The first eight bytes of the digest, as a number.
+pub fn checksum(bytes: &[u8]) -> u64
+    ensures { result ≡ big_number 8 (digest_bytes bytes.now) }
+{
+    read_be64(&digest_of(bytes).bytes, 0)
+}
