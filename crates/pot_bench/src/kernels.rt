@@ -5,7 +5,7 @@ ghost use Rattle.std.specs.List.{All, IsDistinct};
 
 use pot_bytes::{Block, digest_of, fold_weighted, xor_into};
 use pot_pads::PadStream;
-use pot_split::share_join;
+use pot_split::{share_join, share_out};
 use rand_chacha::ChaCha20Rng;
 use rand_core::Rng;
 use std::alloc::{AllocError, Global};
@@ -44,6 +44,32 @@ pub fn fold_blocks(blocks: &[Block], rounds: u32) -> Block {
 fn fold_each(sum: &mut Block, weight: u8, blocks: &[Block]) {
     for block in blocks {
         fold_weighted(sum, weight, block);
+    }
+}
+
+/// The share at 3, where two shares give the content.
+#[tactic(auto, using(crate::proofs::WholeRows::one_row))]
+pub fn share_two_rounds(content: &[u8], coefficients: &[u8], out: &mut [u8], rounds: u32)
+    requires some { 0 < length content.now }
+    requires rows { length coefficients.now ≡ length content.now }
+    requires wide { length out.old ≡ length content.now }
+    ensures { length out.new ≡ length out.old }
+{
+    for _ in 0..rounds {
+        share_out(content, coefficients, 3, out);
+    }
+}
+
+/// The share at 5, where three shares give the content.
+#[tactic(auto, using(crate::proofs::WholeRows::two_rows))]
+pub fn share_three_rounds(content: &[u8], coefficients: &[u8], out: &mut [u8], rounds: u32)
+    requires some { 0 < length content.now }
+    requires rows { length coefficients.now ≡ 2 * length content.now }
+    requires wide { length out.old ≡ length content.now }
+    ensures { length out.new ≡ length out.old }
+{
+    for _ in 0..rounds {
+        share_out(content, coefficients, 5, out);
     }
 }
 

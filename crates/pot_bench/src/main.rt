@@ -25,6 +25,10 @@ fn main(rt: HostRuntime) -> io::Result<()> {
     report.line(&rt, "xor_into", 1, rows.out())?;
     let sum = rows.fold_weighted(rounds);
     report.line(&rt, "fold_weighted", 1, sum.bytes())?;
+    rows.share_two_of_three(rounds);
+    report.line(&rt, "share_out 2 of 3", 1, rows.out())?;
+    rows.share_three_of_five(rounds);
+    report.line(&rt, "share_out 3 of 5", 1, rows.out())?;
     rows.join_two_of_three(rounds);
     report.line(&rt, "share_join 2 of 3", 2, rows.out())?;
     rows.join_three_of_five(rounds);

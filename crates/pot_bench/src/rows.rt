@@ -2,7 +2,8 @@ ghost use Rattle.std.specs.Prelude.{◌≡◌, ◌*◌, length, IfOk};
 ghost use Rattle.pot_bench.specs.declared.rows.TheConstants.{ROW};
 
 use crate::kernels::{
-    blocks_of, digest_rounds, fill_rounds, fold_blocks, generate_rounds, join_rounds, xor_rounds,
+    blocks_of, digest_rounds, fill_rounds, fold_blocks, generate_rounds, join_rounds,
+    share_three_rounds, share_two_rounds, xor_rounds,
 };
 use pot_bytes::Block;
 use pot_pads::PadStream;
@@ -63,6 +64,16 @@ impl Rows {
 
     pub fn fold_weighted(&self, rounds: u32) -> Block {
         fold_blocks(&self.blocks, rounds)
+    }
+
+    pub fn share_two_of_three(&mut self, rounds: u32) {
+        let coefficients = &self.shares[ROW..2 * ROW];
+        share_two_rounds(&self.content, coefficients, &mut self.out, rounds);
+    }
+
+    pub fn share_three_of_five(&mut self, rounds: u32) {
+        let coefficients = &self.shares[ROW..3 * ROW];
+        share_three_rounds(&self.content, coefficients, &mut self.out, rounds);
     }
 
     pub fn join_two_of_three(&mut self, rounds: u32) {
