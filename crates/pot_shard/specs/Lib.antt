@@ -1,2 +1,3 @@
+pub mod FileBlocks
 pub mod Rings
 pub mod Shards
