@@ -1,5 +1,5 @@
 -- Parts of random bytes, of fragments and of blocks.
-use Rattle.std.proofs.Common.{◌≡◌, ◌≤◌, ◌<◌, ◌+◌, ◌-◌, ◌*◌, ◌%◌, ◌^◌, ◌/◌, ◌++◌, ◌∷◌, [], ℕ, List, length, map, take, drop, get_or, refl, ap, ap₂, sym, ◌∙◌, arith, replicate, length-drop}
+use Rattle.std.proofs.Common.{◌≡◌, ◌≤◌, ◌<◌, ◌+◌, ◌-◌, ◌*◌, ◌%◌, ◌^◌, ◌/◌, ◌++◌, ◌∷◌, [], ℕ, zero, suc, List, length, length-append, map, take, drop, get_or, refl, ap, ap₂, sym, ◌∙◌, arith, replicate, length-drop}
 use Rattle.std.proofs.lemmas.List.{drop_at, drop-append-le, take_all, take-append-le, length-take-le, length-map, length-replicate, get_or-map, get_or_append_left, take_at, flat_map_more, map-append, map-id}
 use Rattle.std.proofs.lemmas.Slice.{take-put_mid}
 use Rattle.std.proofs.Math.Nat.{mul-le-mul_right}
@@ -11,7 +11,8 @@ use Rattle.pot_bytes.specs.declared.rack.Geometry.{Geometry}
 use borrow.Rule.Slice.PartMut.{put_mid}
 use Rattle.pot_pointer.specs.Pointers.{blur}
 use Rattle.pot_split.specs.Secrecy.{IsRows}
-use Rattle.pot_shard.specs.FileBlocks.{content_of, content_shards, fragment_len, fragment_shards, head_len, names_at, names_in, part_at, piece_len, shard_at_place}
+use Rattle.pot_object.specs.Objects.{object}
+use Rattle.pot_shard.specs.FileBlocks.{content_of, content_shards, fragment_len, fragment_shards, fragments_of, head_len, names_at, names_in, object_shards, part_at, piece_blocks, piece_len, shard_at_place}
 use Rattle.pot_shard.specs.Rings.{ring}
 use Rattle.pot_shard.specs.Shards.{shard_bytes}
 use Rattle.pot_shard.proofs.RingLemmas.{length-ring}
@@ -138,3 +139,30 @@ unfolding fragment_shards
 length-fragment_blocks g fragments random j =
     length-map (fragment_shards g fragments random j) shard_bytes
     ∙ length-content_shards g (content_of g fragments random j) (part_at (head_len g) (fragment_len g) j random)
+
+-- a part is within parts of one size that stand behind a head
+pub part_within : (head s i n size long : ℕ) → i < n → s ≡ size → long ≡ head + n * size → head + i * s + s ≤ long
+part_within head s i n size long inside same whole =
+    let fits : head + i * s + s ≤ head + n * s = grind (arith, one_part_more i s, parts_below (i + 1) (n + 1) s) in
+    omega (arith, fits, whole, ap (λ (z : ℕ). n * z) same)
+
+-- lists of one length, one after another
+pub length-parts : {X : Type 0} (f : ℕ → List X) (size n : ℕ) → ((i : ℕ) → length (f i) ≡ size)
+    → length (flat_map f (range_with_len 0 n)) ≡ n * size
+length-parts f size zero each = omega arith
+length-parts {X} f size (suc n) each =
+    let next : suc n ≡ n + 1 = omega arith in
+    ap (λ (z : ℕ). length (flat_map f (range_with_len 0 z))) next ∙ ap length (sym (parts_more f n))
+    ∙ length-append {A = X} (flat_map f (range_with_len 0 n)) (f n)
+    ∙ ap₂ (λ (a b : ℕ). a + b) (length-parts f size n each) (each n) ∙ sym (one_part_more n size)
+    ∙ ap (λ (z : ℕ). z * size) (sym next)
+
+-- a piece has k * n blocks
+pub length-piece_blocks : (g : Geometry) (id file : List ℕ) (piece : ℕ) (random : List ℕ)
+    → length (piece_blocks g id file piece random) ≡ g.fragments * g.shards
+unfolding piece_blocks object_shards
+length-piece_blocks g id file piece random =
+    let f = fragment_shards g (fragments_of g (object id file piece) random) random in
+    ap length (map-flat_map shard_bytes f (range_with_len 0 g.fragments))
+    ∙ length-parts (λ j. map shard_bytes (f j)) g.shards g.fragments
+    (length-fragment_blocks g (fragments_of g (object id file piece) random) random)

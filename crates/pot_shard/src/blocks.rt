@@ -1,18 +1,19 @@
 //! The shard blocks of a file, piece by piece.
-ghost use Rattle.std.specs.Prelude.{◌≡◌, ◌≤◌, ◌<◌, ◌+◌, ◌-◌, ◌*◌, ◌%◌, ◌^◌, ◌++◌, length, map};
+ghost use Rattle.std.specs.Prelude.{◌≡◌, ◌≤◌, ◌<◌, ◌+◌, ◌-◌, ◌*◌, ◌%◌, ◌^◌, ◌++◌, length, map, take, IfOk};
 ghost use Rattle.pot_bytes.specs.Sums.{xor};
 ghost use Rattle.pot_split.specs.Secrecy.{meaning, IsRows};
 ghost use Rattle.pot_bytes.specs.Rack.{IsGeometry};
 ghost use Rattle.pot_object.specs.Pieces.{longest, pieces_of};
-ghost use Rattle.pot_shard.specs.FileBlocks.{content_of, content_shards, fragment_len, fragment_shards, object_shards, pads_in, part_at, piece_blocks, piece_len, shard_of};
+ghost use Rattle.pot_shard.specs.FileBlocks.{content_of, content_shards, file_blocks, fragment_len, fragment_shards, object_shards, pads_in, part_at, piece_blocks, piece_len, random_len, shard_of};
 ghost use Rattle.pot_shard.specs.Shards.{shard_bytes};
 
-use crate::random::{fragment_len, head_len, read_names, rows_len};
+use crate::random::{fragment_len, head_len, piece_len, read_names, rows_len};
 use crate::ring::ring_of;
 use crate::shard::{Shard, encode_shard};
-use pot_bytes::{Block, Geometry};
-use pot_object::{write_content, write_object};
+use pot_bytes::{Block, Geometry, NoMemory};
+use pot_object::{PIECE, write_content, write_object};
 use pot_split::{secrecy_split, share_out};
+use std::alloc::Global;
 
 /// The blocks of one piece of a file, by fragment and point. `random` is the random bytes of the piece.
 ///
@@ -35,6 +36,71 @@ pub fn piece_blocks(
     let mut object = [0; 928];
     write_object(file_id, file, piece, &mut object);
     object_blocks(&object, geometry, random, out);
+}
+
+/// The blocks of a file, by piece, fragment and point. `random` is the random bytes of its store.
+pub fn blocks_of(
+    alloc: Global,
+    file: &[u8],
+    geometry: &Geometry,
+    random: &[u8],
+) -> Result<Vec<Block>, NoMemory>
+    requires fits { length file.now ≤ longest }
+    requires geometry { IsGeometry geometry.now }
+    requires random { length random.now ≡ random_len (pieces_of (length file.now)) geometry.now }
+    ensures { IfOk result (λ v. v.items ≡ file_blocks geometry.now file.now random.now) }
+{
+    let count = count_pieces(file) as usize * count_blocks(geometry);
+    let mut blocks = vec![in alloc; Block::zero(); count]?;
+    file_blocks(file, geometry, random, &mut blocks);
+    Ok(blocks)
+}
+
+/// The blocks of all pieces of a file, one after another.
+fn file_blocks(file: &[u8], geometry: &Geometry, random: &[u8], out: &mut [Block])
+    requires fits { length file.now ≤ longest }
+    requires geometry { IsGeometry geometry.now }
+    requires random { length random.now ≡ random_len (pieces_of (length file.now)) geometry.now }
+    requires room { length out.old ≡ pieces_of (length file.now) * (geometry.now.fragments * geometry.now.shards) }
+    ensures { out.new ≡ file_blocks geometry.now file.now random.now }
+{
+    let id = file_id_in(random);
+    let count = count_blocks(geometry);
+    let size = piece_len(geometry);
+    for piece in 0..count_pieces(file) {
+        let at = piece as usize * count;
+        let from = 16 + piece as usize * size;
+        let own = &random[from..from + size];
+        piece_blocks(&id, file, piece, geometry, own, &mut out[at..at + count]);
+    }
+}
+
+/// The file id that stands first in the random bytes.
+fn file_id_in(random: &[u8]) -> [u8; 16]
+    requires { 16 ≤ length random.now }
+    ensures { result ≡ take 16 random.now }
+{
+    let mut id = [0; 16];
+    id.copy_from_slice(&random[..16]);
+    id
+}
+
+/// How many pieces a file has.
+fn count_pieces(file: &[u8]) -> u32
+    requires { length file.now ≤ longest }
+    ensures value { result ≡ pieces_of (length file.now) }
+    ensures few { result ≤ 1024 }
+{
+    (file.len() as u64).div_ceil(PIECE).max(1) as u32
+}
+
+/// How many blocks a piece has.
+fn count_blocks(geometry: &Geometry) -> usize
+    requires { IsGeometry geometry.now }
+    ensures value { result ≡ geometry.now.fragments * geometry.now.shards }
+    ensures few { result ≤ 128 }
+{
+    usize::from(geometry.fragments) * usize::from(geometry.shards)
 }
 
 /// The blocks of an object, by fragment and point.
