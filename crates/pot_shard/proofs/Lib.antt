@@ -1,3 +1,5 @@
 pub mod BlockLemmas
+pub mod ByteLemmas
+pub mod FileLemmas
 pub mod RingLemmas
 pub mod ShardLemmas

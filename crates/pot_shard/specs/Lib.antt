@@ -1,3 +1,4 @@
 pub mod FileBlocks
+pub mod FileLaws
 pub mod Rings
 pub mod Shards

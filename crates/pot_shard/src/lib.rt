@@ -9,9 +9,11 @@
 //! 2. In a ring each shard points to the next, and the last to the first: `ring_of`.
 //! 3. A piece has the blocks that its bytes and its own random bytes give, by fragment and point: `piece_blocks`.
 //! 4. The blocks of a file are those of its pieces, one after another: `blocks_of`.
+//! 5. Any m shards of each fragment give the file back, whatever the random bytes: `file_laws`.
 #![tactic(auto)]
 
 mod blocks;
+mod laws;
 mod random;
 mod ring;
 mod shard;
@@ -19,6 +21,7 @@ mod shard;
 mod tests;
 
 pub use blocks::{blocks_of, piece_blocks};
+pub use laws::file_laws;
 pub use random::random_len;
 pub use ring::ring_of;
 pub use shard::{Shard, decode_shard, encode_shard, shard_laws};

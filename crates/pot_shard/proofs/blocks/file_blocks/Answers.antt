@@ -1,7 +1,7 @@
-use Rattle.std.proofs.Common.{◌≡◌, ◌≤◌, ◌<◌, ◌+◌, ◌-◌, ◌*◌, ℕ, List, length, take, drop, arith, ap, ap₂, refl, ◌∙◌}
+use Rattle.std.proofs.Common.{◌≡◌, ◌<◌, ◌+◌, ◌-◌, ◌*◌, ℕ, List, length, take, arith, ap, ap₂, refl, ◌∙◌}
 use borrow.Rule.Slice.PartMut.{put_mid}
 use Rattle.pot_object.specs.Pieces.{pieces_of}
-use Rattle.pot_shard.specs.FileBlocks.{blocks_at, file_blocks, piece_blocks, piece_len, piece_random}
+use Rattle.pot_shard.specs.FileBlocks.{blocks_at, piece_blocks, piece_len, piece_random}
 use Rattle.pot_shard.proofs.BlockLemmas.{length-piece_blocks, part_taken, part_within, put_part, whole_parts}
 use Rattle.pot_shard.proofs.blocks.file_blocks.Goals as goal
 
