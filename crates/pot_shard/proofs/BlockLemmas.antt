@@ -1,5 +1,5 @@
 -- Parts of random bytes, of fragments and of blocks.
-use Rattle.std.proofs.Common.{◌≡◌, ◌≤◌, ◌<◌, ◌+◌, ◌-◌, ◌*◌, ◌%◌, ◌^◌, ◌/◌, ◌++◌, ◌∷◌, [], ℕ, zero, suc, List, length, length-append, map, take, drop, get_or, refl, ap, ap₂, sym, ◌∙◌, arith, replicate, length-drop}
+use Rattle.std.proofs.Common.{◌≡◌, ◌≤◌, ◌<◌, ◌+◌, ◌-◌, ◌*◌, ◌%◌, ◌^◌, ◌/◌, ◌++◌, ◌∷◌, [], ℕ, zero, suc, inl, inr, List, length, length-append, map, take, drop, get_or, refl, ap, ap₂, sym, ◌∙◌, arith, replicate, length-drop}
 use Rattle.std.proofs.lemmas.List.{drop_at, drop-append-le, take_all, take-append-le, length-take-le, length-map, length-replicate, get_or-map, get_or_append_left, take_at, flat_map_more, map-append, map-id}
 use Rattle.std.proofs.lemmas.Slice.{take-put_mid}
 use Rattle.std.proofs.Math.Nat.{mul-le-mul_right}
@@ -12,7 +12,9 @@ use borrow.Rule.Slice.PartMut.{put_mid}
 use Rattle.pot_pointer.specs.Pointers.{blur}
 use Rattle.pot_split.specs.Secrecy.{IsRows}
 use Rattle.pot_object.specs.Objects.{object}
-use Rattle.pot_shard.specs.FileBlocks.{content_of, content_shards, fragment_len, fragment_shards, fragments_of, head_len, names_at, names_in, object_shards, part_at, piece_blocks, piece_len, shard_at_place}
+use Rattle.pot_object.specs.Pieces.{pieces_of}
+use Rattle.std.proofs.lemmas.Bool.{cases_lt}
+use Rattle.pot_shard.specs.FileBlocks.{blocks_at, file_blocks, piece_random, content_of, content_shards, fragment_len, fragment_shards, fragments_of, head_len, names_at, names_in, object_shards, part_at, piece_blocks, piece_len, shard_at_place}
 use Rattle.pot_shard.specs.Rings.{ring}
 use Rattle.pot_shard.specs.Shards.{shard_bytes}
 use Rattle.pot_shard.proofs.RingLemmas.{length-ring}
@@ -166,3 +168,33 @@ length-piece_blocks g id file piece random =
     ap length (map-flat_map shard_bytes f (range_with_len 0 g.fragments))
     ∙ length-parts (λ j. map shard_bytes (f j)) g.shards g.fragments
     (length-fragment_blocks g (fragments_of g (object id file piece) random) random)
+
+-- a list of lists of one length
+pub part_of_parts : {X : Type 0} (f : ℕ → List X) (size n i : ℕ) → ((k : ℕ) → length (f k) ≡ size) → i < n
+    → take size (drop (i * size) (flat_map f (range_with_len 0 n))) ≡ f i
+part_of_parts f size zero i each inside = absurd (omega arith)
+part_of_parts {X} f size (suc n) i each inside =
+    let front = flat_map f (range_with_len 0 n) in
+    let next : suc n ≡ n + 1 = omega arith in
+    let long : length front ≡ n * size = length-parts f size n each in
+    let all : flat_map f (range_with_len 0 (suc n)) ≡ front ++ f n = ap (λ (z : ℕ). flat_map f (range_with_len 0 z)) next ∙ sym (parts_more f n) in
+    ap (λ z. take size (drop (i * size) z)) all
+    ∙ elim (cases_lt i n) [
+      | inl before ↦
+          let more : i + 1 ≤ n = omega arith in
+          let fits : i * size + size ≤ n * size = omega (arith, one_part_more i size, mul-le-mul_right size more) in
+          ap (take size) (drop-append-le (i * size) front (f n) (omega arith))
+          ∙ take-append-le size (drop (i * size) front) (f n) (omega (arith, length-drop {A = X} (i * size) front))
+          ∙ part_of_parts f size n i each before
+      | inr behind ↦
+          let here : i ≡ n = omega arith in
+          ap (λ (z : ℕ). take size (drop (z * size) (front ++ f n))) here
+          ∙ ap (take size) (drop_at front (f n) (n * size) long) ∙ take_all size (f n) (omega (arith, each n)) ∙ ap f (sym here)
+    ]
+
+-- the blocks of a piece stand in those of the file
+pub piece_of_blocks : (g : Geometry) (file random : List ℕ) (i : ℕ) → i < pieces_of (length file)
+    → take (g.fragments * g.shards) (drop (i * (g.fragments * g.shards)) (file_blocks g file random)) ≡ blocks_at g file random i
+piece_of_blocks g file random i inside =
+    part_of_parts (blocks_at g file random) (g.fragments * g.shards) (pieces_of (length file)) i
+    (λ k. length-piece_blocks g (take 16 random) file k (piece_random g k random)) inside

@@ -30,12 +30,12 @@ use Rattle.pot_shard.proofs.BlockLemmas.{part_within, parts_more}
 use Rattle.pot_shard.proofs.ByteLemmas.{bytes-append, content-bytes, length-sum, object-bytes, sum-bytes, xor-bytes}
 
 -- an object and random bytes that a piece takes
-record IsPiece (g : Geometry) (object random : List ℕ) : Type 0 where
-  geometry : IsGeometry g
-  long : length object ≡ 928
-  taken : length random ≡ piece_len g
-  object_bytes : AreBytes object
-  random_bytes : AreBytes random
+pub record IsPiece (g : Geometry) (object random : List ℕ) : Type 0 where
+  pub geometry : IsGeometry g
+  pub long : length object ≡ 928
+  pub taken : length random ≡ piece_len g
+  pub object_bytes : AreBytes object
+  pub random_bytes : AreBytes random
 
 -- the pads are k - 1 rows
 length-pads : (g : Geometry) (random : List ℕ) → length random ≡ piece_len g → length (pads_in g random) ≡ (g.fragments - 1) * 928
@@ -76,7 +76,7 @@ length-part head size i n xs inside long =
     let fits = part_within head size i n size (length xs) inside refl long in
     length-take-le size (drop (head + i * size) xs) (omega (arith, length-drop {A = ℕ} (head + i * size) xs, fits))
 
-part-bytes : (head size i : ℕ) (xs : List ℕ) → AreBytes xs → AreBytes (part_at head size i xs)
+pub part-bytes : (head size i : ℕ) (xs : List ℕ) → AreBytes xs → AreBytes (part_at head size i xs)
 part-bytes head size i xs b = AreBytes-take size (drop (head + i * size) xs) (AreBytes-drop (head + i * size) xs b)
 
 -- the head of a content
@@ -87,7 +87,7 @@ length-id : (g : Geometry) (random : List ℕ) → length random ≡ piece_len g
 length-id g random taken = length-take-le 16 random (omega arith)
 
 -- a content is 992 bytes
-length-content_of : (g : Geometry) (object random : List ℕ) (j : ℕ) → IsPiece g object random → j < g.fragments
+pub length-content_of : (g : Geometry) (object random : List ℕ) (j : ℕ) → IsPiece g object random → j < g.fragments
     → length (content_of g (fragments_of g object random) random j) ≡ 992
 unfolding content_of head
 length-content_of g object random j p inside =
@@ -182,7 +182,7 @@ xor_object g object random p =
     ∙ meaning-secrecy object pads (omega (arith, p.long)) rows.1
 
 -- a piece of a store
-is_piece : (g : Geometry) (file random : List ℕ) (i : ℕ) → IsStore g file random → i < pieces_of (length file)
+pub is_piece : (g : Geometry) (file random : List ℕ) (i : ℕ) → IsStore g file random → i < pieces_of (length file)
     → IsPiece g (object_in file random i) (piece_random g i random)
 is_piece g file random i is inside =
     let id : length (take 16 random) ≡ 16 = length-take-le 16 random (omega (arith, is.taken)) in

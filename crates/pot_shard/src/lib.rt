@@ -21,7 +21,7 @@ mod shard;
 mod tests;
 
 pub use blocks::{blocks_of, piece_blocks};
-pub use laws::file_laws;
+pub use laws::{block_laws, file_laws, stretch_laws};
 pub use random::random_len;
 pub use ring::ring_of;
 pub use shard::{Shard, decode_shard, encode_shard, shard_laws};

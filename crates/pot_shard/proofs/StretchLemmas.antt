@@ -1,0 +1,47 @@
+-- Stretches of the random bytes of a file.
+use Rattle.std.proofs.Common.{◌≡◌, ◌≤◌, ◌<◌, ◌+◌, ◌-◌, ◌*◌, ℕ, List, take, drop, refl, ap, ◌∙◌, arith}
+use Rattle.std.proofs.lemmas.List.{drop-drop, drop-take, take-take}
+use Rattle.pot_bytes.specs.declared.rack.Geometry.{Geometry}
+use Rattle.pot_shard.specs.FileBlocks.{fragment_len, head_len, part_at, piece_len, piece_random}
+use Rattle.pot_shard.specs.Stretches.{fragment_start, piece_start, StretchLaws}
+use Rattle.pot_shard.proofs.BlockLemmas.{part_within}
+
+add_third : (a b c : ℕ) → a + (b + c) ≡ a + b + c
+add_third a b c = omega arith
+
+add_more : (a b : ℕ) → a ≤ a + b
+add_more a b = omega arith
+
+behind : (a b c d e : ℕ) → b + c + d ≤ e → a + b + c + d ≤ a + e
+behind a b c d e l = omega arith
+
+-- a stretch within a stretch
+stretch_within : (start long at size : ℕ) (xs : List ℕ) → at + size ≤ long
+    → take size (drop at (take long (drop start xs))) ≡ take size (drop (start + at) xs)
+stretch_within start long at size xs fits =
+    let rest : long ≡ at + (long - at) = omega arith in
+    ap (λ (z : ℕ). take size (drop at (take z (drop start xs)))) rest
+    ∙ ap (take size) (drop-take at (long - at) (drop start xs))
+    ∙ take-take size (long - at) (drop at (drop start xs)) (omega arith)
+    ∙ ap (take size) (drop-drop at start xs)
+
+fragment_fits : (g : Geometry) (j : ℕ) → j < g.fragments → head_len g + j * fragment_len g + fragment_len g ≤ piece_len g
+fragment_fits g j inside = part_within (head_len g) (fragment_len g) j g.fragments (fragment_len g) (piece_len g) inside refl refl
+
+fragment_bytes : (g : Geometry) (random : List ℕ) (i j : ℕ) → j < g.fragments
+    → part_at (head_len g) (fragment_len g) j (piece_random g i random) ≡ take (fragment_len g) (drop (fragment_start g i j) random)
+fragment_bytes g random i j inside =
+    let at = head_len g + j * fragment_len g in
+    let same : piece_start g i + at ≡ fragment_start g i j = add_third (piece_start g i) (head_len g) (j * fragment_len g) in
+    stretch_within (piece_start g i) (piece_len g) at (fragment_len g) random (fragment_fits g j inside)
+    ∙ ap (λ (z : ℕ). take (fragment_len g) (drop z random)) same
+
+pub stretch_laws : StretchLaws
+stretch_laws = record {
+  piece_bytes = λ g random i. refl;
+  fragment_bytes = fragment_bytes;
+  pieces_apart = λ g i o l. part_within 16 (piece_len g) i o (piece_len g) (piece_start g o) l refl refl;
+  fragments_apart = λ g i j l m. part_within (piece_start g i + head_len g) (fragment_len g) j l (fragment_len g) (fragment_start g i l) m refl refl;
+  behind_the_pads = λ g i j. add_more (piece_start g i + head_len g) (j * fragment_len g);
+  within_the_piece = λ g i j l. behind (piece_start g i) (head_len g) (j * fragment_len g) (fragment_len g) (piece_len g) (fragment_fits g j l);
+}
