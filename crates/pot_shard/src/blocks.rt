@@ -64,7 +64,7 @@ fn file_blocks(file: &[u8], geometry: &Geometry, random: &[u8], out: &mut [Block
     requires room { length out.old ≡ pieces_of (length file.now) * (geometry.now.fragments * geometry.now.shards) }
     ensures { out.new ≡ file_blocks geometry.now file.now random.now }
 {
-    let id = file_id_in(random);
+    let id = id_in(random);
     let count = count_blocks(geometry);
     let size = piece_len(geometry);
     for piece in 0..count_pieces(file) {
@@ -75,8 +75,8 @@ fn file_blocks(file: &[u8], geometry: &Geometry, random: &[u8], out: &mut [Block
     }
 }
 
-/// The file id that stands first in the random bytes.
-fn file_id_in(random: &[u8]) -> [u8; 16]
+/// The id that stands first in the random bytes of a file or a piece.
+fn id_in(random: &[u8]) -> [u8; 16]
     requires { 16 ≤ length random.now }
     ensures { result ≡ take 16 random.now }
 {
@@ -155,8 +155,7 @@ fn content_at(last: &[u8; 928], geometry: &Geometry, random: &[u8], number: u8) 
     requires exists { number < geometry.now.fragments }
     ensures { result ≡ content_of geometry.now (pads_in geometry.now random.now ++ last.now) random.now number }
 {
-    let mut id = [0; 16];
-    id.copy_from_slice(&random[..16]);
+    let id = id_in(random);
     let fragment = fragment_at(&random[16..head_len(geometry)], last, number);
     let mut content = [0; 992];
     write_content(&id, number + 1, geometry.fragments, &fragment, &mut content);

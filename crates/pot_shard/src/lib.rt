@@ -12,6 +12,8 @@
 //! 5. Any m shards of each fragment give the file back, whatever the random bytes: `file_laws`.
 #![tactic(auto)]
 
+#[cfg(test)]
+mod block_tests;
 mod blocks;
 mod laws;
 mod random;

@@ -11,6 +11,6 @@ returns c =
     let j = c.args.number in
     let pads : c.head_len.result - 16 ≡ (g.fragments - 1) * 928 = omega (arith, c.head_len.ensures.value) in
     c.write_content.ensures
-    ∙ ap (λ (z : List ℕ). content z (j + 1) g.fragments c.fragment_at-fragment.result) c.copy_from_slice.ensures.after
+    ∙ ap (λ (z : List ℕ). content z (j + 1) g.fragments c.fragment_at-fragment.result) c.id_in-id.ensures
     ∙ ap (content (take 16 random) (j + 1) g.fragments)
     (c.fragment_at-fragment.ensures ∙ ap (λ (z : ℕ). part_at 0 928 j (take z (drop 16 random) ++ c.args.last.now)) pads)

@@ -38,7 +38,7 @@ loop-piece-preserved c =
     let inside : piece < n = omega (arith, c.loop-piece-test.true, c.count_pieces-piece-end.ensures.value) in
     let here : new ≡ blocks_at g file random piece =
     c.piece_blocks.ensures
-    ∙ ap₂ (λ (a b : List ℕ). piece_blocks g a file piece b) c.file_id_in-id.ensures
+    ∙ ap₂ (λ (a b : List ℕ). piece_blocks g a file piece b) c.id_in-id.ensures
     (part_taken 16 piece each.result 16 piece (piece_len g) random refl refl each.ensures.value) in
     ap (λ (a : ℕ). take ((piece + 1) * size) (put_mid (piece * a) (piece * a + a - piece * a) out new)) c.count_blocks-count.ensures.value
     ∙ put_part (blocks_at g file random) out new piece n size (piece * size + size - piece * size)
