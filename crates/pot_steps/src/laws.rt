@@ -1,0 +1,27 @@
+//! What is proved of the steps of a stripe.
+ghost use Rattle.pot_steps.specs.Laws.{PutKeeps, LossKeeps, LossKeepsFlight, BeginKeeps, HopKeeps, MendedKeeps, RelayRebuilds, SingleParity, FillingComputed, ComputedFilling, SumGrows, SumBegins, HeardIsBlinded};
+
+/// What keeps the law of a stripe, and what it says of one parity column.
+pub fn stripe_laws()
+    ensures put { PutKeeps }
+    ensures loss { LossKeeps }
+    ensures mended { MendedKeeps }
+    ensures single { SingleParity }
+{}
+
+/// What keeps the law of a flight, and what a relay has at its end.
+pub fn flight_laws()
+    ensures begins { BeginKeeps }
+    ensures hop { HopKeeps }
+    ensures loss { LossKeepsFlight }
+    ensures rebuilds { RelayRebuilds }
+    ensures sum_begins { SumBegins }
+    ensures sum_grows { SumGrows }
+    ensures heard { HeardIsBlinded }
+{}
+
+/// What decides whether a stripe has a filling.
+pub fn filling_laws()
+    ensures computed { FillingComputed }
+    ensures made { ComputedFilling }
+{}
