@@ -4,4 +4,5 @@ pub mod Law
 pub mod Flight
 pub mod Decides
 pub mod Holdings
+pub mod Entries
 pub mod Laws

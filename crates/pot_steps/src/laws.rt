@@ -1,4 +1,5 @@
 //! What is proved of the steps of a stripe.
+ghost use Rattle.pot_steps.specs.Entries.{EntryKeeps, LossesKeep};
 ghost use Rattle.pot_steps.specs.Laws.{PutKeeps, LossKeeps, LossKeepsFlight, BeginKeeps, HopKeeps, MendedKeeps, RelayRebuilds, SingleParity, FillingComputed, ComputedFilling, SumGrows, SumBegins, HeardIsBlinded};
 
 /// What keeps the law of a stripe, and what it says of one parity column.
@@ -18,6 +19,12 @@ pub fn flight_laws()
     ensures sum_begins { SumBegins }
     ensures sum_grows { SumGrows }
     ensures heard { HeardIsBlinded }
+{}
+
+/// What keeps the law of every stripe of a group.
+pub fn entry_laws()
+    ensures entry { EntryKeeps }
+    ensures losses { LossesKeep }
 {}
 
 /// What decides whether a stripe has a filling.
