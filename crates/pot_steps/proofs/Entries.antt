@@ -86,7 +86,7 @@ all_live : (t : Table) (h : Holdings) (s : ℕ) → first t s is_unsound ≡ Non
 all_live t h s none c lt = void_or_live (slot_at t s c) (least_none (width t) (λ k. is_unsound (slot_at t s k)) none c lt)
 
 -- the slot of the cursor is Void
-is_void_at : (x : SlotState) → IsTrue (is_void x) → x ≡ Void
+pub is_void_at : (x : SlotState) → IsTrue (is_void x) → x ≡ Void
 is_void_at Void e = refl
 is_void_at (Live d) e = absurd (cc)
 is_void_at (Lost d) e = absurd (cc)

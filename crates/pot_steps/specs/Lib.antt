@@ -5,4 +5,5 @@ pub mod Flight
 pub mod Decides
 pub mod Holdings
 pub mod Entries
+pub mod GroupStep
 pub mod Laws

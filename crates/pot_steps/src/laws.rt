@@ -1,4 +1,5 @@
 //! What is proved of the steps of a stripe.
+ghost use Rattle.pot_steps.specs.GroupStep.{PutStepKeeps, LookStepKeeps, CountStepKeeps};
 ghost use Rattle.pot_steps.specs.Entries.{EntryKeeps, LossesKeep};
 ghost use Rattle.pot_steps.specs.Laws.{PutKeeps, LossKeeps, LossKeepsFlight, BeginKeeps, HopKeeps, MendedKeeps, RelayRebuilds, SingleParity, FillingComputed, ComputedFilling, SumGrows, SumBegins, HeardIsBlinded};
 
@@ -25,6 +26,13 @@ pub fn flight_laws()
 pub fn entry_laws()
     ensures entry { EntryKeeps }
     ensures losses { LossesKeep }
+{}
+
+/// A put, a look and a count keep the rules of the table and the law of every stripe.
+pub fn group_laws()
+    ensures put { PutStepKeeps }
+    ensures look { LookStepKeeps }
+    ensures count { CountStepKeeps }
 {}
 
 /// What decides whether a stripe has a filling.

@@ -7,4 +7,4 @@
 
 mod laws;
 
-pub use laws::{entry_laws, filling_laws, flight_laws, stripe_laws};
+pub use laws::{entry_laws, filling_laws, flight_laws, group_laws, stripe_laws};
