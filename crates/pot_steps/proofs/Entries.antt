@@ -46,7 +46,7 @@ gone t h h' s c n lt loses = worse_from t.data_columns t.parity (stripe_of t h n
 
 -- BROKE
 
-broken : (x : SlotState) → IsTrue (is_live x) ⊎ IsTrue (is_lost x) → (d : Digest) × (broken_of x ≡ Broken d)
+pub broken : (x : SlotState) → IsTrue (is_live x) ⊎ IsTrue (is_lost x) → (d : Digest) × (broken_of x ≡ Broken d)
 broken Void (inl e) = absurd (cc)
 broken Void (inr e) = absurd (cc)
 broken (Live d) h = (d, refl)

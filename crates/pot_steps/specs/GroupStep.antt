@@ -1,15 +1,18 @@
 -- The steps of a group, as relations over plain data: a put, a look, a count and the opening. They are said of archives
 -- that tell what they hold.
-use Rattle.std.specs.Prelude.{nat_eq, ◌≡◌, ◌≢◌, ◌⊎◌, ◌≤◌, ◌<◌, ℕ, ◌+◌, List, [], ◌∷◌, ◌++◌, Option, Some, None, IfSome, Bool, true, false, All, length, if◌then◌else◌}
+use Rattle.std.specs.Prelude.{nat_eq, ◌≡◌, ◌≢◌, ◌⊎◌, ◌↔◌, ◌≤◌, ◌<◌, ℕ, zero, suc, ◌+◌, List, [], ◌∷◌, ◌++◌, Option, Some, None, IfSome, Bool, true, false, IsTrue, All, length, if◌then◌else◌}
 use Rattle.pot_bytes.specs.Sums.{xor}
 use Rattle.pot_bytes.specs.Weighted.{scaled}
 use Rattle.pot_gf.specs.Field.{power}
+use Rattle.pot_machine.specs.declared.slot.SlotState.TheVariants.{Void}
 use Rattle.pot_machine.specs.declared.entry.Entry.{Entry}
 use Rattle.pot_machine.specs.declared.entry.Entry.TheVariants as entry
-use Rattle.pot_machine.specs.Table.{Table, width, serving_at}
+use Rattle.pot_machine.specs.Slot.{is_live}
+use Rattle.pot_machine.specs.Table.{Table, width, slot_at, serving_at}
 use Rattle.pot_machine.specs.Machine.{Legal, after, Replays}
 use Rattle.pot_machine.specs.Rules.{IsTable}
-use Rattle.pot_steps.specs.Stripe.{Sound, IsSound, digest_of}
+use Rattle.pot_steps.specs.Stripe.{Stripe, Sound, IsSound, NoneBroken, HasFilling, digest_of}
+use Rattle.pot_steps.specs.Law.{FindsUnsound, FewUnsound}
 use Rattle.pot_steps.specs.Flight.{Flight}
 use Rattle.pot_steps.specs.Holdings.{Holdings, HoldsUp, stripe_of}
 use Rattle.pot_steps.specs.Entries.{Writes, held_at}
@@ -194,6 +197,55 @@ PutStep job block (NotPut column) old new = PutUnkept job column block old new �
 PutStep job block Full old new = PutFull job old new
 PutStep job block NoRoom old new = PutLogFull job old new
 
+-- THE OPENING
+
+-- a stripe as the opening read it: `read` has the block of each place that it gave, and nothing where it gave none
+abbrev pub as_read : Table → (ℕ → ℕ → Option (List ℕ)) → ℕ → Stripe
+as_read t read s = record { slots = λ c. slot_at t s c; held = λ c. read s c }
+
+-- the entries of those of the first `n` columns that pass the test, by column
+unfoldable pub entries_where : ℕ → (ℕ → Bool) → (ℕ → Entry) → List Entry
+entries_where zero test make = []
+entries_where (suc n) test make = entries_where n test make ++ (if test n then make n ∷ [] else [])
+
+-- for each of the first `n` stripes the Gones, and then the Brokes, of the opening
+unfoldable pub opening : ℕ → ℕ → (ℕ → ℕ → Bool) → (ℕ → ℕ → Bool) → List Entry
+opening wide zero gone broke = []
+opening wide (suc n) gone broke = opening wide n gone broke ++ (entries_where wide (gone n) (entry.Gone 0 n) ++ entries_where wide (broke n) (entry.Broke 0 n))
+
+-- the test is true exactly at the Live slots that are not sound
+pub record FindsGone (wide : ℕ) (s : Stripe) (test : ℕ → Bool) : Type 0 where
+  pub found : (c : ℕ) → c < wide → test c ≡ true → IsTrue (is_live (s.slots c)) × (Sound s c → ⊥)
+  pub left : (c : ℕ) → c < wide → test c ≡ false → IsTrue (is_live (s.slots c)) → Sound s c
+
+-- A stripe without a Broken slot that has no filling, and in which few slots are unsound. Each of these breaks, or each
+-- parity slot where there is none.
+pub record Breaks (data_columns parity : ℕ) (s : Stripe) (test : ℕ → Bool) : Type 0 where
+  pub none_broken : NoneBroken data_columns parity s
+  pub no_filling : HasFilling data_columns parity s → ⊥
+  pub few : FewUnsound data_columns parity s
+  pub which : (FindsUnsound data_columns parity s test × (c : ℕ) × (c < data_columns + parity) × (test c ≡ true))
+      ⊎ (((c : ℕ) → c < data_columns + parity → (s.slots c ≡ Void) ⊎ Sound s c) × ((c : ℕ) → c < data_columns + parity → IsTrue (test c) ↔ (data_columns ≤ c)))
+
+-- any other stripe, in which nothing breaks
+pub record Spared (data_columns parity : ℕ) (s : Stripe) (test : ℕ → Bool) : Type 0 where
+  pub none : (c : ℕ) → c < data_columns + parity → test c ≡ false
+  pub why : HasFilling data_columns parity s ⊎ (NoneBroken data_columns parity s → FewUnsound data_columns parity s → ⊥)
+
+-- The opening of a table without relays. What it read was held, and the entries follow from what it read.
+pub record StartStep (old new : GroupState) : Type 0 where
+  pub no_relays : old.table.relays ≡ []
+  pub read : ℕ → ℕ → Option (List ℕ)
+  pub gone : ℕ → ℕ → Bool
+  pub broke : ℕ → ℕ → Bool
+  pub reads : (s c : ℕ) (b : List ℕ) → s < old.table.stripes → c < width old.table → read s c ≡ Some b → held_at old.table old.held s c ≡ Some b
+  pub finds : (s : ℕ) → s < old.table.stripes → FindsGone (width old.table) (as_read old.table read s) (gone s)
+  pub breaks : (s : ℕ) → s < old.table.stripes
+      → Breaks old.table.data_columns old.table.parity (as_read old.table read s) (broke s) ⊎ Spared old.table.data_columns old.table.parity (as_read old.table read s) (broke s)
+  pub logs : Logs (opening (width old.table) old.table.stripes gone broke) old new
+  pub replay : Replays old.table (opening (width old.table) old.table.stripes gone broke) new.table
+  pub loses : Loses old.held new.held
+
 -- WHAT THE STEPS KEEP
 
 -- the table keeps its rules, and the law of every stripe holds
@@ -209,3 +261,7 @@ LookStepKeeps = (job s c : ℕ) (answer : Looked) (old new : GroupState) → Loo
 
 abbrev pub CountStepKeeps : Type 0
 CountStepKeeps = (job : ℕ) (old new : GroupState) → CountStep job old new → Settled old → Settled new
+
+-- the opening makes the law of every stripe hold, whatever the table said
+abbrev pub StartMakes : Type 0
+StartMakes = (old new : GroupState) → StartStep old new → IsTable old.table → Settled new

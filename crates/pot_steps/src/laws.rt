@@ -1,5 +1,5 @@
 //! What is proved of the steps of a stripe.
-ghost use Rattle.pot_steps.specs.GroupStep.{PutStepKeeps, LookStepKeeps, CountStepKeeps};
+ghost use Rattle.pot_steps.specs.GroupStep.{StartMakes, PutStepKeeps, LookStepKeeps, CountStepKeeps};
 ghost use Rattle.pot_steps.specs.Entries.{EntryKeeps, LossesKeep};
 ghost use Rattle.pot_steps.specs.Laws.{PutKeeps, LossKeeps, LossKeepsFlight, BeginKeeps, HopKeeps, MendedKeeps, RelayRebuilds, SingleParity, FillingComputed, ComputedFilling, SumGrows, SumBegins, HeardIsBlinded};
 
@@ -28,8 +28,9 @@ pub fn entry_laws()
     ensures losses { LossesKeep }
 {}
 
-/// A put, a look and a count keep the rules of the table and the law of every stripe.
+/// The opening makes the rules of the table and the law of every stripe hold, and a put, a look and a count keep them.
 pub fn group_laws()
+    ensures start { StartMakes }
     ensures put { PutStepKeeps }
     ensures look { LookStepKeeps }
     ensures count { CountStepKeeps }
