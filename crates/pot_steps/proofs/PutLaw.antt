@@ -18,7 +18,7 @@ use Rattle.pot_steps.proofs.BlockLemmas.{same_blocks}
 use Rattle.pot_steps.proofs.Weights.{p_weight-low}
 use Rattle.pot_steps.proofs.Put.{new, put_keeps}
 
-count-zero : (n : ℕ) (f : ℕ → Bool) → ((c : ℕ) → c < n → f c ≡ false) → count n f ≡ 0
+pub count-zero : (n : ℕ) (f : ℕ → Bool) → ((c : ℕ) → c < n → f c ≡ false) → count n f ≡ 0
 unfolding count
 count-zero zero f h = refl
 count-zero (suc n) f h = ap₂ (λ a b. a + (if b then 1 else 0)) (count-zero n f (λ c l. h c (omega arith))) (h n (omega arith))

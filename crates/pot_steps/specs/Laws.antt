@@ -4,9 +4,9 @@ use Rattle.pot_bytes.specs.Product.{byte_product}
 use Rattle.pot_bytes.specs.Sums.{xor, zero_block}
 use Rattle.pot_bytes.specs.Weighted.{scaled}
 use Rattle.pot_machine.specs.declared.relay.Relay.{Relay}
-use Rattle.pot_steps.specs.Equations.{IsBlock}
-use Rattle.pot_steps.specs.Stripe.{Stripe, IsSound, Filling, HasFilling, NoneBroken, Puts}
-use Rattle.pot_steps.specs.Law.{StripeLaw, Worse, Repairs, AllLive, SingleLaw, lost_count}
+use Rattle.pot_steps.specs.Equations.{IsBlock, sum_at, p_weight, q_weight}
+use Rattle.pot_steps.specs.Stripe.{Stripe, IsSound, Filling, HasFilling, NoneBroken, Whole, Puts}
+use Rattle.pot_steps.specs.Law.{StripeLaw, Worse, Repairs, AllLive, SingleLaw, IsRead, Rebuildable, lost_count}
 use Rattle.pot_steps.specs.Flight.{IsRelay, IsNext, HasNoNext, hopped, weight_in, FlightLaw}
 use Rattle.pot_steps.specs.Decides.{Computed, AreRead, Serves}
 
@@ -60,6 +60,20 @@ RelayRebuilds =
     (data_columns parity : ℕ) → Fits data_columns parity → (s : Stripe) (r : Relay) (partial : List ℕ) → IsRelay data_columns parity r → HasNoNext data_columns parity s r
     → FlightLaw data_columns parity s r partial → NoneBroken data_columns parity s
     → (blocks : ℕ → List ℕ) × Filling data_columns parity s blocks × (partial ≡ blocks r.target)
+
+-- in a whole stripe both sums of the held blocks are zero. A Void slot counts as zeros
+abbrev pub WholeSums : Type 0
+WholeSums =
+    (data_columns parity : ℕ) (s : Stripe) (relay : Option Relay) → StripeLaw data_columns parity s relay → Whole data_columns parity s
+    → (blocks : ℕ → List ℕ) → ((c : ℕ) → c < data_columns + parity → IsRead s c (blocks c))
+    → ((k : ℕ) → sum_at (data_columns + parity) (p_weight data_columns) blocks k ≡ 0)
+    × (parity ≡ 2 → (k : ℕ) → sum_at (data_columns + parity) (q_weight data_columns) blocks k ≡ 0)
+
+-- the stripe of a place that can be rebuilt has a filling
+abbrev pub RebuildableFilled : Type 0
+RebuildableFilled =
+    (data_columns parity : ℕ) (s : Stripe) (relay : Option Relay) (c : ℕ) → StripeLaw data_columns parity s relay
+    → Rebuildable data_columns parity s c → HasFilling data_columns parity s
 
 -- with one parity column, a stripe that has a filling keeps the law that speaks of no filling
 abbrev pub SingleParity : Type 0

@@ -1,13 +1,16 @@
 //! What is proved of the steps of a stripe.
 ghost use Rattle.pot_steps.specs.GroupStep.{StartMakes, PutStepKeeps, LookStepKeeps, CountStepKeeps};
 ghost use Rattle.pot_steps.specs.Entries.{EntryKeeps, LossesKeep};
-ghost use Rattle.pot_steps.specs.Laws.{PutKeeps, LossKeeps, LossKeepsFlight, BeginKeeps, HopKeeps, MendedKeeps, RelayRebuilds, SingleParity, FillingComputed, ComputedFilling, SumGrows, SumBegins, HeardIsBlinded};
+ghost use Rattle.pot_steps.specs.Laws.{PutKeeps, LossKeeps, LossKeepsFlight, BeginKeeps, HopKeeps, MendedKeeps, RelayRebuilds, SingleParity, WholeSums, RebuildableFilled, FillingComputed, ComputedFilling, SumGrows, SumBegins, HeardIsBlinded};
 
-/// What keeps the law of a stripe, and what it says of one parity column.
+/// What keeps the law of a stripe, and what it says of a whole stripe, of a place that can be rebuilt and of one parity
+/// column.
 pub fn stripe_laws()
     ensures put { PutKeeps }
     ensures loss { LossKeeps }
     ensures mended { MendedKeeps }
+    ensures whole { WholeSums }
+    ensures rebuildable { RebuildableFilled }
     ensures single { SingleParity }
 {}
 
