@@ -94,7 +94,7 @@ is_void_at (Broken d) e = absurd (cc)
 
 module _ (t : Table) (h h' : Holdings) (s c : ℕ) (digest parity_digest : Digest) (block p q : List ℕ) (kept kept2 : Bool) (table : IsTable t) (takes : TakesPut t s c)
     (is_block : digest ≡ digest_of block) (is_parity : parity_digest ≡ digest_of (xor p block)) (w : Writes t h h' s c block p q kept kept2) where
-  column : c < t.data_columns
+  pub column : c < t.data_columns
   column = let e : c ≡ t.cursor.column = takes.1 in let b : t.cursor.column < t.data_columns = table.cursor.column in omega arith
 
   in_stripe : s < t.stripes

@@ -1,5 +1,5 @@
 -- The opening makes the law of every stripe hold.
-use Rattle.std.proofs.Common.{◌≡◌, ◌≢◌, ◌⊎◌, inl, inr, ℕ, zero, suc, ◌+◌, ◌<◌, ◌≤◌, List, [], ◌∷◌, ◌++◌, Option, Some, None, Bool, true, false, IsTrue, refl, sym, ap, ap₂, ◌∙◌, subst, arith, if◌then◌else◌}
+use Rattle.std.proofs.Common.{◌≡◌, ◌≢◌, ◌⊎◌, inl, inr, ℕ, zero, suc, ◌<◌, ◌≤◌, List, [], ◌∷◌, ◌++◌, Bool, true, false, IsTrue, refl, sym, ap, ◌∙◌, subst, arith, if◌then◌else◌}
 use Rattle.pot_bytes.specs.declared.digest.Digest.{Digest}
 use Rattle.pot_machine.specs.declared.slot.SlotState.{SlotState}
 use Rattle.pot_machine.specs.declared.slot.SlotState.TheVariants.{Void, Live, Lost, Broken}
@@ -7,15 +7,14 @@ use Rattle.pot_machine.specs.declared.entry.Entry.{Entry}
 use Rattle.pot_machine.specs.declared.entry.Entry.TheVariants.{Gone, Broke}
 use Rattle.pot_machine.specs.Slot.{digest_in, is_live, is_lost, lost_of, broken_of}
 use Rattle.pot_machine.specs.Table.{Table, width, slot_at, serving_at, relay_at, relay_in, count}
-use Rattle.pot_machine.specs.Machine.{Legal, after, Replays, TakesBroke, with_slot}
+use Rattle.pot_machine.specs.Machine.{Legal, after, Replays, with_slot}
 use Rattle.pot_machine.specs.Rules.{IsTable}
 use Rattle.pot_machine.proofs.Places.{slot_same, slot_other}
-use Rattle.pot_machine.proofs.LeftAlone.{rules_stay}
 use Rattle.pot_machine.proofs.Kept.{after_keeps}
-use Rattle.pot_steps.specs.Stripe.{Stripe, Sound, IsSound, Filling, HasFilling, NoneBroken}
-use Rattle.pot_steps.specs.Law.{StripeLaw, FindsUnsound, FewUnsound, lost_count}
-use Rattle.pot_steps.specs.Holdings.{Holdings, HoldsUp, stripe_of}
-use Rattle.pot_steps.specs.GroupStep.{GroupState, StartStep, StartMakes, Settled, Breaks, Spared, FindsGone, as_read, entries_where, opening}
+use Rattle.pot_steps.specs.Stripe.{Sound, IsSound, HasFilling}
+use Rattle.pot_steps.specs.Law.{StripeLaw, FindsUnsound}
+use Rattle.pot_steps.specs.Holdings.{HoldsUp, stripe_of}
+use Rattle.pot_steps.specs.GroupStep.{GroupState, StartStep, StartMakes, as_read, entries_where, opening}
 use Rattle.pot_steps.proofs.Steps.{filling_stays, some_same}
 use Rattle.pot_steps.proofs.Entries.{broken}
 
@@ -124,15 +123,15 @@ module _ (n : ℕ) (test : ℕ → Bool) (make : ℕ → Entry) (change : SlotSt
 -- THE WHOLE OPENING
 
 -- a slot after its entries
-abbrev opened : Bool → Bool → SlotState → SlotState
+abbrev pub opened : Bool → Bool → SlotState → SlotState
 opened gone broke x = if broke then broken_of (if gone then lost_of x else x) else (if gone then lost_of x else x)
 
-record Opened (t u : Table) (m : ℕ) (gone broke : ℕ → ℕ → Bool) : Type 0 where
-  shape : u ≡ record t { slots = u.slots }
-  table : IsTable u
-  below : (s k : ℕ) → s < m → k < width t → slot_at u s k ≡ opened (gone s k) (broke s k) (slot_at t s k)
-  above : (s k : ℕ) → m ≤ s → k < width t → slot_at u s k ≡ slot_at t s k
-  took : (s k : ℕ) → s < m → k < width t → broke s k ≡ true → (d : Digest) × (slot_at u s k ≡ Broken d)
+pub record Opened (t u : Table) (m : ℕ) (gone broke : ℕ → ℕ → Bool) : Type 0 where
+  pub shape : u ≡ record t { slots = u.slots }
+  pub table : IsTable u
+  pub below : (s k : ℕ) → s < m → k < width t → slot_at u s k ≡ opened (gone s k) (broke s k) (slot_at t s k)
+  pub above : (s k : ℕ) → m ≤ s → k < width t → slot_at u s k ≡ slot_at t s k
+  pub took : (s k : ℕ) → s < m → k < width t → broke s k ≡ true → (d : Digest) × (slot_at u s k ≡ Broken d)
 
 abbrev Takes : SlotState → Type 0
 Takes x = IsTrue (is_live x) ⊎ IsTrue (is_lost x)
@@ -244,7 +243,7 @@ digest-opened false true (Broken d) = refl
 digest-opened false false x = refl
 
 -- Live is only what was Live and is not gone
-live-opened : (g b : Bool) (x : SlotState) (d : Digest) → opened g b x ≡ Live d → (g ≡ false) × (x ≡ Live d)
+pub live-opened : (g b : Bool) (x : SlotState) (d : Digest) → opened g b x ≡ Live d → (g ≡ false) × (x ≡ Live d)
 live-opened true true Void d e = absurd (cc)
 live-opened true true (Live _) d e = absurd (cc)
 live-opened true true (Lost _) d e = absurd (cc)
@@ -289,11 +288,11 @@ to_lost g false (Broken d) f void broken live = absurd (broken d refl)
 -- ONE STRIPE
 
 module _ (old new : GroupState) (st : StartStep old new) (table : IsTable old.table) where
-  result : Opened old.table new.table old.table.stripes st.gone st.broke
+  pub result : Opened old.table new.table old.table.stripes st.gone st.broke
   result = whole (width old.table) old.table.stripes old.table new.table st.gone st.broke refl table (omega arith) st.replay
 
   module _ (s : ℕ) (ls : s < old.table.stripes) where
-    slots : (k : ℕ) → k < width old.table → slot_at (record old.table { slots = new.table.slots }) s k ≡ opened (st.gone s k) (st.broke s k) (slot_at old.table s k)
+    pub slots : (k : ℕ) → k < width old.table → slot_at (record old.table { slots = new.table.slots }) s k ≡ opened (st.gone s k) (st.broke s k) (slot_at old.table s k)
     slots k lk = subst (λ v. slot_at v s k ≡ opened (st.gone s k) (st.broke s k) (slot_at old.table s k)) result.shape (result.below s k ls lk)
 
     fills : HasFilling old.table.data_columns old.table.parity (as_read old.table st.read s)

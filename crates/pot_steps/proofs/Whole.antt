@@ -1,16 +1,14 @@
 -- What the law of a stripe says of a stripe that is whole, and of a place that can be rebuilt.
-use Rattle.std.proofs.Common.{◌≡◌, ◌≢◌, ◌⊎◌, inl, inr, ℕ, ◌+◌, ◌<◌, ◌≤◌, List, Option, Some, None, true, false, IsTrue, get_or, refl, sym, ap, ◌∙◌, arith}
+use Rattle.std.proofs.Common.{◌≡◌, ◌≢◌, ◌⊎◌, inl, inr, ℕ, ◌+◌, ◌<◌, List, Option, true, false, get_or, sym, ap, ◌∙◌, arith}
 use native.Mathlib.Nat.{le_trans}
-use Rattle.pot_bytes.specs.declared.digest.Digest.{Digest}
 use Rattle.pot_bytes.specs.Product.{byte_product}
 use Rattle.pot_bytes.proofs.TotalLemmas.{total_same}
-use Rattle.pot_machine.specs.declared.slot.SlotState.{SlotState}
-use Rattle.pot_machine.specs.declared.slot.SlotState.TheVariants.{Void, Live, Lost, Broken}
+use Rattle.pot_machine.specs.declared.slot.SlotState.TheVariants.{Void}
 use Rattle.pot_machine.specs.declared.relay.Relay.{Relay}
 use Rattle.pot_machine.specs.Slot.{is_lost}
 use Rattle.pot_steps.specs.Equations.{p_weight, q_weight}
-use Rattle.pot_steps.specs.Stripe.{Stripe, Sound, IsSound, Filling, HasFilling, Whole}
-use Rattle.pot_steps.specs.Law.{StripeLaw, IsRead, Rebuildable, FindsUnsound, lost_count}
+use Rattle.pot_steps.specs.Stripe.{Stripe, Sound, Filling, HasFilling, Whole}
+use Rattle.pot_steps.specs.Law.{StripeLaw, IsRead}
 use Rattle.pot_steps.specs.Laws.{WholeSums, RebuildableFilled}
 use Rattle.pot_steps.proofs.PutLaw.{count-zero}
 use Rattle.pot_steps.proofs.Steps.{count-le}

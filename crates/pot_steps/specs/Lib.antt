@@ -6,4 +6,5 @@ pub mod Decides
 pub mod Holdings
 pub mod Entries
 pub mod GroupStep
+pub mod Losses
 pub mod Laws

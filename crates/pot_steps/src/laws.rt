@@ -1,4 +1,5 @@
 //! What is proved of the steps of a stripe.
+ghost use Rattle.pot_steps.specs.Losses.{StartMakesLive, EntryKeepsLive, LossesKeepLive};
 ghost use Rattle.pot_steps.specs.GroupStep.{StartMakes, PutStepKeeps, LookStepKeeps, CountStepKeeps};
 ghost use Rattle.pot_steps.specs.Entries.{EntryKeeps, LossesKeep};
 ghost use Rattle.pot_steps.specs.Laws.{PutKeeps, LossKeeps, LossKeepsFlight, BeginKeeps, HopKeeps, MendedKeeps, RelayRebuilds, SingleParity, WholeSums, RebuildableFilled, FillingComputed, ComputedFilling, SumGrows, SumBegins, HeardIsBlinded};
@@ -37,6 +38,13 @@ pub fn group_laws()
     ensures put { PutStepKeeps }
     ensures look { LookStepKeeps }
     ensures count { CountStepKeeps }
+{}
+
+/// What keeps the law of the Live slots.
+pub fn live_laws()
+    ensures start { StartMakesLive }
+    ensures entry { EntryKeepsLive }
+    ensures losses { LossesKeepLive }
 {}
 
 /// What decides whether a stripe has a filling.

@@ -17,15 +17,18 @@
 //! 2. Hence in a whole stripe the sums are zero (`WholeSums`), a place that can be rebuilt stands in a stripe that has a
 //!    filling (`RebuildableFilled`), and with one parity column the XOR of all blocks but one has that one's digest
 //!    (`SingleParity`).
-//! 3. The partial of a flight is the XOR of weight times block over the columns that it went over, where no slot is Broken
+//! 3. A Live slot is sound, or the count of losses of the archive that serves it rose since the group took it (`LiveLaw`).
+//!    The opening makes it hold (`StartMakesLive`), and each entry of a put, a look, an opening or a count (`EntryKeepsLive`)
+//!    and any loss (`LossesKeepLive`) keep it.
+//! 4. The partial of a flight is the XOR of weight times block over the columns that it went over, where no slot is Broken
 //!    with the blocks of one filling (`FlightLaw`). It begins so (`BeginKeeps`, `SumBegins`), and a hop and a loss keep it
 //!    (`HopKeeps`, `SumGrows`, `LossKeepsFlight`).
-//! 4. Hence a relay that went over all its columns has the target's block (`RelayRebuilds`).
-//! 5. What an archive hears at a hop is the blind XOR the partial (`HeardIsBlinded`).
-//! 6. A stripe of which all but two columns were read, or all but one with one parity column, has a filling exactly where
+//! 5. Hence a relay that went over all its columns has the target's block (`RelayRebuilds`).
+//! 6. What an archive hears at a hop is the blind XOR the partial (`HeardIsBlinded`).
+//! 7. A stripe of which all but two columns were read, or all but one with one parity column, has a filling exactly where
 //!    the computed blocks may stand for those (`FillingComputed`, `ComputedFilling`).
 #![tactic(auto)]
 
 mod laws;
 
-pub use laws::{entry_laws, filling_laws, flight_laws, group_laws, stripe_laws};
+pub use laws::{entry_laws, filling_laws, flight_laws, group_laws, live_laws, stripe_laws};
