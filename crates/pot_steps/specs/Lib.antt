@@ -7,4 +7,5 @@ pub mod Holdings
 pub mod Entries
 pub mod GroupStep
 pub mod Losses
+pub mod Standing
 pub mod Laws

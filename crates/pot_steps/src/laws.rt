@@ -1,4 +1,5 @@
 //! What is proved of the steps of a stripe.
+ghost use Rattle.pot_steps.specs.Standing.{NextIsNext, NoneIsNoNext, StandingIsRelay, BeginHasFew};
 ghost use Rattle.pot_steps.specs.Losses.{StartMakesLive, EntryKeepsLive, LossesKeepLive};
 ghost use Rattle.pot_steps.specs.GroupStep.{StartMakes, PutStepKeeps, LookStepKeeps, CountStepKeeps};
 ghost use Rattle.pot_steps.specs.Entries.{EntryKeeps, LossesKeep};
@@ -45,6 +46,14 @@ pub fn live_laws()
     ensures start { StartMakesLive }
     ensures entry { EntryKeepsLive }
     ensures losses { LossesKeepLive }
+{}
+
+/// The relays of a table as relays of its stripes.
+pub fn relay_laws()
+    ensures next { NextIsNext }
+    ensures none { NoneIsNoNext }
+    ensures standing { StandingIsRelay }
+    ensures few { BeginHasFew }
 {}
 
 /// What decides whether a stripe has a filling.

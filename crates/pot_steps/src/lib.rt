@@ -23,7 +23,8 @@
 //! 4. The partial of a flight is the XOR of weight times block over the columns that it went over, where no slot is Broken
 //!    with the blocks of one filling (`FlightLaw`). It begins so (`BeginKeeps`, `SumBegins`), and a hop and a loss keep it
 //!    (`HopKeeps`, `SumGrows`, `LossKeepsFlight`).
-//! 5. Hence a relay that went over all its columns has the target's block (`RelayRebuilds`).
+//! 5. Hence a relay that went over all its columns has the target's block (`RelayRebuilds`). The relays of a table are such
+//!    relays, with the same next columns (`StandingIsRelay`, `NextIsNext`, `NoneIsNoNext`, `BeginHasFew`).
 //! 6. What an archive hears at a hop is the blind XOR the partial (`HeardIsBlinded`).
 //! 7. A stripe of which all but two columns were read, or all but one with one parity column, has a filling exactly where
 //!    the computed blocks may stand for those (`FillingComputed`, `ComputedFilling`).
@@ -31,4 +32,6 @@
 
 mod laws;
 
-pub use laws::{entry_laws, filling_laws, flight_laws, group_laws, live_laws, stripe_laws};
+pub use laws::{
+    entry_laws, filling_laws, flight_laws, group_laws, live_laws, relay_laws, stripe_laws,
+};
