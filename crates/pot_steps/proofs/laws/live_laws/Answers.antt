@@ -1,0 +1,5 @@
+use Rattle.pot_steps.proofs.Losses.{start_makes_live, entry_keeps_live, losses_keep_live}
+use Rattle.pot_steps.proofs.laws.live_laws.Goals as goal
+
+pub returns : goal.returns
+returns c = record { start = start_makes_live; entry = entry_keeps_live; losses = losses_keep_live }

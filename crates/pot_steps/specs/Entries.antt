@@ -1,0 +1,59 @@
+-- What an entry of a put, a look, an opening or a count says of the archives' contents.
+use Rattle.std.specs.Prelude.{◌≡◌, ◌≢◌, ◌⊎◌, ℕ, ◌+◌, ◌<◌, List, Option, Some, Bool, true}
+use Rattle.pot_bytes.specs.Sums.{xor}
+use Rattle.pot_bytes.specs.Weighted.{scaled}
+use Rattle.pot_gf.specs.Field.{power}
+use Rattle.pot_machine.specs.declared.slot.SlotState.TheVariants.{Void}
+use Rattle.pot_machine.specs.declared.entry.Entry.{Entry}
+use Rattle.pot_machine.specs.declared.entry.Entry.TheVariants.{Put, Skip, Seen, Gone, Broke, Fault, Counted, Put2}
+use Rattle.pot_machine.specs.Table.{Table, width, slot_at, serving_at}
+use Rattle.pot_machine.specs.Machine.{Legal, after}
+use Rattle.pot_machine.specs.Rules.{IsTable}
+use Rattle.pot_steps.specs.Equations.{IsBlock}
+use Rattle.pot_steps.specs.Stripe.{IsOld, digest_of}
+use Rattle.pot_steps.specs.Holdings.{Holdings, HoldsUp, stripe_of}
+
+-- the block held at a place
+abbrev pub held_at : Table → Holdings → ℕ → ℕ → Option (List ℕ)
+held_at t h s c = h (serving_at t s c) s
+
+-- What is held at a place that is not Void was held there before. At a Void place anything may have come, as where a write
+-- failed.
+abbrev pub OnlyLoses : Table → Holdings → Holdings → Type 0
+OnlyLoses t h h' =
+    (s c : ℕ) (b : List ℕ) → s < t.stripes → c < width t → slot_at t s c ≢ Void
+    → held_at t h' s c ≡ Some b → held_at t h s c ≡ Some b
+
+-- A put writes the block at the data place, and the new blocks of P and Q where these are kept. A parity place whose write
+-- failed may hold anything.
+pub record Writes (t : Table) (h h' : Holdings) (s c : ℕ) (block p q : List ℕ) (kept kept2 : Bool) : Type 0 where
+  pub is_block : IsBlock block
+  pub old_p : IsOld (stripe_of t h s) t.data_columns p
+  pub old_q : t.parity ≡ 2 → IsOld (stripe_of t h s) (t.data_columns + 1) q
+  pub data_block : held_at t h' s c ≡ Some block
+  pub new_p : kept ≡ true → held_at t h' s t.data_columns ≡ Some (xor p block)
+  pub new_q : t.parity ≡ 2 → kept2 ≡ true → held_at t h' s (t.data_columns + 1) ≡ Some (xor q (scaled (power 3 c) block))
+  pub others : (n k : ℕ) → n < t.stripes → k < width t → (n ≢ s) ⊎ ((k < t.data_columns) × (k ≢ c)) → held_at t h' n k ≡ held_at t h n k
+
+-- The contents before and after an entry. The digests of a Put are those of the blocks that it writes.
+abbrev pub Enters : Table → Entry → Holdings → Holdings → Type 0
+Enters t (Put job s c digest parity_digest kept) h h' =
+    (block : List ℕ) × (p : List ℕ) × (digest ≡ digest_of block) × (parity_digest ≡ digest_of (xor p block)) × Writes t h h' s c block p p kept kept
+Enters t (Put2 job s c digest parity_digest second_digest kept kept2) h h' =
+    (block : List ℕ) × (p : List ℕ) × (q : List ℕ) × (digest ≡ digest_of block) × (parity_digest ≡ digest_of (xor p block))
+    × (second_digest ≡ digest_of (xor q (scaled (power 3 c) block))) × Writes t h h' s c block p q kept kept2
+Enters t (Skip job s) h h' = OnlyLoses t h h'
+Enters t (Seen job s c) h h' = OnlyLoses t h h'
+Enters t (Gone job s c) h h' = OnlyLoses t h h'
+Enters t (Broke job s c) h h' = OnlyLoses t h h'
+Enters t (Fault job s c) h h' = OnlyLoses t h h'
+Enters t (Counted job) h h' = OnlyLoses t h h'
+Enters t _ h h' = ⊥
+
+-- an entry of a put, a look, an opening or a count keeps the law of every stripe
+abbrev pub EntryKeeps : Type 0
+EntryKeeps = (t : Table) (e : Entry) (h h' : Holdings) → IsTable t → Legal t e → Enters t e h h' → HoldsUp t h → HoldsUp (after t e) h'
+
+-- and so does any loss
+abbrev pub LossesKeep : Type 0
+LossesKeep = (t : Table) (h h' : Holdings) → OnlyLoses t h h' → HoldsUp t h → HoldsUp t h'

@@ -1,0 +1,11 @@
+pub mod Equations
+pub mod Stripe
+pub mod Law
+pub mod Flight
+pub mod Decides
+pub mod Holdings
+pub mod Entries
+pub mod GroupStep
+pub mod Losses
+pub mod Standing
+pub mod Laws

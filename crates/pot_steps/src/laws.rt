@@ -1,0 +1,63 @@
+//! What is proved of the steps of a stripe.
+ghost use Rattle.pot_steps.specs.Standing.{NextIsNext, NoneIsNoNext, StandingIsRelay, BeginHasFew};
+ghost use Rattle.pot_steps.specs.Losses.{StartMakesLive, EntryKeepsLive, LossesKeepLive};
+ghost use Rattle.pot_steps.specs.GroupStep.{StartMakes, PutStepKeeps, LookStepKeeps, CountStepKeeps};
+ghost use Rattle.pot_steps.specs.Entries.{EntryKeeps, LossesKeep};
+ghost use Rattle.pot_steps.specs.Laws.{PutKeeps, LossKeeps, LossKeepsFlight, BeginKeeps, HopKeeps, MendedKeeps, RelayRebuilds, SingleParity, WholeSums, RebuildableFilled, FillingComputed, ComputedFilling, SumGrows, SumBegins, HeardIsBlinded};
+
+/// What keeps the law of a stripe, and what it says of a whole stripe, of a place that can be rebuilt and of one parity
+/// column.
+pub fn stripe_laws()
+    ensures put { PutKeeps }
+    ensures loss { LossKeeps }
+    ensures mended { MendedKeeps }
+    ensures whole { WholeSums }
+    ensures rebuildable { RebuildableFilled }
+    ensures single { SingleParity }
+{}
+
+/// What keeps the law of a flight, and what a relay has at its end.
+pub fn flight_laws()
+    ensures begins { BeginKeeps }
+    ensures hop { HopKeeps }
+    ensures loss { LossKeepsFlight }
+    ensures rebuilds { RelayRebuilds }
+    ensures sum_begins { SumBegins }
+    ensures sum_grows { SumGrows }
+    ensures heard { HeardIsBlinded }
+{}
+
+/// What keeps the law of every stripe of a group.
+pub fn entry_laws()
+    ensures entry { EntryKeeps }
+    ensures losses { LossesKeep }
+{}
+
+/// The opening makes the rules of the table and the law of every stripe hold, and a put, a look and a count keep them.
+pub fn group_laws()
+    ensures start { StartMakes }
+    ensures put { PutStepKeeps }
+    ensures look { LookStepKeeps }
+    ensures count { CountStepKeeps }
+{}
+
+/// What keeps the law of the Live slots.
+pub fn live_laws()
+    ensures start { StartMakesLive }
+    ensures entry { EntryKeepsLive }
+    ensures losses { LossesKeepLive }
+{}
+
+/// The relays of a table as relays of its stripes.
+pub fn relay_laws()
+    ensures next { NextIsNext }
+    ensures none { NoneIsNoNext }
+    ensures standing { StandingIsRelay }
+    ensures few { BeginHasFew }
+{}
+
+/// What decides whether a stripe has a filling.
+pub fn filling_laws()
+    ensures computed { FillingComputed }
+    ensures made { ComputedFilling }
+{}
