@@ -18,7 +18,7 @@ use Rattle.pot_machine.proofs.Kept.{after_keeps}
 use Rattle.pot_steps.specs.Stripe.{digest_of}
 use Rattle.pot_steps.specs.Holdings.{Holdings, HoldsUp}
 use Rattle.pot_steps.specs.Entries.{OnlyLoses, Writes, Enters}
-use Rattle.pot_steps.specs.GroupStep.{GroupState, Loses, Passed, PassesTo, PutsBlock, PutFailed, PutStepKeeps, LookStepKeeps, CountStepKeeps, Settled, Placed, NotPut, Full, NoRoom, Seen, Gone, Faulted, LogFull, skips, gone_entries, put_entry}
+use Rattle.pot_steps.specs.GroupStep.{GroupState, Loses, Passed, PassesTo, PutsBlock, PutFailed, PutStepKeeps, LookStepKeeps, FullStepKeeps, CountStepKeeps, Settled, Placed, NotPut, Full, NoRoom, Seen, Gone, Faulted, LogFull, skips, gone_entries, put_entry}
 use Rattle.pot_steps.proofs.Entries.{entry_keeps, losses_keep, is_void_at}
 
 -- a table and what is held
@@ -120,6 +120,10 @@ look_keeps job s c Faulted old new step x =
     (stands_entry old.table (entry.Fault job s c) old.held old.held step.replay.0 (loses_only old.table old.held old.held (same old.held)) (x.table, x.holds))))
 look_keeps job s c LogFull old new step x =
     settled new (stands_loses new.table old.held new.held step.loses (stands_at old.table new.table old.held step.replay (x.table, x.holds)))
+
+pub full_keeps : FullStepKeeps
+full_keeps old new step x =
+    settled new (stands_loses new.table old.held new.held (λ number slot b e. sym (step.held number slot) ∙ e) (stands_at old.table new.table old.held step.table (x.table, x.holds)))
 
 pub count_keeps : CountStepKeeps
 count_keeps job old new step x =

@@ -38,7 +38,7 @@ weight data_columns t u c =
 abbrev pub weight_in : ℕ → Relay → ℕ → ℕ
 weight_in data_columns r c = weight data_columns r.target (left_out data_columns r.target r.skip) c
 
--- the relay goes over this column, sooner or later
+-- the relay goes over this column on its way
 unfoldable pub visits : ℕ → (ℕ → SlotState) → Relay → ℕ → Bool
 visits data_columns slots r c = not (nat_eq c r.target) && (not (nat_eq c (left_out data_columns r.target r.skip)) && not (is_void (slots c)))
 

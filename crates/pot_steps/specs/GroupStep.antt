@@ -26,19 +26,27 @@ pub record GroupState : Type 0 where
   pub heard : ℕ → List (ℕ × List ℕ)
   pub flights : List Flight
 
+-- at most so many entries has a log
+abbrev pub log_bound : ℕ
+log_bound = 262144
+
 -- blocks were lost, and nothing else
 abbrev pub Loses : Holdings → Holdings → Type 0
 Loses h h' = (number slot : ℕ) (b : List ℕ) → h' number slot ≡ Some b → h number slot ≡ Some b
 
--- the log grows by these entries, and flights and heard sums stay
+-- the log grows by these entries, for which it has room, and flights and heard sums stay
 pub record Logs (entries : List Entry) (old new : GroupState) : Type 0 where
   pub log : new.log ≡ old.log ++ entries
+  pub room : length new.log ≤ log_bound
   pub flights : new.flights ≡ old.flights
   pub heard : (number : ℕ) → new.heard number ≡ old.heard number
 
--- at most so many entries has a log
-abbrev pub log_bound : ℕ
-log_bound = 262144
+-- the answer LogFull, before all others: the log has no room, and nothing changes
+pub record FullStep (old new : GroupState) : Type 0 where
+  pub full : length old.log ≡ log_bound
+  pub logs : Logs [] old new
+  pub table : new.table ≡ old.table
+  pub held : (number slot : ℕ) → new.held number slot ≡ old.held number slot
 
 -- A LOOK
 
@@ -97,9 +105,15 @@ put_entry parity job s c block p q kept kept2 =
     if nat_eq parity 1 then entry.Put job s c (digest_of block) (digest_of (xor p block)) kept
     else entry.Put2 job s c (digest_of block) (digest_of (xor p block)) (digest_of (xor q (scaled (power 3 c) block))) kept kept2
 
+-- A parity slot that failed its check: no block of its digest is held in a Live slot there now. Where it is Q, P passed.
+pub record IsMissing (old : GroupState) (now : Holdings) (s c : ℕ) : Type 0 where
+  pub parity : old.table.data_columns ≤ c
+  pub missing : Sound (stripe_of old.table now s) c → ⊥
+  pub least : c ≡ old.table.data_columns + 1 → Sound (stripe_of old.table old.held s) old.table.data_columns
+
 -- The stripes that a put passes: the table is `at` then, and `now` is what the archives hold then.
 pub record PassesTo (job : ℕ) (passed : List Passed) (old : GroupState) (at : Table) (now : Holdings) : Type 0 where
-  pub parity : All (λ x. IfSome x.gone (λ c. old.table.data_columns ≤ c)) passed
+  pub missing : All (λ x. IfSome x.gone (λ c. IsMissing old now x.stripe c)) passed
   pub replay : Replays old.table (skips job passed) at
   pub loses : Loses old.held now
 
@@ -179,7 +193,7 @@ pub record PutLogFull (job : ℕ) (old new : GroupState) : Type 0 where
   pub passed : List Passed
   pub at : Table
   pub gone : Option ℕ
-  pub parity : IfSome gone (λ c. old.table.data_columns ≤ c)
+  pub missing : IfSome gone (λ c. IsMissing old new.held at.cursor.stripe c)
   pub passes : PassesTo job passed old at new.held
   pub replay : Replays at (gone_entries job at.cursor.stripe gone) new.table
   pub logs : Logs (skips job passed ++ gone_entries job at.cursor.stripe gone) old new
@@ -232,12 +246,17 @@ pub record Spared (data_columns parity : ℕ) (s : Stripe) (test : ℕ → Bool)
   pub none : (c : ℕ) → c < data_columns + parity → test c ≡ false
   pub why : HasFilling data_columns parity s ⊎ (NoneBroken data_columns parity s → FewUnsound data_columns parity s → ⊥)
 
--- The opening of a table without relays. What it read was held, and the entries follow from what it read.
+-- The opening of a table without relays, with which a log begins. What it read was held, and the entries follow from what
+-- it read. A block of a Gone slot is not held in the end, unless its read failed.
 pub record StartStep (old new : GroupState) : Type 0 where
   pub no_relays : old.table.relays ≡ []
+  pub no_flights : old.flights ≡ []
+  pub no_log : old.log ≡ []
   pub read : ℕ → ℕ → Option (List ℕ)
   pub gone : ℕ → ℕ → Bool
   pub broke : ℕ → ℕ → Bool
+  pub failed : ℕ → ℕ → Bool
+  pub missing : (s c : ℕ) → s < old.table.stripes → c < width old.table → gone s c ≡ true → failed s c ≡ false → Sound (stripe_of old.table new.held s) c → ⊥
   pub reads : (s c : ℕ) (b : List ℕ) → s < old.table.stripes → c < width old.table → read s c ≡ Some b → held_at old.table old.held s c ≡ Some b
   pub finds : (s : ℕ) → s < old.table.stripes → FindsGone (width old.table) (as_read old.table read s) (gone s)
   pub breaks : (s : ℕ) → s < old.table.stripes
@@ -258,6 +277,9 @@ PutStepKeeps = (job : ℕ) (block : List ℕ) (answer : PutAnswer) (old new : Gr
 
 abbrev pub LookStepKeeps : Type 0
 LookStepKeeps = (job s c : ℕ) (answer : Looked) (old new : GroupState) → LookStep job s c answer old new → Settled old → Settled new
+
+abbrev pub FullStepKeeps : Type 0
+FullStepKeeps = (old new : GroupState) → FullStep old new → Settled old → Settled new
 
 abbrev pub CountStepKeeps : Type 0
 CountStepKeeps = (job : ℕ) (old new : GroupState) → CountStep job old new → Settled old → Settled new

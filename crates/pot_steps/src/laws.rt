@@ -1,7 +1,7 @@
 //! What is proved of the steps of a stripe.
 ghost use Rattle.pot_steps.specs.Standing.{NextIsNext, NoneIsNoNext, StandingIsRelay, BeginHasFew};
 ghost use Rattle.pot_steps.specs.Losses.{StartMakesLive, EntryKeepsLive, LossesKeepLive};
-ghost use Rattle.pot_steps.specs.GroupStep.{StartMakes, PutStepKeeps, LookStepKeeps, CountStepKeeps};
+ghost use Rattle.pot_steps.specs.GroupStep.{StartMakes, PutStepKeeps, LookStepKeeps, CountStepKeeps, FullStepKeeps};
 ghost use Rattle.pot_steps.specs.Entries.{EntryKeeps, LossesKeep};
 ghost use Rattle.pot_steps.specs.Laws.{PutKeeps, LossKeeps, LossKeepsFlight, BeginKeeps, HopKeeps, MendedKeeps, RelayRebuilds, SingleParity, WholeSums, RebuildableFilled, FillingComputed, ComputedFilling, SumGrows, SumBegins, HeardIsBlinded};
 
@@ -39,6 +39,7 @@ pub fn group_laws()
     ensures put { PutStepKeeps }
     ensures look { LookStepKeeps }
     ensures count { CountStepKeeps }
+    ensures full { FullStepKeeps }
 {}
 
 /// What keeps the law of the Live slots.
