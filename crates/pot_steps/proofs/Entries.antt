@@ -19,8 +19,8 @@ use Rattle.pot_machine.proofs.Kept.{put_other, put_data, put_parity, put2_other,
 use Rattle.pot_steps.specs.Stripe.{Stripe, IsOld, IsNew, Puts, digest_of}
 use Rattle.pot_steps.specs.Law.{StripeLaw, Worse, AllLive}
 use Rattle.pot_steps.specs.Holdings.{Holdings, HoldsUp, stripe_of}
-use Rattle.pot_steps.specs.Entries.{held_at, OnlyLoses, Writes, EntryKeeps, LossesKeep}
-use Rattle.pot_steps.proofs.Steps.{worse_keeps}
+use Rattle.pot_steps.specs.Entries.{held_at, OnlyLoses, Writes, EntryKeeps, EntryKeepsFlight, LossesKeep}
+use Rattle.pot_steps.proofs.Steps.{worse_keeps, worse_keeps_flight}
 use Rattle.pot_steps.proofs.PutLaw.{put_keeps_law}
 use Rattle.pot_steps.proofs.Changes.{worse_from}
 
@@ -201,3 +201,54 @@ entry_keeps t (Broke job s c) h h' table legal e up n ln = broke t h h' s c n ta
 entry_keeps t (Fault job s c) h h' table legal e up n ln = losses_keep t h h' e up n ln
 entry_keeps t (Counted job) h h' table legal e up n ln = losses_keep t h h' e up n ln
 entry_keeps t _ h h' table legal e up n ln = absurd e
+
+-- FLIGHTS
+
+none_some : {r : Relay} → None ≡ Some r → ⊥
+none_some e = cc
+
+broke_at : (job s n c : ℕ) → job ≡ 0 → n ≡ s → Broke job s c ≡ Broke 0 n c
+broke_at job s n c e q = cc
+
+pub entry_keeps_flight : EntryKeepsFlight
+entry_keeps_flight t (Put job s c digest parity_digest kept) h h' n r partial table legal e ln here other law =
+    let ne : n ≢ s = (λ q. none_some (sym legal.1.2.0 ∙ ap (λ m. relay_at t m) (sym q) ∙ here)) in
+    let below : c < t.data_columns = column t h h' s c digest parity_digest e.0 e.1 e.1 kept kept table legal.1 e.2 e.3 e.4 in (
+      here,
+      worse_keeps_flight t.data_columns t.parity (stripe_of t h n) (stripe_of (with_put t s c digest parity_digest kept) h' n) r partial
+          (beside t h h' s c digest parity_digest e.0 e.1 e.1 kept kept table legal.1 e.2 e.3 e.4 (with_put t s c digest parity_digest kept) n ln ne
+          (λ k lk. put_other t s c digest parity_digest kept legal.1.0.1 below table.size n k lk (λ g. ne g.0) (λ g. ne g.0)) (λ k. refl))
+          law,
+    )
+entry_keeps_flight t (Put2 job s c digest parity_digest second_digest kept kept2) h h' n r partial table legal e ln here other law =
+    let ne : n ≢ s = (λ q. none_some (sym legal.1.2.0 ∙ ap (λ m. relay_at t m) (sym q) ∙ here)) in
+    let below : c < t.data_columns = column t h h' s c digest parity_digest e.0 e.1 e.2 kept kept2 table legal.1 e.3 e.4 e.6 in (
+      here,
+      worse_keeps_flight t.data_columns t.parity (stripe_of t h n)
+          (stripe_of (with_slot (with_put t s c digest parity_digest kept) s (t.data_columns + 1) (parity_slot second_digest kept2)) h' n) r partial
+          (beside t h h' s c digest parity_digest e.0 e.1 e.2 kept kept2 table legal.1 e.3 e.4 e.6
+          (with_slot (with_put t s c digest parity_digest kept) s (t.data_columns + 1) (parity_slot second_digest kept2)) n ln ne
+          (λ k lk. put2_other t s c digest parity_digest second_digest kept kept2 legal.1.0.1 below table.size legal.0 n k lk (λ g. ne g.0)
+          ∙ put_other t s c digest parity_digest kept legal.1.0.1 below table.size n k lk (λ g. ne g.0) (λ g. ne g.0)) (λ k. refl))
+          law,
+    )
+entry_keeps_flight t (Skip job s) h h' n r partial table legal e ln here other law =
+    (here, worse_keeps_flight t.data_columns t.parity (stripe_of t h n) (stripe_of t h' n) r partial (stays t h h' n ln e) law)
+entry_keeps_flight t (Seen job s c) h h' n r partial table legal e ln here other law =
+    (here, worse_keeps_flight t.data_columns t.parity (stripe_of t h n) (stripe_of t h' n) r partial (stays t h h' n ln e) law)
+entry_keeps_flight t (Gone job s c) h h' n r partial table legal e ln here other law =
+    (here, worse_keeps_flight t.data_columns t.parity (stripe_of t h n) (stripe_of (with_loss t s c) h' n) r partial (gone t h h' s c n ln e) law)
+entry_keeps_flight t (Broke job s c) h h' n r partial table legal e ln here other law =
+    let ne : n ≢ s = (λ q. other c (broke_at job s n c legal.0 q)) in (
+      here,
+      worse_keeps_flight t.data_columns t.parity (stripe_of t h n) (stripe_of (with_slot t s c (broken_of (slot_at t s c))) h' n) r partial
+          (worse_from t.data_columns t.parity (stripe_of t h n) (stripe_of (with_slot t s c (broken_of (slot_at t s c))) h' n)
+          (λ k lk. inl (slot_other t s c n k (broken_of (slot_at t s c)) legal.1.1 lk (λ g. ne g.0)))
+          (λ k b lk void held. e n k b ln lk void held))
+          law,
+    )
+entry_keeps_flight t (Fault job s c) h h' n r partial table legal e ln here other law =
+    (here, worse_keeps_flight t.data_columns t.parity (stripe_of t h n) (stripe_of t h' n) r partial (stays t h h' n ln e) law)
+entry_keeps_flight t (Counted job) h h' n r partial table legal e ln here other law =
+    (here, worse_keeps_flight t.data_columns t.parity (stripe_of t h n) (stripe_of t h' n) r partial (stays t h h' n ln e) law)
+entry_keeps_flight t _ h h' n r partial table legal e ln here other law = absurd e

@@ -4,13 +4,15 @@ use Rattle.pot_bytes.specs.Sums.{xor}
 use Rattle.pot_bytes.specs.Weighted.{scaled}
 use Rattle.pot_gf.specs.Field.{power}
 use Rattle.pot_machine.specs.declared.slot.SlotState.TheVariants.{Void}
+use Rattle.pot_machine.specs.declared.relay.Relay.{Relay}
 use Rattle.pot_machine.specs.declared.entry.Entry.{Entry}
 use Rattle.pot_machine.specs.declared.entry.Entry.TheVariants.{Put, Skip, Seen, Gone, Broke, Fault, Counted, Put2}
-use Rattle.pot_machine.specs.Table.{Table, width, slot_at, serving_at}
+use Rattle.pot_machine.specs.Table.{Table, width, slot_at, serving_at, relay_at}
 use Rattle.pot_machine.specs.Machine.{Legal, after}
 use Rattle.pot_machine.specs.Rules.{IsTable}
 use Rattle.pot_steps.specs.Equations.{IsBlock}
 use Rattle.pot_steps.specs.Stripe.{IsOld, digest_of}
+use Rattle.pot_steps.specs.Flight.{FlightLaw}
 use Rattle.pot_steps.specs.Holdings.{Holdings, HoldsUp, stripe_of}
 
 -- the block held at a place
@@ -57,3 +59,10 @@ EntryKeeps = (t : Table) (e : Entry) (h h' : Holdings) → IsTable t → Legal t
 -- and so does any loss
 abbrev pub LossesKeep : Type 0
 LossesKeep = (t : Table) (h h' : Holdings) → OnlyLoses t h h' → HoldsUp t h → HoldsUp t h'
+
+-- it keeps the flight of a relay that stands, but for a Broke in its stripe, which the opening alone logs, before any relay
+abbrev pub EntryKeepsFlight : Type 0
+EntryKeepsFlight =
+    (t : Table) (e : Entry) (h h' : Holdings) (n : ℕ) (r : Relay) (partial : List ℕ) → IsTable t → Legal t e → Enters t e h h' → n < t.stripes
+    → relay_at t n ≡ Some r → ((c : ℕ) → e ≢ Broke 0 n c) → FlightLaw t.data_columns t.parity (stripe_of t h n) r partial
+    → (relay_at (after t e) n ≡ Some r) × FlightLaw t.data_columns t.parity (stripe_of (after t e) h' n) r partial

@@ -2,7 +2,7 @@
 ghost use Rattle.pot_steps.specs.Standing.{NextIsNext, NoneIsNoNext, StandingIsRelay, BeginHasFew};
 ghost use Rattle.pot_steps.specs.Losses.{StartMakesLive, EntryKeepsLive, LossesKeepLive};
 ghost use Rattle.pot_steps.specs.GroupStep.{StartMakes, PutStepKeeps, LookStepKeeps, CountStepKeeps, FullStepKeeps};
-ghost use Rattle.pot_steps.specs.Entries.{EntryKeeps, LossesKeep};
+ghost use Rattle.pot_steps.specs.Entries.{EntryKeeps, EntryKeepsFlight, LossesKeep};
 ghost use Rattle.pot_steps.specs.Laws.{PutKeeps, LossKeeps, LossKeepsFlight, BeginKeeps, HopKeeps, MendedKeeps, RelayRebuilds, SingleParity, WholeSums, RebuildableFilled, FillingComputed, ComputedFilling, SumGrows, SumBegins, HeardIsBlinded};
 
 /// What keeps the law of a stripe, and what it says of a whole stripe, of a place that can be rebuilt and of one parity
@@ -27,10 +27,11 @@ pub fn flight_laws()
     ensures heard { HeardIsBlinded }
 {}
 
-/// What keeps the law of every stripe of a group.
+/// What keeps the law of every stripe of a group, and of each flight.
 pub fn entry_laws()
     ensures entry { EntryKeeps }
     ensures losses { LossesKeep }
+    ensures flight { EntryKeepsFlight }
 {}
 
 /// The opening makes the rules of the table and the law of every stripe hold, and a put, a look and a count keep them.

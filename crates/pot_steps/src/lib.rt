@@ -22,7 +22,7 @@
 //!    and any loss (`LossesKeepLive`) keep it.
 //! 4. The partial of a flight is the XOR of weight times block over the columns that it went over, where no slot is Broken
 //!    with the blocks of one filling (`FlightLaw`). It begins so (`BeginKeeps`, `SumBegins`), and a hop and a loss keep it
-//!    (`HopKeeps`, `SumGrows`, `LossKeepsFlight`).
+//!    (`HopKeeps`, `SumGrows`, `LossKeepsFlight`), as does each entry of a put, a look or a count (`EntryKeepsFlight`).
 //! 5. Hence a relay that went over all its columns has the target's block (`RelayRebuilds`). The relays of a table are such
 //!    relays, with the same next columns (`StandingIsRelay`, `NextIsNext`, `NoneIsNoNext`, `BeginHasFew`).
 //! 6. What an archive hears at a hop is the blind XOR the partial (`HeardIsBlinded`).
