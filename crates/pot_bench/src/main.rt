@@ -6,6 +6,7 @@
 #![tactic(auto)]
 
 mod kernels;
+mod pieces;
 mod report;
 mod rows;
 
@@ -38,5 +39,9 @@ fn main(rt: HostRuntime) -> io::Result<()> {
     rows.fill(rounds);
     report.line(&rt, "fill", 1, rows.out())?;
     rows.fill_bytes(rounds);
-    report.line(&rt, "the kit's fill_bytes", 1, rows.out())
+    report.line(&rt, "the kit's fill_bytes", 1, rows.out())?;
+    let blocks = pieces::two_of_three(rt.alloc(), rounds)?;
+    report.line(&rt, "piece_blocks 2, 2 of 3", 1, &blocks)?;
+    let blocks = pieces::three_of_five(rt.alloc(), rounds)?;
+    report.line(&rt, "piece_blocks 3, 3 of 5", 1, &blocks)
 }

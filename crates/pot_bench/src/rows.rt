@@ -15,7 +15,7 @@ use std::alloc::{AllocError, Global};
 pub const ROW: usize = 65_536;
 
 /// The seed of all that is computed.
-const SEED: [u8; 32] = [7; 32];
+pub const SEED: [u8; 32] = [7; 32];
 
 /// As many zeros.
 fn zeros(alloc: Global, count: usize) -> Result<Vec<u8>, AllocError>
