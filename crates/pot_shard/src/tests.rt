@@ -27,26 +27,39 @@ fn reads_what_it_writes(rt: HostRuntime) {
     bytes[..33].copy_from_slice(&start);
     let read = decode_shard(&Block::from_bytes(bytes));
     assert!(rt; read.is_some_and(|shard| shard == some_shard()));
-    let outside: [(u8, u8); 11] = [
-        (0, 0x51),
-        (4, 0),
-        (4, 4),
-        (5, 0),
-        (5, 4),
-        (6, 17),
-        (7, 64),
-        (7, 19),
-        (23, 1),
-        (24, 1),
-        (31, 1),
-    ];
-    for (place, byte) in outside {
-        let mut changed = bytes;
-        changed[usize::from(place)] = byte;
-        assert!(rt;
-            decode_shard(&Block::from_bytes(changed)).is_none(),
-            "{byte} at {place}"
-        );
+}
+
+/// The least and the greatest byte that may stand at a place of the block of
+/// `some_shard` while the others stay.
+fn allowed(place: usize) -> (u8, u8) {
+    match place {
+        0 => (0x50, 0x50),
+        1 => (0x53, 0x53),
+        2 => (0x48, 0x48),
+        3 => (0x31, 0x31),
+        4 | 5 => (1, 3),
+        6 => (2, 16),
+        7 => (0, 18),
+        22..=31 => (0, 0),
+        _ => (0, 255),
+    }
+}
+
+#[test]
+fn refuses_each_byte_outside(rt: HostRuntime) {
+    let mut block = Block::zero();
+    encode_shard(&some_shard(), &mut block);
+    for place in 0..1024 {
+        let (least, greatest) = allowed(place);
+        for byte in 0..=255 {
+            let mut changed = *block.bytes();
+            changed[place] = byte;
+            assert_eq!(rt;
+                decode_shard(&Block::from_bytes(changed)).is_some(),
+                least <= byte && byte <= greatest,
+                "{byte} at {place}"
+            );
+        }
     }
 }
 
