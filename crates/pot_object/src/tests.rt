@@ -3,7 +3,9 @@ ghost use Rattle.pot_object.specs.Pieces.{longest, pieces_of};
 ghost use Rattle.pot_object.specs.Assembly.{objects_of};
 
 use crate::*;
+use pot_bytes::digest_of_two;
 use std::alloc::{AllocError, Global};
+use std::test::Fail;
 
 // The first 64 bytes of an object and of a content, computed apart from this crate by Python's hashlib.
 const FILE_ID: [u8; 16] = [
@@ -26,6 +28,18 @@ const CONTENT_START: [u8; 64] = [
     0x03, 0x05, 0x00, 0x00, 0x00, 0x00, 0x00, 0x00, 0x00, 0x00, 0x00, 0x00, 0x00, 0x00, 0x00, 0x00,
     0x9d, 0x85, 0x9c, 0x48, 0x64, 0xe3, 0xa2, 0x03, 0xbd, 0x4f, 0xbe, 0x49, 0x68, 0xfa, 0x3e, 0x4d,
     0x57, 0x13, 0x36, 0x15, 0x47, 0xa0, 0xe3, 0x76, 0x00, 0xdb, 0xdf, 0x38, 0x56, 0x70, 0x31, 0xa0,
+];
+
+/// The SHA-256 of `hello`.
+const OF_HELLO: [u8; 32] = [
+    0x2c, 0xf2, 0x4d, 0xba, 0x5f, 0xb0, 0xa3, 0x0e, 0x26, 0xe8, 0x3b, 0x2a, 0xc5, 0xb9, 0xe2, 0x9e,
+    0x1b, 0x16, 0x1e, 0x5c, 0x1f, 0xa7, 0x42, 0x5e, 0x73, 0x04, 0x33, 0x62, 0x93, 0x8b, 0x98, 0x24,
+];
+
+/// The SHA-256 of no bytes.
+const OF_NOTHING: [u8; 32] = [
+    0xe3, 0xb0, 0xc4, 0x42, 0x98, 0xfc, 0x1c, 0x14, 0x9a, 0xfb, 0xf4, 0xc8, 0x99, 0x6f, 0xb9, 0x24,
+    0x27, 0xae, 0x41, 0xe4, 0x64, 0x9b, 0x93, 0x4c, 0xa4, 0x95, 0x99, 0x1b, 0x78, 0x52, 0xb8, 0x55,
 ];
 
 /// Writes 0, 1, .. and begins again at `period`.
@@ -97,6 +111,13 @@ fn cuts_files(rt: HostRuntime) {
 }
 
 #[test]
+fn digests_two_parts(rt: HostRuntime) {
+    assert_eq!(rt; digest_of_two(b"hel", b"lo").bytes, OF_HELLO);
+    assert_eq!(rt; digest_of_two(b"", b"hello").bytes, OF_HELLO);
+    assert_eq!(rt; digest_of_two(b"", b"").bytes, OF_NOTHING);
+}
+
+#[test]
 fn writes_what_another_program_writes(rt: HostRuntime) {
     let mut file = [0; 1000];
     count_up(&mut file, 251);
@@ -114,35 +135,127 @@ fn writes_what_another_program_writes(rt: HostRuntime) {
     assert!(rt; content.ends_with(&part));
 }
 
-#[test]
-fn refuses_each_changed_byte(rt: HostRuntime) {
-    let mut object = [0; 928];
-    write_object(&FILE_ID, b"seven words", 0, &mut object);
-    let head = ObjectHead {
-        file_id: FILE_ID,
-        piece: 0,
-        pieces: 1,
-        length: 11,
+/// The head of an object of the second piece of 1,000 bytes 7 that has this byte at this place
+/// and its own digest. None where the byte may not stand there.
+fn object_head(place: usize, byte: u8) -> Option<ObjectHead> {
+    let (least, greatest) = match place {
+        // The file id.
+        0..=15 => (0, 255),
+        // The piece, one of two.
+        16..=18 => (0, 0),
+        19 => (0, 1),
+        // The pieces, which the length gives.
+        20..=22 => (0, 0),
+        23 => (2, 2),
+        // The length, 3 * 256 + 232: 865 to 1,728 in two pieces, and no 7 past the end.
+        24..=29 => (0, 0),
+        30 => (3, 5),
+        31 => (232, 255),
+        // The part, and zeros past the end of the file.
+        64..=199 => (0, 255),
+        _ => (0, 0),
     };
-    assert_eq!(rt; read_object(&object), Some(head));
-    for place in 0..928 {
-        let mut changed = object;
-        changed[place] ^= 1;
-        assert!(rt; read_object(&changed).is_none(), "at {place}");
+    if byte < least || byte > greatest {
+        return None;
     }
-
-    let mut content = [0; 992];
-    write_content(&OBJECT_ID, 2, 2, &object, &mut content);
-    let head = FragmentHead {
-        object_id: OBJECT_ID,
-        number: 2,
-        count: 2,
+    let mut head = ObjectHead {
+        file_id: FILE_ID,
+        piece: 1,
+        pieces: 2,
+        length: 1_000,
     };
-    assert_eq!(rt; read_content(&content), Some(head));
+    match place {
+        0..=15 => head.file_id[place] = byte,
+        19 => head.piece = u32::from(byte),
+        30 => head.length = u64::from(byte) * 256 + 232,
+        31 => head.length = 768 + u64::from(byte),
+        _ => {}
+    }
+    Some(head)
+}
+
+/// The head of a content of the first of five fragments that has this byte at this place and its
+/// own digest. None where the byte may not stand there.
+fn fragment_head(place: usize, byte: u8) -> Option<FragmentHead> {
+    let (least, greatest) = match place {
+        // The object id.
+        0..=15 => (0, 255),
+        // The fragment's number and the number of fragments.
+        16 => (1, 5),
+        17 => (2, 8),
+        // The fragment, and zeros before it.
+        64..=991 => (0, 255),
+        _ => (0, 0),
+    };
+    if byte < least || byte > greatest {
+        return None;
+    }
+    let mut head = FragmentHead {
+        object_id: OBJECT_ID,
+        number: 1,
+        count: 5,
+    };
+    match place {
+        0..=15 => head.object_id[place] = byte,
+        16 => head.number = byte,
+        17 => head.count = byte,
+        _ => {}
+    }
+    Some(head)
+}
+
+/// Writes the digest of bytes 0..32 and 64.. into bytes 32..64.
+fn digest_anew(bytes: &mut [u8])
+    requires { 64 ≤ length bytes.old }
+{
+    let whole = &bytes[..];
+    let digest = digest_of_two(&whole[..32], &whole[64..]);
+    bytes[32..64].copy_from_slice(&digest.bytes);
+}
+
+#[test]
+fn reads_an_object_with_each_byte_changed(rt: HostRuntime) {
+    let mut object = [0; 928];
+    write_object(&FILE_ID, &[7; 1000], 1, &mut object);
+    for place in 0..928 {
+        for byte in 0..=255 {
+            let mut changed = object;
+            changed[place] = byte;
+            let is_same = byte == object[place];
+            assert_eq!(rt;
+                read_object(&changed).is_some(),
+                is_same,
+                "{byte} at {place}"
+            );
+            if place < 32 || place >= 64 {
+                digest_anew(&mut changed);
+                let head = object_head(place, byte);
+                assert_eq!(rt; read_object(&changed), head, "{byte} at {place}, sealed");
+            }
+        }
+    }
+}
+
+#[test]
+fn reads_a_content_with_each_byte_changed(rt: HostRuntime) {
+    let mut content = [0; 992];
+    write_content(&OBJECT_ID, 1, 5, &[7; 928], &mut content);
     for place in 0..992 {
-        let mut changed = content;
-        changed[place] ^= 1;
-        assert!(rt; read_content(&changed).is_none(), "at {place}");
+        for byte in 0..=255 {
+            let mut changed = content;
+            changed[place] = byte;
+            let is_same = byte == content[place];
+            assert_eq!(rt;
+                read_content(&changed).is_some(),
+                is_same,
+                "{byte} at {place}"
+            );
+            if place < 32 || place >= 64 {
+                digest_anew(&mut changed);
+                let head = fragment_head(place, byte);
+                assert_eq!(rt; read_content(&changed), head, "{byte} at {place}, sealed");
+            }
+        }
     }
 }
 
@@ -162,4 +275,13 @@ fn assembles_what_was_cut(rt: HostRuntime) {
         let fault = assembled_alone(rt.alloc(), &bytes, piece);
         assert!(rt; fault.is_err_and(|e| e == missing), "at {piece}");
     }
+}
+
+#[test]
+fn assembles_the_longest_file(rt: HostRuntime) -> Result<(), Fail> {
+    let mut file = vec![in rt.alloc(); 0; 884_736]?;
+    count_up(&mut file, 251);
+    let again = cut_and_assembled(rt.alloc(), &file).map_err(|_| "no memory")?;
+    assert!(rt; again == file);
+    Ok(())
 }

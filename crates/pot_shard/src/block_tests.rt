@@ -70,8 +70,18 @@ fn counts_random_bytes(rt: HostRuntime) {
     assert_eq!(rt; random_len(1, &usual), 2_992);
     assert_eq!(rt; random_len(2, &usual), 5_968);
     assert_eq!(rt; random_len(116, &usual), 345_232);
-    assert_eq!(rt; random_len(1, &split(2, 1, 1, 0)), 976);
-    assert_eq!(rt; random_len(1, &split(8, 16, 16, 63)), 126_592);
+    let corners = [
+        (split(2, 1, 1, 0), 976, 1_936),
+        (split(2, 1, 16, 0), 1_216, 2_416),
+        (split(2, 16, 16, 0), 30_976, 61_936),
+        (split(8, 1, 1, 63), 6_592, 13_168),
+        (split(8, 1, 16, 63), 7_552, 15_088),
+        (split(8, 16, 16, 63), 126_592, 253_168),
+    ];
+    for (corner, one, two) in corners {
+        assert_eq!(rt; random_len(1, &corner), one, "one piece, {corner:?}");
+        assert_eq!(rt; random_len(2, &corner), two, "two pieces, {corner:?}");
+    }
     assert_eq!(rt; random_len(1_024, &split(8, 16, 16, 63)), 129_613_840);
 }
 

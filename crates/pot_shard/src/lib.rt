@@ -15,6 +15,8 @@
 #[cfg(test)]
 mod block_tests;
 mod blocks;
+#[cfg(test)]
+mod corner_tests;
 mod laws;
 mod random;
 mod ring;
