@@ -141,6 +141,22 @@ fn refuses_other_words(rt: HostRuntime) -> Result<(), Fail> {
     Ok(())
 }
 
+/// A trouble in which just this call of the archive fails.
+fn archive_fails(call: &[u32]) -> Trouble {
+    Trouble {
+        archive: call,
+        ..NO_TROUBLE
+    }
+}
+
+/// A trouble in which just this call of the source fails.
+fn source_fails(call: &[u32]) -> Trouble {
+    Trouble {
+        source: call,
+        ..NO_TROUBLE
+    }
+}
+
 /// Call 0 of the room lends the archive and call 1 takes it back. A file takes the archive two writes, and a
 /// fetch of it two reads.
 #[test]
@@ -150,58 +166,16 @@ fn tells_each_failure(rt: HostRuntime) -> Result<(), Fail> {
     let untold = b"fault 0 0\nabsent a\n";
     let unread = b"stored a 1 2\nfault 0 0\n";
     let table: [(Trouble, u8, &[u8]); 10] = [
-        (
-            Trouble {
-                source: &[0],
-                ..none
-            },
-            4,
-            b"",
-        ),
-        (
-            Trouble {
-                source: &[1],
-                ..none
-            },
-            4,
-            b"",
-        ),
+        (source_fails(&[0]), 4, b""),
+        (source_fails(&[1]), 4, b""),
         (Trouble { sink: &[0], ..none }, 5, b""),
         (Trouble { sink: &[1], ..none }, 5, b"stored a 1 2\n"),
         (Trouble { room: &[0], ..none }, 8, b""),
         (Trouble { room: &[1], ..none }, 8, whole),
-        (
-            Trouble {
-                archive: &[0],
-                ..none
-            },
-            1,
-            untold,
-        ),
-        (
-            Trouble {
-                archive: &[1],
-                ..none
-            },
-            1,
-            untold,
-        ),
-        (
-            Trouble {
-                archive: &[2],
-                ..none
-            },
-            1,
-            unread,
-        ),
-        (
-            Trouble {
-                archive: &[3],
-                ..none
-            },
-            1,
-            unread,
-        ),
+        (archive_fails(&[0]), 1, untold),
+        (archive_fails(&[1]), 1, untold),
+        (archive_fails(&[2]), 1, unread),
+        (archive_fails(&[3]), 1, unread),
     ];
     for (trouble, status, written) in &table {
         let outcome = session(rt.alloc(), &["run"], ONE_FILE, trouble)?;
