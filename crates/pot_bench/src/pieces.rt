@@ -1,6 +1,6 @@
 //! The blocks of one piece of a file, as often as there are rounds.
 
-ghost use Rattle.std.specs.Prelude.{◌≡◌, ◌*◌, length};
+ghost use Rattle.std.specs.Prelude.{◌≡◌, ◌*◌, length, IfOk};
 ghost use Rattle.pot_bytes.specs.Rack.{IsGeometry};
 ghost use Rattle.pot_shard.specs.FileBlocks.{piece_len};
 
@@ -15,7 +15,9 @@ use std::alloc::{AllocError, Global};
 const PIECES: u64 = 76;
 
 /// The bytes of the blocks of a piece of two fragments, of which two of three shards each give one.
-pub fn two_of_three(alloc: Global, rounds: u32) -> Result<Vec<u8>, AllocError> {
+pub fn two_of_three(alloc: Global, rounds: u32) -> Result<Vec<u8>, AllocError>
+    ensures { IfOk result (λ bytes. length bytes.items ≡ 6 * 1024) }
+{
     let mut pads = PadStream::new(&SEED, 0, 2);
     let mut piece = [0; 864];
     let mut random = [0; 2_976];
@@ -27,7 +29,9 @@ pub fn two_of_three(alloc: Global, rounds: u32) -> Result<Vec<u8>, AllocError> {
 }
 
 /// The bytes of the blocks of a piece of three fragments, of which three of five shards each give one.
-pub fn three_of_five(alloc: Global, rounds: u32) -> Result<Vec<u8>, AllocError> {
+pub fn three_of_five(alloc: Global, rounds: u32) -> Result<Vec<u8>, AllocError>
+    ensures { IfOk result (λ bytes. length bytes.items ≡ 15 * 1024) }
+{
     let mut pads = PadStream::new(&SEED, 0, 3);
     let mut piece = [0; 864];
     let mut random = [0; 7_944];
@@ -68,7 +72,9 @@ fn piece_rounds(
 }
 
 /// The bytes of blocks, one after another.
-fn bytes_of(alloc: Global, blocks: &[Block]) -> Result<Vec<u8>, AllocError> {
+fn bytes_of(alloc: Global, blocks: &[Block]) -> Result<Vec<u8>, AllocError>
+    ensures { IfOk result (λ bytes. length bytes.items ≡ 1024 * length blocks.now) }
+{
     let mut bytes = Vec::new(alloc);
     for block in blocks {
         bytes.extend_from_slice(block.bytes())?;

@@ -32,7 +32,9 @@ impl Report {
         name: &str,
         rows: u8,
         bytes: &[u8],
-    ) -> io::Result<()> {
+    ) -> io::Result<()>
+        ensures { self.new.rounds ≡ self.old.rounds }
+    {
         let seconds = self.start.elapsed(rt)?.as_secs_f64() / f64::from(rows);
         if self.measure == 0.0 {
             self.measure = seconds;

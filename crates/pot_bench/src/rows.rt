@@ -37,6 +37,8 @@ pub struct Rows {
 }
 
 impl Rows {
+    ghost use Rattle.pot_bench.specs.Rows.{KeepsRows};
+
     /// Random bytes for a content and for shares, and zeros for what is computed.
     pub fn new(alloc: Global) -> Result<Rows, AllocError> {
         let mut content = zeros(alloc, ROW)?;
@@ -54,11 +56,15 @@ impl Rows {
     }
 
     /// The last row that was computed.
-    pub fn out(&self) -> &[u8] {
+    pub fn out(&self) -> &[u8]
+        ensures { result.now ≡ self.now.out.items }
+    {
         &self.out
     }
 
-    pub fn xor_into(&mut self, rounds: u32) {
+    pub fn xor_into(&mut self, rounds: u32)
+        ensures { KeepsRows self.old self.new }
+    {
         xor_rounds(&mut self.out, &self.content, rounds);
     }
 
@@ -66,37 +72,51 @@ impl Rows {
         fold_blocks(&self.blocks, rounds)
     }
 
-    pub fn share_two_of_three(&mut self, rounds: u32) {
+    pub fn share_two_of_three(&mut self, rounds: u32)
+        ensures { KeepsRows self.old self.new }
+    {
         let coefficients = &self.shares[ROW..2 * ROW];
         share_two_rounds(&self.content, coefficients, &mut self.out, rounds);
     }
 
-    pub fn share_three_of_five(&mut self, rounds: u32) {
+    pub fn share_three_of_five(&mut self, rounds: u32)
+        ensures { KeepsRows self.old self.new }
+    {
         let coefficients = &self.shares[ROW..3 * ROW];
         share_three_rounds(&self.content, coefficients, &mut self.out, rounds);
     }
 
-    pub fn join_two_of_three(&mut self, rounds: u32) {
+    pub fn join_two_of_three(&mut self, rounds: u32)
+        ensures { KeepsRows self.old self.new }
+    {
         let shares = &self.shares[ROW..3 * ROW];
         join_rounds(&[2, 3], shares, &mut self.out, rounds);
     }
 
-    pub fn join_three_of_five(&mut self, rounds: u32) {
+    pub fn join_three_of_five(&mut self, rounds: u32)
+        ensures { KeepsRows self.old self.new }
+    {
         let shares = &self.shares[2 * ROW..];
         join_rounds(&[3, 4, 5], shares, &mut self.out, rounds);
     }
 
-    pub fn digest_of(&mut self, rounds: u32) {
+    pub fn digest_of(&mut self, rounds: u32)
+        ensures { KeepsRows self.old self.new }
+    {
         digest_rounds(&mut self.out, rounds);
     }
 
-    pub fn fill(&mut self, rounds: u32) {
+    pub fn fill(&mut self, rounds: u32)
+        ensures { KeepsRows self.old self.new }
+    {
         let mut pads = PadStream::new(&SEED, 0, 1);
         fill_rounds(&mut pads, &mut self.out, rounds);
     }
 
     /// What the kit's own generator gives for the same stream.
-    pub fn fill_bytes(&mut self, rounds: u32) {
+    pub fn fill_bytes(&mut self, rounds: u32)
+        ensures { KeepsRows self.old self.new }
+    {
         let mut generator = ChaCha20Rng::from_seed(SEED);
         generator.set_stream(1);
         generate_rounds(&mut generator, &mut self.out, rounds);
