@@ -48,27 +48,21 @@ broken_live (Broken _) d e = cc
 
 -- LOSSES
 
-rose_on : (a b c : ℕ) → a ≤ b → b < c → a < c
-rose_on a b c h k = omega arith
-
-rose_more : (a b c : ℕ) → a < b → b ≤ c → a < c
-rose_more a b c h k = omega arith
-
-pub losses_keep_live : LossesKeepLive
-losses_keep_live t h h' taken now now' first counts law s c ls lc l = elim (law s c ls lc l) [
+pub losses_keep_live : (rose rose' : ℕ → Type 0) → LossesKeepLive rose rose'
+losses_keep_live rose rose' t h h' more counts law s c ls lc l = elim (law s c ls lc l) [
   | inl x ↦ elim (counts.keeps s c x.0 ls lc (live_void (slot_at t s c) x.1.digest x.1.live) x.1.held) [
     | inl e ↦ inl (x.0, record { digest = x.1.digest; live = x.1.live; held = e; right = x.1.right })
-    | inr r ↦ inr (rose_on (taken (serving_at t s c)) (now (serving_at t s c)) (now' (serving_at t s c)) (first (serving_at t s c)) r)
+    | inr r ↦ inr r
   ]
-  | inr r ↦ inr (rose_more (taken (serving_at t s c)) (now (serving_at t s c)) (now' (serving_at t s c)) r (counts.rises (serving_at t s c)))
+  | inr r ↦ inr (more (serving_at t s c) r)
 ]
 
 -- ENTRIES THAT PUT NOTHING
 
 -- the Live slots of `u` were Live with the same digest, and the same archives serve them
-module _ (t u : Table) (h h' : Holdings) (taken now : ℕ → ℕ) (stripes : u.stripes ≡ t.stripes) (wide : width u ≡ width t)
+module _ (t u : Table) (h h' : Holdings) (rose : ℕ → Type 0) (stripes : u.stripes ≡ t.stripes) (wide : width u ≡ width t)
     (serves : (s c : ℕ) → serving_at u s c ≡ serving_at t s c) (were : (s c : ℕ) (d : Digest) → slot_at u s c ≡ Live d → slot_at t s c ≡ Live d) (kept : KeepsHeld t h h') where
-  live_stays : LiveLaw t h taken now → LiveLaw u h' taken now
+  live_stays : LiveLaw t h rose → LiveLaw u h' rose
   live_stays law s c ls lc l =
       let d : (d : Digest) × (slot_at u s c ≡ Live d) = live (slot_at u s c) l in
       let was : slot_at t s c ≡ Live d.0 = were s c d.0 d.1 in
@@ -84,7 +78,7 @@ module _ (t u : Table) (h h' : Holdings) (taken now : ℕ → ℕ) (stripes : u.
             right = x.1.right ∙ same x.1.digest d.0 (sym x.1.live ∙ was);
           },
         )
-        | inr r ↦ inr (subst (λ a. taken a < now a) (sym (serves s c)) r)
+        | inr r ↦ inr (subst rose (sym (serves s c)) r)
       ]
     where
       same : (a b : Digest) → Live a ≡ Live b → a ≡ b
@@ -105,14 +99,14 @@ kept_of d e false h = absurd (cc)
 live_same : (a b : Digest) → Live a ≡ Live b → a ≡ b
 live_same a b e = cc
 
-module _ (t : Table) (h h' : Holdings) (taken now : ℕ → ℕ) (s c : ℕ) (digest parity_digest : Digest) (block p q : List ℕ) (kept kept2 : Bool) (table : IsTable t) (takes : TakesPut t s c)
-    (is_block : digest ≡ digest_of block) (is_parity : parity_digest ≡ digest_of (xor p block)) (w : Writes t h h' s c block p q kept kept2) (law : LiveLaw t h taken now) where
+module _ (t : Table) (h h' : Holdings) (rose : ℕ → Type 0) (s c : ℕ) (digest parity_digest : Digest) (block p q : List ℕ) (kept kept2 : Bool) (table : IsTable t) (takes : TakesPut t s c)
+    (is_block : digest ≡ digest_of block) (is_parity : parity_digest ≡ digest_of (xor p block)) (w : Writes t h h' s c block p q kept kept2) (law : LiveLaw t h rose) where
   below : c < t.data_columns
   below = column t h h' s c digest parity_digest block p q kept kept2 table takes is_block is_parity w
 
   -- a slot that was not written
   left_alone : (u : Table) → ((n k : ℕ) → serving_at u n k ≡ serving_at t n k) → (n k : ℕ) → n < t.stripes → k < width t → slot_at u n k ≡ slot_at t n k → (n ≢ s) ⊎ ((k < t.data_columns) × (k ≢ c))
-      → IsTrue (is_live (slot_at u n k)) → Sound (stripe_of u h' n) k ⊎ (taken (serving_at u n k) < now (serving_at u n k))
+      → IsTrue (is_live (slot_at u n k)) → Sound (stripe_of u h' n) k ⊎ rose (serving_at u n k)
   left_alone u serves n k ln lk e apart l = elim (law n k ln lk (sym (ap is_live e) ∙ l)) [
     | inl x ↦ inl (
       x.0,
@@ -123,7 +117,7 @@ module _ (t : Table) (h h' : Holdings) (taken now : ℕ → ℕ) (s c : ℕ) (di
         right = x.1.right;
       },
     )
-    | inr r ↦ inr (subst (λ a. taken a < now a) (sym (serves n k)) r)
+    | inr r ↦ inr (subst rose (sym (serves n k)) r)
   ]
 
   -- a slot that was
@@ -141,27 +135,27 @@ module _ (t : Table) (h h' : Holdings) (taken now : ℕ → ℕ) (s c : ℕ) (di
   places : (u : Table) → ((n k : ℕ) → serving_at u n k ≡ serving_at t n k) → slot_at u s c ≡ Live digest → slot_at u s t.data_columns ≡ parity_slot parity_digest kept
       → (t.data_columns + 1 < width t → IsTrue (is_live (slot_at u s (t.data_columns + 1))) → Sound (stripe_of u h' s) (t.data_columns + 1))
       → ((n k : ℕ) → k < width t → (n ≢ s) ⊎ ((k < t.data_columns) × (k ≢ c)) → slot_at u n k ≡ slot_at t n k)
-      → (n k : ℕ) → n < t.stripes → k < width t → IsTrue (is_live (slot_at u n k)) → Sound (stripe_of u h' n) k ⊎ (taken (serving_at u n k) < now (serving_at u n k))
+      → (n k : ℕ) → n < t.stripes → k < width t → IsTrue (is_live (slot_at u n k)) → Sound (stripe_of u h' n) k ⊎ rose (serving_at u n k)
   places u serves at_data at_p at_q others n k ln lk l = elim (same_or n s) [
-    | inl e ↦ subst (λ n. IsTrue (is_live (slot_at u n k)) → Sound (stripe_of u h' n) k ⊎ (taken (serving_at u n k) < now (serving_at u n k))) (sym e) (in_stripe k lk) l
+    | inl e ↦ subst (λ n. IsTrue (is_live (slot_at u n k)) → Sound (stripe_of u h' n) k ⊎ rose (serving_at u n k)) (sym e) (in_stripe k lk) l
     | inr ne ↦ left_alone u serves n k ln lk (others n k lk (inl ne)) (inl ne) l
   ]
     where
       which : (k c wide parity : ℕ) → parity ≤ 2 → k < wide + parity → (k ≡ c) ⊎ ((k ≡ wide) ⊎ ((k ≡ wide + 1) ⊎ ((k < wide) × (k ≢ c))))
       which k c wide parity few lt = grind arith
 
-      in_stripe : (k : ℕ) → k < width t → IsTrue (is_live (slot_at u s k)) → Sound (stripe_of u h' s) k ⊎ (taken (serving_at u s k) < now (serving_at u s k))
+      in_stripe : (k : ℕ) → k < width t → IsTrue (is_live (slot_at u s k)) → Sound (stripe_of u h' s) k ⊎ rose (serving_at u s k)
       in_stripe k lk = elim (which k c t.data_columns t.parity table.size.parity.1 lk) [
-        | inl f ↦ subst (λ k. IsTrue (is_live (slot_at u s k)) → Sound (stripe_of u h' s) k ⊎ (taken (serving_at u s k) < now (serving_at u s k))) (sym f)
+        | inl f ↦ subst (λ k. IsTrue (is_live (slot_at u s k)) → Sound (stripe_of u h' s) k ⊎ rose (serving_at u s k)) (sym f)
             (λ l. inl (made u c digest block at_data is_block (ap (λ a. h' a s) (serves s c) ∙ w.data_block)))
-        | inr (inl f) ↦ subst (λ k. IsTrue (is_live (slot_at u s k)) → Sound (stripe_of u h' s) k ⊎ (taken (serving_at u s k) < now (serving_at u s k))) (sym f)
+        | inr (inl f) ↦ subst (λ k. IsTrue (is_live (slot_at u s k)) → Sound (stripe_of u h' s) k ⊎ rose (serving_at u s k)) (sym f)
             (λ l. inl (made_parity u t.data_columns parity_digest (xor p block) kept at_p is_parity (λ g. ap (λ a. h' a s) (serves s t.data_columns) ∙ w.new_p g) l))
-        | inr (inr (inl f)) ↦ subst (λ k. k < width t → IsTrue (is_live (slot_at u s k)) → Sound (stripe_of u h' s) k ⊎ (taken (serving_at u s k) < now (serving_at u s k))) (sym f)
+        | inr (inr (inl f)) ↦ subst (λ k. k < width t → IsTrue (is_live (slot_at u s k)) → Sound (stripe_of u h' s) k ⊎ rose (serving_at u s k)) (sym f)
             (λ lk l. inl (at_q lk l)) lk
         | inr (inr (inr f)) ↦ left_alone u serves s k takes.0.1 lk (others s k lk (inr f)) (inr f)
       ]
 
-  put_live : t.parity ≡ 1 → LiveLaw (with_put t s c digest parity_digest kept) h' taken now
+  put_live : t.parity ≡ 1 → LiveLaw (with_put t s c digest parity_digest kept) h' rose
   put_live single n k ln lk l =
       places (with_put t s c digest parity_digest kept) (λ n k. refl) (put_data t s c digest parity_digest kept takes.0.1 below table.size)
       (put_parity t s c digest parity_digest kept takes.0.1 below table.size) (λ lt l. absurd (omega arith)) put_others n k ln lk l
@@ -171,7 +165,7 @@ module _ (t : Table) (h h' : Holdings) (taken now : ℕ → ℕ) (s c : ℕ) (di
       put_others n k lk (inr f) = put_other t s c digest parity_digest kept takes.0.1 below table.size n k lk (λ g. f.1 g.1) (λ g. (let e : k ≡ t.data_columns = g.1 in let l : k < t.data_columns = f.0 in omega arith))
 
   put2_live : (second_digest : Digest) → t.parity ≡ 2 → second_digest ≡ digest_of (xor q (scaled (power 3 c) block))
-      → LiveLaw (with_slot (with_put t s c digest parity_digest kept) s (t.data_columns + 1) (parity_slot second_digest kept2)) h' taken now
+      → LiveLaw (with_slot (with_put t s c digest parity_digest kept) s (t.data_columns + 1) (parity_slot second_digest kept2)) h' rose
   put2_live second_digest double is_second n k ln lk l =
       places (with_slot (with_put t s c digest parity_digest kept) s (t.data_columns + 1) (parity_slot second_digest kept2)) (λ n k. refl)
       (beside s c (let b : c < t.data_columns = below in omega arith) (λ g. (let e : c ≡ t.data_columns + 1 = g.1 in let b : c < t.data_columns = below in omega arith)) ∙ put_data t s c digest parity_digest kept takes.0.1 below table.size)
@@ -193,27 +187,27 @@ module _ (t : Table) (h h' : Holdings) (taken now : ℕ → ℕ) (s c : ℕ) (di
 
 -- EACH ENTRY
 
-pub entry_keeps_live : EntryKeepsLive
-entry_keeps_live t (Put job s c digest parity_digest kept) h h' taken now table legal e keeps law =
-    put_live t h h' taken now s c digest parity_digest e.0 e.1 e.1 kept kept table legal.1 e.2 e.3 e.4 law legal.0
-entry_keeps_live t (Put2 job s c digest parity_digest second_digest kept kept2) h h' taken now table legal e keeps law =
-    put2_live t h h' taken now s c digest parity_digest e.0 e.1 e.2 kept kept2 table legal.1 e.3 e.4 e.6 law second_digest legal.0 e.5
-entry_keeps_live t (Skip job s) h h' taken now table legal e keeps law = live_stays t t h h' taken now refl refl (λ s c. refl) (λ s c d e. e) (keeps (λ s p. p)) law
-entry_keeps_live t (Seen job s c) h h' taken now table legal e keeps law = live_stays t t h h' taken now refl refl (λ s c. refl) (λ s c d e. e) (keeps (λ s p. p)) law
-entry_keeps_live t (Gone job s c) h h' taken now table legal e keeps law =
-    live_stays t (with_loss t s c) h h' taken now refl refl (λ s c. refl) (written t s c (lost_of (slot_at t s c)) (lost_live (slot_at t s c))) (keeps (λ s p. p)) law
-entry_keeps_live t (Broke job s c) h h' taken now table legal e keeps law =
-    live_stays t (with_slot t s c (broken_of (slot_at t s c))) h h' taken now refl refl (λ s c. refl) (written t s c (broken_of (slot_at t s c)) (broken_live (slot_at t s c))) (keeps (λ s p. p)) law
-entry_keeps_live t (Fault job s c) h h' taken now table legal e keeps law = live_stays t t h h' taken now refl refl (λ s c. refl) (λ s c d e. e) (keeps (λ s p. p)) law
-entry_keeps_live t (Counted job) h h' taken now table legal e keeps law = live_stays t t h h' taken now refl refl (λ s c. refl) (λ s c d e. e) (keeps (λ s p. p)) law
-entry_keeps_live t _ h h' taken now table legal e keeps law = absurd e
+pub entry_keeps_live : (rose : ℕ → Type 0) → EntryKeepsLive rose
+entry_keeps_live rose t (Put job s c digest parity_digest kept) h h' table legal e keeps law =
+    put_live t h h' rose s c digest parity_digest e.0 e.1 e.1 kept kept table legal.1 e.2 e.3 e.4 law legal.0
+entry_keeps_live rose t (Put2 job s c digest parity_digest second_digest kept kept2) h h' table legal e keeps law =
+    put2_live t h h' rose s c digest parity_digest e.0 e.1 e.2 kept kept2 table legal.1 e.3 e.4 e.6 law second_digest legal.0 e.5
+entry_keeps_live rose t (Skip job s) h h' table legal e keeps law = live_stays t t h h' rose refl refl (λ s c. refl) (λ s c d e. e) (keeps (λ s p. p)) law
+entry_keeps_live rose t (Seen job s c) h h' table legal e keeps law = live_stays t t h h' rose refl refl (λ s c. refl) (λ s c d e. e) (keeps (λ s p. p)) law
+entry_keeps_live rose t (Gone job s c) h h' table legal e keeps law =
+    live_stays t (with_loss t s c) h h' rose refl refl (λ s c. refl) (written t s c (lost_of (slot_at t s c)) (lost_live (slot_at t s c))) (keeps (λ s p. p)) law
+entry_keeps_live rose t (Broke job s c) h h' table legal e keeps law =
+    live_stays t (with_slot t s c (broken_of (slot_at t s c))) h h' rose refl refl (λ s c. refl) (written t s c (broken_of (slot_at t s c)) (broken_live (slot_at t s c))) (keeps (λ s p. p)) law
+entry_keeps_live rose t (Fault job s c) h h' table legal e keeps law = live_stays t t h h' rose refl refl (λ s c. refl) (λ s c d e. e) (keeps (λ s p. p)) law
+entry_keeps_live rose t (Counted job) h h' table legal e keeps law = live_stays t t h h' rose refl refl (λ s c. refl) (λ s c d e. e) (keeps (λ s p. p)) law
+entry_keeps_live rose t _ h h' table legal e keeps law = absurd e
 
 -- THE OPENING
 
-pub start_makes_live : StartMakesLive
-start_makes_live old new taken now st table counts = subst (λ v. LiveLaw v new.held taken now) (sym (result old new st table).shape) found
+pub start_makes_live : (rose : ℕ → Type 0) → StartMakesLive rose
+start_makes_live rose old new st table counts = subst (λ v. LiveLaw v new.held rose) (sym (result old new st table).shape) found
   where
-    found : LiveLaw (record old.table { slots = new.table.slots }) new.held taken now
+    found : LiveLaw (record old.table { slots = new.table.slots }) new.held rose
     found s k ls lk l =
         let d : (d : Digest) × (slot_at (record old.table { slots = new.table.slots }) s k ≡ Live d) = live (slot_at (record old.table { slots = new.table.slots }) s k) l in
         let was : (st.gone s k ≡ false) × (slot_at old.table s k ≡ Live d.0) =

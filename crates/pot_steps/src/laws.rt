@@ -1,4 +1,5 @@
 //! What is proved of the steps of a stripe.
+ghost use Rattle.std.specs.Prelude.{ℕ};
 ghost use Rattle.pot_steps.specs.Standing.{NextIsNext, NoneIsNoNext, StandingIsRelay, BeginHasFew};
 ghost use Rattle.pot_steps.specs.Losses.{StartMakesLive, EntryKeepsLive, LossesKeepLive};
 ghost use Rattle.pot_steps.specs.GroupStep.{StartMakes, PutStepKeeps, LookStepKeeps, CountStepKeeps, FullStepKeeps};
@@ -43,11 +44,21 @@ pub fn group_laws()
     ensures full { FullStepKeeps }
 {}
 
+/// What it means that an archive's count of losses rose since the group took the archive, by its number. The law of the Live
+/// slots is kept whatever it means.
+pub trait LossCount {
+    /// That it rose by some moment.
+    ghost rose: { ℕ → Type 0 };
+
+    /// That it rose by a later one.
+    ghost rose_later: { ℕ → Type 0 };
+}
+
 /// What keeps the law of the Live slots.
-pub fn live_laws()
-    ensures start { StartMakesLive }
-    ensures entry { EntryKeepsLive }
-    ensures losses { LossesKeepLive }
+pub fn live_laws<L: LossCount>()
+    ensures start { StartMakesLive L.rose }
+    ensures entry { EntryKeepsLive L.rose }
+    ensures losses { LossesKeepLive L.rose L.rose_later }
 {}
 
 /// The relays of a table as relays of its stripes.

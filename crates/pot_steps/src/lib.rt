@@ -17,9 +17,10 @@
 //! 2. Hence in a whole stripe the sums are zero (`WholeSums`), a place that can be rebuilt stands in a stripe that has a
 //!    filling (`RebuildableFilled`), and with one parity column the XOR of all blocks but one has that one's digest
 //!    (`SingleParity`).
-//! 3. A Live slot is sound, or the count of losses of the archive that serves it rose since the group took it (`LiveLaw`).
-//!    The opening makes it hold (`StartMakesLive`), and each entry of a put, a look, an opening or a count (`EntryKeepsLive`)
-//!    and any loss (`LossesKeepLive`) keep it.
+//! 3. A Live slot is sound, or the count of losses of the archive that serves it rose since the group took it (`LiveLaw`),
+//!    whatever a layer above means by that (`LossCount`): a count that stands at its last value may be said to have risen. The
+//!    opening makes it hold (`StartMakesLive`), and each entry of a put, a look, an opening or a count (`EntryKeepsLive`) and
+//!    any loss (`LossesKeepLive`) keep it.
 //! 4. The partial of a flight is the XOR of weight times block over the columns that it went over, where no slot is Broken
 //!    with the blocks of one filling (`FlightLaw`). It begins so (`BeginKeeps`, `SumBegins`), and a hop and a loss keep it
 //!    (`HopKeeps`, `SumGrows`, `LossKeepsFlight`), as does each entry of a put, a look or a count (`EntryKeepsFlight`).
@@ -33,5 +34,6 @@
 mod laws;
 
 pub use laws::{
-    entry_laws, filling_laws, flight_laws, group_laws, live_laws, relay_laws, stripe_laws,
+    LossCount, entry_laws, filling_laws, flight_laws, group_laws, live_laws, relay_laws,
+    stripe_laws,
 };

@@ -2,4 +2,8 @@ use Rattle.pot_steps.proofs.Losses.{start_makes_live, entry_keeps_live, losses_k
 use Rattle.pot_steps.proofs.laws.live_laws.Goals as goal
 
 pub returns : goal.returns
-returns c = record { start = start_makes_live; entry = entry_keeps_live; losses = losses_keep_live }
+returns g c = record {
+  start = start_makes_live g.L.LossCount.rose;
+  entry = entry_keeps_live g.L.LossCount.rose;
+  losses = losses_keep_live g.L.LossCount.rose g.L.LossCount.rose_later;
+}
