@@ -188,7 +188,8 @@ pub record PutFull (job : ℕ) (old new : GroupState) : Type 0 where
   pub behind : new.table.cursor.stripe ≡ new.table.stripes
   pub logs : Logs (skips job passed) old new
 
--- the answer LogFull: the entries end where the log has no room, which may be between a Gone and its Skip
+-- The answer LogFull: the entries end where the log has no room, which may be between a Gone and its Skip. The log was full
+-- at once, or there is a next entry, since the cursor is not behind the last stripe.
 pub record PutLogFull (job : ℕ) (old new : GroupState) : Type 0 where
   pub passed : List Passed
   pub at : Table
@@ -198,6 +199,7 @@ pub record PutLogFull (job : ℕ) (old new : GroupState) : Type 0 where
   pub replay : Replays at (gone_entries job at.cursor.stripe gone) new.table
   pub logs : Logs (skips job passed ++ gone_entries job at.cursor.stripe gone) old new
   pub full : length new.log ≡ log_bound
+  pub next : (length old.log ≡ log_bound) ⊎ (new.table.cursor.stripe < new.table.stripes)
 
 pub data PutAnswer : Type 0 where
   Placed : (stripe column : ℕ) → PutAnswer
