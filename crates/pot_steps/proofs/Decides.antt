@@ -30,7 +30,7 @@ left_out_of : (t x : ℕ) → (if nat_eq t t then 0 else x) ≡ 0
 left_out_of t x = grind (arith, nat_tests)
 
 -- a block that was read serves
-read_serves : (s : Stripe) (c : ℕ) (b : List ℕ) → IsRead s c b → Serves s c b
+pub read_serves : (s : Stripe) (c : ℕ) (b : List ℕ) → IsRead s c b → Serves s c b
 read_serves s c b (inl x) = record {
   void = λ e. absurd (live_void (sym x.live ∙ e));
   digest = λ d e. x.right ∙ some_same (sym (ap digest_in x.live) ∙ e);

@@ -11,7 +11,7 @@ use Rattle.pot_machine.specs.declared.slot.SlotState.{SlotState}
 use Rattle.pot_machine.specs.declared.slot.SlotState.TheVariants.{Void, Live, Broken}
 use Rattle.pot_machine.specs.Slot.{is_lost}
 use Rattle.pot_machine.specs.Table.{count}
-use Rattle.pot_steps.specs.Equations.{p_weight}
+use Rattle.pot_steps.specs.Equations.{IsBlock, p_weight}
 use Rattle.pot_steps.specs.Stripe.{Stripe, Filling, Puts, digest_of}
 use Rattle.pot_steps.specs.Law.{StripeLaw, AllLive, SingleLaw, IsRead}
 use Rattle.pot_steps.proofs.BlockLemmas.{same_blocks}
@@ -38,12 +38,16 @@ put_keeps_law data_columns parity s s' c block p q small few one sound put law n
     unlost x (inl e) = ap is_lost e
     unlost x (inr e) = ap is_lost e.1
 
--- the sum of P alone
-plain_sum : (data_columns : ℕ) (s : Stripe) (f : ℕ → List ℕ) → Filling data_columns 1 s f → (k : ℕ) → total (suc data_columns) (λ c. get_or (f c) k 0) ≡ 0
-plain_sum data_columns s f h k =
+-- with one parity column the sum of P is the XOR of the blocks
+pub plain : (data_columns : ℕ) (f : ℕ → List ℕ) → ((c : ℕ) → c ≤ data_columns → IsBlock (f c)) → (k : ℕ)
+    → total (suc data_columns) (λ c. get_or (f c) k 0) ≡ total (data_columns + 1) (λ c. byte_product (p_weight data_columns c) (get_or (f c) k 0))
+plain data_columns f block k =
     let e : data_columns + 1 ≡ suc data_columns = omega arith in
-    total_same (suc data_columns) _ _ (λ c lt. sym (ap (λ z. byte_product z (get_or (f c) k 0)) (p_weight-low data_columns c (omega arith)) ∙ byte_product-one_left (get_or (f c) k 0) ((h.block c (omega arith)).bytes k)))
-    ∙ ap (λ n. total n (λ c. byte_product (p_weight data_columns c) (get_or (f c) k 0))) (sym e) ∙ h.p_sum k
+    total_same (suc data_columns) _ _ (λ c lt. sym (ap (λ z. byte_product z (get_or (f c) k 0)) (p_weight-low data_columns c (omega arith)) ∙ byte_product-one_left (get_or (f c) k 0) ((block c (omega arith)).bytes k)))
+    ∙ ap (λ n. total n (λ c. byte_product (p_weight data_columns c) (get_or (f c) k 0))) (sym e)
+
+plain_sum : (data_columns : ℕ) (s : Stripe) (f : ℕ → List ℕ) → Filling data_columns 1 s f → (k : ℕ) → total (suc data_columns) (λ c. get_or (f c) k 0) ≡ 0
+plain_sum data_columns s f h k = plain data_columns f (λ c le. h.block c (omega arith)) k ∙ h.p_sum k
 
 pub single_law : (data_columns : ℕ) (s : Stripe) (f blocks : ℕ → List ℕ) → Filling data_columns 1 s f → SingleLaw data_columns s blocks
 single_law data_columns s f blocks h = record {

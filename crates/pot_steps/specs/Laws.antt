@@ -1,11 +1,14 @@
 -- What the steps of a stripe keep.
-use Rattle.std.specs.Prelude.{◌≡◌, ◌≢◌, ℕ, suc, ◌+◌, ◌<◌, ◌≤◌, List, Option, None, bit_xor, slice_index}
+use Rattle.std.specs.Prelude.{◌≡◌, ◌≢◌, ◌↔◌, ℕ, suc, ◌+◌, ◌<◌, ◌≤◌, List, Option, Some, None, bit_xor, slice_index, nat_eq, if◌then◌else◌}
+use Rattle.pot_bytes.specs.declared.digest.Digest.{Digest}
+use Rattle.pot_bytes.specs.Totals.{total}
 use Rattle.pot_bytes.specs.Product.{byte_product}
 use Rattle.pot_bytes.specs.Sums.{xor, zero_block}
 use Rattle.pot_bytes.specs.Weighted.{scaled}
 use Rattle.pot_machine.specs.declared.relay.Relay.{Relay}
+use Rattle.pot_machine.specs.Slot.{digest_in}
 use Rattle.pot_steps.specs.Equations.{IsBlock, sum_at, p_weight, q_weight}
-use Rattle.pot_steps.specs.Stripe.{Stripe, IsSound, Filling, HasFilling, NoneBroken, Whole, Puts}
+use Rattle.pot_steps.specs.Stripe.{Stripe, IsSound, Sound, Filling, HasFilling, NoneBroken, Whole, Puts, digest_of}
 use Rattle.pot_steps.specs.Law.{StripeLaw, Worse, Repairs, AllLive, SingleLaw, IsRead, Rebuildable, lost_count}
 use Rattle.pot_steps.specs.Flight.{IsRelay, IsNext, HasNoNext, hopped, weight_in, FlightLaw}
 use Rattle.pot_steps.specs.Decides.{Computed, AreRead, Serves}
@@ -78,6 +81,20 @@ RebuildableFilled =
 -- with one parity column, a stripe that has a filling keeps the law that speaks of no filling
 abbrev pub SingleParity : Type 0
 SingleParity = (data_columns : ℕ) (s : Stripe) (blocks : ℕ → List ℕ) → HasFilling data_columns 1 s → SingleLaw data_columns s blocks
+
+-- with one parity column and all columns read, a stripe has a filling exactly where the XOR of the blocks is zero
+abbrev pub SingleWhole : Type 0
+SingleWhole =
+    (data_columns : ℕ) (s : Stripe) (base : ℕ → List ℕ) → data_columns ≤ 16 → ((c : ℕ) → c ≤ data_columns → IsBlock (base c) × IsRead s c (base c))
+    → HasFilling data_columns 1 s ↔ ((k : ℕ) → total (suc data_columns) (λ c. slice_index (base c) k) ≡ 0)
+
+-- and with all columns but one read, exactly where the XOR of the others' blocks has the digest of that one
+abbrev pub SingleBut : Type 0
+SingleBut =
+    (data_columns u : ℕ) (s : Stripe) (base : ℕ → List ℕ) (d : Digest) (rest : List ℕ) → data_columns ≤ 16 → u ≤ data_columns → digest_in (s.slots u) ≡ Some d
+    → (Sound s u → ⊥) → ((c : ℕ) → c ≤ data_columns → c ≢ u → IsBlock (base c) × IsRead s c (base c)) → IsBlock rest
+    → ((k : ℕ) → slice_index rest k ≡ total (suc data_columns) (λ c. if nat_eq c u then 0 else slice_index (base c) k))
+    → HasFilling data_columns 1 s ↔ (digest_of rest ≡ d)
 
 -- two columns, of which the second need not be one of the stripe where there is one parity column
 pub record AreApart (data_columns parity t u : ℕ) : Type 0 where

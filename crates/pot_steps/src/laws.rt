@@ -4,7 +4,7 @@ ghost use Rattle.pot_steps.specs.Standing.{NextIsNext, NoneIsNoNext, StandingIsR
 ghost use Rattle.pot_steps.specs.Losses.{StartMakesLive, EntryKeepsLive, LossesKeepLive};
 ghost use Rattle.pot_steps.specs.GroupStep.{StartMakes, PutStepKeeps, LookStepKeeps, CountStepKeeps, FullStepKeeps};
 ghost use Rattle.pot_steps.specs.Entries.{EntryKeeps, EntryKeepsFlight, LossesKeep};
-ghost use Rattle.pot_steps.specs.Laws.{PutKeeps, LossKeeps, LossKeepsFlight, BeginKeeps, HopKeeps, MendedKeeps, RelayRebuilds, SingleParity, WholeSums, RebuildableFilled, FillingComputed, ComputedFilling, SumGrows, SumBegins, HeardIsBlinded};
+ghost use Rattle.pot_steps.specs.Laws.{PutKeeps, LossKeeps, LossKeepsFlight, BeginKeeps, HopKeeps, MendedKeeps, RelayRebuilds, SingleParity, SingleWhole, SingleBut, WholeSums, RebuildableFilled, FillingComputed, ComputedFilling, SumGrows, SumBegins, HeardIsBlinded};
 
 /// What keeps the law of a stripe, and what it says of a whole stripe, of a place that can be rebuilt and of one parity
 /// column.
@@ -73,4 +73,10 @@ pub fn relay_laws()
 pub fn filling_laws()
     ensures computed { FillingComputed }
     ensures made { ComputedFilling }
+{}
+
+/// What decides it with one parity column.
+pub fn single_laws()
+    ensures whole { SingleWhole }
+    ensures but_one { SingleBut }
 {}

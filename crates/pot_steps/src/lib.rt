@@ -28,12 +28,13 @@
 //!    relays, with the same next columns (`StandingIsRelay`, `NextIsNext`, `NoneIsNoNext`, `BeginHasFew`).
 //! 6. What an archive hears at a hop is the blind XOR the partial (`HeardIsBlinded`).
 //! 7. A stripe of which all but two columns were read, or all but one with one parity column, has a filling exactly where
-//!    the computed blocks may stand for those (`FillingComputed`, `ComputedFilling`).
+//!    the computed blocks may stand for those (`FillingComputed`, `ComputedFilling`). With one parity column that is where the
+//!    XOR of all blocks is zero (`SingleWhole`), or the XOR of all but one has that one's digest (`SingleBut`).
 #![tactic(auto)]
 
 mod laws;
 
 pub use laws::{
     LossCount, entry_laws, filling_laws, flight_laws, group_laws, live_laws, relay_laws,
-    stripe_laws,
+    single_laws, stripe_laws,
 };
