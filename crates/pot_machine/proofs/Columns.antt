@@ -1,18 +1,16 @@
 -- The rule on homes, targets and positions, kept.
 use Rattle.std.proofs.Common.{◌≡◌, ◌≢◌, ◌<◌, ◌≤◌, ◌⊎◌, inl, inr, ℕ, Bool, true, false, IsTrue, Option, Some, None, IfSome, IsSomeAnd, length, get_or, refl, ap, sym, ◌∙◌, subst, arith, ◌||◌}
-use Rattle.std.specs.Prelude.{◌==◌}
+use Rattle.std.specs.Prelude.{◌==◌, nat_lt, if◌then◌else◌}
 use Rattle.std.proofs.lemmas.Bool.Decides.{nat_tests}
 use Rattle.std.proofs.lemmas.List.{get_or-set_same, get_or-set_other}
 use Rattle.pot_machine.specs.declared.column.Column.{Column}
 use Rattle.pot_machine.specs.declared.column.Moving.{Moving}
-use Rattle.pot_machine.specs.Column.{names, names_moved}
-use Rattle.pot_machine.specs.Table.{Table, width, column_at, no_column, holder_of}
+use Rattle.pot_machine.specs.Column.{names, names_moved, serving}
+use Rattle.pot_machine.specs.Table.{Table, width, column_at, serving_at, no_column, holder_of}
 use Rattle.pot_machine.specs.Machine.{with_column, moved_on, moved_home, TakesArchive, MovesAt}
 use Rattle.pot_machine.specs.Rules.{HasColumns}
 use Rattle.pot_machine.proofs.Searches.{least_none}
-
-same_or : (k c : ℕ) → (k ≡ c) ⊎ (k ≢ c)
-same_or k c = grind arith
+use Rattle.pot_machine.proofs.Cases.{same_or, not_both}
 
 pub column_same : (t : Table) (c : ℕ) (x : Column) → length t.columns ≡ width t → c < width t → column_at (with_column t c x) c ≡ x
 column_same t c x e lt = get_or-set_same t.columns c x no_column (omega arith)
@@ -30,9 +28,6 @@ columns_kept t u e data_columns stripes h =
       distinct = λ c k number lc lk nc nk. h.distinct c k number (omega arith) (omega arith)
           (sym (ap (λ x. names x number) (at c)) ∙ nc) (sym (ap (λ x. names x number) (at k)) ∙ nk);
     }
-
-not_both : {b : Bool} → b ≡ true → b ≡ false → ⊥
-not_both p q = absurd (cc)
 
 -- one column was changed to archives that it had already or that no column has
 module _ (t : Table) (c : ℕ) (x : Column) (sized : length t.columns ≡ width t) (below : c < width t) (h : HasColumns t)
@@ -136,3 +131,22 @@ moves_on t c s sized h l lt = columns_with t c (moved_on (column_at t c)) sized 
 pub move_ends : (t : Table) (c : ℕ) → length t.columns ≡ width t → HasColumns t → c < width t → HasColumns (with_column t c (moved_home (column_at t c)))
 move_ends t c sized h lt = columns_with t c (moved_home (column_at t c)) sized lt h tt
     (λ number n. inl (moved_home_names (column_at t c).moving (column_at t c).home number n))
+
+-- the archive that serves a slot is the home or the target of its column
+pub names_serving : (x : Column) (s : ℕ) → IsTrue (names x (serving x s))
+names_serving x s = by x.home x.moving
+  where
+    by : (home : ℕ) (m : Option Moving) → IsTrue (names (record { home = home; moving = m }) (serving (record { home = home; moving = m }) s))
+    by home None = itself home
+      where
+        itself : (a : ℕ) → (a == a) ≡ true
+        itself a = grind (arith, nat_tests)
+    by home (Some m) = either home m.to (nat_lt s m.upto)
+      where
+        either : (a b : ℕ) (l : Bool) → (a == (if l then b else a)) || (b == (if l then b else a)) ≡ true
+        either a b l = grind (arith, nat_tests)
+
+-- two columns of one stripe are served by two archives
+pub serving_apart : (t : Table) (s c k : ℕ) → HasColumns t → c < width t → k < width t → c ≢ k → serving_at t s c ≢ serving_at t s k
+serving_apart t s c k columns lc lk ne e =
+    ne (columns.distinct c k (serving_at t s k) lc lk (subst (λ n. IsTrue (names (column_at t c) n)) e (names_serving (column_at t c) s)) (names_serving (column_at t k) s))

@@ -1,5 +1,5 @@
 -- What each entry leaves alone.
-use Rattle.std.proofs.Common.{◌≡◌, ◌≢◌, ◌⊎◌, inl, inr, ◌<◌, ◌≤◌, ◌+◌, ℕ, zero, suc, Bool, true, false, not, IsTrue, Some, List, [], ◌∷◌, ◌++◌, map, filter, cond, get_or, refl, sym, ap, ◌∙◌, subst, arith, nat_le, if◌then◌else◌}
+use Rattle.std.proofs.Common.{◌≡◌, ◌≢◌, inl, inr, ◌<◌, ◌≤◌, ◌+◌, ℕ, zero, suc, Bool, true, false, not, IsTrue, Some, List, [], ◌∷◌, ◌++◌, map, filter, cond, get_or, refl, sym, ap, ◌∙◌, subst, arith, nat_le, if◌then◌else◌}
 use Rattle.std.specs.Prelude.{◌==◌}
 use Rattle.std.proofs.lemmas.Bool.Decides.{nat_tests}
 use Rattle.pot_machine.specs.declared.slot.SlotState.{SlotState}
@@ -15,6 +15,7 @@ use Rattle.pot_machine.proofs.Sizes.{gave_up_range, data_columns-with_losses, wi
 use Rattle.pot_machine.proofs.Places.{slot_after, slot_other}
 use Rattle.pot_machine.proofs.Columns.{column_other}
 use Rattle.pot_machine.proofs.Kept.{put_other, put2_other, after_keeps}
+use Rattle.pot_machine.proofs.Cases.{same_or, not_both}
 
 parity-with_losses : (n : ℕ) (t : Table) (c : ℕ) → (with_losses n t c).parity ≡ t.parity
 parity-with_losses zero t c = refl
@@ -175,9 +176,6 @@ cursor_void t s c n k h l e f =
     reached : (a b : ℕ) → a ≡ b → nat_le a b ≡ true
     reached a b e = grind (arith, nat_tests)
 
-not_both : {b : Bool} → b ≡ true → b ≡ false → ⊥
-not_both p q = absurd (cc)
-
 pub data_stays : DataStays
 data_stays t (Put job s c digest parity_digest kept) n k h l lk some = ap digest_in (slots_stay t (Put job s c digest parity_digest kept) n k h l (omega arith)
     (λ e. elim e.1 [ inl q ↦ not_both (cursor_void t s c n k h l.1 e.0 q) some | inr q ↦ absurd (omega arith) ]))
@@ -212,9 +210,6 @@ live_before t s c x n k dead e =
 live_losses : (m : ℕ) (t : Table) (c n k : ℕ) → IsTrue (is_live (slot_at (with_losses m t c) n k)) → IsTrue (is_live (slot_at t n k))
 live_losses zero t c n k e = e
 live_losses (suc m) t c n k e = live_losses m t c n k (live_before (with_losses m t c) m c _ n k (lost_is_not_live (slot_at (with_losses m t c) m c)) e)
-
-same_or : (k c : ℕ) → (k ≡ c) ⊎ (k ≢ c)
-same_or k c = grind arith
 
 pub live_by_put : LiveByPut
 live_by_put t (Put job s c digest parity_digest kept) n k h l lk e = elim (same_or n s) [

@@ -1,3 +1,4 @@
+pub mod Cases
 pub mod Searches
 pub mod Mapped
 pub mod Sizes

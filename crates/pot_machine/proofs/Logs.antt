@@ -6,6 +6,7 @@ use Rattle.pot_machine.specs.declared.entry.Entry.{Entry}
 use Rattle.pot_machine.specs.Table.{Table}
 use Rattle.pot_machine.specs.Machine.{Legal, after, Replays, Replayed}
 use Rattle.pot_machine.specs.Laws.{ReplayedOnce, LogsGoOn, LogsLeadOnce}
+use Rattle.pot_machine.proofs.Cases.{not_both}
 
 -- a log goes on by an entry that is legal at its end
 pub replays_more : (t : Table) (log : List Entry) (u : Table) (e : Entry) → Replays t log u → Legal u e → Replays t (log ++ e ∷ []) (after u e)
@@ -48,9 +49,6 @@ replayed_front t u log i d r lt wrong = record {
   stops = λ e at l. wrong (subst (λ x. Legal u x) (sym (get_or_from_slice_get log i e d at)) l);
   all = (λ h. absurd (cc), λ h. absurd (omega arith));
 }
-
-pub not_both : {b : Bool} → b ≡ true → b ≡ false → ⊥
-not_both p q = absurd (cc)
 
 -- where one front is longer than another, its next entry is legal behind the shorter one
 next_legal : (t : Table) (log : List Entry) (i j : ℕ) (u v : Table) → i < j → j ≤ length log → Replays t (take i log) u → Replays t (take j log) v → (e : Entry) × (slice_get log i ≡ Some e) × Legal u e

@@ -5,6 +5,7 @@ use Rattle.pot_machine.specs.Slot.{is_void}
 use Rattle.pot_machine.specs.Table.{Table, width, slot_at}
 use Rattle.pot_machine.specs.Machine.{past, with_cursor}
 use Rattle.pot_machine.specs.Rules.{HasCursor, HasVoids}
+use Rattle.pot_machine.proofs.Cases.{same_or}
 
 -- the same sizes and cursor, and the same slots are Void
 pub record SameVoids (t u : Table) : Type 0 where
@@ -58,9 +59,6 @@ pub record IsPut (t u : Table) (s c : ℕ) : Type 0 where
   pub parities : (k : ℕ) → t.data_columns ≤ k → k < width t → is_void (slot_at u s k) ≡ false
   pub columns : (k : ℕ) → k < t.data_columns → k ≢ c → slot_at u s k ≡ slot_at t s k
   pub others : (n k : ℕ) → k < width t → n ≢ s → slot_at u n k ≡ slot_at t n k
-
-same_or : (k c : ℕ) → (k ≡ c) ⊎ (k ≢ c)
-same_or k c = grind arith
 
 below_next : (c k : ℕ) → k ≢ c → nat_le c k ≡ nat_le (c + 1) k
 below_next c k ne = grind (arith, nat_tests)

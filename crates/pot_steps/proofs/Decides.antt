@@ -19,9 +19,7 @@ use Rattle.pot_steps.proofs.BlockLemmas.{same_blocks}
 use Rattle.pot_steps.proofs.Relays.{weight-target, weight-left_out, p-low_q, q-low_q}
 use Rattle.pot_steps.proofs.Rebuilt.{combined, balanced, p_weight-below, q_weight-below}
 use Rattle.pot_steps.proofs.Solved.{solved, whole_sum, total-below}
-
-same_or : (k c : ℕ) → (k ≡ c) ⊎ (k ≢ c)
-same_or k c = grind arith
+use Rattle.pot_machine.proofs.Cases.{same_or}
 
 left_in : (c t x : ℕ) → c ≢ t → (if nat_eq c t then 0 else x) ≡ x
 left_in c t x ne = grind (arith, nat_tests)

@@ -23,9 +23,7 @@ use Rattle.pot_steps.specs.Entries.{held_at, OnlyLoses, Writes, EntryKeeps, Entr
 use Rattle.pot_steps.proofs.Steps.{worse_keeps, worse_keeps_flight}
 use Rattle.pot_steps.proofs.PutLaw.{put_keeps_law}
 use Rattle.pot_steps.proofs.Changes.{worse_from}
-
-same_or : (k c : ℕ) → (k ≡ c) ⊎ (k ≢ c)
-same_or k c = grind arith
+use Rattle.pot_machine.proofs.Cases.{same_or}
 
 -- A STRIPE WHOSE SLOTS STAY OR BECOME LOST
 

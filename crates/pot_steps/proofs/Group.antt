@@ -1,25 +1,23 @@
 -- The steps of a group keep the law of every stripe.
-use Rattle.std.proofs.Common.{◌≡◌, ◌≢◌, ◌⊎◌, inl, inr, ℕ, ◌<◌, ◌≤◌, List, [], ◌∷◌, ◌++◌, Option, Some, None, Bool, true, ◌||◌, IsTrue, refl, sym, ap, ap₂, ◌∙◌, subst, arith, nat_eq, nat_lt, nat_le, if◌then◌else◌}
-use Rattle.std.specs.Prelude.{◌==◌}
+use Rattle.std.proofs.Common.{◌≡◌, ◌≢◌, ◌⊎◌, inl, inr, ℕ, ◌<◌, ◌≤◌, List, [], ◌∷◌, ◌++◌, Option, Some, None, Bool, true, refl, sym, ap, ap₂, ◌∙◌, subst, arith, nat_eq, nat_le, if◌then◌else◌}
 use Rattle.std.proofs.lemmas.Bool.Decides.{nat_tests}
 use Rattle.pot_bytes.specs.Sums.{xor}
 use Rattle.pot_bytes.specs.Weighted.{scaled}
 use Rattle.pot_gf.specs.Field.{power}
 use Rattle.pot_machine.specs.declared.slot.SlotState.TheVariants.{Void}
-use Rattle.pot_machine.specs.declared.column.Column.{Column}
-use Rattle.pot_machine.specs.declared.column.Moving.{Moving}
 use Rattle.pot_machine.specs.declared.entry.Entry.{Entry}
 use Rattle.pot_machine.specs.declared.entry.Entry.TheVariants as entry
-use Rattle.pot_machine.specs.Column.{names, serving}
-use Rattle.pot_machine.specs.Table.{Table, width, slot_at, column_at, serving_at}
+use Rattle.pot_machine.specs.Table.{Table, width, slot_at, serving_at}
 use Rattle.pot_machine.specs.Machine.{Legal, after, Replays}
 use Rattle.pot_machine.specs.Rules.{IsTable}
+use Rattle.pot_machine.proofs.Columns.{serving_apart}
 use Rattle.pot_machine.proofs.Kept.{after_keeps}
 use Rattle.pot_steps.specs.Stripe.{digest_of}
 use Rattle.pot_steps.specs.Holdings.{Holdings, HoldsUp}
 use Rattle.pot_steps.specs.Entries.{OnlyLoses, Writes, Enters}
 use Rattle.pot_steps.specs.GroupStep.{GroupState, Loses, Passed, PassesTo, PutsBlock, PutFailed, PutStepKeeps, LookStepKeeps, FullStepKeeps, CountStepKeeps, Settled, Placed, NotPut, Full, NoRoom, Seen, Gone, Faulted, LogFull, skips, gone_entries, put_entry}
 use Rattle.pot_steps.proofs.Entries.{entry_keeps, losses_keep, is_void_at}
+use Rattle.pot_machine.proofs.Cases.{same_or}
 
 -- a table and what is held
 abbrev Stands : Table → Holdings → Type 0
@@ -90,24 +88,6 @@ puts_stand job s c block p q kept kept2 at now new puts x =
     enters (inl e) = subst (λ n. Enters at (if nat_eq n 1 then one else two) now puts.written) (sym e) (block, p, refl, refl, single e)
     enters (inr e) = subst (λ n. Enters at (if nat_eq n 1 then one else two) now puts.written) (sym e) (block, p, q, refl, refl, refl, puts.writes)
 
--- a column's archives are its own
-named : (x : Column) (s : ℕ) → IsTrue (names x (serving x s))
-named x s = by x.home x.moving
-  where
-    by : (home : ℕ) (m : Option Moving) → IsTrue (names (record { home = home; moving = m }) (serving (record { home = home; moving = m }) s))
-    by home None = itself home
-      where
-        itself : (a : ℕ) → (a == a) ≡ true
-        itself a = grind (arith, nat_tests)
-    by home (Some m) = either home m.to (nat_lt s m.upto)
-      where
-        either : (a b : ℕ) (l : Bool) → (a == (if l then b else a)) || (b == (if l then b else a)) ≡ true
-        either a b l = grind (arith, nat_tests)
-
-apart : (t : Table) (s c k : ℕ) → IsTable t → c < width t → k < width t → c ≢ k → serving_at t s c ≢ serving_at t s k
-apart t s c k table lc lk ne e =
-    ne (table.columns.distinct c k (serving_at t s k) lc lk (subst (λ n. IsTrue (names (column_at t c) n)) e (named (column_at t c) s)) (named (column_at t k) s))
-
 pub look_keeps : LookStepKeeps
 look_keeps job s c (Seen block) old new step x =
     settled new (stands_loses new.table old.held new.held step.loses (stands_at (after old.table (entry.Seen job s c)) new.table old.held step.replay.1
@@ -129,9 +109,6 @@ pub count_keeps : CountStepKeeps
 count_keeps job old new step x =
     settled new (stands_loses new.table old.held new.held step.loses (stands_at (after old.table (entry.Counted job)) new.table old.held step.replay.1
     (stands_entry old.table (entry.Counted job) old.held old.held step.replay.0 (loses_only old.table old.held old.held (same old.held)) (x.table, x.holds))))
-
-same_or : (k c : ℕ) → (k ≡ c) ⊎ (k ≢ c)
-same_or k c = grind arith
 
 -- the slot of the cursor is Void
 cursor_void : (t : Table) → IsTable t → t.cursor.stripe < t.stripes → slot_at t t.cursor.stripe t.cursor.column ≡ Void
@@ -155,7 +132,7 @@ failed job column block old new f x =
     place here s c ls lc void = elim (same_or s f.at.cursor.stripe) [
       | inl e ↦ elim (same_or column c) [
         | inl g ↦ absurd (void (ap₂ (λ n k. slot_at f.at n k) e (sym g ∙ here) ∙ cursor_void f.at before.0 (let l : s < f.at.stripes = ls in omega arith)))
-        | inr ne ↦ inr (λ g. apart f.at f.at.cursor.stripe column c before.0 f.legal.1 lc ne (g ∙ ap (λ n. serving_at f.at n c) e))
+        | inr ne ↦ inr (λ g. serving_apart f.at f.at.cursor.stripe column c before.0.columns f.legal.1 lc ne (g ∙ ap (λ n. serving_at f.at n c) e))
       ]
       | inr ne ↦ inl ne
     ]

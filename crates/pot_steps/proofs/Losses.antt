@@ -20,6 +20,7 @@ use Rattle.pot_steps.specs.GroupStep.{as_read}
 use Rattle.pot_steps.specs.Losses.{KeepsHeld, LossesKeepLive, EntryKeepsLive, StartMakesLive}
 use Rattle.pot_steps.proofs.Entries.{column}
 use Rattle.pot_steps.proofs.Opening.{slots, live-opened, result}
+use Rattle.pot_machine.proofs.Cases.{same_or}
 
 -- a slot that is Live has a digest
 live : (x : SlotState) → IsTrue (is_live x) → (d : Digest) × (x ≡ Live d)
@@ -88,9 +89,6 @@ written : (t : Table) (s c : ℕ) (x : SlotState) → ((d : Digest) → x ≡ Li
 written t s c x dead n k d e = elim (slot_after t s c x n k) [ inl q ↦ sym q ∙ e | inr q ↦ absurd (dead d (sym q.0 ∙ e)) ]
 
 -- PUTS
-
-same_or : (k c : ℕ) → (k ≡ c) ⊎ (k ≢ c)
-same_or k c = grind arith
 
 kept_of : (d e : Digest) (kept : Bool) → parity_slot d kept ≡ Live e → (kept ≡ true) × (d ≡ e)
 kept_of d e true h = (refl, cc)

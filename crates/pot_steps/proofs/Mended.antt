@@ -19,11 +19,9 @@ use Rattle.pot_steps.specs.Flight.{IsRelay, HasNoNext, IsPartial, FlightLaw, vis
 use Rattle.pot_steps.proofs.BlockLemmas.{get_or-zero_block, IsBlock-zero_block}
 use Rattle.pot_steps.proofs.Weights.{p_weight-low}
 use Rattle.pot_steps.proofs.Relays.{weight_is, p-low_q, q-low_q}
-use Rattle.pot_steps.proofs.Rebuilt.{if_true, if_false, true_or_false, folded_true, folded_false, rebuilt, not_visited, folded_not_void, target_not_visited, left_out-facts}
+use Rattle.pot_steps.proofs.Rebuilt.{if_true, if_false, folded_true, folded_false, rebuilt, not_visited, folded_not_void, target_not_visited, left_out-facts}
 use Rattle.pot_steps.proofs.Steps.{filling_stays, no_digest, some_same}
-
-same_or : (k c : ℕ) → (k ≡ c) ⊎ (k ≢ c)
-same_or k c = grind arith
+use Rattle.pot_machine.proofs.Cases.{same_or, true_or_false}
 
 module _ (data_columns parity : ℕ) (few : parity ≤ 2) (one : 1 ≤ parity) (small : data_columns ≤ 16) (s s' : Stripe) (r : Relay) (partial : List ℕ)
     (is : IsRelay data_columns parity r) (done : HasNoNext data_columns parity s r) (repairs : Repairs data_columns parity s s' r.target partial) where

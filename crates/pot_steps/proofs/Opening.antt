@@ -17,24 +17,12 @@ use Rattle.pot_steps.specs.Holdings.{HoldsUp, stripe_of}
 use Rattle.pot_steps.specs.GroupStep.{GroupState, StartStep, StartMakes, as_read, entries_where, opening}
 use Rattle.pot_steps.proofs.Steps.{filling_stays, some_same}
 use Rattle.pot_steps.proofs.Entries.{broken}
+use Rattle.pot_machine.proofs.Cases.{not_both, last_or, true_or_false}
 
 -- a log in two parts
 split : (xs ys : List Entry) (t u : Table) → Replays t (xs ++ ys) u → (v : Table) × Replays t xs v × Replays v ys u
 split [] ys t u r = (t, refl, r)
 split (x ∷ xs) ys t u r = let s : (v : Table) × Replays (after t x) xs v × Replays v ys u = split xs ys (after t x) u r.1 in (s.0, (r.0, s.1), s.2)
-
-same_or : (k c : ℕ) → (k ≡ c) ⊎ (k ≢ c)
-same_or k c = grind arith
-
-last_or : (k n : ℕ) → k < suc n → (k ≡ n) ⊎ (k < n)
-last_or k n lt = grind arith
-
-true_or_false : (b : Bool) → (b ≡ true) ⊎ (b ≡ false)
-true_or_false true = inl refl
-true_or_false false = inr refl
-
-not_both : {b : Bool} → b ≡ true → b ≡ false → ⊥
-not_both p q = absurd (cc)
 
 -- ENTRIES THAT EACH WRITE ONE SLOT OF A STRIPE
 

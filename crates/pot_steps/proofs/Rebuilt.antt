@@ -17,6 +17,7 @@ use Rattle.pot_steps.specs.Flight.{IsRelay, HasNoNext, IsPartial, visits, folded
 use Rattle.pot_steps.proofs.BlockLemmas.{get_or-zero_block, same_blocks}
 use Rattle.pot_steps.proofs.Weights.{q_weight-low, q_weight-p, q_weight-q}
 use Rattle.pot_steps.proofs.Relays.{power-below, inverse-below, weight-target, weight-left_out, kinds, p-data_data, p-data_p, p-low_q, p-p, p-q_q, q-p_p, p-q_data, p-q_p, q-data_data, q-data_p, q-low_q, q-p_data, q-q}
+use Rattle.pot_machine.proofs.Cases.{true_or_false}
 
 below_is : (a b : ℕ) → a ≡ b → b < 256 → a < 256
 below_is a b e h = omega arith
@@ -109,10 +110,6 @@ if_true b x y e = ap (λ z. if z then x else y) e
 
 pub if_false : (b : Bool) (x y : ℕ) → b ≡ false → (if b then x else y) ≡ y
 if_false b x y e = ap (λ z. if z then x else y) e
-
-pub true_or_false : (b : Bool) → (b ≡ true) ⊎ (b ≡ false)
-true_or_false true = inl refl
-true_or_false false = inr refl
 
 module _ (data_columns : ℕ) (slots : ℕ → SlotState) (r : Relay) (c : ℕ) where
   pub folded_true : visits data_columns slots r c ≡ true → is_within r.last c ≡ true → folded data_columns slots r c ≡ true

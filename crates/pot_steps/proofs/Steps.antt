@@ -3,6 +3,7 @@ use Rattle.std.proofs.Common.{◌≡◌, ◌≢◌, ◌⊎◌, ℕ, zero, suc, �
 use Rattle.std.proofs.lemmas.Bool.Decides.{nat_tests}
 use native.Mathlib.Nat.{le_trans}
 use Rattle.std.specs.Int.Bits.{xor_zero_l}
+use Rattle.pot_machine.proofs.Cases.{true_or_false}
 use Rattle.pot_bytes.specs.declared.digest.Digest.{Digest}
 use Rattle.pot_bytes.specs.Totals.{total}
 use Rattle.pot_bytes.specs.Product.{byte_product}
@@ -18,7 +19,7 @@ use Rattle.pot_steps.specs.Stripe.{Stripe, IsSound, Filling, digest_of}
 use Rattle.pot_steps.specs.Law.{StripeLaw, Worse, lost_count}
 use Rattle.pot_steps.specs.Flight.{IsNext, IsPartial, FlightLaw, visits, folded, hopped, is_within, weight, left_out}
 use Rattle.pot_steps.proofs.BlockLemmas.{get_or-zero_block, IsBlock-zero_block}
-use Rattle.pot_steps.proofs.Rebuilt.{if_true, if_false, true_or_false, folded_true, folded_within}
+use Rattle.pot_steps.proofs.Rebuilt.{if_true, if_false, folded_true, folded_within}
 
 pub some_same : {A : Type 0} (a b : A) → Some a ≡ Some b → a ≡ b
 some_same a b h = cc

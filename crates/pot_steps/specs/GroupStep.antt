@@ -9,7 +9,7 @@ use Rattle.pot_machine.specs.declared.entry.Entry.{Entry}
 use Rattle.pot_machine.specs.declared.entry.Entry.TheVariants as entry
 use Rattle.pot_machine.specs.Slot.{is_live}
 use Rattle.pot_machine.specs.Table.{Table, width, slot_at, serving_at}
-use Rattle.pot_machine.specs.Machine.{Legal, after, Replays}
+use Rattle.pot_machine.specs.Machine.{Legal, TakesBlocks, after, Replays}
 use Rattle.pot_machine.specs.Rules.{IsTable}
 use Rattle.pot_steps.specs.Stripe.{Stripe, Sound, IsSound, NoneBroken, HasFilling, digest_of}
 use Rattle.pot_steps.specs.Law.{FindsUnsound, FewUnsound}
@@ -105,8 +105,11 @@ put_entry parity job s c block p q kept kept2 =
     if nat_eq parity 1 then entry.Put job s c (digest_of block) (digest_of (xor p block)) kept
     else entry.Put2 job s c (digest_of block) (digest_of (xor p block)) (digest_of (xor q (scaled (power 3 c) block))) kept kept2
 
--- A parity slot that failed its check: no block of its digest is held in a Live slot there now. Where it is Q, P passed.
+-- A parity slot that failed its check, in a stripe that takes blocks else: the slot was Live, and no block of its digest is held
+-- there now. Where it is Q, P passed.
 pub record IsMissing (old : GroupState) (now : Holdings) (s c : ℕ) : Type 0 where
+  pub takes : TakesBlocks old.table s
+  pub live : IsTrue (is_live (slot_at old.table s c))
   pub parity : old.table.data_columns ≤ c
   pub missing : Sound (stripe_of old.table now s) c → ⊥
   pub least : c ≡ old.table.data_columns + 1 → Sound (stripe_of old.table old.held s) old.table.data_columns

@@ -1,5 +1,6 @@
 use Rattle.std.proofs.lemmas.List.{get_or_default}
-use Rattle.pot_machine.proofs.Logs.{replay_more, replayed_whole, replayed_front, not_both}
+use Rattle.pot_machine.proofs.Cases.{not_both}
+use Rattle.pot_machine.proofs.Logs.{replay_more, replayed_whole, replayed_front}
 use Rattle.pot_machine.proofs.table.GroupTable.replay.Goals as goal
 
 pub loop-entry-preserved : goal.loop-entry-preserved
