@@ -1,0 +1,15 @@
+pub mod ShelfLemmas
+pub mod TouchLemmas
+pub mod CauseLemmas
+pub mod Counted
+pub mod OpeningStripe
+pub mod OpeningLogs
+pub mod OpeningColumns
+pub mod OpeningAll
+pub mod Settled
+pub mod Reading
+pub mod Writing
+pub mod Passing
+pub mod Placed
+pub mod LookSteps
+pub mod Opened

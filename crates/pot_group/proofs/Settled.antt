@@ -1,0 +1,190 @@
+-- What a group keeps, over losses and over the entries of its calls.
+use Rattle.std.proofs.Common.{◌≡◌, ◌⊎◌, inl, inr, ℕ, ◌+◌, ◌<◌, ◌≤◌, ◌++◌, List, [], ◌∷◌, Some, true, false, IsTrue, length, refl, sym, ap, ◌∙◌, subst, arith}
+use Rattle.std.specs.Prelude.{Contains, nat_eq, slice_index_or, if◌then◌else◌}
+use Rattle.std.proofs.Common.{length-append}
+use Rattle.std.proofs.lemmas.Bool.Decides.{nat_tests}
+use Rattle.pot_outside.specs.Counts.{Rose}
+use Rattle.pot_machine.specs.declared.entry.Entry.{Entry}
+use Rattle.pot_machine.specs.declared.entry.Entry.TheVariants.{Skip, Seen, Gone, Fault, Counted}
+use Rattle.pot_machine.specs.Column.{names, serving}
+use Rattle.pot_machine.specs.Slot.{is_live}
+use Rattle.pot_machine.specs.Table.{Table, width, slot_at, column_at, serving_at, no_column}
+use Rattle.pot_machine.specs.Machine.{Legal, after}
+use Rattle.pot_machine.specs.Laws.{PutsInto}
+use Rattle.pot_machine.proofs.Kept.{after_keeps}
+use Rattle.pot_machine.proofs.Logs.{replays_more}
+use Rattle.pot_steps.specs.Stripe.{Sound}
+use Rattle.pot_steps.specs.Holdings.{Holdings, HoldsUp, LiveLaw, stripe_of}
+use Rattle.pot_steps.specs.Entries.{Enters}
+use Rattle.pot_steps.specs.Losses.{KeepsHeld}
+use Rattle.pot_steps.specs.GroupStep.{log_bound}
+use Rattle.pot_steps.proofs.Entries.{entry_keeps, losses_keep}
+use Rattle.pot_steps.proofs.Losses.{entry_keeps_live, losses_keep_live}
+use Rattle.pot_group.specs.Shelves.{Shelves, Keeps, Stays, LosesFrom}
+use Rattle.pot_group.specs.Causes.{Covers, HasLost, Misses, WhereMissed, archives_of, faults_in, fault_of, brought}
+use Rattle.pot_group.specs.Group.{GroupView, IsSettled, IsQuiet, LostSince}
+use Rattle.pot_group.proofs.ShelfLemmas.{keeps_refl, loses_refl, lost_rose, rose_on, rose_more}
+use Rattle.pot_group.proofs.CauseLemmas.{faults_in-snoc, archives_of-snoc, WhereMissed-snoc, WhereMissed-mono, covers-stays, has_lost-mono}
+
+-- what an entry of these calls leaves as it was
+pub record LeavesShape (t : Table) (e : Entry) : Type 0 where
+  pub relays : (after t e).relays ≡ t.relays
+  pub data_columns : (after t e).data_columns ≡ t.data_columns
+  pub parity : (after t e).parity ≡ t.parity
+  pub stripes : (after t e).stripes ≡ t.stripes
+  pub columns : (after t e).columns ≡ t.columns
+  pub none_brought : (c : ℕ) → brought c e ≡ []
+
+-- a count of losses that rose before has risen after
+lost_since : (told : Type 0) (g : GroupView) (s : Shelves) → Keeps g.shelves s → (h : Holdings) → LosesFrom h g.shelves s → (n : ℕ) → LostSince g.shelves n → LostSince s n
+lost_since told g s k h o n r = subst (λ x. Rose x (s.losses n)) (sym (k.losses_taken n)) (rose_more (g.shelves.losses_taken n) (g.shelves.losses n) (s.losses n) r (o n).later)
+
+-- One entry, or none, with losses after it. `h` is what the archives were to hold after it.
+module _ (told : Type 0) (g : GroupView) (s : Shelves) (h : told → Holdings) (settled : IsSettled told g) (keeps : Keeps g.shelves s) (loses : (t : told) → LosesFrom (h t) g.shelves s) where
+  -- the marks of the taking are no greater than the counts
+  marked_faults : (n : ℕ) → s.faults_taken n ≤ s.faults n
+  marked_faults n = omega (arith, settled.faults n, keeps.faults_taken n, keeps.later n)
+
+  marked_losses : told → (n : ℕ) → s.losses_taken n ≤ s.losses n
+  marked_losses t n = omega (arith, settled.losses t n, keeps.losses_taken n, (loses t n).later)
+
+  since : told → (n : ℕ) → LostSince g.shelves n → LostSince s n
+  since t = lost_since told g s keeps (h t) (loses t)
+
+  -- a block that goes has raised a count since the taking
+  lost_now : (t : told) (n m : ℕ) (b : List ℕ) → h t n m ≡ Some b → (s.held n m ≡ Some b) ⊎ LostSince s n
+  lost_now t n m b e = elim (lost_rose (h t) g.shelves s n m b (loses t) e) [
+    | inl r ↦ inl r
+    | inr r ↦ inr (subst (λ x. Rose x (s.losses n)) (sym (keeps.losses_taken n)) (rose_on (g.shelves.losses_taken n) (g.shelves.losses n) (s.losses n) (settled.losses t n) r))
+  ]
+
+  -- the laws over the contents, for the table `u` that they hold of before the losses
+  holds_on : (t : told) (u : Table) → HoldsUp u (h t) → HoldsUp u s.held
+  holds_on t u = losses_keep u (h t) s.held (λ n c b ln lc nv e. (loses t (serving_at u n c)).keeps n b e)
+
+  live_on : (t : told) (u : Table) → LiveLaw u (h t) (LostSince s) → LiveLaw u s.held (LostSince s)
+  live_on t u = losses_keep_live (LostSince s) (LostSince s) u (h t) s.held (λ n r. r) (record { keeps = (λ n c b ln lc nv e. lost_now t (serving_at u n c) n b e) })
+
+-- archives that only lose blocks
+pub settled_stays : (told : Type 0) (g : GroupView) (s : Shelves) → IsSettled told g → Stays told g.shelves s → IsSettled told (record g { shelves = s })
+settled_stays told g s settled stays = record {
+  replay = settled.replay;
+  table = settled.table;
+  relays = settled.relays;
+  bound = settled.bound;
+  shelves = (λ c n lc e. subst (λ ns. Contains ns n) (sym stays.keeps.numbers) (settled.shelves c n lc e));
+  serves = settled.serves;
+  sizes = settled.sizes;
+  faults = marked_faults told g s (λ t. g.shelves.held) settled stays.keeps stays.loses;
+  losses = marked_losses told g s (λ t. g.shelves.held) settled stays.keeps stays.loses;
+  holds = (λ t. holds_on told g s (λ t. g.shelves.held) settled stays.keeps stays.loses t g.table (settled.holds t));
+  live = (λ t. losses_keep_live (LostSince g.shelves) (LostSince s) g.table g.shelves.held s.held
+      (since told g s (λ t. g.shelves.held) settled stays.keeps stays.loses t)
+      (record { keeps = (λ n c b ln lc nv e. lost_now told g s (λ t. g.shelves.held) settled stays.keeps stays.loses t (serving_at g.table n c) n b e) })
+      (settled.live t));
+  causes = record {
+    faults = (λ c lc. covers-stays g.shelves s (archives_of g.first g.log c) (faults_in g.first.data_columns c g.log) stays.keeps.later stays.keeps.faults_taken (settled.causes.faults c lc));
+    losses = (λ t c lc. WhereMissed-mono g.first g.log c (HasLost g.shelves (archives_of g.first g.log c)) (HasLost s (archives_of g.first g.log c))
+        (has_lost-mono g.shelves s (archives_of g.first g.log c) (since told g s (λ t. g.shelves.held) settled stays.keeps stays.loses t))
+        (settled.causes.losses t c lc));
+  };
+}
+
+-- an entry, with what the archives are to hold then
+pub settled_entry : (told : Type 0) (g : GroupView) (e : Entry) (s : Shelves) (h : told → Holdings) → IsSettled told g → LeavesShape g.table e → Legal g.table e → length g.log < log_bound
+    → Keeps g.shelves s → ((t : told) → LosesFrom (h t) g.shelves s) → ((t : told) → Enters g.table e g.shelves.held (h t))
+    → ((t : told) → ((n : ℕ) → PutsInto e n → ⊥) → KeepsHeld g.table g.shelves.held (h t))
+    → ((c : ℕ) → c < width g.first → Covers s (archives_of g.first g.log c) (faults_in g.first.data_columns c g.log + fault_of g.first.data_columns c e))
+    → (told → (c : ℕ) → c < width g.first → Misses g.table e c → HasLost s (archives_of g.first g.log c))
+    → IsSettled told (record g { table = after g.table e; log = g.log ++ e ∷ []; shelves = s })
+settled_entry told g e s h settled shape legal room keeps loses enters kept covers missed = record {
+  replay = replays_more g.first g.log g.table e settled.replay legal;
+  table = after_keeps g.table e settled.table legal;
+  relays = shape.relays ∙ settled.relays;
+  bound = (let l : length (g.log ++ e ∷ []) ≡ length g.log + 1 = length-append g.log (e ∷ []) in omega (arith, room));
+  shelves = (λ c n lc q. subst (λ ns. Contains ns n) (sym keeps.numbers) (settled.shelves c n (wide c lc) (subst (λ x. IsTrue (names x n)) (same_column c) q)));
+  serves = (λ n c lc. subst (λ ns. Contains ns (serving_at (after g.table e) n c)) (sym (archives_of-snoc g.first g.log c e (shape.none_brought c)))
+      (subst (λ x. Contains (archives_of g.first g.log c) x) (sym (same_serving n c)) (settled.serves n c (wide c lc))));
+  sizes = (shape.data_columns ∙ settled.sizes.0, shape.parity ∙ settled.sizes.1);
+  faults = marked_faults told g s h settled keeps loses;
+  losses = marked_losses told g s h settled keeps loses;
+  holds = (λ t. holds_on told g s h settled keeps loses t (after g.table e) (entry_keeps g.table e g.shelves.held (h t) settled.table legal (enters t) (settled.holds t)));
+  live = (λ t. live_on told g s h settled keeps loses t (after g.table e)
+      (entry_keeps_live (LostSince s) g.table e g.shelves.held (h t) settled.table legal (enters t) (kept t) (live_then t)));
+  causes = record {
+    faults = (λ c lc. subst (λ ns. Covers s ns (faults_in g.first.data_columns c (g.log ++ e ∷ []))) (sym (archives_of-snoc g.first g.log c e (shape.none_brought c)))
+        (subst (λ n. Covers s (archives_of g.first g.log c) n) (sym (faults_in-snoc g.first.data_columns c g.log e)) (covers c lc)));
+    losses = (λ t c lc. subst (λ ns. WhereMissed g.first (g.log ++ e ∷ []) c (HasLost s ns)) (sym (archives_of-snoc g.first g.log c e (shape.none_brought c)))
+        (WhereMissed-snoc g.first g.table g.log e c (HasLost s (archives_of g.first g.log c)) settled.replay
+        (WhereMissed-mono g.first g.log c (HasLost g.shelves (archives_of g.first g.log c)) (HasLost s (archives_of g.first g.log c)) (has_lost-mono g.shelves s (archives_of g.first g.log c) (since told g s h settled keeps loses t)) (settled.causes.losses t c lc))
+        (missed t c lc)));
+  };
+}
+  where
+    wide : (c : ℕ) → c < width (after g.table e) → c < width g.table
+    wide c lc = omega (arith, lc, shape.data_columns, shape.parity)
+
+    same_column : (c : ℕ) → column_at (after g.table e) c ≡ column_at g.table c
+    same_column c = ap (λ cs. slice_index_or cs c no_column) shape.columns
+
+    same_serving : (n c : ℕ) → serving_at (after g.table e) n c ≡ serving_at g.table n c
+    same_serving n c = ap (λ x. serving x n) (same_column c)
+
+    -- the law of the Live slots before the entry, by what has risen now
+    live_then : told → LiveLaw g.table g.shelves.held (LostSince s)
+    live_then t = losses_keep_live (LostSince g.shelves) (LostSince s) g.table g.shelves.held g.shelves.held (since told g s h settled keeps loses t)
+        (record { keeps = (λ n c b ln lc nv e. inl e) }) (settled.live t)
+
+-- an entry that says nothing untrue and puts no block
+module _ (told : Type 0) (g : GroupView) (e : Entry) (settled : IsSettled told g) (legal : Legal g.table e) (room : length g.log < log_bound) where
+  quiet : LeavesShape g.table e → (told → Enters g.table e g.shelves.held g.shelves.held)
+      → ((c : ℕ) → c < width g.first → Covers g.shelves (archives_of g.first g.log c) (faults_in g.first.data_columns c g.log + fault_of g.first.data_columns c e))
+      → (told → (c : ℕ) → c < width g.first → Misses g.table e c → HasLost g.shelves (archives_of g.first g.log c))
+      → IsSettled told (record g { table = after g.table e; log = g.log ++ e ∷ [] })
+  quiet shape enters covers missed =
+      settled_entry told g e g.shelves (λ t. g.shelves.held) settled shape legal room (keeps_refl g.shelves) (λ t. loses_refl g.shelves) enters (λ t none n c b ln lc nv q. q) covers missed
+
+pub no_fault : (s : Shelves) (ns : List ℕ) (k : ℕ) → Covers s ns k → Covers s ns (k + 0)
+no_fault s ns k c = subst (λ n. Covers s ns n) (same k) c
+  where
+    same : (k : ℕ) → k ≡ k + 0
+    same k = omega arith
+
+same_or : (c k : ℕ) → ((c ≡ k) × (nat_eq c k ≡ true)) ⊎ (nat_eq c k ≡ false)
+same_or c k = grind (arith, nat_tests)
+
+-- a Fault names one more at its column alone
+pub one_fault : (s : Shelves) (ns : ℕ → List ℕ) (named : ℕ → ℕ) (k c : ℕ) → Covers s (ns c) (named c) → Covers s (ns k) (named k + 1)
+    → Covers s (ns c) (named c + (if nat_eq c k then 1 else 0))
+one_fault s ns named k c all here = elim (same_or c k) [
+  | inl e ↦ rw e.1 (subst (λ n. Covers s (ns n) (named n + 1)) (sym e.0) here)
+  | inr e ↦ rw e (no_fault s (ns c) (named c) all)
+]
+
+-- a Live slot without its block is served by an archive that lost one
+gone_lost : (told : Type 0) (g : GroupView) → IsSettled told g → told → (n k : ℕ) → n < g.table.stripes → k < width g.table → IsTrue (is_live (slot_at g.table n k))
+    → (Sound (stripe_of g.table g.shelves.held n) k → ⊥) → HasLost g.shelves (archives_of g.first g.log k)
+gone_lost told g settled t n k ln lk live none = elim (settled.live t n k ln lk live) [
+  | inl x ↦ absurd (none x)
+  | inr r ↦ (serving_at g.table n k, settled.serves n k lk, r)
+]
+
+pub settled_quiet : (told : Type 0) (g : GroupView) (e : Entry) → IsSettled told g → Legal g.table e → length g.log < log_bound → IsQuiet told g e
+    → IsSettled told (record g { table = after g.table e; log = g.log ++ e ∷ [] })
+settled_quiet told g (Skip job n) settled legal room q =
+    quiet told g (Skip job n) settled legal room (record { relays = refl; data_columns = refl; parity = refl; stripes = refl; columns = refl; none_brought = (λ c. refl) })
+    (λ t m c b lm lc nv h. h) (λ c lc. no_fault g.shelves (archives_of g.first g.log c) (faults_in g.first.data_columns c g.log) (settled.causes.faults c lc)) (λ t c lc m. absurd m)
+settled_quiet told g (Seen job n k) settled legal room q =
+    quiet told g (Seen job n k) settled legal room (record { relays = refl; data_columns = refl; parity = refl; stripes = refl; columns = refl; none_brought = (λ c. refl) })
+    (λ t m c b lm lc nv h. h) (λ c lc. no_fault g.shelves (archives_of g.first g.log c) (faults_in g.first.data_columns c g.log) (settled.causes.faults c lc)) (λ t c lc m. absurd m)
+settled_quiet told g (Counted job) settled legal room q =
+    quiet told g (Counted job) settled legal room (record { relays = refl; data_columns = refl; parity = refl; stripes = refl; columns = refl; none_brought = (λ c. refl) })
+    (λ t m c b lm lc nv h. h) (λ c lc. no_fault g.shelves (archives_of g.first g.log c) (faults_in g.first.data_columns c g.log) (settled.causes.faults c lc)) (λ t c lc m. absurd m)
+settled_quiet told g (Fault job n k) settled legal room q =
+    quiet told g (Fault job n k) settled legal room (record { relays = refl; data_columns = refl; parity = refl; stripes = refl; columns = refl; none_brought = (λ c. refl) })
+    (λ t m c b lm lc nv h. h) (λ c lc. one_fault g.shelves (archives_of g.first g.log) (λ c. faults_in g.first.data_columns c g.log) k c (settled.causes.faults c lc) q) (λ t c lc m. absurd m)
+settled_quiet told g (Gone job n k) settled legal room q =
+    quiet told g (Gone job n k) settled legal room (record { relays = refl; data_columns = refl; parity = refl; stripes = refl; columns = refl; none_brought = (λ c. refl) })
+    (λ t m c b lm lc nv h. h) (λ c lc. no_fault g.shelves (archives_of g.first g.log c) (faults_in g.first.data_columns c g.log) (settled.causes.faults c lc))
+    (λ t c lc m. subst (λ x. HasLost g.shelves (archives_of g.first g.log x)) m.1 (gone_lost told g settled t n k legal.0 legal.1 m.2 (q t)))
+settled_quiet told g _ settled legal room q = absurd q

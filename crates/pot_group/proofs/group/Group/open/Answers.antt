@@ -1,0 +1,28 @@
+use Rattle.std.proofs.Common.{IsTrue, subst, sym}
+use Rattle.pot_machine.specs.Table.{Table}
+use Rattle.pot_group.specs.Shelves.{numbers_of}
+use Rattle.pot_group.specs.Group.{IsSettled, view_of}
+use Rattle.pot_group.specs.Beginning.{Begins}
+use Rattle.pot_group.proofs.Opened.{handed_all, opened_settled, opened_begins}
+use Rattle.pot_group.proofs.group.Group.open.Goals as goal
+
+pub open_all-requires-clause-archives : goal.open_all-requires-clause-archives
+open_all-requires-clause-archives g c = handed_all c.args.table (numbers_of c.args.archives.shelves) c.cursor-rules.ensures.rules c.requires.archives
+
+pub invariant_of-result : goal.invariant_of-result
+invariant_of-result g c =
+    let s = opened_settled (IsTrue g.A.Archive.tells) g.A.Archive.held g.A.Archive.heard g.A.Archive.faults g.A.Archive.losses c.args.number c.args.table c.open_all.new.table c.open_all.new.log.items
+    c.args.archives c.open_all.new.archives c.cursor-rules.ensures.rules c.requires.relays c.requires.taken
+    (handed_all c.args.table (numbers_of c.args.archives.shelves) c.cursor-rules.ensures.rules c.requires.archives) c.open_all.ensures.opens c.open_all.ensures.bound in (
+      subst (λ (t : Table). IsSettled (IsTrue g.A.Archive.tells) (view_of g.A.Archive.held g.A.Archive.heard g.A.Archive.faults g.A.Archive.losses
+          (record { number = c.args.number; first = t; table = c.open_all.new.table; log = c.open_all.new.log.items; archives = c.open_all.new.archives }))) (sym c.requires.first) s,
+      c.open_all.ensures.room,
+    )
+
+pub returns : goal.returns
+returns g c =
+    subst (λ (t : Table). Begins (IsTrue g.A.Archive.tells) g.A.Archive.held g.A.Archive.heard g.A.Archive.faults g.A.Archive.losses c.args.number c.args.table c.args.archives.shelves
+    (record { number = c.args.number; first = t; table = c.open_all.new.table; log = c.open_all.new.log.items; archives = c.open_all.new.archives })) (sym c.requires.first)
+    (opened_begins (IsTrue g.A.Archive.tells) g.A.Archive.held g.A.Archive.heard g.A.Archive.faults g.A.Archive.losses c.args.number c.args.table c.open_all.new.table c.open_all.new.log.items
+    c.args.archives c.open_all.new.archives c.cursor-rules.ensures.rules c.requires.relays c.requires.taken
+    (handed_all c.args.table (numbers_of c.args.archives.shelves) c.cursor-rules.ensures.rules c.requires.archives) c.open_all.ensures.opens c.open_all.ensures.bound)

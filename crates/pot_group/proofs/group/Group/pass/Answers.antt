@@ -1,0 +1,16 @@
+use Rattle.std.proofs.Common.{IsTrue, [], subst}
+use Rattle.pot_group.specs.Group.{view_of}
+use Rattle.pot_group.specs.Shelves.{plain}
+use Rattle.pot_group.specs.Putting.{Passes}
+use Rattle.pot_group.proofs.Passing.{left_passes}
+use Rattle.pot_group.proofs.group.Group.pass.Goals as goal
+
+pub returns-in-Missing : goal.returns-in-Missing
+returns-in-Missing g c =
+    left_passes (IsTrue g.A.Archive.tells) c.args.job c.read_parity.new.parity c.leave.result
+    (view_of g.A.Archive.held g.A.Archive.heard g.A.Archive.faults g.A.Archive.losses c.args.self.now)
+    (plain g.A.Archive.held g.A.Archive.heard g.A.Archive.faults g.A.Archive.losses c.read_parity.new.self.archives)
+    (view_of g.A.Archive.held g.A.Archive.heard g.A.Archive.faults g.A.Archive.losses c.leave.new.self)
+    c.read_parity.ensures.reads.stays c.leave.ensures.left
+    (subst (λ p. Passes (IsTrue g.A.Archive.tells) c.args.job [] c.leave.result (view_of g.A.Archive.held g.A.Archive.heard g.A.Archive.faults g.A.Archive.losses p)
+    (view_of g.A.Archive.held g.A.Archive.heard g.A.Archive.faults g.A.Archive.losses c.leave.new.self)) c.read_parity.ensures.same c.leave.ensures.passes)

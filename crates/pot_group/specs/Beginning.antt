@@ -1,0 +1,34 @@
+-- How a group begins, and what it hands out.
+use Rattle.std.specs.Prelude.{◌≡◌, ℕ, List, [], ◌∷◌, Option}
+use Rattle.std.specs.List.{flat_map}
+use Rattle.pot_outside.specs.declared.archive.Shelf.{Shelf}
+use Rattle.pot_machine.specs.declared.column.Column.{Column}
+use Rattle.pot_machine.specs.Table.{Table}
+use Rattle.pot_steps.specs.GroupStep.{StartStep}
+use Rattle.pot_group.specs.Shelves.{Shelved, IsTaken, plain}
+use Rattle.pot_group.specs.Causes.{target_of}
+use Rattle.pot_group.specs.Opening.{Opens}
+use Rattle.pot_group.specs.Group.{GroupParts, view_of, state_of}
+
+-- the archives of a column: its home, and then the target of its move
+abbrev pub homes_of : Column → List ℕ
+homes_of c = c.home ∷ target_of c.moving
+
+-- the archives of a table, column by column
+abbrev pub archives_in : Table → List ℕ
+archives_in t = flat_map homes_of t.columns
+
+-- a group before its opening
+abbrev pub unopened : {A : Type 0} → ℕ → Table → Shelved A → GroupParts A
+unopened number t a = record { number = number; first = t; table = t; log = []; archives = a }
+
+-- A group begins with a table and archives, whose marks are taken then, and every stripe is opened. Where the archives tell
+-- what they hold, that is the opening as a step of a group.
+pub record Begins {A : Type 0} (told : Type 0) (held : A → ℕ → Option (List ℕ)) (heard : A → List (ℕ × List ℕ)) (faults losses : A → ℕ) (number : ℕ) (t : Table) (handed : List (Shelf A)) (g : GroupParts A) : Type 0 where
+  pub taken : Shelved A
+  pub shelves : taken.shelves ≡ handed
+  pub marks : IsTaken told (plain held heard faults losses taken)
+  pub is_number : g.number ≡ number
+  pub first : g.first ≡ t
+  pub opens : Opens told t.stripes t g.table g.log (plain held heard faults losses taken) (plain held heard faults losses g.archives)
+  pub step : told → StartStep (state_of (view_of held heard faults losses (unopened number t taken))) (state_of (view_of held heard faults losses g))

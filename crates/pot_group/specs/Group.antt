@@ -1,0 +1,174 @@
+-- A group: the table that it began with, its table and its log now, and its archives. What it keeps, and what its calls do.
+use Rattle.std.specs.Prelude.{◌≡◌, ◌⊎◌, ◌≤◌, ◌<◌, ◌+◌, ◌++◌, ℕ, Bool, true, IsTrue, List, [], ◌∷◌, Option, Result, Ok, Err, Contains, length, IfSome, All}
+use Rattle.pot_bytes.specs.declared.rack.Place.{Place}
+use Rattle.pot_outside.specs.Counts.{Rose}
+use Rattle.pot_bytes.specs.Sums.{zero_block}
+use Rattle.pot_machine.specs.declared.slot.SlotState.{SlotState}
+use Rattle.pot_machine.specs.declared.slot.SlotState.TheVariants.{Void, Live}
+use Rattle.pot_machine.specs.declared.entry.Entry.{Entry}
+use Rattle.pot_machine.specs.declared.entry.Entry.TheVariants as entry
+use Rattle.pot_machine.specs.Slot.{is_live}
+use Rattle.pot_machine.specs.Column.{names}
+use Rattle.pot_machine.specs.Table.{Table, width, slot_at, column_at, serving_at}
+use Rattle.pot_machine.specs.Machine.{Replays, TakesBlocks, after}
+use Rattle.pot_machine.specs.Rules.{IsTable}
+use Rattle.pot_steps.specs.Stripe.{Sound, digest_of}
+use Rattle.pot_steps.specs.Holdings.{HoldsUp, LiveLaw, stripe_of}
+use Rattle.pot_steps.specs.GroupStep.{GroupState, Passed, log_bound, look_entries, skips, gone_entries, put_entry}
+use Rattle.pot_steps.specs.GroupStep as step
+use Rattle.pot_group.specs.declared.answers.Looked.{Looked}
+use Rattle.pot_group.specs.declared.answers.Looked.TheVariants as looked
+use Rattle.pot_group.specs.declared.answers.PutFault.{PutFault}
+use Rattle.pot_group.specs.declared.answers.PutFault.TheVariants as fault
+use Rattle.pot_group.specs.Shelves.{Shelves, Shelved, plain}
+use Rattle.pot_group.specs.declared.archives.Found.{Found}
+use Rattle.pot_group.specs.Causes.{CauseLaw, Covers, archives_of, faults_in}
+
+pub record GroupView : Type 0 where
+  pub number : ℕ
+  pub first : Table
+  pub table : Table
+  pub log : List Entry
+  pub shelves : Shelves
+
+-- a group with its archives
+pub record GroupParts (A : Type 0) : Type 0 where
+  pub number : ℕ
+  pub first : Table
+  pub table : Table
+  pub log : List Entry
+  pub archives : Shelved A
+
+-- and as plain data
+abbrev pub view_of : {A : Type 0} → (A → ℕ → Option (List ℕ)) → (A → List (ℕ × List ℕ)) → (A → ℕ) → (A → ℕ) → GroupParts A → GroupView
+view_of held heard faults losses g = record { number = g.number; first = g.first; table = g.table; log = g.log; shelves = plain held heard faults losses g.archives }
+
+-- an entry is logged, and does in the table what it says
+abbrev pub noted : {A : Type 0} → GroupParts A → Entry → GroupParts A
+noted g e = record g { table = after g.table e; log = g.log ++ e ∷ [] }
+
+abbrev pub with_archives : {A : Type 0} → GroupParts A → Shelved A → GroupParts A
+with_archives g a = record g { archives = a }
+
+-- as the steps of a group speak of it. No call begins a relay yet
+abbrev pub state_of : GroupView → GroupState
+state_of g = record { table = g.table; log = g.log; held = g.shelves.held; heard = g.shelves.heard; flights = [] }
+
+-- the count of losses of the archive of this number rose since the group took it
+abbrev pub LostSince : Shelves → ℕ → Type 0
+LostSince s number = Rose (s.losses_taken number) (s.losses number)
+
+-- What a group keeps. `told` is whether its archives tell what they hold.
+pub record IsSettled (told : Type 0) (g : GroupView) : Type 0 where
+  pub replay : Replays g.first g.log g.table
+  pub table : IsTable g.table
+  pub relays : g.table.relays ≡ []
+  pub bound : length g.log ≤ log_bound
+  -- each home and each target is an archive of the group
+  pub shelves : (c number : ℕ) → c < width g.table → IsTrue (names (column_at g.table c) number) → Contains g.shelves.numbers number
+  -- the archive that serves a slot is one of its column
+  pub serves : (s c : ℕ) → c < width g.table → Contains (archives_of g.first g.log c) (serving_at g.table s c)
+  pub sizes : (g.table.data_columns ≡ g.first.data_columns) × (g.table.parity ≡ g.first.parity)
+  pub faults : (number : ℕ) → g.shelves.faults_taken number ≤ g.shelves.faults number
+  pub losses : told → (number : ℕ) → g.shelves.losses_taken number ≤ g.shelves.losses number
+  pub holds : told → HoldsUp g.table g.shelves.held
+  pub live : told → LiveLaw g.table g.shelves.held (LostSince g.shelves)
+  pub causes : CauseLaw told g.first g.log g.shelves
+
+-- the log grows by these entries, and the table is their replay
+pub record Logs (entries : List Entry) (old new : GroupView) : Type 0 where
+  pub number : new.number ≡ old.number
+  pub first : new.first ≡ old.first
+  pub log : new.log ≡ old.log ++ entries
+  pub replay : Replays old.table entries new.table
+
+-- one more fault of the column may be named
+abbrev pub CoversOne : GroupView → ℕ → Type 0
+CoversOne g c = Covers g.shelves (archives_of g.first g.log c) (faults_in g.first.data_columns c g.log + 1)
+
+-- where a read failed, it may be
+abbrev pub CoversIfNotRead : Found → GroupView → ℕ → Type 0
+CoversIfNotRead Found.Sound g c = Unit {0}
+CoversIfNotRead Found.Missing g c = Unit {0}
+CoversIfNotRead Found.NotRead g c = CoversOne g c
+
+-- an entry that says nothing untrue and puts no block
+abbrev pub IsQuiet : Type 0 → GroupView → Entry → Type 0
+IsQuiet told g (entry.Skip job s) = Unit {0}
+IsQuiet told g (entry.Seen job s c) = Unit {0}
+IsQuiet told g (entry.Counted job) = Unit {0}
+IsQuiet told g (entry.Fault job s c) = CoversOne g c
+IsQuiet told g (entry.Gone job s c) = told → Sound (stripe_of g.table g.shelves.held s) c → ⊥
+IsQuiet told g _ = ⊥
+
+-- the archive that serves the slot failed in this call
+abbrev pub FailedAt : GroupView → GroupView → ℕ → ℕ → Type 0
+FailedAt old new s c = Rose (old.shelves.faults (serving_at old.table s c)) (new.shelves.faults (serving_at old.table s c))
+
+-- A LOOK
+
+-- the answer of a look as the steps of a group name it
+abbrev pub looked_as : Looked → List ℕ → step.Looked
+looked_as looked.Seen into = step.Seen into
+looked_as looked.Gone into = step.Gone
+looked_as (looked.Faulted column) into = step.Faulted
+looked_as looked.LogFull into = step.LogFull
+
+-- what an answer says whether or not archives tell: Seen gives a block of the digest of a Live slot, and Faulted comes only
+-- where the archive failed
+abbrev pub LookCause : Looked → GroupView → GroupView → ℕ → ℕ → List ℕ → Type 0
+LookCause looked.Seen old new s c into = slot_at old.table s c ≡ Live (digest_of into)
+LookCause looked.Gone old new s c into = Unit {0}
+LookCause (looked.Faulted column) old new s c into = (column ≡ c) × FailedAt old new s c
+LookCause looked.LogFull old new s c into = new ≡ old
+
+-- A PUT
+
+-- the answer of a put as the steps of a group name it
+abbrev pub put_as : Result Place PutFault → step.PutAnswer
+put_as (Ok place) = step.Placed place.stripe place.column
+put_as (Err fault.LogFull) = step.NoRoom
+put_as (Err fault.Full) = step.Full
+put_as (Err (fault.Faulted column)) = step.NotPut column
+
+-- the old block of a parity slot, by what the table says of it: zeros where it is Void, else a block of its digest
+abbrev pub FitsSlot : SlotState → List ℕ → Type 0
+FitsSlot x p = ((x ≡ Void) × (p ≡ zero_block)) ⊎ (x ≡ Live (digest_of p))
+
+-- the old parity blocks of a stripe
+abbrev pub FitsParity : Table → ℕ → List ℕ → List ℕ → Type 0
+FitsParity t s p q = FitsSlot (slot_at t s t.data_columns) p × (t.parity ≡ 2 → FitsSlot (slot_at t s (t.data_columns + 1)) q)
+
+-- the parity slot whose Gone a put logs, if it logs one: it was Live, in a stripe that takes blocks else
+abbrev pub FitsGone : Table → ℕ → Option ℕ → Type 0
+FitsGone t s gone = IfSome gone (λ c. (t.data_columns ≤ c) × TakesBlocks t s × IsTrue (is_live (slot_at t s c)))
+
+-- and of each stripe that it passes
+abbrev pub FitsPassed : Table → List Passed → Type 0
+FitsPassed t passed = All (λ x. FitsGone t x.stripe x.gone) passed
+
+-- a Fault after the stripes passed, at the cursor's column or at a parity column
+abbrev pub PutNothing : ℕ → List Passed → ℕ → ℕ → GroupView → GroupView → Type 0
+PutNothing job passed s column old new =
+    Logs (skips job passed ++ entry.Fault job s column ∷ []) old new × ((column ≡ new.table.cursor.column) ⊎ (old.table.data_columns ≤ column))
+
+-- What a put logs, whether or not archives tell: for each stripe passed Skip, or Gone of its parity slot and Skip, and then
+-- the entry of its answer. Faulted names the cursor's column or a parity column, whose archive failed.
+abbrev pub PutLogs : ℕ → List ℕ → Result Place PutFault → GroupView → GroupView → Type 0
+PutLogs job block (Ok place) old new =
+    (place.group ≡ old.number)
+    × ((passed : List Passed) × (p : List ℕ) × (q : List ℕ) × FitsParity old.table place.stripe p q
+    × Logs (skips job passed ++ put_entry old.table.parity job place.stripe place.column block p q true true ∷ []) old new
+    × FitsPassed old.table passed)
+PutLogs job block (Err fault.LogFull) old new =
+    (length new.log ≡ log_bound)
+    × ((passed : List Passed) × (s : ℕ) × (gone : Option ℕ) × Logs (skips job passed ++ gone_entries job s gone) old new
+    × FitsPassed old.table passed × FitsGone old.table s gone)
+PutLogs job block (Err fault.Full) old new =
+    (new.table.cursor.stripe ≡ new.table.stripes) × ((passed : List Passed) × Logs (skips job passed) old new × FitsPassed old.table passed)
+PutLogs job block (Err (fault.Faulted column)) old new =
+    (passed : List Passed) × (s : ℕ) × FailedAt old new s column
+    × (PutNothing job passed s column old new
+    ⊎ ((c : ℕ) × (p : List ℕ) × (q : List ℕ) × (kept : Bool) × (kept2 : Bool) × (column ≡ step.unkept old.table.data_columns kept) × FitsParity old.table s p q
+    × Logs (skips job passed ++ put_entry old.table.parity job s c block p q kept kept2 ∷ []) old new))
+    × FitsPassed old.table passed

@@ -1,0 +1,9 @@
+pub mod Shelves
+pub mod Causes
+pub mod Opening
+pub mod Group
+pub mod Beginning
+pub mod Looking
+pub mod Putting
+pub mod Counting
+pub mod Finding

@@ -1,0 +1,137 @@
+-- The archives of a group as plain data, by their numbers, and what a call of one of them does.
+use Rattle.std.specs.Prelude.{◌≡◌, ◌≢◌, ◌≤◌, ◌==◌, ℕ, List, [], ◌∷◌, Option, Some, None, Result, Ok, Err, IsErr, if◌then◌else◌, find, map}
+use Rattle.pot_bytes.specs.declared.digest.Digest.{Digest}
+use Rattle.pot_outside.specs.declared.archive.Marks.{Marks}
+use Rattle.pot_outside.specs.declared.archive.Shelf.{Shelf}
+use Rattle.pot_outside.specs.declared.faults.Failed.{Failed}
+use Rattle.pot_outside.specs.declared.archive.Held.{Held as IsHeld}
+use Rattle.pot_outside.specs.Archives.{Contents, OnlyLoses, ReadTells, WriteTells, MayLeave, at_slot}
+use Rattle.pot_outside.specs.Counts.{Rose, Caused}
+use Rattle.pot_steps.specs.Holdings.{Holdings}
+use Rattle.pot_steps.specs.Stripe.{digest_of}
+use Rattle.pot_group.specs.declared.archives.Found.{Found}
+use Rattle.pot_group.specs.declared.archives.Found.TheVariants.{Sound, Missing, NotRead}
+
+-- By number: the blocks held, the sums heard, the counts of faults and of losses now, and these two when the group took
+-- the archive. A number without an archive has nothing.
+pub record Shelves : Type 0 where
+  pub numbers : List ℕ
+  pub held : Holdings
+  pub heard : ℕ → List (ℕ × List ℕ)
+  pub faults : ℕ → ℕ
+  pub losses : ℕ → ℕ
+  pub faults_taken : ℕ → ℕ
+  pub losses_taken : ℕ → ℕ
+
+-- what the archive of a number gives
+abbrev pub given : {A X : Type 0} → (A → X) → X → Option (Shelf A) → X
+given f x None = x
+given f x (Some s) = f s.archive
+
+-- the number of each, in order
+abbrev pub numbers_of : {A : Type 0} → List (Shelf A) → List ℕ
+numbers_of shelves = map (λ s. s.number) shelves
+
+-- the first archive that has a number
+abbrev pub shelf_of : {A : Type 0} → List (Shelf A) → ℕ → Option (Shelf A)
+shelf_of shelves number = find (λ s. s.number == number) shelves
+
+-- archives, and the marks of their taking in the same order: what the contracts see
+pub record Shelved (A : Type 0) : Type 0 where
+  pub shelves : List (Shelf A)
+  pub marks : List Marks
+
+-- the mark of the first archive that has a number
+abbrev pub mark_of : (Marks → ℕ) → List ℕ → List Marks → ℕ → ℕ
+mark_of f [] marks number = 0
+mark_of f (n ∷ ns) [] number = 0
+mark_of f (n ∷ ns) (m ∷ ms) number = if n == number then f m else mark_of f ns ms number
+
+-- these archives as plain data
+abbrev pub plain : {A : Type 0} → (A → ℕ → Option (List ℕ)) → (A → List (ℕ × List ℕ)) → (A → ℕ) → (A → ℕ) → Shelved A → Shelves
+plain held heard faults losses a = record {
+  numbers = numbers_of a.shelves;
+  held = λ number slot. given (λ x. held x slot) None (shelf_of a.shelves number);
+  heard = λ number. given heard [] (shelf_of a.shelves number);
+  faults = λ number. given faults 0 (shelf_of a.shelves number);
+  losses = λ number. given losses 0 (shelf_of a.shelves number);
+  faults_taken = λ number. mark_of (λ m. m.faults) (numbers_of a.shelves) a.marks number;
+  losses_taken = λ number. mark_of (λ m. m.losses) (numbers_of a.shelves) a.marks number;
+}
+
+-- They are taken now. An archive that does not tell has no mark of losses. `told` is whether the archives tell what they hold.
+pub record IsTaken (told : Type 0) (s : Shelves) : Type 0 where
+  pub faults : (number : ℕ) → s.faults_taken number ≡ s.faults number
+  pub losses : told → (number : ℕ) → s.losses_taken number ≡ s.losses number
+
+-- ONE ARCHIVE OF SEVERAL
+
+-- The archive of a number was called, which made of it what `R` says, and nothing else changed.
+pub record Touches {A : Type 0} (number : ℕ) (R : A → A → Type 0) (old new : List (Shelf A)) : Type 0 where
+  pub shelf : Shelf A
+  pub after : A
+  pub was : shelf_of old number ≡ Some shelf
+  pub now : shelf_of new number ≡ Some (record shelf { archive = after })
+  pub others : (n : ℕ) → n ≢ number → shelf_of new n ≡ shelf_of old n
+  pub numbers : numbers_of new ≡ numbers_of old
+  pub by : R shelf.archive after
+
+-- a read of one archive
+pub record Reads {A : Type 0} (told : Type 0) (held : A → Contents) (heard : A → List (ℕ × List ℕ)) (faults losses : A → ℕ)
+    (slot : ℕ) (into : List ℕ) (result : Result IsHeld Failed) (old new : A) : Type 0 where
+  pub tells : told → ReadTells (held new) slot into result
+  pub loses : told → OnlyLoses (held old) (held new) (losses old) (losses new)
+  pub hears : told → heard new ≡ heard old
+  pub cause : Caused (faults old) (faults new) (IsErr result)
+
+-- a write of one archive
+pub record WritesOne {A : Type 0} (told : Type 0) (held : A → Contents) (heard : A → List (ℕ × List ℕ)) (faults losses : A → ℕ)
+    (slot : ℕ) (block : List ℕ) (result : Result (Unit {0}) Failed) (old new : A) : Type 0 where
+  pub tells : told → WriteTells (held old) (held new) (losses old) (losses new) slot block result
+  pub hears : told → heard new ≡ heard old
+  pub cause : Caused (faults old) (faults new) (IsErr result)
+
+-- WHAT A CALL DOES
+
+-- the same archives, with the marks of their taking, and no count of faults has fallen
+pub record Keeps (old new : Shelves) : Type 0 where
+  pub numbers : new.numbers ≡ old.numbers
+  pub faults_taken : (number : ℕ) → new.faults_taken number ≡ old.faults_taken number
+  pub losses_taken : (number : ℕ) → new.losses_taken number ≡ old.losses_taken number
+  pub later : (number : ℕ) → old.faults number ≤ new.faults number
+
+-- from what the archives were to hold to what they hold: blocks were lost, and nothing else
+abbrev pub LosesFrom : Holdings → Shelves → Shelves → Type 0
+LosesFrom h old new = (number : ℕ) → OnlyLoses (h number) (new.held number) (old.losses number) (new.losses number)
+
+-- Nothing changes but by losses. `told` is whether the archives tell what they hold.
+pub record Stays (told : Type 0) (old new : Shelves) : Type 0 where
+  pub keeps : Keeps old new
+  pub loses : told → LosesFrom old.held old new
+  pub heard : told → (number : ℕ) → new.heard number ≡ old.heard number
+
+-- what a read that wants a block of this digest came to
+abbrev pub FoundMeans : Type 0 → ℕ → ℕ → Digest → List ℕ → Found → Shelves → Shelves → Type 0
+FoundMeans told number slot digest into Sound old new = (digest_of into ≡ digest) × (told → new.held number slot ≡ Some into)
+FoundMeans told number slot digest into Missing old new = told → (b : List ℕ) → new.held number slot ≡ Some b → digest_of b ≢ digest
+FoundMeans told number slot digest into NotRead old new = Rose (old.faults number) (new.faults number)
+
+pub record Finds (told : Type 0) (number slot : ℕ) (digest : Digest) (into : List ℕ) (found : Found) (old new : Shelves) : Type 0 where
+  pub stays : Stays told old new
+  pub means : FoundMeans told number slot digest into found old new
+
+-- what is held once a slot of an archive has this
+abbrev pub put_at : Holdings → ℕ → ℕ → Option (List ℕ) → Holdings
+put_at h number slot block k = if k == number then at_slot (h k) slot block else h k
+
+-- what a write leaves in its slot before any loss: the block, and where it failed the old block, the new one or none
+abbrev pub IsWritten : Result (Unit {0}) Failed → (ℕ → Option (List ℕ)) → ℕ → List ℕ → Option (List ℕ) → Type 0
+IsWritten (Ok u) held slot block left = left ≡ Some block
+IsWritten (Err e) held slot block left = MayLeave held slot block left
+
+-- A block is written into a slot of an archive.
+pub record Writes (told : Type 0) (number slot : ℕ) (block : List ℕ) (result : Result (Unit {0}) Failed) (old new : Shelves) : Type 0 where
+  pub keeps : Keeps old new
+  pub wrote : told → (left : Option (List ℕ)) × IsWritten result (old.held number) slot block left × LosesFrom (put_at old.held number slot left) old new
+  pub heard : told → (n : ℕ) → new.heard n ≡ old.heard n
+  pub cause : IsErr result → Rose (old.faults number) (new.faults number)

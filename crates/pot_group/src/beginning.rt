@@ -1,0 +1,83 @@
+//! How a group begins.
+ghost use Rattle.std.specs.Prelude.{◌≡◌, ◌≤◌, [], IsTrue, IfOk, IfErr, map, vec_capacity};
+
+use crate::archives::Archives;
+use crate::group::{Group, LOG_BOUND};
+use crate::opening::open_all;
+use pot_machine::{Entry, GroupTable};
+use pot_outside::{Archive, Shelf};
+use std::alloc::Global;
+
+/// What a group that could not begin hands back, as it was handed in. It is want of memory alone.
+pub struct StartRefused<A> {
+    pub table: GroupTable,
+    pub shelves: Vec<Shelf<A>>,
+}
+
+impl<A: Archive> Group<A> {
+    ghost use Rattle.pot_machine.specs.Making.{table_of};
+    ghost use Rattle.pot_group.specs.Shelves.{plain, IsTaken};
+    ghost use Rattle.pot_group.specs.Opening.{HasArchives};
+    ghost use Rattle.pot_group.specs.Beginning.{Begins, archives_in};
+
+    /// The group of this number over a table and its archives, opened: the block of every Live slot is read, and what is
+    /// missing or does not fit its stripe is logged by job 0. The archives are, column by column, the home and then the
+    /// target of the move. The table has one parity column.
+    ///
+    /// # Errors
+    /// `StartRefused` for want of memory alone, before any read.
+    pub fn start(
+        alloc: Global,
+        number: u8,
+        table: GroupTable,
+        shelves: Vec<Shelf<A>>,
+    ) -> Result<Group<A>, StartRefused<A>>
+        requires relays { table.relays ≡ [] }
+        requires parity { table.parity ≡ 1 }
+        requires shelves { map (λ s. s.number) shelves.items ≡ archives_in table }
+        ensures begins { IfOk result (λ g. Begins (IsTrue A.tells) A.held A.heard A.faults A.losses number table shelves.items g) }
+        ensures refused { IfErr result (λ r. (r.table ≡ table) × (r.shelves ≡ shelves)) }
+    {
+        let Ok(log) = Vec::with_capacity(alloc, LOG_BOUND) else {
+            return Err(StartRefused { table, shelves });
+        };
+        let Ok(first) = table.copy(alloc) else {
+            return Err(StartRefused { table, shelves });
+        };
+        match Archives::take(alloc, shelves) {
+            Ok(archives) => Ok(Group::open(number, first, table, log, archives)),
+            Err(shelves) => Err(StartRefused { table, shelves }),
+        }
+    }
+
+    /// Opens a table over archives that were just taken.
+    fn open(
+        number: u8,
+        first: GroupTable,
+        table: GroupTable,
+        log: Vec<Entry>,
+        archives: Archives<A>,
+    ) -> Group<A>
+        requires first { first ≡ table }
+        requires relays { table.relays ≡ [] }
+        requires parity { table.parity ≡ 1 }
+        requires log { log.items ≡ [] }
+        requires room { 262144 ≤ vec_capacity log }
+        requires taken { IsTaken (IsTrue A.tells) (plain A.held A.heard A.faults A.losses archives) }
+        requires archives { map (λ s. s.number) archives.shelves ≡ archives_in table }
+        ensures { Begins (IsTrue A.tells) A.held A.heard A.faults A.losses number table archives.shelves result }
+    {
+        let mut table = table;
+        let mut log = log;
+        let mut archives = archives;
+        let _rules = table.cursor();
+        open_all(&mut table, &mut log, &mut archives);
+        Group {
+            number,
+            first,
+            table,
+            log,
+            archives,
+        }
+    }
+}

@@ -1,0 +1,109 @@
+//! A group of archives under parity.
+ghost use Rattle.std.specs.Prelude.{◌≡◌, ◌<◌, ◌≤◌, ◌++◌, [], ◌∷◌, List, IsTrue, length};
+ghost use Rattle.pot_machine.specs.Table.{width};
+
+use crate::archives::{Archives, Found};
+use crate::noting::note;
+use pot_bytes::{Block, Digest};
+use pot_machine::{Entry, GroupTable};
+use pot_outside::{Archive, Shelf};
+use std::marker::Model;
+
+/// The most entries that a log has.
+pub(crate) const LOG_BOUND: usize = 262144;
+
+/// What a group was, handed out at its end.
+pub struct Ended<A> {
+    /// The table, without relays.
+    pub table: GroupTable,
+    /// The entries of this session.
+    pub log: Vec<Entry>,
+    /// The archives, in the order in which they came.
+    pub shelves: Vec<Shelf<A>>,
+}
+
+/// A group of archives. Contracts see its number, the table that it began with, its table and its log now, and its
+/// archives.
+#[derive(Drop)]
+pub struct Group<A: Archive> {
+    pub(crate) number: u8,
+    pub(crate) first: GroupTable,
+    pub(crate) table: GroupTable,
+    pub(crate) log: Vec<Entry>,
+    pub(crate) archives: Archives<A>,
+}
+
+impl<A: Archive> Model for Group<A> {
+    ghost use Rattle.std.specs.Prelude.{◌≤◌, IsTrue};
+    ghost use Rattle.std.specs.Vec.{vec_capacity};
+    ghost use Rattle.pot_group.specs.Group.{GroupParts, view_of, IsSettled};
+
+    ghost Value = { GroupParts A };
+
+    ghost view = { λ g. record { number = g.number; first = g.first; table = g.table; log = g.log.items; archives = g.archives } };
+
+    ghost invariant = { λ g. IsSettled (IsTrue A.tells) (view_of A.held A.heard A.faults A.losses (record { number = g.number; first = g.first; table = g.table; log = g.log.items; archives = g.archives })) × (262144 ≤ vec_capacity g.log) };
+}
+
+impl<A: Archive> Group<A> {
+    ghost use Rattle.pot_machine.specs.Table.{serving_at};
+    ghost use Rattle.pot_machine.specs.Machine.{Legal, Replays};
+    ghost use Rattle.pot_group.specs.Shelves.{plain, Finds};
+    ghost use Rattle.pot_group.specs.Group.{view_of, noted, with_archives, IsQuiet, IsSettled, CoversIfNotRead};
+
+    /// Reads the block of a slot that is to have this digest.
+    pub(crate) fn read_slot(
+        &mut self,
+        stripe: u32,
+        column: u8,
+        digest: Digest,
+        into: &mut Block,
+    ) -> Found
+        requires { column < width self.old.table }
+        ensures same { self.new ≡ with_archives self.old self.new.archives }
+        ensures finds { Finds (IsTrue A.tells) (serving_at self.old.table stripe column) stripe digest into.new result (plain A.held A.heard A.faults A.losses self.old.archives) (plain A.held A.heard A.faults A.losses self.new.archives) }
+        ensures covers { CoversIfNotRead result (view_of A.held A.heard A.faults A.losses self.new) column }
+    {
+        let number = self.table.archive_of(stripe, column);
+        self.archives.read_sound(number, stripe, digest, into)
+    }
+
+    /// Logs an entry that says nothing untrue and puts no block.
+    pub(crate) fn note(&mut self, entry: Entry)
+        requires legal { Legal self.old.table entry }
+        requires room { length self.old.log < 262144 }
+        requires quiet { IsQuiet (IsTrue A.tells) (view_of A.held A.heard A.faults A.losses self.old) entry }
+        ensures { self.new ≡ noted self.old entry }
+    {
+        note(&mut self.table, &mut self.log, entry);
+    }
+
+    /// The number of entries in its log.
+    pub fn logged(&self) -> u64
+        ensures value { result ≡ length self.now.log }
+        ensures bound { result ≤ 262144 }
+    {
+        self.log.len() as u64
+    }
+
+    /// Hands out the table, the log and the archives. It takes no memory.
+    pub fn end(self) -> Ended<A>
+        ensures table { result.table ≡ self.table }
+        ensures log { result.log.items ≡ self.log }
+        ensures shelves { result.shelves.items ≡ self.archives.shelves }
+        ensures settled { IsSettled (IsTrue A.tells) (view_of A.held A.heard A.faults A.losses self) }
+    {
+        let Group {
+            number: _,
+            first: _,
+            table,
+            log,
+            archives,
+        } = self;
+        Ended {
+            table,
+            log,
+            shelves: archives.hand_out(),
+        }
+    }
+}

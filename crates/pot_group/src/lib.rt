@@ -1,0 +1,80 @@
+//! A group of archives under parity: the opening of its table, puts, looks and counts.
+//!
+//! A group has a table of `pot_machine`, the archives that serve its columns, and the log of one session. Each change of the
+//! table is an entry that is logged and applied at once. No table is trusted: `start` reads the block of every Live slot, and
+//! logs what is missing and what does not fit its stripe.
+//!
+//! It rebuilds nothing and moves nothing: a slot that is Lost or Broken stays so, and no call begins a relay, a move or a
+//! swap. It knows no file, no thread and no name, stores no table and no log, and does not choose the group that a block goes
+//! to. It takes memory at `start` alone. `start` and `put` ask for a table with one parity column.
+//!
+//! The equation of a stripe: the XOR of its data blocks and of the parity block P is zeros, with zeros for a slot that is Void.
+//! A put of a block D fills a slot that is Void, so the new parity block is P XOR D. D is written first: where its write
+//! fails, the slot is still Void and P stays.
+//!
+//! Invariants of every `Group`, kept by its type (`IsSettled`); `end` hands them out as `settled`:
+//! 1. The log replays from the table that was read to the table now (`replay`; `note` alone logs, and applies what it logs).
+//! 2. The table keeps the rules of `pot_machine` (`table`), and its numbers of columns stay (`sizes`).
+//! 3. No relay stands (`relays`; `start` asks for it).
+//! 4. The log has at most 262,144 entries (`bound`; each call that logs looks first, and `start` takes all that memory).
+//! 5. Each home and each target of a column is an archive of the group (`shelves`; `start` asks for it), and the archive that
+//!    serves a slot is one that its column has had (`serves`).
+//! 6. No count of faults or losses is below its mark, which `Archives::take` notes before the first read (`faults`, `losses`).
+//! 7. The law of every stripe: where no slot is Broken and at most one is Lost, there is a filling, which gives each slot a
+//!    block of its digest, the one held where the slot is sound, and adds up to zeros (`holds`, by `HoldsUp` of `pot_steps`).
+//!    `start` makes it hold, `put` keeps it, and a loss breaks none.
+//! 8. The law of the Live slots: the archive that serves one holds a block of its digest, or its count of losses rose above
+//!    the mark (`live`). `start` makes it hold, and so does `put` for the slots that it fills.
+//! 9. The cause law (`causes`). The log names no more faults of a column than its archives counted above their marks, unless one
+//!    of these counts stands at its last value. A Live slot of a column was logged Gone, but by job 0, only where the count of
+//!    losses of one of its archives rose above the mark.
+//!
+//! 7, 8 and the losses of 6 and 9 are said of archives that tell what they hold, and all else always.
+//!
+//! What `start` makes of a stripe, after a Gone for each Live slot that gave no block of its digest:
+//!
+//! | slots that are neither Void nor gave their block | the XOR of the blocks that were read | Broke |
+//! |---|---|---|
+//! | none | zeros | |
+//! | none | any other | the parity slot |
+//! | one, which is not Broken | of its digest | |
+//! | one, which is not Broken | of another digest | that slot |
+//! | one that is Broken, or two and more | any | |
+//!
+//! What the other calls log. LogFull comes first, with no entry, where the log is full:
+//!
+//! | call | entries | answer |
+//! |---|---|---|
+//! | `put` | for each stripe that it passes Skip, or Gone of the parity slot and Skip; then one of these: | |
+//! | | Put | the place |
+//! | | Put, not kept | Faulted, of the parity column |
+//! | | Fault | Faulted, of the column whose write or read failed |
+//! | | none, behind the last stripe | Full |
+//! | | none, or that Gone, where the next one has no room | LogFull |
+//! | `look` | Seen, Gone or Fault | the same, and the block where it is Seen |
+//! | `count` | Counted | how many slots are Live, Lost and Broken, and the cursor |
+//! | `next`, `logged`, `end` | none | what they read |
+#![tactic(auto)]
+
+mod answers;
+mod archives;
+mod beginning;
+mod counting;
+mod finding;
+mod group;
+mod looking;
+mod noting;
+mod opening;
+mod putting;
+#[cfg(test)]
+mod scene;
+mod telling;
+#[cfg(test)]
+mod tests;
+
+pub use answers::{Looked, PutFault};
+pub use beginning::StartRefused;
+pub use counting::Counts;
+pub use finding::Kind;
+pub use group::{Ended, Group};
+pub use telling::LogFull;

@@ -1,0 +1,350 @@
+//! The stage of the tests: a group of number 5 with three data columns and one parity column, over the archives 0 to 3 in
+//! memory, whose blocks each repeat one byte.
+ghost use Rattle.std.specs.Prelude.{◌≡◌, ◌<◌, ◌∷◌, [], IsTrue, map};
+ghost use Rattle.std.specs.List.{flat_map};
+ghost use Rattle.pot_group.specs.Beginning.{homes_of};
+
+use crate::*;
+use pot_bytes::{Block, Digest, Geometry, Place, Rack, digest_of};
+use pot_doubles::{Loss, LossyArchive};
+use pot_machine::{Column, Entry, GroupTable, SlotState};
+use pot_outside::{Archive, Shelf};
+use std::alloc::{AllocError, Global};
+use std::process::Abort;
+use std::test::Fail;
+
+/// The number of the job that makes the calls.
+pub(crate) const JOB: u32 = 7;
+
+/// How a group begins, and what is to become of its archives.
+#[derive(Clone, Copy)]
+pub(crate) struct Scene<'a> {
+    pub(crate) stripes: u32,
+    /// The entries that led to the table.
+    pub(crate) before: &'a [Entry],
+    /// By slot and archive the byte of the block that stands there, 0 for none. An archive's first calls write these.
+    pub(crate) blocks: [[u8; 4]; 2],
+    /// The archive and the number of each call that fails.
+    pub(crate) fails: &'a [(u32, u32)],
+    /// The archive of each loss.
+    pub(crate) losses: &'a [(u32, Loss)],
+}
+
+/// Two stripes where nothing was put.
+pub(crate) const EMPTY: Scene<'static> = Scene {
+    stripes: 2,
+    before: &[],
+    blocks: [[0; 4]; 2],
+    fails: &[],
+    losses: &[],
+};
+
+/// A call of a group. A put is of the block of this byte.
+#[derive(Clone, Copy, Debug)]
+pub(crate) enum Call {
+    Put(u8),
+    Look(u32, u8),
+    Count,
+    Next(u32, u8, Kind),
+}
+
+/// What a call answered.
+#[derive(Clone, Copy, PartialEq, Eq, Debug)]
+pub(crate) enum Answer {
+    Put(Result<Place, PutFault>),
+    /// The byte that the block repeats, where the slot was seen.
+    Look(Looked, Option<u8>),
+    Count(Result<Counts, LogFull>),
+    Next(Option<Place>),
+    /// The group has no such slot.
+    Refused,
+}
+
+/// How a group ends: its log, the letter of each slot stripe by stripe, its cursor, and how often each archive failed.
+#[derive(Clone, Copy)]
+pub(crate) struct Ending<'a> {
+    pub(crate) log: &'a [Entry],
+    pub(crate) slots: &'a str,
+    pub(crate) cursor: (u32, u8),
+    pub(crate) faults: [u64; 4],
+}
+
+/// The block that repeats a byte.
+pub(crate) fn block(byte: u8) -> Block {
+    Block::from_bytes([byte; 1024])
+}
+
+/// The digest of the block that repeats a byte.
+pub(crate) fn digest(byte: u8) -> Digest {
+    digest_of(block(byte).bytes())
+}
+
+pub(crate) fn place(stripe: u32, column: u8) -> Place
+    ensures stripe { result.stripe ≡ stripe }
+    ensures column { result.column ≡ column }
+{
+    Place {
+        group: 5,
+        column,
+        stripe,
+    }
+}
+
+/// The entry of a put of the block of `byte`, after which the parity block is that of `parity`.
+pub(crate) fn put(stripe: u32, column: u8, byte: u8, parity: u8, kept: bool) -> Entry {
+    Entry::Put {
+        job: JOB,
+        stripe,
+        column,
+        digest: digest(byte),
+        parity_digest: digest(parity),
+        kept,
+    }
+}
+
+pub(crate) fn gone(job: u32, stripe: u32, column: u8) -> Entry {
+    Entry::Gone {
+        job,
+        stripe,
+        column,
+    }
+}
+
+pub(crate) fn broke(stripe: u32, column: u8) -> Entry {
+    Entry::Broke {
+        job: 0,
+        stripe,
+        column,
+    }
+}
+
+pub(crate) fn fault(stripe: u32, column: u8) -> Entry {
+    Entry::Fault {
+        job: JOB,
+        stripe,
+        column,
+    }
+}
+
+pub(crate) fn seen(stripe: u32, column: u8) -> Entry {
+    Entry::Seen {
+        job: JOB,
+        stripe,
+        column,
+    }
+}
+
+pub(crate) fn skip(stripe: u32) -> Entry {
+    Entry::Skip { job: JOB, stripe }
+}
+
+/// The byte that a block repeats, if it does.
+fn repeated(block: &Block) -> Option<u8> {
+    let bytes = block.bytes();
+    let first = bytes[0];
+    if bytes.iter().all(|byte| *byte == first) {
+        Some(first)
+    } else {
+        None
+    }
+}
+
+/// The archive of this number, filled.
+fn archive(alloc: Global, scene: &Scene, number: u32) -> Result<LossyArchive, AllocError>
+    requires { number < 4 }
+{
+    let mut fails = Vec::new(alloc);
+    for (archive, call) in scene.fails {
+        if *archive == number {
+            fails.push(*call)?;
+        }
+    }
+    let mut losses = Vec::new(alloc);
+    for (archive, loss) in scene.losses {
+        if *archive == number {
+            losses.push(*loss)?;
+        }
+    }
+    let mut filled = LossyArchive::new(alloc, fails, losses);
+    for (slot, bytes) in (0..scene.stripes).zip(&scene.blocks) {
+        let byte = bytes[number as usize];
+        if byte != 0 {
+            let _ = filled.write(slot, &block(byte));
+        }
+    }
+    Ok(filled)
+}
+
+/// The table that the entries of a scene lead to.
+fn table(alloc: Global, scene: &Scene) -> Result<GroupTable, Fail> {
+    let geometry = Geometry {
+        fragments: 2,
+        need: 1,
+        shards: 1,
+        blur: 0,
+    };
+    let rack = Rack {
+        groups: 1,
+        columns: 3,
+        parity: 1,
+        stripes: scene.stripes,
+        geometry,
+    };
+    if !rack.fits() {
+        return Err(Fail::from("the rack does not fit"));
+    }
+    let mut table = GroupTable::empty(alloc, &rack, 0).map_err(|_| Fail::from("no memory"))?;
+    if !table.replay(scene.before) {
+        return Err(Fail::from("an entry is not legal"));
+    }
+    Ok(table)
+}
+
+/// Whether the column stays, and its home is this archive.
+fn is_home(column: &Column, shelf: &Shelf<LossyArchive>) -> bool
+    ensures { IsTrue result → homes_of column.now ≡ shelf.now.number ∷ [] }
+{
+    match column.moving {
+        None => column.home == shelf.number,
+        Some(_) => false,
+    }
+}
+
+/// Whether the columns stay, and their homes are these archives, in order.
+fn are_homes(columns: &[Column], shelves: &[Shelf<LossyArchive>]) -> bool
+    ensures { IsTrue result → map (λ s. s.number) shelves.now ≡ flat_map homes_of columns.now }
+{
+    match columns {
+        [] => shelves.is_empty(),
+        [column, columns @ ..] => match shelves {
+            [] => false,
+            [shelf, shelves @ ..] => is_home(column, shelf) && are_homes(columns, shelves),
+        },
+    }
+}
+
+/// Begins the group over a table and its archives.
+pub(crate) fn start(
+    alloc: Global,
+    table: GroupTable,
+    shelves: Vec<Shelf<LossyArchive>>,
+) -> Result<Group<LossyArchive>, Fail> {
+    if !are_homes(table.columns(), &shelves)
+        || table.parity() != 1
+        || table.relays() != [].as_slice()
+    {
+        return Err(Fail::from("the table is another one"));
+    }
+    match Group::start(alloc, 5, table, shelves) {
+        Ok(group) => Ok(group),
+        Err(
+            StartRefused {
+                table: _,
+                shelves: _,
+            },
+        ) => Err(Fail::from("no memory")),
+    }
+}
+
+/// Begins the group of a scene.
+pub(crate) fn begin(alloc: Global, scene: &Scene) -> Result<Group<LossyArchive>, Fail> {
+    let mut shelves = Vec::new(alloc);
+    for number in 0..4 {
+        let archive = archive(alloc, scene, number)?;
+        shelves.push(Shelf { number, archive })?;
+    }
+    start(alloc, table(alloc, scene)?, shelves)
+}
+
+/// Looks at a slot.
+fn look(group: &mut Group<LossyArchive>, stripe: u32, column: u8) -> Answer {
+    if stripe >= group.table.stripes() {
+        return Answer::Refused;
+    }
+    if column >= group.table.data_columns() + group.table.parity() {
+        return Answer::Refused;
+    }
+    let mut into = Block::zero();
+    match group.look(JOB, place(stripe, column), &mut into) {
+        Looked::Seen => Answer::Look(Looked::Seen, repeated(&into)),
+        looked => Answer::Look(looked, None),
+    }
+}
+
+/// Makes a call.
+pub(crate) fn make(group: &mut Group<LossyArchive>, call: Call) -> Answer {
+    match call {
+        Call::Put(byte) => {
+            if group.table.parity() != 1 {
+                return Answer::Refused;
+            }
+            Answer::Put(group.put(JOB, &block(byte)))
+        }
+        Call::Look(stripe, column) => look(group, stripe, column),
+        Call::Count => Answer::Count(group.count(JOB)),
+        Call::Next(stripe, column, kind) => Answer::Next(group.next(stripe, column, kind)),
+    }
+}
+
+/// The slots of a table, stripe by stripe.
+pub(crate) fn slots(alloc: Global, table: &GroupTable) -> Result<Vec<SlotState>, AllocError> {
+    let mut slots = Vec::new(alloc);
+    for stripe in 0..table.stripes() {
+        for column in 0..table.data_columns() + table.parity() {
+            slots.push(table.slot(stripe, column))?;
+        }
+    }
+    Ok(slots)
+}
+
+/// The letter of each slot.
+fn letters(alloc: Global, slots: &[SlotState]) -> Result<String, AllocError> {
+    let mut letters = String::new(alloc);
+    for slot in slots {
+        letters.push(match slot {
+            SlotState::Void => 'V',
+            SlotState::Live(_) => 'L',
+            SlotState::Lost(_) => 'X',
+            SlotState::Broken(_) => 'B',
+        })?;
+    }
+    Ok(letters)
+}
+
+/// Sees that a group ends so, and hands out its table and its archives.
+pub(crate) fn see_end(
+    rt: &impl Abort,
+    alloc: Global,
+    group: Group<LossyArchive>,
+    ending: &Ending,
+) -> Result<(GroupTable, Vec<Shelf<LossyArchive>>), AllocError> {
+    let Ended {
+        table,
+        log,
+        shelves,
+    } = group.end();
+    assert_eq!(rt; log.as_slice(), ending.log);
+    let letters = letters(alloc, &slots(alloc, &table)?)?;
+    assert_eq!(rt; letters.as_str(), ending.slots);
+    let cursor = table.cursor();
+    assert_eq!(rt; (cursor.stripe, cursor.column), ending.cursor);
+    for (shelf, faults) in shelves.iter().zip(&ending.faults) {
+        assert_eq!(rt; shelf.archive.marks().faults, *faults);
+    }
+    Ok((table, shelves))
+}
+
+/// Begins with a scene, sees that each call answers so, and that the group ends so. Hands out its table and its archives.
+pub(crate) fn see(
+    rt: &impl Abort,
+    alloc: Global,
+    scene: &Scene,
+    calls: &[(Call, Answer)],
+    ending: &Ending,
+) -> Result<(GroupTable, Vec<Shelf<LossyArchive>>), Fail> {
+    let mut group = begin(alloc, scene)?;
+    for (call, answer) in calls {
+        assert_eq!(rt; make(&mut group, *call), *answer);
+    }
+    Ok(see_end(rt, alloc, group, ending)?)
+}

@@ -1,0 +1,52 @@
+//! What a group tells of its table.
+ghost use Rattle.std.specs.Prelude.{◌≡◌, ◌↔◌, IsTrue, IfOk, Err, [], ◌∷◌, length};
+
+use crate::counting::{Counts, counts_of};
+use crate::finding::{Kind, next_place};
+use crate::group::{Group, LOG_BOUND};
+use pot_bytes::Place;
+use pot_machine::Entry;
+use pot_outside::Archive;
+
+/// The log has no room for the next entry. Nothing changed.
+#[derive(Clone, Copy, PartialEq, Eq, Debug)]
+pub struct LogFull;
+
+impl<A: Archive> Group<A> {
+    ghost use Rattle.std.specs.Prelude.{IsErr};
+    ghost use Rattle.pot_machine.specs.declared.entry.Entry.TheVariants.{Counted};
+    ghost use Rattle.pot_steps.specs.GroupStep.{CountStep};
+    ghost use Rattle.pot_group.specs.Counting.{IsCounted};
+    ghost use Rattle.pot_group.specs.Finding.{is_of, IsPlace};
+    ghost use Rattle.pot_group.specs.Group.{noted, view_of, state_of};
+
+    /// Counts the slots of the group by state, tells its cursor, and logs that it did.
+    ///
+    /// # Errors
+    /// `LogFull` exactly where the log has 262,144 entries; nothing changes then.
+    pub fn count(&mut self, job: u32) -> Result<Counts, LogFull>
+        ensures full { IsErr result ↔ (length self.old.log ≡ 262144) }
+        ensures refused { IsErr result → self.new ≡ self.old }
+        ensures counts { IfOk result (λ counts. IsCounted self.old.table counts × (self.new ≡ noted self.old (Counted job))) }
+        ensures step { IsTrue A.tells → IfOk result (λ counts. CountStep job (state_of (view_of A.held A.heard A.faults A.losses self.old)) (state_of (view_of A.held A.heard A.faults A.losses self.new))) }
+    {
+        if self.log.len() >= LOG_BOUND {
+            return Err(LogFull);
+        }
+        let counts = counts_of(&self.table);
+        self.note(Entry::Counted { job });
+        Ok(counts)
+    }
+
+    /// The first place at or after this one, by stripe and then column, whose slot is of the kind.
+    pub fn next(&self, stripe: u32, column: u8, kind: Kind) -> Option<Place>
+        ensures { IsPlace self.now.number self.now.table (is_of kind) stripe column result }
+    {
+        let (stripe, column) = next_place(&self.table, stripe, column, kind)?;
+        Some(Place {
+            group: self.number,
+            column,
+            stripe,
+        })
+    }
+}
