@@ -1,1 +1,2 @@
 pub mod WholeRows
+pub mod Sizes

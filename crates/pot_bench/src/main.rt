@@ -1,18 +1,23 @@
 //! Times the loops that touch every byte of a file.
 //!
 //! To standard output goes a line for each loop with a checksum of what it computed, the same at each
-//! run. To standard error goes how fast it went, and how many times slower than `xor_into` of that run.
-//! The argument says over how many megabytes each loop goes: 1 without it. It is no part of the archive.
+//! run. To standard error goes how fast it went, and how many times slower than `xor_into` of that run;
+//! of puts and looks in a group, which part of their time the digests alone take that they make.
+//! The argument says over how many megabytes each loop goes: 1 without it. Puts and looks go over three
+//! times as many. It is no part of the archive.
 #![tactic(auto)]
 
+mod groups;
 mod kernels;
 mod pieces;
 mod report;
 mod rows;
+mod timing;
 
 use report::Report;
 use rows::Rows;
 use std::{env, io};
+use timing::Trials;
 
 fn main(rt: HostRuntime) -> io::Result<()> {
     let megabytes: u16 = match env::args(&rt)?.nth(1) {
@@ -43,5 +48,7 @@ fn main(rt: HostRuntime) -> io::Result<()> {
     let blocks = pieces::two_of_three(rt.alloc(), rounds)?;
     report.line(&rt, "piece_blocks 2, 2 of 3", 1, &blocks)?;
     let blocks = pieces::three_of_five(rt.alloc(), rounds)?;
-    report.line(&rt, "piece_blocks 3, 3 of 5", 1, &blocks)
+    report.line(&rt, "piece_blocks 3, 3 of 5", 1, &blocks)?;
+    let trials = Trials::over(&rt, rt.alloc(), rows.blocks(), megabytes)?;
+    trials.report(&rt, &report)
 }

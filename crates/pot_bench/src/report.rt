@@ -46,6 +46,22 @@ impl Report {
         self.start = Instant::now(rt)?;
         Ok(())
     }
+
+    /// Prints how fast a loop over the three megabytes of each group was, and which part of its time the digests alone
+    /// take that it makes.
+    pub fn part(
+        &self,
+        rt: &(impl Print + Eprint),
+        name: &str,
+        seconds: f64,
+        digests: f64,
+        bytes: &[u8],
+    ) -> io::Result<()> {
+        let speed = self.rounds * 3.0 / 16.0 / seconds;
+        let part = digests / seconds;
+        eprintln!(rt; "{name}: {speed:.0} MB/s, its digests alone take {part:.2} of that time")?;
+        println!(rt; "{name} {:016x}", checksum(bytes))
+    }
 }
 
 /// The first eight bytes of the digest, as a number.

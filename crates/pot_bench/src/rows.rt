@@ -62,6 +62,13 @@ impl Rows {
         &self.out
     }
 
+    /// The blocks of the content.
+    pub fn blocks(&self) -> &[Block]
+        ensures { result.now ≡ self.now.blocks.items }
+    {
+        &self.blocks
+    }
+
     pub fn xor_into(&mut self, rounds: u32)
         ensures { KeepsRows self.old self.new }
     {
