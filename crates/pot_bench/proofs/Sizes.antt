@@ -26,5 +26,5 @@ put job block (Err fault.LogFull) old new p h = replayed old.table new.table _ p
 put job block (Err fault.Full) old new p h = replayed old.table new.table _ p.1.1.replay h
 put job block (Err (fault.Faulted column)) old new p h = elim p.3 [
   | inl logs ↦ replayed old.table new.table _ logs.0.replay h
-  | inr kept ↦ replayed old.table new.table _ kept.7.replay h
+  | inr kept ↦ replayed old.table new.table _ kept.8.replay h
 ]

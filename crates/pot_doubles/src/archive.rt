@@ -1,3 +1,5 @@
+ghost use Rattle.std.specs.Prelude.{◌<◌, ℕ, slice_index};
+ghost use Rattle.pot_outside.specs.Archives.{IsWholeBlock};
 ghost use Rattle.pot_doubles.specs.Kept.{IsKept};
 
 use crate::calls::Calls;
@@ -159,6 +161,7 @@ impl Archive for LossyArchive {
         let Some(block) = self.blocks.get(&slot) else {
             return Ok(Held::Absent);
         };
+        sized(block);
         fold_weighted(sum, weight, block);
         Ok(Held::Held)
     }
@@ -195,6 +198,20 @@ impl Archive for LossyArchive {
             losses: self.lost,
         }
     }
+}
+
+/// A block has 1,024 bytes. It does nothing.
+fn sized(block: &Block)
+    ensures { IsWholeBlock block.now }
+{
+    are_bytes(block.bytes());
+}
+
+/// A byte is below 256. It does nothing.
+fn are_bytes(bytes: &[u8])
+    ensures { (k : ℕ) → slice_index bytes.now k < 256 }
+{
+    let _first = bytes.first();
 }
 
 #[cfg(test)]

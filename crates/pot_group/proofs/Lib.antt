@@ -13,3 +13,12 @@ pub mod Passing
 pub mod Placed
 pub mod LookSteps
 pub mod Opened
+pub mod RelayExits
+pub mod AdvanceSteps
+pub mod BeginSteps
+pub mod MendSteps
+pub mod Brought
+pub mod ColumnExits
+pub mod MoveExits
+pub mod MovingCalls
+pub mod Keeping

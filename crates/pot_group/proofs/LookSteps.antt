@@ -42,5 +42,5 @@ module _ (told : Type 0) (g mid : GroupView) (job s c : ℕ) (into : List ℕ) (
     logs = record { log = refl; room = room_for g (entry.Fault job s c) room; flights = refl; heard = looks.stays.heard t };
     replay = ((stripe, column), refl);
     loses = (λ n m b h. (looks.stays.loses t n).keeps m b h);
-    means = tt;
+    means = looks.finds.2;
   }

@@ -89,7 +89,7 @@ module _ {A : Type 0} (told : Type 0) (held : A → ℕ → Option (List ℕ)) (
   now = plain held heard faults losses b
 
   abbrev group : GroupParts A
-  group = record { number = number; first = t; table = u; log = log; archives = b }
+  group = record { number = number; first = t; table = u; log = log; flights = []; archives = b }
 
   abbrev view : GroupParts A → GroupView
   view g = view_of held heard faults losses g
@@ -134,8 +134,8 @@ module _ {A : Type 0} (told : Type 0) (held : A → ℕ → Option (List ℕ)) (
     | inr r ↦ inr (subst (λ y. Rose y (now.losses n)) (sym (o.stays.keeps.losses_taken n ∙ taken.losses k n)) r)
   ]
 
-  serves_first : (c : ℕ) → c < width t → (s : ℕ) → Contains (archives_of t [] c) (serving_at t s c)
-  serves_first c lc s = subst (λ ns. Contains ns (serving_at t s c)) (homes_nil (column_at t c)) (named (column_at t c) (serving_at t s c) (names_serving (column_at t c) s))
+  serves_first : (c number : ℕ) → IsTrue (names (column_at t c) number) → Contains (archives_of t [] c) number
+  serves_first c number h = subst (λ ns. Contains ns number) (homes_nil (column_at t c)) (named (column_at t c) number h)
     where
       homes_nil : (x : Column) → homes_of x ≡ x.home ∷ (target_of x.moving ++ [])
       homes_nil x = ap (λ l. x.home ∷ l) (sym (append-nil (target_of x.moving)))
@@ -144,16 +144,17 @@ module _ {A : Type 0} (told : Type 0) (held : A → ℕ → Option (List ℕ)) (
   opened_settled = record {
     replay = o.replay;
     table = rules_stay t u log table o.replay;
-    relays = ap (λ (x : Table). x.relays) is_shape ∙ relays;
+    relays = sym (ap (λ (x : Table). x.relays) is_shape ∙ relays);
     bound = bound;
     shelves = (λ c n lc h. subst (λ ns. Contains ns n) (sym o.stays.keeps.numbers)
         (handed c n (omega (arith, lc, same_width)) (subst (λ cs. IsTrue (names (slice_index_or cs c no_column) n)) same_columns h)));
-    serves = (λ s c lc. subst (λ ns. Contains ns (serving_at u s c)) (sym (archives_of-opening t log c all))
-        (subst (λ n. Contains (archives_of t [] c) n) (sym (same_serving s c)) (serves_first c (omega (arith, lc, same_width)) s)));
-    sizes = (ap (λ (x : Table). x.data_columns) is_shape, ap (λ (x : Table). x.parity) is_shape);
+    serves = (λ c n lc h. subst (λ ns. Contains ns n) (sym (archives_of-opening t log c all))
+        (serves_first c n (subst (λ cs. IsTrue (names (slice_index_or cs c no_column) n)) same_columns h)));
+    sizes = (ap (λ (x : Table). x.data_columns) is_shape, ap (λ (x : Table). x.parity) is_shape, ap (λ (x : Table). x.stripes) is_shape);
     faults = (λ n. omega (arith, o.stays.keeps.faults_taken n, taken.faults n, o.stays.keeps.later n));
     losses = (λ k n. omega (arith, o.stays.keeps.losses_taken n, taken.losses k n, (o.stays.loses k n).later));
     holds = (λ k. (start_makes (state_of (view (unopened number t a))) (state_of (view group)) (start_step k) table).holds);
+    flying = (λ k s ls. tt);
     live = (λ k. start_makes_live (LostSince now) (state_of (view (unopened number t a))) (state_of (view group)) (start_step k) table
         (record { keeps = (λ s c x ls lc nv h. lost_then k (serving_at t s c) s x h) }));
     causes = record {

@@ -5,10 +5,11 @@ use Rattle.std.proofs.lemmas.List.Elements.{All-weaker, All-nil}
 use Rattle.pot_bytes.specs.declared.rack.Place.{Place}
 use Rattle.pot_bytes.specs.Sums.{xor}
 use Rattle.pot_outside.specs.Counts.{Rose}
+use Rattle.pot_machine.specs.declared.slot.SlotState.TheVariants.{Void}
 use Rattle.pot_machine.specs.declared.entry.Entry.{Entry}
 use Rattle.pot_machine.specs.declared.entry.Entry.TheVariants as entry
 use Rattle.pot_machine.specs.Table.{Table, width, serving_at, slot_at}
-use Rattle.pot_machine.specs.Machine.{Legal, after, Replays}
+use Rattle.pot_machine.specs.Machine.{TakesBlocks, Legal, after, Replays}
 use Rattle.pot_machine.specs.Rules.{IsTable}
 use Rattle.pot_steps.specs.Stripe.{IsOld}
 use Rattle.pot_steps.specs.Holdings.{Holdings, stripe_of}
@@ -62,7 +63,7 @@ module _ (told : Type 0) (job : ℕ) (passed : List Passed) (old now mid : Group
 
   logged : told → (entries : List Entry) (new : GroupView) → Logs entries old new → length new.log ≤ log_bound → ((n : ℕ) → new.shelves.heard n ≡ mid.shelves.heard n)
       → StepLogs entries (state_of old) (state_of new)
-  logged t entries new l room heard = record { log = l.log; room = room; flights = refl; heard = (λ n. heard n ∙ same_heard t n) }
+  logged t entries new l room heard = record { log = l.log; room = room; flights = l.flights; heard = (λ n. heard n ∙ same_heard t n) }
 
   -- an archive that failed after it failed in the whole call
   failed_since : (new : GroupView) (s c : ℕ) → mid.table ≡ now.table → FailedAt mid new s c → FailedAt old new s c
@@ -95,7 +96,7 @@ module _ (told : Type 0) (job : ℕ) (parity block : List ℕ) (old mid : GroupV
 -- at once
 module _ (job : ℕ) (block : List ℕ) (old : GroupView) (full : length old.log ≡ log_bound) where
   nothing_logged : Logs [] old old
-  nothing_logged = record { number = refl; first = refl; log = sym (append-nil old.log); replay = refl }
+  nothing_logged = record { number = refl; first = refl; log = sym (append-nil old.log); flights = refl; replay = refl }
 
   pub at_once_logs : PutLogs job block (Err fault.LogFull) old old
   at_once_logs = (full, ([], 0, None, nothing_logged, All-nil (λ x. FitsGone old.table x.stripe x.gone), tt))
@@ -171,7 +172,8 @@ module _ (told : Type 0) (job : ℕ) (parity block : List ℕ) (old mid : GroupV
     at = f.now.table;
     now = mid.shelves.held;
     passes = passes_to told job f.passed old f.now mid f.passes f.stays f.now.table refl t;
-    place = inr (omega (arith, last_now));
+    takes = f.means.2;
+    place = inr (omega (arith, last_now), subst (λ c. slot_at f.now.table f.now.table.cursor.stripe c ≢ Void) last_now f.means.3);
     legal = subst (λ c. Legal f.now.table (entry.Fault job f.now.table.cursor.stripe c)) last_now f.means.0.replay.0;
     table = f.means.0.replay.1;
     logs = logged told job f.passed old f.now mid f.passes f.stays t (skips job f.passed ++ entry.Fault job f.now.table.cursor.stripe column ∷ []) mid fault_logged room (λ n. refl);
@@ -306,7 +308,7 @@ module _ (told : Type 0) (job : ℕ) (parity block : List ℕ) (old mid new : Gr
     f.passed,
     mid.table.cursor.stripe,
     subst (λ c. FailedAt old new mid.table.cursor.stripe c) (sym m.1) (failed mid.table.cursor.stripe mid.table.data_columns (m.0.fails refl)),
-    inr (mid.table.cursor.column, parity, parity, false, false, m.1 ∙ same_columns, fits_here mid.table.cursor.stripe refl, put_logged mid.table.cursor.stripe mid.table.cursor.column false old.table.parity one m.0.logs),
+    inr (mid.table.cursor.column, parity, parity, false, false, m.1 ∙ same_columns, inl refl, fits_here mid.table.cursor.stripe refl, put_logged mid.table.cursor.stripe mid.table.cursor.column false old.table.parity one m.0.logs),
     f.passes.gones,
   )
   here_logs (Err fault.Full) m = absurd m
@@ -331,6 +333,7 @@ module _ (told : Type 0) (job : ℕ) (parity block : List ℕ) (old mid new : Gr
         at = mid.table;
         now = mid.shelves.held;
         passes = passes_here t;
+        takes = subst (λ u. TakesBlocks u u.cursor.stripe) (sym f.means.0.replay) f.means.2;
         place = inl e;
         legal = puts.logs.replay.0;
         table = puts.logs.replay.1;

@@ -11,6 +11,7 @@ use Rattle.pot_group.specs.Causes.{archives_of, faults_in}
 use Rattle.pot_group.specs.Group.{GroupView, IsSettled, CoversOne, CoversIfNotRead}
 use Rattle.pot_outside.specs.Counts.{Rose}
 use Rattle.pot_group.proofs.CauseLemmas.{covers-one}
+use Rattle.pot_group.proofs.Settled.{serving_in}
 
 -- the archive that serves a slot is one of the group
 pub served : (told : Type 0) (g : GroupView) → IsSettled told g → (s c : ℕ) → c < width g.table → Contains g.shelves.numbers (serving_at g.table s c)
@@ -21,7 +22,7 @@ pub covers_rise : (told : Type 0) (g : GroupView) (now : Shelves) (s c : ℕ) �
     → Rose (g.shelves.faults (serving_at g.table s c)) (now.faults (serving_at g.table s c)) → CoversOne (record g { shelves = now }) c
 covers_rise told g now s c settled lc keeps rose =
     covers-one g.shelves now (archives_of g.first g.log c) (faults_in g.first.data_columns c g.log) (serving_at g.table s c) keeps.later keeps.faults_taken
-    (settled.causes.faults c (omega (arith, lc, settled.sizes.0, settled.sizes.1))) (settled.serves s c lc) (settled.faults (serving_at g.table s c)) rose
+    (settled.causes.faults c (omega (arith, lc, settled.sizes.0, settled.sizes.1))) (serving_in told g settled s c lc) (settled.faults (serving_at g.table s c)) rose
 
 pub read_covers : (told : Type 0) (g : GroupView) (now : Shelves) (s c : ℕ) (digest : Digest) (into : List ℕ) (found : Found) → IsSettled told g → c < width g.table
     → Finds told (serving_at g.table s c) s digest into found g.shelves now → CoversIfNotRead found (record g { shelves = now }) c

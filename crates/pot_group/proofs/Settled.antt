@@ -5,21 +5,26 @@ use Rattle.std.proofs.Common.{length-append}
 use Rattle.std.proofs.lemmas.Bool.Decides.{nat_tests}
 use Rattle.pot_outside.specs.Counts.{Rose}
 use Rattle.pot_machine.specs.declared.entry.Entry.{Entry}
-use Rattle.pot_machine.specs.declared.entry.Entry.TheVariants.{Skip, Seen, Gone, Fault, Counted}
+use Rattle.pot_machine.specs.declared.entry.Entry.TheVariants.{Skip, Seen, Gone, Fault, Stuck, Counted}
 use Rattle.pot_machine.specs.Column.{names, serving}
 use Rattle.pot_machine.specs.Slot.{is_live}
 use Rattle.pot_machine.specs.Table.{Table, width, slot_at, column_at, serving_at, no_column}
 use Rattle.pot_machine.specs.Machine.{Legal, after}
 use Rattle.pot_machine.specs.Laws.{PutsInto}
+use Rattle.pot_machine.proofs.Columns.{names_serving}
 use Rattle.pot_machine.proofs.Kept.{after_keeps}
+use Rattle.pot_machine.proofs.LeftAlone.{sizes_stay}
 use Rattle.pot_machine.proofs.Logs.{replays_more}
 use Rattle.pot_steps.specs.Stripe.{Sound}
 use Rattle.pot_steps.specs.Holdings.{Holdings, HoldsUp, LiveLaw, stripe_of}
-use Rattle.pot_steps.specs.Entries.{Enters}
+use Rattle.pot_steps.specs.declared.flight.Flight.{Flight}
+use Rattle.pot_steps.specs.Flights.{Acts, AreFlights, Stands, flights_after}
 use Rattle.pot_steps.specs.Losses.{KeepsHeld}
 use Rattle.pot_steps.specs.GroupStep.{log_bound}
-use Rattle.pot_steps.proofs.Entries.{entry_keeps, losses_keep}
-use Rattle.pot_steps.proofs.Losses.{entry_keeps_live, losses_keep_live}
+use Rattle.pot_steps.proofs.Acting.{act_keeps, loss_keeps_all}
+use Rattle.pot_steps.proofs.ActingLive.{act_keeps_live}
+use Rattle.pot_steps.proofs.FlightLists.{flights_go_on}
+use Rattle.pot_steps.proofs.Losses.{losses_keep_live}
 use Rattle.pot_group.specs.Shelves.{Shelves, Keeps, Stays, LosesFrom}
 use Rattle.pot_group.specs.Causes.{Covers, HasLost, Misses, WhereMissed, archives_of, faults_in, fault_of, brought}
 use Rattle.pot_group.specs.Group.{GroupView, IsSettled, IsQuiet, LostSince}
@@ -28,7 +33,7 @@ use Rattle.pot_group.proofs.CauseLemmas.{faults_in-snoc, archives_of-snoc, Where
 
 -- what an entry of these calls leaves as it was
 pub record LeavesShape (t : Table) (e : Entry) : Type 0 where
-  pub relays : (after t e).relays ≡ t.relays
+  pub flights : (fs : List Flight) → flights_after t e [] fs ≡ fs
   pub data_columns : (after t e).data_columns ≡ t.data_columns
   pub parity : (after t e).parity ≡ t.parity
   pub stripes : (after t e).stripes ≡ t.stripes
@@ -59,40 +64,111 @@ module _ (told : Type 0) (g : GroupView) (s : Shelves) (h : told → Holdings) (
   ]
 
   -- the laws over the contents, for the table `u` that they hold of before the losses
-  holds_on : (t : told) (u : Table) → HoldsUp u (h t) → HoldsUp u s.held
-  holds_on t u = losses_keep u (h t) s.held (λ n c b ln lc nv e. (loses t (serving_at u n c)).keeps n b e)
+  stands_on : (t : told) (u : Table) (fs : List Flight) → Stands u (h t) fs → Stands u s.held fs
+  stands_on t u fs = loss_keeps_all u fs (h t) s.held (λ n c b ln lc live e. (loses t (serving_at u n c)).keeps n b e)
 
   live_on : (t : told) (u : Table) → LiveLaw u (h t) (LostSince s) → LiveLaw u s.held (LostSince s)
   live_on t u = losses_keep_live (LostSince s) (LostSince s) u (h t) s.held (λ n r. r) (record { keeps = (λ n c b ln lc nv e. lost_now t (serving_at u n c) n b e) })
 
--- archives that only lose blocks
-pub settled_stays : (told : Type 0) (g : GroupView) (s : Shelves) → IsSettled told g → Stays told g.shelves s → IsSettled told (record g { shelves = s })
-settled_stays told g s settled stays = record {
+-- the table, the contents and the flights of a group
+pub stands_in : (told : Type 0) (g : GroupView) → IsSettled told g → told → Stands g.table g.shelves.held g.flights
+stands_in told g settled t = record { table = settled.table; relays = settled.relays; holds = settled.holds t; flying = settled.flying t }
+
+-- archives that only lose blocks, whatever they hear
+pub settled_loses : (told : Type 0) (g : GroupView) (s : Shelves) → IsSettled told g → Keeps g.shelves s → (told → LosesFrom g.shelves.held g.shelves s) → IsSettled told (record g { shelves = s })
+settled_loses told g s settled keeps loses = record {
   replay = settled.replay;
   table = settled.table;
   relays = settled.relays;
   bound = settled.bound;
-  shelves = (λ c n lc e. subst (λ ns. Contains ns n) (sym stays.keeps.numbers) (settled.shelves c n lc e));
+  shelves = (λ c n lc e. subst (λ ns. Contains ns n) (sym keeps.numbers) (settled.shelves c n lc e));
   serves = settled.serves;
   sizes = settled.sizes;
-  faults = marked_faults told g s (λ t. g.shelves.held) settled stays.keeps stays.loses;
-  losses = marked_losses told g s (λ t. g.shelves.held) settled stays.keeps stays.loses;
-  holds = (λ t. holds_on told g s (λ t. g.shelves.held) settled stays.keeps stays.loses t g.table (settled.holds t));
+  faults = marked_faults told g s (λ t. g.shelves.held) settled keeps loses;
+  losses = marked_losses told g s (λ t. g.shelves.held) settled keeps loses;
+  holds = (λ t. (stands_on told g s (λ t. g.shelves.held) settled keeps loses t g.table g.flights (stands_in told g settled t)).holds);
+  flying = (λ t. (stands_on told g s (λ t. g.shelves.held) settled keeps loses t g.table g.flights (stands_in told g settled t)).flying);
   live = (λ t. losses_keep_live (LostSince g.shelves) (LostSince s) g.table g.shelves.held s.held
-      (since told g s (λ t. g.shelves.held) settled stays.keeps stays.loses t)
-      (record { keeps = (λ n c b ln lc nv e. lost_now told g s (λ t. g.shelves.held) settled stays.keeps stays.loses t (serving_at g.table n c) n b e) })
+      (since told g s (λ t. g.shelves.held) settled keeps loses t)
+      (record { keeps = (λ n c b ln lc nv e. lost_now told g s (λ t. g.shelves.held) settled keeps loses t (serving_at g.table n c) n b e) })
       (settled.live t));
   causes = record {
-    faults = (λ c lc. covers-stays g.shelves s (archives_of g.first g.log c) (faults_in g.first.data_columns c g.log) stays.keeps.later stays.keeps.faults_taken (settled.causes.faults c lc));
+    faults = (λ c lc. covers-stays g.shelves s (archives_of g.first g.log c) (faults_in g.first.data_columns c g.log) keeps.later keeps.faults_taken (settled.causes.faults c lc));
     losses = (λ t c lc. WhereMissed-mono g.first g.log c (HasLost g.shelves (archives_of g.first g.log c)) (HasLost s (archives_of g.first g.log c))
-        (has_lost-mono g.shelves s (archives_of g.first g.log c) (since told g s (λ t. g.shelves.held) settled stays.keeps stays.loses t))
+        (has_lost-mono g.shelves s (archives_of g.first g.log c) (since told g s (λ t. g.shelves.held) settled keeps loses t))
         (settled.causes.losses t c lc));
   };
 }
 
+pub settled_stays : (told : Type 0) (g : GroupView) (s : Shelves) → IsSettled told g → Stays told g.shelves s → IsSettled told (record g { shelves = s })
+settled_stays told g s settled stays = settled_loses told g s settled stays.keeps stays.loses
+
+-- what an entry leaves of the columns, and which archives it brings
+pub record LeavesColumns (told : Type 0) (g : GroupView) (e : Entry) (s : Shelves) : Type 0 where
+  pub shelves : (c number : ℕ) → c < width g.table → IsTrue (names (column_at (after g.table e) c) number) → Contains s.numbers number
+  pub serves : (c number : ℕ) → c < width g.table → IsTrue (names (column_at (after g.table e) c) number) → Contains (archives_of g.first (g.log ++ e ∷ []) c) number
+  pub archives : (c number : ℕ) → Contains (archives_of g.first g.log c) number → Contains (archives_of g.first (g.log ++ e ∷ []) c) number
+
+-- One entry, with what the archives are to hold then, and the block that is handed in with it.
+pub settled_act : (told : Type 0) (g : GroupView) (e : Entry) (given : List ℕ) (s : Shelves) (h : told → Holdings) → IsSettled told g → Legal g.table e → length g.log < log_bound
+    → Keeps g.shelves s → LeavesColumns told g e s → ((t : told) → LosesFrom (h t) g.shelves s) → ((t : told) → Acts g.table g.flights given e g.shelves.held (h t))
+    → ((t : told) → ((n : ℕ) → PutsInto e n → ⊥) → KeepsHeld g.table g.shelves.held (h t))
+    → ((c : ℕ) → c < width g.first → Covers s (archives_of g.first (g.log ++ e ∷ []) c) (faults_in g.first.data_columns c g.log + fault_of g.first.data_columns c e))
+    → (told → (c : ℕ) → c < width g.first → Misses g.table e c → HasLost s (archives_of g.first (g.log ++ e ∷ []) c))
+    → IsSettled told (record g { table = after g.table e; log = g.log ++ e ∷ []; flights = flights_after g.table e given g.flights; shelves = s })
+settled_act told g e given s h settled legal room keeps columns loses acts kept covers missed = record {
+  replay = replays_more g.first g.log g.table e settled.replay legal;
+  table = after_keeps g.table e settled.table legal;
+  relays = flights_go_on g.table e given g.flights settled.relays;
+  bound = (let l : length (g.log ++ e ∷ []) ≡ length g.log + 1 = length-append g.log (e ∷ []) in omega (arith, room));
+  shelves = (λ c n lc q. columns.shelves c n (wide c lc) q);
+  serves = (λ c n lc q. columns.serves c n (wide c lc) q);
+  sizes = (size.0 ∙ settled.sizes.0, size.1 ∙ settled.sizes.1, size.2 ∙ settled.sizes.2);
+  faults = marked_faults told g s h settled keeps loses;
+  losses = marked_losses told g s h settled keeps loses;
+  holds = (λ t. (stands_then t).holds);
+  flying = (λ t. (stands_then t).flying);
+  live = (λ t. live_on told g s h settled keeps loses t (after g.table e)
+      (act_keeps_live (LostSince s) g.table e g.flights given g.shelves.held (h t) settled.table legal (acts t) (kept t) (live_then t)));
+  causes = record {
+    faults = (λ c lc. subst (λ n. Covers s (archives_of g.first (g.log ++ e ∷ []) c) n) (sym (faults_in-snoc g.first.data_columns c g.log e)) (covers c lc));
+    losses = (λ t c lc. WhereMissed-snoc g.first g.table g.log e c (HasLost s (archives_of g.first (g.log ++ e ∷ []) c)) settled.replay
+        (WhereMissed-mono g.first g.log c (HasLost g.shelves (archives_of g.first g.log c)) (HasLost s (archives_of g.first (g.log ++ e ∷ []) c))
+        (λ x. (let y : HasLost s (archives_of g.first g.log c) = has_lost-mono g.shelves s (archives_of g.first g.log c) (since told g s h settled keeps loses t) x in (y.0, columns.archives c y.0 y.1, y.2)))
+        (settled.causes.losses t c lc))
+        (missed t c lc));
+  };
+}
+  where
+    size : ((after g.table e).data_columns ≡ g.table.data_columns) × ((after g.table e).parity ≡ g.table.parity) × ((after g.table e).stripes ≡ g.table.stripes)
+    size = sizes_stay g.table e
+
+    wide : (c : ℕ) → c < width (after g.table e) → c < width g.table
+    wide c lc = omega (arith, lc, size.0, size.1)
+
+    stands_then : (t : told) → Stands (after g.table e) s.held (flights_after g.table e given g.flights)
+    stands_then t = stands_on told g s h settled keeps loses t (after g.table e) (flights_after g.table e given g.flights)
+        (act_keeps g.table e g.flights given g.shelves.held (h t) legal (acts t) (stands_in told g settled t))
+
+    live_then : told → LiveLaw g.table g.shelves.held (LostSince s)
+    live_then t = losses_keep_live (LostSince g.shelves) (LostSince s) g.table g.shelves.held g.shelves.held (since told g s h settled keeps loses t)
+        (record { keeps = (λ n c b ln lc nv e. inl e) }) (settled.live t)
+
+-- an entry that leaves the columns and brings no archive
+pub same_columns : (told : Type 0) (g : GroupView) (e : Entry) (s : Shelves) → IsSettled told g → Keeps g.shelves s → (after g.table e).columns ≡ g.table.columns → ((c : ℕ) → brought c e ≡ []) → LeavesColumns told g e s
+same_columns told g e s settled keeps same none = record {
+  shelves = (λ c n lc q. subst (λ ns. Contains ns n) (sym keeps.numbers) (settled.shelves c n lc (subst (λ x. IsTrue (names x n)) (at c) q)));
+  serves = (λ c n lc q. subst (λ ns. Contains ns n) (sym (archives_of-snoc g.first g.log c e (none c)))
+      (settled.serves c n lc (subst (λ x. IsTrue (names x n)) (at c) q)));
+  archives = (λ c n x. subst (λ ns. Contains ns n) (sym (archives_of-snoc g.first g.log c e (none c))) x);
+}
+  where
+    at : (c : ℕ) → column_at (after g.table e) c ≡ column_at g.table c
+    at c = ap (λ cs. slice_index_or cs c no_column) same
+
 -- an entry, with what the archives are to hold then
 pub settled_entry : (told : Type 0) (g : GroupView) (e : Entry) (s : Shelves) (h : told → Holdings) → IsSettled told g → LeavesShape g.table e → Legal g.table e → length g.log < log_bound
-    → Keeps g.shelves s → ((t : told) → LosesFrom (h t) g.shelves s) → ((t : told) → Enters g.table e g.shelves.held (h t))
+    → Keeps g.shelves s → ((t : told) → LosesFrom (h t) g.shelves s) → ((t : told) → Acts g.table g.flights [] e g.shelves.held (h t))
     → ((t : told) → ((n : ℕ) → PutsInto e n → ⊥) → KeepsHeld g.table g.shelves.held (h t))
     → ((c : ℕ) → c < width g.first → Covers s (archives_of g.first g.log c) (faults_in g.first.data_columns c g.log + fault_of g.first.data_columns c e))
     → (told → (c : ℕ) → c < width g.first → Misses g.table e c → HasLost s (archives_of g.first g.log c))
@@ -100,17 +176,18 @@ pub settled_entry : (told : Type 0) (g : GroupView) (e : Entry) (s : Shelves) (h
 settled_entry told g e s h settled shape legal room keeps loses enters kept covers missed = record {
   replay = replays_more g.first g.log g.table e settled.replay legal;
   table = after_keeps g.table e settled.table legal;
-  relays = shape.relays ∙ settled.relays;
+  relays = subst (λ fs. AreFlights (after g.table e) fs) (shape.flights g.flights) (flights_go_on g.table e [] g.flights settled.relays);
   bound = (let l : length (g.log ++ e ∷ []) ≡ length g.log + 1 = length-append g.log (e ∷ []) in omega (arith, room));
   shelves = (λ c n lc q. subst (λ ns. Contains ns n) (sym keeps.numbers) (settled.shelves c n (wide c lc) (subst (λ x. IsTrue (names x n)) (same_column c) q)));
-  serves = (λ n c lc. subst (λ ns. Contains ns (serving_at (after g.table e) n c)) (sym (archives_of-snoc g.first g.log c e (shape.none_brought c)))
-      (subst (λ x. Contains (archives_of g.first g.log c) x) (sym (same_serving n c)) (settled.serves n c (wide c lc))));
-  sizes = (shape.data_columns ∙ settled.sizes.0, shape.parity ∙ settled.sizes.1);
+  serves = (λ c n lc q. subst (λ ns. Contains ns n) (sym (archives_of-snoc g.first g.log c e (shape.none_brought c)))
+      (settled.serves c n (wide c lc) (subst (λ x. IsTrue (names x n)) (same_column c) q)));
+  sizes = (shape.data_columns ∙ settled.sizes.0, shape.parity ∙ settled.sizes.1, shape.stripes ∙ settled.sizes.2);
   faults = marked_faults told g s h settled keeps loses;
   losses = marked_losses told g s h settled keeps loses;
-  holds = (λ t. holds_on told g s h settled keeps loses t (after g.table e) (entry_keeps g.table e g.shelves.held (h t) settled.table legal (enters t) (settled.holds t)));
+  holds = (λ t. (stands_then t).holds);
+  flying = (λ t. (stands_then t).flying);
   live = (λ t. live_on told g s h settled keeps loses t (after g.table e)
-      (entry_keeps_live (LostSince s) g.table e g.shelves.held (h t) settled.table legal (enters t) (kept t) (live_then t)));
+      (act_keeps_live (LostSince s) g.table e g.flights [] g.shelves.held (h t) settled.table legal (enters t) (kept t) (live_then t)));
   causes = record {
     faults = (λ c lc. subst (λ ns. Covers s ns (faults_in g.first.data_columns c (g.log ++ e ∷ []))) (sym (archives_of-snoc g.first g.log c e (shape.none_brought c)))
         (subst (λ n. Covers s (archives_of g.first g.log c) n) (sym (faults_in-snoc g.first.data_columns c g.log e)) (covers c lc)));
@@ -121,14 +198,15 @@ settled_entry told g e s h settled shape legal room keeps loses enters kept cove
   };
 }
   where
+    stands_then : (t : told) → Stands (after g.table e) s.held g.flights
+    stands_then t = stands_on told g s h settled keeps loses t (after g.table e) g.flights
+        (subst (λ fs. Stands (after g.table e) (h t) fs) (shape.flights g.flights) (act_keeps g.table e g.flights [] g.shelves.held (h t) legal (enters t) (stands_in told g settled t)))
+
     wide : (c : ℕ) → c < width (after g.table e) → c < width g.table
     wide c lc = omega (arith, lc, shape.data_columns, shape.parity)
 
     same_column : (c : ℕ) → column_at (after g.table e) c ≡ column_at g.table c
     same_column c = ap (λ cs. slice_index_or cs c no_column) shape.columns
-
-    same_serving : (n c : ℕ) → serving_at (after g.table e) n c ≡ serving_at g.table n c
-    same_serving n c = ap (λ x. serving x n) (same_column c)
 
     -- the law of the Live slots before the entry, by what has risen now
     live_then : told → LiveLaw g.table g.shelves.held (LostSince s)
@@ -137,7 +215,7 @@ settled_entry told g e s h settled shape legal room keeps loses enters kept cove
 
 -- an entry that says nothing untrue and puts no block
 module _ (told : Type 0) (g : GroupView) (e : Entry) (settled : IsSettled told g) (legal : Legal g.table e) (room : length g.log < log_bound) where
-  quiet : LeavesShape g.table e → (told → Enters g.table e g.shelves.held g.shelves.held)
+  quiet : LeavesShape g.table e → (told → Acts g.table g.flights [] e g.shelves.held g.shelves.held)
       → ((c : ℕ) → c < width g.first → Covers g.shelves (archives_of g.first g.log c) (faults_in g.first.data_columns c g.log + fault_of g.first.data_columns c e))
       → (told → (c : ℕ) → c < width g.first → Misses g.table e c → HasLost g.shelves (archives_of g.first g.log c))
       → IsSettled told (record g { table = after g.table e; log = g.log ++ e ∷ [] })
@@ -161,30 +239,37 @@ one_fault s ns named k c all here = elim (same_or c k) [
   | inr e ↦ rw e (no_fault s (ns c) (named c) all)
 ]
 
+-- the archive that serves a slot is one of its column
+pub serving_in : (told : Type 0) (g : GroupView) → IsSettled told g → (n k : ℕ) → k < width g.table → Contains (archives_of g.first g.log k) (serving_at g.table n k)
+serving_in told g settled n k lk = settled.serves k (serving_at g.table n k) lk (names_serving (column_at g.table k) n)
+
 -- a Live slot without its block is served by an archive that lost one
-gone_lost : (told : Type 0) (g : GroupView) → IsSettled told g → told → (n k : ℕ) → n < g.table.stripes → k < width g.table → IsTrue (is_live (slot_at g.table n k))
+pub gone_lost : (told : Type 0) (g : GroupView) → IsSettled told g → told → (n k : ℕ) → n < g.table.stripes → k < width g.table → IsTrue (is_live (slot_at g.table n k))
     → (Sound (stripe_of g.table g.shelves.held n) k → ⊥) → HasLost g.shelves (archives_of g.first g.log k)
 gone_lost told g settled t n k ln lk live none = elim (settled.live t n k ln lk live) [
   | inl x ↦ absurd (none x)
-  | inr r ↦ (serving_at g.table n k, settled.serves n k lk, r)
+  | inr r ↦ (serving_at g.table n k, serving_in told g settled n k lk, r)
 ]
 
 pub settled_quiet : (told : Type 0) (g : GroupView) (e : Entry) → IsSettled told g → Legal g.table e → length g.log < log_bound → IsQuiet told g e
     → IsSettled told (record g { table = after g.table e; log = g.log ++ e ∷ [] })
 settled_quiet told g (Skip job n) settled legal room q =
-    quiet told g (Skip job n) settled legal room (record { relays = refl; data_columns = refl; parity = refl; stripes = refl; columns = refl; none_brought = (λ c. refl) })
+    quiet told g (Skip job n) settled legal room (record { flights = (λ fs. refl); data_columns = refl; parity = refl; stripes = refl; columns = refl; none_brought = (λ c. refl) })
     (λ t m c b lm lc nv h. h) (λ c lc. no_fault g.shelves (archives_of g.first g.log c) (faults_in g.first.data_columns c g.log) (settled.causes.faults c lc)) (λ t c lc m. absurd m)
 settled_quiet told g (Seen job n k) settled legal room q =
-    quiet told g (Seen job n k) settled legal room (record { relays = refl; data_columns = refl; parity = refl; stripes = refl; columns = refl; none_brought = (λ c. refl) })
+    quiet told g (Seen job n k) settled legal room (record { flights = (λ fs. refl); data_columns = refl; parity = refl; stripes = refl; columns = refl; none_brought = (λ c. refl) })
     (λ t m c b lm lc nv h. h) (λ c lc. no_fault g.shelves (archives_of g.first g.log c) (faults_in g.first.data_columns c g.log) (settled.causes.faults c lc)) (λ t c lc m. absurd m)
 settled_quiet told g (Counted job) settled legal room q =
-    quiet told g (Counted job) settled legal room (record { relays = refl; data_columns = refl; parity = refl; stripes = refl; columns = refl; none_brought = (λ c. refl) })
+    quiet told g (Counted job) settled legal room (record { flights = (λ fs. refl); data_columns = refl; parity = refl; stripes = refl; columns = refl; none_brought = (λ c. refl) })
     (λ t m c b lm lc nv h. h) (λ c lc. no_fault g.shelves (archives_of g.first g.log c) (faults_in g.first.data_columns c g.log) (settled.causes.faults c lc)) (λ t c lc m. absurd m)
 settled_quiet told g (Fault job n k) settled legal room q =
-    quiet told g (Fault job n k) settled legal room (record { relays = refl; data_columns = refl; parity = refl; stripes = refl; columns = refl; none_brought = (λ c. refl) })
+    quiet told g (Fault job n k) settled legal room (record { flights = (λ fs. refl); data_columns = refl; parity = refl; stripes = refl; columns = refl; none_brought = (λ c. refl) })
     (λ t m c b lm lc nv h. h) (λ c lc. one_fault g.shelves (archives_of g.first g.log) (λ c. faults_in g.first.data_columns c g.log) k c (settled.causes.faults c lc) q) (λ t c lc m. absurd m)
 settled_quiet told g (Gone job n k) settled legal room q =
-    quiet told g (Gone job n k) settled legal room (record { relays = refl; data_columns = refl; parity = refl; stripes = refl; columns = refl; none_brought = (λ c. refl) })
+    quiet told g (Gone job n k) settled legal room (record { flights = (λ fs. refl); data_columns = refl; parity = refl; stripes = refl; columns = refl; none_brought = (λ c. refl) })
     (λ t m c b lm lc nv h. h) (λ c lc. no_fault g.shelves (archives_of g.first g.log c) (faults_in g.first.data_columns c g.log) (settled.causes.faults c lc))
     (λ t c lc m. subst (λ x. HasLost g.shelves (archives_of g.first g.log x)) m.1 (gone_lost told g settled t n k legal.0 legal.1 m.2 (q t)))
+settled_quiet told g (Stuck job n k other) settled legal room q =
+    quiet told g (Stuck job n k other) settled legal room (record { flights = (λ fs. refl); data_columns = refl; parity = refl; stripes = refl; columns = refl; none_brought = (λ c. refl) })
+    (λ t m c b lm lc nv h. h) (λ c lc. no_fault g.shelves (archives_of g.first g.log c) (faults_in g.first.data_columns c g.log) (settled.causes.faults c lc)) (λ t c lc m. absurd m)
 settled_quiet told g _ settled legal room q = absurd q

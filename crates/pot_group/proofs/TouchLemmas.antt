@@ -1,6 +1,6 @@
 -- Archives in a list, seen by number: a call of one of them, and the marks of all.
 use Rattle.std.proofs.Common.{◌≡◌, ◌≢◌, ◌<◌, ◌≤◌, ◌==◌, ◌↔◌, ℕ, zero, suc, Bool, true, false, List, [], ◌∷◌, length, get_or, Option, Some, None, refl, ap, sym, ◌∙◌, arith, inl, inr, subst, IsTrue}
-use Rattle.std.specs.Prelude.{cond, map, Result, Ok, Err, Contains, IsSome, is_some, slice_get}
+use Rattle.std.specs.Prelude.{cond, map, Result, Ok, Err, IsErr, Contains, IsSome, is_some, slice_get}
 use Rattle.std.specs.List.{position, position_or_len}
 use Rattle.std.specs.Str.{bytes_eq}
 use Rattle.std.proofs.Math.ListN.{set}
@@ -14,14 +14,17 @@ use Rattle.std.proofs.lemmas.Option.{slice_get-get_or}
 use Rattle.std.proofs.lemmas.Slice.Eq.{bytes_eq-Decides}
 use Rattle.pot_bytes.specs.declared.digest.Digest.{Digest}
 use Rattle.pot_bytes.specs.Digests.{digest_bytes}
-use Rattle.pot_outside.specs.Archives.{Contents, OnlyLoses, MayLeave, at_slot}
+use Rattle.pot_outside.specs.Archives.{Contents, OnlyLoses, ReadTells, FoldTells, LeavesSum, HearsFold, MayLeave, at_slot}
 use Rattle.pot_outside.specs.Counts.{Rose}
 use Rattle.pot_outside.specs.declared.archive.Marks.{Marks}
 use Rattle.pot_outside.specs.declared.archive.Shelf.{Shelf}
+use Rattle.pot_outside.specs.declared.archive.Held.{Held as IsHeld}
 use Rattle.pot_outside.specs.declared.faults.Failed.{Failed}
 use Rattle.pot_outside.proofs.LossLemmas.{loses_nothing}
 use Rattle.pot_steps.specs.Stripe.{digest_of}
-use Rattle.pot_group.specs.Shelves.{Shelves, numbers_of, shelf_of, given, mark_of, plain, put_at, Touches, WritesOne, Keeps, LosesFrom, IsTaken, IsWritten, Writes}
+use Rattle.pot_group.specs.Shelves.{Shelves, numbers_of, shelf_of, given, mark_of, plain, put_at, Touches, WritesOne, Keeps, LosesFrom, IsTaken, IsWritten, Writes, FoldsOne, Folds, Reads, Stays, Finds}
+use Rattle.pot_group.specs.declared.archives.Found.TheVariants.{Sound, Missing, NotRead}
+use Rattle.pot_outside.specs.declared.archive.Held.TheVariants.{Held, Absent}
 
 -- what `==` of digests says of a block
 pub digest_tells : (block now bytes : List ℕ) (d : Digest) (r : Bool) → now ≡ block → bytes ≡ digest_bytes now
@@ -175,6 +178,57 @@ module _ {A : Type 0} (told : Type 0) (held : A → Contents) (heard : A → Lis
     heard = (λ z. hears number _ old new t (t.by.hears z));
     cause = (λ h. rose number _ old new t (t.by.cause.rose h));
   }
+
+  -- a fold
+  pub folds : (number slot weight : ℕ) (before sum : List ℕ) (result : Result IsHeld Failed) (old new : List (Shelf A))
+      → Touches number (FoldsOne told held heard faults losses slot weight before sum result) old new
+      → Folds told number slot weight before sum result (data_of old) (data_of new)
+  folds number slot weight before sum result old new t = record {
+    keeps = keeps number _ old new t t.by.cause.later;
+    loses = (λ z. by_number number _ old new t
+        (λ k o w. OnlyLoses (λ m. given (λ x. held x m) None o) (λ m. given (λ x. held x m) None w) (given losses 0 o) (given losses 0 w))
+        (λ k s ne. loses_nothing _ _) (t.by.loses z));
+    tells = (λ z. subst (λ (w : Option (Shelf A)). FoldTells (λ m. given (λ x. held x m) None w) slot weight before sum result) (sym t.now) (t.by.tells z));
+    leaves = t.by.leaves;
+    hears = (λ z. subst (λ (o : Option (Shelf A)). HearsFold (given heard [] o) ((data_of new).heard number) slot before result) (sym t.was)
+        (subst (λ (w : Option (Shelf A)). HearsFold (heard t.shelf.archive) (given heard [] w) slot before result) (sym t.now) (t.by.hears z)));
+    silent = (λ z n ne. ap (given heard []) (t.others n ne));
+    cause = (λ h. rose number _ old new t (t.by.cause.rose h));
+  }
+
+  -- a read
+  stays : (number slot : ℕ) (into : List ℕ) (result : Result IsHeld Failed) (old new : List (Shelf A))
+      → Touches number (Reads told held heard faults losses slot into result) old new → Stays told (data_of old) (data_of new)
+  stays number slot into result old new t = record {
+    keeps = keeps number _ old new t t.by.cause.later;
+    loses = (λ z. by_number number _ old new t
+        (λ k o w. OnlyLoses (λ m. given (λ x. held x m) None o) (λ m. given (λ x. held x m) None w) (given losses 0 o) (given losses 0 w))
+        (λ k s ne. loses_nothing _ _) (t.by.loses z));
+    heard = (λ z. hears number _ old new t (t.by.hears z));
+  }
+
+  reads_there : (number slot : ℕ) (into : List ℕ) (result : Result IsHeld Failed) (old new : List (Shelf A))
+      → (t : Touches number (Reads told held heard faults losses slot into result) old new) → told → ReadTells ((data_of new).held number) slot into result
+  reads_there number slot into result old new t z = subst (λ (w : Option (Shelf A)). ReadTells (λ m. given (λ x. held x m) None w) slot into result) (sym t.now) (t.by.tells z)
+
+  module _ (number slot : ℕ) (digest : Digest) (into : List ℕ) (result : Result IsHeld Failed) (old new : List (Shelf A)) (t : Touches number (Reads told held heard faults losses slot into result) old new) where
+    pub finds_sound : result ≡ Ok Held → digest_of into ≡ digest → Finds told number slot digest into Sound (data_of old) (data_of new)
+    finds_sound e d = record { stays = stays number slot into result old new t; means = (d, λ z. subst (ReadTells ((data_of new).held number) slot into) e (reads_there number slot into result old new t z)) }
+
+    pub finds_other : result ≡ Ok Held → digest_of into ≢ digest → Finds told number slot digest into Missing (data_of old) (data_of new)
+    finds_other e d = record { stays = stays number slot into result old new t; means = λ z b h q. d (ap digest_of (same into b (sym (subst (ReadTells ((data_of new).held number) slot into) e (reads_there number slot into result old new t z)) ∙ h)) ∙ q) }
+      where
+        same : (a b : List ℕ) → Some a ≡ Some b → a ≡ b
+        same a b e = cc
+
+    pub finds_absent : result ≡ Ok Absent → Finds told number slot digest into Missing (data_of old) (data_of new)
+    finds_absent e = record { stays = stays number slot into result old new t; means = λ z b h q. none b (sym (subst (ReadTells ((data_of new).held number) slot into) e (reads_there number slot into result old new t z)) ∙ h) }
+      where
+        none : (b : List ℕ) → None ≡ Some b → ⊥
+        none b e = cc
+
+    pub finds_failed : (f : Failed) → result ≡ Err f → Finds told number slot digest into NotRead (data_of old) (data_of new)
+    finds_failed f e = record { stays = stays number slot into result old new t; means = rose number _ old new t (t.by.cause.rose (subst IsErr (sym e) refl)) }
 
   -- MARKS
 

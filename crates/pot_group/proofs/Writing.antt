@@ -9,8 +9,9 @@ use Rattle.pot_outside.specs.declared.faults.Failed.{Failed}
 use Rattle.pot_outside.specs.Counts.{Rose}
 use Rattle.pot_machine.specs.declared.entry.Entry.{Entry}
 use Rattle.pot_machine.specs.declared.entry.Entry.TheVariants.{Put, Fault}
-use Rattle.pot_machine.specs.declared.slot.SlotState.TheVariants.{Void}
-use Rattle.pot_machine.specs.Slot.{is_void}
+use Rattle.pot_machine.specs.declared.slot.SlotState.{SlotState}
+use Rattle.pot_machine.specs.declared.slot.SlotState.TheVariants.{Void, Live, Lost, Broken}
+use Rattle.pot_machine.specs.Slot.{is_void, is_live}
 use Rattle.pot_machine.specs.Table.{Table, width, slot_at, serving_at}
 use Rattle.pot_machine.specs.Machine.{AtCursor, TakesBlocks, Legal, after}
 use Rattle.pot_steps.specs.Equations.{IsBlock}
@@ -42,6 +43,12 @@ and_true false = refl
 
 le_self : (c : ℕ) → nat_le c c ≡ true
 le_self c = grind (arith, nat_tests)
+
+live_void : (x : SlotState) → IsTrue (is_live x) → x ≢ Void
+live_void Void l e = absurd (cc)
+live_void (Live d) l e = absurd (cc)
+live_void (Lost d) l e = absurd (cc)
+live_void (Broken d) l e = absurd (cc)
 
 module _ (told : Type 0) (g : GroupView) (job s c : ℕ) (block p : List ℕ) (settled : IsSettled told g) (single : g.table.parity ≡ 1) (cursor : AtCursor g.table s)
     (column : c ≡ g.table.cursor.column) (takes : TakesBlocks g.table s) (room : length g.log < log_bound) where
@@ -80,10 +87,10 @@ module _ (told : Type 0) (g : GroupView) (job s c : ℕ) (block p : List ℕ) (s
 
     pub none_settled : IsSettled told (record g { table = g.table; log = g.log ++ Fault job s c ∷ []; shelves = now })
     none_settled = settled_entry told g (Fault job s c) now (λ t. put_at g.shelves.held (serving_at g.table s c) s (w.wrote t).0) settled
-        (record { relays = refl; data_columns = refl; parity = refl; stripes = refl; columns = refl; none_brought = (λ c. refl) })
+        (record { flights = (λ fs. refl); data_columns = refl; parity = refl; stripes = refl; columns = refl; none_brought = (λ c. refl) })
         fault_legal room w.keeps (λ t. (w.wrote t).2)
-        (λ t n k b ln lk nv h. sym (untouched (w.wrote t).0 n k lk nv) ∙ h)
-        (λ t none n k b ln lk nv h. untouched (w.wrote t).0 n k lk nv ∙ h)
+        (λ t n k b ln lk live h. sym (untouched (w.wrote t).0 n k lk (live_void (slot_at g.table n k) live)) ∙ h)
+        (λ t none n k b ln lk live h. untouched (w.wrote t).0 n k lk (live_void (slot_at g.table n k) live) ∙ h)
         (λ k lk. one_fault now (archives_of g.first g.log) (λ k. faults_in g.first.data_columns k g.log) c k
         (covers-stays g.shelves now (archives_of g.first g.log k) (faults_in g.first.data_columns k g.log) w.keeps.later w.keeps.faults_taken (settled.causes.faults k lk))
         (covers_rise told g now s c settled data_wide w.keeps rose))
@@ -91,7 +98,7 @@ module _ (told : Type 0) (g : GroupView) (job s c : ℕ) (block p : List ℕ) (s
 
     pub none_put : PutsNone told job s c block g (record g { table = g.table; log = g.log ++ Fault job s c ∷ []; shelves = now })
     none_put = record {
-      logs = record { number = refl; first = refl; log = refl; replay = (fault_legal, refl) };
+      logs = record { number = refl; first = refl; log = refl; flights = refl; replay = (fault_legal, refl) };
       holds = w.wrote;
       keeps = w.keeps;
       heard = w.heard;
@@ -186,7 +193,7 @@ module _ (told : Type 0) (g : GroupView) (job s c : ℕ) (block p : List ℕ) (s
 
       pub both_settled : IsSettled told after_put
       both_settled = settled_entry told g (one_put job s c block p kept) now ideal settled
-          (record { relays = refl; data_columns = refl; parity = refl; stripes = refl; columns = refl; none_brought = (λ c. refl) })
+          (record { flights = (λ fs. refl); data_columns = refl; parity = refl; stripes = refl; columns = refl; none_brought = (λ c. refl) })
           (put_legal (digest_of block) (digest_of (xor p block)) kept) room keeps loses
           (λ t. (block, p, refl, refl, writes is_block t (old t) (new_if kept (second.wrote t).0 (is_new t))))
           (λ t none. absurd (none s refl))
@@ -196,7 +203,7 @@ module _ (told : Type 0) (g : GroupView) (job s c : ℕ) (block p : List ℕ) (s
       pub both_put : PutsBoth told job s c block p kept g after_put
       both_put = record {
         is_block = is_block;
-        logs = record { number = refl; first = refl; log = refl; replay = (put_legal (digest_of block) (digest_of (xor p block)) kept, refl) };
+        logs = record { number = refl; first = refl; log = refl; flights = refl; replay = (put_legal (digest_of block) (digest_of (xor p block)) kept, refl) };
         holds = (λ t. ((second.wrote t).0, is_new t, loses t));
         keeps = keeps;
         heard = (λ t n. second.heard t n ∙ first.heard t n);

@@ -20,7 +20,7 @@ archives_in t = flat_map homes_of t.columns
 
 -- a group before its opening
 abbrev pub unopened : {A : Type 0} → ℕ → Table → Shelved A → GroupParts A
-unopened number t a = record { number = number; first = t; table = t; log = []; archives = a }
+unopened number t a = record { number = number; first = t; table = t; log = []; flights = []; archives = a }
 
 -- A group begins with a table and archives, whose marks are taken then, and every stripe is opened. Where the archives tell
 -- what they hold, that is the opening as a step of a group.

@@ -1,5 +1,5 @@
 -- A group: the table that it began with, its table and its log now, and its archives. What it keeps, and what its calls do.
-use Rattle.std.specs.Prelude.{◌≡◌, ◌⊎◌, ◌≤◌, ◌<◌, ◌+◌, ◌++◌, ℕ, Bool, true, IsTrue, List, [], ◌∷◌, Option, Result, Ok, Err, Contains, length, IfSome, All}
+use Rattle.std.specs.Prelude.{◌≡◌, ◌⊎◌, ◌≤◌, ◌<◌, ◌+◌, ◌++◌, ℕ, Bool, true, false, IsTrue, List, [], ◌∷◌, Option, Result, Ok, Err, Contains, length, IfSome, All}
 use Rattle.pot_bytes.specs.declared.rack.Place.{Place}
 use Rattle.pot_outside.specs.Counts.{Rose}
 use Rattle.pot_bytes.specs.Sums.{zero_block}
@@ -13,6 +13,8 @@ use Rattle.pot_machine.specs.Table.{Table, width, slot_at, column_at, serving_at
 use Rattle.pot_machine.specs.Machine.{Replays, TakesBlocks, after}
 use Rattle.pot_machine.specs.Rules.{IsTable}
 use Rattle.pot_steps.specs.Stripe.{Sound, digest_of}
+use Rattle.pot_steps.specs.declared.flight.Flight.{Flight}
+use Rattle.pot_steps.specs.Flights.{AreFlights, FlightsHold}
 use Rattle.pot_steps.specs.Holdings.{HoldsUp, LiveLaw, stripe_of}
 use Rattle.pot_steps.specs.GroupStep.{GroupState, Passed, log_bound, look_entries, skips, gone_entries, put_entry}
 use Rattle.pot_steps.specs.GroupStep as step
@@ -29,6 +31,7 @@ pub record GroupView : Type 0 where
   pub first : Table
   pub table : Table
   pub log : List Entry
+  pub flights : List Flight
   pub shelves : Shelves
 
 -- a group with its archives
@@ -37,11 +40,12 @@ pub record GroupParts (A : Type 0) : Type 0 where
   pub first : Table
   pub table : Table
   pub log : List Entry
+  pub flights : List Flight
   pub archives : Shelved A
 
 -- and as plain data
 abbrev pub view_of : {A : Type 0} → (A → ℕ → Option (List ℕ)) → (A → List (ℕ × List ℕ)) → (A → ℕ) → (A → ℕ) → GroupParts A → GroupView
-view_of held heard faults losses g = record { number = g.number; first = g.first; table = g.table; log = g.log; shelves = plain held heard faults losses g.archives }
+view_of held heard faults losses g = record { number = g.number; first = g.first; table = g.table; log = g.log; flights = g.flights; shelves = plain held heard faults losses g.archives }
 
 -- an entry is logged, and does in the table what it says
 abbrev pub noted : {A : Type 0} → GroupParts A → Entry → GroupParts A
@@ -50,9 +54,9 @@ noted g e = record g { table = after g.table e; log = g.log ++ e ∷ [] }
 abbrev pub with_archives : {A : Type 0} → GroupParts A → Shelved A → GroupParts A
 with_archives g a = record g { archives = a }
 
--- as the steps of a group speak of it. No call begins a relay yet
+-- as the steps of a group speak of it
 abbrev pub state_of : GroupView → GroupState
-state_of g = record { table = g.table; log = g.log; held = g.shelves.held; heard = g.shelves.heard; flights = [] }
+state_of g = record { table = g.table; log = g.log; held = g.shelves.held; heard = g.shelves.heard; flights = g.flights }
 
 -- the count of losses of the archive of this number rose since the group took it
 abbrev pub LostSince : Shelves → ℕ → Type 0
@@ -62,16 +66,18 @@ LostSince s number = Rose (s.losses_taken number) (s.losses number)
 pub record IsSettled (told : Type 0) (g : GroupView) : Type 0 where
   pub replay : Replays g.first g.log g.table
   pub table : IsTable g.table
-  pub relays : g.table.relays ≡ []
+  -- there is a flight for each relay, in the same order
+  pub relays : AreFlights g.table g.flights
   pub bound : length g.log ≤ log_bound
   -- each home and each target is an archive of the group
   pub shelves : (c number : ℕ) → c < width g.table → IsTrue (names (column_at g.table c) number) → Contains g.shelves.numbers number
-  -- the archive that serves a slot is one of its column
-  pub serves : (s c : ℕ) → c < width g.table → Contains (archives_of g.first g.log c) (serving_at g.table s c)
-  pub sizes : (g.table.data_columns ≡ g.first.data_columns) × (g.table.parity ≡ g.first.parity)
+  -- each home and each target is one of the archives of its column, and so is the archive that serves a slot
+  pub serves : (c number : ℕ) → c < width g.table → IsTrue (names (column_at g.table c) number) → Contains (archives_of g.first g.log c) number
+  pub sizes : (g.table.data_columns ≡ g.first.data_columns) × (g.table.parity ≡ g.first.parity) × (g.table.stripes ≡ g.first.stripes)
   pub faults : (number : ℕ) → g.shelves.faults_taken number ≤ g.shelves.faults number
   pub losses : told → (number : ℕ) → g.shelves.losses_taken number ≤ g.shelves.losses number
   pub holds : told → HoldsUp g.table g.shelves.held
+  pub flying : told → FlightsHold g.table g.shelves.held g.flights
   pub live : told → LiveLaw g.table g.shelves.held (LostSince g.shelves)
   pub causes : CauseLaw told g.first g.log g.shelves
 
@@ -80,6 +86,7 @@ pub record Logs (entries : List Entry) (old new : GroupView) : Type 0 where
   pub number : new.number ≡ old.number
   pub first : new.first ≡ old.first
   pub log : new.log ≡ old.log ++ entries
+  pub flights : new.flights ≡ old.flights
   pub replay : Replays old.table entries new.table
 
 -- one more fault of the column may be named
@@ -97,6 +104,7 @@ abbrev pub IsQuiet : Type 0 → GroupView → Entry → Type 0
 IsQuiet told g (entry.Skip job s) = Unit {0}
 IsQuiet told g (entry.Seen job s c) = Unit {0}
 IsQuiet told g (entry.Counted job) = Unit {0}
+IsQuiet told g (entry.Stuck job s c other) = Unit {0}
 IsQuiet told g (entry.Fault job s c) = CoversOne g c
 IsQuiet told g (entry.Gone job s c) = told → Sound (stripe_of g.table g.shelves.held s) c → ⊥
 IsQuiet told g _ = ⊥
@@ -115,11 +123,11 @@ looked_as (looked.Faulted column) into = step.Faulted
 looked_as looked.LogFull into = step.LogFull
 
 -- what an answer says whether or not archives tell: Seen gives a block of the digest of a Live slot, and Faulted comes only
--- where the archive failed
+-- where the slot is Live and the archive failed
 abbrev pub LookCause : Looked → GroupView → GroupView → ℕ → ℕ → List ℕ → Type 0
 LookCause looked.Seen old new s c into = slot_at old.table s c ≡ Live (digest_of into)
 LookCause looked.Gone old new s c into = Unit {0}
-LookCause (looked.Faulted column) old new s c into = (column ≡ c) × FailedAt old new s c
+LookCause (looked.Faulted column) old new s c into = (column ≡ c) × FailedAt old new s c × IsTrue (is_live (slot_at old.table s c))
 LookCause looked.LogFull old new s c into = new ≡ old
 
 -- A PUT
@@ -169,6 +177,7 @@ PutLogs job block (Err fault.Full) old new =
 PutLogs job block (Err (fault.Faulted column)) old new =
     (passed : List Passed) × (s : ℕ) × FailedAt old new s column
     × (PutNothing job passed s column old new
-    ⊎ ((c : ℕ) × (p : List ℕ) × (q : List ℕ) × (kept : Bool) × (kept2 : Bool) × (column ≡ step.unkept old.table.data_columns kept) × FitsParity old.table s p q
+    ⊎ ((c : ℕ) × (p : List ℕ) × (q : List ℕ) × (kept : Bool) × (kept2 : Bool) × (column ≡ step.unkept old.table.data_columns kept)
+    × ((kept ≡ false) ⊎ ((old.table.parity ≡ 2) × (kept2 ≡ false))) × FitsParity old.table s p q
     × Logs (skips job passed ++ put_entry old.table.parity job s c block p q kept kept2 ∷ []) old new))
     × FitsPassed old.table passed

@@ -7,3 +7,4 @@ pub mod Looking
 pub mod Putting
 pub mod Counting
 pub mod Finding
+pub mod Relaying

@@ -30,7 +30,8 @@ ParityFinds told s parity found.Sound old new =
     (told → IsOld (stripe_of old.table new.shelves.held s) old.table.data_columns parity) × FitsSlot (slot_at old.table s old.table.data_columns) parity
 ParityFinds told s parity found.Missing old new =
     (slot_at old.table s old.table.data_columns ≢ Void) × (told → Sound (stripe_of old.table new.shelves.held s) old.table.data_columns → ⊥)
-ParityFinds told s parity found.NotRead old new = FailedAt old new s old.table.data_columns × CoversOne new old.table.data_columns
+ParityFinds told s parity found.NotRead old new =
+    FailedAt old new s old.table.data_columns × CoversOne new old.table.data_columns × (slot_at old.table s old.table.data_columns ≢ Void)
 
 pub record ReadsParity (told : Type 0) (s : ℕ) (parity : List ℕ) (result : Found) (old new : GroupView) : Type 0 where
   pub stays : Stays told old.shelves new.shelves
@@ -57,6 +58,7 @@ StopMeans told job parity stop.LogFull old new =
     × (length new.log ≡ log_bound) × (old.table.cursor.stripe < old.table.stripes)
 StopMeans told job parity stop.Faulted old new =
     Logs (entry.Fault job old.table.cursor.stripe old.table.data_columns ∷ []) old new × FailedAt old new old.table.cursor.stripe old.table.data_columns
+    × TakesBlocks old.table old.table.cursor.stripe × (slot_at old.table old.table.cursor.stripe old.table.data_columns ≢ Void)
 
 -- one stripe: None where it is passed
 abbrev pub PassMeans : Type 0 → ℕ → List ℕ → Option Stop → GroupView → GroupView → Type 0

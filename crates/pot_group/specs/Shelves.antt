@@ -1,11 +1,11 @@
 -- The archives of a group as plain data, by their numbers, and what a call of one of them does.
-use Rattle.std.specs.Prelude.{◌≡◌, ◌≢◌, ◌≤◌, ◌==◌, ℕ, List, [], ◌∷◌, Option, Some, None, Result, Ok, Err, IsErr, if◌then◌else◌, find, map}
+use Rattle.std.specs.Prelude.{◌≡◌, ◌≢◌, ◌≤◌, ◌==◌, ◌++◌, ℕ, List, [], ◌∷◌, Option, Some, None, Result, Ok, Err, IsErr, if◌then◌else◌, find, map}
 use Rattle.pot_bytes.specs.declared.digest.Digest.{Digest}
 use Rattle.pot_outside.specs.declared.archive.Marks.{Marks}
 use Rattle.pot_outside.specs.declared.archive.Shelf.{Shelf}
 use Rattle.pot_outside.specs.declared.faults.Failed.{Failed}
 use Rattle.pot_outside.specs.declared.archive.Held.{Held as IsHeld}
-use Rattle.pot_outside.specs.Archives.{Contents, OnlyLoses, ReadTells, WriteTells, MayLeave, at_slot}
+use Rattle.pot_outside.specs.Archives.{Contents, OnlyLoses, ReadTells, FoldTells, LeavesSum, HearsFold, WriteTells, MayLeave, at_slot}
 use Rattle.pot_outside.specs.Counts.{Rose, Caused}
 use Rattle.pot_steps.specs.Holdings.{Holdings}
 use Rattle.pot_steps.specs.Stripe.{digest_of}
@@ -91,6 +91,15 @@ pub record WritesOne {A : Type 0} (told : Type 0) (held : A → Contents) (heard
   pub hears : told → heard new ≡ heard old
   pub cause : Caused (faults old) (faults new) (IsErr result)
 
+-- a fold over a slot of one archive
+pub record FoldsOne {A : Type 0} (told : Type 0) (held : A → Contents) (heard : A → List (ℕ × List ℕ)) (faults losses : A → ℕ)
+    (slot weight : ℕ) (before sum : List ℕ) (result : Result IsHeld Failed) (old new : A) : Type 0 where
+  pub tells : told → FoldTells (held new) slot weight before sum result
+  pub leaves : LeavesSum before sum result
+  pub loses : told → OnlyLoses (held old) (held new) (losses old) (losses new)
+  pub hears : told → HearsFold (heard old) (heard new) slot before result
+  pub cause : Caused (faults old) (faults new) (IsErr result)
+
 -- WHAT A CALL DOES
 
 -- the same archives, with the marks of their taking, and no count of faults has fallen
@@ -119,6 +128,30 @@ FoundMeans told number slot digest into NotRead old new = Rose (old.faults numbe
 pub record Finds (told : Type 0) (number slot : ℕ) (digest : Digest) (into : List ℕ) (found : Found) (old new : Shelves) : Type 0 where
   pub stays : Stays told old new
   pub means : FoundMeans told number slot digest into found old new
+
+-- A block of a slot of an archive is folded into a sum. That archive alone hears.
+pub record Folds (told : Type 0) (number slot weight : ℕ) (before sum : List ℕ) (result : Result IsHeld Failed) (old new : Shelves) : Type 0 where
+  pub keeps : Keeps old new
+  pub loses : told → LosesFrom old.held old new
+  pub tells : told → FoldTells (new.held number) slot weight before sum result
+  pub leaves : LeavesSum before sum result
+  pub hears : told → HearsFold (old.heard number) (new.heard number) slot before result
+  pub silent : told → (n : ℕ) → n ≢ number → new.heard n ≡ old.heard n
+  pub cause : IsErr result → Rose (old.faults number) (new.faults number)
+
+-- An archive comes under a number that no other has. Its marks are taken then, and the others stay as they are.
+pub record Brings (told : Type 0) (number : ℕ) (held : ℕ → Option (List ℕ)) (heard : List (ℕ × List ℕ)) (old new : Shelves) : Type 0 where
+  pub numbers : new.numbers ≡ old.numbers ++ number ∷ []
+  pub blocks : (slot : ℕ) → new.held number slot ≡ held slot
+  pub sums : new.heard number ≡ heard
+  pub marked : new.faults_taken number ≡ new.faults number
+  pub marked_losses : told → new.losses_taken number ≡ new.losses number
+  -- a number without an archive has nothing
+  pub absent : (old.faults number ≡ 0) × (old.faults_taken number ≡ 0) × (old.losses number ≡ 0) × (old.losses_taken number ≡ 0)
+  pub same_held : (n slot : ℕ) → n ≢ number → new.held n slot ≡ old.held n slot
+  pub same_heard : (n : ℕ) → n ≢ number → new.heard n ≡ old.heard n
+  pub same_faults : (n : ℕ) → n ≢ number → (new.faults n ≡ old.faults n) × (new.faults_taken n ≡ old.faults_taken n)
+  pub same_losses : (n : ℕ) → n ≢ number → (new.losses n ≡ old.losses n) × (new.losses_taken n ≡ old.losses_taken n)
 
 -- what is held once a slot of an archive has this
 abbrev pub put_at : Holdings → ℕ → ℕ → Option (List ℕ) → Holdings

@@ -1,9 +1,10 @@
 //! The archives of a group, by their numbers.
-ghost use Rattle.std.specs.Prelude.{◌≡◌, ◌==◌, ◌↔◌, IsTrue, IfOk, IfErr, Contains, length, map};
+ghost use Rattle.std.specs.Prelude.{◌≡◌, ◌<◌, ◌==◌, ◌↔◌, IsTrue, IfOk, IfErr, Contains, length, map};
 ghost use Rattle.std.specs.List.{position};
 ghost use Rattle.pot_steps.specs.Stripe.{digest_of};
-ghost use Rattle.pot_group.specs.Shelves.{plain, numbers_of, Touches, Reads, WritesOne, IsTaken, Finds, Writes};
+ghost use Rattle.pot_group.specs.Shelves.{plain, numbers_of, Touches, Reads, WritesOne, FoldsOne, IsTaken, Finds, Writes, Folds, Brings};
 
+use crate::known::Known;
 use pot_bytes::{Block, Digest, digest_of};
 use pot_outside::{Archive, Failed, Held, Marks, Shelf};
 use std::alloc::{AllocError, Global};
@@ -31,10 +32,13 @@ pub(crate) struct Archives<A: Archive> {
 
 impl<A: Archive> Model for Archives<A> {
     ghost use Rattle.pot_group.specs.Shelves.{Shelved};
+    ghost use Rattle.std.specs.Prelude.{◌≡◌, length};
 
     ghost Value = { Shelved A };
 
     ghost view = { λ a. record { shelves = a.shelves.items; marks = a.marks.items } };
+
+    ghost invariant = { λ a. length a.shelves.items ≡ length a.marks.items };
 }
 
 impl<A: Archive> Archives<A> {
@@ -58,12 +62,13 @@ impl<A: Archive> Archives<A> {
         shelves
     }
 
-    /// Reads the block of a slot of an archive, which is to have this digest, into `into`.
+    /// Reads the block of a slot of an archive, which is to have this digest, into `into`. Some digests are known.
     pub(crate) fn read_sound(
         &mut self,
         number: u32,
         slot: u32,
         digest: Digest,
+        known: &Known,
         into: &mut Block,
     ) -> Found
         requires { Contains (plain A.held A.heard A.faults A.losses self.old).numbers number }
@@ -71,7 +76,7 @@ impl<A: Archive> Archives<A> {
     {
         match read(&mut self.shelves, number, slot, into) {
             Ok(Held::Held) => {
-                if has_digest(into, digest) {
+                if is_known(into, digest, known) {
                     Found::Sound
                 } else {
                     Found::Missing
@@ -80,6 +85,49 @@ impl<A: Archive> Archives<A> {
             Ok(Held::Absent) => Found::Missing,
             Err(Failed) => Found::NotRead,
         }
+    }
+
+    /// Whether an archive has this number.
+    pub(crate) fn has(&self, number: u32) -> bool
+        ensures { Contains (numbers_of self.now.shelves) number → IsTrue result }
+    {
+        place_of(&self.shelves, number).is_some()
+    }
+
+    /// Adds an archive of a number that none has, with its marks now. Where memory is short it comes back.
+    pub(crate) fn bring(&mut self, shelf: Shelf<A>) -> Result<(), Shelf<A>>
+        requires fresh { Contains (numbers_of self.old.shelves) shelf.number → ⊥ }
+        ensures brought { IfOk result (λ u. Brings (IsTrue A.tells) shelf.number (A.held shelf.archive) (A.heard shelf.archive) (plain A.held A.heard A.faults A.losses self.old) (plain A.held A.heard A.faults A.losses self.new)) }
+        ensures refused { IfErr result (λ s. (s ≡ shelf) × (self.new ≡ self.old)) }
+    {
+        if self.shelves.reserve(1).is_err() {
+            return Err(shelf);
+        }
+        if self.marks.reserve(1).is_err() {
+            return Err(shelf);
+        }
+        let marks = shelf.archive.marks();
+        self.marks.push_reserved(marks);
+        self.shelves.push_reserved(shelf);
+        Ok(())
+    }
+
+    /// Folds the block of a slot of an archive, times a weight, into a sum, which the archive hears.
+    ///
+    /// # Errors
+    /// `Failed` only where the archive's count of faults rose; the sum is then as it was.
+    pub(crate) fn fold(
+        &mut self,
+        number: u32,
+        slot: u32,
+        weight: u8,
+        sum: &mut Block,
+    ) -> Result<Held, Failed>
+        requires weight { 0 < weight }
+        requires number { Contains (plain A.held A.heard A.faults A.losses self.old).numbers number }
+        ensures { Folds (IsTrue A.tells) number slot weight sum.old sum.new result (plain A.held A.heard A.faults A.losses self.old) (plain A.held A.heard A.faults A.losses self.new) }
+    {
+        fold(&mut self.shelves, number, slot, weight, sum)
     }
 
     /// Writes a block into a slot of an archive.
@@ -120,6 +168,22 @@ fn read<A: Archive>(
     shelves[place].archive.read(slot, into)
 }
 
+/// Folds a slot of the archive of this number.
+fn fold<A: Archive>(
+    shelves: &mut Vec<Shelf<A>>,
+    number: u32,
+    slot: u32,
+    weight: u8,
+    sum: &mut Block,
+) -> Result<Held, Failed>
+    requires weight { 0 < weight }
+    requires number { Contains (numbers_of shelves.old.items) number }
+    ensures { Touches number (FoldsOne (IsTrue A.tells) A.held A.heard A.faults A.losses slot weight sum.old sum.new result) shelves.old.items shelves.new.items }
+{
+    let place = place_of(shelves, number).unwrap();
+    shelves[place].archive.fold(slot, weight, sum)
+}
+
 /// Writes a slot of the archive of this number.
 fn write<A: Archive>(
     shelves: &mut Vec<Shelf<A>>,
@@ -146,4 +210,11 @@ pub(crate) fn has_digest(block: &Block, digest: Digest) -> bool
     ensures { IsTrue result ↔ digest_of block.now ≡ digest }
 {
     digest_of(block.bytes()) == digest
+}
+
+/// Whether a block has this digest, where some digests are known.
+pub(crate) fn is_known(block: &Block, digest: Digest, known: &Known) -> bool
+    ensures { IsTrue result ↔ digest_of block.now ≡ digest }
+{
+    known.digest(block) == digest
 }

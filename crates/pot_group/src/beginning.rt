@@ -3,9 +3,11 @@ ghost use Rattle.std.specs.Prelude.{◌≡◌, ◌≤◌, [], IsTrue, IfOk, IfEr
 
 use crate::archives::Archives;
 use crate::group::{Group, LOG_BOUND};
+use crate::known::Known;
 use crate::opening::open_all;
 use pot_machine::{Entry, GroupTable};
 use pot_outside::{Archive, Shelf};
+use pot_steps::Flight;
 use std::alloc::Global;
 
 /// What a group that could not begin hands back, as it was handed in. It is want of memory alone.
@@ -41,11 +43,14 @@ impl<A: Archive> Group<A> {
         let Ok(log) = Vec::with_capacity(alloc, LOG_BOUND) else {
             return Err(StartRefused { table, shelves });
         };
+        let Ok(flights) = Vec::with_capacity(alloc, 16) else {
+            return Err(StartRefused { table, shelves });
+        };
         let Ok(first) = table.copy(alloc) else {
             return Err(StartRefused { table, shelves });
         };
         match Archives::take(alloc, shelves) {
-            Ok(archives) => Ok(Group::open(number, first, table, log, archives)),
+            Ok(archives) => Ok(Group::open(number, first, table, log, flights, archives)),
             Err(shelves) => Err(StartRefused { table, shelves }),
         }
     }
@@ -56,6 +61,7 @@ impl<A: Archive> Group<A> {
         first: GroupTable,
         table: GroupTable,
         log: Vec<Entry>,
+        flights: Vec<Flight>,
         archives: Archives<A>,
     ) -> Group<A>
         requires first { first ≡ table }
@@ -63,6 +69,8 @@ impl<A: Archive> Group<A> {
         requires parity { table.parity ≡ 1 }
         requires log { log.items ≡ [] }
         requires room { 262144 ≤ vec_capacity log }
+        requires none { flights.items ≡ [] }
+        requires places { 16 ≤ vec_capacity flights }
         requires taken { IsTaken (IsTrue A.tells) (plain A.held A.heard A.faults A.losses archives) }
         requires archives { map (λ s. s.number) archives.shelves ≡ archives_in table }
         ensures { Begins (IsTrue A.tells) A.held A.heard A.faults A.losses number table archives.shelves result }
@@ -71,13 +79,16 @@ impl<A: Archive> Group<A> {
         let mut log = log;
         let mut archives = archives;
         let _rules = table.cursor();
-        open_all(&mut table, &mut log, &mut archives);
+        let known = Known::nothing();
+        open_all(&mut table, &mut log, &mut archives, &known);
         Group {
             number,
             first,
             table,
             log,
+            flights,
             archives,
+            known,
         }
     }
 }

@@ -3,10 +3,13 @@ ghost use Rattle.std.specs.Prelude.{◌≡◌, ◌<◌, ◌≤◌, ◌++◌, [],
 ghost use Rattle.pot_machine.specs.Table.{width};
 
 use crate::archives::{Archives, Found};
+use crate::known::Known;
 use crate::noting::note;
 use pot_bytes::{Block, Digest};
 use pot_machine::{Entry, GroupTable};
 use pot_outside::{Archive, Shelf};
+use pot_steps::Flight;
+use pot_sealed::Sealed;
 use std::marker::Model;
 
 /// The most entries that a log has.
@@ -30,7 +33,9 @@ pub struct Group<A: Archive> {
     pub(crate) first: GroupTable,
     pub(crate) table: GroupTable,
     pub(crate) log: Vec<Entry>,
+    pub(crate) flights: Vec<Flight>,
     pub(crate) archives: Archives<A>,
+    pub(crate) known: Known,
 }
 
 impl<A: Archive> Model for Group<A> {
@@ -40,14 +45,15 @@ impl<A: Archive> Model for Group<A> {
 
     ghost Value = { GroupParts A };
 
-    ghost view = { λ g. record { number = g.number; first = g.first; table = g.table; log = g.log.items; archives = g.archives } };
+    ghost view = { λ g. record { number = g.number; first = g.first; table = g.table; log = g.log.items; flights = g.flights.items; archives = g.archives } };
 
-    ghost invariant = { λ g. IsSettled (IsTrue A.tells) (view_of A.held A.heard A.faults A.losses (record { number = g.number; first = g.first; table = g.table; log = g.log.items; archives = g.archives })) × (262144 ≤ vec_capacity g.log) };
+    ghost invariant = { λ g. IsSettled (IsTrue A.tells) (view_of A.held A.heard A.faults A.losses (record { number = g.number; first = g.first; table = g.table; log = g.log.items; flights = g.flights.items; archives = g.archives })) × (262144 ≤ vec_capacity g.log) × (16 ≤ vec_capacity g.flights) };
 }
 
 impl<A: Archive> Group<A> {
     ghost use Rattle.pot_machine.specs.Table.{serving_at};
     ghost use Rattle.pot_machine.specs.Machine.{Legal, Replays};
+    ghost use Rattle.pot_machine.specs.Rules.{IsTable};
     ghost use Rattle.pot_group.specs.Shelves.{plain, Finds};
     ghost use Rattle.pot_group.specs.Group.{view_of, noted, with_archives, IsQuiet, IsSettled, CoversIfNotRead};
 
@@ -65,7 +71,8 @@ impl<A: Archive> Group<A> {
         ensures covers { CoversIfNotRead result (view_of A.held A.heard A.faults A.losses self.new) column }
     {
         let number = self.table.archive_of(stripe, column);
-        self.archives.read_sound(number, stripe, digest, into)
+        self.archives
+            .read_sound(number, stripe, digest, &self.known, into)
     }
 
     /// Logs an entry that says nothing untrue and puts no block.
@@ -78,11 +85,22 @@ impl<A: Archive> Group<A> {
         note(&mut self.table, &mut self.log, entry);
     }
 
+    /// A block that is put next, and the parity block that it will make, if no other put comes between. Each spares a digest
+    /// where it is that block, and nothing else changes.
+    pub fn expect(&mut self, block: &Sealed, parity: &Sealed)
+        ensures { self.new ≡ self.old }
+    {
+        self.known.expect(block, parity);
+    }
+
     /// The number of entries in its log.
     pub fn logged(&self) -> u64
         ensures value { result ≡ length self.now.log }
         ensures bound { result ≤ 262144 }
+        ensures settled { IsSettled (IsTrue A.tells) (view_of A.held A.heard A.faults A.losses self.now) }
+        ensures first { IsTable self.now.first }
     {
+        let _rules = self.first.cursor();
         self.log.len() as u64
     }
 
@@ -98,7 +116,9 @@ impl<A: Archive> Group<A> {
             first: _,
             table,
             log,
+            flights: _,
             archives,
+            known: _,
         } = self;
         Ended {
             table,

@@ -1,12 +1,14 @@
-//! A group of archives under parity: the opening of its table, puts, looks and counts.
+//! A group of archives under parity: the opening of its table, puts, looks, counts and relays, and the begin of a move.
 //!
 //! A group has a table of `pot_machine`, the archives that serve its columns, and the log of one session. Each change of the
 //! table is an entry that is logged and applied at once. No table is trusted: `start` reads the block of every Live slot, and
 //! logs what is missing and what does not fit its stripe.
 //!
-//! It rebuilds nothing and moves nothing: a slot that is Lost or Broken stays so, and no call begins a relay, a move or a
-//! swap. It knows no file, no thread and no name, stores no table and no log, and does not choose the group that a block goes
-//! to. It takes memory at `start` alone. `start` and `put` ask for a table with one parity column.
+//! Relays rebuild slots that are Lost or Broken. A column begins to move, but no call moves a slot yet or swaps an archive. It
+//! knows no file, no thread and no name, stores no table and no log, and does not choose the group that a block goes to. It
+//! takes memory at `start` and `move_begin` alone. `start` and `put` ask for a table with one parity column. A call that logs
+//! takes a job above 0, since job 0 is the opening's. Digests that are known already (`expect`, and those of the last put) are
+//! not taken anew; that changes no answer.
 //!
 //! The equation of a stripe: the XOR of its data blocks and of the parity block P is zeros, with zeros for a slot that is Void.
 //! A put of a block D fills a slot that is Void, so the new parity block is P XOR D. D is written first: where its write
@@ -14,11 +16,13 @@
 //!
 //! Invariants of every `Group`, kept by its type (`IsSettled`); `end` hands them out as `settled`:
 //! 1. The log replays from the table that was read to the table now (`replay`; `note` alone logs, and applies what it logs).
-//! 2. The table keeps the rules of `pot_machine` (`table`), and its numbers of columns stay (`sizes`).
-//! 3. No relay stands (`relays`; `start` asks for it).
+//! 2. The table keeps the rules of `pot_machine` (`table`), and its numbers of columns and of
+//!    stripes stay (`sizes`).
+//! 3. There is a flight for each relay, in the same order (`relays`; `start` asks for no relay), and the law of each flight
+//!    holds (`flying`).
 //! 4. The log has at most 262,144 entries (`bound`; each call that logs looks first, and `start` takes all that memory).
-//! 5. Each home and each target of a column is an archive of the group (`shelves`; `start` asks for it), and the archive that
-//!    serves a slot is one that its column has had (`serves`).
+//! 5. Each home and each target of a column is an archive of the group (`shelves`; `start` asks for it), and one that this
+//!    column has had (`serves`).
 //! 6. No count of faults or losses is below its mark, which `Archives::take` notes before the first read (`faults`, `losses`).
 //! 7. The law of every stripe: where no slot is Broken and at most one is Lost, there is a filling, which gives each slot a
 //!    block of its digest, the one held where the slot is sound, and adds up to zeros (`holds`, by `HoldsUp` of `pot_steps`).
@@ -29,7 +33,7 @@
 //!    of these counts stands at its last value. A Live slot of a column was logged Gone, but by job 0, only where the count of
 //!    losses of one of its archives rose above the mark.
 //!
-//! 7, 8 and the losses of 6 and 9 are said of archives that tell what they hold, and all else always.
+//! `flying`, 7, 8 and the losses of 6 and 9 are said of archives that tell what they hold, and all else always.
 //!
 //! What `start` makes of a stripe, after a Gone for each Live slot that gave no block of its digest:
 //!
@@ -53,7 +57,11 @@
 //! | | none, or that Gone, where the next one has no room | LogFull |
 //! | `look` | Seen, Gone or Fault | the same, and the block where it is Seen |
 //! | `count` | Counted | how many slots are Live, Lost and Broken, and the cursor |
-//! | `next`, `logged`, `end` | none | what they read |
+//! | `begin` | Begin, or Stuck, or none | whether a relay began, and why not |
+//! | `advance` | the entry of its relay's step, Fault, or none where no relay stands | what it came to |
+//! | `mend` | as `begin`, or as `advance` of the relay in its way | the same |
+//! | `move_begin` | MoveBegin, or none | whether the archive was taken, and why not |
+//! | `next`, `logged`, `end`, `expect` | none | what they read |
 #![tactic(auto)]
 
 mod answers;
@@ -62,10 +70,15 @@ mod beginning;
 mod counting;
 mod finding;
 mod group;
+mod known;
 mod looking;
+mod moving;
 mod noting;
 mod opening;
 mod putting;
+#[cfg(test)]
+mod relay_tests;
+mod relaying;
 #[cfg(test)]
 mod scene;
 mod telling;
@@ -77,4 +90,6 @@ pub use beginning::StartRefused;
 pub use counting::Counts;
 pub use finding::Kind;
 pub use group::{Ended, Group};
+pub use moving::{ShelfCause, ShelfRefused};
+pub use relaying::{AdvanceFault, Advanced, BeginFault, Mend, MendFault};
 pub use telling::LogFull;

@@ -13,18 +13,21 @@ impl<A: Archive> Group<A> {
     ghost use Rattle.pot_steps.specs.GroupStep.{LookStep, look_entries};
     ghost use Rattle.pot_group.specs.Group.{view_of, state_of, with_archives, Logs, LookCause, looked_as};
     ghost use Rattle.pot_group.specs.Looking.{Looks};
+    ghost use Rattle.pot_group.specs.Shelves.{Stays};
 
     /// Reads the block of a slot, and logs what it came to.
     ///
     /// `Seen`: the slot is Live, and `into` is its block, of its digest. `Gone`: the slot is not Live, or its archive has no
-    /// block of its digest; a Live slot becomes Lost. `Faulted`: the archive failed. `LogFull` comes first, exactly where
-    /// the log has 262,144 entries, and nothing changes then.
+    /// block of its digest; a Live slot becomes Lost. `Faulted`: the slot is Live, and the archive failed. `LogFull` comes
+    /// first, exactly where the log has 262,144 entries, and nothing changes then.
     pub fn look(&mut self, job: u32, place: Place, into: &mut Block) -> Looked
+        requires job { 0 < job }
         requires stripe { place.stripe < self.old.table.stripes }
         requires column { place.column < width self.old.table }
         ensures full { (result ≡ Looked.LogFull) ↔ (length self.old.log ≡ 262144) }
         ensures logs { Logs (look_entries job place.stripe place.column (looked_as result into.new)) (view_of A.held A.heard A.faults A.losses self.old) (view_of A.held A.heard A.faults A.losses self.new) }
         ensures step { IsTrue A.tells → LookStep job place.stripe place.column (looked_as result into.new) (state_of (view_of A.held A.heard A.faults A.losses self.old)) (state_of (view_of A.held A.heard A.faults A.losses self.new)) }
+        ensures stays { Stays (IsTrue A.tells) (view_of A.held A.heard A.faults A.losses self.old).shelves (view_of A.held A.heard A.faults A.losses self.new).shelves }
         ensures cause { LookCause result (view_of A.held A.heard A.faults A.losses self.old) (view_of A.held A.heard A.faults A.losses self.new) place.stripe place.column into.new }
     {
         if self.log.len() >= LOG_BOUND {

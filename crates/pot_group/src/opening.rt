@@ -7,6 +7,7 @@ ghost use Rattle.pot_group.specs.Shelves.{plain};
 ghost use Rattle.pot_group.specs.Opening.{HasArchives, OpensSlot, OpensColumns, OpensStripe, Opens, IsBroken, short_by, sum_by};
 
 use crate::archives::{Archives, Found, has_digest};
+use crate::known::Known;
 use crate::noting::note;
 use pot_bytes::{Block, Digest};
 use pot_machine::{Entry, GroupTable, SlotState};
@@ -41,6 +42,7 @@ pub(crate) fn open_all<A: Archive>(
     table: &mut GroupTable,
     log: &mut Vec<Entry>,
     archives: &mut Archives<A>,
+    known: &Known,
 )
     requires parity { table.old.parity ≡ 1 }
     requires log { log.old.items ≡ [] }
@@ -51,7 +53,7 @@ pub(crate) fn open_all<A: Archive>(
     ensures bound { length log.new.items ≤ 262144 }
 {
     for stripe in 0..table.stripes() {
-        open_stripe(table, log, archives, stripe);
+        open_stripe(table, log, archives, known, stripe);
     }
 }
 
@@ -60,6 +62,7 @@ fn open_stripe<A: Archive>(
     table: &mut GroupTable,
     log: &mut Vec<Entry>,
     archives: &mut Archives<A>,
+    known: &Known,
     stripe: u32,
 )
     requires parity { table.old.parity ≡ 1 }
@@ -72,7 +75,7 @@ fn open_stripe<A: Archive>(
 {
     let parity_column = table.data_columns();
     let mut sum = Block::zero();
-    let shortage = open_columns(table, log, archives, stripe, &mut sum);
+    let shortage = open_columns(table, log, archives, known, stripe, &mut sum);
     if let Some(column) = broken(shortage, &sum, parity_column) {
         let entry = Entry::Broke {
             job: 0,
@@ -88,6 +91,7 @@ fn open_columns<A: Archive>(
     table: &mut GroupTable,
     log: &mut Vec<Entry>,
     archives: &mut Archives<A>,
+    known: &Known,
     stripe: u32,
     sum: &mut Block,
 ) -> Shortage
@@ -102,7 +106,7 @@ fn open_columns<A: Archive>(
     let mut into = Block::zero();
     let end = table.data_columns() + table.parity();
     for column in 0..end {
-        let part = open_slot(table, log, archives, stripe, column, &mut into);
+        let part = open_slot(table, log, archives, known, stripe, column, &mut into);
         shortage = add_part(shortage, column, part, sum, &into);
     }
     shortage
@@ -113,6 +117,7 @@ fn open_slot<A: Archive>(
     table: &mut GroupTable,
     log: &mut Vec<Entry>,
     archives: &mut Archives<A>,
+    known: &Known,
     stripe: u32,
     column: u8,
     into: &mut Block,
@@ -130,7 +135,7 @@ fn open_slot<A: Archive>(
         SlotState::Live(digest) => digest,
     };
     let number = table.archive_of(stripe, column);
-    let found = archives.read_sound(number, stripe, digest, into);
+    let found = archives.read_sound(number, stripe, digest, known, into);
     if let Found::Sound = found {
         sized(into);
         return Part::Present;

@@ -6,9 +6,10 @@ ghost use Rattle.pot_steps.specs.Stripe.{digest_of};
 use crate::answers::PutFault;
 use crate::archives::Found;
 use crate::group::{Group, LOG_BOUND};
+use crate::known::Known;
 use crate::noting::note;
 use crate::opening::sized;
-use pot_bytes::{Block, Digest, Place, digest_of};
+use pot_bytes::{Block, Place};
 use pot_machine::{Cursor, Entry, SlotState};
 use pot_outside::{Archive, Failed};
 
@@ -34,7 +35,7 @@ impl<A: Archive> Group<A> {
     ghost use Rattle.pot_steps.specs.Holdings.{stripe_of};
     ghost use Rattle.pot_steps.specs.GroupStep.{PutStep};
     ghost use Rattle.pot_group.specs.Group.{view_of, state_of, with_archives, put_as, PutLogs, FailedAt};
-    ghost use Rattle.pot_group.specs.Shelves.{plain};
+    ghost use Rattle.pot_group.specs.Shelves.{plain, Keeps};
     ghost use Rattle.pot_group.specs.Putting.{ReadsParity, Passes, PassMeans, Finds, BlockMeans};
 
     /// Puts a block at the cursor, and changes the parity by it. The group has one parity column.
@@ -46,9 +47,11 @@ impl<A: Archive> Group<A> {
     /// write where the next entry has no room; the entries logged before it stay. `Full` where the cursor has no stripe
     /// left. `Faulted` where the archive of that column failed.
     pub fn put(&mut self, job: u32, block: &Block) -> Result<Place, PutFault>
+        requires job { 0 < job }
         requires parity { self.old.table.parity ≡ 1 }
         ensures full { length self.old.log ≡ 262144 → (result ≡ Err PutFault.LogFull) × (self.new ≡ self.old) }
         ensures logs { PutLogs job block.now result (view_of A.held A.heard A.faults A.losses self.old) (view_of A.held A.heard A.faults A.losses self.new) }
+        ensures keeps { Keeps (view_of A.held A.heard A.faults A.losses self.old).shelves (view_of A.held A.heard A.faults A.losses self.new).shelves }
         ensures step { IsTrue A.tells → PutStep job block.now (put_as result) (state_of (view_of A.held A.heard A.faults A.losses self.old)) (state_of (view_of A.held A.heard A.faults A.losses self.new)) }
     {
         if self.log.len() >= LOG_BOUND {
@@ -181,7 +184,7 @@ impl<A: Archive> Group<A> {
         let parity_home = self.table.archive_of(stripe, last);
         match self.archives.write(parity_home, stripe, &parity) {
             Ok(()) => {
-                let entry = put_entry(job, cursor, block, &parity, true);
+                let entry = put_entry(&mut self.known, job, cursor, block, &parity, true);
                 note(&mut self.table, &mut self.log, entry);
                 Ok(Place {
                     group: self.number,
@@ -190,7 +193,7 @@ impl<A: Archive> Group<A> {
                 })
             }
             Err(Failed) => {
-                let entry = put_entry(job, cursor, block, &parity, false);
+                let entry = put_entry(&mut self.known, job, cursor, block, &parity, false);
                 note(&mut self.table, &mut self.log, entry);
                 Err(PutFault::Faulted { column: last })
             }
@@ -199,15 +202,22 @@ impl<A: Archive> Group<A> {
 }
 
 /// The entry of a put at this place.
-fn put_entry(job: u32, cursor: Cursor, block: &Block, parity: &Block, kept: bool) -> Entry
+fn put_entry(
+    known: &mut Known,
+    job: u32,
+    cursor: Cursor,
+    block: &Block,
+    parity: &Block,
+    kept: bool,
+) -> Entry
     ensures { result ≡ Put job cursor.stripe cursor.column (digest_of block.now) (digest_of parity.now) kept }
 {
     Entry::Put {
         job,
         stripe: cursor.stripe,
         column: cursor.column,
-        digest: digest_of(block.bytes()),
-        parity_digest: digest_of(parity.bytes()),
+        digest: known.meet(block),
+        parity_digest: known.learn(parity),
         kept,
     }
 }

@@ -1,5 +1,5 @@
 //! What a group tells of its table.
-ghost use Rattle.std.specs.Prelude.{◌≡◌, ◌↔◌, IsTrue, IfOk, Err, [], ◌∷◌, length};
+ghost use Rattle.std.specs.Prelude.{◌≡◌, ◌<◌, ◌↔◌, IsTrue, IfOk, Err, [], ◌∷◌, length};
 
 use crate::counting::{Counts, counts_of};
 use crate::finding::{Kind, next_place};
@@ -25,6 +25,7 @@ impl<A: Archive> Group<A> {
     /// # Errors
     /// `LogFull` exactly where the log has 262,144 entries; nothing changes then.
     pub fn count(&mut self, job: u32) -> Result<Counts, LogFull>
+        requires job { 0 < job }
         ensures full { IsErr result ↔ (length self.old.log ≡ 262144) }
         ensures refused { IsErr result → self.new ≡ self.old }
         ensures counts { IfOk result (λ counts. IsCounted self.old.table counts × (self.new ≡ noted self.old (Counted job))) }

@@ -1,9 +1,9 @@
 -- Slots that stay or become Lost.
-use Rattle.std.proofs.Common.{◌≡◌, ◌⊎◌, inl, inr, ℕ, ◌+◌, ◌<◌, List, Some, true, sym, ap, ◌∙◌, refl}
+use Rattle.std.proofs.Common.{◌≡◌, ◌⊎◌, inl, inr, ℕ, ◌+◌, ◌<◌, List, Some, true, IsTrue, sym, ap, ◌∙◌, refl}
 use Rattle.pot_bytes.specs.declared.digest.Digest.{Digest}
 use Rattle.pot_machine.specs.declared.slot.SlotState.{SlotState}
 use Rattle.pot_machine.specs.declared.slot.SlotState.TheVariants.{Void, Live, Lost, Broken}
-use Rattle.pot_machine.specs.Slot.{digest_in, is_lost, lost_of}
+use Rattle.pot_machine.specs.Slot.{digest_in, is_live, is_lost, lost_of}
 use Rattle.pot_steps.specs.Stripe.{Stripe}
 use Rattle.pot_steps.specs.Law.{Worse}
 
@@ -41,20 +41,31 @@ broken_kept : (x y : SlotState) (d : Digest) → LostOrSame x y → x ≡ Broken
 broken_kept x y d (inl e) h = e ∙ h
 broken_kept x y d (inr e) h = e ∙ ap lost_of h
 
-not_void : (x : SlotState) (d : Digest) → x ≡ Live d → x ≡ Void → ⊥
-not_void x d e v = live_void (sym e ∙ v)
-  where
-    live_void : Live d ≡ Void → ⊥
-    live_void e = cc
-
--- such a stripe is worse, where what is held at its places that are not Void was held there before
-pub worse_from : (data_columns parity : ℕ) (s s' : Stripe) → ((c : ℕ) → c < data_columns + parity → LostOrSame (s.slots c) (s'.slots c))
-    → ((c : ℕ) (b : List ℕ) → c < data_columns + parity → (s.slots c ≡ Void → ⊥) → s'.held c ≡ Some b → s.held c ≡ Some b)
+-- such a stripe is worse, where what is held at its Live places was held there before
+pub worse_after : (data_columns parity : ℕ) (s s' : Stripe) → ((c : ℕ) → c < data_columns + parity → LostOrSame (s.slots c) (s'.slots c))
+    → ((c : ℕ) (b : List ℕ) → c < data_columns + parity → IsTrue (is_live (s'.slots c)) → s'.held c ≡ Some b → s.held c ≡ Some b)
     → Worse data_columns parity s s'
-worse_from data_columns parity s s' slots held = record {
+worse_after data_columns parity s s' slots held = record {
   digests = λ c lt. digest_kept (s.slots c) (s'.slots c) (slots c lt);
   sound = λ c b lt h. (let live : s.slots c ≡ Live h.digest = live_kept (s.slots c) (s'.slots c) h.digest (slots c lt) h.live in
-      record { digest = h.digest; live = live; held = held c b lt (not_void (s.slots c) h.digest live) h.held; right = h.right });
+      record { digest = h.digest; live = live; held = held c b lt (ap is_live h.live) h.held; right = h.right });
   lost = λ c lt. lost_kept (s.slots c) (s'.slots c) (slots c lt);
   broken = λ c d lt. broken_kept (s.slots c) (s'.slots c) d (slots c lt);
 }
+
+pub live_before : (x y : SlotState) → LostOrSame x y → IsTrue (is_live y) → IsTrue (is_live x)
+live_before x y (inl e) h = sym (ap is_live e) ∙ h
+live_before x y (inr e) h = of x (sym (ap is_live e) ∙ h)
+  where
+    of : (x : SlotState) → IsTrue (is_live (lost_of x)) → IsTrue (is_live x)
+    of Void h = h
+    of (Live d) h = refl
+    of (Lost d) h = h
+    of (Broken d) h = h
+
+-- or at places that were Live
+pub worse_from : (data_columns parity : ℕ) (s s' : Stripe) → ((c : ℕ) → c < data_columns + parity → LostOrSame (s.slots c) (s'.slots c))
+    → ((c : ℕ) (b : List ℕ) → c < data_columns + parity → IsTrue (is_live (s.slots c)) → s'.held c ≡ Some b → s.held c ≡ Some b)
+    → Worse data_columns parity s s'
+worse_from data_columns parity s s' slots held =
+    worse_after data_columns parity s s' slots (λ c b lt live e. held c b lt (live_before (s.slots c) (s'.slots c) (slots c lt) live) e)

@@ -75,7 +75,7 @@ module _ (t u : Table) (h h' : Holdings) (rose : ℕ → Type 0) (stripes : u.st
           record {
             digest = d.0;
             live = d.1;
-            held = ap (λ a. h' a s) (serves s c) ∙ kept s c x.0 ls' lc' (live_void (slot_at t s c) d.0 was) x.1.held;
+            held = ap (λ a. h' a s) (serves s c) ∙ kept s c x.0 ls' lc' (ap is_live was) x.1.held;
             right = x.1.right ∙ same x.1.digest d.0 (sym x.1.live ∙ was);
           },
         )

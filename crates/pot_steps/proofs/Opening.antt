@@ -1,5 +1,5 @@
 -- The opening makes the law of every stripe hold.
-use Rattle.std.proofs.Common.{◌≡◌, ◌≢◌, ◌⊎◌, inl, inr, ℕ, zero, suc, ◌<◌, ◌≤◌, List, [], ◌∷◌, ◌++◌, Bool, true, false, IsTrue, refl, sym, ap, ◌∙◌, subst, arith, if◌then◌else◌}
+use Rattle.std.proofs.Common.{◌≡◌, ◌≢◌, ◌⊎◌, inl, inr, ℕ, zero, suc, ◌<◌, ◌≤◌, List, [], ◌∷◌, ◌++◌, Bool, true, false, IsTrue, refl, sym, ap, ◌∙◌, subst, arith, map, if◌then◌else◌}
 use Rattle.pot_bytes.specs.declared.digest.Digest.{Digest}
 use Rattle.pot_machine.specs.declared.slot.SlotState.{SlotState}
 use Rattle.pot_machine.specs.declared.slot.SlotState.TheVariants.{Void, Live, Lost, Broken}
@@ -13,6 +13,7 @@ use Rattle.pot_machine.proofs.Places.{slot_same, slot_other}
 use Rattle.pot_machine.proofs.Kept.{after_keeps}
 use Rattle.pot_steps.specs.Stripe.{Sound, IsSound, HasFilling}
 use Rattle.pot_steps.specs.Law.{StripeLaw, FindsUnsound}
+use Rattle.pot_steps.specs.Flights.{FliesOver, flight_in}
 use Rattle.pot_steps.specs.Holdings.{HoldsUp, stripe_of}
 use Rattle.pot_steps.specs.GroupStep.{GroupState, StartStep, StartMakes, as_read, entries_where, opening}
 use Rattle.pot_steps.proofs.Steps.{filling_stays, some_same}
@@ -336,5 +337,10 @@ module _ (old new : GroupState) (st : StartStep old new) (table : IsTable old.ta
 pub start_makes : StartMakes
 start_makes old new st table = record {
   table = (result old new st table).table;
+  relays = ap (map (λ f. f.relay)) none ∙ sym (ap (λ t. t.relays) (result old new st table).shape ∙ st.no_relays);
   holds = subst (λ v. HoldsUp v new.held) (sym (result old new st table).shape) (λ s ls. law old new st table s ls);
+  flying = λ s ls. subst (λ fs. FliesOver new.table.data_columns new.table.parity (stripe_of new.table new.held s) (flight_in fs s)) (sym none) tt;
 }
+  where
+    none : new.flights ≡ []
+    none = st.logs.flights ∙ st.no_flights

@@ -39,7 +39,7 @@ divided : (a x : ℕ) → 0 < a → a < 256 → x < 256 → byte_product (invers
 divided a x ha hb hx h =
     sym (byte_product-one_left x hx) ∙ ap (λ z. byte_product z x) (sym (byte_product-inverse a ha hb)) ∙ byte_product-assoc a (inverse a) x ∙ ap (byte_product a) h ∙ byte_product-zero_right a
 
-divided_by : (a x : ℕ) → 0 < a → a < 256 → x < 256 → byte_product a x ≡ 0 → x ≡ 0
+pub divided_by : (a x : ℕ) → 0 < a → a < 256 → x < 256 → byte_product a x ≡ 0 → x ≡ 0
 divided_by a x ha hb hx h =
     sym (byte_product-one_left x hx) ∙ ap (λ z. byte_product z x) (sym (byte_product-comm (inverse a) a ∙ byte_product-inverse a ha hb)) ∙ byte_product-assoc (inverse a) a x ∙ ap (byte_product (inverse a)) h ∙ byte_product-zero_right (inverse a)
 

@@ -1,9 +1,9 @@
 -- What an entry of a put, a look, an opening or a count says of the archives' contents.
-use Rattle.std.specs.Prelude.{◌≡◌, ◌≢◌, ◌⊎◌, ℕ, ◌+◌, ◌<◌, List, Option, Some, Bool, true}
+use Rattle.std.specs.Prelude.{◌≡◌, ◌≢◌, ◌⊎◌, ℕ, ◌+◌, ◌<◌, List, Option, Some, Bool, true, IsTrue}
 use Rattle.pot_bytes.specs.Sums.{xor}
 use Rattle.pot_bytes.specs.Weighted.{scaled}
 use Rattle.pot_gf.specs.Field.{power}
-use Rattle.pot_machine.specs.declared.slot.SlotState.TheVariants.{Void}
+use Rattle.pot_machine.specs.Slot.{is_live}
 use Rattle.pot_machine.specs.declared.relay.Relay.{Relay}
 use Rattle.pot_machine.specs.declared.entry.Entry.{Entry}
 use Rattle.pot_machine.specs.declared.entry.Entry.TheVariants.{Put, Skip, Seen, Gone, Broke, Fault, Counted, Put2}
@@ -19,11 +19,10 @@ use Rattle.pot_steps.specs.Holdings.{Holdings, HoldsUp, stripe_of}
 abbrev pub held_at : Table → Holdings → ℕ → ℕ → Option (List ℕ)
 held_at t h s c = h (serving_at t s c) s
 
--- What is held at a place that is not Void was held there before. At a Void place anything may have come, as where a write
--- failed.
+-- What is held at a Live place was held there before. At any other place anything may have come, as where a write failed.
 abbrev pub OnlyLoses : Table → Holdings → Holdings → Type 0
 OnlyLoses t h h' =
-    (s c : ℕ) (b : List ℕ) → s < t.stripes → c < width t → slot_at t s c ≢ Void
+    (s c : ℕ) (b : List ℕ) → s < t.stripes → c < width t → IsTrue (is_live (slot_at t s c))
     → held_at t h' s c ≡ Some b → held_at t h s c ≡ Some b
 
 -- A put writes the block at the data place, and the new blocks of P and Q where these are kept. A parity place whose write

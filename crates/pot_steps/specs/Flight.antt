@@ -4,9 +4,11 @@ use Rattle.pot_bytes.specs.declared.digest.Digest.{Digest}
 use Rattle.pot_bytes.specs.Totals.{total}
 use Rattle.pot_bytes.specs.Product.{byte_product}
 use Rattle.pot_bytes.specs.Sums.{xor}
+use Rattle.pot_bytes.specs.Weighted.{scaled}
 use Rattle.pot_gf.specs.Field.{power, inverse}
 use Rattle.pot_machine.specs.declared.slot.SlotState.{SlotState}
 use Rattle.pot_machine.specs.declared.relay.Relay.{Relay}
+use Rattle.pot_steps.specs.declared.flight.Flight.{Flight}
 use Rattle.pot_machine.specs.Slot.{digest_in, is_void}
 use Rattle.pot_machine.specs.Table.{skipped}
 use Rattle.pot_steps.specs.Equations.{IsBlock, p_weight, q_weight}
@@ -71,12 +73,6 @@ pub record FlightLaw (data_columns parity : ℕ) (s : Stripe) (r : Relay) (parti
   pub some : (blocks : ℕ → List ℕ) × Folds data_columns parity s r blocks × IsPartial data_columns parity s r blocks partial
   pub filled : NoneBroken data_columns parity s → (blocks : ℕ → List ℕ) × Filling data_columns parity s blocks × IsPartial data_columns parity s r blocks partial
 
--- a flight: its relay, the random block that it began with, and its sum so far
-pub record Flight : Type 0 where
-  pub relay : Relay
-  pub blind : List ℕ
-  pub sum : List ℕ
-
 abbrev pub partial_of : Flight → List ℕ
 partial_of f = xor f.sum f.blind
 
@@ -99,3 +95,7 @@ pub record IsRelay (data_columns parity : ℕ) (r : Relay) : Type 0 where
   pub target : r.target < data_columns + parity
   pub skip : (u : ℕ) → r.skip ≡ Some u → (u < data_columns + parity) × (u ≢ r.target)
   pub single : parity ≡ 1 → r.skip ≡ None
+
+-- the block that a fold with this weight added to a sum
+abbrev pub unfolded : ℕ → List ℕ → List ℕ → List ℕ
+unfolded w sum folded = scaled (inverse w) (xor folded sum)

@@ -13,9 +13,10 @@ use Rattle.pot_machine.specs.Machine.{Legal, TakesBlocks, after, Replays}
 use Rattle.pot_machine.specs.Rules.{IsTable}
 use Rattle.pot_steps.specs.Stripe.{Stripe, Sound, IsSound, NoneBroken, HasFilling, digest_of}
 use Rattle.pot_steps.specs.Law.{FindsUnsound, FewUnsound}
-use Rattle.pot_steps.specs.Flight.{Flight}
+use Rattle.pot_steps.specs.declared.flight.Flight.{Flight}
 use Rattle.pot_steps.specs.Holdings.{Holdings, HoldsUp, stripe_of}
 use Rattle.pot_steps.specs.Entries.{Writes, held_at}
+use Rattle.pot_steps.specs.Flights.{Stands}
 
 -- A group. `held` has the blocks, and `heard` the sums, that each archive holds and has heard, by its number. A sum stands
 -- with the slot whose fold it was handed to.
@@ -63,11 +64,11 @@ look_entries job s c Faulted = entry.Fault job s c ∷ []
 look_entries job s c LogFull = []
 
 -- Seen: the slot was Live, and its archive held this block, of its digest. Gone: the slot was not Live, or its archive holds
--- no block of its digest now.
+-- no block of its digest now. Faulted: the slot was Live.
 abbrev pub LookMeans : GroupState → GroupState → ℕ → ℕ → Looked → Type 0
 LookMeans old new s c (Seen block) = IsSound (stripe_of old.table old.held s) c block
 LookMeans old new s c Gone = Sound (stripe_of old.table new.held s) c → ⊥
-LookMeans old new s c Faulted = Unit {0}
+LookMeans old new s c Faulted = IsTrue (is_live (slot_at old.table s c))
 LookMeans old new s c LogFull = length old.log ≡ log_bound
 
 pub record LookStep (job s c : ℕ) (answer : Looked) (old new : GroupState) : Type 0 where
@@ -175,7 +176,8 @@ pub record PutFailed (job column : ℕ) (block : List ℕ) (old new : GroupState
   pub at : Table
   pub now : Holdings
   pub passes : PassesTo job passed old at now
-  pub place : (column ≡ at.cursor.column) ⊎ (at.data_columns ≤ column)
+  pub takes : TakesBlocks at at.cursor.stripe
+  pub place : (column ≡ at.cursor.column) ⊎ ((at.data_columns ≤ column) × (slot_at at at.cursor.stripe column ≢ Void))
   pub legal : Legal at (entry.Fault job at.cursor.stripe column)
   pub table : new.table ≡ at
   pub logs : Logs (skips job passed ++ entry.Fault job at.cursor.stripe column ∷ []) old new
@@ -272,10 +274,9 @@ pub record StartStep (old new : GroupState) : Type 0 where
 
 -- WHAT THE STEPS KEEP
 
--- the table keeps its rules, and the law of every stripe holds
-pub record Settled (g : GroupState) : Type 0 where
-  pub table : IsTable g.table
-  pub holds : HoldsUp g.table g.held
+-- the table keeps its rules, there is a flight for each relay, and the law of every stripe and of every flight holds
+abbrev pub Settled : GroupState → Type 0
+Settled g = Stands g.table g.held g.flights
 
 abbrev pub PutStepKeeps : Type 0
 PutStepKeeps = (job : ℕ) (block : List ℕ) (answer : PutAnswer) (old new : GroupState) → PutStep job block answer old new → Settled old → Settled new

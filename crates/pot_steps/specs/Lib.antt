@@ -5,7 +5,12 @@ pub mod Flight
 pub mod Decides
 pub mod Holdings
 pub mod Entries
+pub mod Flights
+pub mod Calls
 pub mod GroupStep
+pub mod RelaySteps
+pub mod MoveSteps
 pub mod Losses
 pub mod Standing
+pub mod Ahead
 pub mod Laws

@@ -1,9 +1,13 @@
 //! What is proved of the steps of a stripe.
 ghost use Rattle.std.specs.Prelude.{ℕ};
+ghost use Rattle.pot_steps.specs.Ahead.{AheadFew, AheadHops, AheadNone};
 ghost use Rattle.pot_steps.specs.Standing.{NextIsNext, NoneIsNoNext, StandingIsRelay, BeginHasFew};
-ghost use Rattle.pot_steps.specs.Losses.{StartMakesLive, EntryKeepsLive, LossesKeepLive};
+ghost use Rattle.pot_steps.specs.Losses.{StartMakesLive, EntryKeepsLive, ActKeepsLive, LossesKeepLive};
 ghost use Rattle.pot_steps.specs.GroupStep.{StartMakes, PutStepKeeps, LookStepKeeps, CountStepKeeps, FullStepKeeps};
 ghost use Rattle.pot_steps.specs.Entries.{EntryKeeps, EntryKeepsFlight, LossesKeep};
+ghost use Rattle.pot_steps.specs.RelaySteps.{LoggedKeeps, BeginStepKeeps, AdvanceStepKeeps, MendStepKeeps};
+ghost use Rattle.pot_steps.specs.MoveSteps.{BringStepKeeps, MoveStepKeeps};
+ghost use Rattle.pot_steps.specs.Flights.{ActKeeps, LossKeepsAll};
 ghost use Rattle.pot_steps.specs.Laws.{PutKeeps, LossKeeps, LossKeepsFlight, BeginKeeps, HopKeeps, MendedKeeps, RelayRebuilds, SingleParity, SingleWhole, SingleBut, WholeSums, RebuildableFilled, FillingComputed, ComputedFilling, SumGrows, SumBegins, HeardIsBlinded};
 
 /// What keeps the law of a stripe, and what it says of a whole stripe, of a place that can be rebuilt and of one parity
@@ -58,6 +62,7 @@ pub trait LossCount {
 pub fn live_laws<L: LossCount>()
     ensures start { StartMakesLive L.rose }
     ensures entry { EntryKeepsLive L.rose }
+    ensures act { ActKeepsLive L.rose }
     ensures losses { LossesKeepLive L.rose L.rose_later }
 {}
 
@@ -79,4 +84,27 @@ pub fn filling_laws()
 pub fn single_laws()
     ensures whole { SingleWhole }
     ensures but_one { SingleBut }
+{}
+
+/// Each entry, and any loss, keeps the law of every stripe and of every flight.
+pub fn act_laws()
+    ensures act { ActKeeps }
+    ensures loss { LossKeepsAll }
+{}
+
+/// The steps that begin, move and end relays, and those that bring an archive and move a column, keep every law.
+pub fn step_laws()
+    ensures logged { LoggedKeeps }
+    ensures begin { BeginStepKeeps }
+    ensures advance { AdvanceStepKeeps }
+    ensures mend { MendStepKeeps }
+    ensures bring { BringStepKeeps }
+    ensures moved { MoveStepKeeps }
+{}
+
+/// How many columns a relay has yet to go over.
+pub fn ahead_laws()
+    ensures few { AheadFew }
+    ensures hops { AheadHops }
+    ensures none { AheadNone }
 {}

@@ -32,9 +32,17 @@
 //!    XOR of all blocks is zero (`SingleWhole`), or the XOR of all but one has that one's digest (`SingleBut`).
 #![tactic(auto)]
 
+mod flight;
 mod laws;
+mod moving;
+mod rebuilding;
+mod weighing;
 
+pub use flight::Flight;
+pub use moving::{move_begin, move_end, move_one};
+pub use rebuilding::{Finished, Hopped, begin, finish, give_up, hop, mended};
+pub use weighing::weight_of;
 pub use laws::{
-    LossCount, entry_laws, filling_laws, flight_laws, group_laws, live_laws, relay_laws,
-    single_laws, stripe_laws,
+    LossCount, act_laws, ahead_laws, entry_laws, filling_laws, flight_laws, group_laws, live_laws, relay_laws,
+    single_laws, step_laws, stripe_laws,
 };

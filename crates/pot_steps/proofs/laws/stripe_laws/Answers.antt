@@ -1,6 +1,6 @@
 use Rattle.pot_steps.proofs.PutLaw.{put_keeps_law, single_law}
 use Rattle.pot_steps.proofs.Steps.{worse_keeps}
-use Rattle.pot_steps.proofs.Mended.{mended_keeps}
+use Rattle.pot_steps.proofs.RepairLaw.{mended_keeps}
 use Rattle.pot_steps.proofs.Whole.{whole_sums, rebuildable_filled}
 use Rattle.pot_steps.proofs.laws.stripe_laws.Goals as goal
 

@@ -1,4 +1,5 @@
-use Rattle.std.proofs.Common.{IsTrue, subst, sym}
+use Rattle.std.proofs.Common.{IsTrue, List, subst, sym}
+use Rattle.pot_steps.specs.declared.flight.Flight.{Flight}
 use Rattle.pot_machine.specs.Table.{Table}
 use Rattle.pot_group.specs.Shelves.{numbers_of}
 use Rattle.pot_group.specs.Group.{IsSettled, view_of}
@@ -15,14 +16,19 @@ invariant_of-result g c =
     c.args.archives c.open_all.new.archives c.cursor-rules.ensures.rules c.requires.relays c.requires.taken
     (handed_all c.args.table (numbers_of c.args.archives.shelves) c.cursor-rules.ensures.rules c.requires.archives) c.open_all.ensures.opens c.open_all.ensures.bound in (
       subst (λ (t : Table). IsSettled (IsTrue g.A.Archive.tells) (view_of g.A.Archive.held g.A.Archive.heard g.A.Archive.faults g.A.Archive.losses
-          (record { number = c.args.number; first = t; table = c.open_all.new.table; log = c.open_all.new.log.items; archives = c.open_all.new.archives }))) (sym c.requires.first) s,
+          (record { number = c.args.number; first = t; table = c.open_all.new.table; log = c.open_all.new.log.items; flights = c.args.flights.items; archives = c.open_all.new.archives }))) (sym c.requires.first)
+          (subst (λ (fs : List Flight). IsSettled (IsTrue g.A.Archive.tells) (view_of g.A.Archive.held g.A.Archive.heard g.A.Archive.faults g.A.Archive.losses
+          (record { number = c.args.number; first = c.args.table; table = c.open_all.new.table; log = c.open_all.new.log.items; flights = fs; archives = c.open_all.new.archives }))) (sym c.requires.none) s),
       c.open_all.ensures.room,
+      c.requires.places,
     )
 
 pub returns : goal.returns
 returns g c =
     subst (λ (t : Table). Begins (IsTrue g.A.Archive.tells) g.A.Archive.held g.A.Archive.heard g.A.Archive.faults g.A.Archive.losses c.args.number c.args.table c.args.archives.shelves
-    (record { number = c.args.number; first = t; table = c.open_all.new.table; log = c.open_all.new.log.items; archives = c.open_all.new.archives })) (sym c.requires.first)
+    (record { number = c.args.number; first = t; table = c.open_all.new.table; log = c.open_all.new.log.items; flights = c.args.flights.items; archives = c.open_all.new.archives })) (sym c.requires.first)
+    (subst (λ (fs : List Flight). Begins (IsTrue g.A.Archive.tells) g.A.Archive.held g.A.Archive.heard g.A.Archive.faults g.A.Archive.losses c.args.number c.args.table c.args.archives.shelves
+    (record { number = c.args.number; first = c.args.table; table = c.open_all.new.table; log = c.open_all.new.log.items; flights = fs; archives = c.open_all.new.archives })) (sym c.requires.none)
     (opened_begins (IsTrue g.A.Archive.tells) g.A.Archive.held g.A.Archive.heard g.A.Archive.faults g.A.Archive.losses c.args.number c.args.table c.open_all.new.table c.open_all.new.log.items
     c.args.archives c.open_all.new.archives c.cursor-rules.ensures.rules c.requires.relays c.requires.taken
-    (handed_all c.args.table (numbers_of c.args.archives.shelves) c.cursor-rules.ensures.rules c.requires.archives) c.open_all.ensures.opens c.open_all.ensures.bound)
+    (handed_all c.args.table (numbers_of c.args.archives.shelves) c.cursor-rules.ensures.rules c.requires.archives) c.open_all.ensures.opens c.open_all.ensures.bound))

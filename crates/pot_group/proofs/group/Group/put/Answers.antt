@@ -2,6 +2,7 @@ use Rattle.std.proofs.Common.{◌≡◌, ◌≤◌, subst, arith, length}
 use Rattle.pot_machine.specs.Rules.{IsTable}
 use Rattle.pot_group.specs.Group.{GroupParts, view_of}
 use Rattle.pot_group.proofs.Placed.{at_once_logs, at_once_step, full_logs, full_step, log_full_logs, log_full_step, faulted_logs, faulted_step, here_logs, here_step}
+use Rattle.pot_group.proofs.Keeping.{find_keeps, here_keeps}
 use Rattle.pot_group.proofs.group.Group.put.Goals as goal
 
 pub returns-then-len-ge-LOG_BOUND-clause-logs : goal.returns-then-len-ge-LOG_BOUND-clause-logs
@@ -48,3 +49,15 @@ returns-in-Faulted-clause-step g c =
     faulted_step _ c.args.job c.find_stripe-stop.new.parity c.args.block.now _ _ c.in-Faulted.ensures c.data_columns-last.result
     (subst (λ (v : GroupParts _). c.data_columns-last.result ≡ v.table.data_columns) c.self-2.view_is c.data_columns-last.ensures.value)
     (subst (λ (v : GroupParts _). length v.log ≤ 262144) c.self-2.view_is c.self-2.invariant.0.bound)
+
+pub returns-in-Here-clause-keeps : goal.returns-in-Here-clause-keeps
+returns-in-Here-clause-keeps g c = here_keeps _ c.args.job c.find_stripe-stop.new.parity c.args.block.now _ _ _ c.in-Here.ensures c.put_block.result c.put_block.ensures
+
+pub returns-in-Full-clause-keeps : goal.returns-in-Full-clause-keeps
+returns-in-Full-clause-keeps g c = find_keeps _ c.args.job c.find_stripe-stop.new.parity _ _ _ c.in-Full.ensures
+
+pub returns-in-LogFull-clause-keeps : goal.returns-in-LogFull-clause-keeps
+returns-in-LogFull-clause-keeps g c = find_keeps _ c.args.job c.find_stripe-stop.new.parity _ _ _ c.in-LogFull.ensures
+
+pub returns-in-Faulted-clause-keeps : goal.returns-in-Faulted-clause-keeps
+returns-in-Faulted-clause-keeps g c = find_keeps _ c.args.job c.find_stripe-stop.new.parity _ _ _ c.in-Faulted.ensures

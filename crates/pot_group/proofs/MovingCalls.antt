@@ -1,0 +1,80 @@
+-- What the calls of a move leave.
+use Rattle.std.proofs.Common.{◌≡◌, ℕ, suc, ◌+◌, ◌<◌, ◌++◌, List, [], ◌∷◌, Option, None, Bool, true, false, length, length-append, refl, sym, ap, ◌∙◌, subst, arith}
+use Rattle.std.specs.Prelude.{Ok, Err, Result, IfOk, IfErr, Contains}
+use Rattle.pot_outside.specs.declared.archive.Shelf.{Shelf}
+use Rattle.pot_machine.specs.declared.entry.Entry.{Entry}
+use Rattle.pot_machine.specs.declared.entry.Entry.TheVariants.{MoveBegin}
+use Rattle.pot_machine.specs.Table.{Table, width, column_at, holder_of}
+use Rattle.pot_machine.specs.Column.{names}
+use Rattle.pot_machine.specs.Machine.{Legal, after}
+use Rattle.pot_steps.specs.GroupStep.{log_bound}
+use Rattle.pot_group.specs.Shelves.{Shelves, Shelved, plain, Brings}
+use Rattle.pot_group.specs.Group.{GroupView, GroupParts, IsSettled, view_of, state_of, with_archives}
+use Rattle.pot_group.specs.Relaying.{acted}
+use Rattle.pot_steps.specs.MoveSteps.{BringStep}
+use Rattle.pot_group.proofs.BeginSteps.{none_least}
+use Rattle.pot_group.proofs.Brought.{settled_brings, held_same}
+use Rattle.pot_group.proofs.MoveExits.{move_begin_settled}
+
+pub go_exit : (told : Type 0) (g : GroupView) (job c to : ℕ) (e : Entry) (t : Table) (log : List Entry) → IsSettled told g → length g.log < log_bound → Legal g.table (MoveBegin job c to) → Contains g.shelves.numbers to
+    → e ≡ MoveBegin job c to → t ≡ after g.table e → log ≡ g.log ++ e ∷ [] → IsSettled told (record g { table = t; log = log })
+go_exit told g job c to e t log settled room legal there ee et el =
+    subst (λ t. IsSettled told (record g { table = t; log = log })) (sym (et ∙ ap (after g.table) ee))
+    (subst (λ log. IsSettled told (record g { table = after g.table (MoveBegin job c to); log = log })) (sym (el ∙ ap (λ e. g.log ++ e ∷ []) ee))
+    (move_begin_settled told g job c settled room to legal there))
+
+pub receive_exit : {A : Type 0} (told : Type 0) (held : A → ℕ → Option (List ℕ)) (heard : A → List (ℕ × List ℕ)) (faults losses : A → ℕ) (old : GroupParts A) (shelf : Shelf A) (r : Result (Unit {0}) (Shelf A)) (b : Shelved A)
+    → IsSettled told (view_of held heard faults losses old) → (Contains (plain held heard faults losses old.archives).numbers shelf.number → ⊥)
+    → IfOk r (λ u. Brings told shelf.number (held shelf.archive) (heard shelf.archive) (plain held heard faults losses old.archives) (plain held heard faults losses b))
+    → IfErr r (λ s. (s ≡ shelf) × (b ≡ old.archives)) → IsSettled told (view_of held heard faults losses (with_archives old b))
+receive_exit told held heard faults losses old shelf (Ok u) b settled fresh brought refused =
+    settled_brings told (view_of held heard faults losses old) shelf.number (held shelf.archive) (heard shelf.archive) (plain held heard faults losses b) settled fresh brought
+receive_exit told held heard faults losses old shelf (Err s) b settled fresh brought refused =
+    subst (λ (a : Shelved _). IsSettled told (view_of held heard faults losses (with_archives old a))) (sym refused.1) settled
+
+-- A MOVE BEGINS
+
+-- a number that no archive has is no home and no target
+pub unheld : (told : Type 0) (g : GroupView) (number : ℕ) → IsSettled told g → (Contains g.shelves.numbers number → ⊥) → holder_of g.table number ≡ None
+unheld told g number settled fresh = none_least (width g.table) (λ k. names (column_at g.table k) number) (λ k lk. by k lk (names (column_at g.table k) number) refl)
+  where
+    by : (k : ℕ) → k < width g.table → (b : Bool) → names (column_at g.table k) number ≡ b → names (column_at g.table k) number ≡ false
+    by k lk false e = e
+    by k lk true e = absurd (fresh (settled.shelves k number lk e))
+
+pub begin_legal : {A : Type 0} (told : Type 0) (held : A → ℕ → Option (List ℕ)) (heard : A → List (ℕ × List ℕ)) (faults losses : A → ℕ) (old mid : GroupParts A) (job c to : ℕ) → IsSettled told (view_of held heard faults losses old) → c < width old.table
+    → (column_at old.table c).moving ≡ None → (Contains (plain held heard faults losses old.archives).numbers to → ⊥) → mid ≡ with_archives old mid.archives → Legal mid.table (MoveBegin job c to)
+begin_legal told held heard faults losses old mid job c to settled column still fresh e =
+    subst (λ (w : GroupParts _). Legal w.table (MoveBegin job c to)) (sym e) ((column, unheld told (view_of held heard faults losses old) to settled fresh), still)
+
+pub begun_step : {A : Type 0} (told : Type 0) (held : A → ℕ → Option (List ℕ)) (heard : A → List (ℕ × List ℕ)) (faults losses : A → ℕ) (old mid new : GroupParts A) (shelf : Shelf A) (job c : ℕ) → IsSettled told (view_of held heard faults losses old)
+    → length old.log < log_bound → c < width old.table → (column_at old.table c).moving ≡ None → (Contains (plain held heard faults losses old.archives).numbers shelf.number → ⊥)
+    → mid ≡ with_archives old mid.archives
+    → Brings told shelf.number (held shelf.archive) (heard shelf.archive) (plain held heard faults losses old.archives) (plain held heard faults losses mid.archives)
+    → new ≡ acted mid (MoveBegin job c shelf.number) [] → told → BringStep (MoveBegin job c shelf.number) shelf.number (held shelf.archive) (heard shelf.archive) (state_of (view_of held heard faults losses old)) (state_of (view_of held heard faults losses new))
+begun_step {A} told held heard faults losses old mid new shelf job c settled room column still fresh em brings en t =
+    subst (λ (w : GroupParts A). BringStep (MoveBegin job c shelf.number) shelf.number (held shelf.archive) (heard shelf.archive) (state_of (view_of held heard faults losses old)) (state_of (view_of held heard faults losses w))) (sym (en ∙ ap (λ (w : GroupParts A). acted w (MoveBegin job c shelf.number) []) em))
+    (record {
+      logs = record {
+        legal = ((column, unheld told (view_of held heard faults losses old) shelf.number settled fresh), still);
+        log = refl;
+        room = (let l : length (old.log ++ (MoveBegin job c shelf.number) ∷ []) ≡ length old.log + 1 = length-append old.log ((MoveBegin job c shelf.number) ∷ []) in omega (arith, room));
+        table = refl;
+        flights = refl;
+        before = (view_of held heard faults losses old).shelves.held;
+        now = (plain held heard faults losses mid.archives).held;
+        lost = (λ n m b q. q);
+        acts = (λ n k b ln lk live q. sym (held_same told (view_of held heard faults losses old) shelf.number (held shelf.archive) (heard shelf.archive) (plain held heard faults losses mid.archives) settled fresh brings n k lk) ∙ q);
+        loses = (λ n m b q. q);
+      };
+      brings = record { blocks = brings.blocks; sums = brings.sums; others = brings.same_held; silent = brings.same_heard };
+    })
+
+-- an archive that came is there
+pub contains_last : (xs : List ℕ) (n : ℕ) → Contains (xs ++ n ∷ []) n
+contains_last [] n = (0, omega arith, refl)
+contains_last (x ∷ xs) n = (let h : Contains (xs ++ n ∷ []) n = contains_last xs n in (suc h.0, omega (arith, h.1), h.2))
+
+pub came : {A : Type 0} (told : Type 0) (held : A → ℕ → Option (List ℕ)) (heard : A → List (ℕ × List ℕ)) (faults losses : A → ℕ) (old b : Shelved A) (shelf : Shelf A)
+    → Brings told shelf.number (held shelf.archive) (heard shelf.archive) (plain held heard faults losses old) (plain held heard faults losses b) → Contains (plain held heard faults losses b).numbers shelf.number
+came told held heard faults losses old b shelf brings = subst (λ ns. Contains ns shelf.number) (sym brings.numbers) (contains_last (plain held heard faults losses old).numbers shelf.number)

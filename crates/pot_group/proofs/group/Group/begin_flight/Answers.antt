@@ -1,0 +1,21 @@
+use Rattle.std.proofs.Common.{◌≡◌, ◌<◌, ◌≤◌, ◌++◌, List, [], ◌∷◌, IsTrue, length, subst, sym, ap, ◌∙◌, arith}
+use Rattle.pot_machine.specs.declared.entry.Entry.TheVariants.{Begin}
+use Rattle.pot_machine.specs.Machine.{Legal}
+use Rattle.pot_group.specs.Group.{GroupParts, view_of}
+use Rattle.pot_group.proofs.RelayExits.{begin_exit}
+use Rattle.pot_group.proofs.group.Group.begin_flight.Goals as goal
+
+pub invariant_of-self : goal.invariant_of-self
+invariant_of-self g c =
+    let a = c.self.inside in
+    let v : GroupParts _ = record { number = a.number; first = a.first; table = a.table; log = a.log.items; flights = a.flights.items; archives = a.archives } in (
+      begin_exit (IsTrue g.A.Archive.tells) (view_of g.A.Archive.held g.A.Archive.heard g.A.Archive.faults g.A.Archive.losses v) c.args.job c.args.place.stripe c.args.place.column c.args.blind.now
+          c.begin-flight.new.table c.push_reserved.new.self.items c.push_reserved-2.new.self.items c.self.invariant.0
+          (subst (λ (w : GroupParts _). Legal w.table (Begin c.args.job c.args.place.stripe c.args.place.column)) (sym c.self.view_is) c.requires.legal)
+          (subst (λ (w : GroupParts _). length w.log < 262144) (sym c.self.view_is) c.requires.room) c.sized.ensures
+          (rw c.begin-flight.ensures.entry at c.begin-flight.ensures.table)
+          (rw c.begin-flight.ensures.entry at c.push_reserved.ensures.items)
+          (rw c.begin-flight.ensures.flight at c.push_reserved-2.ensures.items),
+      omega (arith, c.self.invariant.1, c.push_reserved.ensures.capacity),
+      omega (arith, c.self.invariant.2, c.push_reserved-2.ensures.capacity),
+    )

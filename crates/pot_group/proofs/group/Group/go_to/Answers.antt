@@ -1,0 +1,21 @@
+use Rattle.std.proofs.Common.{IsTrue, ◌<◌, length, subst, sym, arith}
+use Rattle.std.specs.Prelude.{Contains}
+use Rattle.pot_group.specs.Shelves.{plain}
+use Rattle.pot_group.specs.Group.{GroupParts, view_of}
+use Rattle.pot_machine.specs.declared.entry.Entry.TheVariants.{MoveBegin}
+use Rattle.pot_machine.specs.Machine.{Legal}
+use Rattle.pot_group.proofs.MovingCalls.{go_exit}
+use Rattle.pot_group.proofs.group.Group.go_to.Goals as goal
+
+pub invariant_of-self : goal.invariant_of-self
+invariant_of-self g c =
+    let a = c.self.inside in
+    let v : GroupParts _ = record { number = a.number; first = a.first; table = a.table; log = a.log.items; flights = a.flights.items; archives = a.archives } in (
+      go_exit (IsTrue g.A.Archive.tells) (view_of g.A.Archive.held g.A.Archive.heard g.A.Archive.faults g.A.Archive.losses v) c.args.job c.args.column c.args.to c.move_begin-entry.result c.move_begin-entry.new.table c.push_reserved.new.self.items c.self.invariant.0
+          (subst (λ (w : GroupParts _). length w.log < 262144) (sym c.self.view_is) c.requires.room)
+          (subst (λ (w : GroupParts _). Legal w.table (MoveBegin c.args.job c.args.column c.args.to)) (sym c.self.view_is) c.requires.legal)
+          (subst (λ (w : GroupParts _). Contains (plain g.A.Archive.held g.A.Archive.heard g.A.Archive.faults g.A.Archive.losses w.archives).numbers c.args.to) (sym c.self.view_is) c.requires.there)
+          c.move_begin-entry.ensures.entry c.move_begin-entry.ensures.table c.push_reserved.ensures.items,
+      omega (arith, c.self.invariant.1, c.push_reserved.ensures.capacity),
+      c.self.invariant.2,
+    )

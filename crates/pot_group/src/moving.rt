@@ -1,0 +1,113 @@
+//! The moves of a group's columns.
+ghost use Rattle.std.specs.Prelude.{◌≡◌, ◌<◌, IsTrue, IfOk, IfErr, Contains, length};
+
+use crate::group::{Group, LOG_BOUND};
+use pot_outside::{Archive, Shelf};
+use pot_steps::move_begin;
+
+/// Why an archive was not taken.
+#[derive(Clone, Copy, PartialEq, Eq, Debug)]
+pub enum ShelfCause {
+    /// The log has no room.
+    LogFull,
+    /// The column moves and has this home, or the shelf's number, this one, has a use.
+    InUse { number: u32 },
+    /// Memory is short.
+    NoMemory,
+}
+
+/// An archive that was not taken.
+#[derive(Drop)]
+pub struct ShelfRefused<A: Archive> {
+    pub shelf: Shelf<A>,
+    pub cause: ShelfCause,
+}
+
+impl<A: Archive> Group<A> {
+    ghost use Rattle.std.specs.Prelude.{[]};
+    ghost use Rattle.pot_machine.specs.declared.entry.Entry.TheVariants.{MoveBegin};
+    ghost use Rattle.pot_machine.specs.Machine.{Legal};
+    ghost use Rattle.pot_group.specs.Shelves.{plain, Brings};
+    ghost use Rattle.pot_group.specs.Group.{with_archives, view_of, state_of};
+    ghost use Rattle.std.specs.Prelude.{None};
+    ghost use Rattle.pot_machine.specs.Table.{width, column_at};
+    ghost use Rattle.pot_steps.specs.MoveSteps.{BringStep};
+    ghost use Rattle.pot_group.specs.Relaying.{acted};
+
+    /// A column begins to move to an archive that comes.
+    ///
+    /// # Errors
+    /// In this order: `LogFull`, `InUse`, `NoMemory`. The archive is handed back.
+    pub fn move_begin(
+        &mut self,
+        job: u32,
+        column: u8,
+        shelf: Shelf<A>,
+    ) -> Result<(), ShelfRefused<A>>
+        requires job { 0 < job }
+        requires column { column < width self.old.table }
+        ensures begun { IfOk result (λ u. IsTrue A.tells → BringStep (MoveBegin job column shelf.number) shelf.number (A.held shelf.archive) (A.heard shelf.archive) (state_of (view_of A.held A.heard A.faults A.losses self.old)) (state_of (view_of A.held A.heard A.faults A.losses self.new))) }
+        ensures refused { IfErr result (λ r. (r.shelf ≡ shelf) × (self.new ≡ self.old)) }
+    {
+        if self.log.len() >= LOG_BOUND {
+            return Err(ShelfRefused {
+                shelf,
+                cause: ShelfCause::LogFull,
+            });
+        }
+        let _settled = self.kept();
+        let to = shelf.number;
+        if let Some(number) = self.in_use(column, to) {
+            return Err(ShelfRefused {
+                shelf,
+                cause: ShelfCause::InUse { number },
+            });
+        }
+        if let Err(shelf) = self.receive(shelf) {
+            return Err(ShelfRefused {
+                shelf,
+                cause: ShelfCause::NoMemory,
+            });
+        }
+        self.go_to(job, column, to);
+        Ok(())
+    }
+
+    /// The home of a column that moves, or else this number where an archive has it.
+    fn in_use(&self, column: u8, number: u32) -> Option<u32>
+        requires column { column < width self.now.table }
+        ensures { result ≡ None → ((column_at self.now.table column).moving ≡ None) × (Contains (plain A.held A.heard A.faults A.losses self.now.archives).numbers number → ⊥) }
+    {
+        let served = &self.table.columns()[usize::from(column)];
+        if served.moving.is_some() {
+            return Some(served.home);
+        }
+        if self.archives.has(number) {
+            return Some(number);
+        }
+        None
+    }
+
+    /// Takes an archive in, under a number that none of the group's has. Where memory is short it comes back.
+    pub(crate) fn receive(&mut self, shelf: Shelf<A>) -> Result<(), Shelf<A>>
+        requires { Contains (plain A.held A.heard A.faults A.losses self.old.archives).numbers shelf.number → ⊥ }
+        ensures brought { IfOk result (λ u. (self.new ≡ with_archives self.old self.new.archives) × Brings (IsTrue A.tells) shelf.number (A.held shelf.archive) (A.heard shelf.archive) (plain A.held A.heard A.faults A.losses self.old.archives) (plain A.held A.heard A.faults A.losses self.new.archives)) }
+        ensures refused { IfErr result (λ s. (s ≡ shelf) × (self.new ≡ self.old)) }
+    {
+        match self.archives.bring(shelf) {
+            Ok(()) => Ok(()),
+            Err(shelf) => Err(shelf),
+        }
+    }
+
+    /// A column begins to move to an archive that the group has.
+    pub(crate) fn go_to(&mut self, job: u32, column: u8, to: u32)
+        requires legal { Legal self.old.table (MoveBegin job column to) }
+        requires room { length self.old.log < 262144 }
+        requires there { Contains (plain A.held A.heard A.faults A.losses self.old.archives).numbers to }
+        ensures { self.new ≡ acted self.old (MoveBegin job column to) [] }
+    {
+        let entry = move_begin(&mut self.table, job, column, to);
+        self.log.push_reserved(entry);
+    }
+}

@@ -1,0 +1,471 @@
+//! The relays of a group.
+ghost use Rattle.std.specs.Prelude.{◌≡◌, ◌<◌, ◌↔◌, IsTrue, length, map};
+ghost use Rattle.pot_group.specs.Relaying.{flown_to};
+ghost use Rattle.pot_machine.specs.Table.{width};
+
+use crate::group::{Group, LOG_BOUND};
+use crate::noting::note;
+use crate::opening::sized;
+use pot_bytes::{Block, Digest, Place};
+use pot_machine::{Entry, Relay};
+use pot_outside::{Archive, Failed, Held};
+use pot_steps::{Finished, Flight, Hopped, begin, finish, give_up, hop, mended, weight_of};
+
+/// What an advance of a relay came to.
+#[derive(Clone, Copy, PartialEq, Eq, Debug)]
+pub enum Advanced {
+    /// The relay went over one column.
+    Hopped,
+    /// The target was written, and the relay ended.
+    Mended,
+    /// The next column has no block, and the relay ended.
+    Ended,
+}
+
+/// Why a relay did not go on.
+#[derive(Clone, Copy, PartialEq, Eq, Debug)]
+pub enum AdvanceFault {
+    /// The log has no room. Nothing changed.
+    LogFull,
+    /// No relay stands in the stripe.
+    Idle,
+    /// The archive of this column failed. The relay stays as it was.
+    Faulted { column: u8 },
+    /// The relay came to a block of another digest, and ended.
+    Odd { wanted: Digest, found: Digest },
+}
+
+/// Why no relay began.
+#[derive(Clone, Copy, PartialEq, Eq, Debug)]
+pub enum BeginFault {
+    /// The log has no room. Nothing changed.
+    LogFull,
+    /// The slot is Void or Live.
+    Whole,
+    /// A relay stands in the stripe, and rebuilds the slot of this column.
+    Standing { column: u8 },
+    /// No relay can rebuild the slot of column `first`, because of that of column `second`.
+    TwoGone { first: u8, second: u8 },
+    /// 16 relays stand.
+    Crowded,
+}
+
+/// What a mend of a slot came to.
+#[derive(Clone, Copy, PartialEq, Eq, Debug)]
+pub enum Mend {
+    /// A relay began.
+    Began,
+    /// A relay went on, or ended.
+    Went,
+}
+
+/// Why a mend did nothing, or what it came to.
+#[derive(Clone, Copy, PartialEq, Eq, Debug)]
+pub enum MendFault {
+    /// The log has no room. Nothing changed.
+    LogFull,
+    /// The slot is Void or Live.
+    Whole,
+    /// No relay can rebuild the slot of column `first`, because of that of column `second`.
+    Stuck { first: u8, second: u8 },
+    /// The archive of this column failed. The relay stays as it was.
+    Faulted { column: u8 },
+    /// The slot's relay came to a block of another digest, and ended.
+    Odd { wanted: Digest, found: Digest },
+}
+
+impl<A: Archive> Group<A> {
+    ghost use Rattle.pot_machine.specs.declared.entry.Entry.TheVariants.{Begin};
+    ghost use Rattle.pot_machine.specs.Machine.{Legal};
+    ghost use Rattle.pot_machine.specs.Slot.{is_unsound};
+    ghost use Rattle.pot_machine.specs.Table.{slot_at};
+    ghost use Rattle.std.specs.Prelude.{IsSomeAnd, Some, Ok};
+    ghost use Rattle.pot_outside.specs.Archives.{FoldTells};
+    ghost use Rattle.pot_machine.specs.Table.{serving_at, next_column};
+    ghost use Rattle.pot_machine.specs.Slot.{is_live};
+    ghost use Rattle.pot_steps.specs.Flight.{weight_in};
+    ghost use Rattle.pot_steps.specs.Flights.{flight_in};
+    ghost use Rattle.pot_group.specs.Shelves.{plain, Folds};
+    ghost use Rattle.pot_group.specs.Group.{with_archives};
+    ghost use Rattle.std.specs.Prelude.{None, []};
+    ghost use Rattle.pot_machine.specs.declared.entry.Entry.TheVariants.{GaveUp};
+    ghost use Rattle.pot_machine.specs.Slot.{digest_in};
+    ghost use Rattle.pot_steps.specs.Stripe.{Sound, digest_of};
+    ghost use Rattle.pot_steps.specs.Flight.{partial_of};
+    ghost use Rattle.pot_steps.specs.Holdings.{stripe_of};
+    ghost use Rattle.std.specs.Prelude.{Err, IsErr};
+    ghost use Rattle.pot_steps.specs.RelaySteps.{AdvanceStep, BeginStep, MendStep, no_relay};
+    ghost use Rattle.std.specs.Prelude.{slice_index_or};
+    ghost use Rattle.pot_group.specs.Group.{view_of, state_of, CoversOne, IsSettled};
+    ghost use Rattle.pot_group.specs.Relaying.{acted, advance_as, begin_as, mend_as, Drives, BeginMeans, HopsOver, EndsWell};
+
+    /// Begins to rebuild a slot that is Lost or Broken, with a random block.
+    ///
+    /// # Errors
+    /// In this order: `LogFull`, `Whole`, `Standing`, `TwoGone`, which is logged as Stuck, `Crowded`.
+    pub fn begin(&mut self, job: u32, place: Place, blind: &Block) -> Result<(), BeginFault>
+        requires job { 0 < job }
+        requires stripe { place.stripe < self.old.table.stripes }
+        requires column { place.column < width self.old.table }
+        ensures means { BeginMeans job place.stripe place.column blind.now result self.old self.new }
+        ensures step { IsTrue A.tells → BeginStep job place.stripe place.column blind.now (begin_as result) (state_of (view_of A.held A.heard A.faults A.losses self.old)) (state_of (view_of A.held A.heard A.faults A.losses self.new)) }
+    {
+        sized(blind);
+        let _settled = self.kept();
+        self.begin_there(job, place, blind)
+    }
+
+    /// Begins, or says why not.
+    fn begin_there(&mut self, job: u32, place: Place, blind: &Block) -> Result<(), BeginFault>
+        requires stripe { place.stripe < self.old.table.stripes }
+        requires column { place.column < width self.old.table }
+        ensures { BeginMeans job place.stripe place.column blind.now result self.old self.new }
+    {
+        if self.log.len() >= LOG_BOUND {
+            return Err(BeginFault::LogFull);
+        }
+        let Place {
+            group: _,
+            column,
+            stripe,
+        } = place;
+        if !self.is_unsound(stripe, column) {
+            return Err(BeginFault::Whole);
+        }
+        if let Some(relay) = self.table.relay(stripe) {
+            return Err(BeginFault::Standing {
+                column: relay.target,
+            });
+        }
+        if let Some(other) = self.table.stuck_by(stripe, column) {
+            self.note(Entry::Stuck {
+                job,
+                stripe,
+                column,
+                other,
+            });
+            return Err(BeginFault::TwoGone {
+                first: column,
+                second: other,
+            });
+        }
+        let entry = Entry::Begin {
+            job,
+            stripe,
+            column,
+        };
+        if !self.table.legal(&entry) {
+            return Err(BeginFault::Crowded);
+        }
+        self.begin_flight(job, place, blind);
+        Ok(())
+    }
+
+    /// Whether a slot is Lost or Broken.
+    fn is_unsound(&self, stripe: u32, column: u8) -> bool
+        requires stripe { stripe < self.now.table.stripes }
+        requires column { column < width self.now.table }
+        ensures { result ≡ is_unsound (slot_at self.now.table stripe column) }
+    {
+        let slot = self.table.slot(stripe, column);
+        !slot.is_void() && !slot.is_live()
+    }
+
+    /// Begins a flight where a relay may begin.
+    fn begin_flight(&mut self, job: u32, place: Place, blind: &Block)
+        requires legal { Legal self.old.table (Begin job place.stripe place.column) }
+        requires room { length self.old.log < 262144 }
+        ensures { self.new ≡ acted self.old (Begin job place.stripe place.column) blind.now }
+    {
+        sized(blind);
+        let (flight, entry) = begin(&mut self.table, job, place, blind);
+        self.log.push_reserved(entry);
+        self.flights.push_reserved(flight);
+    }
+
+    /// The flight over a stripe.
+    fn flight(&self, stripe: u32) -> Option<Flight>
+        ensures { result ≡ flight_in self.now.flights stripe }
+    {
+        for flight in &self.flights {
+            if flight.relay.stripe == stripe {
+                return Some(*flight);
+            }
+        }
+        None
+    }
+
+    /// Moves the relay of a stripe by one column, or ends it.
+    ///
+    /// # Errors
+    /// `LogFull` first, exactly where the log has 262,144 entries, and nothing changes then. `Idle` exactly where no relay
+    /// stands in the stripe. `Faulted` where the archive of that column failed; the relay stays as it was. `Odd` where the relay
+    /// came to a block of another digest.
+    pub fn advance(&mut self, job: u32, stripe: u32) -> Result<Advanced, AdvanceFault>
+        requires job { 0 < job }
+        requires stripe { stripe < self.old.table.stripes }
+        ensures full { length self.old.log ≡ 262144 → (result ≡ Err AdvanceFault.LogFull) × (self.new ≡ self.old) }
+        ensures step { IsTrue A.tells → AdvanceStep job stripe (advance_as result) (state_of (view_of A.held A.heard A.faults A.losses self.old)) (state_of (view_of A.held A.heard A.faults A.losses self.new)) }
+    {
+        if self.log.len() >= LOG_BOUND {
+            return Err(AdvanceFault::LogFull);
+        }
+        let _settled = self.kept();
+        let Some(flight) = self.flight(stripe) else {
+            return Err(AdvanceFault::Idle);
+        };
+        match self.table.next_column(flight.relay) {
+            Some(column) => self.go_on(job, flight, column),
+            None => self.finish_flight(job, flight),
+        }
+    }
+
+    /// Moves a flight by one column.
+    fn go_on(&mut self, job: u32, flight: Flight, column: u8) -> Result<Advanced, AdvanceFault>
+        requires here { flight_in self.old.flights flight.relay.stripe ≡ Some flight }
+        requires next { next_column self.old.table flight.relay ≡ Some column }
+        requires within { flight.relay.stripe < self.old.table.stripes }
+        requires room { length self.old.log < 262144 }
+        ensures { IsTrue A.tells → AdvanceStep job flight.relay.stripe (advance_as result) (state_of (view_of A.held A.heard A.faults A.losses self.old)) (state_of (view_of A.held A.heard A.faults A.losses self.new)) }
+    {
+        let stripe = flight.relay.stripe;
+        let _settled = self.kept();
+        if !self.is_live(&flight, column) {
+            self.leave_flight(job, flight);
+            return Ok(Advanced::Ended);
+        }
+        let mut sum = flight.sum;
+        match self.fold_next(&flight, column, &mut sum) {
+            Ok(Held::Held) => Ok(self.hop_over(job, flight, &sum)),
+            Ok(Held::Absent) => {
+                self.leave_flight(job, flight);
+                Ok(Advanced::Ended)
+            }
+            Err(Failed) => {
+                self.note(Entry::Fault {
+                    job,
+                    stripe,
+                    column,
+                });
+                Err(AdvanceFault::Faulted { column })
+            }
+        }
+    }
+
+    /// Goes one step towards the rebuilding of a slot that is Lost or Broken: begins its relay, or moves the relay that stands
+    /// in its way, by one column.
+    ///
+    /// # Errors
+    /// `LogFull` first, then `Whole` and `Stuck`. `Faulted` where the archive of a column failed. `Odd` where the slot's own relay
+    /// came to a block of another digest.
+    pub fn mend(&mut self, job: u32, place: Place, blind: &Block) -> Result<Mend, MendFault>
+        requires job { 0 < job }
+        requires stripe { place.stripe < self.old.table.stripes }
+        requires column { place.column < width self.old.table }
+        ensures step { IsTrue A.tells → MendStep job place.stripe place.column blind.now (mend_as result) (state_of (view_of A.held A.heard A.faults A.losses self.old)) (state_of (view_of A.held A.heard A.faults A.losses self.new)) }
+    {
+        let _settled = self.kept();
+        match self.begin(job, place, blind) {
+            Ok(()) => Ok(Mend::Began),
+            Err(BeginFault::LogFull) => Err(MendFault::LogFull),
+            Err(BeginFault::Whole) => Err(MendFault::Whole),
+            Err(BeginFault::TwoGone { first, second }) => Err(MendFault::Stuck { first, second }),
+            Err(BeginFault::Standing { column }) => {
+                self.drive(job, place.stripe, column == place.column)
+            }
+            Err(BeginFault::Crowded) => {
+                let stripe = self.first_stripe();
+                self.drive(job, stripe, false)
+            }
+        }
+    }
+
+    /// Moves the relay of a stripe for a mend, which is of its target or not.
+    fn drive(&mut self, job: u32, stripe: u32, own: bool) -> Result<Mend, MendFault>
+        requires job { 0 < job }
+        requires stripe { stripe < self.old.table.stripes }
+        ensures { IsTrue A.tells → Drives job stripe own (mend_as result) (state_of (view_of A.held A.heard A.faults A.losses self.old)) (state_of (view_of A.held A.heard A.faults A.losses self.new)) }
+    {
+        match self.advance(job, stripe) {
+            Ok(_) => Ok(Mend::Went),
+            Err(AdvanceFault::Faulted { column }) => Err(MendFault::Faulted { column }),
+            Err(AdvanceFault::Odd { wanted, found }) => {
+                if own {
+                    Err(MendFault::Odd { wanted, found })
+                } else {
+                    Ok(Mend::Went)
+                }
+            }
+            Err(AdvanceFault::LogFull | AdvanceFault::Idle) => Err(MendFault::LogFull),
+        }
+    }
+
+    /// The stripe of the first relay of all.
+    fn first_stripe(&self) -> u32
+        ensures value { length self.now.table.relays ≡ 16 → result ≡ (slice_index_or self.now.table.relays 0 no_relay).stripe }
+        ensures within { length self.now.table.relays ≡ 16 → result < self.now.table.stripes }
+    {
+        match self.table.relays().first() {
+            Some(relay) => relay.stripe,
+            None => 0,
+        }
+    }
+
+    /// What every group keeps.
+    pub(crate) fn kept(&self) -> u64
+        ensures { IsSettled (IsTrue A.tells) (view_of A.held A.heard A.faults A.losses self.now) }
+    {
+        self.log.len() as u64
+    }
+
+    /// Whether the slot of a flight's next column is Live.
+    fn is_live(&self, flight: &Flight, column: u8) -> bool
+        requires within { flight.now.relay.stripe < self.now.table.stripes }
+        requires here { flight_in self.now.flights flight.now.relay.stripe ≡ Some flight.now }
+        requires next { next_column self.now.table flight.now.relay ≡ Some column }
+        ensures { result ≡ is_live (slot_at self.now.table flight.now.relay.stripe column) }
+    {
+        self.table.slot(flight.relay.stripe, column).is_live()
+    }
+
+    /// Writes the target of a flight that went over all its columns, or ends it.
+    fn finish_flight(&mut self, job: u32, flight: Flight) -> Result<Advanced, AdvanceFault>
+        requires here { flight_in self.old.flights flight.relay.stripe ≡ Some flight }
+        requires next { next_column self.old.table flight.relay ≡ None }
+        requires room { length self.old.log < 262144 }
+        ensures { IsTrue A.tells → AdvanceStep job flight.relay.stripe (advance_as result) (state_of (view_of A.held A.heard A.faults A.losses self.old)) (state_of (view_of A.held A.heard A.faults A.losses self.new)) }
+    {
+        match finish(&mut self.table, &flight, job) {
+            Finished::Ready(block) => self.write_back(job, flight, &block),
+            Finished::Odd {
+                wanted,
+                found,
+                entry,
+            } => {
+                let stripe = flight.relay.stripe;
+                self.log.push_reserved(entry);
+                self.flights.retain(|flight| flight.relay.stripe != stripe);
+                Err(AdvanceFault::Odd { wanted, found })
+            }
+        }
+    }
+
+    /// Folds the block of a flight's next column into its sum.
+    fn fold_next(&mut self, flight: &Flight, column: u8, sum: &mut Block) -> Result<Held, Failed>
+        requires here { flight_in self.old.flights flight.now.relay.stripe ≡ Some flight.now }
+        requires next { next_column self.old.table flight.now.relay ≡ Some column }
+        ensures same { self.new ≡ with_archives self.old self.new.archives }
+        ensures covers { IsErr result → CoversOne (view_of A.held A.heard A.faults A.losses self.new) column }
+        ensures folds { Folds (IsTrue A.tells) (serving_at self.old.table flight.now.relay.stripe column) flight.now.relay.stripe (weight_in self.old.table.data_columns flight.now.relay column) sum.old sum.new result (plain A.held A.heard A.faults A.losses self.old.archives) (plain A.held A.heard A.faults A.losses self.new.archives) }
+    {
+        let stripe = flight.relay.stripe;
+        let _rules = self.table.cursor();
+        let weight = weight_of(self.table.data_columns(), flight.relay, column);
+        let number = self.table.archive_of(stripe, column);
+        self.archives.fold(number, stripe, weight, sum)
+    }
+
+    /// Takes note of a fold over a flight's next column, whose slot is Live. `sum` is the sum after the fold.
+    fn hop_over(&mut self, job: u32, flight: Flight, sum: &Block) -> Advanced
+        requires here { flight_in self.old.flights flight.relay.stripe ≡ Some flight }
+        requires next { IsSomeAnd (next_column self.old.table flight.relay) (λ c. IsTrue (is_live (slot_at self.old.table flight.relay.stripe c)) × (IsTrue A.tells → FoldTells ((plain A.held A.heard A.faults A.losses self.old.archives).held (serving_at self.old.table flight.relay.stripe c)) flight.relay.stripe (weight_in self.old.table.data_columns flight.relay c) flight.sum sum.now (Ok Held.Held))) }
+        requires within { flight.relay.stripe < self.old.table.stripes }
+        requires room { length self.old.log < 262144 }
+        ensures { HopsOver job sum.now result flight self.old self.new }
+    {
+        let mut flight = flight;
+        let stripe = flight.relay.stripe;
+        match hop(&mut self.table, &mut flight, job, sum) {
+            Hopped::Folded(entry) => {
+                self.log.push_reserved(entry);
+                fly(&mut self.flights, stripe, flight.relay.last, sum);
+                Advanced::Hopped
+            }
+            Hopped::Ended(entry) => {
+                self.log.push_reserved(entry);
+                self.flights.retain(|flight| flight.relay.stripe != stripe);
+                Advanced::Ended
+            }
+        }
+    }
+
+    /// Ends a flight whose next column has no block of its slot's digest.
+    fn leave_flight(&mut self, job: u32, flight: Flight)
+        requires here { flight_in self.old.flights flight.relay.stripe ≡ Some flight }
+        requires next { IsSomeAnd (next_column self.old.table flight.relay) (λ c. IsTrue A.tells → Sound (stripe_of self.old.table (plain A.held A.heard A.faults A.losses self.old.archives).held flight.relay.stripe) c → ⊥) }
+        requires within { flight.relay.stripe < self.old.table.stripes }
+        requires room { length self.old.log < 262144 }
+        ensures { IsSomeAnd (next_column self.old.table flight.relay) (λ c. self.new ≡ acted self.old (GaveUp job flight.relay.stripe flight.relay.target c) []) }
+    {
+        let stripe = flight.relay.stripe;
+        let entry = give_up(&mut self.table, flight, job);
+        self.log.push_reserved(entry);
+        self.flights.retain(|flight| flight.relay.stripe != stripe);
+    }
+
+    /// Writes the block that a flight came to into its target's slot.
+    fn write_back(
+        &mut self,
+        job: u32,
+        flight: Flight,
+        block: &Block,
+    ) -> Result<Advanced, AdvanceFault>
+        requires here { flight_in self.old.flights flight.relay.stripe ≡ Some flight }
+        requires next { next_column self.old.table flight.relay ≡ None }
+        requires partial { block.now ≡ partial_of flight }
+        requires digest { digest_in (slot_at self.old.table flight.relay.stripe flight.relay.target) ≡ Some (digest_of block.now) }
+        requires room { length self.old.log < 262144 }
+        ensures { EndsWell (IsTrue A.tells) job block.now flight result (view_of A.held A.heard A.faults A.losses self.old) (view_of A.held A.heard A.faults A.losses self.new) }
+    {
+        let stripe = flight.relay.stripe;
+        let column = flight.relay.target;
+        let _rules = self.table.cursor();
+        let number = self.table.archive_of(stripe, column);
+        match self.archives.write(number, stripe, block) {
+            Ok(()) => {
+                let entry = mended(&mut self.table, flight, job);
+                self.log.push_reserved(entry);
+                self.flights.retain(|flight| flight.relay.stripe != stripe);
+                Ok(Advanced::Mended)
+            }
+            Err(Failed) => {
+                note(
+                    &mut self.table,
+                    &mut self.log,
+                    Entry::Fault {
+                        job,
+                        stripe,
+                        column,
+                    },
+                );
+                Err(AdvanceFault::Faulted { column })
+            }
+        }
+    }
+}
+
+/// A flight, after the one over this stripe has come to a column with this sum.
+fn flown_to(flight: Flight, stripe: u32, last: Option<u8>, sum: &Block) -> Flight
+    ensures { result ≡ flown_to stripe last sum.now flight }
+{
+    let here = flight.relay.stripe == stripe;
+    Flight {
+        relay: Relay {
+            stripe: flight.relay.stripe,
+            target: flight.relay.target,
+            skip: flight.relay.skip,
+            last: if here { last } else { flight.relay.last },
+        },
+        blind: flight.blind,
+        sum: if here { *sum } else { flight.sum },
+    }
+}
+
+/// The flight over a stripe has gone over a column, which left this sum.
+fn fly(flights: &mut [Flight], stripe: u32, last: Option<u8>, sum: &Block)
+    ensures { flights.new ≡ map (flown_to stripe last sum.now) flights.old }
+{
+    for flight in flights {
+        *flight = flown_to(*flight, stripe, last, sum);
+    }
+}
