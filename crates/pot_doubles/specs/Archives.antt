@@ -2,7 +2,7 @@
 use Rattle.std.specs.Prelude.{◌≡◌, ℕ, List, map, Some, None, Result, Ok, Err}
 use Rattle.std.specs.Ordering.{nat_cmp}
 use Rattle.std.specs.BTreeMap.{get}
-use Rattle.pot_outside.specs.Archives.{Contents, at_slot}
+use Rattle.pot_outside.specs.Archives.{Contents, Meaning, at_slot}
 use Rattle.pot_outside.specs.declared.faults.Failed.{Failed}
 use Rattle.pot_doubles.specs.Losses.{without, losses_at, raised_by}
 use Rattle.pot_doubles.specs.Calls.{raised}
@@ -29,6 +29,10 @@ archive_calls a = a.calls
 -- how often blocks went missing
 abbrev pub lost_by : LossyArchive → ℕ
 lost_by a = a.lost
+
+-- what it means
+abbrev pub meaning_in : LossyArchive → Meaning
+meaning_in a = record { held = held_in a; history = history_of a; heard = heard_by a; faults = (archive_calls a).faults; losses = lost_by a }
 
 -- the losses that are listed
 abbrev pub losses_of : LossyArchive → List Loss

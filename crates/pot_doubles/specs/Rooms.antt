@@ -5,7 +5,7 @@ use Rattle.std.specs.Ordering.{nat_cmp}
 use Rattle.std.specs.BTreeMap.{get}
 use Rattle.pot_outside.specs.declared.archive.Shelf.{Shelf}
 use Rattle.pot_outside.specs.Archives.{Meaning}
-use Rattle.pot_doubles.specs.Archives.{held_in, history_of, heard_by, archive_calls, lost_by}
+use Rattle.pot_doubles.specs.Archives.{archive_calls, meaning_in}
 use Rattle.pot_doubles.specs.declared.calls.Calls.{Calls}
 use Rattle.pot_doubles.specs.declared.room.MemRoom.{MemRoom}
 use Rattle.pot_doubles.specs.declared.archive.LossyArchive.{LossyArchive}
@@ -22,7 +22,7 @@ archive_of (shelf ∷ shelves) number = if shelf.number == number then Some shel
 -- what an archive means; a number without one means an empty archive with counts of 0
 abbrev pub meaning_of : Option LossyArchive → Meaning
 meaning_of None = record { held = λ k. None; history = []; heard = []; faults = 0; losses = 0 }
-meaning_of (Some a) = record { held = held_in a; history = history_of a; heard = heard_by a; faults = (archive_calls a).faults; losses = lost_by a }
+meaning_of (Some a) = meaning_in a
 
 -- what a room means by a number
 abbrev pub means_in : MemRoom → ℕ → Meaning

@@ -101,30 +101,15 @@ impl LossyArchive {
 }
 
 impl Archive for LossyArchive {
-    ghost use Rattle.std.specs.Prelude.{◌≡◌, ◌<◌, ℕ, List, Option, true, IsErr};
-    ghost use Rattle.pot_outside.specs.Archives.{OnlyLoses, ReadTells, FoldTells, LeavesSum, HearsFold, WriteTells, Remembers, IsRemembered};
-    ghost use Rattle.pot_outside.specs.Counts.{Caused};
+    ghost use Rattle.std.specs.Prelude.{◌≡◌, ◌<◌, true, IsTrue};
+    ghost use Rattle.pot_outside.specs.Archives.{Meaning, Reads, Folds, Writes as WritesBlock};
     ghost use Rattle.pot_doubles.specs.Calls.{Counted};
-    ghost use Rattle.pot_doubles.specs.Archives.{held_in, history_of, heard_by, archive_calls, lost_by, losses_of, LosesListed, Writes, lost_after_losses};
+    ghost use Rattle.pot_doubles.specs.Archives.{meaning_in, archive_calls, lost_by, losses_of, LosesListed, Writes, lost_after_losses};
 
-    ghost tells = { true };
-
-    ghost held = { held_in };
-
-    ghost history = { history_of };
-
-    ghost heard = { heard_by };
-
-    ghost faults = { λ a. (archive_calls a).faults };
-
-    ghost losses = { lost_by };
+    ghost account = { record { tells = true; meaning = meaning_in } };
 
     fn read(&mut self, slot: u32, into: &mut Block) -> Result<Held, Failed>
-        ensures told { ReadTells (held_in self.new) slot into.new result }
-        ensures loses { OnlyLoses (held_in self.old) (held_in self.new) (lost_by self.old) (lost_by self.new) }
-        ensures past { history_of self.new ≡ history_of self.old }
-        ensures heard { heard_by self.new ≡ heard_by self.old }
-        ensures cause { Caused (archive_calls self.old).faults (archive_calls self.new).faults (IsErr result) }
+        ensures reads { Reads (IsTrue true) slot into.new result (meaning_in self.old) (meaning_in self.new) }
         ensures listed { LosesListed self.old self.new }
         ensures counted { Counted (archive_calls self.old) (archive_calls self.new) result }
     {
@@ -142,12 +127,7 @@ impl Archive for LossyArchive {
 
     fn fold(&mut self, slot: u32, weight: u8, sum: &mut Block) -> Result<Held, Failed>
         requires { 0 < weight }
-        ensures told { FoldTells (held_in self.new) slot weight sum.old sum.new result }
-        ensures leaves { LeavesSum sum.old sum.new result }
-        ensures loses { OnlyLoses (held_in self.old) (held_in self.new) (lost_by self.old) (lost_by self.new) }
-        ensures past { history_of self.new ≡ history_of self.old }
-        ensures hears { HearsFold (heard_by self.old) (heard_by self.new) slot sum.old result }
-        ensures cause { Caused (archive_calls self.old).faults (archive_calls self.new).faults (IsErr result) }
+        ensures folds { Folds (IsTrue true) slot weight sum.old sum.new result (meaning_in self.old) (meaning_in self.new) }
         ensures listed { LosesListed self.old self.new }
         ensures counted { Counted (archive_calls self.old) (archive_calls self.new) result }
     {
@@ -167,11 +147,8 @@ impl Archive for LossyArchive {
     }
 
     fn write(&mut self, slot: u32, block: &Block) -> Result<(), Failed>
-        ensures told { WriteTells (held_in self.old) (held_in self.new) (lost_by self.old) (lost_by self.new) slot block.now result }
-        ensures past { Remembers (history_of self.old) (history_of self.new) block.now result }
-        ensures heard { heard_by self.new ≡ heard_by self.old }
-        ensures cause { Caused (archive_calls self.old).faults (archive_calls self.new).faults (IsErr result) }
-        ensures writes { Writes self.old self.new slot block.now result }
+        ensures writes { WritesBlock (IsTrue true) slot block.now result (meaning_in self.old) (meaning_in self.new) }
+        ensures wrote { Writes self.old self.new slot block.now result }
         ensures lost { lost_by self.new ≡ lost_after_losses self.old }
         ensures listed { losses_of self.new ≡ losses_of self.old }
         ensures counted { Counted (archive_calls self.old) (archive_calls self.new) result }

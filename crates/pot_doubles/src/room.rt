@@ -115,7 +115,7 @@ impl Room for MemRoom {
     ghost use Rattle.std.specs.Prelude.{◌≡◌, ◌≢◌, ◌↔◌, ℕ, true, false, IsTrue, IsErr, IsErrOf, IfOk, OnOk, OnErr};
     ghost use Rattle.pot_outside.specs.Counts.{Caused, Rose};
     ghost use Rattle.pot_outside.specs.Archives.{IsMeant};
-    ghost use Rattle.pot_doubles.specs.Archives.{held_in, history_of, heard_by, archive_calls, lost_by};
+    ghost use Rattle.pot_doubles.specs.Archives.{archive_calls, meaning_in};
     ghost use Rattle.pot_doubles.specs.Calls.{begun, is_due, covering, Answered};
     ghost use Rattle.pot_doubles.specs.Rooms.{means_in, is_out, lent_of, room_calls, SameAt};
 
@@ -131,7 +131,7 @@ impl Room for MemRoom {
 
     fn take(&mut self, number: u32) -> Result<LossyArchive, RoomFault>
         requires { is_out self.old number ≡ false }
-        ensures told { IfOk result (λ a. IsMeant (means_in self.old number) (held_in a) (history_of a) (heard_by a) (archive_calls a).faults (lost_by a)) }
+        ensures told { IfOk result (λ a. IsMeant (means_in self.old number) (meaning_in a)) }
         ensures lends { IfOk result (λ a. lent_of self.new number ≡ (archive_calls a).faults) }
         ensures taken { OnOk result (is_out self.new number ≡ true) }
         ensures refused { OnErr result (is_out self.new number ≡ false) }
@@ -159,7 +159,7 @@ impl Room for MemRoom {
 
     fn give(&mut self, number: u32, archive: LossyArchive) -> Result<(), Failed>
         requires { is_out self.old number ≡ true }
-        ensures told { OnOk result (IsMeant (means_in self.new number) (held_in archive) (history_of archive) (heard_by archive) (archive_calls archive).faults (lost_by archive)) }
+        ensures told { OnOk result (IsMeant (means_in self.new number) (meaning_in archive)) }
         ensures back { is_out self.new number ≡ false }
         ensures others { (n : ℕ) → n ≢ number → SameAt self.old self.new n }
         ensures covers { Rose (lent_of self.old number) (archive_calls archive).faults → Rose (room_calls self.old).faults (room_calls self.new).faults }

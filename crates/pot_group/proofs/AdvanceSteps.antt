@@ -1,7 +1,7 @@
 -- An advance as a step of a group.
 use Rattle.std.proofs.Common.{◌≡◌, ◌≢◌, ◌⊎◌, inl, inr, ℕ, ◌+◌, ◌<◌, ◌≤◌, ◌++◌, List, [], ◌∷◌, Option, Some, None, IsSomeAnd, true, false, Bool, IsTrue, length, length-append, map, refl, sym, ap, ap₂, ◌∙◌, subst, arith}
 use Rattle.std.specs.Prelude.{Ok, Err, Result}
-use Rattle.pot_outside.specs.Archives.{FoldTells, HearsFold}
+use Rattle.pot_outside.specs.Archives.{FoldTells, HearsFold, Meaning}
 use Rattle.pot_outside.specs.declared.archive.Held.TheVariants.{Held, Absent}
 use Rattle.pot_outside.specs.declared.faults.Failed.{Failed}
 use Rattle.pot_machine.specs.declared.entry.Entry.{Entry}
@@ -122,11 +122,11 @@ at_next P o c e h = subst (λ o. IsSomeAnd o P) e h
 
 -- A CALL OF THE CODE
 
-module _ {A : Type 0} (told : Type 0) (held : A → ℕ → Option (List ℕ)) (heard : A → List (ℕ × List ℕ)) (faults losses : A → ℕ) (old : GroupParts A) (job : ℕ) (f : Flight) (c : ℕ)
-    (settled : IsSettled told (view_of held heard faults losses old)) (room : length old.log < log_bound)
+module _ {A : Type 0} (told : Type 0) (meaning : A → Meaning) (old : GroupParts A) (job : ℕ) (f : Flight) (c : ℕ)
+    (settled : IsSettled told (view_of meaning old)) (room : length old.log < log_bound)
     (here : flight_in old.flights f.relay.stripe ≡ Some f) (next : next_column old.table f.relay ≡ Some c) (within : f.relay.stripe < old.table.stripes) where
   abbrev view : GroupParts A → GroupView
-  view g = view_of held heard faults losses g
+  view g = view_of meaning g
 
   -- the relay's end
   abbrev Left : GroupParts A → GroupParts A → Type 0
@@ -142,12 +142,12 @@ module _ {A : Type 0} (told : Type 0) (held : A → ℕ → Option (List ℕ)) (
     mid = with_archives old b
 
     abbrev Folded : Result IsHeld Failed → Type 0
-    Folded r = Folds told (serving_at old.table f.relay.stripe c) f.relay.stripe (weight_in old.table.data_columns f.relay c) f.sum sum r (plain held heard faults losses old.archives) (plain held heard faults losses b)
+    Folded r = Folds told (serving_at old.table f.relay.stripe c) f.relay.stripe (weight_in old.table.data_columns f.relay c) f.sum sum r (plain meaning old.archives) (plain meaning b)
 
     pub absent_exit : (new : GroupParts A) → Left (with_archives old b) new → Folded (Ok Absent) → told → AdvanceStep job f.relay.stripe Ended (state_of (view old)) (state_of (view new))
     absent_exit new left folds t = subst (λ (w : GroupParts A). AdvanceStep job f.relay.stripe Ended (state_of (view old)) (state_of (view w))) (sym (at_next _ (next_column old.table f.relay) c next left))
-        (ended_step told (view old) (plain held heard faults losses b) job f c settled room here next within folds.loses t
-        (absent_unsound (plain held heard faults losses b).held old.table f.relay.stripe c (folds.tells t)) (inl (live, folds.hears t, folds.silent t)))
+        (ended_step told (view old) (plain meaning b) job f c settled room here next within folds.loses t
+        (absent_unsound (plain meaning b).held old.table f.relay.stripe c (folds.tells t)) (inl (live, folds.hears t, folds.silent t)))
 
     pub over_exit : (r : Advanced) (new : GroupParts A) → HopsOver job sum r f (with_archives old b) new → Folded (Ok Held) → told → AdvanceStep job f.relay.stripe (advance_as (Ok r)) (state_of (view old)) (state_of (view new))
     over_exit advanced.Mended new means folds t = absurd means
@@ -155,17 +155,17 @@ module _ {A : Type 0} (told : Type 0) (held : A → ℕ → Option (List ℕ)) (
         let m : (digest_in (slot_at old.table f.relay.stripe c) ≡ Some (digest_of (unfolded (weight_in old.table.data_columns f.relay c) f.sum sum))) × (new ≡ acted (with_archives old b) (Hop job f.relay.stripe c) sum) =
         at_next (λ c. (digest_in (slot_at old.table f.relay.stripe c) ≡ Some (digest_of (unfolded (weight_in old.table.data_columns f.relay c) f.sum sum))) × (new ≡ acted (with_archives old b) (Hop job f.relay.stripe c) sum)) (next_column old.table f.relay) c next means in
         subst (λ (w : GroupParts A). AdvanceStep job f.relay.stripe Hopped (state_of (view old)) (state_of (view w))) (sym m.1)
-        (hop_step told (view old) (plain held heard faults losses b) job f.relay.stripe c f sum settled room here next within folds.keeps folds.loses folds.tells live m.0 folds.hears folds.silent t)
+        (hop_step told (view old) (plain meaning b) job f.relay.stripe c f sum settled room here next within folds.keeps folds.loses folds.tells live m.0 folds.hears folds.silent t)
     over_exit advanced.Ended new means folds t =
         let m : (digest_in (slot_at old.table f.relay.stripe c) ≢ Some (digest_of (unfolded (weight_in old.table.data_columns f.relay c) f.sum sum))) × (new ≡ acted (with_archives old b) (GaveUp job f.relay.stripe f.relay.target c) []) =
         at_next (λ c. (digest_in (slot_at old.table f.relay.stripe c) ≢ Some (digest_of (unfolded (weight_in old.table.data_columns f.relay c) f.sum sum))) × (new ≡ acted (with_archives old b) (GaveUp job f.relay.stripe f.relay.target c) [])) (next_column old.table f.relay) c next means in
         subst (λ (w : GroupParts A). AdvanceStep job f.relay.stripe Ended (state_of (view old)) (state_of (view w))) (sym m.1)
-        (ended_step told (view old) (plain held heard faults losses b) job f c settled room here next within folds.loses t
-        (missing told (view old) (plain held heard faults losses b) job f.relay.stripe c f sum settled room here next within folds.keeps folds.loses folds.tells live m.0 t) (inl (live, folds.hears t, folds.silent t)))
+        (ended_step told (view old) (plain meaning b) job f c settled room here next within folds.loses t
+        (missing told (view old) (plain meaning b) job f.relay.stripe c f sum settled room here next within folds.keeps folds.loses folds.tells live m.0 t) (inl (live, folds.hears t, folds.silent t)))
 
     pub failed_exit : (new : GroupParts A) (e : Failed) → new ≡ noted (with_archives old b) (Fault job f.relay.stripe c) → Folded (Err e) → told → AdvanceStep job f.relay.stripe (Faulted c) (state_of (view old)) (state_of (view new))
     failed_exit new e is folds t = subst (λ (w : GroupParts A). AdvanceStep job f.relay.stripe (Faulted c) (state_of (view old)) (state_of (view w))) (sym is)
-        (fault_step told (view old) (plain held heard faults losses b) job f c settled room here next within folds.loses t e (folds.hears t) (folds.silent t))
+        (fault_step told (view old) (plain meaning b) job f c settled room here next within folds.loses t e (folds.hears t) (folds.silent t))
 
     pub fault_may : Legal old.table (Fault job f.relay.stripe c)
     fault_may = fault_legal told (view old) (view old).shelves job f c settled room here next within (λ t. loses_refl (view old).shelves)

@@ -2,6 +2,7 @@
 use Rattle.std.proofs.Common.{◌≡◌, ◌≢◌, ◌⊎◌, inl, inr, ℕ, zero, suc, ◌+◌, ◌<◌, ◌≤◌, ◌++◌, append-nil, List, [], ◌∷◌, Option, Some, None, IsSomeAnd, true, false, Bool, IsTrue, not, ◌&&◌, nat_eq, nat_le, if◌then◌else◌, length, length-append, refl, sym, ap, ◌∙◌, subst, arith}
 use Rattle.std.specs.Prelude.{Ok, Err, Result, ◌==◌, is_some}
 use Rattle.std.proofs.lemmas.Bool.Decides.{nat_tests}
+use Rattle.pot_outside.specs.Archives.{Meaning}
 use Rattle.pot_machine.specs.declared.slot.SlotState.{SlotState}
 use Rattle.pot_machine.specs.declared.slot.SlotState.TheVariants.{Void, Live, Lost, Broken}
 use Rattle.pot_machine.specs.declared.entry.Entry.{Entry}
@@ -127,17 +128,17 @@ logged_in told g settled room e given legal acts = record {
   loses = (λ n m b e. e);
 }
 
-module _ {A : Type 0} (told : Type 0) (held : A → ℕ → Option (List ℕ)) (heard : A → List (ℕ × List ℕ)) (faults losses : A → ℕ) (old : GroupParts A) (job s c : ℕ) (blind : List ℕ)
-    (settled : IsSettled told (view_of held heard faults losses old)) (block : IsBlock blind) (within : s < old.table.stripes) (column : c < width old.table) where
+module _ {A : Type 0} (told : Type 0) (meaning : A → Meaning) (old : GroupParts A) (job s c : ℕ) (blind : List ℕ)
+    (settled : IsSettled told (view_of meaning old)) (block : IsBlock blind) (within : s < old.table.stripes) (column : c < width old.table) where
   abbrev state : GroupParts A → GroupState
-  state g = state_of (view_of held heard faults losses g)
+  state g = state_of (view_of meaning g)
 
   same : (new : GroupParts A) → new ≡ old → Unchanged (state old) (state new)
   same new e = subst (λ (w : GroupParts A). Unchanged (state old) (state w)) (sym e) (record { table = refl; log = refl; flights = refl; heard = λ n. refl; held = λ n m. refl })
 
   pub begin_step : (r : Result (Unit {0}) BeginFault) (new : GroupParts A) → BeginMeans job s c blind r old new → BeginStep job s c blind (begin_as r) (state old) (state new)
   begin_step (Ok u) new m = subst (λ (w : GroupParts A). BeginStep job s c blind (begin_as (Ok u)) (state old) (state w)) (sym m.2)
-      (logged_in told (view_of held heard faults losses old) settled m.0 (Begin job s c) blind m.1 (block, λ n k b ln lk l e. e), λ n. refl)
+      (logged_in told (view_of meaning old) settled m.0 (Begin job s c) blind m.1 (block, λ n k b ln lk l e. e), λ n. refl)
   begin_step (Err fault.LogFull) new m = subst (λ (w : GroupParts A). BeginStep job s c blind (begin_as (Err fault.LogFull)) (state old) (state w)) (sym m.0)
       (record {
         full = m.1;
@@ -148,6 +149,6 @@ module _ {A : Type 0} (told : Type 0) (held : A → ℕ → Option (List ℕ)) (
   begin_step (Err fault.Whole) new m = (same new m.1, m.2)
   begin_step (Err (fault.Standing k)) new m = (same new m.1, m.2, m.3)
   begin_step (Err (fault.TwoGone one other)) new m = subst (λ (w : GroupParts A). BeginStep job s c blind (begin_as (Err (fault.TwoGone one other))) (state old) (state w)) (sym m.3)
-      (logged_in told (view_of held heard faults losses old) settled m.0 (Stuck job s c other) [] m.2 (λ n k b ln lk l e. e), (λ n. refl), m.1)
+      (logged_in told (view_of meaning old) settled m.0 (Stuck job s c other) [] m.2 (λ n k b ln lk l e. e), (λ n. refl), m.1)
   begin_step (Err fault.Crowded) new m =
       (same new m.1, m.2, m.3, m.4, crowded old.table s c settled.table within column m.2 m.3 m.4 job m.5)

@@ -3,6 +3,7 @@ use Rattle.std.proofs.Common.{◌≡◌, ◌≢◌, ◌⊎◌, inl, inr, ℕ, ze
 use Rattle.std.specs.Prelude.{Contains}
 use Rattle.std.proofs.lemmas.Bool.Decides.{eqb_tells, nat_tests}
 use Rattle.std.proofs.lemmas.List.{length-map, map-append}
+use Rattle.pot_outside.specs.Archives.{Meaning}
 use Rattle.pot_outside.specs.Counts.{Rose}
 use Rattle.pot_outside.specs.declared.archive.Marks.{Marks}
 use Rattle.pot_outside.specs.declared.archive.Shelf.{Shelf}
@@ -71,28 +72,28 @@ mark_none f (x ∷ ns) (y ∷ ms) k none = elim (eqb_tells x k) [
 ]
 
 -- an archive at the end of the list, with its marks
-pub brings_one : {A : Type 0} (told : Type 0) (held : A → ℕ → Option (List ℕ)) (heard : A → List (ℕ × List ℕ)) (faults losses : A → ℕ) (xs : List (Shelf A)) (ms : List Marks) (s : Shelf A) (m : Marks)
-    → length xs ≡ length ms → (Contains (numbers_of xs) s.number → ⊥) → m.faults ≡ faults s.archive → (told → m.losses ≡ losses s.archive)
-    → Brings told s.number (held s.archive) (heard s.archive) (plain held heard faults losses (record { shelves = xs; marks = ms })) (plain held heard faults losses (record { shelves = xs ++ s ∷ []; marks = ms ++ m ∷ [] }))
-brings_one told held heard faults losses xs ms s m l none mf ml =
+pub brings_one : {A : Type 0} (told : Type 0) (meaning : A → Meaning) (xs : List (Shelf A)) (ms : List Marks) (s : Shelf A) (m : Marks)
+    → length xs ≡ length ms → (Contains (numbers_of xs) s.number → ⊥) → m.faults ≡ (meaning s.archive).faults → (told → m.losses ≡ (meaning s.archive).losses)
+    → Brings told s.number (meaning s.archive).held (meaning s.archive).heard (plain meaning (record { shelves = xs; marks = ms })) (plain meaning (record { shelves = xs ++ s ∷ []; marks = ms ++ m ∷ [] }))
+brings_one told meaning xs ms s m l none mf ml =
     let all : numbers_of (xs ++ s ∷ []) ≡ numbers_of xs ++ s.number ∷ [] = map-append (λ s. s.number) xs (s ∷ []) in
     let lens : length (numbers_of xs) ≡ length ms = length-map xs (λ s. s.number) ∙ l in
     record {
       numbers = all;
-      blocks = (λ slot. ap (given (λ x. held x slot) None) (find_new xs s none));
-      sums = ap (given heard []) (find_new xs s none);
-      marked = ap (λ ns. mark_of (λ m. m.faults) ns (ms ++ m ∷ []) s.number) all ∙ mark_new (λ m. m.faults) (numbers_of xs) ms s.number m lens none ∙ mf ∙ sym (ap (given faults 0) (find_new xs s none));
-      marked_losses = (λ t. ap (λ ns. mark_of (λ m. m.losses) ns (ms ++ m ∷ []) s.number) all ∙ mark_new (λ m. m.losses) (numbers_of xs) ms s.number m lens none ∙ ml t ∙ sym (ap (given losses 0) (find_new xs s none)));
+      blocks = (λ slot. ap (given (λ x. (meaning x).held slot) None) (find_new xs s none));
+      sums = ap (given (λ x. (meaning x).heard) []) (find_new xs s none);
+      marked = ap (λ ns. mark_of (λ m. m.faults) ns (ms ++ m ∷ []) s.number) all ∙ mark_new (λ m. m.faults) (numbers_of xs) ms s.number m lens none ∙ mf ∙ sym (ap (given (λ x. (meaning x).faults) 0) (find_new xs s none));
+      marked_losses = (λ t. ap (λ ns. mark_of (λ m. m.losses) ns (ms ++ m ∷ []) s.number) all ∙ mark_new (λ m. m.losses) (numbers_of xs) ms s.number m lens none ∙ ml t ∙ sym (ap (given (λ x. (meaning x).losses) 0) (find_new xs s none)));
       absent = (
-        ap (given faults 0) (find_none xs s.number none),
+        ap (given (λ x. (meaning x).faults) 0) (find_none xs s.number none),
         mark_none (λ m. m.faults) (numbers_of xs) ms s.number none,
-        ap (given losses 0) (find_none xs s.number none),
+        ap (given (λ x. (meaning x).losses) 0) (find_none xs s.number none),
         mark_none (λ m. m.losses) (numbers_of xs) ms s.number none,
       );
-      same_held = (λ n slot ne. ap (given (λ x. held x slot) None) (find_other xs s n ne));
-      same_heard = (λ n ne. ap (given heard []) (find_other xs s n ne));
-      same_faults = (λ n ne. (ap (given faults 0) (find_other xs s n ne), ap (λ ns. mark_of (λ m. m.faults) ns (ms ++ m ∷ []) n) all ∙ mark_other (λ m. m.faults) (numbers_of xs) ms s.number m n lens ne));
-      same_losses = (λ n ne. (ap (given losses 0) (find_other xs s n ne), ap (λ ns. mark_of (λ m. m.losses) ns (ms ++ m ∷ []) n) all ∙ mark_other (λ m. m.losses) (numbers_of xs) ms s.number m n lens ne));
+      same_held = (λ n slot ne. ap (given (λ x. (meaning x).held slot) None) (find_other xs s n ne));
+      same_heard = (λ n ne. ap (given (λ x. (meaning x).heard) []) (find_other xs s n ne));
+      same_faults = (λ n ne. (ap (given (λ x. (meaning x).faults) 0) (find_other xs s n ne), ap (λ ns. mark_of (λ m. m.faults) ns (ms ++ m ∷ []) n) all ∙ mark_other (λ m. m.faults) (numbers_of xs) ms s.number m n lens ne));
+      same_losses = (λ n ne. (ap (given (λ x. (meaning x).losses) 0) (find_other xs s n ne), ap (λ ns. mark_of (λ m. m.losses) ns (ms ++ m ∷ []) n) all ∙ mark_other (λ m. m.losses) (numbers_of xs) ms s.number m n lens ne));
     }
 
 -- WHAT A GROUP KEEPS

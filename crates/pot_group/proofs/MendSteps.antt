@@ -2,6 +2,7 @@
 use Rattle.std.proofs.Common.{◌≡◌, ◌≢◌, ◌⊎◌, inl, inr, ℕ, zero, suc, ◌<◌, List, [], ◌∷◌, Option, Some, None, IsSomeAnd, true, false, Bool, IsTrue, length, refl, sym, ap, ◌∙◌, subst, arith}
 use Rattle.std.specs.Prelude.{Ok, Err, Result, ◌==◌, slice_index_or, find, if◌then◌else◌}
 use Rattle.std.proofs.lemmas.Bool.Decides.{nat_tests}
+use Rattle.pot_outside.specs.Archives.{Meaning}
 use Rattle.pot_machine.specs.declared.relay.Relay.{Relay}
 use Rattle.pot_machine.specs.Slot.{is_unsound}
 use Rattle.pot_machine.specs.Table.{Table, width, slot_at, relay_at, relay_in}
@@ -72,10 +73,10 @@ first_stands (r ∷ rs) l e = some (r.stripe == r.stripe) (itself r.stripe) (fin
     some true q o e = cc
     some false q o e = cc
 
-module _ {A : Type 0} (told : Type 0) (held : A → ℕ → Option (List ℕ)) (heard : A → List (ℕ × List ℕ)) (faults losses : A → ℕ) (old : GroupParts A) (job s c : ℕ) (blind : List ℕ)
-    (settled : IsSettled told (view_of held heard faults losses old)) (within : s < old.table.stripes) (column : c < width old.table) where
+module _ {A : Type 0} (told : Type 0) (meaning : A → Meaning) (old : GroupParts A) (job s c : ℕ) (blind : List ℕ)
+    (settled : IsSettled told (view_of meaning old)) (within : s < old.table.stripes) (column : c < width old.table) where
   abbrev state : GroupParts A → GroupState
-  state g = state_of (view_of held heard faults losses g)
+  state g = state_of (view_of meaning g)
 
   pub standing_mends : (k : ℕ) (mid new : GroupParts A) (r : Result Mend MendFault) → BeginMeans job s c blind (Err (fault.Standing k)) old mid → Drives job s (k == c) (mend_as r) (state mid) (state new)
       → MendStep job s c blind (mend_as r) (state old) (state new)

@@ -1,6 +1,7 @@
 -- What the calls of a move leave.
 use Rattle.std.proofs.Common.{◌≡◌, ℕ, suc, ◌+◌, ◌<◌, ◌++◌, List, [], ◌∷◌, Option, None, Bool, true, false, length, length-append, refl, sym, ap, ◌∙◌, subst, arith}
 use Rattle.std.specs.Prelude.{Ok, Err, Result, IfOk, IfErr, Contains}
+use Rattle.pot_outside.specs.Archives.{Meaning}
 use Rattle.pot_outside.specs.declared.archive.Shelf.{Shelf}
 use Rattle.pot_machine.specs.declared.entry.Entry.{Entry}
 use Rattle.pot_machine.specs.declared.entry.Entry.TheVariants.{MoveBegin}
@@ -23,14 +24,14 @@ go_exit told g job c to e t log settled room legal there ee et el =
     (subst (λ log. IsSettled told (record g { table = after g.table (MoveBegin job c to); log = log })) (sym (el ∙ ap (λ e. g.log ++ e ∷ []) ee))
     (move_begin_settled told g job c settled room to legal there))
 
-pub receive_exit : {A : Type 0} (told : Type 0) (held : A → ℕ → Option (List ℕ)) (heard : A → List (ℕ × List ℕ)) (faults losses : A → ℕ) (old : GroupParts A) (shelf : Shelf A) (r : Result (Unit {0}) (Shelf A)) (b : Shelved A)
-    → IsSettled told (view_of held heard faults losses old) → (Contains (plain held heard faults losses old.archives).numbers shelf.number → ⊥)
-    → IfOk r (λ u. Brings told shelf.number (held shelf.archive) (heard shelf.archive) (plain held heard faults losses old.archives) (plain held heard faults losses b))
-    → IfErr r (λ s. (s ≡ shelf) × (b ≡ old.archives)) → IsSettled told (view_of held heard faults losses (with_archives old b))
-receive_exit told held heard faults losses old shelf (Ok u) b settled fresh brought refused =
-    settled_brings told (view_of held heard faults losses old) shelf.number (held shelf.archive) (heard shelf.archive) (plain held heard faults losses b) settled fresh brought
-receive_exit told held heard faults losses old shelf (Err s) b settled fresh brought refused =
-    subst (λ (a : Shelved _). IsSettled told (view_of held heard faults losses (with_archives old a))) (sym refused.1) settled
+pub receive_exit : {A : Type 0} (told : Type 0) (meaning : A → Meaning) (old : GroupParts A) (shelf : Shelf A) (r : Result (Unit {0}) (Shelf A)) (b : Shelved A)
+    → IsSettled told (view_of meaning old) → (Contains (plain meaning old.archives).numbers shelf.number → ⊥)
+    → IfOk r (λ u. Brings told shelf.number (meaning shelf.archive).held (meaning shelf.archive).heard (plain meaning old.archives) (plain meaning b))
+    → IfErr r (λ s. (s ≡ shelf) × (b ≡ old.archives)) → IsSettled told (view_of meaning (with_archives old b))
+receive_exit told meaning old shelf (Ok u) b settled fresh brought refused =
+    settled_brings told (view_of meaning old) shelf.number (meaning shelf.archive).held (meaning shelf.archive).heard (plain meaning b) settled fresh brought
+receive_exit told meaning old shelf (Err s) b settled fresh brought refused =
+    subst (λ (a : Shelved _). IsSettled told (view_of meaning (with_archives old a))) (sym refused.1) settled
 
 -- A MOVE BEGINS
 
@@ -42,29 +43,29 @@ unheld told g number settled fresh = none_least (width g.table) (λ k. names (co
     by k lk false e = e
     by k lk true e = absurd (fresh (settled.shelves k number lk e))
 
-pub begin_legal : {A : Type 0} (told : Type 0) (held : A → ℕ → Option (List ℕ)) (heard : A → List (ℕ × List ℕ)) (faults losses : A → ℕ) (old mid : GroupParts A) (job c to : ℕ) → IsSettled told (view_of held heard faults losses old) → c < width old.table
-    → (column_at old.table c).moving ≡ None → (Contains (plain held heard faults losses old.archives).numbers to → ⊥) → mid ≡ with_archives old mid.archives → Legal mid.table (MoveBegin job c to)
-begin_legal told held heard faults losses old mid job c to settled column still fresh e =
-    subst (λ (w : GroupParts _). Legal w.table (MoveBegin job c to)) (sym e) ((column, unheld told (view_of held heard faults losses old) to settled fresh), still)
+pub begin_legal : {A : Type 0} (told : Type 0) (meaning : A → Meaning) (old mid : GroupParts A) (job c to : ℕ) → IsSettled told (view_of meaning old) → c < width old.table
+    → (column_at old.table c).moving ≡ None → (Contains (plain meaning old.archives).numbers to → ⊥) → mid ≡ with_archives old mid.archives → Legal mid.table (MoveBegin job c to)
+begin_legal told meaning old mid job c to settled column still fresh e =
+    subst (λ (w : GroupParts _). Legal w.table (MoveBegin job c to)) (sym e) ((column, unheld told (view_of meaning old) to settled fresh), still)
 
-pub begun_step : {A : Type 0} (told : Type 0) (held : A → ℕ → Option (List ℕ)) (heard : A → List (ℕ × List ℕ)) (faults losses : A → ℕ) (old mid new : GroupParts A) (shelf : Shelf A) (job c : ℕ) → IsSettled told (view_of held heard faults losses old)
-    → length old.log < log_bound → c < width old.table → (column_at old.table c).moving ≡ None → (Contains (plain held heard faults losses old.archives).numbers shelf.number → ⊥)
+pub begun_step : {A : Type 0} (told : Type 0) (meaning : A → Meaning) (old mid new : GroupParts A) (shelf : Shelf A) (job c : ℕ) → IsSettled told (view_of meaning old)
+    → length old.log < log_bound → c < width old.table → (column_at old.table c).moving ≡ None → (Contains (plain meaning old.archives).numbers shelf.number → ⊥)
     → mid ≡ with_archives old mid.archives
-    → Brings told shelf.number (held shelf.archive) (heard shelf.archive) (plain held heard faults losses old.archives) (plain held heard faults losses mid.archives)
-    → new ≡ acted mid (MoveBegin job c shelf.number) [] → told → BringStep (MoveBegin job c shelf.number) shelf.number (held shelf.archive) (heard shelf.archive) (state_of (view_of held heard faults losses old)) (state_of (view_of held heard faults losses new))
-begun_step {A} told held heard faults losses old mid new shelf job c settled room column still fresh em brings en t =
-    subst (λ (w : GroupParts A). BringStep (MoveBegin job c shelf.number) shelf.number (held shelf.archive) (heard shelf.archive) (state_of (view_of held heard faults losses old)) (state_of (view_of held heard faults losses w))) (sym (en ∙ ap (λ (w : GroupParts A). acted w (MoveBegin job c shelf.number) []) em))
+    → Brings told shelf.number (meaning shelf.archive).held (meaning shelf.archive).heard (plain meaning old.archives) (plain meaning mid.archives)
+    → new ≡ acted mid (MoveBegin job c shelf.number) [] → told → BringStep (MoveBegin job c shelf.number) shelf.number (meaning shelf.archive).held (meaning shelf.archive).heard (state_of (view_of meaning old)) (state_of (view_of meaning new))
+begun_step {A} told meaning old mid new shelf job c settled room column still fresh em brings en t =
+    subst (λ (w : GroupParts A). BringStep (MoveBegin job c shelf.number) shelf.number (meaning shelf.archive).held (meaning shelf.archive).heard (state_of (view_of meaning old)) (state_of (view_of meaning w))) (sym (en ∙ ap (λ (w : GroupParts A). acted w (MoveBegin job c shelf.number) []) em))
     (record {
       logs = record {
-        legal = ((column, unheld told (view_of held heard faults losses old) shelf.number settled fresh), still);
+        legal = ((column, unheld told (view_of meaning old) shelf.number settled fresh), still);
         log = refl;
         room = (let l : length (old.log ++ (MoveBegin job c shelf.number) ∷ []) ≡ length old.log + 1 = length-append old.log ((MoveBegin job c shelf.number) ∷ []) in omega (arith, room));
         table = refl;
         flights = refl;
-        before = (view_of held heard faults losses old).shelves.held;
-        now = (plain held heard faults losses mid.archives).held;
+        before = (view_of meaning old).shelves.held;
+        now = (plain meaning mid.archives).held;
         lost = (λ n m b q. q);
-        acts = (λ n k b ln lk live q. sym (held_same told (view_of held heard faults losses old) shelf.number (held shelf.archive) (heard shelf.archive) (plain held heard faults losses mid.archives) settled fresh brings n k lk) ∙ q);
+        acts = (λ n k b ln lk live q. sym (held_same told (view_of meaning old) shelf.number (meaning shelf.archive).held (meaning shelf.archive).heard (plain meaning mid.archives) settled fresh brings n k lk) ∙ q);
         loses = (λ n m b q. q);
       };
       brings = record { blocks = brings.blocks; sums = brings.sums; others = brings.same_held; silent = brings.same_heard };
@@ -75,6 +76,6 @@ pub contains_last : (xs : List ℕ) (n : ℕ) → Contains (xs ++ n ∷ []) n
 contains_last [] n = (0, omega arith, refl)
 contains_last (x ∷ xs) n = (let h : Contains (xs ++ n ∷ []) n = contains_last xs n in (suc h.0, omega (arith, h.1), h.2))
 
-pub came : {A : Type 0} (told : Type 0) (held : A → ℕ → Option (List ℕ)) (heard : A → List (ℕ × List ℕ)) (faults losses : A → ℕ) (old b : Shelved A) (shelf : Shelf A)
-    → Brings told shelf.number (held shelf.archive) (heard shelf.archive) (plain held heard faults losses old) (plain held heard faults losses b) → Contains (plain held heard faults losses b).numbers shelf.number
-came told held heard faults losses old b shelf brings = subst (λ ns. Contains ns shelf.number) (sym brings.numbers) (contains_last (plain held heard faults losses old).numbers shelf.number)
+pub came : {A : Type 0} (told : Type 0) (meaning : A → Meaning) (old b : Shelved A) (shelf : Shelf A)
+    → Brings told shelf.number (meaning shelf.archive).held (meaning shelf.archive).heard (plain meaning old) (plain meaning b) → Contains (plain meaning b).numbers shelf.number
+came told meaning old b shelf brings = subst (λ ns. Contains ns shelf.number) (sym brings.numbers) (contains_last (plain meaning old).numbers shelf.number)

@@ -4,6 +4,7 @@ use Rattle.std.specs.Prelude.{slice_index_or, ◌||◌}
 use Rattle.std.specs.List.{flat_map}
 use Rattle.std.proofs.lemmas.Bool.Decides.{eqb_tells}
 use Rattle.std.proofs.lemmas.List.Elements.{Contains-append_left, Contains-append_right, All-head, All-tail}
+use Rattle.pot_outside.specs.Archives.{Meaning}
 use Rattle.pot_outside.specs.Counts.{Rose}
 use Rattle.pot_machine.specs.declared.column.Column.{Column}
 use Rattle.pot_machine.specs.declared.column.Moving.{Moving}
@@ -79,20 +80,20 @@ shape (e ∷ log) t u h r =
 
 -- A GROUP THAT WAS OPENED
 
-module _ {A : Type 0} (told : Type 0) (held : A → ℕ → Option (List ℕ)) (heard : A → List (ℕ × List ℕ)) (faults losses : A → ℕ) (number : ℕ) (t u : Table) (log : List Entry) (a b : Shelved A)
-    (table : IsTable t) (relays : t.relays ≡ []) (taken : IsTaken told (plain held heard faults losses a)) (handed : HasArchives t (plain held heard faults losses a).numbers)
-    (o : Opens told t.stripes t u log (plain held heard faults losses a) (plain held heard faults losses b)) (bound : length log ≤ log_bound) where
+module _ {A : Type 0} (told : Type 0) (meaning : A → Meaning) (number : ℕ) (t u : Table) (log : List Entry) (a b : Shelved A)
+    (table : IsTable t) (relays : t.relays ≡ []) (taken : IsTaken told (plain meaning a)) (handed : HasArchives t (plain meaning a).numbers)
+    (o : Opens told t.stripes t u log (plain meaning a) (plain meaning b)) (bound : length log ≤ log_bound) where
   abbrev old : Shelves
-  old = plain held heard faults losses a
+  old = plain meaning a
 
   abbrev now : Shelves
-  now = plain held heard faults losses b
+  now = plain meaning b
 
   abbrev group : GroupParts A
   group = record { number = number; first = t; table = u; log = log; flights = []; archives = b }
 
   abbrev view : GroupParts A → GroupView
-  view g = view_of held heard faults losses g
+  view g = view_of meaning g
 
   all : All OfOpening log
   all = subst (λ l. All OfOpening l) (sym o.log) (opening_entries (width t) t.stripes o.gone o.broke)
@@ -163,5 +164,5 @@ module _ {A : Type 0} (told : Type 0) (held : A → ℕ → Option (List ℕ)) (
     };
   }
 
-  pub opened_begins : Begins told held heard faults losses number t a.shelves group
+  pub opened_begins : Begins told meaning number t a.shelves group
   opened_begins = record { taken = a; shelves = refl; marks = taken; is_number = refl; first = refl; opens = o; step = start_step }

@@ -14,7 +14,7 @@ use Rattle.std.proofs.lemmas.Option.{slice_get-get_or}
 use Rattle.std.proofs.lemmas.Slice.Eq.{bytes_eq-Decides}
 use Rattle.pot_bytes.specs.declared.digest.Digest.{Digest}
 use Rattle.pot_bytes.specs.Digests.{digest_bytes}
-use Rattle.pot_outside.specs.Archives.{Contents, OnlyLoses, ReadTells, FoldTells, LeavesSum, HearsFold, MayLeave, at_slot}
+use Rattle.pot_outside.specs.Archives.{Meaning, OnlyLoses, ReadTells, FoldTells, LeavesSum, HearsFold, MayLeave, at_slot, Reads, Writes as WritesOne, Folds as FoldsOne}
 use Rattle.pot_outside.specs.Counts.{Rose}
 use Rattle.pot_outside.specs.declared.archive.Marks.{Marks}
 use Rattle.pot_outside.specs.declared.archive.Shelf.{Shelf}
@@ -22,7 +22,7 @@ use Rattle.pot_outside.specs.declared.archive.Held.{Held as IsHeld}
 use Rattle.pot_outside.specs.declared.faults.Failed.{Failed}
 use Rattle.pot_outside.proofs.LossLemmas.{loses_nothing}
 use Rattle.pot_steps.specs.Stripe.{digest_of}
-use Rattle.pot_group.specs.Shelves.{Shelves, numbers_of, shelf_of, given, mark_of, plain, put_at, Touches, WritesOne, Keeps, LosesFrom, IsTaken, IsWritten, Writes, FoldsOne, Folds, Reads, Stays, Finds}
+use Rattle.pot_group.specs.Shelves.{Shelves, numbers_of, shelf_of, given, mark_of, plain, put_at, Touches, Calls, Keeps, LosesFrom, IsTaken, IsWritten, Writes, Folds, Stays, Finds}
 use Rattle.pot_group.specs.declared.archives.Found.TheVariants.{Sound, Missing, NotRead}
 use Rattle.pot_outside.specs.declared.archive.Held.TheVariants.{Held, Absent}
 
@@ -107,10 +107,10 @@ mark_is f count (s ∷ shelves) (m ∷ marks) e n =
       | inr t ↦ rw t.0 (mark_is f count shelves marks (let tail : map f marks ≡ map (λ s. count s.archive) shelves = cc in tail) n)
     ]
 
-module _ {A : Type 0} (told : Type 0) (held : A → Contents) (heard : A → List (ℕ × List ℕ)) (faults losses : A → ℕ) (marks : List Marks) where
+module _ {A : Type 0} (told : Type 0) (meaning : A → Meaning) (marks : List Marks) where
   -- these archives as plain data
   abbrev pub data_of : List (Shelf A) → Shelves
-  data_of shelves = plain held heard faults losses (record { shelves = shelves; marks = marks })
+  data_of shelves = plain meaning (record { shelves = shelves; marks = marks })
 
   -- what holds where an archive stays and of the archive that was called holds at each number
   by_number : (number : ℕ) (R : A → A → Type 0) (old new : List (Shelf A)) (t : Touches number R old new)
@@ -129,48 +129,48 @@ module _ {A : Type 0} (told : Type 0) (held : A → Contents) (heard : A → Lis
       there ne = subst (λ (w : Option (Shelf A)). P n (shelf_of old n) w) (sym (t.others n ne)) (same n (shelf_of old n) ne)
 
   keeps : (number : ℕ) (R : A → A → Type 0) (old new : List (Shelf A)) (t : Touches number R old new)
-      → faults t.shelf.archive ≤ faults t.after → Keeps (data_of old) (data_of new)
+      → (meaning t.shelf.archive).faults ≤ (meaning t.after).faults → Keeps (data_of old) (data_of new)
   keeps number R old new t l = record {
     numbers = t.numbers;
     faults_taken = (λ n. ap (λ ns. mark_of (λ m. m.faults) ns marks n) t.numbers);
     losses_taken = (λ n. ap (λ ns. mark_of (λ m. m.losses) ns marks n) t.numbers);
-    later = by_number number R old new t (λ k o w. given faults 0 o ≤ given faults 0 w) (λ k s ne. omega arith) l;
+    later = by_number number R old new t (λ k o w. given (λ x. (meaning x).faults) 0 o ≤ given (λ x. (meaning x).faults) 0 w) (λ k s ne. omega arith) l;
   }
 
   hears : (number : ℕ) (R : A → A → Type 0) (old new : List (Shelf A)) (t : Touches number R old new)
-      → heard t.after ≡ heard t.shelf.archive → (n : ℕ) → (data_of new).heard n ≡ (data_of old).heard n
-  hears number R old new t e = by_number number R old new t (λ k o w. given heard [] w ≡ given heard [] o) (λ k s ne. refl) e
+      → (meaning t.after).heard ≡ (meaning t.shelf.archive).heard → (n : ℕ) → (data_of new).heard n ≡ (data_of old).heard n
+  hears number R old new t e = by_number number R old new t (λ k o w. given (λ x. (meaning x).heard) [] w ≡ given (λ x. (meaning x).heard) [] o) (λ k s ne. refl) e
 
   rose : (number : ℕ) (R : A → A → Type 0) (old new : List (Shelf A)) (t : Touches number R old new)
-      → Rose (faults t.shelf.archive) (faults t.after) → Rose ((data_of old).faults number) ((data_of new).faults number)
-  rose number R old new t r = subst (λ (o : Option (Shelf A)). Rose (given faults 0 o) ((data_of new).faults number)) (sym t.was)
-      (subst (λ (w : Option (Shelf A)). Rose (faults t.shelf.archive) (given faults 0 w)) (sym t.now) r)
+      → Rose ((meaning t.shelf.archive).faults) ((meaning t.after).faults) → Rose ((data_of old).faults number) ((data_of new).faults number)
+  rose number R old new t r = subst (λ (o : Option (Shelf A)). Rose (given (λ x. (meaning x).faults) 0 o) ((data_of new).faults number)) (sym t.was)
+      (subst (λ (w : Option (Shelf A)). Rose ((meaning t.shelf.archive).faults) (given (λ x. (meaning x).faults) 0 w)) (sym t.now) r)
 
   -- a slot of the archive that was called has this, and then blocks are lost
   puts : (number slot : ℕ) (left : Option (List ℕ)) (R : A → A → Type 0) (old new : List (Shelf A)) (t : Touches number R old new)
-      → OnlyLoses (at_slot (held t.shelf.archive) slot left) (held t.after) (losses t.shelf.archive) (losses t.after)
+      → OnlyLoses (at_slot ((meaning t.shelf.archive).held) slot left) ((meaning t.after).held) ((meaning t.shelf.archive).losses) ((meaning t.after).losses)
       → LosesFrom (put_at (data_of old).held number slot left) (data_of old) (data_of new)
   puts number slot left R old new t l = by_number number R old new t
-      (λ k o w. OnlyLoses (cond (k == number) (at_slot (λ m. given (λ x. held x m) None o) slot left) (λ m. given (λ x. held x m) None o))
-      (λ m. given (λ x. held x m) None w) (given losses 0 o) (given losses 0 w))
+      (λ k o w. OnlyLoses (cond (k == number) (at_slot (λ m. given (λ x. (meaning x).held m) None o) slot left) (λ m. given (λ x. (meaning x).held m) None o))
+      (λ m. given (λ x. (meaning x).held m) None w) (given (λ x. (meaning x).losses) 0 o) (given (λ x. (meaning x).losses) 0 w))
       (λ k s ne. elim (eqb_tells k number) [ inl e ↦ absurd (ne e.1) | inr e ↦ rw e.0 (loses_nothing _ _) ])
       (elim (eqb_tells number number) [ inl e ↦ rw e.0 l | inr e ↦ absurd (e.1 refl) ])
 
   -- what a write leaves in its slot before any loss
   leaves : (number slot : ℕ) (block : List ℕ) (result : Result (Unit {0}) Failed) (old new : List (Shelf A))
-      (t : Touches number (WritesOne told held heard faults losses slot block result) old new) → told
+      (t : Touches number (Calls meaning (WritesOne told slot block result)) old new) → told
       → (left : Option (List ℕ)) × IsWritten result ((data_of old).held number) slot block left
       × LosesFrom (put_at (data_of old).held number slot left) (data_of old) (data_of new)
   leaves number slot block (Ok u) old new t z = (Some block, refl, puts number slot (Some block) _ old new t (t.by.tells z))
   leaves number slot block (Err e) old new t z =
       let tells = t.by.tells z in (
         tells.0,
-        subst (λ (o : Option (Shelf A)). MayLeave (λ m. given (λ x. held x m) None o) slot block tells.0) (sym t.was) tells.1,
+        subst (λ (o : Option (Shelf A)). MayLeave (λ m. given (λ x. (meaning x).held m) None o) slot block tells.0) (sym t.was) tells.1,
         puts number slot tells.0 _ old new t tells.2,
       )
 
   pub writes : (number slot : ℕ) (block : List ℕ) (result : Result (Unit {0}) Failed) (old new : List (Shelf A))
-      → Touches number (WritesOne told held heard faults losses slot block result) old new
+      → Touches number (Calls meaning (WritesOne told slot block result)) old new
       → Writes told number slot block result (data_of old) (data_of new)
   writes number slot block result old new t = record {
     keeps = keeps number _ old new t t.by.cause.later;
@@ -181,37 +181,37 @@ module _ {A : Type 0} (told : Type 0) (held : A → Contents) (heard : A → Lis
 
   -- a fold
   pub folds : (number slot weight : ℕ) (before sum : List ℕ) (result : Result IsHeld Failed) (old new : List (Shelf A))
-      → Touches number (FoldsOne told held heard faults losses slot weight before sum result) old new
+      → Touches number (Calls meaning (FoldsOne told slot weight before sum result)) old new
       → Folds told number slot weight before sum result (data_of old) (data_of new)
   folds number slot weight before sum result old new t = record {
     keeps = keeps number _ old new t t.by.cause.later;
     loses = (λ z. by_number number _ old new t
-        (λ k o w. OnlyLoses (λ m. given (λ x. held x m) None o) (λ m. given (λ x. held x m) None w) (given losses 0 o) (given losses 0 w))
+        (λ k o w. OnlyLoses (λ m. given (λ x. (meaning x).held m) None o) (λ m. given (λ x. (meaning x).held m) None w) (given (λ x. (meaning x).losses) 0 o) (given (λ x. (meaning x).losses) 0 w))
         (λ k s ne. loses_nothing _ _) (t.by.loses z));
-    tells = (λ z. subst (λ (w : Option (Shelf A)). FoldTells (λ m. given (λ x. held x m) None w) slot weight before sum result) (sym t.now) (t.by.tells z));
+    tells = (λ z. subst (λ (w : Option (Shelf A)). FoldTells (λ m. given (λ x. (meaning x).held m) None w) slot weight before sum result) (sym t.now) (t.by.tells z));
     leaves = t.by.leaves;
-    hears = (λ z. subst (λ (o : Option (Shelf A)). HearsFold (given heard [] o) ((data_of new).heard number) slot before result) (sym t.was)
-        (subst (λ (w : Option (Shelf A)). HearsFold (heard t.shelf.archive) (given heard [] w) slot before result) (sym t.now) (t.by.hears z)));
-    silent = (λ z n ne. ap (given heard []) (t.others n ne));
+    hears = (λ z. subst (λ (o : Option (Shelf A)). HearsFold (given (λ x. (meaning x).heard) [] o) ((data_of new).heard number) slot before result) (sym t.was)
+        (subst (λ (w : Option (Shelf A)). HearsFold ((meaning t.shelf.archive).heard) (given (λ x. (meaning x).heard) [] w) slot before result) (sym t.now) (t.by.hears z)));
+    silent = (λ z n ne. ap (given (λ x. (meaning x).heard) []) (t.others n ne));
     cause = (λ h. rose number _ old new t (t.by.cause.rose h));
   }
 
   -- a read
   stays : (number slot : ℕ) (into : List ℕ) (result : Result IsHeld Failed) (old new : List (Shelf A))
-      → Touches number (Reads told held heard faults losses slot into result) old new → Stays told (data_of old) (data_of new)
+      → Touches number (Calls meaning (Reads told slot into result)) old new → Stays told (data_of old) (data_of new)
   stays number slot into result old new t = record {
     keeps = keeps number _ old new t t.by.cause.later;
     loses = (λ z. by_number number _ old new t
-        (λ k o w. OnlyLoses (λ m. given (λ x. held x m) None o) (λ m. given (λ x. held x m) None w) (given losses 0 o) (given losses 0 w))
+        (λ k o w. OnlyLoses (λ m. given (λ x. (meaning x).held m) None o) (λ m. given (λ x. (meaning x).held m) None w) (given (λ x. (meaning x).losses) 0 o) (given (λ x. (meaning x).losses) 0 w))
         (λ k s ne. loses_nothing _ _) (t.by.loses z));
     heard = (λ z. hears number _ old new t (t.by.hears z));
   }
 
   reads_there : (number slot : ℕ) (into : List ℕ) (result : Result IsHeld Failed) (old new : List (Shelf A))
-      → (t : Touches number (Reads told held heard faults losses slot into result) old new) → told → ReadTells ((data_of new).held number) slot into result
-  reads_there number slot into result old new t z = subst (λ (w : Option (Shelf A)). ReadTells (λ m. given (λ x. held x m) None w) slot into result) (sym t.now) (t.by.tells z)
+      → (t : Touches number (Calls meaning (Reads told slot into result)) old new) → told → ReadTells ((data_of new).held number) slot into result
+  reads_there number slot into result old new t z = subst (λ (w : Option (Shelf A)). ReadTells (λ m. given (λ x. (meaning x).held m) None w) slot into result) (sym t.now) (t.by.tells z)
 
-  module _ (number slot : ℕ) (digest : Digest) (into : List ℕ) (result : Result IsHeld Failed) (old new : List (Shelf A)) (t : Touches number (Reads told held heard faults losses slot into result) old new) where
+  module _ (number slot : ℕ) (digest : Digest) (into : List ℕ) (result : Result IsHeld Failed) (old new : List (Shelf A)) (t : Touches number (Calls meaning (Reads told slot into result)) old new) where
     pub finds_sound : result ≡ Ok Held → digest_of into ≡ digest → Finds told number slot digest into Sound (data_of old) (data_of new)
     finds_sound e d = record { stays = stays number slot into result old new t; means = (d, λ z. subst (ReadTells ((data_of new).held number) slot into) e (reads_there number slot into result old new t z)) }
 
@@ -233,9 +233,9 @@ module _ {A : Type 0} (told : Type 0) (held : A → Contents) (heard : A → Lis
   -- MARKS
 
   -- archives with their marks now
-  pub is_taken : (same shelves : List (Shelf A)) → same ≡ shelves → map (λ m. m.faults) marks ≡ map (λ s. faults s.archive) same
-      → (told → map (λ m. m.losses) marks ≡ map (λ s. losses s.archive) same) → IsTaken told (data_of shelves)
+  pub is_taken : (same shelves : List (Shelf A)) → same ≡ shelves → map (λ m. m.faults) marks ≡ map (λ s. (meaning s.archive).faults) same
+      → (told → map (λ m. m.losses) marks ≡ map (λ s. (meaning s.archive).losses) same) → IsTaken told (data_of shelves)
   is_taken same shelves v f l = record {
-    faults = mark_is (λ m. m.faults) faults shelves marks (f ∙ ap (map (λ s. faults s.archive)) v);
-    losses = (λ z. mark_is (λ m. m.losses) losses shelves marks (l z ∙ ap (map (λ s. losses s.archive)) v));
+    faults = mark_is (λ m. m.faults) (λ x. (meaning x).faults) shelves marks (f ∙ ap (map (λ s. (meaning s.archive).faults)) v);
+    losses = (λ z. mark_is (λ m. m.losses) (λ x. (meaning x).losses) shelves marks (l z ∙ ap (map (λ s. (meaning s.archive).losses)) v));
   }

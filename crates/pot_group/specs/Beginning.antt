@@ -1,6 +1,7 @@
 -- How a group begins, and what it hands out.
 use Rattle.std.specs.Prelude.{◌≡◌, ℕ, List, [], ◌∷◌, Option}
 use Rattle.std.specs.List.{flat_map}
+use Rattle.pot_outside.specs.Archives.{Meaning}
 use Rattle.pot_outside.specs.declared.archive.Shelf.{Shelf}
 use Rattle.pot_machine.specs.declared.column.Column.{Column}
 use Rattle.pot_machine.specs.Table.{Table}
@@ -24,11 +25,11 @@ unopened number t a = record { number = number; first = t; table = t; log = []; 
 
 -- A group begins with a table and archives, whose marks are taken then, and every stripe is opened. Where the archives tell
 -- what they hold, that is the opening as a step of a group.
-pub record Begins {A : Type 0} (told : Type 0) (held : A → ℕ → Option (List ℕ)) (heard : A → List (ℕ × List ℕ)) (faults losses : A → ℕ) (number : ℕ) (t : Table) (handed : List (Shelf A)) (g : GroupParts A) : Type 0 where
+pub record Begins {A : Type 0} (told : Type 0) (meaning : A → Meaning) (number : ℕ) (t : Table) (handed : List (Shelf A)) (g : GroupParts A) : Type 0 where
   pub taken : Shelved A
   pub shelves : taken.shelves ≡ handed
-  pub marks : IsTaken told (plain held heard faults losses taken)
+  pub marks : IsTaken told (plain meaning taken)
   pub is_number : g.number ≡ number
   pub first : g.first ≡ t
-  pub opens : Opens told t.stripes t g.table g.log (plain held heard faults losses taken) (plain held heard faults losses g.archives)
-  pub step : told → StartStep (state_of (view_of held heard faults losses (unopened number t taken))) (state_of (view_of held heard faults losses g))
+  pub opens : Opens told t.stripes t g.table g.log (plain meaning taken) (plain meaning g.archives)
+  pub step : told → StartStep (state_of (view_of meaning (unopened number t taken))) (state_of (view_of meaning g))

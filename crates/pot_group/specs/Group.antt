@@ -2,6 +2,7 @@
 use Rattle.std.specs.Prelude.{◌≡◌, ◌⊎◌, ◌≤◌, ◌<◌, ◌+◌, ◌++◌, ℕ, Bool, true, false, IsTrue, List, [], ◌∷◌, Option, Result, Ok, Err, Contains, length, IfSome, All}
 use Rattle.pot_bytes.specs.declared.rack.Place.{Place}
 use Rattle.pot_outside.specs.Counts.{Rose}
+use Rattle.pot_outside.specs.Archives.{Meaning}
 use Rattle.pot_bytes.specs.Sums.{zero_block}
 use Rattle.pot_machine.specs.declared.slot.SlotState.{SlotState}
 use Rattle.pot_machine.specs.declared.slot.SlotState.TheVariants.{Void, Live}
@@ -44,8 +45,8 @@ pub record GroupParts (A : Type 0) : Type 0 where
   pub archives : Shelved A
 
 -- and as plain data
-abbrev pub view_of : {A : Type 0} → (A → ℕ → Option (List ℕ)) → (A → List (ℕ × List ℕ)) → (A → ℕ) → (A → ℕ) → GroupParts A → GroupView
-view_of held heard faults losses g = record { number = g.number; first = g.first; table = g.table; log = g.log; flights = g.flights; shelves = plain held heard faults losses g.archives }
+abbrev pub view_of : {A : Type 0} → (A → Meaning) → GroupParts A → GroupView
+view_of meaning g = record { number = g.number; first = g.first; table = g.table; log = g.log; flights = g.flights; shelves = plain meaning g.archives }
 
 -- an entry is logged, and does in the table what it says
 abbrev pub noted : {A : Type 0} → GroupParts A → Entry → GroupParts A

@@ -5,8 +5,8 @@ use Rattle.pot_outside.specs.declared.archive.Marks.{Marks}
 use Rattle.pot_outside.specs.declared.archive.Shelf.{Shelf}
 use Rattle.pot_outside.specs.declared.faults.Failed.{Failed}
 use Rattle.pot_outside.specs.declared.archive.Held.{Held as IsHeld}
-use Rattle.pot_outside.specs.Archives.{Contents, OnlyLoses, ReadTells, FoldTells, LeavesSum, HearsFold, WriteTells, MayLeave, at_slot}
-use Rattle.pot_outside.specs.Counts.{Rose, Caused}
+use Rattle.pot_outside.specs.Archives.{Meaning, OnlyLoses, FoldTells, LeavesSum, HearsFold, MayLeave, at_slot}
+use Rattle.pot_outside.specs.Counts.{Rose}
 use Rattle.pot_steps.specs.Holdings.{Holdings}
 use Rattle.pot_steps.specs.Stripe.{digest_of}
 use Rattle.pot_group.specs.declared.archives.Found.{Found}
@@ -48,13 +48,13 @@ mark_of f (n ∷ ns) [] number = 0
 mark_of f (n ∷ ns) (m ∷ ms) number = if n == number then f m else mark_of f ns ms number
 
 -- these archives as plain data
-abbrev pub plain : {A : Type 0} → (A → ℕ → Option (List ℕ)) → (A → List (ℕ × List ℕ)) → (A → ℕ) → (A → ℕ) → Shelved A → Shelves
-plain held heard faults losses a = record {
+abbrev pub plain : {A : Type 0} → (A → Meaning) → Shelved A → Shelves
+plain meaning a = record {
   numbers = numbers_of a.shelves;
-  held = λ number slot. given (λ x. held x slot) None (shelf_of a.shelves number);
-  heard = λ number. given heard [] (shelf_of a.shelves number);
-  faults = λ number. given faults 0 (shelf_of a.shelves number);
-  losses = λ number. given losses 0 (shelf_of a.shelves number);
+  held = λ number slot. given (λ x. (meaning x).held slot) None (shelf_of a.shelves number);
+  heard = λ number. given (λ x. (meaning x).heard) [] (shelf_of a.shelves number);
+  faults = λ number. given (λ x. (meaning x).faults) 0 (shelf_of a.shelves number);
+  losses = λ number. given (λ x. (meaning x).losses) 0 (shelf_of a.shelves number);
   faults_taken = λ number. mark_of (λ m. m.faults) (numbers_of a.shelves) a.marks number;
   losses_taken = λ number. mark_of (λ m. m.losses) (numbers_of a.shelves) a.marks number;
 }
@@ -76,29 +76,9 @@ pub record Touches {A : Type 0} (number : ℕ) (R : A → A → Type 0) (old new
   pub numbers : numbers_of new ≡ numbers_of old
   pub by : R shelf.archive after
 
--- a read of one archive
-pub record Reads {A : Type 0} (told : Type 0) (held : A → Contents) (heard : A → List (ℕ × List ℕ)) (faults losses : A → ℕ)
-    (slot : ℕ) (into : List ℕ) (result : Result IsHeld Failed) (old new : A) : Type 0 where
-  pub tells : told → ReadTells (held new) slot into result
-  pub loses : told → OnlyLoses (held old) (held new) (losses old) (losses new)
-  pub hears : told → heard new ≡ heard old
-  pub cause : Caused (faults old) (faults new) (IsErr result)
-
--- a write of one archive
-pub record WritesOne {A : Type 0} (told : Type 0) (held : A → Contents) (heard : A → List (ℕ × List ℕ)) (faults losses : A → ℕ)
-    (slot : ℕ) (block : List ℕ) (result : Result (Unit {0}) Failed) (old new : A) : Type 0 where
-  pub tells : told → WriteTells (held old) (held new) (losses old) (losses new) slot block result
-  pub hears : told → heard new ≡ heard old
-  pub cause : Caused (faults old) (faults new) (IsErr result)
-
--- a fold over a slot of one archive
-pub record FoldsOne {A : Type 0} (told : Type 0) (held : A → Contents) (heard : A → List (ℕ × List ℕ)) (faults losses : A → ℕ)
-    (slot weight : ℕ) (before sum : List ℕ) (result : Result IsHeld Failed) (old new : A) : Type 0 where
-  pub tells : told → FoldTells (held new) slot weight before sum result
-  pub leaves : LeavesSum before sum result
-  pub loses : told → OnlyLoses (held old) (held new) (losses old) (losses new)
-  pub hears : told → HearsFold (heard old) (heard new) slot before result
-  pub cause : Caused (faults old) (faults new) (IsErr result)
+-- one archive was called, and this is said of what it meant and means
+abbrev pub Calls : {A : Type 0} → (A → Meaning) → (Meaning → Meaning → Type 0) → A → A → Type 0
+Calls meaning R old new = R (meaning old) (meaning new)
 
 -- WHAT A CALL DOES
 

@@ -2,7 +2,8 @@
 ghost use Rattle.std.specs.Prelude.{◌≡◌, ◌<◌, ◌==◌, ◌↔◌, IsTrue, IfOk, IfErr, Contains, length, map};
 ghost use Rattle.std.specs.List.{position};
 ghost use Rattle.pot_steps.specs.Stripe.{digest_of};
-ghost use Rattle.pot_group.specs.Shelves.{plain, numbers_of, Touches, Reads, WritesOne, FoldsOne, IsTaken, Finds, Writes, Folds, Brings};
+ghost use Rattle.pot_outside.specs.Archives.{Reads, Writes as WritesOne, Folds as FoldsOne};
+ghost use Rattle.pot_group.specs.Shelves.{plain, numbers_of, Touches, Calls, IsTaken, Finds, Writes, Folds, Brings};
 
 use crate::known::Known;
 use pot_bytes::{Block, Digest, digest_of};
@@ -45,7 +46,7 @@ impl<A: Archive> Archives<A> {
     /// Takes archives, with their marks now. Where memory is short they come back.
     pub(crate) fn take(alloc: Global, shelves: Vec<Shelf<A>>) -> Result<Archives<A>, Vec<Shelf<A>>>
         ensures shown { IfOk result (λ s. s.shelves ≡ shelves.items) }
-        ensures taken { IfOk result (λ s. IsTaken (IsTrue A.tells) (plain A.held A.heard A.faults A.losses s)) }
+        ensures taken { IfOk result (λ s. IsTaken (IsTrue A.account.tells) (plain A.account.meaning s)) }
         ensures refused { IfErr result (λ s. s ≡ shelves) }
     {
         match marks_of(alloc, &shelves) {
@@ -71,8 +72,8 @@ impl<A: Archive> Archives<A> {
         known: &Known,
         into: &mut Block,
     ) -> Found
-        requires { Contains (plain A.held A.heard A.faults A.losses self.old).numbers number }
-        ensures { Finds (IsTrue A.tells) number slot digest into.new result (plain A.held A.heard A.faults A.losses self.old) (plain A.held A.heard A.faults A.losses self.new) }
+        requires { Contains (plain A.account.meaning self.old).numbers number }
+        ensures { Finds (IsTrue A.account.tells) number slot digest into.new result (plain A.account.meaning self.old) (plain A.account.meaning self.new) }
     {
         match read(&mut self.shelves, number, slot, into) {
             Ok(Held::Held) => {
@@ -97,7 +98,7 @@ impl<A: Archive> Archives<A> {
     /// Adds an archive of a number that none has, with its marks now. Where memory is short it comes back.
     pub(crate) fn bring(&mut self, shelf: Shelf<A>) -> Result<(), Shelf<A>>
         requires fresh { Contains (numbers_of self.old.shelves) shelf.number → ⊥ }
-        ensures brought { IfOk result (λ u. Brings (IsTrue A.tells) shelf.number (A.held shelf.archive) (A.heard shelf.archive) (plain A.held A.heard A.faults A.losses self.old) (plain A.held A.heard A.faults A.losses self.new)) }
+        ensures brought { IfOk result (λ u. Brings (IsTrue A.account.tells) shelf.number (A.account.meaning shelf.archive).held (A.account.meaning shelf.archive).heard (plain A.account.meaning self.old) (plain A.account.meaning self.new)) }
         ensures refused { IfErr result (λ s. (s ≡ shelf) × (self.new ≡ self.old)) }
     {
         if self.shelves.reserve(1).is_err() {
@@ -124,8 +125,8 @@ impl<A: Archive> Archives<A> {
         sum: &mut Block,
     ) -> Result<Held, Failed>
         requires weight { 0 < weight }
-        requires number { Contains (plain A.held A.heard A.faults A.losses self.old).numbers number }
-        ensures { Folds (IsTrue A.tells) number slot weight sum.old sum.new result (plain A.held A.heard A.faults A.losses self.old) (plain A.held A.heard A.faults A.losses self.new) }
+        requires number { Contains (plain A.account.meaning self.old).numbers number }
+        ensures { Folds (IsTrue A.account.tells) number slot weight sum.old sum.new result (plain A.account.meaning self.old) (plain A.account.meaning self.new) }
     {
         fold(&mut self.shelves, number, slot, weight, sum)
     }
@@ -135,8 +136,8 @@ impl<A: Archive> Archives<A> {
     /// # Errors
     /// `Failed` only where the archive's count of faults rose; the slot then has the old block, the new one or none.
     pub(crate) fn write(&mut self, number: u32, slot: u32, block: &Block) -> Result<(), Failed>
-        requires { Contains (plain A.held A.heard A.faults A.losses self.old).numbers number }
-        ensures { Writes (IsTrue A.tells) number slot block.now result (plain A.held A.heard A.faults A.losses self.old) (plain A.held A.heard A.faults A.losses self.new) }
+        requires { Contains (plain A.account.meaning self.old).numbers number }
+        ensures { Writes (IsTrue A.account.tells) number slot block.now result (plain A.account.meaning self.old) (plain A.account.meaning self.new) }
     {
         write(&mut self.shelves, number, slot, block)
     }
@@ -144,8 +145,8 @@ impl<A: Archive> Archives<A> {
 
 /// The marks of archives now, in the same order.
 fn marks_of<A: Archive>(alloc: Global, shelves: &[Shelf<A>]) -> Result<Vec<Marks>, AllocError>
-    ensures faults { IfOk result (λ v. map (λ m. m.faults) v.items ≡ map (λ s. A.faults s.archive) shelves.now) }
-    ensures losses { IfOk result (λ v. IsTrue A.tells → map (λ m. m.losses) v.items ≡ map (λ s. A.losses s.archive) shelves.now) }
+    ensures faults { IfOk result (λ v. map (λ m. m.faults) v.items ≡ map (λ s. (A.account.meaning s.archive).faults) shelves.now) }
+    ensures losses { IfOk result (λ v. IsTrue A.account.tells → map (λ m. m.losses) v.items ≡ map (λ s. (A.account.meaning s.archive).losses) shelves.now) }
 {
     let mut marks = Vec::with_capacity(alloc, shelves.len())?;
     for shelf in shelves {
@@ -162,7 +163,7 @@ fn read<A: Archive>(
     into: &mut Block,
 ) -> Result<Held, Failed>
     requires { Contains (numbers_of shelves.old.items) number }
-    ensures { Touches number (Reads (IsTrue A.tells) A.held A.heard A.faults A.losses slot into.new result) shelves.old.items shelves.new.items }
+    ensures { Touches number (Calls A.account.meaning (Reads (IsTrue A.account.tells) slot into.new result)) shelves.old.items shelves.new.items }
 {
     let place = place_of(shelves, number).unwrap();
     shelves[place].archive.read(slot, into)
@@ -178,7 +179,7 @@ fn fold<A: Archive>(
 ) -> Result<Held, Failed>
     requires weight { 0 < weight }
     requires number { Contains (numbers_of shelves.old.items) number }
-    ensures { Touches number (FoldsOne (IsTrue A.tells) A.held A.heard A.faults A.losses slot weight sum.old sum.new result) shelves.old.items shelves.new.items }
+    ensures { Touches number (Calls A.account.meaning (FoldsOne (IsTrue A.account.tells) slot weight sum.old sum.new result)) shelves.old.items shelves.new.items }
 {
     let place = place_of(shelves, number).unwrap();
     shelves[place].archive.fold(slot, weight, sum)
@@ -192,7 +193,7 @@ fn write<A: Archive>(
     block: &Block,
 ) -> Result<(), Failed>
     requires { Contains (numbers_of shelves.old.items) number }
-    ensures { Touches number (WritesOne (IsTrue A.tells) A.held A.heard A.faults A.losses slot block.now result) shelves.old.items shelves.new.items }
+    ensures { Touches number (Calls A.account.meaning (WritesOne (IsTrue A.account.tells) slot block.now result)) shelves.old.items shelves.new.items }
 {
     let place = place_of(shelves, number).unwrap();
     shelves[place].archive.write(slot, block)

@@ -37,7 +37,7 @@ impl<A: Archive> Group<A> {
         requires relays { table.relays ≡ [] }
         requires parity { table.parity ≡ 1 }
         requires shelves { map (λ s. s.number) shelves.items ≡ archives_in table }
-        ensures begins { IfOk result (λ g. Begins (IsTrue A.tells) A.held A.heard A.faults A.losses number table shelves.items g) }
+        ensures begins { IfOk result (λ g. Begins (IsTrue A.account.tells) A.account.meaning number table shelves.items g) }
         ensures refused { IfErr result (λ r. (r.table ≡ table) × (r.shelves ≡ shelves)) }
     {
         let Ok(log) = Vec::with_capacity(alloc, LOG_BOUND) else {
@@ -71,9 +71,9 @@ impl<A: Archive> Group<A> {
         requires room { 262144 ≤ vec_capacity log }
         requires none { flights.items ≡ [] }
         requires places { 16 ≤ vec_capacity flights }
-        requires taken { IsTaken (IsTrue A.tells) (plain A.held A.heard A.faults A.losses archives) }
+        requires taken { IsTaken (IsTrue A.account.tells) (plain A.account.meaning archives) }
         requires archives { map (λ s. s.number) archives.shelves ≡ archives_in table }
-        ensures { Begins (IsTrue A.tells) A.held A.heard A.faults A.losses number table archives.shelves result }
+        ensures { Begins (IsTrue A.account.tells) A.account.meaning number table archives.shelves result }
     {
         let mut table = table;
         let mut log = log;

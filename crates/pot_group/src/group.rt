@@ -47,7 +47,7 @@ impl<A: Archive> Model for Group<A> {
 
     ghost view = { λ g. record { number = g.number; first = g.first; table = g.table; log = g.log.items; flights = g.flights.items; archives = g.archives } };
 
-    ghost invariant = { λ g. IsSettled (IsTrue A.tells) (view_of A.held A.heard A.faults A.losses (record { number = g.number; first = g.first; table = g.table; log = g.log.items; flights = g.flights.items; archives = g.archives })) × (262144 ≤ vec_capacity g.log) × (16 ≤ vec_capacity g.flights) };
+    ghost invariant = { λ g. IsSettled (IsTrue A.account.tells) (view_of A.account.meaning (record { number = g.number; first = g.first; table = g.table; log = g.log.items; flights = g.flights.items; archives = g.archives })) × (262144 ≤ vec_capacity g.log) × (16 ≤ vec_capacity g.flights) };
 }
 
 impl<A: Archive> Group<A> {
@@ -67,8 +67,8 @@ impl<A: Archive> Group<A> {
     ) -> Found
         requires { column < width self.old.table }
         ensures same { self.new ≡ with_archives self.old self.new.archives }
-        ensures finds { Finds (IsTrue A.tells) (serving_at self.old.table stripe column) stripe digest into.new result (plain A.held A.heard A.faults A.losses self.old.archives) (plain A.held A.heard A.faults A.losses self.new.archives) }
-        ensures covers { CoversIfNotRead result (view_of A.held A.heard A.faults A.losses self.new) column }
+        ensures finds { Finds (IsTrue A.account.tells) (serving_at self.old.table stripe column) stripe digest into.new result (plain A.account.meaning self.old.archives) (plain A.account.meaning self.new.archives) }
+        ensures covers { CoversIfNotRead result (view_of A.account.meaning self.new) column }
     {
         let number = self.table.archive_of(stripe, column);
         self.archives
@@ -79,7 +79,7 @@ impl<A: Archive> Group<A> {
     pub(crate) fn note(&mut self, entry: Entry)
         requires legal { Legal self.old.table entry }
         requires room { length self.old.log < 262144 }
-        requires quiet { IsQuiet (IsTrue A.tells) (view_of A.held A.heard A.faults A.losses self.old) entry }
+        requires quiet { IsQuiet (IsTrue A.account.tells) (view_of A.account.meaning self.old) entry }
         ensures { self.new ≡ noted self.old entry }
     {
         note(&mut self.table, &mut self.log, entry);
@@ -97,7 +97,7 @@ impl<A: Archive> Group<A> {
     pub fn logged(&self) -> u64
         ensures value { result ≡ length self.now.log }
         ensures bound { result ≤ 262144 }
-        ensures settled { IsSettled (IsTrue A.tells) (view_of A.held A.heard A.faults A.losses self.now) }
+        ensures settled { IsSettled (IsTrue A.account.tells) (view_of A.account.meaning self.now) }
         ensures first { IsTable self.now.first }
     {
         let _rules = self.first.cursor();
@@ -109,7 +109,7 @@ impl<A: Archive> Group<A> {
         ensures table { result.table ≡ self.table }
         ensures log { result.log.items ≡ self.log }
         ensures shelves { result.shelves.items ≡ self.archives.shelves }
-        ensures settled { IsSettled (IsTrue A.tells) (view_of A.held A.heard A.faults A.losses self) }
+        ensures settled { IsSettled (IsTrue A.account.tells) (view_of A.account.meaning self) }
     {
         let Group {
             number: _,

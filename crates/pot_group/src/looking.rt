@@ -25,10 +25,10 @@ impl<A: Archive> Group<A> {
         requires stripe { place.stripe < self.old.table.stripes }
         requires column { place.column < width self.old.table }
         ensures full { (result ≡ Looked.LogFull) ↔ (length self.old.log ≡ 262144) }
-        ensures logs { Logs (look_entries job place.stripe place.column (looked_as result into.new)) (view_of A.held A.heard A.faults A.losses self.old) (view_of A.held A.heard A.faults A.losses self.new) }
-        ensures step { IsTrue A.tells → LookStep job place.stripe place.column (looked_as result into.new) (state_of (view_of A.held A.heard A.faults A.losses self.old)) (state_of (view_of A.held A.heard A.faults A.losses self.new)) }
-        ensures stays { Stays (IsTrue A.tells) (view_of A.held A.heard A.faults A.losses self.old).shelves (view_of A.held A.heard A.faults A.losses self.new).shelves }
-        ensures cause { LookCause result (view_of A.held A.heard A.faults A.losses self.old) (view_of A.held A.heard A.faults A.losses self.new) place.stripe place.column into.new }
+        ensures logs { Logs (look_entries job place.stripe place.column (looked_as result into.new)) (view_of A.account.meaning self.old) (view_of A.account.meaning self.new) }
+        ensures step { IsTrue A.account.tells → LookStep job place.stripe place.column (looked_as result into.new) (state_of (view_of A.account.meaning self.old)) (state_of (view_of A.account.meaning self.new)) }
+        ensures stays { Stays (IsTrue A.account.tells) (view_of A.account.meaning self.old).shelves (view_of A.account.meaning self.new).shelves }
+        ensures cause { LookCause result (view_of A.account.meaning self.old) (view_of A.account.meaning self.new) place.stripe place.column into.new }
     {
         if self.log.len() >= LOG_BOUND {
             return Looked::LogFull;
@@ -70,7 +70,7 @@ impl<A: Archive> Group<A> {
     fn look_slot(&mut self, stripe: u32, column: u8, into: &mut Block) -> Found
         requires stripe { stripe < self.old.table.stripes }
         requires column { column < width self.old.table }
-        ensures looks { Looks (IsTrue A.tells) stripe column into.new result (view_of A.held A.heard A.faults A.losses self.old) (view_of A.held A.heard A.faults A.losses self.new) }
+        ensures looks { Looks (IsTrue A.account.tells) stripe column into.new result (view_of A.account.meaning self.old) (view_of A.account.meaning self.new) }
         ensures same { self.new ≡ with_archives self.old self.new.archives }
     {
         match self.table.slot(stripe, column) {

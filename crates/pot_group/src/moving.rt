@@ -46,7 +46,7 @@ impl<A: Archive> Group<A> {
     ) -> Result<(), ShelfRefused<A>>
         requires job { 0 < job }
         requires column { column < width self.old.table }
-        ensures begun { IfOk result (λ u. IsTrue A.tells → BringStep (MoveBegin job column shelf.number) shelf.number (A.held shelf.archive) (A.heard shelf.archive) (state_of (view_of A.held A.heard A.faults A.losses self.old)) (state_of (view_of A.held A.heard A.faults A.losses self.new))) }
+        ensures begun { IfOk result (λ u. IsTrue A.account.tells → BringStep (MoveBegin job column shelf.number) shelf.number (A.account.meaning shelf.archive).held (A.account.meaning shelf.archive).heard (state_of (view_of A.account.meaning self.old)) (state_of (view_of A.account.meaning self.new))) }
         ensures refused { IfErr result (λ r. (r.shelf ≡ shelf) × (self.new ≡ self.old)) }
     {
         if self.log.len() >= LOG_BOUND {
@@ -76,7 +76,7 @@ impl<A: Archive> Group<A> {
     /// The home of a column that moves, or else this number where an archive has it.
     fn in_use(&self, column: u8, number: u32) -> Option<u32>
         requires column { column < width self.now.table }
-        ensures { result ≡ None → ((column_at self.now.table column).moving ≡ None) × (Contains (plain A.held A.heard A.faults A.losses self.now.archives).numbers number → ⊥) }
+        ensures { result ≡ None → ((column_at self.now.table column).moving ≡ None) × (Contains (plain A.account.meaning self.now.archives).numbers number → ⊥) }
     {
         let served = &self.table.columns()[usize::from(column)];
         if served.moving.is_some() {
@@ -90,8 +90,8 @@ impl<A: Archive> Group<A> {
 
     /// Takes an archive in, under a number that none of the group's has. Where memory is short it comes back.
     pub(crate) fn receive(&mut self, shelf: Shelf<A>) -> Result<(), Shelf<A>>
-        requires { Contains (plain A.held A.heard A.faults A.losses self.old.archives).numbers shelf.number → ⊥ }
-        ensures brought { IfOk result (λ u. (self.new ≡ with_archives self.old self.new.archives) × Brings (IsTrue A.tells) shelf.number (A.held shelf.archive) (A.heard shelf.archive) (plain A.held A.heard A.faults A.losses self.old.archives) (plain A.held A.heard A.faults A.losses self.new.archives)) }
+        requires { Contains (plain A.account.meaning self.old.archives).numbers shelf.number → ⊥ }
+        ensures brought { IfOk result (λ u. (self.new ≡ with_archives self.old self.new.archives) × Brings (IsTrue A.account.tells) shelf.number (A.account.meaning shelf.archive).held (A.account.meaning shelf.archive).heard (plain A.account.meaning self.old.archives) (plain A.account.meaning self.new.archives)) }
         ensures refused { IfErr result (λ s. (s ≡ shelf) × (self.new ≡ self.old)) }
     {
         match self.archives.bring(shelf) {
@@ -104,7 +104,7 @@ impl<A: Archive> Group<A> {
     pub(crate) fn go_to(&mut self, job: u32, column: u8, to: u32)
         requires legal { Legal self.old.table (MoveBegin job column to) }
         requires room { length self.old.log < 262144 }
-        requires there { Contains (plain A.held A.heard A.faults A.losses self.old.archives).numbers to }
+        requires there { Contains (plain A.account.meaning self.old.archives).numbers to }
         ensures { self.new ≡ acted self.old (MoveBegin job column to) [] }
     {
         let entry = move_begin(&mut self.table, job, column, to);

@@ -47,8 +47,8 @@ pub(crate) fn open_all<A: Archive>(
     requires parity { table.old.parity ≡ 1 }
     requires log { log.old.items ≡ [] }
     requires room { 262144 ≤ vec_capacity log.old }
-    requires archives { HasArchives table.old (plain A.held A.heard A.faults A.losses archives.old).numbers }
-    ensures opens { Opens (IsTrue A.tells) table.old.stripes table.old table.new log.new.items (plain A.held A.heard A.faults A.losses archives.old) (plain A.held A.heard A.faults A.losses archives.new) }
+    requires archives { HasArchives table.old (plain A.account.meaning archives.old).numbers }
+    ensures opens { Opens (IsTrue A.account.tells) table.old.stripes table.old table.new log.new.items (plain A.account.meaning archives.old) (plain A.account.meaning archives.new) }
     ensures room { 262144 ≤ vec_capacity log.new }
     ensures bound { length log.new.items ≤ 262144 }
 {
@@ -68,8 +68,8 @@ fn open_stripe<A: Archive>(
     requires parity { table.old.parity ≡ 1 }
     requires stripe { stripe < table.old.stripes }
     requires room { vec_len log.old + 18 ≤ vec_capacity log.old }
-    requires archives { HasArchives table.old (plain A.held A.heard A.faults A.losses archives.old).numbers }
-    ensures opens { OpensStripe (IsTrue A.tells) stripe table.old table.new log.old.items log.new.items (plain A.held A.heard A.faults A.losses archives.old) (plain A.held A.heard A.faults A.losses archives.new) }
+    requires archives { HasArchives table.old (plain A.account.meaning archives.old).numbers }
+    ensures opens { OpensStripe (IsTrue A.account.tells) stripe table.old table.new log.old.items log.new.items (plain A.account.meaning archives.old) (plain A.account.meaning archives.new) }
     ensures capacity { vec_capacity log.old ≤ vec_capacity log.new }
     ensures bound { length log.new.items ≤ length log.old.items + 18 }
 {
@@ -97,8 +97,8 @@ fn open_columns<A: Archive>(
 ) -> Shortage
     requires stripe { stripe < table.old.stripes }
     requires room { vec_len log.old + width table.old ≤ vec_capacity log.old }
-    requires archives { HasArchives table.old (plain A.held A.heard A.faults A.losses archives.old).numbers }
-    ensures opens { OpensColumns (IsTrue A.tells) (width table.old) stripe table.old table.new log.old.items log.new.items result sum.new (plain A.held A.heard A.faults A.losses archives.old) (plain A.held A.heard A.faults A.losses archives.new) }
+    requires archives { HasArchives table.old (plain A.account.meaning archives.old).numbers }
+    ensures opens { OpensColumns (IsTrue A.account.tells) (width table.old) stripe table.old table.new log.old.items log.new.items result sum.new (plain A.account.meaning archives.old) (plain A.account.meaning archives.new) }
     ensures capacity { vec_capacity log.old ≤ vec_capacity log.new }
 {
     *sum = Block::zero();
@@ -124,8 +124,8 @@ fn open_slot<A: Archive>(
 ) -> Part
     requires range { InRange table.old stripe column }
     requires room { vec_len log.old < vec_capacity log.old }
-    requires archives { Contains (plain A.held A.heard A.faults A.losses archives.old).numbers (serving_at table.old stripe column) }
-    ensures opens { OpensSlot (IsTrue A.tells) stripe column table.old table.new log.old.items log.new.items result into.new (plain A.held A.heard A.faults A.losses archives.old) (plain A.held A.heard A.faults A.losses archives.new) }
+    requires archives { Contains (plain A.account.meaning archives.old).numbers (serving_at table.old stripe column) }
+    ensures opens { OpensSlot (IsTrue A.account.tells) stripe column table.old table.new log.old.items log.new.items result into.new (plain A.account.meaning archives.old) (plain A.account.meaning archives.new) }
     ensures capacity { vec_capacity log.old ≤ vec_capacity log.new }
 {
     let digest = match table.slot(stripe, column) {

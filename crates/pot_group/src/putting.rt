@@ -50,9 +50,9 @@ impl<A: Archive> Group<A> {
         requires job { 0 < job }
         requires parity { self.old.table.parity ≡ 1 }
         ensures full { length self.old.log ≡ 262144 → (result ≡ Err PutFault.LogFull) × (self.new ≡ self.old) }
-        ensures logs { PutLogs job block.now result (view_of A.held A.heard A.faults A.losses self.old) (view_of A.held A.heard A.faults A.losses self.new) }
-        ensures keeps { Keeps (view_of A.held A.heard A.faults A.losses self.old).shelves (view_of A.held A.heard A.faults A.losses self.new).shelves }
-        ensures step { IsTrue A.tells → PutStep job block.now (put_as result) (state_of (view_of A.held A.heard A.faults A.losses self.old)) (state_of (view_of A.held A.heard A.faults A.losses self.new)) }
+        ensures logs { PutLogs job block.now result (view_of A.account.meaning self.old) (view_of A.account.meaning self.new) }
+        ensures keeps { Keeps (view_of A.account.meaning self.old).shelves (view_of A.account.meaning self.new).shelves }
+        ensures step { IsTrue A.account.tells → PutStep job block.now (put_as result) (state_of (view_of A.account.meaning self.old)) (state_of (view_of A.account.meaning self.new)) }
     {
         if self.log.len() >= LOG_BOUND {
             return Err(PutFault::LogFull);
@@ -71,7 +71,7 @@ impl<A: Archive> Group<A> {
     /// Passes stripes until one takes a block, and reads its old parity block.
     fn find_stripe(&mut self, job: u32, parity: &mut Block) -> Stop
         requires parity { self.old.table.parity ≡ 1 }
-        ensures { Finds (IsTrue A.tells) job parity.new result (view_of A.held A.heard A.faults A.losses self.old) (view_of A.held A.heard A.faults A.losses self.new) }
+        ensures { Finds (IsTrue A.account.tells) job parity.new result (view_of A.account.meaning self.old) (view_of A.account.meaning self.new) }
     {
         loop {
             if let Some(stop) = self.pass(job, parity) {
@@ -83,7 +83,7 @@ impl<A: Archive> Group<A> {
     /// Passes the cursor's stripe where it takes no block. Where it takes one, reads its old parity block.
     fn pass(&mut self, job: u32, parity: &mut Block) -> Option<Stop>
         requires parity { self.old.table.parity ≡ 1 }
-        ensures { Passes (IsTrue A.tells) job parity.new result (view_of A.held A.heard A.faults A.losses self.old) (view_of A.held A.heard A.faults A.losses self.new) }
+        ensures { Passes (IsTrue A.account.tells) job parity.new result (view_of A.account.meaning self.old) (view_of A.account.meaning self.new) }
     {
         let Cursor { stripe, column: _ } = self.table.cursor();
         if stripe >= self.table.stripes() {
@@ -118,8 +118,8 @@ impl<A: Archive> Group<A> {
         requires room { length self.old.log < 262144 }
         requires takes { TakesBlocks self.old.table stripe }
         requires void { slot_at self.old.table stripe self.old.table.data_columns ≢ Void }
-        requires gone { IsTrue A.tells → Sound (stripe_of self.old.table (plain A.held A.heard A.faults A.losses self.old.archives).held stripe) self.old.table.data_columns → ⊥ }
-        ensures passes { Passes (IsTrue A.tells) job [] result (view_of A.held A.heard A.faults A.losses self.old) (view_of A.held A.heard A.faults A.losses self.new) }
+        requires gone { IsTrue A.account.tells → Sound (stripe_of self.old.table (plain A.account.meaning self.old.archives).held stripe) self.old.table.data_columns → ⊥ }
+        ensures passes { Passes (IsTrue A.account.tells) job [] result (view_of A.account.meaning self.old) (view_of A.account.meaning self.new) }
         ensures left { (result ≡ None) ⊎ (result ≡ Some Stop.LogFull) }
     {
         let column = self.table.data_columns();
@@ -139,7 +139,7 @@ impl<A: Archive> Group<A> {
     fn read_parity(&mut self, stripe: u32, parity: &mut Block) -> Found
         requires stripe { stripe < self.old.table.stripes }
         ensures same { self.new ≡ with_archives self.old self.new.archives }
-        ensures reads { ReadsParity (IsTrue A.tells) stripe parity.new result (view_of A.held A.heard A.faults A.losses self.old) (view_of A.held A.heard A.faults A.losses self.new) }
+        ensures reads { ReadsParity (IsTrue A.account.tells) stripe parity.new result (view_of A.account.meaning self.old) (view_of A.account.meaning self.new) }
     {
         let column = self.table.data_columns();
         match self.table.slot(stripe, column) {
@@ -159,8 +159,8 @@ impl<A: Archive> Group<A> {
         requires cursor { AtCursor self.old.table self.old.table.cursor.stripe }
         requires takes { TakesBlocks self.old.table self.old.table.cursor.stripe }
         requires room { length self.old.log < 262144 }
-        requires old { IsTrue A.tells → IsOld (stripe_of self.old.table (plain A.held A.heard A.faults A.losses self.old.archives).held self.old.table.cursor.stripe) self.old.table.data_columns old_parity.now }
-        ensures { BlockMeans (IsTrue A.tells) job block.now old_parity.now result (view_of A.held A.heard A.faults A.losses self.old) (view_of A.held A.heard A.faults A.losses self.new) }
+        requires old { IsTrue A.account.tells → IsOld (stripe_of self.old.table (plain A.account.meaning self.old.archives).held self.old.table.cursor.stripe) self.old.table.data_columns old_parity.now }
+        ensures { BlockMeans (IsTrue A.account.tells) job block.now old_parity.now result (view_of A.account.meaning self.old) (view_of A.account.meaning self.new) }
     {
         let cursor = self.table.cursor();
         let Cursor { stripe, column } = cursor;

@@ -108,7 +108,7 @@ impl<A: Archive> Group<A> {
         requires stripe { place.stripe < self.old.table.stripes }
         requires column { place.column < width self.old.table }
         ensures means { BeginMeans job place.stripe place.column blind.now result self.old self.new }
-        ensures step { IsTrue A.tells → BeginStep job place.stripe place.column blind.now (begin_as result) (state_of (view_of A.held A.heard A.faults A.losses self.old)) (state_of (view_of A.held A.heard A.faults A.losses self.new)) }
+        ensures step { IsTrue A.account.tells → BeginStep job place.stripe place.column blind.now (begin_as result) (state_of (view_of A.account.meaning self.old)) (state_of (view_of A.account.meaning self.new)) }
     {
         sized(blind);
         let _settled = self.kept();
@@ -205,7 +205,7 @@ impl<A: Archive> Group<A> {
         requires job { 0 < job }
         requires stripe { stripe < self.old.table.stripes }
         ensures full { length self.old.log ≡ 262144 → (result ≡ Err AdvanceFault.LogFull) × (self.new ≡ self.old) }
-        ensures step { IsTrue A.tells → AdvanceStep job stripe (advance_as result) (state_of (view_of A.held A.heard A.faults A.losses self.old)) (state_of (view_of A.held A.heard A.faults A.losses self.new)) }
+        ensures step { IsTrue A.account.tells → AdvanceStep job stripe (advance_as result) (state_of (view_of A.account.meaning self.old)) (state_of (view_of A.account.meaning self.new)) }
     {
         if self.log.len() >= LOG_BOUND {
             return Err(AdvanceFault::LogFull);
@@ -226,7 +226,7 @@ impl<A: Archive> Group<A> {
         requires next { next_column self.old.table flight.relay ≡ Some column }
         requires within { flight.relay.stripe < self.old.table.stripes }
         requires room { length self.old.log < 262144 }
-        ensures { IsTrue A.tells → AdvanceStep job flight.relay.stripe (advance_as result) (state_of (view_of A.held A.heard A.faults A.losses self.old)) (state_of (view_of A.held A.heard A.faults A.losses self.new)) }
+        ensures { IsTrue A.account.tells → AdvanceStep job flight.relay.stripe (advance_as result) (state_of (view_of A.account.meaning self.old)) (state_of (view_of A.account.meaning self.new)) }
     {
         let stripe = flight.relay.stripe;
         let _settled = self.kept();
@@ -262,7 +262,7 @@ impl<A: Archive> Group<A> {
         requires job { 0 < job }
         requires stripe { place.stripe < self.old.table.stripes }
         requires column { place.column < width self.old.table }
-        ensures step { IsTrue A.tells → MendStep job place.stripe place.column blind.now (mend_as result) (state_of (view_of A.held A.heard A.faults A.losses self.old)) (state_of (view_of A.held A.heard A.faults A.losses self.new)) }
+        ensures step { IsTrue A.account.tells → MendStep job place.stripe place.column blind.now (mend_as result) (state_of (view_of A.account.meaning self.old)) (state_of (view_of A.account.meaning self.new)) }
     {
         let _settled = self.kept();
         match self.begin(job, place, blind) {
@@ -284,7 +284,7 @@ impl<A: Archive> Group<A> {
     fn drive(&mut self, job: u32, stripe: u32, own: bool) -> Result<Mend, MendFault>
         requires job { 0 < job }
         requires stripe { stripe < self.old.table.stripes }
-        ensures { IsTrue A.tells → Drives job stripe own (mend_as result) (state_of (view_of A.held A.heard A.faults A.losses self.old)) (state_of (view_of A.held A.heard A.faults A.losses self.new)) }
+        ensures { IsTrue A.account.tells → Drives job stripe own (mend_as result) (state_of (view_of A.account.meaning self.old)) (state_of (view_of A.account.meaning self.new)) }
     {
         match self.advance(job, stripe) {
             Ok(_) => Ok(Mend::Went),
@@ -313,7 +313,7 @@ impl<A: Archive> Group<A> {
 
     /// What every group keeps.
     pub(crate) fn kept(&self) -> u64
-        ensures { IsSettled (IsTrue A.tells) (view_of A.held A.heard A.faults A.losses self.now) }
+        ensures { IsSettled (IsTrue A.account.tells) (view_of A.account.meaning self.now) }
     {
         self.log.len() as u64
     }
@@ -333,7 +333,7 @@ impl<A: Archive> Group<A> {
         requires here { flight_in self.old.flights flight.relay.stripe ≡ Some flight }
         requires next { next_column self.old.table flight.relay ≡ None }
         requires room { length self.old.log < 262144 }
-        ensures { IsTrue A.tells → AdvanceStep job flight.relay.stripe (advance_as result) (state_of (view_of A.held A.heard A.faults A.losses self.old)) (state_of (view_of A.held A.heard A.faults A.losses self.new)) }
+        ensures { IsTrue A.account.tells → AdvanceStep job flight.relay.stripe (advance_as result) (state_of (view_of A.account.meaning self.old)) (state_of (view_of A.account.meaning self.new)) }
     {
         match finish(&mut self.table, &flight, job) {
             Finished::Ready(block) => self.write_back(job, flight, &block),
@@ -355,8 +355,8 @@ impl<A: Archive> Group<A> {
         requires here { flight_in self.old.flights flight.now.relay.stripe ≡ Some flight.now }
         requires next { next_column self.old.table flight.now.relay ≡ Some column }
         ensures same { self.new ≡ with_archives self.old self.new.archives }
-        ensures covers { IsErr result → CoversOne (view_of A.held A.heard A.faults A.losses self.new) column }
-        ensures folds { Folds (IsTrue A.tells) (serving_at self.old.table flight.now.relay.stripe column) flight.now.relay.stripe (weight_in self.old.table.data_columns flight.now.relay column) sum.old sum.new result (plain A.held A.heard A.faults A.losses self.old.archives) (plain A.held A.heard A.faults A.losses self.new.archives) }
+        ensures covers { IsErr result → CoversOne (view_of A.account.meaning self.new) column }
+        ensures folds { Folds (IsTrue A.account.tells) (serving_at self.old.table flight.now.relay.stripe column) flight.now.relay.stripe (weight_in self.old.table.data_columns flight.now.relay column) sum.old sum.new result (plain A.account.meaning self.old.archives) (plain A.account.meaning self.new.archives) }
     {
         let stripe = flight.relay.stripe;
         let _rules = self.table.cursor();
@@ -368,7 +368,7 @@ impl<A: Archive> Group<A> {
     /// Takes note of a fold over a flight's next column, whose slot is Live. `sum` is the sum after the fold.
     fn hop_over(&mut self, job: u32, flight: Flight, sum: &Block) -> Advanced
         requires here { flight_in self.old.flights flight.relay.stripe ≡ Some flight }
-        requires next { IsSomeAnd (next_column self.old.table flight.relay) (λ c. IsTrue (is_live (slot_at self.old.table flight.relay.stripe c)) × (IsTrue A.tells → FoldTells ((plain A.held A.heard A.faults A.losses self.old.archives).held (serving_at self.old.table flight.relay.stripe c)) flight.relay.stripe (weight_in self.old.table.data_columns flight.relay c) flight.sum sum.now (Ok Held.Held))) }
+        requires next { IsSomeAnd (next_column self.old.table flight.relay) (λ c. IsTrue (is_live (slot_at self.old.table flight.relay.stripe c)) × (IsTrue A.account.tells → FoldTells ((plain A.account.meaning self.old.archives).held (serving_at self.old.table flight.relay.stripe c)) flight.relay.stripe (weight_in self.old.table.data_columns flight.relay c) flight.sum sum.now (Ok Held.Held))) }
         requires within { flight.relay.stripe < self.old.table.stripes }
         requires room { length self.old.log < 262144 }
         ensures { HopsOver job sum.now result flight self.old self.new }
@@ -392,7 +392,7 @@ impl<A: Archive> Group<A> {
     /// Ends a flight whose next column has no block of its slot's digest.
     fn leave_flight(&mut self, job: u32, flight: Flight)
         requires here { flight_in self.old.flights flight.relay.stripe ≡ Some flight }
-        requires next { IsSomeAnd (next_column self.old.table flight.relay) (λ c. IsTrue A.tells → Sound (stripe_of self.old.table (plain A.held A.heard A.faults A.losses self.old.archives).held flight.relay.stripe) c → ⊥) }
+        requires next { IsSomeAnd (next_column self.old.table flight.relay) (λ c. IsTrue A.account.tells → Sound (stripe_of self.old.table (plain A.account.meaning self.old.archives).held flight.relay.stripe) c → ⊥) }
         requires within { flight.relay.stripe < self.old.table.stripes }
         requires room { length self.old.log < 262144 }
         ensures { IsSomeAnd (next_column self.old.table flight.relay) (λ c. self.new ≡ acted self.old (GaveUp job flight.relay.stripe flight.relay.target c) []) }
@@ -415,7 +415,7 @@ impl<A: Archive> Group<A> {
         requires partial { block.now ≡ partial_of flight }
         requires digest { digest_in (slot_at self.old.table flight.relay.stripe flight.relay.target) ≡ Some (digest_of block.now) }
         requires room { length self.old.log < 262144 }
-        ensures { EndsWell (IsTrue A.tells) job block.now flight result (view_of A.held A.heard A.faults A.losses self.old) (view_of A.held A.heard A.faults A.losses self.new) }
+        ensures { EndsWell (IsTrue A.account.tells) job block.now flight result (view_of A.account.meaning self.old) (view_of A.account.meaning self.new) }
     {
         let stripe = flight.relay.stripe;
         let column = flight.relay.target;

@@ -29,7 +29,7 @@ impl<A: Archive> Group<A> {
         ensures full { IsErr result ↔ (length self.old.log ≡ 262144) }
         ensures refused { IsErr result → self.new ≡ self.old }
         ensures counts { IfOk result (λ counts. IsCounted self.old.table counts × (self.new ≡ noted self.old (Counted job))) }
-        ensures step { IsTrue A.tells → IfOk result (λ counts. CountStep job (state_of (view_of A.held A.heard A.faults A.losses self.old)) (state_of (view_of A.held A.heard A.faults A.losses self.new))) }
+        ensures step { IsTrue A.account.tells → IfOk result (λ counts. CountStep job (state_of (view_of A.account.meaning self.old)) (state_of (view_of A.account.meaning self.new))) }
     {
         if self.log.len() >= LOG_BOUND {
             return Err(LogFull);

@@ -1,10 +1,12 @@
 -- What a call of an archive does to its blocks, and what a room means by a number.
-use Rattle.std.specs.Prelude.{◌≡◌, ◌≤◌, ◌-◌, ◌^◌, ◌==◌, ◌⊎◌, ◌++◌, ℕ, List, [], ◌∷◌, Option, Some, None, Result, Ok, Err, Contains, length, slice_index, ◌<◌, if◌then◌else◌}
+use Rattle.std.specs.Prelude.{◌≡◌, ◌≤◌, ◌-◌, ◌^◌, ◌==◌, ◌⊎◌, ◌++◌, ℕ, Bool, List, [], ◌∷◌, Option, Some, None, Result, Ok, Err, Contains, length, slice_index, ◌<◌, if◌then◌else◌, IsErr}
 use Rattle.pot_bytes.specs.Sums.{xor}
 use Rattle.pot_bytes.specs.Weighted.{scaled}
 use Rattle.pot_outside.specs.declared.archive.Held.{Held as IsHeld}
 use Rattle.pot_outside.specs.declared.archive.Held.TheVariants.{Held, Absent}
+use Rattle.pot_outside.specs.declared.archive.Marks.{Marks}
 use Rattle.pot_outside.specs.declared.faults.Failed.{Failed}
+use Rattle.pot_outside.specs.Counts.{Caused}
 
 -- the block of each slot
 abbrev pub Contents : Type 0
@@ -67,7 +69,7 @@ Remembers old new block (Err e) = (new ≡ old) ⊎ (new ≡ old ++ block ∷ []
 abbrev pub IsRemembered : Contents → List (List ℕ) → Type 0
 IsRemembered held history = (k : ℕ) (b : List ℕ) → held k ≡ Some b → Contains history b
 
--- what a room means by one number: the blocks, those ever held, the sums heard, and the two counts
+-- what an archive means: the blocks, those ever held, the sums heard, and the two counts
 pub record Meaning : Type 0 where
   pub held : Contents
   pub history : List (List ℕ)
@@ -75,11 +77,44 @@ pub record Meaning : Type 0 where
   pub faults : ℕ
   pub losses : ℕ
 
--- an archive is as the room means it
-pub record IsMeant (meaning : Meaning) (held : Contents) (history : List (List ℕ)) (heard : List (ℕ × List ℕ)) (faults losses : ℕ)
-    : Type 0 where
-  pub blocks : (slot : ℕ) → held slot ≡ meaning.held slot
-  pub past : history ≡ meaning.history
-  pub sums : heard ≡ meaning.heard
-  pub faulted : faults ≡ meaning.faults
-  pub lost : losses ≡ meaning.losses
+-- whether archives of a type tell what they hold, and what each means. Where they don't, only the count of faults is meant
+pub record Account (A : Type 0) : Type 0 where
+  pub tells : Bool
+  pub meaning : A → Meaning
+
+-- two meanings say the same
+pub record IsMeant (m n : Meaning) : Type 0 where
+  pub blocks : (slot : ℕ) → n.held slot ≡ m.held slot
+  pub past : n.history ≡ m.history
+  pub sums : n.heard ≡ m.heard
+  pub faulted : n.faults ≡ m.faults
+  pub lost : n.losses ≡ m.losses
+
+-- THE CALLS. `told` is whether the archive tells what it holds.
+
+pub record Reads (told : Type 0) (slot : ℕ) (into : List ℕ) (result : Result IsHeld Failed) (old new : Meaning) : Type 0 where
+  pub tells : told → ReadTells new.held slot into result
+  pub loses : told → OnlyLoses old.held new.held old.losses new.losses
+  pub past : told → new.history ≡ old.history
+  pub hears : told → new.heard ≡ old.heard
+  pub cause : Caused old.faults new.faults (IsErr result)
+
+pub record Folds (told : Type 0) (slot weight : ℕ) (before after : List ℕ) (result : Result IsHeld Failed) (old new : Meaning) : Type 0 where
+  pub tells : told → FoldTells new.held slot weight before after result
+  pub leaves : LeavesSum before after result
+  pub loses : told → OnlyLoses old.held new.held old.losses new.losses
+  pub past : told → new.history ≡ old.history
+  pub hears : told → HearsFold old.heard new.heard slot before result
+  pub cause : Caused old.faults new.faults (IsErr result)
+
+pub record Writes (told : Type 0) (slot : ℕ) (block : List ℕ) (result : Result (Unit {0}) Failed) (old new : Meaning) : Type 0 where
+  pub tells : told → WriteTells old.held new.held old.losses new.losses slot block result
+  pub past : told → Remembers old.history new.history block result
+  pub hears : told → new.heard ≡ old.heard
+  pub cause : Caused old.faults new.faults (IsErr result)
+
+-- the counts now, and each block that is held is among those ever held
+pub record IsMarked (told : Type 0) (m : Meaning) (marks : Marks) : Type 0 where
+  pub faults : marks.faults ≡ m.faults
+  pub losses : told → marks.losses ≡ m.losses
+  pub past : told → IsRemembered m.held m.history

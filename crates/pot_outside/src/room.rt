@@ -29,8 +29,8 @@ pub trait Room {
     /// meant.
     fn take(&mut self, number: u32) -> Result<Self::A, RoomFault>
         requires { out self.old number ≡ false }
-        ensures told { IfOk result (λ a. IsTrue Self.A.tells → IsMeant (means self.old number) (Self.A.held a) (Self.A.history a) (Self.A.heard a) (Self.A.faults a) (Self.A.losses a)) }
-        ensures lends { IfOk result (λ a. lent self.new number ≡ Self.A.faults a) }
+        ensures told { IfOk result (λ a. IsTrue Self.A.account.tells → IsMeant (means self.old number) (Self.A.account.meaning a)) }
+        ensures lends { IfOk result (λ a. lent self.new number ≡ (Self.A.account.meaning a).faults) }
         ensures taken { OnOk result (out self.new number ≡ true) }
         ensures refused { OnErr result (out self.new number ≡ false) }
         ensures unchanged { OnErr result (means self.new number ≡ means self.old number) }
@@ -44,9 +44,9 @@ pub trait Room {
     /// `Failed` only where the room's count of faults rose.
     fn give(&mut self, number: u32, archive: Self::A) -> Result<(), Failed>
         requires { out self.old number ≡ true }
-        ensures told { OnOk result (IsTrue Self.A.tells → IsMeant (means self.new number) (Self.A.held archive) (Self.A.history archive) (Self.A.heard archive) (Self.A.faults archive) (Self.A.losses archive)) }
+        ensures told { OnOk result (IsTrue Self.A.account.tells → IsMeant (means self.new number) (Self.A.account.meaning archive)) }
         ensures back { out self.new number ≡ false }
         ensures others { (n : ℕ) → n ≢ number → (means self.new n ≡ means self.old n) × (out self.new n ≡ out self.old n) × (lent self.new n ≡ lent self.old n) }
-        ensures covers { Rose (lent self.old number) (Self.A.faults archive) → Rose (faults self.old) (faults self.new) }
+        ensures covers { Rose (lent self.old number) (Self.A.account.meaning archive).faults → Rose (faults self.old) (faults self.new) }
         ensures cause { Caused (faults self.old) (faults self.new) (IsErr result) };
 }

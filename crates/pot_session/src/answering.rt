@@ -30,9 +30,9 @@ pub fn store<A: Archive>(
     archive: &mut A,
 ) -> Result<Reply, NoMemory>
     requires few { 2 * catalog.old.attempts + 1 < 2 ^ 32 }
-    ensures answer { (s : State) → (first : ℕ) → IsKept catalog.old.files.items catalog.old.attempts s → Stands (IsTrue A.tells) drawn.now (A.held archive.old) first (A.losses archive.old) s → IfOk result (λ reply. Answers (IsTrue A.tells) drawn.now place s (Store name.now file.now) reply catalog.new.files.items catalog.new.attempts (A.held archive.new) first (A.losses archive.new)) }
-    ensures loses { IsTrue A.tells → A.losses archive.old ≤ A.losses archive.new }
-    ensures cause { Caused (A.faults archive.old) (A.faults archive.new) (IsOkAnd result IsFault) }
+    ensures answer { (s : State) → (first : ℕ) → IsKept catalog.old.files.items catalog.old.attempts s → Stands (IsTrue A.account.tells) drawn.now (A.account.meaning archive.old).held first (A.account.meaning archive.old).losses s → IfOk result (λ reply. Answers (IsTrue A.account.tells) drawn.now place s (Store name.now file.now) reply catalog.new.files.items catalog.new.attempts (A.account.meaning archive.new).held first (A.account.meaning archive.new).losses) }
+    ensures loses { IsTrue A.account.tells → (A.account.meaning archive.old).losses ≤ (A.account.meaning archive.new).losses }
+    ensures cause { Caused (A.account.meaning archive.old).faults (A.account.meaning archive.new).faults (IsOkAnd result IsFault) }
 {
     let length = file.as_slice().len();
     if length > LONGEST {
@@ -73,10 +73,10 @@ pub fn fetch<A: Archive>(
     archive: &mut A,
 ) -> Result<Reply, NoMemory>
     requires small { AllByRecursion IsSmall catalog.now.files.items }
-    ensures answer { (drawn : List ℕ) → (place : ℕ) → (s : State) → (first : ℕ) → IsKept catalog.now.files.items catalog.now.attempts s → Stands (IsTrue A.tells) drawn (A.held archive.old) first (A.losses archive.old) s → IfOk result (λ reply. Answers (IsTrue A.tells) drawn place s (Fetch name.now) reply catalog.now.files.items catalog.now.attempts (A.held archive.new) first (A.losses archive.new)) }
-    ensures reads { IsTrue A.tells → IfOk result (HasRead (A.held archive.old) (find (λ f. pointwise ◌==◌ f.name name.now) catalog.now.files.items)) }
-    ensures loses { IsTrue A.tells → A.losses archive.old ≤ A.losses archive.new }
-    ensures cause { Caused (A.faults archive.old) (A.faults archive.new) (IsOkAnd result IsFault) }
+    ensures answer { (drawn : List ℕ) → (place : ℕ) → (s : State) → (first : ℕ) → IsKept catalog.now.files.items catalog.now.attempts s → Stands (IsTrue A.account.tells) drawn (A.account.meaning archive.old).held first (A.account.meaning archive.old).losses s → IfOk result (λ reply. Answers (IsTrue A.account.tells) drawn place s (Fetch name.now) reply catalog.now.files.items catalog.now.attempts (A.account.meaning archive.new).held first (A.account.meaning archive.new).losses) }
+    ensures reads { IsTrue A.account.tells → IfOk result (HasRead (A.account.meaning archive.old).held (find (λ f. pointwise ◌==◌ f.name name.now) catalog.now.files.items)) }
+    ensures loses { IsTrue A.account.tells → (A.account.meaning archive.old).losses ≤ (A.account.meaning archive.new).losses }
+    ensures cause { Caused (A.account.meaning archive.old).faults (A.account.meaning archive.new).faults (IsOkAnd result IsFault) }
 {
     let file = match catalog.find(name) {
         Some(file) => file,

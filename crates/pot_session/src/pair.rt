@@ -23,8 +23,8 @@ pub fn write_pair<A: Archive>(
     second: &Block,
 ) -> Result<(), Failed>
     requires { slot + 1 < 2 ^ 32 }
-    ensures told { IsTrue A.tells → WritesPair (A.held archive.old) (A.held archive.new) (A.losses archive.old) (A.losses archive.new) slot first.now second.now result }
-    ensures cause { Caused (A.faults archive.old) (A.faults archive.new) (IsErr result) }
+    ensures told { IsTrue A.account.tells → WritesPair (A.account.meaning archive.old).held (A.account.meaning archive.new).held (A.account.meaning archive.old).losses (A.account.meaning archive.new).losses slot first.now second.now result }
+    ensures cause { Caused (A.account.meaning archive.old).faults (A.account.meaning archive.new).faults (IsErr result) }
 {
     match archive.write(slot, first) {
         Ok(()) => archive.write(slot + 1, second),
@@ -40,9 +40,9 @@ pub fn read_pair<A: Archive>(
     second: &mut Block,
 ) -> Result<Fetched, Failed>
     requires { slot + 1 < 2 ^ 32 }
-    ensures told { IsTrue A.tells → ReadsPair (A.held archive.old) (A.held archive.new) (A.losses archive.old) (A.losses archive.new) slot first.new second.new result }
+    ensures told { IsTrue A.account.tells → ReadsPair (A.account.meaning archive.old).held (A.account.meaning archive.new).held (A.account.meaning archive.old).losses (A.account.meaning archive.new).losses slot first.new second.new result }
     ensures fragment { IfOk result NamesFragment }
-    ensures cause { Caused (A.faults archive.old) (A.faults archive.new) (IsErr result) }
+    ensures cause { Caused (A.account.meaning archive.old).faults (A.account.meaning archive.new).faults (IsErr result) }
 {
     match archive.read(slot, first) {
         Ok(Held::Held) => {}

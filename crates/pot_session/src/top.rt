@@ -83,7 +83,7 @@ fn run_commands<K: Sink, R: Room>(
     requires home { R.out room.old 0 ≡ false }
     requires few { length steps.now < 2 ^ 31 }
     requires goes_on { AllByRecursion (λ c. c ≢ Quit) steps.now }
-    ensures comes { Comes (seen_by (IsTrue R.A.tells) (IsTrue K.tells) (K.written sink.old) (K.written sink.new) (R.means room.old 0) (R.means room.new 0) (R.faults room.old) (R.faults room.new)) drawn.now steps.now result }
+    ensures comes { Comes (seen_by (IsTrue R.A.account.tells) (IsTrue K.tells) (K.written sink.old) (K.written sink.new) (R.means room.old 0) (R.means room.new 0) (R.faults room.old) (R.faults room.new)) drawn.now steps.now result }
     ensures others { (n : ℕ) → n ≢ 0 → (R.means room.new n ≡ R.means room.old n) × (R.out room.new n ≡ R.out room.old n) }
     ensures home { R.out room.new 0 ≡ false }
     ensures sink { Caused (K.faults sink.old) (K.faults sink.new) (result ≡ Status.SinkFault) }
@@ -140,7 +140,7 @@ pub fn hold_session<S: Source, K: Sink, R: Room>(
     room: &mut R,
 ) -> Status
     requires home { R.out room.old 0 ≡ false }
-    ensures runs { Runs (seen_by (IsTrue R.A.tells) (IsTrue K.tells) (K.written sink.old) (K.written sink.new) (R.means room.old 0) (R.means room.new 0) (R.faults room.old) (R.faults room.new)) words.now (IsTrue S.tells) (S.left source.old) drawn.now result }
+    ensures runs { Runs (seen_by (IsTrue R.A.account.tells) (IsTrue K.tells) (K.written sink.old) (K.written sink.new) (R.means room.old 0) (R.means room.new 0) (R.faults room.old) (R.faults room.new)) words.now (IsTrue S.tells) (S.left source.old) drawn.now result }
     ensures untouched { IsBeforeTaking result → room.new ≡ room.old }
     ensures others { (n : ℕ) → n ≢ 0 → (R.means room.new n ≡ R.means room.old n) × (R.out room.new n ≡ R.out room.old n) }
     ensures home { R.out room.new 0 ≡ false }
@@ -177,8 +177,8 @@ pub fn run<S: Source, K: Sink, R: Room, D: Desk, W: Gate>(
     _gate: &W,
 ) -> u8
     requires home { R.out room.old 0 ≡ false }
-    ensures runs { (status : Status) × (result ≡ code_of status) × Runs (seen_by (IsTrue R.A.tells) (IsTrue K.tells) (K.written sink.old) (K.written sink.new) (R.means room.old 0) (R.means room.new 0) (R.faults room.old) (R.faults room.new)) words.now (IsTrue S.tells) (S.left source.old) drawn status × (IsBeforeTaking status → room.new ≡ room.old) }
-    ensures exact { IsTrue S.tells → IsTrue K.tells → IsTrue R.A.tells → IsQuiet (S.faults source.old) (S.faults source.new) (K.faults sink.old) (K.faults sink.new) (R.faults room.old) (R.faults room.new) (R.means room.old 0).losses (R.means room.new 0).losses → IsExact words.now (S.left source.old) (K.written sink.old) (K.written sink.new) result }
+    ensures runs { (status : Status) × (result ≡ code_of status) × Runs (seen_by (IsTrue R.A.account.tells) (IsTrue K.tells) (K.written sink.old) (K.written sink.new) (R.means room.old 0) (R.means room.new 0) (R.faults room.old) (R.faults room.new)) words.now (IsTrue S.tells) (S.left source.old) drawn status × (IsBeforeTaking status → room.new ≡ room.old) }
+    ensures exact { IsTrue S.tells → IsTrue K.tells → IsTrue R.A.account.tells → IsQuiet (S.faults source.old) (S.faults source.new) (K.faults sink.old) (K.faults sink.new) (R.faults room.old) (R.faults room.new) (R.means room.old 0).losses (R.means room.new 0).losses → IsExact words.now (S.left source.old) (K.written sink.old) (K.written sink.new) result }
     ensures others { (n : ℕ) → n ≢ 0 → (R.means room.new n ≡ R.means room.old n) × (R.out room.new n ≡ R.out room.old n) }
     ensures desk { _desk.new ≡ _desk.old }
     ensures home { R.out room.new 0 ≡ false }

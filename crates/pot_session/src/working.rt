@@ -40,9 +40,9 @@ fn answer<A: Archive>(
     requires goes_on { command.now ≢ Quit }
     requires few { 2 * catalog.old.attempts + 1 < 2 ^ 32 }
     requires small { AllByRecursion IsSmall catalog.old.files.items }
-    ensures answer { (s : State) → (first : ℕ) → IsKept catalog.old.files.items catalog.old.attempts s → Stands (IsTrue A.tells) drawn.now (A.held archive.old) first (A.losses archive.old) s → IfOk result (λ reply. Answers (IsTrue A.tells) drawn.now place s command.now reply catalog.new.files.items catalog.new.attempts (A.held archive.new) first (A.losses archive.new)) }
-    ensures loses { IsTrue A.tells → A.losses archive.old ≤ A.losses archive.new }
-    ensures cause { Caused (A.faults archive.old) (A.faults archive.new) (IsOkAnd result IsFault) }
+    ensures answer { (s : State) → (first : ℕ) → IsKept catalog.old.files.items catalog.old.attempts s → Stands (IsTrue A.account.tells) drawn.now (A.account.meaning archive.old).held first (A.account.meaning archive.old).losses s → IfOk result (λ reply. Answers (IsTrue A.account.tells) drawn.now place s command.now reply catalog.new.files.items catalog.new.attempts (A.account.meaning archive.new).held first (A.account.meaning archive.new).losses) }
+    ensures loses { IsTrue A.account.tells → (A.account.meaning archive.old).losses ≤ (A.account.meaning archive.new).losses }
+    ensures cause { Caused (A.account.meaning archive.old).faults (A.account.meaning archive.new).faults (IsOkAnd result IsFault) }
 {
     match command {
         Command::Store { name, file } => store(drawn, place, name, file, catalog, archive),
@@ -84,9 +84,9 @@ pub fn work<A: Archive, K: Sink>(
 ) -> Ending
     requires few { length steps.now < 2 ^ 31 }
     requires goes_on { AllByRecursion (λ c. c ≢ Quit) steps.now }
-    ensures ends { Ends (IsTrue A.tells) drawn.now steps.now (IsTrue K.tells) (K.written sink.old) (K.written sink.new) (A.held archive.new) (A.losses archive.old) (A.losses archive.new) (A.faults archive.old) (A.faults archive.new) result }
+    ensures ends { Ends (IsTrue A.account.tells) drawn.now steps.now (IsTrue K.tells) (K.written sink.old) (K.written sink.new) (A.account.meaning archive.new).held (A.account.meaning archive.old).losses (A.account.meaning archive.new).losses (A.account.meaning archive.old).faults (A.account.meaning archive.new).faults result }
     ensures cause { Caused (K.faults sink.old) (K.faults sink.new) (result ≡ Ending.SinkFailed) }
-    ensures later { A.faults archive.old ≤ A.faults archive.new }
+    ensures later { (A.account.meaning archive.old).faults ≤ (A.account.meaning archive.new).faults }
 {
     let mut catalog = Catalog::new(alloc);
     let mut refused = false;

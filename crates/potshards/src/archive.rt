@@ -73,21 +73,10 @@ impl FileArchive {
 }
 
 impl Archive for FileArchive {
-    ghost use Rattle.std.specs.Prelude.{◌≡◌, ◌<◌, ℕ, List, Option, None, [], false, IsTrue, IsErr};
-    ghost use Rattle.pot_outside.specs.Archives.{OnlyLoses, ReadTells, FoldTells, LeavesSum, HearsFold, WriteTells, Remembers, IsRemembered};
-    ghost use Rattle.pot_outside.specs.Counts.{Caused};
+    ghost use Rattle.std.specs.Prelude.{◌≡◌, ◌<◌, None, [], false, IsTrue};
+    ghost use Rattle.pot_outside.specs.Archives.{Reads, Folds, Writes, IsMarked};
 
-    ghost tells = { false };
-
-    ghost held = { λ _ _. None };
-
-    ghost history = { λ _. [] };
-
-    ghost heard = { λ _. [] };
-
-    ghost faults = { λ a. a.faults };
-
-    ghost losses = { λ _. 0 };
+    ghost account = { record { tells = false; meaning = λ a. record { held = λ _. None; history = []; heard = []; faults = a.faults; losses = 0 } } };
 
     fn read(&mut self, slot: u32, into: &mut Block) -> Result<Held, Failed> {
         match self.load(slot)? {

@@ -8,4 +8,4 @@ pub returns : goal.returns
 returns g c =
     touches_at c.args.number c.unwrap-place.result _ c.args.shelves.now.items c.index_mut.result.now c.fold.new.self
     c.deref.result.now c.place_of.result c.deref.ensures.value c.place_of.ensures c.unwrap-place.ensures c.index_mut.ensures.value
-    (record { tells = c.fold.ensures.told; leaves = c.fold.ensures.leaves; loses = c.fold.ensures.loses; hears = c.fold.ensures.hears; cause = c.fold.ensures.cause })
+    c.fold.ensures.folds

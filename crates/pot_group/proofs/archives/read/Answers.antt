@@ -8,4 +8,4 @@ pub returns : goal.returns
 returns g c =
     touches_at c.args.number c.unwrap-place.result _ c.args.shelves.now.items c.index_mut.result.now c.read.new.self
     c.deref.result.now c.place_of.result c.deref.ensures.value c.place_of.ensures c.unwrap-place.ensures c.index_mut.ensures.value
-    (record { tells = c.read.ensures.told; loses = c.read.ensures.loses; hears = c.read.ensures.heard; cause = c.read.ensures.cause })
+    c.read.ensures.reads

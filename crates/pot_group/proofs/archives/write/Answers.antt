@@ -8,4 +8,4 @@ pub returns : goal.returns
 returns g c =
     touches_at c.args.number c.unwrap-place.result _ c.args.shelves.now.items c.index_mut.result.now c.write.new.self
     c.deref.result.now c.place_of.result c.deref.ensures.value c.place_of.ensures c.unwrap-place.ensures c.index_mut.ensures.value
-    (record { tells = c.write.ensures.told; hears = c.write.ensures.heard; cause = c.write.ensures.cause })
+    c.write.ensures.writes

@@ -7,7 +7,7 @@ use Rattle.pot_group.proofs.opening.open_all.Goals as goal
 
 pub loop-stripe-init : goal.loop-stripe-init
 loop-stripe-init g c = record {
-  opens = rw c.requires.log (opens_none (IsTrue g.A.Archive.tells) c.args.table.now (plain g.A.Archive.held g.A.Archive.heard g.A.Archive.faults g.A.Archive.losses c.args.archives.now));
+  opens = rw c.requires.log (opens_none (IsTrue g.A.Archive.account.tells) c.args.table.now (plain g.A.Archive.account.meaning c.args.archives.now));
   later = later_none c.args.table.now;
   bound = rw c.requires.log (omega arith);
   capacity = c.requires.room;
@@ -38,7 +38,7 @@ loop-stripe-preserved g c = record {
 pub returns-clause-opens : goal.returns-clause-opens
 returns-clause-opens g c =
     let all : c.loop-stripe.stripe ≡ c.args.table.now.stripes = omega arith in
-    subst (λ n. Opens (IsTrue g.A.Archive.tells) n c.args.table.now c.loop-stripe.table c.loop-stripe.log.items (plain g.A.Archive.held g.A.Archive.heard g.A.Archive.faults g.A.Archive.losses c.args.archives.now) (plain g.A.Archive.held g.A.Archive.heard g.A.Archive.faults g.A.Archive.losses c.loop-stripe.archives)) all c.loop-stripe.invariant.opens
+    subst (λ n. Opens (IsTrue g.A.Archive.account.tells) n c.args.table.now c.loop-stripe.table c.loop-stripe.log.items (plain g.A.Archive.account.meaning c.args.archives.now) (plain g.A.Archive.account.meaning c.loop-stripe.archives)) all c.loop-stripe.invariant.opens
 
 pub returns-clause-room : goal.returns-clause-room
 returns-clause-room g c = c.loop-stripe.invariant.capacity

@@ -6,7 +6,7 @@ use Rattle.pot_group.proofs.opening.open_all.Given as goal
 
 abbrev pub invariant-loop-stripe : goal.invariant-loop-stripe
 invariant-loop-stripe g l = record {
-  opens : Opens (IsTrue g.A.Archive.tells) l.stripe l.fn.table l.table l.log.items (plain g.A.Archive.held g.A.Archive.heard g.A.Archive.faults g.A.Archive.losses l.fn.archives) (plain g.A.Archive.held g.A.Archive.heard g.A.Archive.faults g.A.Archive.losses l.archives);
+  opens : Opens (IsTrue g.A.Archive.account.tells) l.stripe l.fn.table l.table l.log.items (plain g.A.Archive.account.meaning l.fn.archives) (plain g.A.Archive.account.meaning l.archives);
   later : LaterStay l.stripe l.fn.table l.table;
   bound : length l.log.items ≤ 18 * l.stripe;
   capacity : 262144 ≤ vec_capacity l.log;

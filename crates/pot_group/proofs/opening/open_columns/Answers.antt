@@ -7,7 +7,7 @@ use Rattle.pot_group.proofs.opening.open_columns.Goals as goal
 
 pub loop-column-init : goal.loop-column-init
 loop-column-init g c = record {
-  opens = rw c.zero.ensures (columns_none (IsTrue g.A.Archive.tells) c.args.stripe c.args.table.now c.args.log.now.items (plain g.A.Archive.held g.A.Archive.heard g.A.Archive.faults g.A.Archive.losses c.args.archives.now));
+  opens = rw c.zero.ensures (columns_none (IsTrue g.A.Archive.account.tells) c.args.stripe c.args.table.now c.args.log.now.items (plain g.A.Archive.account.meaning c.args.archives.now));
   capacity = omega arith;
 }
 
@@ -35,8 +35,8 @@ loop-column-preserved g c = record {
 pub returns-clause-opens : goal.returns-clause-opens
 returns-clause-opens g c =
     let all : c.loop-column.column ≡ width c.args.table.now = omega arith in
-    subst (λ n. OpensColumns (IsTrue g.A.Archive.tells) n c.args.stripe c.args.table.now c.loop-column.table c.args.log.now.items c.loop-column.log.items c.loop-column.shortage c.loop-column.sum
-    (plain g.A.Archive.held g.A.Archive.heard g.A.Archive.faults g.A.Archive.losses c.args.archives.now) (plain g.A.Archive.held g.A.Archive.heard g.A.Archive.faults g.A.Archive.losses c.loop-column.archives)) all c.loop-column.invariant.opens
+    subst (λ n. OpensColumns (IsTrue g.A.Archive.account.tells) n c.args.stripe c.args.table.now c.loop-column.table c.args.log.now.items c.loop-column.log.items c.loop-column.shortage c.loop-column.sum
+    (plain g.A.Archive.account.meaning c.args.archives.now) (plain g.A.Archive.account.meaning c.loop-column.archives)) all c.loop-column.invariant.opens
 
 pub returns-clause-capacity : goal.returns-clause-capacity
 returns-clause-capacity g c = c.loop-column.invariant.capacity

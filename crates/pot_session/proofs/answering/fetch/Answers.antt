@@ -36,8 +36,8 @@ returns-in_ok-bytes-in-Ok-Both-clause-answer g c = λ drawn place s first kept s
           (c.from_vec.ensures ∙ c.in_ok-bytes-in-Ok-Both.ensures.value
           ∙ ap (λ f. take f.length (drop 64 (meaning 928 (take 928 c.read_pair.new.first ++ take 928 c.read_pair.new.second)))) (sym found.2))
           t
-          (ap (λ f. g.A.Archive.held c.args.archive.now (2 * f.attempt)) found.2 ∙ (rw c.in-Ok-Both.field-0-is at (c.in-Ok-Both.ensures.told t)).1.0)
-          (ap (λ f. g.A.Archive.held c.args.archive.now (2 * f.attempt + 1)) found.2 ∙ (rw c.in-Ok-Both.field-0-is at (c.in-Ok-Both.ensures.told t)).1.1));
+          (ap (λ f. (g.A.Archive.account.meaning c.args.archive.now).held (2 * f.attempt)) found.2 ∙ (rw c.in-Ok-Both.field-0-is at (c.in-Ok-Both.ensures.told t)).1.0)
+          (ap (λ f. (g.A.Archive.account.meaning c.args.archive.now).held (2 * f.attempt + 1)) found.2 ∙ (rw c.in-Ok-Both.field-0-is at (c.in-Ok-Both.ensures.told t)).1.1));
       kept = kept;
       stands = stands_lossy _ drawn _ _ first _ _ s (λ t. (c.in-Ok-Both.ensures.told t).0) stands;
       lost = (λ t l. absurd l);
@@ -47,9 +47,9 @@ pub returns-in-Ok-Absent-clause-answer : goal.returns-in-Ok-Absent-clause-answer
 returns-in-Ok-Absent-clause-answer g c = λ drawn place s first kept stands.
     let found = found_file c.args.name.now c.args.catalog.now.files.items _ s _ _ kept c.find.ensures c.in-Some.is in
     let named : NamesFragment (Absent c.in-Ok-Absent.fragment) = rw c.in-Ok-Absent.field-0-is at c.in-Ok-Absent.ensures.fragment in
-    let fetched : IsTrue g.A.Archive.tells → IsFetched (g.A.Archive.held c.args.archive.now) (g.A.Archive.held c.read_pair.new.archive)
+    let fetched : IsTrue g.A.Archive.account.tells → IsFetched (g.A.Archive.account.meaning c.args.archive.now).held (g.A.Archive.account.meaning c.read_pair.new.archive).held
     (2 * found.0.attempt) c.read_pair.new.first c.read_pair.new.second (Absent c.in-Ok-Absent.fragment) =
-    (λ t. subst (λ f. IsFetched (g.A.Archive.held c.args.archive.now) (g.A.Archive.held c.read_pair.new.archive)
+    (λ t. subst (λ f. IsFetched (g.A.Archive.account.meaning c.args.archive.now).held (g.A.Archive.account.meaning c.read_pair.new.archive).held
     (2 * f.attempt) c.read_pair.new.first c.read_pair.new.second (Absent c.in-Ok-Absent.fragment)) (sym found.2)
     (rw c.in-Ok-Absent.field-0-is at (c.in-Ok-Absent.ensures.told t)).1) in
     record {

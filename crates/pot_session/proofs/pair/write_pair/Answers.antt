@@ -3,8 +3,8 @@ use Rattle.pot_session.proofs.pair.write_pair.Goals as goal
 
 pub returns-in-Ok-clause-told : goal.returns-in-Ok-clause-told
 returns-in-Ok-clause-told g c = λ tells.
-    pair_written _ _ _ _ _ _ _ _ _ _ (c.in-Ok.ensures.told tells) (c.write-in-Ok.ensures.told tells)
+    pair_written _ _ _ _ _ _ _ _ _ _ (c.in-Ok.ensures.writes.tells tells) (c.write-in-Ok.ensures.writes.tells tells)
 
 pub returns-in-Err-clause-told : goal.returns-in-Err-clause-told
 returns-in-Err-clause-told g c = λ tells.
-    let w = c.in-Err.ensures.told tells in first_failed _ _ _ _ _ _ _ w.0 w.1 w.2
+    let w = c.in-Err.ensures.writes.tells tells in first_failed _ _ _ _ _ _ _ w.0 w.1 w.2

@@ -106,7 +106,7 @@ returns-clause-ends g c =
     record {
       replies = i.0;
       state = i.1;
-      answers = subst (λ n. Replied (IsTrue g.A.Archive.tells) c.args.steps.now n i.0 i.1 (g.A.Archive.faults c.args.archive.now) (g.A.Archive.faults c.loop-index.archive)) all (replied_so_far _ _ _ _ i.0 i.1 _ _ _ _ _ _ _ _ i.2 (omega arith));
+      answers = subst (λ n. Replied (IsTrue g.A.Archive.account.tells) c.args.steps.now n i.0 i.1 (g.A.Archive.account.meaning c.args.archive.now).faults (g.A.Archive.account.meaning c.loop-index.archive).faults) all (replied_so_far _ _ _ _ i.0 i.1 _ _ _ _ _ _ _ _ i.2 (omega arith));
       left = left_so_far _ _ _ _ i.0 i.1 _ _ _ _ _ _ _ i.2;
       refusal = i.3;
       written = i.4;

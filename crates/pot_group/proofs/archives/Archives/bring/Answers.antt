@@ -7,11 +7,11 @@ use Rattle.pot_group.proofs.archives.Archives.bring.Goals as goal
 pub returns-clause-brought : goal.returns-clause-brought
 returns-clause-brought g c =
     let v : Shelved g.row.A.Denot = record { shelves = c.self.inside.shelves.items; marks = c.self.inside.marks.items } in
-    subst (λ (w : Shelved g.row.A.Denot). Brings (IsTrue g.A.Archive.tells) c.args.shelf.number (g.A.Archive.held c.args.shelf.archive) (g.A.Archive.heard c.args.shelf.archive)
-    (plain g.A.Archive.held g.A.Archive.heard g.A.Archive.faults g.A.Archive.losses w)
-    (plain g.A.Archive.held g.A.Archive.heard g.A.Archive.faults g.A.Archive.losses (record { shelves = c.push_reserved-2.new.self.items; marks = c.push_reserved.new.self.items }))) c.self.view_is
+    subst (λ (w : Shelved g.row.A.Denot). Brings (IsTrue g.A.Archive.account.tells) c.args.shelf.number (g.A.Archive.account.meaning c.args.shelf.archive).held (g.A.Archive.account.meaning c.args.shelf.archive).heard
+    (plain g.A.Archive.account.meaning w)
+    (plain g.A.Archive.account.meaning (record { shelves = c.push_reserved-2.new.self.items; marks = c.push_reserved.new.self.items }))) c.self.view_is
     (rw (c.push_reserved-2.ensures.items, c.push_reserved.ensures.items, c.reserve.ensures.items, c.reserve-2.ensures.items)
-    (brings_one (IsTrue g.A.Archive.tells) g.A.Archive.held g.A.Archive.heard g.A.Archive.faults g.A.Archive.losses c.self.inside.shelves.items c.self.inside.marks.items c.args.shelf c.marks-marks.result
+    (brings_one (IsTrue g.A.Archive.account.tells) g.A.Archive.account.meaning c.self.inside.shelves.items c.self.inside.marks.items c.args.shelf c.marks-marks.result
     c.self.invariant
     (subst (λ (w : Shelved g.row.A.Denot). Contains (numbers_of w.shelves) c.args.shelf.number → ⊥) (sym c.self.view_is) c.requires.fresh)
-    c.marks-marks.ensures.faults c.marks-marks.ensures.losses))
+    c.marks-marks.ensures.marks.faults c.marks-marks.ensures.marks.losses))

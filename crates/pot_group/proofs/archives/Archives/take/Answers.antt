@@ -4,5 +4,5 @@ use Rattle.pot_group.proofs.archives.Archives.take.Goals as goal
 
 pub returns-in-Ok-clause-taken : goal.returns-in-Ok-clause-taken
 returns-in-Ok-clause-taken g c =
-    is_taken (IsTrue g.A.Archive.tells) g.A.Archive.held g.A.Archive.heard g.A.Archive.faults g.A.Archive.losses c.in-Ok.marks.items
+    is_taken (IsTrue g.A.Archive.account.tells) g.A.Archive.account.meaning c.in-Ok.marks.items
     c.deref.result.now c.args.shelves.items c.deref.ensures.value c.in-Ok.ensures.faults c.in-Ok.ensures.losses

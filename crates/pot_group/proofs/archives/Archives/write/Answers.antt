@@ -6,8 +6,8 @@ use Rattle.pot_group.proofs.archives.Archives.write.Goals as goal
 pub returns : goal.returns
 returns g c =
     subst
-    (λ (v : Shelved g.row.A.Denot). Writes (IsTrue g.A.Archive.tells) c.args.number c.args.slot c.args.block.now c.write.result
-    (plain g.A.Archive.held g.A.Archive.heard g.A.Archive.faults g.A.Archive.losses v)
-    (plain g.A.Archive.held g.A.Archive.heard g.A.Archive.faults g.A.Archive.losses (record { shelves = c.write.new.shelves.items; marks = c.self.inside.marks.items })))
+    (λ (v : Shelved g.row.A.Denot). Writes (IsTrue g.A.Archive.account.tells) c.args.number c.args.slot c.args.block.now c.write.result
+    (plain g.A.Archive.account.meaning v)
+    (plain g.A.Archive.account.meaning (record { shelves = c.write.new.shelves.items; marks = c.self.inside.marks.items })))
     c.self.view_is
-    (writes (IsTrue g.A.Archive.tells) g.A.Archive.held g.A.Archive.heard g.A.Archive.faults g.A.Archive.losses c.self.inside.marks.items c.args.number c.args.slot c.args.block.now c.write.result c.self.inside.shelves.items c.write.new.shelves.items c.write.ensures)
+    (writes (IsTrue g.A.Archive.account.tells) g.A.Archive.account.meaning c.self.inside.marks.items c.args.number c.args.slot c.args.block.now c.write.result c.self.inside.shelves.items c.write.new.shelves.items c.write.ensures)

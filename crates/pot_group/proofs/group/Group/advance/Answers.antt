@@ -6,7 +6,7 @@ use Rattle.pot_group.proofs.AdvanceSteps.{idle_step, found_over}
 use Rattle.pot_group.proofs.group.Group.advance.Goals as goal
 
 pub returns-in_default-clause-step : goal.returns-in_default-clause-step
-returns-in_default-clause-step g c = λ t. idle_step (IsTrue g.A.Archive.tells) (view_of g.A.Archive.held g.A.Archive.heard g.A.Archive.faults g.A.Archive.losses c.args.self.now) c.args.job c.args.stripe c.kept-settled.ensures (sym c.flight.ensures ∙ c.in_default.is)
+returns-in_default-clause-step g c = λ t. idle_step (IsTrue g.A.Archive.account.tells) (view_of g.A.Archive.account.meaning c.args.self.now) c.args.job c.args.stripe c.kept-settled.ensures (sym c.flight.ensures ∙ c.in_default.is)
 
 pub next_column-requires : goal.next_column-requires
 next_column-requires g c =
@@ -24,10 +24,10 @@ finish_flight-requires-clause-here g c = (found_over c.args.self.now.flights c.a
 
 pub returns-in-Some-next_column-clause-step : goal.returns-in-Some-next_column-clause-step
 returns-in-Some-next_column-clause-step g c =
-    subst (λ n. IsTrue g.A.Archive.tells → AdvanceStep c.args.job n (advance_as c.go_on.result) (state_of (view_of g.A.Archive.held g.A.Archive.heard g.A.Archive.faults g.A.Archive.losses c.args.self.now))
-    (state_of (view_of g.A.Archive.held g.A.Archive.heard g.A.Archive.faults g.A.Archive.losses c.go_on.new.self))) (found_over c.args.self.now.flights c.args.stripe c.flight.result c.in-Some.flight c.flight.ensures c.in-Some.is).0 c.go_on.ensures
+    subst (λ n. IsTrue g.A.Archive.account.tells → AdvanceStep c.args.job n (advance_as c.go_on.result) (state_of (view_of g.A.Archive.account.meaning c.args.self.now))
+    (state_of (view_of g.A.Archive.account.meaning c.go_on.new.self))) (found_over c.args.self.now.flights c.args.stripe c.flight.result c.in-Some.flight c.flight.ensures c.in-Some.is).0 c.go_on.ensures
 
 pub returns-in-None-clause-step : goal.returns-in-None-clause-step
 returns-in-None-clause-step g c =
-    subst (λ n. IsTrue g.A.Archive.tells → AdvanceStep c.args.job n (advance_as c.finish_flight.result) (state_of (view_of g.A.Archive.held g.A.Archive.heard g.A.Archive.faults g.A.Archive.losses c.args.self.now))
-    (state_of (view_of g.A.Archive.held g.A.Archive.heard g.A.Archive.faults g.A.Archive.losses c.finish_flight.new.self))) (found_over c.args.self.now.flights c.args.stripe c.flight.result c.in-Some.flight c.flight.ensures c.in-Some.is).0 c.finish_flight.ensures
+    subst (λ n. IsTrue g.A.Archive.account.tells → AdvanceStep c.args.job n (advance_as c.finish_flight.result) (state_of (view_of g.A.Archive.account.meaning c.args.self.now))
+    (state_of (view_of g.A.Archive.account.meaning c.finish_flight.new.self))) (found_over c.args.self.now.flights c.args.stripe c.flight.result c.in-Some.flight c.flight.ensures c.in-Some.is).0 c.finish_flight.ensures

@@ -9,7 +9,7 @@ pub invariant_of-self : goal.invariant_of-self
 invariant_of-self g c =
     let a = c.self.inside in
     let v : GroupParts _ = record { number = a.number; first = a.first; table = a.table; log = a.log.items; flights = a.flights.items; archives = a.archives } in (
-      begin_exit (IsTrue g.A.Archive.tells) (view_of g.A.Archive.held g.A.Archive.heard g.A.Archive.faults g.A.Archive.losses v) c.args.job c.args.place.stripe c.args.place.column c.args.blind.now
+      begin_exit (IsTrue g.A.Archive.account.tells) (view_of g.A.Archive.account.meaning v) c.args.job c.args.place.stripe c.args.place.column c.args.blind.now
           c.begin-flight.new.table c.push_reserved.new.self.items c.push_reserved-2.new.self.items c.self.invariant.0
           (subst (λ (w : GroupParts _). Legal w.table (Begin c.args.job c.args.place.stripe c.args.place.column)) (sym c.self.view_is) c.requires.legal)
           (subst (λ (w : GroupParts _). length w.log < 262144) (sym c.self.view_is) c.requires.room) c.sized.ensures

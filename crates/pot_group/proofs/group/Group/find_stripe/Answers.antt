@@ -4,32 +4,32 @@ use Rattle.pot_group.proofs.Passing.{passes_none, passes_more, fewer_left, finds
 use Rattle.pot_group.proofs.group.Group.find_stripe.Goals as goal
 
 pub loop-stop-init : goal.loop-stop-init
-loop-stop-init g c = ([], passes_none (IsTrue g.A.Archive.tells) c.args.job (view_of g.A.Archive.held g.A.Archive.heard g.A.Archive.faults g.A.Archive.losses c.args.self.now))
+loop-stop-init g c = ([], passes_none (IsTrue g.A.Archive.account.tells) c.args.job (view_of g.A.Archive.account.meaning c.args.self.now))
 
 pub pass-requires : goal.pass-requires
 pass-requires g c = record { parity = c.loop-stop.invariant.1.parity ∙ c.requires.parity }
 
 pub returns-in-Some : goal.returns-in-Some
 returns-in-Some g c =
-    finds_at (IsTrue g.A.Archive.tells) c.args.job c.loop-stop.invariant.0 c.pass.new.parity c.in-Some.stop
-    (view_of g.A.Archive.held g.A.Archive.heard g.A.Archive.faults g.A.Archive.losses c.args.self.now)
-    (view_of g.A.Archive.held g.A.Archive.heard g.A.Archive.faults g.A.Archive.losses c.loop-stop.self)
-    (view_of g.A.Archive.held g.A.Archive.heard g.A.Archive.faults g.A.Archive.losses c.pass.new.self)
+    finds_at (IsTrue g.A.Archive.account.tells) c.args.job c.loop-stop.invariant.0 c.pass.new.parity c.in-Some.stop
+    (view_of g.A.Archive.account.meaning c.args.self.now)
+    (view_of g.A.Archive.account.meaning c.loop-stop.self)
+    (view_of g.A.Archive.account.meaning c.pass.new.self)
     c.loop-stop.invariant.1 c.in-Some.ensures
 
 pub loop-stop-smaller : goal.loop-stop-smaller
 loop-stop-smaller g c =
-    fewer_left (IsTrue g.A.Archive.tells) c.args.job c.pass.new.parity
-    (view_of g.A.Archive.held g.A.Archive.heard g.A.Archive.faults g.A.Archive.losses c.loop-stop.self)
-    (view_of g.A.Archive.held g.A.Archive.heard g.A.Archive.faults g.A.Archive.losses c.pass.new.self)
+    fewer_left (IsTrue g.A.Archive.account.tells) c.args.job c.pass.new.parity
+    (view_of g.A.Archive.account.meaning c.loop-stop.self)
+    (view_of g.A.Archive.account.meaning c.pass.new.self)
     c.in_default.ensures
 
 pub loop-stop-preserved : goal.loop-stop-preserved
 loop-stop-preserved g c = (
   _,
-  passes_more (IsTrue g.A.Archive.tells) c.args.job c.loop-stop.invariant.0 c.pass.new.parity
-      (view_of g.A.Archive.held g.A.Archive.heard g.A.Archive.faults g.A.Archive.losses c.args.self.now)
-      (view_of g.A.Archive.held g.A.Archive.heard g.A.Archive.faults g.A.Archive.losses c.loop-stop.self)
-      (view_of g.A.Archive.held g.A.Archive.heard g.A.Archive.faults g.A.Archive.losses c.pass.new.self)
+  passes_more (IsTrue g.A.Archive.account.tells) c.args.job c.loop-stop.invariant.0 c.pass.new.parity
+      (view_of g.A.Archive.account.meaning c.args.self.now)
+      (view_of g.A.Archive.account.meaning c.loop-stop.self)
+      (view_of g.A.Archive.account.meaning c.pass.new.self)
       c.requires.parity c.loop-stop.invariant.1 c.in_default.ensures,
 )

@@ -16,14 +16,14 @@ pub finish-requires-clause-stands : goal.finish-requires-clause-stands
 finish-requires-clause-stands g c =
     let a = c.self.inside in
     let v : GroupParts _ = record { number = a.number; first = a.first; table = a.table; log = a.log.items; flights = a.flights.items; archives = a.archives } in
-    stands_in_table (IsTrue g.A.Archive.tells) (view_of g.A.Archive.held g.A.Archive.heard g.A.Archive.faults g.A.Archive.losses v) c.args.flight c.self.invariant.0
+    stands_in_table (IsTrue g.A.Archive.account.tells) (view_of g.A.Archive.account.meaning v) c.args.flight c.self.invariant.0
     (subst (λ (w : GroupParts _). flight_in w.flights c.args.flight.relay.stripe ≡ Some c.args.flight) (sym c.self.view_is) c.requires.here)
 
 pub invariant_of-self-in-Odd : goal.invariant_of-self-in-Odd
 invariant_of-self-in-Odd g c =
     let a = c.self.inside in
     let v : GroupParts _ = record { number = a.number; first = a.first; table = a.table; log = a.log.items; flights = a.flights.items; archives = a.archives } in (
-      odd_settled (IsTrue g.A.Archive.tells) (view_of g.A.Archive.held g.A.Archive.heard g.A.Archive.faults g.A.Archive.losses v) c.args.job c.args.flight c.self.invariant.0 (subst (λ (w : GroupParts _). length w.log < 262144) (sym c.self.view_is) c.requires.room)
+      odd_settled (IsTrue g.A.Archive.account.tells) (view_of g.A.Archive.account.meaning v) c.args.job c.args.flight c.self.invariant.0 (subst (λ (w : GroupParts _). length w.log < 262144) (sym c.self.view_is) c.requires.room)
           (subst (λ (w : GroupParts _). flight_in w.flights c.args.flight.relay.stripe ≡ Some c.args.flight) (sym c.self.view_is) c.requires.here)
           (subst (λ (w : GroupParts _). next_column w.table c.args.flight.relay ≡ None) (sym c.self.view_is) c.requires.next)
           c.in-Odd.entry c.in-Odd.found c.finish.new.table c.push_reserved.new.self.items c.retain.new.self.items c.in-Odd.ensures.0 (some_differs _ c.in-Odd.wanted c.in-Odd.found c.in-Odd.ensures.4 c.in-Odd.ensures.3) c.in-Odd.ensures.1
@@ -36,9 +36,9 @@ pub returns-in-Odd : goal.returns-in-Odd
 returns-in-Odd g c =
     let a = c.self.inside in
     let v : GroupParts _ = record { number = a.number; first = a.first; table = a.table; log = a.log.items; flights = a.flights.items; archives = a.archives } in
-    subst (λ (w : GroupParts _). IsTrue g.A.Archive.tells → AdvanceStep c.args.job c.args.flight.relay.stripe (Odd c.in-Odd.wanted c.in-Odd.found) (state_of (view_of g.A.Archive.held g.A.Archive.heard g.A.Archive.faults g.A.Archive.losses w))
-    (state_of (view_of g.A.Archive.held g.A.Archive.heard g.A.Archive.faults g.A.Archive.losses (record v { table = c.finish.new.table; log = c.push_reserved.new.self.items; flights = c.retain.new.self.items })))) c.self.view_is
-    (odd_step (IsTrue g.A.Archive.tells) (view_of g.A.Archive.held g.A.Archive.heard g.A.Archive.faults g.A.Archive.losses v) c.args.job c.args.flight c.self.invariant.0 (subst (λ (w : GroupParts _). length w.log < 262144) (sym c.self.view_is) c.requires.room)
+    subst (λ (w : GroupParts _). IsTrue g.A.Archive.account.tells → AdvanceStep c.args.job c.args.flight.relay.stripe (Odd c.in-Odd.wanted c.in-Odd.found) (state_of (view_of g.A.Archive.account.meaning w))
+    (state_of (view_of g.A.Archive.account.meaning (record v { table = c.finish.new.table; log = c.push_reserved.new.self.items; flights = c.retain.new.self.items })))) c.self.view_is
+    (odd_step (IsTrue g.A.Archive.account.tells) (view_of g.A.Archive.account.meaning v) c.args.job c.args.flight c.self.invariant.0 (subst (λ (w : GroupParts _). length w.log < 262144) (sym c.self.view_is) c.requires.room)
     (subst (λ (w : GroupParts _). flight_in w.flights c.args.flight.relay.stripe ≡ Some c.args.flight) (sym c.self.view_is) c.requires.here)
     (subst (λ (w : GroupParts _). next_column w.table c.args.flight.relay ≡ None) (sym c.self.view_is) c.requires.next)
     c.in-Odd.entry c.in-Odd.wanted c.in-Odd.found c.finish.new.table c.push_reserved.new.self.items c.retain.new.self.items c.in-Odd.ensures c.push_reserved.ensures.items (filter_same _ (λ (f : Flight). not (f.relay.stripe == c.args.flight.relay.stripe)) _ (λ x b q h. search (rules, tests)) _ _ c.retain.ensures.filtered))
@@ -48,9 +48,9 @@ returns-in-Ready g c =
     let a = c.self.inside in
     let v : GroupParts _ = record { number = a.number; first = a.first; table = a.table; log = a.log.items; flights = a.flights.items; archives = a.archives } in
     let m = c.in-Ready.ensures in
-    subst (λ (w : GroupParts _). IsTrue g.A.Archive.tells → AdvanceStep c.args.job c.args.flight.relay.stripe (advance_as c.write_back.result) (state_of (view_of g.A.Archive.held g.A.Archive.heard g.A.Archive.faults g.A.Archive.losses w)) (state_of (view_of g.A.Archive.held g.A.Archive.heard g.A.Archive.faults g.A.Archive.losses c.write_back.new.self))) c.self.view_is
-    (well_step (IsTrue g.A.Archive.tells) (view_of g.A.Archive.held g.A.Archive.heard g.A.Archive.faults g.A.Archive.losses v) c.args.job c.args.flight c.self.invariant.0 (subst (λ (w : GroupParts _). length w.log < 262144) (sym c.self.view_is) c.requires.room)
+    subst (λ (w : GroupParts _). IsTrue g.A.Archive.account.tells → AdvanceStep c.args.job c.args.flight.relay.stripe (advance_as c.write_back.result) (state_of (view_of g.A.Archive.account.meaning w)) (state_of (view_of g.A.Archive.account.meaning c.write_back.new.self))) c.self.view_is
+    (well_step (IsTrue g.A.Archive.account.tells) (view_of g.A.Archive.account.meaning v) c.args.job c.args.flight c.self.invariant.0 (subst (λ (w : GroupParts _). length w.log < 262144) (sym c.self.view_is) c.requires.room)
     (subst (λ (w : GroupParts _). flight_in w.flights c.args.flight.relay.stripe ≡ Some c.args.flight) (sym c.self.view_is) c.requires.here)
     (subst (λ (w : GroupParts _). next_column w.table c.args.flight.relay ≡ None) (sym c.self.view_is) c.requires.next)
-    c.in-Ready.block m.0 (m.2 ∙ ap (λ b. Some (digest_of b)) (sym m.0)) (view_of g.A.Archive.held g.A.Archive.heard g.A.Archive.faults g.A.Archive.losses c.write_back.new.self) c.write_back.result
-    (subst (λ (t : Table). EndsWell (IsTrue g.A.Archive.tells) c.args.job c.in-Ready.block c.args.flight c.write_back.result (view_of g.A.Archive.held g.A.Archive.heard g.A.Archive.faults g.A.Archive.losses (record v { table = t })) (view_of g.A.Archive.held g.A.Archive.heard g.A.Archive.faults g.A.Archive.losses c.write_back.new.self)) m.1 c.write_back.ensures))
+    c.in-Ready.block m.0 (m.2 ∙ ap (λ b. Some (digest_of b)) (sym m.0)) (view_of g.A.Archive.account.meaning c.write_back.new.self) c.write_back.result
+    (subst (λ (t : Table). EndsWell (IsTrue g.A.Archive.account.tells) c.args.job c.in-Ready.block c.args.flight c.write_back.result (view_of g.A.Archive.account.meaning (record v { table = t })) (view_of g.A.Archive.account.meaning c.write_back.new.self)) m.1 c.write_back.ensures))

@@ -15,7 +15,7 @@ weight_of-weight-requires-clause-relay g c =
     let a = c.self.inside in
     let v : GroupParts _ = record { number = a.number; first = a.first; table = a.table; log = a.log.items; flights = a.flights.items; archives = a.archives } in
     subst (λ w. IsRelay w 2 c.args.flight.now.relay) (sym c.data_columns.ensures.value)
-    (next_facts_of (IsTrue g.A.Archive.tells) (view_of g.A.Archive.held g.A.Archive.heard g.A.Archive.faults g.A.Archive.losses v) c.args.flight.now c.args.column c.self.invariant.0
+    (next_facts_of (IsTrue g.A.Archive.account.tells) (view_of g.A.Archive.account.meaning v) c.args.flight.now c.args.column c.self.invariant.0
     (subst (λ (w : GroupParts _). flight_in w.flights c.args.flight.now.relay.stripe ≡ Some c.args.flight.now) (sym c.self.view_is) c.requires.here)
     (subst (λ (w : GroupParts _). next_column w.table c.args.flight.now.relay ≡ Some c.args.column) (sym c.self.view_is) c.requires.next)).0
 
@@ -23,7 +23,7 @@ pub archive_of-number-requires : goal.archive_of-number-requires
 archive_of-number-requires g c =
     let a = c.self.inside in
     let v : GroupParts _ = record { number = a.number; first = a.first; table = a.table; log = a.log.items; flights = a.flights.items; archives = a.archives } in
-    (next_facts_of (IsTrue g.A.Archive.tells) (view_of g.A.Archive.held g.A.Archive.heard g.A.Archive.faults g.A.Archive.losses v) c.args.flight.now c.args.column c.self.invariant.0
+    (next_facts_of (IsTrue g.A.Archive.account.tells) (view_of g.A.Archive.account.meaning v) c.args.flight.now c.args.column c.self.invariant.0
     (subst (λ (w : GroupParts _). flight_in w.flights c.args.flight.now.relay.stripe ≡ Some c.args.flight.now) (sym c.self.view_is) c.requires.here)
     (subst (λ (w : GroupParts _). next_column w.table c.args.flight.now.relay ≡ Some c.args.column) (sym c.self.view_is) c.requires.next)).1
 
@@ -32,7 +32,7 @@ fold-requires-clause-weight g c =
     let a = c.self.inside in
     let v : GroupParts _ = record { number = a.number; first = a.first; table = a.table; log = a.log.items; flights = a.flights.items; archives = a.archives } in
     subst (λ n. 0 < n) (sym (c.weight_of-weight.ensures ∙ ap (λ w. weight_in w c.args.flight.now.relay c.args.column) c.data_columns.ensures.value))
-    (next_facts_of (IsTrue g.A.Archive.tells) (view_of g.A.Archive.held g.A.Archive.heard g.A.Archive.faults g.A.Archive.losses v) c.args.flight.now c.args.column c.self.invariant.0
+    (next_facts_of (IsTrue g.A.Archive.account.tells) (view_of g.A.Archive.account.meaning v) c.args.flight.now c.args.column c.self.invariant.0
     (subst (λ (w : GroupParts _). flight_in w.flights c.args.flight.now.relay.stripe ≡ Some c.args.flight.now) (sym c.self.view_is) c.requires.here)
     (subst (λ (w : GroupParts _). next_column w.table c.args.flight.now.relay ≡ Some c.args.column) (sym c.self.view_is) c.requires.next)).2
 
@@ -40,9 +40,9 @@ pub fold-requires-clause-number : goal.fold-requires-clause-number
 fold-requires-clause-number g c =
     let a = c.self.inside in
     let v : GroupParts _ = record { number = a.number; first = a.first; table = a.table; log = a.log.items; flights = a.flights.items; archives = a.archives } in
-    subst (λ n. Contains (plain g.A.Archive.held g.A.Archive.heard g.A.Archive.faults g.A.Archive.losses a.archives).numbers n) (sym c.archive_of-number.ensures)
-    (served (IsTrue g.A.Archive.tells) (view_of g.A.Archive.held g.A.Archive.heard g.A.Archive.faults g.A.Archive.losses v) c.self.invariant.0 c.args.flight.now.relay.stripe c.args.column
-    (next_facts_of (IsTrue g.A.Archive.tells) (view_of g.A.Archive.held g.A.Archive.heard g.A.Archive.faults g.A.Archive.losses v) c.args.flight.now c.args.column c.self.invariant.0
+    subst (λ n. Contains (plain g.A.Archive.account.meaning a.archives).numbers n) (sym c.archive_of-number.ensures)
+    (served (IsTrue g.A.Archive.account.tells) (view_of g.A.Archive.account.meaning v) c.self.invariant.0 c.args.flight.now.relay.stripe c.args.column
+    (next_facts_of (IsTrue g.A.Archive.account.tells) (view_of g.A.Archive.account.meaning v) c.args.flight.now c.args.column c.self.invariant.0
     (subst (λ (w : GroupParts _). flight_in w.flights c.args.flight.now.relay.stripe ≡ Some c.args.flight.now) (sym c.self.view_is) c.requires.here)
     (subst (λ (w : GroupParts _). next_column w.table c.args.flight.now.relay ≡ Some c.args.column) (sym c.self.view_is) c.requires.next)).1)
 
@@ -50,8 +50,8 @@ pub invariant_of-self : goal.invariant_of-self
 invariant_of-self g c =
     let a = c.self.inside in
     let v : GroupParts _ = record { number = a.number; first = a.first; table = a.table; log = a.log.items; flights = a.flights.items; archives = a.archives } in (
-      settled_loses (IsTrue g.A.Archive.tells) (view_of g.A.Archive.held g.A.Archive.heard g.A.Archive.faults g.A.Archive.losses v)
-          (plain g.A.Archive.held g.A.Archive.heard g.A.Archive.faults g.A.Archive.losses c.fold.new.self) c.self.invariant.0 c.fold.ensures.keeps c.fold.ensures.loses,
+      settled_loses (IsTrue g.A.Archive.account.tells) (view_of g.A.Archive.account.meaning v)
+          (plain g.A.Archive.account.meaning c.fold.new.self) c.self.invariant.0 c.fold.ensures.keeps c.fold.ensures.loses,
       c.self.invariant.1,
       c.self.invariant.2,
     )
@@ -60,9 +60,9 @@ pub returns-clause-covers : goal.returns-clause-covers
 returns-clause-covers g c = λ failed.
     let a = c.self.inside in
     let v : GroupParts _ = record { number = a.number; first = a.first; table = a.table; log = a.log.items; flights = a.flights.items; archives = a.archives } in
-    covers_rise (IsTrue g.A.Archive.tells) (view_of g.A.Archive.held g.A.Archive.heard g.A.Archive.faults g.A.Archive.losses v)
-    (plain g.A.Archive.held g.A.Archive.heard g.A.Archive.faults g.A.Archive.losses c.fold.new.self) c.args.flight.now.relay.stripe c.args.column c.self.invariant.0
-    (next_facts_of (IsTrue g.A.Archive.tells) (view_of g.A.Archive.held g.A.Archive.heard g.A.Archive.faults g.A.Archive.losses v) c.args.flight.now c.args.column c.self.invariant.0
+    covers_rise (IsTrue g.A.Archive.account.tells) (view_of g.A.Archive.account.meaning v)
+    (plain g.A.Archive.account.meaning c.fold.new.self) c.args.flight.now.relay.stripe c.args.column c.self.invariant.0
+    (next_facts_of (IsTrue g.A.Archive.account.tells) (view_of g.A.Archive.account.meaning v) c.args.flight.now c.args.column c.self.invariant.0
     (subst (λ (w : GroupParts _). flight_in w.flights c.args.flight.now.relay.stripe ≡ Some c.args.flight.now) (sym c.self.view_is) c.requires.here)
     (subst (λ (w : GroupParts _). next_column w.table c.args.flight.now.relay ≡ Some c.args.column) (sym c.self.view_is) c.requires.next)).1
     c.fold.ensures.keeps (rw (← c.archive_of-number.ensures) (c.fold.ensures.cause failed))

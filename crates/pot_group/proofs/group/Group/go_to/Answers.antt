@@ -11,10 +11,10 @@ pub invariant_of-self : goal.invariant_of-self
 invariant_of-self g c =
     let a = c.self.inside in
     let v : GroupParts _ = record { number = a.number; first = a.first; table = a.table; log = a.log.items; flights = a.flights.items; archives = a.archives } in (
-      go_exit (IsTrue g.A.Archive.tells) (view_of g.A.Archive.held g.A.Archive.heard g.A.Archive.faults g.A.Archive.losses v) c.args.job c.args.column c.args.to c.move_begin-entry.result c.move_begin-entry.new.table c.push_reserved.new.self.items c.self.invariant.0
+      go_exit (IsTrue g.A.Archive.account.tells) (view_of g.A.Archive.account.meaning v) c.args.job c.args.column c.args.to c.move_begin-entry.result c.move_begin-entry.new.table c.push_reserved.new.self.items c.self.invariant.0
           (subst (λ (w : GroupParts _). length w.log < 262144) (sym c.self.view_is) c.requires.room)
           (subst (λ (w : GroupParts _). Legal w.table (MoveBegin c.args.job c.args.column c.args.to)) (sym c.self.view_is) c.requires.legal)
-          (subst (λ (w : GroupParts _). Contains (plain g.A.Archive.held g.A.Archive.heard g.A.Archive.faults g.A.Archive.losses w.archives).numbers c.args.to) (sym c.self.view_is) c.requires.there)
+          (subst (λ (w : GroupParts _). Contains (plain g.A.Archive.account.meaning w.archives).numbers c.args.to) (sym c.self.view_is) c.requires.there)
           c.move_begin-entry.ensures.entry c.move_begin-entry.ensures.table c.push_reserved.ensures.items,
       omega (arith, c.self.invariant.1, c.push_reserved.ensures.capacity),
       c.self.invariant.2,

@@ -9,24 +9,24 @@ use Rattle.pot_group.proofs.group.Group.leave.Goals as goal
 pub returns-then-len-ge-LOG_BOUND-clause-passes : goal.returns-then-len-ge-LOG_BOUND-clause-passes
 returns-then-len-ge-LOG_BOUND-clause-passes g c =
     let full : length c.self-2.inside.log.items ≡ log_bound = omega (arith, c.self-2.invariant.0.bound, c.len.ensures, c.if-len-ge-LOG_BOUND.true) in
-    left_full (IsTrue g.A.Archive.tells) c.args.job c.args.stripe c.data_columns-column.result (view_of g.A.Archive.held g.A.Archive.heard g.A.Archive.faults g.A.Archive.losses c.args.self.now)
+    left_full (IsTrue g.A.Archive.account.tells) c.args.job c.args.stripe c.data_columns-column.result (view_of g.A.Archive.account.meaning c.args.self.now)
     (subst (λ (v : GroupParts _). IsTable v.table) c.self.view_is c.data_columns-column.ensures.rules) c.requires.cursor
     (c.data_columns-column.ensures.value ∙ ap (λ (v : GroupParts _). v.table.data_columns) c.self.view_is) c.requires.gone c.requires.takes c.requires.void
-    (view_of g.A.Archive.held g.A.Archive.heard g.A.Archive.faults g.A.Archive.losses c.note.new.self)
-    (ap (view_of g.A.Archive.held g.A.Archive.heard g.A.Archive.faults g.A.Archive.losses) c.note.ensures)
+    (view_of g.A.Archive.account.meaning c.note.new.self)
+    (ap (view_of g.A.Archive.account.meaning) c.note.ensures)
     (subst (λ (v : GroupParts _). length v.log ≡ log_bound) c.self-2.view_is full)
 
 pub note-requires-2-clause-legal : goal.note-requires-2-clause-legal
 note-requires-2-clause-legal g c =
     rw c.note.ensures
-    (skip_legal (IsTrue g.A.Archive.tells) c.args.job c.args.stripe c.data_columns-column.result (view_of g.A.Archive.held g.A.Archive.heard g.A.Archive.faults g.A.Archive.losses c.args.self.now)
+    (skip_legal (IsTrue g.A.Archive.account.tells) c.args.job c.args.stripe c.data_columns-column.result (view_of g.A.Archive.account.meaning c.args.self.now)
     (subst (λ (v : GroupParts _). IsTable v.table) c.self.view_is c.data_columns-column.ensures.rules) c.requires.cursor
     (c.data_columns-column.ensures.value ∙ ap (λ (v : GroupParts _). v.table.data_columns) c.self.view_is) c.requires.void)
 
 pub returns-clause-passes : goal.returns-clause-passes
 returns-clause-passes g c =
-    left_behind (IsTrue g.A.Archive.tells) c.args.job c.args.stripe c.data_columns-column.result (view_of g.A.Archive.held g.A.Archive.heard g.A.Archive.faults g.A.Archive.losses c.args.self.now)
+    left_behind (IsTrue g.A.Archive.account.tells) c.args.job c.args.stripe c.data_columns-column.result (view_of g.A.Archive.account.meaning c.args.self.now)
     (subst (λ (v : GroupParts _). IsTable v.table) c.self.view_is c.data_columns-column.ensures.rules) c.requires.cursor
     (c.data_columns-column.ensures.value ∙ ap (λ (v : GroupParts _). v.table.data_columns) c.self.view_is) c.requires.gone c.requires.takes c.requires.void
-    (view_of g.A.Archive.held g.A.Archive.heard g.A.Archive.faults g.A.Archive.losses c.note-2.new.self)
-    (ap (view_of g.A.Archive.held g.A.Archive.heard g.A.Archive.faults g.A.Archive.losses) (c.note-2.ensures ∙ ap (λ v. noted v (Skip c.args.job c.args.stripe)) c.note.ensures))
+    (view_of g.A.Archive.account.meaning c.note-2.new.self)
+    (ap (view_of g.A.Archive.account.meaning) (c.note-2.ensures ∙ ap (λ v. noted v (Skip c.args.job c.args.stripe)) c.note.ensures))

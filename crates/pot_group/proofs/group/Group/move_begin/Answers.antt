@@ -5,14 +5,14 @@ use Rattle.pot_group.proofs.group.Group.move_begin.Goals as goal
 pub go_to-requires-clause-legal : goal.go_to-requires-clause-legal
 go_to-requires-clause-legal g c =
     let free = c.in_use.ensures c.in_default.is in
-    begin_legal (IsTrue g.A.Archive.tells) g.A.Archive.held g.A.Archive.heard g.A.Archive.faults g.A.Archive.losses c.args.self.now c.receive.new.self c.args.job c.args.column c.args.shelf.number c.kept-settled.ensures c.requires.column free.0 free.1 c.in_default-receive.ensures.brought.0
+    begin_legal (IsTrue g.A.Archive.account.tells) g.A.Archive.account.meaning c.args.self.now c.receive.new.self c.args.job c.args.column c.args.shelf.number c.kept-settled.ensures c.requires.column free.0 free.1 c.in_default-receive.ensures.brought.0
 
 pub go_to-requires-clause-there : goal.go_to-requires-clause-there
-go_to-requires-clause-there g c = came (IsTrue g.A.Archive.tells) g.A.Archive.held g.A.Archive.heard g.A.Archive.faults g.A.Archive.losses c.args.self.now.archives c.receive.new.self.archives c.args.shelf c.in_default-receive.ensures.brought.1
+go_to-requires-clause-there g c = came (IsTrue g.A.Archive.account.tells) g.A.Archive.account.meaning c.args.self.now.archives c.receive.new.self.archives c.args.shelf c.in_default-receive.ensures.brought.1
 
 pub returns-clause-begun : goal.returns-clause-begun
 returns-clause-begun g c =
     let free = c.in_use.ensures c.in_default.is in
     let room : length c.args.self.now.log < 262144 = search rules in
-    begun_step (IsTrue g.A.Archive.tells) g.A.Archive.held g.A.Archive.heard g.A.Archive.faults g.A.Archive.losses c.args.self.now c.receive.new.self c.go_to.new.self c.args.shelf c.args.job c.args.column c.kept-settled.ensures room c.requires.column free.0 free.1
+    begun_step (IsTrue g.A.Archive.account.tells) g.A.Archive.account.meaning c.args.self.now c.receive.new.self c.go_to.new.self c.args.shelf c.args.job c.args.column c.kept-settled.ensures room c.requires.column free.0 free.1
     c.in_default-receive.ensures.brought.0 c.in_default-receive.ensures.brought.1 c.go_to.ensures

@@ -8,8 +8,8 @@ pub invariant_of-self : goal.invariant_of-self
 invariant_of-self g c =
     let a = c.self.inside in
     let v : GroupParts _ = record { number = a.number; first = a.first; table = a.table; log = a.log.items; flights = a.flights.items; archives = a.archives } in
-    let s = settled_quiet (IsTrue g.A.Archive.tells) (view_of g.A.Archive.held g.A.Archive.heard g.A.Archive.faults g.A.Archive.losses v) c.args.entry c.self.invariant.0
+    let s = settled_quiet (IsTrue g.A.Archive.account.tells) (view_of g.A.Archive.account.meaning v) c.args.entry c.self.invariant.0
     (subst (λ (w : GroupParts _). Legal w.table c.args.entry) (sym c.self.view_is) c.requires.legal)
     (subst (λ (w : GroupParts _). length w.log < 262144) (sym c.self.view_is) c.requires.room)
-    (subst (λ (w : GroupParts _). IsQuiet (IsTrue g.A.Archive.tells) (view_of g.A.Archive.held g.A.Archive.heard g.A.Archive.faults g.A.Archive.losses w) c.args.entry) (sym c.self.view_is) c.requires.quiet) in
+    (subst (λ (w : GroupParts _). IsQuiet (IsTrue g.A.Archive.account.tells) (view_of g.A.Archive.account.meaning w) c.args.entry) (sym c.self.view_is) c.requires.quiet) in
     (rw (c.note.ensures.table, c.note.ensures.log) s, omega (arith, c.self.invariant.1, c.note.ensures.capacity), c.self.invariant.2)

@@ -7,12 +7,12 @@ use Rattle.pot_group.proofs.group.Group.put.Goals as goal
 
 pub returns-then-len-ge-LOG_BOUND-clause-logs : goal.returns-then-len-ge-LOG_BOUND-clause-logs
 returns-then-len-ge-LOG_BOUND-clause-logs g c =
-    at_once_logs c.args.job c.args.block.now (view_of g.A.Archive.held g.A.Archive.heard g.A.Archive.faults g.A.Archive.losses c.args.self.now)
+    at_once_logs c.args.job c.args.block.now (view_of g.A.Archive.account.meaning c.args.self.now)
     (subst (λ (v : GroupParts _). length v.log ≡ 262144) c.self.view_is (omega (arith, c.self.invariant.0.bound)))
 
 pub returns-then-len-ge-LOG_BOUND-clause-step : goal.returns-then-len-ge-LOG_BOUND-clause-step
 returns-then-len-ge-LOG_BOUND-clause-step g c =
-    λ t. at_once_step c.args.job c.args.block.now (view_of g.A.Archive.held g.A.Archive.heard g.A.Archive.faults g.A.Archive.losses c.args.self.now)
+    λ t. at_once_step c.args.job c.args.block.now (view_of g.A.Archive.account.meaning c.args.self.now)
     (subst (λ (v : GroupParts _). length v.log ≡ 262144) c.self.view_is (omega (arith, c.self.invariant.0.bound)))
 
 pub returns-in-Here-clause-logs : goal.returns-in-Here-clause-logs

@@ -11,16 +11,16 @@ pub read_sound-requires : goal.read_sound-requires
 read_sound-requires g c =
     let a = c.self.inside in
     let v : GroupParts _ = record { number = a.number; first = a.first; table = a.table; log = a.log.items; flights = a.flights.items; archives = a.archives } in
-    subst (λ n. Contains (plain g.A.Archive.held g.A.Archive.heard g.A.Archive.faults g.A.Archive.losses a.archives).numbers n) (sym c.archive_of-number.ensures)
-    (served (IsTrue g.A.Archive.tells) (view_of g.A.Archive.held g.A.Archive.heard g.A.Archive.faults g.A.Archive.losses v) c.self.invariant.0 c.args.stripe c.args.column
+    subst (λ n. Contains (plain g.A.Archive.account.meaning a.archives).numbers n) (sym c.archive_of-number.ensures)
+    (served (IsTrue g.A.Archive.account.tells) (view_of g.A.Archive.account.meaning v) c.self.invariant.0 c.args.stripe c.args.column
     (subst (λ (w : GroupParts _). c.args.column < width w.table) (sym c.self.view_is) c.requires))
 
 pub invariant_of-self : goal.invariant_of-self
 invariant_of-self g c =
     let a = c.self.inside in
     let v : GroupParts _ = record { number = a.number; first = a.first; table = a.table; log = a.log.items; flights = a.flights.items; archives = a.archives } in (
-      settled_stays (IsTrue g.A.Archive.tells) (view_of g.A.Archive.held g.A.Archive.heard g.A.Archive.faults g.A.Archive.losses v)
-          (plain g.A.Archive.held g.A.Archive.heard g.A.Archive.faults g.A.Archive.losses c.read_sound.new.self) c.self.invariant.0 c.read_sound.ensures.stays,
+      settled_stays (IsTrue g.A.Archive.account.tells) (view_of g.A.Archive.account.meaning v)
+          (plain g.A.Archive.account.meaning c.read_sound.new.self) c.self.invariant.0 c.read_sound.ensures.stays,
       c.self.invariant.1,
       c.self.invariant.2,
     )
@@ -29,7 +29,7 @@ pub returns-clause-covers : goal.returns-clause-covers
 returns-clause-covers g c =
     let a = c.self.inside in
     let v : GroupParts _ = record { number = a.number; first = a.first; table = a.table; log = a.log.items; flights = a.flights.items; archives = a.archives } in
-    read_covers (IsTrue g.A.Archive.tells) (view_of g.A.Archive.held g.A.Archive.heard g.A.Archive.faults g.A.Archive.losses v)
-    (plain g.A.Archive.held g.A.Archive.heard g.A.Archive.faults g.A.Archive.losses c.read_sound.new.self) c.args.stripe c.args.column c.args.digest c.read_sound.new.into c.read_sound.result
+    read_covers (IsTrue g.A.Archive.account.tells) (view_of g.A.Archive.account.meaning v)
+    (plain g.A.Archive.account.meaning c.read_sound.new.self) c.args.stripe c.args.column c.args.digest c.read_sound.new.into c.read_sound.result
     c.self.invariant.0 (subst (λ (w : GroupParts _). c.args.column < width w.table) (sym c.self.view_is) c.requires)
-    (subst (λ n. Finds (IsTrue g.A.Archive.tells) n c.args.stripe c.args.digest c.read_sound.new.into c.read_sound.result (plain g.A.Archive.held g.A.Archive.heard g.A.Archive.faults g.A.Archive.losses a.archives) (plain g.A.Archive.held g.A.Archive.heard g.A.Archive.faults g.A.Archive.losses c.read_sound.new.self)) c.archive_of-number.ensures c.read_sound.ensures)
+    (subst (λ n. Finds (IsTrue g.A.Archive.account.tells) n c.args.stripe c.args.digest c.read_sound.new.into c.read_sound.result (plain g.A.Archive.account.meaning a.archives) (plain g.A.Archive.account.meaning c.read_sound.new.self)) c.archive_of-number.ensures c.read_sound.ensures)

@@ -18,7 +18,7 @@ pub archive_of-number-requires : goal.archive_of-number-requires
 archive_of-number-requires g c =
     let a = c.self.inside in
     let v : GroupParts _ = record { number = a.number; first = a.first; table = a.table; log = a.log.items; flights = a.flights.items; archives = a.archives } in
-    target_wide (IsTrue g.A.Archive.tells) (view_of g.A.Archive.held g.A.Archive.heard g.A.Archive.faults g.A.Archive.losses v) (view_of g.A.Archive.held g.A.Archive.heard g.A.Archive.faults g.A.Archive.losses v).shelves c.args.job c.args.flight c.args.block.now c.self.invariant.0
+    target_wide (IsTrue g.A.Archive.account.tells) (view_of g.A.Archive.account.meaning v) (view_of g.A.Archive.account.meaning v).shelves c.args.job c.args.flight c.args.block.now c.self.invariant.0
     (subst (λ (w : GroupParts _). length w.log < 262144) (sym c.self.view_is) c.requires.room)
     (subst (λ (w : GroupParts _). flight_in w.flights c.args.flight.relay.stripe ≡ Some c.args.flight) (sym c.self.view_is) c.requires.here)
     (subst (λ (w : GroupParts _). next_column w.table c.args.flight.relay ≡ None) (sym c.self.view_is) c.requires.next)
@@ -27,15 +27,15 @@ pub write-requires : goal.write-requires
 write-requires g c =
     let a = c.self.inside in
     let v : GroupParts _ = record { number = a.number; first = a.first; table = a.table; log = a.log.items; flights = a.flights.items; archives = a.archives } in
-    subst (λ n. Contains (plain g.A.Archive.held g.A.Archive.heard g.A.Archive.faults g.A.Archive.losses a.archives).numbers n) (sym c.archive_of-number.ensures)
-    (target_served (IsTrue g.A.Archive.tells) (view_of g.A.Archive.held g.A.Archive.heard g.A.Archive.faults g.A.Archive.losses v) c.args.flight c.self.invariant.0
+    subst (λ n. Contains (plain g.A.Archive.account.meaning a.archives).numbers n) (sym c.archive_of-number.ensures)
+    (target_served (IsTrue g.A.Archive.account.tells) (view_of g.A.Archive.account.meaning v) c.args.flight c.self.invariant.0
     (subst (λ (w : GroupParts _). flight_in w.flights c.args.flight.relay.stripe ≡ Some c.args.flight) (sym c.self.view_is) c.requires.here))
 
 pub mended-entry-requires : goal.mended-entry-requires
 mended-entry-requires g c =
     let a = c.self.inside in
     let v : GroupParts _ = record { number = a.number; first = a.first; table = a.table; log = a.log.items; flights = a.flights.items; archives = a.archives } in
-    mended_legal (IsTrue g.A.Archive.tells) (view_of g.A.Archive.held g.A.Archive.heard g.A.Archive.faults g.A.Archive.losses v) (plain g.A.Archive.held g.A.Archive.heard g.A.Archive.faults g.A.Archive.losses c.write.new.self) c.args.job c.args.flight c.args.block.now c.self.invariant.0
+    mended_legal (IsTrue g.A.Archive.account.tells) (view_of g.A.Archive.account.meaning v) (plain g.A.Archive.account.meaning c.write.new.self) c.args.job c.args.flight c.args.block.now c.self.invariant.0
     (subst (λ (w : GroupParts _). length w.log < 262144) (sym c.self.view_is) c.requires.room)
     (subst (λ (w : GroupParts _). flight_in w.flights c.args.flight.relay.stripe ≡ Some c.args.flight) (sym c.self.view_is) c.requires.here)
     (subst (λ (w : GroupParts _). next_column w.table c.args.flight.relay ≡ None) (sym c.self.view_is) c.requires.next)
@@ -44,13 +44,13 @@ pub invariant_of-self : goal.invariant_of-self
 invariant_of-self g c =
     let a = c.self.inside in
     let v : GroupParts _ = record { number = a.number; first = a.first; table = a.table; log = a.log.items; flights = a.flights.items; archives = a.archives } in (
-      mended_exit (IsTrue g.A.Archive.tells) (view_of g.A.Archive.held g.A.Archive.heard g.A.Archive.faults g.A.Archive.losses v) (plain g.A.Archive.held g.A.Archive.heard g.A.Archive.faults g.A.Archive.losses c.write.new.self) c.args.job c.args.flight c.args.block.now c.self.invariant.0
+      mended_exit (IsTrue g.A.Archive.account.tells) (view_of g.A.Archive.account.meaning v) (plain g.A.Archive.account.meaning c.write.new.self) c.args.job c.args.flight c.args.block.now c.self.invariant.0
           (subst (λ (w : GroupParts _). length w.log < 262144) (sym c.self.view_is) c.requires.room)
           (subst (λ (w : GroupParts _). flight_in w.flights c.args.flight.relay.stripe ≡ Some c.args.flight) (sym c.self.view_is) c.requires.here)
           (subst (λ (w : GroupParts _). next_column w.table c.args.flight.relay ≡ None) (sym c.self.view_is) c.requires.next)
           c.requires.partial
           (subst (λ (w : GroupParts _). digest_in (slot_at w.table c.args.flight.relay.stripe c.args.flight.relay.target) ≡ Some (digest_of c.args.block.now)) (sym c.self.view_is) c.requires.digest)
-          (subst (λ n. Writes (IsTrue g.A.Archive.tells) n c.args.flight.relay.stripe c.args.block.now (Ok (tt)) (plain g.A.Archive.held g.A.Archive.heard g.A.Archive.faults g.A.Archive.losses a.archives) (plain g.A.Archive.held g.A.Archive.heard g.A.Archive.faults g.A.Archive.losses c.write.new.self)) c.archive_of-number.ensures c.in-Ok.ensures)
+          (subst (λ n. Writes (IsTrue g.A.Archive.account.tells) n c.args.flight.relay.stripe c.args.block.now (Ok (tt)) (plain g.A.Archive.account.meaning a.archives) (plain g.A.Archive.account.meaning c.write.new.self)) c.archive_of-number.ensures c.in-Ok.ensures)
           c.mended-entry.result c.mended-entry.new.table c.push_reserved.new.self.items c.retain.new.self.items c.mended-entry.ensures.entry c.mended-entry.ensures.table c.push_reserved.ensures.items
           (filter_same _ (λ (f : Flight). not (f.relay.stripe == c.args.flight.relay.stripe)) _ (λ x b q h. search (rules, tests)) _ _ c.retain.ensures.filtered),
       omega (arith, c.self.invariant.1, c.push_reserved.ensures.capacity),
@@ -61,7 +61,7 @@ pub note-requires-clause-legal : goal.note-requires-clause-legal
 note-requires-clause-legal g c =
     let a = c.self.inside in
     let v : GroupParts _ = record { number = a.number; first = a.first; table = a.table; log = a.log.items; flights = a.flights.items; archives = a.archives } in
-    fault_legal (IsTrue g.A.Archive.tells) (view_of g.A.Archive.held g.A.Archive.heard g.A.Archive.faults g.A.Archive.losses v) (plain g.A.Archive.held g.A.Archive.heard g.A.Archive.faults g.A.Archive.losses c.write.new.self) c.args.job c.args.flight c.args.block.now c.self.invariant.0
+    fault_legal (IsTrue g.A.Archive.account.tells) (view_of g.A.Archive.account.meaning v) (plain g.A.Archive.account.meaning c.write.new.self) c.args.job c.args.flight c.args.block.now c.self.invariant.0
     (subst (λ (w : GroupParts _). length w.log < 262144) (sym c.self.view_is) c.requires.room)
     (subst (λ (w : GroupParts _). flight_in w.flights c.args.flight.relay.stripe ≡ Some c.args.flight) (sym c.self.view_is) c.requires.here)
     (subst (λ (w : GroupParts _). next_column w.table c.args.flight.relay ≡ None) (sym c.self.view_is) c.requires.next)
@@ -70,11 +70,11 @@ pub invariant_of-self-in-Err : goal.invariant_of-self-in-Err
 invariant_of-self-in-Err g c =
     let a = c.self.inside in
     let v : GroupParts _ = record { number = a.number; first = a.first; table = a.table; log = a.log.items; flights = a.flights.items; archives = a.archives } in (
-      fault_exit (IsTrue g.A.Archive.tells) (view_of g.A.Archive.held g.A.Archive.heard g.A.Archive.faults g.A.Archive.losses v) (plain g.A.Archive.held g.A.Archive.heard g.A.Archive.faults g.A.Archive.losses c.write.new.self) c.args.job c.args.flight c.args.block.now c.self.invariant.0
+      fault_exit (IsTrue g.A.Archive.account.tells) (view_of g.A.Archive.account.meaning v) (plain g.A.Archive.account.meaning c.write.new.self) c.args.job c.args.flight c.args.block.now c.self.invariant.0
           (subst (λ (w : GroupParts _). length w.log < 262144) (sym c.self.view_is) c.requires.room)
           (subst (λ (w : GroupParts _). flight_in w.flights c.args.flight.relay.stripe ≡ Some c.args.flight) (sym c.self.view_is) c.requires.here)
           (subst (λ (w : GroupParts _). next_column w.table c.args.flight.relay ≡ None) (sym c.self.view_is) c.requires.next)
-          c.in-Err.field-0 (subst (λ n. Writes (IsTrue g.A.Archive.tells) n c.args.flight.relay.stripe c.args.block.now (Err c.in-Err.field-0) (plain g.A.Archive.held g.A.Archive.heard g.A.Archive.faults g.A.Archive.losses a.archives) (plain g.A.Archive.held g.A.Archive.heard g.A.Archive.faults g.A.Archive.losses c.write.new.self)) c.archive_of-number.ensures c.in-Err.ensures) c.note.new.table c.note.new.log.items c.note.ensures.table c.note.ensures.log,
+          c.in-Err.field-0 (subst (λ n. Writes (IsTrue g.A.Archive.account.tells) n c.args.flight.relay.stripe c.args.block.now (Err c.in-Err.field-0) (plain g.A.Archive.account.meaning a.archives) (plain g.A.Archive.account.meaning c.write.new.self)) c.archive_of-number.ensures c.in-Err.ensures) c.note.new.table c.note.new.log.items c.note.ensures.table c.note.ensures.log,
       omega (arith, c.self.invariant.1, c.note.ensures.capacity),
       c.self.invariant.2,
     )
@@ -83,12 +83,12 @@ pub returns-in-Ok : goal.returns-in-Ok
 returns-in-Ok g c =
     let a = c.self.inside in
     let v : GroupParts _ = record { number = a.number; first = a.first; table = a.table; log = a.log.items; flights = a.flights.items; archives = a.archives } in
-    subst (λ (w : GroupParts _). EndsWell (IsTrue g.A.Archive.tells) c.args.job c.args.block.now c.args.flight (Ok advanced.Mended) (view_of g.A.Archive.held g.A.Archive.heard g.A.Archive.faults g.A.Archive.losses w)
-    (record { number = a.number; first = a.first; table = c.mended-entry.new.table; log = c.push_reserved.new.self.items; flights = c.retain.new.self.items; shelves = (plain g.A.Archive.held g.A.Archive.heard g.A.Archive.faults g.A.Archive.losses c.write.new.self) })) c.self.view_is (
+    subst (λ (w : GroupParts _). EndsWell (IsTrue g.A.Archive.account.tells) c.args.job c.args.block.now c.args.flight (Ok advanced.Mended) (view_of g.A.Archive.account.meaning w)
+    (record { number = a.number; first = a.first; table = c.mended-entry.new.table; log = c.push_reserved.new.self.items; flights = c.retain.new.self.items; shelves = (plain g.A.Archive.account.meaning c.write.new.self) })) c.self.view_is (
       record {
         number = refl;
         first = refl;
-        legal = mended_legal (IsTrue g.A.Archive.tells) (view_of g.A.Archive.held g.A.Archive.heard g.A.Archive.faults g.A.Archive.losses v) (plain g.A.Archive.held g.A.Archive.heard g.A.Archive.faults g.A.Archive.losses c.write.new.self) c.args.job c.args.flight c.args.block.now c.self.invariant.0
+        legal = mended_legal (IsTrue g.A.Archive.account.tells) (view_of g.A.Archive.account.meaning v) (plain g.A.Archive.account.meaning c.write.new.self) c.args.job c.args.flight c.args.block.now c.self.invariant.0
             (subst (λ (w : GroupParts _). length w.log < 262144) (sym c.self.view_is) c.requires.room)
             (subst (λ (w : GroupParts _). flight_in w.flights c.args.flight.relay.stripe ≡ Some c.args.flight) (sym c.self.view_is) c.requires.here)
             (subst (λ (w : GroupParts _). next_column w.table c.args.flight.relay ≡ None) (sym c.self.view_is) c.requires.next);
@@ -96,20 +96,20 @@ returns-in-Ok g c =
         log = rw c.mended-entry.ensures.entry at c.push_reserved.ensures.items;
         flights = (filter_same _ (λ (f : Flight). not (f.relay.stripe == c.args.flight.relay.stripe)) _ (λ x b q h. search (rules, tests)) _ _ c.retain.ensures.filtered);
       },
-      (subst (λ n. Writes (IsTrue g.A.Archive.tells) n c.args.flight.relay.stripe c.args.block.now (Ok (tt)) (plain g.A.Archive.held g.A.Archive.heard g.A.Archive.faults g.A.Archive.losses a.archives) (plain g.A.Archive.held g.A.Archive.heard g.A.Archive.faults g.A.Archive.losses c.write.new.self)) c.archive_of-number.ensures c.in-Ok.ensures),
+      (subst (λ n. Writes (IsTrue g.A.Archive.account.tells) n c.args.flight.relay.stripe c.args.block.now (Ok (tt)) (plain g.A.Archive.account.meaning a.archives) (plain g.A.Archive.account.meaning c.write.new.self)) c.archive_of-number.ensures c.in-Ok.ensures),
     )
 
 pub returns-in-Err : goal.returns-in-Err
 returns-in-Err g c =
     let a = c.self.inside in
     let v : GroupParts _ = record { number = a.number; first = a.first; table = a.table; log = a.log.items; flights = a.flights.items; archives = a.archives } in
-    subst (λ (w : GroupParts _). EndsWell (IsTrue g.A.Archive.tells) c.args.job c.args.block.now c.args.flight (Err (failed.Faulted c.args.flight.relay.target)) (view_of g.A.Archive.held g.A.Archive.heard g.A.Archive.faults g.A.Archive.losses w)
-    (record { number = a.number; first = a.first; table = c.note.new.table; log = c.note.new.log.items; flights = a.flights.items; shelves = (plain g.A.Archive.held g.A.Archive.heard g.A.Archive.faults g.A.Archive.losses c.write.new.self) })) c.self.view_is (
+    subst (λ (w : GroupParts _). EndsWell (IsTrue g.A.Archive.account.tells) c.args.job c.args.block.now c.args.flight (Err (failed.Faulted c.args.flight.relay.target)) (view_of g.A.Archive.account.meaning w)
+    (record { number = a.number; first = a.first; table = c.note.new.table; log = c.note.new.log.items; flights = a.flights.items; shelves = (plain g.A.Archive.account.meaning c.write.new.self) })) c.self.view_is (
       refl,
       record {
         number = refl;
         first = refl;
-        legal = fault_legal (IsTrue g.A.Archive.tells) (view_of g.A.Archive.held g.A.Archive.heard g.A.Archive.faults g.A.Archive.losses v) (plain g.A.Archive.held g.A.Archive.heard g.A.Archive.faults g.A.Archive.losses c.write.new.self) c.args.job c.args.flight c.args.block.now c.self.invariant.0
+        legal = fault_legal (IsTrue g.A.Archive.account.tells) (view_of g.A.Archive.account.meaning v) (plain g.A.Archive.account.meaning c.write.new.self) c.args.job c.args.flight c.args.block.now c.self.invariant.0
             (subst (λ (w : GroupParts _). length w.log < 262144) (sym c.self.view_is) c.requires.room)
             (subst (λ (w : GroupParts _). flight_in w.flights c.args.flight.relay.stripe ≡ Some c.args.flight) (sym c.self.view_is) c.requires.here)
             (subst (λ (w : GroupParts _). next_column w.table c.args.flight.relay ≡ None) (sym c.self.view_is) c.requires.next);
@@ -117,5 +117,5 @@ returns-in-Err g c =
         log = c.note.ensures.log;
         flights = refl;
       },
-      (c.in-Err.field-0, (subst (λ n. Writes (IsTrue g.A.Archive.tells) n c.args.flight.relay.stripe c.args.block.now (Err c.in-Err.field-0) (plain g.A.Archive.held g.A.Archive.heard g.A.Archive.faults g.A.Archive.losses a.archives) (plain g.A.Archive.held g.A.Archive.heard g.A.Archive.faults g.A.Archive.losses c.write.new.self)) c.archive_of-number.ensures c.in-Err.ensures)),
+      (c.in-Err.field-0, (subst (λ n. Writes (IsTrue g.A.Archive.account.tells) n c.args.flight.relay.stripe c.args.block.now (Err c.in-Err.field-0) (plain g.A.Archive.account.meaning a.archives) (plain g.A.Archive.account.meaning c.write.new.self)) c.archive_of-number.ensures c.in-Err.ensures)),
     )
