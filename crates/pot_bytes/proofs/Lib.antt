@@ -1,5 +1,6 @@
 pub mod DigestLemmas
 pub mod Basis
+pub mod ListLemmas
 pub mod NameLemmas
 pub mod ProductLemmas
 pub mod SumLemmas

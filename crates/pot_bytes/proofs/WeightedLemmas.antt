@@ -1,7 +1,8 @@
 -- Laws of weighted sums.
-use Rattle.std.proofs.Common.{◌≡◌, ◌<◌, ◌≤◌, ℕ, zero, suc, List, [], ◌∷◌, ◌++◌, length, get_or, replicate, refl, ap, ap₂, sym, ◌∙◌, arith, bit_xor}
+use Rattle.std.proofs.Common.{◌≡◌, ◌≤◌, ℕ, zero, suc, List, [], ◌∷◌, ◌++◌, length, get_or, replicate, refl, ap, ap₂, sym, ◌∙◌, arith, bit_xor}
 use Rattle.std.proofs.lemmas.List.{length-map, length-replicate}
 use Rattle.std.specs.Simd.Lanes.{zip2}
+use Rattle.pot_bytes.specs.Lists.{AreBytes}
 use Rattle.pot_bytes.specs.Sums.{xor, sum_of}
 use Rattle.pot_bytes.specs.Product.{byte_product}
 use Rattle.pot_bytes.specs.Weighted.{scaled, weighted_sum, WeightedLaws}
@@ -27,7 +28,7 @@ scaled-zeros w zero = refl
 scaled-zeros w (suc n) = ap₂ (λ h t. h ∷ t) (byte_product-zero_right w) (scaled-zeros w n)
 
 -- the weight 1 changes no byte
-pub scaled-one : (a : List ℕ) → ((k : ℕ) → get_or a k 0 < 256) → scaled 1 a ≡ a
+pub scaled-one : (a : List ℕ) → AreBytes a → scaled 1 a ≡ a
 scaled-one [] h = refl
 scaled-one (x ∷ a) h = ap₂ (λ r t. r ∷ t) (byte_product-one_left x (h 0)) (scaled-one a (λ k. h (suc k)))
 

@@ -1,5 +1,6 @@
 pub mod Digests
 pub mod KeptNames
+pub mod Lists
 pub mod Names
 pub mod Product
 pub mod Rack

@@ -1,5 +1,5 @@
 -- The limits of a rack.
-use Rattle.std.specs.Prelude.{◌≤◌}
+use Rattle.std.specs.Prelude.{◌≤◌, ℕ}
 use Rattle.pot_bytes.specs.declared.rack.Geometry.{Geometry}
 use Rattle.pot_bytes.specs.declared.rack.Rack.{Rack}
 
@@ -9,6 +9,11 @@ pub record IsGeometry (g : Geometry) : Type 0 where
   pub need : (1 ≤ g.need) × (g.need ≤ g.shards)
   pub shards : g.shards ≤ 16
   pub blur : g.blur ≤ 63
+
+-- a geometry within its limits, whose shards lie in as many of these groups
+pub record FitsIn (groups : ℕ) (g : Geometry) : Type 0 where
+  pub geometry : IsGeometry g
+  pub apart : g.shards ≤ groups
 
 -- a geometry within its limits, at least as many groups as shards and at most 16, 1 to 16 data columns, one or two
 -- parity columns, and 1 to 4,096 stripes

@@ -1,6 +1,7 @@
 -- Weighted sums of lists of bytes, place by place.
-use Rattle.std.specs.Prelude.{◌≡◌, ◌<◌, ◌≤◌, ℕ, List, [], ◌∷◌, ◌++◌, length, map, replicate, slice_index, bit_xor}
+use Rattle.std.specs.Prelude.{◌≡◌, ◌≤◌, ℕ, List, [], ◌∷◌, ◌++◌, length, map, replicate, bit_xor}
 use Rattle.std.specs.Simd.Lanes.{zip2}
+use Rattle.pot_bytes.specs.Lists.{AreBytes}
 use Rattle.pot_bytes.specs.Product.{byte_product}
 use Rattle.pot_bytes.specs.Sums.{xor}
 
@@ -20,7 +21,7 @@ pub record WeightedLaws : Type 0 where
   pub weights : (v w : ℕ) (a : List ℕ) → scaled (bit_xor v w) a ≡ xor (scaled v a) (scaled w a)
   pub lists : (w : ℕ) (a b : List ℕ) → scaled w (xor a b) ≡ xor (scaled w a) (scaled w b)
   pub zero : (a : List ℕ) → scaled 0 a ≡ replicate (length a) 0
-  pub one : (a : List ℕ) → ((k : ℕ) → slice_index a k < 256) → scaled 1 a ≡ a
+  pub one : (a : List ℕ) → AreBytes a → scaled 1 a ≡ a
   -- hence a weighted sum is linear in its weights and in its lists
   pub sum_weights : (n : ℕ) (vs ws : List ℕ) (bs : List (List ℕ)) → length vs ≡ length ws
       → weighted_sum n (xor vs ws) bs ≡ xor (weighted_sum n vs bs) (weighted_sum n ws bs)

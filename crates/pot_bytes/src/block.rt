@@ -1,4 +1,5 @@
 ghost use Rattle.std.specs.Prelude.{◌≡◌, ◌≤◌, ◌-◌, ◌++◌, length, drop, replicate};
+ghost use Rattle.pot_bytes.specs.Lists.{AreBytes, IsBlock};
 ghost use Rattle.pot_bytes.specs.Sums.{xor, zero_block};
 
 use std::marker::Model;
@@ -61,6 +62,20 @@ impl Block {
     {
         xor_into(&mut self.bytes, &from.bytes);
     }
+}
+
+/// A block is 1,024 bytes. It does nothing.
+pub fn block_law(block: &Block)
+    ensures { IsBlock block.now }
+{
+    each_is_a_byte(block.bytes());
+}
+
+/// Each element of these is a byte. It does nothing.
+fn each_is_a_byte(bytes: &[u8])
+    ensures { AreBytes bytes.now }
+{
+    let _first = bytes.first();
 }
 
 /// Writes `from` over the first bytes of `into`.

@@ -21,7 +21,7 @@ mod rack;
 mod strings;
 mod weighted;
 
-pub use block::{Block, xor_into};
+pub use block::{Block, block_law, xor_into};
 pub use digest::{Digest, digest_of};
 pub use memory::NoMemory;
 pub use name::Name;

@@ -1,6 +1,6 @@
 //! The shape of an archive: how files are split, how many groups there are, and where a block stands.
 ghost use Rattle.std.specs.Prelude.{◌↔◌, IsTrue};
-ghost use Rattle.pot_bytes.specs.Rack.{IsRack};
+ghost use Rattle.pot_bytes.specs.Rack.{FitsIn, IsRack};
 
 /// How a file is split.
 #[derive(Clone, Copy, Debug, PartialEq, Eq)]
@@ -41,6 +41,22 @@ pub struct Place {
     pub stripe: u32,
 }
 
+impl Geometry {
+    /// Whether files may be split so over this many groups: 2 to 8 fragments, a threshold of at least 1 and at most
+    /// the number of shards, at most 16 shards and at most as many as groups, and a blur of at most 63.
+    pub fn fits(&self, groups: u8) -> bool
+        ensures { IsTrue result ↔ FitsIn groups self.now }
+    {
+        2 <= self.fragments
+            && self.fragments <= 8
+            && 1 <= self.need
+            && self.need <= self.shards
+            && self.shards <= 16
+            && self.blur <= 63
+            && self.shards <= groups
+    }
+}
+
 impl Rack {
     /// Whether the rack is within the limits: 2 to 8 fragments, a threshold of at least 1 and at most
     /// the number of shards, at most 16 shards, at least as many groups as shards and at most 16,
@@ -48,19 +64,7 @@ impl Rack {
     pub fn fits(&self) -> bool
         ensures { IsTrue result ↔ IsRack self.now }
     {
-        let Geometry {
-            fragments,
-            need,
-            shards,
-            blur,
-        } = self.geometry;
-        2 <= fragments
-            && fragments <= 8
-            && 1 <= need
-            && need <= shards
-            && shards <= 16
-            && blur <= 63
-            && shards <= self.groups
+        self.geometry.fits(self.groups)
             && self.groups <= 16
             && 1 <= self.columns
             && self.columns <= 16
@@ -84,6 +88,15 @@ mod tests {
             shards: 3,
             blur: 16,
         };
+        assert!(rt; geometry.fits(3));
+        assert!(rt; !geometry.fits(2));
+        assert!(rt;
+            !Geometry {
+                fragments: 9,
+                ..geometry
+            }
+            .fits(16)
+        );
         let rack = Rack {
             groups: 3,
             columns: 3,

@@ -4,10 +4,11 @@ use Rattle.std.specs.List.{IsDistinct}
 use Rattle.std.specs.Int.Bits.{xor_self, xor_zero_r}
 use Rattle.std.proofs.lemmas.Nat.{xor_of_8}
 use Rattle.std.proofs.lemmas.Map.Keys.{IsDistinct-head, IsDistinct-tail}
+use Rattle.pot_bytes.specs.Lists.{AreBytes}
 use Rattle.pot_bytes.specs.Product.{byte_product}
 use Rattle.pot_bytes.proofs.TotalLemmas.{from_zero}
 use Rattle.pot_bytes.proofs.ProductLemmas.{byte_product-zero_left, byte_product-zero_right, byte_product-one_left, byte_product-one_right, byte_product-comm}
-use Rattle.pot_gf.specs.Polynomials.{value, AreBytes, IsBelowDegree, IsTimesLine, Meets}
+use Rattle.pot_gf.specs.Polynomials.{value, IsBelowDegree, IsTimesLine, Meets}
 use Rattle.pot_gf.proofs.FieldLemmas.{byte_product-cancel}
 use Rattle.pot_gf.proofs.Values.{value-cons, value-zero, value-below}
 use Rattle.pot_gf.proofs.Zeros.{apart}

@@ -7,6 +7,7 @@ use Rattle.std.proofs.lemmas.List.{get_or-map}
 use Rattle.std.specs.Int.Bits.{xor_self, xor_zero_l, xor_zero_r}
 use Rattle.std.proofs.lemmas.Nat.{xor_of_8}
 use Rattle.std.proofs.lemmas.Bool.Decides.{nat_tests}
+use Rattle.pot_bytes.specs.Lists.{AreBytes}
 use Rattle.pot_bytes.specs.Product.{byte_product}
 use Rattle.pot_bytes.specs.Totals.{total}
 use Rattle.pot_bytes.specs.Weighted.{scaled}
@@ -15,7 +16,7 @@ use Rattle.pot_bytes.proofs.ProductLemmas.{byte_product-xor_left, byte_product-z
 use Rattle.pot_bytes.proofs.WeightedLemmas.{get_or-scaled}
 use Rattle.pot_gf.specs.Field.{inverse}
 use Rattle.pot_gf.specs.Lagrange.{product_but, lagrange_weight}
-use Rattle.pot_gf.specs.Polynomials.{value, AreBytes, IsBelowDegree}
+use Rattle.pot_gf.specs.Polynomials.{value, IsBelowDegree}
 use Rattle.pot_gf.proofs.FieldLemmas.{byte_product-assoc, byte_product-cancel, byte_product-inverse}
 use Rattle.pot_gf.proofs.Values.{added, get_or-added, value-added, value-nil, value-cons, value-scaled, value-below, value-same}
 use Rattle.pot_gf.proofs.Built.{distinct_apart}

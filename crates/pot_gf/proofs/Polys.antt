@@ -10,10 +10,11 @@ use Rattle.pot_bytes.proofs.ProductLemmas.{byte_product-below}
 use Rattle.pot_bytes.proofs.WeightedLemmas.{get_or-scaled, get_or-xor}
 use Rattle.std.specs.Int.Bits.{xor_zero_l, xor_zero_r, xor_self}
 use Rattle.std.proofs.lemmas.Nat.{xor_comm}
+use Rattle.pot_bytes.proofs.ListLemmas.{AreBytes-take}
 use Rattle.pot_bytes.proofs.TotalLemmas.{xor_cancel_left}
 use Rattle.pot_bytes.proofs.SumLemmas.{xor_replicate}
 use Rattle.pot_bytes.proofs.ProductLemmas.{byte_product-xor_left, byte_product-comm, byte_product-zero_left, byte_product-zero_right, byte_product-one_right}
-use Rattle.pot_gf.specs.Polynomials.{value, IsPoly, AreBytes, IsBelowDegree, IsSame, IsTimesLine, Meets}
+use Rattle.pot_gf.specs.Polynomials.{value, IsPoly, IsBelowDegree, IsSame, IsTimesLine, Meets}
 use Rattle.pot_gf.proofs.FieldLemmas.{byte_product-assoc}
 use Rattle.pot_gf.proofs.Values.{value-cons, value-same, value-xor, value-scaled, get_or-end}
 
@@ -37,12 +38,6 @@ get_or-take_end zero t p h = refl
 get_or-take_end (suc n) t [] h = refl
 get_or-take_end (suc n) zero (c ∷ p) h = absurd (omega arith)
 get_or-take_end (suc n) (suc t) (c ∷ p) h = get_or-take_end n t p (omega arith)
-
-AreBytes-take : (n : ℕ) (p : List ℕ) → AreBytes p → AreBytes (take n p)
-AreBytes-take zero p h k = lit< tt
-AreBytes-take (suc n) [] h k = lit< tt
-AreBytes-take (suc n) (c ∷ p) h zero = h 0
-AreBytes-take (suc n) (c ∷ p) h (suc k) = AreBytes-take n p (λ t. h (suc t)) k
 
 pub IsPoly-raised : (p : List ℕ) → IsPoly p → IsPoly (0 ∷ take 15 p)
 IsPoly-raised p h = record {

@@ -1,6 +1,7 @@
 -- The value of a polynomial: Horner's form, and linearity.
 use Rattle.std.proofs.Common.{◌≡◌, ◌⊎◌, inl, inr, ℕ, zero, suc, ◌+◌, ◌-◌, ◌<◌, ◌≤◌, bit_xor, List, [], ◌∷◌, length, get_or, refl, sym, ap, ap₂, ◌∙◌, arith, lit<}
 use Rattle.std.specs.Int.Bits.{xor_zero_r, xor_zero_l, xor_self}
+use Rattle.pot_bytes.specs.Lists.{AreBytes}
 use Rattle.pot_bytes.specs.Totals.{total}
 use Rattle.pot_bytes.specs.Product.{byte_product}
 use Rattle.pot_bytes.specs.Sums.{xor}
@@ -8,7 +9,7 @@ use Rattle.pot_bytes.specs.Weighted.{scaled}
 use Rattle.pot_bytes.proofs.TotalLemmas.{interchange, total_same, total_first, total_more, total_below}
 use Rattle.pot_bytes.proofs.ProductLemmas.{byte_product-xor_left, byte_product-xor_right, byte_product-zero_left, byte_product-zero_right, byte_product-one_right, byte_product-comm, byte_product-below, byte_product-total}
 use Rattle.pot_gf.specs.Field.{power}
-use Rattle.pot_gf.specs.Polynomials.{value, IsBelowDegree, AreBytes, IsSame}
+use Rattle.pot_gf.specs.Polynomials.{value, IsBelowDegree, IsSame}
 use Rattle.pot_gf.proofs.FieldLemmas.{byte_product-assoc}
 
 -- factors in another order

@@ -1,13 +1,14 @@
 -- The polynomial that is 1 at 0 and 0 at the points.
 use Rattle.std.proofs.Common.{◌≡◌, ℕ, zero, suc, ◌+◌, ◌<◌, bit_xor, List, [], ◌∷◌, ◌++◌, length, get_or, refl, sym, ap, ap₂, ◌∙◌, arith, length-append}
 use Rattle.std.proofs.lemmas.List.{length-map}
+use Rattle.pot_bytes.specs.Lists.{AreBytes}
 use Rattle.pot_bytes.specs.Product.{byte_product}
 use Rattle.pot_bytes.specs.Weighted.{scaled}
 use Rattle.pot_bytes.proofs.SumLemmas.{length-xor}
 use Rattle.pot_bytes.proofs.ProductLemmas.{byte_product-xor_left, byte_product-zero_left, byte_product-zero_right, byte_product-one_left, byte_product-comm}
 use Rattle.pot_bytes.proofs.WeightedLemmas.{get_or-xor}
 use Rattle.pot_gf.specs.Field.{inverse}
-use Rattle.pot_gf.specs.Polynomials.{value, AreBytes, IsBelowDegree, VanishesAt, IsSame, plus_raised, vanishing, PolynomialLaws}
+use Rattle.pot_gf.specs.Polynomials.{value, IsBelowDegree, VanishesAt, IsSame, plus_raised, vanishing, PolynomialLaws}
 use Rattle.pot_gf.proofs.FieldLemmas.{byte_product-assoc, byte_product-inverse}
 use Rattle.pot_gf.proofs.Values.{byte_product-swap, value-cons, value-xor, value-scaled, value-below, value-same, get_or-end}
 use Rattle.pot_gf.proofs.Zeros.{zero_law, unique_law}

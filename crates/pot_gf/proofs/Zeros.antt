@@ -5,10 +5,11 @@ use Rattle.std.specs.Int.Bits.{xor_zero_r, xor_zero_l, xor_self}
 use Rattle.std.proofs.lemmas.Nat.{xor_comm, xor_of_8}
 use Rattle.std.proofs.lemmas.Bool.Decides.{nat_tests}
 use Rattle.std.proofs.lemmas.Map.Keys.{IsDistinct-head, IsDistinct-tail}
+use Rattle.pot_bytes.specs.Lists.{AreBytes}
 use Rattle.pot_bytes.specs.Product.{byte_product}
 use Rattle.pot_bytes.proofs.TotalLemmas.{interchange, from_zero}
 use Rattle.pot_bytes.proofs.ProductLemmas.{byte_product-xor_left, byte_product-xor_right, byte_product-zero_right, byte_product-one_right}
-use Rattle.pot_gf.specs.Polynomials.{value, IsBelowDegree, AreBytes, VanishesAt, PassesThrough, IsSame}
+use Rattle.pot_gf.specs.Polynomials.{value, IsBelowDegree, VanishesAt, PassesThrough, IsSame}
 use Rattle.pot_gf.proofs.FieldLemmas.{byte_product-cancel}
 use Rattle.pot_gf.proofs.Values.{byte_product-swap, value-nil, value-cons, value-below, value-zero, added, get_or-added, value-added}
 

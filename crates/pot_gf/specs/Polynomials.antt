@@ -1,6 +1,7 @@
 -- Polynomials over the field, each the list of its coefficients, that of x^t at place t.
 use Rattle.std.specs.Prelude.{◌≡◌, ℕ, ◌+◌, ◌<◌, ◌≤◌, List, [], ◌∷◌, ◌++◌, length, slice_index, nat_eq, bit_xor}
 use Rattle.std.specs.List.{IsDistinct}
+use Rattle.pot_bytes.specs.Lists.{AreBytes}
 use Rattle.pot_bytes.specs.Product.{byte_product}
 use Rattle.pot_bytes.specs.Totals.{total}
 use Rattle.pot_bytes.specs.Sums.{xor}
@@ -18,10 +19,6 @@ IsBelowDegree n p = (t : ℕ) → n ≤ t → slice_index p t ≡ 0
 -- p + factor x p
 abbrev pub plus_raised : ℕ → List ℕ → List ℕ
 plus_raised factor p = xor (p ++ 0 ∷ []) (0 ∷ scaled factor p)
-
--- each element is a byte
-abbrev pub AreBytes : List ℕ → Type 0
-AreBytes xs = (k : ℕ) → slice_index xs k < 256
 
 -- 16 coefficients
 pub record IsPoly (p : List ℕ) : Type 0 where

@@ -1,24 +1,12 @@
 -- A number that was read from bytes is written to the same bytes again.
-use Rattle.std.proofs.Common.{◌≡◌, ◌≤◌, ◌<◌, ◌+◌, ℕ, List, length, take, drop, get_or, inl, inr, sym, ◌∙◌, arith}
-use Rattle.std.proofs.lemmas.List.{get_or_past, get_or-drop, get_or-take, length-take, length-take-le}
-use Rattle.std.proofs.lemmas.Bool.{cases_lt}
+use Rattle.std.proofs.Common.{◌≡◌, ◌≤◌, ℕ, List, length, take, sym, ◌∙◌, arith}
+use Rattle.std.proofs.lemmas.List.{length-take-le}
 use Rattle.std.proofs.lemmas.Nat.{be_bytes_4, be_bytes_8}
 use Rattle.std.specs.Int.{w32, w64, from_be_bytes}
 use Rattle.byteorder.specs.Endian.{big_bytes, big_number}
 use Rattle.byteorder.specs.Numbers.{big_from-take}
-
--- each of these numbers is a byte
-abbrev pub AreBytes : List ℕ → Type 0
-AreBytes xs = (i : ℕ) → get_or xs i 0 < 256
-
-pub AreBytes-take : (n : ℕ) (xs : List ℕ) → AreBytes xs → AreBytes (take n xs)
-AreBytes-take n xs small i = elim (cases_lt i n) [
-  | inl inside ↦ rw (get_or-take n xs i 0 inside) (small i)
-  | inr past ↦ rw (get_or_past (take n xs) i 0 (omega (arith, length-take {A = ℕ} n xs))) (omega arith)
-]
-
-pub AreBytes-drop : (n : ℕ) (xs : List ℕ) → AreBytes xs → AreBytes (drop n xs)
-AreBytes-drop n xs small i = rw (get_or-drop n xs i 0) (small (n + i))
+use Rattle.pot_bytes.specs.Lists.{AreBytes}
+use Rattle.pot_bytes.proofs.ListLemmas.{AreBytes-take}
 
 -- a number that was read is written again
 number_4 : (bs : List ℕ) (n : ℕ) → length bs ≡ 4 → AreBytes bs → n ≡ big_number 4 bs → big_bytes 4 n ≡ bs

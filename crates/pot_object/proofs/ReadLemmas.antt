@@ -4,11 +4,13 @@ use Rattle.std.proofs.Math.Seq.{take-add}
 use Rattle.std.proofs.lemmas.List.{append_assoc, drop_at, drop-drop, length-take-le, take_at, take_rest, take-append-drop}
 use Rattle.byteorder.specs.Endian.{big_bytes, big_number}
 use Rattle.byteorder.specs.Numbers.{big_number-reads_back}
+use Rattle.pot_bytes.specs.Lists.{AreBytes}
+use Rattle.pot_bytes.proofs.ListLemmas.{AreBytes-drop}
 use Rattle.pot_bytes.specs.Digests.{digest_bytes}
 use Rattle.pot_object.specs.Sealing.{sealed}
 use Rattle.pot_object.specs.Objects.{head_at, head_bytes, object_bytes, part_length, IsHead, IsObject}
 use Rattle.pot_object.specs.declared.object.ObjectHead.{ObjectHead}
-use Rattle.pot_object.proofs.NumberLemmas.{big_bytes_4, big_bytes_8, AreBytes, AreBytes-drop}
+use Rattle.pot_object.proofs.NumberLemmas.{big_bytes_4, big_bytes_8}
 use Rattle.pot_object.proofs.ObjectLemmas.{length-head_bytes}
 use Rattle.pot_object.proofs.SealLemmas.{rest-sealed, sealed_again}
 

@@ -1,6 +1,6 @@
 -- Objects of one file, one after another, and the file that they carry.
 use Rattle.std.specs.Prelude.{◌≡◌, ◌≢◌, ◌<◌, ◌≤◌, ℕ, zero, suc, ◌+◌, ◌*◌, ◌/◌, List, [], ◌++◌, length, take, drop}
-use Rattle.pot_object.specs.Pieces.{longest, pieces_of}
+use Rattle.pot_object.specs.Pieces.{longest, object_size, pieces_of}
 use Rattle.pot_object.specs.Objects.{head_at, object, part_length, IsObject}
 use Rattle.pot_object.specs.declared.object.ObjectHead.{ObjectHead}
 use Rattle.pot_object.specs.declared.assembly.AssembleFault.{AssembleFault}
@@ -8,11 +8,11 @@ use Rattle.pot_object.specs.declared.assembly.AssembleFault.TheVariants.{Incompl
 
 -- how many objects stand there
 abbrev pub count_of : List ℕ → ℕ
-count_of objects = length objects / 928
+count_of objects = length objects / object_size
 
 -- object number k
 abbrev pub object_at : List ℕ → ℕ → List ℕ
-object_at objects k = take 928 (drop (k * 928) objects)
+object_at objects k = take object_size (drop (k * object_size) objects)
 
 -- the piece that object number k carries
 abbrev pub piece_at : List ℕ → ℕ → ℕ
@@ -20,7 +20,7 @@ piece_at objects k = (head_at (object_at objects k)).piece
 
 -- whole objects of one file, whose head but for the piece is this one; their pieces ascend
 pub record AreObjects (h : ObjectHead) (objects : List ℕ) : Type 0 where
-  pub long : length objects ≡ count_of objects * 928
+  pub long : length objects ≡ count_of objects * object_size
   pub each : (k : ℕ) → k < count_of objects → IsObject (record h { piece = piece_at objects k }) (object_at objects k)
   pub ascending : (k : ℕ) → k + 1 < count_of objects → piece_at objects k < piece_at objects (k + 1)
 

@@ -1,5 +1,6 @@
 -- The bytes of a content.
 use Rattle.std.specs.Prelude.{◌≡◌, ◌≤◌, ℕ, List, ◌++◌, ◌∷◌, length, take, drop, replicate, slice_index}
+use Rattle.pot_object.specs.Pieces.{content_size}
 use Rattle.pot_object.specs.Sealing.{sealed}
 use Rattle.pot_object.specs.declared.content.FragmentHead.{FragmentHead}
 
@@ -25,7 +26,7 @@ pub record IsFragmentHead (h : FragmentHead) : Type 0 where
 
 -- these bytes are the content of this head and of the fragment that stands from byte 64 on
 pub record IsContent (h : FragmentHead) (bytes : List ℕ) : Type 0 where
-  pub long : length bytes ≡ 992
+  pub long : length bytes ≡ content_size
   pub head : IsFragmentHead h
   pub spelled : bytes ≡ content_bytes h (drop 64 bytes)
 

@@ -1,7 +1,7 @@
 -- The bytes of an object.
 use Rattle.std.specs.Prelude.{◌≡◌, ◌≤◌, ◌<◌, ℕ, ◌-◌, ◌*◌, List, ◌++◌, length, take, drop, min, replicate}
 use Rattle.byteorder.specs.Endian.{big_bytes, big_number}
-use Rattle.pot_object.specs.Pieces.{longest, pieces_of, part_of}
+use Rattle.pot_object.specs.Pieces.{longest, piece_size, pieces_of, part_of}
 use Rattle.pot_object.specs.Sealing.{sealed}
 use Rattle.pot_object.specs.declared.object.ObjectHead.{ObjectHead}
 
@@ -11,7 +11,7 @@ head_bytes h = h.file_id ++ big_bytes 4 h.piece ++ big_bytes 4 h.pieces ++ big_b
 
 -- the object that carries a part of a file under this head: the part has zeros behind it up to 864 bytes
 unfoldable pub object_bytes : ObjectHead → List ℕ → List ℕ
-object_bytes h part = sealed (head_bytes h) (part ++ replicate (864 - length part) 0)
+object_bytes h part = sealed (head_bytes h) (part ++ replicate (piece_size - length part) 0)
 
 -- the head of a piece of a file
 abbrev pub head_of : List ℕ → List ℕ → ℕ → ObjectHead
@@ -30,7 +30,7 @@ pub record IsHead (h : ObjectHead) : Type 0 where
 
 -- how many bytes of the file the piece carries
 abbrev pub part_length : ObjectHead → ℕ
-part_length h = min 864 (h.length - h.piece * 864)
+part_length h = min piece_size (h.length - h.piece * piece_size)
 
 -- these bytes are the object of this head and of the part that stands from byte 64 on
 pub record IsObject (h : ObjectHead) (bytes : List ℕ) : Type 0 where

@@ -1,13 +1,11 @@
 ghost use Rattle.std.specs.Prelude.{◌≡◌, ◌≤◌, ◌<◌, ◌↔◌, ◌*◌, ℕ, List, length, IfOk, IfErr, MatchOption, IsTrue};
-ghost use Rattle.pot_object.specs.Pieces.{longest};
+ghost use Rattle.pot_object.specs.Pieces.{longest, object_size};
 ghost use Rattle.pot_object.specs.Objects.{head_at, IsHead};
 ghost use Rattle.pot_object.specs.Assembly.{count_of, object_at, objects_of, joined, part_at, AreObjectsOf, BeginsWhole, IsInPlace, IsLeastMissing, IsSeries, NamesLeast};
 
 use crate::object::{head_in, part_len};
+use crate::pieces::OBJECT;
 use std::alloc::{AllocError, Global};
-
-/// The bytes of an object.
-const OBJECT: usize = 928;
 
 /// Why a file is not assembled.
 #[derive(Clone, Copy, PartialEq, Eq, Debug)]
@@ -65,7 +63,7 @@ fn first_gap(objects: &[u8], pieces: u32) -> Option<u32>
 
 /// Whether the object of this number is there and carries the piece of this number.
 fn is_in_place(objects: &[u8], piece: u32) -> bool
-    requires { length objects.now ≡ count_of objects.now * 928 }
+    requires { length objects.now ≡ count_of objects.now * object_size }
     ensures { IsTrue result ↔ IsInPlace objects.now piece }
 {
     let at = piece as usize * OBJECT;
@@ -74,7 +72,7 @@ fn is_in_place(objects: &[u8], piece: u32) -> bool
 
 /// The parts of the first objects, one after another.
 fn join_parts(alloc: Global, objects: &[u8], count: u32) -> Result<Vec<u8>, AllocError>
-    requires whole { count * 928 ≤ length objects.now }
+    requires whole { count * object_size ≤ length objects.now }
     requires heads { (k : ℕ) → k < count → IsHead (head_at (object_at objects.now k)) }
     ensures { IfOk result (λ v. v.items ≡ joined (part_at objects.now) count) }
 {

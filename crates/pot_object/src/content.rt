@@ -1,6 +1,8 @@
 ghost use Rattle.std.specs.Prelude.{◌≡◌, ◌≤◌, ◌↔◌, ◌∷◌, ◌++◌, ℕ, List, length, take, drop, replicate, IsTrue, MatchOption};
 ghost use Rattle.pot_object.specs.Contents.{content, content_bytes, fragment_head_at, fragment_head_bytes, IsContent, IsFragmentHead};
+ghost use Rattle.pot_object.specs.Pieces.{object_size};
 
+use crate::pieces::{CONTENT, OBJECT};
 use crate::sealing::{is_sealed, is_zeros, seal};
 
 /// What a content says of the fragment that it carries.
@@ -16,7 +18,7 @@ pub struct FragmentHead {
 /// The laws of contents: what is written is a content of its head, with its fragment; a content has one head,
 /// and a head and a fragment have one content.
 pub fn content_laws()
-    ensures written { (h : FragmentHead) (part : List ℕ) → IsFragmentHead h → length part ≡ 928 → IsContent h (content_bytes h part) }
+    ensures written { (h : FragmentHead) (part : List ℕ) → IsFragmentHead h → length part ≡ object_size → IsContent h (content_bytes h part) }
     ensures part { (h : FragmentHead) (part : List ℕ) → IsFragmentHead h → drop 64 (content_bytes h part) ≡ part }
     ensures one_head { (h g : FragmentHead) (bytes : List ℕ) → IsContent h bytes → IsContent g bytes → h ≡ g }
     ensures one_spelling { (h : FragmentHead) (a b : List ℕ) → IsContent h a → IsContent h b → drop 64 a ≡ drop 64 b → a ≡ b }
@@ -27,8 +29,8 @@ pub fn write_content(
     object_id: &[u8; 16],
     number: u8,
     count: u8,
-    part: &[u8; 928],
-    out: &mut [u8; 992],
+    part: &[u8; OBJECT],
+    out: &mut [u8; CONTENT],
 )
     requires first { 1 ≤ number }
     requires last { number ≤ count }
@@ -47,7 +49,7 @@ pub fn write_content(
 }
 
 /// Reads a content. None exactly where the bytes are none.
-pub fn read_content(bytes: &[u8; 992]) -> Option<FragmentHead>
+pub fn read_content(bytes: &[u8; CONTENT]) -> Option<FragmentHead>
     ensures { MatchOption result ((h : FragmentHead) → ¬ IsContent h bytes.now) (λ h. IsContent h bytes.now) }
 {
     let head = head_in(bytes);

@@ -20,4 +20,4 @@ mod tests;
 pub use assembly::{AssembleFault, assemble, assemble_laws};
 pub use content::{FragmentHead, content_laws, read_content, write_content};
 pub use object::{ObjectHead, object_laws, read_object, write_object};
-pub use pieces::{LONGEST, PIECE, TooLong, cut_file};
+pub use pieces::{CONTENT, LONGEST, OBJECT, PIECE, TooLong, count_pieces, cut_file};

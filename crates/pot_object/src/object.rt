@@ -1,8 +1,8 @@
 ghost use Rattle.std.specs.Prelude.{◌≡◌, ◌≤◌, ◌<◌, ◌↔◌, ◌-◌, ◌++◌, ℕ, List, length, take, drop, replicate, IsTrue, MatchOption};
-ghost use Rattle.pot_object.specs.Pieces.{longest, part_of, pieces_of};
+ghost use Rattle.pot_object.specs.Pieces.{longest, object_size, part_of, pieces_of};
 ghost use Rattle.pot_object.specs.Objects.{head_at, head_bytes, head_of, object, part_length, IsHead, IsObject};
 
-use crate::pieces::{LONGEST, PIECE};
+use crate::pieces::{LONGEST, OBJECT, PIECE, count_pieces};
 use crate::sealing::{is_sealed, is_zeros, seal};
 use byteorder::{BigEndian, ByteOrder};
 
@@ -25,14 +25,14 @@ pub fn object_laws()
         → IsObject (head_of id file piece) (object id file piece) }
     ensures part { (id file : List ℕ) (piece : ℕ) → length id ≡ 16
         → take (part_length (head_of id file piece)) (drop 64 (object id file piece)) ≡ part_of file piece }
-    ensures bytes { (id file : List ℕ) (piece : ℕ) → length id ≡ 16 → length (object id file piece) ≡ 928 }
+    ensures bytes { (id file : List ℕ) (piece : ℕ) → length id ≡ 16 → length (object id file piece) ≡ object_size }
     ensures one_head { (h g : ObjectHead) (bytes : List ℕ) → IsObject h bytes → IsObject g bytes → h ≡ g }
     ensures one_spelling { (h : ObjectHead) (a b : List ℕ) → IsObject h a → IsObject h b
         → take (part_length h) (drop 64 a) ≡ take (part_length h) (drop 64 b) → a ≡ b }
 {}
 
 /// Writes the object of one piece of a file.
-pub fn write_object(file_id: &[u8; 16], file: &[u8], piece: u32, out: &mut [u8; 928])
+pub fn write_object(file_id: &[u8; 16], file: &[u8], piece: u32, out: &mut [u8; OBJECT])
     requires fits { length file.now ≤ longest }
     requires exists { piece < pieces_of (length file.now) }
     ensures { out.new ≡ object file_id.now file.now piece }
@@ -41,7 +41,7 @@ pub fn write_object(file_id: &[u8; 16], file: &[u8], piece: u32, out: &mut [u8; 
     let head = ObjectHead {
         file_id: *file_id,
         piece,
-        pieces: length.div_ceil(PIECE).max(1) as u32,
+        pieces: count_pieces(length),
         length,
     };
     let from = piece as usize * PIECE as usize;
@@ -52,7 +52,7 @@ pub fn write_object(file_id: &[u8; 16], file: &[u8], piece: u32, out: &mut [u8; 
 }
 
 /// Reads an object. None exactly where the bytes are none.
-pub fn read_object(bytes: &[u8; 928]) -> Option<ObjectHead>
+pub fn read_object(bytes: &[u8; OBJECT]) -> Option<ObjectHead>
     ensures { MatchOption result ((h : ObjectHead) → ¬ IsObject h bytes.now) (λ h. IsObject h bytes.now) }
 {
     let head = head_in(bytes);
@@ -86,9 +86,7 @@ pub fn head_in(bytes: &[u8]) -> ObjectHead
 fn is_head(head: &ObjectHead) -> bool
     ensures { IsTrue result ↔ IsHead head.now }
 {
-    head.length <= LONGEST
-        && u64::from(head.pieces) == head.length.div_ceil(PIECE).max(1)
-        && head.piece < head.pieces
+    head.length <= LONGEST && head.pieces == count_pieces(head.length) && head.piece < head.pieces
 }
 
 /// How many bytes of the file the piece carries.

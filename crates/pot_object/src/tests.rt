@@ -64,7 +64,7 @@ fn objects_in_order(
 {
     let mut objects = Vec::new(alloc);
     for piece in 0..pieces {
-        let mut object = [0; 928];
+        let mut object = [0; OBJECT];
         write_object(file_id, file, piece, &mut object);
         objects.extend_from_slice(&object)?;
     }
@@ -85,7 +85,7 @@ fn cut_and_assembled(alloc: Global, file: &[u8]) -> Result<Vec<u8>, AssembleFaul
 fn assembled_alone(alloc: Global, file: &[u8; 1728], piece: u32) -> Result<Vec<u8>, AssembleFault>
     requires { piece < 2 }
 {
-    let mut object = [0; 928];
+    let mut object = [0; OBJECT];
     write_object(&FILE_ID, file, piece, &mut object);
     assemble(alloc, &object)
 }
@@ -121,15 +121,15 @@ fn digests_two_parts(rt: HostRuntime) {
 fn writes_what_another_program_writes(rt: HostRuntime) {
     let mut file = [0; 1000];
     count_up(&mut file, 251);
-    let mut object = [0; 928];
+    let mut object = [0; OBJECT];
     write_object(&FILE_ID, &file, 1, &mut object);
     assert!(rt; object.starts_with(&OBJECT_START));
     assert!(rt; object[64..].starts_with(&file[864..]));
     assert!(rt; object[200..].iter().all(|b| *b == 0));
 
-    let mut part = [0; 928];
+    let mut part = [0; OBJECT];
     count_up(&mut part, 253);
-    let mut content = [0; 992];
+    let mut content = [0; CONTENT];
     write_content(&OBJECT_ID, 3, 5, &part, &mut content);
     assert!(rt; content.starts_with(&CONTENT_START));
     assert!(rt; content.ends_with(&part));
@@ -215,9 +215,9 @@ fn digest_anew(bytes: &mut [u8])
 
 #[test]
 fn reads_an_object_with_each_byte_changed(rt: HostRuntime) {
-    let mut object = [0; 928];
+    let mut object = [0; OBJECT];
     write_object(&FILE_ID, &[7; 1000], 1, &mut object);
-    for place in 0..928 {
+    for place in 0..OBJECT {
         for byte in 0..=255 {
             let mut changed = object;
             changed[place] = byte;
@@ -238,9 +238,9 @@ fn reads_an_object_with_each_byte_changed(rt: HostRuntime) {
 
 #[test]
 fn reads_a_content_with_each_byte_changed(rt: HostRuntime) {
-    let mut content = [0; 992];
-    write_content(&OBJECT_ID, 1, 5, &[7; 928], &mut content);
-    for place in 0..992 {
+    let mut content = [0; CONTENT];
+    write_content(&OBJECT_ID, 1, 5, &[7; OBJECT], &mut content);
+    for place in 0..CONTENT {
         for byte in 0..=255 {
             let mut changed = content;
             changed[place] = byte;

@@ -1,16 +1,15 @@
 -- What is made of bytes is bytes.
-use Rattle.std.proofs.Common.{◌≡◌, ◌<◌, ◌*◌, ◌++◌, ◌∷◌, [], ℕ, zero, suc, List, length, take, drop, replicate, get_or, sym, ◌∙◌, arith, lit<, length-drop}
+use Rattle.std.proofs.Common.{◌≡◌, ◌<◌, ◌*◌, ◌++◌, ◌∷◌, ℕ, zero, suc, List, length, take, drop, replicate, get_or, sym, ◌∙◌, arith, lit<, length-drop}
 use Rattle.std.proofs.lemmas.List.{length-replicate, length-take-le}
-use Rattle.std.proofs.lemmas.Nat.{xor_of_8}
 use Rattle.std.specs.Int.{w32, byte_at, bytes_high_first, to_be_bytes}
 use Rattle.byteorder.specs.Endian.{big_bytes}
 use Rattle.sha2.specs.Sha256.{sha256}
 use Rattle.sha2.specs.Sha256.{digest_bytes as hash_bytes}
+use Rattle.pot_bytes.specs.Lists.{AreBytes}
+use Rattle.pot_bytes.proofs.ListLemmas.{AreBytes-append, AreBytes-cons, AreBytes-drop, AreBytes-take, AreBytes-xor, AreBytes-zeros}
 use Rattle.pot_bytes.specs.Digests.{digest_bytes}
-use Rattle.pot_bytes.specs.Sums.{xor, sum_of}
+use Rattle.pot_bytes.specs.Sums.{sum_of}
 use Rattle.pot_bytes.proofs.SumLemmas.{length-xor}
-use Rattle.pot_gf.specs.Polynomials.{AreBytes}
-use Rattle.pot_object.proofs.NumberLemmas.{AreBytes-drop, AreBytes-take}
 use Rattle.pot_object.specs.Sealing.{sealed}
 use Rattle.pot_object.specs.Contents.{content_bytes, fragment_head_bytes}
 use Rattle.pot_object.specs.Objects.{head_bytes, object, object_bytes}
@@ -18,20 +17,6 @@ use Rattle.pot_object.specs.Pieces.{part_of}
 use Rattle.pot_object.specs.declared.content.FragmentHead.{FragmentHead}
 use Rattle.pot_object.specs.declared.object.ObjectHead.{ObjectHead}
 use Rattle.pot_split.specs.Secrecy.{rows_of}
-
-pub bytes-append : (xs ys : List ℕ) → AreBytes xs → AreBytes ys → AreBytes (xs ++ ys)
-bytes-append [] ys a b k = b k
-bytes-append (x ∷ xs) ys a b zero = a 0
-bytes-append (x ∷ xs) ys a b (suc k) = bytes-append xs ys (λ i. a (suc i)) b k
-
-pub bytes-cons : (x : ℕ) (xs : List ℕ) → x < 256 → AreBytes xs → AreBytes (x ∷ xs)
-bytes-cons x xs a b zero = a
-bytes-cons x xs a b (suc k) = b k
-
-zeros-bytes : (n : ℕ) → AreBytes (replicate n 0)
-zeros-bytes zero k = lit< tt
-zeros-bytes (suc n) zero = lit< tt
-zeros-bytes (suc n) (suc k) = zeros-bytes n k
 
 byte_at-small : (k n : ℕ) → byte_at k n < 256
 byte_at-small zero n = omega arith
@@ -45,7 +30,7 @@ number-bytes (suc n) x (suc k) = number-bytes n x k
 words-bytes : (h : List ℕ) (n : ℕ) → AreBytes (hash_bytes h n)
 unfolding hash_bytes
 words-bytes h zero k = lit< tt
-words-bytes h (suc n) k = bytes-append (hash_bytes h n) (to_be_bytes w32 (get_or h n 0)) (words-bytes h n) (number-bytes 4 (get_or h n 0)) k
+words-bytes h (suc n) k = AreBytes-append (hash_bytes h n) (to_be_bytes w32 (get_or h n 0)) (words-bytes h n) (number-bytes 4 (get_or h n 0)) k
 
 digest-bytes : (bytes : List ℕ) → AreBytes (digest_bytes bytes)
 unfolding digest_bytes sha256
@@ -53,38 +38,32 @@ digest-bytes bytes = words-bytes _ 8
 
 sealed-bytes : (head rest : List ℕ) → AreBytes head → AreBytes rest → AreBytes (sealed head rest)
 sealed-bytes head rest a b =
-    bytes-append (head ++ digest_bytes (head ++ rest)) rest (bytes-append head (digest_bytes (head ++ rest)) a (digest-bytes (head ++ rest))) b
+    AreBytes-append (head ++ digest_bytes (head ++ rest)) rest (AreBytes-append head (digest_bytes (head ++ rest)) a (digest-bytes (head ++ rest))) b
 
 pub content-bytes : (h : FragmentHead) (part : List ℕ) → AreBytes h.object_id → h.number < 256 → h.count < 256 → AreBytes part → AreBytes (content_bytes h part)
 unfolding content_bytes fragment_head_bytes
 content-bytes h part id number count bytes =
     sealed-bytes (fragment_head_bytes h) part
-    (bytes-append h.object_id (h.number ∷ h.count ∷ replicate 14 0) id
-    (bytes-cons h.number (h.count ∷ replicate 14 0) number (bytes-cons h.count (replicate 14 0) count (zeros-bytes 14)))) bytes
+    (AreBytes-append h.object_id (h.number ∷ h.count ∷ replicate 14 0) id
+    (AreBytes-cons h.number (h.count ∷ replicate 14 0) number (AreBytes-cons h.count (replicate 14 0) count (AreBytes-zeros 14)))) bytes
 
 head-bytes : (h : ObjectHead) → AreBytes h.file_id → AreBytes (head_bytes h)
 unfolding head_bytes
 head-bytes h id =
-    bytes-append ((h.file_id ++ big_bytes 4 h.piece) ++ big_bytes 4 h.pieces) (big_bytes 8 h.length)
-    (bytes-append (h.file_id ++ big_bytes 4 h.piece) (big_bytes 4 h.pieces)
-    (bytes-append h.file_id (big_bytes 4 h.piece) id (number-bytes 4 h.piece)) (number-bytes 4 h.pieces)) (number-bytes 8 h.length)
+    AreBytes-append ((h.file_id ++ big_bytes 4 h.piece) ++ big_bytes 4 h.pieces) (big_bytes 8 h.length)
+    (AreBytes-append (h.file_id ++ big_bytes 4 h.piece) (big_bytes 4 h.pieces)
+    (AreBytes-append h.file_id (big_bytes 4 h.piece) id (number-bytes 4 h.piece)) (number-bytes 4 h.pieces)) (number-bytes 8 h.length)
 
 pub object-bytes : (id file : List ℕ) (piece : ℕ) → AreBytes id → AreBytes file → AreBytes (object id file piece)
 unfolding object object_bytes
 object-bytes id file piece a b =
     sealed-bytes _ _ (head-bytes _ a)
-    (bytes-append (part_of file piece) _ (AreBytes-take 864 (drop (piece * 864) file) (AreBytes-drop (piece * 864) file b)) (zeros-bytes _))
-
-pub xor-bytes : (xs ys : List ℕ) → AreBytes xs → AreBytes ys → AreBytes (xor xs ys)
-xor-bytes [] ys a b k = lit< tt
-xor-bytes (x ∷ xs) [] a b k = lit< tt
-xor-bytes (x ∷ xs) (y ∷ ys) a b zero = xor_of_8 x y (a 0) (b 0)
-xor-bytes (x ∷ xs) (y ∷ ys) a b (suc k) = xor-bytes xs ys (λ i. a (suc i)) (λ i. b (suc i)) k
+    (AreBytes-append (part_of file piece) _ (AreBytes-take 864 (drop (piece * 864) file) (AreBytes-drop (piece * 864) file b)) (AreBytes-zeros _))
 
 pub sum-bytes : (n size : ℕ) (bytes : List ℕ) → AreBytes bytes → AreBytes (sum_of size (rows_of n size bytes))
-sum-bytes zero size bytes a = zeros-bytes size
+sum-bytes zero size bytes a = AreBytes-zeros size
 sum-bytes (suc n) size bytes a =
-    xor-bytes (take size bytes) (sum_of size (rows_of n size (drop size bytes))) (AreBytes-take size bytes a)
+    AreBytes-xor (take size bytes) (sum_of size (rows_of n size (drop size bytes))) (AreBytes-take size bytes a)
     (sum-bytes n size (drop size bytes) (AreBytes-drop size bytes a))
 
 -- a sum of whole rows is a row

@@ -5,11 +5,12 @@ use Rattle.std.proofs.lemmas.List.{length-map, length-take-le, take_all}
 use Rattle.std.proofs.lemmas.List.FromFn.{length-map-range_with_len, get_or-map-range_with_len}
 use Rattle.std.proofs.Math.Nat.{mul-div_cancel}
 use Rattle.std.specs.List.{flat_map, range_with_len, Contains}
+use Rattle.pot_bytes.specs.Lists.{AreBytes}
+use Rattle.pot_bytes.proofs.ListLemmas.{AreBytes-append, AreBytes-drop, AreBytes-take, AreBytes-xor}
 use Rattle.pot_bytes.specs.declared.rack.Geometry.{Geometry}
 use Rattle.pot_bytes.specs.Rack.{IsGeometry}
 use Rattle.pot_bytes.specs.Sums.{xor}
 use Rattle.pot_bytes.proofs.SumLemmas.{length-xor}
-use Rattle.pot_gf.specs.Polynomials.{AreBytes}
 use Rattle.pot_object.specs.Assembly.{objects_from, objects_of}
 use Rattle.pot_object.specs.Contents.{content}
 use Rattle.pot_object.specs.Objects.{object}
@@ -17,7 +18,6 @@ use Rattle.pot_object.specs.Pieces.{pieces_of}
 use Rattle.pot_object.specs.declared.content.FragmentHead.{FragmentHead}
 use Rattle.pot_object.proofs.ContentLemmas.{length-content, part-content}
 use Rattle.pot_object.proofs.LawLemmas.{IsSeries-objects_of, none_missing, only_file, objects_from_more, IsFile}
-use Rattle.pot_object.proofs.NumberLemmas.{AreBytes-drop, AreBytes-take}
 use Rattle.pot_object.proofs.ObjectLemmas.{length-object}
 use Rattle.pot_split.specs.Secrecy.{meaning, IsRows}
 use Rattle.pot_split.specs.Threshold.{share, shares_at, IsJoin}
@@ -27,7 +27,7 @@ use Rattle.pot_shard.specs.FileBlocks.{coefficients_in, content_of, content_shar
 use Rattle.pot_shard.specs.FileLaws.{content_in, object_in, shards_in, xor_of, AreAssembledTo, AreEnough, FileLaws, IsJoined, IsRestored, IsStore}
 use Rattle.pot_shard.specs.declared.shard.Shard.{Shard}
 use Rattle.pot_shard.proofs.BlockLemmas.{part_within, parts_more}
-use Rattle.pot_shard.proofs.ByteLemmas.{bytes-append, content-bytes, length-sum, object-bytes, sum-bytes, xor-bytes}
+use Rattle.pot_shard.proofs.ByteLemmas.{content-bytes, length-sum, object-bytes, sum-bytes}
 
 -- an object and random bytes that a piece takes
 pub record IsPiece (g : Geometry) (object random : List ℕ) : Type 0 where
@@ -67,8 +67,8 @@ fragments-bytes : (g : Geometry) (object random : List ℕ) → IsPiece g object
 fragments-bytes g object random p =
     let pads = pads_in g random in
     let pads_bytes = AreBytes-take ((g.fragments - 1) * 928) (drop 16 random) (AreBytes-drop 16 random p.random_bytes) in
-    bytes-append pads (xor object (meaning (length object) pads)) pads_bytes
-    (xor-bytes object (meaning (length object) pads) p.object_bytes (sum-bytes (length pads / length object) (length object) pads pads_bytes))
+    AreBytes-append pads (xor object (meaning (length object) pads)) pads_bytes
+    (AreBytes-xor object (meaning (length object) pads) p.object_bytes (sum-bytes (length pads / length object) (length object) pads pads_bytes))
 
 -- a part of bytes
 length-part : (head size i n : ℕ) (xs : List ℕ) → i < n → length xs ≡ head + n * size → length (part_at head size i xs) ≡ size

@@ -17,12 +17,12 @@ use Rattle.pot_shard.proofs.BlockLemmas.{length-names_at, ring_cleared}
 use Rattle.pot_shard.proofs.RingLemmas.{ring_last, ring_next}
 use Rattle.pot_shard.proofs.FileLemmas.{is_piece, length-content_of, part-bytes}
 use Rattle.pot_split.proofs.ShareLemmas.{length-share}
-use Rattle.pot_object.proofs.NumberLemmas.{AreBytes-drop}
-use Rattle.pot_gf.specs.Polynomials.{AreBytes}
 use Rattle.pot_bytes.specs.Rack.{IsGeometry}
 use Rattle.byteorder.specs.Endian.{big_number}
 use Rattle.byteorder.specs.Numbers.{big_from-lt}
 use Rattle.std.proofs.lemmas.Bool.{cases_lt}
+use Rattle.pot_bytes.specs.Lists.{AreBytes}
+use Rattle.pot_bytes.proofs.ListLemmas.{AreBytes-drop}
 
 -- a shard of a content stands at one of its places
 at_place : (g : Geometry) (content random : List ℕ) (s : Shard) → Contains (content_shards g content random) s

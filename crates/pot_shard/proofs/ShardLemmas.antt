@@ -4,7 +4,9 @@ use Rattle.std.proofs.Math.Seq.{take-add}
 use Rattle.std.proofs.lemmas.List.{drop_more, take_rest, take-append-drop}
 use Rattle.byteorder.specs.Endian.{big_bytes, big_number}
 use Rattle.byteorder.specs.Numbers.{big_from-lt, big_number-reads_back}
-use Rattle.pot_object.proofs.NumberLemmas.{big_bytes_8, AreBytes, AreBytes-drop}
+use Rattle.pot_bytes.specs.Lists.{AreBytes}
+use Rattle.pot_bytes.proofs.ListLemmas.{AreBytes-drop}
+use Rattle.pot_object.proofs.NumberLemmas.{big_bytes_8}
 use Rattle.pot_shard.specs.Shards.{magic, shard_at, shard_bytes, HasWidths, IsFramed, IsShardBlock}
 use Rattle.pot_shard.specs.declared.shard.Shard.{Shard}
 

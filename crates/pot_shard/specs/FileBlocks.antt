@@ -5,7 +5,7 @@ use Rattle.byteorder.specs.Endian.{big_number}
 use Rattle.pot_bytes.specs.declared.rack.Geometry.{Geometry}
 use Rattle.pot_object.specs.Contents.{content}
 use Rattle.pot_object.specs.Objects.{object}
-use Rattle.pot_object.specs.Pieces.{pieces_of}
+use Rattle.pot_object.specs.Pieces.{content_size, object_size, pieces_of}
 use Rattle.pot_shard.specs.Rings.{ring}
 use Rattle.pot_shard.specs.Shards.{shard_bytes}
 use Rattle.pot_shard.specs.declared.shard.Shard.{Shard}
@@ -14,11 +14,11 @@ use Rattle.pot_split.specs.Threshold.{share}
 
 -- how many random bytes a fragment takes: m - 1 rows of 992 coefficients, and n names of 8 bytes
 abbrev pub fragment_len : Geometry → ℕ
-fragment_len g = (g.need - 1) * 992 + g.shards * 8
+fragment_len g = (g.need - 1) * content_size + g.shards * 8
 
 -- how many the object of a piece takes before its fragments: 16 of object id, and k - 1 pads of 928
 abbrev pub head_len : Geometry → ℕ
-head_len g = 16 + (g.fragments - 1) * 928
+head_len g = 16 + (g.fragments - 1) * object_size
 
 -- how many a piece takes: those of its object, and those of its k fragments
 abbrev pub piece_len : Geometry → ℕ
@@ -34,7 +34,7 @@ part_at head size i bytes = take size (drop (head + i * size) bytes)
 
 -- the rows of coefficients in the random bytes of a fragment
 abbrev pub coefficients_in : Geometry → List ℕ → List ℕ
-coefficients_in g random = take ((g.need - 1) * 992) random
+coefficients_in g random = take ((g.need - 1) * content_size) random
 
 -- names that stand one after another, each of 8 bytes with its highest byte first
 abbrev pub names_at : ℕ → List ℕ → List ℕ
@@ -42,7 +42,7 @@ names_at count bytes = map (λ i. big_number 8 (drop (i * 8) bytes)) (range_with
 
 -- the names behind the rows
 abbrev pub names_in : Geometry → List ℕ → List ℕ
-names_in g random = names_at g.shards (drop ((g.need - 1) * 992) random)
+names_in g random = names_at g.shards (drop ((g.need - 1) * content_size) random)
 
 -- the shard of a content at the point after `place`, by its coefficients, its name and its pointer
 unfoldable pub shard_of : Geometry → List ℕ → List ℕ → ℕ → ℕ → ℕ → Shard
@@ -69,7 +69,7 @@ content_shards g content random = map (shard_at_place g content random) (range_w
 
 -- the pads in the random bytes of a piece
 abbrev pub pads_in : Geometry → List ℕ → List ℕ
-pads_in g random = take ((g.fragments - 1) * 928) (drop 16 random)
+pads_in g random = take ((g.fragments - 1) * object_size) (drop 16 random)
 
 -- the fragments of an object, row by row: its pads and the last fragment
 abbrev pub fragments_of : Geometry → List ℕ → List ℕ → List ℕ
@@ -77,7 +77,7 @@ fragments_of g object random = secrecy object (pads_in g random)
 
 -- the content of fragment j, from 0, whose number is j + 1
 unfoldable pub content_of : Geometry → List ℕ → List ℕ → ℕ → List ℕ
-content_of g fragments random j = content (take 16 random) (j + 1) g.fragments (part_at 0 928 j fragments)
+content_of g fragments random j = content (take 16 random) (j + 1) g.fragments (part_at 0 object_size j fragments)
 
 -- the shards of fragment j, from 0
 unfoldable pub fragment_shards : Geometry → List ℕ → List ℕ → ℕ → List Shard

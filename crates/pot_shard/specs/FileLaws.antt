@@ -1,12 +1,12 @@
 -- What the shards of a file are good for: any m shards of each fragment give the file back.
 use Rattle.std.specs.Prelude.{◌≡◌, ◌≤◌, ◌<◌, ℕ, List, length, map, take, drop, nat_eq}
 use Rattle.std.specs.List.{flat_map, range_with_len, Contains, IsDistinct}
+use Rattle.pot_bytes.specs.Lists.{AreBytes}
 use Rattle.pot_bytes.specs.declared.rack.Geometry.{Geometry}
 use Rattle.pot_bytes.specs.Rack.{IsGeometry}
-use Rattle.pot_gf.specs.Polynomials.{AreBytes}
 use Rattle.pot_object.specs.Assembly.{AreObjectsOf, IsLeastMissing, IsSeries}
 use Rattle.pot_object.specs.Objects.{object}
-use Rattle.pot_object.specs.Pieces.{longest, pieces_of}
+use Rattle.pot_object.specs.Pieces.{content_size, longest, object_size, pieces_of}
 use Rattle.pot_shard.specs.FileBlocks.{content_of, fragment_shards, fragments_of, piece_random, random_len}
 use Rattle.pot_shard.specs.declared.shard.Shard.{Shard}
 use Rattle.pot_split.specs.Secrecy.{meaning}
@@ -42,12 +42,12 @@ pub record AreEnough (m : ℕ) (shards held : List Shard) : Type 0 where
 
 -- what the shares of these shards are joined to
 pub record IsJoined (held : List Shard) (joined : List ℕ) : Type 0 where
-  pub wide : length joined ≡ 992
+  pub wide : length joined ≡ content_size
   pub join : IsJoin (map (λ s. s.x) held) (flat_map (λ s. s.share) held) joined
 
 -- the XOR of the fragments that stand in k contents from byte 64 on
 abbrev pub xor_of : (ℕ → List ℕ) → ℕ → List ℕ
-xor_of contents k = meaning 928 (flat_map (λ j. drop 64 (contents j)) (range_with_len 0 k))
+xor_of contents k = meaning object_size (flat_map (λ j. drop 64 (contents j)) (range_with_len 0 k))
 
 -- m shards of each fragment are held; their shares are joined to contents, and the contents of a piece are XORed to an object
 pub record IsRestored (g : Geometry) (file random : List ℕ) (held : ℕ → ℕ → List Shard) (contents : ℕ → ℕ → List ℕ) (objects : ℕ → List ℕ)

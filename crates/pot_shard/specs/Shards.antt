@@ -1,6 +1,7 @@
 -- The block of a shard.
 use Rattle.std.specs.Prelude.{◌≡◌, ◌≤◌, ◌<◌, ℕ, ◌%◌, ◌^◌, List, [], ◌∷◌, ◌++◌, length, take, drop, replicate, slice_index}
 use Rattle.byteorder.specs.Endian.{big_bytes, big_number}
+use Rattle.pot_object.specs.Pieces.{content_size}
 use Rattle.pot_shard.specs.declared.shard.Shard.{Shard}
 
 -- `PSH1`
@@ -28,7 +29,7 @@ pub record IsShard (s : Shard) : Type 0 where
 pub record HasWidths (s : Shard) : Type 0 where
   pub name : s.name < 2 ^ 64
   pub pointer : s.pointer < 2 ^ 64
-  pub share : length s.share ≡ 992
+  pub share : length s.share ≡ content_size
 
 -- these bytes are the block of this shard
 pub record IsShardBlock (s : Shard) (bytes : List ℕ) : Type 0 where

@@ -3,7 +3,7 @@ ghost use Rattle.std.specs.Prelude.{◌≡◌, ◌≤◌, ◌<◌, ◌+◌, ◌-
 ghost use Rattle.pot_bytes.specs.Sums.{xor};
 ghost use Rattle.pot_split.specs.Secrecy.{meaning, IsRows};
 ghost use Rattle.pot_bytes.specs.Rack.{IsGeometry};
-ghost use Rattle.pot_object.specs.Pieces.{longest, pieces_of};
+ghost use Rattle.pot_object.specs.Pieces.{content_size, longest, object_size, pieces_of};
 ghost use Rattle.pot_shard.specs.FileBlocks.{content_of, content_shards, file_blocks, fragment_len, fragment_shards, object_shards, pads_in, part_at, piece_blocks, piece_len, random_len, shard_of};
 ghost use Rattle.pot_shard.specs.Shards.{shard_bytes};
 
@@ -11,7 +11,7 @@ use crate::random::{fragment_len, head_len, piece_len, read_names, rows_len};
 use crate::ring::ring_of;
 use crate::shard::{Shard, encode_shard};
 use pot_bytes::{Block, Geometry, NoMemory};
-use pot_object::{PIECE, write_content, write_object};
+use pot_object::{CONTENT, OBJECT, count_pieces, write_content, write_object};
 use pot_split::{secrecy_split, share_out};
 use std::alloc::Global;
 
@@ -33,7 +33,7 @@ pub fn piece_blocks(
     requires room { length out.old ≡ geometry.now.fragments * geometry.now.shards }
     ensures { out.new ≡ piece_blocks geometry.now file_id.now file.now piece random.now }
 {
-    let mut object = [0; 928];
+    let mut object = [0; OBJECT];
     write_object(file_id, file, piece, &mut object);
     object_blocks(&object, geometry, random, out);
 }
@@ -50,7 +50,7 @@ pub fn blocks_of(
     requires random { length random.now ≡ random_len (pieces_of (length file.now)) geometry.now }
     ensures { IfOk result (λ v. v.items ≡ file_blocks geometry.now file.now random.now) }
 {
-    let count = count_pieces(file) as usize * count_blocks(geometry);
+    let count = count_pieces(file.len() as u64) as usize * count_blocks(geometry);
     let mut blocks = vec![in alloc; Block::zero(); count]?;
     file_blocks(file, geometry, random, &mut blocks);
     Ok(blocks)
@@ -67,7 +67,7 @@ fn file_blocks(file: &[u8], geometry: &Geometry, random: &[u8], out: &mut [Block
     let id = id_in(random);
     let count = count_blocks(geometry);
     let size = piece_len(geometry);
-    for piece in 0..count_pieces(file) {
+    for piece in 0..count_pieces(file.len() as u64) {
         let at = piece as usize * count;
         let from = 16 + piece as usize * size;
         let own = &random[from..from + size];
@@ -85,15 +85,6 @@ fn id_in(random: &[u8]) -> [u8; 16]
     id
 }
 
-/// How many pieces a file has.
-fn count_pieces(file: &[u8]) -> u32
-    requires { length file.now ≤ longest }
-    ensures value { result ≡ pieces_of (length file.now) }
-    ensures few { result ≤ 1024 }
-{
-    (file.len() as u64).div_ceil(PIECE).max(1) as u32
-}
-
 /// How many blocks a piece has.
 fn count_blocks(geometry: &Geometry) -> usize
     requires { IsGeometry geometry.now }
@@ -104,7 +95,7 @@ fn count_blocks(geometry: &Geometry) -> usize
 }
 
 /// The blocks of an object, by fragment and point.
-fn object_blocks(object: &[u8; 928], geometry: &Geometry, random: &[u8], out: &mut [Block])
+fn object_blocks(object: &[u8; OBJECT], geometry: &Geometry, random: &[u8], out: &mut [Block])
     requires geometry { IsGeometry geometry.now }
     requires random { length random.now ≡ piece_len geometry.now }
     requires room { length out.old ≡ geometry.now.fragments * geometry.now.shards }
@@ -119,18 +110,18 @@ fn object_blocks(object: &[u8; 928], geometry: &Geometry, random: &[u8], out: &m
 }
 
 /// The fragment of an object that is no pad.
-fn last_fragment(object: &[u8; 928], pads: &[u8]) -> [u8; 928]
-    requires { IsRows 928 pads.now }
-    ensures { result ≡ xor object.now (meaning 928 pads.now) }
+fn last_fragment(object: &[u8; OBJECT], pads: &[u8]) -> [u8; OBJECT]
+    requires { IsRows object_size pads.now }
+    ensures { result ≡ xor object.now (meaning object_size pads.now) }
 {
-    let mut last = [0; 928];
+    let mut last = [0; OBJECT];
     secrecy_split(object, pads, &mut last);
     last
 }
 
 /// The blocks of the fragment of this number, from 0, by point. `last` is the fragment that is no pad.
 fn fragment_blocks(
-    last: &[u8; 928],
+    last: &[u8; OBJECT],
     geometry: &Geometry,
     random: &[u8],
     number: u8,
@@ -149,7 +140,7 @@ fn fragment_blocks(
 }
 
 /// The content of the fragment of this number, from 0.
-fn content_at(last: &[u8; 928], geometry: &Geometry, random: &[u8], number: u8) -> [u8; 992]
+fn content_at(last: &[u8; OBJECT], geometry: &Geometry, random: &[u8], number: u8) -> [u8; CONTENT]
     requires geometry { IsGeometry geometry.now }
     requires random { length random.now ≡ piece_len geometry.now }
     requires exists { number < geometry.now.fragments }
@@ -157,27 +148,27 @@ fn content_at(last: &[u8; 928], geometry: &Geometry, random: &[u8], number: u8) 
 {
     let id = id_in(random);
     let fragment = fragment_at(&random[16..head_len(geometry)], last, number);
-    let mut content = [0; 992];
+    let mut content = [0; CONTENT];
     write_content(&id, number + 1, geometry.fragments, &fragment, &mut content);
     content
 }
 
 /// A pad, or the last fragment behind them.
-fn fragment_at(pads: &[u8], last: &[u8; 928], number: u8) -> [u8; 928]
-    requires rows { IsRows 928 pads.now }
-    requires exists { number * 928 ≤ length pads.now }
-    ensures { result ≡ part_at 0 928 number (pads.now ++ last.now) }
+fn fragment_at(pads: &[u8], last: &[u8; OBJECT], number: u8) -> [u8; OBJECT]
+    requires rows { IsRows object_size pads.now }
+    requires exists { number * object_size ≤ length pads.now }
+    ensures { result ≡ part_at 0 object_size number (pads.now ++ last.now) }
 {
     let mut fragment = *last;
-    let at = usize::from(number) * 928;
+    let at = usize::from(number) * OBJECT;
     if at < pads.len() {
-        fragment.copy_from_slice(&pads[at..at + 928]);
+        fragment.copy_from_slice(&pads[at..at + OBJECT]);
     }
     fragment
 }
 
 /// The blocks of the shards of a content, by point. `random` is the random bytes of its fragment.
-fn content_blocks(content: &[u8; 992], geometry: &Geometry, random: &[u8], out: &mut [Block])
+fn content_blocks(content: &[u8; CONTENT], geometry: &Geometry, random: &[u8], out: &mut [Block])
     requires geometry { IsGeometry geometry.now }
     requires random { length random.now ≡ fragment_len geometry.now }
     requires room { length out.old ≡ geometry.now.shards }
@@ -197,7 +188,7 @@ fn content_blocks(content: &[u8; 992], geometry: &Geometry, random: &[u8], out: 
 
 /// The block of the shard of a content at the point after `place`.
 fn shard_block(
-    content: &[u8; 992],
+    content: &[u8; CONTENT],
     geometry: &Geometry,
     rows: &[u8],
     place: u8,
@@ -205,12 +196,12 @@ fn shard_block(
     pointer: u64,
 ) -> Block
     requires geometry { IsGeometry geometry.now }
-    requires rows { length rows.now ≡ (geometry.now.need - 1) * 992 }
+    requires rows { length rows.now ≡ (geometry.now.need - 1) * content_size }
     requires exists { place < geometry.now.shards }
     requires cleared { pointer % 2 ^ geometry.now.blur ≡ 0 }
     ensures { result ≡ shard_bytes (shard_of geometry.now content.now rows.now place name pointer) }
 {
-    let mut share = [0; 992];
+    let mut share = [0; CONTENT];
     share_out(content, rows, place + 1, &mut share);
     let shard = Shard {
         x: place + 1,

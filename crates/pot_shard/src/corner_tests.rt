@@ -6,7 +6,7 @@ ghost use Rattle.pot_object.specs.Assembly.{objects_of};
 
 use crate::*;
 use pot_bytes::{Block, Geometry, xor_into};
-use pot_object::{assemble, read_content, write_object};
+use pot_object::{CONTENT, OBJECT, assemble, read_content, write_object};
 use pot_split::share_join;
 use std::alloc::{AllocError, Global};
 use std::process::Abort;
@@ -44,7 +44,7 @@ fn assert_linked(rt: &impl Abort, ring: &[Block], geometry: &Geometry)
 }
 
 /// The content that the last shards of a ring give, which have these points.
-fn joined_content(rt: &impl Abort, ring: &[Block], points: &[u8]) -> [u8; 992]
+fn joined_content(rt: &impl Abort, ring: &[Block], points: &[u8]) -> [u8; CONTENT]
     requires some { 0 < length points.now }
     requires few { length points.now ≤ 16 }
     requires enough { length points.now ≤ length ring.now }
@@ -56,22 +56,27 @@ fn joined_content(rt: &impl Abort, ring: &[Block], points: &[u8]) -> [u8; 992]
     for (place, block) in last.iter().enumerate() {
         let shard = decode_shard(block).expect(rt, "a shard");
         assert_eq!(rt; shard.x, points[place]);
-        shares[place * 992..place * 992 + 992].copy_from_slice(&shard.share);
+        shares[place * CONTENT..place * CONTENT + CONTENT].copy_from_slice(&shard.share);
     }
-    let mut content = [0; 992];
-    share_join(points, &shares[..points.len() * 992], &mut content);
+    let mut content = [0; CONTENT];
+    share_join(points, &shares[..points.len() * CONTENT], &mut content);
     content
 }
 
 /// The object whose fragments these rings give, by their last shards.
-fn joined_object(rt: &impl Abort, blocks: &[Block], geometry: &Geometry, points: &[u8]) -> [u8; 928]
+fn joined_object(
+    rt: &impl Abort,
+    blocks: &[Block],
+    geometry: &Geometry,
+    points: &[u8],
+) -> [u8; OBJECT]
     requires geometry { IsGeometry geometry.now }
     requires some { 0 < length points.now }
     requires enough { length points.now ≤ geometry.now.shards }
     requires distinct { IsDistinct nat_eq points.now }
     requires not_zero { All (λ x. 0 < x) points.now }
 {
-    let mut object = [0; 928];
+    let mut object = [0; OBJECT];
     for (place, ring) in blocks.chunks(usize::from(geometry.shards)).enumerate() {
         assert_eq!(rt; ring.len(), usize::from(geometry.shards));
         assert_linked(rt, ring, geometry);
@@ -89,7 +94,7 @@ fn written_objects(alloc: Global, id: &[u8; 16], file: &[u8; 865]) -> Result<Vec
     ensures { IfOk result (λ v. v.items ≡ objects_of id.now file.now) }
 {
     let mut objects = Vec::new(alloc);
-    let mut object = [0; 928];
+    let mut object = [0; OBJECT];
     write_object(id, file, 0, &mut object);
     objects.extend_from_slice(&object)?;
     write_object(id, file, 1, &mut object);

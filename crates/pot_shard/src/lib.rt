@@ -26,6 +26,6 @@ mod tests;
 
 pub use blocks::{blocks_of, piece_blocks};
 pub use laws::{block_laws, file_laws, stretch_laws};
-pub use random::random_len;
+pub use random::{piece_len, random_len};
 pub use ring::ring_of;
 pub use shard::{Shard, decode_shard, encode_shard, shard_laws};

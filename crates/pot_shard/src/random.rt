@@ -1,9 +1,11 @@
 //! The random bytes of a store: how many there are, and how they are cut.
 ghost use Rattle.std.specs.Prelude.{◌≡◌, ◌≤◌, ◌+◌, ◌-◌, ◌*◌, length};
 ghost use Rattle.pot_bytes.specs.Rack.{IsGeometry};
+ghost use Rattle.pot_object.specs.Pieces.{content_size};
 ghost use Rattle.pot_shard.specs.FileBlocks.{fragment_len, head_len, names_at, piece_len, random_len};
 
 use pot_bytes::{Geometry, read_be64};
+use pot_object::{CONTENT, OBJECT};
 
 /// How many random bytes the store of a file of so many pieces takes: 16 for the file id, and for each piece those of
 /// its object, of its pads and of its fragments.
@@ -16,8 +18,8 @@ pub fn random_len(pieces: u32, geometry: &Geometry) -> u64
     16 + u64::from(pieces) * piece_len(geometry) as u64
 }
 
-/// How many random bytes a piece takes.
-pub(crate) fn piece_len(geometry: &Geometry) -> usize
+/// How many random bytes a piece takes: those of its object, of its pads and of its fragments.
+pub fn piece_len(geometry: &Geometry) -> usize
     requires { IsGeometry geometry.now }
     ensures value { result ≡ piece_len geometry.now }
     ensures few { result ≤ 126576 }
@@ -31,7 +33,7 @@ pub(crate) fn head_len(geometry: &Geometry) -> usize
     ensures value { result ≡ head_len geometry.now }
     ensures few { result ≤ 6512 }
 {
-    16 + (usize::from(geometry.fragments) - 1) * 928
+    16 + (usize::from(geometry.fragments) - 1) * OBJECT
 }
 
 /// How many random bytes a fragment takes.
@@ -46,10 +48,10 @@ pub(crate) fn fragment_len(geometry: &Geometry) -> usize
 /// How many bytes its rows of coefficients are.
 pub(crate) fn rows_len(geometry: &Geometry) -> usize
     requires { IsGeometry geometry.now }
-    ensures value { result ≡ (geometry.now.need - 1) * 992 }
+    ensures value { result ≡ (geometry.now.need - 1) * content_size }
     ensures few { result ≤ 14880 }
 {
-    (usize::from(geometry.need) - 1) * 992
+    (usize::from(geometry.need) - 1) * CONTENT
 }
 
 /// Reads names that stand one after another, each with its highest byte first.

@@ -3,6 +3,7 @@ ghost use Rattle.pot_shard.specs.Shards.{shard_at, shard_bytes, HasWidths, IsFra
 
 use byteorder::{BigEndian, ByteOrder};
 use pot_bytes::Block;
+use pot_object::CONTENT;
 
 /// The first bytes of the block of a shard.
 const MAGIC: [u8; 4] = *b"PSH1";
@@ -24,7 +25,7 @@ pub struct Shard {
     pub name: u64,
     /// The blur of the name of the next shard of the ring.
     pub pointer: u64,
-    pub share: [u8; 992],
+    pub share: [u8; CONTENT],
 }
 
 /// The laws of shards: what is written is the block of the shard, and a block is that of one shard alone.
@@ -68,7 +69,7 @@ fn shard_in(bytes: &[u8]) -> Shard
     requires { length bytes.now ≡ 1024 }
     ensures { result ≡ shard_at bytes.now }
 {
-    let mut share = [0; 992];
+    let mut share = [0; CONTENT];
     share.copy_from_slice(&bytes[32..]);
     Shard {
         x: bytes[4],

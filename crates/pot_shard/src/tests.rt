@@ -2,6 +2,7 @@ ghost use Rattle.pot_shard.specs.Shards.{IsShard};
 
 use crate::*;
 use pot_bytes::Block;
+use pot_object::CONTENT;
 
 fn some_shard() -> Shard
     ensures { IsShard result }
@@ -13,7 +14,7 @@ fn some_shard() -> Shard
         blur: 16,
         name: 0x0123_4567_89ab_cdef,
         pointer: 0xfedc_ba98_7654_0000,
-        share: [7; 992],
+        share: [7; CONTENT],
     }
 }
 

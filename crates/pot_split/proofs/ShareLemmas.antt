@@ -3,6 +3,7 @@ use Rattle.std.proofs.Common.{◌≡◌, ◌<◌, ◌≤◌, ◌+◌, ◌*◌, �
 use Rattle.std.specs.List.{IsDistinct}
 use Rattle.std.proofs.lemmas.List.{length-take-le, length-replicate, length-map, ext_get_or}
 use Rattle.std.proofs.lemmas.List.FromFn.{get_or-map-range_with_len, length-map-range_with_len}
+use Rattle.pot_bytes.specs.Lists.{AreBytes}
 use Rattle.pot_bytes.specs.Product.{byte_product}
 use Rattle.pot_bytes.specs.Totals.{total}
 use Rattle.pot_bytes.specs.Sums.{xor}
@@ -13,7 +14,7 @@ use Rattle.pot_bytes.proofs.SumLemmas.{length-xor, xor_replicate}
 use Rattle.pot_bytes.proofs.WeightedLemmas.{get_or-scaled, get_or-xor}
 use Rattle.pot_gf.specs.Field.{power}
 use Rattle.pot_gf.specs.Lagrange.{lagrange_weight}
-use Rattle.pot_gf.specs.Polynomials.{value, AreBytes, PassesThrough}
+use Rattle.pot_gf.specs.Polynomials.{value, PassesThrough}
 use Rattle.pot_gf.proofs.FieldLemmas.{byte_product-assoc}
 use Rattle.pot_gf.proofs.Values.{byte_product-swap, value-nil, value-cons, value-below}
 use Rattle.pot_gf.proofs.Built.{zeros-below}

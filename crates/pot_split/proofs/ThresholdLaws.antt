@@ -6,6 +6,8 @@ use Rattle.std.proofs.lemmas.List.{length-take-le, length-map, ext_get_or, take_
 use Rattle.std.proofs.lemmas.Nat.{xor_of_8}
 use Rattle.std.proofs.Math.Nat.{mul-div_cancel}
 use Rattle.std.proofs.Math.ListN.{drop_of_length-le}
+use Rattle.pot_bytes.specs.Lists.{AreBytes}
+use Rattle.pot_bytes.proofs.ListLemmas.{AreBytes-drop, AreBytes-take}
 use Rattle.pot_bytes.specs.Product.{byte_product}
 use Rattle.pot_bytes.specs.Sums.{xor}
 use Rattle.pot_bytes.specs.Weighted.{scaled}
@@ -13,7 +15,7 @@ use Rattle.pot_bytes.proofs.TotalLemmas.{xor_cancel_left}
 use Rattle.pot_bytes.proofs.ProductLemmas.{byte_product-zero_right, byte_product-one_right, byte_product-comm}
 use Rattle.pot_bytes.proofs.SumLemmas.{length-xor}
 use Rattle.pot_bytes.proofs.WeightedLemmas.{get_or-scaled, get_or-xor}
-use Rattle.pot_gf.specs.Polynomials.{value, AreBytes, IsBelowDegree, vanishing}
+use Rattle.pot_gf.specs.Polynomials.{value, IsBelowDegree, vanishing}
 use Rattle.pot_gf.proofs.Values.{added, get_or-added, value-added, value-scaled, value-same, value-at_zero, get_or-end}
 use Rattle.pot_gf.proofs.Vanishing.{vanishing-first, vanishing-degree, vanishing-zeros}
 use Rattle.pot_split.specs.Secrecy.{rows_of, IsRows}
@@ -41,21 +43,10 @@ column-shares content coefficients [] k i lt l = absurd (omega arith)
 column-shares content coefficients (x ∷ points) k zero lt l = sym (get_or-share content coefficients x k lt)
 column-shares content coefficients (x ∷ points) k (suc i) lt l = column-shares content coefficients points k i lt (omega arith)
 
-get_or-drop_bytes : (n : ℕ) (p : List ℕ) → AreBytes p → AreBytes (drop n p)
-get_or-drop_bytes zero p b k = b k
-get_or-drop_bytes (suc n) [] b k = b k
-get_or-drop_bytes (suc n) (c ∷ p) b k = get_or-drop_bytes n p (λ t. b (suc t)) k
-
-take_bytes : (n : ℕ) (p : List ℕ) → AreBytes p → AreBytes (take n p)
-take_bytes zero p b k = lit< tt
-take_bytes (suc n) [] b k = b k
-take_bytes (suc n) (c ∷ p) b zero = b 0
-take_bytes (suc n) (c ∷ p) b (suc k) = take_bytes n p (λ t. b (suc t)) k
-
 column_bytes : (k n size : ℕ) (bytes : List ℕ) → AreBytes bytes → AreBytes (column k (rows_of n size bytes))
 column_bytes k zero size bytes b t = lit< tt
-column_bytes k (suc n) size bytes b zero = take_bytes size bytes b k
-column_bytes k (suc n) size bytes b (suc t) = column_bytes k n size (drop size bytes) (get_or-drop_bytes size bytes b) t
+column_bytes k (suc n) size bytes b zero = AreBytes-take size bytes b k
+column_bytes k (suc n) size bytes b (suc t) = column_bytes k n size (drop size bytes) (AreBytes-drop size bytes b) t
 
 polynomial_bytes : (content coefficients : List ℕ) (k : ℕ) → AreBytes content → AreBytes coefficients → AreBytes (polynomial_at content coefficients k)
 polynomial_bytes content coefficients k b c zero = b k

@@ -2,9 +2,10 @@
 -- fewer of them are, they are shares of any other content too.
 use Rattle.std.specs.Prelude.{◌≡◌, ℕ, zero, suc, ◌/◌, ◌<◌, ◌≤◌, List, [], ◌∷◌, ◌++◌, length, map, take, drop, slice_index, nat_eq}
 use Rattle.std.specs.List.{range_with_len, IsDistinct}
+use Rattle.pot_bytes.specs.Lists.{AreBytes}
 use Rattle.pot_bytes.specs.Sums.{xor}
 use Rattle.pot_bytes.specs.Weighted.{scaled}
-use Rattle.pot_gf.specs.Polynomials.{value, AreBytes, IsBelowDegree, PassesThrough, vanishing}
+use Rattle.pot_gf.specs.Polynomials.{value, IsBelowDegree, PassesThrough, vanishing}
 use Rattle.pot_split.specs.Secrecy.{rows_of, IsRows}
 
 -- the bytes at place k of the rows

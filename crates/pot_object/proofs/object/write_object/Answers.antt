@@ -17,7 +17,7 @@ returns c =
     let piece = c.args.piece in
     let old = c.args.out.now in
     let from = piece * 864 in
-    let pieces : c.max.result ≡ pieces_of (length file) = omega (arith, c.max.ensures, c.div_ceil.ensures) in
+    let pieces : c.count_pieces.result ≡ pieces_of (length file) = c.count_pieces.ensures.value in
     let part : take (c.min.result - from) (drop from file) ≡ part_of file piece =
     ap (λ (n : ℕ). take (n - from) (drop from file)) c.min.ensures ∙ cut-part file from 864 (piece_begins piece (length file) c.requires.exists) in
     let h = head_of id file piece in
