@@ -1,10 +1,9 @@
-ghost use Rattle.std.specs.Prelude.{◌<◌, ℕ, slice_index};
-ghost use Rattle.pot_outside.specs.Archives.{IsWholeBlock};
+ghost use Rattle.std.specs.Prelude.{ℕ};
 ghost use Rattle.pot_doubles.specs.Kept.{IsKept};
 
 use crate::calls::Calls;
 use crate::losses::{Loss, lose_listed};
-use pot_bytes::{Block, fold_weighted};
+use pot_bytes::{Block, block_law, fold_weighted};
 use pot_outside::{Archive, Failed, Held, Marks};
 use std::alloc::Global;
 use std::collections::BTreeMap;
@@ -141,7 +140,7 @@ impl Archive for LossyArchive {
         let Some(block) = self.blocks.get(&slot) else {
             return Ok(Held::Absent);
         };
-        sized(block);
+        block_law(block);
         fold_weighted(sum, weight, block);
         Ok(Held::Held)
     }
@@ -175,20 +174,6 @@ impl Archive for LossyArchive {
             losses: self.lost,
         }
     }
-}
-
-/// A block has 1,024 bytes. It does nothing.
-fn sized(block: &Block)
-    ensures { IsWholeBlock block.now }
-{
-    are_bytes(block.bytes());
-}
-
-/// A byte is below 256. It does nothing.
-fn are_bytes(bytes: &[u8])
-    ensures { (k : ℕ) → slice_index bytes.now k < 256 }
-{
-    let _first = bytes.first();
 }
 
 #[cfg(test)]

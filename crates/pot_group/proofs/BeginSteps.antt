@@ -14,7 +14,7 @@ use Rattle.pot_machine.specs.Machine.{Legal, after, stuck_by, IsRebuilt}
 use Rattle.pot_machine.proofs.Searches.{least_none, none_counted}
 use Rattle.pot_steps.proofs.Steps.{count-le}
 use Rattle.pot_steps.proofs.PutLaw.{count-zero}
-use Rattle.pot_steps.specs.Equations.{IsBlock}
+use Rattle.pot_bytes.specs.Lists.{IsBlock}
 use Rattle.pot_steps.specs.Flights.{Acts, flights_after}
 use Rattle.pot_steps.specs.GroupStep.{GroupState, log_bound}
 use Rattle.pot_steps.specs.RelaySteps.{Logged, BeginStep, Unchanged}

@@ -11,7 +11,7 @@ use Rattle.pot_machine.specs.declared.slot.SlotState.{SlotState}
 use Rattle.pot_machine.specs.declared.slot.SlotState.TheVariants.{Void, Live, Lost, Broken}
 use Rattle.pot_machine.specs.Slot.{digest_in, is_live}
 use Rattle.pot_machine.specs.Table.{count}
-use Rattle.pot_steps.specs.Equations.{IsBlock}
+use Rattle.pot_bytes.specs.Lists.{IsBlock}
 use Rattle.pot_steps.specs.Stripe.{Stripe, IsSound, Sound, NoneBroken, HasFilling, digest_of}
 use Rattle.pot_steps.specs.Law.{IsRead, FindsUnsound, FewUnsound}
 use Rattle.pot_steps.specs.GroupStep.{FindsGone, Breaks, Spared}

@@ -20,7 +20,7 @@ use Rattle.pot_machine.specs.Machine.{Legal, after}
 use Rattle.pot_machine.proofs.Cases.{same_or}
 use Rattle.pot_machine.proofs.Columns.{serving_apart}
 use Rattle.pot_steps.specs.declared.flight.Flight.{Flight}
-use Rattle.pot_steps.specs.Equations.{IsBlock}
+use Rattle.pot_bytes.specs.Lists.{IsBlock}
 use Rattle.pot_steps.specs.Stripe.{Sound, IsSound, digest_of}
 use Rattle.pot_steps.specs.Flight.{partial_of, unfolded, weight_in, left_out, IsRelay}
 use Rattle.std.specs.Prelude.{◌==◌}
@@ -121,7 +121,7 @@ module _ (told : Type 0) (g : GroupView) (now : Shelves) (job s c : ℕ) (f : Fl
     fold_settled = settled_loses told g now settled keeps loses
 
     block : told → (block : List ℕ) × (now.held (serving_at g.table s c) s ≡ Some block) × IsBlock block × (sum ≡ xor f.sum (scaled (weight_in g.table.data_columns f.relay c) block))
-    block t = let x = tells t in (x.0, x.1, record { size = x.2.0; bytes = x.2.1 }, x.3)
+    block t = tells t
 
     unfolds_to : (t : told) → unfolded (weight_in g.table.data_columns f.relay c) f.sum sum ≡ (block t).0
     unfolds_to t = ap (unfolded (weight_in g.table.data_columns f.relay c) f.sum) (block t).3

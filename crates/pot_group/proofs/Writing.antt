@@ -14,7 +14,7 @@ use Rattle.pot_machine.specs.declared.slot.SlotState.TheVariants.{Void, Live, Lo
 use Rattle.pot_machine.specs.Slot.{is_void, is_live}
 use Rattle.pot_machine.specs.Table.{Table, width, slot_at, serving_at}
 use Rattle.pot_machine.specs.Machine.{AtCursor, TakesBlocks, Legal, after}
-use Rattle.pot_steps.specs.Equations.{IsBlock}
+use Rattle.pot_bytes.specs.Lists.{IsBlock}
 use Rattle.pot_steps.specs.Stripe.{IsOld, digest_of}
 use Rattle.pot_steps.specs.Holdings.{Holdings, stripe_of}
 use Rattle.pot_steps.specs.Entries.{Writes as WritesAt, held_at}

@@ -11,7 +11,7 @@ use Rattle.pot_machine.specs.Slot.{is_live}
 use Rattle.pot_machine.specs.Column.{names}
 use Rattle.pot_machine.specs.Table.{Table, width, slot_at, column_at, serving_at, count}
 use Rattle.pot_machine.specs.Machine.{Replays, TakesBroke}
-use Rattle.pot_steps.specs.Equations.{IsBlock}
+use Rattle.pot_bytes.specs.Lists.{IsBlock}
 use Rattle.pot_steps.specs.Stripe.{Stripe, Sound, digest_of}
 use Rattle.pot_steps.specs.Holdings.{stripe_of}
 use Rattle.pot_steps.specs.GroupStep.{FindsGone, Breaks, Spared, as_read, entries_where, opening}

@@ -8,7 +8,7 @@ use Rattle.pot_machine.specs.declared.slot.SlotState.TheVariants.{Void}
 use Rattle.pot_machine.specs.Slot.{is_live}
 use Rattle.pot_machine.specs.Table.{Table, width, slot_at, serving_at}
 use Rattle.pot_machine.specs.Machine.{AtCursor, TakesBlocks}
-use Rattle.pot_steps.specs.Equations.{IsBlock}
+use Rattle.pot_bytes.specs.Lists.{IsBlock}
 use Rattle.pot_steps.specs.Stripe.{Sound, IsOld, digest_of}
 use Rattle.pot_steps.specs.Holdings.{Holdings, stripe_of}
 use Rattle.pot_steps.specs.GroupStep.{Passed, IsMissing, skips, gone_entries, log_bound, IsLeft}

@@ -2,14 +2,14 @@
 ghost use Rattle.std.specs.Prelude.{◌≡◌, ◌<◌, ◌≤◌, ◌+◌, ◌*◌, [], ℕ, slice_index, IsTrue, Contains, length, vec_len, vec_capacity};
 ghost use Rattle.pot_machine.specs.Table.{width, serving_at};
 ghost use Rattle.pot_machine.specs.Machine.{InRange};
-ghost use Rattle.pot_steps.specs.Equations.{IsBlock};
+ghost use Rattle.pot_bytes.specs.Lists.{IsBlock};
 ghost use Rattle.pot_group.specs.Shelves.{plain};
 ghost use Rattle.pot_group.specs.Opening.{HasArchives, OpensSlot, OpensColumns, OpensStripe, Opens, IsBroken, short_by, sum_by};
 
 use crate::archives::{Archives, Found, has_digest};
 use crate::known::Known;
 use crate::noting::note;
-use pot_bytes::{Block, Digest};
+use pot_bytes::{Block, Digest, block_law};
 use pot_machine::{Entry, GroupTable, SlotState};
 use pot_outside::Archive;
 
@@ -137,7 +137,7 @@ fn open_slot<A: Archive>(
     let number = table.archive_of(stripe, column);
     let found = archives.read_sound(number, stripe, digest, known, into);
     if let Found::Sound = found {
-        sized(into);
+        block_law(into);
         return Part::Present;
     }
     let entry = Entry::Gone {
@@ -147,20 +147,6 @@ fn open_slot<A: Archive>(
     };
     note(table, log, entry);
     Part::Missing(digest)
-}
-
-/// A block has 1,024 bytes. It does nothing.
-pub(crate) fn sized(block: &Block)
-    ensures { IsBlock block.now }
-{
-    are_bytes(block.bytes());
-}
-
-/// A byte is below 256. It does nothing.
-fn are_bytes(bytes: &[u8])
-    ensures { (k : ℕ) → slice_index bytes.now k < 256 }
-{
-    let _first = bytes.first();
 }
 
 /// One part more.

@@ -8,8 +8,7 @@ use crate::archives::Found;
 use crate::group::{Group, LOG_BOUND};
 use crate::known::Known;
 use crate::noting::note;
-use crate::opening::sized;
-use pot_bytes::{Block, Place};
+use pot_bytes::{Block, Place, block_law};
 use pot_machine::{Cursor, Entry, SlotState};
 use pot_outside::{Archive, Failed};
 
@@ -167,7 +166,7 @@ impl<A: Archive> Group<A> {
         let last = self.table.data_columns();
         let mut parity = *old_parity;
         parity.xor(block);
-        sized(block);
+        block_law(block);
         let home = self.table.archive_of(stripe, column);
         if let Err(Failed) = self.archives.write(home, stripe, block) {
             note(

@@ -5,8 +5,7 @@ ghost use Rattle.pot_machine.specs.Table.{width};
 
 use crate::group::{Group, LOG_BOUND};
 use crate::noting::note;
-use crate::opening::sized;
-use pot_bytes::{Block, Digest, Place};
+use pot_bytes::{Block, Digest, Place, block_law};
 use pot_machine::{Entry, Relay};
 use pot_outside::{Archive, Failed, Held};
 use pot_steps::{Finished, Flight, Hopped, begin, finish, give_up, hop, mended, weight_of};
@@ -110,7 +109,7 @@ impl<A: Archive> Group<A> {
         ensures means { BeginMeans job place.stripe place.column blind.now result self.old self.new }
         ensures step { IsTrue A.account.tells → BeginStep job place.stripe place.column blind.now (begin_as result) (state_of (view_of A.account.meaning self.old)) (state_of (view_of A.account.meaning self.new)) }
     {
-        sized(blind);
+        block_law(blind);
         let _settled = self.kept();
         self.begin_there(job, place, blind)
     }
@@ -177,7 +176,7 @@ impl<A: Archive> Group<A> {
         requires room { length self.old.log < 262144 }
         ensures { self.new ≡ acted self.old (Begin job place.stripe place.column) blind.now }
     {
-        sized(blind);
+        block_law(blind);
         let (flight, entry) = begin(&mut self.table, job, place, blind);
         self.log.push_reserved(entry);
         self.flights.push_reserved(flight);

@@ -1,5 +1,6 @@
 -- What a call of an archive does to its blocks, and what a room means by a number.
 use Rattle.std.specs.Prelude.{◌≡◌, ◌≤◌, ◌-◌, ◌^◌, ◌==◌, ◌⊎◌, ◌++◌, ℕ, Bool, List, [], ◌∷◌, Option, Some, None, Result, Ok, Err, Contains, length, slice_index, ◌<◌, if◌then◌else◌, IsErr}
+use Rattle.pot_bytes.specs.Lists.{IsBlock}
 use Rattle.pot_bytes.specs.Sums.{xor}
 use Rattle.pot_bytes.specs.Weighted.{scaled}
 use Rattle.pot_outside.specs.declared.archive.Held.{Held as IsHeld}
@@ -28,14 +29,10 @@ ReadTells held slot into (Ok Held) = held slot ≡ Some into
 ReadTells held slot into (Ok Absent) = held slot ≡ None
 ReadTells held slot into (Err e) = Unit {0}
 
--- 1,024 bytes
-abbrev pub IsWholeBlock : List ℕ → Type 0
-IsWholeBlock block = (length block ≡ 1024) × ((k : ℕ) → slice_index block k < 256)
-
 -- `Held`: the sum became the old sum XOR the weight times the slot's block; `Absent`: the slot has none
 abbrev pub FoldTells : Contents → ℕ → ℕ → List ℕ → List ℕ → Result IsHeld Failed → Type 0
 FoldTells held slot weight before after (Ok Held) =
-    (block : List ℕ) × (held slot ≡ Some block) × IsWholeBlock block × (after ≡ xor before (scaled weight block))
+    (block : List ℕ) × (held slot ≡ Some block) × IsBlock block × (after ≡ xor before (scaled weight block))
 FoldTells held slot weight before after (Ok Absent) = held slot ≡ None
 FoldTells held slot weight before after (Err e) = Unit {0}
 

@@ -31,7 +31,7 @@ use Rattle.pot_machine.proofs.LeftAlone.{sizes_stay, slots_stay, columns_stay}
 use Rattle.pot_machine.proofs.Places.{slot_after, slot_same, slot_other}
 use Rattle.pot_machine.proofs.Searches.{least_none}
 use Rattle.pot_machine.proofs.Sizes.{gave_up_range, width-with_losses, stripes-with_losses}
-use Rattle.pot_steps.specs.Equations.{IsBlock}
+use Rattle.pot_bytes.specs.Lists.{IsBlock}
 use Rattle.pot_steps.specs.Stripe.{Stripe, IsSound, NoneBroken, digest_of}
 use Rattle.pot_steps.specs.Law.{StripeLaw, Worse, Repairs, lost_count}
 use Rattle.pot_steps.specs.declared.flight.Flight.{Flight}

@@ -10,7 +10,7 @@ use Rattle.pot_bytes.specs.Weighted.{scaled}
 use Rattle.pot_bytes.proofs.ProductLemmas.{byte_product-below}
 use Rattle.pot_bytes.proofs.SumLemmas.{length-zero_block, length-xor}
 use Rattle.pot_bytes.proofs.WeightedLemmas.{get_or-xor, get_or-scaled}
-use Rattle.pot_steps.specs.Equations.{IsBlock}
+use Rattle.pot_bytes.specs.Lists.{IsBlock}
 
 replicate_zero : (n k : ℕ) → get_or {A = ℕ} (replicate n 0) k 0 ≡ 0
 replicate_zero n k = elim (cases_lt k n) [ inl l ↦ get_or-replicate n k 0 0 l | inr g ↦ get_or_past (replicate n 0) k 0 (rw length-replicate g) ]

@@ -23,7 +23,7 @@ use Rattle.pot_bytes.proofs.ProductLemmas.{byte_product-one_left, byte_product-c
 use Rattle.pot_bytes.proofs.WeightedLemmas.{get_or-xor, get_or-scaled}
 use Rattle.pot_gf.specs.Field.{inverse}
 use Rattle.pot_gf.proofs.FieldLemmas.{byte_product-assoc, byte_product-inverse}
-use Rattle.pot_steps.specs.Equations.{IsBlock}
+use Rattle.pot_bytes.specs.Lists.{IsBlock}
 use Rattle.pot_steps.specs.Stripe.{digest_of}
 use Rattle.pot_steps.proofs.BlockLemmas.{IsBlock-zero_block, IsBlock-xor, IsBlock-scaled, get_or-zero_block, same_blocks}
 use Rattle.pot_machine.proofs.Cases.{same_or}

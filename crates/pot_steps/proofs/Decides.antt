@@ -10,7 +10,8 @@ use Rattle.pot_bytes.proofs.ProductLemmas.{byte_product-below, byte_product-zero
 use Rattle.pot_bytes.proofs.TotalLemmas.{total_change, from_zero}
 use Rattle.pot_machine.specs.declared.slot.SlotState.TheVariants.{Void, Live}
 use Rattle.pot_machine.specs.Slot.{digest_in}
-use Rattle.pot_steps.specs.Equations.{IsBlock, p_weight, q_weight}
+use Rattle.pot_bytes.specs.Lists.{IsBlock}
+use Rattle.pot_steps.specs.Equations.{p_weight, q_weight}
 use Rattle.pot_steps.specs.Stripe.{Stripe, IsSound, Filling, digest_of}
 use Rattle.pot_steps.specs.Law.{IsRead}
 use Rattle.pot_steps.specs.Flight.{weight, p_times, q_times}

@@ -13,7 +13,8 @@ use Rattle.pot_gf.specs.Field.{power}
 use Rattle.pot_machine.specs.declared.slot.SlotState.{SlotState}
 use Rattle.pot_machine.specs.declared.slot.SlotState.TheVariants.{Void}
 use Rattle.pot_machine.specs.Slot.{digest_in}
-use Rattle.pot_steps.specs.Equations.{IsBlock, p_weight, q_weight}
+use Rattle.pot_bytes.specs.Lists.{IsBlock}
+use Rattle.pot_steps.specs.Equations.{p_weight, q_weight}
 use Rattle.pot_steps.specs.Stripe.{Stripe, IsSound, Filling, IsOld, Puts, digest_of}
 use Rattle.pot_steps.proofs.SumLemmas.{total_twice}
 use Rattle.pot_steps.proofs.BlockLemmas.{get_or-zero_block, IsBlock-xor, IsBlock-scaled}

@@ -11,7 +11,8 @@ use Rattle.pot_machine.specs.declared.slot.SlotState.{SlotState}
 use Rattle.pot_machine.specs.declared.slot.SlotState.TheVariants.{Void, Live, Broken}
 use Rattle.pot_machine.specs.Slot.{is_lost}
 use Rattle.pot_machine.specs.Table.{count}
-use Rattle.pot_steps.specs.Equations.{IsBlock, p_weight}
+use Rattle.pot_bytes.specs.Lists.{IsBlock}
+use Rattle.pot_steps.specs.Equations.{p_weight}
 use Rattle.pot_steps.specs.Stripe.{Stripe, Filling, Puts, digest_of}
 use Rattle.pot_steps.specs.Law.{StripeLaw, AllLive, SingleLaw, IsRead}
 use Rattle.pot_steps.proofs.BlockLemmas.{same_blocks}

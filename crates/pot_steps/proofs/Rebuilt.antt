@@ -11,7 +11,8 @@ use Rattle.pot_machine.specs.declared.slot.SlotState.{SlotState}
 use Rattle.pot_machine.specs.declared.slot.SlotState.TheVariants.{Void, Live, Lost, Broken}
 use Rattle.pot_machine.specs.declared.relay.Relay.{Relay}
 use Rattle.pot_machine.specs.Slot.{is_void}
-use Rattle.pot_steps.specs.Equations.{IsBlock, p_weight, q_weight}
+use Rattle.pot_bytes.specs.Lists.{IsBlock}
+use Rattle.pot_steps.specs.Equations.{p_weight, q_weight}
 use Rattle.pot_steps.specs.Stripe.{Stripe, Filling}
 use Rattle.pot_steps.specs.Flight.{IsRelay, HasNoNext, IsPartial, visits, folded, is_within, weight, left_out, p_times, q_times}
 use Rattle.pot_steps.proofs.BlockLemmas.{get_or-zero_block, same_blocks}

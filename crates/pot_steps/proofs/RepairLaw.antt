@@ -12,7 +12,8 @@ use Rattle.pot_machine.specs.declared.slot.SlotState.{SlotState}
 use Rattle.pot_machine.specs.declared.slot.SlotState.TheVariants.{Void, Live, Lost, Broken}
 use Rattle.pot_machine.specs.declared.relay.Relay.{Relay}
 use Rattle.pot_machine.specs.Slot.{digest_in}
-use Rattle.pot_steps.specs.Equations.{IsBlock, p_weight, q_weight}
+use Rattle.pot_bytes.specs.Lists.{IsBlock}
+use Rattle.pot_steps.specs.Equations.{p_weight, q_weight}
 use Rattle.pot_steps.specs.Stripe.{Stripe, IsSound, Filling, NoneBroken, digest_of}
 use Rattle.pot_steps.specs.Law.{StripeLaw, Repairs}
 use Rattle.pot_steps.specs.Flight.{IsRelay, HasNoNext, IsPartial, FlightLaw, visits, folded, weight, left_out}

@@ -11,7 +11,8 @@ use Rattle.pot_bytes.proofs.TotalLemmas.{total_change, from_zero, xor_cancel}
 use Rattle.pot_bytes.proofs.WeightedLemmas.{get_or-xor, get_or-scaled}
 use Rattle.pot_gf.specs.Field.{power, inverse}
 use Rattle.pot_gf.proofs.FieldLemmas.{byte_product-assoc, byte_product-inverse}
-use Rattle.pot_steps.specs.Equations.{IsBlock, p_weight, q_weight}
+use Rattle.pot_bytes.specs.Lists.{IsBlock}
+use Rattle.pot_steps.specs.Equations.{p_weight, q_weight}
 use Rattle.pot_steps.specs.Flight.{weight, p_times, q_times}
 use Rattle.pot_steps.proofs.BlockLemmas.{get_or-zero_block, IsBlock-xor, IsBlock-scaled, same_blocks, IsBlock-zero_block}
 use Rattle.pot_steps.proofs.Relays.{power-below, power-positive, sum-positive, inverse-below, kinds, p-data_data, p-data_p, p-low_q, p-p, q-data_data, q-data_p, q-low_q, q-q}

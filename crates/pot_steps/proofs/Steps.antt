@@ -14,7 +14,7 @@ use Rattle.pot_machine.specs.declared.slot.SlotState.TheVariants.{Void, Live, Lo
 use Rattle.pot_machine.specs.declared.relay.Relay.{Relay}
 use Rattle.pot_machine.specs.Slot.{digest_in, is_void, is_lost}
 use Rattle.pot_machine.specs.Table.{count}
-use Rattle.pot_steps.specs.Equations.{IsBlock}
+use Rattle.pot_bytes.specs.Lists.{IsBlock}
 use Rattle.pot_steps.specs.Stripe.{Stripe, IsSound, Filling, digest_of}
 use Rattle.pot_steps.specs.Law.{StripeLaw, Worse, lost_count}
 use Rattle.pot_steps.specs.Flight.{IsNext, IsPartial, FlightLaw, visits, folded, hopped, is_within, weight, left_out}

@@ -7,7 +7,7 @@ use Rattle.pot_bytes.specs.Product.{byte_product}
 use Rattle.pot_bytes.specs.Sums.{zero_block}
 use Rattle.pot_machine.specs.declared.slot.SlotState.TheVariants.{Void}
 use Rattle.pot_machine.specs.Slot.{digest_in}
-use Rattle.pot_steps.specs.Equations.{IsBlock}
+use Rattle.pot_bytes.specs.Lists.{IsBlock}
 use Rattle.pot_steps.specs.Stripe.{Stripe, IsSound, digest_of}
 use Rattle.pot_steps.specs.Law.{IsRead}
 use Rattle.pot_steps.specs.Flight.{weight}

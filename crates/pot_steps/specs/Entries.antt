@@ -10,7 +10,7 @@ use Rattle.pot_machine.specs.declared.entry.Entry.TheVariants.{Put, Skip, Seen, 
 use Rattle.pot_machine.specs.Table.{Table, width, slot_at, serving_at, relay_at}
 use Rattle.pot_machine.specs.Machine.{Legal, after}
 use Rattle.pot_machine.specs.Rules.{IsTable}
-use Rattle.pot_steps.specs.Equations.{IsBlock}
+use Rattle.pot_bytes.specs.Lists.{IsBlock}
 use Rattle.pot_steps.specs.Stripe.{IsOld, digest_of}
 use Rattle.pot_steps.specs.Flight.{FlightLaw}
 use Rattle.pot_steps.specs.Holdings.{Holdings, HoldsUp, stripe_of}

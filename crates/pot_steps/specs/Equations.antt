@@ -5,11 +5,6 @@ use Rattle.pot_bytes.specs.Totals.{total}
 use Rattle.pot_bytes.specs.Product.{byte_product}
 use Rattle.pot_gf.specs.Field.{power}
 
--- 1,024 bytes
-pub record IsBlock (block : List ℕ) : Type 0 where
-  pub size : length block ≡ 1024
-  pub bytes : (k : ℕ) → slice_index block k < 256
-
 -- byte `k` of the XOR of weight times block over the first `n` columns
 abbrev pub sum_at : ℕ → (ℕ → ℕ) → (ℕ → List ℕ) → ℕ → ℕ
 sum_at n weight blocks k = total n (λ c. byte_product (weight c) (slice_index (blocks c) k))

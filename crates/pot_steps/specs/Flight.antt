@@ -11,7 +11,8 @@ use Rattle.pot_machine.specs.declared.relay.Relay.{Relay}
 use Rattle.pot_steps.specs.declared.flight.Flight.{Flight}
 use Rattle.pot_machine.specs.Slot.{digest_in, is_void}
 use Rattle.pot_machine.specs.Table.{skipped}
-use Rattle.pot_steps.specs.Equations.{IsBlock, p_weight, q_weight}
+use Rattle.pot_bytes.specs.Lists.{IsBlock}
+use Rattle.pot_steps.specs.Equations.{p_weight, q_weight}
 use Rattle.pot_steps.specs.Stripe.{Stripe, IsSound, Filling, NoneBroken, digest_of}
 
 -- the column that has weight 0 in a relay: its skip, and where it has none the parity column whose equation it does not use

@@ -12,7 +12,7 @@ use Rattle.pot_machine.specs.Slot.{digest_in, is_lost}
 use Rattle.pot_machine.specs.Table.{Table, width, slot_at, relay_at, first_beside}
 use Rattle.pot_machine.specs.Machine.{Legal, after, hopped}
 use Rattle.pot_machine.specs.Rules.{IsTable}
-use Rattle.pot_steps.specs.Equations.{IsBlock}
+use Rattle.pot_bytes.specs.Lists.{IsBlock}
 use Rattle.pot_steps.specs.Stripe.{Stripe, IsSound, NoneBroken, digest_of}
 use Rattle.pot_steps.specs.declared.flight.Flight.{Flight}
 use Rattle.pot_steps.specs.Flight.{FlightLaw, partial_of, weight_in}

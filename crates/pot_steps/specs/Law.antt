@@ -7,7 +7,7 @@ use Rattle.pot_machine.specs.declared.slot.SlotState.TheVariants.{Void, Live, Br
 use Rattle.pot_machine.specs.declared.relay.Relay.{Relay}
 use Rattle.pot_machine.specs.Slot.{digest_in, is_lost}
 use Rattle.pot_machine.specs.Table.{count}
-use Rattle.pot_steps.specs.Equations.{IsBlock}
+use Rattle.pot_bytes.specs.Lists.{IsBlock}
 use Rattle.pot_steps.specs.Stripe.{Stripe, IsSound, Sound, NoneBroken, HasFilling, digest_of}
 
 -- how many slots are Lost

@@ -7,7 +7,8 @@ use Rattle.pot_bytes.specs.Sums.{xor, zero_block}
 use Rattle.pot_bytes.specs.Weighted.{scaled}
 use Rattle.pot_machine.specs.declared.relay.Relay.{Relay}
 use Rattle.pot_machine.specs.Slot.{digest_in}
-use Rattle.pot_steps.specs.Equations.{IsBlock, sum_at, p_weight, q_weight}
+use Rattle.pot_bytes.specs.Lists.{IsBlock}
+use Rattle.pot_steps.specs.Equations.{sum_at, p_weight, q_weight}
 use Rattle.pot_steps.specs.Stripe.{Stripe, IsSound, Sound, Filling, HasFilling, NoneBroken, Whole, Puts, digest_of}
 use Rattle.pot_steps.specs.Law.{StripeLaw, Worse, Repairs, AllLive, SingleLaw, IsRead, Rebuildable, lost_count}
 use Rattle.pot_steps.specs.Flight.{IsRelay, IsNext, HasNoNext, hopped, weight_in, FlightLaw}

@@ -8,7 +8,8 @@ use Rattle.pot_gf.specs.Field.{power}
 use Rattle.pot_machine.specs.declared.slot.SlotState.{SlotState}
 use Rattle.pot_machine.specs.declared.slot.SlotState.TheVariants.{Void, Live, Broken}
 use Rattle.pot_machine.specs.Slot.{digest_in}
-use Rattle.pot_steps.specs.Equations.{IsBlock, sum_at, p_weight, q_weight}
+use Rattle.pot_bytes.specs.Lists.{IsBlock}
+use Rattle.pot_steps.specs.Equations.{sum_at, p_weight, q_weight}
 
 -- the SHA-256 digest of a block
 unfoldable pub digest_of : List ℕ → Digest

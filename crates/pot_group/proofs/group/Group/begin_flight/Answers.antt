@@ -12,7 +12,7 @@ invariant_of-self g c =
       begin_exit (IsTrue g.A.Archive.account.tells) (view_of g.A.Archive.account.meaning v) c.args.job c.args.place.stripe c.args.place.column c.args.blind.now
           c.begin-flight.new.table c.push_reserved.new.self.items c.push_reserved-2.new.self.items c.self.invariant.0
           (subst (λ (w : GroupParts _). Legal w.table (Begin c.args.job c.args.place.stripe c.args.place.column)) (sym c.self.view_is) c.requires.legal)
-          (subst (λ (w : GroupParts _). length w.log < 262144) (sym c.self.view_is) c.requires.room) c.sized.ensures
+          (subst (λ (w : GroupParts _). length w.log < 262144) (sym c.self.view_is) c.requires.room) c.block_law.ensures
           (rw c.begin-flight.ensures.entry at c.begin-flight.ensures.table)
           (rw c.begin-flight.ensures.entry at c.push_reserved.ensures.items)
           (rw c.begin-flight.ensures.flight at c.push_reserved-2.ensures.items),

@@ -60,7 +60,7 @@ invariant_of-self-in-Ok g c =
     let x = both_exit (IsTrue g.A.Archive.account.tells) (view_of g.A.Archive.account.meaning v) c.args.job c.args.block.now c.args.old_parity.now c.xor.new.self c.cursor-cursor.result
     c.data_columns-last.result c.archive_of-home.result c.archive_of-parity_home.result (plain g.A.Archive.account.meaning c.write.new.self)
     (plain g.A.Archive.account.meaning c.write-2.new.self) c.in_default.field-0 c.write-2.result true c.note-in-Ok.new.table c.note-in-Ok.new.log.items
-    c.self.invariant.0 can c.sized.ensures c.cursor-cursor.ensures.value c.data_columns-last.ensures.value c.xor.ensures.value c.archive_of-home.ensures c.archive_of-parity_home.ensures
+    c.self.invariant.0 can c.block_law.ensures c.cursor-cursor.ensures.value c.data_columns-last.ensures.value c.xor.ensures.value c.archive_of-home.ensures c.archive_of-parity_home.ensures
     c.in_default.ensures c.write-2.ensures (λ e. (c.in-Ok.field-0, c.in-Ok.is)) (λ e. absurd (cc))
     (rw c.put_entry-entry.ensures at c.note-in-Ok.ensures.table) (rw c.put_entry-entry.ensures at c.note-in-Ok.ensures.log) in
     (x.0, omega (arith, c.self.invariant.1, c.note-in-Ok.ensures.capacity), c.self.invariant.2)
@@ -74,7 +74,7 @@ invariant_of-self-in-Err-write g c =
     let x = both_exit (IsTrue g.A.Archive.account.tells) (view_of g.A.Archive.account.meaning v) c.args.job c.args.block.now c.args.old_parity.now c.xor.new.self c.cursor-cursor.result
     c.data_columns-last.result c.archive_of-home.result c.archive_of-parity_home.result (plain g.A.Archive.account.meaning c.write.new.self)
     (plain g.A.Archive.account.meaning c.write-2.new.self) c.in_default.field-0 c.write-2.result false c.note-in-Err-write.new.table c.note-in-Err-write.new.log.items
-    c.self.invariant.0 can c.sized.ensures c.cursor-cursor.ensures.value c.data_columns-last.ensures.value c.xor.ensures.value c.archive_of-home.ensures c.archive_of-parity_home.ensures
+    c.self.invariant.0 can c.block_law.ensures c.cursor-cursor.ensures.value c.data_columns-last.ensures.value c.xor.ensures.value c.archive_of-home.ensures c.archive_of-parity_home.ensures
     c.in_default.ensures c.write-2.ensures (λ e. absurd (cc)) (λ e. (c.in-Err-write.field-0, c.in-Err-write.is))
     (rw c.put_entry-entry-in-Err-write.ensures at c.note-in-Err-write.ensures.table) (rw c.put_entry-entry-in-Err-write.ensures at c.note-in-Err-write.ensures.log) in
     (x.0, omega (arith, c.self.invariant.1, c.note-in-Err-write.ensures.capacity), c.self.invariant.2)
@@ -88,7 +88,7 @@ returns-in-Ok g c =
     let x = both_exit (IsTrue g.A.Archive.account.tells) (view_of g.A.Archive.account.meaning v) c.args.job c.args.block.now c.args.old_parity.now c.xor.new.self c.cursor-cursor.result
     c.data_columns-last.result c.archive_of-home.result c.archive_of-parity_home.result (plain g.A.Archive.account.meaning c.write.new.self)
     (plain g.A.Archive.account.meaning c.write-2.new.self) c.in_default.field-0 c.write-2.result true c.note-in-Ok.new.table c.note-in-Ok.new.log.items
-    c.self.invariant.0 can c.sized.ensures c.cursor-cursor.ensures.value c.data_columns-last.ensures.value c.xor.ensures.value c.archive_of-home.ensures c.archive_of-parity_home.ensures
+    c.self.invariant.0 can c.block_law.ensures c.cursor-cursor.ensures.value c.data_columns-last.ensures.value c.xor.ensures.value c.archive_of-home.ensures c.archive_of-parity_home.ensures
     c.in_default.ensures c.write-2.ensures (λ e. (c.in-Ok.field-0, c.in-Ok.is)) (λ e. absurd (cc))
     (rw c.put_entry-entry.ensures at c.note-in-Ok.ensures.table) (rw c.put_entry-entry.ensures at c.note-in-Ok.ensures.log) in
     subst (λ (w : GroupParts _). BlockMeans (IsTrue g.A.Archive.account.tells) c.args.job c.args.block.now c.args.old_parity.now (Ok (record { group = a.number; column = c.cursor-cursor.result.column; stripe = c.cursor-cursor.result.stripe }))
@@ -105,7 +105,7 @@ returns-in-Err-write g c =
     let x = both_exit (IsTrue g.A.Archive.account.tells) (view_of g.A.Archive.account.meaning v) c.args.job c.args.block.now c.args.old_parity.now c.xor.new.self c.cursor-cursor.result
     c.data_columns-last.result c.archive_of-home.result c.archive_of-parity_home.result (plain g.A.Archive.account.meaning c.write.new.self)
     (plain g.A.Archive.account.meaning c.write-2.new.self) c.in_default.field-0 c.write-2.result false c.note-in-Err-write.new.table c.note-in-Err-write.new.log.items
-    c.self.invariant.0 can c.sized.ensures c.cursor-cursor.ensures.value c.data_columns-last.ensures.value c.xor.ensures.value c.archive_of-home.ensures c.archive_of-parity_home.ensures
+    c.self.invariant.0 can c.block_law.ensures c.cursor-cursor.ensures.value c.data_columns-last.ensures.value c.xor.ensures.value c.archive_of-home.ensures c.archive_of-parity_home.ensures
     c.in_default.ensures c.write-2.ensures (λ e. absurd (cc)) (λ e. (c.in-Err-write.field-0, c.in-Err-write.is))
     (rw c.put_entry-entry-in-Err-write.ensures at c.note-in-Err-write.ensures.table) (rw c.put_entry-entry-in-Err-write.ensures at c.note-in-Err-write.ensures.log) in
     subst (λ (w : GroupParts _). BlockMeans (IsTrue g.A.Archive.account.tells) c.args.job c.args.block.now c.args.old_parity.now (Err (fault.Faulted c.data_columns-last.result))

@@ -1,8 +1,0 @@
-use Rattle.std.proofs.Common.{◌<◌, get_or, ℕ, subst, List}
-use Rattle.pot_group.proofs.opening.sized.Goals as goal
-
-pub returns : goal.returns
-returns c = record {
-  size = c.bytes.ensures.len;
-  bytes = subst (λ (b : List ℕ). (k : ℕ) → get_or b k 0 < 256) c.bytes.ensures.value c.are_bytes.ensures;
-}
