@@ -16,7 +16,7 @@ use Rattle.pot_bytes.proofs.ProductLemmas.{byte_product-xor_left, byte_product-z
 use Rattle.pot_bytes.proofs.WeightedLemmas.{get_or-scaled}
 use Rattle.pot_gf.specs.Field.{inverse}
 use Rattle.pot_gf.specs.Lagrange.{product_but, lagrange_weight}
-use Rattle.pot_gf.specs.Polynomials.{value, IsBelowDegree}
+use Rattle.pot_gf.specs.Polynomials.{value, IsBelowDegree, PassesThrough}
 use Rattle.pot_gf.proofs.FieldLemmas.{byte_product-assoc, byte_product-cancel, byte_product-inverse}
 use Rattle.pot_gf.proofs.Values.{added, get_or-added, value-added, value-nil, value-cons, value-scaled, value-below, value-same}
 use Rattle.pot_gf.proofs.Built.{distinct_apart}
@@ -310,3 +310,13 @@ value-lagrange points p b c d h =
     mapped-bytes [] k = lit< tt
     mapped-bytes (a ∷ points) zero = value-below p a
     mapped-bytes (a ∷ points) (suc k) = mapped-bytes points k
+
+-- through distinct points goes a polynomial of degree below their number
+pub exists_law : (points ys : List ℕ) → AreBytes points → AreBytes ys → IsDistinct nat_eq points
+    → (p : List ℕ) × AreBytes p × IsBelowDegree (length points) p × PassesThrough points ys p
+exists_law points ys b c d = (
+  combined points ys (length points),
+  combined-bytes points ys (length points),
+  combined-degree points ys (length points) (omega arith),
+  λ j lt. combined_at points ys j b c d lt,
+)

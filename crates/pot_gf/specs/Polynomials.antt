@@ -67,6 +67,9 @@ pub record PolynomialLaws : Type 0 where
   pub unique : (points values p q : List ℕ) → AreBytes points → AreBytes p → AreBytes q → IsDistinct nat_eq points
       → IsBelowDegree (length points) p → IsBelowDegree (length points) q
       → PassesThrough points values p → PassesThrough points values q → IsSame p q
+  -- and at least one, whatever the values there are to be
+  pub exists : (points values : List ℕ) → AreBytes points → AreBytes values → IsDistinct nat_eq points
+      → (p : List ℕ) × AreBytes p × IsBelowDegree (length points) p × PassesThrough points values p
   -- and there is one that is 1 at 0 and 0 at the points, of degree at most their number
   pub vanishes : (points : List ℕ) → AreBytes points → ((i : ℕ) → i < length points → 0 < slice_index points i)
       → (slice_index (vanishing points) 0 ≡ 1) × VanishesAt points (vanishing points) × IsBelowDegree (length points + 1) (vanishing points)

@@ -2,7 +2,7 @@ ghost use Rattle.std.specs.Prelude.{◌≡◌, ◌∷◌, ◌+◌, ◌<◌, ◌�
 ghost use Rattle.std.specs.List.{All, IsDistinct};
 ghost use Rattle.pot_bytes.specs.Sums.{xor};
 ghost use Rattle.pot_bytes.specs.Weighted.{scaled};
-ghost use Rattle.pot_gf.specs.Polynomials.{value, IsPoly, IsBelowDegree, VanishesAt, PassesThrough, IsTheOnlyOne, IsTimesLine, Meets, PolynomialLaws};
+ghost use Rattle.pot_gf.specs.Polynomials.{value, IsPoly, IsBelowDegree, IsSame, VanishesAt, PassesThrough, IsTheOnlyOne, IsTimesLine, Meets, PolynomialLaws, vanishing};
 
 use crate::field::{inv, mul};
 use pot_bytes::add_weighted;
@@ -127,10 +127,13 @@ impl Poly {
         result
     }
 
-    /// The polynomial of degree at most the number of points that is 1 at 0 and 0 at each of them.
+    /// The polynomial of degree at most the number of points that is 1 at 0 and 0 at each of them: the product of
+    /// all 1 + x / a.
     pub fn vanish(points: &[u8]) -> Poly
         requires few { length points.now ≤ 15 }
+        requires distinct { IsDistinct nat_eq points.now }
         requires not_zero { All (λ x. 0 < x) points.now }
+        ensures vanishing { IsSame result (vanishing points.now) }
         ensures one { value result 0 ≡ 1 }
         ensures zeros { VanishesAt points.now result }
         ensures degree { IsBelowDegree (length points.now + 1) result }
@@ -156,7 +159,7 @@ fn value_of(coefficients: &[u8], x: u8) -> u8
 }
 
 /// A polynomial of degree below m with m distinct zeros is zero, and through m distinct points goes
-/// at most one of degree below m.
+/// exactly one of degree below m, whatever its values there are to be.
 pub fn polynomial_laws()
     ensures { PolynomialLaws }
 {}
