@@ -66,7 +66,7 @@ vanishing-zeros (a ∷ points) b h (suc i) lt =
     ∙ ap (byte_product (bit_xor 1 (byte_product (inverse a) (get_or points i 0)))) (vanishing-zeros points (λ k. b (suc k)) (λ k l. h (suc k) (omega arith)) i (omega arith))
     ∙ byte_product-zero_right (bit_xor 1 (byte_product (inverse a) (get_or points i 0)))
 
-scaled-bytes : (w : ℕ) (xs : List ℕ) → AreBytes (scaled w xs)
+pub scaled-bytes : (w : ℕ) (xs : List ℕ) → AreBytes (scaled w xs)
 scaled-bytes w xs k = subst (λ (z : ℕ). z < 256) (sym (get_or-scaled w xs k)) (byte_product-below w (get_or xs k 0))
 
 vanishing-bytes : (points : List ℕ) → AreBytes (vanishing points)

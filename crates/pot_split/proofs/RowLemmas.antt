@@ -55,7 +55,7 @@ ends size count done start rows into rest u h =
     ∙ subst (λ n. xor into (sum_of size (rows_of n size rest)) ≡ xor start (sum_of size (rows_of count size rows))) e u.sum
 
 -- a sum of whole rows is a row
-length-sum-rows : (count size : ℕ) (bytes : List ℕ) → length bytes ≡ count * size → length (sum_of size (rows_of count size bytes)) ≡ size
+pub length-sum-rows : (count size : ℕ) (bytes : List ℕ) → length bytes ≡ count * size → length (sum_of size (rows_of count size bytes)) ≡ size
 length-sum-rows zero size bytes e = length-replicate {A = ℕ} size 0
 length-sum-rows (suc count) size bytes e =
     let first : length (take size bytes) ≡ size = length-take-le size bytes (grind arith) in

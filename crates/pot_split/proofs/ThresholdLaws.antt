@@ -19,11 +19,11 @@ use Rattle.pot_gf.specs.Polynomials.{value, IsBelowDegree, vanishing}
 use Rattle.pot_gf.proofs.Values.{added, get_or-added, value-added, value-scaled, value-same, value-at_zero, get_or-end}
 use Rattle.pot_gf.proofs.Vanishing.{vanishing-first, vanishing-degree, vanishing-zeros}
 use Rattle.pot_split.specs.Secrecy.{rows_of, IsRows}
-use Rattle.pot_split.specs.Threshold.{column, polynomial_at, share, shares_at, IsJoin, changed_rows, explaining, ArePoints, ThresholdLaws}
+use Rattle.pot_split.specs.Threshold.{column, polynomial_at, share, shares_at, IsJoin, changed_rows, explaining, ArePoints}
 use Rattle.pot_split.proofs.ShareLemmas.{length-column, length-share, get_or-share}
 
 -- rows that stand one behind another are found again
-rows_of-append : (n size : ℕ) (row bytes : List ℕ) → length row ≡ size → rows_of (suc n) size (row ++ bytes) ≡ row ∷ rows_of n size bytes
+pub rows_of-append : (n size : ℕ) (row bytes : List ℕ) → length row ≡ size → rows_of (suc n) size (row ++ bytes) ≡ row ∷ rows_of n size bytes
 rows_of-append n size row bytes e =
     ap₂ (λ r b. r ∷ rows_of n size b)
     (take-append-le size row bytes (omega (arith, e)) ∙ take_all size row (omega (arith, e)))
@@ -43,16 +43,16 @@ column-shares content coefficients [] k i lt l = absurd (omega arith)
 column-shares content coefficients (x ∷ points) k zero lt l = sym (get_or-share content coefficients x k lt)
 column-shares content coefficients (x ∷ points) k (suc i) lt l = column-shares content coefficients points k i lt (omega arith)
 
-column_bytes : (k n size : ℕ) (bytes : List ℕ) → AreBytes bytes → AreBytes (column k (rows_of n size bytes))
+pub column_bytes : (k n size : ℕ) (bytes : List ℕ) → AreBytes bytes → AreBytes (column k (rows_of n size bytes))
 column_bytes k zero size bytes b t = lit< tt
 column_bytes k (suc n) size bytes b zero = AreBytes-take size bytes b k
 column_bytes k (suc n) size bytes b (suc t) = column_bytes k n size (drop size bytes) (AreBytes-drop size bytes b) t
 
-polynomial_bytes : (content coefficients : List ℕ) (k : ℕ) → AreBytes content → AreBytes coefficients → AreBytes (polynomial_at content coefficients k)
+pub polynomial_bytes : (content coefficients : List ℕ) (k : ℕ) → AreBytes content → AreBytes coefficients → AreBytes (polynomial_at content coefficients k)
 polynomial_bytes content coefficients k b c zero = b k
 polynomial_bytes content coefficients k b c (suc t) = column_bytes k (length coefficients / length content) (length content) coefficients c t
 
-length-polynomial_at : (content coefficients : List ℕ) (k : ℕ) → length (polynomial_at content coefficients k) ≡ suc (length coefficients / length content)
+pub length-polynomial_at : (content coefficients : List ℕ) (k : ℕ) → length (polynomial_at content coefficients k) ≡ suc (length coefficients / length content)
 length-polynomial_at content coefficients k = ap suc (length-column k (length coefficients / length content) (length content) coefficients)
 
 pub joins_law : (content coefficients points joined : List ℕ)
@@ -67,22 +67,22 @@ joins_law content coefficients points joined b c p d some rows enough wide j =
     ∙ ap (λ rows. get_or (column k rows) i 0) (sym (rows-shares_at content coefficients points) ∙ ap (λ s. rows_of (length points) s (shares_at content coefficients points)) (sym wide)))
     ∙ value-at_zero (polynomial_at content coefficients k) (polynomial_bytes content coefficients k b c))
 
-first_row : (size n : ℕ) (rows : List ℕ) → length rows ≡ suc n * size → size ≤ length rows
+pub first_row : (size n : ℕ) (rows : List ℕ) → length rows ≡ suc n * size → size ≤ length rows
 first_row size n rows e = grind arith
 
-other_rows : (size n : ℕ) (rows : List ℕ) → length rows ≡ suc n * size → length (drop size rows) ≡ n * size
+pub other_rows : (size n : ℕ) (rows : List ℕ) → length rows ≡ suc n * size → length (drop size rows) ≡ n * size
 other_rows size n rows e = grind (arith, length-drop)
 
-one_row_more : (size n : ℕ) → size + n * size ≡ suc n * size
+pub one_row_more : (size n : ℕ) → size + n * size ≡ suc n * size
 one_row_more size n = grind arith
 
-length-changed_row : (difference v rows : List ℕ) (t n : ℕ) → length rows ≡ suc n * length difference
+pub length-changed_row : (difference v rows : List ℕ) (t n : ℕ) → length rows ≡ suc n * length difference
     → length (xor (take (length difference) rows) (scaled (get_or v t 0) difference)) ≡ length difference
 length-changed_row difference v rows t n e =
     let row : length (take (length difference) rows) ≡ length difference = length-take-le (length difference) rows (first_row (length difference) n rows e) in
     length-xor (take (length difference) rows) (scaled (get_or v t 0) difference) (row ∙ sym (length-map difference (byte_product (get_or v t 0)))) ∙ row
 
-length-changed_rows : (difference v : List ℕ) (t n : ℕ) (rows : List ℕ) → length rows ≡ n * length difference
+pub length-changed_rows : (difference v : List ℕ) (t n : ℕ) (rows : List ℕ) → length rows ≡ n * length difference
     → length (changed_rows difference v t n rows) ≡ n * length difference
 length-changed_rows difference v t zero rows e = omega arith
 length-changed_rows difference v t (suc n) rows e =
@@ -190,6 +190,3 @@ hides_law content other coefficients seen b c d s p some same rows few i lt =
 
     within : (k : ℕ) → k < length (share other (explaining content other seen coefficients) x) → k < length other
     within k l = omega (arith, length-share other (explaining content other seen coefficients) x)
-
-pub threshold_laws : ThresholdLaws
-threshold_laws = record { joins = joins_law; hides = hides_law }

@@ -65,3 +65,15 @@ pub record ThresholdLaws : Type 0 where
       → length seen ≤ length coefficients / length content
       → (i : ℕ) → i < length seen
       → share other (explaining content other seen coefficients) (slice_index seen i) ≡ share content coefficients (slice_index seen i)
+  -- by coefficients that are as many and are bytes, and that give the first ones back with the contents exchanged: so by a bijection
+  pub as_many : (content other seen coefficients : List ℕ) → 0 < length content → length other ≡ length content
+      → IsRows (length content) coefficients → length (explaining content other seen coefficients) ≡ length coefficients
+  pub bytes : (content other seen coefficients : List ℕ) → AreBytes coefficients → AreBytes (explaining content other seen coefficients)
+  pub back : (content other seen coefficients : List ℕ) → 0 < length content → length other ≡ length content
+      → IsRows (length content) coefficients
+      → explaining other content seen (explaining content other seen coefficients) ≡ coefficients
+  -- whatever the shares at distinct points, there is a join of them of each length, and no other
+  pub exists : (points shares : List ℕ) (size : ℕ) → AreBytes points → AreBytes shares → IsDistinct nat_eq points
+      → (joined : List ℕ) × (length joined ≡ size) × IsJoin points shares joined
+  pub unique : (points shares a b : List ℕ) → AreBytes points → AreBytes shares → IsDistinct nat_eq points
+      → length a ≡ length b → IsJoin points shares a → IsJoin points shares b → a ≡ b

@@ -1,6 +1,6 @@
-ghost use Rattle.std.specs.Prelude.{◌≡◌, ◌<◌, ◌*◌, ◌++◌, ◌/◌, ℕ, List, length};
+ghost use Rattle.std.specs.Prelude.{◌≡◌, ◌<◌, ◌*◌, length};
 ghost use Rattle.pot_bytes.specs.Sums.{xor, sum_of};
-ghost use Rattle.pot_split.specs.Secrecy.{rows_of, IsRows, meaning, secrecy};
+ghost use Rattle.pot_split.specs.Secrecy.{rows_of, meaning, IsRows, SecrecyLaws};
 
 use pot_bytes::xor_into;
 
@@ -27,9 +27,9 @@ pub fn secrecy_join(fragments: &[u8], out: &mut [u8])
     add_rows(out, fragments, fragments.len() / out.len());
 }
 
-/// The law of the split: whatever the pads, all fragments together give the object.
+/// Whatever the pads, all fragments together give the object, and all but one are those of any other object too.
 pub fn secrecy_laws()
-    ensures { (object pads : List ℕ) → 0 < length object → IsRows (length object) pads → meaning (length object) (secrecy object pads) ≡ object }
+    ensures { SecrecyLaws }
 {}
 
 /// XORs `count` rows into `into`, each as long as it.

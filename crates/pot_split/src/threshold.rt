@@ -48,7 +48,7 @@ pub fn share_join(points: &[u8], shares: &[u8], out: &mut [u8])
 }
 
 /// More shares than there are rows of coefficients give the content, and no more shares than that
-/// are shares of any other content too.
+/// are shares of any other content too. Any shares have one join.
 pub fn threshold_laws()
     ensures { ThresholdLaws }
 {}
