@@ -1,8 +1,7 @@
 -- Laws of a stream and of cuts of it.
-use Rattle.std.proofs.Common.{◌≡◌, ℕ, zero, suc, ◌+◌, ◌*◌, ◌/◌, ◌%◌, ◌^◌, ◌<◌, List, ◌∷◌, ◌++◌, length, get_or, refl, ap, ◌∙◌, arith}
-use Rattle.std.specs.Prelude.{All}
-use Rattle.std.proofs.lemmas.List.Elements.{All-nil, All-cons}
+use Rattle.std.proofs.Common.{◌≡◌, ℕ, zero, suc, ◌+◌, ◌*◌, ◌/◌, ◌%◌, ◌^◌, ◌<◌, List, ◌∷◌, ◌++◌, length, get_or, refl, ap, ◌∙◌, arith, lit<}
 use Rattle.std.specs.Int.{w32, to_le_bytes}
+use Rattle.pot_bytes.specs.Lists.{AreBytes}
 use Rattle.rand_chacha.specs.ChaCha.{key_of, word_at}
 use Rattle.pot_pads.specs.Pads.{key_stream, stream, bytes_from, Pads, pads_of, next_bytes, moved}
 
@@ -46,12 +45,12 @@ pub key_stream-byte : (key : List ℕ) (number place : ℕ) → key_stream key n
 unfolding key_stream
 key_stream-byte key number place = byte_of_word (word_at 10 key number (place / 4 % 2 ^ 68)) (place % 4)
 
--- each byte of a stream's bytes is below 256
-pub All-bytes_from : (f : ℕ → ℕ) (place count : ℕ) → ((p : ℕ) → f p < 256) → All (λ b. b < 256) (bytes_from f place count)
+-- bytes of a list of bytes without end
+pub AreBytes-bytes_from : (f : ℕ → ℕ) (place count : ℕ) → ((p : ℕ) → f p < 256) → AreBytes (bytes_from f place count)
 unfolding bytes_from
-All-bytes_from f place zero below = All-nil (λ b. b < 256)
-All-bytes_from f place (suc count) below =
-    All-cons (λ b. b < 256) (f place) (bytes_from f (suc place) count) (below place) (All-bytes_from f (suc place) count below)
+AreBytes-bytes_from f place zero below k = lit< tt
+AreBytes-bytes_from f place (suc count) below zero = below place
+AreBytes-bytes_from f place (suc count) below (suc k) = AreBytes-bytes_from f (suc place) count below k
 
 -- bytes from two places that are the same in a stream that repeats
 pub bytes_from-repeats : (key : List ℕ) (number p q count : ℕ) → p % 2 ^ 70 ≡ q % 2 ^ 70
@@ -91,9 +90,9 @@ pub length-next_bytes : (pads : Pads) (count : ℕ) → length (next_bytes pads 
 length-next_bytes pads count = length-bytes_from (key_stream pads.key pads.number) pads.place count
 
 -- each of them a byte
-pub All-next_bytes : (pads : Pads) (count : ℕ) → All (λ b. b < 256) (next_bytes pads count)
-All-next_bytes pads count =
-    All-bytes_from (key_stream pads.key pads.number) pads.place count (key_stream-byte pads.key pads.number)
+pub AreBytes-next_bytes : (pads : Pads) (count : ℕ) → AreBytes (next_bytes pads count)
+AreBytes-next_bytes pads count =
+    AreBytes-bytes_from (key_stream pads.key pads.number) pads.place count (key_stream-byte pads.key pads.number)
 
 -- after `place` bytes the stream of a job goes on with its bytes from `place` on
 pub next_bytes-moved : (seed : List ℕ) (session job place count : ℕ)

@@ -1,7 +1,8 @@
 -- The random bytes of a job: a ChaCha20 key stream (RFC 8439, 2.3 and 2.4), in Bernstein's layout
 -- of a 64-bit counter of blocks and a 64-bit number of the stream.
-use Rattle.std.specs.Prelude.{◌≡◌, ℕ, zero, suc, ◌+◌, ◌*◌, ◌/◌, ◌%◌, ◌^◌, ◌<◌, List, [], ◌∷◌, ◌++◌, length, All, slice_index}
+use Rattle.std.specs.Prelude.{◌≡◌, ℕ, zero, suc, ◌+◌, ◌*◌, ◌/◌, ◌%◌, ◌^◌, List, [], ◌∷◌, ◌++◌, length, slice_index}
 use Rattle.std.specs.Int.{w32, to_le_bytes}
+use Rattle.pot_bytes.specs.Lists.{AreBytes}
 use Rattle.rand_chacha.specs.ChaCha.{word_at, key_of}
 
 -- the byte at a place of the key stream of a key and a stream number: the words one after another
@@ -47,7 +48,7 @@ GivesThatMany = (pads : Pads) (count : ℕ) → length (next_bytes pads count) �
 
 -- each of them a byte
 abbrev pub GivesBytes : Type 0
-GivesBytes = (pads : Pads) (count : ℕ) → All (λ b. b < 256) (next_bytes pads count)
+GivesBytes = (pads : Pads) (count : ℕ) → AreBytes (next_bytes pads count)
 
 -- a cut changes nothing: the next a + b bytes are the next a and then the next b
 abbrev pub CutsAnywhere : Type 0

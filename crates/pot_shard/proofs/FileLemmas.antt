@@ -21,49 +21,41 @@ use Rattle.pot_object.proofs.LawLemmas.{IsSeries-objects_of, none_missing, only_
 use Rattle.pot_object.proofs.ObjectLemmas.{length-object}
 use Rattle.pot_split.specs.Secrecy.{meaning, IsRows}
 use Rattle.pot_split.specs.Threshold.{share, shares_at, IsJoin}
-use Rattle.pot_split.proofs.RowLemmas.{meaning-secrecy}
+use Rattle.pot_split.proofs.RowLemmas.{length-sum-rows, meaning-secrecy}
 use Rattle.pot_split.proofs.ThresholdLaws.{joins_law}
 use Rattle.pot_shard.specs.FileBlocks.{coefficients_in, content_of, content_shards, fragment_len, fragment_shards, fragments_of, head_len, pads_in, part_at, piece_len, piece_random, shard_at_place, shard_of}
-use Rattle.pot_shard.specs.FileLaws.{content_in, object_in, shards_in, xor_of, AreAssembledTo, AreEnough, FileLaws, IsJoined, IsRestored, IsStore}
+use Rattle.pot_shard.specs.FileLaws.{content_in, object_in, shards_in, xor_of, AreAssembledTo, AreEnough, FileLaws, IsJoined, IsPiece, IsRestored, IsStore}
 use Rattle.pot_shard.specs.declared.shard.Shard.{Shard}
 use Rattle.pot_shard.proofs.BlockLemmas.{part_within, parts_more}
-use Rattle.pot_shard.proofs.ByteLemmas.{content-bytes, length-sum, object-bytes, sum-bytes}
-
--- an object and random bytes that a piece takes
-pub record IsPiece (g : Geometry) (object random : List ℕ) : Type 0 where
-  pub geometry : IsGeometry g
-  pub long : length object ≡ 928
-  pub taken : length random ≡ piece_len g
-  pub object_bytes : AreBytes object
-  pub random_bytes : AreBytes random
+use Rattle.pot_shard.proofs.ByteLemmas.{content-bytes, object-bytes, sum-bytes}
 
 -- the pads are k - 1 rows
-length-pads : (g : Geometry) (random : List ℕ) → length random ≡ piece_len g → length (pads_in g random) ≡ (g.fragments - 1) * 928
+pub length-pads : (g : Geometry) (random : List ℕ) → length random ≡ piece_len g → length (pads_in g random) ≡ (g.fragments - 1) * 928
 length-pads g random taken =
     length-take-le ((g.fragments - 1) * 928) (drop 16 random) (omega (arith, length-drop {A = ℕ} 16 random))
 
-whole_rows : (n size : ℕ) (xs : List ℕ) → 0 < size → length xs ≡ n * size → (length xs / size ≡ n) × IsRows size xs
+pub whole_rows : (n size : ℕ) (xs : List ℕ) → 0 < size → length xs ≡ n * size → (length xs / size ≡ n) × IsRows size xs
 whole_rows n size xs some e =
     let count : length xs / size ≡ n = ap (λ (z : ℕ). z / size) e ∙ mul-div_cancel n some in
     (count, e ∙ ap (λ (z : ℕ). z * size) (sym count))
 
 -- the fragments are k rows, of bytes
-length-last : (g : Geometry) (object random : List ℕ) → IsPiece g object random
+pub length-last : (g : Geometry) (object random : List ℕ) → IsPiece g object random
     → length (xor object (meaning (length object) (pads_in g random))) ≡ 928
 length-last g object random p =
     let pads = pads_in g random in
     let rows = whole_rows (g.fragments - 1) 928 pads (omega arith) (length-pads g random p.taken) in
     let sum : length (meaning (length object) pads) ≡ 928 =
-    ap (λ (z : ℕ). length (meaning z pads)) p.long ∙ length-sum (length pads / 928) 928 pads rows.1 in
+    ap (λ (z : ℕ). length (meaning z pads)) p.long ∙ length-sum-rows (length pads / 928) 928 pads rows.1 in
     length-xor object (meaning (length object) pads) (p.long ∙ sym sum) ∙ p.long
 
-length-fragments : (g : Geometry) (object random : List ℕ) → IsPiece g object random → length (fragments_of g object random) ≡ g.fragments * 928
+pub length-fragments : (g : Geometry) (object random : List ℕ) → IsPiece g object random → length (fragments_of g object random) ≡ g.fragments * 928
 length-fragments g object random p =
     let pads = pads_in g random in
     let last = xor object (meaning (length object) pads) in
     omega (arith, length-append {A = ℕ} pads last, length-pads g random p.taken, length-last g object random p, p.geometry.fragments.0)
 
-fragments-bytes : (g : Geometry) (object random : List ℕ) → IsPiece g object random → AreBytes (fragments_of g object random)
+pub fragments-bytes : (g : Geometry) (object random : List ℕ) → IsPiece g object random → AreBytes (fragments_of g object random)
 fragments-bytes g object random p =
     let pads = pads_in g random in
     let pads_bytes = AreBytes-take ((g.fragments - 1) * 928) (drop 16 random) (AreBytes-drop 16 random p.random_bytes) in
@@ -71,7 +63,7 @@ fragments-bytes g object random p =
     (AreBytes-xor object (meaning (length object) pads) p.object_bytes (sum-bytes (length pads / length object) (length object) pads pads_bytes))
 
 -- a part of bytes
-length-part : (head size i n : ℕ) (xs : List ℕ) → i < n → length xs ≡ head + n * size → length (part_at head size i xs) ≡ size
+pub length-part : (head size i n : ℕ) (xs : List ℕ) → i < n → length xs ≡ head + n * size → length (part_at head size i xs) ≡ size
 length-part head size i n xs inside long =
     let fits = part_within head size i n size (length xs) inside refl long in
     length-take-le size (drop (head + i * size) xs) (omega (arith, length-drop {A = ℕ} (head + i * size) xs, fits))
@@ -83,7 +75,7 @@ part-bytes head size i xs b = AreBytes-take size (drop (head + i * size) xs) (Ar
 head : Geometry → List ℕ → ℕ → FragmentHead
 head g random j = record { object_id = take 16 random; number = j + 1; count = g.fragments }
 
-length-id : (g : Geometry) (random : List ℕ) → length random ≡ piece_len g → length (take 16 random) ≡ 16
+pub length-id : (g : Geometry) (random : List ℕ) → length random ≡ piece_len g → length (take 16 random) ≡ 16
 length-id g random taken = length-take-le 16 random (omega arith)
 
 -- a content is 992 bytes
@@ -94,7 +86,7 @@ length-content_of g object random j p inside =
     length-content (head g random j) (part_at 0 928 j (fragments_of g object random)) (length-id g random p.taken)
     (length-part 0 928 j g.fragments (fragments_of g object random) inside (omega (arith, length-fragments g object random p)))
 
-content_of-bytes : (g : Geometry) (object random : List ℕ) (j : ℕ) → IsPiece g object random → j < g.fragments
+pub content_of-bytes : (g : Geometry) (object random : List ℕ) (j : ℕ) → IsPiece g object random → j < g.fragments
     → AreBytes (content_of g (fragments_of g object random) random j)
 unfolding content_of head
 content_of-bytes g object random j p inside =
@@ -144,7 +136,7 @@ joined_content g content random held joined geometry long bytes taken random_byt
     (subst (λ (z : List ℕ). IsJoin points z joined) shares join.join)
 
 -- lists that are the same one by one
-same_parts : {X : Type 0} (f h : ℕ → List X) (n : ℕ) → ((i : ℕ) → i < n → f i ≡ h i)
+pub same_parts : {X : Type 0} (f h : ℕ → List X) (n : ℕ) → ((i : ℕ) → i < n → f i ≡ h i)
     → flat_map f (range_with_len 0 n) ≡ flat_map h (range_with_len 0 n)
 same_parts f h zero each = refl
 same_parts f h (suc n) each =
@@ -206,7 +198,7 @@ contents_law g file random i j held joined is inside within enough join =
     (length-part (head_len g) (fragment_len g) j g.fragments own within p.taken)
     (part-bytes (head_len g) (fragment_len g) j own p.random_bytes) enough join
 
-objects_law : (g : Geometry) (file random : List ℕ) (i : ℕ) → IsStore g file random → i < pieces_of (length file)
+pub objects_law : (g : Geometry) (file random : List ℕ) (i : ℕ) → IsStore g file random → i < pieces_of (length file)
     → xor_of (content_in g file random i) g.fragments ≡ object_in file random i
 objects_law g file random i is inside = xor_object g (object_in file random i) (piece_random g i random) (is_piece g file random i is inside)
 

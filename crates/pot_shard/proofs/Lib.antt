@@ -1,7 +1,11 @@
 pub mod BlockLemmas
 pub mod ByteLemmas
+pub mod DrawLemmas
+pub mod FetchLemmas
 pub mod FileLemmas
 pub mod LinkLemmas
+pub mod PlaceLemmas
 pub mod RingLemmas
 pub mod ShardLemmas
 pub mod StretchLemmas
+pub mod VeilLemmas

@@ -7,7 +7,7 @@ use Rattle.pot_bytes.specs.Rack.{IsGeometry}
 use Rattle.pot_object.specs.Assembly.{AreObjectsOf, IsLeastMissing, IsSeries}
 use Rattle.pot_object.specs.Objects.{object}
 use Rattle.pot_object.specs.Pieces.{content_size, longest, object_size, pieces_of}
-use Rattle.pot_shard.specs.FileBlocks.{content_of, fragment_shards, fragments_of, piece_random, random_len}
+use Rattle.pot_shard.specs.FileBlocks.{content_of, fragment_shards, fragments_of, piece_len, piece_random, random_len}
 use Rattle.pot_shard.specs.declared.shard.Shard.{Shard}
 use Rattle.pot_split.specs.Secrecy.{meaning}
 use Rattle.pot_split.specs.Threshold.{IsJoin}
@@ -18,6 +18,14 @@ pub record IsStore (g : Geometry) (file random : List ℕ) : Type 0 where
   pub fits : length file ≤ longest
   pub taken : length random ≡ random_len (pieces_of (length file)) g
   pub file_bytes : AreBytes file
+  pub random_bytes : AreBytes random
+
+-- an object and random bytes that a piece takes
+pub record IsPiece (g : Geometry) (object random : List ℕ) : Type 0 where
+  pub geometry : IsGeometry g
+  pub long : length object ≡ object_size
+  pub taken : length random ≡ piece_len g
+  pub object_bytes : AreBytes object
   pub random_bytes : AreBytes random
 
 -- the object of piece i, from 0

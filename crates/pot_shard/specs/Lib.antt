@@ -1,6 +1,10 @@
+pub mod Draws
+pub mod Fetches
 pub mod FileBlocks
 pub mod FileLaws
 pub mod LinkedRings
+pub mod Places
 pub mod Rings
 pub mod Shards
 pub mod Stretches
+pub mod Veils
