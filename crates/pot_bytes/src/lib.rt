@@ -51,6 +51,7 @@ mod tests {
         let mut block = Block::from_bytes([0x5a; 1024]);
         block.xor(&Block::from_bytes([0x0f; 1024]));
         assert_eq!(rt; block.bytes()[1023], 0x55);
+        block_law(&block);
         assert_eq!(rt; Block::zero().bytes()[0], 0);
         let mut into = [1, 2, 255];
         xor_into(&mut into, &[1, 1, 15]);

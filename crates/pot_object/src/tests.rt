@@ -108,6 +108,7 @@ fn cuts_files(rt: HostRuntime) {
     for length in [884_737, u64::MAX] {
         assert_eq!(rt; cut_file(length), Err(TooLong { length }), "at {length}");
     }
+    assert_eq!(rt; count_pieces(1_729), 3);
 }
 
 #[test]

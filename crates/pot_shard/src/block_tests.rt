@@ -67,6 +67,7 @@ fn begin_so(blocks: &[Block], starts: &[[u8; 4]]) -> bool {
 #[test]
 fn counts_random_bytes(rt: HostRuntime) {
     let usual = split(2, 2, 3, 16);
+    assert_eq!(rt; piece_len(&usual), 2_976);
     assert_eq!(rt; random_len(1, &usual), 2_992);
     assert_eq!(rt; random_len(2, &usual), 5_968);
     assert_eq!(rt; random_len(116, &usual), 345_232);

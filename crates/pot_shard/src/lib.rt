@@ -10,6 +10,9 @@
 //! 3. A piece has the blocks that its bytes and its own random bytes give, by fragment and point: `piece_blocks`.
 //! 4. The blocks of a file are those of its pieces, one after another: `blocks_of`.
 //! 5. Any m shards of each fragment give the file back, whatever the random bytes: `file_laws`.
+//! 6. The block of each piece, fragment and point stands at its place, and what a fetch makes of those of any m points
+//!    is the file: `place_laws`, `fetch_laws`.
+//! 7. Fewer than m shards of one fragment of each piece are those of other files too: `veil_laws`.
 #![tactic(auto)]
 
 #[cfg(test)]
