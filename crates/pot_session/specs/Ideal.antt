@@ -1,6 +1,7 @@
 -- The replies of a script where nothing fails and nothing is lost: a fold over its commands with the files stored so far.
 use Rattle.std.specs.Prelude.{◌≡◌, ◌++◌, ◌+◌, ◌⊎◌, ℕ, Bool, List, [], ◌∷◌, Option, Some, None, String, length, nat_lt, is_some, if◌then◌else◌}
 use Rattle.std.specs.Global.{Global}
+use Rattle.pot_object.specs.Pieces.{piece_size}
 use Rattle.pot_outside.specs.Counts.{Rose}
 use Rattle.pot_script.specs.declared.command.Command.{Command}
 use Rattle.pot_script.specs.declared.command.Command.TheVariants.{Store, Fetch, Quit}
@@ -20,7 +21,7 @@ file_of name (Some f) = File name f.file
 -- the reply to a command
 abbrev pub reply_to : State → Command → Reply
 reply_to s (Store name file) =
-    if nat_lt 864 (length file) then Long name (length file)
+    if nat_lt piece_size (length file) then Long name (length file)
     else (if is_some (stored_as name s.stored) then Exists name else Stored name 1 2)
 reply_to s (Fetch name) = file_of name (stored_as name s.stored)
 reply_to s Quit = Absent []

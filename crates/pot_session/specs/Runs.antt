@@ -4,6 +4,7 @@ use Rattle.std.specs.Cmp.Lexicographic.{pointwise}
 use Rattle.pot_bytes.specs.Sums.{xor}
 use Rattle.pot_pads.specs.Pads.{pads_of, next_bytes}
 use Rattle.pot_object.specs.Objects.{object}
+use Rattle.pot_object.specs.Pieces.{piece_size}
 use Rattle.pot_script.specs.declared.command.Command.{Command}
 use Rattle.pot_script.specs.declared.command.Command.TheVariants.{Store, Fetch, Quit}
 use Rattle.pot_script.specs.declared.reply.Reply.{Reply}
@@ -51,12 +52,12 @@ slot_of f fragment = 2 * f.attempt + (fragment - 1)
 
 -- A reply that a command may have. Where an archive tells its contents, a file comes back as it was stored.
 abbrev pub Row : Type 0 → State → Command → Reply → Type 0
-Row told s (Store name file) (Long n l) = (864 < length file) × (n ≡ name) × (l ≡ length file)
-Row told s (Store name file) (Exists n) = (length file ≤ 864) × IsSome (stored_as name s.stored) × (n ≡ name)
+Row told s (Store name file) (Long n l) = (piece_size < length file) × (n ≡ name) × (l ≡ length file)
+Row told s (Store name file) (Exists n) = (length file ≤ piece_size) × IsSome (stored_as name s.stored) × (n ≡ name)
 Row told s (Store name file) (Stored n pieces shards) =
-    (length file ≤ 864) × IsNone (stored_as name s.stored) × (n ≡ name) × (pieces ≡ 1) × (shards ≡ 2)
+    (length file ≤ piece_size) × IsNone (stored_as name s.stored) × (n ≡ name) × (pieces ≡ 1) × (shards ≡ 2)
 Row told s (Store name file) (Fault group column) =
-    (length file ≤ 864) × IsNone (stored_as name s.stored) × (group ≡ 0) × (column ≡ 0)
+    (length file ≤ piece_size) × IsNone (stored_as name s.stored) × (group ≡ 0) × (column ≡ 0)
 Row told s (Fetch name) (Absent n) = IsNone (stored_as name s.stored) × (n ≡ name)
 Row told s (Fetch name) (File n bytes) =
     IsSomeAnd (stored_as name s.stored) (λ f. (length bytes ≡ length f.file) × (told → bytes ≡ f.file)) × (n ≡ name)

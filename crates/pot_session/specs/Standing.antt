@@ -2,6 +2,7 @@
 -- blocks or has lost them.
 use Rattle.std.specs.Prelude.{◌≡◌, ◌<◌, ◌≤◌, ◌+◌, ◌*◌, ◌-◌, ◌^◌, ◌++◌, ◌⊎◌, ℕ, Bool, List, [], ◌∷◌, Option, Some, None, length, map}
 use Rattle.std.specs.List.{AllByRecursion}
+use Rattle.pot_object.specs.Pieces.{piece_size}
 use Rattle.pot_outside.specs.Archives.{Contents}
 use Rattle.pot_session.specs.declared.catalog.KeptFile.{KeptFile}
 use Rattle.pot_session.specs.Runs.{State, StoredFile, pad_block, partner_block}
@@ -17,7 +18,7 @@ pub record IsKept (files : List KeptFile) (attempts : ℕ) (s : State) : Type 0 
 
 -- a file of one piece in slots that have numbers
 abbrev pub IsSmall : KeptFile → Type 0
-IsSmall f = (2 * f.attempt + 1 < 2 ^ 32) × (f.length ≤ 864)
+IsSmall f = (2 * f.attempt + 1 < 2 ^ 32) × (f.length ≤ piece_size)
 
 -- a slot has no other block than this one
 abbrev pub HasAtMost : Contents → ℕ → List ℕ → Type 0
@@ -27,7 +28,7 @@ HasAtMost held slot block = (b : List ℕ) → held slot ≡ Some b → b ≡ bl
 -- have its two blocks or have lost them; while no loss was counted they have them.
 pub record FileStands (told : Type 0) (drawn : List ℕ) (held : Contents) (attempts first now : ℕ) (f : StoredFile) : Type 0 where
   pub early : f.attempt < attempts
-  pub short : length f.file ≤ 864
+  pub short : length f.file ≤ piece_size
   pub pad : told → HasAtMost held (2 * f.attempt) (pad_block drawn f.place)
   pub partner : told → HasAtMost held (2 * f.attempt + 1) (partner_block drawn f.place f.file)
   pub pad_there : told → now ≡ first → now < 2 ^ 64 - 1 → held (2 * f.attempt) ≡ Some (pad_block drawn f.place)

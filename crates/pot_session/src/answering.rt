@@ -13,12 +13,13 @@ use crate::catalog::{Catalog, KeptFile};
 use crate::fragments::{join_file, split_file};
 use crate::pair::{Fetched, read_pair, write_pair};
 use pot_bytes::{Block, Bytes, Name, NoMemory};
+use pot_object::PIECE;
 use pot_outside::{Archive, Failed};
 use pot_script::Reply;
 use std::alloc::Global;
 
 /// The most bytes of a file, which is one piece.
-const LONGEST: usize = 864;
+const LONGEST: usize = PIECE as usize;
 
 /// Stores a file: its two blocks go into the next two slots that no attempt took.
 pub fn store<A: Archive>(

@@ -3,18 +3,19 @@
 ghost use Rattle.std.specs.Prelude.{◌≡◌, ◌≤◌, ◌+◌, ◌++◌, take, drop, length, length as count_of, IfOk};
 ghost use Rattle.pot_bytes.specs.Sums.{xor};
 ghost use Rattle.pot_object.specs.Objects.{object};
+ghost use Rattle.pot_object.specs.Pieces.{object_size, piece_size};
 ghost use Rattle.pot_split.specs.Secrecy.{meaning};
 ghost use Rattle.pot_session.specs.Runs.{pad_block, partner_block};
 
 use pot_bytes::{Block, NoMemory};
-use pot_object::write_object;
+use pot_object::{OBJECT, write_object};
 use pot_pads::PadStream;
 use pot_split::{secrecy_join, secrecy_split};
 use std::alloc::Global;
 
 /// The blocks of a file of at most 864 bytes, with the random bytes of the command at this place.
 pub fn split_file(drawn: &[u8; 32], place: u32, file: &[u8]) -> (Block, Block)
-    requires { length file.now ≤ 864 }
+    requires { length file.now ≤ piece_size }
     ensures pad { result.0 ≡ pad_block drawn.now place }
     ensures partner { result.1 ≡ partner_block drawn.now place file.now }
 {
@@ -26,17 +27,17 @@ pub fn split_file(drawn: &[u8; 32], place: u32, file: &[u8]) -> (Block, Block)
 }
 
 /// The object of the file XOR the pad.
-fn partner_of(id: &[u8], pad: &[u8], file: &[u8]) -> [u8; 928]
+fn partner_of(id: &[u8], pad: &[u8], file: &[u8]) -> [u8; OBJECT]
     requires id { length id.now ≡ 16 }
-    requires pad { length pad.now ≡ 928 }
-    requires short { length file.now ≤ 864 }
+    requires pad { length pad.now ≡ object_size }
+    requires short { length file.now ≤ piece_size }
     ensures { result ≡ xor (object id.now file.now 0) pad.now }
 {
     let mut file_id = [0u8; 16];
     file_id.copy_from_slice(id);
-    let mut object = [0u8; 928];
+    let mut object = [0u8; OBJECT];
     write_object(&file_id, file, 0, &mut object);
-    let mut partner = [0u8; 928];
+    let mut partner = [0u8; OBJECT];
     secrecy_split(&object, pad, &mut partner);
     partner
 }
@@ -48,8 +49,8 @@ pub fn join_file(
     second: &Block,
     length: u32,
 ) -> Result<Vec<u8>, NoMemory>
-    requires { length ≤ 864 }
-    ensures value { IfOk result (λ bytes. bytes.items ≡ take length (drop 64 (meaning 928 (take 928 first.now ++ take 928 second.now)))) }
+    requires { length ≤ piece_size }
+    ensures value { IfOk result (λ bytes. bytes.items ≡ take length (drop 64 (meaning object_size (take object_size first.now ++ take object_size second.now)))) }
     ensures count { IfOk result (λ bytes. count_of bytes.items ≡ length) }
 {
     let object = join_blocks(first, second);
@@ -57,17 +58,17 @@ pub fn join_file(
     Ok(file.to_vec(alloc)?)
 }
 
-/// The XOR of the first 928 bytes of two blocks.
-fn join_blocks(first: &Block, second: &Block) -> [u8; 928]
-    ensures { result ≡ meaning 928 (take 928 first.now ++ take 928 second.now) }
+/// The XOR of the objects in the fronts of two blocks.
+fn join_blocks(first: &Block, second: &Block) -> [u8; OBJECT]
+    ensures { result ≡ meaning object_size (take object_size first.now ++ take object_size second.now) }
 {
     let mut fragments = [0u8; 1856];
     put_both(
         &mut fragments,
-        &first.bytes()[..928],
-        &second.bytes()[..928],
+        &first.bytes()[..OBJECT],
+        &second.bytes()[..OBJECT],
     );
-    let mut object = [0u8; 928];
+    let mut object = [0u8; OBJECT];
     secrecy_join(&fragments, &mut object);
     object
 }
