@@ -10,7 +10,7 @@ use Rattle.pot_turn.specs.declared.view.Sight.{Sight}
 use Rattle.pot_turn.specs.Logs.{StartsWith}
 use Rattle.pot_turn.specs.Stretches.{between, IsOnceEach}
 use Rattle.pot_turn.specs.Views.{stretches_of}
-use Rattle.pot_turn.specs.Rules.{total, holding, made_by, parts_of, times_in, Fits, Ruled, first_sight, spent_sight}
+use Rattle.pot_turn.specs.Rules.{total, holding, made_by, parts_of, times_in, turns_of, Fits, Ruled, first_sight, spent_sight}
 use Rattle.pot_turn.proofs.LogLemmas.{starts_self, starts_length, starts_all}
 use Rattle.pot_turn.proofs.StretchLemmas.{between-empty, between_least, times_behind}
 use Rattle.pot_turn.proofs.Sums.{total-set, total_at, total_none}
@@ -43,7 +43,7 @@ module _ {T E O : Type 0} (log : T → List E) (origin : T → O) (opened : T) w
           lies = omega arith;
           named = λ _. (refl, refl);
         });
-        home = λ _. (opened, ap (λ h. map some h) one, refl, refl);
+        home = λ _. (opened, ap (λ h. map some h) one, refl, refl, λ _. refl);
         away = λ p. absurd (omega (arith, p));
       }
 
@@ -54,6 +54,7 @@ module _ {T E O : Type 0} (log : T → List E) (origin : T → O) (opened : T) w
     pub named : Some (origin x) ≡ s.view.origin
     pub made : length (log x) ≡ length s.view.opened + s.view.made
     pub once : IsOnceEach s.view.opened (log x) (stretches_of s.view)
+    pub untouched : stretches_of s.view ≡ [] → x ≡ opened
 
   ends : (id : ℕ) (v : Sight E O) → v.view.holds ≡ false → v.view.parts ≡ 2 ^ 62 → (s : State (Option T) (Sight E O)) → Ruled log origin opened s → get_elem? s.views id ≡ some v
       → (x : T) × (s.homes ≡ some (Some x) ∷ []) × Ended v x
@@ -64,6 +65,7 @@ module _ {T E O : Type 0} (log : T → List E) (origin : T → O) (opened : T) w
       let parts = total-set parts_of s.views id v spent_sight at in
       let whole_parts = r.parts in
       let whole_made = r.made in
+      let turns = total-set turns_of s.views id v spent_sight at in
       let bit_v : holding v ≡ 0 = ap bit idle in
       let no_parts : total parts_of others ≡ 0 = omega (arith, parts, whole_parts, all) in
       let spent : (k : ℕ) (u : Sight E O) → get_elem? others k ≡ some u → u ≡ spent_sight =
@@ -73,6 +75,7 @@ module _ {T E O : Type 0} (log : T → List E) (origin : T → O) (opened : T) w
       (at_set s.views id k spent_sight u e) in
       let none_made = total_none made_by others (λ k u e. ap made_by (spent k u e)) in
       let none_held = total_none holding others (λ k u e. ap holding (spent k u e)) in
+      let none_turned = total_none turns_of others (λ k u e. ap turns_of (spent k u e)) in
       let free : total holding s.views ≡ 0 = omega (arith, held, bit_v, none_held) in
       let home = r.home free in
       let mine = r.each id v at in
@@ -98,6 +101,7 @@ module _ {T E O : Type 0} (log : T → List E) (origin : T → O) (opened : T) w
           named = ap Some home.3 ∙ sym names.1;
           made = omega (arith, long, made, whole_made, none_made, start);
           once = subst (λ l. IsOnceEach v.view.opened l (stretches_of v.view)) (sym home.2) once;
+          untouched = λ none. home.4 (let mine_none : turns_of v ≡ 0 = ap length none in omega (arith, turns, none_turned, mine_none));
         },
       )
 

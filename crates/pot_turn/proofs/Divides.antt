@@ -1,5 +1,5 @@
 -- A pass is split, and two passes become one: both keep the rule.
-use Rattle.std.proofs.Common.{◌≡◌, ◌≢◌, ℕ, ◌+◌, ◌<◌, ◌≤◌, false, true≢false, List, [], ◌∷◌, ◌++◌, length, set, sym, refl, ap, ◌∙◌, subst, ⊎_elim, arith, slice_index}
+use Rattle.std.proofs.Common.{◌≡◌, ◌≢◌, ℕ, ◌+◌, ◌<◌, ◌≤◌, false, true≢false, List, [], ◌∷◌, ◌++◌, length, set, sym, refl, ap, ◌∙◌, subst, ⊎_elim, arith, slice_index, length-append}
 use Rattle.std.specs.Prelude.{Option}
 use mathlib.Core.Option.{some}
 use lib.ListN.{get_elem?}
@@ -9,7 +9,7 @@ use Rattle.pot_turn.specs.declared.view.Sight.{Sight}
 use Rattle.pot_turn.specs.Logs.{StartsWith, longer, shorter}
 use Rattle.pot_turn.specs.Stretches.{LieIn}
 use Rattle.pot_turn.specs.Views.{stretches_of}
-use Rattle.pot_turn.specs.Rules.{total, holding, made_by, parts_of, times_in, Fits, Ruled, Looked, cut_sight, new_sight, both_sights, spent_sight}
+use Rattle.pot_turn.specs.Rules.{total, holding, made_by, parts_of, times_in, turns_of, Fits, Ruled, Looked, cut_sight, new_sight, both_sights, spent_sight}
 use Rattle.pot_turn.proofs.LogLemmas.{starts_trans, starts_length, longer_starts, longer_covers}
 use Rattle.pot_turn.proofs.StretchLemmas.{between_most, lies_longer, lies_append, lies_front, lies_rest}
 use Rattle.pot_turn.proofs.PassLemmas.{both-times}
@@ -27,6 +27,7 @@ module _ {T E O : Type 0} (log : T → List E) (origin : T → O) (opened : T) w
       let same = (sum_stays holding s.views).to_new id v left right at (omega arith) in
       let made = (sum_stays made_by s.views).to_new id v left right at (omega arith) in
       let parts = (sum_stays parts_of s.views).to_new id v left right at (omega (arith, fewer)) in
+      let turns = (sum_stays turns_of s.views).to_new id v left right at (omega arith) in
       let start = starts_length v.view.seen v.view.opened mine.since in
       let one = r.one in
       record {
@@ -60,12 +61,19 @@ module _ {T E O : Type 0} (log : T → List E) (origin : T → O) (opened : T) w
               named = λ p. mine.named (omega (arith, some_parts, fewer));
             }))
             (at_snoc (set s.views id left) right u k e);
-        home = λ p. r.home (sym same ∙ p);
+        home = λ p. let home = r.home (sym same ∙ p) in (home.0, home.1, home.2, home.3, λ none. home.4 (sym turns ∙ none));
         away = λ p. r.away (sym same ∙ p);
       }
 
   both_times : (i : ℕ) (v w : Sight E O) → times_in i (both_sights v w) + times_in i (spent_sight {E = E} {O = O}) ≡ times_in i v + times_in i w
   both_times i v w = let both = both-times v.view w.view i in omega (arith, both)
+
+  both_turns : (v w : Sight E O) → turns_of (both_sights v w) + turns_of (spent_sight {E = E} {O = O}) ≡ turns_of v + turns_of w
+  both_turns v w =
+      let own = length-append v.view.turns v.view.joined in
+      let its = length-append v.view.joined (stretches_of w.view) in
+      let all = length-append v.view.turns (v.view.joined ++ stretches_of w.view) in
+      omega (arith, own, its, all)
 
   both_lie : (v w : Sight E O) → v.view.opened ≡ w.view.opened → StartsWith (longer v.view.seen w.view.seen) v.view.seen → StartsWith (longer v.view.seen w.view.seen) w.view.seen
       → LieIn (length v.view.opened) (stretches_of v.view) (length v.view.seen) → LieIn (length w.view.opened) (stretches_of w.view) (length w.view.seen)
@@ -95,6 +103,7 @@ module _ {T E O : Type 0} (log : T → List E) (origin : T → O) (opened : T) w
       let same = (sum_stays holding s.views).to_another id other v w both spent_sight at there (omega (arith, bit_v, bit_w)) in
       let made = (sum_stays made_by s.views).to_another id other v w both spent_sight at there (omega arith) in
       let parts = (sum_stays parts_of s.views).to_another id other v w both spent_sight at there (omega arith) in
+      let turns = (sum_stays turns_of s.views).to_another id other v w both spent_sight at there (both_turns v w) in
       let one = r.one in
       let logs = longer_starts v.view.seen w.view.seen r.whole mine.begins its.begins in
       let grown = longer_covers v.view.seen w.view.seen logs.1 in
@@ -130,7 +139,7 @@ module _ {T E O : Type 0} (log : T → List E) (origin : T → O) (opened : T) w
             (λ (x : (k ≢ id) × (get_elem? s.views k ≡ some u)). r.each k u x.1)
             (at_set s.views id k both u y.1))
             (at_set views1 other k spent_sight u e);
-        home = λ p. r.home (sym same ∙ p);
+        home = λ p. let home = r.home (sym same ∙ p) in (home.0, home.1, home.2, home.3, λ none. home.4 (sym turns ∙ none));
         away = λ p. r.away (sym same ∙ p);
       }
 

@@ -101,7 +101,7 @@ module _ {E O : Type 0} (is_of : E → Bool) (v : View E O) (pass : IsPass v) wh
 module _ {E O : Type 0} (v : View E O) (pass : IsPass v) where
   -- what it logged itself is the same in each later log
   pub logged-longer : (log : List E) → StartsWith log v.seen → entries_in log v.turns ≡ logged_by v
-  logged-longer log grown = entries_in-longer log v.seen (length v.opened) v.turns grown pass.0.1
+  logged-longer log grown = entries_in-longer log v.seen (length v.opened) v.turns grown pass.ascends
 
   pub logged-took : (log : List E) → StartsWith log v.seen → logged_by (took_view log v) ≡ logged_by v
   logged-took log grown = logged-longer log grown
@@ -116,7 +116,7 @@ module _ {E O : Type 0} (v : View E O) (pass : IsPass v) where
 
   -- its own stretches ascend in each later log too
   pub turns_ascend : (log : List E) → StartsWith log v.seen → Ascends (length v.opened) v.turns (length log)
-  turns_ascend log grown = ascends_longer (length v.opened) v.turns (length v.seen) (length log) (starts_length log v.seen grown) pass.0.1
+  turns_ascend log grown = ascends_longer (length v.opened) v.turns (length v.seen) (length log) (starts_length log v.seen grown) pass.ascends
 
 -- The entries of a job that the passes carry, after each call
 module _ {E O : Type 0} (is_of : E → Bool) where
@@ -128,7 +128,7 @@ module _ {E O : Type 0} (is_of : E → Bool) where
   carries_first log origin = carries_none (first_view log origin) (omega arith) (λ i e is some. absurd (omega (arith, some)))
 
   pub carries_new : (v : View E O) → IsPass v → (n : ℕ) → Carries is_of (new_view n v) []
-  carries_new v pass n = carries_none (new_view n v) (ascends_bounds (length v.opened) v.turns (length v.seen) pass.0.1) (λ i e is some. absurd (omega (arith, some)))
+  carries_new v pass n = carries_none (new_view n v) (ascends_bounds (length v.opened) v.turns (length v.seen) pass.ascends) (λ i e is some. absurd (omega (arith, some)))
 
   pub carries_cut : (v : View E O) (n : ℕ) (entries : List E) → Carries is_of v entries → Carries is_of (cut_view n v) entries
   carries_cut v n entries c = record { own = c.own; others = c.others; ascends = c.ascends; parted = c.parted; foreign = c.foreign; picked = c.picked }

@@ -1,5 +1,5 @@
 -- The two steps that count what was logged and give the value back keep the rule.
-use Rattle.std.proofs.Common.{◌≡◌, ◌≢◌, ℕ, ◌<◌, ◌≤◌, true, true≢false, List, [], ◌∷◌, ◌++◌, length, set, sym, refl, ap, ◌∙◌, subst, ⊎_elim, arith}
+use Rattle.std.proofs.Common.{◌≡◌, ◌≢◌, ℕ, ◌<◌, ◌≤◌, true, true≢false, List, [], ◌∷◌, ◌++◌, length, set, sym, refl, ap, ◌∙◌, subst, ⊎_elim, arith, length-append}
 use Rattle.std.specs.Prelude.{Option, Some}
 use mathlib.Core.Option.{some}
 use lib.ListN.{get_elem?}
@@ -10,7 +10,7 @@ use Rattle.pot_turn.specs.declared.view.Sight.{Sight}
 use Rattle.pot_turn.specs.Logs.{StartsWith}
 use Rattle.pot_turn.specs.Stretches.{stretch, between, LieIn}
 use Rattle.pot_turn.specs.Views.{stretches_of}
-use Rattle.pot_turn.specs.Rules.{total, holding, made_by, parts_of, times_in, Fits, Ruled, Raised, Freed, raised_sight, freed_sight}
+use Rattle.pot_turn.specs.Rules.{total, holding, made_by, parts_of, times_in, turns_of, Fits, Ruled, Raised, Freed, raised_sight, freed_sight}
 use Rattle.pot_turn.proofs.LogLemmas.{starts_self, starts_trans, starts_length}
 use Rattle.pot_turn.proofs.StretchLemmas.{between-split, lies_longer, lies_append, lies_rest, lies_front}
 use Rattle.pot_turn.proofs.PassLemmas.{left-times}
@@ -33,6 +33,13 @@ module _ {T E O : Type 0} (log : T → List E) (origin : T → O) (opened : T) w
       let others = lies_longer at v.view.joined (length v.view.seen) upto more (lies_rest at v.view.turns v.view.joined (length v.view.seen) lies) in
       let new : LieIn at (stretch (length v.view.seen) upto ∷ []) upto = (start, omega arith, omega (arith, start, more)) in
       lies_append at (v.view.turns ++ stretch (length v.view.seen) upto ∷ []) v.view.joined upto (lies_append at v.view.turns (stretch (length v.view.seen) upto ∷ []) upto own new) others
+
+  -- a turn that is counted has a stretch, be it empty
+  raised_turns : (v : Sight E O) (l : List E) → 0 < turns_of (raised_sight l v)
+  raised_turns v l =
+      let one = length-append v.view.turns (stretch (length v.view.seen) (length l) ∷ []) in
+      let all = length-append (v.view.turns ++ stretch (length v.view.seen) (length l) ∷ []) v.view.joined in
+      omega (arith, one, all)
 
   -- the holder counts what its value's log has gained
   raises : (id : ℕ) (v : Sight E O) (x : T) → v.view.holds ≡ true → 0 < v.view.parts → StartsWith (log x) v.view.seen
@@ -108,9 +115,9 @@ module _ {T E O : Type 0} (log : T → List E) (origin : T → O) (opened : T) w
       (raises id m.0 x held some_parts grown))
 
   -- the holder gives the value back
-  frees : (id : ℕ) (v : Sight E O) (x : T) → v.view.holds ≡ true → 0 < v.view.parts → v.view.seen ≡ log x → Some (origin x) ≡ v.view.origin
+  frees : (id : ℕ) (v : Sight E O) (x : T) → v.view.holds ≡ true → 0 < v.view.parts → v.view.seen ≡ log x → Some (origin x) ≡ v.view.origin → 0 < turns_of v
       → Allows (Ruled log origin opened) 1 id (v, (0, Some x) ∷ []) 0 (λ _. 0) (λ _. Freed (v, (0, Some x) ∷ []))
-  frees id v x held some_parts seen named s r slots at small =
+  frees id v x held some_parts seen named turned s r slots at small =
       let w : Sight E O = freed_sight v in
       let views' = set s.views id w in
       let mine = r.each id v at in
@@ -122,6 +129,8 @@ module _ {T E O : Type 0} (log : T → List E) (origin : T → O) (opened : T) w
       let some_holds : total holding s.views ≡ 1 = omega (arith, least, bit_v, one) in
       let none_holds : total holding views' ≡ 0 = omega (arith, holds1, bit_v, some_holds) in
       let made = total-same made_by s.views id v w at refl in
+      let turns = total-same turns_of s.views id v w at refl in
+      let mine_turned = total_at turns_of s.views id v at in
       let whole_made = r.made in (
         w,
         gives,
@@ -146,17 +155,17 @@ module _ {T E O : Type 0} (log : T → List E) (origin : T → O) (opened : T) w
               }))
               (λ (y : (k ≢ id) × (get_elem? s.views k ≡ some u)). r.each k u y.1)
               (at_set s.views id k w u e);
-          home = λ _. (x, ap (λ h. set h 0 (some (Some x))) (r.away some_holds), sym seen ∙ all, same_Some (origin x) (origin opened) (named ∙ (mine.named some_parts).1));
+          home = λ _. (x, ap (λ h. set h 0 (some (Some x))) (r.away some_holds), sym seen ∙ all, same_Some (origin x) (origin opened) (named ∙ (mine.named some_parts).1), λ none. absurd (omega (arith, none, turns, mine_turned, turned)));
           away = λ p. absurd (omega (arith, p, none_holds));
         },
         refl,
       )
 
-  frees_it : (id : ℕ) (m : Me (Option T) (Sight E O)) (x : T) → m.0.view.holds ≡ true → 0 < m.0.view.parts → m.1 ≡ (0, Some x) ∷ [] → m.0.view.seen ≡ log x → Some (origin x) ≡ m.0.view.origin
+  frees_it : (id : ℕ) (m : Me (Option T) (Sight E O)) (x : T) → m.0.view.holds ≡ true → 0 < m.0.view.parts → m.1 ≡ (0, Some x) ∷ [] → m.0.view.seen ≡ log x → Some (origin x) ≡ m.0.view.origin → 0 < turns_of m.0
       → Allows (Ruled log origin opened) 1 id m 0 (λ _. 0) (λ _. Freed m)
-  frees_it id m x held some_parts out seen named =
+  frees_it id m x held some_parts out seen named turned =
       subst (λ (c : List (ℕ × Option T)). Allows (Ruled log origin opened) 1 id (m.0, c) 0 (λ _. 0) (λ _. Freed (m.0, c))) (sym out)
-      (frees id m.0 x held some_parts seen named)
+      (frees id m.0 x held some_parts seen named turned)
 
   -- the holder m has put the value x into its slot, and is m' now
   pub puts : (id : ℕ) (m m' : Me (Option T) (Sight E O)) (x : T) → IsHolder m → m' ≡ (m.0, (0, Some x) ∷ rest m.1) → StartsWith (log x) m.0.view.seen
@@ -176,4 +185,4 @@ module _ {T E O : Type 0} (log : T → List E) (origin : T → O) (opened : T) w
       → Allows (Ruled log origin opened) 1 id m'' 0 (λ _. 0) (λ _. Freed m'')
   ends_turn id m m' m'' x had put raised named =
       subst (λ (k : Me (Option T) (Sight E O)). Allows (Ruled log origin opened) 1 id k 0 (λ _. 0) (λ _. Freed k)) (sym (raised_is m m' m'' x had put raised))
-      (frees_it id (raised_sight (log x) m.0, (0, Some x) ∷ []) x had.0 had.1 refl refl named)
+      (frees_it id (raised_sight (log x) m.0, (0, Some x) ∷ []) x had.0 had.1 refl refl named (raised_turns m.0 (log x)))

@@ -1,15 +1,15 @@
 -- What is true of every pass stays true.
-use Rattle.std.proofs.Common.{◌≡◌, ℕ, ◌+◌, ◌<◌, ◌≤◌, List, [], ◌∷◌, ◌++◌, length, arith}
+use Rattle.std.proofs.Common.{◌≡◌, ℕ, ◌+◌, ◌<◌, List, [], ◌∷◌, ◌++◌, length, refl, arith}
 use Rattle.pot_turn.specs.declared.view.View.{View}
 use Rattle.pot_turn.specs.Logs.{StartsWith, longer}
 use Rattle.pot_turn.specs.Stretches.{stretch, between, times, LieIn}
 use Rattle.pot_turn.specs.Views.{stretches_of, first_view, took_view, left_view, cut_view, new_view, both_views, IsPass}
-use Rattle.pot_turn.proofs.LogLemmas.{starts_length}
+use Rattle.pot_turn.proofs.LogLemmas.{starts_self, starts_trans, starts_length}
 use Rattle.pot_turn.proofs.StretchLemmas.{times-append, lies_within, size_of-snoc, size_of-append, ascends_longer, ascends_snoc, ascends_lies, lies_longer, lies_append, lies_rest}
 
 module _ {E O : Type 0} where
   pub pass_first : (log : List E) (origin : O) → IsPass (first_view log origin)
-  pass_first log origin = ((omega arith, omega arith, omega arith), omega arith)
+  pass_first log origin = record { some = omega arith; origin = refl; since = starts_self log; ascends = omega arith; lies = omega arith; made = omega arith }
 
 module _ {E O : Type 0} (v : View E O) where
   -- a turn adds one stretch, of what came after the log seen
@@ -31,7 +31,7 @@ module _ {E O : Type 0} (v : View E O) where
 module _ {E O : Type 0} (v : View E O) (is : IsPass v) where
   -- all of its stretches lie between the opening log and the log seen
   pub pass_lies : LieIn (length v.opened) (stretches_of v) (length v.seen)
-  pass_lies = lies_append (length v.opened) v.turns v.joined (length v.seen) (ascends_lies (length v.opened) v.turns (length v.seen) is.0.1) is.0.2
+  pass_lies = lies_append (length v.opened) v.turns v.joined (length v.seen) (ascends_lies (length v.opened) v.turns (length v.seen) is.ascends) is.lies
 
   -- no position past the log seen stands in one
   pub pass_within : (i : ℕ) → 0 < times i (stretches_of v) → i < length v.seen
@@ -40,20 +40,36 @@ module _ {E O : Type 0} (v : View E O) (is : IsPass v) where
   pub pass_took : (log : List E) → StartsWith log v.seen → IsPass (took_view log v)
   pass_took log grown =
       let more = starts_length log v.seen grown in
-      ((is.0.0, ascends_longer (length v.opened) v.turns (length v.seen) (length log) more is.0.1, lies_longer (length v.opened) v.joined (length v.seen) (length log) more is.0.2), is.1)
+      record {
+        some = is.some;
+        origin = is.origin;
+        since = starts_trans log v.seen v.opened grown is.since;
+        ascends = ascends_longer (length v.opened) v.turns (length v.seen) (length log) more is.ascends;
+        lies = lies_longer (length v.opened) v.joined (length v.seen) (length log) more is.lies;
+        made = is.made;
+      }
 
   pub pass_left : (log : List E) → StartsWith log v.seen → IsPass (left_view log v)
   pass_left log grown =
       let more = starts_length log v.seen grown in
       let size = size_of-snoc v.turns (length v.seen) (length log) in
-      let made = is.1 in
-      ((is.0.0, ascends_snoc (length v.opened) v.turns (length v.seen) (length log) more is.0.1, lies_longer (length v.opened) v.joined (length v.seen) (length log) more is.0.2), omega (arith, size, made))
+      let made = is.made in
+      record {
+        some = is.some;
+        origin = is.origin;
+        since = starts_trans log v.seen v.opened grown is.since;
+        ascends = ascends_snoc (length v.opened) v.turns (length v.seen) (length log) more is.ascends;
+        lies = lies_longer (length v.opened) v.joined (length v.seen) (length log) more is.lies;
+        made = omega (arith, size, made);
+      }
 
   pub pass_cut : (n : ℕ) → n < v.parts → IsPass (cut_view n v)
-  pass_cut n fewer = ((omega (arith, fewer), is.0.1, is.0.2), is.1)
+  pass_cut n fewer = record { some = omega (arith, fewer); origin = is.origin; since = is.since; ascends = is.ascends; lies = is.lies; made = is.made }
 
-  pub pass_new : (n : ℕ) → 0 < n → length v.opened ≤ length v.seen → IsPass (new_view n v)
-  pass_new n some since = ((some, since, since), omega arith)
+  pub pass_new : (n : ℕ) → 0 < n → IsPass (new_view n v)
+  pass_new n some =
+      let since = starts_length v.seen v.opened is.since in
+      record { some = some; origin = is.origin; since = is.since; ascends = since; lies = since; made = omega arith }
 
   pub pass_both : (w : View E O) → IsPass w → StartsWith (longer v.seen w.seen) v.seen → LieIn (length v.opened) (stretches_of (both_views v w)) (length (longer v.seen w.seen)) → IsPass (both_views v w)
   pass_both w its grown lies =
@@ -61,7 +77,14 @@ module _ {E O : Type 0} (v : View E O) (is : IsPass v) where
       let more = starts_length whole v.seen grown in
       let size = size_of-append v.joined (w.turns ++ w.joined) in
       let size' = size_of-append w.turns w.joined in
-      let made = is.1 in
-      let made' = its.1 in
-      let some = is.0.0 in
-      ((omega (arith, some), ascends_longer (length v.opened) v.turns (length v.seen) (length whole) more is.0.1, lies_rest (length v.opened) v.turns (v.joined ++ (w.turns ++ w.joined)) (length whole) lies), omega (arith, size, size', made, made'))
+      let made = is.made in
+      let made' = its.made in
+      let some = is.some in
+      record {
+        some = omega (arith, some);
+        origin = is.origin;
+        since = starts_trans whole v.seen v.opened grown is.since;
+        ascends = ascends_longer (length v.opened) v.turns (length v.seen) (length whole) more is.ascends;
+        lies = lies_rest (length v.opened) v.turns (v.joined ++ (w.turns ++ w.joined)) (length whole) lies;
+        made = omega (arith, size, size', made, made');
+      }

@@ -19,10 +19,10 @@ IsHolder m = (m.0.view.holds ≡ true) × (0 < m.0.view.parts) × (m.1 ≡ (0, N
 
 module _ {T E O : Type 0} (m : Me (Option T) (Sight E O)) where
   pub is_idle : m.1 ≡ slots_of m.0.view.holds → IsPass m.0.view → m.0.view.holds ≡ false → IsIdle m
-  is_idle slots is h = (h, is.0.0, slots ∙ ap (λ b. slots_of b) h)
+  is_idle slots is h = (h, is.some, slots ∙ ap (λ b. slots_of b) h)
 
   pub is_holder : m.1 ≡ slots_of m.0.view.holds → IsPass m.0.view → m.0.view.holds ≡ true → IsHolder m
-  is_holder slots is h = (h, is.0.0, slots ∙ ap (λ b. slots_of b) h)
+  is_holder slots is h = (h, is.some, slots ∙ ap (λ b. slots_of b) h)
 
   -- the facts of the pass, where the seat has become this one
   pub slots_at : (s : Sight E O) → m ≡ (s, slots_of s.view.holds) → m.1 ≡ slots_of m.0.view.holds

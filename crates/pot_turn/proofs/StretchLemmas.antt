@@ -62,6 +62,16 @@ pub ascends_bounds : (at : ℕ) (ss : List Stretch) (upto : ℕ) → Ascends at 
 ascends_bounds at [] upto h = h
 ascends_bounds at (s ∷ ss) upto h = let rest = ascends_bounds s.upto ss upto h.2 in omega (arith, rest, h.0, h.1)
 
+-- stretches that follow those before them
+pub ascends_both : (at : ℕ) (xs ys : List Stretch) (b c d : ℕ) → Ascends at xs b → b ≤ c → Ascends c ys d → Ascends at (xs ++ ys) d
+ascends_both at [] [] b c d p le q = omega (arith, p, le, q)
+ascends_both at [] (y ∷ ys) b c d p le q = (omega (arith, p, le, q.0), q.1, q.2)
+ascends_both at (x ∷ xs) ys b c d p le q = (p.0, p.1, ascends_both x.upto xs ys b c d p.2 le q)
+
+pub ascends_lower : (a b : ℕ) (ss : List Stretch) (upto : ℕ) → a ≤ b → Ascends b ss upto → Ascends a ss upto
+ascends_lower a b [] upto le h = omega (arith, le, h)
+ascends_lower a b (s ∷ ss) upto le h = (omega (arith, le, h.0), h.1, h.2)
+
 pub lies_lower : (a b : ℕ) (ss : List Stretch) (upto : ℕ) → a ≤ b → LieIn b ss upto → LieIn a ss upto
 lies_lower a b [] upto le h = omega (arith, le, h)
 lies_lower a b (s ∷ ss) upto le h = (omega (arith, le, h.0), h.1, lies_lower a b ss upto le h.2)

@@ -11,6 +11,10 @@ use Rattle.pot_turn.specs.Names.{named}
 abbrev pub name_of : {T E O : Type 0} → Turn T E O → TurnName
 name_of t = named t.table.shared.table_id
 
+-- the value that the turn was made with
+abbrev pub made_with : {T E O : Type 0} → Turn T E O → T
+made_with t = t.table.shared.key.value
+
 module _ {T E O : Type 0} {g : Ghosts T E O} where
   -- the name of the turn that the pass is of
   abbrev pub turn_of : Pass T E O g → TurnName

@@ -68,6 +68,10 @@ module _ {E O : Type 0} where
   abbrev pub times_in : ℕ → Sight E O → ℕ
   times_in i s = times i (stretches_of s.view)
 
+  -- how many turns have ended
+  abbrev pub turns_of : Sight E O → ℕ
+  turns_of s = length (stretches_of s.view)
+
   -- the log seen begins with what was told, and the opening log and the origin are the same
   abbrev pub Agrees : View E O → Told E O → Type 0
   Agrees v t = StartsWith v.seen t.seen × (t.opened ≡ v.opened) × (t.origin ≡ v.origin)
@@ -88,7 +92,7 @@ module _ {T E O : Type 0} (log : T → List E) (origin : T → O) (opened : T) w
     pub lies : LieIn (length s.view.opened) (stretches_of s.view) (length s.view.seen)
     pub named : 0 < s.view.parts → (s.view.opened ≡ log opened) × (s.view.origin ≡ Some (origin opened))
 
-  -- The words are the number of holders and the length of one whole log. The numbers made add up to what was logged, the parts to all parts, and the stretches of all passes have each position logged just once. Where no pass holds the value it is at home, and its log is the whole one
+  -- The words are the number of holders and the length of one whole log. The numbers made add up to what was logged, the parts to all parts, and the stretches of all passes have each position logged just once. Where no pass holds the value it is at home, and its log is the whole one; and where no turn has ended it is the very value that the turn was made with
   pub record Ruled (s : State (Option T) (Sight E O)) : Type 0 where
     pub whole : List E
     pub words : s.words ≡ total holding s.views ∷ length whole ∷ []
@@ -98,7 +102,7 @@ module _ {T E O : Type 0} (log : T → List E) (origin : T → O) (opened : T) w
     pub parts : total parts_of s.views ≡ 2 ^ 62
     pub once : (i : ℕ) → total (times_in i) s.views ≡ between i (length (log opened)) (length whole)
     pub each : (k : ℕ) (v : Sight E O) → get_elem? s.views k ≡ some v → Fits whole v
-    pub home : total holding s.views ≡ 0 → (v : T) × (s.homes ≡ some (Some v) ∷ []) × (log v ≡ whole) × (origin v ≡ origin opened)
+    pub home : total holding s.views ≡ 0 → (v : T) × (s.homes ≡ some (Some v) ∷ []) × (log v ≡ whole) × (origin v ≡ origin opened) × (total turns_of s.views ≡ 0 → v ≡ opened)
     pub away : total holding s.views ≡ 1 → s.homes ≡ none ∷ []
 
 module _ {T E O : Type 0} (log : T → List E) (origin : T → O) where

@@ -1,12 +1,12 @@
 -- What a pass knows of its turn, and what each call makes of it.
 use Rattle.std.specs.Prelude.{◌≡◌, ℕ, ◌+◌, ◌-◌, ◌^◌, ◌<◌, List, [], ◌∷◌, ◌++◌, length, false, true}
-use Rattle.std.specs.Prelude.{Some, None}
+use Rattle.std.specs.Prelude.{Some, None, IsSome, is_some}
+use Rattle.std.specs.Coded.{Coded-set, coded_bool}
 use native.Mathlib.Bridge.{le_prop}
 use Rattle.std.proofs.Math.Nat.{ℕ_set}
-use mathlib.Core.HLevel.{×₃_prop, ×_prop}
 use Rattle.pot_turn.specs.declared.view.View.{View}
 use Rattle.pot_turn.specs.declared.view.Stretch.{Stretch}
-use Rattle.pot_turn.specs.Logs.{longer}
+use Rattle.pot_turn.specs.Logs.{StartsWith, StartsWith-prop, longer}
 use Rattle.pot_turn.specs.Stretches.{stretch, size_of, entries_in, Ascends, LieIn, Ascends-prop, LieIn-prop}
 
 module _ {E O : Type 0} where
@@ -46,13 +46,21 @@ module _ {E O : Type 0} where
   abbrev pub spent_view : View E O
   spent_view = record { holds = false; opened = []; seen = []; turns = []; joined = []; made = 0; parts = 0; origin = None }
 
-  -- What is true of every pass: it has a part, its own stretches ascend between the opening log and the log seen, those joined into it lie there too, and the number made is the number of positions of all of them
-  abbrev pub IsPass : View E O → Type 0
-  IsPass v =
-      ((0 < v.parts) × Ascends (length v.opened) v.turns (length v.seen) × LieIn (length v.opened) v.joined (length v.seen))
-      × (v.made ≡ size_of v.turns + size_of v.joined)
+  -- What is true of every pass. It has a part and an origin. The log seen begins with the log at the opening. Its own stretches ascend between the two, those joined into it lie there too, and the number made is the number of positions of all of them
+  pub record IsPass (v : View E O) : Type 0 where
+    pub some : 0 < v.parts
+    pub origin : IsSome v.origin
+    pub since : StartsWith v.seen v.opened
+    pub ascends : Ascends (length v.opened) v.turns (length v.seen)
+    pub lies : LieIn (length v.opened) v.joined (length v.seen)
+    pub made : v.made ≡ size_of v.turns + size_of v.joined
 
-  pub IsPass-prop : (v : View E O) → IsProp (IsPass v)
-  IsPass-prop v = ×_prop
-      (×₃_prop le_prop (Ascends-prop (length v.opened) v.turns (length v.seen)) (LieIn-prop (length v.opened) v.joined (length v.seen)))
-      (ℕ_set v.made (size_of v.turns + size_of v.joined))
+  pub IsPass-prop : IsSet (List E) → (v : View E O) → IsProp (IsPass v)
+  IsPass-prop set v a b = λ i. record {
+    some = le_prop a.some b.some i;
+    origin = Coded-set coded_bool (is_some v.origin) true a.origin b.origin i;
+    since = StartsWith-prop set v.seen v.opened a.since b.since i;
+    ascends = Ascends-prop (length v.opened) v.turns (length v.seen) a.ascends b.ascends i;
+    lies = LieIn-prop (length v.opened) v.joined (length v.seen) a.lies b.lies i;
+    made = ℕ_set v.made (size_of v.turns + size_of v.joined) a.made b.made i;
+  }

@@ -2,6 +2,7 @@
 ghost use Rattle.std.specs.Prelude.{◌≡◌};
 ghost use Rattle.pot_turn.specs.Rules.{slots_of};
 ghost use Rattle.pot_turn.specs.Views.{IsPass, IsPass-prop};
+ghost use Rattle.std.specs.Coded.{Coded-set, coded_list};
 
 use crate::Kept;
 use crate::rule::{Cut, Free, Look, Pair, Parts, Raise, Take, TurnRule};
@@ -25,7 +26,7 @@ pub struct Pass<T: Kept> {
     seat: Seat<Option<T>, Sight<T::Entry, T::Origin>>,
     // While it has the value, the turn's slot is out with it, and empty.
     ghost slots: { seat.me.1 ≡ slots_of seat.me.0.view.holds },
-    pub ghost known: { IsPass seat.me.0.view } by { IsPass-prop seat.me.0.view },
+    pub ghost known: { IsPass seat.me.0.view } by { IsPass-prop (Coded-set (coded_list T.Entry.code)) seat.me.0.view },
 }
 
 /// There was no memory for a turn. The value comes back.
@@ -39,17 +40,18 @@ pub struct TurnRefused<T> {
 pub struct NoMemory;
 
 impl<T: Kept> Turn<T> {
-    ghost use Rattle.std.specs.Prelude.{◌≡◌, ◌≤◌, ◌<◌, ◌+◌, ◌^◌, ℕ, IfOk, IfErr, IsOk, length, true, false, Some, MatchOption};
+    ghost use Rattle.std.specs.Prelude.{◌≡◌, ◌≤◌, ◌<◌, ◌+◌, ◌^◌, ℕ, IfOk, IfErr, IsOk, [], length, true, false, Some, MatchOption};
     ghost use Rattle.pot_turn.specs.Logs.{StartsWith};
     ghost use Rattle.pot_turn.specs.Stretches.{times, IsOnceEach};
     ghost use Rattle.pot_turn.specs.Jobs.{EntriesAreCarried};
     ghost use Rattle.pot_turn.specs.Views.{stretches_of, first_view, took_view, left_view, cut_view, new_view, both_views};
-    ghost use Rattle.pot_turn.specs.Passes.{view, turn_of, IsPassOf};
+    ghost use Rattle.pot_turn.specs.Passes.{view, turn_of, IsPassOf, made_with};
 
     /// A turn over the value, and its first pass, which has all parts and has seen the value's log.
     pub fn new(alloc: Global, value: T) -> Result<(Turn<T>, Pass<T>), TurnRefused<T>>
         ensures own { IfOk result (λ p. IsPassOf p.0 p.1) }
         ensures first { IfOk result (λ p. view p.1 ≡ first_view (T.log value) (T.origin value)) }
+        ensures made { IfOk result (λ p. made_with p.0 ≡ value) }
         ensures back { IfErr result (λ r. r.value ≡ value) }
     {
         let count = value.length();
@@ -174,7 +176,7 @@ impl<T: Kept> Turn<T> {
         shared.load::<Look>(&mut pass.seat, 0);
     }
 
-    /// Ends the turn with the pass that has all parts, and hands out the value. Every other pass is spent, so this one has seen the whole log, and each entry since `new` stands in just one of its stretches.
+    /// Ends the turn with the pass that has all parts, and hands out the value. Every other pass is spent, so this one has seen the whole log, and each entry since `new` stands in just one of its stretches. Where no pass ever took the value, it is the very one that the turn was made with.
     pub fn close(self, pass: Pass<T>) -> T
         requires own { IsPassOf self pass }
         requires idle { (view pass).holds ≡ false }
@@ -184,6 +186,7 @@ impl<T: Kept> Turn<T> {
         ensures origin { Some (T.origin result) ≡ (view pass).origin }
         ensures made { length (T.log result) ≡ length (view pass).opened + (view pass).made }
         ensures once { IsOnceEach (view pass).opened (T.log result) (stretches_of (view pass)) }
+        ensures untouched { stretches_of (view pass) ≡ [] → result ≡ made_with self }
         ensures jobs { EntriesAreCarried (view pass) (T.log result) }
     {
         let Turn { table } = self;

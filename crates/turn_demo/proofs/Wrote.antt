@@ -33,7 +33,7 @@ wrote_nothing v pass idle fresh author count is = subst (λ n. Wrote author (aut
   parts = refl;
   opened = refl;
   made = omega arith;
-  theirs = λ a le lt. carries_none (by a) v (ascends_bounds (length v.opened) v.turns (length v.seen) pass.0.1) (none_fresh v a fresh);
+  theirs = λ a le lt. carries_none (by a) v (ascends_bounds (length v.opened) v.turns (length v.seen) pass.ascends) (none_fresh v a fresh);
   before = λ a lt. none_fresh v a fresh;
   after = λ a le. none_fresh v a fresh;
 })

@@ -27,5 +27,6 @@ returns g c =
       origin = it.named;
       made = it.made;
       once = it.once;
+      untouched = it.untouched;
       jobs = entries_are_carried pass.seat.me.0.view (g.T.Kept.log c.in-Some.value) it.seen it.since it.once;
     }

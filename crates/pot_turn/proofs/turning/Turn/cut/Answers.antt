@@ -1,7 +1,6 @@
 use Rattle.std.proofs.Common.{arith, ap, sym, [], ◌<◌, subst}
 use Rattle.pot_turn.proofs.Divides.{splits}
 use Rattle.pot_turn.proofs.Seats.{slots_at, pass_at}
-use Rattle.pot_turn.proofs.StretchLemmas.{ascends_bounds}
 use Rattle.pot_turn.proofs.PassLemmas.{pass_new}
 use Rattle.pot_turn.specs.Rules.{new_sight}
 use Rattle.pot_turn.proofs.turning.Turn.cut.Goals as goal
@@ -26,5 +25,4 @@ invariant_of-result g c =
     let n = g.N.Parts.parts in
     let s = new_sight n old in
     let e = c.split_seat.ensures.4 in
-    let since = ascends_bounds _ old.view.turns _ pass.known.0.1 in
-    record { slots = slots_at m s e; known = pass_at m s [] e (pass_new old.view pass.known n (subst (λ k. 0 < k) some.2 some.0) since) }
+    record { slots = slots_at m s e; known = pass_at m s [] e (pass_new old.view pass.known n (subst (λ k. 0 < k) some.2 some.0)) }

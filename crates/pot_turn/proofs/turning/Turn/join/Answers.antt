@@ -15,7 +15,7 @@ join_seat-requires g c =
       ap (λ n. n.id) c.requires.its_own,
       (is_idle other.seat.me other.slots other.known c.requires.its_idle).2,
       omega (arith, words),
-      joins g.T.Kept.log g.T.Kept.origin c.args.self.now.table.shared.key.value pass.seat.id pass.seat.me.0 other.seat.id other.seat.me.0 c.requires.idle pass.known.0.0 c.requires.its_idle other.known.0.0,
+      joins g.T.Kept.log g.T.Kept.origin c.args.self.now.table.shared.key.value pass.seat.id pass.seat.me.0 other.seat.id other.seat.me.0 c.requires.idle pass.known.some c.requires.its_idle other.known.some,
     )
 
 pub load-requires : goal.load-requires
