@@ -1,0 +1,52 @@
+//! Turns in a row, and passes of all of them, as plain lists.
+//!
+//! Values that are used side by side each stand under a turn of their own, as the groups of a vault do. Whoever works with
+//! them has a row of passes, one of each turn. A contract sees two lists: the names of the turns (`Turns`), and what each
+//! pass knows of its turn (`PassRow` of specs/Rows.antt). So what is said of a place is one equation, and no caller meets a
+//! turn or a pass of its own.
+//!
+//! | call | what it does at a place |
+//! |---|---|
+//! | `enter`, `leave` | takes the value of one turn, and gives it back |
+//! | `tie` | lets two rows tell one another what they have seen |
+//!
+//! It knows nothing of what the values are. It promises no progress, as `pot_turn`, and no order among the turns.
+#![tactic(auto)]
+
+mod calls;
+mod ties;
+
+use pot_turn::{Kept, Pass, Turn};
+use std::marker::Model;
+
+/// Turns in a row. Contracts see their names.
+#[derive(Drop)]
+pub struct Turns<T: Kept> {
+    turns: Vec<Turn<T>>,
+}
+
+impl<T: Kept> Model for Turns<T> {
+    ghost use Rattle.std.specs.Prelude.{List, map};
+    ghost use Rattle.pot_turn.specs.declared.name.TurnName.{TurnName};
+    ghost use Rattle.pot_turn.specs.Passes.{name_of};
+
+    ghost Value = { List TurnName };
+
+    ghost view = { λ t. map name_of t.turns.items };
+}
+
+/// A pass of each turn of a row. Contracts see the names of the turns, and what each pass knows.
+#[derive(Drop)]
+pub struct Passes<T: Kept> {
+    passes: Vec<Pass<T>>,
+}
+
+impl<T: Kept> Model for Passes<T> {
+    ghost use Rattle.std.specs.Prelude.{map};
+    ghost use Rattle.pot_turn.specs.Passes.{view as knows, turn_of};
+    ghost use Rattle.pot_rows.specs.Rows.{PassRow};
+
+    ghost Value = { PassRow T.Entry T.Origin };
+
+    ghost view = { λ p. record { names = map turn_of p.passes.items; views = map knows p.passes.items } };
+}
