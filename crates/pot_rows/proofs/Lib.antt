@@ -1,2 +1,4 @@
+pub mod Lists
 pub mod RowLemmas
 pub mod TieLemmas
+pub mod PartLemmas

@@ -21,6 +21,12 @@ one_name f h xs ys names names' i x y fx hy same within is is' =
     let xlong : i < length xs = omega (arith, within, length-map xs f, ap length fx, ap length same) in
     same_Some (f x) (h y) (sym (given_at f xs i x xlong is) ∙ (ap (λ w. slice_get w i) (fx ∙ (same ∙ sym hy)) ∙ given_at h ys i y ylong is'))
 
+-- an element's name stands at its place among the names
+pub named_at : {A N : Type 0} (f : A → N) (xs : List A) (names : List N) (i : ℕ) (x : A) → map f xs ≡ names → i < length names → x ≡ get_or xs i x → slice_get names i ≡ Some (f x)
+named_at f xs names i x fx within is =
+    let long : i < length xs = omega (arith, within, length-map xs f, ap length fx) in
+    sym (ap (λ w. slice_get w i) fx) ∙ given_at f xs i x long is
+
 module _ {P E O : Type 0} (name : P → TurnName) (know : P → View E O) where
   abbrev row_of : List P → PassRow E O
   row_of ps = record { names = map name ps; views = map know ps }

@@ -7,13 +7,16 @@
 //!
 //! | call | what it does at a place |
 //! |---|---|
+//! | `start`, `close` | makes a turn and its first pass of each value, and hands the values out again |
 //! | `enter`, `leave` | takes the value of one turn, and gives it back |
+//! | `split`, `join` | makes a second row of passes, and takes one in |
 //! | `tie` | lets two rows tell one another what they have seen |
 //!
 //! It knows nothing of what the values are. It promises no progress, as `pot_turn`, and no order among the turns.
 #![tactic(auto)]
 
 mod calls;
+mod parts;
 mod ties;
 
 use pot_turn::{Kept, Pass, Turn};
