@@ -25,3 +25,15 @@ module _ {X : Type 0} where
   pub get_or_last : (xs : List X) (y d : X) → get_or (xs ++ y ∷ []) (length xs) d ≡ y
   get_or_last [] y d = refl
   get_or_last (x ∷ xs) y d = get_or_last xs y d
+
+  -- where two lists with a last element are equal, so are both parts
+  pub snoc_same : (xs ys : List X) (x y : X) → xs ++ x ∷ [] ≡ ys ++ y ∷ [] → (xs ≡ ys) × (x ≡ y)
+  snoc_same [] [] x y e = (refl, cc e)
+  snoc_same [] (b ∷ []) x y e = absurd (cc e)
+  snoc_same [] (b ∷ c ∷ ys) x y e = absurd (cc e)
+  snoc_same (a ∷ []) [] x y e = absurd (cc e)
+  snoc_same (a ∷ c ∷ xs) [] x y e = absurd (cc e)
+  snoc_same (a ∷ xs) (b ∷ ys) x y e =
+      let heads : a ≡ b = cc e in
+      let rest = snoc_same xs ys x y (cc e) in
+      (cc (heads, rest.0), rest.1)

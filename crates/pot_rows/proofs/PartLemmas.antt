@@ -4,7 +4,7 @@ use Rattle.std.specs.Prelude.{slice_get, Some}
 use Rattle.std.proofs.lemmas.Option.{get_or_from_slice_get}
 use Rattle.pot_turn.specs.declared.view.View.{View}
 use Rattle.pot_turn.specs.declared.name.TurnName.{TurnName}
-use Rattle.pot_turn.specs.Views.{spent_view, cut_view, new_view, both_views}
+use Rattle.pot_turn.specs.Views.{spent_view, cut_view, new_view}
 use Rattle.pot_turn.proofs.LogLemmas.{starts_self}
 use Rattle.pot_rows.specs.Rows.{PassRow, AreOf, view_at, with_view}
 use Rattle.pot_rows.specs.Parts.{SplitSofar, Joined, JoinedAt, RowJoined, JoinSofar}

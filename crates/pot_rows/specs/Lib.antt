@@ -1,3 +1,4 @@
 pub mod Rows
 pub mod Ties
 pub mod Parts
+pub mod Ends

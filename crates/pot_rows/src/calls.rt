@@ -44,3 +44,18 @@ impl<T: Kept> Turns<T> {
         turn.leave(pass, value)
     }
 }
+
+impl<T: Kept> Passes<T> {
+    ghost use Rattle.std.specs.Prelude.{◌≡◌, ◌<◌, ℕ, length};
+    ghost use Rattle.pot_turn.specs.Views.{IsPass};
+    ghost use Rattle.pot_rows.specs.Rows.{view_at};
+
+    /// How many passes there are. Each of them is as every pass is.
+    pub fn len(&self) -> usize
+        ensures count { result ≡ length self.now.names }
+        ensures long { length self.now.views ≡ length self.now.names }
+        ensures known { (at : ℕ) → at < length self.now.names → IsPass (view_at self.now at) }
+    {
+        self.passes.len()
+    }
+}

@@ -16,7 +16,10 @@
 #![tactic(auto)]
 
 mod calls;
+mod ends;
 mod parts;
+#[cfg(test)]
+mod tests;
 mod ties;
 
 use pot_turn::{Kept, Pass, Turn};

@@ -31,7 +31,12 @@ impl<T: Kept> Turns<T> {
     }
 
     /// A new row of passes, each of which has seen what the old one of its turn has, and takes these parts of it. Only memory can be wanting, and then nothing changes.
-    pub fn split(&self, alloc: Global, passes: &mut Passes<T>, parts: u64) -> Result<Passes<T>, NoMemory>
+    pub fn split(
+        &self,
+        alloc: Global,
+        passes: &mut Passes<T>,
+        parts: u64,
+    ) -> Result<Passes<T>, NoMemory>
         requires own { AreOf self.now passes.old }
         requires idle { IsIdle passes.old }
         requires some { (0 < parts) × HasMoreParts parts passes.old }

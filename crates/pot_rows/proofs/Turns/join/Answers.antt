@@ -1,4 +1,4 @@
-use Rattle.std.proofs.Common.{◌<◌, ◌≤◌, length, arith, ap, sym, ◌∙◌, false, ◌≡◌}
+use Rattle.std.proofs.Common.{◌<◌, ◌≤◌, length, arith, ap, sym, ◌∙◌}
 use Rattle.std.specs.Prelude.{map}
 use Rattle.pot_turn.specs.Passes.{view, turn_of}
 use Rattle.pot_rows.proofs.PartLemmas.{next_of, next_knows, join_more, join_all}

@@ -1,7 +1,7 @@
 use Rattle.std.proofs.Common.{◌∙◌, ap, sym}
 use Rattle.std.specs.Prelude.{Some}
 use Rattle.pot_turn.specs.Passes.{view, turn_of, name_of}
-use Rattle.pot_turn.specs.Views.{cut_view, new_view}
+use Rattle.pot_turn.specs.Views.{cut_view}
 use Rattle.pot_rows.proofs.RowLemmas.{one_name, named_at, row_long, row_at, row_set}
 use Rattle.pot_rows.proofs.Turns.split_at.Goals as goal
 
