@@ -1,0 +1,20 @@
+//! The index of stored files: the records of published files by name, the names that are reserved, and the log of
+//! what was asked of it.
+//!
+//! It knows no block and no table: a record says where blocks stand, and what stands there is not looked at.
+#![tactic(auto)]
+
+mod entry;
+mod fault;
+mod listed;
+mod places;
+mod record;
+mod splits;
+
+pub use entry::IndexEntry;
+pub use fault::{FindFault, ListFault, RenewFault, ReserveFault};
+pub use listed::Listed;
+pub use places::Places;
+pub use pot_bytes::NoMemory;
+pub use record::{Record, Split};
+pub use splits::Splits;
