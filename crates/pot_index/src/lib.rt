@@ -7,9 +7,12 @@
 mod entry;
 mod fault;
 mod listed;
+mod marks;
 mod places;
 mod record;
+mod spelling;
 mod splits;
+mod writing;
 
 pub use entry::IndexEntry;
 pub use fault::{FindFault, ListFault, RenewFault, ReserveFault};
@@ -18,3 +21,4 @@ pub use places::Places;
 pub use pot_bytes::NoMemory;
 pub use record::{Record, Split};
 pub use splits::Splits;
+pub use writing::write_record;
