@@ -1,4 +1,5 @@
 //! The entries of the index's log.
+use crate::record::Record;
 use pot_bytes::{Digest, Name};
 
 /// An entry of the index's log.
@@ -23,4 +24,12 @@ pub enum IndexEntry {
     Renew { job: u32, name: Name, mark: Digest },
     /// The name's record has as many splits as a record may have.
     Often { job: u32, name: Name },
+}
+
+/// An entry with what it brought: with a Publish the record that it published, and with a Renew the record as it is from
+/// then on, whose current split is the new one. Contracts see the log as a list of these, and no value is made.
+#[derive(Drop)]
+pub struct Logged {
+    pub entry: IndexEntry,
+    pub brought: Option<Record>,
 }

@@ -1,6 +1,7 @@
-ghost use Rattle.std.specs.Prelude.{◌≡◌};
+ghost use Rattle.std.specs.Prelude.{◌≡◌, IfOk};
 
-use pot_bytes::Place;
+use pot_bytes::{NoMemory, Place};
+use std::alloc::Global;
 use std::marker::Model;
 
 /// Where the blocks of a split stand, by piece, fragment and point. Contracts see the list of the places.
@@ -38,5 +39,13 @@ impl Places {
         ensures { result.now ≡ self.now }
     {
         self.places.as_slice()
+    }
+
+    /// Equal places.
+    pub fn copy(&self, alloc: Global) -> Result<Places, NoMemory>
+        ensures { IfOk result (λ p. p ≡ self.now) }
+    {
+        let places = Vec::from_slice(alloc, &self.places)?;
+        Ok(Places { places })
     }
 }

@@ -1,7 +1,11 @@
-ghost use Rattle.std.specs.Prelude.{◌≡◌, ◌≤◌, length};
+ghost use Rattle.std.specs.Prelude.{◌≡◌, ◌≤◌, ◌<◌, [], ◌∷◌, ◌++◌, length, IfOk, OnOk, OnErr};
 
+use crate::places::Places;
 use crate::record::Split;
+use pot_bytes::{Geometry, NoMemory};
+use std::alloc::Global;
 use std::marker::Model;
+use std::mem;
 
 /// The earlier splits of a record, the oldest first: at most 15. Contracts see the list of the splits.
 #[derive(Drop)]
@@ -43,5 +47,36 @@ impl Splits {
         ensures few { length self.now ≤ 15 }
     {
         self.splits.as_slice()
+    }
+
+    /// Equal splits.
+    pub fn copy(&self, alloc: Global) -> Result<Splits, NoMemory>
+        ensures { IfOk result (λ s. s ≡ self.now) }
+    {
+        let mut splits = Vec::with_capacity(alloc, self.splits.len())?;
+        for split in &self.splits {
+            splits.push_reserved(split.copy(alloc)?);
+        }
+        Ok(Splits { splits })
+    }
+
+    /// The current split, of this geometry and these places, becomes the last of the older ones, and other places stand
+    /// in its place. On refusal both are as before.
+    pub(crate) fn add(
+        &mut self,
+        geometry: Geometry,
+        current: &mut Places,
+        next: Places,
+    ) -> Result<(), NoMemory>
+        requires { length self.old < 15 }
+        ensures ok { OnOk result (self.new ≡ self.old ++ record { geometry = geometry; places = current.old } ∷ []) }
+        ensures next { OnOk result (current.new ≡ next) }
+        ensures err { OnErr result (self.new ≡ self.old) }
+        ensures same { OnErr result (current.new ≡ current.old) }
+    {
+        self.splits.reserve(1)?;
+        let places = mem::replace(current, next);
+        self.splits.push_reserved(Split { geometry, places });
+        Ok(())
     }
 }

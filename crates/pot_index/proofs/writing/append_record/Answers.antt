@@ -1,9 +1,8 @@
-use Rattle.std.proofs.Common.{◌++◌, ap, ◌∙◌, List, subst}
+use Rattle.std.proofs.Common.{◌++◌, ap, ◌∙◌, List}
 use Rattle.std.specs.List.{flat_map}
 use Rattle.pot_bytes.specs.declared.rack.Place.{Place}
 use Rattle.pot_index.specs.declared.record.Split.{Split}
 use Rattle.pot_index.specs.Records.{head_bytes, split_bytes, current_of, record_bytes}
-use Rattle.pot_index.specs.Writing.{Appends}
 use Rattle.pot_index.proofs.Writes.{appended_both, appended_as, stopped, record_parts, record_rest}
 use Rattle.pot_index.proofs.writing.append_record.Goals as goal
 

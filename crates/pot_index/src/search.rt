@@ -1,0 +1,24 @@
+//! Searches in the lists of an index.
+ghost use Rattle.std.specs.Prelude.{◌≡◌, MatchResult};
+ghost use Rattle.std.specs.List.{list_any};
+ghost use Rattle.pot_index.specs.Index.{Ascends, same_name};
+ghost use Rattle.pot_index.specs.Searches.{StandsAt, BelongsAt};
+
+use crate::record::Record;
+use crate::reservation::Reservation;
+use pot_bytes::Name;
+
+/// Where the record of this name stands, or else where it belongs.
+pub(crate) fn place_of(records: &[Record], name: &Name) -> Result<usize, usize>
+    requires { Ascends records.now }
+    ensures { MatchResult result (StandsAt records.now name.now) (BelongsAt records.now name.now) }
+{
+    records.binary_search_by_key(name, |record| record.name)
+}
+
+/// Whether a reservation is of this name.
+pub(crate) fn is_reserved(reserved: &[Reservation], name: &Name) -> bool
+    ensures { result ≡ list_any (λ x. same_name x.name name.now) reserved.now }
+{
+    reserved.iter().any(|reservation| reservation.name == *name)
+}
