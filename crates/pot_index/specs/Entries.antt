@@ -57,3 +57,11 @@ abbrev pub ends_reserve : IndexEntry → Bool
 ends_reserve (Publish job name mark) = true
 ends_reserve (Abandon job name) = true
 ends_reserve _ = false
+
+-- an entry that changes no name
+abbrev pub IsQuiet : IndexEntry → Type 0
+IsQuiet (Taken job name) = Unit {0}
+IsQuiet (Find job name found) = Unit {0}
+IsQuiet (Listed job) = Unit {0}
+IsQuiet (Often job name) = Unit {0}
+IsQuiet _ = ⊥

@@ -83,8 +83,10 @@ inserted r (o ∷ os) = if is_lt (slice_cmp nat_cmp o.name r.name) then o ∷ in
 abbrev pub replaced : Record → List Record → List Record
 replaced r rs = map (λ o. if same_name o.name r.name then r else o) rs
 
+-- without the reservation of this name
 abbrev pub without : List ℕ → List Reservation → List Reservation
-without name xs = filter (λ x. not (same_name x.name name)) xs
+without name [] = []
+without name (x ∷ xs) = if same_name x.name name then xs else x ∷ without name xs
 
 abbrev pub after_entry : Names → IndexEntry → Option Record → Names
 after_entry n (Reserve job name) b = record n { reserved = n.reserved ++ record { name = name; job = job } ∷ [] }

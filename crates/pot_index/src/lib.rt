@@ -7,6 +7,7 @@
 mod entry;
 mod fault;
 mod listed;
+mod lists;
 mod marks;
 mod places;
 mod record;

@@ -1,7 +1,7 @@
 //! Searches in the lists of an index.
 ghost use Rattle.std.specs.Prelude.{◌≡◌, MatchResult};
-ghost use Rattle.std.specs.List.{list_any};
-ghost use Rattle.pot_index.specs.Index.{Ascends, same_name};
+ghost use Rattle.std.specs.List.{list_any, position};
+ghost use Rattle.pot_index.specs.Index.{Ascends, same_name, without};
 ghost use Rattle.pot_index.specs.Searches.{StandsAt, BelongsAt};
 
 use crate::record::Record;
@@ -21,4 +21,22 @@ pub(crate) fn is_reserved(reserved: &[Reservation], name: &Name) -> bool
     ensures { result ≡ list_any (λ x. same_name x.name name.now) reserved.now }
 {
     reserved.iter().any(|reservation| reservation.name == *name)
+}
+
+/// Where the first reservation of this name stands.
+fn reservation_of(reserved: &[Reservation], name: &Name) -> Option<usize>
+    ensures { result ≡ position (λ x. same_name x.name name.now) reserved.now }
+{
+    reserved
+        .iter()
+        .position(|reservation| reservation.name == *name)
+}
+
+/// Takes the reservation of this name away, if there is one.
+pub(crate) fn release(reserved: &mut Vec<Reservation>, name: &Name)
+    ensures items { reserved.new.items ≡ without name.now reserved.old.items }
+{
+    if let Some(at) = reservation_of(reserved, name) {
+        let _ = reserved.remove(at);
+    }
 }
