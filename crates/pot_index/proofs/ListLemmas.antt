@@ -2,7 +2,7 @@
 use Rattle.std.proofs.Common.{◌≡◌, ◌+◌, ◌<◌, ◌≤◌, ℕ, suc, Bool, true, false, List, [], ◌∷◌, ◌++◌, length, map, Option, Some, None, Vec, refl, sym, ap, subst, ◌∙◌, append-nil, arith}
 use Rattle.std.specs.Prelude.{if◌then◌else◌, filter, vec_capacity}
 use Rattle.std.specs.declared.snapshot.Snapshot.{Snapshot}
-use Rattle.std.proofs.lemmas.List.{length_push}
+use Rattle.std.proofs.lemmas.List.{length_push, length-map, map_push}
 use Rattle.std.proofs.lemmas.List.Elements.{filter-append}
 use Rattle.std.specs.Global.{Global}
 use Rattle.pot_bytes.specs.declared.rack.Rack.{Rack}
@@ -12,7 +12,7 @@ use Rattle.pot_index.specs.declared.entry.Logged.{Logged}
 use Rattle.pot_index.specs.declared.record.Record.{Record}
 use Rattle.pot_index.specs.declared.reservation.Reservation.{Reservation}
 use Rattle.pot_index.specs.Entries.{IsQuiet, brings, plain, bringing, entries, with_brought}
-use Rattle.pot_index.specs.Room.{HasAllRoom}
+use Rattle.pot_index.specs.Room.{HasAllRoom, values}
 use Rattle.pot_index.specs.Index.{Names, IndexView, after_entry, log_bound, logged}
 
 -- ENTRIES WITH WHAT THEY BROUGHT
@@ -172,3 +172,24 @@ wider_room records records' reserved reserved' log brought room is still wider =
   brought_room = room.brought_room;
   each = room.each;
 }
+
+length-filter_le : (es : List IndexEntry) → length (filter brings es) ≤ length es
+length-filter_le [] = omega arith
+length-filter_le (e ∷ es) = by (brings e) (length-filter_le es)
+  where
+    by : (b : Bool) → length (filter brings es) ≤ length es → length (if b then e ∷ filter brings es else filter brings es) ≤ length (e ∷ es)
+    by true go = omega arith
+    by false go = omega arith
+
+pub brought_fits : (records : Vec Record Global) (reserved : Vec Reservation Global) (log : Vec IndexEntry Global) (brought : Vec (Snapshot Record) Global)
+    → HasAllRoom records reserved log brought → length log.items < log_bound → length brought.items < vec_capacity brought
+brought_fits records reserved log brought room lt = omega (arith, room.brought_room, room.each, length-filter_le log.items)
+
+-- the values of one more snapshot
+pub values_grown : (ss ss' : List (Snapshot Record)) (s : Snapshot Record) (r : Record) → ss' ≡ ss ++ s ∷ [] → s.value ≡ r → values ss' ≡ values ss ++ r ∷ []
+values_grown ss ss' s r grown is =
+    ap (λ (t : List (Snapshot Record)). values t) grown ∙ map_push (λ (x : Snapshot Record). x.value) ss s ∙ ap (λ (x : Record). values ss ++ x ∷ []) is
+
+pub length-values : (records : Vec Record Global) (reserved : Vec Reservation Global) (log : Vec IndexEntry Global) (brought : Vec (Snapshot Record) Global)
+    → HasAllRoom records reserved log brought → length (values brought.items) ≡ length (filter brings log.items)
+length-values records reserved log brought room = length-map brought.items (λ (x : Snapshot Record). x.value) ∙ room.each

@@ -165,4 +165,41 @@ impl Lists {
         release(&mut self.reserved, &name);
         self.log.push_reserved(IndexEntry::Abandon { job, name });
     }
+
+    /// Publishes the record, whose name ends its reservation. `at` is where it belongs.
+    pub(crate) fn publish(&mut self, at: usize, job: u32, kept: Record)
+        requires place { BelongsAt self.old.now.published kept.name at }
+        requires reserved { IsReservedBy self.old.now job kept.name }
+        requires room { length self.old.log < log_bound }
+        ensures { self.new ≡ logged self.old (bringing (IndexEntry.Publish job kept.name (mark_of kept)) kept) }
+    {
+        let name = kept.name;
+        let mark = mark_of(&kept);
+        release(&mut self.reserved, &name);
+        self.brought.push_reserved(Snapshot::of(&kept));
+        let Ok(()) = self.records.insert(at, kept) else {
+            unreachable!()
+        };
+        self.log
+            .push_reserved(IndexEntry::Publish { job, name, mark });
+    }
+
+    /// Gives the record at `at` a new current split. On refusal nothing changed.
+    pub(crate) fn renew(&mut self, at: usize, job: u32, split: Split) -> Result<(), NoMemory>
+        requires ascends { Ascends self.old.now.published }
+        requires within { at < length self.old.now.published }
+        requires few { HoldsAt (λ r. length r.older < 15) self.old.now.published at }
+        requires room { length self.old.log < log_bound }
+        ensures ok { OnOk result (HoldsAt (λ r. self.new ≡ logged self.old (bringing (IndexEntry.Renew job r.name (mark_of (renewed r split))) (renewed r split))) self.old.now.published at) }
+        ensures err { OnErr result (self.new ≡ self.old) }
+    {
+        let record = &mut self.records[at];
+        record.renew(split)?;
+        let name = record.name;
+        let mark = mark_of(record);
+        self.brought.push_reserved(Snapshot::of(record));
+        self.log
+            .push_reserved(IndexEntry::Renew { job, name, mark });
+        Ok(())
+    }
 }
