@@ -1,5 +1,5 @@
 -- The lists of an index, seen as its plain data, after each entry.
-use Rattle.std.proofs.Common.{◌≡◌, ◌+◌, ◌<◌, ◌≤◌, ℕ, suc, Bool, true, false, List, [], ◌∷◌, ◌++◌, length, map, Option, Some, None, Vec, refl, sym, ap, subst, ◌∙◌, append-nil, arith}
+use Rattle.std.proofs.Common.{◌≡◌, ◌+◌, ◌<◌, ◌≤◌, ℕ, suc, Bool, true, false, List, [], ◌∷◌, ◌++◌, length, map, Some, None, Vec, refl, sym, ap, subst, ◌∙◌, append-nil, arith}
 use Rattle.std.specs.Prelude.{if◌then◌else◌, filter, vec_capacity}
 use Rattle.std.specs.declared.snapshot.Snapshot.{Snapshot}
 use Rattle.std.proofs.lemmas.List.{length_push, length-map, map_push}
@@ -7,11 +7,11 @@ use Rattle.std.proofs.lemmas.List.Elements.{filter-append}
 use Rattle.std.specs.Global.{Global}
 use Rattle.pot_bytes.specs.declared.rack.Rack.{Rack}
 use Rattle.pot_index.specs.declared.entry.IndexEntry.{IndexEntry}
-use Rattle.pot_index.specs.declared.entry.IndexEntry.TheVariants.{Reserve, Taken, Publish, Abandon, Find, Listed, Renew, Often}
+use Rattle.pot_index.specs.declared.entry.IndexEntry.TheVariants.{Taken, Find, Listed, Often}
 use Rattle.pot_index.specs.declared.entry.Logged.{Logged}
 use Rattle.pot_index.specs.declared.record.Record.{Record}
 use Rattle.pot_index.specs.declared.reservation.Reservation.{Reservation}
-use Rattle.pot_index.specs.Entries.{IsQuiet, brings, plain, bringing, entries, with_brought}
+use Rattle.pot_index.specs.Entries.{IsQuiet, brings, plain, bringing, with_brought}
 use Rattle.pot_index.specs.Room.{HasAllRoom, values}
 use Rattle.pot_index.specs.Index.{Names, IndexView, after_entry, log_bound, logged}
 

@@ -1,5 +1,5 @@
 -- The lists of an index after a record was published or renewed.
-use Rattle.std.proofs.Common.{◌≡◌, ◌<◌, ℕ, List, [], ◌∷◌, ◌++◌, length, get_or, Some, refl, sym, ap, subst, ◌∙◌}
+use Rattle.std.proofs.Common.{◌≡◌, ◌<◌, ℕ, List, [], ◌∷◌, ◌++◌, length, get_or, refl, sym, ap, subst, ◌∙◌}
 use Rattle.std.specs.Prelude.{HoldsAt, filter, insert, slice_set}
 use Rattle.std.proofs.lemmas.List.{get_or_read}
 use Rattle.pot_bytes.specs.declared.digest.Digest.{Digest}
@@ -11,7 +11,7 @@ use Rattle.pot_index.specs.declared.reservation.Reservation.{Reservation}
 use Rattle.pot_index.specs.Entries.{brings, bringing}
 use Rattle.pot_index.specs.declared.record.Split.{Split}
 use Rattle.pot_index.specs.Records.{mark_of, renewed}
-use Rattle.pot_index.specs.Index.{Names, IndexView, Ascends, after_entry, inserted, replaced, without, logged}
+use Rattle.pot_index.specs.Index.{IndexView, Ascends, without, logged}
 use Rattle.pot_index.specs.Searches.{StandsAt, BelongsAt}
 use Rattle.pot_index.proofs.ListLemmas.{plain_view, went_on_with}
 use Rattle.pot_index.proofs.RecordLemmas.{insert_is, set_is}

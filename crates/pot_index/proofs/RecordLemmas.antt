@@ -1,8 +1,7 @@
 -- Records by name, as one is added or replaced.
-use Rattle.std.proofs.Common.{◌≡◌, ◌≢◌, ◌+◌, ◌<◌, ◌≤◌, ℕ, zero, suc, Bool, true, false, List, [], ◌∷◌, ◌++◌, length, get_or, map, take, drop, refl, sym, ap, subst, ◌∙◌, inl, inr, ◌⊎◌, ⊎_elim, arith}
-use Rattle.std.specs.Prelude.{if◌then◌else◌, Contains, All, insert, slice_set}
+use Rattle.std.proofs.Common.{◌≡◌, ◌≢◌, ◌+◌, ◌<◌, ◌≤◌, ℕ, zero, suc, Bool, true, false, List, [], ◌∷◌, length, get_or, map, refl, sym, ap, subst, ◌∙◌, inl, inr, ◌⊎◌, ⊎_elim, arith}
+use Rattle.std.specs.Prelude.{if◌then◌else◌, Contains, insert, slice_set}
 use Rattle.std.specs.Cmp.Lexicographic.{slice_cmp}
-use Rattle.std.specs.List.{AllByRecursion}
 use Rattle.std.specs.List.Sorted.{IsStrictlySortedBy}
 use Rattle.std.specs.Ordering.{nat_cmp, is_lt, ordering_reverse}
 use Rattle.std.specs.declared.cmp.Ordering.{Ordering}
@@ -14,8 +13,8 @@ use Rattle.std.proofs.lemmas.Map.Keys.{sorted_head, sorted_tail}
 use Rattle.pot_index.specs.declared.record.Record.{Record}
 use Rattle.pot_index.specs.Index.{Ascends, same_name, inserted, replaced}
 use Rattle.pot_index.specs.Searches.{StandsAt, BelongsAt}
-use Rattle.pot_index.proofs.SearchLemmas.{same_from_equal, less_at}
-use Rattle.pot_index.proofs.NameLemmas.{at_true, at_false, same_back, same_true, same_false, other_names, contains_here, contains_later, contains_cases, contains_none, contains_map, from_map, all_from_members}
+use Rattle.pot_index.proofs.SearchLemmas.{same_from_equal}
+use Rattle.pot_index.proofs.NameLemmas.{at_true, at_false, same_back, same_true, other_names, contains_here, contains_later, contains_cases, contains_none, contains_map, from_map, all_from_members}
 
 abbrev pub record_names : List Record → List (List ℕ)
 record_names rs = map (λ r. r.name) rs

@@ -1,5 +1,5 @@
 -- The index: which entries are legal, what each does, and the whole of it as plain data.
-use Rattle.std.specs.Prelude.{◌≡◌, ◌↔◌, ◌⊎◌, ◌≤◌, ℕ, ◌+◌, ◌==◌, Bool, not, IsTrue, List, [], ◌∷◌, ◌++◌, All, Contains, Option, Some, None, if◌then◌else◌, length, map, filter}
+use Rattle.std.specs.Prelude.{◌≡◌, ◌↔◌, ◌⊎◌, ◌≤◌, ℕ, ◌+◌, ◌==◌, Bool, IsTrue, List, [], ◌∷◌, ◌++◌, All, Contains, Option, Some, None, if◌then◌else◌, length, map}
 use Rattle.std.specs.Cmp.Lexicographic.{pointwise, slice_cmp}
 use Rattle.std.specs.List.{IsDistinct}
 use Rattle.std.specs.List.Sorted.{IsStrictlySortedBy}

@@ -6,6 +6,7 @@
 
 mod entry;
 mod fault;
+mod laws;
 mod listed;
 mod lists;
 mod marks;
@@ -19,6 +20,7 @@ mod writing;
 
 pub use entry::{IndexEntry, Logged};
 pub use fault::{FindFault, ListFault, RenewFault, ReserveFault};
+pub use laws::index_laws;
 pub use listed::Listed;
 pub use places::Places;
 pub use pot_bytes::NoMemory;

@@ -1,4 +1,4 @@
-use Rattle.std.proofs.Common.{arith, refl, ap, ◌∙◌, sym, subst}
+use Rattle.std.proofs.Common.{arith, refl, ap, sym, subst}
 use Rattle.std.specs.Prelude.{Contains, length}
 use Rattle.pot_index.specs.declared.entry.IndexEntry.TheVariants.{Publish}
 use Rattle.pot_index.specs.declared.reservation.Reservation.{Reservation}

@@ -1,0 +1,10 @@
+//! What is proved of the log of an index as a whole.
+ghost use Rattle.pot_index.specs.Laws.{NamesKept, LogsGoOn, LogsWentOn, LogsLeadOnce};
+
+/// What the replay of a log keeps, and how logs go on. It does nothing.
+pub fn index_laws()
+    ensures names { NamesKept }
+    ensures go_on { LogsGoOn }
+    ensures went_on { LogsWentOn }
+    ensures once { LogsLeadOnce }
+{}
