@@ -9,6 +9,7 @@ use Rattle.std.specs.declared.cmp.Ordering.TheVariants.{Less, Equal, Greater}
 use Rattle.std.proofs.lemmas.Bool.{cases_lt}
 use Rattle.std.proofs.lemmas.Cmp.{nat_list_cmp_total, tied_itself}
 use Rattle.std.proofs.lemmas.List.Elements.{All-contains, All-from_recursion, recursion_from_All, Contains-get_or}
+use Rattle.std.proofs.lemmas.List.{length-map}
 use Rattle.std.proofs.lemmas.Map.Keys.{sorted_head, sorted_tail}
 use Rattle.pot_index.specs.declared.record.Record.{Record}
 use Rattle.pot_index.specs.Index.{Ascends, same_name, inserted, replaced}
@@ -192,9 +193,13 @@ set_is r (x ∷ rs) (suc at) up h =
 
 -- SEARCHES
 
-pub stands_published : (rs : List Record) (name : List ℕ) (at : ℕ) (d : Record) → StandsAt rs name at → Contains (record_names rs) name
-stands_published rs name at d h =
-    subst (λ m. Contains (record_names rs) m) (h.1 d) (contains_map (λ z. z.name) (get_or rs at d) rs (Contains-get_or rs at d h.0))
+name_at : (rs : List Record) (name : List ℕ) (at : ℕ) → StandsAt rs name at → get_or (record_names rs) at name ≡ name
+name_at [] name at h = absurd (omega (arith, h.0))
+name_at (x ∷ rs) name zero h = h.1 x
+name_at (x ∷ rs) name (suc at) h = name_at rs name at (omega (arith, h.0), h.1)
+
+pub stands_published : (rs : List Record) (name : List ℕ) (at : ℕ) → StandsAt rs name at → Contains (record_names rs) name
+stands_published rs name at h = (at, omega (arith, h.0, length-map rs (λ r. r.name)), name_at rs name at h)
 
 pub belongs_unpublished : (rs : List Record) (name : List ℕ) (at : ℕ) → BelongsAt rs name at → Contains (record_names rs) name → ⊥
 belongs_unpublished rs name at h k = by (cases_lt found.1.0 at)

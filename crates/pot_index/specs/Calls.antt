@@ -52,10 +52,10 @@ Finds job name s t (Err find_fault.NoMemory) = HasRoom 1 s × IsPublished s.now 
 abbrev pub listed_of : Record → Listed
 listed_of r = record { name = r.name; length = r.length }
 
-abbrev pub Lists : ℕ → IndexView → IndexView → Result (Vec Listed Global) ListFault → Type 0
-Lists job s t (Ok v) = HasRoom 1 s × (v.items ≡ map listed_of s.now.published) × (t ≡ logged s (plain (entry.Listed job)))
-Lists job s t (Err list_fault.LogFull) = IsFull 1 s t
-Lists job s t (Err list_fault.NoMemory) = HasRoom 1 s × (t ≡ s)
+abbrev pub ListsNames : ℕ → IndexView → IndexView → Result (Vec Listed Global) ListFault → Type 0
+ListsNames job s t (Ok v) = HasRoom 1 s × (v.items ≡ map listed_of s.now.published) × (t ≡ logged s (plain (entry.Listed job)))
+ListsNames job s t (Err list_fault.LogFull) = IsFull 1 s t
+ListsNames job s t (Err list_fault.NoMemory) = HasRoom 1 s × (t ≡ s)
 
 -- `renew`, of the record that is published under the name
 abbrev pub RenewsRecord : ℕ → List ℕ → Split → IndexView → IndexView → Record → Result (Unit {0}) RenewFault → Type 0

@@ -4,8 +4,10 @@
 //! It knows no block and no table: a record says where blocks stand, and what stands there is not looked at.
 #![tactic(auto)]
 
+mod ended;
 mod entry;
 mod fault;
+mod index;
 mod laws;
 mod listed;
 mod lists;
@@ -18,8 +20,10 @@ mod spelling;
 mod splits;
 mod writing;
 
+pub use ended::IndexEnded;
 pub use entry::{IndexEntry, Logged};
-pub use fault::{FindFault, ListFault, RenewFault, ReserveFault};
+pub use fault::{FindFault, IndexRefused, ListFault, RenewFault, ReserveFault};
+pub use index::Index;
 pub use laws::index_laws;
 pub use listed::Listed;
 pub use places::Places;

@@ -1,11 +1,12 @@
 //! The lists of an index, with the room for all that is to come: no call but `begin`, `reserve` and `renew` takes memory.
-ghost use Rattle.std.specs.Prelude.{◌≡◌, ◌<◌, ◌≤◌, ◌+◌, ◌↔◌, false, IsTrue, IfOk, OnOk, OnErr, MatchResult, HoldsAt, Contains, length, map};
+ghost use Rattle.std.specs.Prelude.{◌≡◌, ◌<◌, ◌≤◌, ◌+◌, ◌↔◌, false, IsTrue, IfOk, OnOk, OnErr, MatchBool, MatchResult, HoldsAt, Contains, length, map};
 ghost use Rattle.pot_index.specs.Entries.{IsQuiet, plain, bringing, brings, entries};
 ghost use Rattle.pot_index.specs.Records.{renewed, mark_of};
-ghost use Rattle.pot_index.specs.Index.{IsReserved, IsReservedBy, Ascends, log_bound, started, logged, owed};
+ghost use Rattle.pot_index.specs.Index.{IsReserved, IsReservedBy, IsTaken, IsFree, Ascends, log_bound, started, logged, owed};
 ghost use Rattle.pot_index.specs.Searches.{StandsAt, BelongsAt};
 ghost use Rattle.pot_index.specs.Calls.{listed_of};
 
+use crate::ended::IndexEnded;
 use crate::entry::IndexEntry;
 use crate::listed::Listed;
 use crate::marks::mark_of;
@@ -79,8 +80,16 @@ impl Lists {
         place_of(&self.records, name)
     }
 
+    /// Whether the name is published or reserved.
+    pub(crate) fn is_taken(&self, name: &Name) -> bool
+        requires { Ascends self.now.now.published }
+        ensures { MatchBool result (IsTaken self.now.now name.now) (IsFree self.now.now name.now) }
+    {
+        self.is_reserved(name) || self.place_of(name).is_ok()
+    }
+
     /// Whether the name is reserved.
-    pub(crate) fn is_reserved(&self, name: &Name) -> bool
+    fn is_reserved(&self, name: &Name) -> bool
         ensures { IsTrue result ↔ IsReserved self.now.now name.now }
     {
         is_reserved(&self.reserved, name)
@@ -133,6 +142,17 @@ impl Lists {
             })
             .collect(alloc)?;
         Ok(names)
+    }
+
+    /// Hands out the records and the log.
+    pub(crate) fn end(self) -> IndexEnded
+        ensures records { result.records.items ≡ self.now.published }
+        ensures log { result.log.items ≡ entries self.log }
+    {
+        IndexEnded {
+            records: self.records,
+            log: self.log,
+        }
     }
 
     /// Logs an entry that brings no record, and reserves nothing and ends no reservation.
