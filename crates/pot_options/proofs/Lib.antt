@@ -1,0 +1,11 @@
+pub mod Names
+pub mod Built
+pub mod Cuts
+pub mod Steps
+pub mod Forms
+pub mod Uses
+pub mod Walks
+pub mod Takes
+pub mod Link
+pub mod LoopLemmas
+pub mod ValueLemmas

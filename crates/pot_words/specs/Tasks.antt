@@ -1,0 +1,86 @@
+-- The words that spell a task.
+use Rattle.std.specs.Prelude.{◌≡◌, ◌≤◌, ℕ, List, [], ◌∷◌, Option, codes, decimal}
+use Rattle.pot_bytes.specs.Rack.{IsRack}
+use Rattle.pot_bytes.specs.declared.rack.Geometry.{Geometry}
+use Rattle.pot_bytes.specs.declared.rack.Rack.{Rack}
+use Rattle.pot_options.specs.Options.{Text, SpellUses, given}
+use Rattle.pot_words.specs.Values.{HasNumber, HasNumberOr, HasSeed}
+use Rattle.pot_words.specs.declared.command.Command.{Command}
+use Rattle.pot_words.specs.declared.command.Command.TheVariants as command
+use Rattle.pot_words.specs.declared.recover.Recover.{Recover}
+use Rattle.pot_words.specs.declared.run.Run.{Run}
+use Rattle.pot_words.specs.declared.task.Task.{Task}
+use Rattle.pot_words.specs.declared.task.Task.TheVariants as task
+
+-- the words spell options by which P holds of their values
+abbrev pub SpellOptions : List Text → ((Text → Option Text) → Type 0) → List Text → Type 0
+SpellOptions names P words =
+    (uses : List (Text × Text)) × SpellUses names words uses × P (given uses)
+
+-- the options of a geometry
+abbrev pub HasGeometry : Geometry → (Text → Option Text) → Type 0
+HasGeometry g value = HasNumber value (codes "fragments") 2 8 g.fragments
+    × HasNumber value (codes "need") 1 16 g.need × HasNumber value (codes "shards") 1 16 g.shards
+    × HasNumber value (codes "blur") 0 63 g.blur
+
+abbrev pub init_names : List Text
+init_names = codes "groups" ∷ codes "columns" ∷ codes "parity" ∷ codes "stripes"
+    ∷ codes "fragments" ∷ codes "need" ∷ codes "shards" ∷ codes "blur" ∷ []
+
+-- the rack is within the limits, and one parity column is meant where none is named
+abbrev pub HasInit : Rack → (Text → Option Text) → Type 0
+HasInit rack value = IsRack rack × HasNumber value (codes "groups") 1 16 rack.groups
+    × HasNumber value (codes "columns") 1 16 rack.columns
+    × HasNumberOr value (codes "parity") 1 2 1 rack.parity
+    × HasNumber value (codes "stripes") 1 4096 rack.stripes × HasGeometry rack.geometry value
+
+-- the words spell the options of `init`
+abbrev pub SpellInit : List Text → Rack → Type 0
+SpellInit words rack = SpellOptions init_names (HasInit rack) words
+
+abbrev pub run_names : List Text
+run_names = codes "seed" ∷ codes "workers" ∷ []
+
+-- four workers are meant where none are named
+abbrev pub HasRun : Run → (Text → Option Text) → Type 0
+HasRun run value = HasSeed value (codes "seed") run.seed
+    × HasNumberOr value (codes "workers") 1 16 4 run.workers
+
+-- the words spell the options of `run`
+abbrev pub SpellRun : List Text → Run → Type 0
+SpellRun words run = SpellOptions run_names (HasRun run) words
+
+-- the words are the number of `generate`
+abbrev pub SpellGenerate : List Text → ℕ → Type 0
+SpellGenerate words n = (1 ≤ n) × (n ≤ 1000000) × (words ≡ decimal n ∷ [])
+
+abbrev pub recover_names : List Text
+recover_names = codes "archives" ∷ codes "stripes" ∷ codes "blur" ∷ []
+
+abbrev pub HasRecover : Recover → (Text → Option Text) → Type 0
+HasRecover r value = HasNumber value (codes "archives") 1 512 r.archives
+    × HasNumber value (codes "stripes") 1 4096 r.stripes
+    × HasNumber value (codes "blur") 0 63 r.blur
+
+-- the words spell the options of `recover`
+abbrev pub SpellRecover : List Text → Recover → Type 0
+SpellRecover words r = SpellOptions recover_names (HasRecover r) words
+
+abbrev pub command_name : Command → Text
+command_name command.Init = codes "init"
+command_name command.Run = codes "run"
+command_name command.Generate = codes "generate"
+command_name command.Recover = codes "recover"
+
+-- the words behind the command spell the task
+abbrev pub SpellCommand : Command → List Text → Task → Type 0
+SpellCommand command.Init words t = (rack : Rack) × (t ≡ task.Init rack) × SpellInit words rack
+SpellCommand command.Run words t = (run : Run) × (t ≡ task.Run run) × SpellRun words run
+SpellCommand command.Generate words t = (n : ℕ) × (t ≡ task.Generate n) × SpellGenerate words n
+SpellCommand command.Recover words t =
+    (r : Recover) × (t ≡ task.Recover r) × SpellRecover words r
+
+-- the words spell the task: the first is the name of a command, and those behind it spell the task
+abbrev pub SpellTask : List Text → Task → Type 0
+SpellTask words t = (c : Command) × (rest : List Text)
+    × (words ≡ command_name c ∷ rest) × SpellCommand c rest t

@@ -1,0 +1,33 @@
+ghost use Rattle.std.specs.Prelude.{◌≡◌, ◌≢◌, MatchOption};
+ghost use Rattle.pot_words.specs.Tasks.{command_name};
+ghost use Rattle.pot_words.specs.declared.command.Command.{Command};
+
+/// The first word of the command line.
+#[derive(Clone, Copy, PartialEq, Eq, Debug)]
+pub(crate) enum Command {
+    Init,
+    Run,
+    Generate,
+    Recover,
+}
+
+impl Command {
+    /// The command of this name. `None` exactly where no command has it.
+    pub(crate) fn named(word: &str) -> Option<Command>
+        ensures { MatchOption result ((c : Command) → word.now ≢ command_name c) (λ c. word.now ≡ command_name c) }
+    {
+        if word == "init" {
+            return Some(Command::Init);
+        }
+        if word == "run" {
+            return Some(Command::Run);
+        }
+        if word == "generate" {
+            return Some(Command::Generate);
+        }
+        if word == "recover" {
+            return Some(Command::Recover);
+        }
+        None
+    }
+}

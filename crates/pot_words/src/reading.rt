@@ -1,0 +1,45 @@
+ghost use Rattle.std.specs.Prelude.{◌∷◌, IfOk, map};
+ghost use Rattle.std.specs.String.{string_bytes};
+ghost use Rattle.pot_words.specs.Answers.{IsOnly};
+ghost use Rattle.pot_words.specs.Tasks.{SpellCommand, SpellTask};
+
+use crate::command::Command;
+use crate::generate::read_generate;
+use crate::init::read_init;
+use crate::recover::read_recover;
+use crate::run::read_run;
+use crate::task::Task;
+use pot_bytes::NoMemory;
+use std::alloc::Global;
+
+/// The only task that the words spell. `None` exactly where they spell none.
+pub fn read_words(alloc: Global, words: &[String]) -> Result<Option<Task>, NoMemory>
+    ensures { IfOk result (IsOnly (SpellTask (map string_bytes words.now))) }
+{
+    match words {
+        [] => Ok(None),
+        [word, rest @ ..] => read_line(alloc, word.as_str(), rest),
+    }
+}
+
+// The task that the first word and those behind it spell.
+fn read_line(alloc: Global, word: &str, rest: &[String]) -> Result<Option<Task>, NoMemory>
+    ensures { IfOk result (IsOnly (SpellTask (word.now ∷ map string_bytes rest.now))) }
+{
+    match Command::named(word) {
+        Some(command) => read_rest(alloc, command, rest),
+        None => Ok(None),
+    }
+}
+
+// The task that the words behind the command spell.
+fn read_rest(alloc: Global, command: Command, rest: &[String]) -> Result<Option<Task>, NoMemory>
+    ensures { IfOk result (IsOnly (SpellCommand command (map string_bytes rest.now))) }
+{
+    match command {
+        Command::Init => Ok(read_init(alloc, rest)?.map(Task::Init)),
+        Command::Run => Ok(read_run(alloc, rest)?.map(Task::Run)),
+        Command::Generate => Ok(read_generate(rest).map(Task::Generate)),
+        Command::Recover => Ok(read_recover(alloc, rest)?.map(Task::Recover)),
+    }
+}

@@ -1,0 +1,286 @@
+//! Command lines, their words separated by one space.
+use super::*;
+use pot_bytes::{Geometry, Rack};
+use std::alloc::Global;
+use std::test::Fail;
+
+fn task_of(alloc: Global, line: &str) -> Result<Option<Task>, Fail> {
+    let mut words: Vec<String> = Vec::new(alloc);
+    for word in line.split(' ') {
+        words.push(String::from_str(alloc, word)?)?;
+    }
+    Ok(read_words(alloc, words.as_slice())?)
+}
+
+fn none_of(alloc: Global, lines: &[&str]) -> Result<bool, Fail> {
+    for line in lines {
+        if task_of(alloc, line)?.is_some() {
+            return Ok(false);
+        }
+    }
+    Ok(true)
+}
+
+fn rack(parity: u8, stripes: u32, blur: u8) -> Rack {
+    let geometry = Geometry {
+        fragments: 2,
+        need: 2,
+        shards: 3,
+        blur,
+    };
+    Rack {
+        groups: 5,
+        columns: 3,
+        parity,
+        stripes,
+        geometry,
+    }
+}
+
+#[test]
+fn commands(rt: HostRuntime) -> Result<(), Fail> {
+    let alloc = rt.alloc();
+    let none: [String; 0] = [];
+    assert!(rt; read_words(alloc, none.as_slice())?.is_none());
+    let bad = [
+        "",
+        "help",
+        "--help",
+        "Run",
+        "run ",
+        " run",
+        "run run",
+        "runs",
+        "--seed=1 run",
+        "store",
+        "init",
+        "recover",
+        "generate",
+    ];
+    assert!(rt; none_of(alloc, bad.as_slice())?);
+    Ok(())
+}
+
+#[test]
+fn init(rt: HostRuntime) -> Result<(), Fail> {
+    let alloc = rt.alloc();
+    let good: [(&str, Rack); 4] = [
+        (
+            "init --groups 5 --columns 3 --stripes 16 --fragments 2 --need 2 --shards 3 --blur 16",
+            rack(1, 16, 16),
+        ),
+        (
+            "init --blur=0 --shards=3 --need=2 --fragments=2 --stripes=1 --columns=3 --groups=5 --parity=1",
+            rack(1, 1, 0),
+        ),
+        (
+            "init --parity 2 --groups=5 --columns 3 --stripes=4096 --fragments 2 --need 2 --shards=3 --blur 63",
+            rack(2, 4096, 63),
+        ),
+        (
+            "init --groups=5 --columns 3 --parity=2 --stripes=4096 --fragments 2 --need 2 --shards=3 --blur 63",
+            rack(2, 4096, 63),
+        ),
+    ];
+    for (line, wanted) in good {
+        assert_eq!(rt; task_of(alloc, line)?, Some(Task::Init(wanted)));
+    }
+    Ok(())
+}
+
+#[test]
+fn refused_racks(rt: HostRuntime) -> Result<(), Fail> {
+    let alloc = rt.alloc();
+    let bad = [
+        // each option left out
+        "init --columns 3 --stripes 16 --fragments 2 --need 2 --shards 3 --blur 16",
+        "init --groups 5 --stripes 16 --fragments 2 --need 2 --shards 3 --blur 16",
+        "init --groups 5 --columns 3 --fragments 2 --need 2 --shards 3 --blur 16",
+        "init --groups 5 --columns 3 --stripes 16 --need 2 --shards 3 --blur 16",
+        "init --groups 5 --columns 3 --stripes 16 --fragments 2 --shards 3 --blur 16",
+        "init --groups 5 --columns 3 --stripes 16 --fragments 2 --need 2 --blur 16",
+        "init --groups 5 --columns 3 --stripes 16 --fragments 2 --need 2 --shards 3",
+        // each number one too small or too large
+        "init --groups 17 --columns 3 --stripes 16 --fragments 2 --need 2 --shards 3 --blur 16",
+        "init --groups 2 --columns 3 --stripes 16 --fragments 2 --need 2 --shards 3 --blur 16",
+        "init --groups 5 --columns 0 --stripes 16 --fragments 2 --need 2 --shards 3 --blur 16",
+        "init --groups 5 --columns 17 --stripes 16 --fragments 2 --need 2 --shards 3 --blur 16",
+        "init --groups 5 --columns 3 --stripes 0 --fragments 2 --need 2 --shards 3 --blur 16",
+        "init --groups 5 --columns 3 --stripes 4097 --fragments 2 --need 2 --shards 3 --blur 16",
+        "init --groups 5 --columns 3 --stripes 16 --fragments 1 --need 2 --shards 3 --blur 16",
+        "init --groups 5 --columns 3 --stripes 16 --fragments 9 --need 2 --shards 3 --blur 16",
+        "init --groups 5 --columns 3 --stripes 16 --fragments 2 --need 0 --shards 3 --blur 16",
+        "init --groups 5 --columns 3 --stripes 16 --fragments 2 --need 4 --shards 3 --blur 16",
+        "init --groups 5 --columns 3 --stripes 16 --fragments 2 --need 2 --shards 6 --blur 16",
+        "init --groups 16 --columns 3 --stripes 16 --fragments 2 --need 2 --shards 17 --blur 16",
+        "init --groups 5 --columns 3 --stripes 16 --fragments 2 --need 2 --shards 3 --blur 64",
+        "init --groups 5 --columns 3 --stripes 16 --fragments 2 --need 2 --shards 3 --blur 16 --parity 0",
+        "init --groups 5 --columns 3 --stripes 16 --fragments 2 --need 2 --shards 3 --blur 16 --parity 3",
+        // an option twice, and an option of another command
+        "init --groups 5 --columns 3 --stripes 16 --fragments 2 --need 2 --shards 3 --blur 16 --groups 5",
+        "init --groups 5 --columns 3 --stripes 16 --fragments 2 --need 2 --shards 3 --blur 16 --workers 4",
+    ];
+    assert!(rt; none_of(alloc, bad.as_slice())?);
+    Ok(())
+}
+
+#[test]
+fn run(rt: HostRuntime) -> Result<(), Fail> {
+    let alloc = rt.alloc();
+    let mut seed = [0xab; 32];
+    seed[0] = 0x01;
+    seed[31] = 0xf0;
+    let plain = Run {
+        seed: None,
+        workers: 4,
+    };
+    let good: [(&str, Run); 6] = [
+        ("run", plain),
+        (
+            "run --workers 1",
+            Run {
+                workers: 1,
+                ..plain
+            },
+        ),
+        (
+            "run --workers=16",
+            Run {
+                workers: 16,
+                ..plain
+            },
+        ),
+        (
+            "run --seed 01ababababababababababababababababababababababababababababababf0",
+            Run {
+                seed: Some(seed),
+                ..plain
+            },
+        ),
+        (
+            "run --seed=01ABabABabababababababababababababababababababababababababababF0 --workers 4",
+            Run {
+                seed: Some(seed),
+                ..plain
+            },
+        ),
+        (
+            "run --workers=2 --seed 01ABABABABABABABABABABABABABABABABABABABABABABABABABABABABABABF0",
+            Run {
+                seed: Some(seed),
+                workers: 2,
+            },
+        ),
+    ];
+    for (line, wanted) in good {
+        assert_eq!(rt; task_of(alloc, line)?, Some(Task::Run(wanted)));
+    }
+    let bad = [
+        "run --workers",
+        "run --workers=",
+        "run --workers 0",
+        "run --workers 17",
+        "run --workers 05",
+        "run --workers +5",
+        "run --workers=-5",
+        "run --workers 5 --workers 5",
+        "run --workers 5 6",
+        "run --workers 5.",
+        "run --workers 0x5",
+        "run --workers 18446744073709551620",
+        "run --",
+        "run --workers 5 --",
+        "run --work 5",
+        "run -w 5",
+        "run --help",
+        "run -h",
+        "run help",
+        "run --version",
+        "run --seed",
+        "run --seed=",
+        "run --seed 01abababababababababababababababababababababababababababababab0",
+        "run --seed 01ababababababababababababababababababababababababababababababf00",
+        "run --seed 01ababababababababababababababababababababababababababababababg0",
+        "run --seed 0x01abababababababababababababababababababababababababababababf0",
+    ];
+    assert!(rt; none_of(alloc, bad.as_slice())?);
+    Ok(())
+}
+
+#[test]
+fn generate(rt: HostRuntime) -> Result<(), Fail> {
+    let alloc = rt.alloc();
+    let good: [(&str, u32); 3] = [
+        ("generate 1", 1),
+        ("generate 76", 76),
+        ("generate 1000000", 1_000_000),
+    ];
+    for (line, wanted) in good {
+        assert_eq!(rt; task_of(alloc, line)?, Some(Task::Generate(wanted)));
+    }
+    let bad = [
+        "generate 0",
+        "generate 1000001",
+        "generate 4294967297",
+        "generate 01",
+        "generate +1",
+        "generate -1",
+        "generate 1 2",
+        "generate --number 1",
+        "generate --",
+        "generate 1a",
+        "generate ",
+        "generate -- 1",
+    ];
+    assert!(rt; none_of(alloc, bad.as_slice())?);
+    Ok(())
+}
+
+#[test]
+fn recover(rt: HostRuntime) -> Result<(), Fail> {
+    let alloc = rt.alloc();
+    let good: [(&str, Recover); 3] = [
+        (
+            "recover --archives 20 --stripes 16 --blur 16",
+            Recover {
+                archives: 20,
+                stripes: 16,
+                blur: 16,
+            },
+        ),
+        (
+            "recover --blur=0 --archives=1 --stripes=1",
+            Recover {
+                archives: 1,
+                stripes: 1,
+                blur: 0,
+            },
+        ),
+        (
+            "recover --stripes 4096 --blur 63 --archives=512",
+            Recover {
+                archives: 512,
+                stripes: 4096,
+                blur: 63,
+            },
+        ),
+    ];
+    for (line, wanted) in good {
+        assert_eq!(rt; task_of(alloc, line)?, Some(Task::Recover(wanted)));
+    }
+    let bad = [
+        "recover --stripes 16 --blur 16",
+        "recover --archives 20 --blur 16",
+        "recover --archives 20 --stripes 16",
+        "recover --archives 0 --stripes 16 --blur 16",
+        "recover --archives 513 --stripes 16 --blur 16",
+        "recover --archives 20 --stripes 0 --blur 16",
+        "recover --archives 20 --stripes 4097 --blur 16",
+        "recover --archives 20 --stripes 16 --blur 64",
+        "recover --archives 20 --stripes 16 --blur 00",
+        "recover --archives 20 --stripes 16 --blur 16 --blur 16",
+        "recover --archives 20 --stripes 16 --blur 16 --seed 00",
+    ];
+    assert!(rt; none_of(alloc, bad.as_slice())?);
+    Ok(())
+}

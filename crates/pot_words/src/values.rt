@@ -1,0 +1,67 @@
+//! The values of options: numbers and seeds.
+
+ghost use Rattle.pot_options.specs.Options.{given};
+ghost use Rattle.pot_words.specs.Answers.{IsOnly};
+ghost use Rattle.pot_words.specs.Values.{HasNumber, HasNumberOr, HasSeed};
+
+use pot_options::Options;
+use pot_script::read_number;
+
+/// The number that the option has, from `least` to `most`.
+pub fn number_of(options: &Options<'_>, name: &str, least: u32, most: u32) -> Option<u32>
+    ensures { IsOnly (HasNumber (given options.now) name.now least most) result }
+{
+    let text = match options.value(name) {
+        Some(text) => text,
+        None => return None,
+    };
+    let number = match read_number(text.as_bytes(), most) {
+        Some(number) => number,
+        None => return None,
+    };
+    if number < least {
+        return None;
+    }
+    Some(number)
+}
+
+/// The same for a number that one byte holds.
+pub fn small_number_of(options: &Options<'_>, name: &str, least: u8, most: u8) -> Option<u8>
+    ensures { IsOnly (HasNumber (given options.now) name.now least most) result }
+{
+    match number_of(options, name, u32::from(least), u32::from(most)) {
+        Some(number) => Some(number as u8),
+        None => None,
+    }
+}
+
+/// The same for an option that may be left out, and then stands for `other`.
+pub fn small_number_or(
+    options: &Options<'_>,
+    name: &str,
+    least: u8,
+    most: u8,
+    other: u8,
+) -> Option<u8>
+    ensures { IsOnly (HasNumberOr (given options.now) name.now least most other) result }
+{
+    if options.value(name).is_none() {
+        return Some(other);
+    }
+    small_number_of(options, name, least, most)
+}
+
+/// The seed that the option has, `Some(None)` where it is left out. `None` where its value is no seed.
+pub fn seed_of(options: &Options<'_>, name: &str) -> Option<Option<[u8; 32]>>
+    ensures { IsOnly (HasSeed (given options.now) name.now) result }
+{
+    let text = match options.value(name) {
+        Some(text) => text,
+        None => return Some(None),
+    };
+    let mut seed = [0; 32];
+    match hex::decode_to_slice(text.as_bytes(), seed.as_mut_slice()) {
+        Ok(()) => Some(Some(seed)),
+        Err(_) => None,
+    }
+}
