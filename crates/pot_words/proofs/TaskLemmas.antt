@@ -1,40 +1,39 @@
--- Each command's options, and the one task of a command line.
-use Rattle.std.proofs.Common.{◌≡◌, ◌∙◌, refl, sym, ap, subst, List, [], ◌∷◌, Option, Some, None, codes, ◌≤◌, ◌-◌, ap₂, option_map, drop, take, map, length, get_or, bytes_eq, cond, arith}
-use Rattle.std.proofs.lemmas.List.{take_all}
-use Rattle.std.specs.Prelude.{unwrap_or}
+-- The values of each command's options begin with no hyphen.
+use Rattle.std.proofs.Common.{◌≤◌, ◌<◌, ◌^◌, arith}
+use Rattle.pot_bytes.specs.declared.rack.Geometry.{Geometry}
 use Rattle.pot_bytes.specs.declared.rack.Rack.{Rack}
 use Rattle.pot_options.specs.Options.{Text}
-use Rattle.pot_words.specs.Answers.{IsOnly}
-use Rattle.pot_words.specs.Tasks.{HasInit, HasRecover, HasRun, SpellCommand, SpellTask, command_name, init_names, recover_names, run_names}
-use Rattle.pot_words.specs.declared.command.Command.{Command}
-use Rattle.pot_words.specs.declared.command.Command.TheVariants as command
+use Rattle.std.proofs.Common.{Option}
+use Rattle.pot_words.specs.Tasks.{HasAudit, HasDrill, HasGeometry, HasInit, HasRecover, HasRun, audit_names, drill_names, init_names, recover_names, run_names}
+use Rattle.pot_words.specs.declared.audit.Audit.{Audit}
+use Rattle.pot_words.specs.declared.drill.Drill.{Drill}
 use Rattle.pot_words.specs.declared.recover.Recover.{Recover}
 use Rattle.pot_words.specs.declared.run.Run.{Run}
-use Rattle.pot_words.specs.declared.task.Task.{Task}
-use Rattle.pot_words.proofs.NumberLemmas.{first_of}
+use Rattle.pot_words.proofs.PointLemmas.{unhyphened_points, unhyphened_spots}
 use Rattle.pot_words.proofs.ValueLemmas.{AreUnhyphenedAt, unhyphened_number, unhyphened_number_or, unhyphened_seed}
 
 module _ (value : Text → Option Text) where
   pub init_unhyphened : (rack : Rack) → HasInit rack value → AreUnhyphenedAt value init_names
-  init_unhyphened rack has = (
-    unhyphened_number value _ 1 16 rack.groups (omega arith) has.1,
-    (
-      unhyphened_number value _ 1 16 rack.columns (omega arith) has.2,
-      (
-        unhyphened_number_or value _ 1 2 1 rack.parity (omega arith) has.3,
+  init_unhyphened rack has =
+      let g = has.5 in (
+        unhyphened_number value _ 1 16 rack.groups (omega arith) has.1,
         (
-          unhyphened_number value _ 1 4096 rack.stripes (omega arith) has.4,
+          unhyphened_number value _ 1 16 rack.columns (omega arith) has.2,
           (
-            unhyphened_number value _ 2 8 rack.geometry.fragments (omega arith) has.5.0,
+            unhyphened_number_or value _ 1 2 1 rack.parity (omega arith) has.3,
             (
-              unhyphened_number value _ 1 16 rack.geometry.need (omega arith) has.5.1,
-              (unhyphened_number value _ 1 16 rack.geometry.shards (omega arith) has.5.2, (unhyphened_number value _ 0 63 rack.geometry.blur (omega arith) has.5.3, tt)),
+              unhyphened_number value _ 1 4096 rack.stripes (omega arith) has.4,
+              (
+                unhyphened_number value _ 2 8 rack.geometry.fragments (omega arith) g.1,
+                (
+                  unhyphened_number value _ 1 16 rack.geometry.need (omega arith) g.2,
+                  (unhyphened_number value _ 1 16 rack.geometry.shards (omega arith) g.3, (unhyphened_number value _ 0 63 rack.geometry.blur (omega arith) g.4, tt)),
+                ),
+              ),
             ),
           ),
         ),
-      ),
-    ),
-  )
+      )
 
   pub run_unhyphened : (run : Run) → HasRun run value → AreUnhyphenedAt value run_names
   run_unhyphened run has = (unhyphened_seed value _ run.seed has.0, (unhyphened_number_or value _ 1 16 4 run.workers (omega arith) has.1, tt))
@@ -48,47 +47,27 @@ module _ (value : Text → Option Text) where
     ),
   )
 
--- the command that a name is of
-abbrev command_of : Text → Option Command
-command_of name = cond (bytes_eq name (codes "init")) (Some command.Init) (cond (bytes_eq name (codes "run")) (Some command.Run)
-    (cond (bytes_eq name (codes "generate")) (Some command.Generate) (cond (bytes_eq name (codes "recover")) (Some command.Recover) None)))
+  pub drill_unhyphened : (d : Drill) → HasDrill d value → AreUnhyphenedAt value drill_names
+  drill_unhyphened d has =
+      let g = has.0 in (
+        unhyphened_number value _ 2 8 d.geometry.fragments (omega arith) g.1,
+        (
+          unhyphened_number value _ 1 16 d.geometry.need (omega arith) g.2,
+          (
+            unhyphened_number value _ 1 16 d.geometry.shards (omega arith) g.3,
+            (
+              unhyphened_number value _ 0 63 d.geometry.blur (omega arith) g.4,
+              (
+                unhyphened_number value _ 1 d.geometry.fragments d.hidden (omega (arith, g.1.1)) has.1,
+                (
+                  unhyphened_points value _ d.geometry.shards d.seen.items (omega (arith, g.3.1)) has.2,
+                  (unhyphened_seed value _ d.seed has.3, tt),
+                ),
+              ),
+            ),
+          ),
+        ),
+      )
 
-named : (c : Command) → command_of (command_name c) ≡ Some c
-named command.Init = refl
-named command.Run = refl
-named command.Generate = refl
-named command.Recover = refl
-
--- a name is of one command
-one_command : (c d : Command) → command_name c ≡ command_name d → c ≡ d
-one_command c d same = ap (λ (o : Option Command). unwrap_or o c) (sym (named c) ∙ ap command_of same ∙ named d)
-
--- the words behind a command's name spell the tasks that the command has for them
-behind : (c d : Command) (rest left : List Text) (t : Task) → command_name c ∷ rest ≡ command_name d ∷ left → SpellCommand d left t → SpellCommand c rest t
-behind c d rest left t is spelled =
-    let same : c ≡ d = one_command c d (ap first_of is) in
-    subst (λ (words : List Text). SpellCommand c words t) (sym (ap (drop 1) is)) (subst (λ (e : Command). SpellCommand e left t) (sym same) spelled)
-
--- the task of the command is that of the words
-pub of_command : (c : Command) (word : Text) (rest : List Text) (r : Option Task) → word ≡ command_name c → IsOnly (SpellCommand c rest) r → IsOnly (SpellTask (word ∷ rest)) r
-of_command c word rest None is none = λ t spelled. none t (behind c spelled.0 rest spelled.1 t (ap (λ (w : Text). w ∷ rest) (sym is) ∙ spelled.2) spelled.3)
-of_command c word rest (Some t) is only = (
-  (c, rest, ap (λ (w : Text). w ∷ rest) is, only.0),
-  λ s spelled. only.1 s (behind c spelled.0 rest spelled.1 s (ap (λ (w : Text). w ∷ rest) (sym is) ∙ spelled.2) spelled.3),
-)
-
-pub of_no_command : (word : Text) (rest : List Text) → ((c : Command) → word ≡ command_name c → ⊥) → (t : Task) → SpellTask (word ∷ rest) t → ⊥
-of_no_command word rest none t spelled = none spelled.0 (ap first_of spelled.2)
-
--- a command's task, wrapped as a task
-pub wrapped : {T : Type 0} (P : T → Type 0) (make : T → Task) (r : Option T) → IsOnly P r → IsOnly (λ (task : Task). (t : T) × (task ≡ make t) × P t) (option_map make r)
-wrapped P make None none = λ task spelled. none spelled.0 spelled.2
-wrapped P make (Some t) only = ((t, refl, only.0), λ task spelled. spelled.1 ∙ ap make (only.1 spelled.0 spelled.2))
-
--- the first word and the words behind it
-pub all_words : {X : Type 0} (text : X → Text) (xs : List X) (x : X) (word : Text) → 1 ≤ length xs → x ≡ get_or xs 0 x → word ≡ text x
-    → word ∷ map text (take (length xs - 1) (drop 1 xs)) ≡ map text xs
-all_words text [] x word some is same = absurd (omega arith)
-all_words text (y ∷ ys) x word some is same =
-    let whole : take (length (y ∷ ys) - 1) ys ≡ ys = take_all _ ys (omega arith) in
-    ap₂ (λ (w : Text) (rest : List _). w ∷ map text rest) (same ∙ ap text is) whole
+  pub audit_unhyphened : (a : Audit) → HasAudit a value → AreUnhyphenedAt value audit_names
+  audit_unhyphened a has = (unhyphened_spots value _ a.seen.items has, tt)

@@ -91,7 +91,7 @@ unhyphened_digits (d ∷ ds) digits = go (nat_eq d 45) refl digits.0
         absurd (omega (arith, bad))
 
 -- what `AllDigits` and `digits_value` say of a numeral
-numerals : IsNumeralModel (AllDigits 10) (digits_value 10)
+pub numerals : IsNumeralModel (AllDigits 10) (digits_value 10)
 numerals = numerals_by_value _ tells_digits
 
 pub unhyphened_decimal : (n : ℕ) → n < 2 ^ 64 → IsUnhyphened (decimal n)

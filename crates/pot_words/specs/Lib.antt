@@ -1,3 +1,5 @@
 pub mod Answers
+pub mod Lists
 pub mod Values
 pub mod Tasks
+pub mod Limits

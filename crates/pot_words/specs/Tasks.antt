@@ -1,12 +1,15 @@
 -- The words that spell a task.
 use Rattle.std.specs.Prelude.{◌≡◌, ◌≤◌, ℕ, List, [], ◌∷◌, Option, codes, decimal}
-use Rattle.pot_bytes.specs.Rack.{IsRack}
+use Rattle.pot_bytes.specs.Rack.{IsGeometry, IsRack}
 use Rattle.pot_bytes.specs.declared.rack.Geometry.{Geometry}
 use Rattle.pot_bytes.specs.declared.rack.Rack.{Rack}
 use Rattle.pot_options.specs.Options.{Text, SpellUses, given}
+use Rattle.pot_words.specs.Lists.{HasPoints, HasSpots}
 use Rattle.pot_words.specs.Values.{HasNumber, HasNumberOr, HasSeed}
+use Rattle.pot_words.specs.declared.audit.Audit.{Audit}
 use Rattle.pot_words.specs.declared.command.Command.{Command}
 use Rattle.pot_words.specs.declared.command.Command.TheVariants as command
+use Rattle.pot_words.specs.declared.drill.Drill.{Drill}
 use Rattle.pot_words.specs.declared.recover.Recover.{Recover}
 use Rattle.pot_words.specs.declared.run.Run.{Run}
 use Rattle.pot_words.specs.declared.task.Task.{Task}
@@ -17,9 +20,9 @@ abbrev pub SpellOptions : List Text → ((Text → Option Text) → Type 0) → 
 SpellOptions names P words =
     (uses : List (Text × Text)) × SpellUses names words uses × P (given uses)
 
--- the options of a geometry
+-- the geometry is within the limits, and each of its numbers is an option
 abbrev pub HasGeometry : Geometry → (Text → Option Text) → Type 0
-HasGeometry g value = HasNumber value (codes "fragments") 2 8 g.fragments
+HasGeometry g value = IsGeometry g × HasNumber value (codes "fragments") 2 8 g.fragments
     × HasNumber value (codes "need") 1 16 g.need × HasNumber value (codes "shards") 1 16 g.shards
     × HasNumber value (codes "blur") 0 63 g.blur
 
@@ -66,11 +69,38 @@ HasRecover r value = HasNumber value (codes "archives") 1 512 r.archives
 abbrev pub SpellRecover : List Text → Recover → Type 0
 SpellRecover words r = SpellOptions recover_names (HasRecover r) words
 
+abbrev pub drill_names : List Text
+drill_names = codes "fragments" ∷ codes "need" ∷ codes "shards" ∷ codes "blur"
+    ∷ codes "hidden" ∷ codes "seen" ∷ codes "seed" ∷ []
+
+-- the hidden fragment and the seen points are of the geometry
+abbrev pub HasDrill : Drill → (Text → Option Text) → Type 0
+HasDrill d value = HasGeometry d.geometry value
+    × HasNumber value (codes "hidden") 1 d.geometry.fragments d.hidden
+    × HasPoints value (codes "seen") d.geometry.shards d.seen.items
+    × HasSeed value (codes "seed") d.seed
+
+-- the words spell the options of `drill`
+abbrev pub SpellDrill : List Text → Drill → Type 0
+SpellDrill words d = SpellOptions drill_names (HasDrill d) words
+
+abbrev pub audit_names : List Text
+audit_names = codes "seen" ∷ []
+
+abbrev pub HasAudit : Audit → (Text → Option Text) → Type 0
+HasAudit a value = HasSpots value (codes "seen") a.seen.items
+
+-- the words spell the options of `audit`
+abbrev pub SpellAudit : List Text → Audit → Type 0
+SpellAudit words a = SpellOptions audit_names (HasAudit a) words
+
 abbrev pub command_name : Command → Text
 command_name command.Init = codes "init"
 command_name command.Run = codes "run"
 command_name command.Generate = codes "generate"
 command_name command.Recover = codes "recover"
+command_name command.Drill = codes "drill"
+command_name command.Audit = codes "audit"
 
 -- the words behind the command spell the task
 abbrev pub SpellCommand : Command → List Text → Task → Type 0
@@ -79,6 +109,8 @@ SpellCommand command.Run words t = (run : Run) × (t ≡ task.Run run) × SpellR
 SpellCommand command.Generate words t = (n : ℕ) × (t ≡ task.Generate n) × SpellGenerate words n
 SpellCommand command.Recover words t =
     (r : Recover) × (t ≡ task.Recover r) × SpellRecover words r
+SpellCommand command.Drill words t = (d : Drill) × (t ≡ task.Drill d) × SpellDrill words d
+SpellCommand command.Audit words t = (a : Audit) × (t ≡ task.Audit a) × SpellAudit words a
 
 -- the words spell the task: the first is the name of a command, and those behind it spell the task
 abbrev pub SpellTask : List Text → Task → Type 0

@@ -3,12 +3,14 @@ ghost use Rattle.pot_words.specs.Tasks.{command_name};
 ghost use Rattle.pot_words.specs.declared.command.Command.{Command};
 
 /// The first word of the command line.
-#[derive(Clone, Copy, PartialEq, Eq, Debug)]
+#[derive(Clone, Copy)]
 pub(crate) enum Command {
     Init,
     Run,
     Generate,
     Recover,
+    Drill,
+    Audit,
 }
 
 impl Command {
@@ -27,6 +29,12 @@ impl Command {
         }
         if word == "recover" {
             return Some(Command::Recover);
+        }
+        if word == "drill" {
+            return Some(Command::Drill);
+        }
+        if word == "audit" {
+            return Some(Command::Audit);
         }
         None
     }

@@ -50,13 +50,10 @@ fn rack_of(options: &Options<'_>) -> Option<Rack>
         stripes,
         geometry,
     };
-    if !rack.fits() {
-        return None;
-    }
-    Some(rack)
+    if rack.fits() { Some(rack) } else { None }
 }
 
-/// The geometry that the options give, each of its numbers within its own limits.
+/// The geometry that the options give, where it is within the limits.
 pub fn geometry_of(options: &Options<'_>) -> Option<Geometry>
     ensures { IsOnly (λ (g : Geometry). HasGeometry g (given options.now)) result }
 {
@@ -64,6 +61,9 @@ pub fn geometry_of(options: &Options<'_>) -> Option<Geometry>
     let need = small_number_of(options, "need", 1, 16)?;
     let shards = small_number_of(options, "shards", 1, 16)?;
     let blur = small_number_of(options, "blur", 0, 63)?;
+    if need > shards {
+        return None;
+    }
     Some(Geometry {
         fragments,
         need,

@@ -12,18 +12,26 @@
 //! 2. A task's values are within the limits: a rack that is read fits.
 #![tactic(auto)]
 
+mod audit;
 mod command;
+mod drill;
 mod generate;
 mod init;
+mod points;
 mod reading;
 mod recover;
 mod run;
+mod spot;
+mod spots;
 mod task;
 mod values;
 
+pub use audit::Audit;
+pub use drill::Drill;
 pub use reading::read_words;
 pub use recover::Recover;
 pub use run::Run;
+pub use spot::Spot;
 pub use task::Task;
 
 #[cfg(test)]

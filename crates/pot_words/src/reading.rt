@@ -1,9 +1,12 @@
-ghost use Rattle.std.specs.Prelude.{◌∷◌, IfOk, map};
+ghost use Rattle.std.specs.Prelude.{◌∷◌, IfOk, IfSome, map};
 ghost use Rattle.std.specs.String.{string_bytes};
 ghost use Rattle.pot_words.specs.Answers.{IsOnly};
+ghost use Rattle.pot_words.specs.Limits.{IsWithinLimits};
 ghost use Rattle.pot_words.specs.Tasks.{SpellCommand, SpellTask};
 
+use crate::audit::read_audit;
 use crate::command::Command;
+use crate::drill::read_drill;
 use crate::generate::read_generate;
 use crate::init::read_init;
 use crate::recover::read_recover;
@@ -14,7 +17,8 @@ use std::alloc::Global;
 
 /// The only task that the words spell. `None` exactly where they spell none.
 pub fn read_words(alloc: Global, words: &[String]) -> Result<Option<Task>, NoMemory>
-    ensures { IfOk result (IsOnly (SpellTask (map string_bytes words.now))) }
+    ensures only { IfOk result (IsOnly (SpellTask (map string_bytes words.now))) }
+    ensures limits { IfOk result (λ r. IfSome r IsWithinLimits) }
 {
     match words {
         [] => Ok(None),
@@ -41,5 +45,7 @@ fn read_rest(alloc: Global, command: Command, rest: &[String]) -> Result<Option<
         Command::Run => Ok(read_run(alloc, rest)?.map(Task::Run)),
         Command::Generate => Ok(read_generate(rest).map(Task::Generate)),
         Command::Recover => Ok(read_recover(alloc, rest)?.map(Task::Recover)),
+        Command::Drill => Ok(read_drill(alloc, rest)?.map(Task::Drill)),
+        Command::Audit => Ok(read_audit(alloc, rest)?.map(Task::Audit)),
     }
 }

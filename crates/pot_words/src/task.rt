@@ -1,9 +1,11 @@
+use crate::audit::Audit;
+use crate::drill::Drill;
 use crate::recover::Recover;
 use crate::run::Run;
 use pot_bytes::Rack;
 
 /// What the program is to do.
-#[derive(Clone, Copy, PartialEq, Eq, Debug)]
+#[derive(PartialEq, Debug, Drop)]
 pub enum Task {
     /// Make an empty archive of this shape.
     Init(Rack),
@@ -13,4 +15,8 @@ pub enum Task {
     Generate(u32),
     /// Find the files that archives hold, without a desk.
     Recover(Recover),
+    /// Show that seen shards do not tell a file from another.
+    Drill(Drill),
+    /// Tell what a coalition learns of the files.
+    Audit(Audit),
 }

@@ -284,3 +284,154 @@ fn recover(rt: HostRuntime) -> Result<(), Fail> {
     assert!(rt; none_of(alloc, bad.as_slice())?);
     Ok(())
 }
+
+// The points of the task, where it is a drill of this geometry, fragment and seed.
+fn points_of_drill(
+    task: &Option<Task>,
+    geometry: Geometry,
+    hidden: u8,
+    seed: Option<[u8; 32]>,
+) -> Option<&[u8]> {
+    match task {
+        Some(Task::Drill(drill))
+            if drill.geometry == geometry && drill.hidden == hidden && drill.seed == seed => Some(
+            drill.seen.as_slice(),
+        ),
+        _ => None,
+    }
+}
+
+#[test]
+fn drill(rt: HostRuntime) -> Result<(), Fail> {
+    let alloc = rt.alloc();
+    let small = rack(1, 1, 16).geometry;
+    let large = Geometry {
+        fragments: 8,
+        need: 16,
+        shards: 16,
+        blur: 63,
+    };
+    let all = [1, 2, 3, 4, 5, 6, 7, 8, 9, 10, 11, 12, 13, 14, 15, 16];
+    let good: [(&str, Geometry, u8, Option<[u8; 32]>, &[u8]); 5] = [
+        (
+            "drill --fragments 2 --need 2 --shards 3 --blur 16 --hidden 1 --seen 3",
+            small,
+            1,
+            None,
+            &[3],
+        ),
+        (
+            "drill --seen=1,2 --fragments 2 --need=2 --shards 3 --blur=16 --hidden=2",
+            small,
+            2,
+            None,
+            &[1, 2],
+        ),
+        (
+            "drill --fragments 2 --need 2 --shards 3 --blur 16 --hidden 1",
+            small,
+            1,
+            None,
+            &[],
+        ),
+        (
+            "drill --hidden 1 --seed 0000000000000000000000000000000000000000000000000000000000000000 --fragments 2 --need 2 --shards 3 --blur 16",
+            small,
+            1,
+            Some([0; 32]),
+            &[],
+        ),
+        (
+            "drill --fragments 8 --need 16 --shards 16 --blur 63 --hidden 8 --seen 1,2,3,4,5,6,7,8,9,10,11,12,13,14,15,16",
+            large,
+            8,
+            None,
+            &all,
+        ),
+    ];
+    for (line, geometry, hidden, seed, points) in good {
+        assert_eq!(rt;
+            points_of_drill(&task_of(alloc, line)?, geometry, hidden, seed),
+            Some(points)
+        );
+    }
+    let bad = [
+        "drill --need 2 --shards 3 --blur 16 --hidden 1",
+        "drill --fragments 2 --shards 3 --blur 16 --hidden 1",
+        "drill --fragments 2 --need 2 --blur 16 --hidden 1",
+        "drill --fragments 2 --need 2 --shards 3 --hidden 1",
+        "drill --fragments 2 --need 2 --shards 3 --blur 16",
+        "drill --fragments 9 --need 2 --shards 3 --blur 16 --hidden 1",
+        "drill --fragments 2 --need 4 --shards 3 --blur 16 --hidden 1",
+        "drill --fragments 2 --need 2 --shards 17 --blur 16 --hidden 1",
+        "drill --fragments 2 --need 2 --shards 3 --blur 64 --hidden 1",
+        "drill --fragments 2 --need 2 --shards 3 --blur 16 --hidden 0",
+        "drill --fragments 2 --need 2 --shards 3 --blur 16 --hidden 3",
+        "drill --fragments 2 --need 2 --shards 3 --blur 16 --hidden 1 --seen",
+        "drill --fragments 2 --need 2 --shards 3 --blur 16 --hidden 1 --seen=",
+        "drill --fragments 2 --need 2 --shards 3 --blur 16 --hidden 1 --seen 0",
+        "drill --fragments 2 --need 2 --shards 3 --blur 16 --hidden 1 --seen 4",
+        "drill --fragments 2 --need 2 --shards 3 --blur 16 --hidden 1 --seen 2,1",
+        "drill --fragments 2 --need 2 --shards 3 --blur 16 --hidden 1 --seen 1,1",
+        "drill --fragments 2 --need 2 --shards 3 --blur 16 --hidden 1 --seen 1,",
+        "drill --fragments 2 --need 2 --shards 3 --blur 16 --hidden 1 --seen ,1",
+        "drill --fragments 2 --need 2 --shards 3 --blur 16 --hidden 1 --seen 1,,2",
+        "drill --fragments 2 --need 2 --shards 3 --blur 16 --hidden 1 --seen 1,02",
+        "drill --fragments 2 --need 2 --shards 3 --blur 16 --hidden 1 --seen 1 2",
+        "drill --fragments 2 --need 2 --shards 3 --blur 16 --hidden 1 --seen 1 --seen 2",
+        "drill --fragments 2 --need 2 --shards 3 --blur 16 --hidden 1 --seen 1;2",
+        "drill --fragments 2 --need 2 --shards 3 --blur 16 --hidden 1 --workers 2",
+        "drill --fragments 2 --need 2 --shards 3 --blur 16 --hidden 1 --seed 00",
+    ];
+    assert!(rt; none_of(alloc, bad.as_slice())?);
+    Ok(())
+}
+
+// The spots of the task, where it is an audit.
+fn spots_of_audit(task: &Option<Task>) -> Option<&[Spot]> {
+    match task {
+        Some(Task::Audit(audit)) => Some(audit.seen.as_slice()),
+        _ => None,
+    }
+}
+
+#[test]
+fn audit(rt: HostRuntime) -> Result<(), Fail> {
+    let alloc = rt.alloc();
+    let spot = |group: u8, column: u8| Spot { group, column };
+    let good: [(&str, &[Spot]); 4] = [
+        ("audit --seen 0.3", &[spot(0, 3)]),
+        ("audit --seen=0.0,1.0", &[spot(0, 0), spot(1, 0)]),
+        (
+            "audit --seen 0.17,1.0,1.1",
+            &[spot(0, 17), spot(1, 0), spot(1, 1)],
+        ),
+        ("audit --seen 9.10,15.17", &[spot(9, 10), spot(15, 17)]),
+    ];
+    for (line, spots) in good {
+        assert_eq!(rt; spots_of_audit(&task_of(alloc, line)?), Some(spots));
+    }
+    let bad = [
+        "audit",
+        "audit --seen",
+        "audit --seen=",
+        "audit --seen 0",
+        "audit --seen 0.",
+        "audit --seen .0",
+        "audit --seen 0.0.0",
+        "audit --seen 0,0",
+        "audit --seen 00.0",
+        "audit --seen 0.00",
+        "audit --seen 0.+1",
+        "audit --seen 16.0",
+        "audit --seen 0.18",
+        "audit --seen 1.0,0.0",
+        "audit --seen 0.0,0.0",
+        "audit --seen 0.1,0.0",
+        "audit --seen 0.0,",
+        "audit --seen 0.0 1.0",
+        "audit --seen 0.0 --seen 1.0",
+    ];
+    assert!(rt; none_of(alloc, bad.as_slice())?);
+    Ok(())
+}
