@@ -1,12 +1,11 @@
 -- Each entry keeps the law of every stripe and of every flight.
-use Rattle.std.proofs.Common.{◌≡◌, ◌≢◌, ◌⊎◌, inl, inr, ℕ, zero, suc, ◌+◌, ◌<◌, ◌≤◌, Bool, true, false, not, IsTrue, IfSome, IsSomeAnd, Option, Some, None, List, [], ◌∷◌, ◌++◌, All, cond, length, ◌&&◌, map, get_or, refl, sym, ap, ap₂, ◌∙◌, subst, arith, nat_lt, nat_eq, if◌then◌else◌}
+use Rattle.std.proofs.Common.{◌≡◌, ◌≢◌, ◌⊎◌, inl, inr, ℕ, zero, suc, ◌+◌, ◌<◌, ◌≤◌, Bool, true, false, not, IsTrue, IsSomeAnd, Option, Some, None, List, [], ◌∷◌, ◌++◌, All, cond, length, ◌&&◌, map, get_or, refl, sym, ap, ap₂, ◌∙◌, subst, arith, nat_lt, if◌then◌else◌}
 use Rattle.std.specs.Prelude.{find, ◌==◌, slice_index}
 use Rattle.std.proofs.lemmas.Bool.Decides.{nat_tests}
 use Rattle.std.proofs.lemmas.List.Elements.{All-head, All-tail}
 use Rattle.std.proofs.lemmas.Nat.{xor_of_8}
 use Rattle.pot_bytes.specs.declared.digest.Digest.{Digest}
-use Rattle.pot_bytes.specs.Product.{byte_product}
-use Rattle.pot_bytes.specs.Sums.{xor, zero_block}
+use Rattle.pot_bytes.specs.Sums.{xor}
 use Rattle.pot_bytes.specs.Weighted.{scaled}
 use Rattle.pot_bytes.proofs.ProductLemmas.{byte_product-below}
 use Rattle.pot_machine.specs.declared.slot.SlotState.{SlotState}
@@ -19,8 +18,7 @@ use Rattle.pot_machine.specs.declared.entry.Entry.TheVariants.{Put, Skip, Seen, 
 use Rattle.pot_machine.specs.Slot.{digest_in, is_live, is_lost, is_broken, lost_of, live_of}
 use Rattle.pot_machine.specs.Column.{serving, serving_moved}
 use Rattle.pot_machine.specs.Table.{Table, width, slot_at, column_at, serving_at, relay_at, next_column, no_column, first_beside}
-use Rattle.pot_machine.specs.Machine.{Legal, after, with_slot, with_loss, with_losses, with_column, moved_on, moved_home, IsRebuilt, TakesRelay}
-use Rattle.pot_machine.specs.Laws.{ChangesRelay}
+use Rattle.pot_machine.specs.Machine.{Legal, after, with_loss, with_losses, with_column, moved_on, moved_home, TakesRelay}
 use Rattle.pot_machine.specs.Rules.{IsTable, IsStanding}
 use Rattle.std.proofs.lemmas.List.{get_or-set_same}
 use Rattle.pot_machine.proofs.Cases.{same_or}
@@ -30,7 +28,7 @@ use Rattle.pot_machine.proofs.Kept as kept
 use Rattle.pot_machine.proofs.LeftAlone.{sizes_stay, slots_stay, columns_stay}
 use Rattle.pot_machine.proofs.Places.{slot_after, slot_same, slot_other}
 use Rattle.pot_machine.proofs.Searches.{least_none}
-use Rattle.pot_machine.proofs.Sizes.{gave_up_range, width-with_losses, stripes-with_losses}
+use Rattle.pot_machine.proofs.Sizes.{width-with_losses, stripes-with_losses}
 use Rattle.pot_bytes.specs.Lists.{IsBlock}
 use Rattle.pot_steps.specs.Stripe.{Stripe, IsSound, NoneBroken, digest_of}
 use Rattle.pot_steps.specs.Law.{StripeLaw, Worse, Repairs, lost_count}
@@ -39,11 +37,11 @@ use Rattle.pot_steps.specs.Flight.{FlightLaw, IsRelay, weight, weight_in, left_o
 use Rattle.pot_steps.specs.Flight as flight
 use Rattle.pot_steps.specs.Holdings.{Holdings, HoldsUp, stripe_of}
 use Rattle.pot_steps.specs.Entries.{held_at, OnlyLoses}
-use Rattle.pot_steps.specs.Flights.{Acts, ActKeeps, LossKeepsAll, AreFlights, FliesOver, FlightsHold, IsFlying, Stands, FoldsIn, WritesBack, Copies, begun, flight_in, flights_after, flown}
+use Rattle.pot_steps.specs.Flights.{Acts, ActKeeps, LossKeepsAll, AreFlights, FliesOver, IsFlying, Stands, FoldsIn, WritesBack, Copies, begun, flight_in, flights_after, flown}
 use Rattle.pot_steps.proofs.BlockLemmas.{IsBlock-xor, IsBlock-scaled}
 use Rattle.pot_steps.proofs.Changes.{LostOrSame, worse_after, live_before}
 use Rattle.pot_steps.proofs.Entries.{entry_keeps, entry_keeps_flight}
-use Rattle.pot_steps.proofs.FlightLists.{relay_of, flights_go_on, relay_of_flight, no_flight, flight_of_relay, over_stripe, begun_here, flown_in, flown_other, flown_here, ended_here, flights_stay, goes_on}
+use Rattle.pot_steps.proofs.FlightLists.{relay_of, flights_go_on, relay_of_flight, no_flight, flight_of_relay, over_stripe, begun_here, flown_in, flown_here, ended_here, flights_stay, goes_on}
 use Rattle.pot_steps.proofs.RepairLaw.{mended_keeps}
 use Rattle.pot_steps.proofs.Solved.{grown}
 use Rattle.pot_steps.proofs.Solved as solved
@@ -81,7 +79,7 @@ module _ (data_columns parity : ℕ) (s s' : Stripe) (w : Worse data_columns par
   lessened o o' (inl e) x = subst (λ p. Good data_columns parity s' p) (sym e) (stays o x)
   lessened o o' (inr e) x = subst (λ p. Good data_columns parity s' p) (sym e) (ends o x)
 
-broken_before : (x y : SlotState) (d : Digest) → LostOrSame x y → y ≡ Broken d → x ≡ Broken d
+pub broken_before : (x y : SlotState) (d : Digest) → LostOrSame x y → y ≡ Broken d → x ≡ Broken d
 broken_before x y d (inl e) h = sym e ∙ h
 broken_before Void y d (inr e) h = absurd (no (sym e ∙ h))
   where
@@ -185,7 +183,6 @@ home_serves home (Some m) z n at lt = sym (below n m.upto m.to home z at lt)
   where
     below : (n u a b z : ℕ) → u ≡ z → n < z → (if nat_lt n u then a else b) ≡ a
     below n u a b z e lt = grind (arith, nat_tests)
-
 
 serving_changed : (t u : Table) (c n k : ℕ) (x : Column) → column_at u c ≡ x → ((k : ℕ) → k ≢ c → column_at u k ≡ column_at t k) → serving x n ≡ serving_at t n c → serving_at u n k ≡ serving_at t n k
 serving_changed t u c n k x here other e = elim (same_or k c) [
@@ -346,15 +343,17 @@ good_begin : (t : Table) (job s c : ℕ) (flights : List Flight) (given : List �
     → Good t.data_columns t.parity (stripe_of t h' n) (flight_in (flights ++ begun t s c given ∷ []) n)
 good_begin t job s c flights given h h' n takes block loses x ln = elim (same_or n s) [
   | inl q ↦ subst (λ n. Good t.data_columns t.parity (stripe_of t h' n) (flight_in (flights ++ begun t s c given ∷ []) n)) (sym q)
-      (subst (λ o. Good t.data_columns t.parity (stripe_of t h' s) o) (sym (begun_here flights (begun t s c given) none))
-      ((λ unbroken some. law unbroken (inr few)), record {
-        blind = block;
-        sum = block;
-        beside = λ k d lk ne. begin_beside t s c takes k d lk ne;
-        unbroken = λ two. begin_unbroken t h' s c takes two;
-        law = subst (λ p. FlightLaw t.data_columns t.parity (stripe_of t h' s) (begun t s c given).relay p) (sym (solved.begun given block))
-            (begin_keeps t.data_columns t.parity (stripe_of t h' s) s c (first_beside t s c is_lost) law few);
-      }))
+      (subst (λ o. Good t.data_columns t.parity (stripe_of t h' s) o) (sym (begun_here flights (begun t s c given) none)) (
+        (λ unbroken some. law unbroken (inr few)),
+        record {
+          blind = block;
+          sum = block;
+          beside = λ k d lk ne. begin_beside t s c takes k d lk ne;
+          unbroken = λ two. begin_unbroken t h' s c takes two;
+          law = subst (λ p. FlightLaw t.data_columns t.parity (stripe_of t h' s) (begun t s c given).relay p) (sym (solved.begun given block))
+              (begin_keeps t.data_columns t.parity (stripe_of t h' s) s c (first_beside t s c is_lost) law few);
+        },
+      ))
   | inr ne ↦ good_less t (Begin job s c) flights given h h' n takes (block, loses) x ln tt (inl (flights_stay t (Begin job s c) given flights n ne))
 ]
   where
@@ -413,9 +412,10 @@ good_hop t job s c flights given h h' n legal acts x ln = elim (same_or n s) [
         let same : (f : Flight) × (flight_in flights s ≡ Some f) × (f.relay ≡ r) = flight_of_relay t flights s r x.relays er in
         let relay : f.relay ≡ r = ap (λ (g : Flight). g.relay) (is_some f same.0 (sym e ∙ same.1)) ∙ same.2 in
         lessened t.data_columns t.parity (stripe_of t h s) (stripe_of t h' s) (worse_by t (Hop job s c) flights given h h' s x.table legal tt acts legal.0.0)
-        (unbroken_by t t h h' s (λ k lk. inl refl)) (Some (flown s c given f)) (Some (flown s c given f)) (inl refl)
-        ((λ unbroken some. good.0 unbroken (inl (some_none f.relay))),
-        hop_flies t job s c flights given h f (over_stripe flights s f e) (ap (next_column t) relay ∙ next) folds good.1)
+        (unbroken_by t t h h' s (λ k lk. inl refl)) (Some (flown s c given f)) (Some (flown s c given f)) (inl refl) (
+          (λ unbroken some. good.0 unbroken (inl (some_none f.relay))),
+          hop_flies t job s c flights given h f (over_stripe flights s f e) (ap (next_column t) relay ∙ next) folds good.1,
+        )
       where
         some_none : (r : Relay) → Some r ≢ None
         some_none r e = absurd (cc)
@@ -500,11 +500,12 @@ good_landed : (t : Table) (e : Entry) (flights : List Flight) (h h' : Holdings) 
     → (after t e).data_columns ≡ t.data_columns → (after t e).parity ≡ t.parity → (after t e).stripes ≡ t.stripes → n < t.stripes
     → ((f : Flight) → flight_in flights n ≡ Some f → IsFlying t.data_columns t.parity (stripe_of (after t e) h' n) f)
     → Good t.data_columns t.parity (stripe_of (after t e) h' n) (flight_in flights n)
-good_landed t e flights h h' n are holds relay dc p z ln flies =
-    (subst (λ o. StripeLaw t.data_columns t.parity (stripe_of (after t e) h' n) o) (relay ∙ relay_of_flight t flights n are)
-    (subst (λ d. StripeLaw d t.parity (stripe_of (after t e) h' n) (relay_at (after t e) n)) dc
-    (subst (λ q. StripeLaw (after t e).data_columns q (stripe_of (after t e) h' n) (relay_at (after t e) n)) p (holds n (omega arith)))),
-    each (flight_in flights n) refl)
+good_landed t e flights h h' n are holds relay dc p z ln flies = (
+  subst (λ o. StripeLaw t.data_columns t.parity (stripe_of (after t e) h' n) o) (relay ∙ relay_of_flight t flights n are)
+      (subst (λ d. StripeLaw d t.parity (stripe_of (after t e) h' n) (relay_at (after t e) n)) dc
+      (subst (λ q. StripeLaw (after t e).data_columns q (stripe_of (after t e) h' n) (relay_at (after t e) n)) p (holds n (omega arith)))),
+  each (flight_in flights n) refl,
+)
   where
     each : (o : Option Flight) → flight_in flights n ≡ o → FliesOver t.data_columns t.parity (stripe_of (after t e) h' n) o
     each None q = tt
@@ -541,25 +542,25 @@ good : (t : Table) (e : Entry) (flights : List Flight) (given : List ℕ) (h h' 
 good t (Put job s c digest parity_digest kept) flights given h h' n legal acts x ln =
     good_landed t (Put job s c digest parity_digest kept) flights h h' n x.relays (entry_keeps t (Put job s c digest parity_digest kept) h h' x.table legal acts x.holds) refl refl refl refl ln
     (λ f e. (let r : relay_at t n ≡ Some f.relay = relay_some t flights n f x.relays e in
-      let fly : IsFlying t.data_columns t.parity (stripe_of t h n) f = flying_some t h flights n f x ln e in
-      flies_beside t (Put job s c digest parity_digest kept) h h' n f
-      (entry_keeps_flight t (Put job s c digest parity_digest kept) h h' n f.relay (partial_of f) x.table legal acts ln r (λ k q. absurd (cc)) fly.law).1
-      (λ k lk. slots_stay t (Put job s c digest parity_digest kept) n k x.table legal lk (λ w. apart t s n f.relay legal.1.2.0 r w.0)) fly))
+    let fly : IsFlying t.data_columns t.parity (stripe_of t h n) f = flying_some t h flights n f x ln e in
+    flies_beside t (Put job s c digest parity_digest kept) h h' n f
+    (entry_keeps_flight t (Put job s c digest parity_digest kept) h h' n f.relay (partial_of f) x.table legal acts ln r (λ k q. absurd (cc)) fly.law).1
+    (λ k lk. slots_stay t (Put job s c digest parity_digest kept) n k x.table legal lk (λ w. apart t s n f.relay legal.1.2.0 r w.0)) fly))
 good t (Put2 job s c digest parity_digest second_digest kept kept2) flights given h h' n legal acts x ln =
     good_landed t (Put2 job s c digest parity_digest second_digest kept kept2) flights h h' n x.relays (entry_keeps t (Put2 job s c digest parity_digest second_digest kept kept2) h h' x.table legal acts x.holds) refl refl refl refl ln
     (λ f e. (let r : relay_at t n ≡ Some f.relay = relay_some t flights n f x.relays e in
-      let fly : IsFlying t.data_columns t.parity (stripe_of t h n) f = flying_some t h flights n f x ln e in
-      flies_beside t (Put2 job s c digest parity_digest second_digest kept kept2) h h' n f
-      (entry_keeps_flight t (Put2 job s c digest parity_digest second_digest kept kept2) h h' n f.relay (partial_of f) x.table legal acts ln r (λ k q. absurd (cc)) fly.law).1
-      (λ k lk. slots_stay t (Put2 job s c digest parity_digest second_digest kept kept2) n k x.table legal lk (λ w. apart t s n f.relay legal.1.2.0 r w.0)) fly))
+    let fly : IsFlying t.data_columns t.parity (stripe_of t h n) f = flying_some t h flights n f x ln e in
+    flies_beside t (Put2 job s c digest parity_digest second_digest kept kept2) h h' n f
+    (entry_keeps_flight t (Put2 job s c digest parity_digest second_digest kept kept2) h h' n f.relay (partial_of f) x.table legal acts ln r (λ k q. absurd (cc)) fly.law).1
+    (λ k lk. slots_stay t (Put2 job s c digest parity_digest second_digest kept kept2) n k x.table legal lk (λ w. apart t s n f.relay legal.1.2.0 r w.0)) fly))
 good t (Broke job s c) flights given h h' n legal acts x ln =
     good_landed t (Broke job s c) flights h h' n x.relays (entry_keeps t (Broke job s c) h h' x.table legal acts.1 x.holds) refl refl refl refl ln
     (λ f e. (let r : relay_at t n ≡ Some f.relay = relay_some t flights n f x.relays e in
-      let fly : IsFlying t.data_columns t.parity (stripe_of t h n) f = flying_some t h flights n f x ln e in
-      let ne : n ≢ s = apart t s n f.relay acts.0 r in
-      flies_beside t (Broke job s c) h h' n f
-      (entry_keeps_flight t (Broke job s c) h h' n f.relay (partial_of f) x.table legal acts.1 ln r (λ k q. ne (sym (broke_stripe job s c n k q))) fly.law).1
-      (λ k lk. slots_stay t (Broke job s c) n k x.table legal lk (λ w. ne w.0)) fly))
+    let fly : IsFlying t.data_columns t.parity (stripe_of t h n) f = flying_some t h flights n f x ln e in
+    let ne : n ≢ s = apart t s n f.relay acts.0 r in
+    flies_beside t (Broke job s c) h h' n f
+    (entry_keeps_flight t (Broke job s c) h h' n f.relay (partial_of f) x.table legal acts.1 ln r (λ k q. ne (sym (broke_stripe job s c n k q))) fly.law).1
+    (λ k lk. slots_stay t (Broke job s c) n k x.table legal lk (λ w. ne w.0)) fly))
 good t (Begin job s c) flights given h h' n legal acts x ln = good_begin t job s c flights given h h' n legal acts.0 acts.1 x ln
 good t (Hop job s c) flights given h h' n legal acts x ln = good_hop t job s c flights given h h' n legal acts x ln
 good t (Mended job s c) flights given h h' n legal acts x ln = good_mended t job s c flights given h h' n legal acts x ln

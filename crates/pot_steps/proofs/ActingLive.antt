@@ -1,5 +1,5 @@
 -- Each entry keeps the law of the Live slots.
-use Rattle.std.proofs.Common.{◌≡◌, ◌≢◌, ◌⊎◌, inl, inr, ℕ, ◌<◌, List, Option, Some, None, IsSomeAnd, true, false, IsTrue, refl, sym, ap, ap₂, ◌∙◌, subst, arith}
+use Rattle.std.proofs.Common.{◌≡◌, ◌≢◌, ◌⊎◌, inl, inr, ℕ, ◌<◌, List, Option, Some, None, IsSomeAnd, true, false, IsTrue, refl, sym, ap, ◌∙◌, subst, arith}
 use Rattle.pot_bytes.specs.declared.digest.Digest.{Digest}
 use Rattle.pot_machine.specs.declared.slot.SlotState.{SlotState}
 use Rattle.pot_machine.specs.declared.slot.SlotState.TheVariants.{Void, Live, Lost, Broken}
@@ -12,7 +12,7 @@ use Rattle.pot_machine.specs.Rules.{IsTable}
 use Rattle.pot_machine.proofs.Cases.{same_or}
 use Rattle.pot_machine.proofs.LeftAlone.{sizes_stay}
 use Rattle.pot_machine.proofs.Places.{slot_same, slot_other}
-use Rattle.pot_steps.specs.Stripe.{Sound, IsSound, digest_of}
+use Rattle.pot_steps.specs.Stripe.{Sound, digest_of}
 use Rattle.pot_steps.specs.declared.flight.Flight.{Flight}
 use Rattle.pot_steps.specs.Flight.{partial_of}
 use Rattle.pot_steps.specs.Holdings.{Holdings, LiveLaw, stripe_of}

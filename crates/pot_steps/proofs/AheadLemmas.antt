@@ -1,12 +1,12 @@
 -- How many columns a relay has yet to go over.
-use Rattle.std.proofs.Common.{◌≡◌, ◌≢◌, ◌⊎◌, inl, inr, ℕ, zero, suc, ◌+◌, ◌<◌, ◌≤◌, Option, Some, None, IfSome, Bool, true, false, not, ◌&&◌, nat_lt, nat_le, refl, sym, ap, ap₂, ◌∙◌, subst, arith, if◌then◌else◌}
+use Rattle.std.proofs.Common.{◌≡◌, ◌≢◌, ◌⊎◌, inl, inr, ℕ, zero, suc, ◌+◌, ◌<◌, ◌≤◌, Option, Some, None, IfSome, Bool, true, false, not, ◌&&◌, nat_lt, nat_le, refl, sym, ap, ap₂, ◌∙◌, arith, if◌then◌else◌}
 use Rattle.std.specs.Prelude.{◌==◌}
 use Rattle.std.proofs.lemmas.Bool.Decides.{nat_tests}
 use Rattle.pot_machine.specs.declared.relay.Relay.{Relay}
 use Rattle.pot_machine.specs.Slot.{is_void}
-use Rattle.pot_machine.specs.Table.{Table, width, slot_at, count, is_after, is_ahead, skipped, next_column}
-use Rattle.pot_machine.specs.Rules.{IsTable, IsStanding}
-use Rattle.pot_machine.proofs.Cases.{same_or, last_or}
+use Rattle.pot_machine.specs.Table.{Table, width, slot_at, count, is_after, is_ahead, skipped}
+use Rattle.pot_machine.specs.Rules.{IsStanding}
+use Rattle.pot_machine.proofs.Cases.{last_or}
 use Rattle.pot_machine.proofs.Searches.{least_some, least_none}
 use Rattle.pot_steps.specs.Flight.{hopped}
 use Rattle.pot_steps.specs.Ahead.{AheadFew, AheadHops, AheadNone}
@@ -16,13 +16,13 @@ unfolding count
 count_none zero test h = refl
 count_none (suc n) test h = rw (h n (omega arith)) (let ih : count n test ≡ 0 = count_none n test (λ k l. h k (omega arith)) in omega arith)
 
-count_same : (n : ℕ) (f g : ℕ → Bool) → ((k : ℕ) → k < n → f k ≡ g k) → count n f ≡ count n g
+pub count_same : (n : ℕ) (f g : ℕ → Bool) → ((k : ℕ) → k < n → f k ≡ g k) → count n f ≡ count n g
 unfolding count
 count_same zero f g h = refl
 count_same (suc n) f g h = ap₂ (λ a b. a + (if b then 1 else 0)) (count_same n f g (λ k l. h k (omega arith))) (h n (omega arith))
 
 -- two tests that differ at one number
-count_one : (n : ℕ) (f g : ℕ → Bool) (c : ℕ) → c < n → f c ≡ true → g c ≡ false → ((k : ℕ) → k < n → k ≢ c → f k ≡ g k) → count n f ≡ count n g + 1
+pub count_one : (n : ℕ) (f g : ℕ → Bool) (c : ℕ) → c < n → f c ≡ true → g c ≡ false → ((k : ℕ) → k < n → k ≢ c → f k ≡ g k) → count n f ≡ count n g + 1
 unfolding count
 count_one zero f g c lt t e h = absurd (omega arith)
 count_one (suc n) f g c lt t e h = elim (last_or c n lt) [
@@ -72,11 +72,11 @@ ahead_none t r e = count_none (width t) (is_ahead t r) (least_none (width t) (is
 
 -- A HOP
 
-after_more : (last : Option ℕ) (c k : ℕ) → is_after last c ≡ true → c < k → is_after last k ≡ true
+pub after_more : (last : Option ℕ) (c k : ℕ) → is_after last c ≡ true → c < k → is_after last k ≡ true
 after_more None c k h l = refl
 after_more (Some a) c k h l = grind (arith, nat_tests)
 
-and_first : (a b : Bool) → a && b ≡ true → a ≡ true
+pub and_first : (a b : Bool) → a && b ≡ true → a ≡ true
 and_first true b h = refl
 and_first false b h = h
 

@@ -1,14 +1,14 @@
 -- The pure calls of a relay.
-use Rattle.std.proofs.Common.{◌≡◌, ◌≢◌, ◌⊎◌, inl, inr, ℕ, ◌+◌, ◌<◌, ◌≤◌, Bool, true, false, not, ◌&&◌, IsTrue, IsSomeAnd, Option, Some, None, List, [], ◌∷◌, ◌++◌, cond, refl, sym, ap, ap₂, ◌∙◌, subst, arith, nat_eq, nat_le, if◌then◌else◌}
+use Rattle.std.proofs.Common.{◌≡◌, ◌≢◌, inl, inr, ℕ, ◌+◌, ◌<◌, ◌≤◌, Bool, true, false, not, ◌&&◌, IsTrue, IsSomeAnd, Option, Some, None, List, [], ◌∷◌, ◌++◌, cond, refl, sym, ap, ap₂, ◌∙◌, subst, arith, nat_eq, nat_le, if◌then◌else◌}
 use Rattle.std.specs.Prelude.{◌==◌, IsSome, is_some}
 use Rattle.std.proofs.lemmas.Bool.Decides.{nat_tests}
 use Rattle.pot_machine.specs.declared.relay.Relay.{Relay}
 use Rattle.pot_machine.specs.declared.slot.SlotState.{SlotState}
 use Rattle.pot_machine.specs.declared.slot.SlotState.TheVariants.{Void, Live, Lost, Broken}
 use Rattle.pot_machine.specs.declared.entry.Entry.TheVariants.{Hop, GaveUp, Oddly, Begin}
-use Rattle.pot_machine.specs.Slot.{is_live, is_void, is_unsound, is_lost, digest_in}
-use Rattle.pot_machine.specs.Table.{Table, width, slot_at, relay_at, relay_in, next_column, first_beside, skipped}
-use Rattle.pot_machine.specs.Machine.{Legal, TakesRelay, after, with_relay}
+use Rattle.pot_machine.specs.Slot.{is_live, is_void, is_unsound, digest_in}
+use Rattle.pot_machine.specs.Table.{Table, width, slot_at, relay_at, relay_in, next_column, skipped}
+use Rattle.pot_machine.specs.Machine.{Legal, after}
 use Rattle.pot_machine.specs.Rules.{IsTable, IsStanding}
 use Rattle.std.proofs.Common.{bit_xor, get_or, length}
 use Rattle.std.proofs.lemmas.List.{length-map}
@@ -31,7 +31,7 @@ use Rattle.pot_steps.specs.declared.flight.Flight.{Flight}
 use Rattle.pot_steps.specs.Stripe.{Filling, NoneBroken}
 use Rattle.pot_steps.specs.Flights.{IsFlying}
 use Rattle.pot_steps.proofs.Rebuilt.{rebuilt}
-use Rattle.pot_steps.specs.Flight.{partial_of, IsPartial, unfolded, IsRelay, IsNext, weight, weight_in, left_out, visits}
+use Rattle.pot_steps.specs.Flight.{partial_of, IsPartial, unfolded, IsRelay, IsNext, weight_in, left_out, visits}
 use Rattle.pot_steps.specs.Flights.{begun_relay}
 use Rattle.pot_steps.specs.Holdings.{Holdings, stripe_of}
 use Rattle.pot_steps.proofs.Acting.{find_all}

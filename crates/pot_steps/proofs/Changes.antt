@@ -30,7 +30,7 @@ live_kept x y d (inr e) h = absurd (of x (sym e ∙ h))
     of (Lost x) e = cc
     of (Broken x) e = cc
 
-lost_kept : (x y : SlotState) → LostOrSame x y → is_lost x ≡ true → is_lost y ≡ true
+pub lost_kept : (x y : SlotState) → LostOrSame x y → is_lost x ≡ true → is_lost y ≡ true
 lost_kept x y (inl e) h = ap is_lost e ∙ h
 lost_kept Void y (inr e) h = absurd (cc)
 lost_kept (Live d) y (inr e) h = absurd (cc)

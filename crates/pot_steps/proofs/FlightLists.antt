@@ -1,16 +1,15 @@
 -- The flights of a group as a list, beside the relays of its table.
-use Rattle.std.proofs.Common.{◌≡◌, ◌≢◌, ◌⊎◌, inl, inr, ℕ, zero, suc, ◌+◌, ◌<◌, ◌≤◌, Bool, true, false, not, Option, Some, None, List, [], ◌∷◌, ◌++◌, map, filter, cond, refl, sym, ap, ◌∙◌, subst, arith, if◌then◌else◌}
+use Rattle.std.proofs.Common.{◌≡◌, ◌≢◌, ℕ, zero, suc, Bool, true, false, not, Option, Some, None, List, [], ◌∷◌, ◌++◌, map, filter, cond, refl, sym, ap, ◌∙◌, arith, if◌then◌else◌}
 use Rattle.std.specs.Prelude.{◌==◌}
 use Rattle.std.proofs.lemmas.Bool.Decides.{nat_tests}
 use Rattle.pot_machine.specs.declared.relay.Relay.{Relay}
 use Rattle.pot_machine.specs.declared.entry.Entry.{Entry}
-use Rattle.pot_machine.specs.declared.entry.Entry.TheVariants.{Put, Skip, Seen, Gone, Broke, Fault, Begin, Hop, Mended, GaveUp, Oddly, Stuck, MoveBegin, Moved, MoveEnd, Swapped, Counted, Put2}
+use Rattle.pot_machine.specs.declared.entry.Entry.TheVariants.{Begin, Hop, Mended, GaveUp, Oddly, Moved, Swapped}
 use Rattle.pot_machine.specs.Table.{Table, relay_at, relay_in}
 use Rattle.pot_machine.specs.Machine.{after, hopped, with_losses}
 use Rattle.pot_machine.specs.Laws.{ChangesRelay}
 use Rattle.pot_steps.specs.declared.flight.Flight.{Flight}
 use Rattle.pot_steps.specs.Flights.{AreFlights, flight_in, flights_after, flown, without_flight, begun}
-use Rattle.pot_machine.proofs.Cases.{same_or}
 
 abbrev pub relays_of : List Flight → List Relay
 relays_of flights = map (λ f. f.relay) flights
@@ -134,13 +133,11 @@ flown_other f s c sum ne = ap (λ b. record { relay = record f.relay { last = if
     other : (a b : ℕ) → a ≢ b → (a == b) ≡ false
     other a b ne = grind (arith, nat_tests)
 
-
 pub flown_here : (f : Flight) (s c : ℕ) (sum : List ℕ) → f.relay.stripe ≡ s → flown s c sum f ≡ record { relay = record f.relay { last = Some c }; blind = f.blind; sum = sum }
 flown_here f s c sum e = ap (λ b. record { relay = record f.relay { last = if b then Some c else f.relay.last }; blind = f.blind; sum = if b then sum else f.sum }) (here f.relay.stripe s e)
   where
     here : (a b : ℕ) → a ≡ b → (a == b) ≡ true
     here a b ne = grind (arith, nat_tests)
-
 
 -- a flight ends
 pub ended_here : (flights : List Flight) (s : ℕ) → flight_in (without_flight flights s) s ≡ None

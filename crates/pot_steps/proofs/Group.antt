@@ -17,7 +17,7 @@ use Rattle.pot_steps.specs.Stripe.{digest_of}
 use Rattle.pot_steps.specs.declared.flight.Flight.{Flight}
 use Rattle.pot_steps.specs.Flights.{Acts, Stands, flights_after}
 use Rattle.pot_steps.specs.Holdings.{Holdings}
-use Rattle.pot_steps.specs.Entries.{OnlyLoses, Writes, Enters}
+use Rattle.pot_steps.specs.Entries.{OnlyLoses, Writes}
 use Rattle.pot_steps.specs.GroupStep.{GroupState, Loses, Passed, PassesTo, PutsBlock, PutFailed, PutStepKeeps, LookStepKeeps, FullStepKeeps, CountStepKeeps, Settled, Placed, NotPut, Full, NoRoom, Seen, Gone, Faulted, LogFull, skips, gone_entries, put_entry}
 use Rattle.pot_steps.proofs.Acting.{act_keeps, loss_keeps_all}
 use Rattle.pot_steps.proofs.Entries.{is_void_at}

@@ -1,18 +1,17 @@
 -- A column that a relay visits has a weight that is not 0.
-use Rattle.std.proofs.Common.{◌≡◌, ◌≢◌, ◌⊎◌, ℕ, zero, suc, ◌<◌, ◌≤◌, bit_xor, refl, sym, ap, ap₂, ◌∙◌, arith, inl, inr, subst, lit<}
+use Rattle.std.proofs.Common.{◌≡◌, ◌≢◌, ℕ, suc, ◌<◌, ◌≤◌, bit_xor, refl, sym, ap, ap₂, ◌∙◌, arith, inl, inr, subst, lit<}
 use Rattle.std.specs.Int.Bits.{xor_self, xor_zero_r, xor_zero_l}
-use Rattle.std.proofs.lemmas.Nat.{xor_comm, xor_of_8}
+use Rattle.std.proofs.lemmas.Nat.{xor_of_8}
 use Rattle.pot_bytes.specs.Product.{byte_product}
-use Rattle.pot_bytes.proofs.ProductLemmas.{byte_product-xor_right, byte_product-below, byte_product-zero_left, byte_product-zero_right, byte_product-one_left, byte_product-one_right, byte_product-comm}
+use Rattle.pot_bytes.proofs.ProductLemmas.{byte_product-xor_right, byte_product-below, byte_product-zero_left, byte_product-zero_right, byte_product-one_right, byte_product-comm}
 use Rattle.pot_bytes.proofs.TotalLemmas.{from_zero}
-use Rattle.pot_gf.specs.Field.{power, inverse}
+use Rattle.pot_gf.specs.Field.{power}
 use Rattle.pot_steps.specs.Equations.{p_weight, q_weight}
 use Rattle.pot_steps.specs.Flight.{weight, p_times, q_times}
 use Rattle.pot_steps.proofs.Relays.{power-below, power-positive, sum-positive, inverse-below, kinds}
 use Rattle.pot_steps.proofs.Relays as relays
 use Rattle.pot_steps.proofs.Solved.{divided_by}
 use Rattle.pot_steps.proofs.Weights.{p_weight-low, p_weight-high, q_weight-low, q_weight-p, q_weight-q}
-use Rattle.pot_steps.proofs.WeightLemmas.{p_last}
 
 -- a times the weight of P, and b times that of Q
 abbrev row : ℕ → ℕ → ℕ → ℕ → ℕ

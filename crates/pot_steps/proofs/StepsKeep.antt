@@ -1,14 +1,13 @@
 -- The steps of a group that log one entry keep the law of every stripe and of every flight.
-use Rattle.std.proofs.Common.{◌≡◌, ◌⊎◌, inl, inr, ℕ, List, Option, Some, IsTrue, subst, sym, ap, ◌∙◌}
+use Rattle.std.proofs.Common.{◌≡◌, inl, inr, ℕ, List, subst, sym, ◌∙◌}
 use Rattle.pot_machine.specs.Table.{Table, serving_at}
 use Rattle.pot_machine.specs.Machine.{after}
-use Rattle.pot_machine.specs.declared.entry.Entry.{Entry}
 use Rattle.pot_steps.specs.declared.flight.Flight.{Flight}
 use Rattle.pot_steps.specs.Holdings.{Holdings}
 use Rattle.pot_steps.specs.Entries.{OnlyLoses}
 use Rattle.pot_steps.specs.Flights.{Stands, flights_after}
 use Rattle.pot_steps.specs.GroupStep.{GroupState, Loses, FullStep, Settled}
-use Rattle.pot_steps.specs.RelaySteps.{Logged, LoggedKeeps, Unchanged, BeginStepKeeps, AdvanceStepKeeps, MendStepKeeps, AdvanceStep, GoesBy, MendAnswer}
+use Rattle.pot_steps.specs.RelaySteps.{LoggedKeeps, Unchanged, BeginStepKeeps, AdvanceStepKeeps, MendStepKeeps, GoesBy, MendAnswer}
 use Rattle.pot_steps.specs.RelaySteps.{Begun, NoRoom, Whole, Standing, TwoGone, Crowded, Hopped, Mended, Ended, Odd, Faulted, Idle, LogFull, Began, Went, NoNeed, Stuck, MendOdd, MendFaulted, MendFull}
 use Rattle.pot_steps.specs.MoveSteps.{BringStepKeeps, MoveStepKeeps, Copied, Passed, MoveEnded, MoveFaulted, MoveIdle, MoveFull}
 use Rattle.pot_steps.proofs.Acting.{act_keeps, loss_keeps_all}

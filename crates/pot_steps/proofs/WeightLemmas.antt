@@ -1,8 +1,8 @@
 -- The weights that the code computes.
-use Rattle.std.proofs.Common.{◌≡◌, ◌≢◌, ◌⊎◌, inl, inr, ℕ, zero, suc, ◌+◌, ◌<◌, ◌≤◌, Option, Some, None, bit_xor, refl, sym, ap, ap₂, ◌∙◌, subst, arith, add-one, nat_lt, nat_le, nat_eq, if◌then◌else◌}
+use Rattle.std.proofs.Common.{◌≡◌, ◌≢◌, ℕ, ◌+◌, ◌<◌, ◌≤◌, Option, Some, None, bit_xor, refl, sym, ap, ◌∙◌, arith, add-one, nat_le, if◌then◌else◌}
 use Rattle.std.proofs.lemmas.Bool.Decides.{nat_tests}
 use Rattle.pot_bytes.specs.Product.{byte_product}
-use Rattle.pot_gf.specs.Field.{power, inverse}
+use Rattle.pot_gf.specs.Field.{power}
 use Rattle.pot_machine.specs.declared.relay.Relay.{Relay}
 use Rattle.pot_machine.specs.Table.{skipped}
 use Rattle.pot_steps.specs.Equations.{p_weight, q_weight}

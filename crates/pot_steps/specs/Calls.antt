@@ -1,8 +1,6 @@
 -- What the pure calls of a relay answer.
-use Rattle.std.specs.Prelude.{◌≡◌, ◌≢◌, ◌<◌, ℕ, List, Option, Some, None, IsSomeAnd}
-use Rattle.pot_bytes.specs.declared.digest.Digest.{Digest}
+use Rattle.std.specs.Prelude.{◌≡◌, ◌≢◌, ℕ, List, Some, IsSomeAnd}
 use Rattle.pot_machine.specs.declared.relay.Relay.{Relay}
-use Rattle.pot_machine.specs.declared.entry.Entry.{Entry}
 use Rattle.pot_machine.specs.declared.entry.Entry.TheVariants as entry
 use Rattle.pot_machine.specs.Slot.{digest_in}
 use Rattle.pot_machine.specs.Table.{Table, slot_at, relay_at, next_column}

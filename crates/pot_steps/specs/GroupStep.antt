@@ -14,7 +14,7 @@ use Rattle.pot_machine.specs.Rules.{IsTable}
 use Rattle.pot_steps.specs.Stripe.{Stripe, Sound, IsSound, NoneBroken, HasFilling, digest_of}
 use Rattle.pot_steps.specs.Law.{FindsUnsound, FewUnsound}
 use Rattle.pot_steps.specs.declared.flight.Flight.{Flight}
-use Rattle.pot_steps.specs.Holdings.{Holdings, HoldsUp, stripe_of}
+use Rattle.pot_steps.specs.Holdings.{Holdings, stripe_of}
 use Rattle.pot_steps.specs.Entries.{Writes, held_at}
 use Rattle.pot_steps.specs.Flights.{Stands}
 

@@ -13,4 +13,6 @@ pub mod MoveSteps
 pub mod Losses
 pub mod Standing
 pub mod Ahead
+pub mod Mending
+pub mod Listener
 pub mod Laws

@@ -1,11 +1,9 @@
 -- The steps of a group that bring an archive and move a column, as relations over plain data. They are said of archives that tell
 -- what they hold.
-use Rattle.std.specs.Prelude.{◌≡◌, ◌≢◌, ◌⊎◌, ℕ, ◌<◌, List, [], ◌∷◌, ◌++◌, Option, Some, None, IsSomeAnd, IsTrue, true, false, length}
+use Rattle.std.specs.Prelude.{◌≡◌, ◌≢◌, ℕ, List, [], Option, None, IsSomeAnd, true, false}
 use Rattle.pot_machine.specs.declared.entry.Entry.{Entry}
 use Rattle.pot_machine.specs.declared.entry.Entry.TheVariants as entry
-use Rattle.pot_machine.specs.Slot.{is_live}
-use Rattle.pot_machine.specs.Table.{Table, slot_at, column_at}
-use Rattle.pot_machine.specs.Machine.{Legal}
+use Rattle.pot_machine.specs.Table.{Table, column_at}
 use Rattle.pot_steps.specs.Stripe.{Sound}
 use Rattle.pot_steps.specs.Holdings.{stripe_of}
 use Rattle.pot_steps.specs.GroupStep.{GroupState, FullStep, Settled}

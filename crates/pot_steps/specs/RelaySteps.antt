@@ -1,16 +1,15 @@
 -- The steps of a group that begin, move and end a relay, as relations over plain data. They are said of archives that tell what
 -- they hold.
-use Rattle.std.specs.Prelude.{◌≡◌, ◌≢◌, ◌⊎◌, ℕ, ◌+◌, ◌≤◌, ◌<◌, List, [], ◌∷◌, ◌++◌, Option, Some, None, IfSome, IsSomeAnd, IsTrue, false, length, slice_index_or}
+use Rattle.std.specs.Prelude.{◌≡◌, ◌≢◌, ◌⊎◌, ℕ, ◌≤◌, List, [], ◌∷◌, ◌++◌, Option, Some, None, IsSomeAnd, IsTrue, false, length, slice_index_or}
 use Rattle.pot_bytes.specs.declared.digest.Digest.{Digest}
 use Rattle.pot_machine.specs.declared.slot.SlotState.TheVariants.{Broken}
 use Rattle.pot_machine.specs.declared.relay.Relay.{Relay}
 use Rattle.pot_machine.specs.declared.entry.Entry.{Entry}
 use Rattle.pot_machine.specs.declared.entry.Entry.TheVariants as entry
-use Rattle.pot_machine.specs.Slot.{digest_in, is_live, is_unsound}
+use Rattle.pot_machine.specs.Slot.{is_live, is_unsound}
 use Rattle.pot_machine.specs.Table.{Table, slot_at, serving_at, relay_at, next_column}
 use Rattle.pot_machine.specs.Machine.{Legal, after, stuck_by}
 use Rattle.pot_steps.specs.Stripe.{Sound, digest_of}
-use Rattle.pot_steps.specs.declared.flight.Flight.{Flight}
 use Rattle.pot_steps.specs.Flight.{partial_of}
 use Rattle.pot_steps.specs.Holdings.{Holdings, stripe_of}
 use Rattle.pot_steps.specs.Flights.{Acts, flight_in, flights_after}

@@ -1,6 +1,8 @@
 //! What is proved of the steps of a stripe.
 ghost use Rattle.std.specs.Prelude.{ℕ};
 ghost use Rattle.pot_steps.specs.Ahead.{AheadFew, AheadHops, AheadNone};
+ghost use Rattle.pot_steps.specs.Mending.{MendingLaw};
+ghost use Rattle.pot_steps.specs.Listener.{ListenerFits, FlightHands};
 ghost use Rattle.pot_steps.specs.Standing.{NextIsNext, NoneIsNoNext, StandingIsRelay, BeginHasFew};
 ghost use Rattle.pot_steps.specs.Losses.{StartMakesLive, EntryKeepsLive, ActKeepsLive, LossesKeepLive};
 ghost use Rattle.pot_steps.specs.GroupStep.{StartMakes, PutStepKeeps, LookStepKeeps, CountStepKeeps, FullStepKeeps};
@@ -107,4 +109,17 @@ pub fn ahead_laws()
     ensures few { AheadFew }
     ensures hops { AheadHops }
     ensures none { AheadNone }
+{}
+
+/// A place that can be rebuilt becomes sound by a look and 2C+3 calls of `mend` with one parity column, and 3C+4 with two,
+/// where no device fails, no log is full and no block is lost.
+pub fn mending_laws()
+    ensures { MendingLaw }
+{}
+
+/// What one archive hears of a relay fits every content of the columns that the relay went over before, by a bijection of
+/// blinds. Nothing is said of what several archives hear together.
+pub fn listener_laws()
+    ensures hands { FlightHands }
+    ensures fits { ListenerFits }
 {}

@@ -17,13 +17,7 @@ pub fn move_begin(table: &mut GroupTable, job: u32, column: u8, to: u32) -> Entr
 }
 
 /// A move goes on over the stripe that it has come to.
-pub fn move_one(
-    table: &mut GroupTable,
-    job: u32,
-    column: u8,
-    stripe: u32,
-    copied: bool,
-) -> Entry
+pub fn move_one(table: &mut GroupTable, job: u32, column: u8, stripe: u32, copied: bool) -> Entry
     requires { Legal table.old (entry.Moved job stripe column copied) }
     ensures entry { result ≡ entry.Moved job stripe column copied }
     ensures table { table.new ≡ after table.old result }

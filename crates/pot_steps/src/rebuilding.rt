@@ -80,7 +80,10 @@ pub fn hop(table: &mut GroupTable, flight: &mut Flight, job: u32, folded: &Block
     let column = table.next_column(relay).unwrap();
     let weight = weight_of(table.data_columns(), relay, column);
     let block = unfold(weight, &flight.sum, folded);
-    if table.slot(stripe, column).has_digest(digest_of_block(&block)) {
+    if table
+        .slot(stripe, column)
+        .has_digest(digest_of_block(&block))
+    {
         let entry = Entry::Hop {
             job,
             stripe,

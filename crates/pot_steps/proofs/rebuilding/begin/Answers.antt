@@ -1,4 +1,4 @@
-use Rattle.std.proofs.Common.{◌≡◌, Some, refl, ap, sym, ◌∙◌}
+use Rattle.std.proofs.Common.{◌≡◌, Some, ap, sym, ◌∙◌}
 use Rattle.pot_machine.specs.declared.relay.Relay.{Relay}
 use Rattle.pot_steps.specs.declared.flight.Flight.{Flight}
 use Rattle.pot_steps.proofs.CallLemmas.{relay_found, is_relay_found}

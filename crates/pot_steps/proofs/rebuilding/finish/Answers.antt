@@ -1,4 +1,4 @@
-use Rattle.std.proofs.Common.{◌≡◌, ◌<◌, IsTrue, false, sym, ap, ◌∙◌}
+use Rattle.std.proofs.Common.{IsTrue, false, ap, ◌∙◌}
 use Rattle.pot_machine.specs.Slot.{digest_in}
 use Rattle.pot_steps.proofs.CallLemmas.{stands, unsound_at, legal_oddly}
 use Rattle.pot_steps.proofs.rebuilding.finish.Goals as goal

@@ -1,7 +1,4 @@
-use Rattle.std.proofs.Common.{◌≡◌, ◌<◌, Some, sym, subst, ap, ◌∙◌}
-use Rattle.pot_machine.specs.Table.{next_column}
-use Rattle.pot_machine.specs.Machine.{Legal}
-use Rattle.pot_machine.specs.declared.entry.Entry.TheVariants.{GaveUp}
+use Rattle.std.proofs.Common.{sym, ◌∙◌}
 use Rattle.pot_steps.proofs.CallLemmas.{stands, legal_gave_up}
 use Rattle.pot_steps.proofs.rebuilding.give_up.Goals as goal
 

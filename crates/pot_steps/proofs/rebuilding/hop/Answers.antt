@@ -1,8 +1,8 @@
-use Rattle.std.proofs.Common.{◌≡◌, ◌<◌, ℕ, IsTrue, IsSomeAnd, Some, sym, subst, ap, ap₂, ◌∙◌}
+use Rattle.std.proofs.Common.{◌<◌, IsTrue, sym, subst, ap, ◌∙◌}
 use Rattle.pot_machine.specs.Slot.{is_live}
 use Rattle.pot_machine.specs.Table.{slot_at, next_column}
 use Rattle.pot_steps.specs.Flight.{IsRelay, weight_in}
-use Rattle.pot_steps.proofs.CallLemmas.{stands, two_relay, next_within, next_positive, legal_gave_up, legal_hop, live_next}
+use Rattle.pot_steps.proofs.CallLemmas.{two_relay, next_within, next_positive, legal_gave_up, legal_hop, live_next}
 use Rattle.pot_steps.proofs.rebuilding.hop.Goals as goal
 
 pub weight_of-weight-requires-clause-relay : goal.weight_of-weight-requires-clause-relay

@@ -1,4 +1,3 @@
-use Rattle.std.proofs.Common.{◌≡◌}
 use Rattle.pot_steps.proofs.CallLemmas.{unfold_is}
 use Rattle.pot_steps.proofs.rebuilding.unfold.Goals as goal
 

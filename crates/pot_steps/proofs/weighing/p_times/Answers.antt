@@ -1,6 +1,5 @@
-use Rattle.std.proofs.Common.{◌≡◌, ◌≢◌, ◌⊎◌, inl, inr, ◌<◌, ◌≤◌, ℕ, bit_xor, refl, sym, ap, ap₂, ◌∙◌, arith, subst}
+use Rattle.std.proofs.Common.{sym, ap₂, ◌∙◌, arith}
 use Rattle.pot_bytes.specs.Product.{byte_product}
-use Rattle.pot_gf.specs.Field.{power, inverse}
 use Rattle.pot_steps.proofs.Relays.{p-data_data, p-data_p, p-low_q, p-p, p-q_data}
 use Rattle.pot_steps.proofs.WeightLemmas.{p_last}
 use Rattle.pot_steps.proofs.weighing.p_times.Goals as goal

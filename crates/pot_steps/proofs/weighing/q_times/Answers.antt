@@ -1,6 +1,5 @@
-use Rattle.std.proofs.Common.{◌≡◌, ◌≢◌, ◌⊎◌, inl, inr, ◌<◌, ◌≤◌, ℕ, bit_xor, refl, sym, ap, ap₂, ◌∙◌, arith, subst}
-use Rattle.pot_bytes.specs.Product.{byte_product}
-use Rattle.pot_gf.specs.Field.{power, inverse}
+use Rattle.std.proofs.Common.{◌≡◌, ◌≢◌, ◌<◌, ◌≤◌, ℕ, bit_xor, sym, ap, ap₂, ◌∙◌, arith, subst}
+use Rattle.pot_gf.specs.Field.{inverse}
 use Rattle.pot_steps.proofs.Relays.{q-data_data, q-data_p, q-low_q, q-p_data, q-q, power-positive, sum-positive}
 use Rattle.pot_steps.proofs.weighing.q_times.Goals as goal
 

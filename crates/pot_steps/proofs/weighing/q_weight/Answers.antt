@@ -1,6 +1,4 @@
-use Rattle.std.proofs.Common.{◌≡◌, ◌≢◌, ◌⊎◌, inl, inr, ◌<◌, ◌≤◌, ℕ, bit_xor, refl, sym, ap, ap₂, ◌∙◌, arith, subst}
-use Rattle.pot_bytes.specs.Product.{byte_product}
-use Rattle.pot_gf.specs.Field.{power, inverse}
+use Rattle.std.proofs.Common.{sym, ◌∙◌, arith}
 use Rattle.pot_steps.proofs.WeightLemmas.{q_data, q_at_p, q_at_q}
 use Rattle.pot_steps.proofs.weighing.q_weight.Goals as goal
 

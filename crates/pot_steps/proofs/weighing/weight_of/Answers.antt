@@ -1,6 +1,4 @@
-use Rattle.std.proofs.Common.{◌≡◌, ◌≢◌, ◌⊎◌, inl, inr, ◌<◌, ◌≤◌, ℕ, bit_xor, refl, sym, ap, ap₂, ◌∙◌, arith, subst}
-use Rattle.pot_bytes.specs.Product.{byte_product}
-use Rattle.pot_gf.specs.Field.{power, inverse}
+use Rattle.std.proofs.Common.{◌∙◌}
 use Rattle.pot_steps.proofs.WeightLemmas.{weight_in_is, out_apart}
 use Rattle.pot_steps.proofs.weighing.weight_of.Goals as goal
 
