@@ -42,6 +42,8 @@ mod flight;
 mod laws;
 mod moving;
 mod rebuilding;
+#[cfg(test)]
+mod tests;
 mod weighing;
 
 pub use flight::Flight;

@@ -1,7 +1,8 @@
 //! The pure steps of a move over a table. Each applies its entry and hands it out.
-ghost use Rattle.std.specs.Prelude.{◌≡◌};
+ghost use Rattle.std.specs.Prelude.{◌≡◌, ◌<◌, IsSome, IsSomeAnd};
 ghost use Rattle.pot_machine.specs.declared.entry.Entry.TheVariants as entry;
-ghost use Rattle.pot_machine.specs.Machine.{Legal, after, MovesAt};
+ghost use Rattle.pot_machine.specs.Table.{column_at, width};
+ghost use Rattle.pot_machine.specs.Machine.{Legal, after};
 
 use pot_machine::{Entry, GroupTable};
 
@@ -16,20 +17,30 @@ pub fn move_begin(table: &mut GroupTable, job: u32, column: u8, to: u32) -> Entr
     entry
 }
 
-/// A move goes on over the stripe that it has come to.
-pub fn move_one(table: &mut GroupTable, job: u32, column: u8, stripe: u32, copied: bool) -> Entry
-    requires { Legal table.old (entry.Moved job stripe column copied) }
-    ensures entry { result ≡ entry.Moved job stripe column copied }
+/// A move goes on over the stripe that it has come to: its slot is copied, or is not sound.
+pub fn move_one(table: &mut GroupTable, job: u32, column: u8, copied: bool) -> Entry
+    requires { IsSomeAnd (column_at table.old column).moving (λ m. Legal table.old (entry.Moved job m.upto column copied)) }
+    ensures entry { IsSomeAnd (column_at table.old column).moving (λ m. result ≡ entry.Moved job m.upto column copied) }
     ensures table { table.new ≡ after table.old result }
 {
     let entry = Entry::Moved {
         job,
-        stripe,
+        stripe: position(table, column),
         column,
         copied,
     };
     table.apply(&entry);
     entry
+}
+
+/// The stripe that a move has come to.
+fn position(table: &GroupTable, column: u8) -> u32
+    requires column { column < width table.now }
+    requires moves { IsSome (column_at table.now column).moving }
+    ensures { IsSomeAnd (column_at table.now column).moving (λ m. result ≡ m.upto) }
+{
+    let columns = table.columns();
+    columns[usize::from(column)].moving.unwrap().upto
 }
 
 /// A move ends.
