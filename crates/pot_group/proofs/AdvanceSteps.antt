@@ -62,7 +62,7 @@ module _ (told : Type 0) (g : GroupView) (now : Shelves) (job : ℕ) (f : Flight
     loses = (λ n m b e. e);
   }
 
-  gave_up : Legal g.table (GaveUp job f.relay.stripe f.relay.target c)
+  pub gave_up : Legal g.table (GaveUp job f.relay.stripe f.relay.target c)
   gave_up = ((within, (stands g.table f.relay settled.table at).target), subst (λ o. IsSomeAnd o (λ r. (r.target ≡ f.relay.target) × (next_column g.table r ≡ Some c))) (sym at) (refl, next))
 
   hears_sum : (new : GroupState) → Hears f.relay.stripe c f.sum (state_of g) new → HearsSum f.relay.stripe c (state_of g) new

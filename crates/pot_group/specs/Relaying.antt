@@ -1,33 +1,31 @@
 -- What a relay does to a group: its beginning, its hops and its ends.
-use Rattle.std.specs.Prelude.{◌≡◌, ◌≢◌, ◌⊎◌, ℕ, ◌<◌, ◌++◌, List, [], ◌∷◌, Option, Some, None, IsSomeAnd, IsTrue, Bool, false, Result, Ok, Err, length, ◌==◌, if◌then◌else◌}
+use Rattle.std.specs.Prelude.{◌≡◌, ◌≢◌, ◌⊎◌, ℕ, ◌<◌, ◌++◌, ◌↔◌, List, [], ◌∷◌, Option, Some, None, IsSomeAnd, IsTrue, Bool, false, Result, Ok, Err, length, ◌==◌, if◌then◌else◌}
 use Rattle.pot_bytes.specs.declared.digest.Digest.{Digest}
 use Rattle.pot_machine.specs.declared.entry.Entry.{Entry}
 use Rattle.pot_machine.specs.declared.entry.Entry.TheVariants as entry
-use Rattle.pot_machine.specs.Slot.{is_unsound}
-use Rattle.pot_machine.specs.Table.{slot_at, relay_at}
+use Rattle.pot_machine.specs.Slot.{is_live, is_unsound}
+use Rattle.pot_machine.specs.Table.{Table, slot_at, relay_at}
 use Rattle.pot_machine.specs.Machine.{Legal, after, stuck_by}
-use Rattle.pot_steps.specs.Flights.{flights_after}
+use Rattle.pot_steps.specs.Flights.{flight_in, flights_after}
 use Rattle.pot_steps.specs.RelaySteps as step
 use Rattle.pot_machine.specs.Slot.{digest_in}
 use Rattle.pot_machine.specs.Table.{next_column}
 use Rattle.pot_steps.specs.declared.flight.Flight.{Flight}
 use Rattle.pot_steps.specs.Stripe.{digest_of}
-use Rattle.pot_steps.specs.Flight.{unfolded, weight_in}
+use Rattle.pot_steps.specs.Flight.{partial_of, unfolded, weight_in}
 use Rattle.pot_group.specs.declared.relaying.Advanced.{Advanced}
 use Rattle.pot_group.specs.declared.relaying.Advanced.TheVariants as advanced
 use Rattle.pot_outside.specs.declared.faults.Failed.{Failed}
 use Rattle.pot_machine.specs.Table.{serving_at}
-use Rattle.pot_group.specs.Shelves.{Writes}
+use Rattle.pot_group.specs.Shelves.{Keeps, Writes}
 use Rattle.pot_group.specs.declared.relaying.AdvanceFault.{AdvanceFault}
 use Rattle.pot_group.specs.declared.relaying.AdvanceFault.TheVariants as failed
 use Rattle.pot_group.specs.declared.relaying.BeginFault.{BeginFault}
 use Rattle.pot_group.specs.declared.relaying.BeginFault.TheVariants as fault
 use Rattle.pot_group.specs.declared.relaying.Mend.{Mend}
 use Rattle.pot_group.specs.declared.relaying.Mend.TheVariants as mend
-use Rattle.pot_group.specs.declared.relaying.MendFault.{MendFault}
-use Rattle.pot_group.specs.declared.relaying.MendFault.TheVariants as fails
-use Rattle.pot_steps.specs.GroupStep.{GroupState}
-use Rattle.pot_group.specs.Group.{GroupParts, GroupView, noted}
+use Rattle.pot_outside.specs.Archives.{Meaning}
+use Rattle.pot_group.specs.Group.{GroupParts, GroupView, FailedAt, noted, state_of, view_of}
 
 -- an entry is logged, and does in the table and to the flights what it says
 abbrev pub acted : {A : Type 0} → GroupParts A → Entry → List ℕ → GroupParts A
@@ -103,22 +101,91 @@ EndsWell told job block f (Err failed.LogFull) old new = ⊥
 EndsWell told job block f (Err failed.Idle) old new = ⊥
 EndsWell told job block f (Err (failed.Odd wanted found)) old new = ⊥
 
--- the answer of a mend as the steps of a group name it
-abbrev pub mend_as : Result Mend MendFault → step.MendAnswer
-mend_as (Ok mend.Began) = step.Began
-mend_as (Ok mend.Went) = step.Went
-mend_as (Err fails.LogFull) = step.MendFull
-mend_as (Err fails.Whole) = step.NoNeed
-mend_as (Err (fails.Stuck first second)) = step.Stuck first second
-mend_as (Err (fails.Faulted column)) = step.MendFaulted column
-mend_as (Err (fails.Odd wanted found)) = step.MendOdd wanted found
+-- AN ADVANCE, whether or not archives tell
 
--- What an advance for a mend is to it. Where no relay stands, or the log has no room, it says nothing.
-abbrev pub Drives : ℕ → ℕ → Bool → step.MendAnswer → GroupState → GroupState → Type 0
-Drives job n own step.Went old new =
-    step.AdvanceStep job n step.Hopped old new ⊎ (step.AdvanceStep job n step.Mended old new ⊎ (step.AdvanceStep job n step.Ended old new
-    ⊎ ((wanted found : Digest) × step.AdvanceStep job n (step.Odd wanted found) old new × (own ≡ false))))
-Drives job n own (step.MendOdd wanted found) old new = step.AdvanceStep job n (step.Odd wanted found) old new × IsTrue own
-Drives job n own (step.MendFaulted column) old new = step.AdvanceStep job n (step.Faulted column) old new
-Drives job n own step.MendFull old new = (length old.log ≡ 262144) ⊎ (relay_at old.table n ≡ None)
-Drives job n own _ old new = ⊥
+-- the stripe's relay comes to this column next
+abbrev pub OnWay : GroupView → ℕ → (Flight → ℕ → Type 0) → Type 0
+OnWay g s P = IsSomeAnd (flight_in g.flights s) (λ f. IsSomeAnd (next_column g.table f.relay) (P f))
+
+-- the stripe's relay went over all its columns
+abbrev pub AtEnd : GroupView → ℕ → (Flight → Type 0) → Type 0
+AtEnd g s P = IsSomeAnd (flight_in g.flights s) (λ f. (next_column g.table f.relay ≡ None) × P f)
+
+-- The step of a stripe's relay. Hopped: what was added to the sum is a block of the digest of the next column's slot. Faulted:
+-- that column's archive failed, or the target's where no column is left.
+abbrev pub Moves : ℕ → ℕ → Result Advanced AdvanceFault → GroupView → GroupView → Type 0
+Moves job s (Ok advanced.Hopped) old new =
+    OnWay old s (λ f c. (sum : List ℕ) × IsTrue (is_live (slot_at old.table s c))
+    × (digest_in (slot_at old.table s c) ≡ Some (digest_of (unfolded (weight_in old.table.data_columns f.relay c) f.sum sum)))
+    × Acts (entry.Hop job s c) sum old new)
+Moves job s (Ok advanced.Ended) old new = OnWay old s (λ f c. Acts (entry.GaveUp job s f.relay.target c) [] old new)
+Moves job s (Ok advanced.Mended) old new =
+    AtEnd old s (λ f. (digest_in (slot_at old.table s f.relay.target) ≡ Some (digest_of (partial_of f))) × Acts (entry.Mended job s f.relay.target) [] old new)
+Moves job s (Err (failed.Odd wanted found)) old new =
+    AtEnd old s (λ f. (digest_in (slot_at old.table s f.relay.target) ≡ Some wanted) × (found ≡ digest_of (partial_of f)) × (wanted ≢ found)
+    × Acts (entry.Oddly job s f.relay.target found) [] old new)
+Moves job s (Err (failed.Faulted column)) old new =
+    FailedAt old new s column × Acts (entry.Fault job s column) [] old new
+    × (OnWay old s (λ f c. (c ≡ column) × IsTrue (is_live (slot_at old.table s c))) ⊎ AtEnd old s (λ f. f.relay.target ≡ column))
+Moves job s (Err failed.LogFull) old new = ⊥
+Moves job s (Err failed.Idle) old new = ⊥
+
+-- what an answer of an advance says: nothing changes at LogFull and at Idle
+abbrev pub AdvanceMeans : {A : Type 0} → (A → Meaning) → ℕ → ℕ → Result Advanced AdvanceFault → GroupParts A → GroupParts A → Type 0
+AdvanceMeans meaning job s (Err failed.LogFull) old new = (length old.log ≡ 262144) × (new ≡ old)
+AdvanceMeans meaning job s (Err failed.Idle) old new = (length old.log < 262144) × (relay_at old.table s ≡ None) × (new ≡ old)
+AdvanceMeans meaning job s answer old new = (length old.log < 262144) × Moves job s answer (view_of meaning old) (view_of meaning new)
+
+-- A step of the stripe's relay: what it does, that the archives stay with their marks, and, where they tell, the step of a group.
+pub record Advances (told : Type 0) (job s : ℕ) (result : Result Advanced AdvanceFault) (old new : GroupView) : Type 0 where
+  pub moves : Moves job s result old new
+  pub keeps : Keeps old.shelves new.shelves
+  pub steps : told → step.AdvanceStep job s (advance_as result) (state_of old) (state_of new)
+
+-- A MEND
+
+-- the answer of a mend as the steps of a group name it
+abbrev pub mend_as : Mend → step.MendAnswer
+mend_as mend.Whole = step.NoNeed
+mend_as mend.Began = step.Began
+mend_as mend.Went = step.Went
+mend_as (mend.TwoGone first second) = step.Stuck first second
+mend_as (mend.Odd wanted found) = step.MendOdd wanted found
+mend_as (mend.Faulted column) = step.MendFaulted column
+mend_as mend.LogFull = step.MendFull
+
+-- the answer of a mend that makes an advance, of the slot's own relay or of another
+abbrev pub answered : Bool → Result Advanced AdvanceFault → Mend
+answered own (Ok a) = mend.Went
+answered own (Err (failed.Odd wanted found)) = if own then mend.Odd wanted found else mend.Went
+answered own (Err (failed.Faulted column)) = mend.Faulted column
+answered own (Err failed.LogFull) = mend.LogFull
+answered own (Err failed.Idle) = mend.LogFull
+
+-- the relay that stands in stripe `n` rebuilds the slot of stripe `s` and column `c`
+abbrev pub Owns : Table → ℕ → ℕ → ℕ → Type 0
+Owns t n s c = IsSomeAnd (relay_at t n) (λ r. (n ≡ s) × (r.target ≡ c))
+
+-- A mend that makes an advance: of its stripe's relay, and where none stands there and 16 stand, of the first of all.
+pub record Drives (job s c : ℕ) (answer : Mend) (old new : GroupView) : Type 0 where
+  pub unsound : IsTrue (is_unsound (slot_at old.table s c))
+  pub stripe : ℕ
+  pub own : Bool
+  pub result : Result Advanced AdvanceFault
+  pub which : step.MovesRelay old.table s c stripe
+  pub owns : IsTrue own ↔ Owns old.table stripe s c
+  pub is : answer ≡ answered own result
+  pub moves : Moves job stripe result old new
+
+-- What an answer of a mend says, whether or not archives tell.
+abbrev pub MendMeans : {A : Type 0} → (A → Meaning) → ℕ → ℕ → ℕ → List ℕ → Mend → GroupParts A → GroupParts A → Type 0
+MendMeans meaning job s c blind mend.Whole old new = BeginMeans job s c blind (Err fault.Whole) old new
+MendMeans meaning job s c blind mend.Began old new = BeginMeans job s c blind (Ok (tt)) old new
+MendMeans meaning job s c blind (mend.TwoGone first second) old new = BeginMeans job s c blind (Err (fault.TwoGone first second)) old new
+MendMeans meaning job s c blind mend.LogFull old new = BeginMeans job s c blind (Err fault.LogFull) old new
+MendMeans meaning job s c blind answer old new = (length old.log < 262144) × Drives job s c answer (view_of meaning old) (view_of meaning new)
+
+pub record Mends {A : Type 0} (told : Type 0) (meaning : A → Meaning) (job s c : ℕ) (blind : List ℕ) (answer : Mend) (old new : GroupParts A) : Type 0 where
+  pub means : MendMeans meaning job s c blind answer old new
+  pub keeps : Keeps (view_of meaning old).shelves (view_of meaning new).shelves
+  pub steps : told → step.MendStep job s c blind (mend_as answer) (state_of (view_of meaning old)) (state_of (view_of meaning new))

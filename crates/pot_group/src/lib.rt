@@ -91,5 +91,5 @@ pub use counting::Counts;
 pub use finding::Kind;
 pub use group::{Ended, Group};
 pub use moving::{ShelfCause, ShelfRefused};
-pub use relaying::{AdvanceFault, Advanced, BeginFault, Mend, MendFault};
+pub use relaying::{AdvanceFault, Advanced, BeginFault, Mend};
 pub use telling::LogFull;

@@ -49,7 +49,7 @@ fn mend_at(
     group: &mut Group<LossyArchive>,
     stripe: u32,
     column: u8,
-) -> Option<Result<Mend, MendFault>> {
+) -> Option<Mend> {
     if !has(group, stripe, column) {
         return None;
     }
@@ -124,12 +124,12 @@ fn mend_until_whole(rt: HostRuntime) -> Result<(), Fail> {
         make(&mut group, Call::Look(0, 0)),
         Answer::Look(Looked::Gone, None)
     );
-    assert!(rt; mend_at(&mut group, 0, 1) == Some(Err(MendFault::Whole)));
-    assert!(rt; mend_at(&mut group, 0, 0) == Some(Ok(Mend::Began)));
-    assert!(rt; mend_at(&mut group, 0, 0) == Some(Ok(Mend::Went)));
-    assert!(rt; mend_at(&mut group, 0, 0) == Some(Ok(Mend::Went)));
-    assert!(rt; mend_at(&mut group, 0, 0) == Some(Ok(Mend::Went)));
-    assert!(rt; mend_at(&mut group, 0, 0) == Some(Err(MendFault::Whole)));
+    assert!(rt; mend_at(&mut group, 0, 1) == Some(Mend::Whole));
+    assert!(rt; mend_at(&mut group, 0, 0) == Some(Mend::Began));
+    assert!(rt; mend_at(&mut group, 0, 0) == Some(Mend::Went));
+    assert!(rt; mend_at(&mut group, 0, 0) == Some(Mend::Went));
+    assert!(rt; mend_at(&mut group, 0, 0) == Some(Mend::Went));
+    assert!(rt; mend_at(&mut group, 0, 0) == Some(Mend::Whole));
     assert_eq!(rt;
         make(&mut group, Call::Look(0, 0)),
         Answer::Look(Looked::Seen, Some(A))

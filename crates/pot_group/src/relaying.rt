@@ -1,6 +1,6 @@
 //! The relays of a group.
 ghost use Rattle.std.specs.Prelude.{◌≡◌, ◌<◌, ◌↔◌, IsTrue, length, map};
-ghost use Rattle.pot_group.specs.Relaying.{flown_to};
+ghost use Rattle.pot_group.specs.Relaying.{answered, flown_to};
 ghost use Rattle.pot_machine.specs.Table.{width};
 
 use crate::group::{Group, LOG_BOUND};
@@ -49,28 +49,23 @@ pub enum BeginFault {
     Crowded,
 }
 
-/// What a mend of a slot came to.
+/// What a mend of a slot came to. Each but `Whole` and `LogFull` logged one entry.
 #[derive(Clone, Copy, PartialEq, Eq, Debug)]
 pub enum Mend {
+    /// The slot is Void or Live. Nothing changed.
+    Whole,
     /// A relay began.
     Began,
     /// A relay went on, or ended.
     Went,
-}
-
-/// Why a mend did nothing, or what it came to.
-#[derive(Clone, Copy, PartialEq, Eq, Debug)]
-pub enum MendFault {
-    /// The log has no room. Nothing changed.
-    LogFull,
-    /// The slot is Void or Live.
-    Whole,
     /// No relay can rebuild the slot of column `first`, because of that of column `second`.
-    Stuck { first: u8, second: u8 },
-    /// The archive of this column failed. The relay stays as it was.
-    Faulted { column: u8 },
+    TwoGone { first: u8, second: u8 },
     /// The slot's relay came to a block of another digest, and ended.
     Odd { wanted: Digest, found: Digest },
+    /// The archive of this column failed. The relay stays as it was.
+    Faulted { column: u8 },
+    /// The log has no room. Nothing changed.
+    LogFull,
 }
 
 impl<A: Archive> Group<A> {
@@ -84,7 +79,7 @@ impl<A: Archive> Group<A> {
     ghost use Rattle.pot_machine.specs.Slot.{is_live};
     ghost use Rattle.pot_steps.specs.Flight.{weight_in};
     ghost use Rattle.pot_steps.specs.Flights.{flight_in};
-    ghost use Rattle.pot_group.specs.Shelves.{plain, Folds};
+    ghost use Rattle.pot_group.specs.Shelves.{plain, Folds, Keeps};
     ghost use Rattle.pot_group.specs.Group.{with_archives};
     ghost use Rattle.std.specs.Prelude.{None, []};
     ghost use Rattle.pot_machine.specs.declared.entry.Entry.TheVariants.{GaveUp};
@@ -96,7 +91,7 @@ impl<A: Archive> Group<A> {
     ghost use Rattle.pot_steps.specs.RelaySteps.{AdvanceStep, BeginStep, MendStep, no_relay};
     ghost use Rattle.std.specs.Prelude.{slice_index_or};
     ghost use Rattle.pot_group.specs.Group.{view_of, state_of, CoversOne, IsSettled};
-    ghost use Rattle.pot_group.specs.Relaying.{acted, advance_as, begin_as, mend_as, Drives, BeginMeans, HopsOver, EndsWell};
+    ghost use Rattle.pot_group.specs.Relaying.{acted, advance_as, begin_as, mend_as, AdvanceMeans, Advances, BeginMeans, HopsOver, EndsWell, MendMeans};
 
     /// Begins to rebuild a slot that is Lost or Broken, with a random block.
     ///
@@ -203,7 +198,8 @@ impl<A: Archive> Group<A> {
     pub fn advance(&mut self, job: u32, stripe: u32) -> Result<Advanced, AdvanceFault>
         requires job { 0 < job }
         requires stripe { stripe < self.old.table.stripes }
-        ensures full { length self.old.log ≡ 262144 → (result ≡ Err AdvanceFault.LogFull) × (self.new ≡ self.old) }
+        ensures means { AdvanceMeans A.account.meaning job stripe result self.old self.new }
+        ensures keeps { Keeps (view_of A.account.meaning self.old).shelves (view_of A.account.meaning self.new).shelves }
         ensures step { IsTrue A.account.tells → AdvanceStep job stripe (advance_as result) (state_of (view_of A.account.meaning self.old)) (state_of (view_of A.account.meaning self.new)) }
     {
         if self.log.len() >= LOG_BOUND {
@@ -225,7 +221,7 @@ impl<A: Archive> Group<A> {
         requires next { next_column self.old.table flight.relay ≡ Some column }
         requires within { flight.relay.stripe < self.old.table.stripes }
         requires room { length self.old.log < 262144 }
-        ensures { IsTrue A.account.tells → AdvanceStep job flight.relay.stripe (advance_as result) (state_of (view_of A.account.meaning self.old)) (state_of (view_of A.account.meaning self.new)) }
+        ensures { Advances (IsTrue A.account.tells) job flight.relay.stripe result (view_of A.account.meaning self.old) (view_of A.account.meaning self.new) }
     {
         let stripe = flight.relay.stripe;
         let _settled = self.kept();
@@ -252,50 +248,34 @@ impl<A: Archive> Group<A> {
     }
 
     /// Goes one step towards the rebuilding of a slot that is Lost or Broken: begins its relay, or moves the relay that stands
-    /// in its way, by one column.
+    /// in its way, by one column. The blind is used exactly at `Began`.
     ///
-    /// # Errors
-    /// `LogFull` first, then `Whole` and `Stuck`. `Faulted` where the archive of a column failed. `Odd` where the slot's own relay
-    /// came to a block of another digest.
-    pub fn mend(&mut self, job: u32, place: Place, blind: &Block) -> Result<Mend, MendFault>
+    /// `LogFull` comes first, then `Whole`, exactly where the slot is Void or Live. Where the stripe has a relay it is moved; else
+    /// `TwoGone` comes exactly where no relay can rebuild the slot. `Went` stands for a step of a relay, and for an Odd end of
+    /// that of another slot.
+    pub fn mend(&mut self, job: u32, place: Place, blind: &Block) -> Mend
         requires job { 0 < job }
         requires stripe { place.stripe < self.old.table.stripes }
         requires column { place.column < width self.old.table }
+        ensures means { MendMeans A.account.meaning job place.stripe place.column blind.now result self.old self.new }
+        ensures keeps { Keeps (view_of A.account.meaning self.old).shelves (view_of A.account.meaning self.new).shelves }
         ensures step { IsTrue A.account.tells → MendStep job place.stripe place.column blind.now (mend_as result) (state_of (view_of A.account.meaning self.old)) (state_of (view_of A.account.meaning self.new)) }
     {
         let _settled = self.kept();
         match self.begin(job, place, blind) {
-            Ok(()) => Ok(Mend::Began),
-            Err(BeginFault::LogFull) => Err(MendFault::LogFull),
-            Err(BeginFault::Whole) => Err(MendFault::Whole),
-            Err(BeginFault::TwoGone { first, second }) => Err(MendFault::Stuck { first, second }),
+            Ok(()) => Mend::Began,
+            Err(BeginFault::LogFull) => Mend::LogFull,
+            Err(BeginFault::Whole) => Mend::Whole,
+            Err(BeginFault::TwoGone { first, second }) => Mend::TwoGone { first, second },
             Err(BeginFault::Standing { column }) => {
-                self.drive(job, place.stripe, column == place.column)
+                let step = self.advance(job, place.stripe);
+                answered(step, column == place.column)
             }
             Err(BeginFault::Crowded) => {
                 let stripe = self.first_stripe();
-                self.drive(job, stripe, false)
+                let step = self.advance(job, stripe);
+                answered(step, false)
             }
-        }
-    }
-
-    /// Moves the relay of a stripe for a mend, which is of its target or not.
-    fn drive(&mut self, job: u32, stripe: u32, own: bool) -> Result<Mend, MendFault>
-        requires job { 0 < job }
-        requires stripe { stripe < self.old.table.stripes }
-        ensures { IsTrue A.account.tells → Drives job stripe own (mend_as result) (state_of (view_of A.account.meaning self.old)) (state_of (view_of A.account.meaning self.new)) }
-    {
-        match self.advance(job, stripe) {
-            Ok(_) => Ok(Mend::Went),
-            Err(AdvanceFault::Faulted { column }) => Err(MendFault::Faulted { column }),
-            Err(AdvanceFault::Odd { wanted, found }) => {
-                if own {
-                    Err(MendFault::Odd { wanted, found })
-                } else {
-                    Ok(Mend::Went)
-                }
-            }
-            Err(AdvanceFault::LogFull | AdvanceFault::Idle) => Err(MendFault::LogFull),
         }
     }
 
@@ -332,7 +312,7 @@ impl<A: Archive> Group<A> {
         requires here { flight_in self.old.flights flight.relay.stripe ≡ Some flight }
         requires next { next_column self.old.table flight.relay ≡ None }
         requires room { length self.old.log < 262144 }
-        ensures { IsTrue A.account.tells → AdvanceStep job flight.relay.stripe (advance_as result) (state_of (view_of A.account.meaning self.old)) (state_of (view_of A.account.meaning self.new)) }
+        ensures { Advances (IsTrue A.account.tells) job flight.relay.stripe result (view_of A.account.meaning self.old) (view_of A.account.meaning self.new) }
     {
         match finish(&mut self.table, &flight, job) {
             Finished::Ready(block) => self.write_back(job, flight, &block),
@@ -440,6 +420,25 @@ impl<A: Archive> Group<A> {
                 Err(AdvanceFault::Faulted { column })
             }
         }
+    }
+}
+
+/// What an advance is to a mend that made it, of its slot's own relay or of another.
+fn answered(step: Result<Advanced, AdvanceFault>, own: bool) -> Mend
+    ensures { result ≡ answered own step }
+{
+    match step {
+        Ok(_) => Mend::Went,
+        Err(AdvanceFault::Odd { wanted, found }) => {
+            if own {
+                Mend::Odd { wanted, found }
+            } else {
+                Mend::Went
+            }
+        }
+        Err(AdvanceFault::Faulted { column }) => Mend::Faulted { column },
+        Err(AdvanceFault::LogFull) => Mend::LogFull,
+        Err(AdvanceFault::Idle) => Mend::LogFull,
     }
 }
 

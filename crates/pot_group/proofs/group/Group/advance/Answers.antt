@@ -1,8 +1,8 @@
-use Rattle.std.proofs.Common.{◌≡◌, ◌<◌, IsTrue, Some, None, subst, sym, ap, ◌∙◌}
-use Rattle.pot_steps.specs.RelaySteps.{AdvanceStep}
-use Rattle.pot_group.specs.Relaying.{advance_as}
-use Rattle.pot_group.specs.Group.{GroupParts, view_of, state_of}
+use Rattle.std.proofs.Common.{◌≡◌, ◌<◌, IsTrue, Some, None, length, refl, subst, sym, ap, ◌∙◌, rules}
+use Rattle.pot_group.specs.Relaying.{Advances}
+use Rattle.pot_group.specs.Group.{GroupParts, view_of}
 use Rattle.pot_group.proofs.AdvanceSteps.{idle_step, found_over}
+use Rattle.pot_group.proofs.Advancing.{advance_means, idle_none}
 use Rattle.pot_group.proofs.group.Group.advance.Goals as goal
 
 pub returns-in_default-clause-step : goal.returns-in_default-clause-step
@@ -22,12 +22,31 @@ go_on-requires-clause-within g c = subst (λ n. n < c.args.self.now.table.stripe
 pub finish_flight-requires-clause-here : goal.finish_flight-requires-clause-here
 finish_flight-requires-clause-here g c = (found_over c.args.self.now.flights c.args.stripe c.flight.result c.in-Some.flight c.flight.ensures c.in-Some.is).1
 
-pub returns-in-Some-next_column-clause-step : goal.returns-in-Some-next_column-clause-step
-returns-in-Some-next_column-clause-step g c =
-    subst (λ n. IsTrue g.A.Archive.account.tells → AdvanceStep c.args.job n (advance_as c.go_on.result) (state_of (view_of g.A.Archive.account.meaning c.args.self.now))
-    (state_of (view_of g.A.Archive.account.meaning c.go_on.new.self))) (found_over c.args.self.now.flights c.args.stripe c.flight.result c.in-Some.flight c.flight.ensures c.in-Some.is).0 c.go_on.ensures
+pub returns-in_default-clause-means : goal.returns-in_default-clause-means
+returns-in_default-clause-means g c =
+    let room : length c.args.self.now.log < 262144 = search rules in
+    (room, idle_none (IsTrue g.A.Archive.account.tells) (view_of g.A.Archive.account.meaning c.args.self.now) c.args.stripe c.kept-settled.ensures (sym c.flight.ensures ∙ c.in_default.is), refl)
 
-pub returns-in-None-clause-step : goal.returns-in-None-clause-step
-returns-in-None-clause-step g c =
-    subst (λ n. IsTrue g.A.Archive.account.tells → AdvanceStep c.args.job n (advance_as c.finish_flight.result) (state_of (view_of g.A.Archive.account.meaning c.args.self.now))
-    (state_of (view_of g.A.Archive.account.meaning c.finish_flight.new.self))) (found_over c.args.self.now.flights c.args.stripe c.flight.result c.in-Some.flight c.flight.ensures c.in-Some.is).0 c.finish_flight.ensures
+pub returns-in-Some-next_column : goal.returns-in-Some-next_column
+returns-in-Some-next_column g c =
+    let room : length c.args.self.now.log < 262144 = search rules in
+    let a : Advances (IsTrue g.A.Archive.account.tells) c.args.job c.args.stripe c.go_on.result (view_of g.A.Archive.account.meaning c.args.self.now) (view_of g.A.Archive.account.meaning c.go_on.new.self) =
+    subst (λ n. Advances (IsTrue g.A.Archive.account.tells) c.args.job n c.go_on.result (view_of g.A.Archive.account.meaning c.args.self.now) (view_of g.A.Archive.account.meaning c.go_on.new.self))
+    (found_over c.args.self.now.flights c.args.stripe c.flight.result c.in-Some.flight c.flight.ensures c.in-Some.is).0 c.go_on.ensures in
+    record {
+      means = advance_means (IsTrue g.A.Archive.account.tells) g.A.Archive.account.meaning c.args.job c.args.stripe c.go_on.result c.args.self.now c.go_on.new.self room a;
+      keeps = a.keeps;
+      step = a.steps;
+    }
+
+pub returns-in-None : goal.returns-in-None
+returns-in-None g c =
+    let room : length c.args.self.now.log < 262144 = search rules in
+    let a : Advances (IsTrue g.A.Archive.account.tells) c.args.job c.args.stripe c.finish_flight.result (view_of g.A.Archive.account.meaning c.args.self.now) (view_of g.A.Archive.account.meaning c.finish_flight.new.self) =
+    subst (λ n. Advances (IsTrue g.A.Archive.account.tells) c.args.job n c.finish_flight.result (view_of g.A.Archive.account.meaning c.args.self.now) (view_of g.A.Archive.account.meaning c.finish_flight.new.self))
+    (found_over c.args.self.now.flights c.args.stripe c.flight.result c.in-Some.flight c.flight.ensures c.in-Some.is).0 c.finish_flight.ensures in
+    record {
+      means = advance_means (IsTrue g.A.Archive.account.tells) g.A.Archive.account.meaning c.args.job c.args.stripe c.finish_flight.result c.args.self.now c.finish_flight.new.self room a;
+      keeps = a.keeps;
+      step = a.steps;
+    }

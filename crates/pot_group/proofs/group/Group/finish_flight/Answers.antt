@@ -1,15 +1,16 @@
 use Rattle.std.proofs.Common.{◌≡◌, ◌≢◌, ◌<◌, IsTrue, Some, None, List, length, subst, sym, ap, ◌∙◌, arith, rules, tests, not}
-use Rattle.std.specs.Prelude.{◌==◌}
+use Rattle.std.specs.Prelude.{◌==◌, Err}
 use Rattle.std.proofs.lemmas.Fn.{filter_same}
 use Rattle.pot_machine.specs.Table.{Table, next_column}
 use Rattle.pot_steps.specs.Stripe.{digest_of}
-use Rattle.pot_group.specs.Relaying.{advance_as, EndsWell}
+use Rattle.pot_group.specs.Relaying.{Advances, EndsWell}
+use Rattle.pot_group.specs.declared.relaying.AdvanceFault.TheVariants as failed
 use Rattle.pot_steps.specs.declared.flight.Flight.{Flight}
 use Rattle.pot_steps.specs.Flights.{flight_in}
-use Rattle.pot_steps.specs.RelaySteps.{AdvanceStep, Odd}
-use Rattle.pot_group.specs.Group.{GroupParts, view_of, state_of}
+use Rattle.pot_group.specs.Group.{GroupParts, view_of}
 use Rattle.pot_group.proofs.RelayExits.{stands_in_table}
-use Rattle.pot_group.proofs.AdvanceSteps.{odd_settled, odd_step, well_step, some_differs}
+use Rattle.pot_group.proofs.AdvanceSteps.{odd_settled, some_differs}
+use Rattle.pot_group.proofs.Advancing.{odd_advances, well_advances}
 use Rattle.pot_group.proofs.group.Group.finish_flight.Goals as goal
 
 pub finish-requires-clause-stands : goal.finish-requires-clause-stands
@@ -36,9 +37,9 @@ pub returns-in-Odd : goal.returns-in-Odd
 returns-in-Odd g c =
     let a = c.self.inside in
     let v : GroupParts _ = record { number = a.number; first = a.first; table = a.table; log = a.log.items; flights = a.flights.items; archives = a.archives } in
-    subst (λ (w : GroupParts _). IsTrue g.A.Archive.account.tells → AdvanceStep c.args.job c.args.flight.relay.stripe (Odd c.in-Odd.wanted c.in-Odd.found) (state_of (view_of g.A.Archive.account.meaning w))
-    (state_of (view_of g.A.Archive.account.meaning (record v { table = c.finish.new.table; log = c.push_reserved.new.self.items; flights = c.retain.new.self.items })))) c.self.view_is
-    (odd_step (IsTrue g.A.Archive.account.tells) (view_of g.A.Archive.account.meaning v) c.args.job c.args.flight c.self.invariant.0 (subst (λ (w : GroupParts _). length w.log < 262144) (sym c.self.view_is) c.requires.room)
+    subst (λ (w : GroupParts _). Advances (IsTrue g.A.Archive.account.tells) c.args.job c.args.flight.relay.stripe (Err (failed.Odd c.in-Odd.wanted c.in-Odd.found)) (view_of g.A.Archive.account.meaning w)
+    (view_of g.A.Archive.account.meaning (record v { table = c.finish.new.table; log = c.push_reserved.new.self.items; flights = c.retain.new.self.items }))) c.self.view_is
+    (odd_advances (IsTrue g.A.Archive.account.tells) (view_of g.A.Archive.account.meaning v) c.args.job c.args.flight c.self.invariant.0 (subst (λ (w : GroupParts _). length w.log < 262144) (sym c.self.view_is) c.requires.room)
     (subst (λ (w : GroupParts _). flight_in w.flights c.args.flight.relay.stripe ≡ Some c.args.flight) (sym c.self.view_is) c.requires.here)
     (subst (λ (w : GroupParts _). next_column w.table c.args.flight.relay ≡ None) (sym c.self.view_is) c.requires.next)
     c.in-Odd.entry c.in-Odd.wanted c.in-Odd.found c.finish.new.table c.push_reserved.new.self.items c.retain.new.self.items c.in-Odd.ensures c.push_reserved.ensures.items (filter_same _ (λ (f : Flight). not (f.relay.stripe == c.args.flight.relay.stripe)) _ (λ x b q h. search (rules, tests)) _ _ c.retain.ensures.filtered))
@@ -48,8 +49,8 @@ returns-in-Ready g c =
     let a = c.self.inside in
     let v : GroupParts _ = record { number = a.number; first = a.first; table = a.table; log = a.log.items; flights = a.flights.items; archives = a.archives } in
     let m = c.in-Ready.ensures in
-    subst (λ (w : GroupParts _). IsTrue g.A.Archive.account.tells → AdvanceStep c.args.job c.args.flight.relay.stripe (advance_as c.write_back.result) (state_of (view_of g.A.Archive.account.meaning w)) (state_of (view_of g.A.Archive.account.meaning c.write_back.new.self))) c.self.view_is
-    (well_step (IsTrue g.A.Archive.account.tells) (view_of g.A.Archive.account.meaning v) c.args.job c.args.flight c.self.invariant.0 (subst (λ (w : GroupParts _). length w.log < 262144) (sym c.self.view_is) c.requires.room)
+    subst (λ (w : GroupParts _). Advances (IsTrue g.A.Archive.account.tells) c.args.job c.args.flight.relay.stripe c.write_back.result (view_of g.A.Archive.account.meaning w) (view_of g.A.Archive.account.meaning c.write_back.new.self)) c.self.view_is
+    (well_advances (IsTrue g.A.Archive.account.tells) (view_of g.A.Archive.account.meaning v) c.args.job c.args.flight c.self.invariant.0 (subst (λ (w : GroupParts _). length w.log < 262144) (sym c.self.view_is) c.requires.room)
     (subst (λ (w : GroupParts _). flight_in w.flights c.args.flight.relay.stripe ≡ Some c.args.flight) (sym c.self.view_is) c.requires.here)
     (subst (λ (w : GroupParts _). next_column w.table c.args.flight.relay ≡ None) (sym c.self.view_is) c.requires.next)
     c.in-Ready.block m.0 (m.2 ∙ ap (λ b. Some (digest_of b)) (sym m.0)) (view_of g.A.Archive.account.meaning c.write_back.new.self) c.write_back.result

@@ -1,24 +1,40 @@
-use Rattle.std.proofs.Common.{IsTrue, Err, subst}
+use Rattle.std.proofs.Common.{◌<◌, IsTrue, Err, subst, sym, false}
+use Rattle.std.specs.Prelude.{◌==◌}
 use Rattle.pot_group.specs.declared.relaying.BeginFault.{BeginFault}
-use Rattle.pot_group.specs.Relaying.{BeginMeans}
-use Rattle.pot_group.proofs.MendSteps.{standing_mends, full_relays, crowded_mends}
+use Rattle.pot_group.specs.declared.relaying.Mend.{Mend}
+use Rattle.pot_group.specs.Group.{GroupParts}
+use Rattle.pot_group.specs.Relaying.{BeginMeans, Mends}
+use Rattle.pot_group.proofs.MendSteps.{begin_keeps, standing_mends, full_relays, crowded_mends}
 use Rattle.pot_group.proofs.group.Group.mend.Goals as goal
 
-pub drive-requires-in-Err-Crowded : goal.drive-requires-in-Err-Crowded
-drive-requires-in-Err-Crowded g c = record {
-  job = c.requires.job;
-  stripe = c.first_stripe-stripe.ensures.within (full_relays (IsTrue g.A.Archive.account.tells) g.A.Archive.account.meaning c.args.self.now c.args.job c.args.place.stripe c.args.place.column c.args.blind.now
-      c.kept-settled.ensures c.requires.stripe c.requires.column c.begin.new.self (subst (λ (f : BeginFault). BeginMeans c.args.job c.args.place.stripe c.args.place.column c.args.blind.now (Err f) c.args.self.now c.begin.new.self) c.in-Err-Crowded.field-0-is c.in-Err-Crowded.ensures.means));
-}
+pub returns-in-Ok-clause-keeps : goal.returns-in-Ok-clause-keeps
+returns-in-Ok-clause-keeps g c = begin_keeps (IsTrue g.A.Archive.account.tells) g.A.Archive.account.meaning c.args.self.now c.args.job c.args.place.stripe c.args.place.column c.args.blind.now c.begin.result c.begin.new.self c.begin.ensures.means
+
+pub returns-in-Err-LogFull-clause-keeps : goal.returns-in-Err-LogFull-clause-keeps
+returns-in-Err-LogFull-clause-keeps g c = begin_keeps (IsTrue g.A.Archive.account.tells) g.A.Archive.account.meaning c.args.self.now c.args.job c.args.place.stripe c.args.place.column c.args.blind.now c.begin.result c.begin.new.self c.begin.ensures.means
+
+pub returns-in-Err-Whole-clause-keeps : goal.returns-in-Err-Whole-clause-keeps
+returns-in-Err-Whole-clause-keeps g c = begin_keeps (IsTrue g.A.Archive.account.tells) g.A.Archive.account.meaning c.args.self.now c.args.job c.args.place.stripe c.args.place.column c.args.blind.now c.begin.result c.begin.new.self c.begin.ensures.means
+
+pub returns-in-Err-TwoGone-clause-keeps : goal.returns-in-Err-TwoGone-clause-keeps
+returns-in-Err-TwoGone-clause-keeps g c = begin_keeps (IsTrue g.A.Archive.account.tells) g.A.Archive.account.meaning c.args.self.now c.args.job c.args.place.stripe c.args.place.column c.args.blind.now c.begin.result c.begin.new.self c.begin.ensures.means
+
+pub advance-step-requires-clause-stripe : goal.advance-step-requires-clause-stripe
+advance-step-requires-clause-stripe g c = subst (λ (w : GroupParts _). c.args.place.stripe < w.table.stripes) (sym (subst (λ (f : BeginFault). BeginMeans c.args.job c.args.place.stripe c.args.place.column c.args.blind.now (Err f) c.args.self.now c.begin.new.self) c.in-Err-Standing.field-0-is c.in-Err-Standing.ensures.means).1) c.requires.stripe
+
+pub advance-step-requires-in-Err-Crowded-clause-stripe : goal.advance-step-requires-in-Err-Crowded-clause-stripe
+advance-step-requires-in-Err-Crowded-clause-stripe g c = c.first_stripe-stripe.ensures.within (full_relays (IsTrue g.A.Archive.account.tells) g.A.Archive.account.meaning c.args.self.now c.args.job c.args.place.stripe c.args.place.column c.args.blind.now c.kept-settled.ensures c.requires.stripe c.requires.column c.begin.new.self (subst (λ (f : BeginFault). BeginMeans c.args.job c.args.place.stripe c.args.place.column c.args.blind.now (Err f) c.args.self.now c.begin.new.self) c.in-Err-Crowded.field-0-is c.in-Err-Crowded.ensures.means))
 
 pub returns-in-Err-Standing : goal.returns-in-Err-Standing
-returns-in-Err-Standing g c = record {
-  step = λ t. standing_mends (IsTrue g.A.Archive.account.tells) g.A.Archive.account.meaning c.args.self.now c.args.job c.args.place.stripe c.args.place.column c.args.blind.now
-      c.kept-settled.ensures c.requires.stripe c.requires.column c.in-Err-Standing.column c.begin.new.self c.drive.new.self c.drive.result (subst (λ (f : BeginFault). BeginMeans c.args.job c.args.place.stripe c.args.place.column c.args.blind.now (Err f) c.args.self.now c.begin.new.self) c.in-Err-Standing.field-0-is c.in-Err-Standing.ensures.means) (c.drive.ensures t);
-}
+returns-in-Err-Standing g c =
+    let x = subst (λ (a : Mend). Mends (IsTrue g.A.Archive.account.tells) g.A.Archive.account.meaning c.args.job c.args.place.stripe c.args.place.column c.args.blind.now a c.args.self.now c.advance-step.new.self) (sym c.answered.ensures)
+    (standing_mends (IsTrue g.A.Archive.account.tells) g.A.Archive.account.meaning c.args.self.now c.args.job c.args.place.stripe c.args.place.column c.args.blind.now c.kept-settled.ensures c.requires.stripe c.requires.column c.in-Err-Standing.column c.begin.new.self c.advance-step.new.self c.advance-step.result (subst (λ (f : BeginFault). BeginMeans c.args.job c.args.place.stripe c.args.place.column c.args.blind.now (Err f) c.args.self.now c.begin.new.self) c.in-Err-Standing.field-0-is c.in-Err-Standing.ensures.means)
+    (c.advance-step.ensures.means, c.advance-step.ensures.keeps, c.advance-step.ensures.step)) in
+    record { means = x.means; keeps = x.keeps; step = x.steps }
 
 pub returns-in-Err-Crowded : goal.returns-in-Err-Crowded
-returns-in-Err-Crowded g c = record {
-  step = λ t. crowded_mends (IsTrue g.A.Archive.account.tells) g.A.Archive.account.meaning c.args.self.now c.args.job c.args.place.stripe c.args.place.column c.args.blind.now
-      c.kept-settled.ensures c.requires.stripe c.requires.column c.first_stripe-stripe.result c.begin.new.self c.drive-in-Err-Crowded.new.self c.drive-in-Err-Crowded.result (subst (λ (f : BeginFault). BeginMeans c.args.job c.args.place.stripe c.args.place.column c.args.blind.now (Err f) c.args.self.now c.begin.new.self) c.in-Err-Crowded.field-0-is c.in-Err-Crowded.ensures.means) c.first_stripe-stripe.ensures.value (c.drive-in-Err-Crowded.ensures t);
-}
+returns-in-Err-Crowded g c =
+    let x = subst (λ (a : Mend). Mends (IsTrue g.A.Archive.account.tells) g.A.Archive.account.meaning c.args.job c.args.place.stripe c.args.place.column c.args.blind.now a c.args.self.now c.advance-step-in-Err-Crowded.new.self) (sym c.answered-in-Err-Crowded.ensures)
+    (crowded_mends (IsTrue g.A.Archive.account.tells) g.A.Archive.account.meaning c.args.self.now c.args.job c.args.place.stripe c.args.place.column c.args.blind.now c.kept-settled.ensures c.requires.stripe c.requires.column c.first_stripe-stripe.result c.begin.new.self c.advance-step-in-Err-Crowded.new.self c.advance-step-in-Err-Crowded.result (subst (λ (f : BeginFault). BeginMeans c.args.job c.args.place.stripe c.args.place.column c.args.blind.now (Err f) c.args.self.now c.begin.new.self) c.in-Err-Crowded.field-0-is c.in-Err-Crowded.ensures.means) c.first_stripe-stripe.ensures.value
+    (c.advance-step-in-Err-Crowded.ensures.means, c.advance-step-in-Err-Crowded.ensures.keeps, c.advance-step-in-Err-Crowded.ensures.step)) in
+    record { means = x.means; keeps = x.keeps; step = x.steps }
