@@ -1,6 +1,8 @@
 -- What is cut off again after a refusal.
 use Rattle.std.proofs.Common.{◌≡◌, ◌+◌, ◌<◌, ◌≤◌, ℕ, true, List, ◌++◌, length, take, drop, Result, Ok, Err, sym, ap, ◌∙◌, get_or, append_assoc, arith, length-append}
-use Rattle.std.specs.Prelude.{OnErr, is_err, flat_map}
+use Rattle.std.specs.Prelude.{OnErr, is_err, flat_map, codes}
+use Rattle.pot_script.specs.declared.reply.Reply.TheVariants.{Group}
+use Rattle.pot_script.specs.Replies.{reply_text, spaced}
 use Rattle.std.proofs.lemmas.List.Folds.{length-flat_map-take}
 use Rattle.std.proofs.lemmas.List.{take_at, take-append-drop}
 
@@ -20,3 +22,19 @@ pub no_room : {X : Type 0} (text : X → List ℕ) (was middle : List ℕ) (part
     → old < length was + length (flat_map text parts)
 no_room text was middle parts i d old now lt grown capacity full =
     omega (arith, length-flat_map-take text parts i d lt, ap length grown, length-append was (flat_map text (take i parts)))
+
+-- the twelve parts of a group's line, one after another
+grouped : (a b c d e f : List ℕ)
+    → codes "group" ++ (a ++ (codes " live" ++ (b ++ (codes " lost" ++ (c ++ (codes " broken" ++ (d ++ (codes " cursor" ++ (e ++ (f ++ codes "\n"))))))))))
+    ≡ codes "group" ++ a ++ codes " live" ++ b ++ codes " lost" ++ c ++ codes " broken" ++ d ++ codes " cursor" ++ e ++ f ++ codes "\n"
+grouped a b c d e f = simp append_assoc
+
+pub group_line : (g l o b s c g' l' o' b' s' c' : ℕ) → g ≡ g' → l ≡ l' → o ≡ o' → b ≡ b' → s ≡ s' → c ≡ c'
+    → codes "group" ++ (spaced g ++ (codes " live" ++ (spaced l ++ (codes " lost" ++ (spaced o ++ (codes " broken" ++ (spaced b ++ (codes " cursor" ++ (spaced s ++ (spaced c ++ codes "\n"))))))))))
+    ≡ reply_text (Group g' l' o' b' s' c')
+group_line g l o b s c g' l' o' b' s' c' p q r t u v =
+    rw (p, q, r, t, u, v) (grouped (spaced g') (spaced l') (spaced o') (spaced b') (spaced s') (spaced c'))
+
+-- what was appended is cut off again
+pub cut_off : (was more now : List ℕ) (start : ℕ) → start ≡ length was → now ≡ was ++ more → take start now ≡ was
+cut_off was more now start start-is grown = ap (take start) grown ∙ take_at was more start (sym start-is)

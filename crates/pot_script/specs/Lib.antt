@@ -1,6 +1,9 @@
+pub mod Batches
+pub mod Commands
 pub mod Faults
+pub mod Kinds
 pub mod Lines
 pub mod Parts
 pub mod Replies
 pub mod Scripts
-pub mod SpelledCommands
+pub mod Words

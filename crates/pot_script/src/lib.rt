@@ -15,20 +15,27 @@
 //!    nothing only where the vector had no room for it.
 #![tactic(auto)]
 
+mod batch;
 mod command;
+mod cuts;
 mod decimal_number;
 mod fault;
+mod kind;
 mod laws;
-mod line;
+mod lines;
+mod name_list;
+mod parts;
 mod printing;
 mod reading;
 mod reply;
 mod spelled;
+mod words;
 
 pub use command::Command;
 pub use decimal_number::read_number;
 pub use fault::ScriptFault;
-pub use laws::{lines_are_short, one_reading};
+pub use laws::{batches_are_whole, lines_are_short, one_reading};
+pub use name_list::NameList;
 pub use printing::{print_bad_line, print_reply, print_words_refused};
 pub use reading::read_script;
 pub use reply::Reply;

@@ -1,6 +1,7 @@
 ghost use Rattle.std.specs.Prelude.{◌≡◌};
 
-use pot_bytes::{Bytes, Name};
+use crate::name_list::NameList;
+use pot_bytes::{Bytes, Digest, Name};
 
 /// What a command of the script answers.
 #[derive(Drop)]
@@ -16,6 +17,43 @@ pub enum Reply {
         name: Name,
         bytes: Bytes,
     },
+    /// The names that are stored.
+    Names {
+        names: NameList,
+    },
+    /// How a group stands: its Live, Lost and Broken slots, and where its next block goes.
+    Group {
+        group: u8,
+        live: u32,
+        lost: u32,
+        broken: u32,
+        stripe: u32,
+        column: u8,
+    },
+    /// Of the group's blocks so many were seen, and so many are gone.
+    Scrubbed {
+        group: u8,
+        seen: u32,
+        gone: u32,
+    },
+    /// Of the group's lost blocks so many were rebuilt, and so many are left.
+    Repaired {
+        group: u8,
+        mended: u32,
+        left: u32,
+    },
+    /// The second archive stands in for the first, at so many slots.
+    Replaced {
+        from: u32,
+        to: u32,
+        slots: u32,
+    },
+    /// So many slots of the first archive were copied to the second.
+    Migrated {
+        from: u32,
+        to: u32,
+        slots: u32,
+    },
     /// The file of a store line is longer, in bytes, than a file may be.
     Long {
         name: Name,
@@ -24,6 +62,10 @@ pub enum Reply {
     /// A file of this name is stored already.
     Exists {
         name: Name,
+    },
+    /// The group has no slot left.
+    Full {
+        group: u8,
     },
     /// No file of this name is stored.
     Absent {
@@ -37,10 +79,40 @@ pub enum Reply {
         have: u8,
         need: u8,
     },
+    /// The bytes that were had are not those that were stored: their digests differ.
+    Odd {
+        name: Name,
+        wanted: Digest,
+        found: Digest,
+    },
     /// The archive of a group's column failed.
     Fault {
         group: u8,
         column: u8,
+    },
+    /// The log of a group is full.
+    LogFull {
+        group: u8,
+    },
+    /// The log of the index is full.
+    IndexLogFull,
+    /// No column of a group is on this archive.
+    NoArchive {
+        number: u32,
+    },
+    /// The archive is in use.
+    InUse {
+        number: u32,
+    },
+    /// The file is split anew, in this many pieces and shards.
+    Renewed {
+        name: Name,
+        pieces: u32,
+        shards: u32,
+    },
+    /// The file was split anew as often as a file may be.
+    Often {
+        name: Name,
     },
 }
 
@@ -51,6 +123,28 @@ impl Reply {
     pub fn is_refusal(&self) -> bool
         ensures { result ≡ is_refusal self.now }
     {
-        !matches!(self, Reply::Stored { .. } | Reply::File { .. })
+        match self {
+            Reply::Stored { .. }
+            | Reply::File { .. }
+            | Reply::Names { .. }
+            | Reply::Group { .. }
+            | Reply::Scrubbed { .. }
+            | Reply::Repaired { .. }
+            | Reply::Replaced { .. }
+            | Reply::Migrated { .. }
+            | Reply::Renewed { .. } => false,
+            Reply::Long { .. }
+            | Reply::Exists { .. }
+            | Reply::Full { .. }
+            | Reply::Absent { .. }
+            | Reply::Lost { .. }
+            | Reply::Odd { .. }
+            | Reply::Fault { .. }
+            | Reply::LogFull { .. }
+            | Reply::IndexLogFull
+            | Reply::NoArchive { .. }
+            | Reply::InUse { .. }
+            | Reply::Often { .. } => true,
+        }
     }
 }

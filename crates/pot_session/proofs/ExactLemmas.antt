@@ -8,9 +8,9 @@ use Rattle.pot_outside.specs.Counts.{Rose}
 use Rattle.pot_script.specs.declared.command.Command.{Command}
 use Rattle.pot_script.specs.declared.command.Command.TheVariants.{Quit}
 use Rattle.pot_script.specs.declared.reply.Reply.{Reply}
-use Rattle.pot_script.specs.Scripts.{IsScript, LeavesAt}
+use Rattle.pot_session.specs.Plain.{IsPlainScript, LeavesPlain}
 use Rattle.pot_script.specs.Replies.{bad_line_text, words_refused_text}
-use Rattle.pot_script.proofs.ScriptLemmas.{one_script, one_fault, no_fault}
+use Rattle.pot_session.proofs.PlainLemmas.{one_plain, one_refusal, no_refusal}
 use Rattle.pot_session.specs.declared.status.Status.{Status}
 use Rattle.pot_session.specs.declared.status.Status.TheVariants.{Good, Refusals, WordsRefused, ScriptRefused, SourceFault, SinkFault, RoomFault, NoMemory}
 use Rattle.pot_session.specs.Runs.{beginning, Answered}
@@ -24,9 +24,9 @@ use Rattle.pot_session.proofs.IdealLemmas.{replies_are}
 use Rattle.pot_session.proofs.ScriptLemmas.{all_but_last}
 
 -- the commands before `quit` are one list
-one_steps : (bytes : List ℕ) (xs ys : List Command) → IsScript bytes (xs ++ Quit ∷ []) → IsScript bytes (ys ++ Quit ∷ []) → xs ≡ ys
+one_steps : (bytes : List ℕ) (xs ys : List Command) → IsPlainScript bytes (xs ++ Quit ∷ []) → IsPlainScript bytes (ys ++ Quit ∷ []) → xs ≡ ys
 one_steps bytes xs ys a b =
-    sym (all_but_last xs) ∙ ap (λ l. take (length l - 1) l) (one_script a b) ∙ all_but_last ys
+    sym (all_but_last xs) ∙ ap (λ l. take (length l - 1) l) (one_plain a b) ∙ all_but_last ys
 
 -- all replies of an ended session
 ended_replies : (seen : Seen) (drawn : List ℕ) (steps : List Command) (refused : Bool) (e : Ends seen drawn steps refused) → seen.told
@@ -43,9 +43,9 @@ ended_exactly : (seen : Seen) (words : List (String Global)) (tells : Type 0) (i
     → IsExact words input seen.before seen.after code
 ended_exactly seen words tells input drawn refused code w t s k f g o c = record {
   refused = (λ h. absurd (h w));
-  line = (λ _ n l. absurd (no_fault (subst (λ b. IsScript b (o.steps ++ Quit ∷ [])) (sym (o.read s)) o.script) l));
+  line = (λ _ n l. absurd (no_refusal (subst (λ b. IsPlainScript b (o.steps ++ Quit ∷ [])) (sym (o.read s)) o.script) l));
   script = (λ _ steps h.
-      let same : o.steps ≡ steps = one_steps input o.steps steps (subst (λ b. IsScript b (o.steps ++ Quit ∷ [])) (sym (o.read s)) o.script) h in
+      let same : o.steps ≡ steps = one_steps input o.steps steps (subst (λ b. IsPlainScript b (o.steps ++ Quit ∷ [])) (sym (o.read s)) o.script) h in
       let replies : o.comes.replies ≡ replies_of steps = ended_replies seen drawn o.steps refused o.comes t f g ∙ ap replies_of same in
       inr (
         c ∙ ap (λ b. if b then 1 else 0) (sym o.comes.refusal) ∙ ap status_of replies,
@@ -83,8 +83,8 @@ exactly seen words tells input drawn WordsRefused source source' sink sink' t s 
 exactly seen words tells input drawn ScriptRefused source source' sink sink' t s k q c r = record {
   refused = (λ h. absurd (h r.0));
   line = (λ w n l.
-      inr (refl, r.1.comes k ∙ ap (λ n. seen.before ++ bad_line_text n) (one_fault (r.1.leaves s) l)));
-  script = (λ w steps h. absurd (no_fault h (r.1.leaves s)));
+      inr (refl, r.1.comes k ∙ ap (λ n. seen.before ++ bad_line_text n) (one_refusal (r.1.leaves s) l)));
+  script = (λ w steps h. absurd (no_refusal h (r.1.leaves s)));
 }
 exactly seen words tells input drawn SourceFault source source' sink sink' t s k q c r = absurd (q.read (c.read refl))
 exactly seen words tells input drawn SinkFault source source' sink sink' t s k q c r = absurd (q.wrote (c.wrote refl))

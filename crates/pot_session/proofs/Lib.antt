@@ -4,6 +4,7 @@ pub mod FileLemmas
 pub mod IdealLemmas
 pub mod ListLemmas
 pub mod PairLemmas
+pub mod PlainLemmas
 pub mod RoomLemmas
 pub mod ScriptLemmas
 pub mod SessionLemmas

@@ -5,7 +5,13 @@ use Rattle.std.specs.List.{AllByRecursion}
 use Rattle.std.proofs.Math.Seq.{take-append_seam}
 use Rattle.pot_script.specs.declared.command.Command.{Command}
 use Rattle.pot_script.specs.declared.command.Command.TheVariants.{Quit}
-use Rattle.pot_script.specs.Scripts.{IsScript, IsCommand, command_text, command_line, stated_bytes, script_text}
+use Rattle.pot_bytes.specs.declared.rack.Rack.{Rack}
+use Rattle.std.specs.Prelude.{Option, None, true}
+use Rattle.pot_script.specs.Commands.{command_text, command_line, stated_bytes}
+use Rattle.pot_script.specs.Scripts.{IsScript, AreSteps, script_text}
+use Rattle.pot_script.specs.Batches.{after_command}
+use Rattle.pot_session.specs.Plain.{IsPlainScript, IsStep, is_plain, other_line, plain_rack}
+use Rattle.pot_session.proofs.PlainLemmas.{plain_first}
 use Rattle.pot_session.proofs.ListLemmas.{all_map}
 
 text_some : (c : Command) → 1 ≤ length (command_text c)
@@ -24,26 +30,30 @@ all_but_last cs =
 
 -- what a script says of its commands before the last
 pub record AreBeforeQuit (bytes : List ℕ) (steps : List Command) : Type 0 where
-  pub script : IsScript bytes (steps ++ Quit ∷ [])
+  pub script : IsPlainScript bytes (steps ++ Quit ∷ [])
   pub few : length steps < 2 ^ 31
-  pub go_on : AllByRecursion (λ c. c ≢ Quit) steps
+  pub go_on : AllByRecursion IsStep steps
 
-pub some_commands : (bytes : List ℕ) (cs : List Command) → IsScript bytes cs → 0 < length cs
-some_commands bytes cs s = omega (arith, ap (λ l. length l) s.ended, length-append {A = Command} s.steps (Quit ∷ []))
+pub some_commands : (bytes : List ℕ) (cs : List Command) → IsPlainScript bytes cs → 0 < length cs
+some_commands bytes cs p = let s = p.script in omega (arith, ap (λ l. length l) s.ended, length-append {A = Command} s.steps (Quit ∷ []))
 
-pub are_before_quit : (bytes : List ℕ) (cs : List Command) → IsScript bytes cs → AreBeforeQuit bytes (take (length cs - 1) cs)
-are_before_quit bytes cs s =
+-- a script has no more commands than bytes
+pub few_commands : (bytes : List ℕ) (cs : List Command) → IsScript plain_rack bytes cs → length cs ≤ 67108864
+few_commands bytes cs s = omega (arith, texts_many cs, ap (λ l. length l) s.spelled, s.short)
+
+-- each command before the last is a step
+are_steps : (rack : Rack) (batch : Option ℕ) (number : ℕ) (steps rest : List Command) → AreSteps rack batch steps → other_line number (steps ++ rest) ≡ None → AllByRecursion IsStep steps
+are_steps rack batch number [] rest are none = tt
+are_steps rack batch number (c ∷ cs) rest are none =
+    let first = plain_first number c (cs ++ rest) none in
+    ((are.0.goes_on, first.0), are_steps rack (after_command batch c) (number + 1) cs rest are.1 first.1)
+
+pub are_before_quit : (bytes : List ℕ) (cs : List Command) → IsPlainScript bytes cs → AreBeforeQuit bytes (take (length cs - 1) cs)
+are_before_quit bytes cs p =
+    let s = p.script in
     let steps : take (length cs - 1) cs ≡ s.steps = ap (λ l. take (length l - 1) l) s.ended ∙ all_but_last s.steps in
     subst (λ l. AreBeforeQuit bytes l) (sym steps) (record {
-      script = subst (λ l. IsScript bytes l) s.ended s;
-      few =
-          omega (
-            arith,
-            ap (λ l. length l) s.ended,
-            length-append {A = Command} s.steps (Quit ∷ []),
-            texts_many cs,
-            ap (λ l. length l) s.spelled,
-            s.short,
-          );
-      go_on = all_map (λ c. IsCommand c × (c ≢ Quit)) (λ c. c ≢ Quit) s.steps (λ c h. h.1) s.each;
+      script = subst (λ l. IsPlainScript bytes l) s.ended p;
+      few = omega (arith, ap (λ l. length l) s.ended, length-append {A = Command} s.steps (Quit ∷ []), few_commands bytes cs s);
+      go_on = are_steps plain_rack None 1 s.steps (Quit ∷ []) s.each (sym (ap (other_line 1) s.ended) ∙ p.plain);
     })

@@ -4,7 +4,7 @@ use Rattle.std.specs.Global.{Global}
 use Rattle.pot_outside.specs.Archives.{Meaning}
 use Rattle.pot_script.specs.declared.command.Command.{Command}
 use Rattle.pot_script.specs.declared.command.Command.TheVariants.{Quit}
-use Rattle.pot_script.specs.Scripts.{IsScript, LeavesAt}
+use Rattle.pot_session.specs.Plain.{IsPlainScript, LeavesPlain}
 use Rattle.pot_script.specs.Replies.{words_refused_text}
 use Rattle.pot_session.specs.declared.status.Status.{Status}
 use Rattle.pot_session.specs.declared.status.Status.TheVariants.{Good, Refusals, WordsRefused, ScriptRefused, SourceFault, SinkFault, RoomFault, NoMemory}
@@ -30,7 +30,7 @@ runs_script seen words tells input drawn bytes steps NoMemory w r s c =
 -- the line was told
 pub runs_bad_line : (told seen : Type 0) (before after : List ℕ) (meant means : Meaning) (faulted faults : ℕ) (words : List (String Global))
     (tells : Type 0) (input drawn : List ℕ) (n : ℕ) (status : Status)
-    → IsRun words → (tells → LeavesAt input n) → RefusesLine seen before after n status
+    → IsRun words → (tells → LeavesPlain input n) → RefusesLine seen before after n status
     → Runs (seen_by told seen before after meant means faulted faults) words tells input drawn status
 runs_bad_line told seen before after meant means faulted faults words tells input drawn n ScriptRefused w l r =
     (w, record { number = n; leaves = l; comes = r })

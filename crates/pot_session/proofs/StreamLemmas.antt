@@ -3,7 +3,7 @@ use Rattle.std.proofs.Common.{◌≡◌, ◌<◌, ◌≤◌, ◌+◌, ◌++◌, 
 use Rattle.std.proofs.lemmas.List.{take-append-drop, take_all}
 use Rattle.std.proofs.Math.Seq.{take-append-add}
 use Rattle.pot_outside.specs.declared.faults.Failed.{Failed}
-use Rattle.pot_session.specs.Streams.{IsWritten}
+use Rattle.pot_session.specs.Streams.{IsReadOut, IsWritten}
 
 -- a first part of the text was written, and this is the rest
 pub record IsPartWritten (before now text rest : List ℕ) : Type 0 where
@@ -40,3 +40,7 @@ pub is_cut_off : (before after text : List ℕ) (r : Result (Unit {0}) Failed) �
     → (k : ℕ) × (k ≤ length text) × (after ≡ before ++ take k text) → IsWritten before after text r
 is_cut_off before after text (Ok u) h p = absurd (cc)
 is_cut_off before after text (Err e) h p = p
+
+-- a source that is not longer than the limit was read whole
+pub whole_source : (before after bytes : List ℕ) (limit : ℕ) → IsReadOut before after bytes limit → length bytes ≤ limit → before ≡ bytes
+whole_source before after bytes limit read short = read.first ∙ ap (λ rest. bytes ++ rest) (read.all short) ∙ append-nil bytes

@@ -7,7 +7,7 @@ use Rattle.pot_script.specs.declared.command.Command.{Command}
 use Rattle.pot_script.specs.declared.command.Command.TheVariants.{Store, Fetch, Quit}
 use Rattle.pot_script.specs.declared.reply.Reply.{Reply}
 use Rattle.pot_script.specs.declared.reply.Reply.TheVariants.{Stored, File, Long, Exists, Absent}
-use Rattle.pot_script.specs.Scripts.{IsScript, LeavesAt}
+use Rattle.pot_session.specs.Plain.{IsPlainScript, LeavesPlain}
 use Rattle.pot_script.specs.Replies.{bad_line_text, words_refused_text}
 use Rattle.pot_session.specs.Runs.{State, StoredFile, stored_as, after, beginning}
 use Rattle.pot_session.specs.Replied.{texts_of, any_refusal}
@@ -24,7 +24,7 @@ reply_to s (Store name file) =
     if nat_lt piece_size (length file) then Long name (length file)
     else (if is_some (stored_as name s.stored) then Exists name else Stored name 1 2)
 reply_to s (Fetch name) = file_of name (stored_as name s.stored)
-reply_to s Quit = Absent []
+reply_to s _ = Absent []
 
 -- the replies to commands from a place on
 abbrev pub replies_from : ℕ → State → List Command → List Reply
@@ -49,6 +49,6 @@ pub record IsQuiet (source source' sink sink' room room' losses losses' : ℕ) :
 -- the status and what was written are those that the words and the bytes of the source give, or memory ran out
 pub record IsExact (words : List (String Global)) (input before after : List ℕ) (status : ℕ) : Type 0 where
   pub refused : (IsRun words → ⊥) → (status ≡ 2) × (after ≡ before ++ words_refused_text)
-  pub line : IsRun words → (n : ℕ) → LeavesAt input n → (status ≡ 70) ⊎ ((status ≡ 3) × (after ≡ before ++ bad_line_text n))
-  pub script : IsRun words → (steps : List Command) → IsScript input (steps ++ Quit ∷ [])
+  pub line : IsRun words → (n : ℕ) → LeavesPlain input n → (status ≡ 70) ⊎ ((status ≡ 3) × (after ≡ before ++ bad_line_text n))
+  pub script : IsRun words → (steps : List Command) → IsPlainScript input (steps ++ Quit ∷ [])
       → (status ≡ 70) ⊎ ((status ≡ status_of (replies_of steps)) × (after ≡ before ++ texts_of (replies_of steps)))

@@ -2,6 +2,7 @@ pub mod Answers
 pub mod Endings
 pub mod Ideal
 pub mod Pairs
+pub mod Plain
 pub mod Refusals
 pub mod Replied
 pub mod Runs

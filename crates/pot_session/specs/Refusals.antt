@@ -1,7 +1,7 @@
 -- What comes before the commands.
 use Rattle.std.specs.Prelude.{◌≡◌, ◌++◌, ℕ, List, take}
 use Rattle.pot_script.specs.declared.command.Command.{Command}
-use Rattle.pot_script.specs.Scripts.{IsScript}
+use Rattle.pot_session.specs.Plain.{IsPlainScript}
 use Rattle.pot_script.specs.Replies.{bad_line_text}
 use Rattle.pot_session.specs.declared.status.Status.{Status}
 use Rattle.pot_session.specs.declared.status.Status.TheVariants.{ScriptRefused, SinkFault, NoMemory}
@@ -12,7 +12,7 @@ use Rattle.pot_session.specs.declared.top.Unread.TheVariants.{BadLine}
 pub record IsRead (tells : Type 0) (input : List ℕ) (commands : List Command) : Type 0 where
   pub bytes : List ℕ
   pub read : tells → input ≡ bytes
-  pub script : IsScript bytes commands
+  pub script : IsPlainScript bytes commands
 
 -- the fact holds of the number of the line, if that is why there are no commands
 abbrev pub IfBadLine : (ℕ → Type 0) → Unread → Type 0

@@ -6,7 +6,7 @@ use Rattle.pot_outside.specs.Counts.{Rose}
 use Rattle.pot_script.specs.declared.command.Command.{Command}
 use Rattle.pot_script.specs.declared.command.Command.TheVariants.{Quit}
 use Rattle.pot_script.specs.declared.reply.Reply.{Reply}
-use Rattle.pot_script.specs.Scripts.{IsScript, LeavesAt}
+use Rattle.pot_session.specs.Plain.{IsPlainScript, LeavesPlain}
 use Rattle.pot_script.specs.Replies.{bad_line_text, words_refused_text}
 use Rattle.pot_session.specs.declared.status.Status.{Status}
 use Rattle.pot_session.specs.declared.status.Status.TheVariants.{Good, Refusals, WordsRefused, ScriptRefused, SourceFault, SinkFault, RoomFault, NoMemory}
@@ -89,13 +89,13 @@ pub record OfScript (tells : Type 0) (input : List ℕ) (P : List Command → Ty
   pub bytes : List ℕ
   pub steps : List Command
   pub read : tells → input ≡ bytes
-  pub script : IsScript bytes (steps ++ Quit ∷ [])
+  pub script : IsPlainScript bytes (steps ++ Quit ∷ [])
   pub comes : P steps
 
 -- the bytes of the source, where it tells them, leave the grammar at a line, and this holds of its number
 pub record OfBadLine (tells : Type 0) (input : List ℕ) (P : ℕ → Type 0) : Type 0 where
   pub number : ℕ
-  pub leaves : tells → LeavesAt input number
+  pub leaves : tells → LeavesPlain input number
   pub comes : P number
 
 -- what a session comes to, by its status

@@ -1,11 +1,10 @@
 //! The top call, step by step.
 
-ghost use Rattle.std.specs.Prelude.{◌≡◌, ◌≢◌, ◌<◌, ◌-◌, ◌^◌, ◌↔◌, ◌++◌, ◌⊎◌, take, [], ◌∷◌, ℕ, List, length, IsTrue, IfOk, IfErr, IsErrOf, false, codes};
+ghost use Rattle.std.specs.Prelude.{◌≡◌, ◌≢◌, ◌<◌, ◌+◌, ◌-◌, ◌^◌, ◌↔◌, ◌++◌, ◌⊎◌, take, [], ◌∷◌, ℕ, List, length, IsTrue, IfOk, IfErr, IsErrOf, false, codes};
 ghost use Rattle.std.specs.List.{AllByRecursion};
 ghost use Rattle.pot_outside.specs.Counts.{Caused};
 ghost use Rattle.pot_script.specs.declared.command.Command.{Command};
-ghost use Rattle.pot_script.specs.declared.command.Command.TheVariants.{Quit};
-ghost use Rattle.pot_script.specs.Scripts.{IsScript, LeavesAt};
+ghost use Rattle.pot_session.specs.Plain.{IsStep, LeavesPlain, is_plain, other_line};
 ghost use Rattle.pot_script.specs.Replies.{bad_line_text, words_refused_text};
 ghost use Rattle.pot_session.specs.Words.{IsRun};
 ghost use Rattle.pot_session.specs.Sessions.{Comes, Runs, IsBeforeTaking, seen_by, code_of};
@@ -17,12 +16,27 @@ use crate::intake::{IntakeFault, read_out};
 use crate::output::write_out;
 use crate::status::Status;
 use crate::working::{Ending, work};
+use pot_bytes::{Geometry, Rack};
 use pot_outside::{Desk, Failed, Gate, Room, RoomFault, Sink, Source};
 use pot_script::{Command, ScriptFault, print_bad_line, read_script};
 use std::alloc::Global;
 
 /// The most bytes of a script.
 const LONGEST_SCRIPT: usize = 67_108_864;
+
+/// One archive in one group; no line that is worked asks for more.
+const PLAIN_RACK: Rack = Rack {
+    groups: 1,
+    columns: 1,
+    parity: 1,
+    stripes: 1,
+    geometry: Geometry {
+        fragments: 2,
+        need: 1,
+        shards: 1,
+        blur: 0,
+    },
+};
 
 /// Why there are no commands.
 #[derive(Clone, Copy, PartialEq, Eq, Debug)]
@@ -45,7 +59,7 @@ pub fn is_run(words: &[String]) -> bool
 /// Reads the source to its end, and its commands.
 pub fn read_commands<S: Source>(alloc: Global, source: &mut S) -> Result<Vec<Command>, Unread>
     ensures script { IfOk result (λ commands. IsRead (IsTrue S.tells) (S.left source.old) commands.items) }
-    ensures bad { IfErr result (IfBadLine (λ n. IsTrue S.tells → LeavesAt (S.left source.old) n)) }
+    ensures bad { IfErr result (IfBadLine (λ n. IsTrue S.tells → LeavesPlain (S.left source.old) n)) }
     ensures cause { Caused (S.faults source.old) (S.faults source.new) (IsErrOf result Unread.Failed) }
 {
     let bytes = match read_out(alloc, source, LONGEST_SCRIPT) {
@@ -53,11 +67,36 @@ pub fn read_commands<S: Source>(alloc: Global, source: &mut S) -> Result<Vec<Com
         Err(IntakeFault::Failed) => return Err(Unread::Failed),
         Err(IntakeFault::NoMemory) => return Err(Unread::NoMemory),
     };
-    match read_script(alloc, &bytes) {
-        Ok(commands) => Ok(commands),
+    match read_script(alloc, &bytes, &PLAIN_RACK) {
+        Ok(commands) => match first_other(&commands) {
+            None => Ok(commands),
+            Some(number) => Err(Unread::BadLine { number }),
+        },
         Err(ScriptFault::BadLine { number }) => Err(Unread::BadLine { number }),
         Err(ScriptFault::NoMemory) => Err(Unread::NoMemory),
     }
+}
+
+/// The number of the first line that is no `store`, `fetch` or `quit` line: those are not worked yet.
+fn first_other(commands: &[Command]) -> Option<u32>
+    requires { length commands.now < 2 ^ 31 }
+    ensures { result ≡ other_line 1 commands.now }
+{
+    for (index, command) in commands.iter().enumerate() {
+        if !is_plain(command) {
+            return Some(index as u32 + 1);
+        }
+    }
+    None
+}
+
+fn is_plain(command: &Command) -> bool
+    ensures { result ≡ is_plain command.now }
+{
+    matches!(
+        command,
+        Command::Store { .. } | Command::Fetch { .. } | Command::Quit
+    )
 }
 
 /// Writes why a session was refused.
@@ -82,7 +121,7 @@ fn run_commands<K: Sink, R: Room>(
 ) -> Status
     requires home { R.out room.old 0 ≡ false }
     requires few { length steps.now < 2 ^ 31 }
-    requires goes_on { AllByRecursion (λ c. c ≢ Quit) steps.now }
+    requires goes_on { AllByRecursion IsStep steps.now }
     ensures comes { Comes (seen_by (IsTrue R.A.account.tells) (IsTrue K.tells) (K.written sink.old) (K.written sink.new) (R.means room.old 0) (R.means room.new 0) (R.faults room.old) (R.faults room.new)) drawn.now steps.now result }
     ensures others { (n : ℕ) → n ≢ 0 → (R.means room.new n ≡ R.means room.old n) × (R.out room.new n ≡ R.out room.old n) }
     ensures home { R.out room.new 0 ≡ false }

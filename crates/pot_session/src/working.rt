@@ -1,10 +1,10 @@
 //! Works the commands of a script, one after another.
 
-ghost use Rattle.std.specs.Prelude.{◌≡◌, ◌≢◌, ◌<◌, ◌≤◌, ◌+◌, ◌*◌, ◌++◌, ◌^◌, ℕ, List, [], ◌∷◌, length, IsTrue, IsErr, IfOk, IsOkAnd, IsErrOf};
+ghost use Rattle.std.specs.Prelude.{◌≡◌, ◌<◌, ◌≤◌, ◌+◌, ◌*◌, ◌++◌, ◌^◌, ℕ, List, [], ◌∷◌, length, IsTrue, IsErr, IfOk, IsOkAnd, IsErrOf};
 ghost use Rattle.std.specs.List.{AllByRecursion};
 ghost use Rattle.pot_outside.specs.Counts.{Caused};
-ghost use Rattle.pot_script.specs.declared.command.Command.TheVariants.{Quit};
 ghost use Rattle.pot_script.specs.Replies.{reply_text};
+ghost use Rattle.pot_session.specs.Plain.{IsStep};
 ghost use Rattle.pot_session.specs.Runs.{State};
 ghost use Rattle.pot_session.specs.Standing.{IsKept, IsSmall, Stands};
 ghost use Rattle.pot_session.specs.Answers.{Answers, IsFault};
@@ -37,7 +37,7 @@ fn answer<A: Archive>(
     catalog: &mut Catalog,
     archive: &mut A,
 ) -> Result<Reply, NoMemory>
-    requires goes_on { command.now ≢ Quit }
+    requires goes_on { IsStep command.now }
     requires few { 2 * catalog.old.attempts + 1 < 2 ^ 32 }
     requires small { AllByRecursion IsSmall catalog.old.files.items }
     ensures answer { (s : State) → (first : ℕ) → IsKept catalog.old.files.items catalog.old.attempts s → Stands (IsTrue A.account.tells) drawn.now (A.account.meaning archive.old).held first (A.account.meaning archive.old).losses s → IfOk result (λ reply. Answers (IsTrue A.account.tells) drawn.now place s command.now reply catalog.new.files.items catalog.new.attempts (A.account.meaning archive.new).held first (A.account.meaning archive.new).losses) }
@@ -47,7 +47,7 @@ fn answer<A: Archive>(
     match command {
         Command::Store { name, file } => store(drawn, place, name, file, catalog, archive),
         Command::Fetch { name } => fetch(alloc, name, catalog, archive),
-        Command::Quit => unreachable!(),
+        _ => unreachable!(),
     }
 }
 
@@ -83,7 +83,7 @@ pub fn work<A: Archive, K: Sink>(
     sink: &mut K,
 ) -> Ending
     requires few { length steps.now < 2 ^ 31 }
-    requires goes_on { AllByRecursion (λ c. c ≢ Quit) steps.now }
+    requires goes_on { AllByRecursion IsStep steps.now }
     ensures ends { Ends (IsTrue A.account.tells) drawn.now steps.now (IsTrue K.tells) (K.written sink.old) (K.written sink.new) (A.account.meaning archive.new).held (A.account.meaning archive.old).losses (A.account.meaning archive.new).losses (A.account.meaning archive.old).faults (A.account.meaning archive.new).faults result }
     ensures cause { Caused (K.faults sink.old) (K.faults sink.new) (result ≡ Ending.SinkFailed) }
     ensures later { (A.account.meaning archive.old).faults ≤ (A.account.meaning archive.new).faults }

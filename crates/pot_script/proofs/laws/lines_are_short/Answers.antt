@@ -3,4 +3,4 @@ use Rattle.pot_script.proofs.CommandLemmas.{length-command_line}
 use Rattle.pot_script.proofs.laws.lines_are_short.Goals as goal
 
 pub returns : goal.returns
-returns c = λ command is. omega (arith, length-command_line command is)
+returns c = λ rack command is. omega (arith, length-command_line rack command is)

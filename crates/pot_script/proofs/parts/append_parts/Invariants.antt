@@ -1,7 +1,7 @@
 use Rattle.std.proofs.Common.{◌≡◌, ◌≤◌, ◌++◌, take}
 use Rattle.std.specs.Prelude.{flat_map, vec_capacity}
 use Rattle.pot_script.specs.Parts.{part_text}
-use Rattle.pot_script.proofs.printing.append_parts.Given as goal
+use Rattle.pot_script.proofs.parts.append_parts.Given as goal
 
 abbrev pub invariant-loop-part : goal.invariant-loop-part
 invariant-loop-part l = record {
