@@ -1,24 +1,22 @@
 -- The status and the text of a quiet session are determined by the words and the bytes of the source.
-use Rattle.std.proofs.Common.{◌≡◌, ◌+◌, ◌-◌, ◌++◌, ◌⊎◌, inl, inr, ℕ, Bool, true, false, List, [], ◌∷◌, length, take, refl, ap, sym, subst, ◌∙◌, arith, String, append-nil}
+use Rattle.std.proofs.Common.{◌≡◌, ◌-◌, ◌++◌, inl, inr, ℕ, Bool, true, false, List, [], ◌∷◌, length, take, refl, ap, sym, subst, ◌∙◌, arith, String}
 use Rattle.std.specs.Prelude.{if◌then◌else◌}
 use Rattle.std.specs.Global.{Global}
 use Rattle.std.proofs.lemmas.List.{take_all}
-use Rattle.pot_outside.specs.Archives.{Meaning}
 use Rattle.pot_outside.specs.Counts.{Rose}
 use Rattle.pot_script.specs.declared.command.Command.{Command}
 use Rattle.pot_script.specs.declared.command.Command.TheVariants.{Quit}
-use Rattle.pot_script.specs.declared.reply.Reply.{Reply}
-use Rattle.pot_session.specs.Plain.{IsPlainScript, LeavesPlain}
-use Rattle.pot_script.specs.Replies.{bad_line_text, words_refused_text}
+use Rattle.pot_session.specs.Plain.{IsPlainScript}
+use Rattle.pot_script.specs.Replies.{bad_line_text}
 use Rattle.pot_session.proofs.PlainLemmas.{one_plain, one_refusal, no_refusal}
 use Rattle.pot_session.specs.declared.status.Status.{Status}
 use Rattle.pot_session.specs.declared.status.Status.TheVariants.{Good, Refusals, WordsRefused, ScriptRefused, SourceFault, SinkFault, RoomFault, NoMemory}
 use Rattle.pot_session.specs.Runs.{beginning, Answered}
 use Rattle.pot_session.specs.Answers.{IsFault, IsLost}
-use Rattle.pot_session.specs.Replied.{texts_of, any_refusal}
+use Rattle.pot_session.specs.Replied.{texts_of}
 use Rattle.pot_session.specs.Words.{IsRun}
 use Rattle.pot_session.specs.Ideal.{replies_of, status_of, IsQuiet, IsExact}
-use Rattle.pot_session.specs.Sessions.{Seen, code_of, Runs, OfScript, OfBadLine, Ends, Writes}
+use Rattle.pot_session.specs.Sessions.{Seen, code_of, Runs, OfScript, Ends}
 use Rattle.pot_session.proofs.WorkingLemmas.{only_for_later}
 use Rattle.pot_session.proofs.IdealLemmas.{replies_are}
 use Rattle.pot_session.proofs.ScriptLemmas.{all_but_last}

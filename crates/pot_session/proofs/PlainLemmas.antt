@@ -1,10 +1,10 @@
 -- Scripts of `store`, `fetch` and `quit` lines: one reading, and the lines that are not worked.
-use Rattle.std.proofs.Common.{◌≡◌, ◌≢◌, ◌+◌, ◌<◌, ℕ, true, false, List, [], ◌∷◌, ◌++◌, length, drop, get_or, refl, sym, ap, ◌∙◌, arith, add-one, drop-cons}
-use Rattle.std.specs.Prelude.{Option, Some, None, if◌then◌else◌}
+use Rattle.std.proofs.Common.{◌≡◌, ◌≢◌, ◌+◌, ℕ, true, List, ◌∷◌, refl, sym, ap, ◌∙◌}
+use Rattle.std.specs.Prelude.{Some, None}
 use Rattle.pot_script.specs.declared.command.Command.{Command}
 use Rattle.pot_script.specs.declared.command.Command.TheVariants.{Store, Fetch, Quit}
 use Rattle.pot_script.proofs.ScriptLemmas.{one_script, one_fault, no_fault}
-use Rattle.pot_session.specs.Plain.{plain_rack, is_plain, other_line, IsPlainScript, LeavesPlain, Leaves, Other, IsStep}
+use Rattle.pot_session.specs.Plain.{is_plain, other_line, IsPlainScript, LeavesPlain, Leaves, Other, IsStep}
 
 pub one_plain : {bytes : List ℕ} {xs ys : List Command} → IsPlainScript bytes xs → IsPlainScript bytes ys → xs ≡ ys
 one_plain a b = one_script a.script b.script

@@ -1,18 +1,17 @@
 -- The commands of a script before `quit`.
-use Rattle.std.proofs.Common.{◌≡◌, ◌≢◌, ◌<◌, ◌≤◌, ◌+◌, ◌-◌, ◌^◌, ◌++◌, ℕ, List, [], ◌∷◌, length, take, refl, ap, sym, subst, ◌∙◌, arith, length-append}
-use Rattle.std.specs.Prelude.{flat_map, codes}
+use Rattle.std.proofs.Common.{◌≡◌, ◌<◌, ◌≤◌, ◌+◌, ◌-◌, ◌^◌, ◌++◌, ℕ, List, [], ◌∷◌, length, take, ap, sym, subst, ◌∙◌, arith, length-append}
+use Rattle.std.specs.Prelude.{codes}
 use Rattle.std.specs.List.{AllByRecursion}
 use Rattle.std.proofs.Math.Seq.{take-append_seam}
 use Rattle.pot_script.specs.declared.command.Command.{Command}
 use Rattle.pot_script.specs.declared.command.Command.TheVariants.{Quit}
 use Rattle.pot_bytes.specs.declared.rack.Rack.{Rack}
-use Rattle.std.specs.Prelude.{Option, None, true}
+use Rattle.std.specs.Prelude.{Option, None}
 use Rattle.pot_script.specs.Commands.{command_text, command_line, stated_bytes}
 use Rattle.pot_script.specs.Scripts.{IsScript, AreSteps, script_text}
 use Rattle.pot_script.specs.Batches.{after_command}
-use Rattle.pot_session.specs.Plain.{IsPlainScript, IsStep, is_plain, other_line, plain_rack}
+use Rattle.pot_session.specs.Plain.{IsPlainScript, IsStep, other_line, plain_rack}
 use Rattle.pot_session.proofs.PlainLemmas.{plain_first}
-use Rattle.pot_session.proofs.ListLemmas.{all_map}
 
 text_some : (c : Command) → 1 ≤ length (command_text c)
 text_some c =

@@ -1,16 +1,15 @@
 -- What a session comes to, from its parts.
-use Rattle.std.proofs.Common.{◌≡◌, ◌++◌, ◌⊎◌, inl, inr, ℕ, List, [], ◌∷◌, length, take, refl, ap, sym, subst, ◌∙◌, append-nil, String}
+use Rattle.std.proofs.Common.{◌≡◌, ◌++◌, ◌⊎◌, inl, inr, ℕ, List, take, sym, subst, ◌∙◌, append-nil, String}
 use Rattle.std.specs.Global.{Global}
 use Rattle.pot_outside.specs.Archives.{Meaning}
 use Rattle.pot_script.specs.declared.command.Command.{Command}
-use Rattle.pot_script.specs.declared.command.Command.TheVariants.{Quit}
-use Rattle.pot_session.specs.Plain.{IsPlainScript, LeavesPlain}
+use Rattle.pot_session.specs.Plain.{LeavesPlain}
 use Rattle.pot_script.specs.Replies.{words_refused_text}
 use Rattle.pot_session.specs.declared.status.Status.{Status}
 use Rattle.pot_session.specs.declared.status.Status.TheVariants.{Good, Refusals, WordsRefused, ScriptRefused, SourceFault, SinkFault, RoomFault, NoMemory}
 use Rattle.pot_session.specs.Words.{IsRun}
 use Rattle.pot_session.specs.Refusals.{RefusesLine}
-use Rattle.pot_session.specs.Sessions.{Seen, seen_by, Comes, Runs, Writes, CutsOff, IsBeforeTaking}
+use Rattle.pot_session.specs.Sessions.{Seen, seen_by, Comes, Runs, IsBeforeTaking}
 use Rattle.pot_session.proofs.ScriptLemmas.{AreBeforeQuit}
 
 -- the commands were worked

@@ -1,5 +1,5 @@
 -- The replies of a script where nothing fails and nothing is lost: a fold over its commands with the files stored so far.
-use Rattle.std.specs.Prelude.{◌≡◌, ◌++◌, ◌+◌, ◌⊎◌, ℕ, Bool, List, [], ◌∷◌, Option, Some, None, String, length, nat_lt, is_some, if◌then◌else◌}
+use Rattle.std.specs.Prelude.{◌≡◌, ◌++◌, ◌+◌, ◌⊎◌, ℕ, List, [], ◌∷◌, Option, Some, None, String, length, nat_lt, is_some, if◌then◌else◌}
 use Rattle.std.specs.Global.{Global}
 use Rattle.pot_object.specs.Pieces.{piece_size}
 use Rattle.pot_outside.specs.Counts.{Rose}

@@ -2,7 +2,6 @@
 use Rattle.std.specs.Prelude.{◌≡◌, ◌++◌, ◌⊎◌, ℕ, Bool, true, false, List, [], ◌∷◌, String, length, take}
 use Rattle.std.specs.Global.{Global}
 use Rattle.pot_outside.specs.Archives.{Meaning}
-use Rattle.pot_outside.specs.Counts.{Rose}
 use Rattle.pot_script.specs.declared.command.Command.{Command}
 use Rattle.pot_script.specs.declared.command.Command.TheVariants.{Quit}
 use Rattle.pot_script.specs.declared.reply.Reply.{Reply}

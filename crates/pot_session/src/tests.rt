@@ -101,7 +101,7 @@ fn answers_each_command(rt: HostRuntime) -> Result<(), Fail> {
     let longest = [b"store b 864\n", &file[..864], b"\nfetch b\nquit\n"].concat(rt.alloc())?;
     let longest_back = [b"stored b 1 2\nfile b 864\n", &file[..864], b"\n"].concat(rt.alloc())?;
     let longer = [b"store b 865\n", &file[..], b"\nquit\n"].concat(rt.alloc())?;
-    let table: [(&[u8], u8, &[u8]); 11] = [
+    let table: [(&[u8], u8, &[u8]); 12] = [
         (ONE_FILE, 0, b"stored a 1 2\nfile a 5\nhello\n"),
         (b"quit\n", 0, b""),
         (
@@ -118,6 +118,7 @@ fn answers_each_command(rt: HostRuntime) -> Result<(), Fail> {
         ),
         (b"fetch a\nquit\n", 1, b"absent a\n"),
         (b"list\nquit\n", 3, b"bad line 1\n"),
+        (b"fetch a\nscrub 0\nstatus\nquit\n", 3, b"bad line 2\n"),
         (b"", 3, b"bad line 1\n"),
         (b"store a 1\nx\n", 3, b"bad line 2\n"),
         (b"quit\n\n", 3, b"bad line 2\n"),

@@ -1,4 +1,4 @@
-use Rattle.std.proofs.Common.{◌≡◌, length, arith, sym, ap, subst, ◌∙◌}
+use Rattle.std.proofs.Common.{length, arith, sym, ap, subst, ◌∙◌}
 use Rattle.pot_session.specs.Plain.{LeavesPlain, Other, other_line}
 use Rattle.pot_session.proofs.ScriptLemmas.{few_commands}
 use Rattle.pot_session.proofs.StreamLemmas.{whole_source}
