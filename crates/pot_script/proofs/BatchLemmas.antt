@@ -106,7 +106,7 @@ in_steps : (rack : Rack) (front others : List Command) (count : ℕ) → AreStep
 in_steps rack front others count are closed =
     let b = behind rack None front (commands.Together count) others are in
     let inside : after_command (after_commands None front) (commands.Together count) ≡ Some count =
-        ap (λ batch. after_command batch (commands.Together count)) (outside (after_commands None front) b.step.stands) in
+    ap (λ batch. after_command batch (commands.Together count)) (outside (after_commands None front) b.step.stands) in
     batch_of rack count others (subst (λ batch. AreSteps rack batch others) inside b.others)
     (subst (λ batch. after_commands batch others ≡ None) inside (sym (after_commands-append None front (commands.Together count ∷ others)) ∙ closed))
 
