@@ -1,17 +1,16 @@
 -- A task that words spell is within the limits.
-use Rattle.std.proofs.Common.{◌≡◌, ◌≤◌, ◌<◌, ◌⊎◌, inl, inr, ℕ, List, [], ◌∷◌, sym, subst, length, Option, Some, None, Result, Ok, Err, IfOk, arith}
+use Rattle.std.proofs.Common.{◌≤◌, ◌<◌, inl, inr, ℕ, List, [], ◌∷◌, sym, subst, length, Option, Some, None, Result, Ok, Err, IfOk, arith}
 use Rattle.std.specs.Prelude.{IfSome}
 use Rattle.pot_bytes.specs.declared.memory.NoMemory.{NoMemory}
 use Rattle.pot_options.specs.Options.{Text, given}
 use Rattle.pot_words.specs.Answers.{IsOnly}
 use Rattle.pot_words.specs.Limits.{IsWithinLimits}
-use Rattle.pot_words.specs.Lists.{ArePoints, HasPoints, HasSpots, Lists}
+use Rattle.pot_words.specs.Lists.{ArePoints, HasPoints, Lists}
 use Rattle.pot_words.specs.Tasks.{SpellCommand, SpellTask}
 use Rattle.pot_words.specs.Values.{HasNumberOr}
 use Rattle.pot_words.specs.declared.command.Command.{Command}
 use Rattle.pot_words.specs.declared.command.Command.TheVariants as command
 use Rattle.pot_words.specs.declared.task.Task.{Task}
-use Rattle.pot_words.specs.declared.spot.Spot.{Spot}
 
 number_or_within : (value : Text → Option Text) (name : Text) (least most other n : ℕ) → least ≤ other → other ≤ most → HasNumberOr value name least most other n → (least ≤ n) × (n ≤ most)
 number_or_within value name least most other n low high (inl left_out) = (omega (arith, left_out.1, low), omega (arith, left_out.1, high))

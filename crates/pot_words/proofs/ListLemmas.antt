@@ -1,9 +1,7 @@
 -- Lists that are read part by part.
-use Rattle.std.proofs.Common.{◌≡◌, ◌∙◌, ◌≤◌, ◌<◌, ◌+◌, ◌^◌, ◌==◌, ℕ, Bool, false, true, refl, sym, ap, ap₂, subst, List, [], ◌∷◌, ◌++◌, map, length, get_or, append-nil, append_assoc, Option, Some, None, decimal, arith}
-use Rattle.std.proofs.lemmas.Bool.Decides.{nat_tests}
-use Rattle.std.proofs.lemmas.List.{map-append, get_or_default}
+use Rattle.std.proofs.Common.{◌≡◌, ◌∙◌, ◌≤◌, ◌+◌, ◌==◌, ℕ, false, refl, sym, ap, subst, List, [], ◌∷◌, ◌++◌, map, length, append-nil, append_assoc, Option, Some, None, arith}
+use Rattle.std.proofs.lemmas.List.{map-append}
 use Rattle.std.proofs.lemmas.List.Splits.{join_with_byte-slice_split, length-slice_split, slice_split_at, slice_split_none}
-use Rattle.std.proofs.lemmas.Str.Parse.{digit_at}
 use Rattle.std.specs.Borrow.{Bor}
 use Rattle.std.specs.Prelude.{All}
 use Rattle.std.specs.Iterator.{AlwaysYields}

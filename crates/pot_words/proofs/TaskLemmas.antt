@@ -1,10 +1,9 @@
 -- The values of each command's options begin with no hyphen.
-use Rattle.std.proofs.Common.{◌≤◌, ◌<◌, ◌^◌, arith}
-use Rattle.pot_bytes.specs.declared.rack.Geometry.{Geometry}
+use Rattle.std.proofs.Common.{arith}
 use Rattle.pot_bytes.specs.declared.rack.Rack.{Rack}
 use Rattle.pot_options.specs.Options.{Text}
 use Rattle.std.proofs.Common.{Option}
-use Rattle.pot_words.specs.Tasks.{HasAudit, HasDrill, HasGeometry, HasInit, HasRecover, HasRun, audit_names, drill_names, init_names, recover_names, run_names}
+use Rattle.pot_words.specs.Tasks.{HasAudit, HasDrill, HasInit, HasRecover, HasRun, audit_names, drill_names, init_names, recover_names, run_names}
 use Rattle.pot_words.specs.declared.audit.Audit.{Audit}
 use Rattle.pot_words.specs.declared.drill.Drill.{Drill}
 use Rattle.pot_words.specs.declared.recover.Recover.{Recover}

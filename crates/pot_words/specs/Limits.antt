@@ -1,5 +1,5 @@
 -- The limits within which the values of a task lie.
-use Rattle.std.specs.Prelude.{◌≤◌, ◌<◌, ℕ, length}
+use Rattle.std.specs.Prelude.{◌≤◌, ◌<◌, length}
 use Rattle.pot_bytes.specs.Rack.{IsGeometry, IsRack}
 use Rattle.pot_words.specs.Lists.{AscendFrom, ArePoints, IsSpot, spot_rank}
 use Rattle.pot_words.specs.declared.task.Task.{Task}

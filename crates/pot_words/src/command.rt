@@ -18,24 +18,14 @@ impl Command {
     pub(crate) fn named(word: &str) -> Option<Command>
         ensures { MatchOption result ((c : Command) → word.now ≢ command_name c) (λ c. word.now ≡ command_name c) }
     {
-        if word == "init" {
-            return Some(Command::Init);
+        match word {
+            "init" => Some(Command::Init),
+            "run" => Some(Command::Run),
+            "generate" => Some(Command::Generate),
+            "recover" => Some(Command::Recover),
+            "drill" => Some(Command::Drill),
+            "audit" => Some(Command::Audit),
+            _ => None,
         }
-        if word == "run" {
-            return Some(Command::Run);
-        }
-        if word == "generate" {
-            return Some(Command::Generate);
-        }
-        if word == "recover" {
-            return Some(Command::Recover);
-        }
-        if word == "drill" {
-            return Some(Command::Drill);
-        }
-        if word == "audit" {
-            return Some(Command::Audit);
-        }
-        None
     }
 }

@@ -21,10 +21,7 @@ pub fn read_generate(words: &[String]) -> Option<u32>
 fn number_of_word(word: &str) -> Option<u32>
     ensures { IsOnly (SpellGenerate (word.now ∷ [])) result }
 {
-    let number = match read_number(word.as_bytes(), 1_000_000) {
-        Some(number) => number,
-        None => return None,
-    };
+    let number = read_number(word.as_bytes(), 1_000_000)?;
     if number == 0 {
         return None;
     }

@@ -29,10 +29,7 @@ fn points_in(text: &str, most: u8) -> Option<ArrayVec<u8, 16>>
     let mut points = ArrayVec::new();
     let mut next = 1;
     for piece in text.split(',') {
-        let point = match read_number(piece.as_bytes(), u32::from(most)) {
-            Some(point) => point,
-            None => return None,
-        };
+        let point = read_number(piece.as_bytes(), u32::from(most))?;
         if point < next {
             return None;
         }

@@ -29,10 +29,7 @@ fn spots_in(text: &str) -> Option<ArrayVec<Spot, 288>>
     let mut spots = ArrayVec::new();
     let mut next = 0;
     for piece in text.split(',') {
-        let spot = match read_spot(piece) {
-            Some(spot) => spot,
-            None => return None,
-        };
+        let spot = read_spot(piece)?;
         let rank = rank_of(spot);
         if rank < next {
             return None;
@@ -54,17 +51,11 @@ fn rank_of(spot: Spot) -> u32
 fn read_spot(text: &str) -> Option<Spot>
     ensures { IsOnly (λ (s : Spot). IsSpot s × (text.now ≡ spot_text s)) result }
 {
-    let (group, column) = match text.split_once('.') {
-        Some(parts) => parts,
-        None => return None,
-    };
-    let group = match read_number(group.as_bytes(), 15) {
-        Some(group) => group as u8,
-        None => return None,
-    };
-    let column = match read_number(column.as_bytes(), 17) {
-        Some(column) => column as u8,
-        None => return None,
-    };
-    Some(Spot { group, column })
+    let (before, after) = text.split_once('.')?;
+    let group = read_number(before.as_bytes(), 15)?;
+    let column = read_number(after.as_bytes(), 17)?;
+    Some(Spot {
+        group: group as u8,
+        column: column as u8,
+    })
 }

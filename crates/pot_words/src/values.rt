@@ -11,14 +11,8 @@ use pot_script::read_number;
 pub fn number_of(options: &Options<'_>, name: &str, least: u32, most: u32) -> Option<u32>
     ensures { IsOnly (HasNumber (given options.now) name.now least most) result }
 {
-    let text = match options.value(name) {
-        Some(text) => text,
-        None => return None,
-    };
-    let number = match read_number(text.as_bytes(), most) {
-        Some(number) => number,
-        None => return None,
-    };
+    let text = options.value(name)?;
+    let number = read_number(text.as_bytes(), most)?;
     if number < least {
         return None;
     }
@@ -29,10 +23,8 @@ pub fn number_of(options: &Options<'_>, name: &str, least: u32, most: u32) -> Op
 pub fn small_number_of(options: &Options<'_>, name: &str, least: u8, most: u8) -> Option<u8>
     ensures { IsOnly (HasNumber (given options.now) name.now least most) result }
 {
-    match number_of(options, name, u32::from(least), u32::from(most)) {
-        Some(number) => Some(number as u8),
-        None => None,
-    }
+    let number = number_of(options, name, u32::from(least), u32::from(most))?;
+    Some(number as u8)
 }
 
 /// The same for an option that may be left out, and then stands for `other`.

@@ -1,5 +1,3 @@
-use Rattle.std.proofs.Common.{ap}
-use Rattle.pot_words.specs.declared.audit.Audit.{Audit}
 use Rattle.pot_words.proofs.audit.audit_of.Goals as goal
 
 pub returns-in_err-seen : goal.returns-in_err-seen

@@ -8,5 +8,5 @@ returns-then-number-eq0 c = word_of_zero c.args.word.now (search rules)
 pub returns : goal.returns
 returns c =
     let some = c.if-number-eq0.false in
-    let is : c.args.word.now ≡ decimal c.in-Some.number = search rules in
-    word_is c.args.word.now c.in-Some.number is (omega (arith, some)) c.in-Some.ensures.0
+    let is : c.args.word.now ≡ decimal c.in_ok-number.number = search rules in
+    word_is c.args.word.now c.in_ok-number.number is (omega (arith, some)) c.in_ok-number.ensures.0

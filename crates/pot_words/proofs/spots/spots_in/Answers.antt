@@ -2,7 +2,7 @@ use Rattle.std.proofs.Common.{◌≡◌, List, sym, ap, lit<, subst, arith}
 use Rattle.std.proofs.lemmas.Iterator.Splits.{YieldsList-from_str_split}
 use Rattle.pot_words.specs.Lists.{IsSpot, spot_rank, spot_text}
 use Rattle.pot_words.specs.declared.spot.Spot.{Spot}
-use Rattle.pot_words.proofs.ListLemmas.{IsLeft, IsReading, lists_none, lists_these, parts, reads_on, starts}
+use Rattle.pot_words.proofs.ListLemmas.{IsLeft, lists_none, lists_these, parts, reads_on, starts}
 use Rattle.pot_words.proofs.PointLemmas.{one_spot, plain_spot}
 use Rattle.pot_words.proofs.spots.spots_in.Goals as goal
 
@@ -13,31 +13,31 @@ loop-piece-init c =
     (YieldsList-from_str_split {s = c.split-piece-items.result} 44 c.args.text.now (lit< tt) split.text split.has_more split.pattern).runs in
     rw c.new-spots.ensures (starts spot_text IsSpot spot_rank 0 (parts c.args.text.now) c.into_iter-piece-iterator.result left, omega arith)
 
-pub returns-in-None-read_spot : goal.returns-in-None-read_spot
-returns-in-None-read_spot c = λ t.
+pub returns-in_err-spot : goal.returns-in_err-spot
+returns-in_err-spot c = rw c.from_residual.ensures (λ t.
     lists_none spot_text IsSpot spot_rank plain_spot one_spot 0 c.args.text.now c.loop-piece.spots.items c.loop-piece.next
     c.loop-piece.piece-iterator c.next.new.self c.loop-piece.invariant.0 c.in-Some.piece c.in-Some.ensures.steps
-    (λ s is fits above. c.in-None-read_spot.ensures s (fits, is)) t.items
+    (λ s is fits above. c.in_err-spot.ensures s (fits, is)) t.items)
 
 pub returns-then-rank-next : goal.returns-then-rank-next
 returns-then-rank-next c = λ t.
-    let spot = c.in-Some-read_spot.ensures in
+    let spot = c.in_ok-spot.ensures in
     lists_none spot_text IsSpot spot_rank plain_spot one_spot 0 c.args.text.now c.loop-piece.spots.items c.loop-piece.next
     c.loop-piece.piece-iterator c.next.new.self c.loop-piece.invariant.0 c.in-Some.piece c.in-Some.ensures.steps
-    (λ s is fits above. let same : spot_rank s ≡ spot_rank c.in-Some-read_spot.spot = ap spot_rank (spot.1 s (fits, is)) in
+    (λ s is fits above. let same : spot_rank s ≡ spot_rank c.in_ok-spot.spot = ap spot_rank (spot.1 s (fits, is)) in
     omega (arith, same, above, c.rank_of-rank.ensures, c.if-rank-next.true)) t.items
 
 pub push-requires : goal.push-requires
 push-requires c =
-    let fits = c.in-Some-read_spot.ensures.0.0 in
+    let fits = c.in_ok-spot.ensures.0.0 in
     (omega arith, omega (arith, c.loop-piece.invariant.1, c.rank_of-rank.ensures, c.if-rank-next.false, fits.0, fits.1))
 
 pub loop-piece-preserved : goal.loop-piece-preserved
 loop-piece-preserved c =
-    let spot = c.in-Some-read_spot.ensures in
+    let spot = c.in_ok-spot.ensures in
     let further = reads_on spot_text IsSpot spot_rank one_spot 0 (parts c.args.text.now) c.loop-piece.spots.items c.loop-piece.next
     c.loop-piece.piece-iterator c.next.new.self c.in-Some.piece c.loop-piece.invariant.0 c.in-Some.ensures.steps
-    c.in-Some-read_spot.spot spot.0.1 spot.0.0 (omega (arith, c.rank_of-rank.ensures, c.if-rank-next.false)) in
+    c.in_ok-spot.spot spot.0.1 spot.0.0 (omega (arith, c.rank_of-rank.ensures, c.if-rank-next.false)) in
     (rw (c.push.ensures.items, c.rank_of-rank.ensures) further, omega (arith, c.push.ensures.len, c.loop-piece.invariant.1, c.if-rank-next.false))
 
 pub returns : goal.returns
