@@ -5,7 +5,7 @@ ghost use Rattle.std.specs.String.{string_bytes};
 ghost use Rattle.pot_words.specs.Answers.{IsOnly};
 ghost use Rattle.pot_words.specs.Tasks.{SpellGenerate};
 
-use pot_script::read_number;
+use crate::numbers::read_number;
 
 /// The number that the words after `generate` spell.
 pub fn read_generate(words: &[String]) -> Option<u32>
@@ -21,7 +21,7 @@ pub fn read_generate(words: &[String]) -> Option<u32>
 fn number_of_word(word: &str) -> Option<u32>
     ensures { IsOnly (SpellGenerate (word.now ∷ [])) result }
 {
-    let number = read_number(word.as_bytes(), 1_000_000)?;
+    let number = read_number(word, 1_000_000)?;
     if number == 0 {
         return None;
     }

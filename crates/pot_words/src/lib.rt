@@ -17,6 +17,7 @@ mod command;
 mod drill;
 mod generate;
 mod init;
+mod numbers;
 mod points;
 mod reading;
 mod recover;

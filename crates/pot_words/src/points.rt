@@ -6,9 +6,9 @@ ghost use Rattle.pot_options.specs.Options.{given};
 ghost use Rattle.pot_words.specs.Answers.{IsOnly};
 ghost use Rattle.pot_words.specs.Lists.{ArePoints, HasPoints, Lists};
 
+use crate::numbers::read_number;
 use arrayvec::ArrayVec;
 use pot_options::Options;
-use pot_script::read_number;
 
 /// The points that the option has, ascending from 1 to `most`; none where it is left out.
 pub fn points_of(options: &Options<'_>, name: &str, most: u8) -> Option<ArrayVec<u8, 16>>
@@ -29,7 +29,7 @@ fn points_in(text: &str, most: u8) -> Option<ArrayVec<u8, 16>>
     let mut points = ArrayVec::new();
     let mut next = 1;
     for piece in text.split(',') {
-        let point = read_number(piece.as_bytes(), u32::from(most))?;
+        let point = read_number(piece, u32::from(most))?;
         if point < next {
             return None;
         }

@@ -7,10 +7,10 @@ ghost use Rattle.pot_words.specs.Answers.{IsOnly};
 ghost use Rattle.pot_words.specs.Lists.{AscendFrom, HasSpots, IsSpot, Lists, spot_rank, spot_text};
 ghost use Rattle.pot_words.specs.declared.spot.Spot.{Spot};
 
+use crate::numbers::read_number;
 use crate::spot::Spot;
 use arrayvec::ArrayVec;
 use pot_options::Options;
-use pot_script::read_number;
 
 /// The spots that the option has, ascending.
 pub fn spots_of(options: &Options<'_>, name: &str) -> Option<ArrayVec<Spot, 288>>
@@ -52,8 +52,8 @@ fn read_spot(text: &str) -> Option<Spot>
     ensures { IsOnly (λ (s : Spot). IsSpot s × (text.now ≡ spot_text s)) result }
 {
     let (before, after) = text.split_once('.')?;
-    let group = read_number(before.as_bytes(), 15)?;
-    let column = read_number(after.as_bytes(), 17)?;
+    let group = read_number(before, 15)?;
+    let column = read_number(after, 17)?;
     Some(Spot {
         group: group as u8,
         column: column as u8,

@@ -4,15 +4,15 @@ ghost use Rattle.pot_options.specs.Options.{given};
 ghost use Rattle.pot_words.specs.Answers.{IsOnly};
 ghost use Rattle.pot_words.specs.Values.{HasNumber, HasNumberOr, HasSeed};
 
+use crate::numbers::read_number;
 use pot_options::Options;
-use pot_script::read_number;
 
 /// The number that the option has, from `least` to `most`.
 pub fn number_of(options: &Options<'_>, name: &str, least: u32, most: u32) -> Option<u32>
     ensures { IsOnly (HasNumber (given options.now) name.now least most) result }
 {
     let text = options.value(name)?;
-    let number = read_number(text.as_bytes(), most)?;
+    let number = read_number(text, most)?;
     if number < least {
         return None;
     }

@@ -17,7 +17,7 @@ returns-in_err-point c =
     let small : c.args.most < 2 ^ 64 = omega arith in
     rw c.from_residual.ensures (λ t. lists_none decimal (λ p. p ≤ c.args.most) (λ p. p) (plain_point c.args.most small) (one_point c.args.most small) 1 c.args.text.now c.loop-piece.points.items c.loop-piece.next
     c.loop-piece.piece-iterator c.next.new.self c.loop-piece.invariant.0 c.in-Some.piece c.in-Some.ensures.steps
-    (λ x is fits above. c.in_err-point.ensures x (omega (arith, c.from.ensures, fits)) (c.as_bytes.ensures.value ∙ is)) t.items)
+    (λ x is fits above. c.in_err-point.ensures x (omega (arith, c.from.ensures, fits)) is) t.items)
 
 pub returns-then-point-next : goal.returns-then-point-next
 returns-then-point-next c = λ t.
@@ -28,7 +28,7 @@ returns-then-point-next c = λ t.
     lists_none decimal (λ p. p ≤ c.args.most) (λ p. p) (plain_point c.args.most small) (one_point c.args.most small) 1 c.args.text.now c.loop-piece.points.items c.loop-piece.next
     c.loop-piece.piece-iterator c.next.new.self c.loop-piece.invariant.0 c.in-Some.piece c.in-Some.ensures.steps
     (λ x is fits above.
-    let same = one_point c.args.most small x c.in_ok-point.point fits (omega (arith, c.from.ensures, point.0)) (sym is ∙ sym c.as_bytes.ensures.value ∙ point.1) in
+    let same = one_point c.args.most small x c.in_ok-point.point fits (omega (arith, c.from.ensures, point.0)) (sym is ∙ point.1) in
     omega (arith, same, above, low)) t.items
 
 pub loop-piece-preserved : goal.loop-piece-preserved
@@ -38,7 +38,7 @@ loop-piece-preserved c =
     let point = c.in_ok-point.ensures in
     let further = reads_on decimal (λ p. p ≤ c.args.most) (λ p. p) (one_point c.args.most small) 1 (parts c.args.text.now) c.loop-piece.points.items c.loop-piece.next
     c.loop-piece.piece-iterator c.next.new.self c.in-Some.piece c.loop-piece.invariant.0 c.in-Some.ensures.steps
-    c.in_ok-point.point (sym c.as_bytes.ensures.value ∙ point.1) (omega (arith, c.from.ensures, point.0)) (omega (arith, c.if-point-next.false)) in (
+    c.in_ok-point.point point.1 (omega (arith, c.from.ensures, point.0)) (omega (arith, c.if-point-next.false)) in (
       subst (λ (xs : List ℕ). IsReading decimal (λ p. p ≤ c.args.most) (λ p. p) 1 (parts c.args.text.now) c.next.new.self xs (c.in_ok-point.point + 1)) (sym c.push.ensures.items) further,
       omega (arith, c.push.ensures.len, c.loop-piece.invariant.1, c.if-point-next.false),
     )

@@ -9,7 +9,6 @@ returns-then-number-least c =
     let has : given c.args.options.now c.args.name.now ≡ Some c.in_ok-text.text.now =
     sym c.value.ensures ∙ ap (option_map (λ (s : Bor Text). s.now)) c.in_ok-text.was in
     let fits = c.ranges.most.fits in
-    let bytes = c.as_bytes.ensures.value in
     below_least (given c.args.options.now) c.args.name.now c.args.least c.args.most (omega arith) c.in_ok-text.text.now c.in_ok-number.number has
     (search rules) c.in_ok-number.ensures.0 (search rules)
 
@@ -18,6 +17,5 @@ returns c =
     let has : given c.args.options.now c.args.name.now ≡ Some c.in_ok-text.text.now =
     sym c.value.ensures ∙ ap (option_map (λ (s : Bor Text). s.now)) c.in_ok-text.was in
     let fits = c.ranges.most.fits in
-    let bytes = c.as_bytes.ensures.value in
     is_number (given c.args.options.now) c.args.name.now c.args.least c.args.most (omega arith) c.in_ok-text.text.now c.in_ok-number.number has
     (search rules) (search rules) c.in_ok-number.ensures.0
