@@ -4,3 +4,4 @@ pub mod TieLemmas
 pub mod PartLemmas
 pub mod EndLemmas
 pub mod PassLemmas
+pub mod WorkLemmas

@@ -10,7 +10,7 @@ use Rattle.pot_rows.specs.Ties.{Tied, TiedAt, RowTied, TiedSofar}
 use Rattle.pot_rows.proofs.RowLemmas.{at_set, at_other, at_past, still_of, below_or_at, below_or_past}
 
 module _ {E O : Type 0} where
-  knows_same : (v : View E O) → KnowsMore v v
+  pub knows_same : (v : View E O) → KnowsMore v v
   knows_same v = record { holds = refl; opened = refl; turns = refl; joined = refl; made = refl; parts = refl; origin = refl; seen = starts_self v.seen }
 
   -- passes that know the same are tied

@@ -12,6 +12,8 @@
 //! | `split`, `join` | makes a second row of passes, and takes one in |
 //! | `tie` | lets two rows tell one another what they have seen |
 //!
+//! What a job did with a row is said at each place, in the words of `pot_worked` (`row_laws`).
+//!
 //! It knows nothing of what the values are. It promises no progress, as `pot_turn`, and no order among the turns.
 #![tactic(auto)]
 
@@ -21,9 +23,11 @@ mod parts;
 #[cfg(test)]
 mod tests;
 mod ties;
+mod works;
 
 use pot_turn::{Kept, Pass, Turn};
 use std::marker::Model;
+pub use works::row_laws;
 
 /// Turns in a row. Contracts see their names.
 #[derive(Drop)]
