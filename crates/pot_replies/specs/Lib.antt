@@ -1,0 +1,13 @@
+pub mod Jobs
+pub mod Sections
+pub mod Settings
+pub mod Stores
+pub mod Listings
+pub mod Fetches
+pub mod Scrubs
+pub mod Renewals
+pub mod Moves
+pub mod Sessions
+pub mod SessionLaws
+pub mod Digests
+pub mod Laws

@@ -1,0 +1,90 @@
+-- The replies to `scrub` and `repair`, each as the job's own entries give it.
+use Rattle.std.specs.Prelude.{◌≡◌, ◌<◌, ◌⊎◌, ℕ, Bool, IsTrue, List, [], ◌∷◌, ◌++◌, length, filter, map, Contains}
+use Rattle.pot_bytes.specs.declared.digest.Digest.{Digest}
+use Rattle.pot_machine.specs.declared.entry.Entry.{Entry}
+use Rattle.pot_machine.specs.declared.entry.Entry.TheVariants.{Seen, Gone, Fault, Stuck, Oddly}
+use Rattle.pot_machine.specs.Slot.{is_live, is_unsound}
+use Rattle.pot_machine.specs.declared.slot.SlotState.{SlotState}
+use Rattle.pot_machine.specs.Table.{width, slot_at}
+use Rattle.pot_steps.specs.GroupStep.{log_bound}
+use Rattle.pot_replies.specs.Jobs.{own, is_seen, is_gone, is_look, is_relay, is_mended, is_left, place_in, EachIs, Ascend}
+use Rattle.pot_replies.specs.Sections.{Section, Mine, mine, Moment, IsOnlyIn, AlwaysAt, replayed}
+use Rattle.pot_replies.specs.Settings.{Setting}
+use Rattle.pot_replies.specs.Fetches.{Mends}
+
+-- the entries of a scrub: looks of one group, their places ascending strictly
+pub record AreLooks (looks : List Entry) : Type 0 where
+  pub kinds : EachIs is_look looks
+  pub ascends : Ascend (map place_in looks)
+
+-- `scrubbed`: so many blocks were seen and so many are missing, and each place that was Live all the time is among them
+pub record IsScrubbed (s : Setting) (job g seen gone : ℕ) (w : Section) : Type 0 where
+  pub looks : AreLooks (own job (w.added g))
+  pub only : IsOnlyIn g (mine job w)
+  pub seen_is : seen ≡ length (filter is_seen (own job (w.added g)))
+  pub gone_is : gone ≡ length (filter is_gone (own job (w.added g)))
+  pub all : (n c : ℕ) → n < (s.first g).stripes → c < width (s.first g) → AlwaysAt is_live (replayed (s.first g) (w.before g)) (w.added g) n c
+      → Contains (own job (w.added g)) (Seen job n c) ⊎ Contains (own job (w.added g)) (Gone job n c)
+
+-- the entries of a repair: those of relays alone
+pub record AreRelays (job : ℕ) (added : List Entry) : Type 0 where
+  pub kinds : EachIs is_relay (own job added)
+  pub mends : Mends job added
+
+-- `repaired`: so many places were mended and so many left, and each place that was unsound all the time was left
+pub record IsRepaired (s : Setting) (job g mended left : ℕ) (w : Section) : Type 0 where
+  pub relays : AreRelays job (w.added g)
+  pub only : IsOnlyIn g (mine job w)
+  pub mended_is : mended ≡ length (filter is_mended (own job (w.added g)))
+  pub left_is : left ≡ length (filter is_left (own job (w.added g)))
+  pub all : (n c : ℕ) → n < (s.first g).stripes → c < width (s.first g) → AlwaysAt is_unsound (replayed (s.first g) (w.before g)) (w.added g) n c
+      → ((o : ℕ) × Contains (own job (w.added g)) (Stuck job n c o)) ⊎ ((f : Digest) × Contains (own job (w.added g)) (Oddly job n c f))
+
+-- `fault g c` of a scrub: looks, and then a Fault at a place behind them
+pub record IsScrubFault (job g column : ℕ) (m : Mine) : Type 0 where
+  pub looks : List Entry
+  pub stripe : ℕ
+  pub own_is : m.own g ≡ looks ++ Fault job stripe column ∷ []
+  pub kinds : EachIs is_look looks
+  pub ascends : Ascend (map place_in looks ++ (stripe, column) ∷ [])
+  pub only : IsOnlyIn g m
+
+-- `fault g c` of a repair: relays, and then a Fault
+pub record IsRepairFault (job g column : ℕ) (w : Section) : Type 0 where
+  pub sofar : List Entry
+  pub stripe : ℕ
+  pub own_is : own job (w.added g) ≡ sofar ++ Fault job stripe column ∷ []
+  pub kinds : EachIs is_relay sofar
+  pub mends : Mends job (w.added g)
+  pub only : IsOnlyIn g (mine job w)
+
+-- at some point of the section the slot passes the test
+abbrev pub WasAt : Setting → ℕ → Section → (SlotState → Bool) → ℕ → ℕ → Type 0
+WasAt s g w test n c = (x : List Entry) × (y : List Entry) × (w.added g ≡ x ++ y) × IsTrue (test (slot_at (replayed (s.first g) (w.before g ++ x)) n c))
+
+-- `logfull g`: the log was at its bound, and some place was to be done yet, behind all looks of a scrub
+pub record IsScrubLogFull (s : Setting) (job g : ℕ) (w : Section) : Type 0 where
+  pub looks : AreLooks (own job (w.added g))
+  pub only : IsOnlyIn g (mine job w)
+  pub log : List Entry
+  pub moment : Moment job (w.before g) (w.added g) log
+  pub full : length log ≡ log_bound
+  pub stripe : ℕ
+  pub column : ℕ
+  pub in_stripes : stripe < (s.first g).stripes
+  pub in_columns : column < width (s.first g)
+  pub behind : Ascend (map place_in (own job (w.added g)) ++ (stripe, column) ∷ [])
+  pub was : WasAt s g w is_live stripe column
+
+-- `logfull g` of a repair: the log was at its bound, and some place was to be done
+pub record IsRepairLogFull (s : Setting) (job g : ℕ) (w : Section) : Type 0 where
+  pub relays : AreRelays job (w.added g)
+  pub only : IsOnlyIn g (mine job w)
+  pub log : List Entry
+  pub moment : Moment job (w.before g) (w.added g) log
+  pub full : length log ≡ log_bound
+  pub stripe : ℕ
+  pub column : ℕ
+  pub in_stripes : stripe < (s.first g).stripes
+  pub in_columns : column < width (s.first g)
+  pub was : WasAt s g w is_unsound stripe column
