@@ -1,5 +1,5 @@
 -- A fetch is not both `lost` and `fault`.
-use Rattle.std.proofs.Common.{◌≡◌, ◌⊎◌, inl, inr, ℕ, zero, suc, ◌<◌, List, [], ◌∷◌, ◌++◌, refl, ap, sym, ◌∙◌, subst, arith, ⊎_elim, eq-eqb}
+use Rattle.std.proofs.Common.{Bool, true, false, ◌≡◌, ◌⊎◌, inl, inr, ℕ, zero, suc, ◌<◌, List, [], ◌∷◌, ◌++◌, refl, ap, sym, ◌∙◌, subst, arith, ⊎_elim, eq-eqb}
 use Rattle.std.proofs.lemmas.List.Elements.{filter-append}
 use Rattle.pot_bytes.specs.declared.rack.Place.{Place}
 use Rattle.pot_machine.specs.declared.entry.Entry.{Entry}
@@ -8,7 +8,7 @@ use Rattle.pot_index.specs.declared.record.Record.{Record}
 use Rattle.pot_replies.specs.Jobs.{own, is_of}
 use Rattle.pot_replies.specs.Sections.{Section, Mine, mine}
 use Rattle.pot_replies.specs.Settings.{Setting}
-use Rattle.pot_replies.specs.Fetches.{FirstShort, IsUnseen, IsHopeless, FailsAt, place_at}
+use Rattle.pot_replies.specs.Fetches.{FirstShort, IsUnseen, HopelessIf, IsHopeless, FailsAt, place_at}
 use Rattle.pot_replies.specs.Laws.{LostNotFault}
 
 -- of two numbers, one is less, or they are equal
@@ -52,18 +52,20 @@ last_same (a ∷ c ∷ xs) [] x y e = absurd (cc e)
 last_same (a ∷ xs) (b ∷ ys) x y e = last_same xs ys x y (cc e)
 
 -- a hopeless place's last entry is no Fault
-not_both : (s : Setting) (job column : ℕ) (w : Section) (p : Place) → IsHopeless s job w p → FailsAt job (mine job w) p column → ⊥
-not_both s job column w p (inl (sofar, e, is, (o, stuck))) (before, t, ends, why) =
+not_both : (mends : Bool) (s : Setting) (job column : ℕ) (w : Section) (p : Place) → HopelessIf mends s job w p → FailsAt job (mine job w) p column → ⊥
+not_both true s job column w p (inl (sofar, e, is, (o, stuck))) (before, t, ends, why) =
     absurd (cc (last_same sofar before e (Fault job t column) (sym is ∙ ends), stuck))
-not_both s job column w p (inr (inl (sofar, e, is, (f, oddly)))) (before, t, ends, why) =
+not_both true s job column w p (inr (inl (sofar, e, is, (f, oddly)))) (before, t, ends, why) =
     absurd (cc (last_same sofar before e (Fault job t column) (sym is ∙ ends), oddly))
-not_both s job column w p (inr (inr again)) (before, t, ends, why) =
+not_both true s job column w p (inr (inr again)) (before, t, ends, why) =
     let front = (again.a ++ Gone job p.stripe p.column ∷ again.between) ++ again.behind in
     let one : own job (Gone job p.stripe p.column ∷ again.z) ≡ Gone job p.stripe p.column ∷ [] =
     rw (eq-eqb job job refl) (ap (λ l. Gone job p.stripe p.column ∷ l) again.last) in
     let its : own job (w.added p.group) ≡ own job front ++ Gone job p.stripe p.column ∷ [] =
     ap (own job) again.parts ∙ (filter-append (is_of job) front (Gone job p.stripe p.column ∷ again.z) ∙ ap (λ l. own job front ++ l) one) in
     absurd (cc (last_same (own job front) before (Gone job p.stripe p.column) (Fault job t column) (sym its ∙ ends)))
+not_both false s job column w p (sofar, e, is, gone) (before, t, ends, why) =
+    absurd (cc (last_same sofar before e (Fault job t column) (sym is ∙ ends), gone))
 
 pub lost_not_fault : LostNotFault
 lost_not_fault s job name piece fragment have need group column w lost fault same =
@@ -77,4 +79,4 @@ lost_not_fault s job name piece fragment have need group column w lost fault sam
     subst (λ j. IsHopeless s job w (place_at fault.kept fault.piece j fault.point)) first.1
     (subst (λ i. IsHopeless s job w (place_at fault.kept i fragment fault.point)) first.0
     (subst (λ (k : Record). IsHopeless s job w (place_at k piece fragment fault.point)) same (lost.hopeless fault.point unseen))) in
-    not_both s job column w (place_at fault.kept fault.piece fault.fragment fault.point) hopeless fault.fails
+    not_both s.mends s job column w (place_at fault.kept fault.piece fault.fragment fault.point) hopeless fault.fails

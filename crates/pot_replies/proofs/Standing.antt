@@ -1,5 +1,5 @@
 -- What stands in a section when other jobs log more.
-use Rattle.std.proofs.Common.{◌≡◌, ℕ, ◌≤◌, inl, inr, Bool, true, List, [], ◌∷◌, ◌++◌, length, refl, ap, sym, ◌∙◌, subst, append-nil, append_assoc, eq-eqb}
+use Rattle.std.proofs.Common.{◌≡◌, ℕ, ◌≤◌, inl, inr, Bool, true, false, List, [], ◌∷◌, ◌++◌, length, refl, ap, sym, ◌∙◌, subst, append-nil, append_assoc, eq-eqb}
 use Rattle.std.specs.Prelude.{filter, IsTrue}
 use mathlib.Core.Path.{fun_ext}
 use Rattle.std.proofs.lemmas.List.Elements.{filter-append}
@@ -18,7 +18,7 @@ use Rattle.pot_index.specs.Index.{names_read, IsRecordOf}
 use Rattle.pot_replies.specs.Jobs.{own, is_of, is_stuck_at}
 use Rattle.pot_replies.specs.Sections.{Section, Mine, mine, Moment, IndexMoment, Widens, replayed, names_after}
 use Rattle.pot_replies.specs.Settings.{Setting}
-use Rattle.pot_replies.specs.Fetches.{FoundThen, AreReads, Mends, FetchEntries, SeenAs, LastIs, GoneAgain, IsHopeless}
+use Rattle.pot_replies.specs.Fetches.{FoundThen, AreReads, Mends, FetchEntries, SeenAs, LastIs, GoneAgain, HopelessIf, IsHopeless}
 
 none_more : {X : Type 0} (test : X → Bool) (xs more whole : List X) → whole ≡ xs ++ more → filter test more ≡ [] → filter test whole ≡ filter test xs
 none_more test xs more whole is none =
@@ -113,7 +113,11 @@ module _ (job : ℕ) (w w' : Section) (wide : Widens job w w') where
     last = filter-append (is_of job) is.z (wide.more g) ∙ (ap (λ l. l ++ own job (wide.more g)) is.last ∙ wide.others g);
   }
 
+  hopeless_if : (mends : Bool) (s : Setting) (p : Place) → HopelessIf mends s job w p → HopelessIf mends s job w' p
+  hopeless_if true s p (inl is) = inl (subst (λ es. LastIs es (λ e. (o : ℕ) × (e ≡ Stuck job p.stripe p.column o))) (sym (same_own p.group)) is)
+  hopeless_if true s p (inr (inl is)) = inr (inl (subst (λ es. LastIs es (λ e. (f : Digest) × (e ≡ Oddly job p.stripe p.column f))) (sym (same_own p.group)) is))
+  hopeless_if true s p (inr (inr is)) = inr (inr (again_stands (s.first p.group) p.group p.stripe p.column is))
+  hopeless_if false s p is = subst (λ es. LastIs es (λ e. e ≡ Gone job p.stripe p.column)) (sym (same_own p.group)) is
+
   pub hopeless_stands : (s : Setting) (p : Place) → IsHopeless s job w p → IsHopeless s job w' p
-  hopeless_stands s p (inl is) = inl (subst (λ es. LastIs es (λ e. (o : ℕ) × (e ≡ Stuck job p.stripe p.column o))) (sym (same_own p.group)) is)
-  hopeless_stands s p (inr (inl is)) = inr (inl (subst (λ es. LastIs es (λ e. (f : Digest) × (e ≡ Oddly job p.stripe p.column f))) (sym (same_own p.group)) is))
-  hopeless_stands s p (inr (inr is)) = inr (inr (again_stands (s.first p.group) p.group p.stripe p.column is))
+  hopeless_stands s p is = hopeless_if s.mends s p is

@@ -159,12 +159,16 @@ pub record GoneAgain (first : Table) (job : ℕ) (before added : List Entry) (s 
   pub live : IsTrue (is_live (slot_at (replayed first (before ++ (a ++ Gone job s c ∷ between))) s c))
   pub last : own job z ≡ []
 
--- the job's last entry there is Stuck or Oddly of the place, or such a second Gone
-abbrev pub IsHopeless : Setting → ℕ → Section → Place → Type 0
-IsHopeless s job w p =
+-- The job's last entry there is Stuck or Oddly of the place, or such a second Gone; or, where it does not mend, a Gone of it.
+abbrev pub HopelessIf : Bool → Setting → ℕ → Section → Place → Type 0
+HopelessIf true s job w p =
     LastIs (own job (w.added p.group)) (λ e. (o : ℕ) × (e ≡ Stuck job p.stripe p.column o))
     ⊎ (LastIs (own job (w.added p.group)) (λ e. (f : Digest) × (e ≡ Oddly job p.stripe p.column f))
     ⊎ GoneAgain (s.first p.group) job (w.before p.group) (w.added p.group) p.stripe p.column)
+HopelessIf false s job w p = LastIs (own job (w.added p.group)) (λ e. e ≡ Gone job p.stripe p.column)
+
+abbrev pub IsHopeless : Setting → ℕ → Section → Place → Type 0
+IsHopeless s job w p = HopelessIf s.mends s job w p
 
 -- the job's last entry there is a Fault of this column: at the place, or after a Gone of it
 abbrev pub FailsAt : ℕ → Mine → Place → ℕ → Type 0
