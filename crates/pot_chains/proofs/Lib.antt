@@ -1,0 +1,5 @@
+pub mod ChainLemmas
+pub mod LevelLemmas
+pub mod ListedLemmas
+pub mod LongerLemmas
+pub mod PickLemmas
