@@ -7,7 +7,7 @@ use Rattle.std.proofs.lemmas.List.{length-map}
 use Rattle.pot_chains.specs.Listed.{IsIn, IsOnce, IsListed}
 use Rattle.pot_chains.specs.Paths.{AreAll}
 use Rattle.pot_chains.specs.Picks.{IsPick, how_many, picks, pick_at, PickLaws}
-use Rattle.pot_chains.proofs.ListedLemmas.{contains_from_in, in_get_or, listed_flat_map, listed_map, listed_same}
+use Rattle.pot_chains.proofs.ListedLemmas.{contains_from_in, get_or-default, in_get_or, listed_flat_map, listed_map, listed_same}
 
 more : (m n : ℕ) → n + m * n ≡ suc m * n
 more m n = grind arith
@@ -56,12 +56,7 @@ module _ {X : Type 0} where
           ∙ ap (λ n. length (picks lists) + n) (each ys)
           ∙ more (length ys) (length (picks lists))
 
-get_or-default : {X : Type 0} (xs : List X) (i : ℕ) (d e : X) → i < length xs → get_or xs i d ≡ get_or xs i e
-get_or-default [] i d e h = absurd (omega arith)
-get_or-default (x ∷ xs) zero d e h = refl
-get_or-default (x ∷ xs) (suc i) d e h = get_or-default xs i d e (omega arith)
-
-some_left : (n h t : ℕ) → t < n * h → 0 < n
+pub some_left : (n h t : ℕ) → t < n * h → 0 < n
 some_left zero h t lt = absurd (omega (arith, lt, zero-mul h))
 some_left (suc n) h t lt = omega arith
 

@@ -1,4 +1,4 @@
-ghost use Rattle.std.specs.Prelude.{◌≡◌, ◌<◌, ◌≤◌, [], ◌∷◌, ◌++◌, length};
+ghost use Rattle.std.specs.Prelude.{◌≡◌, ◌<◌, ◌≤◌, [], ◌∷◌, ◌++◌, length, slice_index};
 ghost use Rattle.pot_chains.specs.Steps.{end_of};
 
 use std::marker::Model;
@@ -32,6 +32,23 @@ impl Chain {
             count: 1,
             positions,
         }
+    }
+
+    /// How many there are.
+    pub fn len(&self) -> usize
+        ensures value { result ≡ length self.now }
+        ensures few { result ≤ 16 }
+    {
+        usize::from(self.count)
+    }
+
+    /// The one at this place, from 0.
+    pub fn get(&self, place: usize) -> u32
+        requires inside { place < length self.now }
+        requires small { place < 16 }
+        ensures { result ≡ slice_index self.now place }
+    {
+        self.positions[place]
     }
 
     /// The last of it.

@@ -15,6 +15,8 @@ mod chain;
 mod laws;
 mod levels;
 mod search;
+#[cfg(test)]
+mod tests;
 
 pub use chain::Chain;
 pub use laws::{chain_laws, pick_laws};

@@ -82,26 +82,26 @@ product_zero x b (suc j) (a ∷ points) lt e ne = elim (tested a x) [
 ]
 
 -- (a + x) times a polynomial
-pub rooted : ℕ → List ℕ → List ℕ
+rooted : ℕ → List ℕ → List ℕ
 rooted a p = added (scaled a p) (0 ∷ p)
 
-pub value-rooted : (a : ℕ) (p : List ℕ) (y : ℕ) → value (rooted a p) y ≡ byte_product (bit_xor a y) (value p y)
+value-rooted : (a : ℕ) (p : List ℕ) (y : ℕ) → value (rooted a p) y ≡ byte_product (bit_xor a y) (value p y)
 unfolding rooted
 value-rooted a p y =
     value-added (scaled a p) (0 ∷ p) y
     ∙ ap₂ bit_xor (value-scaled a p y) (value-cons 0 p y ∙ ap (λ z. bit_xor z (byte_product y (value p y))) (byte_product-zero_left 1) ∙ xor_zero_l (byte_product y (value p y)))
     ∙ sym (byte_product-xor_left a y (value p y))
 
-pub get_or-rooted : (a : ℕ) (p : List ℕ) (t : ℕ) → get_or (rooted a p) t 0 ≡ bit_xor (byte_product a (get_or p t 0)) (get_or (0 ∷ p) t 0)
+get_or-rooted : (a : ℕ) (p : List ℕ) (t : ℕ) → get_or (rooted a p) t 0 ≡ bit_xor (byte_product a (get_or p t 0)) (get_or (0 ∷ p) t 0)
 unfolding rooted
 get_or-rooted a p t = get_or-added (scaled a p) (0 ∷ p) t ∙ ap (λ z. bit_xor z (get_or (0 ∷ p) t 0)) (get_or-scaled a p t)
 
-pub rooted-degree : (a : ℕ) (p : List ℕ) (n : ℕ) → IsBelowDegree n p → IsBelowDegree (suc n) (rooted a p)
+rooted-degree : (a : ℕ) (p : List ℕ) (n : ℕ) → IsBelowDegree n p → IsBelowDegree (suc n) (rooted a p)
 rooted-degree a p n h zero le = absurd (omega arith)
 rooted-degree a p n h (suc t) le =
     get_or-rooted a p (suc t) ∙ ap₂ bit_xor (ap (byte_product a) (h (suc t) (omega arith)) ∙ byte_product-zero_right a) (h t (omega arith)) ∙ xor_self 0
 
-pub rooted-bytes : (a : ℕ) (p : List ℕ) → AreBytes p → AreBytes (rooted a p)
+rooted-bytes : (a : ℕ) (p : List ℕ) → AreBytes p → AreBytes (rooted a p)
 rooted-bytes a p h t = rw get_or-rooted (xor_of_8 (byte_product a (get_or p t 0)) (get_or (0 ∷ p) t 0) (byte_product-below a (get_or p t 0)) (shifted t))
   where
     shifted : (t : ℕ) → get_or (0 ∷ p) t 0 < 256
@@ -222,7 +222,7 @@ gathering_ends points x i above below le g =
     (all_gathered x (λ a. a) points i above le g.above_fits g.numerator, all_gathered x (λ a. bit_xor a x) points i below le g.below_fits g.denominator)
 
 -- the sum of the first `n` multiples that have these values at the points
-pub combined : List ℕ → List ℕ → ℕ → List ℕ
+combined : List ℕ → List ℕ → ℕ → List ℕ
 combined points ys zero = []
 combined points ys (suc n) =
     added (combined points ys n) (scaled (byte_product (get_or ys n 0) (inverse (product_but (get_or points n 0) (λ a. bit_xor a (get_or points n 0)) points))) (node (get_or points n 0) points))
@@ -242,7 +242,7 @@ value-combined points ys (suc n) y =
     (value-scaled (byte_product (get_or ys n 0) (inverse (product_but (get_or points n 0) (λ a. bit_xor a (get_or points n 0)) points))) (node (get_or points n 0) points) y
     ∙ ap (byte_product (byte_product (get_or ys n 0) (inverse (product_but (get_or points n 0) (λ a. bit_xor a (get_or points n 0)) points)))) (value-node (get_or points n 0) points y))
 
-pub combined-degree : (points ys : List ℕ) (n : ℕ) → n ≤ length points → IsBelowDegree (length points) (combined points ys n)
+combined-degree : (points ys : List ℕ) (n : ℕ) → n ≤ length points → IsBelowDegree (length points) (combined points ys n)
 unfolding combined
 combined-degree points ys zero le t l = refl
 combined-degree points ys (suc n) le t l =
@@ -253,7 +253,7 @@ combined-degree points ys (suc n) le t l =
     ∙ byte_product-zero_right (byte_product (get_or ys n 0) (inverse (product_but (get_or points n 0) (λ a. bit_xor a (get_or points n 0)) points))))
     ∙ xor_self 0
 
-pub combined-bytes : (points ys : List ℕ) (n : ℕ) → AreBytes (combined points ys n)
+combined-bytes : (points ys : List ℕ) (n : ℕ) → AreBytes (combined points ys n)
 unfolding combined
 combined-bytes points ys zero t = lit< tt
 combined-bytes points ys (suc n) t =
@@ -263,7 +263,7 @@ combined-bytes points ys (suc n) t =
     (combined-bytes points ys n t) (byte_product-below factor (get_or (node (get_or points n 0) points) t 0)))
 
 -- at a point only its own part counts, and that is the value there
-pub combined_at : (points ys : List ℕ) (j : ℕ) → AreBytes points → AreBytes ys → IsDistinct nat_eq points → j < length points
+combined_at : (points ys : List ℕ) (j : ℕ) → AreBytes points → AreBytes ys → IsDistinct nat_eq points → j < length points
     → value (combined points ys (length points)) (get_or points j 0) ≡ get_or ys j 0
 unfolding part
 combined_at points ys j b c d lt =

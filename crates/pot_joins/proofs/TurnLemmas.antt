@@ -9,7 +9,8 @@ use Rattle.std.proofs.lemmas.Map.Keys.{IsDistinct-from_apart}
 use Rattle.pot_bytes.proofs.TotalLemmas.{interchange, from_zero}
 use Rattle.pot_joins.specs.Joins.{IsJoinAt}
 use Rattle.pot_joins.proofs.JoinLemmas.{join_laws}
-use Rattle.pot_gf.specs.Polynomials.{value, AreBytes, IsBelowDegree, PassesThrough}
+use Rattle.pot_bytes.specs.Lists.{AreBytes}
+use Rattle.pot_gf.specs.Polynomials.{value, IsBelowDegree, PassesThrough}
 use Rattle.pot_gf.proofs.Built.{distinct_apart}
 
 twice : (v x : ℕ) → bit_xor (bit_xor v x) x ≡ v

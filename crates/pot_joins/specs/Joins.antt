@@ -1,7 +1,8 @@
 -- Values that lie on one polynomial, and what some of them fix.
 use Rattle.std.specs.Prelude.{◌≡◌, ◌↔◌, ◌<◌, ◌≤◌, ℕ, List, length, take, slice_index, nat_eq, bit_xor}
 use Rattle.std.specs.List.{IsDistinct}
-use Rattle.pot_gf.specs.Polynomials.{value, AreBytes, IsBelowDegree, PassesThrough}
+use Rattle.pot_bytes.specs.Lists.{AreBytes}
+use Rattle.pot_gf.specs.Polynomials.{value, IsBelowDegree, PassesThrough}
 
 -- the values at the points lie on one polynomial of degree below m, whose constant term is this byte
 abbrev pub IsOnOne : ℕ → List ℕ → List ℕ → ℕ → Type 0
@@ -22,9 +23,6 @@ pub record AreSamples (points values : List ℕ) : Type 0 where
 
 -- What the first m of some samples fix.
 pub record JoinLaws : Type 0 where
-  -- through samples goes a polynomial of degree below their number
-  pub through : (points values : List ℕ) → AreSamples points values
-      → (p : List ℕ) × AreBytes p × IsBelowDegree (length points) p × PassesThrough points values p
   -- The values lie on one polynomial of degree below m, with this constant term, exactly where it is what the first m of them
   -- give at 0, and each other value is what they give at its point.
   pub closes : (m : ℕ) (points values : List ℕ) (joined : ℕ → ℕ) → AreSamples points values → m ≤ length points

@@ -22,10 +22,10 @@ mod tests {
     #[test]
     fn shares_fix_the_others(rt: HostRuntime) {
         let mut out = [0];
-        for (at, expected) in [(3, 0xc9), (0, 0x57)] {
-            share_at(&[1, 2], &[0xd4, 0x4a], at, &mut out);
-            assert_eq!(rt; out, [expected]);
-        }
+        share_at(&[1, 2], &[0xd4, 0x4a], 3, &mut out);
+        assert_eq!(rt; out, [0xc9]);
+        share_at(&[1, 2], &[0xd4, 0x4a], 0, &mut out);
+        assert_eq!(rt; out, [0x57]);
         share_at(&[255, 1, 5], &[0x7a, 0x11, 0x41], 0, &mut out);
         assert_eq!(rt; out, [0]);
     }

@@ -1,0 +1,37 @@
+use Rattle.std.proofs.Common.{◌≡◌, true, false, rules, nat_cmp}
+use Rattle.std.specs.Ordering.{is_lt, is_le}
+use Rattle.std.specs.Cmp.Lexicographic.{slice_cmp}
+use Rattle.std.specs.List.Sorted.{IsPartitionPoint}
+use Rattle.std.proofs.lemmas.List.Sorted.{IsPartitionPoint-from_clause}
+use Rattle.pot_recover.specs.Contents.{head_of}
+use Rattle.pot_recover.proofs.PartLemmas.{partitioned_below, partitioned_at_most, part_is_ordered, part_is_filter}
+use Rattle.pot_recover.proofs.parts.heads.Goals as goal
+
+-- each test is the one that its closure computes
+below : (c : goal.After-partition_point-end) → IsPartitionPoint (λ y. is_lt (slice_cmp nat_cmp (head_of y) c.args.head) ≡ true)
+    (λ y. is_lt (slice_cmp nat_cmp (head_of y) c.args.head) ≡ false) c.args.contents.now c.partition_point-start.result
+below c =
+    IsPartitionPoint-from_clause (λ y. is_lt (slice_cmp nat_cmp (head_of y) c.args.head)) c.args.contents.now c.partition_point-start.result
+    c.partition_point-start.ensures.partitioned
+    (partitioned_below head_of c.args.contents.now c.args.head c.requires)
+    (λ a r f called. search rules)
+
+at_most : (c : goal.After-partition_point-end) → IsPartitionPoint (λ y. is_le (slice_cmp nat_cmp (head_of y) c.args.head) ≡ true)
+    (λ y. is_le (slice_cmp nat_cmp (head_of y) c.args.head) ≡ false) c.args.contents.now c.partition_point-end.result
+at_most c =
+    IsPartitionPoint-from_clause (λ y. is_le (slice_cmp nat_cmp (head_of y) c.args.head)) c.args.contents.now c.partition_point-end.result
+    c.partition_point-end.ensures.partitioned
+    (partitioned_at_most head_of c.args.contents.now c.args.head c.requires)
+    (λ a r f called. search rules)
+
+pub returns-clause-bounds : goal.returns-clause-bounds
+returns-clause-bounds c = (
+  part_is_ordered head_of c.args.contents.now c.args.head c.requires c.partition_point-start.result c.partition_point-end.result
+      c.partition_point-start.ensures.bound c.partition_point-end.ensures.bound (below c) (at_most c),
+  c.partition_point-end.ensures.bound,
+)
+
+pub returns-clause-part : goal.returns-clause-part
+returns-clause-part c =
+    part_is_filter head_of c.args.contents.now c.args.head c.requires c.partition_point-start.result c.partition_point-end.result
+    c.partition_point-start.ensures.bound c.partition_point-end.ensures.bound (below c) (at_most c)

@@ -1,0 +1,13 @@
+pub mod Choices
+pub mod Contents
+pub mod Counts
+pub mod Groups
+pub mod Held
+pub mod HeldShards
+pub mod Reached
+pub mod Recovered
+pub mod Rings
+pub mod Scopes
+pub mod Sets
+pub mod StoredRings
+pub mod Wide

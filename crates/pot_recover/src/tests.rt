@@ -1,0 +1,186 @@
+//! Files and hostile blocks, as blocks in memory.
+ghost use Rattle.std.specs.Prelude.{◌≡◌, ◌<◌, ◌≤◌, ◌*◌, ◌^◌, length};
+ghost use Rattle.pot_shard.specs.Shards.{IsShard};
+
+use crate::*;
+use pot_bytes::{Block, Geometry};
+use pot_object::write_object;
+use pot_shard::{Shard, blocks_of, encode_shard, random_len};
+use std::alloc::Global;
+use std::process::Abort;
+
+/// The highest bytes of a linear congruential sequence from a seed on.
+fn scatter(out: &mut [u8], seed: u64) {
+    let mut state = seed;
+    for byte in out.iter_mut() {
+        state = state
+            .wrapping_mul(6_364_136_223_846_793_005)
+            .wrapping_add(1_442_695_040_888_963_407);
+        *byte = state.to_be_bytes()[0];
+    }
+}
+
+/// The six blocks of a file of five bytes: two fragments, of three shards each, of which two are needed.
+fn stored(rt: &(impl Abort + Alloc<A = Global>), file: &[u8; 5], seed: u64) -> Vec<Block> {
+    let geometry = Geometry {
+        fragments: 2,
+        need: 2,
+        shards: 3,
+        blur: 16,
+    };
+    let mut random = vec![in rt.alloc(); 0; random_len(1, &geometry) as usize].expect(rt, "memory");
+    scatter(&mut random, seed);
+    let blocks = blocks_of(rt.alloc(), file, &geometry, &random).expect(rt, "memory");
+    assert_eq!(rt; blocks.len(), 6);
+    blocks
+}
+
+/// The object of such a file.
+fn object_of(file: &[u8; 5], seed: u64) -> [u8; 928] {
+    let mut id = [0; 16];
+    scatter(&mut id, seed);
+    let mut object = [0; 928];
+    write_object(&id, file, 0, &mut object);
+    object
+}
+
+/// These blocks give these objects.
+fn gives(rt: &(impl Abort + Alloc<A = Global>), blocks: &[Block], bits: u8, expected: &[[u8; 928]])
+    requires bits { bits ≤ 63 }
+    requires few { length blocks.now < 2 ^ 32 }
+{
+    let found = recover(rt.alloc(), blocks, bits).expect(rt, "few chains");
+    assert_eq!(rt; found.len(), expected.len());
+    assert_eq!(rt; found.is_empty(), expected.is_empty());
+    for (at, object) in expected.iter().enumerate() {
+        assert!(rt; at < found.len());
+        assert!(rt; found.object(at) == object, "{at}");
+    }
+}
+
+/// The XOR of three blocks.
+fn parity(a: &Block, b: &Block, c: &Block) -> Block {
+    let mut sum = *a;
+    sum.xor(b);
+    sum.xor(c);
+    sum
+}
+
+#[test]
+fn two_files_come_back_from_all_blocks(rt: HostRuntime) {
+    let (hello, world) = (stored(&rt, b"hello", 1), stored(&rt, b"world", 2));
+    assert!(rt; hello.len() == 6);
+    assert!(rt; world.len() == 6);
+    gives(&rt, &hello, 16, &[object_of(b"hello", 1)]);
+    gives(&rt, &hello, 15, &[]);
+    let mut blocks = Vec::from_slice(rt.alloc(), &hello).expect(&rt, "memory");
+    blocks.extend_from_slice(&world).expect(&rt, "memory");
+    // Three parity blocks decode as a linked ring that does not close, and three mirror a shard.
+    blocks
+        .push(parity(&hello[0], &hello[3], &world[2]))
+        .expect(&rt, "memory");
+    blocks
+        .push(parity(&hello[1], &hello[4], &world[0]))
+        .expect(&rt, "memory");
+    blocks
+        .push(parity(&hello[2], &hello[5], &world[1]))
+        .expect(&rt, "memory");
+    blocks.extend_from_slice(&hello[..3]).expect(&rt, "memory");
+    let (one, other) = (object_of(b"hello", 1), object_of(b"world", 2));
+    assert!(rt; blocks.len() == 18);
+    if one < other {
+        gives(&rt, &blocks, 16, &[one, other]);
+    } else {
+        gives(&rt, &blocks, 16, &[other, one]);
+    }
+}
+
+#[test]
+fn nothing_comes_back_without_a_shard_or_with_one_outside_the_grammar(rt: HostRuntime) {
+    let blocks = stored(&rt, b"hello", 1);
+    assert!(rt; blocks.len() == 6);
+    // One byte each: of the zeros before the share, of the low bits of the pointer, and x.
+    for (at, byte) in [(24, 1), (31, 255), (23, 1), (4, 0), (0, 0)] {
+        for lost in 0..6 {
+            let mut altered = *blocks[lost].bytes();
+            altered[at] = byte;
+            let mut rest = Vec::from_slice(rt.alloc(), &blocks).expect(&rt, "memory");
+            assert!(rt; rest.len() == 6);
+            rest[lost] = Block::from_bytes(altered);
+            gives(&rt, &rest, 16, &[]);
+            rest.push(blocks[lost]).expect(&rt, "memory");
+            assert!(rt; rest.len() == 7);
+            gives(&rt, &rest, 16, &[object_of(b"hello", 1)]);
+        }
+    }
+}
+
+/// So many shards at each of two points, each linked to each, of zero shares.
+fn crowd(rt: &(impl Abort + Alloc<A = Global>), each: u64) -> Vec<Block> {
+    let mut blocks = Vec::new(rt.alloc());
+    for x in [1, 2] {
+        for name in 0..each {
+            let shard = Shard {
+                x,
+                m: 2,
+                n: 2,
+                blur: 63,
+                name,
+                pointer: 0,
+                share: [0; 992],
+            };
+            let mut block = Block::zero();
+            encode_shard(&shard, &mut block);
+            blocks.push(block).expect(rt, "memory");
+        }
+    }
+    blocks
+}
+
+#[test]
+fn four_million_chains_are_borne_and_no_more(rt: HostRuntime) {
+    let blocks = crowd(&rt, 1_999);
+    assert!(rt; blocks.len() == 3_998);
+    gives(&rt, &blocks, 63, &[]);
+    let blocks = crowd(&rt, 2_001);
+    assert!(rt; blocks.len() == 4_002);
+    assert!(rt;
+        recover(rt.alloc(), &blocks, 63).is_err_and(|fault| fault
+            == RecoverFault::Wide {
+                chains: 4_000_001,
+                choices: 0
+            })
+    );
+}
+
+/// The shards of half a million rings of two that do not close: of each, x = 1 is named 32·i and points at 32·i + 16, and
+/// x = 2 the other way round.
+fn pairs(rt: &(impl Abort + Alloc<A = Global>), count: u64) -> Vec<Block>
+    requires { count < 2 ^ 32 }
+{
+    let mut blocks = Vec::new(rt.alloc());
+    for i in 0..count {
+        for (x, name, pointer) in [(1, 32 * i, 32 * i + 16), (2, 32 * i + 16, 32 * i)] {
+            let shard = Shard {
+                x,
+                m: 2,
+                n: 2,
+                blur: 4,
+                name,
+                pointer,
+                share: [0; 992],
+            };
+            let mut block = Block::zero();
+            encode_shard(&shard, &mut block);
+            blocks.push(block).expect(rt, "memory");
+        }
+    }
+    blocks
+}
+
+#[test]
+fn a_million_chains_are_followed_by_their_pointers(rt: HostRuntime) {
+    let blocks = pairs(&rt, 500_000);
+    assert!(rt; blocks.len() == 1_000_000);
+    gives(&rt, &blocks, 4, &[]);
+}

@@ -1,0 +1,122 @@
+ghost use Rattle.std.specs.Prelude.{◌≡◌, ◌↔◌, ◌<◌, ◌≤◌, ◌^◌, ℕ, List, [], length, IsTrue, IfOk, IfErr, OnOk, AllPairs};
+ghost use Rattle.std.specs.List.{slice_index_or};
+ghost use Rattle.pot_chains.specs.Listed.{IsIn};
+ghost use Rattle.pot_recover.specs.Choices.{AreContents};
+ghost use Rattle.pot_recover.specs.Recovered.{AreRecovered, IsBefore, IsChoice, IsRecovered};
+ghost use Rattle.pot_recover.specs.Wide.{IsTooWide, IsWithin, AreFew, AreTooWide};
+
+use crate::choices::{count_choices, objects_of};
+use crate::distinct::sort_distinct;
+use crate::held::held_in;
+use crate::rings::{WIDEST, closed_contents};
+use pot_bytes::Block;
+use pot_chains::SearchFault;
+use std::alloc::Global;
+use std::marker::Model;
+
+/// Why nothing is recovered.
+#[derive(Clone, Copy, PartialEq, Eq, Debug)]
+pub enum RecoverFault {
+    /// There are more than 4,000,000 chains, or as many choices. Each is counted to 4,000,001, and the choices only where
+    /// the chains are no more than the limit: they are else reported as 0.
+    Wide { chains: u32, choices: u32 },
+    NoMemory,
+}
+
+/// The objects that were recovered, in byte order and each once. Contracts see the list of them.
+#[derive(Drop)]
+pub struct Recovered {
+    objects: Vec<[u8; 928]>,
+}
+
+impl Model for Recovered {
+    ghost use Rattle.std.specs.Prelude.{List, ℕ};
+
+    ghost Value = { List (List ℕ) };
+
+    ghost view = { λ r. r.objects.items };
+}
+
+impl Recovered {
+    /// How many there are.
+    pub fn len(&self) -> usize
+        ensures { result ≡ length self.now }
+    {
+        self.objects.as_slice().len()
+    }
+
+    /// Whether there are none.
+    pub fn is_empty(&self) -> bool
+        ensures { IsTrue result ↔ (self.now ≡ []) }
+    {
+        self.objects.as_slice().is_empty()
+    }
+
+    /// The object at this place, from 0.
+    pub fn object(&self, at: usize) -> &[u8; 928]
+        requires { at < length self.now }
+        ensures { result.now ≡ slice_index_or self.now at result.now }
+    {
+        &self.objects.as_slice()[at]
+    }
+}
+
+/// The objects that these blocks give: those of each choice of one closed fragment for each number, where their XOR is an
+/// object. Only shards of this blur take part, and equal blocks count once.
+///
+/// The work is that of the chains, each extended by the candidates of its pointer alone, and of the choices.
+pub fn recover(alloc: Global, blocks: &[Block], bits: u8) -> Result<Recovered, RecoverFault>
+    requires bits { bits ≤ 63 }
+    requires few { length blocks.now < 2 ^ 32 }
+
+    // Exactly what the definition calls recovered, in byte order.
+    ensures objects { IfOk result (λ objects. AreRecovered blocks.now bits objects) }
+
+    // Both counts are no more than the limit.
+    ensures within { OnOk result (IsWithin blocks.now bits) }
+    ensures wide { IfErr result (λ fault. IsTooWide blocks.now bits fault) }
+{
+    let Ok(held) = held_in(alloc, blocks, bits) else {
+        return Err(RecoverFault::NoMemory);
+    };
+    let mut chains = 0;
+    match closed_contents(alloc, &held, bits, &mut chains) {
+        Ok(contents) => from_contents(alloc, contents, chains),
+        Err(SearchFault::Wide) => Err(RecoverFault::Wide {
+            chains: 4_000_001,
+            choices: 0,
+        }),
+        Err(SearchFault::NoMemory) => Err(RecoverFault::NoMemory),
+    }
+}
+
+/// The objects that these contents give, where their choices are no more than the limit.
+fn from_contents(
+    alloc: Global,
+    contents: Vec<[u8; 992]>,
+    chains: usize,
+) -> Result<Recovered, RecoverFault>
+    requires contents { AreContents contents.items }
+    requires chains { chains ≤ 4000000 }
+    ensures objects { IfOk result (λ objects. (o : List ℕ) → IsIn objects o ↔ IsRecovered (IsIn contents.items) o) }
+    ensures order { IfOk result (λ objects. AllPairs IsBefore objects) }
+    ensures within { OnOk result (AreFew (IsIn contents.items)) }
+    ensures wide { IfErr result (λ fault. AreTooWide (IsIn contents.items) chains fault) }
+{
+    let mut distinct = contents;
+    sort_distinct(&mut distinct);
+    let Ok(choices) = count_choices(alloc, &distinct) else {
+        return Err(RecoverFault::NoMemory);
+    };
+    if choices > WIDEST {
+        return Err(RecoverFault::Wide {
+            chains: chains as u32,
+            choices: choices as u32,
+        });
+    }
+    let Ok(mut objects) = objects_of(alloc, &distinct) else {
+        return Err(RecoverFault::NoMemory);
+    };
+    sort_distinct(&mut objects);
+    Ok(Recovered { objects })
+}
