@@ -1,6 +1,8 @@
 use Rattle.std.proofs.Common.{◌≡◌, ◌<◌, ◌++◌, ◌∙◌, ℕ, List, length, map, take, bit_xor, nat_eq, get_or, arith, ap, sym, subst}
 use Rattle.std.specs.List.{IsDistinct}
 use Rattle.std.proofs.lemmas.List.{length-map, take_all, take-append-le}
+use Rattle.pot_bytes.specs.Lists.{AreBytes}
+use Rattle.pot_gf.specs.Polynomials.{value, IsBelowDegree, PassesThrough}
 use Rattle.pot_split.specs.Secrecy.{rows_of}
 use Rattle.pot_split.specs.Threshold.{column, IsJoin}
 use Rattle.pot_joins.proofs.TurnLemmas.{turned_points, turned_distinct, turned_not_zero, joined_at}
@@ -30,6 +32,6 @@ returns c = λ k within.
     let is = subst (λ (l : List ℕ). IsJoin l c.args.shares.now joined) (turned points c.turn.new.out _ at c.turn.ensures) c.share_join.ensures in
     let long : length (turned_points at points) ≡ length points = length-map points (λ x. bit_xor x at) in
     joined_at at points (column k (rows_of (length points) (length joined) c.args.shares.now)) (get_or joined k 0)
-    (subst (λ (n : ℕ). (q : List ℕ) → Rattle.pot_gf.specs.Polynomials.AreBytes q → Rattle.pot_gf.specs.Polynomials.IsBelowDegree (length (turned_points at points)) q
-    → Rattle.pot_gf.specs.Polynomials.PassesThrough (turned_points at points) (column k (rows_of n (length joined) c.args.shares.now)) q
-    → get_or joined k 0 ≡ Rattle.pot_gf.specs.Polynomials.value q 0) long (is k within))
+    (subst (λ (n : ℕ). (q : List ℕ) → AreBytes q → IsBelowDegree (length (turned_points at points)) q
+    → PassesThrough (turned_points at points) (column k (rows_of n (length joined) c.args.shares.now)) q
+    → get_or joined k 0 ≡ value q 0) long (is k within))
