@@ -4,7 +4,7 @@ ghost use Rattle.pot_bytes.specs.Sums.{xor};
 ghost use Rattle.pot_split.specs.Secrecy.{meaning, IsRows};
 ghost use Rattle.pot_bytes.specs.Rack.{IsGeometry};
 ghost use Rattle.pot_object.specs.Pieces.{content_size, longest, object_size, pieces_of};
-ghost use Rattle.pot_shard.specs.FileBlocks.{content_of, content_shards, file_blocks, fragment_len, fragment_shards, object_shards, pads_in, part_at, piece_blocks, piece_len, random_len, shard_of};
+ghost use Rattle.pot_shard.specs.FileBlocks.{content_of, content_shards, file_blocks, fragment_len, fragment_shards, fragments_of, object_shards, pads_in, part_at, piece_blocks, piece_len, random_len, shard_of};
 ghost use Rattle.pot_shard.specs.Shards.{shard_bytes};
 
 use crate::random::{fragment_len, head_len, piece_len, read_names, rows_len};
@@ -107,6 +107,22 @@ fn object_blocks(object: &[u8; OBJECT], geometry: &Geometry, random: &[u8], out:
         let at = usize::from(number) * count;
         fragment_blocks(&last, geometry, random, number, &mut out[at..at + count]);
     }
+}
+
+/// The content of the fragment of this number, from 0, of an object. `random` is the random bytes of its piece.
+pub fn fragment_content(
+    object: &[u8; OBJECT],
+    geometry: &Geometry,
+    random: &[u8],
+    number: u8,
+) -> [u8; CONTENT]
+    requires geometry { IsGeometry geometry.now }
+    requires random { length random.now ≡ piece_len geometry.now }
+    requires exists { number < geometry.now.fragments }
+    ensures { result ≡ content_of geometry.now (fragments_of geometry.now object.now random.now) random.now number }
+{
+    let last = last_fragment(object, &random[16..head_len(geometry)]);
+    content_at(&last, geometry, random, number)
 }
 
 /// The fragment of an object that is no pad.

@@ -27,8 +27,8 @@ mod shard;
 #[cfg(test)]
 mod tests;
 
-pub use blocks::{blocks_of, piece_blocks};
+pub use blocks::{blocks_of, fragment_content, piece_blocks};
 pub use laws::{block_laws, draw_laws, fetch_laws, file_laws, place_laws, stretch_laws, veil_laws};
-pub use random::{piece_len, random_len};
+pub use random::{fragment_len, head_len, piece_len, random_len, rows_len};
 pub use ring::ring_of;
 pub use shard::{Shard, decode_shard, encode_shard, shard_laws};

@@ -27,8 +27,8 @@ pub fn piece_len(geometry: &Geometry) -> usize
     head_len(geometry) + usize::from(geometry.fragments) * fragment_len(geometry)
 }
 
-/// How many of them stand before those of its fragments.
-pub(crate) fn head_len(geometry: &Geometry) -> usize
+/// How many of them stand before those of its fragments: its object id and its pads.
+pub fn head_len(geometry: &Geometry) -> usize
     requires { IsGeometry geometry.now }
     ensures value { result ≡ head_len geometry.now }
     ensures few { result ≤ 6512 }
@@ -36,8 +36,8 @@ pub(crate) fn head_len(geometry: &Geometry) -> usize
     16 + (usize::from(geometry.fragments) - 1) * OBJECT
 }
 
-/// How many random bytes a fragment takes.
-pub(crate) fn fragment_len(geometry: &Geometry) -> usize
+/// How many random bytes a fragment takes: those of its coefficients and of its names.
+pub fn fragment_len(geometry: &Geometry) -> usize
     requires { IsGeometry geometry.now }
     ensures value { result ≡ fragment_len geometry.now }
     ensures few { result ≤ 15008 }
@@ -45,8 +45,8 @@ pub(crate) fn fragment_len(geometry: &Geometry) -> usize
     rows_len(geometry) + usize::from(geometry.shards) * 8
 }
 
-/// How many bytes its rows of coefficients are.
-pub(crate) fn rows_len(geometry: &Geometry) -> usize
+/// How many bytes its rows of coefficients are, which stand first.
+pub fn rows_len(geometry: &Geometry) -> usize
     requires { IsGeometry geometry.now }
     ensures value { result ≡ (geometry.now.need - 1) * content_size }
     ensures few { result ≤ 14880 }

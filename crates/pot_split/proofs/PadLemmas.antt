@@ -120,7 +120,7 @@ row_behind size count f j pads a r b c behind =
     ∙ ap (drop (q * size)) (drop_at r b size c.row))
 
 -- without a pad of this number nothing changes
-none_changed : (size f : ℕ) (pads d : List ℕ) → length pads ≡ f * size → changed_pads size f d pads ≡ pads
+pub none_changed : (size f : ℕ) (pads d : List ℕ) → length pads ≡ f * size → changed_pads size f d pads ≡ pads
 none_changed size f pads d long =
     let nothing : drop (f * size) pads ≡ [] = drop_all (f * size) pads (omega (arith, long)) in
     let behind : drop (f * size + size) pads ≡ [] = drop_all (f * size + size) pads (omega (arith, long)) in

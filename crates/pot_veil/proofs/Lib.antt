@@ -1,3 +1,5 @@
 pub mod Files
 pub mod Parts
 pub mod Pieces
+pub mod Rewriting
+pub mod SeenLemmas

@@ -121,6 +121,16 @@ put_back a b x y bytes x0 y0 ab fits ex ey =
     where_is : (i b n : ℕ) → ((b ≤ i) × (i < b + n)) ⊎ ((i < b) ⊎ (b + n ≤ i))
     where_is i b n = grind arith
 
+-- a part of a part
+pub part-nested : (n a m p : ℕ) (xs : List ℕ) → a + n ≤ m → p + m ≤ length xs → take n (drop a (take m (drop p xs))) ≡ take n (drop (p + a) xs)
+part-nested n a m p xs inside fits =
+    let mid : length (take m (drop p xs)) ≡ m = length-take-le m (drop p xs) (omega (arith, length-drop p xs)) in
+    let left : length (take n (drop a (take m (drop p xs)))) ≡ n = length-take-le n (drop a (take m (drop p xs))) (omega (arith, length-drop a (take m (drop p xs)))) in
+    let right : length (take n (drop (p + a) xs)) ≡ n = length-take-le n (drop (p + a) xs) (omega (arith, length-drop (p + a) xs)) in
+    ext_get_or 0 _ _ (left ∙ sym right) (λ i l. get_or-take n (drop a (take m (drop p xs))) i 0 (omega arith) ∙ get_or-drop a (take m (drop p xs)) i 0
+    ∙ get_or-take m (drop p xs) (a + i) 0 (omega arith) ∙ get_or-drop p xs (a + i) 0 ∙ ap (λ k. get_or xs k 0) (let z : p + (a + i) ≡ p + a + i = omega arith in z)
+    ∙ sym (get_or-take n (drop (p + a) xs) i 0 (omega arith) ∙ get_or-drop (p + a) xs i 0))
+
 pub AreBytes-with_part : (at : ℕ) (new bytes : List ℕ) → AreBytes new → AreBytes bytes → AreBytes (with_part at new bytes)
 AreBytes-with_part at new bytes a b =
     AreBytes-append (take at bytes) (new ++ drop (at + length new) bytes) (AreBytes-take at bytes b)

@@ -1,3 +1,4 @@
 pub mod Explained
 pub mod FileLaws
 pub mod PieceLaws
+pub mod Seen

@@ -7,6 +7,8 @@
 //!    back, so they are a bijection: `piece_laws`, `file_laws`.
 #![tactic(auto)]
 
+mod explaining;
 mod laws;
 
+pub use explaining::explain;
 pub use laws::{file_laws, piece_laws};
