@@ -35,7 +35,7 @@ at_part f size n i q d each inside within =
     ∙ get_or-take size (drop (i * size) all) q d within ∙ get_or-drop (i * size) all q d)
 
 -- the shards of a fragment by place
-shard_at : (g : Geometry) (file random : List ℕ) (i j p : ℕ) (d : Shard) → p < g.shards
+pub shard_at : (g : Geometry) (file random : List ℕ) (i j p : ℕ) (d : Shard) → p < g.shards
     → get_or (shards_in g file random i j) p d ≡ shard_in g file random i j p
 unfolding fragment_shards content_shards
 shard_at g file random i j p d inside =

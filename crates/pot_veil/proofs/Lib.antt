@@ -3,3 +3,4 @@ pub mod Parts
 pub mod Pieces
 pub mod Rewriting
 pub mod SeenLemmas
+pub mod Veiling

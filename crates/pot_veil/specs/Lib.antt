@@ -2,3 +2,4 @@ pub mod Explained
 pub mod FileLaws
 pub mod PieceLaws
 pub mod Seen
+pub mod Veiled

@@ -11,4 +11,4 @@ mod explaining;
 mod laws;
 
 pub use explaining::explain;
-pub use laws::{file_laws, piece_laws};
+pub use laws::{file_laws, piece_laws, veil_laws};
