@@ -9,6 +9,8 @@
 
 mod explaining;
 mod laws;
+#[cfg(test)]
+mod tests;
 
 pub use explaining::explain;
 pub use laws::{file_laws, piece_laws, veil_laws};
