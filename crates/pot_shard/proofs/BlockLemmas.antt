@@ -95,7 +95,7 @@ pads_are_rows g random head long e =
     omega (arith, whole)
 
 -- numbers from 0 on, and one more
-range_more : (n : ℕ) → range_with_len 0 (n + 1) ≡ range_with_len 0 n ++ n ∷ []
+pub range_more : (n : ℕ) → range_with_len 0 (n + 1) ≡ range_with_len 0 n ++ n ∷ []
 range_more n =
     sym (map-id (range_with_len 0 (n + 1))) ∙ map-range_with_len_more (λ (i : ℕ). i) 0 n n (omega arith)
     ∙ ap (λ (z : List ℕ). z ++ n ∷ []) (map-id (range_with_len 0 n))

@@ -11,11 +11,12 @@ use Rattle.pot_bytes.specs.declared.rack.Geometry.{Geometry}
 use Rattle.pot_bytes.proofs.ListLemmas.{AreBytes-take}
 use Rattle.pot_gf.specs.Polynomials.{value, IsBelowDegree}
 use Rattle.pot_gf.proofs.Values.{get_or-end}
+use Rattle.pot_object.specs.Objects.{object}
 use Rattle.pot_object.specs.Pieces.{content_size, pieces_of}
 use Rattle.pot_split.specs.Threshold.{polynomial_at}
 use Rattle.pot_split.proofs.ShareLemmas.{get_or-share}
 use Rattle.pot_split.proofs.ThresholdLaws.{polynomial_bytes, length-polynomial_at}
-use Rattle.pot_shard.specs.FileBlocks.{blocks_at, file_blocks, coefficients_in, content_shards, fragment_shards, fragments_of, fragment_len, head_len, object_shards, part_at, piece_blocks, piece_random, shard_at_place, shard_of}
+use Rattle.pot_shard.specs.FileBlocks.{blocks_at, file_blocks, coefficients_in, content_of, content_shards, fragment_shards, fragments_of, fragment_len, head_len, object_shards, part_at, piece_blocks, piece_random, shard_at_place, shard_of}
 use Rattle.pot_shard.specs.FileLaws.{content_in, object_in, shards_in, IsStore}
 use Rattle.pot_shard.specs.Places.{block_in, fragment_random, position, shard_in, PlaceLaws}
 use Rattle.pot_shard.specs.Shards.{shard_bytes}
@@ -47,18 +48,23 @@ unfolding fragment_shards
 length-shards_in g file random i j =
     length-content_shards g (content_in g file random i j) (part_at (head_len g) (fragment_len g) j (piece_random g i random))
 
-block_of_piece : (g : Geometry) (file random : List ℕ) (i j p : ℕ) → j < g.fragments → p < g.shards
-    → get_or (blocks_at g file random i) (j * g.shards + p) [] ≡ shard_bytes (shard_in g file random i j p)
-unfolding piece_blocks object_shards
-block_of_piece g file random i j p within inside =
-    let own = piece_random g i random in
-    let fragments = fragments_of g (object_in file random i) own in
+-- the block at a place of a piece, by its own random bytes
+pub block_of_object : (g : Geometry) (id file : List ℕ) (piece : ℕ) (own : List ℕ) (j p : ℕ) → j < g.fragments → p < g.shards
+    → get_or (piece_blocks g id file piece own) (j * g.shards + p) []
+    ≡ shard_bytes (shard_at_place g (content_of g (fragments_of g (object id file piece) own) own j) (part_at (head_len g) (fragment_len g) j own) p)
+unfolding piece_blocks object_shards fragment_shards content_shards
+block_of_object g id file piece own j p within inside =
+    let fragments = fragments_of g (object id file piece) own in
     let f = fragment_shards g fragments own in
-    let s = shard_in g file random i j p in
+    let at = shard_at_place g (content_of g fragments own j) (part_at (head_len g) (fragment_len g) j own) in
     ap (λ z. get_or z (j * g.shards + p) []) (map-flat_map shard_bytes f (range_with_len 0 g.fragments))
     ∙ at_part (λ l. map shard_bytes (f l)) g.shards g.fragments j p [] (length-fragment_blocks g fragments own) within inside
-    ∙ get_or-map shard_bytes (f j) p s [] (omega (arith, length-shards_in g file random i j))
-    ∙ ap shard_bytes (shard_at g file random i j p s inside)
+    ∙ get_or-map shard_bytes (f j) p (at p) [] (omega (arith, length-content_shards g (content_of g fragments own j) (part_at (head_len g) (fragment_len g) j own), inside))
+    ∙ ap shard_bytes (get_or-map-range_with_len at 0 g.shards p p (at p) inside (let e : 0 + p ≡ p = omega arith in e))
+
+block_of_piece : (g : Geometry) (file random : List ℕ) (i j p : ℕ) → j < g.fragments → p < g.shards
+    → get_or (blocks_at g file random i) (j * g.shards + p) [] ≡ shard_bytes (shard_in g file random i j p)
+block_of_piece g file random i j p within inside = block_of_object g (take 16 random) file i (piece_random g i random) j p within inside
 
 count_law : (g : Geometry) (file random : List ℕ)
     → length (file_blocks g file random) ≡ pieces_of (length file) * (g.fragments * g.shards)

@@ -1,6 +1,6 @@
 -- The explanation of a file, piece by piece.
-use Rattle.std.proofs.Common.{◌≡◌, ◌≢◌, ◌<◌, ◌≤◌, ◌⊎◌, inl, inr, ℕ, zero, suc, ◌+◌, ◌-◌, ◌*◌, List, length, take, drop, get_or, refl, sym, ap, ap₂, ◌∙◌, subst, arith}
-use Rattle.std.proofs.lemmas.List.{get_or-take, get_or-drop, ext_get_or}
+use Rattle.std.proofs.Common.{length-drop, ◌≡◌, ◌≢◌, ◌<◌, ◌≤◌, ◌⊎◌, inl, inr, ℕ, zero, suc, ◌+◌, ◌-◌, ◌*◌, List, length, take, drop, get_or, refl, sym, ap, ap₂, ◌∙◌, subst, arith}
+use Rattle.std.proofs.lemmas.List.{length-take-le, get_or-take, get_or-drop, ext_get_or}
 use Rattle.pot_bytes.specs.Lists.{AreBytes}
 use Rattle.pot_bytes.specs.declared.rack.Geometry.{Geometry}
 use Rattle.pot_object.specs.Objects.{object}
@@ -16,6 +16,8 @@ use Rattle.pot_veil.specs.PieceLaws.{IsVeiled}
 use Rattle.pot_veil.specs.FileLaws.{FileLaws, IsVeiledFile}
 use Rattle.pot_veil.proofs.Parts.{AreBytes-with_part, length-with_part, part-same, part-in, take-before}
 use Rattle.pot_veil.proofs.Pieces.{piece_laws}
+use Rattle.pot_veil.proofs.Rewriting.{put_is}
+use borrow.Rule.Slice.PartMut.{put_mid}
 
 same_or : (k c : ℕ) → (k ≡ c) ⊎ (k ≢ c)
 same_or k c = grind arith
@@ -94,6 +96,33 @@ module _ (g : Geometry) (file other : List ℕ) (hidden : ℕ → ℕ) (seen : �
           → (piece_start g i + piece_len g ≤ piece_start g n) ⊎ (piece_start g n + length (part n) ≤ piece_start g i)
       far i (inl x) = inl x
       far i (inr x) = inr (let p : length (part n) ≡ piece_len g = (kept_part n (omega arith)).taken in omega arith)
+
+  -- the bytes of the next piece are as they were
+  pub piece_yet : (n : ℕ) → n < pieces → piece_random g n (upto n) ≡ piece_random g n random
+  piece_yet n ln = elim (piece_now n n (omega arith) ln) [ inl x ↦ absurd (let l : n < n = x.0 in omega arith) | inr x ↦ x.1 ]
+
+  pub piece_own : (n from k : ℕ) (now : List ℕ) → n < pieces → now ≡ upto n → from ≡ piece_start g n → k ≡ piece_len g
+      → take k (drop from now) ≡ piece_random g n random
+  piece_own n from k now ln is start size = ap₂ (λ (a b : ℕ). take a (drop b now)) size start ∙ ap (piece_random g n) is ∙ piece_yet n ln
+
+  -- and are written over
+  pub piece_written : (n from k : ℕ) (id now new : List ℕ) → n < pieces → now ≡ upto n → id ≡ take 16 random → from ≡ piece_start g n → k ≡ piece_len g
+      → length new ≡ length (take k (drop from now))
+      → new ≡ explained g (object id file n) (object id other n) (hidden n) (seen n) (take k (drop from now))
+      → put_mid from k now new ≡ upto (n + 1)
+  unfolding explained_upto
+  piece_written n from k id now new ln is here start size same made =
+      let next : suc n ≡ n + 1 = omega arith in
+      let l : length (upto n) ≡ length random = long n (omega arith) in
+      let w : piece_start g n + piece_len g ≤ length random = within n ln in
+      let whole : length now ≡ length random = ap length is ∙ l in
+      let full : length new ≡ k = same ∙ length-take-le k (drop from now) (omega (arith, length-drop {A = ℕ} from now, whole, w, start, size)) in
+      let all : new ≡ part n =
+      made ∙ ap₂ (λ (a b : List ℕ). explained g (object a file n) (object a other n) (hidden n) (seen n) b) here (piece_own n from k now ln is start size) in
+      put_is from k now new full
+      ∙ ap₂ (λ (a : ℕ) (b : List ℕ). with_part a b now) start all
+      ∙ ap (with_part (piece_start g n) (part n)) is
+      ∙ ap upto next
 
   pub piece_is : (i : ℕ) → i < pieces → piece_random g i (upto pieces) ≡ part i
   piece_is i li = elim (piece_now pieces i (omega arith) li) [ inl x ↦ x.1 | inr x ↦ absurd (let l : pieces ≤ i = x.0 in omega arith) ]

@@ -1,4 +1,7 @@
+pub mod Comparing
+pub mod Drilled
 pub mod Files
+pub mod Kept
 pub mod Parts
 pub mod Pieces
 pub mod Rewriting

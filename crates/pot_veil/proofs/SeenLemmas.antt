@@ -1,5 +1,5 @@
 -- Ascending points are distinct bytes other than 0.
-use Rattle.std.proofs.Common.{◌≡◌, ◌<◌, inl, inr, ℕ, suc, List, [], ◌∷◌, length, get_or, nat_eq, false, sym, subst, arith, lit<}
+use Rattle.std.proofs.Common.{◌+◌, ◌-◌, ◌≤◌, ◌≡◌, ◌<◌, inl, inr, ℕ, suc, List, [], ◌∷◌, length, get_or, nat_eq, false, sym, subst, arith, lit<, zero}
 use Rattle.std.specs.List.{All, AllByRecursion, IsDistinct}
 use Rattle.std.proofs.lemmas.Bool.{cases_lt}
 use Rattle.std.proofs.lemmas.Bool.Decides.{nat_tests}
@@ -37,4 +37,20 @@ pub seen_bytes : (n : ℕ) (seen : List ℕ) → n < 256 → AreSeen n seen → 
 seen_bytes n seen few s k = elim (cases_lt k (length seen)) [
   | inl inside ↦ (let b = s.each k inside in omega (arith, b.1))
   | inr behind ↦ subst (λ (z : ℕ). z < 256) (sym (get_or-end seen k behind)) (lit< tt)
+]
+
+at_least : (n : ℕ) (seen : List ℕ) (k : ℕ) → AreSeen n seen → k < length seen → k + 1 ≤ get_or seen k 0
+at_least n seen zero s lt = (s.each 0 lt).0
+at_least n seen (suc k) s lt =
+    let before = at_least n seen k s (omega arith) in
+    omega (arith, before, s.ascending k (suc k) (omega arith) lt)
+
+-- there are no more of them than points
+pub seen_few : (n : ℕ) (seen : List ℕ) → AreSeen n seen → length seen ≤ n
+seen_few n seen s = elim (cases_lt 0 (length seen)) [
+  | inl some ↦
+      (let k : ℕ = length seen - 1 in
+      let last = at_least n seen k s (omega arith) in
+      omega (arith, last, (s.each k (omega arith)).1))
+  | inr none ↦ omega arith
 ]

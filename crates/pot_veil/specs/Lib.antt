@@ -1,3 +1,4 @@
+pub mod Drills
 pub mod Explained
 pub mod FileLaws
 pub mod PieceLaws

@@ -7,10 +7,12 @@
 //!    back, so they are a bijection: `piece_laws`, `file_laws`.
 #![tactic(auto)]
 
+mod drilling;
 mod explaining;
 mod laws;
 #[cfg(test)]
 mod tests;
 
+pub use drilling::{DrillFault, DrillReport, drill};
 pub use explaining::explain;
 pub use laws::{file_laws, piece_laws, veil_laws};
