@@ -1,12 +1,14 @@
 //! Objects that explain one another.
 ghost use Rattle.std.specs.Prelude.{◌≡◌, ◌≤◌, ◌<◌, length};
 ghost use Rattle.pot_bytes.specs.Rack.{IsGeometry};
-ghost use Rattle.pot_shard.specs.FileBlocks.{piece_len};
+ghost use Rattle.pot_object.specs.Pieces.{longest, pieces_of};
+ghost use Rattle.pot_shard.specs.FileBlocks.{piece_len, random_len};
 ghost use Rattle.pot_veil.specs.Seen.{AreSeen};
 
-use crate::explain;
+use crate::{DrillFault, drill, explain};
 use pot_bytes::{Geometry, digest_of};
 use pot_object::{OBJECT, write_object};
+use std::alloc::Global;
 use std::process::Abort;
 
 /// The object of a file of five bytes.
@@ -79,4 +81,104 @@ fn explains_another_object(rt: HostRuntime) {
     let mut random = [0; 7_944];
     let start = [0x2e, 0xc0, 0x9d, 0xb4, 0x63, 0x95, 0xb8, 0x3f];
     assert_explains(&rt, &OF_THREE, 2, &[2, 5], &mut random, &start);
+}
+
+/// What a drill reports over these files: so many pieces and seen blocks, whose digest begins so.
+#[derive(Drop)]
+struct Reported {
+    pieces: u32,
+    blocks: u32,
+    start: [u8; 8],
+    /// How the digest of the random bytes begins that it leaves.
+    left: [u8; 8],
+}
+
+fn assert_drills(
+    rt: &impl Abort,
+    alloc: Global,
+    file: &[u8],
+    other: &[u8],
+    geometry: &Geometry,
+    fragment: u8,
+    seen: &[u8],
+    random: &mut [u8],
+    reported: &Reported,
+)
+    requires fits { length file.now ≤ longest }
+    requires same_length { length other.now ≡ length file.now }
+    requires geometry { IsGeometry geometry.now }
+    requires random { length random.old ≡ random_len (pieces_of (length file.now)) geometry.now }
+    requires first { 1 ≤ fragment }
+    requires last { fragment ≤ geometry.now.fragments }
+    requires seen { AreSeen geometry.now.shards seen.now }
+{
+    fill(random);
+    let report = drill(alloc, file, other, geometry, fragment, seen, random).expect(rt, "memory");
+    assert_eq!(rt; report.pieces, reported.pieces);
+    assert_eq!(rt; report.blocks, reported.blocks);
+    assert_eq!(rt; &report.digest.bytes[..8], reported.start.as_slice());
+    assert_eq!(rt; &digest_of(random).bytes[..8], reported.left.as_slice());
+}
+
+/// The numbers and digests were computed apart from this crate, by a program in Python.
+#[test]
+fn drills_files(rt: HostRuntime) {
+    let mut random = [0; 2_992];
+    let reported = Reported {
+        pieces: 1,
+        blocks: 4,
+        start: [0xa3, 0xe5, 0x38, 0x03, 0x7d, 0xb8, 0x6c, 0x94],
+        left: [0x5e, 0x76, 0x0a, 0xd1, 0xc6, 0xe0, 0xc9, 0xa4],
+    };
+    assert_drills(
+        &rt,
+        rt.alloc(),
+        b"hello",
+        b"world",
+        &OF_TWO,
+        1,
+        &[3],
+        &mut random,
+        &reported,
+    );
+    let fault = DrillFault::Exposed {
+        fragment: 1,
+        have: 2,
+        need: 2,
+    };
+    assert_eq!(rt;
+        drill(
+            rt.alloc(),
+            b"hello",
+            b"world",
+            &OF_TWO,
+            1,
+            &[1, 2],
+            &mut random
+        ),
+        Err(fault)
+    );
+    assert_eq!(rt; &digest_of(&random).bytes[..8], reported.left.as_slice());
+    let mut file = [0; 1_000];
+    let mut other = [0; 1_000];
+    fill(&mut file);
+    other[999] = 1;
+    let mut random = [0; 15_904];
+    let reported = Reported {
+        pieces: 2,
+        blocks: 24,
+        start: [0x72, 0x64, 0x09, 0x6e, 0xcf, 0x71, 0x68, 0xa2],
+        left: [0x7e, 0x45, 0xc8, 0x4d, 0x13, 0xd2, 0xf1, 0x2d],
+    };
+    assert_drills(
+        &rt,
+        rt.alloc(),
+        &file,
+        &other,
+        &OF_THREE,
+        2,
+        &[2, 5],
+        &mut random,
+        &reported,
+    );
 }
