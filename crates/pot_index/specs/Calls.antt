@@ -1,5 +1,5 @@
 -- The calls of an index, each by its answer, between the index before and after it.
-use Rattle.std.specs.Prelude.{◌≡◌, ◌⊎◌, ◌<◌, ◌≤◌, ℕ, ◌+◌, true, false, List, Some, Vec, Result, Ok, Err, length, map, slice_get}
+use Rattle.std.specs.Prelude.{All, ◌≡◌, ◌⊎◌, ◌<◌, ◌≤◌, ℕ, ◌+◌, true, false, List, Some, Vec, Result, Ok, Err, length, map, slice_get}
 use Rattle.std.specs.Global.{Global}
 use Rattle.pot_bytes.specs.declared.digest.Digest.{Digest}
 use Rattle.pot_index.specs.declared.entry.IndexEntry.{IndexEntry}
@@ -16,7 +16,7 @@ use Rattle.pot_index.specs.declared.listed.Listed.{Listed}
 use Rattle.pot_index.specs.declared.record.Record.{Record}
 use Rattle.pot_index.specs.declared.record.Split.{Split}
 use Rattle.pot_index.specs.Records.{renewed, mark_of}
-use Rattle.pot_index.specs.Entries.{plain, bringing}
+use Rattle.pot_index.specs.Entries.{IsReserving, IsEnding, plain, bringing}
 use Rattle.pot_index.specs.Index.{IndexView, IsPublished, IsRecordOf, IsTaken, IsFree, log_bound, owed, logged}
 
 -- so many more entries are within the bound of the log, beside one for each reserved name
@@ -67,16 +67,16 @@ RenewsRecord job name split s t r (Err renew_fault.NoMemory) = HasRoom 1 s × (l
 abbrev pub Renews : ℕ → List ℕ → Split → IndexView → IndexView → Result (Unit {0}) RenewFault → Type 0
 Renews job name split s t result = (r : Record) × IsRecordOf s.now name r × RenewsRecord job name split s t r result
 
--- `ended_at`
--- the entry ends the job's reservation of the name
-abbrev pub IsEnd : ℕ → List ℕ → IndexEntry → Type 0
-IsEnd job name e = (e ≡ entry.Abandon job name) ⊎ ((mark : Digest) × (e ≡ entry.Publish job name mark))
-
--- the first entry that ends the job's reservation of the name, after the last one that made it
-pub record EndsAt (job : ℕ) (name : List ℕ) (entries : List IndexEntry) (at : ℕ) : Type 0 where
-  pub from : ℕ
-  pub reserve : slice_get entries from ≡ Some (entry.Reserve job name)
-  pub last : (k : ℕ) → from < k → ¬ (slice_get entries k ≡ Some (entry.Reserve job name))
-  pub behind : from < at
-  pub ends : (e : IndexEntry) × (slice_get entries at ≡ Some e) × IsEnd job name e
-  pub first : (k : ℕ) (e : IndexEntry) → from < k → k < at → slice_get entries k ≡ Some e → ¬ IsEnd job name e
+-- `ended_at`: the place of the first entry that ends the job's reservation of the name, after the last one that made it
+pub record EndsAt (job : ℕ) (name : List ℕ) (es : List IndexEntry) (at : ℕ) : Type 0 where
+  pub before : List IndexEntry
+  pub made : IndexEntry
+  pub between : List IndexEntry
+  pub ended : IndexEntry
+  pub behind : List IndexEntry
+  pub parts : es ≡ before ++ made ∷ (between ++ ended ∷ behind)
+  pub place : at ≡ length before + 1 + length between
+  pub makes : IsReserving job name made
+  pub ends : IsEnding job name ended
+  pub first : All (λ e. ¬ IsEnding job name e) between
+  pub last : All (λ e. ¬ IsReserving job name e) (between ++ ended ∷ behind)

@@ -1,5 +1,5 @@
 -- The entries of the index's log, and what they brought.
-use Rattle.std.specs.Prelude.{ℕ, ◌==◌, Bool, true, false, List, [], ◌∷◌, Some, None, if◌then◌else◌, map, filter}
+use Rattle.std.specs.Prelude.{◌≡◌, ℕ, ◌-◌, ◌==◌, Bool, true, false, List, [], ◌∷◌, Some, None, if◌then◌else◌, length, map, filter}
 use Rattle.pot_index.specs.declared.entry.IndexEntry.{IndexEntry}
 use Rattle.pot_index.specs.declared.entry.IndexEntry.TheVariants.{Reserve, Taken, Publish, Abandon, Find, Listed, Renew, Often}
 use Rattle.pot_index.specs.declared.entry.Logged.{Logged}
@@ -65,3 +65,26 @@ IsQuiet (Find job name found) = Unit {0}
 IsQuiet (Listed job) = Unit {0}
 IsQuiet (Often job name) = Unit {0}
 IsQuiet _ = ⊥
+
+-- the entry makes the job's reservation of the name, or ends it
+abbrev pub IsReserving : ℕ → List ℕ → IndexEntry → Type 0
+IsReserving job name (Reserve j n) = (j ≡ job) × (n ≡ name)
+IsReserving job name _ = ⊥
+
+abbrev pub IsEnding : ℕ → List ℕ → IndexEntry → Type 0
+IsEnding job name (Publish j n mark) = (j ≡ job) × (n ≡ name)
+IsEnding job name (Abandon j n) = (j ≡ job) × (n ≡ name)
+IsEnding job name _ = ⊥
+
+-- the entry publishes a record under the name, or gives the record of the name a new split
+abbrev pub IsPublishing : List ℕ → IndexEntry → Type 0
+IsPublishing name (Publish j n mark) = n ≡ name
+IsPublishing name _ = ⊥
+
+abbrev pub IsRenewing : List ℕ → IndexEntry → Type 0
+IsRenewing name (Renew j n mark) = n ≡ name
+IsRenewing name _ = ⊥
+
+-- how many names are reserved behind a log: one is by each Reserve, and is no more by each Publish and Abandon
+abbrev pub reserved_in : List IndexEntry → ℕ
+reserved_in es = length (filter is_reserve es) - length (filter ends_reserve es)

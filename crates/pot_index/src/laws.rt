@@ -1,5 +1,5 @@
 //! What is proved of the log of an index as a whole.
-ghost use Rattle.pot_index.specs.Laws.{NamesKept, LogsGoOn, LogsWentOn, LogsLeadOnce};
+ghost use Rattle.pot_index.specs.Laws.{NamesKept, LogsGoOn, LogsWentOn, LogsLeadOnce, ReservedStays, EndedStays};
 
 /// What the replay of a log keeps, and how logs go on. It does nothing.
 pub fn index_laws()
@@ -7,4 +7,6 @@ pub fn index_laws()
     ensures go_on { LogsGoOn }
     ensures went_on { LogsWentOn }
     ensures once { LogsLeadOnce }
+    ensures reserved { ReservedStays }
+    ensures ended { EndedStays }
 {}
