@@ -67,12 +67,12 @@ SplitsStay =
 -- the entries and the reserved names together never fall
 abbrev pub OwedNeverFalls : Type 0
 OwedNeverFalls =
-    (rack : Rack) (n m : Names) (log : List Logged) → AreNames rack n → Replays rack n log m → length n.reserved ≤ length log + length m.reserved
+    (rack : Rack) (n m : Names) (log : List Logged) → Replays rack n log m → length n.reserved ≤ length log + length m.reserved
 
 -- how many names are reserved is told by the log, where none was at its beginning
 abbrev pub CountsReserved : Type 0
 CountsReserved =
-    (rack : Rack) (n m : Names) (log : List Logged) → AreNames rack n → Replays rack n log m → n.reserved ≡ [] → length m.reserved ≡ reserved_in (entries log)
+    (rack : Rack) (n m : Names) (log : List Logged) → Replays rack n log m → n.reserved ≡ [] → length m.reserved ≡ reserved_in (entries log)
 
 -- each entry publishes one record at most
 abbrev pub FewPublished : Type 0

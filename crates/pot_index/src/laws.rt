@@ -1,5 +1,5 @@
 //! What is proved of the log of an index as a whole.
-ghost use Rattle.pot_index.specs.Laws.{NamesKept, LogsGoOn, LogsWentOn, LogsLeadOnce, ReservedStays, EndedStays};
+ghost use Rattle.pot_index.specs.Laws.{NamesKept, LogsGoOn, LogsWentOn, LogsLeadOnce, ReservedStays, EndedStays, PublishedOnce, RecordsStay, SplitsStay, OwedNeverFalls, CountsReserved, FewPublished};
 
 /// What the replay of a log keeps, and how logs go on. It does nothing.
 pub fn index_laws()
@@ -9,4 +9,10 @@ pub fn index_laws()
     ensures once { LogsLeadOnce }
     ensures reserved { ReservedStays }
     ensures ended { EndedStays }
+    ensures published { PublishedOnce }
+    ensures records { RecordsStay }
+    ensures splits { SplitsStay }
+    ensures owed { OwedNeverFalls }
+    ensures counted { CountsReserved }
+    ensures few { FewPublished }
 {}
