@@ -1,9 +1,9 @@
 -- What an index keeps, entry by entry.
-use Rattle.std.proofs.Common.{◌≡◌, ◌+◌, ◌<◌, ◌≤◌, ℕ, Bool, true, false, List, length, get_or, None, refl, sym, ap, subst, ◌∙◌, inl, arith}
-use Rattle.std.specs.Prelude.{HoldsAt, Result, Ok, Err, MatchResult, MatchBool, is_ok, IsErrAnd}
+use Rattle.std.proofs.Common.{◌∷◌, [], ◌++◌, Some, ◌≡◌, ◌+◌, ◌<◌, ◌≤◌, ℕ, Bool, true, false, List, length, get_or, None, refl, sym, ap, subst, ◌∙◌, inl, arith, All, Option, append_assoc}
+use Rattle.std.specs.Prelude.{HoldsAt, Result, Ok, Err, MatchOption, MatchResult, MatchBool, is_ok, IsErrAnd}
 use Rattle.std.specs.List.{IsDistinct}
 use Rattle.std.proofs.lemmas.List.{length_push}
-use Rattle.std.proofs.lemmas.List.Elements.{All-contains, All-push, Contains-get_or}
+use Rattle.std.proofs.lemmas.List.Elements.{All-contains, All-push, All-tail, Contains-get_or}
 use Rattle.pot_bytes.specs.Rack.{IsRack}
 use Rattle.pot_bytes.specs.declared.rack.Rack.{Rack}
 use Rattle.pot_object.specs.Pieces.{pieces_of}
@@ -13,10 +13,11 @@ use Rattle.pot_index.specs.declared.entry.Logged.{Logged}
 use Rattle.pot_index.specs.declared.record.Record.{Record}
 use Rattle.pot_index.specs.declared.record.Split.{Split}
 use Rattle.pot_index.specs.declared.reservation.Reservation.{Reservation}
-use Rattle.pot_index.specs.Entries.{IsQuiet, plain, bringing}
+use Rattle.pot_index.specs.Ending.{IsHeld, EndsAt}
+use Rattle.pot_index.specs.Entries.{IsReserving, IsQuiet, plain, bringing, entries}
 use Rattle.pot_index.specs.Records.{current_of, splits_of, renewed, mark_of}
 use Rattle.pot_index.specs.Fits.{FitsRack, FitsSplit}
-use Rattle.pot_index.specs.Index.{Names, IndexView, IsIndex, AreRead, IsPublished, IsReserved, IsReservedBy, IsRecordOf, IsTaken, IsFree, Legal, LegalEntry, log_bound, owed, started, logged, names_read, without}
+use Rattle.pot_index.specs.Index.{Names, IndexView, IsIndex, AreRead, AreNames, IsPublished, IsReserved, IsReservedBy, IsRecordOf, IsTaken, IsFree, Legal, LegalEntry, log_bound, owed, started, logged, names_read, without}
 use Rattle.pot_index.specs.Searches.{StandsAt, BelongsAt}
 use Rattle.pot_index.specs.declared.fault.FindFault.{FindFault}
 use Rattle.pot_index.specs.declared.fault.FindFault.TheVariants as find_fault
@@ -25,6 +26,7 @@ use Rattle.pot_index.specs.declared.fault.RenewFault.TheVariants as renew_fault
 use Rattle.pot_index.specs.Calls.{HasRoom, IsFull, Finds, Renews}
 use Rattle.pot_index.proofs.ListLemmas.{quiet_stays}
 use Rattle.pot_index.proofs.NameLemmas.{contains_map, from_map, length-without}
+use Rattle.pot_index.proofs.LogLaws.{reserved_stays, ended_stays}
 use Rattle.pot_index.proofs.NamesKept.{after_keeps, goes_on}
 use Rattle.pot_index.proofs.RecordLemmas.{stands_published, belongs_unpublished}
 
@@ -155,3 +157,21 @@ renew_no_memory s t job name split (Ok u) row h = absurd h
 renew_no_memory s t job name split (Err renew_fault.LogFull) row h = absurd (cc)
 renew_no_memory s t job name split (Err renew_fault.TooOften) row h = absurd (cc)
 renew_no_memory s t job name split (Err renew_fault.NoMemory) row h = row
+
+-- ENDED RESERVATIONS
+
+all_behind : {X : Type 0} (P : X → Type 0) (xs ys : List X) → All P (xs ++ ys) → All P ys
+all_behind P [] ys h = h
+all_behind P (x ∷ xs) ys h = all_behind P xs ys (All-tail P x (xs ++ ys) h)
+
+read_names : (s : IndexView) → IsIndex s → AreNames s.rack (names_read s.read)
+read_names s i = (started_is s.rack s.read i.rack i.read).names
+
+pub ended_tells : (s : IndexView) (job : ℕ) (name : List ℕ) (ended : Option ℕ) → IsIndex s → MatchOption ended (IsHeld job name (entries s.log)) (EndsAt job name (entries s.log))
+    → MatchOption ended (IsReservedBy s.now job name) (λ _. IsReservedBy s.now job name → ⊥)
+ended_tells s job name None i h =
+    reserved_stays s.rack (names_read s.read) s.now s.log job name h.before h.made h.behind (read_names s i) i.replays h.parts h.makes h.kept
+ended_tells s job name (Some at) i h =
+    ended_stays s.rack (names_read s.read) s.now s.log job name (h.before ++ h.made ∷ h.between) h.ended h.behind (read_names s i) i.replays
+    (h.parts ∙ sym (append_assoc h.before (h.made ∷ h.between) (h.ended ∷ h.behind))) h.ends
+    (All-tail (λ e. IsReserving job name e → ⊥) h.ended h.behind (all_behind (λ e. IsReserving job name e → ⊥) h.between (h.ended ∷ h.behind) h.last))

@@ -1,22 +1,17 @@
 -- What the replay of a log says of reservations and of records.
-use Rattle.std.proofs.Common.{◌≡◌, ◌≢◌, ◌+◌, ◌-◌, ◌<◌, ◌≤◌, ℕ, Bool, true, false, List, [], ◌∷◌, ◌++◌, length, map, Option, Some, None, refl, sym, ap, subst, ◌∙◌, inl, inr, ◌⊎◌, ⊎_elim, append-nil, append_assoc, arith}
-use Rattle.std.specs.Prelude.{Contains, All, filter}
-use Rattle.std.proofs.lemmas.List.{length_push}
-use Rattle.std.proofs.lemmas.List.Elements.{All-cons, All-head, All-tail, All-nil, Contains-append_left, Contains-push, Contains-push_cases}
+use Rattle.std.proofs.Common.{◌≡◌, ℕ, true, false, List, [], ◌∷◌, ◌++◌, Option, Some, None, sym, ap, subst, inl, inr, ◌⊎◌, ⊎_elim}
+use Rattle.std.specs.Prelude.{Contains, All}
+use Rattle.std.proofs.lemmas.List.Elements.{All-head, All-tail, Contains-append_left, Contains-push, Contains-push_cases}
 use Rattle.pot_bytes.specs.declared.rack.Rack.{Rack}
 use Rattle.pot_index.specs.declared.entry.IndexEntry.{IndexEntry}
 use Rattle.pot_index.specs.declared.entry.IndexEntry.TheVariants.{Reserve, Taken, Publish, Abandon, Find, Listed, Renew, Often}
 use Rattle.pot_index.specs.declared.entry.Logged.{Logged}
 use Rattle.pot_index.specs.declared.record.Record.{Record}
-use Rattle.pot_index.specs.declared.record.Split.{Split}
 use Rattle.pot_index.specs.declared.reservation.Reservation.{Reservation}
-use Rattle.pot_index.specs.Entries.{IsReserving, IsEnding, IsPublishing, IsRenewing, entries, is_reserve, ends_reserve, reserved_in}
-use Rattle.pot_index.specs.Records.{splits_of, renewed, current_of}
-use Rattle.pot_index.specs.Index.{Names, IsPublished, IsReserved, IsReservedBy, IsRecordOf, AreNames, Legal, LegalEntry, Replays, after, after_entry, same_name, inserted, replaced, without}
-use Rattle.pot_index.specs.Laws.{GoesOn}
-use Rattle.pot_index.proofs.NameLemmas.{names_of, true_or_false, same_true, same_false, contains_map, from_map, one_reservation, without_keeps, without_from, without_gone, length-without}
-use Rattle.pot_index.proofs.RecordLemmas.{record_names, inserted_has, inserted_keeps, length-inserted, record_names-replaced, replaced_keeps, replaced_has}
-use Rattle.pot_index.proofs.NamesKept.{after_keeps, reserved_unpublished}
+use Rattle.pot_index.specs.Entries.{IsReserving, IsEnding, entries}
+use Rattle.pot_index.specs.Index.{Names, IsReservedBy, AreNames, LegalEntry, Replays, after, after_entry, same_name, without}
+use Rattle.pot_index.proofs.NameLemmas.{names_of, true_or_false, same_true, same_false, contains_map, one_reservation, without_keeps, without_from, without_gone}
+use Rattle.pot_index.proofs.NamesKept.{after_keeps}
 
 -- RESERVATIONS
 

@@ -1,9 +1,6 @@
 -- What the replay of a log says of published records, and how many names it leaves.
-use Rattle.std.proofs.Common.{◌≡◌, ◌≢◌, ◌+◌, ◌-◌, ◌<◌, ◌≤◌, ℕ, Bool, true, false, List, [], ◌∷◌, ◌++◌, length, get_or, map, Option, Some, None, refl, sym, ap, subst, ◌∙◌, inl, inr, ◌⊎◌, ⊎_elim, append-nil, append_assoc, arith}
+use Rattle.std.proofs.Common.{◌≡◌, ◌+◌, ◌<◌, ◌≤◌, ℕ, Bool, true, false, List, [], ◌∷◌, ◌++◌, length, get_or, Option, Some, None, refl, sym, ap, subst, ◌∙◌, inl, inr, ◌⊎◌, append-nil, append_assoc, arith}
 use Rattle.std.specs.Prelude.{if◌then◌else◌, Contains, All, filter}
-use Rattle.std.specs.Cmp.Lexicographic.{slice_cmp}
-use Rattle.std.specs.Ordering.{nat_cmp}
-use Rattle.std.specs.declared.cmp.Ordering.TheVariants.{Less}
 use Rattle.std.proofs.lemmas.Bool.{cases_lt}
 use Rattle.std.proofs.lemmas.List.{length_push, length-map, get_or_default}
 use Rattle.std.proofs.lemmas.List.Elements.{All-cons, All-head, All-tail, All-nil}
@@ -16,7 +13,7 @@ use Rattle.pot_index.specs.declared.record.Split.{Split}
 use Rattle.pot_index.specs.declared.reservation.Reservation.{Reservation}
 use Rattle.pot_index.specs.Entries.{IsPublishing, IsRenewing, entries, is_reserve, ends_reserve, reserved_in}
 use Rattle.pot_index.specs.Records.{splits_of, renewed, current_of}
-use Rattle.pot_index.specs.Index.{Names, IsPublished, IsReserved, IsReservedBy, IsRecordOf, AreNames, Ascends, Legal, LegalEntry, Replays, after, after_entry, same_name, inserted, replaced, without}
+use Rattle.pot_index.specs.Index.{Names, IsPublished, IsReservedBy, IsRecordOf, AreNames, Ascends, LegalEntry, Replays, after, after_entry, same_name, inserted, replaced, without}
 use Rattle.pot_index.specs.Laws.{GoesOn}
 use Rattle.pot_index.proofs.SearchLemmas.{less_at}
 use Rattle.pot_index.proofs.NameLemmas.{true_or_false, same_true, same_false, contains_map, from_map, length-without}

@@ -1,8 +1,6 @@
 -- The calls of an index, each by its answer, between the index before and after it.
-use Rattle.std.specs.Prelude.{All, ◌≡◌, ◌⊎◌, ◌<◌, ◌≤◌, ℕ, ◌+◌, true, false, List, Some, Vec, Result, Ok, Err, length, map, slice_get}
+use Rattle.std.specs.Prelude.{◌≡◌, ◌<◌, ◌≤◌, ℕ, ◌+◌, true, false, List, Vec, Result, Ok, Err, length, map}
 use Rattle.std.specs.Global.{Global}
-use Rattle.pot_bytes.specs.declared.digest.Digest.{Digest}
-use Rattle.pot_index.specs.declared.entry.IndexEntry.{IndexEntry}
 use Rattle.pot_index.specs.declared.entry.IndexEntry.TheVariants as entry
 use Rattle.pot_index.specs.declared.fault.FindFault.{FindFault}
 use Rattle.pot_index.specs.declared.fault.FindFault.TheVariants as find_fault
@@ -16,7 +14,7 @@ use Rattle.pot_index.specs.declared.listed.Listed.{Listed}
 use Rattle.pot_index.specs.declared.record.Record.{Record}
 use Rattle.pot_index.specs.declared.record.Split.{Split}
 use Rattle.pot_index.specs.Records.{renewed, mark_of}
-use Rattle.pot_index.specs.Entries.{IsReserving, IsEnding, plain, bringing}
+use Rattle.pot_index.specs.Entries.{plain, bringing}
 use Rattle.pot_index.specs.Index.{IndexView, IsPublished, IsRecordOf, IsTaken, IsFree, log_bound, owed, logged}
 
 -- so many more entries are within the bound of the log, beside one for each reserved name
@@ -66,17 +64,3 @@ RenewsRecord job name split s t r (Err renew_fault.NoMemory) = HasRoom 1 s × (l
 
 abbrev pub Renews : ℕ → List ℕ → Split → IndexView → IndexView → Result (Unit {0}) RenewFault → Type 0
 Renews job name split s t result = (r : Record) × IsRecordOf s.now name r × RenewsRecord job name split s t r result
-
--- `ended_at`: the place of the first entry that ends the job's reservation of the name, after the last one that made it
-pub record EndsAt (job : ℕ) (name : List ℕ) (es : List IndexEntry) (at : ℕ) : Type 0 where
-  pub before : List IndexEntry
-  pub made : IndexEntry
-  pub between : List IndexEntry
-  pub ended : IndexEntry
-  pub behind : List IndexEntry
-  pub parts : es ≡ before ++ made ∷ (between ++ ended ∷ behind)
-  pub place : at ≡ length before + 1 + length between
-  pub makes : IsReserving job name made
-  pub ends : IsEnding job name ended
-  pub first : All (λ e. ¬ IsEnding job name e) between
-  pub last : All (λ e. ¬ IsReserving job name e) (between ++ ended ∷ behind)

@@ -1,8 +1,9 @@
 //! The index.
-ghost use Rattle.std.specs.Prelude.{◌≡◌, IfOk, IfErr, MatchOption, length};
+ghost use Rattle.std.specs.Prelude.{◌≡◌, Any, IfOk, IfErr, IfSome, MatchOption, length};
 ghost use Rattle.pot_bytes.specs.Rack.{IsRack};
 ghost use Rattle.pot_object.specs.Pieces.{pieces_of};
-ghost use Rattle.pot_index.specs.Entries.{entries};
+ghost use Rattle.pot_index.specs.Entries.{IsReserving, entries};
+ghost use Rattle.pot_index.specs.Ending.{EndsAt};
 ghost use Rattle.pot_index.specs.Fits.{FitsRack, FitsSplit};
 ghost use Rattle.pot_index.specs.Index.{IsIndex, AreRead, IsPublished, IsReservedBy, IsRecordOf, started};
 ghost use Rattle.pot_index.specs.Calls.{Reserves, Finds, ListsNames, Renews, published_by, abandoned_by};
@@ -149,6 +150,16 @@ impl Index {
         ensures rules { IsIndex self.now }
     {
         self.lists.logged()
+    }
+
+    /// None where the job holds its reservation of the name, else the place in the log of the entry that ended it: the first
+    /// Publish or Abandon of the name with this job's number after the job's last Reserve of it.
+    pub fn ended_at(&self, job: u32, name: &Name) -> Option<u32>
+        requires { Any (IsReserving job name.now) (entries self.now.log) }
+        ensures held { MatchOption result (IsReservedBy self.now.now job name.now) (λ _. ¬ IsReservedBy self.now.now job name.now) }
+        ensures place { IfSome result (EndsAt job name.now (entries self.now.log)) }
+    {
+        self.lists.ended_at(job, name)
     }
 
     /// Hands out the published records by name and the log. It takes no memory.

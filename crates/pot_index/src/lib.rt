@@ -5,6 +5,7 @@
 #![tactic(auto)]
 
 mod ended;
+mod ending;
 mod entry;
 mod fault;
 mod index;

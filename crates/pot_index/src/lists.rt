@@ -1,12 +1,14 @@
 //! The lists of an index, with the room for all that is to come: no call but `begin`, `reserve` and `renew` takes memory.
-ghost use Rattle.std.specs.Prelude.{◌≡◌, ◌<◌, ◌≤◌, ◌+◌, ◌↔◌, false, IsTrue, IfOk, OnOk, OnErr, MatchBool, MatchResult, HoldsAt, Contains, length, map};
-ghost use Rattle.pot_index.specs.Entries.{IsQuiet, plain, bringing, brings, entries};
+ghost use Rattle.std.specs.Prelude.{◌≡◌, ◌<◌, ◌≤◌, ◌+◌, ◌↔◌, false, IsTrue, IfOk, OnOk, OnErr, Any, MatchBool, MatchOption, MatchResult, HoldsAt, Contains, length, map};
+ghost use Rattle.pot_index.specs.Entries.{IsReserving, IsQuiet, plain, bringing, brings, entries};
 ghost use Rattle.pot_index.specs.Records.{renewed, mark_of};
 ghost use Rattle.pot_index.specs.Index.{IsReserved, IsReservedBy, IsTaken, IsFree, Ascends, log_bound, started, logged, owed};
 ghost use Rattle.pot_index.specs.Searches.{StandsAt, BelongsAt};
 ghost use Rattle.pot_index.specs.Calls.{listed_of};
+ghost use Rattle.pot_index.specs.Ending.{IsHeld, EndsAt};
 
 use crate::ended::IndexEnded;
+use crate::ending::end_of;
 use crate::entry::IndexEntry;
 use crate::listed::Listed;
 use crate::marks::mark_of;
@@ -142,6 +144,15 @@ impl Lists {
             })
             .collect(alloc)?;
         Ok(names)
+    }
+
+    /// Where the job's last reservation of the name ended, if it did.
+    pub(crate) fn ended_at(&self, job: u32, name: &Name) -> Option<u32>
+        requires few { length self.now.log ≤ log_bound }
+        requires made { Any (IsReserving job name.now) (entries self.now.log) }
+        ensures { MatchOption result (IsHeld job name.now (entries self.now.log)) (EndsAt job name.now (entries self.now.log)) }
+    {
+        end_of(&self.log, job, name)
     }
 
     /// Hands out the records and the log.
