@@ -28,6 +28,7 @@ use Rattle.pot_index.proofs.ListLemmas.{quiet_stays}
 use Rattle.pot_index.proofs.NameLemmas.{contains_map, from_map, length-without}
 use Rattle.pot_index.proofs.LogLaws.{reserved_stays, ended_stays}
 use Rattle.pot_index.proofs.NamesKept.{after_keeps, goes_on}
+use Rattle.pot_index.proofs.RecordLaws.{one_record}
 use Rattle.pot_index.proofs.RecordLemmas.{stands_published, belongs_unpublished}
 
 pub started_is : (rack : Rack) (rs : List Record) → IsRack rack → AreRead rack rs → IsIndex (started rack rs)
@@ -130,19 +131,23 @@ module _ (s : IndexView) (name : List ℕ) (at : ℕ) (place : StandsAt s.now.pu
   often_is t job n i room older is now_is = entered_is s t (Often job name) i now_is tt (stood, stood_is, older some_record ∙ is) room
 
   pub renewing_is : (t : IndexView) (job : ℕ) (split : Split) (n : ℕ) → IsIndex s → HasRoom 1 s → HoldsAt (λ r. length r.older ≡ n) s.now.published at → n < 15
-      → ((r : Record) → IsRecordOf s.now name r → FitsSplit s.rack (pieces_of r.length) split)
+      → (r : Record) × IsRecordOf s.now name r × FitsSplit s.rack (pieces_of r.length) split
       → HoldsAt (λ r. t ≡ logged s (bringing (Renew job r.name (mark_of (renewed r split))) (renewed r split))) s.now.published at → IsIndex t
   renewing_is t job split n i room older lt fits now_is =
       let few : length stood.older < 15 = omega (arith, older some_record, lt) in
       let entry : Logged = bringing (Renew job stood.name (mark_of (renewed stood split))) (renewed stood split) in
-      let fitting : FitsRack s.rack (renewed stood split) = fits_more s.rack stood split (All-contains (FitsRack s.rack) s.now.published stood i.names.fits stood_is.0) few (fits stood stood_is) in
+      let it : fits.0 ≡ stood = one_record s.now.published fits.0 stood i.names.ascends fits.1.0 stood_is.0 (fits.1.1 ∙ sym stood_is.1) in
+      let next : FitsSplit s.rack (pieces_of stood.length) split = subst (λ (r : Record). FitsSplit s.rack (pieces_of r.length) split) it fits.2 in
+      let fitting : FitsRack s.rack (renewed stood split) = fits_more s.rack stood split (All-contains (FitsRack s.rack) s.now.published stood i.names.fits stood_is.0) few next in
       subst IsIndex (sym (now_is some_record))
       (logged_is s entry i (refl, fitting, (stood, (stood_is.0, refl), refl)) (omega (arith, room, length_push s.log entry)))
 
-pub full_row : (s t : IndexView) (name : List ℕ) (job : ℕ) (split : Split) → IsPublished s.now name → IsFull 1 s t → Renews job name split s t (Err renew_fault.LogFull)
-full_row s t name job split h full =
-    let found = from_map (λ r. r.name) name s.now.published h in
-    (found.0, (found.1, found.2), full)
+pub full_row : (s t : IndexView) (name : List ℕ) (job : ℕ) (split : Split) → (r : Record) × IsRecordOf s.now name r × FitsSplit s.rack (pieces_of r.length) split → IsFull 1 s t → Renews job name split s t (Err renew_fault.LogFull)
+full_row s t name job split h full = (h.0, h.1, full)
+
+-- a record of the name is published
+pub record_published : (n : Names) (name : List ℕ) (r : Record) → IsRecordOf n name r → IsPublished n name
+record_published n name r h = subst (λ k. IsPublished n k) h.1 (contains_map (λ o. o.name) r n.published h.0)
 
 -- WANT OF MEMORY
 

@@ -81,7 +81,7 @@ published_once rack n m (x ∷ log) name (b ∷ before) e behind a (legal, rest)
 -- RECORDS
 
 -- two records of one name are one
-one_record : (rs : List Record) (x y : Record) → Ascends rs → Contains rs x → Contains rs y → x.name ≡ y.name → x ≡ y
+pub one_record : (rs : List Record) (x y : Record) → Ascends rs → Contains rs x → Contains rs y → x.name ≡ y.name → x ≡ y
 one_record rs x y up (i, lt, at_i) (j, lu, at_j) same = by (cases_lt i j) (cases_lt j i)
   where
     x_there : get_or rs i y ≡ x

@@ -5,7 +5,7 @@ ghost use Rattle.pot_object.specs.Pieces.{pieces_of};
 ghost use Rattle.pot_index.specs.Entries.{IsReserving, entries};
 ghost use Rattle.pot_index.specs.Ending.{EndsAt};
 ghost use Rattle.pot_index.specs.Fits.{FitsRack, FitsSplit};
-ghost use Rattle.pot_index.specs.Index.{IsIndex, AreRead, IsPublished, IsReservedBy, IsRecordOf, started};
+ghost use Rattle.pot_index.specs.Index.{IsIndex, AreRead, IsReservedBy, IsRecordOf, started};
 ghost use Rattle.pot_index.specs.Calls.{Reserves, Finds, ListsNames, Renews, published_by, abandoned_by};
 
 use crate::ended::IndexEnded;
@@ -126,8 +126,7 @@ impl Index {
     /// Gives the record that is published under the name a new current split. The old one stays, as the last of the older
     /// ones.
     pub fn renew(&mut self, job: u32, name: &Name, split: Split) -> Result<(), RenewFault>
-        requires published { IsPublished self.old.now name.now }
-        requires fits { (r : Record) → IsRecordOf self.old.now name.now r → FitsSplit self.old.rack (pieces_of r.length) split }
+        requires { (r : Record) × IsRecordOf self.old.now name.now r × FitsSplit self.old.rack (pieces_of r.length) split }
         ensures { Renews job name.now split self.old self.new result }
     {
         if self.lists.owed() + 1 > LOG_BOUND {

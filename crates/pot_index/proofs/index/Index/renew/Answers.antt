@@ -5,19 +5,19 @@ use Rattle.pot_index.specs.declared.record.Record.{Record}
 use Rattle.pot_index.specs.Fits.{FitsSplit}
 use Rattle.pot_index.specs.Index.{IndexView, IsPublished, IsRecordOf, log_bound, owed}
 use Rattle.pot_index.specs.Calls.{Renews}
-use Rattle.pot_index.proofs.IndexLemmas.{often_is, renewing_is, often_row, no_memory_row, renewed_row, renew_no_memory, full_row}
+use Rattle.pot_index.proofs.IndexLemmas.{often_is, renewing_is, often_row, no_memory_row, renewed_row, renew_no_memory, full_row, record_published}
 use Rattle.pot_index.proofs.RecordLemmas.{belongs_unpublished}
 use Rattle.pot_index.proofs.index.Index.renew.Goals as goal
 
 pub returns-then-owed-gt-LOG_BOUND : goal.returns-then-owed-gt-LOG_BOUND
 returns-then-owed-gt-LOG_BOUND c =
-    full_row c.args.self.now c.args.self.now c.args.name.now c.args.job c.args.split c.requires.published
+    full_row c.args.self.now c.args.self.now c.args.name.now c.args.job c.args.split c.requires
     (subst (λ (v : IndexView). log_bound < owed v + 1) c.self.view_is (omega (arith, c.owed.ensures)), refl)
 
 pub unreachable-requires : goal.unreachable-requires
 unreachable-requires c =
     belongs_unpublished c.self.inside.lists.now.published c.args.name.now c.in_default.field-0 c.in_default.ensures
-    (subst (λ (v : IndexView). IsPublished v.now c.args.name.now) (sym c.self.view_is) c.requires.published)
+    (subst (λ (v : IndexView). IsPublished v.now c.args.name.now) (sym c.self.view_is) (record_published c.args.self.now.now c.args.name.now c.requires.0 c.requires.1))
 
 pub invariant_of-self : goal.invariant_of-self
 invariant_of-self c =
@@ -39,7 +39,7 @@ pub invariant_of-self-2 : goal.invariant_of-self-2
 invariant_of-self-2 c =
     renewing_is c.self.inside.lists c.args.name.now c.in-Ok.at c.in-Ok.ensures _ c.args.job c.args.split c.older.result c.self.invariant (omega (arith, c.owed.ensures)) c.older.ensures.value
     (omega (arith, c.older.ensures.few, c.if-older-eq15.false))
-    (subst (λ (v : IndexView). (r : Record) → IsRecordOf v.now c.args.name.now r → FitsSplit v.rack (pieces_of r.length) c.args.split) (sym c.self.view_is) c.requires.fits) c.in_ok-renew.ensures.ok
+    (subst (λ (v : IndexView). (r : Record) × IsRecordOf v.now c.args.name.now r × FitsSplit v.rack (pieces_of r.length) c.args.split) (sym c.self.view_is) c.requires) c.in_ok-renew.ensures.ok
 
 pub returns : goal.returns
 returns c =
