@@ -19,6 +19,8 @@ mod reservation;
 mod search;
 mod spelling;
 mod splits;
+#[cfg(test)]
+mod tests;
 mod writing;
 
 pub use ended::IndexEnded;
