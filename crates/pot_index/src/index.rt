@@ -14,6 +14,7 @@ use crate::fault::{FindFault, IndexRefused, ListFault, RenewFault, ReserveFault}
 use crate::listed::Listed;
 use crate::lists::{LOG_BOUND, Lists};
 use crate::record::{Record, Split};
+use crate::splits::MOST_OLDER;
 use pot_bytes::{Name, Rack};
 use std::alloc::Global;
 use std::marker::Model;
@@ -135,7 +136,7 @@ impl Index {
         let Ok(at) = self.lists.place_of(name) else {
             unreachable!()
         };
-        if self.lists.older(at) == 15 {
+        if self.lists.older(at) == MOST_OLDER {
             self.lists.enter(IndexEntry::Often { job, name: *name });
             return Err(RenewFault::TooOften);
         }

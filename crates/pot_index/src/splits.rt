@@ -7,6 +7,9 @@ use std::alloc::Global;
 use std::marker::Model;
 use std::mem;
 
+/// How many older splits a record has at most, beside the current one.
+pub(crate) const MOST_OLDER: usize = 15;
+
 /// The earlier splits of a record, the oldest first: at most 15. Contracts see the list of the splits.
 #[derive(Drop)]
 pub struct Splits {

@@ -147,7 +147,9 @@ fn renew(
     ensures there { HasSmall index.new name.now }
 {
     let split = small_split(alloc, stripe)?;
-    Ok(index.renew(6, name, split))
+    let _entries = index.logged();
+    let renewed = index.renew(6, name, split);
+    Ok(renewed)
 }
 
 #[test]

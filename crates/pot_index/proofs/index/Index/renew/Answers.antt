@@ -21,27 +21,27 @@ unreachable-requires c =
 
 pub invariant_of-self : goal.invariant_of-self
 invariant_of-self c =
-    often_is c.self.inside.lists c.args.name.now c.in-Ok.at c.in-Ok.ensures _ c.args.job c.older.result c.self.invariant (omega (arith, c.owed.ensures)) c.older.ensures.value c.if-older-eq15.true c.enter.ensures
+    often_is c.self.inside.lists c.args.name.now c.in-Ok.at c.in-Ok.ensures _ c.args.job c.older.result c.self.invariant (omega (arith, c.owed.ensures)) c.older.ensures.value c.if-older-eq-MOST_OLDER.true c.enter.ensures
 
-pub returns-then-older-eq15 : goal.returns-then-older-eq15
-returns-then-older-eq15 c =
+pub returns-then-older-eq-MOST_OLDER : goal.returns-then-older-eq-MOST_OLDER
+returns-then-older-eq-MOST_OLDER c =
     subst (λ (v : IndexView). Renews c.args.job c.args.name.now c.args.split v c.enter.new.self (Err TooOften)) c.self.view_is
-    (often_row c.self.inside.lists c.args.name.now c.in-Ok.at c.in-Ok.ensures _ c.args.job c.args.split c.older.result (omega (arith, c.owed.ensures)) c.older.ensures.value c.if-older-eq15.true c.enter.ensures)
+    (often_row c.self.inside.lists c.args.name.now c.in-Ok.at c.in-Ok.ensures _ c.args.job c.args.split c.older.result (omega (arith, c.owed.ensures)) c.older.ensures.value c.if-older-eq-MOST_OLDER.true c.enter.ensures)
 
 pub returns-in_err-renew : goal.returns-in_err-renew
 returns-in_err-renew c =
     subst (λ (v : IndexView). Renews c.args.job c.args.name.now c.args.split v c.renew.new.self c.from_residual.result) c.self.view_is
     (renew_no_memory c.self.inside.lists c.renew.new.self c.args.job c.args.name.now c.args.split c.from_residual.result
-    (no_memory_row c.self.inside.lists c.args.name.now c.in-Ok.at c.in-Ok.ensures c.renew.new.self c.args.job c.args.split c.older.result (omega (arith, c.owed.ensures)) c.older.ensures.value (omega (arith, c.older.ensures.few, c.if-older-eq15.false)) c.in_err-renew.ensures.err)
+    (no_memory_row c.self.inside.lists c.args.name.now c.in-Ok.at c.in-Ok.ensures c.renew.new.self c.args.job c.args.split c.older.result (omega (arith, c.owed.ensures)) c.older.ensures.value (omega (arith, c.older.ensures.few, c.if-older-eq-MOST_OLDER.false)) c.in_err-renew.ensures.err)
     c.from_residual.ensures.1)
 
 pub invariant_of-self-2 : goal.invariant_of-self-2
 invariant_of-self-2 c =
     renewing_is c.self.inside.lists c.args.name.now c.in-Ok.at c.in-Ok.ensures _ c.args.job c.args.split c.older.result c.self.invariant (omega (arith, c.owed.ensures)) c.older.ensures.value
-    (omega (arith, c.older.ensures.few, c.if-older-eq15.false))
+    (omega (arith, c.older.ensures.few, c.if-older-eq-MOST_OLDER.false))
     (subst (λ (v : IndexView). (r : Record) × IsRecordOf v.now c.args.name.now r × FitsSplit v.rack (pieces_of r.length) c.args.split) (sym c.self.view_is) c.requires) c.in_ok-renew.ensures.ok
 
 pub returns : goal.returns
 returns c =
     subst (λ (v : IndexView). Renews c.args.job c.args.name.now c.args.split v c.renew.new.self (Ok tt)) c.self.view_is
-    (renewed_row c.self.inside.lists c.args.name.now c.in-Ok.at c.in-Ok.ensures _ c.args.job c.args.split c.older.result (omega (arith, c.owed.ensures)) c.older.ensures.value (omega (arith, c.older.ensures.few, c.if-older-eq15.false)) c.in_ok-renew.ensures.ok)
+    (renewed_row c.self.inside.lists c.args.name.now c.in-Ok.at c.in-Ok.ensures _ c.args.job c.args.split c.older.result (omega (arith, c.owed.ensures)) c.older.ensures.value (omega (arith, c.older.ensures.few, c.if-older-eq-MOST_OLDER.false)) c.in_ok-renew.ensures.ok)
