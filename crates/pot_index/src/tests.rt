@@ -237,12 +237,9 @@ fn sixteen_splits(rt: HostRuntime) -> Result<(), Fail> {
     let Ok(found) = index.find(rt.alloc(), 7, &a) else {
         return Err(Fail::from("not found"));
     };
-    let stripes = found
-        .older
-        .as_slice()
-        .iter()
-        .map(|s| s.places.as_slice().len());
-    assert_eq!(rt; stripes.sum::<usize>(), 30);
+    let older = found.older.as_slice();
+    assert_eq!(rt; older.len(), 15);
+    assert!(rt; older.iter().all(|split| split.places.as_slice().len() == 2));
     let ended = index.end();
     assert_eq!(rt; ended.log.len(), 19);
     let (third, often) = (
