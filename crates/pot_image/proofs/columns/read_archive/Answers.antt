@@ -1,0 +1,15 @@
+use Rattle.pot_image.specs.Reading.{reading}
+use Rattle.std.proofs.Common.{eq-eqb, ap, sym, subst, ◌∙◌, ◌++◌, [], ◌∷◌, append_assoc, rules, arith, ◌≡◌, ◌≤◌, ◌<◌, ◌+◌, ◌-◌, ℕ, List, Result, Ok, Err, Bool, true, false, refl}
+use Rattle.pot_image.proofs.Once.{ok_then, done_reads}
+use Rattle.pot_image.proofs.Steps.{fails_then, fails_on, fails_as, exits, no_memory, fails_at, done_as, unequal, kept, refused, short, holds_of, narrowed, barred, cut_short, over_begins, over_on, over_fails, over_done, several_begins, several_on, several_fails, several_done, collected, gives_as, gives_on, chosen, not_chosen}
+use Rattle.pot_image.specs.Tables.{is_free}
+use Rattle.pot_image.proofs.columns.read_archive.Goals as goal
+
+pub returns-in_err-number-clause-reads : goal.returns-in_err-number-clause-reads
+returns-in_err-number-clause-reads c = exits _ _ _ _ c.from_residual.ensures.1 (short _ _ _ _ _ c.in_err-number.ensures (λ n h. refl))
+
+pub returns-then-not-is_free-clause-reads : goal.returns-then-not-is_free-clause-reads
+returns-then-not-is_free-clause-reads c = fails_at _ _ _ c.at.ensures (refused _ _ _ _ _ _ c.in_ok-number.ensures (sym (c.if-not-is_free.ensures ∙ ap (λ xs. is_free xs c.in_ok-number.number) c.deref.ensures.value)))
+
+pub returns-clause-reads : goal.returns-clause-reads
+returns-clause-reads c = kept _ _ _ _ _ _ c.in_ok-number.ensures (sym (c.if-not-is_free.ensures ∙ ap (λ xs. is_free xs c.in_ok-number.number) c.deref.ensures.value))

@@ -1,0 +1,54 @@
+-- A grammar of fields, one after another. What stands next depends on what was read: a grammar is done with a value, or
+-- wants a field of some size that keeps a rule, and goes on by the bytes of that field.
+use Rattle.std.specs.Prelude.{◌≡◌, ◌<◌, ◌++◌, ℕ, List, [], ◌∷◌, Bool, true, false, length}
+
+-- a field: its size, and the rule that its bytes keep
+pub record Field : Type 0 where
+  pub size : ℕ
+  pub holds : List ℕ → Bool
+
+pub data Grammar (A : Type 0) : Type 0 where
+  done : A → Grammar A
+  wants : Field → (List ℕ → Grammar A) → Grammar A
+
+-- these bytes are the field
+abbrev pub IsField : Field → List ℕ → Type 0
+IsField f bytes = (length bytes ≡ f.size) × (f.holds bytes ≡ true)
+
+-- no field of this size that keeps its rule stands at the front of these bytes
+abbrev pub NoField : Field → List ℕ → Type 0
+NoField f bytes = (front back : List ℕ) → bytes ≡ front ++ back → IsField f front → ⊥
+
+-- these fields are those that the grammar wants in turn, and it is done with this value behind the last
+abbrev pub Reads : {A : Type 0} → Grammar A → List (List ℕ) → A → Type 0
+Reads (done b) [] a = b ≡ a
+Reads (done b) (x ∷ xs) a = ⊥
+Reads (wants f next) [] a = ⊥
+Reads (wants f next) (x ∷ xs) a = IsField f x × Reads (next x) xs a
+
+-- These fields are those that the grammar wants in turn. Behind the last it wants another, which does not stand at the front
+-- of the rest, or it is done, and bytes are left.
+abbrev pub Breaks : {A : Type 0} → Grammar A → List (List ℕ) → List ℕ → Type 0
+Breaks (done b) [] rest = 0 < length rest
+Breaks (done b) (x ∷ xs) rest = ⊥
+Breaks (wants f next) [] rest = NoField f rest
+Breaks (wants f next) (x ∷ xs) rest = IsField f x × Breaks (next x) xs rest
+
+abbrev pub joined : List (List ℕ) → List ℕ
+joined [] = []
+joined (x ∷ xs) = x ++ joined xs
+
+-- the bytes are of the grammar, and this is their value
+pub record IsOf {A : Type 0} (g : Grammar A) (bytes : List ℕ) (value : A) : Type 0 where
+  pub fields : List (List ℕ)
+  pub spelled : bytes ≡ joined fields
+  pub reads : Reads g fields value
+
+-- The bytes leave the grammar at this place: it is that of the first field that breaks its rule or does not end, or the end
+-- of the last one where bytes are left.
+pub record LeavesAt {A : Type 0} (g : Grammar A) (bytes : List ℕ) (place : ℕ) : Type 0 where
+  pub fields : List (List ℕ)
+  pub rest : List ℕ
+  pub spelled : bytes ≡ joined fields ++ rest
+  pub breaks : Breaks g fields rest
+  pub counted : place ≡ length (joined fields)

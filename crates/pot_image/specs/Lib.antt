@@ -1,0 +1,5 @@
+pub mod Fields
+pub mod Reading
+pub mod Following
+pub mod Numbers
+pub mod Tables
