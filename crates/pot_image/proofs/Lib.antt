@@ -1,2 +1,6 @@
 pub mod Once
 pub mod Steps
+pub mod Inverse
+pub mod SlotRules
+pub mod ColumnRules
+pub mod TableRules

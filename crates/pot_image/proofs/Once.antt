@@ -38,14 +38,14 @@ err_then g next bytes n e = reading_then g next bytes ∙ ap (λ o. and_then o (
 
 -- EACH READING IS OF FIELDS
 
-test : (b : Bool) → (b ≡ true) ⊎ (b ≡ false)
+pub test : (b : Bool) → (b ≡ true) ⊎ (b ≡ false)
 test true = inl refl
 test false = inr refl
 
 true_false : true ≡ false → ⊥
 true_false h = cc
 
-both_true : (a b : Bool) → a && b ≡ true → (a ≡ true) × (b ≡ true)
+pub both_true : (a b : Bool) → a && b ≡ true → (a ≡ true) × (b ≡ true)
 both_true true b e = (refl, e)
 both_true false b e = (e, absurd ((cc)))
 

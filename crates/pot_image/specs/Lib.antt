@@ -3,3 +3,4 @@ pub mod Reading
 pub mod Following
 pub mod Numbers
 pub mod Tables
+pub mod Rules

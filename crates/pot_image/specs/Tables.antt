@@ -85,19 +85,25 @@ stripe_slots cursor data_columns width s before = several 0 width (slot_behind c
 unfoldable pub slots : Cursor → ℕ → ℕ → ℕ → Grammar (List SlotState)
 slots cursor data_columns width stripes = over 0 stripes (stripe_slots cursor data_columns width) []
 
--- the column of a cursor: a data column, and 0 behind the last stripe
-abbrev pub is_cursor_column : Rack → ℕ → ℕ → Bool
-is_cursor_column rack stripe c = nat_lt c rack.columns && (nat_lt stripe rack.stripes || (c == 0))
+-- behind the last stripe a cursor is at column 0
+abbrev pub is_cursor : Rack → ℕ → ℕ → Bool
+is_cursor rack stripe c = nat_lt stripe rack.stripes || (c == 0)
 
--- a table: the cursor's stripe and column, three zeros, the columns and the slots
+-- the cursor: its stripe, its column, which is a data column, and three zeros
+unfoldable pub cursor : Rack → Grammar Cursor
+cursor rack =
+    natural 4 (at_most rack.stripes) >>= λ stripe.
+    natural 1 (λ c. between 0 (rack.columns - 1) c && is_cursor rack stripe c) >>= λ column.
+    zeros 3 >>= λ padding.
+    done (record { stripe = stripe; column = column })
+
+-- a table: the cursor, the columns and the slots
 unfoldable pub table : Rack → List ℕ → Grammar Table
 table rack taken =
-    natural 4 (at_most rack.stripes) >>= λ stripe.
-    natural 1 (is_cursor_column rack stripe) >>= λ column.
-    zeros 3 >>= λ padding.
+    cursor rack >>= λ at.
     columns (rack.columns + rack.parity) rack.stripes taken >>= λ columns.
-    slots (record { stripe = stripe; column = column }) rack.columns (rack.columns + rack.parity) rack.stripes >>= λ slots.
-    done (table_of rack.stripes (record { stripe = stripe; column = column }) columns slots rack.parity)
+    slots at rack.columns (rack.columns + rack.parity) rack.stripes >>= λ slots.
+    done (table_of rack.stripes at columns slots rack.parity)
 
 -- the archive numbers that a table's columns name
 abbrev pub table_numbers : Table → List ℕ

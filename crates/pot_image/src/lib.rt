@@ -5,5 +5,6 @@ mod columns;
 mod fault;
 mod fields;
 mod slots;
+mod tables;
 
 pub use fault::ImageFault;

@@ -1,0 +1,80 @@
+-- A table that was read keeps the rules of a table.
+use Rattle.std.proofs.Common.{◌≡◌, ◌<◌, ◌≤◌, ℕ, zero, suc, ◌+◌, ◌-◌, ◌*◌, ◌==◌, ◌&&◌, ◌||◌, nat_lt, Bool, true, false, List, [], ◌∷◌, ◌++◌, length, flat_map, Result, Ok, Err, ap, ap₂, sym, ◌∙◌, refl, subst, arith}
+use Rattle.std.proofs.lemmas.Bool.{leb-true, ltb-true, eqb-true}
+use Rattle.pot_bytes.specs.declared.rack.Rack.{Rack}
+use Rattle.pot_bytes.specs.Rack.{IsRack}
+use Rattle.pot_machine.specs.declared.column.Column.{Column}
+use Rattle.pot_machine.specs.declared.slot.SlotState.{SlotState}
+use Rattle.pot_machine.specs.declared.cursor.Cursor.{Cursor}
+use Rattle.pot_machine.specs.Table.{Table, width}
+use Rattle.pot_machine.specs.Making.{table_of}
+use Rattle.pot_machine.specs.Rules.{IsTable}
+use Rattle.pot_image.specs.Fields.{done}
+use Rattle.pot_image.specs.Reading.{◌>>=◌, reading}
+use Rattle.pot_image.specs.Numbers.{natural, at_most, between, zeros}
+use Rattle.pot_image.specs.Tables.{numbers_of, cursor, columns, slots, table, table_numbers}
+use Rattle.pot_image.specs.Rules.{AreFree, FitsTable}
+use Rattle.pot_image.proofs.Once.{both_true}
+use Rattle.pot_image.proofs.Steps.{holds_of}
+use Rattle.pot_image.proofs.Inverse.{parts, done_is}
+use Rattle.pot_image.proofs.SlotRules.{AreAllowed, slots_are_allowed, voids_of}
+use Rattle.pot_image.proofs.ColumnRules.{AreKept, columns_kept, columns_of}
+
+-- the cursor is at a data column of a stripe, or at column 0 behind the last stripe
+pub record IsPlaced (rack : Rack) (c : Cursor) : Type 0 where
+  pub stripe : c.stripe ≤ rack.stripes
+  pub column : c.column < rack.columns
+  pub behind : c.stripe ≡ rack.stripes → c.column ≡ 0
+
+pub cursor_placed : (rack : Rack) (bytes rest : List ℕ) (c : Cursor) → IsRack rack → reading (cursor rack) bytes ≡ Ok (c, rest) → IsPlaced rack c
+unfolding cursor
+cursor_placed rack bytes rest c fits e =
+    (let r = parts (natural 4 (at_most rack.stripes)) (λ stripe. natural 1 (λ c. between 0 (rack.columns - 1) c && (nat_lt stripe rack.stripes || (c == 0))) >>= λ column. zeros 3 >>= λ padding. done (record { stripe = stripe; column = column })) bytes c rest e in
+    let s = parts (natural 1 (λ c. between 0 (rack.columns - 1) c && (nat_lt r.value rack.stripes || (c == 0)))) (λ column. zeros 3 >>= λ padding. done (record { stripe = r.value; column = column })) r.behind c rest r.second in
+    let u = parts (zeros 3) (λ padding. done (record { stripe = r.value; column = s.value })) s.behind c rest s.second in
+    let same = done_is (record { stripe = r.value; column = s.value }) c u.behind rest u.second in
+    let stripe : r.value ≤ rack.stripes = leb-true _ _ (holds_of 4 (at_most rack.stripes) bytes r.behind r.value r.first) in
+    let rule = both_true (between 0 (rack.columns - 1) s.value) (nat_lt r.value rack.stripes || (s.value == 0)) (holds_of 1 (λ c. between 0 (rack.columns - 1) c && (nat_lt r.value rack.stripes || (c == 0))) r.behind s.behind s.value s.first) in
+    let low : s.value ≤ rack.columns - 1 = leb-true _ _ (both_true _ _ rule.0).1 in
+    subst (IsPlaced rack) same.0 (record { stripe = stripe; column = omega (arith, low, fits.columns.0); behind = λ q. at_end r.value s.value q rule.1 }))
+  where
+    at_end : (a b : ℕ) → a ≡ rack.stripes → nat_lt a rack.stripes || (b == 0) ≡ true → b ≡ 0
+    at_end a b q h = by_test (nat_lt a rack.stripes) refl h
+      where
+        by_test : (t : Bool) → nat_lt a rack.stripes ≡ t → t || (b == 0) ≡ true → b ≡ 0
+        by_test true k h = (let l = ltb-true _ _ k in absurd (omega (arith, l, q)))
+        by_test false k h = eqb-true _ _ h
+
+pub table_rules : (rack : Rack) (c : Cursor) (cs : List Column) (ss : List SlotState) (taken : List ℕ) → IsRack rack → IsPlaced rack c
+    → AreKept rack.stripes taken (rack.columns + rack.parity) cs
+    → length ss ≡ rack.stripes * (rack.columns + rack.parity) → AreAllowed c rack.columns (rack.columns + rack.parity) ss
+    → FitsTable rack (table_of rack.stripes c cs ss rack.parity)
+table_rules rack c cs ss taken fits at kept size all = record {
+  rules = record {
+    size = record {
+      data_columns = (omega (arith, data_is, fits.columns.0), omega (arith, data_is, fits.columns.1));
+      parity = fits.parity;
+      stripes = fits.stripes;
+      columns = omega (arith, data_is, kept.count);
+      slots = size ∙ ap (λ w. rack.stripes * w) (sym wide);
+      relays = omega arith;
+    };
+    cursor = record { stripe = at.stripe; column = omega (arith, data_is, at.column); behind = at.behind };
+    voids = voids_of t (size ∙ ap (λ w. rack.stripes * w) (sym wide)) (subst (λ d. AreAllowed c d (width t) ss) (sym data_is) (subst (λ w. AreAllowed c rack.columns w ss) (sym wide) all)) (omega (arith, data_is, fits.columns.0));
+    columns = columns_of t taken (omega (arith, data_is, kept.count)) kept.free kept.moves;
+    relays = record { apart = λ i j d li lj. absurd (omega arith); standing = λ k d lt. absurd (omega arith) };
+  };
+  data_columns = data_is;
+  parity = refl;
+  stripes = refl;
+  relays = refl;
+}
+  where
+    t : Table
+    t = table_of rack.stripes c cs ss rack.parity
+
+    data_is : length cs - rack.parity ≡ rack.columns
+    data_is = (let h = kept.count in omega (arith, h))
+
+    wide : (length cs - rack.parity) + rack.parity ≡ rack.columns + rack.parity
+    wide = ap (λ n. n + rack.parity) data_is

@@ -1,0 +1,24 @@
+use Rattle.pot_image.specs.Reading.{reading}
+use Rattle.std.proofs.Common.{eq-eqb, ap, sym, subst, ◌∙◌, ◌++◌, [], ◌∷◌, append_assoc, rules, arith, ◌≡◌, ◌≤◌, ◌<◌, ◌+◌, ◌-◌, ℕ, List, Result, Ok, Err, Bool, true, false, refl}
+use Rattle.pot_image.proofs.Once.{ok_then, done_reads}
+use Rattle.pot_image.proofs.Steps.{fails_then, fails_on, fails_as, exits, no_memory, fails_at, done_as, unequal, kept, refused, short, holds_of, narrowed, barred, cut_short, over_begins, over_on, over_fails, over_done, several_begins, several_on, several_fails, several_done, collected, gives_as, gives_on, chosen, not_chosen}
+use Rattle.std.proofs.Common.{flat_map}
+use Rattle.pot_image.specs.Tables.{table, tables, table_numbers}
+use Rattle.pot_image.proofs.tables.read_tables.Goals as goal
+
+pub loop-init : goal.loop-init
+unfolding tables
+loop-init c = record { reads = several_begins _ _ _ _ _ c.in_ok-tables.ensures.items; taken = c.new-taken.ensures.items ∙ ap (flat_map table_numbers) (sym c.in_ok-tables.ensures.items) }
+
+pub returns-in_err-table : goal.returns-in_err-table
+returns-in_err-table c = exits _ _ _ _ c.from_residual-in_err-table.ensures.1 (fails_as _ _ _ c.loop.invariant.reads (several_fails _ _ _ _ _ _ c.loop-test.true
+    (fails_as _ _ _ (ap (λ xs. reading (table c.args.rack.now xs) c.loop.rest.now) c.loop.invariant.taken) c.in_err-table.ensures.reads)))
+
+pub loop-preserved : goal.loop-preserved
+loop-preserved c = record {
+  reads = sym (several_on _ _ _ _ _ _ _ _ c.loop-test.true (sym (ap (λ xs. reading (table c.args.rack.now xs) c.loop.rest.now) c.loop.invariant.taken) ∙ c.in_ok-table.ensures.reads) c.in_ok-push.ensures.items) ∙ c.loop.invariant.reads;
+  taken = collected table_numbers [] _ _ _ _ _ c.in_ok-table.ensures.taken c.loop.invariant.taken c.in_ok-push.ensures.items;
+}
+
+pub returns : goal.returns
+returns c = sym c.loop.invariant.reads ∙ several_done _ _ _ _ _ c.loop-test.false
