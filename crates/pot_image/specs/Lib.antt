@@ -3,4 +3,5 @@ pub mod Reading
 pub mod Following
 pub mod Numbers
 pub mod Tables
+pub mod Heads
 pub mod Rules

@@ -4,6 +4,8 @@
 mod columns;
 mod fault;
 mod fields;
+mod format;
+mod head;
 mod slots;
 mod tables;
 
