@@ -4,3 +4,5 @@ pub mod Inverse
 pub mod SlotRules
 pub mod ColumnRules
 pub mod TableRules
+pub mod EntryKinds
+pub mod NameRules

@@ -2,12 +2,12 @@
 use Rattle.std.proofs.Common.{length-append, ◌≡◌, ℕ, List, length, take, drop, Bool, true, false, cond, ◌&&◌, nat_le, suc, arith, ◌+◌, ◌-◌, ◌<◌, ◌≤◌, if◌then◌else◌, Result, Ok, Err, IsErrAnd, ap, ap₂, ◌==◌, append_assoc, append-nil, flat_map, ◌++◌, [], ◌∷◌, ◌∙◌, sym, subst, refl}
 use Rattle.byteorder.specs.Endian.{big_number}
 use Rattle.std.proofs.lemmas.Grind.{flat_map-append}
-use Rattle.std.proofs.lemmas.Bool.{eqb-true}
+use Rattle.std.proofs.lemmas.Bool.{eqb-true, leb-true}
 use Rattle.pot_image.specs.declared.fault.Fault.{Fault}
 use Rattle.pot_image.specs.declared.fault.Fault.TheVariants.{Form, Memory}
 use Rattle.pot_image.specs.Fields.{Grammar, done}
 use Rattle.pot_image.specs.Reading.{◌>>=◌, over, several, reading}
-use Rattle.pot_image.specs.Numbers.{natural, any}
+use Rattle.pot_image.specs.Numbers.{natural, text, any, between}
 use Rattle.pot_image.specs.Following.{Fails, Gives}
 use Rattle.pot_image.proofs.Once.{ok_then, err_then, done_reads, ok_is, not_both}
 
@@ -101,6 +101,15 @@ holds_of size rule bytes rest n e = (held (nat_le size (length bytes)) (rule (bi
     held true false k h = absurd (not_both (n, rest) (length bytes) _ h refl)
     held false keeps k h = absurd (not_both (n, rest) (length bytes) _ h refl)
 
+both_hold : (a b : Bool) → a && b ≡ true → (a ≡ true) × (b ≡ true)
+both_hold true b e = (refl, e)
+both_hold false b e = absurd ((cc))
+
+pub between_of : (size least most : ℕ) (bytes rest : List ℕ) (n : ℕ) → reading (natural size (between least most)) bytes ≡ Ok (n, rest) → (least ≤ n) × (n ≤ most)
+between_of size least most bytes rest n e =
+    let rules = both_hold (nat_le least n) (nat_le n most) (holds_of size (between least most) bytes rest n e) in
+    (leb-true _ _ rules.0, leb-true _ _ rules.1)
+
 -- THE SAME WHERE ONE RULE STANDS BESIDE ANOTHER
 
 both : (a b : Bool) → a ≡ true → b ≡ true → a && b ≡ true
@@ -122,6 +131,57 @@ barred size base rule bytes rest n e k = refused size base (λ m. base m && rule
 
 pub cut_short : (size : ℕ) (base rule : ℕ → Bool) (bytes : List ℕ) (e : Fault) → Fails e (reading (natural size base) bytes) → Fails e (reading (natural size (λ m. base m && rule m)) bytes)
 cut_short size base rule bytes e h = short size base (λ m. base m && rule m) bytes e h (λ m k. first_of_both (base m) (rule m) k)
+
+-- THE SAME FOR BYTES THAT KEEP A RULE
+
+abbrev pub text_read : Bool → List ℕ → List ℕ → ℕ → Result (List ℕ × List ℕ) ℕ
+text_read b x rest left = if b then Ok (x, rest) else Err left
+
+met_text : (fits base rule : Bool) (x y rest back : List ℕ) (left : ℕ) → text_read (fits && base) x rest left ≡ Ok (y, back) → rule ≡ true → text_read (fits && (base && rule)) x rest left ≡ Ok (y, back)
+met_text true true true x y rest back left e k = e
+met_text true true false x y rest back left e k = absurd ((cc))
+met_text true false rule x y rest back left e k = absurd (not_both (y, back) left _ e refl)
+met_text false base rule x y rest back left e k = absurd (not_both (y, back) left _ e refl)
+
+unmet_text : (fits base rule : Bool) (x rest : List ℕ) (left : ℕ) → rule ≡ false → text_read (fits && (base && rule)) x rest left ≡ Err left
+unmet_text true true false x rest left k = refl
+unmet_text true true true x rest left k = absurd ((cc))
+unmet_text true false rule x rest left k = refl
+unmet_text false base rule x rest left k = refl
+
+short_text : (fits base rule : Bool) (x rest : List ℕ) (left some : ℕ) → text_read (fits && base) x rest left ≡ Err some → text_read (fits && (base && rule)) x rest left ≡ Err some
+short_text true true rule x rest left some e = absurd (not_both (x, rest) some _ refl e)
+short_text true false rule x rest left some e = e
+short_text false base rule x rest left some e = e
+
+text_value : (b : Bool) (x y rest back : List ℕ) (left : ℕ) → text_read b x rest left ≡ Ok (y, back) → x ≡ y
+text_value true x y rest back left h = ap (λ p. p.0) (ok_is (x, rest) (y, back) _ _ refl refl h)
+text_value false x y rest back left h = absurd (not_both (y, back) left _ h refl)
+
+and_true : (a : Bool) → a ≡ a && true
+and_true true = refl
+and_true false = refl
+
+pub text_any : (size : ℕ) (base : List ℕ → Bool) (bytes : List ℕ) → reading (text size base) bytes ≡ reading (text size (λ y. base y && any y)) bytes
+unfolding reading text
+text_any size base bytes = ap (λ b. text_read (nat_le size (length bytes) && b) (take size bytes) (drop size bytes) (length bytes)) (and_true (base (take size bytes)))
+
+pub text_narrowed : (size : ℕ) (base rule : List ℕ → Bool) (bytes rest x : List ℕ) → reading (text size base) bytes ≡ Ok (x, rest) → rule x ≡ true → reading (text size (λ y. base y && rule y)) bytes ≡ Ok (x, rest)
+unfolding reading text
+text_narrowed size base rule bytes rest x e k =
+    (let same = text_value (nat_le size (length bytes) && base (take size bytes)) (take size bytes) x (drop size bytes) rest (length bytes) e in
+    met_text (nat_le size (length bytes)) (base (take size bytes)) (rule (take size bytes)) (take size bytes) x (drop size bytes) rest (length bytes) e (ap rule same ∙ k))
+
+pub text_barred : (size : ℕ) (base rule : List ℕ → Bool) (bytes rest x : List ℕ) → reading (text size base) bytes ≡ Ok (x, rest) → rule x ≡ false → reading (text size (λ y. base y && rule y)) bytes ≡ Err (length bytes)
+unfolding reading text
+text_barred size base rule bytes rest x e k =
+    (let same = text_value (nat_le size (length bytes) && base (take size bytes)) (take size bytes) x (drop size bytes) rest (length bytes) e in
+    unmet_text (nat_le size (length bytes)) (base (take size bytes)) (rule (take size bytes)) (take size bytes) (drop size bytes) (length bytes) (ap rule same ∙ k))
+
+pub text_short : (size : ℕ) (base rule : List ℕ → Bool) (bytes : List ℕ) (e : Fault) → Fails e (reading (text size base) bytes) → Fails e (reading (text size (λ y. base y && rule y)) bytes)
+unfolding reading text
+text_short size base rule bytes Memory h = tt
+text_short size base rule bytes (Form left) h = short_text (nat_le size (length bytes)) (base (take size bytes)) (rule (take size bytes)) (take size bytes) (drop size bytes) (length bytes) left h
 
 -- ONE AFTER ANOTHER, IN A LOOP
 

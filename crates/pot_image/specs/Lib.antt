@@ -4,4 +4,6 @@ pub mod Following
 pub mod Numbers
 pub mod Tables
 pub mod Heads
+pub mod Records
+pub mod Logs
 pub mod Rules

@@ -2,10 +2,14 @@
 #![tactic(auto)]
 
 mod columns;
+mod entries;
 mod fault;
 mod fields;
 mod format;
 mod head;
+mod index_entries;
+mod logs;
+mod names;
 mod slots;
 mod tables;
 

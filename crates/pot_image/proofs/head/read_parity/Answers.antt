@@ -1,26 +1,26 @@
 use Rattle.pot_image.specs.Reading.{reading}
 use Rattle.std.proofs.Common.{eq-eqb, ap, sym, subst, ◌∙◌, ◌++◌, [], ◌∷◌, append_assoc, rules, arith, ◌≡◌, ◌≤◌, ◌<◌, ◌+◌, ◌-◌, ℕ, List, Result, Ok, Err, Bool, true, false, refl}
 use Rattle.pot_image.proofs.Once.{ok_then, done_reads}
-use Rattle.pot_image.proofs.Steps.{fails_then, fails_on, fails_as, exits, no_memory, fails_at, done_as, unequal, kept, refused, short, holds_of, narrowed, barred, cut_short, over_begins, over_on, over_fails, over_done, several_begins, several_on, several_fails, several_done, collected, gives_as, gives_on, chosen, not_chosen}
+use Rattle.pot_image.proofs.Steps.{fails_then, fails_on, fails_as, exits, no_memory, fails_at, done_as, unequal, kept, refused, short, holds_of, between_of, narrowed, barred, cut_short, over_begins, over_on, over_fails, over_done, several_begins, several_on, several_fails, several_done, collected, gives_as, gives_on, chosen, not_chosen}
 use Rattle.pot_image.specs.Heads.{parity}
 use Rattle.pot_image.proofs.head.read_parity.Goals as goal
 
 pub returns-in_err-padding-in-First : goal.returns-in_err-padding-in-First
 unfolding parity
-returns-in_err-padding-in-First c = exits _ _ _ _ c.from_residual.ensures.1 (fails_then _ _ _ _ c.in_err-padding-in-First.ensures)
+returns-in_err-padding-in-First c = exits _ _ _ _ c.from_residual.ensures.1 (fails_as _ _ _ (ap (λ f. reading (parity f) c.args.bytes.now) (sym c.in-First.is)) (fails_then _ _ _ _ c.in_err-padding-in-First.ensures))
 
 pub returns-in_err-parity-in-Second : goal.returns-in_err-parity-in-Second
 unfolding parity
-returns-in_err-parity-in-Second c = exits _ _ _ _ c.from_residual-in_err-parity-in-Second.ensures.1 (fails_then _ _ _ _ c.in_err-parity-in-Second.ensures)
+returns-in_err-parity-in-Second c = exits _ _ _ _ c.from_residual-in_err-parity-in-Second.ensures.1 (fails_as _ _ _ (ap (λ f. reading (parity f) c.args.bytes.now) (sym c.in-Second.is)) (fails_then _ _ _ _ c.in_err-parity-in-Second.ensures))
 
 pub returns-in_err-zero-in-Second : goal.returns-in_err-zero-in-Second
 unfolding parity
-returns-in_err-zero-in-Second c = exits _ _ _ _ c.from_residual-in_err-zero-in-Second.ensures.1 (fails_on _ _ _ _ _ _ c.in_ok-parity-in-Second.ensures (fails_then _ _ _ _ c.in_err-zero-in-Second.ensures))
+returns-in_err-zero-in-Second c = exits _ _ _ _ c.from_residual-in_err-zero-in-Second.ensures.1 (fails_as _ _ _ (ap (λ f. reading (parity f) c.args.bytes.now) (sym c.in-Second.is)) (fails_on _ _ _ _ _ _ c.in_ok-parity-in-Second.ensures (fails_then _ _ _ _ c.in_err-zero-in-Second.ensures)))
 
 pub returns-in_ok-padding-in-First : goal.returns-in_ok-padding-in-First
 unfolding parity
-returns-in_ok-padding-in-First c = ok_then _ _ _ _ _ _ c.in_ok-padding-in-First.ensures (done_reads _ _)
+returns-in_ok-padding-in-First c = ap (λ f. reading (parity f) c.args.bytes.now) c.in-First.is ∙ ok_then _ _ _ _ _ _ c.in_ok-padding-in-First.ensures (done_reads _ _)
 
 pub returns-in_ok-zero-in-Second : goal.returns-in_ok-zero-in-Second
 unfolding parity
-returns-in_ok-zero-in-Second c = ok_then _ _ _ _ _ _ c.in_ok-parity-in-Second.ensures (ok_then _ _ _ _ _ _ c.in_ok-zero-in-Second.ensures (done_reads _ _))
+returns-in_ok-zero-in-Second c = ap (λ f. reading (parity f) c.args.bytes.now) c.in-Second.is ∙ ok_then _ _ _ _ _ _ c.in_ok-parity-in-Second.ensures (ok_then _ _ _ _ _ _ c.in_ok-zero-in-Second.ensures (done_reads _ _))

@@ -1,0 +1,22 @@
+use Rattle.pot_image.specs.Reading.{reading}
+use Rattle.std.proofs.Common.{eq-eqb, ap, sym, subst, ◌∙◌, ◌++◌, [], ◌∷◌, append_assoc, rules, arith, ◌≡◌, ◌≤◌, ◌<◌, ◌+◌, ◌-◌, ℕ, List, Result, Ok, Err, Bool, true, false, refl}
+use Rattle.pot_image.proofs.Once.{ok_then, done_reads}
+use Rattle.pot_image.proofs.Steps.{fails_then, fails_on, fails_as, exits, no_memory, fails_at, done_as, unequal, kept, refused, short, holds_of, between_of, narrowed, barred, cut_short, over_begins, over_on, over_fails, over_done, several_begins, several_on, several_fails, several_done, collected, gives_as, gives_on, chosen, not_chosen}
+use Rattle.pot_image.specs.Logs.{entry_of}
+use Rattle.pot_image.proofs.entries.read_stuck.Goals as goal
+
+pub returns-in_err-stripe : goal.returns-in_err-stripe
+unfolding entry_of
+returns-in_err-stripe c = exits _ _ _ _ c.from_residual.ensures.1 (fails_then _ _ _ _ c.in_err-stripe.ensures)
+
+pub returns-in_err-column : goal.returns-in_err-column
+unfolding entry_of
+returns-in_err-column c = exits _ _ _ _ c.from_residual-in_err-column.ensures.1 (fails_on _ _ _ _ _ _ c.in_ok-stripe.ensures (fails_then _ _ _ _ c.in_err-column.ensures))
+
+pub returns-in_err-other : goal.returns-in_err-other
+unfolding entry_of
+returns-in_err-other c = exits _ _ _ _ c.from_residual-in_err-other.ensures.1 (fails_on _ _ _ _ _ _ c.in_ok-stripe.ensures (fails_on _ _ _ _ _ _ c.in_ok-column.ensures (fails_then _ _ _ _ c.in_err-other.ensures)))
+
+pub returns : goal.returns
+unfolding entry_of
+returns c = ok_then _ _ _ _ _ _ c.in_ok-stripe.ensures (ok_then _ _ _ _ _ _ c.in_ok-column.ensures (ok_then _ _ _ _ _ _ c.in_ok-other.ensures (done_reads _ _)))

@@ -1,0 +1,7 @@
+use Rattle.std.proofs.Common.{◌≡◌, ◌-◌, []}
+use Rattle.pot_image.specs.Reading.{several, reading}
+use Rattle.pot_image.specs.Logs.{entry_behind}
+use Rattle.pot_image.proofs.logs.read_group_log.Given as goal
+
+abbrev pub invariant-loop : goal.invariant-loop
+invariant-loop l = reading (several l.counter (l.count - l.counter) (entry_behind l.format l.rack) l.entries.items) l.rest ≡ reading (several 0 l.count (entry_behind l.format l.rack) []) l.initial.rest
