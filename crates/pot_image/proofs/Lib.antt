@@ -6,3 +6,6 @@ pub mod ColumnRules
 pub mod TableRules
 pub mod EntryKinds
 pub mod NameRules
+pub mod MarkRules
+pub mod PlaceRules
+pub mod HeadRules

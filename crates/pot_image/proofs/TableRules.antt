@@ -1,5 +1,8 @@
 -- A table that was read keeps the rules of a table.
-use Rattle.std.proofs.Common.{◌≡◌, ◌<◌, ◌≤◌, ℕ, zero, suc, ◌+◌, ◌-◌, ◌*◌, ◌==◌, ◌&&◌, ◌||◌, nat_lt, Bool, true, false, List, [], ◌∷◌, ◌++◌, length, flat_map, Result, Ok, Err, ap, ap₂, sym, ◌∙◌, refl, subst, arith}
+use Rattle.std.proofs.Common.{◌⊎◌, inl, inr, All, get_or, length-append, append-nil, ◌≡◌, ◌<◌, ◌≤◌, ℕ, zero, suc, ◌+◌, ◌-◌, ◌*◌, ◌==◌, ◌&&◌, ◌||◌, nat_lt, nat_le, Bool, true, false, List, [], ◌∷◌, ◌++◌, length, flat_map, Result, Ok, Err, ap, ap₂, sym, ◌∙◌, refl, subst, arith}
+use Rattle.std.proofs.Math.Seq.{get_or-append_seam}
+use Rattle.std.proofs.lemmas.List.{get_or_append_left}
+use Rattle.std.proofs.lemmas.Grind.{flat_map-append}
 use Rattle.std.proofs.lemmas.Bool.{leb-true, ltb-true, eqb-true}
 use Rattle.pot_bytes.specs.declared.rack.Rack.{Rack}
 use Rattle.pot_bytes.specs.Rack.{IsRack}
@@ -12,13 +15,16 @@ use Rattle.pot_machine.specs.Rules.{IsTable}
 use Rattle.pot_image.specs.Fields.{done}
 use Rattle.pot_image.specs.Reading.{◌>>=◌, reading}
 use Rattle.pot_image.specs.Numbers.{natural, at_most, between, zeros}
-use Rattle.pot_image.specs.Tables.{numbers_of, cursor, columns, slots, table, table_numbers}
-use Rattle.pot_image.specs.Rules.{AreFree, FitsTable}
+use Rattle.pot_image.specs.Tables.{numbers_of, cursor, columns, slots, table, table_behind, tables, table_numbers}
+use Rattle.pot_image.specs.Rules.{AreFree, FitsTable, AreTables}
 use Rattle.pot_image.proofs.Once.{both_true}
 use Rattle.pot_image.proofs.Steps.{holds_of}
-use Rattle.pot_image.proofs.Inverse.{parts, done_is}
+use Rattle.pot_image.proofs.Inverse.{parts, done_is, several_keep}
 use Rattle.pot_image.proofs.SlotRules.{AreAllowed, slots_are_allowed, voids_of}
-use Rattle.pot_image.proofs.ColumnRules.{AreKept, columns_kept, columns_of}
+use Rattle.pot_image.proofs.ColumnRules.{AreKept, columns_kept, columns_of, free_more}
+
+nearer : (a b : ℕ) → (a < b) ⊎ (b ≤ a)
+nearer a b = grind arith
 
 -- the cursor is at a data column of a stripe, or at column 0 behind the last stripe
 pub record IsPlaced (rack : Rack) (c : Cursor) : Type 0 where
@@ -35,7 +41,7 @@ cursor_placed rack bytes rest c fits e =
     let same = done_is (record { stripe = r.value; column = s.value }) c u.behind rest u.second in
     let stripe : r.value ≤ rack.stripes = leb-true _ _ (holds_of 4 (at_most rack.stripes) bytes r.behind r.value r.first) in
     let rule = both_true (between 0 (rack.columns - 1) s.value) (nat_lt r.value rack.stripes || (s.value == 0)) (holds_of 1 (λ c. between 0 (rack.columns - 1) c && (nat_lt r.value rack.stripes || (c == 0))) r.behind s.behind s.value s.first) in
-    let low : s.value ≤ rack.columns - 1 = leb-true _ _ (both_true _ _ rule.0).1 in
+    let low : s.value ≤ rack.columns - 1 = leb-true s.value (rack.columns - 1) (both_true (nat_le 0 s.value) (nat_le s.value (rack.columns - 1)) rule.0).1 in
     subst (IsPlaced rack) same.0 (record { stripe = stripe; column = omega (arith, low, fits.columns.0); behind = λ q. at_end r.value s.value q rule.1 }))
   where
     at_end : (a b : ℕ) → a ≡ rack.stripes → nat_lt a rack.stripes || (b == 0) ≡ true → b ≡ 0
@@ -78,3 +84,44 @@ table_rules rack c cs ss taken fits at kept size all = record {
 
     wide : (length cs - rack.parity) + rack.parity ≡ rack.columns + rack.parity
     wide = ap (λ n. n + rack.parity) data_is
+
+record Kept (rack : Rack) (taken : List ℕ) (t : Table) : Type 0 where
+  fits : FitsTable rack t
+  free : AreFree taken (table_numbers t)
+
+table_kept : (rack : Rack) (taken bytes rest : List ℕ) (t : Table) → IsRack rack → reading (table rack taken) bytes ≡ Ok (t, rest) → Kept rack taken t
+unfolding table
+table_kept rack taken bytes rest t fits e =
+    (let a = parts (cursor rack) (λ at. columns (rack.columns + rack.parity) rack.stripes taken >>= λ cs. slots at rack.columns (rack.columns + rack.parity) rack.stripes >>= λ ss. done (table_of rack.stripes at cs ss rack.parity)) bytes t rest e in
+    let b = parts (columns (rack.columns + rack.parity) rack.stripes taken) (λ cs. slots a.value rack.columns (rack.columns + rack.parity) rack.stripes >>= λ ss. done (table_of rack.stripes a.value cs ss rack.parity)) a.behind t rest a.second in
+    let c = parts (slots a.value rack.columns (rack.columns + rack.parity) rack.stripes) (λ ss. done (table_of rack.stripes a.value b.value ss rack.parity)) b.behind t rest b.second in
+    let same = done_is (table_of rack.stripes a.value b.value c.value rack.parity) t c.behind rest c.second in
+    let kept = columns_kept (rack.columns + rack.parity) rack.stripes taken a.behind b.behind b.value b.first in
+    let all = slots_are_allowed a.value rack.columns (rack.columns + rack.parity) rack.stripes b.behind c.behind c.value fits.columns.0 c.first in
+    kept_as (table_of rack.stripes a.value b.value c.value rack.parity) same.0 (table_rules rack a.value b.value c.value taken fits (cursor_placed rack bytes a.behind a.value fits a.first) kept all.0 all.1) kept.free)
+  where
+    kept_as : (u : Table) → u ≡ t → FitsTable rack u → AreFree taken (table_numbers u) → Kept rack taken t
+    kept_as u q f free = subst (Kept rack taken) q (record { fits = f; free = free })
+
+record First (rack : Rack) (n : ℕ) (ts : List Table) : Type 0 where
+  count : length ts ≡ n
+  fits : All (FitsTable rack) ts
+  free : AreFree [] (flat_map table_numbers ts)
+
+pub tables_kept : (rack : Rack) (bytes rest : List ℕ) (ts : List Table) → IsRack rack → reading (tables rack) bytes ≡ Ok (ts, rest) → AreTables rack ts
+unfolding tables
+tables_kept rack bytes rest ts fits e =
+    (let all = several_keep (First rack) (table_behind rack) rack.groups
+      (λ i before x bs rs l p h. one_more i before x p (table_kept rack (flat_map table_numbers before) bs rs x fits h))
+      rack.groups 0 [] ts bytes rest (omega arith) (record { count = refl; fits = λ k d l. absurd (omega (arith, l)); free = tt }) e in
+    record { count = all.count; fits = all.fits; free = all.free })
+  where
+    one_more : (i : ℕ) (before : List Table) (x : Table) → First rack i before → Kept rack (flat_map table_numbers before) x → First rack (i + 1) (before ++ x ∷ [])
+    one_more i before x p k = record {
+      count = (let h : length (before ++ x ∷ []) ≡ length before + 1 = length-append before (x ∷ []) in omega (arith, h, p.count));
+      fits = λ j d l. (let h : length (before ++ x ∷ []) ≡ length before + 1 = length-append before (x ∷ []) in elim (nearer j (length before)) [
+          | inl below ↦ subst (FitsTable rack) (sym (get_or_append_left before (x ∷ []) d j below)) (p.fits j d below)
+          | inr at ↦ (let q : j ≡ length before = omega (arith, l, h, at) in subst (FitsTable rack) (sym (ap (λ i. get_or (before ++ x ∷ []) i d) q ∙ get_or-append_seam before x [] d)) k.fits)
+        ]);
+      free = subst (AreFree []) (ap (λ z. flat_map table_numbers before ++ z) (sym (append-nil (table_numbers x))) ∙ sym (flat_map-append table_numbers before (x ∷ []))) (free_more (flat_map table_numbers before) (table_numbers x) [] p.free k.free);
+    }

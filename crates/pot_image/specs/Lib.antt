@@ -5,5 +5,7 @@ pub mod Numbers
 pub mod Tables
 pub mod Heads
 pub mod Records
+pub mod Marks
 pub mod Logs
+pub mod Images
 pub mod Rules

@@ -13,6 +13,7 @@ use Rattle.pot_machine.specs.Table.{Table, slot_at}
 use Rattle.pot_index.specs.declared.record.Record.{Record}
 use Rattle.pot_index.specs.declared.record.Split.{Split}
 use Rattle.pot_index.specs.Fits.{group_of}
+use Rattle.pot_image.specs.declared.records.RecordSplits.{RecordSplits}
 use Rattle.pot_image.specs.declared.format.Format.{Format}
 use Rattle.pot_image.specs.declared.format.Format.TheVariants.{First, Second}
 use Rattle.pot_image.specs.Fields.{Grammar, done}
@@ -50,7 +51,7 @@ unfoldable pub place : Rack → List Table → Geometry → ℕ → List Place �
 place rack tables g b before =
     natural 1 (λ n. n == group_of rack g b) >>= λ group.
     natural 1 (between 0 (rack.columns - 1)) >>= λ column.
-    natural 4 (λ s. between 0 (rack.stripes - 1) s && (is_filled tables group column s && is_apart before group column s)) >>= λ stripe.
+    natural 4 (λ s. at_most (rack.stripes - 1) s && (is_filled tables group column s && is_apart before group column s)) >>= λ stripe.
     done (record { group = group; column = column; stripe = stripe })
 
 -- the places of a file of so many pieces that is split so
@@ -67,13 +68,8 @@ split rack tables pieces =
 abbrev pub split_behind : Rack → List Table → ℕ → ℕ → List Split → Grammar Split
 split_behind rack tables pieces i before = split rack tables pieces
 
--- the splits of a record, of which the last is the current one
-pub record Splits : Type 0 where
-  pub older : List Split
-  pub current : Split
-
 -- the number of splits, 1 to 16, and the splits. In the first format one split of the rack's geometry, which is not written
-unfoldable pub splits : Format → Rack → List Table → ℕ → Grammar Splits
+unfoldable pub splits : Format → Rack → List Table → ℕ → Grammar RecordSplits
 splits First rack tables pieces =
     places rack tables pieces rack.geometry >>= λ ps.
     done (record { older = []; current = record { geometry = rack.geometry; places = ps } })

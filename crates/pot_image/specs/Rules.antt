@@ -1,13 +1,9 @@
 -- The rules of what stands in an image, by what they say of its values.
-use Rattle.std.specs.Prelude.{◌≡◌, ◌<◌, ◌≤◌, ℕ, ◌+◌, ◌*◌, true, List, [], ◌∷◌, ◌++◌, length, slice_index_or}
+use Rattle.std.specs.Prelude.{◌≡◌, ℕ, true, List, [], ◌∷◌, ◌++◌, length, All, flat_map}
 use Rattle.pot_bytes.specs.declared.rack.Rack.{Rack}
-use Rattle.pot_machine.specs.declared.slot.SlotState.{SlotState}
-use Rattle.pot_machine.specs.declared.slot.SlotState.TheVariants.{Void}
-use Rattle.pot_machine.specs.declared.cursor.Cursor.{Cursor}
-use Rattle.pot_machine.specs.Slot.{is_void}
 use Rattle.pot_machine.specs.Table.{Table}
 use Rattle.pot_machine.specs.Rules.{IsTable}
-use Rattle.pot_image.specs.Tables.{is_free, allows}
+use Rattle.pot_image.specs.Tables.{is_free, table_numbers}
 
 -- each number is that of an archive, and stands nowhere before, nor among those that are taken
 abbrev pub AreFree : List ℕ → List ℕ → Type 0
@@ -21,3 +17,9 @@ pub record FitsTable (rack : Rack) (t : Table) : Type 0 where
   pub parity : t.parity ≡ rack.parity
   pub stripes : t.stripes ≡ rack.stripes
   pub relays : t.relays ≡ []
+
+-- the tables of the groups of this rack, whose archives are all distinct
+pub record AreTables (rack : Rack) (ts : List Table) : Type 0 where
+  pub count : length ts ≡ rack.groups
+  pub fits : All (FitsTable rack) ts
+  pub free : AreFree [] (flat_map table_numbers ts)

@@ -1,0 +1,20 @@
+use Rattle.pot_image.specs.Reading.{reading}
+use Rattle.std.proofs.Common.{eq-eqb, ap, sym, subst, ◌∙◌, ◌++◌, [], ◌∷◌, append_assoc, rules, arith, ◌≡◌, ◌≤◌, ◌<◌, ◌+◌, ◌-◌, ℕ, List, Result, Ok, Err, Bool, true, false, refl}
+use Rattle.pot_image.proofs.Once.{ok_then, done_reads}
+use Rattle.pot_image.proofs.Steps.{fails_then, fails_on, fails_as, exits, no_memory, fails_at, done_as, unequal, kept, refused, short, holds_of, between_of, narrowed, barred, cut_short, over_begins, over_on, over_fails, over_done, several_begins, several_on, several_fails, several_done, collected, gives_as, gives_on, chosen, not_chosen}
+use Rattle.std.proofs.Common.{nat_le}
+use Rattle.std.proofs.lemmas.Bool.{le-leb}
+use Rattle.std.proofs.lemmas.Bool.Decides.{nat_tests}
+use Rattle.pot_image.proofs.records.read_length.Goals as goal
+
+pub returns-in_err-number : goal.returns-in_err-number
+returns-in_err-number c = exits _ _ _ _ c.from_residual.ensures.1 (short _ _ _ _ _ c.in_err-number.ensures (λ n h. refl))
+
+pub returns-then-number-gt-FILE_BYTES : goal.returns-then-number-gt-FILE_BYTES
+returns-then-number-gt-FILE_BYTES c = fails_at _ _ _ c.at.ensures (refused _ _ _ _ _ _ c.in_ok-number.ensures (above _ _ c.if-number-gt-FILE_BYTES.true))
+  where
+    above : (a b : ℕ) → b < a → nat_le a b ≡ false
+    above a b l = grind (arith, nat_tests)
+
+pub returns : goal.returns
+returns c = kept _ _ _ _ _ _ c.in_ok-number.ensures (le-leb _ _ c.if-number-gt-FILE_BYTES.false)

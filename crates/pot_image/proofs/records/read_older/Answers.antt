@@ -1,0 +1,34 @@
+use Rattle.pot_image.specs.Reading.{reading}
+use Rattle.std.proofs.Common.{eq-eqb, ap, sym, subst, ◌∙◌, ◌++◌, [], ◌∷◌, append_assoc, rules, arith, ◌≡◌, ◌≤◌, ◌<◌, ◌+◌, ◌-◌, ℕ, List, Result, Ok, Err, Bool, true, false, refl}
+use Rattle.pot_image.proofs.Once.{ok_then, done_reads}
+use Rattle.pot_image.proofs.Steps.{fails_then, fails_on, fails_as, exits, no_memory, fails_at, done_as, unequal, kept, refused, short, holds_of, between_of, narrowed, barred, cut_short, over_begins, over_on, over_fails, over_done, several_begins, several_on, several_fails, several_done, collected, gives_as, gives_on, chosen, not_chosen}
+use Rattle.pot_image.specs.Records.{split, splits, split_behind, record_behind, records}
+use Rattle.pot_image.proofs.HeadRules.{geometry_kept}
+use Rattle.std.proofs.Common.{drop}
+use Rattle.pot_object.specs.Pieces.{longest}
+use Rattle.std.proofs.lemmas.Bool.{leb-true}
+use Rattle.pot_image.specs.Numbers.{natural, at_most}
+use Rattle.pot_image.specs.Records.{name, is_above}
+use Rattle.pot_image.specs.Marks.{AreStamps}
+use Rattle.pot_image.proofs.MarkRules.{stamps_below}
+use Rattle.pot_index.specs.declared.record.Split.{Split}
+use Rattle.pot_image.proofs.records.read_older.Goals as goal
+
+pub returns-in_err-split-clause-reads : goal.returns-in_err-split-clause-reads
+returns-in_err-split-clause-reads c = exits _ _ _ _ c.from_residual-in_err-split.ensures.1 (fails_as _ _ _ c.loop-number.invariant.reads (several_fails _ _ _ _ _ _ c.loop-number-test.true c.in_err-split.ensures.reads))
+
+pub loop-number-preserved : goal.loop-number-preserved
+loop-number-preserved c = record {
+  reads = sym (several_on _ _ _ _ _ _ _ _ c.loop-number-test.true c.in_ok-split.ensures.reads c.in_ok-push.ensures.items) ∙ c.loop-number.invariant.reads;
+  stamps = stamps_below _ _ _ _ c.in_ok-split.ensures.stamps (now_is c.args.last c.loop-number.number c.from-in-loop-number.result c.from-in-loop-number.ensures);
+  number = c.in_ok-push.ensures.len ∙ ap (λ n. n + 1) c.loop-number.invariant.number;
+}
+  where
+    now_is : (last n m : ℕ) → m ≡ n → last + 1 + m ≤ last + (n + 1)
+    now_is last n m e = omega (arith, e)
+
+pub returns-clause-reads : goal.returns-clause-reads
+returns-clause-reads c = sym c.loop-number.invariant.reads ∙ several_done _ _ _ _ _ c.loop-number-test.false ∙ ap (λ xs. read_as xs c.loop-number.rest.now) (sym c.from_vec.ensures)
+  where
+    read_as : List Split → List ℕ → Result (List Split × List ℕ) ℕ
+    read_as xs rest = Ok (xs, rest)
