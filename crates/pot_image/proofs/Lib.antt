@@ -9,3 +9,4 @@ pub mod NameRules
 pub mod MarkRules
 pub mod PlaceRules
 pub mod HeadRules
+pub mod Frames

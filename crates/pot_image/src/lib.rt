@@ -19,3 +19,4 @@ mod tables;
 
 pub use fault::ImageFault;
 pub use image::Image;
+pub use reading::read_image;

@@ -1,5 +1,5 @@
 //! How an image is read.
-ghost use Rattle.std.specs.Prelude.{◌≡◌, ◌≤◌, ◌<◌, ◌+◌, ◌-◌, length, take, drop};
+ghost use Rattle.std.specs.Prelude.{◌≡◌, ◌≤◌, ◌<◌, ◌+◌, ◌-◌, ◌↔◌, IsTrue, length, take, drop};
 ghost use Rattle.pot_image.specs.declared.fault.ImageFault.TheVariants.{Form};
 ghost use Rattle.pot_image.specs.Following.{Gives};
 ghost use Rattle.pot_image.specs.Reading.{reading};
@@ -62,4 +62,77 @@ fn read_answered(alloc: Global, body: &[u8], format: Format) -> Result<Image, Im
         Err(Fault::Form { left }) => Err(form(body, left)),
         Err(Fault::Memory) => Err(ImageFault::NoMemory),
     }
+}
+
+/// The image of a text of this format, if the trailer is its digest.
+fn read_trailed(alloc: Global, bytes: &[u8], format: Format) -> Result<Image, ImageFault>
+    requires { 48 ≤ length bytes.now }
+    ensures { Trailed format bytes.now result }
+{
+    let (text, trailer) = bytes.split_at(bytes.len() - 32);
+    let mut kept = [0; 32];
+    kept.copy_from_slice(trailer);
+    let kept = Digest { bytes: kept };
+    let computed = digest_of(text);
+    if kept != computed {
+        return Err(ImageFault::Trailer { kept, computed });
+    }
+    let (_, body) = text.split_at(16);
+    read_answered(alloc, body, format)
+}
+
+/// The image of bytes of this format, if they are as many as they say.
+fn read_measured(alloc: Global, bytes: &[u8], format: Format) -> Result<Image, ImageFault>
+    requires { 48 ≤ length bytes.now }
+    ensures { Measured format bytes.now result }
+{
+    let stated = read_be64(bytes, 8);
+    let length = bytes.len() as u64;
+    if length < stated {
+        return Err(ImageFault::Cut);
+    }
+    if stated < length {
+        return Err(ImageFault::Form { place: 8 });
+    }
+    read_trailed(alloc, bytes, format)
+}
+
+/// The image of these bytes, by the number of their format.
+fn read_numbered(alloc: Global, bytes: &[u8]) -> Result<Image, ImageFault>
+    requires { 48 ≤ length bytes.now }
+    ensures { Numbered bytes.now result }
+{
+    match read_be32(bytes, 4) {
+        1 => read_measured(alloc, bytes, Format::First),
+        2 => read_measured(alloc, bytes, Format::Second),
+        _ => Err(ImageFault::Form { place: 4 }),
+    }
+}
+
+/// Whether the first four bytes are `PSI1`.
+fn is_marked(bytes: &[u8]) -> bool
+    requires { 48 ≤ length bytes.now }
+    ensures { IsTrue result ↔ (take 4 bytes.now ≡ magic) }
+{
+    bytes[0] == b'P' && bytes[1] == b'S' && bytes[2] == b'I' && bytes[3] == b'1'
+}
+
+/// The image of these bytes. Where they are none, it is answered why.
+///
+/// # Errors
+/// In this order: `Cut` where there are fewer than 48 bytes; `Form` with place 0 where the first four are not `PSI1`,
+/// and with place 4 where the number behind them is not 1 or 2; `Cut` where there are fewer bytes than the number behind
+/// that says, and `Form` with place 8 where there are more; `Trailer` where the last 32 bytes are not the digest of all
+/// before; `Form` with the place of the first field that breaks its rule or does not end before the trailer, or with the
+/// trailer's place where bytes are left before it. `NoMemory` may come in place of an image, and of the last of these.
+pub fn read_image(alloc: Global, bytes: &[u8]) -> Result<Image, ImageFault>
+    ensures { AnswersImage bytes.now result }
+{
+    if bytes.len() < LEAST_BYTES {
+        return Err(ImageFault::Cut);
+    }
+    if !is_marked(bytes) {
+        return Err(ImageFault::Form { place: 0 });
+    }
+    read_numbered(alloc, bytes)
 }
