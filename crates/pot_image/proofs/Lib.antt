@@ -10,3 +10,4 @@ pub mod MarkRules
 pub mod PlaceRules
 pub mod HeadRules
 pub mod Frames
+pub mod WriteRules

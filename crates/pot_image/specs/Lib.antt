@@ -8,4 +8,5 @@ pub mod Records
 pub mod Marks
 pub mod Logs
 pub mod Images
+pub mod Spelling
 pub mod Rules

@@ -3,12 +3,15 @@
 
 mod columns;
 mod entries;
+mod entry_writing;
 mod fault;
 mod fields;
 mod format;
 mod head;
 mod image;
+mod image_writing;
 mod index_entries;
+mod index_writing;
 mod logs;
 mod names;
 mod places;
@@ -16,7 +19,9 @@ mod reading;
 mod records;
 mod slots;
 mod tables;
+mod writing;
 
 pub use fault::ImageFault;
 pub use image::Image;
+pub use image_writing::write_image;
 pub use reading::read_image;

@@ -1,0 +1,8 @@
+use Rattle.std.proofs.Common.{◌≡◌, ◌++◌, flat_map, take, length}
+use Rattle.byteorder.specs.Endian.{big_bytes}
+use Rattle.pot_index.specs.Records.{record_bytes}
+use Rattle.pot_image.specs.Spelling.{table_bytes, entry_bytes, index_entry_bytes, counted_bytes}
+use Rattle.pot_image.proofs.image_writing.append_index_log.Given as goal
+
+abbrev pub invariant-loop-entry : goal.invariant-loop-entry
+invariant-loop-entry l = l.out.items ≡ (l.fn.out.items ++ big_bytes 4 (length l.entries)) ++ flat_map index_entry_bytes (take l.entry-index l.entries)
