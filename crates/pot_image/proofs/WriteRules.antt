@@ -1,8 +1,8 @@
 -- How the bytes of a list grow by those of its values.
-use Rattle.std.proofs.Common.{Vec, Global, ap₂, map, length-append, ◌≡◌, ◌<◌, ◌≤◌, ℕ, suc, ◌+◌, ◌*◌, List, [], ◌∷◌, ◌++◌, length, take, drop, get_or, flat_map, Result, Ok, Err, OnOk, ap, sym, ◌∙◌, refl, subst, arith, append_assoc, append-nil, add-one, length-drop, take_all}
-use Rattle.std.proofs.Math.Seq.{take-suc, take-add}
+use Rattle.std.proofs.Common.{Vec, Global, ap₂, map, length-append, ◌≡◌, ◌<◌, ◌≤◌, ℕ, suc, ◌+◌, ◌-◌, ◌*◌, List, [], ◌∷◌, ◌++◌, length, take, drop, get_or, flat_map, Result, Ok, Err, OnOk, ap, sym, ◌∙◌, refl, subst, arith, append_assoc, append-nil, add-one, length-drop, take_all}
+use Rattle.std.proofs.Math.Seq.{take-suc, take-add, take-append_seam}
 use Rattle.std.proofs.Math.Nat.{mul-le-mul_right}
-use Rattle.std.proofs.lemmas.List.{get_or-drop}
+use Rattle.std.proofs.lemmas.List.{get_or-drop, length-take-le}
 use Rattle.std.proofs.lemmas.Grind.{flat_map-append}
 use Rattle.pot_machine.specs.Table.{Table, width, slot_at}
 use Rattle.pot_machine.specs.declared.slot.SlotState.{SlotState}
@@ -84,3 +84,25 @@ text_written i old a b c new text n eo ea eb ec en et h =
     let long : length c ≡ 16 + length (field_bytes (contents i)) = ap length front ∙ length-append (80 ∷ 83 ∷ 73 ∷ 49 ∷ 0 ∷ 0 ∷ 0 ∷ 2 ∷ 0 ∷ 0 ∷ 0 ∷ 0 ∷ 0 ∷ 0 ∷ 0 ∷ 0 ∷ []) (field_bytes (contents i)) in
     let number : n ≡ 48 + length (field_bytes (contents i)) = omega (arith, en, long) in
     h ∙ ap₂ (λ z m. (take 8 z ++ big_bytes 8 m) ++ drop 16 z) (et ∙ front) number)
+
+written_back : (len : ℕ) (new items : List ℕ) → length new ≡ len → take len (new ++ drop (length new) items) ≡ new
+written_back len new items e = ap (λ n. take n (new ++ drop (length new) items)) (sym e) ∙ take-append_seam new (drop (length new) items)
+
+put_long : (text new : List ℕ) (n : ℕ) → 16 ≤ length text → new ≡ take 8 text ++ big_bytes 8 n ++ drop 16 text → length new ≡ length text
+put_long text new n l e =
+    let a : length (take 8 text) ≡ 8 = length-take-le 8 text (omega (arith, l)) in
+    let b : length (drop 16 text) ≡ length text - 16 = length-drop 16 text in
+    let c : length new ≡ length (take 8 text ++ big_bytes 8 n) + length (drop 16 text) = ap length e ∙ length-append (take 8 text ++ big_bytes 8 n) (drop 16 text) in
+    let d : length (take 8 text ++ big_bytes 8 n) ≡ length (take 8 text) + 8 = length-append (take 8 text) (big_bytes 8 n) in
+    omega (arith, l, a, b, c, d)
+
+pub text_done : (i : Image) (old a b c new text : List ℕ) (n len m : ℕ) → old ≡ [] → a ≡ old ++ (80 ∷ 83 ∷ 73 ∷ 49 ∷ 0 ∷ 0 ∷ 0 ∷ 2 ∷ []) → b ≡ a ++ (0 ∷ 0 ∷ 0 ∷ 0 ∷ 0 ∷ 0 ∷ 0 ∷ 0 ∷ []) → c ≡ b ++ field_bytes (contents i)
+    → m ≡ len → n ≡ m + 32 → text ≡ c → length text ≡ len → new ≡ take 8 text ++ big_bytes 8 n ++ drop 16 text → take len (new ++ drop (length new) c) ≡ text_bytes (contents i)
+text_done i old a b c new text n len m eo ea eb ec em en et el h =
+    let seven : b ≡ (80 ∷ 83 ∷ 73 ∷ 49 ∷ 0 ∷ 0 ∷ 0 ∷ 2 ∷ 0 ∷ 0 ∷ 0 ∷ 0 ∷ 0 ∷ 0 ∷ 0 ∷ 0 ∷ []) = eb ∙ ap (λ z. z ++ (0 ∷ 0 ∷ 0 ∷ 0 ∷ 0 ∷ 0 ∷ 0 ∷ 0 ∷ [])) (ea ∙ ap (λ z. z ++ (80 ∷ 83 ∷ 73 ∷ 49 ∷ 0 ∷ 0 ∷ 0 ∷ 2 ∷ [])) eo) in
+    let size : length b ≡ 16 = ap length seven in
+    let long : length c ≡ length b + length (field_bytes (contents i)) = ap length ec ∙ length-append b (field_bytes (contents i)) in
+    let same : length text ≡ length c = ap length et in
+    let front : 16 ≤ length text = omega (arith, size, long, same) in
+    let put : length new ≡ len = put_long text new n front h ∙ el in
+    written_back len new c put ∙ text_written i old a b c new text n eo ea eb ec (omega (arith, em, en, el, same)) et h
