@@ -22,4 +22,5 @@ pub mod Brought
 pub mod ColumnExits
 pub mod MoveExits
 pub mod MovingCalls
+pub mod Stepping
 pub mod Keeping

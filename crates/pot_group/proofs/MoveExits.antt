@@ -1,11 +1,12 @@
 -- The exits of the calls that bring an archive and move a column, over plain data.
 use Rattle.std.proofs.Common.{◌≡◌, ◌≢◌, ◌⊎◌, inl, inr, ℕ, suc, ◌+◌, ◌<◌, ◌≤◌, ◌++◌, ◌==◌, ◌||◌, List, [], ◌∷◌, Option, Some, None, IfSome, IsSomeAnd, Bool, true, false, IsTrue, length, refl, sym, ap, ap₂, ◌∙◌, subst, arith, nat_lt, if◌then◌else◌}
-use Rattle.std.specs.Prelude.{Contains, Ok, Err}
+use Rattle.std.specs.Prelude.{Contains, Ok, Err, nat_eq}
+use Rattle.pot_outside.specs.declared.faults.Failed.{Failed}
 use Rattle.std.proofs.lemmas.Bool.Decides.{nat_tests}
 use Rattle.pot_machine.specs.declared.column.Column.{Column}
 use Rattle.pot_machine.specs.declared.column.Moving.{Moving}
 use Rattle.pot_machine.specs.declared.entry.Entry.{Entry}
-use Rattle.pot_machine.specs.declared.entry.Entry.TheVariants.{MoveBegin, Moved, MoveEnd, Swapped}
+use Rattle.pot_machine.specs.declared.entry.Entry.TheVariants.{Fault, MoveBegin, Moved, MoveEnd, Swapped}
 use Rattle.pot_machine.specs.Slot.{is_live}
 use Rattle.pot_machine.specs.Column.{names, names_moved, serving, serving_moved}
 use Rattle.pot_machine.specs.Table.{Table, width, slot_at, column_at, serving_at}
@@ -20,10 +21,10 @@ use Rattle.pot_steps.specs.Flights.{Acts, Copies, flights_after}
 use Rattle.pot_group.specs.Shelves.{Shelves, Keeps, LosesFrom, Writes, put_at}
 use Rattle.pot_group.specs.Causes.{Covers, HasLost, Misses, archives_of, faults_in, fault_of, risen}
 use Rattle.pot_group.specs.Group.{GroupView, IsSettled}
-use Rattle.pot_group.proofs.CauseLemmas.{covers-stays}
+use Rattle.pot_group.proofs.CauseLemmas.{archives_of-snoc, covers-one, covers-stays}
 use Rattle.pot_group.proofs.ColumnExits.{archives-more, move_begins, moves_copied, moves_passed, move_ends, swaps}
 use Rattle.pot_group.proofs.ShelfLemmas.{keeps_refl, loses_refl, put_at-here, put_at-other}
-use Rattle.pot_group.proofs.Settled.{LeavesColumns, settled_act, gone_lost, no_fault}
+use Rattle.pot_group.proofs.Settled.{LeavesColumns, settled_act, same_columns, one_fault, gone_lost, no_fault}
 
 -- what is covered by some archives is covered by more
 risen-more : (s : Shelves) (xs ys : List ℕ) → risen s xs ≤ risen s (xs ++ ys)
@@ -93,54 +94,70 @@ past_position m home s e = below s m.upto m.to home e
     below : (s u a b : ℕ) → u ≡ s → (if nat_lt s (u + 1) then a else b) ≡ a
     below s u a b e = grind (arith, nat_tests)
 
--- The block that the home held was written to the target.
-module _ (told : Type 0) (g : GroupView) (now : Shelves) (job s c : ℕ) (m : Moving) (block : List ℕ) (settled : IsSettled told g) (room : length g.log < log_bound)
-    (legal : Legal g.table (Moved job s c true)) (moving : (column_at g.table c).moving ≡ Some m) (position : m.upto ≡ s)
-    (sound : told → IsSound (stripe_of g.table g.shelves.held s) c block) (w : Writes told m.to s block (Ok (tt)) g.shelves now) where
-  abbrev ideal : Holdings
-  ideal = put_at g.shelves.held m.to s (Some block)
-
+-- A column that moves and has come to a stripe.
+module _ (told : Type 0) (g : GroupView) (s c : ℕ) (m : Moving) (settled : IsSettled told g) (column : c < width g.table)
+    (moving : (column_at g.table c).moving ≡ Some m) (position : m.upto ≡ s) where
   in_column : (column_at g.table c) ≡ record { home = (column_at g.table c).home; moving = Some m }
   in_column = ap (λ o. record { home = (column_at g.table c).home; moving = o }) moving
 
   target_named : IsTrue (names (column_at g.table c) m.to)
   target_named = subst (λ o. IsTrue (names_moved o (column_at g.table c).home m.to)) (sym moving) (named_target m (column_at g.table c).home)
 
+  pub target_there : Contains g.shelves.numbers m.to
+  target_there = settled.shelves c m.to column target_named
+
   -- the target serves no slot of this stripe yet
   away : (k : ℕ) → k < width g.table → serving_at g.table s k ≢ m.to
   away k lk e = elim (same_or k c) [
-    | inl q ↦ (let t : (m.to ≢ (column_at g.table c).home) × (m.upto ≤ g.table.stripes) = subst (λ o. IfSome o (λ m. (m.to ≢ (column_at g.table c).home) × (m.upto ≤ g.table.stripes))) moving (settled.table.columns.target c legal.0.0) in
+    | inl q ↦ (let t : (m.to ≢ (column_at g.table c).home) × (m.upto ≤ g.table.stripes) = subst (λ o. IfSome o (λ m. (m.to ≢ (column_at g.table c).home) × (m.upto ≤ g.table.stripes))) moving (settled.table.columns.target c column) in
         t.0 (sym e ∙ ap (λ j. serving_at g.table s j) q ∙ ap (λ o. serving_moved o (column_at g.table c).home s) moving ∙ at_position m (column_at g.table c).home s position))
-    | inr ne ↦ ne (settled.table.columns.distinct k c m.to lk legal.0.0 (subst (λ n. IsTrue (names (column_at g.table k) n)) e (names_serving (column_at g.table k) s)) target_named)
+    | inr ne ↦ ne (settled.table.columns.distinct k c m.to lk column (subst (λ n. IsTrue (names (column_at g.table k) n)) e (names_serving (column_at g.table k) s)) target_named)
   ]
 
-  beside : (n k : ℕ) → k < width g.table → put_at g.shelves.held m.to s (Some block) (serving_at g.table n k) n ≡ g.shelves.held (serving_at g.table n k) n
-  beside n k lk = put_at-other g.shelves.held m.to s (Some block) (serving_at g.table n k) n (elim (same_or n s) [
+  pub beside : (left : Option (List ℕ)) (n k : ℕ) → k < width g.table → put_at g.shelves.held m.to s left (serving_at g.table n k) n ≡ g.shelves.held (serving_at g.table n k) n
+  beside left n k lk = put_at-other g.shelves.held m.to s left (serving_at g.table n k) n (elim (same_or n s) [
     | inl e ↦ inl (λ q. away k lk (ap (λ n. serving_at g.table n k) (sym e) ∙ q))
     | inr ne ↦ inr ne
   ])
 
-  served_now : serving_at (after g.table (Moved job s c true)) s c ≡ m.to
-  served_now = ap (λ x. serving x s) (column_same g.table c _ settled.table.size.columns legal.0.0) ∙ ap (λ x. serving (moved_on x) s) in_column ∙ past_position m (column_at g.table c).home s position
+  -- The write to the target failed.
+  module _ (now : Shelves) (job : ℕ) (block : List ℕ) (room : length g.log < log_bound) (stripe : s < g.table.stripes) (e : Failed) (w : Writes told m.to s block (Err e) g.shelves now) where
+    pub uncopied_settled : IsSettled told (record g { table = after g.table (Fault job s c); log = g.log ++ Fault job s c ∷ []; shelves = now })
+    uncopied_settled = settled_act told g (Fault job s c) [] now (λ t. put_at g.shelves.held m.to s (w.wrote t).0) settled (stripe, column) room w.keeps
+        (same_columns told g (Fault job s c) now settled w.keeps refl (λ k. refl)) (λ t. (w.wrote t).2)
+        (λ t n k b ln lk live h. sym (beside (w.wrote t).0 n k lk) ∙ h)
+        (λ t none n k b ln lk live h. beside (w.wrote t).0 n k lk ∙ h)
+        (λ k lk. subst (λ ns. Covers now ns (faults_in g.first.data_columns k g.log + (if nat_eq k c then 1 else 0))) (sym (archives_of-snoc g.first g.log k (Fault job s c) refl))
+        (one_fault now (archives_of g.first g.log) (λ k. faults_in g.first.data_columns k g.log) c k
+        (covers-stays g.shelves now (archives_of g.first g.log k) (faults_in g.first.data_columns k g.log) w.keeps.later w.keeps.faults_taken (settled.causes.faults k lk))
+        (covers-one g.shelves now (archives_of g.first g.log c) (faults_in g.first.data_columns c g.log) m.to w.keeps.later w.keeps.faults_taken
+        (settled.causes.faults c (omega (arith, column, settled.sizes.0, settled.sizes.1))) (settled.serves c m.to column target_named) (settled.faults m.to) (w.cause refl))))
+        (λ t k lk x. absurd x)
 
-  copies : told → Copies g.table (after g.table (Moved job s c true)) g.shelves.held (put_at g.shelves.held m.to s (Some block)) s c
-  copies t = record {
-    block = block;
-    sound = sound t;
-    written = ap (λ a. put_at g.shelves.held m.to s (Some block) a s) served_now ∙ put_at-here g.shelves.held m.to s (Some block);
-    others = λ n k ln lk apart. beside n k lk;
-  }
+  -- The block that the home held was written to the target.
+  module _ (now : Shelves) (job : ℕ) (block : List ℕ) (room : length g.log < log_bound)
+      (legal : Legal g.table (Moved job s c true)) (sound : told → IsSound (stripe_of g.table g.shelves.held s) c block) (w : Writes told m.to s block (Ok (tt)) g.shelves now) where
+    served_now : serving_at (after g.table (Moved job s c true)) s c ≡ m.to
+    served_now = ap (λ x. serving x s) (column_same g.table c _ settled.table.size.columns column) ∙ ap (λ x. serving (moved_on x) s) in_column ∙ past_position m (column_at g.table c).home s position
 
-  pub copied_settled : IsSettled told (record g { table = after g.table (Moved job s c true); log = g.log ++ Moved job s c true ∷ []; shelves = now })
-  copied_settled = settled_act told g (Moved job s c true) [] now (λ t. put_at g.shelves.held m.to s (Some block)) settled legal room w.keeps columns
-      (λ t. subst (λ left. LosesFrom (put_at g.shelves.held m.to s left) g.shelves now) ((w.wrote t).1) (w.wrote t).2) copies
-      (λ t none n k b ln lk live h. beside n k lk ∙ h)
-      (λ k lk. covers-more told g (Moved job s c true) now k columns _ (archives-more g.first g.log k (Moved job s c true))
-      (covers-stays g.shelves now (archives_of g.first g.log k) (faults_in g.first.data_columns k g.log) w.keeps.later w.keeps.faults_taken (settled.causes.faults k lk)))
-      (λ t k lk x. absurd (clash x.0))
-    where
-      columns : LeavesColumns told g (Moved job s c true) now
-      columns = moves_copied told g now settled w.keeps job c s legal
+    pub copies : told → Copies g.table (after g.table (Moved job s c true)) g.shelves.held (put_at g.shelves.held m.to s (Some block)) s c
+    copies t = record {
+      block = block;
+      sound = sound t;
+      written = ap (λ a. put_at g.shelves.held m.to s (Some block) a s) served_now ∙ put_at-here g.shelves.held m.to s (Some block);
+      others = λ n k ln lk apart. beside (Some block) n k lk;
+    }
 
-      clash : true ≡ false → ⊥
-      clash e = cc
+    pub copied_settled : IsSettled told (record g { table = after g.table (Moved job s c true); log = g.log ++ Moved job s c true ∷ []; shelves = now })
+    copied_settled = settled_act told g (Moved job s c true) [] now (λ t. put_at g.shelves.held m.to s (Some block)) settled legal room w.keeps columns
+        (λ t. subst (λ left. LosesFrom (put_at g.shelves.held m.to s left) g.shelves now) ((w.wrote t).1) (w.wrote t).2) copies
+        (λ t none n k b ln lk live h. beside (Some block) n k lk ∙ h)
+        (λ k lk. covers-more told g (Moved job s c true) now k columns _ (archives-more g.first g.log k (Moved job s c true))
+        (covers-stays g.shelves now (archives_of g.first g.log k) (faults_in g.first.data_columns k g.log) w.keeps.later w.keeps.faults_taken (settled.causes.faults k lk)))
+        (λ t k lk x. absurd (clash x.0))
+      where
+        columns : LeavesColumns told g (Moved job s c true) now
+        columns = moves_copied told g now settled w.keeps job c s legal
+
+        clash : true ≡ false → ⊥
+        clash e = cc

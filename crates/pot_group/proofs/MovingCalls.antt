@@ -4,7 +4,7 @@ use Rattle.std.specs.Prelude.{Ok, Err, Result, IfOk, IfErr, Contains}
 use Rattle.pot_outside.specs.Archives.{Meaning}
 use Rattle.pot_outside.specs.declared.archive.Shelf.{Shelf}
 use Rattle.pot_machine.specs.declared.entry.Entry.{Entry}
-use Rattle.pot_machine.specs.declared.entry.Entry.TheVariants.{MoveBegin}
+use Rattle.pot_machine.specs.declared.entry.Entry.TheVariants.{MoveBegin, Swapped}
 use Rattle.pot_machine.specs.Table.{Table, width, column_at, holder_of}
 use Rattle.pot_machine.specs.Column.{names}
 use Rattle.pot_machine.specs.Machine.{Legal, after}
@@ -12,10 +12,13 @@ use Rattle.pot_steps.specs.GroupStep.{log_bound}
 use Rattle.pot_group.specs.Shelves.{Shelves, Shelved, plain, Brings}
 use Rattle.pot_group.specs.Group.{GroupView, GroupParts, IsSettled, view_of, state_of, with_archives}
 use Rattle.pot_group.specs.Relaying.{acted}
-use Rattle.pot_steps.specs.MoveSteps.{BringStep}
+use Rattle.pot_group.specs.Moving.{Comes, MoveUse}
+use Rattle.pot_steps.specs.Entries.{OnlyLoses}
+use Rattle.pot_steps.specs.Flights.{Acts}
+use Rattle.pot_steps.specs.Holdings.{Holdings}
 use Rattle.pot_group.proofs.BeginSteps.{none_least}
 use Rattle.pot_group.proofs.Brought.{settled_brings, held_same}
-use Rattle.pot_group.proofs.MoveExits.{move_begin_settled}
+use Rattle.pot_group.proofs.MoveExits.{move_begin_settled, swap_settled}
 
 pub go_exit : (told : Type 0) (g : GroupView) (job c to : ℕ) (e : Entry) (t : Table) (log : List Entry) → IsSettled told g → length g.log < log_bound → Legal g.table (MoveBegin job c to) → Contains g.shelves.numbers to
     → e ≡ MoveBegin job c to → t ≡ after g.table e → log ≡ g.log ++ e ∷ [] → IsSettled told (record g { table = t; log = log })
@@ -33,7 +36,14 @@ receive_exit told meaning old shelf (Ok u) b settled fresh brought refused =
 receive_exit told meaning old shelf (Err s) b settled fresh brought refused =
     subst (λ (a : Shelved _). IsSettled told (view_of meaning (with_archives old a))) (sym refused.1) settled
 
--- A MOVE BEGINS
+pub swap_exit : (told : Type 0) (g : GroupView) (job c to : ℕ) (t : Table) (log : List Entry) → IsSettled told g → length g.log < log_bound → Legal g.table (Swapped job c to) → Contains g.shelves.numbers to
+    → t ≡ after g.table (Swapped job c to) → log ≡ g.log ++ Swapped job c to ∷ [] → IsSettled told (record g { table = t; log = log })
+swap_exit told g job c to t log settled room legal there et el =
+    subst (λ t. IsSettled told (record g { table = t; log = log })) (sym et)
+    (subst (λ log. IsSettled told (record g { table = after g.table (Swapped job c to); log = log })) (sym el)
+    (swap_settled told g job c settled room to legal there))
+
+-- AN ARCHIVE COMES
 
 -- a number that no archive has is no home and no target
 pub unheld : (told : Type 0) (g : GroupView) (number : ℕ) → IsSettled told g → (Contains g.shelves.numbers number → ⊥) → holder_of g.table number ≡ None
@@ -44,32 +54,52 @@ unheld told g number settled fresh = none_least (width g.table) (λ k. names (co
     by k lk true e = absurd (fresh (settled.shelves k number lk e))
 
 pub begin_legal : {A : Type 0} (told : Type 0) (meaning : A → Meaning) (old mid : GroupParts A) (job c to : ℕ) → IsSettled told (view_of meaning old) → c < width old.table
-    → (column_at old.table c).moving ≡ None → (Contains (plain meaning old.archives).numbers to → ⊥) → mid ≡ with_archives old mid.archives → Legal mid.table (MoveBegin job c to)
-begin_legal told meaning old mid job c to settled column still fresh e =
-    subst (λ (w : GroupParts _). Legal w.table (MoveBegin job c to)) (sym e) ((column, unheld told (view_of meaning old) to settled fresh), still)
+    → MoveUse (view_of meaning old) c to None → mid ≡ with_archives old mid.archives → Legal mid.table (MoveBegin job c to)
+begin_legal told meaning old mid job c to settled column free e =
+    subst (λ (w : GroupParts _). Legal w.table (MoveBegin job c to)) (sym e) ((column, unheld told (view_of meaning old) to settled free.1), free.0)
 
-pub begun_step : {A : Type 0} (told : Type 0) (meaning : A → Meaning) (old mid new : GroupParts A) (shelf : Shelf A) (job c : ℕ) → IsSettled told (view_of meaning old)
-    → length old.log < log_bound → c < width old.table → (column_at old.table c).moving ≡ None → (Contains (plain meaning old.archives).numbers shelf.number → ⊥)
-    → mid ≡ with_archives old mid.archives
-    → Brings told shelf.number (meaning shelf.archive).held (meaning shelf.archive).heard (plain meaning old.archives) (plain meaning mid.archives)
-    → new ≡ acted mid (MoveBegin job c shelf.number) [] → told → BringStep (MoveBegin job c shelf.number) shelf.number (meaning shelf.archive).held (meaning shelf.archive).heard (state_of (view_of meaning old)) (state_of (view_of meaning new))
-begun_step {A} told meaning old mid new shelf job c settled room column still fresh em brings en t =
-    subst (λ (w : GroupParts A). BringStep (MoveBegin job c shelf.number) shelf.number (meaning shelf.archive).held (meaning shelf.archive).heard (state_of (view_of meaning old)) (state_of (view_of meaning w))) (sym (en ∙ ap (λ (w : GroupParts A). acted w (MoveBegin job c shelf.number) []) em))
-    (record {
+pub swap_legal : {A : Type 0} (told : Type 0) (meaning : A → Meaning) (old mid : GroupParts A) (job c to : ℕ) → IsSettled told (view_of meaning old) → c < width old.table
+    → (Contains (plain meaning old.archives).numbers to → ⊥) → mid ≡ with_archives old mid.archives → Legal mid.table (Swapped job c to)
+swap_legal told meaning old mid job c to settled column fresh e =
+    subst (λ (w : GroupParts _). Legal w.table (Swapped job c to)) (sym e) (column, unheld told (view_of meaning old) to settled fresh)
+
+-- An archive has come, and an entry is logged that leaves what is held at Live places.
+module _ {A : Type 0} (told : Type 0) (meaning : A → Meaning) (old mid new : GroupParts A) (shelf : Shelf A) (settled : IsSettled told (view_of meaning old)) (room : length old.log < log_bound)
+    (fresh : Contains (plain meaning old.archives).numbers shelf.number → ⊥) (em : mid ≡ with_archives old mid.archives)
+    (brings : Brings told shelf.number (meaning shelf.archive).held (meaning shelf.archive).heard (plain meaning old.archives) (plain meaning mid.archives)) where
+  came_by : (e : Entry) → Legal old.table e → ((h h' : Holdings) → OnlyLoses old.table h h' → Acts old.table old.flights [] e h h')
+      → Comes told meaning e shelf (view_of meaning old) (view_of meaning (acted (with_archives old mid.archives) e []))
+  came_by e legal acts = record {
+    room = room;
+    acts = record { number = refl; first = refl; legal = legal; table = refl; log = refl; flights = refl };
+    brings = brings;
+    steps = λ t. record {
       logs = record {
-        legal = ((column, unheld told (view_of meaning old) shelf.number settled fresh), still);
+        legal = legal;
         log = refl;
-        room = (let l : length (old.log ++ (MoveBegin job c shelf.number) ∷ []) ≡ length old.log + 1 = length-append old.log ((MoveBegin job c shelf.number) ∷ []) in omega (arith, room));
+        room = (let l : length (old.log ++ e ∷ []) ≡ length old.log + 1 = length-append old.log (e ∷ []) in omega (arith, room));
         table = refl;
         flights = refl;
         before = (view_of meaning old).shelves.held;
         now = (plain meaning mid.archives).held;
         lost = (λ n m b q. q);
-        acts = (λ n k b ln lk live q. sym (held_same told (view_of meaning old) shelf.number (meaning shelf.archive).held (meaning shelf.archive).heard (plain meaning mid.archives) settled fresh brings n k lk) ∙ q);
+        acts = acts (view_of meaning old).shelves.held (plain meaning mid.archives).held
+            (λ n k b ln lk live q. sym (held_same told (view_of meaning old) shelf.number (meaning shelf.archive).held (meaning shelf.archive).heard (plain meaning mid.archives) settled fresh brings n k lk) ∙ q);
         loses = (λ n m b q. q);
       };
       brings = record { blocks = brings.blocks; sums = brings.sums; others = brings.same_held; silent = brings.same_heard };
-    })
+    };
+  }
+
+  pub begun_comes : (job c : ℕ) → c < width old.table → (column_at old.table c).moving ≡ None → new ≡ acted mid (MoveBegin job c shelf.number) []
+      → Comes told meaning (MoveBegin job c shelf.number) shelf (view_of meaning old) (view_of meaning new)
+  begun_comes job c column still en = subst (λ (w : GroupParts A). Comes told meaning (MoveBegin job c shelf.number) shelf (view_of meaning old) (view_of meaning w)) (sym (en ∙ ap (λ (w : GroupParts A). acted w (MoveBegin job c shelf.number) []) em))
+      (came_by (MoveBegin job c shelf.number) ((column, unheld told (view_of meaning old) shelf.number settled fresh), still) (λ h h' l. l))
+
+  pub swapped_comes : (job c : ℕ) → c < width old.table → new ≡ acted mid (Swapped job c shelf.number) []
+      → Comes told meaning (Swapped job c shelf.number) shelf (view_of meaning old) (view_of meaning new)
+  swapped_comes job c column en = subst (λ (w : GroupParts A). Comes told meaning (Swapped job c shelf.number) shelf (view_of meaning old) (view_of meaning w)) (sym (en ∙ ap (λ (w : GroupParts A). acted w (Swapped job c shelf.number) []) em))
+      (came_by (Swapped job c shelf.number) (column, unheld told (view_of meaning old) shelf.number settled fresh) (λ h h' l. l))
 
 -- an archive that came is there
 pub contains_last : (xs : List ℕ) (n : ℕ) → Contains (xs ++ n ∷ []) n

@@ -59,6 +59,20 @@ is_found same shelves n place v e has =
     some : position_or_len (λ s. s.number == n) shelves < length shelves → IsSome (position (λ s. s.number == n) shelves)
     some l = grind (arith, nat_tests)
 
+pub found_is : {A : Type 0} (same shelves : List (Shelf A)) (n : ℕ) (place : Option ℕ) → same ≡ shelves → place ≡ position (λ s. s.number == n) same
+    → IsSome place → Contains (numbers_of shelves) n
+found_is {A} same shelves n place v e some = within shelves (below (subst (λ o. IsSome o) (e ∙ ap (position (λ s. s.number == n)) v) some))
+  where
+    below : IsSome (position (λ s. s.number == n) shelves) → position_or_len (λ s. s.number == n) shelves < length shelves
+    below l = grind (arith, nat_tests)
+
+    within : (xs : List (Shelf A)) → position_or_len (λ s. s.number == n) xs < length xs → Contains (numbers_of xs) n
+    within [] l = absurd (omega (arith, l))
+    within (x ∷ xs) l = elim (eqb_tells x.number n) [
+      | inl t ↦ (zero, omega arith, t.1)
+      | inr t ↦ (let m = rw t.0 at l in let h : Contains (numbers_of xs) n = within xs (omega (arith, m)) in (suc h.0, omega (arith, h.1), h.2))
+    ]
+
 -- an archive that stands first with its number, in whose place another of the number is put
 pub touches_at : {A : Type 0} (number place : ℕ) (R : A → A → Type 0) (old : List (Shelf A)) (was : Shelf A) (after : A) (same : List (Shelf A)) (found : Option ℕ) → same ≡ old
     → found ≡ position (λ s. s.number == number) same → found ≡ Some place → was ≡ get_or old place was → R was.archive after

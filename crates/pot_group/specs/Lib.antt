@@ -8,3 +8,4 @@ pub mod Putting
 pub mod Counting
 pub mod Finding
 pub mod Relaying
+pub mod Moving

@@ -90,7 +90,7 @@ impl<A: Archive> Archives<A> {
 
     /// Whether an archive has this number.
     pub(crate) fn has(&self, number: u32) -> bool
-        ensures { Contains (numbers_of self.now.shelves) number → IsTrue result }
+        ensures { IsTrue result ↔ Contains (numbers_of self.now.shelves) number }
     {
         place_of(&self.shelves, number).is_some()
     }

@@ -67,6 +67,7 @@
 mod answers;
 mod archives;
 mod beginning;
+mod copying;
 mod counting;
 mod finding;
 mod group;
@@ -87,6 +88,7 @@ mod tests;
 
 pub use answers::{Looked, PutFault};
 pub use beginning::StartRefused;
+pub use copying::{MoveFault, MoveStep};
 pub use counting::Counts;
 pub use finding::Kind;
 pub use group::{Ended, Group};

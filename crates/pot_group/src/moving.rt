@@ -1,16 +1,21 @@
-//! The moves of a group's columns.
-ghost use Rattle.std.specs.Prelude.{◌≡◌, ◌<◌, IsTrue, IfOk, IfErr, Contains, length};
+//! Archives that come to a group: the target of a move, and one that replaces a home.
+ghost use Rattle.std.specs.Prelude.{◌≡◌, ◌<◌, ◌↔◌, IsTrue, IfOk, IfErr, Contains, length};
 
 use crate::group::{Group, LOG_BOUND};
+use crate::noting::note;
+use pot_machine::{Entry, GroupTable};
 use pot_outside::{Archive, Shelf};
 use pot_steps::move_begin;
+
+ghost use Rattle.pot_machine.specs.Table.{width};
+ghost use Rattle.pot_group.specs.Moving.{live_in};
 
 /// Why an archive was not taken.
 #[derive(Clone, Copy, PartialEq, Eq, Debug)]
 pub enum ShelfCause {
     /// The log has no room.
     LogFull,
-    /// The column moves and has this home, or the shelf's number, this one, has a use.
+    /// For a move, the column moves and has this home. Else an archive of the group has the shelf's number, which is this one.
     InUse { number: u32 },
     /// Memory is short.
     NoMemory,
@@ -25,19 +30,17 @@ pub struct ShelfRefused<A: Archive> {
 
 impl<A: Archive> Group<A> {
     ghost use Rattle.std.specs.Prelude.{[]};
-    ghost use Rattle.pot_machine.specs.declared.entry.Entry.TheVariants.{MoveBegin};
+    ghost use Rattle.pot_machine.specs.declared.entry.Entry.TheVariants.{MoveBegin, Swapped};
     ghost use Rattle.pot_machine.specs.Machine.{Legal};
     ghost use Rattle.pot_group.specs.Shelves.{plain, Brings};
-    ghost use Rattle.pot_group.specs.Group.{with_archives, view_of, state_of};
-    ghost use Rattle.std.specs.Prelude.{None};
-    ghost use Rattle.pot_machine.specs.Table.{width, column_at};
-    ghost use Rattle.pot_steps.specs.MoveSteps.{BringStep};
+    ghost use Rattle.pot_group.specs.Group.{with_archives, view_of};
+    ghost use Rattle.pot_group.specs.Moving.{Comes, MoveUse, RefusesMove, RefusesSwap};
     ghost use Rattle.pot_group.specs.Relaying.{acted};
 
     /// A column begins to move to an archive that comes.
     ///
     /// # Errors
-    /// In this order: `LogFull`, `InUse`, `NoMemory`. The archive is handed back.
+    /// In this order: `LogFull`, `InUse`, `NoMemory`. The archive is handed back, and nothing changes.
     pub fn move_begin(
         &mut self,
         job: u32,
@@ -46,8 +49,8 @@ impl<A: Archive> Group<A> {
     ) -> Result<(), ShelfRefused<A>>
         requires job { 0 < job }
         requires column { column < width self.old.table }
-        ensures begun { IfOk result (λ u. IsTrue A.account.tells → BringStep (MoveBegin job column shelf.number) shelf.number (A.account.meaning shelf.archive).held (A.account.meaning shelf.archive).heard (state_of (view_of A.account.meaning self.old)) (state_of (view_of A.account.meaning self.new))) }
-        ensures refused { IfErr result (λ r. (r.shelf ≡ shelf) × (self.new ≡ self.old)) }
+        ensures begun { IfOk result (λ u. Comes (IsTrue A.account.tells) A.account.meaning (MoveBegin job column shelf.number) shelf (view_of A.account.meaning self.old) (view_of A.account.meaning self.new)) }
+        ensures refused { IfErr result (λ r. (r.shelf ≡ shelf) × (self.new ≡ self.old) × RefusesMove (view_of A.account.meaning self.old) column shelf.number r.cause) }
     {
         if self.log.len() >= LOG_BOUND {
             return Err(ShelfRefused {
@@ -73,10 +76,51 @@ impl<A: Archive> Group<A> {
         Ok(())
     }
 
+    /// An archive that comes takes the place of a column's home, and of its target where it moves, which ends its move. The slots of
+    /// the column that were Live are Lost, and the answer is how many. The archives that it had stay in the group, and serve no slot.
+    ///
+    /// # Errors
+    /// In this order: `LogFull`, `InUse`, `NoMemory`. The archive is handed back, and nothing changes.
+    pub fn swap(
+        &mut self,
+        job: u32,
+        column: u8,
+        shelf: Shelf<A>,
+    ) -> Result<u32, ShelfRefused<A>>
+        requires job { 0 < job }
+        requires column { column < width self.old.table }
+        ensures swapped { IfOk result (λ n. (n ≡ live_in self.old.table column) × Comes (IsTrue A.account.tells) A.account.meaning (Swapped job column shelf.number) shelf (view_of A.account.meaning self.old) (view_of A.account.meaning self.new)) }
+        ensures refused { IfErr result (λ r. (r.shelf ≡ shelf) × (self.new ≡ self.old) × RefusesSwap (view_of A.account.meaning self.old) shelf.number r.cause) }
+    {
+        if self.log.len() >= LOG_BOUND {
+            return Err(ShelfRefused {
+                shelf,
+                cause: ShelfCause::LogFull,
+            });
+        }
+        let _settled = self.kept();
+        let to = shelf.number;
+        if self.archives.has(to) {
+            return Err(ShelfRefused {
+                shelf,
+                cause: ShelfCause::InUse { number: to },
+            });
+        }
+        let live = live_in(&self.table, column);
+        if let Err(shelf) = self.receive(shelf) {
+            return Err(ShelfRefused {
+                shelf,
+                cause: ShelfCause::NoMemory,
+            });
+        }
+        self.swap_to(job, column, to);
+        Ok(live)
+    }
+
     /// The home of a column that moves, or else this number where an archive has it.
     fn in_use(&self, column: u8, number: u32) -> Option<u32>
         requires column { column < width self.now.table }
-        ensures { result ≡ None → ((column_at self.now.table column).moving ≡ None) × (Contains (plain A.account.meaning self.now.archives).numbers number → ⊥) }
+        ensures { MoveUse (view_of A.account.meaning self.now) column number result }
     {
         let served = &self.table.columns()[usize::from(column)];
         if served.moving.is_some() {
@@ -110,4 +154,32 @@ impl<A: Archive> Group<A> {
         let entry = move_begin(&mut self.table, job, column, to);
         self.log.push_reserved(entry);
     }
+
+    /// A column has an archive that the group has as its home.
+    fn swap_to(&mut self, job: u32, column: u8, to: u32)
+        requires legal { Legal self.old.table (Swapped job column to) }
+        requires room { length self.old.log < 262144 }
+        requires there { Contains (plain A.account.meaning self.old.archives).numbers to }
+        ensures { self.new ≡ acted self.old (Swapped job column to) [] }
+    {
+        note(
+            &mut self.table,
+            &mut self.log,
+            Entry::Swapped { job, column, to },
+        );
+    }
+}
+
+/// How many slots of a column are Live.
+fn live_in(table: &GroupTable, column: u8) -> u32
+    requires { column < width table.now }
+    ensures { result ≡ live_in table.now column }
+{
+    let mut live = 0;
+    for stripe in 0..table.stripes() {
+        if table.slot(stripe, column).is_live() {
+            live += 1;
+        }
+    }
+    live
 }
