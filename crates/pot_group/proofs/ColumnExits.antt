@@ -22,7 +22,7 @@ use Rattle.pot_group.proofs.Brought.{Contains-front}
 same_or : (a b : ℕ) → (a ≡ b) ⊎ (a ≢ b)
 same_or a b = grind arith
 
-Contains-back : (xs ys : List ℕ) (n : ℕ) → Contains ys n → Contains (xs ++ ys) n
+pub Contains-back : (xs ys : List ℕ) (n : ℕ) → Contains ys n → Contains (xs ++ ys) n
 Contains-back [] ys n h = h
 Contains-back (x ∷ xs) ys n h = (let r : Contains (xs ++ ys) n = Contains-back xs ys n h in (suc r.0, omega (arith, r.1), r.2))
 

@@ -23,4 +23,5 @@ pub mod ColumnExits
 pub mod MoveExits
 pub mod MovingCalls
 pub mod Stepping
+pub mod Used
 pub mod Keeping

@@ -9,3 +9,4 @@ pub mod Counting
 pub mod Finding
 pub mod Relaying
 pub mod Moving
+pub mod Uses

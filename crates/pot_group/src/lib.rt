@@ -85,6 +85,7 @@ mod scene;
 mod telling;
 #[cfg(test)]
 mod tests;
+mod uses;
 
 pub use answers::{Looked, PutFault};
 pub use beginning::StartRefused;
@@ -95,3 +96,4 @@ pub use group::{Ended, Group};
 pub use moving::{ShelfCause, ShelfRefused};
 pub use relaying::{AdvanceFault, Advanced, BeginFault, Mend};
 pub use telling::LogFull;
+pub use uses::{HomeAt, Role, Trace, Use};
