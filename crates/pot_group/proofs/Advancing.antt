@@ -86,9 +86,13 @@ module _ {A : Type 0} (told : Type 0) (meaning : A → Meaning) (old : GroupPart
         record {
           moves = on_way (λ f2 c. (sum2 : List ℕ) × IsTrue (is_live (slot_at old.table f.relay.stripe c))
               × (digest_in (slot_at old.table f.relay.stripe c) ≡ Some (digest_of (unfolded (weight_in old.table.data_columns f2.relay c) f2.sum sum2)))
-              × Acts (Hop job f.relay.stripe c) sum2 (view_of meaning old) (view_of meaning new))
-              (sum, live, m.0, subst (λ (w : GroupParts A). Acts (Hop job f.relay.stripe c) sum (view_of meaning old) (view_of meaning w)) (sym m.1)
-              (acts b (Hop job f.relay.stripe c) sum (legal_hop old.table f.relay settled.table (relay_of_flight old.table old.flights f.relay.stripe settled.relays ∙ ap relay_of here) c next job live)));
+              × Acts (Hop job f.relay.stripe c) sum2 (view_of meaning old) (view_of meaning new)) (
+                sum,
+                live,
+                m.0,
+                subst (λ (w : GroupParts A). Acts (Hop job f.relay.stripe c) sum (view_of meaning old) (view_of meaning w)) (sym m.1)
+                    (acts b (Hop job f.relay.stripe c) sum (legal_hop old.table f.relay settled.table (relay_of_flight old.table old.flights f.relay.stripe settled.relays ∙ ap relay_of here) c next job live)),
+              );
           keeps = keeps_at b (Hop job f.relay.stripe c) sum new m.1 folds.keeps;
           steps = over_exit told meaning old job f c settled room here next within b sum live advanced.Hopped new means folds;
         }
@@ -125,18 +129,18 @@ module _ (told : Type 0) (g : GroupView) (job : ℕ) (f : Flight) (settled : IsS
   odd_advances e wanted found t log fs m el ef = record {
     moves = at_end (λ f2. (digest_in (slot_at g.table f.relay.stripe f2.relay.target) ≡ Some wanted) × (found ≡ digest_of (partial_of f2)) × (wanted ≢ found)
         × Acts (Oddly job f.relay.stripe f2.relay.target found) [] g (record g { table = t; log = log; flights = fs })) (
-      m.4,
-      m.2,
-      m.3,
-      record {
-        number = refl;
-        first = refl;
-        legal = odd_legal told g job f settled room here next found (some_differs (digest_in (slot_at g.table f.relay.stripe f.relay.target)) wanted found m.4 m.3);
-        table = m.1 ∙ ap (after g.table) m.0;
-        log = el ∙ ap (λ e. g.log ++ e ∷ []) m.0;
-        flights = ef;
-      },
-    );
+          m.4,
+          m.2,
+          m.3,
+          record {
+            number = refl;
+            first = refl;
+            legal = odd_legal told g job f settled room here next found (some_differs (digest_in (slot_at g.table f.relay.stripe f.relay.target)) wanted found m.4 m.3);
+            table = m.1 ∙ ap (after g.table) m.0;
+            log = el ∙ ap (λ e. g.log ++ e ∷ []) m.0;
+            flights = ef;
+          },
+        );
     keeps = keeps_refl g.shelves;
     steps = odd_step told g job f settled room here next e wanted found t log fs m el ef;
   }

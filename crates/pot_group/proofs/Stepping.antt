@@ -98,18 +98,22 @@ module _ (told : Type 0) (g : GroupView) (job c : ℕ) (m : Moving) (settled : I
         moves = on_move (λ n. (n.upto < g.table.stripes) × IsTrue (is_live (slot_at g.table n.upto c)) × Acts (Moved job n.upto c true) [] g (record g { table = t; log = log; shelves = now }))
             (lt, live, record { number = refl; first = refl; legal = copy_legal lt live; table = et ∙ ap (after g.table) is; log = el ∙ ap (λ e. g.log ++ e ∷ []) is; flights = refl });
         keeps = w.keeps;
-        steps = λ k. (m.upto, record {
-          legal = copy_legal lt live;
-          log = el ∙ ap (λ e. g.log ++ e ∷ []) is;
-          room = subst (λ l. length l ≤ log_bound) (sym el) (room_for g.log e room);
-          table = et ∙ ap (after g.table) is;
-          flights = refl;
-          before = g.shelves.held;
-          now = put_at g.shelves.held m.to m.upto (Some block);
-          lost = (λ n q b e. e);
-          acts = copies told g m.upto c m settled column moving refl now job block room (copy_legal lt live) sound w k;
-          loses = (λ n q b e. (subst (λ left. LosesFrom (put_at g.shelves.held m.to m.upto left) g.shelves now) ((w.wrote k).1) (w.wrote k).2 n).keeps q b e);
-        }, w.heard k);
+        steps = λ k. (
+          m.upto,
+          record {
+            legal = copy_legal lt live;
+            log = el ∙ ap (λ e. g.log ++ e ∷ []) is;
+            room = subst (λ l. length l ≤ log_bound) (sym el) (room_for g.log e room);
+            table = et ∙ ap (after g.table) is;
+            flights = refl;
+            before = g.shelves.held;
+            now = put_at g.shelves.held m.to m.upto (Some block);
+            lost = (λ n q b e. e);
+            acts = copies told g m.upto c m settled column moving refl now job block room (copy_legal lt live) sound w k;
+            loses = (λ n q b e. (subst (λ left. LosesFrom (put_at g.shelves.held m.to m.upto left) g.shelves now) ((w.wrote k).1) (w.wrote k).2 n).keeps q b e);
+          },
+          w.heard k,
+        );
       }
 
     -- or failed
@@ -122,23 +126,31 @@ module _ (told : Type 0) (g : GroupView) (job c : ℕ) (m : Moving) (settled : I
 
       pub uncopied_steps : Steps told job c (Err (failed.Faulted c)) g (record g { table = t; log = log; shelves = now })
       uncopied_steps = record {
-        moves = (refl, on_move (λ n. (n.upto < g.table.stripes) × IsTrue (is_live (slot_at g.table n.upto c))
-            × (FailedBy g (record g { table = t; log = log; shelves = now }) (serving_at g.table n.upto c) ⊎ FailedBy g (record g { table = t; log = log; shelves = now }) n.to)
-            × Acts (Fault job n.upto c) [] g (record g { table = t; log = log; shelves = now }))
-            (lt, live, inr (w.cause refl), record { number = refl; first = refl; legal = (lt, column); table = et; log = el; flights = refl }));
+        moves = (
+          refl,
+          on_move (λ n. (n.upto < g.table.stripes) × IsTrue (is_live (slot_at g.table n.upto c))
+              × (FailedBy g (record g { table = t; log = log; shelves = now }) (serving_at g.table n.upto c) ⊎ FailedBy g (record g { table = t; log = log; shelves = now }) n.to)
+              × Acts (Fault job n.upto c) [] g (record g { table = t; log = log; shelves = now }))
+              (lt, live, inr (w.cause refl), record { number = refl; first = refl; legal = (lt, column); table = et; log = el; flights = refl }),
+        );
         keeps = w.keeps;
-        steps = λ k. (m.upto, record {
-          legal = (lt, column);
-          log = el;
-          room = subst (λ l. length l ≤ log_bound) (sym el) (room_for g.log (Fault job m.upto c) room);
-          table = et;
-          flights = refl;
-          before = g.shelves.held;
-          now = put_at g.shelves.held m.to m.upto (w.wrote k).0;
-          lost = (λ n q b e. e);
-          acts = (λ n q b ln lq live h. sym (beside told g m.upto c m settled column moving refl (w.wrote k).0 n q lq) ∙ h);
-          loses = (λ n q b e. ((w.wrote k).2 n).keeps q b e);
-        }, w.heard k, on_move (λ n. n.upto ≡ m.upto) refl);
+        steps = λ k. (
+          m.upto,
+          record {
+            legal = (lt, column);
+            log = el;
+            room = subst (λ l. length l ≤ log_bound) (sym el) (room_for g.log (Fault job m.upto c) room);
+            table = et;
+            flights = refl;
+            before = g.shelves.held;
+            now = put_at g.shelves.held m.to m.upto (w.wrote k).0;
+            lost = (λ n q b e. e);
+            acts = (λ n q b ln lq live h. sym (beside told g m.upto c m settled column moving refl (w.wrote k).0 n q lq) ∙ h);
+            loses = (λ n q b e. ((w.wrote k).2 n).keeps q b e);
+          },
+          w.heard k,
+          on_move (λ n. n.upto ≡ m.upto) refl,
+        );
       }
 
 -- A CALL OF THE CODE
@@ -178,23 +190,31 @@ module _ {A : Type 0} (told : Type 0) (meaning : A → Meaning) (old : GroupPart
       → Finds told (serving_at old.table m.upto c) m.upto digest into found.NotRead (plain meaning old.archives) (plain meaning b) → new ≡ noted (with_archives old b) (Fault job m.upto c)
       → Steps told job c (Err (failed.Faulted c)) (view_of meaning old) (view_of meaning new)
   unread_steps b digest into new lt live finds e = subst (λ (w : GroupParts A). Steps told job c (Err (failed.Faulted c)) (view_of meaning old) (view_of meaning w)) (sym e) (record {
-    moves = (refl, on_move told (view_of meaning old) job c m settled room column moving (λ n. (n.upto < old.table.stripes) × IsTrue (is_live (slot_at old.table n.upto c))
-        × (FailedBy (view_of meaning old) (view_of meaning (noted (with_archives old b) (Fault job m.upto c))) (serving_at old.table n.upto c) ⊎ FailedBy (view_of meaning old) (view_of meaning (noted (with_archives old b) (Fault job m.upto c))) n.to)
-        × Acts (Fault job n.upto c) [] (view_of meaning old) (view_of meaning (noted (with_archives old b) (Fault job m.upto c))))
-        (lt, ap is_live live, inl finds.means, acts b (Fault job m.upto c) (lt, column)));
+    moves = (
+      refl,
+      on_move told (view_of meaning old) job c m settled room column moving (λ n. (n.upto < old.table.stripes) × IsTrue (is_live (slot_at old.table n.upto c))
+          × (FailedBy (view_of meaning old) (view_of meaning (noted (with_archives old b) (Fault job m.upto c))) (serving_at old.table n.upto c) ⊎ FailedBy (view_of meaning old) (view_of meaning (noted (with_archives old b) (Fault job m.upto c))) n.to)
+          × Acts (Fault job n.upto c) [] (view_of meaning old) (view_of meaning (noted (with_archives old b) (Fault job m.upto c))))
+          (lt, ap is_live live, inl finds.means, acts b (Fault job m.upto c) (lt, column)),
+    );
     keeps = finds.stays.keeps;
-    steps = λ t. (m.upto, record {
-      legal = (lt, column);
-      log = refl;
-      room = room_for old.log (Fault job m.upto c) room;
-      table = refl;
-      flights = refl;
-      before = (plain meaning b).held;
-      now = (plain meaning b).held;
-      lost = (λ n q x h. (finds.stays.loses t n).keeps q x h);
-      acts = (λ n k x ln lk l h. h);
-      loses = (λ n q x h. h);
-    }, finds.stays.heard t, on_move told (view_of meaning old) job c m settled room column moving (λ n. n.upto ≡ m.upto) refl);
+    steps = λ t. (
+      m.upto,
+      record {
+        legal = (lt, column);
+        log = refl;
+        room = room_for old.log (Fault job m.upto c) room;
+        table = refl;
+        flights = refl;
+        before = (plain meaning b).held;
+        now = (plain meaning b).held;
+        lost = (λ n q x h. (finds.stays.loses t n).keeps q x h);
+        acts = (λ n k x ln lk l h. h);
+        loses = (λ n q x h. h);
+      },
+      finds.stays.heard t,
+      on_move told (view_of meaning old) job c m settled room column moving (λ n. n.upto ≡ m.upto) refl,
+    );
   })
 
   -- A step after a read that did not fail.
@@ -257,18 +277,23 @@ module _ {A : Type 0} (told : Type 0) (meaning : A → Meaning) (old : GroupPart
     moves = on_move told (view_of meaning old) job c m settled room column moving (λ n. (n.upto < old.table.stripes) × Acts (Moved job n.upto c false) [] (view_of meaning old) (view_of meaning (acted (with_archives old b) (Moved job m.upto c false) [])))
         (lt, acts b (Moved job m.upto c false) legal);
     keeps = finds.stays.keeps;
-    steps = λ t. (m.upto, record {
-      legal = legal;
-      log = refl;
-      room = room_for old.log (Moved job m.upto c false) room;
-      table = refl;
-      flights = refl;
-      before = (plain meaning b).held;
-      now = (plain meaning b).held;
-      lost = (λ n q x h. (finds.stays.loses t n).keeps q x h);
-      acts = (λ n k x ln lk l h. h);
-      loses = (λ n q x h. h);
-    }, finds.stays.heard t, (λ x. finds.means t x.0 x.1.held (x.1.right ∙ same x.1.digest (sym x.1.live ∙ live))));
+    steps = λ t. (
+      m.upto,
+      record {
+        legal = legal;
+        log = refl;
+        room = room_for old.log (Moved job m.upto c false) room;
+        table = refl;
+        flights = refl;
+        before = (plain meaning b).held;
+        now = (plain meaning b).held;
+        lost = (λ n q x h. (finds.stays.loses t n).keeps q x h);
+        acts = (λ n k x ln lk l h. h);
+        loses = (λ n q x h. h);
+      },
+      finds.stays.heard t,
+      (λ x. finds.means t x.0 x.1.held (x.1.right ∙ same x.1.digest (sym x.1.live ∙ live))),
+    );
   })
     where
       legal : Legal old.table (Moved job m.upto c false)

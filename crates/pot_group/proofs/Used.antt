@@ -183,10 +183,13 @@ retired_later g number c replay none some =
     (none, brought_within g.first g.table g.log c number replay b, Contains-back ((column_at g.first c).home ∷ target_of (column_at g.first c).moving) (brought_by c g.log) number b)
 
 pub no_use : (g : GroupView) (number : ℕ) → holder_of g.table number ≡ None → holder_of g.first number ≡ None → brought_to (find (brings number) g.log) ≡ None → IsUse g number None
-no_use g number now first log = (now, λ c lt h. elim (in_either ((column_at g.first c).home ∷ target_of (column_at g.first c).moving) (brought_by c g.log) number h) [
-  | inl l ↦ apart (sym (in_named (column_at g.first c).moving (column_at g.first c).home number l) ∙ least_none (width g.first) (λ k. names (column_at g.first k) number) first c lt)
-  | inr l ↦ brought_none g.log number log c l
-])
+no_use g number now first log = (
+  now,
+  λ c lt h. elim (in_either ((column_at g.first c).home ∷ target_of (column_at g.first c).moving) (brought_by c g.log) number h) [
+    | inl l ↦ apart (sym (in_named (column_at g.first c).moving (column_at g.first c).home number l) ∙ least_none (width g.first) (λ k. names (column_at g.first k) number) first c lt)
+    | inr l ↦ brought_none g.log number log c l
+  ],
+)
   where
     apart : true ≡ false → ⊥
     apart e = cc

@@ -8,8 +8,8 @@ use crate::noting::note;
 use pot_bytes::{Block, Digest};
 use pot_machine::{Entry, GroupTable};
 use pot_outside::{Archive, Shelf};
-use pot_steps::Flight;
 use pot_sealed::Sealed;
+use pot_steps::Flight;
 use std::marker::Model;
 
 /// The most entries that a log has.

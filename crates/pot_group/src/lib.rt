@@ -73,6 +73,8 @@ mod finding;
 mod group;
 mod known;
 mod looking;
+#[cfg(test)]
+mod move_tests;
 mod moving;
 mod noting;
 mod opening;

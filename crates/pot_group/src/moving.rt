@@ -1,14 +1,13 @@
 //! Archives that come to a group: the target of a move, and one that replaces a home.
 ghost use Rattle.std.specs.Prelude.{◌≡◌, ◌<◌, ◌↔◌, IsTrue, IfOk, IfErr, Contains, length};
+ghost use Rattle.pot_machine.specs.Table.{width};
+ghost use Rattle.pot_group.specs.Moving.{live_in};
 
 use crate::group::{Group, LOG_BOUND};
 use crate::noting::note;
 use pot_machine::{Entry, GroupTable};
 use pot_outside::{Archive, Shelf};
 use pot_steps::move_begin;
-
-ghost use Rattle.pot_machine.specs.Table.{width};
-ghost use Rattle.pot_group.specs.Moving.{live_in};
 
 /// Why an archive was not taken.
 #[derive(Clone, Copy, PartialEq, Eq, Debug)]
@@ -81,12 +80,7 @@ impl<A: Archive> Group<A> {
     ///
     /// # Errors
     /// In this order: `LogFull`, `InUse`, `NoMemory`. The archive is handed back, and nothing changes.
-    pub fn swap(
-        &mut self,
-        job: u32,
-        column: u8,
-        shelf: Shelf<A>,
-    ) -> Result<u32, ShelfRefused<A>>
+    pub fn swap(&mut self, job: u32, column: u8, shelf: Shelf<A>) -> Result<u32, ShelfRefused<A>>
         requires job { 0 < job }
         requires column { column < width self.old.table }
         ensures swapped { IfOk result (λ n. (n ≡ live_in self.old.table column) × Comes (IsTrue A.account.tells) A.account.meaning (Swapped job column shelf.number) shelf (view_of A.account.meaning self.old) (view_of A.account.meaning self.new)) }

@@ -1,6 +1,7 @@
-//! The stage of the tests: a group of number 5 with three data columns and one parity column, over the archives 0 to 3 in
-//! memory, whose blocks each repeat one byte.
+//! The stage of the tests: a group of number 5 with one to three data columns and one parity column, over archives in memory
+//! from number 0 on, whose blocks each repeat one byte.
 ghost use Rattle.std.specs.Prelude.{◌≡◌, ◌<◌, ◌∷◌, [], IsTrue, map};
+ghost use Rattle.pot_machine.specs.Table.{width};
 ghost use Rattle.std.specs.List.{flat_map};
 ghost use Rattle.pot_group.specs.Beginning.{homes_of};
 
@@ -19,6 +20,8 @@ pub(crate) const JOB: u32 = 7;
 /// How a group begins, and what is to become of its archives.
 #[derive(Clone, Copy)]
 pub(crate) struct Scene<'a> {
+    /// The number of data columns.
+    pub(crate) columns: u8,
     pub(crate) stripes: u32,
     /// The entries that led to the table.
     pub(crate) before: &'a [Entry],
@@ -30,8 +33,9 @@ pub(crate) struct Scene<'a> {
     pub(crate) losses: &'a [(u32, Loss)],
 }
 
-/// Two stripes where nothing was put.
+/// Two stripes of three data columns where nothing was put.
 pub(crate) const EMPTY: Scene<'static> = Scene {
+    columns: 3,
     stripes: 2,
     before: &[],
     blocks: [[0; 4]; 2],
@@ -39,13 +43,25 @@ pub(crate) const EMPTY: Scene<'static> = Scene {
     losses: &[],
 };
 
-/// A call of a group. A put is of the block of this byte.
+/// The byte of every blind.
+pub(crate) const BLIND: u8 = 0x5a;
+
+/// A call of a group. A put is of the block of this byte, and a place is a stripe and a column.
 #[derive(Clone, Copy, Debug)]
 pub(crate) enum Call {
     Put(u8),
     Look(u32, u8),
     Count,
     Next(u32, u8, Kind),
+    Begin(u32, u8),
+    /// Of a job, over a stripe.
+    Advance(u32, u32),
+    Mend(u32, u8),
+    /// Of a column, with an empty archive of this number, of which these calls fail.
+    MoveBegin(u8, u32, &'static [u32]),
+    MoveStep(u8),
+    Swap(u8, u32),
+    UseOf(u32),
 }
 
 /// What a call answered.
@@ -56,6 +72,13 @@ pub(crate) enum Answer {
     Look(Looked, Option<u8>),
     Count(Result<Counts, LogFull>),
     Next(Option<Place>),
+    Begin(Result<(), BeginFault>),
+    Advance(Result<Advanced, AdvanceFault>),
+    Mend(Mend),
+    MoveBegin(Result<(), ShelfCause>),
+    MoveStep(Result<MoveStep, MoveFault>),
+    Swap(Result<u32, ShelfCause>),
+    UseOf(Option<Use>),
     /// The group has no such slot.
     Refused,
 }
@@ -185,7 +208,7 @@ fn table(alloc: Global, scene: &Scene) -> Result<GroupTable, Fail> {
     };
     let rack = Rack {
         groups: 1,
-        columns: 3,
+        columns: scene.columns,
         parity: 1,
         stripes: scene.stripes,
         geometry,
@@ -249,7 +272,7 @@ pub(crate) fn start(
 /// Begins the group of a scene.
 pub(crate) fn begin(alloc: Global, scene: &Scene) -> Result<Group<LossyArchive>, Fail> {
     let mut shelves = Vec::new(alloc);
-    for number in 0..4 {
+    for number in 0..u32::from(scene.columns % 4) + 1 {
         let archive = archive(alloc, scene, number)?;
         shelves.push(Shelf { number, archive })?;
     }
@@ -271,18 +294,98 @@ fn look(group: &mut Group<LossyArchive>, stripe: u32, column: u8) -> Answer {
     }
 }
 
+/// Whether the group has this slot.
+fn has(group: &Group<LossyArchive>, stripe: u32, column: u8) -> bool
+    ensures stripe { IsTrue result → stripe < group.now.table.stripes }
+    ensures column { IsTrue result → column < width group.now.table }
+{
+    stripe < group.table.stripes() && column < group.table.data_columns() + group.table.parity()
+}
+
+/// An empty archive.
+fn new_shelf(alloc: Global, number: u32, fails: &[u32]) -> Result<Shelf<LossyArchive>, AllocError> {
+    let fails = fails.to_vec(alloc)?;
+    let archive = LossyArchive::new(alloc, fails, Vec::new(alloc));
+    Ok(Shelf { number, archive })
+}
+
 /// Makes a call.
-pub(crate) fn make(group: &mut Group<LossyArchive>, call: Call) -> Answer {
-    match call {
+pub(crate) fn make(
+    alloc: Global,
+    group: &mut Group<LossyArchive>,
+    call: Call,
+) -> Result<Answer, AllocError> {
+    Ok(match call {
         Call::Put(byte) => {
             if group.table.parity() != 1 {
-                return Answer::Refused;
+                return Ok(Answer::Refused);
             }
             Answer::Put(group.put(JOB, &block(byte)))
         }
         Call::Look(stripe, column) => look(group, stripe, column),
         Call::Count => Answer::Count(group.count(JOB)),
         Call::Next(stripe, column, kind) => Answer::Next(group.next(stripe, column, kind)),
+        Call::Begin(stripe, column) => begin_at(group, stripe, column),
+        Call::Advance(job, stripe) => advance_at(group, job, stripe),
+        Call::Mend(stripe, column) => mend_at(group, stripe, column),
+        Call::MoveBegin(column, number, fails) => {
+            let shelf = new_shelf(alloc, number, fails)?;
+            move_to(group, column, shelf)
+        }
+        Call::MoveStep(column) => move_at(group, column),
+        Call::Swap(column, number) => {
+            let shelf = new_shelf(alloc, number, &[])?;
+            swap_to(group, column, shelf)
+        }
+        Call::UseOf(number) => Answer::UseOf(group.use_of(number)),
+    })
+}
+
+fn begin_at(group: &mut Group<LossyArchive>, stripe: u32, column: u8) -> Answer {
+    if !has(group, stripe, column) {
+        return Answer::Refused;
+    }
+    Answer::Begin(group.begin(JOB, place(stripe, column), &block(BLIND)))
+}
+
+fn advance_at(group: &mut Group<LossyArchive>, job: u32, stripe: u32) -> Answer {
+    if job == 0 || !has(group, stripe, 0) {
+        return Answer::Refused;
+    }
+    Answer::Advance(group.advance(job, stripe))
+}
+
+fn mend_at(group: &mut Group<LossyArchive>, stripe: u32, column: u8) -> Answer {
+    if !has(group, stripe, column) {
+        return Answer::Refused;
+    }
+    Answer::Mend(group.mend(JOB, place(stripe, column), &block(BLIND)))
+}
+
+fn move_to(group: &mut Group<LossyArchive>, column: u8, shelf: Shelf<LossyArchive>) -> Answer {
+    if !has(group, 0, column) {
+        return Answer::Refused;
+    }
+    match group.move_begin(JOB, column, shelf) {
+        Ok(()) => Answer::MoveBegin(Ok(())),
+        Err(ShelfRefused { shelf: _, cause }) => Answer::MoveBegin(Err(cause)),
+    }
+}
+
+fn move_at(group: &mut Group<LossyArchive>, column: u8) -> Answer {
+    if !has(group, 0, column) {
+        return Answer::Refused;
+    }
+    Answer::MoveStep(group.move_step(JOB, column))
+}
+
+fn swap_to(group: &mut Group<LossyArchive>, column: u8, shelf: Shelf<LossyArchive>) -> Answer {
+    if !has(group, 0, column) {
+        return Answer::Refused;
+    }
+    match group.swap(JOB, column, shelf) {
+        Ok(live) => Answer::Swap(Ok(live)),
+        Err(ShelfRefused { shelf: _, cause }) => Answer::Swap(Err(cause)),
     }
 }
 
@@ -344,7 +447,24 @@ pub(crate) fn see(
 ) -> Result<(GroupTable, Vec<Shelf<LossyArchive>>), Fail> {
     let mut group = begin(alloc, scene)?;
     for (call, answer) in calls {
-        assert_eq!(rt; make(&mut group, *call), *answer);
+        assert_eq!(rt; make(alloc, &mut group, *call)?, *answer);
     }
     Ok(see_end(rt, alloc, group, ending)?)
+}
+
+/// Sees that the archives heard these sums and no other, archive by archive and in order: the archive's place among them, the slot
+/// and the byte that the sum repeats.
+pub(crate) fn see_heard(
+    rt: &impl Abort,
+    shelves: &[Shelf<LossyArchive>],
+    wanted: &[(usize, u32, u8)],
+) {
+    let mut wanted = wanted.iter();
+    for (place, shelf) in shelves.iter().enumerate() {
+        for heard in shelf.archive.heard() {
+            let found = repeated(&heard.sum).map(|byte| (place, heard.slot, byte));
+            assert_eq!(rt; found, wanted.next().copied());
+        }
+    }
+    assert_eq!(rt; wanted.next(), None);
 }

@@ -278,7 +278,7 @@ fn log_that_is_full(rt: HostRuntime) -> Result<(), Fail> {
         ..EMPTY
     };
     let mut group = begin(rt.alloc(), &scene)?;
-    assert_eq!(rt; make(&mut group, Call::Put(A)), placed(0, 0));
+    assert_eq!(rt; make(rt.alloc(), &mut group, Call::Put(A))?, placed(0, 0));
     let mut log = Vec::new(rt.alloc());
     log.push(put(0, 0, A, A, true))?;
     for _ in 0..262_142 {
@@ -292,9 +292,21 @@ fn log_that_is_full(rt: HostRuntime) -> Result<(), Fail> {
         (Call::Put(B), NO_ROOM),
         (Call::Look(0, 0), Answer::Look(Looked::LogFull, None)),
         (Call::Count, Answer::Count(Err(LogFull))),
+        (Call::Begin(0, 3), Answer::Begin(Err(BeginFault::LogFull))),
+        (
+            Call::Advance(JOB, 0),
+            Answer::Advance(Err(AdvanceFault::LogFull)),
+        ),
+        (Call::Mend(0, 3), Answer::Mend(Mend::LogFull)),
+        (
+            Call::MoveBegin(0, 9, &[]),
+            Answer::MoveBegin(Err(ShelfCause::LogFull)),
+        ),
+        (Call::MoveStep(0), Answer::MoveStep(Err(MoveFault::LogFull))),
+        (Call::Swap(0, 9), Answer::Swap(Err(ShelfCause::LogFull))),
     ];
     for (call, answer) in &calls {
-        assert_eq!(rt; make(&mut group, *call), *answer);
+        assert_eq!(rt; make(rt.alloc(), &mut group, *call)?, *answer);
         assert_eq!(rt; group.logged(), 262_144);
     }
     let ending = Ending {

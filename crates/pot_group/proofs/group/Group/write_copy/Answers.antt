@@ -57,12 +57,12 @@ returns-in-Ok g c =
     subst (λ (w : GroupParts _). Steps (IsTrue g.A.Archive.account.tells) c.args.job c.args.column (Ok moved.Copied) (view_of g.A.Archive.account.meaning w)
     (record { number = a.number; first = a.first; table = c.move_one-entry.new.table; log = c.push_reserved.new.self.items; flights = a.flights.items; shelves = (plain g.A.Archive.account.meaning c.write.new.self) })) c.self.view_is
     (copied_steps (IsTrue g.A.Archive.account.tells) (view_of g.A.Archive.account.meaning v) c.args.job c.args.column c.args.moving c.self.invariant.0
-          (subst (λ (w : GroupParts _). length w.log < 262144) (sym c.self.view_is) c.requires.room)
-          (subst (λ (w : GroupParts _). c.args.column < width w.table) (sym c.self.view_is) c.requires.column)
-          (subst (λ (w : GroupParts _). (column_at w.table c.args.column).moving ≡ Some c.args.moving) (sym c.self.view_is) c.requires.moves)
-          (subst (λ (w : GroupParts _). c.args.moving.upto < w.table.stripes) (sym c.self.view_is) c.requires.stripe)
-          (subst (λ (w : GroupParts _). IsTrue (is_live (slot_at w.table c.args.moving.upto c.args.column))) (sym c.self.view_is) c.requires.live) (plain g.A.Archive.account.meaning c.write.new.self) c.args.block.now
-          (subst (λ (w : GroupParts _). IsTrue g.A.Archive.account.tells → IsSound (stripe_of w.table (plain g.A.Archive.account.meaning w.archives).held c.args.moving.upto) c.args.column c.args.block.now) (sym c.self.view_is) c.requires.sound) c.in-Ok.ensures c.move_one-entry.result c.move_one-entry.new.table c.push_reserved.new.self.items c.move_one-entry.ensures.entry c.move_one-entry.ensures.table c.push_reserved.ensures.items)
+    (subst (λ (w : GroupParts _). length w.log < 262144) (sym c.self.view_is) c.requires.room)
+    (subst (λ (w : GroupParts _). c.args.column < width w.table) (sym c.self.view_is) c.requires.column)
+    (subst (λ (w : GroupParts _). (column_at w.table c.args.column).moving ≡ Some c.args.moving) (sym c.self.view_is) c.requires.moves)
+    (subst (λ (w : GroupParts _). c.args.moving.upto < w.table.stripes) (sym c.self.view_is) c.requires.stripe)
+    (subst (λ (w : GroupParts _). IsTrue (is_live (slot_at w.table c.args.moving.upto c.args.column))) (sym c.self.view_is) c.requires.live) (plain g.A.Archive.account.meaning c.write.new.self) c.args.block.now
+    (subst (λ (w : GroupParts _). IsTrue g.A.Archive.account.tells → IsSound (stripe_of w.table (plain g.A.Archive.account.meaning w.archives).held c.args.moving.upto) c.args.column c.args.block.now) (sym c.self.view_is) c.requires.sound) c.in-Ok.ensures c.move_one-entry.result c.move_one-entry.new.table c.push_reserved.new.self.items c.move_one-entry.ensures.entry c.move_one-entry.ensures.table c.push_reserved.ensures.items)
 
 pub returns-in-Err : goal.returns-in-Err
 returns-in-Err g c =
@@ -71,8 +71,8 @@ returns-in-Err g c =
     subst (λ (w : GroupParts _). Steps (IsTrue g.A.Archive.account.tells) c.args.job c.args.column (Err (failed.Faulted c.args.column)) (view_of g.A.Archive.account.meaning w)
     (record { number = a.number; first = a.first; table = c.note.new.table; log = c.note.new.log.items; flights = a.flights.items; shelves = (plain g.A.Archive.account.meaning c.write.new.self) })) c.self.view_is
     (uncopied_steps (IsTrue g.A.Archive.account.tells) (view_of g.A.Archive.account.meaning v) c.args.job c.args.column c.args.moving c.self.invariant.0
-          (subst (λ (w : GroupParts _). length w.log < 262144) (sym c.self.view_is) c.requires.room)
-          (subst (λ (w : GroupParts _). c.args.column < width w.table) (sym c.self.view_is) c.requires.column)
-          (subst (λ (w : GroupParts _). (column_at w.table c.args.column).moving ≡ Some c.args.moving) (sym c.self.view_is) c.requires.moves)
-          (subst (λ (w : GroupParts _). c.args.moving.upto < w.table.stripes) (sym c.self.view_is) c.requires.stripe)
-          (subst (λ (w : GroupParts _). IsTrue (is_live (slot_at w.table c.args.moving.upto c.args.column))) (sym c.self.view_is) c.requires.live) (plain g.A.Archive.account.meaning c.write.new.self) c.args.block.now c.in-Err.field-0 c.in-Err.ensures c.note.new.table c.note.new.log.items c.note.ensures.table c.note.ensures.log)
+    (subst (λ (w : GroupParts _). length w.log < 262144) (sym c.self.view_is) c.requires.room)
+    (subst (λ (w : GroupParts _). c.args.column < width w.table) (sym c.self.view_is) c.requires.column)
+    (subst (λ (w : GroupParts _). (column_at w.table c.args.column).moving ≡ Some c.args.moving) (sym c.self.view_is) c.requires.moves)
+    (subst (λ (w : GroupParts _). c.args.moving.upto < w.table.stripes) (sym c.self.view_is) c.requires.stripe)
+    (subst (λ (w : GroupParts _). IsTrue (is_live (slot_at w.table c.args.moving.upto c.args.column))) (sym c.self.view_is) c.requires.live) (plain g.A.Archive.account.meaning c.write.new.self) c.args.block.now c.in-Err.field-0 c.in-Err.ensures c.note.new.table c.note.new.log.items c.note.ensures.table c.note.ensures.log)
