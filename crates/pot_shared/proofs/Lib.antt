@@ -1,0 +1,5 @@
+mod MemberLemmas
+mod CallLemmas
+mod CatalogLemmas
+mod IndexCallLemmas
+mod SharingLemmas

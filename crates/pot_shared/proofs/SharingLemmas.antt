@@ -1,0 +1,31 @@
+-- New passes of the turns of a vault.
+use Rattle.std.proofs.Common.{◌≡◌, ◌<◌, ◌⊎◌, inl, inr, ℕ, List, length, false, refl, ap, sym, ◌∙◌, subst, arith}
+use Rattle.pot_bytes.specs.declared.rack.Rack.{Rack}
+use Rattle.pot_turn.specs.declared.name.TurnName.{TurnName}
+use Rattle.pot_rows.specs.Parts.{RowNew}
+use Rattle.pot_rows.specs.Rows.{AreOf, view_at}
+use Rattle.pot_rows.proofs.RowLemmas.{at_past, below_or_past}
+use Rattle.pot_shared.specs.Ready.{GroupPass, GroupPasses, AreReady, IsOrigin}
+use Rattle.pot_shared.specs.Catalogs.{IndexPass, IndexPasses, IsIndexReady, IsIndexOf}
+
+pub new_ready : (rack : Rack) (names : List TurnName) (parts : ℕ) (old new : GroupPasses) → AreReady rack names old → AreOf names new → RowNew parts old new → AreReady rack names new
+new_ready rack names parts old new ready of is = record {
+  of = of;
+  idle = (λ g. elim (below_or_past g (length names)) [
+    | inl lt ↦ ap (λ (v : GroupPass). v.holds) (is g (within g lt))
+    | inr le ↦ ap (λ (v : GroupPass). v.holds) (at_past names new g of le)
+  ]);
+  origins = (λ g lt. subst (λ o. IsOrigin rack g o) (sym (ap (λ (v : GroupPass). v.origin) (is g (within g lt)))) (ready.origins g lt));
+}
+  where
+    within : (g : ℕ) → g < length names → g < length old.names
+    within g lt = (let l = ap length ready.of.0 in omega (arith, lt, l))
+
+pub new_index_ready : (rack : Rack) (names turn : List TurnName) (parts : ℕ) (old new : IndexPasses) → IsIndexReady rack names turn old → AreOf turn new → RowNew parts old new
+    → IsIndexReady rack names turn new
+new_index_ready rack names turn parts old new ready of is = record {
+  of = of;
+  one = ready.one;
+  idle = (λ k lt. ap (λ (v : IndexPass). v.holds) (is k (let l = ap length ready.of.0 in omega (arith, lt, l))));
+  origin = subst (λ o. IsIndexOf rack names o) (sym (ap (λ (v : IndexPass). v.origin) (is 0 (let l = ap length ready.of.0 in let o = ready.one in omega (arith, l, o))))) ready.origin;
+}

@@ -1,0 +1,114 @@
+//! The locked calls of a group.
+ghost use Rattle.std.specs.Prelude.{◌<◌, ◌≡◌, IsTrue, length};
+
+use crate::vault::{Passes, Vault};
+use pot_bytes::{Block, Place};
+use pot_group::{Counts, Kind, LogFull, Looked, PutFault};
+use pot_outside::Archive;
+use std::sync::Wait;
+
+impl<A: Archive> Vault<A> {
+    ghost use Rattle.pot_shared.specs.Ready.{AreReady, HasSlot};
+    ghost use Rattle.pot_shared.specs.Calls.{CallAt, PutCall, LookCall, CountCall, NextCall};
+
+    /// Puts a block into a group, in one turn of it, as `Group::put`.
+    ///
+    /// # Errors
+    /// Those of `Group::put`.
+    pub fn put<R: Wait>(
+        &self,
+        rt: &R,
+        passes: &mut Passes<A>,
+        group: u8,
+        job: u32,
+        block: &Block,
+    ) -> Result<Place, PutFault>
+        requires ready { AreReady self.now.rack self.now.groups passes.old.groups }
+        requires group { group < length self.now.groups }
+        requires parity { self.now.rack.parity ≡ 1 }
+        requires job { 0 < job }
+        ensures ready { AreReady self.now.rack self.now.groups passes.new.groups }
+        ensures index { passes.new.index ≡ passes.old.index }
+        ensures call { CallAt (IsTrue A.account.tells) (PutCall (IsTrue A.account.tells) job block.now result) group passes.old.groups passes.new.groups }
+    {
+        let mut member = self.groups.enter(rt, &mut passes.groups, group as usize);
+        let _before = member.group.logged();
+        let answer = member.group.put(job, block);
+        let _after = member.group.logged();
+        self.groups.leave(&mut passes.groups, group as usize, member);
+        answer
+    }
+
+    /// Looks at a slot, in one turn of its group, as `Group::look`.
+    pub fn look<R: Wait>(
+        &self,
+        rt: &R,
+        passes: &mut Passes<A>,
+        job: u32,
+        place: Place,
+        into: &mut Block,
+    ) -> Looked
+        requires ready { AreReady self.now.rack self.now.groups passes.old.groups }
+        requires place { HasSlot self.now.rack self.now.groups place }
+        requires job { 0 < job }
+        ensures ready { AreReady self.now.rack self.now.groups passes.new.groups }
+        ensures index { passes.new.index ≡ passes.old.index }
+        ensures call { CallAt (IsTrue A.account.tells) (LookCall (IsTrue A.account.tells) job place into.new result) place.group passes.old.groups passes.new.groups }
+    {
+        let mut member = self.groups.enter(rt, &mut passes.groups, place.group as usize);
+        let _before = member.group.logged();
+        let answer = member.group.look(job, place, into);
+        let _after = member.group.logged();
+        self.groups.leave(&mut passes.groups, place.group as usize, member);
+        answer
+    }
+
+    /// Counts the slots of a group by state, in one turn of it, as `Group::count`.
+    ///
+    /// # Errors
+    /// `LogFull` exactly where the log of the group has 262,144 entries.
+    pub fn count<R: Wait>(
+        &self,
+        rt: &R,
+        passes: &mut Passes<A>,
+        group: u8,
+        job: u32,
+    ) -> Result<Counts, LogFull>
+        requires ready { AreReady self.now.rack self.now.groups passes.old.groups }
+        requires group { group < length self.now.groups }
+        requires job { 0 < job }
+        ensures ready { AreReady self.now.rack self.now.groups passes.new.groups }
+        ensures index { passes.new.index ≡ passes.old.index }
+        ensures call { CallAt (IsTrue A.account.tells) (CountCall (IsTrue A.account.tells) job result) group passes.old.groups passes.new.groups }
+    {
+        let mut member = self.groups.enter(rt, &mut passes.groups, group as usize);
+        let _before = member.group.logged();
+        let answer = member.group.count(job);
+        let _after = member.group.logged();
+        self.groups.leave(&mut passes.groups, group as usize, member);
+        answer
+    }
+
+    /// The first place of a group at or after this one whose slot is of the kind, in one turn of it, as `Group::next`.
+    pub fn next<R: Wait>(
+        &self,
+        rt: &R,
+        passes: &mut Passes<A>,
+        group: u8,
+        stripe: u32,
+        column: u8,
+        kind: Kind,
+    ) -> Option<Place>
+        requires ready { AreReady self.now.rack self.now.groups passes.old.groups }
+        requires group { group < length self.now.groups }
+        ensures ready { AreReady self.now.rack self.now.groups passes.new.groups }
+        ensures index { passes.new.index ≡ passes.old.index }
+        ensures call { CallAt (IsTrue A.account.tells) (NextCall stripe column kind result) group passes.old.groups passes.new.groups }
+    {
+        let member = self.groups.enter(rt, &mut passes.groups, group as usize);
+        let _before = member.group.logged();
+        let found = member.group.next(stripe, column, kind);
+        self.groups.leave(&mut passes.groups, group as usize, member);
+        found
+    }
+}

@@ -1,0 +1,109 @@
+//! The locked calls of the index.
+ghost use Rattle.std.specs.Prelude.{◌≡◌};
+ghost use Rattle.pot_rows.specs.Rows.{HasMoreParts};
+ghost use Rattle.pot_index.specs.Fits.{FitsRack};
+
+use crate::catalog::Strange;
+use crate::vault::{Passes, Vault};
+use pot_bytes::Name;
+use pot_index::{FindFault, ListFault, Listed, Record, ReserveFault};
+use pot_outside::Archive;
+use std::alloc::Global;
+use std::sync::Wait;
+
+impl<A: Archive> Vault<A> {
+    ghost use Rattle.pot_shared.specs.Ready.{AreReady};
+    ghost use Rattle.pot_shared.specs.Seen.{RowKnowsMore, SeesFile};
+    ghost use Rattle.pot_shared.specs.Catalogs.{IsIndexReady};
+    ghost use Rattle.pot_shared.specs.IndexCalls.{IndexCall, HasReserved, ReservesName, ListsAll, FindsRecord, Abandons, PublishesRecord};
+
+    /// Reserves a name, in one turn of the index, as `Index::reserve`.
+    pub fn reserve<R: Wait>(&self, rt: &R, passes: &mut Passes<A>, job: u32, name: &Name) -> Result<(), ReserveFault>
+        requires index { IsIndexReady self.now.rack self.now.groups self.now.index passes.old.index }
+        ensures index { IsIndexReady self.now.rack self.now.groups self.now.index passes.new.index }
+        ensures groups { passes.new.groups ≡ passes.old.groups }
+        ensures call { IndexCall (ReservesName job name.now result) passes.old.index passes.new.index }
+    {
+        let mut catalog = self.index.enter(rt, &mut passes.index, 0);
+        catalog.rules();
+        let answer = catalog.reserve(job, name);
+        catalog.rules();
+        self.index.leave(&mut passes.index, 0, catalog);
+        answer
+    }
+
+    /// Lists the published names, in one turn of the index, as `Index::names`.
+    pub fn names<R: Wait>(&self, rt: &R, alloc: Global, passes: &mut Passes<A>, job: u32) -> Result<Vec<Listed>, ListFault>
+        requires index { IsIndexReady self.now.rack self.now.groups self.now.index passes.old.index }
+        ensures index { IsIndexReady self.now.rack self.now.groups self.now.index passes.new.index }
+        ensures groups { passes.new.groups ≡ passes.old.groups }
+        ensures call { IndexCall (ListsAll job result) passes.old.index passes.new.index }
+    {
+        let mut catalog = self.index.enter(rt, &mut passes.index, 0);
+        catalog.rules();
+        let answer = catalog.names(alloc, job);
+        catalog.rules();
+        self.index.leave(&mut passes.index, 0, catalog);
+        answer
+    }
+
+    /// Ends the job's reservation of a name, in one turn of the index.
+    ///
+    /// # Errors
+    /// `Strange` exactly where the name is not reserved by the job when the turn is had; nothing is logged then.
+    pub fn abandon<R: Wait>(&self, rt: &R, passes: &mut Passes<A>, job: u32, name: &Name) -> Result<(), Strange>
+        requires index { IsIndexReady self.now.rack self.now.groups self.now.index passes.old.index }
+        requires reserved { HasReserved job name.now passes.old.index }
+        ensures index { IsIndexReady self.now.rack self.now.groups self.now.index passes.new.index }
+        ensures groups { passes.new.groups ≡ passes.old.groups }
+        ensures call { IndexCall (Abandons job name.now result) passes.old.index passes.new.index }
+    {
+        let mut catalog = self.index.enter(rt, &mut passes.index, 0);
+        catalog.rules();
+        let answer = catalog.abandon(job, name);
+        catalog.rules();
+        self.index.leave(&mut passes.index, 0, catalog);
+        answer
+    }
+
+    /// Publishes a record whose puts the passes have seen, in one turn of the index.
+    ///
+    /// # Errors
+    /// `Strange` exactly where the name is not reserved by the job when the turn is had; nothing is logged then.
+    pub fn publish<R: Wait>(&self, rt: &R, passes: &mut Passes<A>, job: u32, kept: Record) -> Result<(), Strange>
+        requires ready { AreReady self.now.rack self.now.groups passes.old.groups }
+        requires parts { HasMoreParts 1 passes.old.groups }
+        requires index { IsIndexReady self.now.rack self.now.groups self.now.index passes.old.index }
+        requires reserved { HasReserved job kept.name passes.old.index }
+        requires fits { FitsRack self.now.rack kept }
+        requires seen { SeesFile passes.old.groups kept }
+        ensures index { IsIndexReady self.now.rack self.now.groups self.now.index passes.new.index }
+        ensures groups { RowKnowsMore passes.old.groups passes.new.groups }
+        ensures call { IndexCall (PublishesRecord job kept result) passes.old.index passes.new.index }
+    {
+        let mut catalog = self.index.enter(rt, &mut passes.index, 0);
+        catalog.rules();
+        let answer = catalog.publish(&self.groups, &mut passes.groups, job, kept);
+        catalog.rules();
+        self.index.leave(&mut passes.index, 0, catalog);
+        answer
+    }
+
+    /// Finds a record, in one turn of the index, as `Index::find`. Of a record that was published in this session the passes
+    /// have then seen every put.
+    pub fn find<R: Wait>(&self, rt: &R, alloc: Global, passes: &mut Passes<A>, job: u32, name: &Name) -> Result<Record, FindFault>
+        requires ready { AreReady self.now.rack self.now.groups passes.old.groups }
+        requires parts { HasMoreParts 1 passes.old.groups }
+        requires index { IsIndexReady self.now.rack self.now.groups self.now.index passes.old.index }
+        ensures index { IsIndexReady self.now.rack self.now.groups self.now.index passes.new.index }
+        ensures groups { RowKnowsMore passes.old.groups passes.new.groups }
+        ensures call { IndexCall (FindsRecord job name.now result passes.new.groups) passes.old.index passes.new.index }
+    {
+        let mut catalog = self.index.enter(rt, &mut passes.index, 0);
+        catalog.rules();
+        let answer = catalog.find(alloc, &self.groups, &mut passes.groups, job, name);
+        catalog.rules();
+        self.index.leave(&mut passes.index, 0, catalog);
+        answer
+    }
+}

@@ -1,0 +1,19 @@
+//! The groups and the index of a session under turns, and what each locked call of them promises.
+//!
+//! Each group stands under a turn of its own, and so does the index. A call takes one of these values, calls it once and gives
+//! it back: that is one *locked call*, and it tells one thing. Others had logged some entries since the caller's pass last saw
+//! the log; then this call logged these, and did what the group's or the index's own call promises (`CallTurn`, `IndexTurn`).
+//!
+//! It reads no script, knows no file and starts no thread. It promises no progress, as `pot_turn`.
+#![tactic(auto)]
+
+mod catalog;
+mod grouping;
+mod indexing;
+mod member;
+mod sharing;
+mod vault;
+
+pub use catalog::{Catalog, CatalogOrigin, Strange};
+pub use member::{GroupOrigin, Logged, Member};
+pub use vault::{Passes, Vault};
