@@ -10,8 +10,8 @@ use clap::{Arg, ArgAction, Command};
 use pot_bytes::NoMemory;
 use std::alloc::{AllocError, Global};
 
-/// The options `names` that the words spell. `None` where they spell none, which is sure for options
-/// whose values begin with no hyphen: the words of such options are never refused.
+/// The options `names` that the words spell, and `None` where they spell none. Words that spell options
+/// whose values begin with no hyphen are never refused.
 pub fn read_options<'a>(
     alloc: Global,
     names: &'a [&'a str],
