@@ -1,37 +1,39 @@
-//! A group of archives under parity: the opening of its table, puts, looks, counts and relays, and the begin of a move.
+//! A group of archives under parity: the opening of its table, puts, looks and counts, relays, moves and swaps.
 //!
 //! A group has a table of `pot_machine`, the archives that serve its columns, and the log of one session. Each change of the
 //! table is an entry that is logged and applied at once. No table is trusted: `start` reads the block of every Live slot, and
 //! logs what is missing and what does not fit its stripe.
 //!
-//! Relays rebuild slots that are Lost or Broken. A column begins to move, but no call moves a slot yet or swaps an archive. It
-//! knows no file, no thread and no name, stores no table and no log, and does not choose the group that a block goes to. It
-//! takes memory at `start` and `move_begin` alone. `start` and `put` ask for a table with one parity column. A call that logs
-//! takes a job above 0, since job 0 is the opening's. Digests that are known already (`expect`, and those of the last put) are
-//! not taken anew; that changes no answer.
+//! Relays rebuild slots that are Lost or Broken, a column moves to another archive stripe by stripe, and an archive is replaced,
+//! while puts and looks go on. It knows no file, no thread and no name, stores no table and no log, and does not choose the group
+//! that a block goes to. It takes memory at `start`, `move_begin` and `swap` alone. `start` and `put` ask for a table with one
+//! parity column. A call that logs takes a job above 0, since job 0 is the opening's. Digests that are known already (`expect`, and
+//! those of the last put) are not taken anew; that changes no answer.
 //!
 //! The equation of a stripe: the XOR of its data blocks and of the parity block P is zeros, with zeros for a slot that is Void.
 //! A put of a block D fills a slot that is Void, so the new parity block is P XOR D. D is written first: where its write
 //! fails, the slot is still Void and P stays.
 //!
 //! Invariants of every `Group`, kept by its type (`IsSettled`); `end` hands them out as `settled`:
-//! 1. The log replays from the table that was read to the table now (`replay`; `note` alone logs, and applies what it logs).
+//! 1. The log replays from the table that was read to the table now (`replay`; an entry is logged where it is applied, by `note`
+//!    or beside a pure step of `pot_steps`).
 //! 2. The table keeps the rules of `pot_machine` (`table`), and its numbers of columns and of
 //!    stripes stay (`sizes`).
 //! 3. There is a flight for each relay, in the same order (`relays`; `start` asks for no relay), and the law of each flight
 //!    holds (`flying`).
 //! 4. The log has at most 262,144 entries (`bound`; each call that logs looks first, and `start` takes all that memory).
 //! 5. Each home and each target of a column is an archive of the group (`shelves`; `start` asks for it), and one that this
-//!    column has had (`serves`).
-//! 6. No count of faults or losses is below its mark, which `Archives::take` notes before the first read (`faults`, `losses`).
-//! 7. The law of every stripe: where no slot is Broken and at most one is Lost, there is a filling, which gives each slot a
-//!    block of its digest, the one held where the slot is sound, and adds up to zeros (`holds`, by `HoldsUp` of `pot_steps`).
-//!    `start` makes it hold, `put` keeps it, and a loss breaks none.
+//!    column has had (`serves`). An archive that was retired stays, and serves no slot.
+//! 6. No count of faults or losses is below its mark, which `Archives::take` and `Archives::bring` note when the archive comes
+//!    (`faults`, `losses`).
+//! 7. The law of every stripe: where no slot is Broken and a relay stands or no more slots are Lost than there are parity columns,
+//!    there is a filling, which gives each slot a block of its digest, the one held where the slot is sound, and adds up to zeros
+//!    (`holds`, by `HoldsUp` of `pot_steps`). `start` makes it hold, every entry keeps it, and a loss breaks none.
 //! 8. The law of the Live slots: the archive that serves one holds a block of its digest, or its count of losses rose above
-//!    the mark (`live`). `start` makes it hold, and so does `put` for the slots that it fills.
+//!    the mark (`live`). `start` makes it hold, and so do `put`, `advance` and `move_step` for the slots that they write.
 //! 9. The cause law (`causes`). The log names no more faults of a column than its archives counted above their marks, unless one
-//!    of these counts stands at its last value. A Live slot of a column was logged Gone, but by job 0, only where the count of
-//!    losses of one of its archives rose above the mark.
+//!    of these counts stands at its last value. A Live slot of a column was called missing, by a Gone but of job 0, a GaveUp or a
+//!    Moved without a copy, only where the count of losses of one of its archives rose above the mark.
 //!
 //! `flying`, 7, 8 and the losses of 6 and 9 are said of archives that tell what they hold, and all else always.
 //!
@@ -58,10 +60,12 @@
 //! | `look` | Seen, Gone or Fault | the same, and the block where it is Seen |
 //! | `count` | Counted | how many slots are Live, Lost and Broken, and the cursor |
 //! | `begin` | Begin, or Stuck, or none | whether a relay began, and why not |
-//! | `advance` | the entry of its relay's step, Fault, or none where no relay stands | what it came to |
+//! | `advance` | Hop, GaveUp, Mended or Oddly of the stripe's relay, Fault, or none where no relay stands | what it came to |
 //! | `mend` | as `begin`, or as `advance` of the relay in its way | the same |
 //! | `move_begin` | MoveBegin, or none | whether the archive was taken, and why not |
-//! | `next`, `logged`, `end`, `expect` | none | what they read |
+//! | `move_step` | Moved, MoveEnd, Fault, or none where the column does not move | what it came to |
+//! | `swap` | Swapped, or none | how many slots were Live, or why the archive was not taken |
+//! | `next`, `use_of`, `trace`, `logged`, `end`, `expect` | none | what they read |
 #![tactic(auto)]
 
 mod answers;

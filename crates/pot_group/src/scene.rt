@@ -315,30 +315,38 @@ pub(crate) fn make(
     group: &mut Group<LossyArchive>,
     call: Call,
 ) -> Result<Answer, AllocError> {
-    Ok(match call {
-        Call::Put(byte) => {
-            if group.table.parity() != 1 {
-                return Ok(Answer::Refused);
-            }
-            Answer::Put(group.put(JOB, &block(byte)))
-        }
-        Call::Look(stripe, column) => look(group, stripe, column),
-        Call::Count => Answer::Count(group.count(JOB)),
-        Call::Next(stripe, column, kind) => Answer::Next(group.next(stripe, column, kind)),
-        Call::Begin(stripe, column) => begin_at(group, stripe, column),
-        Call::Advance(job, stripe) => advance_at(group, job, stripe),
-        Call::Mend(stripe, column) => mend_at(group, stripe, column),
-        Call::MoveBegin(column, number, fails) => {
-            let shelf = new_shelf(alloc, number, fails)?;
-            move_to(group, column, shelf)
-        }
-        Call::MoveStep(column) => move_at(group, column),
-        Call::Swap(column, number) => {
-            let shelf = new_shelf(alloc, number, &[])?;
-            swap_to(group, column, shelf)
-        }
-        Call::UseOf(number) => Answer::UseOf(group.use_of(number)),
-    })
+    match call {
+        Call::Put(byte) => Ok(put_next(group, byte)),
+        Call::Look(stripe, column) => Ok(look(group, stripe, column)),
+        Call::Count => Ok(count(group)),
+        Call::Next(stripe, column, kind) => Ok(next(group, stripe, column, kind)),
+        Call::Begin(stripe, column) => Ok(begin_at(group, stripe, column)),
+        Call::Advance(job, stripe) => Ok(advance_at(group, job, stripe)),
+        Call::Mend(stripe, column) => Ok(mend_at(group, stripe, column)),
+        Call::MoveBegin(column, number, fails) => move_to(alloc, group, column, number, fails),
+        Call::MoveStep(column) => Ok(move_at(group, column)),
+        Call::Swap(column, number) => swap_to(alloc, group, column, number),
+        Call::UseOf(number) => Ok(use_of(group, number)),
+    }
+}
+
+fn put_next(group: &mut Group<LossyArchive>, byte: u8) -> Answer {
+    if group.table.parity() != 1 {
+        return Answer::Refused;
+    }
+    Answer::Put(group.put(JOB, &block(byte)))
+}
+
+fn count(group: &mut Group<LossyArchive>) -> Answer {
+    Answer::Count(group.count(JOB))
+}
+
+fn next(group: &Group<LossyArchive>, stripe: u32, column: u8, kind: Kind) -> Answer {
+    Answer::Next(group.next(stripe, column, kind))
+}
+
+fn use_of(group: &Group<LossyArchive>, number: u32) -> Answer {
+    Answer::UseOf(group.use_of(number))
 }
 
 fn begin_at(group: &mut Group<LossyArchive>, stripe: u32, column: u8) -> Answer {
@@ -362,13 +370,20 @@ fn mend_at(group: &mut Group<LossyArchive>, stripe: u32, column: u8) -> Answer {
     Answer::Mend(group.mend(JOB, place(stripe, column), &block(BLIND)))
 }
 
-fn move_to(group: &mut Group<LossyArchive>, column: u8, shelf: Shelf<LossyArchive>) -> Answer {
+fn move_to(
+    alloc: Global,
+    group: &mut Group<LossyArchive>,
+    column: u8,
+    number: u32,
+    fails: &[u32],
+) -> Result<Answer, AllocError> {
     if !has(group, 0, column) {
-        return Answer::Refused;
+        return Ok(Answer::Refused);
     }
+    let shelf = new_shelf(alloc, number, fails)?;
     match group.move_begin(JOB, column, shelf) {
-        Ok(()) => Answer::MoveBegin(Ok(())),
-        Err(ShelfRefused { shelf: _, cause }) => Answer::MoveBegin(Err(cause)),
+        Ok(()) => Ok(Answer::MoveBegin(Ok(()))),
+        Err(ShelfRefused { shelf: _, cause }) => Ok(Answer::MoveBegin(Err(cause))),
     }
 }
 
@@ -379,13 +394,19 @@ fn move_at(group: &mut Group<LossyArchive>, column: u8) -> Answer {
     Answer::MoveStep(group.move_step(JOB, column))
 }
 
-fn swap_to(group: &mut Group<LossyArchive>, column: u8, shelf: Shelf<LossyArchive>) -> Answer {
+fn swap_to(
+    alloc: Global,
+    group: &mut Group<LossyArchive>,
+    column: u8,
+    number: u32,
+) -> Result<Answer, AllocError> {
     if !has(group, 0, column) {
-        return Answer::Refused;
+        return Ok(Answer::Refused);
     }
+    let shelf = new_shelf(alloc, number, &[])?;
     match group.swap(JOB, column, shelf) {
-        Ok(live) => Answer::Swap(Ok(live)),
-        Err(ShelfRefused { shelf: _, cause }) => Answer::Swap(Err(cause)),
+        Ok(live) => Ok(Answer::Swap(Ok(live))),
+        Err(ShelfRefused { shelf: _, cause }) => Ok(Answer::Swap(Err(cause))),
     }
 }
 
