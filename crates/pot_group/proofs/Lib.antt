@@ -15,6 +15,7 @@ pub mod LookSteps
 pub mod Opened
 pub mod RelayExits
 pub mod AdvanceSteps
+pub mod Lossless
 pub mod Advancing
 pub mod BeginSteps
 pub mod MendSteps

@@ -18,11 +18,16 @@ use Rattle.pot_group.specs.declared.relaying.BeginFault.{BeginFault}
 use Rattle.pot_group.specs.declared.relaying.BeginFault.TheVariants as fault
 use Rattle.pot_group.specs.declared.relaying.Mend.{Mend}
 use Rattle.pot_group.specs.declared.relaying.Mend.TheVariants as mend
-use Rattle.pot_group.specs.Shelves.{Keeps}
+use Rattle.pot_machine.specs.declared.entry.Entry.{Entry}
+use Rattle.pot_machine.specs.declared.entry.Entry.TheVariants.{Begin, Stuck}
+use Rattle.pot_steps.specs.Mending.{LosesNothing}
+use Rattle.pot_steps.proofs.Acting.{Lessens}
+use Rattle.pot_group.specs.Shelves.{Keeps, LosesFrom, NoneLost}
 use Rattle.pot_group.specs.Group.{GroupParts, IsSettled, view_of, state_of}
-use Rattle.pot_group.specs.Relaying.{AdvanceMeans, BeginMeans, Drives, Mends, Moves, Owns, advance_as, answered, mend_as}
+use Rattle.pot_group.specs.Relaying.{AdvanceMeans, BeginMeans, Drives, Mends, Moves, Owns, acted, advance_as, answered, mend_as}
 use Rattle.pot_group.proofs.BeginSteps.{crowded}
-use Rattle.pot_group.proofs.ShelfLemmas.{keeps_refl}
+use Rattle.pot_group.proofs.Lossless.{lossless_less, lossless_same}
+use Rattle.pot_group.proofs.ShelfLemmas.{keeps_refl, loses_refl}
 
 stands_some : (o : Option Relay) (P : Relay → Type 0) → IsSomeAnd o P → o ≢ None
 stands_some (Some r) P h e = cc
@@ -70,10 +75,27 @@ module _ {A : Type 0} (told : Type 0) (meaning : A → Meaning) (old : GroupPart
   begin_keeps (Err (fault.TwoGone one other)) new m = subst (λ (w : GroupParts A). Keeps (view_of meaning old).shelves (view_of meaning w).shelves) (sym m.3) (keeps_refl (view_of meaning old).shelves)
   begin_keeps (Err fault.Crowded) new m = subst (λ (w : GroupParts A). Keeps (view_of meaning old).shelves (view_of meaning w).shelves) (sym m.1) (keeps_refl (view_of meaning old).shelves)
 
+  begin_loses : (new : GroupParts A) (e : Entry) (given : List ℕ) → Lessens e → new ≡ acted old e given → NoneLost (view_of meaning old).shelves (view_of meaning new).shelves → LosesNothing (state old) (state new)
+  begin_loses new e given less is none = lossless_less (view_of meaning old) (view_of meaning new) (view_of meaning old).shelves.held
+      (subst (λ (w : GroupParts A). LosesFrom (view_of meaning old).shelves.held (view_of meaning old).shelves (view_of meaning w).shelves) (sym is) (loses_refl (view_of meaning old).shelves)) none (λ n k x ln lk live q. q)
+      e less (ap (λ (w : GroupParts A). w.table) is)
+
+  begin_same : (new : GroupParts A) → new ≡ old → LosesNothing (state old) (state new)
+  begin_same new e = subst (λ (w : GroupParts A). LosesNothing (state old) (state w)) (sym e) (lossless_same (view_of meaning old))
+
+  pub begin_lossless : (r : Result (Unit {0}) BeginFault) (new : GroupParts A) → BeginMeans job s c blind r old new → NoneLost (view_of meaning old).shelves (view_of meaning new).shelves → LosesNothing (state old) (state new)
+  begin_lossless (Ok u) new m none = begin_loses new (Begin job s c) blind tt m.2 none
+  begin_lossless (Err fault.LogFull) new m none = begin_same new m.0
+  begin_lossless (Err fault.Whole) new m none = begin_same new m.1
+  begin_lossless (Err (fault.Standing k)) new m none = begin_same new m.1
+  begin_lossless (Err (fault.TwoGone one other)) new m none = begin_loses new (Stuck job s c other) [] tt m.3 none
+  begin_lossless (Err fault.Crowded) new m none = begin_same new m.1
+
   -- an advance for a mend
   module _ (n : ℕ) (room : length old.log < log_bound) (there : relay_at old.table n ≢ None) (unsound : IsTrue (is_unsound (slot_at old.table s c))) (which : MovesRelay old.table s c n) where
     abbrev pub Advances : Result Advanced AdvanceFault → GroupParts A → Type 0
     Advances r new = AdvanceMeans meaning job n r old new × Keeps (view_of meaning old).shelves (view_of meaning new).shelves × (told → AdvanceStep job n (advance_as r) (state old) (state new))
+        × (told → NoneLost (view_of meaning old).shelves (view_of meaning new).shelves → LosesNothing (state old) (state new))
 
     moved : (r : Result Advanced AdvanceFault) (new : GroupParts A) → AdvanceMeans meaning job n r old new → Moves job n r (view_of meaning old) (view_of meaning new)
     moved (Ok advanced.Hopped) new m = m.1
@@ -102,11 +124,13 @@ module _ {A : Type 0} (told : Type 0) (meaning : A → Meaning) (old : GroupPart
     odd true wanted found new owns a = record {
       means = (room, drives true (Err (failed.Odd wanted found)) (mend.Odd wanted found) new owns refl a.0);
       keeps = a.1;
+      lossless = a.3;
       steps = λ t. (unsound, (n, which, (a.2 t, owns.0 refl)));
     }
     odd false wanted found new owns a = record {
       means = (room, drives false (Err (failed.Odd wanted found)) mend.Went new owns refl a.0);
       keeps = a.1;
+      lossless = a.3;
       steps = λ t. (unsound, (n, which, inr (inr (inr (wanted, found, a.2 t, λ o. no (owns.1 o))))));
     }
       where
@@ -117,21 +141,25 @@ module _ {A : Type 0} (told : Type 0) (meaning : A → Meaning) (old : GroupPart
     driven own (Ok advanced.Hopped) new owns a = record {
       means = (room, drives own (Ok advanced.Hopped) mend.Went new owns refl a.0);
       keeps = a.1;
+      lossless = a.3;
       steps = λ t. (unsound, (n, which, inl (a.2 t)));
     }
     driven own (Ok advanced.Mended) new owns a = record {
       means = (room, drives own (Ok advanced.Mended) mend.Went new owns refl a.0);
       keeps = a.1;
+      lossless = a.3;
       steps = λ t. (unsound, (n, which, inr (inl (a.2 t))));
     }
     driven own (Ok advanced.Ended) new owns a = record {
       means = (room, drives own (Ok advanced.Ended) mend.Went new owns refl a.0);
       keeps = a.1;
+      lossless = a.3;
       steps = λ t. (unsound, (n, which, inr (inr (inl (a.2 t)))));
     }
     driven own (Err (failed.Faulted column)) new owns a = record {
       means = (room, drives own (Err (failed.Faulted column)) (mend.Faulted column) new owns refl a.0);
       keeps = a.1;
+      lossless = a.3;
       steps = λ t. (unsound, (n, which, a.2 t));
     }
     driven own (Err (failed.Odd wanted found)) new owns a = odd own wanted found new owns a
@@ -142,6 +170,7 @@ module _ {A : Type 0} (told : Type 0) (meaning : A → Meaning) (old : GroupPart
     -- what an advance from `mid` came to
     abbrev pub AdvancesFrom : ℕ → GroupParts A → Result Advanced AdvanceFault → GroupParts A → Type 0
     AdvancesFrom n mid r new = AdvanceMeans meaning job n r mid new × Keeps (view_of meaning mid).shelves (view_of meaning new).shelves × (told → AdvanceStep job n (advance_as r) (state mid) (state new))
+        × (told → NoneLost (view_of meaning mid).shelves (view_of meaning new).shelves → LosesNothing (state mid) (state new))
 
     pub standing_mends : (k : ℕ) (mid new : GroupParts A) (r : Result Advanced AdvanceFault) → BeginMeans job s c blind (Err (fault.Standing k)) old mid → AdvancesFrom s mid r new
         → Mends told meaning job s c blind (answered (k == c) r) old new

@@ -8,6 +8,7 @@ use Rattle.pot_machine.specs.Table.{Table, slot_at, relay_at}
 use Rattle.pot_machine.specs.Machine.{Legal, after, stuck_by}
 use Rattle.pot_steps.specs.Flights.{flight_in, flights_after}
 use Rattle.pot_steps.specs.RelaySteps as step
+use Rattle.pot_steps.specs.Mending.{LosesNothing}
 use Rattle.pot_machine.specs.Slot.{digest_in}
 use Rattle.pot_machine.specs.Table.{next_column}
 use Rattle.pot_steps.specs.declared.flight.Flight.{Flight}
@@ -17,7 +18,7 @@ use Rattle.pot_group.specs.declared.relaying.Advanced.{Advanced}
 use Rattle.pot_group.specs.declared.relaying.Advanced.TheVariants as advanced
 use Rattle.pot_outside.specs.declared.faults.Failed.{Failed}
 use Rattle.pot_machine.specs.Table.{serving_at}
-use Rattle.pot_group.specs.Shelves.{Keeps, Writes}
+use Rattle.pot_group.specs.Shelves.{Keeps, NoneLost, Writes}
 use Rattle.pot_group.specs.declared.relaying.AdvanceFault.{AdvanceFault}
 use Rattle.pot_group.specs.declared.relaying.AdvanceFault.TheVariants as failed
 use Rattle.pot_group.specs.declared.relaying.BeginFault.{BeginFault}
@@ -136,11 +137,13 @@ AdvanceMeans meaning job s (Err failed.LogFull) old new = (length old.log ≡ 26
 AdvanceMeans meaning job s (Err failed.Idle) old new = (length old.log < 262144) × (relay_at old.table s ≡ None) × (new ≡ old)
 AdvanceMeans meaning job s answer old new = (length old.log < 262144) × Moves job s answer (view_of meaning old) (view_of meaning new)
 
--- A step of the stripe's relay: what it does, that the archives stay with their marks, and, where they tell, the step of a group.
+-- A step of the stripe's relay: what it does, that the archives stay with their marks, and, where they tell, the step of a group,
+-- and that no block is lost where no count of losses rose.
 pub record Advances (told : Type 0) (job s : ℕ) (result : Result Advanced AdvanceFault) (old new : GroupView) : Type 0 where
   pub moves : Moves job s result old new
   pub keeps : Keeps old.shelves new.shelves
   pub steps : told → step.AdvanceStep job s (advance_as result) (state_of old) (state_of new)
+  pub lossless : told → NoneLost old.shelves new.shelves → LosesNothing (state_of old) (state_of new)
 
 -- A MEND
 
@@ -189,3 +192,4 @@ pub record Mends {A : Type 0} (told : Type 0) (meaning : A → Meaning) (job s c
   pub means : MendMeans meaning job s c blind answer old new
   pub keeps : Keeps (view_of meaning old).shelves (view_of meaning new).shelves
   pub steps : told → step.MendStep job s c blind (mend_as answer) (state_of (view_of meaning old)) (state_of (view_of meaning new))
+  pub lossless : told → NoneLost (view_of meaning old).shelves (view_of meaning new).shelves → LosesNothing (state_of (view_of meaning old)) (state_of (view_of meaning new))

@@ -1,5 +1,5 @@
 -- The archives of a group as plain data, by their numbers, and what a call of one of them does.
-use Rattle.std.specs.Prelude.{◌≡◌, ◌≢◌, ◌≤◌, ◌==◌, ◌++◌, ℕ, List, [], ◌∷◌, Option, Some, None, Result, Ok, Err, IsErr, if◌then◌else◌, find, map}
+use Rattle.std.specs.Prelude.{◌≡◌, ◌≢◌, ◌≤◌, ◌<◌, ◌-◌, ◌^◌, ◌==◌, ◌++◌, ℕ, List, [], ◌∷◌, Option, Some, None, Result, Ok, Err, IsErr, if◌then◌else◌, find, map}
 use Rattle.pot_bytes.specs.declared.digest.Digest.{Digest}
 use Rattle.pot_outside.specs.declared.archive.Marks.{Marks}
 use Rattle.pot_outside.specs.declared.archive.Shelf.{Shelf}
@@ -92,6 +92,10 @@ pub record Keeps (old new : Shelves) : Type 0 where
 -- from what the archives were to hold to what they hold: blocks were lost, and nothing else
 abbrev pub LosesFrom : Holdings → Shelves → Shelves → Type 0
 LosesFrom h old new = (number : ℕ) → OnlyLoses (h number) (new.held number) (old.losses number) (new.losses number)
+
+-- no count of losses rose in a call, and none stands at its last value
+abbrev pub NoneLost : Shelves → Shelves → Type 0
+NoneLost old new = (number : ℕ) → (new.losses number ≡ old.losses number) × (new.losses number < 2 ^ 64 - 1)
 
 -- Nothing changes but by losses. `told` is whether the archives tell what they hold.
 pub record Stays (told : Type 0) (old new : Shelves) : Type 0 where

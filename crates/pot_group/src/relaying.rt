@@ -79,7 +79,8 @@ impl<A: Archive> Group<A> {
     ghost use Rattle.pot_machine.specs.Slot.{is_live};
     ghost use Rattle.pot_steps.specs.Flight.{weight_in};
     ghost use Rattle.pot_steps.specs.Flights.{flight_in};
-    ghost use Rattle.pot_group.specs.Shelves.{plain, Folds, Keeps};
+    ghost use Rattle.pot_group.specs.Shelves.{plain, Folds, Keeps, NoneLost};
+    ghost use Rattle.pot_steps.specs.Mending.{LosesNothing};
     ghost use Rattle.pot_group.specs.Group.{with_archives};
     ghost use Rattle.std.specs.Prelude.{None, []};
     ghost use Rattle.pot_machine.specs.declared.entry.Entry.TheVariants.{GaveUp};
@@ -201,6 +202,7 @@ impl<A: Archive> Group<A> {
         ensures means { AdvanceMeans A.account.meaning job stripe result self.old self.new }
         ensures keeps { Keeps (view_of A.account.meaning self.old).shelves (view_of A.account.meaning self.new).shelves }
         ensures step { IsTrue A.account.tells → AdvanceStep job stripe (advance_as result) (state_of (view_of A.account.meaning self.old)) (state_of (view_of A.account.meaning self.new)) }
+        ensures lossless { IsTrue A.account.tells → NoneLost (view_of A.account.meaning self.old).shelves (view_of A.account.meaning self.new).shelves → LosesNothing (state_of (view_of A.account.meaning self.old)) (state_of (view_of A.account.meaning self.new)) }
     {
         if self.log.len() >= LOG_BOUND {
             return Err(AdvanceFault::LogFull);
@@ -260,6 +262,7 @@ impl<A: Archive> Group<A> {
         ensures means { MendMeans A.account.meaning job place.stripe place.column blind.now result self.old self.new }
         ensures keeps { Keeps (view_of A.account.meaning self.old).shelves (view_of A.account.meaning self.new).shelves }
         ensures step { IsTrue A.account.tells → MendStep job place.stripe place.column blind.now (mend_as result) (state_of (view_of A.account.meaning self.old)) (state_of (view_of A.account.meaning self.new)) }
+        ensures lossless { IsTrue A.account.tells → NoneLost (view_of A.account.meaning self.old).shelves (view_of A.account.meaning self.new).shelves → LosesNothing (state_of (view_of A.account.meaning self.old)) (state_of (view_of A.account.meaning self.new)) }
     {
         let _settled = self.kept();
         match self.begin(job, place, blind) {

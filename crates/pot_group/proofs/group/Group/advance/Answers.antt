@@ -3,6 +3,7 @@ use Rattle.pot_group.specs.Relaying.{Advances}
 use Rattle.pot_group.specs.Group.{GroupParts, view_of}
 use Rattle.pot_group.proofs.AdvanceSteps.{idle_step, found_over}
 use Rattle.pot_group.proofs.Advancing.{advance_means, idle_none}
+use Rattle.pot_group.proofs.Lossless.{lossless_same}
 use Rattle.pot_group.proofs.group.Group.advance.Goals as goal
 
 pub returns-in_default-clause-step : goal.returns-in_default-clause-step
@@ -37,6 +38,7 @@ returns-in-Some-next_column g c =
       means = advance_means (IsTrue g.A.Archive.account.tells) g.A.Archive.account.meaning c.args.job c.args.stripe c.go_on.result c.args.self.now c.go_on.new.self room a;
       keeps = a.keeps;
       step = a.steps;
+      lossless = a.lossless;
     }
 
 pub returns-in-None : goal.returns-in-None
@@ -49,4 +51,11 @@ returns-in-None g c =
       means = advance_means (IsTrue g.A.Archive.account.tells) g.A.Archive.account.meaning c.args.job c.args.stripe c.finish_flight.result c.args.self.now c.finish_flight.new.self room a;
       keeps = a.keeps;
       step = a.steps;
+      lossless = a.lossless;
     }
+
+pub returns-in_default-clause-lossless : goal.returns-in_default-clause-lossless
+returns-in_default-clause-lossless g c = λ t none. lossless_same (view_of g.A.Archive.account.meaning c.args.self.now)
+
+pub returns-then-len-ge-LOG_BOUND-clause-lossless : goal.returns-then-len-ge-LOG_BOUND-clause-lossless
+returns-then-len-ge-LOG_BOUND-clause-lossless g c = λ t none. lossless_same (view_of g.A.Archive.account.meaning c.args.self.now)

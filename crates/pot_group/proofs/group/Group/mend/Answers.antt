@@ -4,7 +4,7 @@ use Rattle.pot_group.specs.declared.relaying.BeginFault.{BeginFault}
 use Rattle.pot_group.specs.declared.relaying.Mend.{Mend}
 use Rattle.pot_group.specs.Group.{GroupParts}
 use Rattle.pot_group.specs.Relaying.{BeginMeans, Mends}
-use Rattle.pot_group.proofs.MendSteps.{begin_keeps, standing_mends, full_relays, crowded_mends}
+use Rattle.pot_group.proofs.MendSteps.{begin_keeps, begin_lossless, standing_mends, full_relays, crowded_mends}
 use Rattle.pot_group.proofs.group.Group.mend.Goals as goal
 
 pub returns-in-Ok-clause-keeps : goal.returns-in-Ok-clause-keeps
@@ -29,12 +29,24 @@ pub returns-in-Err-Standing : goal.returns-in-Err-Standing
 returns-in-Err-Standing g c =
     let x = subst (λ (a : Mend). Mends (IsTrue g.A.Archive.account.tells) g.A.Archive.account.meaning c.args.job c.args.place.stripe c.args.place.column c.args.blind.now a c.args.self.now c.advance-step.new.self) (sym c.answered.ensures)
     (standing_mends (IsTrue g.A.Archive.account.tells) g.A.Archive.account.meaning c.args.self.now c.args.job c.args.place.stripe c.args.place.column c.args.blind.now c.kept-settled.ensures c.requires.stripe c.requires.column c.in-Err-Standing.column c.begin.new.self c.advance-step.new.self c.advance-step.result (subst (λ (f : BeginFault). BeginMeans c.args.job c.args.place.stripe c.args.place.column c.args.blind.now (Err f) c.args.self.now c.begin.new.self) c.in-Err-Standing.field-0-is c.in-Err-Standing.ensures.means)
-    (c.advance-step.ensures.means, c.advance-step.ensures.keeps, c.advance-step.ensures.step)) in
-    record { means = x.means; keeps = x.keeps; step = x.steps }
+    (c.advance-step.ensures.means, c.advance-step.ensures.keeps, c.advance-step.ensures.step, c.advance-step.ensures.lossless)) in
+    record { means = x.means; keeps = x.keeps; step = x.steps; lossless = x.lossless }
 
 pub returns-in-Err-Crowded : goal.returns-in-Err-Crowded
 returns-in-Err-Crowded g c =
     let x = subst (λ (a : Mend). Mends (IsTrue g.A.Archive.account.tells) g.A.Archive.account.meaning c.args.job c.args.place.stripe c.args.place.column c.args.blind.now a c.args.self.now c.advance-step-in-Err-Crowded.new.self) (sym c.answered-in-Err-Crowded.ensures)
     (crowded_mends (IsTrue g.A.Archive.account.tells) g.A.Archive.account.meaning c.args.self.now c.args.job c.args.place.stripe c.args.place.column c.args.blind.now c.kept-settled.ensures c.requires.stripe c.requires.column c.first_stripe-stripe.result c.begin.new.self c.advance-step-in-Err-Crowded.new.self c.advance-step-in-Err-Crowded.result (subst (λ (f : BeginFault). BeginMeans c.args.job c.args.place.stripe c.args.place.column c.args.blind.now (Err f) c.args.self.now c.begin.new.self) c.in-Err-Crowded.field-0-is c.in-Err-Crowded.ensures.means) c.first_stripe-stripe.ensures.value
-    (c.advance-step-in-Err-Crowded.ensures.means, c.advance-step-in-Err-Crowded.ensures.keeps, c.advance-step-in-Err-Crowded.ensures.step)) in
-    record { means = x.means; keeps = x.keeps; step = x.steps }
+    (c.advance-step-in-Err-Crowded.ensures.means, c.advance-step-in-Err-Crowded.ensures.keeps, c.advance-step-in-Err-Crowded.ensures.step, c.advance-step-in-Err-Crowded.ensures.lossless)) in
+    record { means = x.means; keeps = x.keeps; step = x.steps; lossless = x.lossless }
+
+pub returns-in-Ok-clause-lossless : goal.returns-in-Ok-clause-lossless
+returns-in-Ok-clause-lossless g c = λ t. begin_lossless (IsTrue g.A.Archive.account.tells) g.A.Archive.account.meaning c.args.self.now c.args.job c.args.place.stripe c.args.place.column c.args.blind.now c.begin.result c.begin.new.self c.begin.ensures.means
+
+pub returns-in-Err-LogFull-clause-lossless : goal.returns-in-Err-LogFull-clause-lossless
+returns-in-Err-LogFull-clause-lossless g c = λ t. begin_lossless (IsTrue g.A.Archive.account.tells) g.A.Archive.account.meaning c.args.self.now c.args.job c.args.place.stripe c.args.place.column c.args.blind.now c.begin.result c.begin.new.self c.begin.ensures.means
+
+pub returns-in-Err-Whole-clause-lossless : goal.returns-in-Err-Whole-clause-lossless
+returns-in-Err-Whole-clause-lossless g c = λ t. begin_lossless (IsTrue g.A.Archive.account.tells) g.A.Archive.account.meaning c.args.self.now c.args.job c.args.place.stripe c.args.place.column c.args.blind.now c.begin.result c.begin.new.self c.begin.ensures.means
+
+pub returns-in-Err-TwoGone-clause-lossless : goal.returns-in-Err-TwoGone-clause-lossless
+returns-in-Err-TwoGone-clause-lossless g c = λ t. begin_lossless (IsTrue g.A.Archive.account.tells) g.A.Archive.account.meaning c.args.self.now c.args.job c.args.place.stripe c.args.place.column c.args.blind.now c.begin.result c.begin.new.self c.begin.ensures.means
