@@ -7,8 +7,8 @@ ghost use Rattle.std.specs.Prelude.{◌≡◌, ◌↔◌, [], ◌∷◌, IsTrue,
 ghost use Rattle.pot_bytes.specs.Digests.{digest_bytes};
 ghost use Rattle.pot_sealed.specs.Sealing.{digest_of};
 
-use pot_lanes::digest_four;
 use pot_bytes::{Block, Digest, digest_of};
+use pot_lanes::digest_four;
 
 /// A block and its digest.
 #[derive(Clone, Copy)]

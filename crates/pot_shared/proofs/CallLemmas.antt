@@ -81,7 +81,6 @@ module _ (names : List TurnName) (row row1 : GroupPasses) (at : ℕ) (of : AreOf
           };
         }
 
-
 -- READY AGAIN
 
 same_or : (a b : ℕ) → (a ≡ b) ⊎ (a ≢ b)

@@ -35,7 +35,8 @@ impl<A: Archive> Vault<A> {
         let _before = member.group.logged();
         let answer = member.group.put(job, block);
         let _after = member.group.logged();
-        self.groups.leave(&mut passes.groups, group as usize, member);
+        self.groups
+            .leave(&mut passes.groups, group as usize, member);
         answer
     }
 
@@ -55,11 +56,14 @@ impl<A: Archive> Vault<A> {
         ensures index { passes.new.index ≡ passes.old.index }
         ensures call { CallAt (IsTrue A.account.tells) (LookCall (IsTrue A.account.tells) job place into.new result) place.group passes.old.groups passes.new.groups }
     {
-        let mut member = self.groups.enter(rt, &mut passes.groups, place.group as usize);
+        let mut member = self
+            .groups
+            .enter(rt, &mut passes.groups, place.group as usize);
         let _before = member.group.logged();
         let answer = member.group.look(job, place, into);
         let _after = member.group.logged();
-        self.groups.leave(&mut passes.groups, place.group as usize, member);
+        self.groups
+            .leave(&mut passes.groups, place.group as usize, member);
         answer
     }
 
@@ -85,7 +89,8 @@ impl<A: Archive> Vault<A> {
         let _before = member.group.logged();
         let answer = member.group.count(job);
         let _after = member.group.logged();
-        self.groups.leave(&mut passes.groups, group as usize, member);
+        self.groups
+            .leave(&mut passes.groups, group as usize, member);
         answer
     }
 
@@ -108,7 +113,8 @@ impl<A: Archive> Vault<A> {
         let member = self.groups.enter(rt, &mut passes.groups, group as usize);
         let _before = member.group.logged();
         let found = member.group.next(stripe, column, kind);
-        self.groups.leave(&mut passes.groups, group as usize, member);
+        self.groups
+            .leave(&mut passes.groups, group as usize, member);
         found
     }
 }

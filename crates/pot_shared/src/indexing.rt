@@ -18,7 +18,13 @@ impl<A: Archive> Vault<A> {
     ghost use Rattle.pot_shared.specs.IndexCalls.{IndexCall, HasReserved, ReservesName, ListsAll, FindsRecord, Abandons, PublishesRecord};
 
     /// Reserves a name, in one turn of the index, as `Index::reserve`.
-    pub fn reserve<R: Wait>(&self, rt: &R, passes: &mut Passes<A>, job: u32, name: &Name) -> Result<(), ReserveFault>
+    pub fn reserve<R: Wait>(
+        &self,
+        rt: &R,
+        passes: &mut Passes<A>,
+        job: u32,
+        name: &Name,
+    ) -> Result<(), ReserveFault>
         requires index { IsIndexReady self.now.rack self.now.groups self.now.index passes.old.index }
         ensures index { IsIndexReady self.now.rack self.now.groups self.now.index passes.new.index }
         ensures groups { passes.new.groups ≡ passes.old.groups }
@@ -33,7 +39,13 @@ impl<A: Archive> Vault<A> {
     }
 
     /// Lists the published names, in one turn of the index, as `Index::names`.
-    pub fn names<R: Wait>(&self, rt: &R, alloc: Global, passes: &mut Passes<A>, job: u32) -> Result<Vec<Listed>, ListFault>
+    pub fn names<R: Wait>(
+        &self,
+        rt: &R,
+        alloc: Global,
+        passes: &mut Passes<A>,
+        job: u32,
+    ) -> Result<Vec<Listed>, ListFault>
         requires index { IsIndexReady self.now.rack self.now.groups self.now.index passes.old.index }
         ensures index { IsIndexReady self.now.rack self.now.groups self.now.index passes.new.index }
         ensures groups { passes.new.groups ≡ passes.old.groups }
@@ -51,7 +63,13 @@ impl<A: Archive> Vault<A> {
     ///
     /// # Errors
     /// `Strange` exactly where the name is not reserved by the job when the turn is had; nothing is logged then.
-    pub fn abandon<R: Wait>(&self, rt: &R, passes: &mut Passes<A>, job: u32, name: &Name) -> Result<(), Strange>
+    pub fn abandon<R: Wait>(
+        &self,
+        rt: &R,
+        passes: &mut Passes<A>,
+        job: u32,
+        name: &Name,
+    ) -> Result<(), Strange>
         requires index { IsIndexReady self.now.rack self.now.groups self.now.index passes.old.index }
         requires reserved { HasReserved job name.now passes.old.index }
         ensures index { IsIndexReady self.now.rack self.now.groups self.now.index passes.new.index }
@@ -70,7 +88,13 @@ impl<A: Archive> Vault<A> {
     ///
     /// # Errors
     /// `Strange` exactly where the name is not reserved by the job when the turn is had; nothing is logged then.
-    pub fn publish<R: Wait>(&self, rt: &R, passes: &mut Passes<A>, job: u32, kept: Record) -> Result<(), Strange>
+    pub fn publish<R: Wait>(
+        &self,
+        rt: &R,
+        passes: &mut Passes<A>,
+        job: u32,
+        kept: Record,
+    ) -> Result<(), Strange>
         requires ready { AreReady self.now.rack self.now.groups passes.old.groups }
         requires parts { HasMoreParts 1 passes.old.groups }
         requires index { IsIndexReady self.now.rack self.now.groups self.now.index passes.old.index }
@@ -91,7 +115,14 @@ impl<A: Archive> Vault<A> {
 
     /// Finds a record, in one turn of the index, as `Index::find`. Of a record that was published in this session the passes
     /// have then seen every put.
-    pub fn find<R: Wait>(&self, rt: &R, alloc: Global, passes: &mut Passes<A>, job: u32, name: &Name) -> Result<Record, FindFault>
+    pub fn find<R: Wait>(
+        &self,
+        rt: &R,
+        alloc: Global,
+        passes: &mut Passes<A>,
+        job: u32,
+        name: &Name,
+    ) -> Result<Record, FindFault>
         requires ready { AreReady self.now.rack self.now.groups passes.old.groups }
         requires parts { HasMoreParts 1 passes.old.groups }
         requires index { IsIndexReady self.now.rack self.now.groups self.now.index passes.old.index }

@@ -17,7 +17,12 @@ impl<A: Archive> Vault<A> {
     ///
     /// # Errors
     /// Want of memory alone; each pass is then as it was.
-    pub fn split(&self, alloc: Global, passes: &mut Passes<A>, parts: u64) -> Result<Passes<A>, NoMemory>
+    pub fn split(
+        &self,
+        alloc: Global,
+        passes: &mut Passes<A>,
+        parts: u64,
+    ) -> Result<Passes<A>, NoMemory>
         requires ready { AreReady self.now.rack self.now.groups passes.old.groups }
         requires index { IsIndexReady self.now.rack self.now.groups self.now.index passes.old.index }
         requires some { 0 < parts }
