@@ -199,7 +199,7 @@ columns_kept w stripes taken bytes rest cs e =
       count = (let h : length (before ++ x ∷ []) ≡ length before + 1 = length-append before (x ∷ []) in omega (arith, h, p.count));
       free = subst (AreFree taken) (ap (λ z. flat_map numbers_of before ++ z) (sym (append-nil (numbers_of x))) ∙ sym (flat_map-append numbers_of before (x ∷ []))) (free_more (flat_map numbers_of before) (numbers_of x) taken p.free k.free);
       moves = λ c l. (let h : length (before ++ x ∷ []) ≡ length before + 1 = length-append before (x ∷ []) in elim (nearer c (length before)) [
-          | inl below ↦ subst (IsWithin stripes) (sym (get_or_append_left before (x ∷ []) no_column c below)) (p.moves c below)
-          | inr at ↦ (let q : c ≡ length before = omega (arith, l, h, at) in subst (IsWithin stripes) (sym (ap (λ i. get_or (before ++ x ∷ []) i no_column) q ∙ get_or-append_seam before x [] no_column)) k.moves)
-        ]);
+        | inl below ↦ subst (IsWithin stripes) (sym (get_or_append_left before (x ∷ []) no_column c below)) (p.moves c below)
+        | inr at ↦ (let q : c ≡ length before = omega (arith, l, h, at) in subst (IsWithin stripes) (sym (ap (λ i. get_or (before ++ x ∷ []) i no_column) q ∙ get_or-append_seam before x [] no_column)) k.moves)
+      ]);
     }

@@ -74,10 +74,11 @@ reads_are {A} (wants f next) bytes rest a e = (let again = reads_are (next (take
         let read : reading (next (take f.size bytes)) (drop f.size bytes) ≡ Ok (a, rest) = ap (λ b. cond b (reading (next (take f.size bytes)) (drop f.size bytes)) (Err (length bytes))) (sym met) ∙ e in
         let r = again read in
         let is = both_true (nat_le f.size (length bytes)) (f.holds (take f.size bytes)) met in
-        let long : f.size ≤ length bytes = leb-true _ _ is.0 in
-        (take f.size bytes ∷ r.0,
-        sym (take-append-drop f.size bytes) ∙ ap (λ z. take f.size bytes ++ z) r.1 ∙ sym (append_assoc (take f.size bytes) (joined r.0) rest),
-        ((length-take-le f.size bytes long, is.1), r.2))
+        let long : f.size ≤ length bytes = leb-true _ _ is.0 in (
+          take f.size bytes ∷ r.0,
+          sym (take-append-drop f.size bytes) ∙ ap (λ z. take f.size bytes ++ z) r.1 ∙ sym (append_assoc (take f.size bytes) (joined r.0) rest),
+          ((length-take-le f.size bytes long, is.1), r.2),
+        )
     by_test (inr no_way) again =
         absurd (not_both (a, rest) (length bytes) _ refl (sym e ∙ ap (λ b. cond b (reading (next (take f.size bytes)) (drop f.size bytes)) (Err (length bytes))) no_way))
 
@@ -111,10 +112,13 @@ breaks_are {A} (wants f next) bytes n e = (let again = breaks_are (next (take f.
         let read : reading (next (take f.size bytes)) (drop f.size bytes) ≡ Err n = ap (λ b. cond b (reading (next (take f.size bytes)) (drop f.size bytes)) (Err (length bytes))) (sym met) ∙ e in
         let r = again read in
         let is = both_true (nat_le f.size (length bytes)) (f.holds (take f.size bytes)) met in
-        let long : f.size ≤ length bytes = leb-true _ _ is.0 in
-        (take f.size bytes ∷ r.0, r.1,
-        sym (take-append-drop f.size bytes) ∙ ap (λ z. take f.size bytes ++ z) r.2 ∙ sym (append_assoc (take f.size bytes) (joined r.0) r.1),
-        ((length-take-le f.size bytes long, is.1), r.3), r.4)
+        let long : f.size ≤ length bytes = leb-true _ _ is.0 in (
+          take f.size bytes ∷ r.0,
+          r.1,
+          sym (take-append-drop f.size bytes) ∙ ap (λ z. take f.size bytes ++ z) r.2 ∙ sym (append_assoc (take f.size bytes) (joined r.0) r.1),
+          ((length-take-le f.size bytes long, is.1), r.3),
+          r.4,
+        )
     by_test (inr unmet) again =
         let left : n ≡ length bytes = sym (err_is (length bytes) n _ _ refl refl (sym (ap (λ b. cond b (reading (next (take f.size bytes)) (drop f.size bytes)) (Err (length bytes))) unmet) ∙ e)) in
         ([], bytes, refl, (λ front back q is. elsewhere front back q is), left)

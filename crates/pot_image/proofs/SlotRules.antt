@@ -79,18 +79,18 @@ AreAllowed cursor data_columns w before = (s c : ℕ) → c < w → s * w + c < 
 one_more : (cursor : Cursor) (data_columns w : ℕ) (before : List SlotState) (x : SlotState) (s c : ℕ) → 1 ≤ data_columns → c < w → length before ≡ s * w + c
     → AreAllowed cursor data_columns w before → allows cursor data_columns w before s c (is_void x) ≡ true → AreAllowed cursor data_columns w (before ++ x ∷ [])
 one_more cursor data_columns w before x s c some lc len all now n k lk l = elim (nearer (n * w + k) (length before)) [
-      | inl below ↦ looks_back cursor data_columns w (before ++ x ∷ []) before n k _ some (λ p lp. get_or_append_left before (x ∷ []) Void p (omega (arith, below, lp)))
-          ∙ ap (λ v. allows cursor data_columns w before n k (is_void v)) (get_or_append_left before (x ∷ []) Void (n * w + k) below) ∙ all n k lk below
-      | inr at ↦ (
-        let whole : length (before ++ x ∷ []) ≡ length before + 1 = length-append before (x ∷ []) in
-        let place : n * w + k ≡ length before = omega (arith, at, l, whole) in
-        let same = place_same w n k s c lk lc (place ∙ len) in
-        let stands : get_or (before ++ x ∷ []) (n * w + k) Void ≡ x = ap (λ p. get_or (before ++ x ∷ []) p Void) place ∙ get_or-append_seam before x [] Void in
-        looks_back cursor data_columns w (before ++ x ∷ []) before n k _ some (λ p lp. get_or_append_left before (x ∷ []) Void p (omega (arith, place, lp)))
-          ∙ ap (λ v. allows cursor data_columns w before n k (is_void v)) stands
-          ∙ ap₂ (λ i j. allows cursor data_columns w before i j (is_void x)) same.0 same.1
-          ∙ now)
-    ]
+  | inl below ↦ looks_back cursor data_columns w (before ++ x ∷ []) before n k _ some (λ p lp. get_or_append_left before (x ∷ []) Void p (omega (arith, below, lp)))
+      ∙ ap (λ v. allows cursor data_columns w before n k (is_void v)) (get_or_append_left before (x ∷ []) Void (n * w + k) below) ∙ all n k lk below
+  | inr at ↦ (
+      let whole : length (before ++ x ∷ []) ≡ length before + 1 = length-append before (x ∷ []) in
+      let place : n * w + k ≡ length before = omega (arith, at, l, whole) in
+      let same = place_same w n k s c lk lc (place ∙ len) in
+      let stands : get_or (before ++ x ∷ []) (n * w + k) Void ≡ x = ap (λ p. get_or (before ++ x ∷ []) p Void) place ∙ get_or-append_seam before x [] Void in
+      looks_back cursor data_columns w (before ++ x ∷ []) before n k _ some (λ p lp. get_or_append_left before (x ∷ []) Void p (omega (arith, place, lp)))
+      ∙ ap (λ v. allows cursor data_columns w before n k (is_void v)) stands
+      ∙ ap₂ (λ i j. allows cursor data_columns w before i j (is_void x)) same.0 same.1
+      ∙ now)
+]
   where
     nearer : (a b : ℕ) → (a < b) ⊎ (b ≤ a)
     nearer a b = grind arith
@@ -101,9 +101,9 @@ unfolding slots stripe_slots
 slots_are_allowed cursor data_columns w z bytes rest all some e =
     over_keep (λ s before. (length before ≡ s * w) × AreAllowed cursor data_columns w before) (stripe_slots cursor data_columns w) z
     (λ s before after bs rs ls p h. (let row = several_keep (λ c seen. (length seen ≡ s * w + c) × AreAllowed cursor data_columns w seen) (slot_behind cursor data_columns w s) w
-          (λ c seen x cs ds lc q i. (counted seen x s c q.0, one_more cursor data_columns w seen x s c some lc q.0 q.1 (slot_is_allowed (allows cursor data_columns w seen s c) cs ds x i)))
-          w 0 before after bs rs (omega arith) (omega (arith, p.0), p.1) h in
-        (row.0 ∙ next s, row.1)))
+    (λ c seen x cs ds lc q i. (counted seen x s c q.0, one_more cursor data_columns w seen x s c some lc q.0 q.1 (slot_is_allowed (allows cursor data_columns w seen s c) cs ds x i)))
+    w 0 before after bs rs (omega arith) (omega (arith, p.0), p.1) h in
+    (row.0 ∙ next s, row.1)))
     z 0 [] all bytes rest (omega arith) (none, (λ n k lk l. absurd (omega (arith, l)))) e
   where
     counted : (seen : List SlotState) (x : SlotState) (s c : ℕ) → length seen ≡ s * w + c → length (seen ++ x ∷ []) ≡ s * w + (c + 1)
@@ -168,7 +168,7 @@ module _ (t : Table) (size : length t.slots ≡ t.stripes * width t) (all : AreA
 
   of_cursor : (s c : ℕ) → s ≡ t.cursor.stripe → s < t.stripes → c < t.data_columns → is_void (slot_at t s c) ≡ nat_le t.cursor.column c
   of_cursor s c e ls lc =
-    here_void (nat_lt t.cursor.stripe s) (nat_le t.data_columns c) (s == t.cursor.stripe) (nat_le t.cursor.column c) (c == 0) (is_void (get_or t.slots (s * width t) Void)) (is_void (get_or t.slots (s * width t + c - 1) Void)) (is_void (slot_at t s c)) (le-ltb _ _ (omega (arith, e))) (lt_leb lc) (eq-eqb _ _ e) (at s c ls (omega (arith, lc)))
+      here_void (nat_lt t.cursor.stripe s) (nat_le t.data_columns c) (s == t.cursor.stripe) (nat_le t.cursor.column c) (c == 0) (is_void (get_or t.slots (s * width t) Void)) (is_void (get_or t.slots (s * width t + c - 1) Void)) (is_void (slot_at t s c)) (le-ltb _ _ (omega (arith, e))) (lt_leb lc) (eq-eqb _ _ e) (at s c ls (omega (arith, lc)))
     where
       lt_leb : c < t.data_columns → nat_le t.data_columns c ≡ false
       lt_leb l = grind (arith, nat_tests)
@@ -177,10 +177,10 @@ module _ (t : Table) (size : length t.slots ≡ t.stripes * width t) (all : AreA
   next_void s c ls lc v = elim (cases t.cursor.stripe s) [
     | inl l ↦ late s (c + 1) l ls (omega (arith, lc))
     | inr l ↦ elim (cases s t.cursor.stripe) [
-        | inl before ↦ early_void (nat_lt t.cursor.stripe s) (nat_le t.data_columns (c + 1)) (s == t.cursor.stripe) (nat_le t.cursor.column (c + 1)) ((c + 1) == 0) (is_void (get_or t.slots (s * width t) Void)) (is_void (get_or t.slots (s * width t + (c + 1) - 1) Void)) (is_void (slot_at t s (c + 1))) (le-ltb _ _ l) (lt_leb lc) (other before) (positive c) (at s (c + 1) ls (omega (arith, lc))) (ap is_void previous ∙ v)
-        | inr after ↦ (let e : s ≡ t.cursor.stripe = omega (arith, l, after) in of_cursor s (c + 1) e ls lc ∙ more (sym (of_cursor s c e ls (omega (arith, lc))) ∙ v))
-      ]
+      | inl before ↦ early_void (nat_lt t.cursor.stripe s) (nat_le t.data_columns (c + 1)) (s == t.cursor.stripe) (nat_le t.cursor.column (c + 1)) ((c + 1) == 0) (is_void (get_or t.slots (s * width t) Void)) (is_void (get_or t.slots (s * width t + (c + 1) - 1) Void)) (is_void (slot_at t s (c + 1))) (le-ltb _ _ l) (lt_leb lc) (other before) (positive c) (at s (c + 1) ls (omega (arith, lc))) (ap is_void previous ∙ v)
+      | inr after ↦ (let e : s ≡ t.cursor.stripe = omega (arith, l, after) in of_cursor s (c + 1) e ls lc ∙ more (sym (of_cursor s c e ls (omega (arith, lc))) ∙ v))
     ]
+  ]
     where
       lt_leb : c + 1 < t.data_columns → nat_le t.data_columns (c + 1) ≡ false
       lt_leb l = grind (arith, nat_tests)

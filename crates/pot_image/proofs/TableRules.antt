@@ -112,16 +112,16 @@ pub tables_kept : (rack : Rack) (bytes rest : List ℕ) (ts : List Table) → Is
 unfolding tables
 tables_kept rack bytes rest ts fits e =
     (let all = several_keep (First rack) (table_behind rack) rack.groups
-      (λ i before x bs rs l p h. one_more i before x p (table_kept rack (flat_map table_numbers before) bs rs x fits h))
-      rack.groups 0 [] ts bytes rest (omega arith) (record { count = refl; fits = λ k d l. absurd (omega (arith, l)); free = tt }) e in
+    (λ i before x bs rs l p h. one_more i before x p (table_kept rack (flat_map table_numbers before) bs rs x fits h))
+    rack.groups 0 [] ts bytes rest (omega arith) (record { count = refl; fits = λ k d l. absurd (omega (arith, l)); free = tt }) e in
     record { count = all.count; fits = all.fits; free = all.free })
   where
     one_more : (i : ℕ) (before : List Table) (x : Table) → First rack i before → Kept rack (flat_map table_numbers before) x → First rack (i + 1) (before ++ x ∷ [])
     one_more i before x p k = record {
       count = (let h : length (before ++ x ∷ []) ≡ length before + 1 = length-append before (x ∷ []) in omega (arith, h, p.count));
       fits = λ j d l. (let h : length (before ++ x ∷ []) ≡ length before + 1 = length-append before (x ∷ []) in elim (nearer j (length before)) [
-          | inl below ↦ subst (FitsTable rack) (sym (get_or_append_left before (x ∷ []) d j below)) (p.fits j d below)
-          | inr at ↦ (let q : j ≡ length before = omega (arith, l, h, at) in subst (FitsTable rack) (sym (ap (λ i. get_or (before ++ x ∷ []) i d) q ∙ get_or-append_seam before x [] d)) k.fits)
-        ]);
+        | inl below ↦ subst (FitsTable rack) (sym (get_or_append_left before (x ∷ []) d j below)) (p.fits j d below)
+        | inr at ↦ (let q : j ≡ length before = omega (arith, l, h, at) in subst (FitsTable rack) (sym (ap (λ i. get_or (before ++ x ∷ []) i d) q ∙ get_or-append_seam before x [] d)) k.fits)
+      ]);
       free = subst (AreFree []) (ap (λ z. flat_map table_numbers before ++ z) (sym (append-nil (table_numbers x))) ∙ sym (flat_map-append table_numbers before (x ∷ []))) (free_more (flat_map table_numbers before) (table_numbers x) [] p.free k.free);
     }

@@ -10,3 +10,4 @@ pub mod Logs
 pub mod Images
 pub mod Spelling
 pub mod Rules
+pub mod Laws

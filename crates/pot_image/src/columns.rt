@@ -63,7 +63,12 @@ fn read_resting(bytes: &[u8], home: u32) -> Result<(Column, &[u8]), Fault>
 }
 
 /// Where a column moves to, and how far it has come. Its target is added to the numbers that are taken.
-fn read_moving<'a>(bytes: &'a [u8], stripes: u32, taken: &mut Vec<u32>, home: u32) -> Result<(Column, &'a [u8]), Fault>
+fn read_moving<'a>(
+    bytes: &'a [u8],
+    stripes: u32,
+    taken: &mut Vec<u32>,
+    home: u32,
+) -> Result<(Column, &'a [u8]), Fault>
     ensures reads { Gives (λ x. (x.0, x.1.now)) result (reading (moving stripes taken.old.items home) bytes.now) }
     ensures taken { (before : List ℕ) → taken.old.items ≡ before ++ home ∷ [] → IfOk result (λ x. taken.new.items ≡ before ++ numbers_of x.0) }
 {
@@ -74,7 +79,11 @@ fn read_moving<'a>(bytes: &'a [u8], stripes: u32, taken: &mut Vec<u32>, home: u3
 }
 
 /// A column whose archives are not among those that are taken. They are added to these.
-fn read_column<'a>(bytes: &'a [u8], stripes: u32, taken: &mut Vec<u32>) -> Result<(Column, &'a [u8]), Fault>
+fn read_column<'a>(
+    bytes: &'a [u8],
+    stripes: u32,
+    taken: &mut Vec<u32>,
+) -> Result<(Column, &'a [u8]), Fault>
     ensures reads { Gives (λ x. (x.0, x.1.now)) result (reading (column stripes taken.old.items) bytes.now) }
     ensures taken { IfOk result (λ x. taken.new.items ≡ taken.old.items ++ numbers_of x.0) }
 {

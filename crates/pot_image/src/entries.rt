@@ -79,18 +79,51 @@ fn placed(kind: u8, job: u32, stripe: u32, column: u8) -> Entry
     ensures { result ≡ placed kind job stripe column }
 {
     match kind {
-        3 => Entry::Seen { job, stripe, column },
-        4 => Entry::Gone { job, stripe, column },
-        5 => Entry::Broke { job, stripe, column },
-        6 => Entry::Fault { job, stripe, column },
-        7 => Entry::Begin { job, stripe, column },
-        8 => Entry::Hop { job, stripe, column },
-        _ => Entry::Mended { job, stripe, column },
+        3 => Entry::Seen {
+            job,
+            stripe,
+            column,
+        },
+        4 => Entry::Gone {
+            job,
+            stripe,
+            column,
+        },
+        5 => Entry::Broke {
+            job,
+            stripe,
+            column,
+        },
+        6 => Entry::Fault {
+            job,
+            stripe,
+            column,
+        },
+        7 => Entry::Begin {
+            job,
+            stripe,
+            column,
+        },
+        8 => Entry::Hop {
+            job,
+            stripe,
+            column,
+        },
+        _ => Entry::Mended {
+            job,
+            stripe,
+            column,
+        },
     }
 }
 
 /// An entry of a kind from 3 to 9.
-fn read_placed<'a>(bytes: &'a [u8], rack: &Rack, job: u32, kind: u8) -> Result<(Entry, &'a [u8]), Fault>
+fn read_placed<'a>(
+    bytes: &'a [u8],
+    rack: &Rack,
+    job: u32,
+    kind: u8,
+) -> Result<(Entry, &'a [u8]), Fault>
     requires rack { IsRack rack.now }
     requires least { 3 ≤ kind }
     requires most { kind ≤ 9 }
@@ -107,10 +140,7 @@ fn read_skip<'a>(bytes: &'a [u8], rack: &Rack, job: u32) -> Result<(Entry, &'a [
     ensures { Gives (λ x. (x.0, x.1.now)) result (reading (entry_of rack.now job 2) bytes.now) }
 {
     let (stripe, rest) = read_stripe(bytes, rack)?;
-    let entry = Entry::Skip {
-        job,
-        stripe,
-    };
+    let entry = Entry::Skip { job, stripe };
     Ok((entry, rest))
 }
 
@@ -172,11 +202,7 @@ fn read_move_begin<'a>(bytes: &'a [u8], rack: &Rack, job: u32) -> Result<(Entry,
 {
     let (column, after_column) = read_column(bytes, rack)?;
     let (to, rest) = read_at_most(after_column, 511)?;
-    let entry = Entry::MoveBegin {
-        job,
-        column,
-        to,
-    };
+    let entry = Entry::MoveBegin { job, column, to };
     Ok((entry, rest))
 }
 
@@ -203,10 +229,7 @@ fn read_move_end<'a>(bytes: &'a [u8], rack: &Rack, job: u32) -> Result<(Entry, &
     ensures { Gives (λ x. (x.0, x.1.now)) result (reading (entry_of rack.now job 15) bytes.now) }
 {
     let (column, rest) = read_column(bytes, rack)?;
-    let entry = Entry::MoveEnd {
-        job,
-        column,
-    };
+    let entry = Entry::MoveEnd { job, column };
     Ok((entry, rest))
 }
 
@@ -217,16 +240,17 @@ fn read_swapped<'a>(bytes: &'a [u8], rack: &Rack, job: u32) -> Result<(Entry, &'
 {
     let (column, after_column) = read_column(bytes, rack)?;
     let (to, rest) = read_at_most(after_column, 511)?;
-    let entry = Entry::Swapped {
-        job,
-        column,
-        to,
-    };
+    let entry = Entry::Swapped { job, column, to };
     Ok((entry, rest))
 }
 
 /// What stands behind the kind and the job of an entry.
-fn read_entry_of<'a>(bytes: &'a [u8], rack: &Rack, job: u32, kind: u8) -> Result<(Entry, &'a [u8]), Fault>
+fn read_entry_of<'a>(
+    bytes: &'a [u8],
+    rack: &Rack,
+    job: u32,
+    kind: u8,
+) -> Result<(Entry, &'a [u8]), Fault>
     requires rack { IsRack rack.now }
     requires least { 1 ≤ kind }
     requires most { kind ≤ 18 }
@@ -260,7 +284,11 @@ fn kinds(format: Format) -> u8
 }
 
 /// An entry of a group's log.
-pub(crate) fn read_entry<'a>(bytes: &'a [u8], format: Format, rack: &Rack) -> Result<(Entry, &'a [u8]), Fault>
+pub(crate) fn read_entry<'a>(
+    bytes: &'a [u8],
+    format: Format,
+    rack: &Rack,
+) -> Result<(Entry, &'a [u8]), Fault>
     requires { IsRack rack.now }
     ensures { Gives (λ x. (x.0, x.1.now)) result (reading (entry format rack.now) bytes.now) }
 {

@@ -15,7 +15,13 @@ pub(crate) fn append_lead(out: &mut Vec<u8>, kind: u8, job: u32) -> Result<(), A
 }
 
 /// A kind, a job, a stripe and a column.
-fn append_placed(out: &mut Vec<u8>, kind: u8, job: u32, stripe: u32, column: u8) -> Result<(), AllocError>
+fn append_placed(
+    out: &mut Vec<u8>,
+    kind: u8,
+    job: u32,
+    stripe: u32,
+    column: u8,
+) -> Result<(), AllocError>
     ensures { OnOk result (out.new.items ≡ out.old.items ++ (lead_bytes kind job ++ place_bytes stripe column)) }
 {
     append_lead(out, kind, job)?;
@@ -28,7 +34,14 @@ pub(crate) fn append_entry(out: &mut Vec<u8>, entry: &Entry) -> Result<(), Alloc
     ensures { OnOk result (out.new.items ≡ out.old.items ++ entry_bytes entry.now) }
 {
     match *entry {
-        Entry::Put { job, stripe, column, digest, parity_digest, kept } => {
+        Entry::Put {
+            job,
+            stripe,
+            column,
+            digest,
+            parity_digest,
+            kept,
+        } => {
             append_placed(out, 1, job, stripe, column)?;
             append_digest(out, digest)?;
             append_digest(out, parity_digest)?;
@@ -38,22 +51,65 @@ pub(crate) fn append_entry(out: &mut Vec<u8>, entry: &Entry) -> Result<(), Alloc
             append_lead(out, 2, job)?;
             append_number(out, stripe)
         }
-        Entry::Seen { job, stripe, column } => append_placed(out, 3, job, stripe, column),
-        Entry::Gone { job, stripe, column } => append_placed(out, 4, job, stripe, column),
-        Entry::Broke { job, stripe, column } => append_placed(out, 5, job, stripe, column),
-        Entry::Fault { job, stripe, column } => append_placed(out, 6, job, stripe, column),
-        Entry::Begin { job, stripe, column } => append_placed(out, 7, job, stripe, column),
-        Entry::Hop { job, stripe, column } => append_placed(out, 8, job, stripe, column),
-        Entry::Mended { job, stripe, column } => append_placed(out, 9, job, stripe, column),
-        Entry::GaveUp { job, stripe, column, other } => {
+        Entry::Seen {
+            job,
+            stripe,
+            column,
+        } => append_placed(out, 3, job, stripe, column),
+        Entry::Gone {
+            job,
+            stripe,
+            column,
+        } => append_placed(out, 4, job, stripe, column),
+        Entry::Broke {
+            job,
+            stripe,
+            column,
+        } => append_placed(out, 5, job, stripe, column),
+        Entry::Fault {
+            job,
+            stripe,
+            column,
+        } => append_placed(out, 6, job, stripe, column),
+        Entry::Begin {
+            job,
+            stripe,
+            column,
+        } => append_placed(out, 7, job, stripe, column),
+        Entry::Hop {
+            job,
+            stripe,
+            column,
+        } => append_placed(out, 8, job, stripe, column),
+        Entry::Mended {
+            job,
+            stripe,
+            column,
+        } => append_placed(out, 9, job, stripe, column),
+        Entry::GaveUp {
+            job,
+            stripe,
+            column,
+            other,
+        } => {
             append_placed(out, 10, job, stripe, column)?;
             out.extend_from_slice(&[other])
         }
-        Entry::Oddly { job, stripe, column, found } => {
+        Entry::Oddly {
+            job,
+            stripe,
+            column,
+            found,
+        } => {
             append_placed(out, 11, job, stripe, column)?;
             append_digest(out, found)
         }
-        Entry::Stuck { job, stripe, column, other } => {
+        Entry::Stuck {
+            job,
+            stripe,
+            column,
+            other,
+        } => {
             append_placed(out, 12, job, stripe, column)?;
             out.extend_from_slice(&[other])
         }
@@ -62,7 +118,12 @@ pub(crate) fn append_entry(out: &mut Vec<u8>, entry: &Entry) -> Result<(), Alloc
             out.extend_from_slice(&[column])?;
             append_number(out, to)
         }
-        Entry::Moved { job, stripe, column, copied } => {
+        Entry::Moved {
+            job,
+            stripe,
+            column,
+            copied,
+        } => {
             append_placed(out, 14, job, stripe, column)?;
             append_flag(out, copied)
         }
@@ -76,7 +137,16 @@ pub(crate) fn append_entry(out: &mut Vec<u8>, entry: &Entry) -> Result<(), Alloc
             append_number(out, to)
         }
         Entry::Counted { job } => append_lead(out, 17, job),
-        Entry::Put2 { job, stripe, column, digest, parity_digest, second_digest, kept, kept2 } => {
+        Entry::Put2 {
+            job,
+            stripe,
+            column,
+            digest,
+            parity_digest,
+            second_digest,
+            kept,
+            kept2,
+        } => {
             append_placed(out, 18, job, stripe, column)?;
             append_digest(out, digest)?;
             append_digest(out, parity_digest)?;

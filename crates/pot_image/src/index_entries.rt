@@ -36,7 +36,12 @@ fn read_find(bytes: &[u8], job: u32, name: Name) -> Result<(IndexEntry, &[u8]), 
 }
 
 /// What stands behind the name of an entry.
-fn read_behind_name(bytes: &[u8], job: u32, kind: u8, name: Name) -> Result<(IndexEntry, &[u8]), Fault>
+fn read_behind_name(
+    bytes: &[u8],
+    job: u32,
+    kind: u8,
+    name: Name,
+) -> Result<(IndexEntry, &[u8]), Fault>
     requires { kind ≤ 8 }
     ensures { Gives (λ x. (x.0, x.1.now)) result (reading (behind_name job kind name) bytes.now) }
 {

@@ -12,6 +12,7 @@ mod image;
 mod image_writing;
 mod index_entries;
 mod index_writing;
+mod laws;
 mod logs;
 mod names;
 mod places;
@@ -19,9 +20,12 @@ mod reading;
 mod records;
 mod slots;
 mod tables;
+#[cfg(test)]
+mod tests;
 mod writing;
 
 pub use fault::ImageFault;
 pub use image::Image;
 pub use image_writing::write_image;
+pub use laws::{GrammarShape, field_laws};
 pub use reading::read_image;

@@ -22,12 +22,20 @@ const LOG_ENTRIES: u32 = 262_144;
 const ENTRY_BYTES: usize = 5;
 
 /// The log of a group.
-fn read_group_log<'a>(alloc: Global, bytes: &'a [u8], format: Format, rack: &Rack) -> Result<(Vec<Entry>, &'a [u8]), Fault>
+fn read_group_log<'a>(
+    alloc: Global,
+    bytes: &'a [u8],
+    format: Format,
+    rack: &Rack,
+) -> Result<(Vec<Entry>, &'a [u8]), Fault>
     requires { IsRack rack.now }
     ensures { Gives (λ x. (x.0.items, x.1.now)) result (reading (group_log format rack.now) bytes.now) }
 {
     let (count, after_count) = read_at_most(bytes, LOG_ENTRIES)?;
-    let mut entries = Vec::with_capacity(alloc, (count as usize).min(after_count.len() / ENTRY_BYTES))?;
+    let mut entries = Vec::with_capacity(
+        alloc,
+        (count as usize).min(after_count.len() / ENTRY_BYTES),
+    )?;
     let mut rest = after_count;
     for _ in 0..count {
         let (entry, after) = read_entry(rest, format, rack)?;
@@ -58,11 +66,18 @@ pub(crate) fn read_group_logs<'a>(
 }
 
 /// The log of the index.
-pub(crate) fn read_index_log<'a>(alloc: Global, bytes: &'a [u8], format: Format) -> Result<(Vec<IndexEntry>, &'a [u8]), Fault>
+pub(crate) fn read_index_log<'a>(
+    alloc: Global,
+    bytes: &'a [u8],
+    format: Format,
+) -> Result<(Vec<IndexEntry>, &'a [u8]), Fault>
     ensures { Gives (λ x. (x.0.items, x.1.now)) result (reading (index_log format) bytes.now) }
 {
     let (count, after_count) = read_at_most(bytes, LOG_ENTRIES)?;
-    let mut entries = Vec::with_capacity(alloc, (count as usize).min(after_count.len() / ENTRY_BYTES))?;
+    let mut entries = Vec::with_capacity(
+        alloc,
+        (count as usize).min(after_count.len() / ENTRY_BYTES),
+    )?;
     let mut rest = after_count;
     for _ in 0..count {
         match read_index_entry(rest, format) {

@@ -54,7 +54,9 @@ fn is_filled(rack: &Rack, tables: &[GroupTable], place: Place) -> bool
     requires stripe { place.stripe < rack.now.stripes }
     ensures { result ≡ is_filled tables.now place.group place.column place.stripe }
 {
-    !tables[usize::from(place.group)].slot(place.stripe, place.column).is_void()
+    !tables[usize::from(place.group)]
+        .slot(place.stripe, place.column)
+        .is_void()
 }
 
 /// Stamps a place, and says whether it did not have this stamp before.

@@ -19,7 +19,11 @@ use std::alloc::Global;
 const LEAST_BYTES: usize = 48;
 
 /// The fields of an image, and the bytes behind them.
-fn read_fields<'a>(alloc: Global, bytes: &'a [u8], format: Format) -> Result<(Image, &'a [u8]), Fault>
+fn read_fields<'a>(
+    alloc: Global,
+    bytes: &'a [u8],
+    format: Format,
+) -> Result<(Image, &'a [u8]), Fault>
     ensures { Gives (λ x. (contents x.0, x.1.now)) result (reading (image format) bytes.now) }
 {
     let (head, after_head) = read_head(bytes, format)?;

@@ -277,7 +277,9 @@ fn read_counted<'a>(
     let mut rest = bytes;
     for number in 0..count {
         let last = u64::from(number) * 16;
-        let (record, after) = read_record(alloc, rest, format, rack, tables, &records, stamps, last)?;
+        let (record, after) = read_record(
+            alloc, rest, format, rack, tables, &records, stamps, last,
+        )?;
         records.push(record)?;
         rest = after;
     }
@@ -299,6 +301,14 @@ pub(crate) fn read_records<'a>(
     let (count, after_count) = read_at_most(bytes, RECORDS)?;
     let spots = usize::from(rack.groups) * rack.stripes as usize * usize::from(rack.columns);
     let mut stamps = Vec::from_elem(alloc, 0u64, spots)?;
-    let (records, rest) = read_counted(alloc, after_count, format, rack, tables, count, &mut stamps)?;
+    let (records, rest) = read_counted(
+        alloc,
+        after_count,
+        format,
+        rack,
+        tables,
+        count,
+        &mut stamps,
+    )?;
     Ok((records, rest))
 }

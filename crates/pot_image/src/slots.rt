@@ -12,7 +12,14 @@ use pot_machine::{Cursor, SlotState};
 use std::alloc::Global;
 
 /// Whether a slot behind others may be Void, or may be another.
-fn allows(rack: &Rack, cursor: Cursor, stripe: u32, column: u8, before: &[SlotState], void: bool) -> bool
+fn allows(
+    rack: &Rack,
+    cursor: Cursor,
+    stripe: u32,
+    column: u8,
+    before: &[SlotState],
+    void: bool,
+) -> bool
     requires rack { IsRack rack.now }
     requires before { length before.now ≡ stripe * (rack.now.columns + rack.now.parity) + column }
     ensures { result ≡ allows cursor rack.now.columns (rack.now.columns + rack.now.parity) before.now stripe column void }
@@ -89,7 +96,12 @@ fn read_stripe<'a>(
 }
 
 /// All slots of a table.
-pub(crate) fn read_slots<'a>(alloc: Global, bytes: &'a [u8], rack: &Rack, cursor: Cursor) -> Result<(Vec<SlotState>, &'a [u8]), Fault>
+pub(crate) fn read_slots<'a>(
+    alloc: Global,
+    bytes: &'a [u8],
+    rack: &Rack,
+    cursor: Cursor,
+) -> Result<(Vec<SlotState>, &'a [u8]), Fault>
     requires { IsRack rack.now }
     ensures reads { Gives (λ x. (x.0.items, x.1.now)) result (reading (slots cursor rack.now.columns (rack.now.columns + rack.now.parity) rack.now.stripes) bytes.now) }
     ensures count { IfOk result (λ x. length x.0.items ≡ rack.now.stripes * (rack.now.columns + rack.now.parity)) }

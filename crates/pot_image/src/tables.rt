@@ -54,7 +54,11 @@ fn read_table<'a>(
 }
 
 /// The tables of all groups.
-pub(crate) fn read_tables<'a>(alloc: Global, bytes: &'a [u8], rack: &Rack) -> Result<(Vec<GroupTable>, &'a [u8]), Fault>
+pub(crate) fn read_tables<'a>(
+    alloc: Global,
+    bytes: &'a [u8],
+    rack: &Rack,
+) -> Result<(Vec<GroupTable>, &'a [u8]), Fault>
     requires { IsRack rack.now }
     ensures { Gives (λ x. (x.0.items, x.1.now)) result (reading (tables rack.now) bytes.now) }
 {

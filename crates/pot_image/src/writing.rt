@@ -44,7 +44,12 @@ pub(crate) fn append_head(out: &mut Vec<u8>, session: u32, rack: &Rack) -> Resul
     let geometry = rack.geometry;
     append_number(out, session)?;
     out.extend_from_slice(&[rack.groups, rack.columns])?;
-    out.extend_from_slice(&[geometry.fragments, geometry.need, geometry.shards, geometry.blur])?;
+    out.extend_from_slice(&[
+        geometry.fragments,
+        geometry.need,
+        geometry.shards,
+        geometry.blur,
+    ])?;
     out.extend_from_slice(&[rack.parity, 0])?;
     append_number(out, rack.stripes)
 }
@@ -98,9 +103,7 @@ fn append_slot(out: &mut Vec<u8>, slot: SlotState) -> Result<(), AllocError>
     ensures { OnOk result (out.new.items ≡ out.old.items ++ slot_bytes slot) }
 {
     match slot {
-        SlotState::Void => {
-            out.extend_from_slice(&[0])
-        }
+        SlotState::Void => { out.extend_from_slice(&[0]) }
         SlotState::Live(digest) => {
             out.extend_from_slice(&[1])?;
             append_digest(out, digest)
