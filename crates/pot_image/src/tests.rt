@@ -228,6 +228,7 @@ fn the_first_format_is_read(rt: HostRuntime) -> Result<(), Fail> {
     let alloc = rt.alloc();
     let image = read_image(alloc, &EMPTY_FIRST).map_err(|_| "no image")?;
     assert_eq!(rt; image.rack.parity, 1);
+    assert!(rt; image.is_countable());
     let again = write_image(alloc, &image).map_err(|_| "no memory")?;
     assert!(rt;
         again.as_slice() == EMPTY.as_slice(),
