@@ -1,17 +1,17 @@
 -- The columns of a table that was read keep its rules.
-use Rattle.std.proofs.Common.{◌≡◌, ◌≢◌, ◌⊎◌, inl, inr, ◌<◌, ◌≤◌, ℕ, zero, suc, ◌+◌, ◌==◌, ◌&&◌, ◌||◌, nat_le, Bool, true, false, not, cond, if◌then◌else◌, IsTrue, IfSome, Option, Some, None, List, [], ◌∷◌, ◌++◌, length, get_or, flat_map, Result, Ok, Err, ap, ap₂, sym, ◌∙◌, refl, subst, arith, length-append, append_assoc, append-nil, eq-eqb}
+use Rattle.std.proofs.Common.{◌≡◌, ◌≢◌, ◌⊎◌, inl, inr, ◌<◌, ◌≤◌, ℕ, zero, suc, ◌+◌, ◌==◌, ◌||◌, nat_le, Bool, true, false, not, if◌then◌else◌, IfSome, Option, Some, None, List, [], ◌∷◌, ◌++◌, length, get_or, flat_map, Ok, ap, ap₂, sym, ◌∙◌, refl, subst, arith, length-append, append_assoc, append-nil, eq-eqb}
 use Rattle.std.specs.List.{list_any}
 use Rattle.std.proofs.Math.Seq.{get_or-append_seam}
 use Rattle.std.proofs.lemmas.List.{get_or_append_left}
 use Rattle.std.proofs.lemmas.Grind.{flat_map-append}
-use Rattle.std.proofs.lemmas.Bool.{leb-true, eqb-true}
+use Rattle.std.proofs.lemmas.Bool.{leb-true}
 use Rattle.pot_machine.specs.declared.column.Column.{Column}
 use Rattle.pot_machine.specs.declared.column.Moving.{Moving}
 use Rattle.pot_machine.specs.Column.{names, names_moved}
 use Rattle.pot_machine.specs.Table.{Table, width, column_at, no_column}
 use Rattle.pot_machine.specs.Rules.{HasColumns}
-use Rattle.pot_image.specs.Fields.{Grammar, done}
-use Rattle.pot_image.specs.Reading.{◌>>=◌, over, several, reading}
+use Rattle.pot_image.specs.Fields.{done}
+use Rattle.pot_image.specs.Reading.{◌>>=◌, reading}
 use Rattle.pot_image.specs.Numbers.{natural, at_most, zeros, flag}
 use Rattle.pot_image.specs.Tables.{numbers_of, is_free, moving, resting, column, column_behind, columns}
 use Rattle.pot_image.specs.Rules.{AreFree}

@@ -1,11 +1,9 @@
 -- What stands behind the kind of an entry.
-use Rattle.std.proofs.Common.{◌≡◌, ◌≤◌, ◌==◌, ℕ, List, Result, Ok, nat_le, Bool, true, false, cond, ap, sym, ◌∙◌, refl, arith}
+use Rattle.std.proofs.Common.{◌≡◌, ◌≤◌, ◌==◌, ℕ, List, Ok, nat_le, Bool, true, false, cond, ap, ◌∙◌, refl, arith}
 use Rattle.std.proofs.lemmas.Bool.{le-leb}
 use Rattle.pot_bytes.specs.declared.rack.Rack.{Rack}
-use Rattle.pot_machine.specs.declared.entry.Entry.{Entry}
-use Rattle.pot_index.specs.declared.entry.IndexEntry.{IndexEntry}
 use Rattle.pot_index.specs.declared.entry.IndexEntry.TheVariants.{Often}
-use Rattle.pot_image.specs.Fields.{Grammar, done}
+use Rattle.pot_image.specs.Fields.{done}
 use Rattle.pot_image.specs.Reading.{reading}
 use Rattle.pot_image.proofs.Once.{done_reads}
 use Rattle.pot_image.specs.Logs.{of_place, placed, entry_of, behind_name}

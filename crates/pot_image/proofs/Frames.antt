@@ -1,6 +1,5 @@
 -- What the answer to some bytes says of the reading of their fields.
-use Rattle.std.proofs.Common.{◌≡◌, ℕ, ◌+◌, ◌-◌, ◌<◌, ◌≤◌, List, [], ◌∷◌, length, Result, Ok, Err, ap, sym, ◌∙◌, refl, arith, subst, ◌==◌, Bool, true, false}
-use Rattle.std.proofs.lemmas.Bool.{eqb-true}
+use Rattle.std.proofs.Common.{◌≡◌, ℕ, ◌+◌, ◌-◌, ◌<◌, List, [], ◌∷◌, length, Result, Ok, Err, sym, refl, arith, subst, ◌==◌, false}
 use Rattle.std.proofs.lemmas.Bool.Decides.{nat_tests}
 use Rattle.pot_image.specs.declared.fault.ImageFault.{ImageFault}
 use Rattle.pot_image.specs.declared.fault.ImageFault.TheVariants.{Form}

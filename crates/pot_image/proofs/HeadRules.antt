@@ -1,13 +1,12 @@
 -- The head that was read keeps the limits of a rack.
-use Rattle.std.proofs.Common.{◌≡◌, ◌<◌, ◌≤◌, ℕ, ◌&&◌, nat_le, Bool, true, false, List, Result, Ok, Err, ap, sym, ◌∙◌, refl, subst, arith}
+use Rattle.std.proofs.Common.{◌≡◌, ◌≤◌, ℕ, ◌&&◌, nat_le, List, Ok, subst, arith}
 use Rattle.std.proofs.lemmas.Bool.{leb-true}
 use Rattle.pot_bytes.specs.declared.rack.Geometry.{Geometry}
-use Rattle.pot_bytes.specs.declared.rack.Rack.{Rack}
 use Rattle.pot_bytes.specs.Rack.{IsGeometry, IsRack}
 use Rattle.pot_image.specs.declared.format.Format.{Format}
 use Rattle.pot_image.specs.declared.format.Format.TheVariants.{First, Second}
 use Rattle.pot_image.specs.declared.head.Head.{Head}
-use Rattle.pot_image.specs.Fields.{Grammar, done}
+use Rattle.pot_image.specs.Fields.{done}
 use Rattle.pot_image.specs.Reading.{◌>>=◌, reading}
 use Rattle.pot_image.specs.Numbers.{natural, any, between, zeros}
 use Rattle.pot_image.specs.Heads.{geometry, parity, head}

@@ -1,5 +1,5 @@
 -- What is known of the parts where a whole was read.
-use Rattle.std.proofs.Common.{◌≡◌, ℕ, zero, suc, ◌+◌, ◌<◌, List, [], ◌∷◌, ◌++◌, Bool, true, false, cond, if◌then◌else◌, Result, Ok, Err, ap, sym, ◌∙◌, refl, subst, arith, add-zero}
+use Rattle.std.proofs.Common.{◌≡◌, ℕ, zero, suc, ◌+◌, ◌<◌, List, [], ◌∷◌, ◌++◌, Bool, true, false, cond, if◌then◌else◌, Result, Ok, Err, ap, sym, ◌∙◌, refl, subst, arith}
 use Rattle.pot_image.specs.Fields.{Grammar, done}
 use Rattle.pot_image.specs.Reading.{◌>>=◌, over, several, reading}
 use Rattle.pot_image.proofs.Once.{and_then, reading_then, done_reads, not_both, one_value}

@@ -1,7 +1,7 @@
 -- How the stamps of places say which places stand in a list.
-use Rattle.std.proofs.Common.{zero, suc, replicate, ◌≡◌, ◌⊎◌, inl, inr, ◌<◌, ◌≤◌, ℕ, ◌+◌, ◌*◌, ◌==◌, ◌&&◌, ◌||◌, Bool, true, false, not, cond, List, [], ◌∷◌, ◌++◌, length, get_or, set, ap, ap₂, sym, ◌∙◌, refl, subst, arith, eq-eqb, length-set}
+use Rattle.std.proofs.Common.{zero, suc, replicate, ◌≡◌, ◌⊎◌, inl, inr, ◌<◌, ◌≤◌, ℕ, ◌+◌, ◌*◌, ◌==◌, ◌&&◌, ◌||◌, Bool, true, false, not, List, [], ◌∷◌, ◌++◌, length, get_or, set, ap, ap₂, sym, ◌∙◌, refl, arith, eq-eqb, length-set}
 use Rattle.std.specs.List.{list_any}
-use Rattle.std.proofs.lemmas.List.{length-replicate, get_or-set_same, get_or-set_other}
+use Rattle.std.proofs.lemmas.List.{get_or-set_same, get_or-set_other}
 use Rattle.std.proofs.lemmas.List.Folds.{list_any-append}
 use Rattle.std.proofs.lemmas.Bool.{eqb-true}
 use Rattle.pot_bytes.specs.declared.rack.Geometry.{Geometry}

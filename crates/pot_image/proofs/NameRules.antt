@@ -1,5 +1,5 @@
 -- The bytes of a name.
-use Rattle.std.proofs.Common.{◌≡◌, ◌⊎◌, inl, inr, ◌≤◌, ◌<◌, ℕ, ◌&&◌, nat_le, Bool, true, false, cond, List, length, take, drop, Result, Ok, Err, ap, ap₂, sym, ◌∙◌, refl, arith, subst}
+use Rattle.std.proofs.Common.{◌≡◌, ◌⊎◌, inl, inr, ◌≤◌, ◌<◌, ℕ, ◌&&◌, nat_le, Bool, true, false, cond, List, length, take, drop, Result, Ok, Err, ap, ap₂, sym, ◌∙◌, arith, subst}
 use Rattle.std.specs.List.{list_all}
 use Rattle.std.proofs.lemmas.List.{length-take-le}
 use Rattle.std.proofs.lemmas.List.Sums.{AllPass-from_list_all, list_all-from_AllPass}

@@ -1,10 +1,10 @@
 -- Bytes are read in one way, and reading from the front finds it.
-use Rattle.std.proofs.Common.{append-nil, ◌-◌, ◌≡◌, ◌⊎◌, inl, inr, ℕ, zero, suc, ◌+◌, ◌<◌, ◌≤◌, ◌++◌, List, [], ◌∷◌, Bool, true, false, ◌&&◌, nat_le, cond, Result, Ok, Err, length, take, drop, refl, sym, ap, ap₂, ◌∙◌, subst, arith, append_assoc, length-append}
+use Rattle.std.proofs.Common.{append-nil, ◌-◌, ◌≡◌, ◌⊎◌, inl, inr, ℕ, ◌+◌, ◌<◌, ◌≤◌, ◌++◌, List, [], ◌∷◌, Bool, true, false, ◌&&◌, nat_le, cond, Result, Ok, Err, length, take, drop, refl, sym, ap, ap₂, ◌∙◌, arith, append_assoc, length-append}
 use Rattle.std.proofs.lemmas.List.{take-append-drop, length-take-le}
 use Rattle.std.proofs.lemmas.Bool.{le-leb, leb-true}
 use Rattle.std.proofs.Math.Seq.{take-append_seam, drop-append_seam}
-use Rattle.pot_image.specs.Fields.{Field, Grammar, done, wants, IsField, NoField, Reads, Breaks, joined, IsOf, LeavesAt}
-use Rattle.pot_image.specs.Reading.{◌>>=◌, over, stands, reading}
+use Rattle.pot_image.specs.Fields.{Field, Grammar, done, wants, IsField, Reads, Breaks, joined, IsOf, LeavesAt}
+use Rattle.pot_image.specs.Reading.{◌>>=◌, stands, reading}
 
 -- what follows a result that is Ok
 abbrev pub and_then : {X Y : Type 0} → Result X ℕ → (X → Result Y ℕ) → Result Y ℕ

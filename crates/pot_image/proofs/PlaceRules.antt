@@ -1,8 +1,7 @@
 -- The fields of a place.
-use Rattle.std.proofs.Common.{◌≡◌, ◌<◌, ◌≤◌, ℕ, ◌-◌, ◌*◌, ◌==◌, ◌&&◌, nat_le, Bool, true, false, List, Result, Ok, Err, ap, ap₂, sym, ◌∙◌, refl, subst, arith, eq-eqb}
+use Rattle.std.proofs.Common.{◌≡◌, ◌≤◌, ℕ, ◌*◌, ◌==◌, ◌&&◌, Bool, true, false, List, Ok, ap, ap₂, arith, eq-eqb}
 use Rattle.std.proofs.lemmas.Bool.{eqb-true, le-leb}
 use Rattle.pot_image.specs.declared.fault.Fault.{Fault}
-use Rattle.pot_image.specs.Fields.{Grammar}
 use Rattle.pot_image.specs.Reading.{reading}
 use Rattle.pot_image.specs.Numbers.{natural, between}
 use Rattle.pot_image.specs.Following.{Fails}

@@ -1,8 +1,8 @@
 -- The slots of a table that was read keep its rules.
-use Rattle.std.proofs.Common.{◌≡◌, ◌⊎◌, inl, inr, ◌<◌, ◌≤◌, ℕ, zero, suc, ◌+◌, ◌-◌, ◌*◌, ◌==◌, ◌&&◌, ◌||◌, nat_le, nat_lt, Bool, true, false, not, cond, if◌then◌else◌, IsTrue, List, [], ◌∷◌, ◌++◌, length, get_or, Result, Ok, Err, ap, ap₂, eq-eqb, sym, ◌∙◌, refl, subst, arith, length-append}
+use Rattle.std.proofs.Common.{◌≡◌, ◌⊎◌, inl, inr, ◌<◌, ◌≤◌, ℕ, zero, suc, ◌+◌, ◌-◌, ◌*◌, ◌==◌, ◌&&◌, ◌||◌, nat_le, nat_lt, Bool, true, false, not, cond, if◌then◌else◌, IsTrue, List, [], ◌∷◌, ◌++◌, length, get_or, Ok, ap, ap₂, eq-eqb, sym, ◌∙◌, refl, arith, length-append}
 use Rattle.std.proofs.Math.Seq.{get_or-append_seam}
 use Rattle.std.proofs.lemmas.List.{get_or_append_left}
-use Rattle.std.proofs.lemmas.Bool.{le-leb, leb-true, leb-false, lt-ltb, le-ltb}
+use Rattle.std.proofs.lemmas.Bool.{le-leb, leb-true, lt-ltb, le-ltb}
 use Rattle.std.proofs.lemmas.Bool.Decides.{nat_tests}
 use Rattle.pot_bytes.specs.declared.digest.Digest.{Digest}
 use Rattle.pot_machine.specs.declared.slot.SlotState.{SlotState}
@@ -12,8 +12,8 @@ use Rattle.pot_machine.specs.Slot.{is_void}
 use Rattle.pot_machine.specs.Table.{Table, width, slot_at}
 use Rattle.pot_machine.specs.Rules.{HasVoids}
 use Rattle.pot_machine.proofs.Places.{place_same, place_below}
-use Rattle.pot_image.specs.Fields.{Grammar, done}
-use Rattle.pot_image.specs.Reading.{◌>>=◌, over, several, reading}
+use Rattle.pot_image.specs.Fields.{done}
+use Rattle.pot_image.specs.Reading.{◌>>=◌, reading}
 use Rattle.pot_image.specs.Numbers.{natural, between, digest}
 use Rattle.pot_image.specs.Tables.{allows, state_of, slot, slot_behind, stripe_slots, slots}
 use Rattle.pot_image.proofs.Once.{test, both_true}

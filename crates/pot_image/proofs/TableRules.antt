@@ -1,5 +1,5 @@
 -- A table that was read keeps the rules of a table.
-use Rattle.std.proofs.Common.{◌⊎◌, inl, inr, All, get_or, length-append, append-nil, ◌≡◌, ◌<◌, ◌≤◌, ℕ, zero, suc, ◌+◌, ◌-◌, ◌*◌, ◌==◌, ◌&&◌, ◌||◌, nat_lt, nat_le, Bool, true, false, List, [], ◌∷◌, ◌++◌, length, flat_map, Result, Ok, Err, ap, ap₂, sym, ◌∙◌, refl, subst, arith}
+use Rattle.std.proofs.Common.{◌⊎◌, inl, inr, All, get_or, length-append, append-nil, ◌≡◌, ◌<◌, ◌≤◌, ℕ, ◌+◌, ◌-◌, ◌*◌, ◌==◌, ◌&&◌, ◌||◌, nat_lt, nat_le, Bool, true, false, List, [], ◌∷◌, ◌++◌, length, flat_map, Ok, ap, sym, ◌∙◌, refl, subst, arith}
 use Rattle.std.proofs.Math.Seq.{get_or-append_seam}
 use Rattle.std.proofs.lemmas.List.{get_or_append_left}
 use Rattle.std.proofs.lemmas.Grind.{flat_map-append}
@@ -11,11 +11,10 @@ use Rattle.pot_machine.specs.declared.slot.SlotState.{SlotState}
 use Rattle.pot_machine.specs.declared.cursor.Cursor.{Cursor}
 use Rattle.pot_machine.specs.Table.{Table, width}
 use Rattle.pot_machine.specs.Making.{table_of}
-use Rattle.pot_machine.specs.Rules.{IsTable}
 use Rattle.pot_image.specs.Fields.{done}
 use Rattle.pot_image.specs.Reading.{◌>>=◌, reading}
 use Rattle.pot_image.specs.Numbers.{natural, at_most, between, zeros}
-use Rattle.pot_image.specs.Tables.{numbers_of, cursor, columns, slots, table, table_behind, tables, table_numbers}
+use Rattle.pot_image.specs.Tables.{cursor, columns, slots, table, table_behind, tables, table_numbers}
 use Rattle.pot_image.specs.Rules.{AreFree, FitsTable, AreTables}
 use Rattle.pot_image.proofs.Once.{both_true}
 use Rattle.pot_image.proofs.Steps.{holds_of}

@@ -1,11 +1,10 @@
 -- How the bytes of a list grow by those of its values.
-use Rattle.std.proofs.Common.{Vec, Global, ap₂, map, length-append, ◌≡◌, ◌<◌, ◌≤◌, ℕ, suc, ◌+◌, ◌-◌, ◌*◌, List, [], ◌∷◌, ◌++◌, length, take, drop, get_or, flat_map, Result, Ok, Err, OnOk, ap, sym, ◌∙◌, refl, subst, arith, append_assoc, append-nil, add-one, length-drop, take_all}
+use Rattle.std.proofs.Common.{Vec, Global, ap₂, map, length-append, ◌≡◌, ◌<◌, ◌≤◌, ℕ, ◌+◌, ◌-◌, ◌*◌, List, [], ◌∷◌, ◌++◌, length, take, drop, get_or, flat_map, Result, Ok, Err, OnOk, ap, sym, ◌∙◌, refl, arith, append_assoc, append-nil, add-one, length-drop, take_all}
 use Rattle.std.proofs.Math.Seq.{take-suc, take-add, take-append_seam}
 use Rattle.std.proofs.Math.Nat.{mul-le-mul_right}
 use Rattle.std.proofs.lemmas.List.{get_or-drop, length-take-le}
 use Rattle.std.proofs.lemmas.Grind.{flat_map-append}
 use Rattle.pot_machine.specs.Table.{Table, width, slot_at}
-use Rattle.pot_machine.specs.declared.slot.SlotState.{SlotState}
 use Rattle.pot_machine.specs.declared.slot.SlotState.TheVariants.{Void}
 use Rattle.pot_machine.specs.Rules.{IsTable}
 use Rattle.pot_machine.proofs.Places.{place_below}

@@ -1,6 +1,6 @@
 -- A grammar of fields, one after another. What stands next depends on what was read: a grammar is done with a value, or
 -- wants a field of some size that keeps a rule, and goes on by the bytes of that field.
-use Rattle.std.specs.Prelude.{◌≡◌, ◌<◌, ◌++◌, ℕ, List, [], ◌∷◌, Bool, true, false, length}
+use Rattle.std.specs.Prelude.{◌≡◌, ◌<◌, ◌++◌, ℕ, List, [], ◌∷◌, Bool, true, length}
 
 -- a field: its size, and the rule that its bytes keep
 pub record Field : Type 0 where

@@ -1,7 +1,6 @@
 -- What stands before the tables of an image: the session and the rack.
 use Rattle.std.specs.Prelude.{ℕ, ◌&&◌, nat_le}
 use Rattle.pot_bytes.specs.declared.rack.Geometry.{Geometry}
-use Rattle.pot_bytes.specs.declared.rack.Rack.{Rack}
 use Rattle.pot_image.specs.declared.format.Format.{Format}
 use Rattle.pot_image.specs.declared.format.Format.TheVariants.{First, Second}
 use Rattle.pot_image.specs.declared.head.Head.{Head}

@@ -1,8 +1,7 @@
 -- The image of a desk: its fields, and how its bytes are answered.
-use Rattle.std.specs.Prelude.{◌≡◌, ◌≢◌, ◌⊎◌, ◌<◌, ◌≤◌, ℕ, ◌+◌, ◌-◌, List, [], ◌∷◌, Result, Ok, Err, MatchResult, length, take, drop, map}
+use Rattle.std.specs.Prelude.{◌≡◌, ◌≢◌, ◌⊎◌, ◌<◌, ◌≤◌, ℕ, ◌+◌, ◌-◌, List, [], ◌∷◌, Result, Err, MatchResult, length, take, drop, map}
 use Rattle.byteorder.specs.Endian.{big_number}
 use Rattle.pot_bytes.specs.Digests.{digest_bytes}
-use Rattle.pot_bytes.specs.declared.digest.Digest.{Digest}
 use Rattle.pot_bytes.specs.declared.rack.Rack.{Rack}
 use Rattle.pot_machine.specs.declared.entry.Entry.{Entry}
 use Rattle.pot_machine.specs.Table.{Table}

@@ -1,9 +1,8 @@
 -- The fields of an image that are numbers, flags and digests.
-use Rattle.std.specs.Prelude.{◌≡◌, ℕ, List, Bool, true, ◌==◌, ◌&&◌, nat_le}
+use Rattle.std.specs.Prelude.{ℕ, List, Bool, true, ◌==◌, ◌&&◌, nat_le}
 use Rattle.byteorder.specs.Endian.{big_number}
 use Rattle.pot_bytes.specs.declared.digest.Digest.{Digest}
-use Rattle.pot_image.specs.Fields.{Field, Grammar, done, wants}
-use Rattle.pot_image.specs.Reading.{◌>>=◌}
+use Rattle.pot_image.specs.Fields.{Grammar, done, wants}
 
 -- a number of so many bytes, the highest first, that keeps a rule
 unfoldable pub natural : ℕ → (ℕ → Bool) → Grammar ℕ

@@ -1,5 +1,5 @@
 -- Grammars one after another, and reading by them from the front.
-use Rattle.std.specs.Prelude.{◌≡◌, ℕ, zero, suc, ◌+◌, ◌++◌, List, [], ◌∷◌, Bool, ◌&&◌, nat_le, if◌then◌else◌, Result, Ok, Err, length, take, drop}
+use Rattle.std.specs.Prelude.{ℕ, zero, suc, ◌+◌, ◌++◌, List, [], ◌∷◌, Bool, ◌&&◌, nat_le, if◌then◌else◌, Result, Ok, Err, length, take, drop}
 use Rattle.pot_image.specs.Fields.{Field, Grammar, done, wants}
 
 -- one grammar, and then the other, which may depend on the value of the first

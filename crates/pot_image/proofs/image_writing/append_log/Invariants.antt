@@ -1,7 +1,6 @@
 use Rattle.std.proofs.Common.{◌≡◌, ◌++◌, flat_map, take, length}
 use Rattle.byteorder.specs.Endian.{big_bytes}
-use Rattle.pot_index.specs.Records.{record_bytes}
-use Rattle.pot_image.specs.Spelling.{table_bytes, entry_bytes, index_entry_bytes, counted_bytes}
+use Rattle.pot_image.specs.Spelling.{entry_bytes}
 use Rattle.pot_image.proofs.image_writing.append_log.Given as goal
 
 abbrev pub invariant-loop-entry : goal.invariant-loop-entry

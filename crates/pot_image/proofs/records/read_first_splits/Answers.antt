@@ -1,15 +1,12 @@
-use Rattle.pot_image.specs.Reading.{reading}
-use Rattle.std.proofs.Common.{eq-eqb, ap, sym, subst, ◌∙◌, ◌++◌, [], ◌∷◌, append_assoc, rules, arith, ◌≡◌, ◌≤◌, ◌<◌, ◌+◌, ◌-◌, ℕ, List, Result, Ok, Err, Bool, true, false, refl}
-use Rattle.pot_image.proofs.Once.{ok_then, done_reads}
-use Rattle.pot_image.proofs.Steps.{fails_then, fails_on, fails_as, exits, no_memory, fails_at, done_as, unequal, kept, refused, short, holds_of, between_of, narrowed, barred, cut_short, over_begins, over_on, over_fails, over_done, several_begins, several_on, several_fails, several_done, collected, gives_as, gives_on, chosen, not_chosen}
+use Rattle.std.proofs.Common.{sym, ◌∙◌, ◌≡◌, List}
+use Rattle.pot_image.proofs.Once.{ok_then}
+use Rattle.pot_image.proofs.Steps.{fails_then, exits, done_as}
 use Rattle.std.proofs.Common.{ap₂}
 use Rattle.pot_bytes.specs.declared.rack.Geometry.{Geometry}
 use Rattle.pot_bytes.specs.declared.rack.Place.{Place}
 use Rattle.pot_index.specs.declared.record.Split.{Split}
-use Rattle.pot_image.specs.declared.records.RecordSplits.{RecordSplits}
 use Rattle.pot_image.proofs.MarkRules.{splits_of}
-use Rattle.pot_image.specs.Records.{split, splits, split_behind, record_behind, records}
-use Rattle.pot_image.proofs.HeadRules.{geometry_kept}
+use Rattle.pot_image.specs.Records.{splits}
 use Rattle.pot_image.proofs.records.read_first_splits.Goals as goal
 
 splits_as : (a b : List Split) (g : Geometry) (ps qs : List Place) → a ≡ b → ps ≡ qs → splits_of a g ps ≡ splits_of b g qs

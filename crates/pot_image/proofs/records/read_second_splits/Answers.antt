@@ -1,15 +1,7 @@
-use Rattle.pot_image.specs.Reading.{reading}
-use Rattle.std.proofs.Common.{eq-eqb, ap, sym, subst, ◌∙◌, ◌++◌, [], ◌∷◌, append_assoc, rules, arith, ◌≡◌, ◌≤◌, ◌<◌, ◌+◌, ◌-◌, ℕ, List, Result, Ok, Err, Bool, true, false, refl}
+use Rattle.std.proofs.Common.{arith, ◌≤◌, ◌+◌, ◌-◌, ℕ}
 use Rattle.pot_image.proofs.Once.{ok_then, done_reads}
-use Rattle.pot_image.proofs.Steps.{fails_then, fails_on, fails_as, exits, no_memory, fails_at, done_as, unequal, kept, refused, short, holds_of, between_of, narrowed, barred, cut_short, over_begins, over_on, over_fails, over_done, several_begins, several_on, several_fails, several_done, collected, gives_as, gives_on, chosen, not_chosen}
-use Rattle.pot_image.specs.Records.{split, splits, split_behind, record_behind, records}
-use Rattle.pot_image.proofs.HeadRules.{geometry_kept}
-use Rattle.std.proofs.Common.{drop}
-use Rattle.pot_object.specs.Pieces.{longest}
-use Rattle.std.proofs.lemmas.Bool.{leb-true}
-use Rattle.pot_image.specs.Numbers.{natural, at_most}
-use Rattle.pot_image.specs.Records.{name, is_above}
-use Rattle.pot_image.specs.Marks.{AreStamps}
+use Rattle.pot_image.proofs.Steps.{fails_then, fails_on, exits, between_of}
+use Rattle.pot_image.specs.Records.{splits}
 use Rattle.pot_image.proofs.MarkRules.{stamps_below}
 use Rattle.pot_image.proofs.records.read_second_splits.Goals as goal
 
