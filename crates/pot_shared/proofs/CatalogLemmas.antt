@@ -1,6 +1,6 @@
 -- What passes have seen stays seen, and what the calls of an index leave of its log.
-use Rattle.std.proofs.Common.{◌≡◌, ◌<◌, ◌⊎◌, inl, inr, ℕ, zero, suc, List, [], ◌∷◌, ◌++◌, Bool, true, false, length, get_or, refl, ap, sym, ◌∙◌, subst, arith, append-nil}
-use Rattle.std.specs.Prelude.{Contains, Option, Some, None, Result, Ok, Err, Vec, map}
+use Rattle.std.proofs.Common.{◌≡◌, ◌<◌, ◌⊎◌, inl, inr, ℕ, zero, suc, List, [], ◌∷◌, ◌++◌, length, ap, sym, ◌∙◌, subst, arith, append-nil}
+use Rattle.std.specs.Prelude.{Contains, Some, None, Result, Ok, Err, Vec}
 use Rattle.std.specs.Global.{Global}
 use Rattle.std.proofs.lemmas.List.{map-append}
 use Rattle.std.proofs.lemmas.List.Elements.{Contains-append_left}
@@ -19,12 +19,11 @@ use Rattle.pot_index.specs.declared.fault.ReserveFault.TheVariants as reserve_fa
 use Rattle.pot_index.specs.declared.listed.Listed.{Listed}
 use Rattle.pot_index.specs.declared.record.Record.{Record}
 use Rattle.pot_index.specs.Calls.{Reserves, Finds, ListsNames, published_by}
-use Rattle.pot_index.specs.Entries.{plain, bringing, brings}
+use Rattle.pot_index.specs.Entries.{plain, bringing}
 use Rattle.pot_index.specs.Index.{IndexView, logged}
 use Rattle.pot_index.specs.Records.{mark_of}
 use Rattle.pot_turn.specs.declared.name.TurnName.{TurnName}
 use Rattle.pot_turn.specs.Logs.{StartsWith}
-use Rattle.pot_worked.specs.Worked.{KnowsMore}
 use Rattle.pot_rows.specs.Rows.{AreOf, HasMoreParts, view_at}
 use Rattle.pot_rows.specs.Ties.{RowTied}
 use Rattle.pot_shared.specs.Members.{entries_of}

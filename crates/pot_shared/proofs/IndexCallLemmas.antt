@@ -1,5 +1,5 @@
 -- One locked call of the index, step by step.
-use Rattle.std.proofs.Common.{◌≡◌, ◌<◌, ℕ, zero, suc, Bool, true, false, List, [], ◌∷◌, ◌++◌, length, refl, ap, sym, ◌∙◌, subst, arith, set, append-nil}
+use Rattle.std.proofs.Common.{◌≡◌, ◌<◌, ℕ, zero, suc, false, List, [], ◌∷◌, ◌++◌, length, refl, ap, sym, ◌∙◌, subst, arith, set, append-nil}
 use Rattle.std.specs.Prelude.{Any, Some, Result, Ok, Err}
 use Rattle.std.proofs.lemmas.List.{map-append, length-append}
 use Rattle.pot_rows.proofs.Lists.{get_or_front}
@@ -7,13 +7,12 @@ use Rattle.pot_bytes.specs.declared.rack.Rack.{Rack}
 use Rattle.pot_index.specs.declared.entry.Logged.{Logged}
 use Rattle.pot_index.specs.declared.record.Record.{Record}
 use Rattle.pot_index.specs.Entries.{entries, IsReserving}
-use Rattle.pot_index.specs.Index.{IndexView, IsIndex, logged}
+use Rattle.pot_index.specs.Index.{IndexView, IsIndex}
 use Rattle.pot_turn.specs.declared.name.TurnName.{TurnName}
 use Rattle.pot_turn.specs.Logs.{StartsWith}
 use Rattle.pot_turn.specs.Views.{took_view, left_view}
 use Rattle.pot_rows.specs.Rows.{AreOf, view_at, with_view}
 use Rattle.pot_rows.proofs.RowLemmas.{at_set, still_of}
-use Rattle.pot_shared.specs.declared.catalog.CatalogOrigin.{CatalogOrigin}
 use Rattle.pot_shared.specs.declared.catalog.Strange.{Strange}
 use Rattle.pot_shared.specs.Catalogs.{CatalogView, IndexPass, IndexPasses, IsIndexReady, IsIndexOf, origin_of}
 use Rattle.pot_shared.specs.IndexCalls.{IndexCall, HasReserved, Abandons, PublishesRecord}

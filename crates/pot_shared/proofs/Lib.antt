@@ -3,3 +3,5 @@ mod CallLemmas
 mod CatalogLemmas
 mod IndexCallLemmas
 mod SharingLemmas
+mod EndLemmas
+mod StartLemmas

@@ -1,9 +1,9 @@
 -- New passes of the turns of a vault.
-use Rattle.std.proofs.Common.{◌≡◌, ◌<◌, ◌⊎◌, inl, inr, ℕ, List, length, false, refl, ap, sym, ◌∙◌, subst, arith}
+use Rattle.std.proofs.Common.{◌<◌, inl, inr, ℕ, List, length, ap, sym, subst, arith}
 use Rattle.pot_bytes.specs.declared.rack.Rack.{Rack}
 use Rattle.pot_turn.specs.declared.name.TurnName.{TurnName}
 use Rattle.pot_rows.specs.Parts.{RowNew}
-use Rattle.pot_rows.specs.Rows.{AreOf, view_at}
+use Rattle.pot_rows.specs.Rows.{AreOf}
 use Rattle.pot_rows.proofs.RowLemmas.{at_past, below_or_past}
 use Rattle.pot_shared.specs.Ready.{GroupPass, GroupPasses, AreReady, IsOrigin}
 use Rattle.pot_shared.specs.Catalogs.{IndexPass, IndexPasses, IsIndexReady, IsIndexOf}

@@ -1,5 +1,5 @@
 -- What the contracts see of an index under its turn, with the passes that it keeps.
-use Rattle.std.specs.Prelude.{◌≡◌, ◌<◌, ℕ, List, [], false, Some, Option, IfSome, Contains, length}
+use Rattle.std.specs.Prelude.{◌≡◌, ◌<◌, ℕ, List, [], false, Option, IfSome, Contains, length}
 use Rattle.pot_bytes.specs.declared.rack.Rack.{Rack}
 use Rattle.pot_index.specs.declared.entry.IndexEntry.TheVariants.{Publish}
 use Rattle.pot_index.specs.declared.entry.Logged.{Logged}

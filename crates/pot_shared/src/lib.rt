@@ -8,12 +8,16 @@
 #![tactic(auto)]
 
 mod catalog;
+mod ending;
 mod grouping;
 mod indexing;
 mod member;
 mod sharing;
+mod starting;
 mod vault;
 
 pub use catalog::{Catalog, CatalogOrigin, Strange};
+pub use ending::Closed;
 pub use member::{GroupOrigin, Logged, Member};
+pub use starting::VaultRefused;
 pub use vault::{Passes, Vault};

@@ -14,6 +14,10 @@ pub struct Vault<A: Archive> {
     pub groups: Turns<Member<A>>,
     /// The turn of the index, alone in its row.
     pub index: Turns<Catalog<A>>,
+    /// Room for the groups at the end.
+    pub members: Vec<Member<A>>,
+    /// Room for the index at the end.
+    pub catalogs: Vec<Catalog<A>>,
 }
 
 /// What a job has of a vault: a pass of each turn.

@@ -1,8 +1,7 @@
 use Rattle.std.proofs.Common.{ap}
 use Rattle.pot_shared.specs.Ready.{GroupPasses}
 use Rattle.pot_shared.specs.IndexCalls.{Abandons}
-use Rattle.pot_shared.proofs.CatalogLemmas.{keeps_small}
-use Rattle.pot_shared.proofs.IndexCallLemmas.{grown, same_origin, called, ready_again, abandons_on}
+use Rattle.pot_shared.proofs.IndexCallLemmas.{grown, called, abandons_on}
 use Rattle.pot_shared.proofs.vault.Vault.abandon.Goals as goal
 
 pub leave-requires-clause-grown : goal.leave-requires-clause-grown

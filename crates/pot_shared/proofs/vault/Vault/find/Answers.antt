@@ -1,6 +1,6 @@
 use Rattle.pot_shared.specs.IndexCalls.{FindsRecord}
 use Rattle.pot_shared.proofs.CatalogLemmas.{finds_small}
-use Rattle.pot_shared.proofs.IndexCallLemmas.{grown, same_origin, called, ready_again, small_on}
+use Rattle.pot_shared.proofs.IndexCallLemmas.{grown, called, small_on}
 use Rattle.pot_shared.proofs.vault.Vault.find.Goals as goal
 
 pub leave-requires-clause-grown : goal.leave-requires-clause-grown

@@ -2,7 +2,7 @@ use Rattle.std.proofs.Common.{ap}
 use Rattle.pot_shared.specs.Ready.{GroupPasses}
 use Rattle.pot_shared.specs.IndexCalls.{ListsAll}
 use Rattle.pot_shared.proofs.CatalogLemmas.{lists_small}
-use Rattle.pot_shared.proofs.IndexCallLemmas.{grown, same_origin, called, ready_again, small_on}
+use Rattle.pot_shared.proofs.IndexCallLemmas.{grown, called, small_on}
 use Rattle.pot_shared.proofs.vault.Vault.names.Goals as goal
 
 pub leave-requires-clause-grown : goal.leave-requires-clause-grown

@@ -1,6 +1,5 @@
 use Rattle.pot_shared.specs.IndexCalls.{PublishesRecord}
-use Rattle.pot_shared.proofs.CatalogLemmas.{keeps_small}
-use Rattle.pot_shared.proofs.IndexCallLemmas.{grown, same_origin, called, ready_again, publishes_on}
+use Rattle.pot_shared.proofs.IndexCallLemmas.{grown, called, publishes_on}
 use Rattle.pot_shared.proofs.vault.Vault.publish.Goals as goal
 
 pub leave-requires-clause-grown : goal.leave-requires-clause-grown

@@ -1,0 +1,164 @@
+-- How a vault is made.
+use Rattle.std.proofs.Common.{◌≡◌, ◌<◌, ◌+◌, ◌-◌, inl, inr, ℕ, Bool, true, false, List, [], ◌∷◌, ◌++◌, length, refl, ap, sym, ◌∙◌, subst, arith, append-nil, cond}
+use Rattle.std.specs.Prelude.{nat_lt, map, slice_get, Some, option_map, ◌^◌}
+use Rattle.std.proofs.lemmas.List.{length-map}
+use Rattle.std.proofs.lemmas.Option.{slice_get-map, slice_get_cases, slice_get_within, get_or_from_slice_get, same_Some}
+use Rattle.pot_group.specs.Group.{GroupView}
+use Rattle.pot_bytes.specs.declared.rack.Rack.{Rack}
+use Rattle.pot_index.specs.Index.{IndexView}
+use Rattle.pot_turn.specs.declared.name.TurnName.{TurnName}
+use Rattle.pot_turn.specs.declared.view.Stretch.{Stretch}
+use Rattle.pot_turn.specs.Logs.{longer}
+use Rattle.pot_turn.specs.Views.{first_view, cut_view, new_view, both_views, spent_view}
+use Rattle.pot_rows.specs.Ends.{HasAllParts, RowClosed}
+use Rattle.pot_rows.specs.Parts.{RowCut, RowNew, RowJoined}
+use Rattle.pot_rows.specs.Rows.{AreOf, HasMoreParts, IsIdle, view_at}
+use Rattle.pot_rows.proofs.RowLemmas.{at_past, below_or_past}
+use Rattle.pot_shared.specs.declared.member.Logged.{Logged}
+use Rattle.pot_shared.specs.declared.catalog.CatalogOrigin.{CatalogOrigin}
+use Rattle.pot_shared.specs.Members.{kept_log, origin_of as group_origin}
+use Rattle.pot_shared.specs.Ready.{GroupPass, GroupPasses, AreReady, IsOrigin}
+use Rattle.pot_shared.specs.Catalogs.{KeepsSeen, Publishes, IndexPasses, IsIndexReady, IsIndexOf}
+use Rattle.pot_shared.specs.Sharing.{SameAt, HasAllButKept, IsGroupOf, AreFirst, HaveLogs}
+use Rattle.pot_shared.proofs.SharingLemmas.{new_ready}
+
+-- an index that has published nothing, with new passes of two parts each
+pub keeps_first : (rack : Rack) (names : List TurnName) (old kept : GroupPasses) (index : IndexView) → AreReady rack names old → AreOf names kept → RowNew 2 old kept
+    → index.rack ≡ rack → index.log ≡ [] → length names ≡ rack.groups → KeepsSeen (record { index = index; kept = kept })
+keeps_first rack names old kept index ready of new same log count = record {
+  groups = ap length of.0 ∙ (count ∙ sym (ap (λ (r : Rack). r.groups) same));
+  ready = subst (λ r. AreReady r kept.names kept) (sym same) (subst (λ ns. AreReady rack ns kept) (sym of.0) (new_ready rack names 2 old kept ready of new));
+  kept = (λ g lt. (let is = new g (let a = ap length ready.of.0 in let b = ap length of.0 in omega (arith, lt, a, b)) in (
+    ap (λ (v : GroupPass). v.parts) is,
+    ap (λ (v : GroupPass). v.turns) is,
+    ap (λ (v : GroupPass). v.joined) is,
+    ap (λ (v : GroupPass). v.made) is,
+  )));
+  seen = (λ r p. absurd (let q = subst (λ l. Publishes l r) log p in let lt = q.1.1 in omega (arith, lt)));
+}
+
+longer_self : {X : Type 0} (xs : List X) → longer xs xs ≡ xs
+longer_self xs = either (nat_lt (length xs) (length xs))
+  where
+    either : (b : Bool) → cond b xs xs ≡ xs
+    either true = refl
+    either false = refl
+
+-- the parts that were given come back
+abbrev with_parts : GroupPass → List Logged → List Stretch → ℕ → ℕ → GroupPass
+with_parts v seen joined made parts = record { holds = v.holds; opened = v.opened; seen = seen; turns = v.turns; joined = joined; made = made; parts = parts; origin = v.origin }
+
+one_back : (v : GroupPass) → 2 < v.parts → both_views (cut_view 2 v) (new_view 2 v) ≡ v
+one_back v some =
+    ap (λ s. with_parts v s (v.joined ++ []) (v.made + 0) ((v.parts - 2) + 2)) (longer_self v.seen)
+    ∙ (ap (λ j. with_parts v v.seen j (v.made + 0) ((v.parts - 2) + 2)) (append-nil v.joined)
+    ∙ (ap (λ m. with_parts v v.seen v.joined m ((v.parts - 2) + 2)) (let e : v.made + 0 ≡ v.made = omega arith in e)
+    ∙ ap (λ p. with_parts v v.seen v.joined v.made p) (let e : (v.parts - 2) + 2 ≡ v.parts = omega (arith, some) in e)))
+
+pub back_again : (names : List TurnName) (old cut kept new : GroupPasses) → AreOf names old → AreOf names cut → AreOf names kept → AreOf names new
+    → RowCut 2 old cut → RowNew 2 old kept → RowJoined cut kept new → HasMoreParts 2 old → SameAt old new
+back_again names old cut kept new of of_cut of_kept of_new is_cut is_new joined some at = elim (below_or_past at (length names)) [
+  | inl lt ↦
+      let within : at < length old.names = (let l = ap length of.0 in omega (arith, lt, l)) in
+      (joined at).both ∙ (ap (λ (v : GroupPass). both_views v (view_at kept at)) (is_cut at within) ∙ (ap (λ (w : GroupPass). both_views (cut_view 2 (view_at old at)) w) (is_new at within)
+      ∙ one_back (view_at old at) (some at within)))
+  | inr le ↦ at_past names new at of_new le ∙ sym (at_past names old at of le)
+]
+
+-- THE FIRST PASSES
+
+module _ {M : Type 0} (see : M → GroupView) (members : List M) (rack : Rack) (names : List TurnName) (row : GroupPasses) (of : AreOf names row)
+    (first : row.views ≡ map (λ m. first_view (kept_log (see m)) (group_origin (see m))) members)
+    (are : (n : ℕ) (m : M) → slice_get members n ≡ Some m → IsGroupOf rack n (see m)) where
+  abbrev begun : M → GroupPass
+  begun m = first_view (kept_log (see m)) (group_origin (see m))
+
+  begun_at : (n : ℕ) (m : M) → slice_get members n ≡ Some m → view_at row n ≡ begun m
+  begun_at n m at = get_or_from_slice_get row.views n (begun m) spent_view (subst (λ vs. slice_get vs n ≡ Some (begun m)) (sym first) (slice_get-map begun members n ∙ ap (option_map begun) at))
+
+  pub as_many : length names ≡ length members
+  as_many = sym of.1 ∙ (ap length first ∙ length-map members begun)
+
+  pub first_ready : AreReady rack names row
+  first_ready = record {
+    of = of;
+    idle = (λ g. elim (slice_get_cases members g).1 [
+      | inl x ↦ ap (λ (v : GroupPass). v.holds) (begun_at g x.0 x.2)
+      | inr p ↦ ap (λ (v : GroupPass). v.holds) (at_past names row g of (let l = as_many in let q = p.0 in omega (arith, l, q)))
+    ]);
+    origins = (λ g lt. elim (slice_get_cases members g).1 [
+      | inl x ↦ subst (λ o. IsOrigin rack g o) (sym (ap (λ (v : GroupPass). v.origin) (begun_at g x.0 x.2))) (are g x.0 x.2)
+      | inr p ↦ absurd (let l = as_many in let q = p.0 in omega (arith, l, q, lt))
+    ]);
+  }
+
+  within : (g : ℕ) → g < length row.names → g < length members
+  within g lt = (let l = as_many in let m = ap length of.0 in omega (arith, lt, l, m))
+
+  all_parts : (g : ℕ) → g < length row.names → (view_at row g).parts ≡ 2 ^ 62
+  all_parts g lt = elim (slice_get_cases members g).1 [
+    | inl x ↦ ap (λ (v : GroupPass). v.parts) (begun_at g x.0 x.2)
+    | inr p ↦ absurd (let q = p.0 in let w = within g lt in omega (arith, q, w))
+  ]
+
+  pub more_parts : HasMoreParts 2 row
+  more_parts g lt = (let p = all_parts g lt in omega (arith, p))
+
+  -- WHERE THE INDEX HAS ITS PARTS
+  module _ (cut : GroupPasses) (of_cut : AreOf names cut) (is : RowCut 2 row cut) where
+    names_long : length names ≡ length row.names
+    names_long = ap length (sym of.0)
+
+    pub cut_ready : AreReady rack names cut
+    cut_ready = record {
+      of = of_cut;
+      idle = (λ g. elim (below_or_past g (length names)) [
+        | inl lt ↦ ap (λ (v : GroupPass). v.holds) (is g (let l = names_long in omega (arith, lt, l))) ∙ first_ready.idle g
+        | inr le ↦ ap (λ (v : GroupPass). v.holds) (at_past names cut g of_cut le)
+      ]);
+      origins = (λ g lt. subst (λ o. IsOrigin rack g o) (sym (ap (λ (v : GroupPass). v.origin) (is g (let l = names_long in omega (arith, lt, l))))) (first_ready.origins g lt));
+    }
+
+    pub all_but_kept : HasAllButKept cut
+    all_but_kept g lt =
+        let here : g < length row.names = (let l = names_long in let m = ap length of_cut.0 in omega (arith, lt, l, m)) in
+        let p = ap (λ (v : GroupPass). v.parts) (is g here) in
+        let q = all_parts g here in
+        omega (arith, p, q)
+
+    pub are_first : AreFirst see members cut
+    are_first n m at =
+        is n (let w = slice_get_within members n m at in let l = as_many in let k = names_long in omega (arith, w, l, k)) ∙ ap (λ (v : GroupPass). cut_view 2 v) (begun_at n m at)
+
+  -- WHERE THE GROUPS COME BACK
+  module _ (back : GroupPasses) (of_back : AreOf names back) (same : SameAt row back) where
+    pub back_idle : IsIdle back
+    back_idle g lt = ap (λ (v : GroupPass). v.holds) (same g) ∙ first_ready.idle g
+
+    pub back_parts : HasAllParts back
+    back_parts g lt = ap (λ (v : GroupPass). v.parts) (same g) ∙ all_parts g (let a = ap length of_back.0 in let b = ap length of.0 in omega (arith, lt, a, b))
+
+    pub have_logs : (new : List M) → RowClosed (λ m. kept_log (see m)) (λ m. group_origin (see m)) back new → HaveLogs see members new
+    have_logs new closed = (
+      closed.count ∙ (ap length of_back.0 ∙ as_many),
+      λ n m h at now.
+          (let one = closed.each n h now in let v = same n ∙ begun_at n m at in (
+            one.seen ∙ ap (λ (w : GroupPass). w.seen) v,
+            same_Some (group_origin (see h)) (group_origin (see m)) (one.named ∙ ap (λ (w : GroupPass). w.origin) v),
+          )),
+    )
+
+-- the one pass of the index
+pub index_ready : (rack : Rack) (names turn : List TurnName) (row : IndexPasses) (o : CatalogOrigin) → AreOf turn row → row.views ≡ first_view [] o ∷ [] → o.rack ≡ rack → o.names ≡ names
+    → IsIndexReady rack names turn row
+index_ready rack names turn row o of is on_rack on_names = record {
+  of = of;
+  one = sym of.1 ∙ ap length is;
+  idle = (λ k lt. (let one = sym of.1 ∙ ap length is in let z : k ≡ 0 = omega (arith, lt, one) in subst (λ n. (view_at row n).holds ≡ false) (sym z) (ap (λ vs. (view_at (record row { views = vs }) 0).holds) is)));
+  origin = subst (λ vs. IsIndexOf rack names (view_at (record row { views = vs }) 0).origin) (sym is) (on_rack, on_names);
+}
+
+pub index_parts : (turn : List TurnName) (row : IndexPasses) (o : CatalogOrigin) → AreOf turn row → row.views ≡ first_view [] o ∷ [] → HasAllParts row
+index_parts turn row o of is k lt =
+    let one = sym of.1 ∙ ap length is in let m = ap length of.0 in let z : k ≡ 0 = omega (arith, lt, one, m) in
+    subst (λ n. (view_at row n).parts ≡ 2 ^ 62) (sym z) (ap (λ vs. (view_at (record row { views = vs }) 0).parts) is)
