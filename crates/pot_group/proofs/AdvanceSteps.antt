@@ -1,24 +1,24 @@
 -- An advance as a step of a group.
-use Rattle.std.proofs.Common.{◌≡◌, ◌≢◌, ◌⊎◌, inl, inr, ℕ, ◌+◌, ◌<◌, ◌≤◌, ◌++◌, List, [], ◌∷◌, Option, Some, None, IsSomeAnd, true, false, Bool, IsTrue, length, length-append, map, refl, sym, ap, ap₂, ◌∙◌, subst, arith}
+use Rattle.std.proofs.Common.{◌≡◌, ◌≢◌, ◌⊎◌, inl, inr, ℕ, ◌+◌, ◌<◌, ◌≤◌, ◌++◌, List, [], ◌∷◌, Option, Some, None, IsSomeAnd, true, false, IsTrue, length, length-append, refl, sym, ap, ◌∙◌, subst, arith}
 use Rattle.std.specs.Prelude.{Ok, Err, Result}
-use Rattle.pot_outside.specs.Archives.{FoldTells, HearsFold, Meaning}
+use Rattle.pot_outside.specs.Archives.{HearsFold, Meaning}
 use Rattle.pot_outside.specs.declared.archive.Held.TheVariants.{Held, Absent}
 use Rattle.pot_outside.specs.declared.faults.Failed.{Failed}
 use Rattle.pot_machine.specs.declared.entry.Entry.{Entry}
 use Rattle.pot_machine.specs.declared.entry.Entry.TheVariants.{Hop, GaveUp, Fault}
 use Rattle.pot_machine.specs.Slot.{is_live, digest_in}
-use Rattle.pot_machine.specs.Table.{Table, width, slot_at, serving_at, relay_at, next_column}
+use Rattle.pot_machine.specs.Table.{Table, slot_at, serving_at, relay_at, next_column}
 use Rattle.pot_machine.specs.Machine.{Legal, after}
 use Rattle.pot_steps.specs.declared.flight.Flight.{Flight}
 use Rattle.pot_steps.specs.Stripe.{Sound, digest_of}
 use Rattle.pot_steps.specs.Flight.{unfolded, weight_in}
-use Rattle.pot_steps.specs.Flights.{Acts, flight_in, flights_after, flown}
+use Rattle.pot_steps.specs.Flights.{Acts, flight_in, flights_after}
 use Rattle.pot_steps.specs.Holdings.{stripe_of}
 use Rattle.pot_steps.specs.GroupStep.{GroupState, log_bound}
-use Rattle.pot_steps.specs.RelaySteps.{Logged, AdvanceStep, Hopped, Ended, Faulted, Idle, HearsSum, Hears, HeardStays, ComesTo, Unchanged}
+use Rattle.pot_steps.specs.RelaySteps.{Logged, AdvanceStep, Hopped, Ended, Faulted, Idle, HearsSum, Hears, ComesTo}
 use Rattle.pot_steps.proofs.CallLemmas.{stands, next_within}
 use Rattle.pot_steps.proofs.FlightLists.{relay_of, relay_of_flight, over_stripe}
-use Rattle.pot_group.specs.Shelves.{Shelves, LosesFrom, Keeps, Folds}
+use Rattle.pot_group.specs.Shelves.{Shelves, LosesFrom, Folds}
 use Rattle.pot_outside.specs.declared.archive.Held.{Held as IsHeld}
 use Rattle.pot_group.specs.Shelves.{Shelved, plain}
 use Rattle.pot_group.specs.Group.{view_of, noted, with_archives}

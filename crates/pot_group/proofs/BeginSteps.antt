@@ -1,5 +1,5 @@
 -- A begin as a step of a group, and why no relay begins where nothing else is in the way: 16 stand.
-use Rattle.std.proofs.Common.{◌≡◌, ◌≢◌, ◌⊎◌, inl, inr, ℕ, zero, suc, ◌+◌, ◌<◌, ◌≤◌, ◌++◌, append-nil, List, [], ◌∷◌, Option, Some, None, IsSomeAnd, true, false, Bool, IsTrue, not, ◌&&◌, nat_eq, nat_le, if◌then◌else◌, length, length-append, refl, sym, ap, ◌∙◌, subst, arith}
+use Rattle.std.proofs.Common.{◌≡◌, ◌⊎◌, inl, inr, ℕ, ◌+◌, ◌<◌, ◌≤◌, ◌++◌, append-nil, List, [], ◌∷◌, Option, Some, None, true, false, Bool, IsTrue, not, ◌&&◌, nat_le, if◌then◌else◌, length, length-append, refl, sym, subst, arith}
 use Rattle.std.specs.Prelude.{Ok, Err, Result, ◌==◌, is_some}
 use Rattle.std.proofs.lemmas.Bool.Decides.{nat_tests}
 use Rattle.pot_outside.specs.Archives.{Meaning}
@@ -8,7 +8,7 @@ use Rattle.pot_machine.specs.declared.slot.SlotState.TheVariants.{Void, Live, Lo
 use Rattle.pot_machine.specs.declared.entry.Entry.{Entry}
 use Rattle.pot_machine.specs.declared.entry.Entry.TheVariants.{Begin, Stuck}
 use Rattle.pot_machine.specs.Slot.{is_unsound, is_lost, is_broken}
-use Rattle.pot_machine.specs.Table.{Table, width, slot_at, relay_at, first, first_beside, count, count_beside, least}
+use Rattle.pot_machine.specs.Table.{Table, width, slot_at, relay_at, first, first_beside, count_beside, least}
 use Rattle.pot_machine.specs.Rules.{IsTable}
 use Rattle.pot_machine.specs.Machine.{Legal, after, stuck_by, IsRebuilt}
 use Rattle.pot_machine.proofs.Searches.{least_none, none_counted}
@@ -20,9 +20,8 @@ use Rattle.pot_steps.specs.GroupStep.{GroupState, log_bound}
 use Rattle.pot_steps.specs.RelaySteps.{Logged, BeginStep, Unchanged}
 use Rattle.pot_group.specs.declared.relaying.BeginFault.{BeginFault}
 use Rattle.pot_group.specs.declared.relaying.BeginFault.TheVariants as fault
-use Rattle.pot_group.specs.Shelves.{Shelved, plain}
-use Rattle.pot_group.specs.Group.{GroupView, GroupParts, IsSettled, view_of, state_of, noted}
-use Rattle.pot_group.specs.Relaying.{acted, begin_as, BeginMeans}
+use Rattle.pot_group.specs.Group.{GroupView, GroupParts, IsSettled, view_of, state_of}
+use Rattle.pot_group.specs.Relaying.{begin_as, BeginMeans}
 
 -- NOTHING ELSE IS IN THE WAY
 

@@ -1,18 +1,17 @@
 -- An archive that comes to a group.
-use Rattle.std.proofs.Common.{◌≡◌, ◌≢◌, ◌⊎◌, inl, inr, ℕ, zero, suc, ◌+◌, ◌-◌, ◌^◌, ◌<◌, ◌≤◌, ◌++◌, ◌==◌, List, [], ◌∷◌, Option, Some, None, Bool, true, false, IsTrue, length, map, cond, get_or, refl, sym, ap, ap₂, ◌∙◌, subst, arith}
+use Rattle.std.proofs.Common.{◌≡◌, ◌≢◌, ◌⊎◌, inl, inr, ℕ, zero, suc, ◌+◌, ◌-◌, ◌^◌, ◌<◌, ◌≤◌, ◌++◌, ◌==◌, List, [], ◌∷◌, Option, Some, None, length, cond, refl, sym, ap, ap₂, ◌∙◌, subst, arith}
 use Rattle.std.specs.Prelude.{Contains}
-use Rattle.std.proofs.lemmas.Bool.Decides.{eqb_tells, nat_tests}
+use Rattle.std.proofs.lemmas.Bool.Decides.{eqb_tells}
 use Rattle.std.proofs.lemmas.List.{length-map, map-append}
 use Rattle.pot_outside.specs.Archives.{Meaning}
 use Rattle.pot_outside.specs.Counts.{Rose}
 use Rattle.pot_outside.specs.declared.archive.Marks.{Marks}
 use Rattle.pot_outside.specs.declared.archive.Shelf.{Shelf}
-use Rattle.pot_machine.specs.Table.{Table, width, serving_at}
-use Rattle.pot_steps.specs.Holdings.{Holdings}
+use Rattle.pot_machine.specs.Table.{width, serving_at}
 use Rattle.pot_steps.specs.Flights.{Stands}
 use Rattle.pot_steps.proofs.Acting.{loss_keeps_all}
 use Rattle.pot_steps.proofs.Losses.{losses_keep_live}
-use Rattle.pot_group.specs.Shelves.{Shelves, Shelved, Brings, given, numbers_of, shelf_of, mark_of, plain}
+use Rattle.pot_group.specs.Shelves.{Shelves, Brings, given, numbers_of, shelf_of, mark_of, plain}
 use Rattle.pot_group.specs.Causes.{Covers, HasLost, risen, archives_of, faults_in}
 use Rattle.pot_group.specs.Group.{GroupView, IsSettled, LostSince}
 use Rattle.pot_group.proofs.CauseLemmas.{WhereMissed-mono}

@@ -1,5 +1,5 @@
 -- What the entries that change a column leave of the columns and their archives.
-use Rattle.std.proofs.Common.{◌≡◌, ◌≢◌, ◌⊎◌, inl, inr, ℕ, zero, suc, ◌+◌, ◌-◌, ◌^◌, ◌<◌, ◌≤◌, ◌++◌, ◌==◌, ◌||◌, List, [], ◌∷◌, Option, Some, None, IsSomeAnd, Bool, true, false, IsTrue, length, refl, sym, ap, ap₂, ◌∙◌, subst, arith, append_assoc, append-nil}
+use Rattle.std.proofs.Common.{◌≡◌, ◌≢◌, ◌⊎◌, inl, inr, ℕ, zero, suc, ◌<◌, ◌++◌, ◌==◌, ◌||◌, List, [], ◌∷◌, Option, Some, None, Bool, true, false, IsTrue, length, refl, sym, ap, ◌∙◌, subst, arith, append_assoc, append-nil}
 use Rattle.std.specs.Prelude.{Contains, nat_eq, if◌then◌else◌}
 use Rattle.std.proofs.lemmas.Bool.Decides.{nat_tests}
 use Rattle.pot_machine.specs.declared.column.Column.{Column}
@@ -10,7 +10,7 @@ use Rattle.pot_machine.specs.Column.{names, names_moved}
 use Rattle.pot_machine.specs.Table.{Table, width, column_at}
 use Rattle.pot_machine.specs.Machine.{Legal, after, with_loss, with_losses, moved_on, moved_home}
 use Rattle.pot_machine.specs.Laws.{ChangesColumn}
-use Rattle.pot_machine.proofs.Columns.{column_same, column_other}
+use Rattle.pot_machine.proofs.Columns.{column_same}
 use Rattle.pot_machine.proofs.LeftAlone.{columns_stay}
 use Rattle.pot_machine.proofs.Sizes.{width-with_losses}
 use Rattle.pot_group.specs.Shelves.{Shelves, Keeps}

@@ -1,5 +1,5 @@
 -- Where no count of losses rose in a call, no block is lost.
-use Rattle.std.proofs.Common.{◌≡◌, ◌≢◌, ◌⊎◌, inl, inr, ℕ, ◌<◌, true, false, IsTrue, List, Some, None, sym, ap, ap₂, ◌∙◌}
+use Rattle.std.proofs.Common.{◌≡◌, inl, inr, ℕ, ◌<◌, true, false, IsTrue, List, Some, None, sym, ap, ap₂, ◌∙◌}
 use Rattle.pot_machine.specs.declared.entry.Entry.{Entry}
 use Rattle.pot_machine.specs.declared.entry.Entry.TheVariants.{Mended}
 use Rattle.pot_machine.specs.Slot.{is_live, live_of}

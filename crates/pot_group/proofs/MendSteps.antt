@@ -1,5 +1,5 @@
 -- A mend as a step of a group.
-use Rattle.std.proofs.Common.{◌≡◌, ◌≢◌, ◌⊎◌, inl, inr, ℕ, zero, suc, ◌<◌, List, [], ◌∷◌, Option, Some, None, IsSomeAnd, true, false, Bool, IsTrue, length, refl, sym, ap, ◌∙◌, subst, arith}
+use Rattle.std.proofs.Common.{◌≡◌, ◌≢◌, inl, inr, ℕ, ◌<◌, List, [], ◌∷◌, Option, Some, None, IsSomeAnd, true, false, Bool, IsTrue, length, refl, sym, ap, ◌∙◌, subst, arith}
 use Rattle.std.specs.Prelude.{Ok, Err, Result, ◌==◌, ◌↔◌, slice_index_or, find, if◌then◌else◌}
 use Rattle.std.proofs.lemmas.Bool.Decides.{nat_tests}
 use Rattle.pot_bytes.specs.declared.digest.Digest.{Digest}
@@ -7,9 +7,8 @@ use Rattle.pot_outside.specs.Archives.{Meaning}
 use Rattle.pot_machine.specs.declared.relay.Relay.{Relay}
 use Rattle.pot_machine.specs.Slot.{is_unsound}
 use Rattle.pot_machine.specs.Table.{Table, width, slot_at, relay_at, relay_in}
-use Rattle.pot_machine.specs.Machine.{stuck_by}
 use Rattle.pot_steps.specs.GroupStep.{GroupState, log_bound}
-use Rattle.pot_steps.specs.RelaySteps.{AdvanceStep, MendStep, MovesRelay, no_relay}
+use Rattle.pot_steps.specs.RelaySteps.{AdvanceStep, MovesRelay, no_relay}
 use Rattle.pot_group.specs.declared.relaying.Advanced.{Advanced}
 use Rattle.pot_group.specs.declared.relaying.Advanced.TheVariants as advanced
 use Rattle.pot_group.specs.declared.relaying.AdvanceFault.{AdvanceFault}
@@ -24,7 +23,7 @@ use Rattle.pot_steps.specs.Mending.{LosesNothing}
 use Rattle.pot_steps.proofs.Acting.{Lessens}
 use Rattle.pot_group.specs.Shelves.{Keeps, LosesFrom, NoneLost}
 use Rattle.pot_group.specs.Group.{GroupParts, IsSettled, view_of, state_of}
-use Rattle.pot_group.specs.Relaying.{AdvanceMeans, BeginMeans, Drives, Mends, Moves, Owns, acted, advance_as, answered, mend_as}
+use Rattle.pot_group.specs.Relaying.{AdvanceMeans, BeginMeans, Drives, Mends, Moves, Owns, acted, advance_as, answered}
 use Rattle.pot_group.proofs.BeginSteps.{crowded}
 use Rattle.pot_group.proofs.Lossless.{lossless_less, lossless_same}
 use Rattle.pot_group.proofs.ShelfLemmas.{keeps_refl, loses_refl}

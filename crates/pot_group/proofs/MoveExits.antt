@@ -1,24 +1,21 @@
 -- The exits of the calls that bring an archive and move a column, over plain data.
-use Rattle.std.proofs.Common.{◌≡◌, ◌≢◌, ◌⊎◌, inl, inr, ℕ, suc, ◌+◌, ◌<◌, ◌≤◌, ◌++◌, ◌==◌, ◌||◌, List, [], ◌∷◌, Option, Some, None, IfSome, IsSomeAnd, Bool, true, false, IsTrue, length, refl, sym, ap, ap₂, ◌∙◌, subst, arith, nat_lt, if◌then◌else◌}
+use Rattle.std.proofs.Common.{◌≡◌, ◌≢◌, inl, inr, ℕ, ◌+◌, ◌<◌, ◌≤◌, ◌++◌, ◌==◌, ◌||◌, List, [], ◌∷◌, Option, Some, IfSome, Bool, true, false, IsTrue, length, refl, sym, ap, ◌∙◌, subst, arith, nat_lt, if◌then◌else◌}
 use Rattle.std.specs.Prelude.{Contains, Ok, Err, nat_eq}
 use Rattle.pot_outside.specs.declared.faults.Failed.{Failed}
 use Rattle.std.proofs.lemmas.Bool.Decides.{nat_tests}
-use Rattle.pot_machine.specs.declared.column.Column.{Column}
 use Rattle.pot_machine.specs.declared.column.Moving.{Moving}
 use Rattle.pot_machine.specs.declared.entry.Entry.{Entry}
 use Rattle.pot_machine.specs.declared.entry.Entry.TheVariants.{Fault, MoveBegin, Moved, MoveEnd, Swapped}
-use Rattle.pot_machine.specs.Slot.{is_live}
 use Rattle.pot_machine.specs.Column.{names, names_moved, serving, serving_moved}
-use Rattle.pot_machine.specs.Table.{Table, width, slot_at, column_at, serving_at}
+use Rattle.pot_machine.specs.Table.{width, column_at, serving_at}
 use Rattle.pot_machine.specs.Machine.{Legal, after, moved_on}
 use Rattle.pot_machine.proofs.Cases.{same_or}
 use Rattle.pot_machine.proofs.Columns.{column_same, names_serving}
 use Rattle.pot_steps.specs.Stripe.{Sound, IsSound}
-use Rattle.pot_steps.specs.Holdings.{Holdings, stripe_of}
+use Rattle.pot_steps.specs.Holdings.{stripe_of}
 use Rattle.pot_steps.specs.GroupStep.{log_bound}
-use Rattle.pot_steps.specs.Losses.{KeepsHeld}
 use Rattle.pot_steps.specs.Flights.{Acts, Copies, flights_after}
-use Rattle.pot_group.specs.Shelves.{Shelves, Keeps, LosesFrom, Writes, put_at}
+use Rattle.pot_group.specs.Shelves.{Shelves, LosesFrom, Writes, put_at}
 use Rattle.pot_group.specs.Causes.{Covers, HasLost, Misses, archives_of, faults_in, fault_of, risen}
 use Rattle.pot_group.specs.Group.{GroupView, IsSettled}
 use Rattle.pot_group.proofs.CauseLemmas.{archives_of-snoc, covers-one, covers-stays}

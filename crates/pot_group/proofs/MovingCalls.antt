@@ -1,5 +1,5 @@
 -- What the calls of a move leave.
-use Rattle.std.proofs.Common.{◌≡◌, ℕ, suc, ◌+◌, ◌<◌, ◌++◌, List, [], ◌∷◌, Option, None, Bool, true, false, length, length-append, refl, sym, ap, ◌∙◌, subst, arith}
+use Rattle.std.proofs.Common.{◌≡◌, ℕ, suc, ◌+◌, ◌<◌, ◌++◌, List, [], ◌∷◌, None, Bool, true, false, length, length-append, refl, sym, ap, ◌∙◌, subst, arith}
 use Rattle.std.specs.Prelude.{Ok, Err, Result, IfOk, IfErr, Contains}
 use Rattle.pot_outside.specs.Archives.{Meaning}
 use Rattle.pot_outside.specs.declared.archive.Shelf.{Shelf}
@@ -9,8 +9,8 @@ use Rattle.pot_machine.specs.Table.{Table, width, column_at, holder_of}
 use Rattle.pot_machine.specs.Column.{names}
 use Rattle.pot_machine.specs.Machine.{Legal, after}
 use Rattle.pot_steps.specs.GroupStep.{log_bound}
-use Rattle.pot_group.specs.Shelves.{Shelves, Shelved, plain, Brings}
-use Rattle.pot_group.specs.Group.{GroupView, GroupParts, IsSettled, view_of, state_of, with_archives}
+use Rattle.pot_group.specs.Shelves.{Shelved, plain, Brings}
+use Rattle.pot_group.specs.Group.{GroupView, GroupParts, IsSettled, view_of, with_archives}
 use Rattle.pot_group.specs.Relaying.{acted}
 use Rattle.pot_group.specs.Moving.{Comes, MoveUse}
 use Rattle.pot_steps.specs.Entries.{OnlyLoses}

@@ -25,7 +25,6 @@ use Rattle.pot_group.specs.Group.{GroupParts, GroupView, IsSettled, LostSince, s
 use Rattle.pot_group.specs.Beginning.{Begins, homes_of, archives_in, unopened}
 use Rattle.pot_group.proofs.ShelfLemmas.{lost_rose}
 use Rattle.pot_group.proofs.CauseLemmas.{OfOpening, opening_entries, faults_in-opening, WhereMissed-opening, archives_of-opening}
-use Rattle.pot_machine.proofs.Columns.{names_serving}
 
 -- THE ARCHIVES OF A TABLE
 

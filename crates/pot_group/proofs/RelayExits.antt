@@ -1,19 +1,16 @@
 -- The exits of a begin and of an advance, over plain data.
-use Rattle.std.proofs.Common.{◌≡◌, ◌≢◌, ◌⊎◌, inl, inr, ℕ, ◌+◌, ◌<◌, ◌≤◌, ◌++◌, List, [], ◌∷◌, Option, Some, None, IsSomeAnd, true, false, Bool, IsTrue, length, length-append, map, refl, sym, ap, ap₂, ◌∙◌, subst, arith}
-use Rattle.std.specs.Prelude.{Contains, Ok, Err, Result, nat_eq, if◌then◌else◌}
+use Rattle.std.proofs.Common.{◌≡◌, ◌≢◌, ◌⊎◌, inl, inr, ℕ, ◌+◌, ◌<◌, ◌++◌, List, [], ◌∷◌, Option, Some, None, IsSomeAnd, true, false, IsTrue, length, length-append, map, refl, sym, ap, ap₂, ◌∙◌, subst, arith}
+use Rattle.std.specs.Prelude.{Contains, Ok, Err, nat_eq, if◌then◌else◌}
 use Rattle.pot_bytes.specs.declared.digest.Digest.{Digest}
 use Rattle.pot_bytes.specs.Sums.{xor}
 use Rattle.pot_bytes.specs.Weighted.{scaled}
-use Rattle.pot_outside.specs.Counts.{Rose}
 use Rattle.pot_outside.specs.Archives.{FoldTells, HearsFold}
-use Rattle.pot_outside.specs.declared.archive.Held.{Held as IsHeld}
 use Rattle.pot_outside.specs.declared.archive.Held.TheVariants.{Held, Absent}
 use Rattle.pot_outside.specs.declared.faults.Failed.{Failed}
 use Rattle.pot_machine.specs.declared.slot.SlotState.{SlotState}
 use Rattle.pot_machine.specs.declared.slot.SlotState.TheVariants.{Void, Live, Lost, Broken}
-use Rattle.pot_machine.specs.declared.relay.Relay.{Relay}
 use Rattle.pot_machine.specs.declared.entry.Entry.{Entry}
-use Rattle.pot_machine.specs.declared.entry.Entry.TheVariants.{Begin, Hop, Mended, GaveUp, Oddly, Stuck, Fault}
+use Rattle.pot_machine.specs.declared.entry.Entry.TheVariants.{Begin, Hop, Mended, GaveUp, Fault}
 use Rattle.pot_machine.specs.Slot.{is_live, is_unsound, digest_in}
 use Rattle.pot_machine.specs.Table.{Table, width, slot_at, serving_at, relay_at, next_column}
 use Rattle.pot_machine.specs.Machine.{Legal, after}
@@ -33,8 +30,8 @@ use Rattle.pot_group.specs.declared.relaying.Advanced.TheVariants as advanced
 use Rattle.pot_group.specs.Group.{GroupParts}
 use Rattle.pot_steps.specs.Flights.{without_flight, Acts, FoldsIn, WritesBack, IsFlying, FliesOver, flight_in, flights_after, flown}
 use Rattle.pot_steps.specs.Holdings.{Holdings, stripe_of}
-use Rattle.pot_steps.specs.GroupStep.{log_bound, Loses}
-use Rattle.pot_steps.specs.RelaySteps.{Logged, AdvanceStep, Hopped, HearsSum, Hears}
+use Rattle.pot_steps.specs.GroupStep.{log_bound}
+use Rattle.pot_steps.specs.RelaySteps.{AdvanceStep, Hopped, Hears}
 use Rattle.pot_steps.proofs.Acting.{weight-below}
 use Rattle.pot_steps.proofs.CallLemmas.{unfolds, next_positive, next_within, stands, two_relay}
 use Rattle.std.proofs.lemmas.List.{length-map}

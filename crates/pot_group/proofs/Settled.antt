@@ -6,7 +6,7 @@ use Rattle.std.proofs.lemmas.Bool.Decides.{nat_tests}
 use Rattle.pot_outside.specs.Counts.{Rose}
 use Rattle.pot_machine.specs.declared.entry.Entry.{Entry}
 use Rattle.pot_machine.specs.declared.entry.Entry.TheVariants.{Skip, Seen, Gone, Fault, Stuck, Counted}
-use Rattle.pot_machine.specs.Column.{names, serving}
+use Rattle.pot_machine.specs.Column.{names}
 use Rattle.pot_machine.specs.Slot.{is_live}
 use Rattle.pot_machine.specs.Table.{Table, width, slot_at, column_at, serving_at, no_column}
 use Rattle.pot_machine.specs.Machine.{Legal, after}
@@ -16,7 +16,7 @@ use Rattle.pot_machine.proofs.Kept.{after_keeps}
 use Rattle.pot_machine.proofs.LeftAlone.{sizes_stay}
 use Rattle.pot_machine.proofs.Logs.{replays_more}
 use Rattle.pot_steps.specs.Stripe.{Sound}
-use Rattle.pot_steps.specs.Holdings.{Holdings, HoldsUp, LiveLaw, stripe_of}
+use Rattle.pot_steps.specs.Holdings.{Holdings, LiveLaw, stripe_of}
 use Rattle.pot_steps.specs.declared.flight.Flight.{Flight}
 use Rattle.pot_steps.specs.Flights.{Acts, AreFlights, Stands, flights_after}
 use Rattle.pot_steps.specs.Losses.{KeepsHeld}

@@ -21,7 +21,7 @@ use Rattle.pot_group.specs.declared.copying.MoveStep.{MoveStep}
 use Rattle.pot_group.specs.declared.copying.MoveStep.TheVariants as moved
 use Rattle.pot_group.specs.declared.copying.MoveFault.{MoveFault}
 use Rattle.pot_group.specs.declared.copying.MoveFault.TheVariants as failed
-use Rattle.pot_group.specs.Shelves.{Finds, Keeps, LosesFrom, Shelved, Shelves, Stays, Writes, plain, put_at}
+use Rattle.pot_group.specs.Shelves.{Finds, LosesFrom, Shelved, Shelves, Stays, Writes, plain, put_at}
 use Rattle.pot_group.specs.Group.{GroupParts, GroupView, IsSettled, noted, state_of, view_of, with_archives}
 use Rattle.pot_group.specs.Relaying.{Acts, acted}
 use Rattle.pot_steps.specs.MoveSteps.{MoveStep as IsMoveStep}

@@ -1,8 +1,7 @@
 -- Which archives a group uses.
-use Rattle.std.proofs.Common.{◌≡◌, ◌≢◌, ◌⊎◌, inl, inr, ℕ, zero, suc, ◌+◌, ◌<◌, ◌++◌, ◌==◌, ◌||◌, Bool, true, false, IsTrue, IsSomeAnd, List, [], ◌∷◌, Option, Some, None, length, cond, refl, sym, ap, ◌∙◌, subst, arith}
+use Rattle.std.proofs.Common.{◌≡◌, ◌≢◌, ◌⊎◌, inl, inr, ℕ, zero, suc, ◌<◌, ◌++◌, ◌==◌, ◌||◌, Bool, true, false, IsTrue, IsSomeAnd, List, [], ◌∷◌, Option, Some, None, length, cond, refl, sym, ap, ◌∙◌, subst, arith}
 use Rattle.std.specs.Prelude.{Contains, find, nat_eq, if◌then◌else◌}
 use Rattle.std.proofs.lemmas.Bool.Decides.{nat_tests}
-use Rattle.pot_machine.specs.declared.column.Column.{Column}
 use Rattle.pot_machine.specs.declared.column.Moving.{Moving}
 use Rattle.pot_machine.specs.declared.entry.Entry.{Entry}
 use Rattle.pot_machine.specs.declared.entry.Entry.TheVariants.{MoveBegin, Swapped}
@@ -12,9 +11,8 @@ use Rattle.pot_machine.specs.Machine.{Legal, Replays, after}
 use Rattle.pot_machine.specs.Rules.{IsTable}
 use Rattle.pot_machine.proofs.LeftAlone.{sizes_stay}
 use Rattle.pot_machine.proofs.Searches.{least_none, least_some}
-use Rattle.pot_group.specs.declared.uses.Role.{Role}
 use Rattle.pot_group.specs.declared.uses.Role.TheVariants as role
-use Rattle.pot_group.specs.Causes.{archives_of, brought, brought_by, target_of}
+use Rattle.pot_group.specs.Causes.{brought, brought_by, target_of}
 use Rattle.pot_group.specs.Group.{GroupView}
 use Rattle.pot_group.specs.Uses.{IsHomeAt, IsRole, IsUse, brings, brought_to, home_of, role_in, target_in}
 use Rattle.pot_group.proofs.Brought.{Contains-front}

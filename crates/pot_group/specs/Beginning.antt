@@ -1,5 +1,5 @@
 -- How a group begins, and what it hands out.
-use Rattle.std.specs.Prelude.{◌≡◌, ℕ, List, [], ◌∷◌, Option}
+use Rattle.std.specs.Prelude.{◌≡◌, ℕ, List, [], ◌∷◌}
 use Rattle.std.specs.List.{flat_map}
 use Rattle.pot_outside.specs.Archives.{Meaning}
 use Rattle.pot_outside.specs.declared.archive.Shelf.{Shelf}

@@ -1,5 +1,5 @@
 -- What moves and swaps do to a group, whether or not archives tell.
-use Rattle.std.specs.Prelude.{◌≡◌, ◌⊎◌, ◌<◌, ℕ, List, [], Option, Some, None, Result, Ok, Err, Contains, IsSome, IsSomeAnd, IsTrue, true, false, length}
+use Rattle.std.specs.Prelude.{◌≡◌, ◌⊎◌, ◌<◌, ℕ, [], Option, Some, None, Result, Ok, Err, Contains, IsSome, IsSomeAnd, IsTrue, true, false, length}
 use Rattle.pot_outside.specs.Archives.{Meaning}
 use Rattle.pot_outside.specs.Counts.{Rose}
 use Rattle.pot_outside.specs.declared.archive.Shelf.{Shelf}

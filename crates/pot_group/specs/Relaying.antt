@@ -1,6 +1,5 @@
 -- What a relay does to a group: its beginning, its hops and its ends.
 use Rattle.std.specs.Prelude.{◌≡◌, ◌≢◌, ◌⊎◌, ℕ, ◌<◌, ◌++◌, ◌↔◌, List, [], ◌∷◌, Option, Some, None, IsSomeAnd, IsTrue, Bool, false, Result, Ok, Err, length, ◌==◌, if◌then◌else◌}
-use Rattle.pot_bytes.specs.declared.digest.Digest.{Digest}
 use Rattle.pot_machine.specs.declared.entry.Entry.{Entry}
 use Rattle.pot_machine.specs.declared.entry.Entry.TheVariants as entry
 use Rattle.pot_machine.specs.Slot.{is_live, is_unsound}

@@ -1,5 +1,5 @@
 -- Which archives a group uses, and as what.
-use Rattle.std.specs.Prelude.{◌≡◌, ◌≢◌, ◌<◌, ◌==◌, ℕ, Bool, false, IsTrue, IsSomeAnd, List, Option, Some, None, is_some, Contains, if◌then◌else◌}
+use Rattle.std.specs.Prelude.{◌≡◌, ◌≢◌, ◌<◌, ◌==◌, ℕ, Bool, false, IsSomeAnd, Option, Some, None, is_some, Contains, if◌then◌else◌}
 use Rattle.pot_machine.specs.declared.column.Column.{Column}
 use Rattle.pot_machine.specs.declared.column.Moving.{Moving}
 use Rattle.pot_machine.specs.declared.entry.Entry.{Entry}

@@ -1,4 +1,4 @@
-use Rattle.std.proofs.Common.{refl, ap, ◌∙◌, get_or, set, None, List, ℕ}
+use Rattle.std.proofs.Common.{refl, ap, ◌∙◌, get_or, set}
 use Rattle.pot_machine.proofs.Mapped.{mapped, mapped-get, mapped-more, mapped-all}
 use Rattle.pot_group.specs.Relaying.{flown_to}
 use Rattle.pot_group.proofs.relaying.fly.Goals as goal

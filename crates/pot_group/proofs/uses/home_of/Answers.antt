@@ -1,4 +1,4 @@
-use Rattle.std.proofs.Common.{◌≡◌, ◌<◌, List, length, subst, sym}
+use Rattle.std.proofs.Common.{◌<◌, List, length, subst, sym}
 use Rattle.pot_machine.specs.declared.column.Column.{Column}
 use Rattle.pot_group.proofs.Used.{holder_within}
 use Rattle.pot_group.proofs.uses.home_of.Goals as goal

@@ -1,5 +1,5 @@
 use Rattle.std.specs.Prelude.{Contains}
-use Rattle.std.proofs.Common.{◌≡◌, ◌++◌, [], ◌∷◌, IsTrue, length, refl, subst, sym, ap, ◌∙◌}
+use Rattle.std.proofs.Common.{IsTrue, subst, sym}
 use Rattle.pot_group.specs.Shelves.{Shelved, plain, numbers_of, Brings}
 use Rattle.pot_group.proofs.Brought.{brings_one}
 use Rattle.pot_group.proofs.archives.Archives.bring.Goals as goal

@@ -1,6 +1,5 @@
-use Rattle.std.proofs.Common.{◌≡◌, ℕ, subst, ap, sym, ◌∙◌}
-use Rattle.std.specs.Prelude.{Contains, IsSome}
-use Rattle.pot_outside.specs.declared.archive.Shelf.{Shelf}
+use Rattle.std.proofs.Common.{subst, sym, ◌∙◌}
+use Rattle.std.specs.Prelude.{Contains}
 use Rattle.pot_group.specs.Shelves.{Shelved, numbers_of}
 use Rattle.pot_group.proofs.TouchLemmas.{is_found, found_is}
 use Rattle.pot_group.proofs.archives.Archives.has.Goals as goal

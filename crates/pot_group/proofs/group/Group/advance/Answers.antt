@@ -1,4 +1,4 @@
-use Rattle.std.proofs.Common.{◌≡◌, ◌<◌, IsTrue, Some, None, length, refl, subst, sym, ap, ◌∙◌, rules}
+use Rattle.std.proofs.Common.{◌<◌, IsTrue, length, refl, subst, sym, ◌∙◌, rules}
 use Rattle.pot_group.specs.Relaying.{Advances}
 use Rattle.pot_group.specs.Group.{GroupParts, view_of}
 use Rattle.pot_group.proofs.AdvanceSteps.{idle_step, found_over}

@@ -1,4 +1,4 @@
-use Rattle.std.proofs.Common.{◌≡◌, ◌<◌, ◌≤◌, ◌++◌, List, [], ◌∷◌, IsTrue, length, subst, sym, ap, ◌∙◌, arith}
+use Rattle.std.proofs.Common.{◌<◌, IsTrue, length, subst, sym, arith}
 use Rattle.pot_machine.specs.declared.entry.Entry.TheVariants.{Begin}
 use Rattle.pot_machine.specs.Machine.{Legal}
 use Rattle.pot_group.specs.Group.{GroupParts, view_of}

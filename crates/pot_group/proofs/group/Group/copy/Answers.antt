@@ -1,7 +1,5 @@
-use Rattle.std.proofs.Common.{◌≡◌, IsTrue, Some, subst, sym, ap, ◌∙◌}
-use Rattle.std.specs.Prelude.{Ok, Err}
-use Rattle.pot_group.specs.Group.{GroupParts, view_of, with_archives}
-use Rattle.pot_group.specs.declared.copying.MoveStep.TheVariants as moved
+use Rattle.std.proofs.Common.{IsTrue, subst}
+use Rattle.pot_group.specs.Group.{GroupParts, view_of}
 use Rattle.pot_group.specs.Moving.{Steps}
 use Rattle.pot_group.proofs.Stepping.{after_read, passed_read, unread_steps}
 use Rattle.pot_group.proofs.group.Group.copy.Goals as goal

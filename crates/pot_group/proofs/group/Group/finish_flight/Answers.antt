@@ -1,4 +1,4 @@
-use Rattle.std.proofs.Common.{◌≡◌, ◌≢◌, ◌<◌, IsTrue, Some, None, List, length, subst, sym, ap, ◌∙◌, arith, rules, tests, not}
+use Rattle.std.proofs.Common.{◌≡◌, ◌<◌, IsTrue, Some, None, length, subst, sym, ap, ◌∙◌, arith, rules, tests, not}
 use Rattle.std.specs.Prelude.{◌==◌, Err}
 use Rattle.std.proofs.lemmas.Fn.{filter_same}
 use Rattle.pot_machine.specs.Table.{Table, next_column}

@@ -1,6 +1,6 @@
-use Rattle.std.proofs.Common.{◌≡◌, ◌<◌, ℕ, IsTrue, Some, subst, sym, ap, ◌∙◌}
+use Rattle.std.proofs.Common.{◌≡◌, ◌<◌, IsTrue, Some, subst, sym, ap, ◌∙◌}
 use Rattle.std.specs.Prelude.{Contains}
-use Rattle.pot_machine.specs.Table.{width, next_column, serving_at}
+use Rattle.pot_machine.specs.Table.{next_column}
 use Rattle.pot_steps.specs.Flight.{IsRelay, weight_in}
 use Rattle.pot_steps.specs.Flights.{flight_in}
 use Rattle.pot_group.specs.Shelves.{plain}

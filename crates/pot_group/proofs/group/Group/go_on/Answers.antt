@@ -1,5 +1,4 @@
-use Rattle.std.proofs.Common.{◌≡◌, IsTrue, Some, subst, sym, ap, ◌∙◌}
-use Rattle.std.specs.Prelude.{Ok, Err}
+use Rattle.std.proofs.Common.{IsTrue, subst, sym}
 use Rattle.pot_machine.specs.Machine.{Legal}
 use Rattle.pot_machine.specs.declared.entry.Entry.TheVariants.{Fault}
 use Rattle.pot_group.specs.Group.{GroupParts}

@@ -1,4 +1,4 @@
-use Rattle.std.proofs.Common.{◌≡◌, ◌<◌, ℕ, IsTrue, IsSomeAnd, Some, Option, List, length, map, refl, subst, sym, ap, ◌∙◌, arith}
+use Rattle.std.proofs.Common.{◌≡◌, ◌<◌, IsTrue, IsSomeAnd, Some, length, map, subst, sym, ap, ◌∙◌, arith}
 use Rattle.std.specs.Prelude.{Ok, ◌==◌}
 use Rattle.std.proofs.lemmas.List.{length-map}
 use Rattle.std.proofs.lemmas.Fn.{filter_same}
@@ -9,10 +9,10 @@ use Rattle.pot_machine.specs.Slot.{is_live}
 use Rattle.pot_machine.specs.Table.{slot_at, serving_at, next_column}
 use Rattle.pot_steps.specs.Flight.{weight_in}
 use Rattle.pot_steps.specs.declared.flight.Flight.{Flight}
-use Rattle.pot_steps.specs.Flights.{flight_in, without_flight}
+use Rattle.pot_steps.specs.Flights.{flight_in}
 use Rattle.pot_group.specs.Shelves.{plain}
 use Rattle.pot_group.specs.Group.{GroupParts, view_of}
-use Rattle.pot_group.proofs.RelayExits.{stands_in_table, next_live, folded_exit, ended_exit, ended_means, written_all}
+use Rattle.pot_group.proofs.RelayExits.{stands_in_table, folded_exit, ended_exit, ended_means, written_all}
 use Rattle.pot_group.specs.Relaying.{flown_to}
 use Rattle.pot_group.proofs.group.Group.hop_over.Goals as goal
 

@@ -1,4 +1,4 @@
-use Rattle.std.proofs.Common.{◌≡◌, ◌<◌, ℕ, IsTrue, IsSomeAnd, Some, Option, List, length, refl, subst, sym, ap, ◌∙◌, arith, rules, tests, not}
+use Rattle.std.proofs.Common.{◌≡◌, ◌<◌, IsTrue, IsSomeAnd, Some, length, refl, subst, sym, arith, rules, tests, not}
 use Rattle.std.specs.Prelude.{◌==◌}
 use Rattle.std.proofs.lemmas.Fn.{filter_same}
 use Rattle.pot_machine.specs.Table.{next_column}

@@ -1,5 +1,4 @@
-use Rattle.std.proofs.Common.{◌<◌, IsTrue, Err, subst, sym, false}
-use Rattle.std.specs.Prelude.{◌==◌}
+use Rattle.std.proofs.Common.{◌<◌, IsTrue, Err, subst, sym}
 use Rattle.pot_group.specs.declared.relaying.BeginFault.{BeginFault}
 use Rattle.pot_group.specs.declared.relaying.Mend.{Mend}
 use Rattle.pot_group.specs.Group.{GroupParts}

@@ -1,4 +1,4 @@
-use Rattle.std.proofs.Common.{◌<◌, IsTrue, length, rules, refl}
+use Rattle.std.proofs.Common.{◌<◌, IsTrue, length, rules}
 use Rattle.pot_group.proofs.MovingCalls.{begin_legal, begun_comes, came}
 use Rattle.pot_group.proofs.group.Group.move_begin.Goals as goal
 

@@ -1,7 +1,7 @@
 use Rattle.std.proofs.Common.{IsTrue, subst, sym}
 use Rattle.std.specs.Prelude.{Contains}
 use Rattle.pot_group.specs.Shelves.{plain}
-use Rattle.pot_group.specs.Group.{GroupParts, view_of}
+use Rattle.pot_group.specs.Group.{GroupParts}
 use Rattle.pot_group.proofs.MovingCalls.{receive_exit}
 use Rattle.pot_group.proofs.group.Group.receive.Goals as goal
 

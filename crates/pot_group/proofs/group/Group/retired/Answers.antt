@@ -1,8 +1,8 @@
-use Rattle.std.proofs.Common.{◌≡◌, Some, None, find, refl, subst, sym, ap, ◌∙◌}
+use Rattle.std.proofs.Common.{subst, sym, ap, ◌∙◌}
 use Rattle.pot_machine.specs.Table.{holder_of}
 use Rattle.pot_machine.specs.Machine.{Replays}
 use Rattle.pot_group.specs.Group.{GroupParts, view_of}
-use Rattle.pot_group.specs.Uses.{brings, brought_to}
+use Rattle.pot_group.specs.Uses.{brought_to}
 use Rattle.pot_group.proofs.Used.{no_use, retired_first, retired_later, some_none}
 use Rattle.pot_group.proofs.group.Group.retired.Goals as goal
 use Rattle.pot_group.proofs.group.Group.retired.Goals.{in-Some, in-None}

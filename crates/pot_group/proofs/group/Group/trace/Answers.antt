@@ -1,4 +1,4 @@
-use Rattle.std.proofs.Common.{◌≡◌, Option, subst, sym, ◌∙◌}
+use Rattle.std.proofs.Common.{Option, subst, sym, ◌∙◌}
 use Rattle.pot_group.specs.declared.uses.HomeAt.{HomeAt}
 use Rattle.pot_group.specs.Group.{GroupParts, view_of}
 use Rattle.pot_group.specs.Uses.{IsHomeAt}

@@ -1,5 +1,4 @@
-use Rattle.std.proofs.Common.{◌≡◌, Some, refl, subst, sym, ap, ◌∙◌}
-use Rattle.pot_machine.specs.Table.{holder_of}
+use Rattle.std.proofs.Common.{Some, refl, subst, sym, ◌∙◌}
 use Rattle.pot_group.specs.declared.uses.Role.{Role}
 use Rattle.pot_group.specs.Group.{GroupParts, view_of}
 use Rattle.pot_group.specs.Uses.{IsRole, IsUse}

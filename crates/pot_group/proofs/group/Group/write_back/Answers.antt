@@ -1,8 +1,8 @@
-use Rattle.std.proofs.Common.{◌≡◌, ◌<◌, ℕ, IsTrue, Some, None, Option, List, length, refl, subst, sym, ap, ◌∙◌, arith, rules, tests, not}
+use Rattle.std.proofs.Common.{◌≡◌, ◌<◌, IsTrue, Some, None, length, refl, subst, sym, arith, rules, tests, not}
 use Rattle.std.specs.Prelude.{◌==◌, Contains, Ok, Err}
 use Rattle.std.proofs.lemmas.Fn.{filter_same}
 use Rattle.pot_machine.specs.Slot.{digest_in}
-use Rattle.pot_machine.specs.Table.{width, slot_at, next_column, serving_at}
+use Rattle.pot_machine.specs.Table.{slot_at, next_column}
 use Rattle.pot_steps.specs.Stripe.{digest_of}
 use Rattle.pot_steps.specs.declared.flight.Flight.{Flight}
 use Rattle.pot_steps.specs.Flights.{flight_in}
