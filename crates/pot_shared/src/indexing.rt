@@ -102,6 +102,7 @@ impl<A: Archive> Vault<A> {
         requires fits { FitsRack self.now.rack kept }
         requires seen { SeesFile passes.old.groups kept }
         ensures index { IsIndexReady self.now.rack self.now.groups self.now.index passes.new.index }
+        ensures ready { AreReady self.now.rack self.now.groups passes.new.groups }
         ensures groups { RowKnowsMore passes.old.groups passes.new.groups }
         ensures call { IndexCall (PublishesRecord job kept result) passes.old.index passes.new.index }
     {
@@ -127,6 +128,7 @@ impl<A: Archive> Vault<A> {
         requires parts { HasMoreParts 1 passes.old.groups }
         requires index { IsIndexReady self.now.rack self.now.groups self.now.index passes.old.index }
         ensures index { IsIndexReady self.now.rack self.now.groups self.now.index passes.new.index }
+        ensures ready { AreReady self.now.rack self.now.groups passes.new.groups }
         ensures groups { RowKnowsMore passes.old.groups passes.new.groups }
         ensures call { IndexCall (FindsRecord job name.now result passes.new.groups) passes.old.index passes.new.index }
     {

@@ -14,6 +14,8 @@ mod indexing;
 mod member;
 mod sharing;
 mod starting;
+#[cfg(test)]
+mod tests;
 mod vault;
 
 pub use catalog::{Catalog, CatalogOrigin, Strange};

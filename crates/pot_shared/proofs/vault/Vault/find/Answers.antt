@@ -1,6 +1,7 @@
 use Rattle.pot_shared.specs.IndexCalls.{FindsRecord}
 use Rattle.pot_shared.proofs.CatalogLemmas.{finds_small}
 use Rattle.pot_shared.proofs.IndexCallLemmas.{grown, called, small_on}
+use Rattle.pot_shared.proofs.SharingLemmas.{knows_ready}
 use Rattle.pot_shared.proofs.vault.Vault.find.Goals as goal
 
 pub leave-requires-clause-grown : goal.leave-requires-clause-grown
@@ -15,3 +16,7 @@ returns-clause-call g c =
     called c.args.self.now.rack c.args.self.now.groups c.args.self.now.index c.args.passes.now.index c.enter-catalog.new.passes c.requires.index c.enter-catalog.result
     c.enter-catalog.ensures.took c.enter-catalog.ensures.origin c.find-answer.new.self on c.find-answer.ensures.names
     (FindsRecord c.args.job c.args.name.now c.find-answer.result c.find-answer.new.passes) c.leave.new.passes c.leave.ensures.left c.enter-catalog.ensures.begins c.rules.ensures c.rules-2.ensures (c.find-answer.ensures.call, c.find-answer.ensures.seen)
+
+pub returns-clause-ready : goal.returns-clause-ready
+returns-clause-ready g c =
+    knows_ready c.args.self.now.rack c.args.self.now.groups c.args.passes.now.groups c.find-answer.new.passes c.requires.ready c.find-answer.ensures.tied

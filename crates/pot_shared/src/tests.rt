@@ -1,0 +1,192 @@
+//! A vault of one group over archives in memory.
+ghost use Rattle.std.specs.Prelude.{◌≡◌, ◌≤◌, ◌∷◌, [], IsTrue, IfOk, length, map};
+ghost use Rattle.std.specs.Vec.{vec_capacity};
+ghost use Rattle.std.specs.List.{flat_map};
+ghost use Rattle.pot_bytes.specs.Rack.{IsRack};
+ghost use Rattle.pot_doubles.specs.Archives.{meaning_in};
+ghost use Rattle.pot_group.specs.Beginning.{homes_of};
+ghost use Rattle.pot_group.specs.Group.{view_of};
+ghost use Rattle.pot_rows.specs.Ends.{HasAllParts};
+ghost use Rattle.pot_rows.specs.Rows.{HasMoreParts};
+ghost use Rattle.pot_shared.specs.Ready.{AreReady};
+ghost use Rattle.pot_shared.specs.Catalogs.{IsIndexReady};
+ghost use Rattle.pot_shared.specs.Sharing.{HasAllButKept, IsGroupOf};
+
+use crate::*;
+use pot_bytes::{Block, Geometry, Name, Place, Rack};
+use pot_doubles::LossyArchive;
+use pot_group::{Group, Kind, Looked, StartRefused};
+use pot_index::{FindFault, Index};
+use pot_machine::{Column, GroupTable};
+use pot_outside::Shelf;
+use std::alloc::Global;
+use std::test::Fail;
+
+/// Whether the column stays, and its home is this archive.
+fn is_home(column: &Column, shelf: &Shelf<LossyArchive>) -> bool
+    ensures { IsTrue result → homes_of column.now ≡ shelf.now.number ∷ [] }
+{
+    match column.moving {
+        None => column.home == shelf.number,
+        Some(_) => false,
+    }
+}
+
+/// Whether the columns stay, and their homes are these archives, in order.
+fn are_homes(columns: &[Column], shelves: &[Shelf<LossyArchive>]) -> bool
+    ensures { IsTrue result → map (λ s. s.number) shelves.now ≡ flat_map homes_of columns.now }
+{
+    match columns {
+        [] => shelves.is_empty(),
+        [column, columns @ ..] => match shelves {
+            [] => false,
+            [shelf, shelves @ ..] => is_home(column, shelf) && are_homes(columns, shelves),
+        },
+    }
+}
+
+/// The first group of a rack with one parity column, over empty archives.
+fn member(alloc: Global, rack: &Rack) -> Result<Member<LossyArchive>, Fail>
+    requires fits { IsRack rack.now }
+    requires one { rack.now.groups ≡ 1 }
+    requires parity { rack.now.parity ≡ 1 }
+    ensures { IfOk result (λ m. IsGroupOf rack.now 0 (view_of meaning_in m.group)) }
+{
+    let Ok(table) = GroupTable::empty(alloc, rack, 0) else {
+        return Err(Fail::from("no memory"));
+    };
+    let mut shelves = Vec::new(alloc);
+    for number in 0..u32::from(rack.columns) + 1 {
+        let archive = LossyArchive::new(alloc, Vec::new(alloc), Vec::new(alloc));
+        shelves.push(Shelf { number, archive })?;
+    }
+    if !are_homes(table.columns(), &shelves) {
+        return Err(Fail::from("the table is another one"));
+    }
+    match Group::start(alloc, 0, table, shelves) {
+        Ok(group) => Ok(Member { group }),
+        Err(
+            StartRefused {
+                table: _,
+                shelves: _,
+            },
+        ) => Err(Fail::from("no memory")),
+    }
+}
+
+/// A vault of that group and an empty index.
+fn vault(alloc: Global, rack: &Rack) -> Result<(Vault<LossyArchive>, Passes<LossyArchive>), Fail>
+    requires fits { IsRack rack.now }
+    requires one { rack.now.groups ≡ 1 }
+    requires parity { rack.now.parity ≡ 1 }
+    ensures rack { IfOk result (λ p. p.0.rack ≡ rack.now) }
+    ensures ready { IfOk result (λ p. AreReady rack.now p.0.groups p.1.groups × IsIndexReady rack.now p.0.groups p.0.index p.1.index) }
+    ensures parts { IfOk result (λ p. HasAllButKept p.1.groups × HasAllParts p.1.index) }
+    ensures room { IfOk result (λ p. (p.0.members.items ≡ []) × (length p.0.groups ≤ vec_capacity p.0.members) × (p.0.catalogs.items ≡ []) × (1 ≤ vec_capacity p.0.catalogs)) }
+{
+    let Ok(index) = Index::start(alloc, rack, Vec::new(alloc)) else {
+        return Err(Fail::from("no memory"));
+    };
+    let mut members = Vec::new(alloc);
+    members.push(member(alloc, rack)?)?;
+    match Vault::start(alloc, rack, members, index) {
+        Ok(made) => Ok(made),
+        Err(_) => Err(Fail::from("no memory")),
+    }
+}
+
+/// The first slot.
+const PLACE: Place = Place {
+    group: 0,
+    column: 0,
+    stripe: 0,
+};
+
+/// A rack of one group with one data column and one parity column.
+fn rack() -> Rack {
+    let geometry = Geometry {
+        fragments: 2,
+        need: 1,
+        shards: 1,
+        blur: 0,
+    };
+    Rack {
+        groups: 1,
+        columns: 1,
+        parity: 1,
+        stripes: 2,
+        geometry,
+    }
+}
+
+#[test]
+fn begins_and_ends(rt: HostRuntime) -> Result<(), Fail> {
+    let rack = rack();
+    if !rack.fits() || rack.groups != 1 || rack.parity != 1 {
+        return Err(Fail::from("the rack does not fit"));
+    }
+    let (vault, passes) = vault(rt.alloc(), &rack)?;
+    let Closed { members, index } = vault.close(passes);
+    assert_eq!(rt; members.len(), 1);
+    assert_eq!(rt; index.logged(), 0);
+    Ok(())
+}
+
+#[test]
+fn calls_of_a_job(rt: HostRuntime) -> Result<(), Fail> {
+    let rack = rack();
+    if !rack.fits() || rack.groups != 1 || rack.parity != 1 {
+        return Err(Fail::from("the rack does not fit"));
+    }
+    let alloc = rt.alloc();
+    let (vault, mut passes) = vault(alloc, &rack)?;
+    let Some(name) = Name::read(b"a") else {
+        return Err(Fail::from("no name"));
+    };
+    assert!(rt; vault.reserve(&rt, &mut passes, 1, &name).is_ok());
+    assert!(rt; vault.reserve(&rt, &mut passes, 2, &name).is_err());
+    let listed = vault
+        .names(&rt, alloc, &mut passes, 2)
+        .map_err(|_| Fail::from("no memory"))?;
+    assert_eq!(rt; listed.len(), 0);
+    assert!(rt; vault.find(&rt, alloc, &mut passes, 2, &name).is_err());
+    if vault.groups.len() != 1 {
+        return Err(Fail::from("the vault has another group"));
+    }
+    let block = Block::zero();
+    assert_eq!(rt; vault.put(&rt, &mut passes, 0, 1, &block), Ok(PLACE));
+    assert_eq!(rt;
+        vault.next(&rt, &mut passes, 0, 0, 0, Kind::Live),
+        Some(PLACE)
+    );
+    let mut into = Block::zero();
+    assert_eq!(rt;
+        vault.look(&rt, &mut passes, 2, PLACE, &mut into),
+        Looked::Seen
+    );
+    let Ok(counts) = vault.count(&rt, &mut passes, 0, 3) else {
+        return Err(Fail::from("the log is full"));
+    };
+    assert_eq!(rt; (counts.live, counts.lost, counts.stripe), (2, 0, 1));
+    Ok(())
+}
+
+#[test]
+fn passes_shared_out(rt: HostRuntime) -> Result<(), Fail> {
+    let rack = rack();
+    if !rack.fits() || rack.groups != 1 || rack.parity != 1 {
+        return Err(Fail::from("the rack does not fit"));
+    }
+    let alloc = rt.alloc();
+    let (vault, mut passes) = vault(alloc, &rack)?;
+    let Ok(mut given) = vault.split(alloc, &mut passes, 4) else {
+        return Err(Fail::from("no memory"));
+    };
+    let Some(name) = Name::read(b"a") else {
+        return Err(Fail::from("no name"));
+    };
+    assert!(rt; vault.reserve(&rt, &mut given, 1, &name).is_ok());
+    assert!(rt; vault.reserve(&rt, &mut passes, 2, &name).is_err());
+    vault.join(&mut passes, given);
+    Ok(())
+}
