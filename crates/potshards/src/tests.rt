@@ -1,4 +1,5 @@
 use crate::desk::DeskFile;
+use crate::drawn;
 use crate::folder::Folder;
 use pot_bytes::Block;
 use pot_outside::{Archive, Desk, Held, Room};
@@ -56,5 +57,43 @@ fn an_image_in_a_file(rt: HostRuntime) -> Result<(), Fail> {
     }
     assert!(rt; fs::read(&rt, "desk.new").is_err());
     fs::remove_file(&rt, "desk.psi")?;
+    Ok(())
+}
+
+#[test]
+fn an_archive_that_is_taken_again_has_its_blocks(rt: HostRuntime) -> Result<(), Fail> {
+    let mut room = Folder::new(&rt);
+    let mut archive = room.take(8)?;
+    let block = Block::from_bytes([0x3c; 1024]);
+    assert!(rt; archive.write(1, &block).is_ok());
+    assert!(rt; room.give(8, archive).is_ok());
+    let mut again = room.take(8)?;
+    let mut into = Block::zero();
+    let held = again.read(1, &mut into);
+    fs::remove_file(&rt, "archive-8")?;
+    assert!(rt; held == Ok(Held::Held));
+    assert!(rt; into.bytes() == block.bytes());
+    Ok(())
+}
+
+#[test]
+fn two_seeds_differ(rt: HostRuntime) -> Result<(), Fail> {
+    let first = drawn(&rt)?;
+    let second = drawn(&rt)?;
+    assert!(rt; first != second);
+    Ok(())
+}
+
+#[test]
+fn an_image_that_is_not_replaced_stays(rt: HostRuntime) -> Result<(), Fail> {
+    let mut desk = DeskFile::new(&rt);
+    assert!(rt; desk.replace(b"old").is_ok());
+    fs::create_dir(&rt, "desk.new")?;
+    let refused = desk.replace(b"new").is_err();
+    let found = desk.read()?.ok_or("no image")?;
+    fs::remove_dir(&rt, "desk.new")?;
+    fs::remove_file(&rt, "desk.psi")?;
+    assert!(rt; refused);
+    assert!(rt; found.as_slice() == b"old".as_slice());
     Ok(())
 }
