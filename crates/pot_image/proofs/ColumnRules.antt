@@ -85,7 +85,7 @@ named_among [] k number l e = absurd (omega (arith, l))
 named_among (c ∷ cs) zero number l e = stands_left number (numbers_of c) (flat_map numbers_of cs) (named c number e)
 named_among (c ∷ cs) (suc k) number l e = stands_right number (numbers_of c) (flat_map numbers_of cs) (named_among cs k number (omega (arith, l)) e)
 
-free_rest : (xs ys taken : List ℕ) → AreFree taken (xs ++ ys) → AreFree taken xs × AreFree (taken ++ xs) ys
+pub free_rest : (xs ys taken : List ℕ) → AreFree taken (xs ++ ys) → AreFree taken xs × AreFree (taken ++ xs) ys
 free_rest [] ys taken h = (tt, subst (λ t. AreFree t ys) (sym (append-nil taken)) h)
 free_rest (x ∷ xs) ys taken h = (let r = free_rest xs ys (taken ++ x ∷ []) h.1 in ((h.0, r.0), subst (λ t. AreFree t ys) (append_assoc taken (x ∷ []) xs) r.1))
 

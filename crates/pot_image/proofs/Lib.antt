@@ -11,3 +11,9 @@ pub mod PlaceRules
 pub mod HeadRules
 pub mod Frames
 pub mod WriteRules
+pub mod ReadBack
+pub mod HeadBack
+pub mod TableBack
+pub mod LogBack
+pub mod RecordBack
+pub mod ImageBack

@@ -25,7 +25,7 @@ same_spot rack g c s h d r lc ld ls lr e =
 pub spot_below : (rack : Rack) (g c s : ℕ) → g < rack.groups → c < rack.columns → s < rack.stripes → spot rack g c s < rack.groups * rack.stripes * rack.columns
 spot_below rack g c s lg lc ls = place_below rack.columns (rack.groups * rack.stripes) (g * rack.stripes + s) c (place_below rack.stripes rack.groups g s lg ls) lc
 
-at_same : (g c s : ℕ) (p : Place) → is_at g c s p ≡ true → (p.group ≡ g) × (p.column ≡ c) × (p.stripe ≡ s)
+pub at_same : (g c s : ℕ) (p : Place) → is_at g c s p ≡ true → (p.group ≡ g) × (p.column ≡ c) × (p.stripe ≡ s)
 at_same g c s p e =
     let a = both_true (p.group == g) ((p.column == c) && (p.stripe == s)) e in
     let b = both_true (p.column == c) (p.stripe == s) a.1 in

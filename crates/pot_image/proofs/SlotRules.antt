@@ -45,7 +45,7 @@ slot_is_allowed allowed bytes rest x e =
 
 -- THE RULE LOOKS BACK ALONE
 
-abbrev allowed_by : Bool → Bool → Bool → Bool → Bool → Bool → Bool → Bool → Bool
+abbrev pub allowed_by : Bool → Bool → Bool → Bool → Bool → Bool → Bool → Bool → Bool
 allowed_by late parity here past first_column first before void =
     if late then void
     else if parity then (if first then void else not void)

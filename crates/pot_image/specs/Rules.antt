@@ -1,9 +1,35 @@
 -- The rules of what stands in an image, by what they say of its values.
-use Rattle.std.specs.Prelude.{◌≡◌, ℕ, true, List, [], ◌∷◌, ◌++◌, length, All, flat_map}
+use Rattle.std.specs.Prelude.{◌≡◌, ◌<◌, ◌≤◌, ◌+◌, ◌^◌, ℕ, true, List, [], ◌∷◌, ◌++◌, length, All, flat_map}
+use Rattle.pot_bytes.specs.declared.digest.Digest.{Digest}
 use Rattle.pot_bytes.specs.declared.rack.Rack.{Rack}
+use Rattle.pot_machine.specs.declared.slot.SlotState.{SlotState}
+use Rattle.pot_machine.specs.declared.slot.SlotState.TheVariants.{Void, Live, Lost, Broken}
 use Rattle.pot_machine.specs.Table.{Table}
 use Rattle.pot_machine.specs.Rules.{IsTable}
+use Rattle.pot_bytes.specs.Names.{IsName}
+use Rattle.pot_bytes.specs.Rack.{IsRack}
+use Rattle.pot_machine.specs.declared.entry.Entry.{Entry}
+use Rattle.pot_machine.specs.declared.entry.Entry.TheVariants.{Put, Skip, Seen, Gone, Broke, Fault, Begin, Hop, Mended, GaveUp, Oddly, Stuck, MoveBegin, Moved, MoveEnd, Swapped, Counted, Put2}
+use Rattle.pot_index.specs.declared.entry.IndexEntry.{IndexEntry}
+use Rattle.pot_index.specs.declared.entry.IndexEntry.TheVariants.{Reserve, Taken, Publish, Abandon, Find, Listed, Renew, Often}
+use Rattle.pot_index.specs.declared.record.Record.{Record}
+use Rattle.pot_index.specs.Records.{splits_of}
+use Rattle.pot_index.specs.Fits.{FitsRack}
+use Rattle.pot_index.specs.Index.{Ascends}
 use Rattle.pot_image.specs.Tables.{is_free, table_numbers}
+use Rattle.pot_image.specs.Records.{is_filled}
+use Rattle.pot_image.specs.Images.{Contents}
+use Rattle.pot_image.specs.Spelling.{image_bytes}
+
+-- a digest has 32 bytes
+abbrev pub IsDigest : Digest → Type 0
+IsDigest d = length d.bytes ≡ 32
+
+abbrev pub HasDigest : SlotState → Type 0
+HasDigest Void = Unit {0}
+HasDigest (Live d) = IsDigest d
+HasDigest (Lost d) = IsDigest d
+HasDigest (Broken d) = IsDigest d
 
 -- each number is that of an archive, and stands nowhere before, nor among those that are taken
 abbrev pub AreFree : List ℕ → List ℕ → Type 0
@@ -23,3 +49,82 @@ pub record AreTables (rack : Rack) (ts : List Table) : Type 0 where
   pub count : length ts ≡ rack.groups
   pub fits : All (FitsTable rack) ts
   pub free : AreFree [] (flat_map table_numbers ts)
+
+-- the table's slots have whole digests
+abbrev pub HaveDigests : Table → Type 0
+HaveDigests t = All HasDigest t.slots
+
+-- a record of a name, whose splits fit the rack and have no place whose slot is Void
+pub record FitsRecord (rack : Rack) (ts : List Table) (r : Record) : Type 0 where
+  pub name : IsName r.name
+  pub digest : IsDigest r.digest
+  pub fits : FitsRack rack r
+  pub filled : All (λ s. All (λ p. is_filled ts p.group p.column p.stripe ≡ true) s.places) (splits_of r)
+
+-- at most 4,000,000,000 such records, by ascending name
+pub record AreRecords (rack : Rack) (ts : List Table) (rs : List Record) : Type 0 where
+  pub count : length rs ≤ 4000000000
+  pub ascends : Ascends rs
+  pub fits : All (FitsRecord rack ts) rs
+
+-- a job's number has four bytes
+abbrev pub IsJob : ℕ → Type 0
+IsJob job = job < 2 ^ 32
+
+-- a stripe and a column that the rack has
+abbrev pub IsAt : Rack → ℕ → ℕ → Type 0
+IsAt rack s c = (s < rack.stripes) × (c < rack.columns + rack.parity)
+
+-- a column that the rack has, and the number of an archive
+abbrev pub IsMove : Rack → ℕ → ℕ → Type 0
+IsMove rack c to = (c < rack.columns + rack.parity) × (to ≤ 511)
+
+-- what an entry of a group's log names, the rack has
+abbrev pub FitsEntry : Rack → Entry → Type 0
+FitsEntry rack (Put job s c d p kept) = IsJob job × (IsAt rack s c × (IsDigest d × IsDigest p))
+FitsEntry rack (Skip job s) = IsJob job × (s < rack.stripes)
+FitsEntry rack (Seen job s c) = IsJob job × IsAt rack s c
+FitsEntry rack (Gone job s c) = IsJob job × IsAt rack s c
+FitsEntry rack (Broke job s c) = IsJob job × IsAt rack s c
+FitsEntry rack (Fault job s c) = IsJob job × IsAt rack s c
+FitsEntry rack (Begin job s c) = IsJob job × IsAt rack s c
+FitsEntry rack (Hop job s c) = IsJob job × IsAt rack s c
+FitsEntry rack (Mended job s c) = IsJob job × IsAt rack s c
+FitsEntry rack (GaveUp job s c other) = IsJob job × (IsAt rack s c × (other < rack.columns + rack.parity))
+FitsEntry rack (Oddly job s c found) = IsJob job × (IsAt rack s c × IsDigest found)
+FitsEntry rack (Stuck job s c other) = IsJob job × (IsAt rack s c × (other < rack.columns + rack.parity))
+FitsEntry rack (MoveBegin job c to) = IsJob job × IsMove rack c to
+FitsEntry rack (Moved job s c copied) = IsJob job × IsAt rack s c
+FitsEntry rack (MoveEnd job c) = IsJob job × (c < rack.columns + rack.parity)
+FitsEntry rack (Swapped job c to) = IsJob job × IsMove rack c to
+FitsEntry rack (Counted job) = IsJob job
+FitsEntry rack (Put2 job s c d p q kept kept2) = IsJob job × (IsAt rack s c × (IsDigest d × (IsDigest p × IsDigest q)))
+
+-- an entry of the index's log is of a name, and its mark is whole
+abbrev pub FitsIndexEntry : IndexEntry → Type 0
+FitsIndexEntry (Reserve job x) = IsJob job × IsName x
+FitsIndexEntry (Taken job x) = IsJob job × IsName x
+FitsIndexEntry (Publish job x mark) = IsJob job × (IsName x × IsDigest mark)
+FitsIndexEntry (Abandon job x) = IsJob job × IsName x
+FitsIndexEntry (Find job x found) = IsJob job × IsName x
+FitsIndexEntry (Listed job) = IsJob job
+FitsIndexEntry (Renew job x mark) = IsJob job × (IsName x × IsDigest mark)
+FitsIndexEntry (Often job x) = IsJob job × IsName x
+
+-- at most 262,144 values that fit
+pub record IsLog {X : Type 0} (Fits : X → Type 0) (xs : List X) : Type 0 where
+  pub count : length xs ≤ 262144
+  pub fits : All Fits xs
+
+-- what an image may hold: a session whose number has four bytes, a rack within its limits, the tables of its groups, records
+-- that fit them, and a log for each group and for the index. Its bytes are fewer than 2^64
+pub record IsImage (v : Contents) : Type 0 where
+  pub session : v.session < 2 ^ 32
+  pub rack : IsRack v.rack
+  pub tables : AreTables v.rack v.tables
+  pub digests : All HaveDigests v.tables
+  pub records : AreRecords v.rack v.tables v.records
+  pub logs : length v.group_logs ≡ v.rack.groups
+  pub group_logs : All (IsLog (FitsEntry v.rack)) v.group_logs
+  pub index_log : IsLog FitsIndexEntry v.index_log
+  pub short : length (image_bytes v) < 2 ^ 64

@@ -37,5 +37,5 @@ mod writing;
 pub use fault::ImageFault;
 pub use image::Image;
 pub use image_writing::write_image;
-pub use laws::{GrammarShape, field_laws};
+pub use laws::{GrammarShape, field_laws, image_laws};
 pub use reading::read_image;
