@@ -8,7 +8,7 @@
 //!    and before a trailer that is their digest (`read_image`).
 //! 2. Else the answer says which comes first: too few bytes, another front, more bytes than stated, another digest, or the
 //!    place of the first field that breaks its rule or does not end (`read_image`).
-//! 3. What is written is the text of the fields and its digest (`write_image`).
+//! 3. What is written is the text of the fields and its digest (`write_image`), and it is read back (`image_laws`).
 #![tactic(auto)]
 
 mod columns;
