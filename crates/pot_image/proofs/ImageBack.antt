@@ -1,6 +1,7 @@
 -- An image that was written is read back.
-use Rattle.std.proofs.Common.{◌≡◌, inl, inr, ℕ, ◌+◌, ◌-◌, ◌<◌, ◌^◌, List, [], ◌++◌, Result, Ok, Err, MatchResult, length, take, drop, flat_map, ap, sym, subst, ◌∙◌, refl, arith, append_assoc, append-nil, length-append}
+use Rattle.std.proofs.Common.{◌≡◌, inl, inr, ℕ, ◌+◌, ◌-◌, ◌<◌, ◌≤◌, ◌^◌, List, [], ◌++◌, Result, Ok, Err, MatchResult, length, get_or, map, take, drop, flat_map, ap, sym, subst, ◌∙◌, refl, arith, append_assoc, append-nil, length-append}
 use Rattle.std.proofs.Math.Seq.{take-append_seam, drop-append_seam}
+use Rattle.std.proofs.lemmas.List.{get_or-map, length-map}
 use Rattle.byteorder.specs.Endian.{big_bytes}
 use Rattle.byteorder.specs.Numbers.{big_number-reads_back}
 use Rattle.pot_bytes.specs.Digests.{digest_bytes}
@@ -17,7 +18,7 @@ use Rattle.pot_image.specs.Tables.{tables}
 use Rattle.pot_image.specs.Records.{records}
 use Rattle.pot_image.specs.Logs.{group_logs, index_log}
 use Rattle.pot_image.specs.Images.{Contents, contents, image, magic, format_number, stated_length, before_trailer, trailer, Answered, Trailed, Measured, Numbered, Marked, AnswersImage}
-use Rattle.pot_image.specs.Spelling.{head_bytes, table_bytes, entry_bytes, index_entry_bytes, counted_bytes, field_bytes, text_bytes, image_bytes}
+use Rattle.pot_image.specs.Spelling.{IsCountable, head_bytes, table_bytes, entry_bytes, index_entry_bytes, counted_bytes, field_bytes, text_bytes, image_bytes}
 use Rattle.pot_image.specs.Rules.{IsImage}
 use Rattle.pot_image.proofs.Once.{of_read, once_value, never_both}
 use Rattle.pot_image.proofs.HeadBack.{head_back}
@@ -122,3 +123,14 @@ pub written_apart : (v w : Contents) → IsImage v → IsImage w → image_bytes
 written_apart v w p q e =
     let same : field_bytes w ≡ field_bytes v = sym (body_is w) ∙ ap (λ b. drop 16 (before_trailer b)) (sym e) ∙ body_is v in
     once_value (image Second) (field_bytes v) v w (fields_back v p) (subst (λ b. IsOf (image Second) b w) same (fields_back w q))
+
+pub countable : (i : Image) → IsImage (contents i) → IsCountable i
+countable i is = record {
+  records = (let n = is.records.count in omega (arith, n));
+  logs = λ k d l. (let size : length (map (λ v. v.items) i.group_logs.items) ≡ length i.group_logs.items = length-map i.group_logs.items (λ v. v.items) in
+      let below : k < length (map (λ v. v.items) i.group_logs.items) = omega (arith, size, l) in
+      let n : length (get_or (map (λ v. v.items) i.group_logs.items) k []) ≤ 262144 = (is.group_logs k [] below).count in
+      let same : length (get_or (map (λ v. v.items) i.group_logs.items) k []) ≡ length (get_or i.group_logs.items k d).items = ap length (get_or-map (λ v. v.items) i.group_logs.items k d [] l) in
+      omega (arith, n, same));
+  index_log = (let n = is.index_log.count in omega (arith, n));
+}

@@ -6,7 +6,7 @@ use Rattle.pot_image.specs.declared.fault.ImageFault.{ImageFault}
 use Rattle.pot_image.specs.declared.fault.ImageFault.TheVariants as faults
 use Rattle.pot_image.specs.Fields.{Grammar, IsOf, LeavesAt}
 use Rattle.pot_image.specs.Images.{Contents, contents, image, AnswersImage}
-use Rattle.pot_image.specs.Spelling.{field_bytes, image_bytes}
+use Rattle.pot_image.specs.Spelling.{IsCountable, field_bytes, image_bytes}
 use Rattle.pot_image.specs.Rules.{IsImage}
 
 -- bytes have at most one value
@@ -38,3 +38,7 @@ ReadBack = (v : Contents) (r : Result Image ImageFault) → IsImage v → Answer
 -- no two images have the same bytes
 abbrev pub WrittenApart : Type 0
 WrittenApart = (v w : Contents) → IsImage v → IsImage w → image_bytes v ≡ image_bytes w → v ≡ w
+
+-- it may be written
+abbrev pub MayBeWritten : Type 0
+MayBeWritten = (i : Image) → IsImage (contents i) → IsCountable i
