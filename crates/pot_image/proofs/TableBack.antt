@@ -20,7 +20,7 @@ use Rattle.pot_machine.proofs.Places.{place_below}
 use Rattle.pot_image.specs.Fields.{done}
 use Rattle.pot_image.specs.Reading.{◌>>=◌, over, several, reading}
 use Rattle.pot_image.specs.Numbers.{natural, at_most, between, zeros, flag, digest}
-use Rattle.pot_image.specs.Tables.{numbers_of, is_free, moving, column, column_behind, columns, allows, state_of, slot, slot_behind, stripe_slots, slots, is_cursor, cursor, table, table_numbers, table_behind, tables}
+use Rattle.pot_image.specs.Tables.{numbers_of, is_free, column, column_behind, columns, allows, state_of, slot, slot_behind, stripe_slots, slots, is_cursor, cursor, table, table_numbers, table_behind, tables}
 use Rattle.pot_image.specs.Spelling.{cursor_bytes, column_bytes, slot_bytes, table_bytes}
 use Rattle.pot_image.specs.Rules.{HasDigest, HaveDigests, AreFree, FitsTable, AreTables}
 use Rattle.pot_image.proofs.Once.{both_true}
