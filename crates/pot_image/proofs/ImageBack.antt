@@ -49,7 +49,7 @@ module _ (v : Contents) where
   unfolding text_bytes
   text_long = length-append (magic ++ big_bytes 4 2 ++ big_bytes 8 (48 + length (field_bytes v))) (field_bytes v)
 
-  image_long : length (image_bytes v) ≡ 48 + length (field_bytes v)
+  pub image_long : length (image_bytes v) ≡ 48 + length (field_bytes v)
   unfolding image_bytes
   image_long = (let a = length-append (text_bytes v) (digest_bytes (text_bytes v)) in let b = length-digest_bytes (text_bytes v) in let c = text_long in omega (arith, a, b, c))
 

@@ -17,3 +17,4 @@ pub mod TableBack
 pub mod LogBack
 pub mod RecordBack
 pub mod ImageBack
+pub mod Smallest

@@ -42,3 +42,7 @@ WrittenApart = (v w : Contents) → IsImage v → IsImage w → image_bytes v �
 -- it may be written
 abbrev pub MayBeWritten : Type 0
 MayBeWritten = (i : Image) → IsImage (contents i) → IsCountable i
+
+-- there is one
+abbrev pub SomeImage : Type 0
+SomeImage = (v : Contents) × IsImage v

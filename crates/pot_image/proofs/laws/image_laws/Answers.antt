@@ -1,5 +1,6 @@
 use Rattle.pot_image.proofs.ImageBack.{fields_back, answers_back, written_apart, countable}
+use Rattle.pot_image.proofs.Smallest.{is_image}
 use Rattle.pot_image.proofs.laws.image_laws.Goals as goal
 
 pub returns : goal.returns
-returns c = record { fields = fields_back; back = λ v r is a. answers_back v is r a; apart = written_apart; countable = countable }
+returns c = record { fields = fields_back; back = λ v r is a. answers_back v is r a; apart = written_apart; countable = countable; some = is_image }
