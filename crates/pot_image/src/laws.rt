@@ -22,7 +22,8 @@ pub fn field_laws<S: GrammarShape>()
 {}
 
 /// What is proved of an image that was written. Its fields are those of the grammar, whatever `read_image` may answer to its
-/// bytes is the image, unless memory was not found, and no two images have the same bytes. Each may be written, and there is one. It does nothing.
+/// bytes is the image, unless memory was not found, and no two images have the same bytes. Each may be
+/// written, and there is one. It does nothing.
 pub fn image_laws()
     ensures fields { FieldsReadBack }
     ensures back { ReadBack }
