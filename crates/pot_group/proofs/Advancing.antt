@@ -25,7 +25,7 @@ use Rattle.pot_group.specs.declared.relaying.Advanced.{Advanced}
 use Rattle.pot_group.specs.declared.relaying.Advanced.TheVariants as advanced
 use Rattle.pot_group.specs.declared.relaying.AdvanceFault.{AdvanceFault}
 use Rattle.pot_group.specs.declared.relaying.AdvanceFault.TheVariants as failed
-use Rattle.pot_group.specs.Shelves.{Shelved, Keeps, Folds, LosesFrom, NoneLost, plain, put_at}
+use Rattle.pot_group.specs.Shelves.{Shelved, Keeps, Folds, LosesFrom, NoneLost, WritesInto, plain, put_at}
 use Rattle.pot_group.specs.Group.{GroupView, GroupParts, IsSettled, noted, view_of, with_archives, state_of}
 use Rattle.pot_group.specs.Relaying.{Acts, Advances, AdvanceMeans, AtEnd, EndsWell, HopsOver, Moves, OnWay, acted}
 use Rattle.pot_group.proofs.AdvanceSteps.{at_next, absent_exit, dead_exit, failed_exit, fault_legal, gave_up, odd_legal, odd_step, over_exit, some_differs, well_step}
@@ -57,12 +57,16 @@ module _ {A : Type 0} (told : Type 0) (meaning : A → Meaning) (old : GroupPart
   keeps_at : (b : Shelved A) (e : Entry) (given : List ℕ) (new : GroupParts A) → new ≡ acted (with_archives old b) e given → Keeps (plain meaning old.archives) (plain meaning b) → Keeps (view_of meaning old).shelves (view_of meaning new).shelves
   keeps_at b e given new is k = subst (λ (w : GroupParts A). Keeps (view_of meaning old).shelves (view_of meaning w).shelves) (sym is) k
 
+  -- nothing was written
+  lost_only : (b : Shelved A) (e : Entry) (given : List ℕ) (new : GroupParts A) → new ≡ acted (with_archives old b) e given
+      → (told → LosesFrom (plain meaning old.archives).held (plain meaning old.archives) (plain meaning b)) → told → LosesFrom (view_of meaning old).shelves.held (view_of meaning old).shelves (view_of meaning new).shelves
+  lost_only b e given new is loses t = subst (λ (w : GroupParts A). LosesFrom (view_of meaning old).shelves.held (view_of meaning old).shelves (view_of meaning w).shelves) (sym is) (loses t)
+
   lossless_at : (b : Shelved A) (e : Entry) (given : List ℕ) (new : GroupParts A) → new ≡ acted (with_archives old b) e given → Lessens e
       → (told → LosesFrom (plain meaning old.archives).held (plain meaning old.archives) (plain meaning b)) → told
       → NoneLost (view_of meaning old).shelves (view_of meaning new).shelves → LosesNothing (state_of (view_of meaning old)) (state_of (view_of meaning new))
   lossless_at b e given new is less loses t none = lossless_less (view_of meaning old) (view_of meaning new) (view_of meaning old).shelves.held
-      (subst (λ (w : GroupParts A). LosesFrom (view_of meaning old).shelves.held (view_of meaning old).shelves (view_of meaning w).shelves) (sym is) (loses t)) none (λ n k x ln lk live q. q)
-      e less (ap (λ (w : GroupParts A). w.table) is)
+      (lost_only b e given new is loses t) none (λ n k x ln lk live q. q) e less (ap (λ (w : GroupParts A). w.table) is)
 
   -- the relay's end
   pub dead_advances : (new : GroupParts A) → IsSomeAnd (next_column old.table f.relay) (λ c. new ≡ acted old (GaveUp job f.relay.stripe f.relay.target c) []) → is_live (slot_at old.table f.relay.stripe c) ≡ false
@@ -74,6 +78,7 @@ module _ {A : Type 0} (told : Type 0) (meaning : A → Meaning) (old : GroupPart
         keeps = keeps_at old.archives (GaveUp job f.relay.stripe f.relay.target c) [] new e (keeps_refl (plain meaning old.archives));
         steps = dead_exit told meaning old job f c settled room here next within new gone dead;
         lossless = lossless_at old.archives (GaveUp job f.relay.stripe f.relay.target c) [] new e tt (λ t. loses_refl (plain meaning old.archives));
+        writes = lost_only old.archives (GaveUp job f.relay.stripe f.relay.target c) [] new e (λ t. loses_refl (plain meaning old.archives));
       }
 
   module _ (b : Shelved A) (sum : List ℕ) (live : IsTrue (is_live (slot_at old.table f.relay.stripe c))) where
@@ -89,6 +94,7 @@ module _ {A : Type 0} (told : Type 0) (meaning : A → Meaning) (old : GroupPart
           keeps = keeps_at b (GaveUp job f.relay.stripe f.relay.target c) [] new e folds.keeps;
           steps = absent_exit told meaning old job f c settled room here next within b sum live new gone folds;
           lossless = lossless_at b (GaveUp job f.relay.stripe f.relay.target c) [] new e tt folds.loses;
+          writes = lost_only b (GaveUp job f.relay.stripe f.relay.target c) [] new e folds.loses;
         }
 
     pub over_advances : (r : Advanced) (new : GroupParts A) → HopsOver job sum r f (with_archives old b) new → Folded (Ok Held) → Advances told job f.relay.stripe (Ok r) (view_of meaning old) (view_of meaning new)
@@ -109,6 +115,7 @@ module _ {A : Type 0} (told : Type 0) (meaning : A → Meaning) (old : GroupPart
           keeps = keeps_at b (Hop job f.relay.stripe c) sum new m.1 folds.keeps;
           steps = over_exit told meaning old job f c settled room here next within b sum live advanced.Hopped new means folds;
           lossless = lossless_at b (Hop job f.relay.stripe c) sum new m.1 tt folds.loses;
+          writes = lost_only b (Hop job f.relay.stripe c) sum new m.1 folds.loses;
         }
     over_advances advanced.Ended new means folds =
         let m : (digest_in (slot_at old.table f.relay.stripe c) ≢ Some (digest_of (unfolded (weight_in old.table.data_columns f.relay c) f.sum sum))) × (new ≡ acted (with_archives old b) (GaveUp job f.relay.stripe f.relay.target c) []) =
@@ -118,6 +125,7 @@ module _ {A : Type 0} (told : Type 0) (meaning : A → Meaning) (old : GroupPart
           keeps = keeps_at b (GaveUp job f.relay.stripe f.relay.target c) [] new m.1 folds.keeps;
           steps = over_exit told meaning old job f c settled room here next within b sum live advanced.Ended new means folds;
           lossless = lossless_at b (GaveUp job f.relay.stripe f.relay.target c) [] new m.1 tt folds.loses;
+          writes = lost_only b (GaveUp job f.relay.stripe f.relay.target c) [] new m.1 folds.loses;
         }
 
     pub failed_advances : (new : GroupParts A) (e : Failed) → new ≡ noted (with_archives old b) (Fault job f.relay.stripe c) → Folded (Err e) → Advances told job f.relay.stripe (Err (failed.Faulted c)) (view_of meaning old) (view_of meaning new)
@@ -131,6 +139,7 @@ module _ {A : Type 0} (told : Type 0) (meaning : A → Meaning) (old : GroupPart
       keeps = keeps_at b (Fault job f.relay.stripe c) [] new is folds.keeps;
       steps = failed_exit told meaning old job f c settled room here next within b sum live new e is folds;
       lossless = lossless_at b (Fault job f.relay.stripe c) [] new is tt folds.loses;
+      writes = λ t. inl (on_way (λ f2 k. LosesFrom (view_of meaning old).shelves.held (view_of meaning old).shelves (view_of meaning new).shelves) (lost_only b (Fault job f.relay.stripe c) [] new is folds.loses t));
     }
 
 -- A RELAY THAT WENT OVER ALL ITS COLUMNS
@@ -161,6 +170,7 @@ module _ (told : Type 0) (g : GroupView) (job : ℕ) (f : Flight) (settled : IsS
     steps = odd_step told g job f settled room here next e wanted found t log fs m el ef;
     lossless = λ k none. lossless_less g (record g { table = t; log = log; flights = fs }) g.shelves.held (loses_refl g.shelves) none (λ n q x ln lq live h. h)
         (Oddly job f.relay.stripe f.relay.target found) tt (m.1 ∙ ap (after g.table) m.0);
+    writes = λ t. loses_refl g.shelves;
   }
 
   module _ (block : List ℕ) (is : block ≡ partial_of f) (digest : digest_in (slot_at g.table f.relay.stripe f.relay.target) ≡ Some (digest_of block)) (new : GroupView) where
@@ -179,6 +189,8 @@ module _ (told : Type 0) (g : GroupView) (job : ℕ) (f : Flight) (settled : IsS
           (subst (λ left. LosesFrom (put_at g.shelves.held (serving_at g.table f.relay.stripe f.relay.target) f.relay.stripe left) g.shelves new.shelves) ((m.1.wrote t).1) (m.1.wrote t).2) none
           (λ n k x ln lk live h. untouched told g new.shelves job f block settled room here next (Some block) n k lk live ∙ h)
           job f.relay.stripe f.relay.target block m.0.legal.0.1 (λ n q. refl) m.0.table;
+      writes = λ t. at_end (λ f2. WritesInto (serving_at g.table f.relay.stripe f2.relay.target) f.relay.stripe (partial_of f2) (Ok (tt)) g.shelves new.shelves)
+          (subst (λ b. WritesInto (serving_at g.table f.relay.stripe f.relay.target) f.relay.stripe b (Ok (tt)) g.shelves new.shelves) is (m.1.wrote t));
     }
     well_advances (Err (failed.Faulted column)) m = record {
       moves = (
@@ -191,6 +203,8 @@ module _ (told : Type 0) (g : GroupView) (job : ℕ) (f : Flight) (settled : IsS
       lossless = λ t none. lossless_less g new (put_at g.shelves.held (serving_at g.table f.relay.stripe f.relay.target) f.relay.stripe (m.2.1.wrote t).0) (m.2.1.wrote t).2 none
           (λ n k x ln lk live h. untouched told g new.shelves job f block settled room here next (m.2.1.wrote t).0 n k lk live ∙ h)
           (Fault job f.relay.stripe column) tt m.1.table;
+      writes = λ t. inr (at_end (λ f2. (e : Failed) × WritesInto (serving_at g.table f.relay.stripe f2.relay.target) f.relay.stripe (partial_of f2) (Err e) g.shelves new.shelves)
+          (m.2.0, subst (λ b. WritesInto (serving_at g.table f.relay.stripe f.relay.target) f.relay.stripe b (Err m.2.0) g.shelves new.shelves) is (m.2.1.wrote t)));
     }
 
 -- AN ADVANCE

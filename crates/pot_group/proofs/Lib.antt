@@ -13,6 +13,7 @@ pub mod Passing
 pub mod Placed
 pub mod LookSteps
 pub mod Opened
+pub mod Arriving
 pub mod RelayExits
 pub mod AdvanceSteps
 pub mod Lossless

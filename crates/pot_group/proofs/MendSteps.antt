@@ -21,9 +21,9 @@ use Rattle.pot_machine.specs.declared.entry.Entry.{Entry}
 use Rattle.pot_machine.specs.declared.entry.Entry.TheVariants.{Begin, Stuck}
 use Rattle.pot_steps.specs.Mending.{LosesNothing}
 use Rattle.pot_steps.proofs.Acting.{Lessens}
-use Rattle.pot_group.specs.Shelves.{Keeps, LosesFrom, NoneLost}
+use Rattle.pot_group.specs.Shelves.{Shelved, Keeps, LosesFrom, NoneLost, plain}
 use Rattle.pot_group.specs.Group.{GroupParts, IsSettled, view_of, state_of}
-use Rattle.pot_group.specs.Relaying.{AdvanceMeans, BeginMeans, Drives, Mends, Moves, Owns, acted, advance_as, answered}
+use Rattle.pot_group.specs.Relaying.{AdvanceMeans, AdvanceWrites, BeginMeans, Drives, Mends, Moves, Owns, acted, advance_as, answered}
 use Rattle.pot_group.proofs.BeginSteps.{crowded}
 use Rattle.pot_group.proofs.Lossless.{lossless_less, lossless_same}
 use Rattle.pot_group.proofs.ShelfLemmas.{keeps_refl, loses_refl}
@@ -90,11 +90,23 @@ module _ {A : Type 0} (told : Type 0) (meaning : A → Meaning) (old : GroupPart
   begin_lossless (Err (fault.TwoGone one other)) new m none = begin_loses new (Stuck job s c other) [] tt m.3 none
   begin_lossless (Err fault.Crowded) new m none = begin_same new m.1
 
+  -- a begin writes nothing
+  same_shelves : (new : GroupParts A) → new.archives ≡ old.archives → LosesFrom (view_of meaning old).shelves.held (view_of meaning old).shelves (view_of meaning new).shelves
+  same_shelves new e = subst (λ (a : Shelved A). LosesFrom (view_of meaning old).shelves.held (view_of meaning old).shelves (plain meaning a)) (sym e) (loses_refl (view_of meaning old).shelves)
+
+  pub begin_writes : (r : Result (Unit {0}) BeginFault) (new : GroupParts A) → BeginMeans job s c blind r old new → LosesFrom (view_of meaning old).shelves.held (view_of meaning old).shelves (view_of meaning new).shelves
+  begin_writes (Ok u) new m = same_shelves new (ap (λ (w : GroupParts A). w.archives) m.2)
+  begin_writes (Err fault.LogFull) new m = same_shelves new (ap (λ (w : GroupParts A). w.archives) m.0)
+  begin_writes (Err fault.Whole) new m = same_shelves new (ap (λ (w : GroupParts A). w.archives) m.1)
+  begin_writes (Err (fault.Standing k)) new m = same_shelves new (ap (λ (w : GroupParts A). w.archives) m.1)
+  begin_writes (Err (fault.TwoGone one other)) new m = same_shelves new (ap (λ (w : GroupParts A). w.archives) m.3)
+  begin_writes (Err fault.Crowded) new m = same_shelves new (ap (λ (w : GroupParts A). w.archives) m.1)
+
   -- an advance for a mend
   module _ (n : ℕ) (room : length old.log < log_bound) (there : relay_at old.table n ≢ None) (unsound : IsTrue (is_unsound (slot_at old.table s c))) (which : MovesRelay old.table s c n) where
     abbrev pub Advances : Result Advanced AdvanceFault → GroupParts A → Type 0
     Advances r new = AdvanceMeans meaning job n r old new × Keeps (view_of meaning old).shelves (view_of meaning new).shelves × (told → AdvanceStep job n (advance_as r) (state old) (state new))
-        × (told → NoneLost (view_of meaning old).shelves (view_of meaning new).shelves → LosesNothing (state old) (state new))
+        × (told → NoneLost (view_of meaning old).shelves (view_of meaning new).shelves → LosesNothing (state old) (state new)) × (told → AdvanceWrites n r (view_of meaning old) (view_of meaning new))
 
     moved : (r : Result Advanced AdvanceFault) (new : GroupParts A) → AdvanceMeans meaning job n r old new → Moves job n r (view_of meaning old) (view_of meaning new)
     moved (Ok advanced.Hopped) new m = m.1
@@ -118,18 +130,24 @@ module _ {A : Type 0} (told : Type 0) (meaning : A → Meaning) (old : GroupPart
       moves = moved r new m;
     }
 
+    written : (r : Result Advanced AdvanceFault) (new : GroupParts A) → Advances r new → told
+        → (n : ℕ) × (r : Result Advanced AdvanceFault) × MovesRelay old.table s c n × Moves job n r (view_of meaning old) (view_of meaning new) × AdvanceWrites n r (view_of meaning old) (view_of meaning new)
+    written r new a t = (n, r, which, moved r new a.0, a.4 t)
+
     odd : (own : Bool) (wanted found : Digest) (new : GroupParts A) → IsTrue own ↔ Owns old.table n s c → Advances (Err (failed.Odd wanted found)) new
         → Mends told meaning job s c blind (if own then mend.Odd wanted found else mend.Went) old new
     odd true wanted found new owns a = record {
       means = (room, drives true (Err (failed.Odd wanted found)) (mend.Odd wanted found) new owns refl a.0);
       keeps = a.1;
       lossless = a.3;
+      writes = written (Err (failed.Odd wanted found)) new a;
       steps = λ t. (unsound, (n, which, (a.2 t, owns.0 refl)));
     }
     odd false wanted found new owns a = record {
       means = (room, drives false (Err (failed.Odd wanted found)) mend.Went new owns refl a.0);
       keeps = a.1;
       lossless = a.3;
+      writes = written (Err (failed.Odd wanted found)) new a;
       steps = λ t. (unsound, (n, which, inr (inr (inr (wanted, found, a.2 t, λ o. no (owns.1 o))))));
     }
       where
@@ -141,24 +159,28 @@ module _ {A : Type 0} (told : Type 0) (meaning : A → Meaning) (old : GroupPart
       means = (room, drives own (Ok advanced.Hopped) mend.Went new owns refl a.0);
       keeps = a.1;
       lossless = a.3;
+      writes = written (Ok advanced.Hopped) new a;
       steps = λ t. (unsound, (n, which, inl (a.2 t)));
     }
     driven own (Ok advanced.Mended) new owns a = record {
       means = (room, drives own (Ok advanced.Mended) mend.Went new owns refl a.0);
       keeps = a.1;
       lossless = a.3;
+      writes = written (Ok advanced.Mended) new a;
       steps = λ t. (unsound, (n, which, inr (inl (a.2 t))));
     }
     driven own (Ok advanced.Ended) new owns a = record {
       means = (room, drives own (Ok advanced.Ended) mend.Went new owns refl a.0);
       keeps = a.1;
       lossless = a.3;
+      writes = written (Ok advanced.Ended) new a;
       steps = λ t. (unsound, (n, which, inr (inr (inl (a.2 t)))));
     }
     driven own (Err (failed.Faulted column)) new owns a = record {
       means = (room, drives own (Err (failed.Faulted column)) (mend.Faulted column) new owns refl a.0);
       keeps = a.1;
       lossless = a.3;
+      writes = written (Err (failed.Faulted column)) new a;
       steps = λ t. (unsound, (n, which, a.2 t));
     }
     driven own (Err (failed.Odd wanted found)) new owns a = odd own wanted found new owns a
@@ -169,7 +191,7 @@ module _ {A : Type 0} (told : Type 0) (meaning : A → Meaning) (old : GroupPart
     -- what an advance from `mid` came to
     abbrev pub AdvancesFrom : ℕ → GroupParts A → Result Advanced AdvanceFault → GroupParts A → Type 0
     AdvancesFrom n mid r new = AdvanceMeans meaning job n r mid new × Keeps (view_of meaning mid).shelves (view_of meaning new).shelves × (told → AdvanceStep job n (advance_as r) (state mid) (state new))
-        × (told → NoneLost (view_of meaning mid).shelves (view_of meaning new).shelves → LosesNothing (state mid) (state new))
+        × (told → NoneLost (view_of meaning mid).shelves (view_of meaning new).shelves → LosesNothing (state mid) (state new)) × (told → AdvanceWrites n r (view_of meaning mid) (view_of meaning new))
 
     pub standing_mends : (k : ℕ) (mid new : GroupParts A) (r : Result Advanced AdvanceFault) → BeginMeans job s c blind (Err (fault.Standing k)) old mid → AdvancesFrom s mid r new
         → Mends told meaning job s c blind (answered (k == c) r) old new

@@ -1,6 +1,6 @@
 -- What the calls of a move leave.
 use Rattle.std.proofs.Common.{◌≡◌, ℕ, suc, ◌+◌, ◌<◌, ◌++◌, List, [], ◌∷◌, None, Bool, true, false, length, length-append, refl, sym, ap, ◌∙◌, subst, arith}
-use Rattle.std.specs.Prelude.{Ok, Err, Result, IfOk, IfErr, Contains}
+use Rattle.std.specs.Prelude.{Contains}
 use Rattle.pot_outside.specs.Archives.{Meaning}
 use Rattle.pot_outside.specs.declared.archive.Shelf.{Shelf}
 use Rattle.pot_machine.specs.declared.entry.Entry.{Entry}
@@ -17,7 +17,7 @@ use Rattle.pot_steps.specs.Entries.{OnlyLoses}
 use Rattle.pot_steps.specs.Flights.{Acts}
 use Rattle.pot_steps.specs.Holdings.{Holdings}
 use Rattle.pot_group.proofs.BeginSteps.{none_least}
-use Rattle.pot_group.proofs.Brought.{settled_brings, held_same}
+use Rattle.pot_group.proofs.Brought.{held_same}
 use Rattle.pot_group.proofs.MoveExits.{move_begin_settled, swap_settled}
 
 pub go_exit : (told : Type 0) (g : GroupView) (job c to : ℕ) (e : Entry) (t : Table) (log : List Entry) → IsSettled told g → length g.log < log_bound → Legal g.table (MoveBegin job c to) → Contains g.shelves.numbers to
@@ -26,15 +26,6 @@ go_exit told g job c to e t log settled room legal there ee et el =
     subst (λ t. IsSettled told (record g { table = t; log = log })) (sym (et ∙ ap (after g.table) ee))
     (subst (λ log. IsSettled told (record g { table = after g.table (MoveBegin job c to); log = log })) (sym (el ∙ ap (λ e. g.log ++ e ∷ []) ee))
     (move_begin_settled told g job c settled room to legal there))
-
-pub receive_exit : {A : Type 0} (told : Type 0) (meaning : A → Meaning) (old : GroupParts A) (shelf : Shelf A) (r : Result (Unit {0}) (Shelf A)) (b : Shelved A)
-    → IsSettled told (view_of meaning old) → (Contains (plain meaning old.archives).numbers shelf.number → ⊥)
-    → IfOk r (λ u. Brings told shelf.number (meaning shelf.archive).held (meaning shelf.archive).heard (plain meaning old.archives) (plain meaning b))
-    → IfErr r (λ s. (s ≡ shelf) × (b ≡ old.archives)) → IsSettled told (view_of meaning (with_archives old b))
-receive_exit told meaning old shelf (Ok u) b settled fresh brought refused =
-    settled_brings told (view_of meaning old) shelf.number (meaning shelf.archive).held (meaning shelf.archive).heard (plain meaning b) settled fresh brought
-receive_exit told meaning old shelf (Err s) b settled fresh brought refused =
-    subst (λ (a : Shelved _). IsSettled told (view_of meaning (with_archives old a))) (sym refused.1) settled
 
 pub swap_exit : (told : Type 0) (g : GroupView) (job c to : ℕ) (t : Table) (log : List Entry) → IsSettled told g → length g.log < log_bound → Legal g.table (Swapped job c to) → Contains g.shelves.numbers to
     → t ≡ after g.table (Swapped job c to) → log ≡ g.log ++ Swapped job c to ∷ [] → IsSettled told (record g { table = t; log = log })

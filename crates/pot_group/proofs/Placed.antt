@@ -99,7 +99,7 @@ module _ (job : ℕ) (block : List ℕ) (old : GroupView) (full : length old.log
   nothing_logged = record { number = refl; first = refl; log = sym (append-nil old.log); flights = refl; replay = refl }
 
   pub at_once_logs : PutLogs job block (Err fault.LogFull) old old
-  at_once_logs = (full, ([], 0, None, nothing_logged, All-nil (λ x. FitsGone old.table x.stripe x.gone), tt))
+  at_once_logs = (full, ([], 0, None, nothing_logged, All-nil (λ x. FitsGone old.table x.stripe x.gone), tt), inl full)
 
   pub at_once_step : PutStep job block (put_as (Err fault.LogFull)) (state_of old) (state_of old)
   at_once_step = record {
@@ -124,10 +124,14 @@ module _ (told : Type 0) (job : ℕ) (parity block : List ℕ) (old mid : GroupV
   as_far : Logs (skips job f.passed ++ gone_entries job f.now.table.cursor.stripe f.means.0) old mid
   as_far = logs_then (skips job f.passed) (gone_entries job f.now.table.cursor.stripe f.means.0) old f.now mid f.passes.logs f.means.2
 
+  still_left : mid.table.cursor.stripe < mid.table.stripes
+  still_left = gone_stays job f.now.table.cursor.stripe f.means.0 f.now.table mid.table f.means.2.replay f.means.4
+
   pub log_full_logs : old.table.parity ≡ 1 → PutLogs job block (Err fault.LogFull) old mid
   log_full_logs one = (
     f.means.3,
     (f.passed, f.now.table.cursor.stripe, f.means.0, as_far, f.passes.gones, fits_gone told job f.passed old f.now mid one f.passes f.now.table.cursor.stripe f.means.0 (omega arith) f.means.1),
+    inr still_left,
   )
 
   pub log_full_step : old.table.parity ≡ 1 → told → PutStep job block (put_as (Err fault.LogFull)) (state_of old) (state_of mid)
@@ -140,7 +144,7 @@ module _ (told : Type 0) (job : ℕ) (parity block : List ℕ) (old mid : GroupV
     replay = f.means.2.replay;
     logs = logged told job f.passed old f.now mid f.passes f.stays t (skips job f.passed ++ gone_entries job f.now.table.cursor.stripe f.means.0) mid as_far (omega (arith, f.means.3)) (λ n. refl);
     full = f.means.3;
-    next = inr (gone_stays job f.now.table.cursor.stripe f.means.0 f.now.table mid.table f.means.2.replay f.means.4);
+    next = inr still_left;
   }
 
 -- THE PARITY COLUMN FAILED

@@ -1,12 +1,13 @@
 -- Archives by their numbers: what calls of them come to one after another.
-use Rattle.std.proofs.Common.{◌≡◌, ◌≢◌, ◌≤◌, ◌-◌, ◌^◌, ◌==◌, ◌⊎◌, inl, inr, ℕ, Bool, true, false, List, Option, Some, refl, ◌∙◌, arith}
+use Rattle.std.proofs.Common.{◌≡◌, ◌≢◌, ◌≤◌, ◌-◌, ◌^◌, ◌==◌, ◌⊎◌, inl, inr, ℕ, Bool, true, false, List, Option, Some, None, Result, Ok, Err, refl, sym, ◌∙◌, arith}
 use Rattle.std.specs.Prelude.{cond}
 use Rattle.std.proofs.lemmas.Bool.Decides.{eqb_tells, leb_tells}
-use Rattle.pot_outside.specs.Archives.{OnlyLoses, at_slot}
+use Rattle.pot_outside.specs.declared.faults.Failed.{Failed}
+use Rattle.pot_outside.specs.Archives.{OnlyLoses, MayLeave, at_slot}
 use Rattle.pot_outside.specs.Counts.{Rose}
 use Rattle.pot_outside.proofs.LossLemmas.{at_slot-here, at_slot-else, loses_nothing, loses_more, loses_under}
 use Rattle.pot_steps.specs.Holdings.{Holdings}
-use Rattle.pot_group.specs.Shelves.{Shelves, Keeps, LosesFrom, Stays, put_at}
+use Rattle.pot_group.specs.Shelves.{Shelves, Keeps, LosesFrom, Stays, WritesInto, IsWritten, put_at}
 
 -- ONE CALL AFTER ANOTHER
 
@@ -51,6 +52,21 @@ pub loses_put : (h : Holdings) (a b c : Shelves) (n slot : ℕ) (left : Option (
 loses_put h a b c n slot left o p = λ k.
     loses_more (put_at h n slot left k) (put_at b.held n slot left k) (c.held k) (a.losses k) (b.losses k) (c.losses k)
     (put_under h a b n slot left k (k == n) (o k)) (p k)
+
+-- a write after losses is that write and these losses
+written_after : (before now : ℕ → Option (List ℕ)) (slot : ℕ) (block : List ℕ) (r : Result (Unit {0}) Failed) (left : Option (List ℕ)) → ((b : List ℕ) → now slot ≡ Some b → before slot ≡ Some b)
+    → IsWritten r now slot block left → IsWritten r before slot block left
+written_after before now slot block (Ok u) left keeps w = w
+written_after before now slot block (Err e) left keeps (inr w) = inr w
+written_after before now slot block (Err e) left keeps (inl w) = there (now slot) w keeps
+  where
+    there : (was : Option (List ℕ)) → left ≡ was → ((b : List ℕ) → was ≡ Some b → before slot ≡ Some b) → MayLeave before slot block left
+    there None w keeps = inr (inr w)
+    there (Some b) w keeps = inl (w ∙ sym (keeps b refl))
+
+pub into_after : (a b c : Shelves) (n slot : ℕ) (block : List ℕ) (r : Result (Unit {0}) Failed) → LosesFrom a.held a b → WritesInto n slot block r b c → WritesInto n slot block r a c
+into_after a b c n slot block r l w =
+    (w.0, written_after (a.held n) (b.held n) slot block r w.0 (λ x e. (l n).keeps slot x e) w.1, loses_put a.held a b c n slot w.0 l w.2)
 
 pub put_at-here : (h : Holdings) (n slot : ℕ) (x : Option (List ℕ)) → put_at h n slot x n slot ≡ x
 put_at-here h n slot x = elim (eqb_tells n n) [ inl e ↦ rw e.0 (at_slot-here (h n) slot x) | inr e ↦ absurd (e.1 refl) ]

@@ -21,14 +21,14 @@ use Rattle.pot_group.specs.declared.copying.MoveStep.{MoveStep}
 use Rattle.pot_group.specs.declared.copying.MoveStep.TheVariants as moved
 use Rattle.pot_group.specs.declared.copying.MoveFault.{MoveFault}
 use Rattle.pot_group.specs.declared.copying.MoveFault.TheVariants as failed
-use Rattle.pot_group.specs.Shelves.{Finds, LosesFrom, Shelved, Shelves, Stays, Writes, plain, put_at}
+use Rattle.pot_group.specs.Shelves.{Finds, LosesFrom, Shelved, Shelves, Stays, Writes, WritesInto, plain, put_at}
 use Rattle.pot_group.specs.Group.{GroupParts, GroupView, IsSettled, noted, state_of, view_of, with_archives}
 use Rattle.pot_group.specs.Relaying.{Acts, acted}
 use Rattle.pot_steps.specs.MoveSteps.{MoveStep as IsMoveStep}
-use Rattle.pot_group.specs.Moving.{FailedBy, MoveMeans, MovesOn, OnMove, Steps, move_as}
+use Rattle.pot_group.specs.Moving.{CopiesInto, FailedBy, MoveMeans, MoveWrites, MovesOn, OnMove, Steps, move_as}
 use Rattle.pot_group.proofs.BeginSteps.{logged_in}
 use Rattle.pot_group.proofs.MoveExits.{beside, copied_settled, copies, move_end_settled, passed_settled, uncopied_settled}
-use Rattle.pot_group.proofs.ShelfLemmas.{keeps_refl, keeps_then}
+use Rattle.pot_group.proofs.ShelfLemmas.{into_after, keeps_refl, keeps_then, loses_from_then, loses_refl}
 
 some_of : {A : Type 0} (o : Option A) (a : A) (P : A → Type 0) → IsSomeAnd o P → o ≡ Some a → P a
 some_of o a P h e = subst (λ o. IsSomeAnd o P) e h
@@ -114,6 +114,7 @@ module _ (told : Type 0) (g : GroupView) (job c : ℕ) (m : Moving) (settled : I
           },
           w.heard k,
         );
+        writes = λ k. on_move (λ n. (b : List ℕ) × IsSound (stripe_of g.table g.shelves.held n.upto) c b × WritesInto n.to n.upto b (Ok (tt)) g.shelves now) (block, sound k, w.wrote k);
       }
 
     -- or failed
@@ -124,8 +125,8 @@ module _ (told : Type 0) (g : GroupView) (job c : ℕ) (m : Moving) (settled : I
           (subst (λ log. IsSettled told (record g { table = after g.table (Fault job m.upto c); log = log; shelves = now })) (sym el)
           (uncopied_settled told g m.upto c m settled column moving refl now job block room lt e w))
 
-      pub uncopied_steps : Steps told job c (Err (failed.Faulted c)) g (record g { table = t; log = log; shelves = now })
-      uncopied_steps = record {
+      pub uncopied_steps : (told → IsSound (stripe_of g.table g.shelves.held m.upto) c block) → Steps told job c (Err (failed.Faulted c)) g (record g { table = t; log = log; shelves = now })
+      uncopied_steps sound = record {
         moves = (
           refl,
           on_move (λ n. (n.upto < g.table.stripes) × IsTrue (is_live (slot_at g.table n.upto c))
@@ -151,6 +152,7 @@ module _ (told : Type 0) (g : GroupView) (job c : ℕ) (m : Moving) (settled : I
           w.heard k,
           on_move (λ n. n.upto ≡ m.upto) refl,
         );
+        writes = λ k. inr (e, on_move (λ n. (b : List ℕ) × IsSound (stripe_of g.table g.shelves.held n.upto) c b × WritesInto n.to n.upto b (Err e) g.shelves now) (block, sound k, w.wrote k));
       }
 
 -- A CALL OF THE CODE
@@ -167,6 +169,7 @@ module _ {A : Type 0} (told : Type 0) (meaning : A → Meaning) (old : GroupPart
         (some_of (column_at old.table c).moving m (λ n. n.upto ≡ old.table.stripes) (legal.1) moving, acts old.archives (MoveEnd job c) legal);
     keeps = keeps_refl (view_of meaning old).shelves;
     steps = λ t. (logged_in told (view_of meaning old) settled room (MoveEnd job c) [] legal (λ n k b ln lk l e. e), (λ n. refl));
+    writes = λ t. loses_refl (view_of meaning old).shelves;
   })
     where
       legal : Legal old.table (MoveEnd job c)
@@ -180,6 +183,7 @@ module _ {A : Type 0} (told : Type 0) (meaning : A → Meaning) (old : GroupPart
         (lt, acts old.archives (Moved job m.upto c false) legal);
     keeps = keeps_refl (view_of meaning old).shelves;
     steps = λ t. (m.upto, logged_in told (view_of meaning old) settled room (Moved job m.upto c false) [] legal (λ n k b ln lk l e. e), (λ n. refl), missing t);
+    writes = λ t. loses_refl (view_of meaning old).shelves;
   })
     where
       legal : Legal old.table (Moved job m.upto c false)
@@ -215,6 +219,7 @@ module _ {A : Type 0} (told : Type 0) (meaning : A → Meaning) (old : GroupPart
       finds.stays.heard t,
       on_move told (view_of meaning old) job c m settled room column moving (λ n. n.upto ≡ m.upto) refl,
     );
+    writes = λ t. inl (finds.stays.loses t);
   })
 
   -- A step after a read that did not fail.
@@ -262,11 +267,31 @@ module _ {A : Type 0} (told : Type 0) (meaning : A → Meaning) (old : GroupPart
     steps_back (Err failed.LogFull) x t s = absurd x
     steps_back (Err failed.Idle) x t s = absurd x
 
+    into_back : (r : Result (Unit {0}) Failed) → told → CopiesInto c r (view_of meaning (with_archives old b)) (view_of meaning new) → CopiesInto c r (view_of meaning old) (view_of meaning new)
+    into_back r t x = some_map (column_at old.table c).moving (λ n y. (
+      y.0,
+      record { digest = y.1.digest; live = y.1.live; held = (stays.loses t (serving_at old.table n.upto c)).keeps n.upto y.0 y.1.held; right = y.1.right },
+      into_after (plain meaning old.archives) (plain meaning b) (view_of meaning new).shelves n.to n.upto y.0 r (stays.loses t) y.2,
+    )) x
+
+    lost_back : told → LosesFrom (plain meaning b).held (plain meaning b) (view_of meaning new).shelves → LosesFrom (plain meaning old.archives).held (plain meaning old.archives) (view_of meaning new).shelves
+    lost_back t l = loses_from_then (plain meaning old.archives).held (plain meaning old.archives) (plain meaning b) (view_of meaning new).shelves (stays.loses t) l
+
+    writes_back : (r : Result MoveStep MoveFault) → told → MoveWrites c r (view_of meaning (with_archives old b)) (view_of meaning new) → MoveWrites c r (view_of meaning old) (view_of meaning new)
+    writes_back (Ok moved.Copied) t x = into_back (Ok (tt)) t x
+    writes_back (Ok moved.Passed) t x = lost_back t x
+    writes_back (Ok moved.Ended) t x = lost_back t x
+    writes_back (Err (failed.Faulted d)) t (inl x) = inl (lost_back t x)
+    writes_back (Err (failed.Faulted d)) t (inr x) = inr (x.0, into_back (Err x.0) t x.1)
+    writes_back (Err failed.LogFull) t x = lost_back t x
+    writes_back (Err failed.Idle) t x = lost_back t x
+
     pub after_read : (r : Result MoveStep MoveFault) → Steps told job c r (view_of meaning (with_archives old b)) (view_of meaning new) → Steps told job c r (view_of meaning old) (view_of meaning new)
     after_read r s = record {
       moves = back r s.moves;
       keeps = keeps_then (plain meaning old.archives) (plain meaning b) (view_of meaning new).shelves stays.keeps s.keeps;
       steps = λ t. steps_back r s.moves t (s.steps t);
+      writes = λ t. writes_back r t (s.writes t);
     }
 
   -- the slot has no block of its digest
@@ -294,6 +319,7 @@ module _ {A : Type 0} (told : Type 0) (meaning : A → Meaning) (old : GroupPart
       finds.stays.heard t,
       (λ x. finds.means t x.0 x.1.held (x.1.right ∙ same x.1.digest (sym x.1.live ∙ live))),
     );
+    writes = λ t. finds.stays.loses t;
   })
     where
       legal : Legal old.table (Moved job m.upto c false)

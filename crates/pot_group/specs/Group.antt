@@ -162,7 +162,8 @@ PutNothing job passed s column old new =
     Logs (skips job passed ++ entry.Fault job s column ∷ []) old new × ((column ≡ new.table.cursor.column) ⊎ (old.table.data_columns ≤ column))
 
 -- What a put logs, whether or not archives tell: for each stripe passed Skip, or Gone of its parity slot and Skip, and then
--- the entry of its answer. Faulted names the cursor's column or a parity column, whose archive failed.
+-- the entry of its answer. LogFull comes at once, or while the cursor has a stripe that is still to be tried. Faulted names the
+-- cursor's column or a parity column, whose archive failed.
 abbrev pub PutLogs : ℕ → List ℕ → Result Place PutFault → GroupView → GroupView → Type 0
 PutLogs job block (Ok place) old new =
     (place.group ≡ old.number)
@@ -173,6 +174,7 @@ PutLogs job block (Err fault.LogFull) old new =
     (length new.log ≡ log_bound)
     × ((passed : List Passed) × (s : ℕ) × (gone : Option ℕ) × Logs (skips job passed ++ gone_entries job s gone) old new
     × FitsPassed old.table passed × FitsGone old.table s gone)
+    × ((length old.log ≡ log_bound) ⊎ (new.table.cursor.stripe < new.table.stripes))
 PutLogs job block (Err fault.Full) old new =
     (new.table.cursor.stripe ≡ new.table.stripes) × ((passed : List Passed) × Logs (skips job passed) old new × FitsPassed old.table passed)
 PutLogs job block (Err (fault.Faulted column)) old new =

@@ -2,6 +2,7 @@ pub mod Shelves
 pub mod Causes
 pub mod Opening
 pub mod Group
+pub mod Arrivals
 pub mod Beginning
 pub mod Looking
 pub mod Putting

@@ -1,13 +1,16 @@
 -- What moves and swaps do to a group, whether or not archives tell.
-use Rattle.std.specs.Prelude.{◌≡◌, ◌⊎◌, ◌<◌, ℕ, [], Option, Some, None, Result, Ok, Err, Contains, IsSome, IsSomeAnd, IsTrue, true, false, length}
+use Rattle.std.specs.Prelude.{◌≡◌, ◌⊎◌, ◌<◌, ℕ, List, [], Option, Some, None, Result, Ok, Err, Contains, IsSome, IsSomeAnd, IsTrue, true, false, length}
 use Rattle.pot_outside.specs.Archives.{Meaning}
 use Rattle.pot_outside.specs.Counts.{Rose}
+use Rattle.pot_outside.specs.declared.faults.Failed.{Failed}
 use Rattle.pot_outside.specs.declared.archive.Shelf.{Shelf}
 use Rattle.pot_machine.specs.declared.column.Moving.{Moving}
 use Rattle.pot_machine.specs.declared.entry.Entry.{Entry}
 use Rattle.pot_machine.specs.declared.entry.Entry.TheVariants as entry
 use Rattle.pot_machine.specs.Slot.{is_live}
 use Rattle.pot_machine.specs.Table.{Table, slot_at, column_at, serving_at, count}
+use Rattle.pot_steps.specs.Stripe.{IsSound}
+use Rattle.pot_steps.specs.Holdings.{stripe_of}
 use Rattle.pot_steps.specs.MoveSteps as step
 use Rattle.pot_group.specs.declared.copying.MoveStep.{MoveStep}
 use Rattle.pot_group.specs.declared.copying.MoveStep.TheVariants as moved
@@ -15,7 +18,7 @@ use Rattle.pot_group.specs.declared.copying.MoveFault.{MoveFault}
 use Rattle.pot_group.specs.declared.copying.MoveFault.TheVariants as failed
 use Rattle.pot_group.specs.declared.moving.ShelfCause.{ShelfCause}
 use Rattle.pot_group.specs.declared.moving.ShelfCause.TheVariants as cause
-use Rattle.pot_group.specs.Shelves.{Brings, Keeps}
+use Rattle.pot_group.specs.Shelves.{Brings, Keeps, LosesFrom, WritesInto}
 use Rattle.pot_group.specs.Group.{GroupParts, GroupView, state_of, view_of}
 use Rattle.pot_group.specs.Relaying.{Acts}
 
@@ -87,8 +90,22 @@ MoveMeans meaning job c (Err failed.LogFull) old new = (length old.log ≡ 26214
 MoveMeans meaning job c (Err failed.Idle) old new = (length old.log < 262144) × ((column_at old.table c).moving ≡ None) × (new ≡ old)
 MoveMeans meaning job c answer old new = (length old.log < 262144) × MovesOn job c answer (view_of meaning old) (view_of meaning new)
 
--- A step of a column that moves: what it does, that the archives stay with their marks, and, where they tell, the step of a group.
+-- the slot's own block, which is held, goes to the target, or its write fails
+abbrev pub CopiesInto : ℕ → Result (Unit {0}) Failed → GroupView → GroupView → Type 0
+CopiesInto c result old new =
+    OnMove old c (λ m. (block : List ℕ) × IsSound (stripe_of old.table old.shelves.held m.upto) c block × WritesInto m.to m.upto block result old.shelves new.shelves)
+
+-- What a step of a move writes, said of archives that tell. Copied: the slot's block, into the target. Faulted: nothing, or what a
+-- failed write of that block may leave there. Else nothing. Blocks may be lost besides.
+abbrev pub MoveWrites : ℕ → Result MoveStep MoveFault → GroupView → GroupView → Type 0
+MoveWrites c (Ok moved.Copied) old new = CopiesInto c (Ok (tt)) old new
+MoveWrites c (Err (failed.Faulted column)) old new = LosesFrom old.shelves.held old.shelves new.shelves ⊎ ((e : Failed) × CopiesInto c (Err e) old new)
+MoveWrites c answer old new = LosesFrom old.shelves.held old.shelves new.shelves
+
+-- A step of a column that moves: what it does, that the archives stay with their marks, and, where they tell, the step of a group and
+-- what was written.
 pub record Steps (told : Type 0) (job c : ℕ) (result : Result MoveStep MoveFault) (old new : GroupView) : Type 0 where
   pub moves : MovesOn job c result old new
   pub keeps : Keeps old.shelves new.shelves
   pub steps : told → step.MoveStep job c (move_as result) (state_of old) (state_of new)
+  pub writes : told → MoveWrites c result old new

@@ -17,7 +17,7 @@ use Rattle.pot_group.specs.declared.relaying.Advanced.{Advanced}
 use Rattle.pot_group.specs.declared.relaying.Advanced.TheVariants as advanced
 use Rattle.pot_outside.specs.declared.faults.Failed.{Failed}
 use Rattle.pot_machine.specs.Table.{serving_at}
-use Rattle.pot_group.specs.Shelves.{Keeps, NoneLost, Writes}
+use Rattle.pot_group.specs.Shelves.{Keeps, LosesFrom, NoneLost, Writes, WritesInto}
 use Rattle.pot_group.specs.declared.relaying.AdvanceFault.{AdvanceFault}
 use Rattle.pot_group.specs.declared.relaying.AdvanceFault.TheVariants as failed
 use Rattle.pot_group.specs.declared.relaying.BeginFault.{BeginFault}
@@ -136,13 +136,24 @@ AdvanceMeans meaning job s (Err failed.LogFull) old new = (length old.log ≡ 26
 AdvanceMeans meaning job s (Err failed.Idle) old new = (length old.log < 262144) × (relay_at old.table s ≡ None) × (new ≡ old)
 AdvanceMeans meaning job s answer old new = (length old.log < 262144) × Moves job s answer (view_of meaning old) (view_of meaning new)
 
+-- What an advance writes, said of archives that tell. Mended: the partial, into the target's slot. Faulted: nothing on the way, and
+-- behind the last column what a failed write of the partial may leave in that slot. Else nothing. Blocks may be lost besides.
+abbrev pub AdvanceWrites : ℕ → Result Advanced AdvanceFault → GroupView → GroupView → Type 0
+AdvanceWrites s (Ok advanced.Mended) old new =
+    AtEnd old s (λ f. WritesInto (serving_at old.table s f.relay.target) s (partial_of f) (Ok (tt)) old.shelves new.shelves)
+AdvanceWrites s (Err (failed.Faulted column)) old new =
+    OnWay old s (λ f c. LosesFrom old.shelves.held old.shelves new.shelves)
+    ⊎ AtEnd old s (λ f. (e : Failed) × WritesInto (serving_at old.table s f.relay.target) s (partial_of f) (Err e) old.shelves new.shelves)
+AdvanceWrites s answer old new = LosesFrom old.shelves.held old.shelves new.shelves
+
 -- A step of the stripe's relay: what it does, that the archives stay with their marks, and, where they tell, the step of a group,
--- and that no block is lost where no count of losses rose.
+-- that no block is lost where no count of losses rose, and what was written.
 pub record Advances (told : Type 0) (job s : ℕ) (result : Result Advanced AdvanceFault) (old new : GroupView) : Type 0 where
   pub moves : Moves job s result old new
   pub keeps : Keeps old.shelves new.shelves
   pub steps : told → step.AdvanceStep job s (advance_as result) (state_of old) (state_of new)
   pub lossless : told → NoneLost old.shelves new.shelves → LosesNothing (state_of old) (state_of new)
+  pub writes : told → AdvanceWrites s result old new
 
 -- A MEND
 
@@ -187,8 +198,18 @@ MendMeans meaning job s c blind (mend.TwoGone first second) old new = BeginMeans
 MendMeans meaning job s c blind mend.LogFull old new = BeginMeans job s c blind (Err fault.LogFull) old new
 MendMeans meaning job s c blind answer old new = (length old.log < 262144) × Drives job s c answer (view_of meaning old) (view_of meaning new)
 
+-- What a mend writes, said of archives that tell: what the advance that it makes writes, and where it makes none, nothing.
+abbrev pub MendWrites : ℕ → ℕ → ℕ → Mend → GroupView → GroupView → Type 0
+MendWrites job s c mend.Whole old new = LosesFrom old.shelves.held old.shelves new.shelves
+MendWrites job s c mend.Began old new = LosesFrom old.shelves.held old.shelves new.shelves
+MendWrites job s c (mend.TwoGone first second) old new = LosesFrom old.shelves.held old.shelves new.shelves
+MendWrites job s c mend.LogFull old new = LosesFrom old.shelves.held old.shelves new.shelves
+MendWrites job s c answer old new =
+    (n : ℕ) × (result : Result Advanced AdvanceFault) × step.MovesRelay old.table s c n × Moves job n result old new × AdvanceWrites n result old new
+
 pub record Mends {A : Type 0} (told : Type 0) (meaning : A → Meaning) (job s c : ℕ) (blind : List ℕ) (answer : Mend) (old new : GroupParts A) : Type 0 where
   pub means : MendMeans meaning job s c blind answer old new
   pub keeps : Keeps (view_of meaning old).shelves (view_of meaning new).shelves
   pub steps : told → step.MendStep job s c blind (mend_as answer) (state_of (view_of meaning old)) (state_of (view_of meaning new))
   pub lossless : told → NoneLost (view_of meaning old).shelves (view_of meaning new).shelves → LosesNothing (state_of (view_of meaning old)) (state_of (view_of meaning new))
+  pub writes : told → MendWrites job s c answer (view_of meaning old) (view_of meaning new)

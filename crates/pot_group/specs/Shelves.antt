@@ -146,9 +146,14 @@ abbrev pub IsWritten : Result (Unit {0}) Failed → (ℕ → Option (List ℕ)) 
 IsWritten (Ok u) held slot block left = left ≡ Some block
 IsWritten (Err e) held slot block left = MayLeave held slot block left
 
+-- A block goes into this slot of an archive, or its write fails and leaves there what it may. Nothing else changes but by losses.
+abbrev pub WritesInto : ℕ → ℕ → List ℕ → Result (Unit {0}) Failed → Shelves → Shelves → Type 0
+WritesInto number slot block result old new =
+    (left : Option (List ℕ)) × IsWritten result (old.held number) slot block left × LosesFrom (put_at old.held number slot left) old new
+
 -- A block is written into a slot of an archive.
 pub record Writes (told : Type 0) (number slot : ℕ) (block : List ℕ) (result : Result (Unit {0}) Failed) (old new : Shelves) : Type 0 where
   pub keeps : Keeps old new
-  pub wrote : told → (left : Option (List ℕ)) × IsWritten result (old.held number) slot block left × LosesFrom (put_at old.held number slot left) old new
+  pub wrote : told → WritesInto number slot block result old new
   pub heard : told → (n : ℕ) → new.heard n ≡ old.heard n
   pub cause : IsErr result → Rose (old.faults number) (new.faults number)

@@ -44,9 +44,9 @@ impl<A: Archive> Group<A> {
     ghost use Rattle.pot_group.specs.Shelves.{plain, Keeps};
     ghost use Rattle.pot_group.specs.Group.{view_of, state_of};
     ghost use Rattle.pot_group.specs.Relaying.{acted};
-    ghost use Rattle.pot_group.specs.Moving.{move_as, MoveMeans, Steps};
+    ghost use Rattle.pot_group.specs.Moving.{move_as, MoveMeans, MoveWrites, Steps};
 
-    /// Moves a column by one stripe, or ends its move.
+    /// Moves a column by one stripe, or ends its move. It writes to no other slot than that of the target at this stripe.
     ///
     /// # Errors
     /// `LogFull` first, exactly where the log has 262,144 entries. `Idle` exactly where the column does not move. `Faulted` where the
@@ -57,11 +57,12 @@ impl<A: Archive> Group<A> {
         ensures means { MoveMeans A.account.meaning job column result self.old self.new }
         ensures keeps { Keeps (view_of A.account.meaning self.old).shelves (view_of A.account.meaning self.new).shelves }
         ensures step { IsTrue A.account.tells → IsMoveStep job column (move_as result) (state_of (view_of A.account.meaning self.old)) (state_of (view_of A.account.meaning self.new)) }
+        ensures writes { IsTrue A.account.tells → MoveWrites column result (view_of A.account.meaning self.old) (view_of A.account.meaning self.new) }
     {
         if self.log.len() >= LOG_BOUND {
             return Err(MoveFault::LogFull);
         }
-        let _settled = self.kept();
+        let _settled = self.logged();
         let Some(moving) = self.table.columns()[usize::from(column)].moving else {
             return Err(MoveFault::Idle);
         };
@@ -75,7 +76,7 @@ impl<A: Archive> Group<A> {
         requires room { length self.old.log < 262144 }
         ensures { Steps (IsTrue A.account.tells) job column result (view_of A.account.meaning self.old) (view_of A.account.meaning self.new) }
     {
-        let _settled = self.kept();
+        let _settled = self.logged();
         if moving.upto >= self.table.stripes() {
             self.end_move(job, column);
             return Ok(MoveStep::Ended);
@@ -102,7 +103,7 @@ impl<A: Archive> Group<A> {
         requires room { length self.old.log < 262144 }
         ensures { Steps (IsTrue A.account.tells) job column result (view_of A.account.meaning self.old) (view_of A.account.meaning self.new) }
     {
-        let _settled = self.kept();
+        let _settled = self.logged();
         let mut block = Block::zero();
         match self.read_slot(moving.upto, column, digest, &mut block) {
             Found::Sound => self.write_copy(job, column, moving, &block),

@@ -17,7 +17,7 @@ pub(crate) const LOG_BOUND: usize = 262144;
 
 /// What a group was, handed out at its end.
 pub struct Ended<A> {
-    /// The table, without relays.
+    /// The table now. Relays that did not end stand in it.
     pub table: GroupTable,
     /// The entries of this session.
     pub log: Vec<Entry>,
@@ -42,12 +42,14 @@ impl<A: Archive> Model for Group<A> {
     ghost use Rattle.std.specs.Prelude.{◌≤◌, IsTrue};
     ghost use Rattle.std.specs.Vec.{vec_capacity};
     ghost use Rattle.pot_group.specs.Group.{GroupParts, view_of, IsSettled};
+    ghost use Rattle.pot_group.specs.Shelves.{numbers_of};
+    ghost use Rattle.pot_group.specs.Arrivals.{HasArrived};
 
     ghost Value = { GroupParts A };
 
     ghost view = { λ g. record { number = g.number; first = g.first; table = g.table; log = g.log.items; flights = g.flights.items; archives = g.archives } };
 
-    ghost invariant = { λ g. IsSettled (IsTrue A.account.tells) (view_of A.account.meaning (record { number = g.number; first = g.first; table = g.table; log = g.log.items; flights = g.flights.items; archives = g.archives })) × (262144 ≤ vec_capacity g.log) × (16 ≤ vec_capacity g.flights) };
+    ghost invariant = { λ g. IsSettled (IsTrue A.account.tells) (view_of A.account.meaning (record { number = g.number; first = g.first; table = g.table; log = g.log.items; flights = g.flights.items; archives = g.archives })) × (262144 ≤ vec_capacity g.log) × (16 ≤ vec_capacity g.flights) × HasArrived g.first g.log.items (numbers_of g.archives.shelves) };
 }
 
 impl<A: Archive> Group<A> {
@@ -56,6 +58,8 @@ impl<A: Archive> Group<A> {
     ghost use Rattle.pot_machine.specs.Rules.{IsTable};
     ghost use Rattle.pot_group.specs.Shelves.{plain, Finds};
     ghost use Rattle.pot_group.specs.Group.{view_of, noted, with_archives, IsQuiet, IsSettled, CoversIfNotRead};
+    ghost use Rattle.pot_group.specs.Shelves.{numbers_of};
+    ghost use Rattle.pot_group.specs.Arrivals.{HasArrived};
 
     /// Reads the block of a slot that is to have this digest.
     pub(crate) fn read_slot(
@@ -99,6 +103,7 @@ impl<A: Archive> Group<A> {
         ensures bound { result ≤ 262144 }
         ensures settled { IsSettled (IsTrue A.account.tells) (view_of A.account.meaning self.now) }
         ensures first { IsTable self.now.first }
+        ensures arrived { HasArrived self.now.first self.now.log (numbers_of self.now.archives.shelves) }
     {
         let _rules = self.first.cursor();
         self.log.len() as u64
@@ -110,6 +115,7 @@ impl<A: Archive> Group<A> {
         ensures log { result.log.items ≡ self.log }
         ensures shelves { result.shelves.items ≡ self.archives.shelves }
         ensures settled { IsSettled (IsTrue A.account.tells) (view_of A.account.meaning self) }
+        ensures arrived { HasArrived self.first self.log (numbers_of self.archives.shelves) }
     {
         let Group {
             number: _,

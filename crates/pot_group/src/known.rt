@@ -1,9 +1,9 @@
 //! Digests that a group need not take again.
-ghost use Rattle.std.specs.Prelude.{◌≡◌, IfSome};
+ghost use Rattle.std.specs.Prelude.{◌≡◌};
 ghost use Rattle.pot_steps.specs.Stripe.{digest_of};
 
-use pot_bytes::{Block, Digest, digest_of};
-use pot_sealed::Sealed;
+use pot_bytes::{Block, Digest};
+use pot_sealed::{Sealed, digest_knowing};
 
 /// Blocks with their digests: the last parity block that was written, and the block and the parity block that a caller
 /// expects next. What they are changes no answer.
@@ -34,73 +34,50 @@ impl Known {
     }
 
     /// The digest of a block.
+    #[tactic(auto, unfolding(pot_steps::specs::Stripe::digest_of))]
     pub(crate) fn digest(&self, block: &Block) -> Digest
         ensures { result ≡ digest_of block.now }
     {
-        if let Some(digest) = given(&self.last, block) {
-            return digest;
+        if self.last.is(block) {
+            return self.last.digest();
         }
-        if let Some(digest) = given(&self.block, block) {
-            return digest;
+        if self.block.is(block) {
+            return self.block.digest();
         }
-        if let Some(digest) = given(&self.parity, block) {
-            return digest;
-        }
-        computed(block)
+        digest_knowing(block, &self.parity)
     }
 
     /// The digest of a block that is put. It keeps both, since the parity block of a new stripe is the same.
+    #[tactic(auto, unfolding(pot_steps::specs::Stripe::digest_of))]
     pub(crate) fn meet(&mut self, block: &Block) -> Digest
         ensures { result ≡ digest_of block.now }
     {
-        if let Some(digest) = given(&self.block, block) {
-            return digest;
+        if self.block.is(block) {
+            return self.block.digest();
         }
-        let sealed = Sealed::new(block);
-        self.block = sealed;
-        taken(&sealed)
+        self.block = Sealed::new(block);
+        self.block.digest()
     }
 
     /// The digest of a parity block that was written. It keeps both.
+    #[tactic(auto, unfolding(pot_steps::specs::Stripe::digest_of))]
     pub(crate) fn learn(&mut self, parity: &Block) -> Digest
         ensures { result ≡ digest_of parity.now }
     {
-        if let Some(digest) = given(&self.parity, parity) {
-            self.last = self.parity;
-            return digest;
-        }
-        if let Some(digest) = given(&self.block, parity) {
-            self.last = self.block;
-            return digest;
-        }
-        let sealed = Sealed::new(parity);
-        self.last = sealed;
-        taken(&sealed)
+        self.last = self.sealed(parity);
+        self.last.digest()
     }
-}
 
-/// The digest of a block, where it is this one.
-fn given(sealed: &Sealed, block: &Block) -> Option<Digest>
-    ensures { IfSome result (λ digest. digest ≡ digest_of block.now) }
-{
-    if sealed.is(block) {
-        Some(taken(sealed))
-    } else {
-        None
+    /// A parity block with its digest.
+    fn sealed(&self, parity: &Block) -> Sealed
+        ensures { result.block ≡ parity.now }
+    {
+        if self.parity.is(parity) {
+            return self.parity;
+        }
+        if self.block.is(parity) {
+            return self.block;
+        }
+        Sealed::new(parity)
     }
-}
-
-/// The digest of a sealed block.
-#[tactic(auto, unfolding(pot_steps::specs::Stripe::digest_of))]
-fn taken(sealed: &Sealed) -> Digest
-    ensures { result ≡ digest_of sealed.now.block }
-{
-    sealed.digest()
-}
-
-/// The digest of a block.
-fn computed(block: &Block) -> Digest
-    ensures { result ≡ digest_of block.now }
-{
-    digest_of(block.bytes())
 }

@@ -34,6 +34,8 @@
 //! 9. The cause law (`causes`). The log names no more faults of a column than its archives counted above their marks, unless one
 //!    of these counts stands at its last value. A Live slot of a column was called missing, by a Gone but of job 0, a GaveUp or a
 //!    Moved without a copy, only where the count of losses of one of its archives rose above the mark.
+//! 10. The archives of the group are those of the table that it began with, and then those that its log brought, in order
+//!    (`HasArrived`; `start` asks for the first, and `move_begin` and `swap` bring the others). `end` hands out all of them.
 //!
 //! `flying`, 7, 8 and the losses of 6 and 9 are said of archives that tell what they hold, and all else always.
 //!

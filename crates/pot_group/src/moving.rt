@@ -57,7 +57,7 @@ impl<A: Archive> Group<A> {
                 cause: ShelfCause::LogFull,
             });
         }
-        let _settled = self.kept();
+        let _settled = self.logged();
         let to = shelf.number;
         if let Some(number) = self.in_use(column, to) {
             return Err(ShelfRefused {
@@ -65,13 +65,12 @@ impl<A: Archive> Group<A> {
                 cause: ShelfCause::InUse { number },
             });
         }
-        if let Err(shelf) = self.receive(shelf) {
+        if let Err(shelf) = self.go_to(job, column, shelf) {
             return Err(ShelfRefused {
                 shelf,
                 cause: ShelfCause::NoMemory,
             });
         }
-        self.go_to(job, column, to);
         Ok(())
     }
 
@@ -92,7 +91,7 @@ impl<A: Archive> Group<A> {
                 cause: ShelfCause::LogFull,
             });
         }
-        let _settled = self.kept();
+        let _settled = self.logged();
         let to = shelf.number;
         if self.archives.has(to) {
             return Err(ShelfRefused {
@@ -101,13 +100,12 @@ impl<A: Archive> Group<A> {
             });
         }
         let live = live_in(&self.table, column);
-        if let Err(shelf) = self.receive(shelf) {
+        if let Err(shelf) = self.swap_to(job, column, shelf) {
             return Err(ShelfRefused {
                 shelf,
                 cause: ShelfCause::NoMemory,
             });
         }
-        self.swap_to(job, column, to);
         Ok(live)
     }
 
@@ -126,41 +124,45 @@ impl<A: Archive> Group<A> {
         None
     }
 
-    /// Takes an archive in, under a number that none of the group's has. Where memory is short it comes back.
-    pub(crate) fn receive(&mut self, shelf: Shelf<A>) -> Result<(), Shelf<A>>
-        requires { Contains (plain A.account.meaning self.old.archives).numbers shelf.number → ⊥ }
-        ensures brought { IfOk result (λ u. (self.new ≡ with_archives self.old self.new.archives) × Brings (IsTrue A.account.tells) shelf.number (A.account.meaning shelf.archive).held (A.account.meaning shelf.archive).heard (plain A.account.meaning self.old.archives) (plain A.account.meaning self.new.archives)) }
+    /// An archive comes, and a column begins to move to it. Where memory is short the archive comes back.
+    pub(crate) fn go_to(&mut self, job: u32, column: u8, shelf: Shelf<A>) -> Result<(), Shelf<A>>
+        requires fresh { Contains (plain A.account.meaning self.old.archives).numbers shelf.number → ⊥ }
+        requires legal { Legal self.old.table (MoveBegin job column shelf.number) }
+        requires room { length self.old.log < 262144 }
+        ensures came { IfOk result (λ u. (self.new ≡ acted (with_archives self.old self.new.archives) (MoveBegin job column shelf.number) []) × Brings (IsTrue A.account.tells) shelf.number (A.account.meaning shelf.archive).held (A.account.meaning shelf.archive).heard (plain A.account.meaning self.old.archives) (plain A.account.meaning self.new.archives)) }
         ensures refused { IfErr result (λ s. (s ≡ shelf) × (self.new ≡ self.old)) }
     {
+        let to = shelf.number;
         match self.archives.bring(shelf) {
-            Ok(()) => Ok(()),
+            Ok(()) => {
+                let entry = move_begin(&mut self.table, job, column, to);
+                self.log.push_reserved(entry);
+                Ok(())
+            }
             Err(shelf) => Err(shelf),
         }
     }
 
-    /// A column begins to move to an archive that the group has.
-    pub(crate) fn go_to(&mut self, job: u32, column: u8, to: u32)
-        requires legal { Legal self.old.table (MoveBegin job column to) }
+    /// An archive comes, and is the home of a column. Where memory is short the archive comes back.
+    fn swap_to(&mut self, job: u32, column: u8, shelf: Shelf<A>) -> Result<(), Shelf<A>>
+        requires fresh { Contains (plain A.account.meaning self.old.archives).numbers shelf.number → ⊥ }
+        requires legal { Legal self.old.table (Swapped job column shelf.number) }
         requires room { length self.old.log < 262144 }
-        requires there { Contains (plain A.account.meaning self.old.archives).numbers to }
-        ensures { self.new ≡ acted self.old (MoveBegin job column to) [] }
+        ensures came { IfOk result (λ u. (self.new ≡ acted (with_archives self.old self.new.archives) (Swapped job column shelf.number) []) × Brings (IsTrue A.account.tells) shelf.number (A.account.meaning shelf.archive).held (A.account.meaning shelf.archive).heard (plain A.account.meaning self.old.archives) (plain A.account.meaning self.new.archives)) }
+        ensures refused { IfErr result (λ s. (s ≡ shelf) × (self.new ≡ self.old)) }
     {
-        let entry = move_begin(&mut self.table, job, column, to);
-        self.log.push_reserved(entry);
-    }
-
-    /// A column has an archive that the group has as its home.
-    fn swap_to(&mut self, job: u32, column: u8, to: u32)
-        requires legal { Legal self.old.table (Swapped job column to) }
-        requires room { length self.old.log < 262144 }
-        requires there { Contains (plain A.account.meaning self.old.archives).numbers to }
-        ensures { self.new ≡ acted self.old (Swapped job column to) [] }
-    {
-        note(
-            &mut self.table,
-            &mut self.log,
-            Entry::Swapped { job, column, to },
-        );
+        let to = shelf.number;
+        match self.archives.bring(shelf) {
+            Ok(()) => {
+                note(
+                    &mut self.table,
+                    &mut self.log,
+                    Entry::Swapped { job, column, to },
+                );
+                Ok(())
+            }
+            Err(shelf) => Err(shelf),
+        }
     }
 }
 

@@ -43,8 +43,8 @@ impl<A: Archive> Group<A> {
     ///
     /// # Errors
     /// `LogFull` first, exactly where the log has 262,144 entries, and nothing changes then. It also comes before any
-    /// write where the next entry has no room; the entries logged before it stay. `Full` where the cursor has no stripe
-    /// left. `Faulted` where the archive of that column failed.
+    /// write where the cursor has a stripe left and the next entry has no room; the entries logged before it stay. `Full`
+    /// where the cursor has no stripe left. `Faulted` where the archive of that column failed.
     pub fn put(&mut self, job: u32, block: &Block) -> Result<Place, PutFault>
         requires job { 0 < job }
         requires parity { self.old.table.parity ≡ 1 }

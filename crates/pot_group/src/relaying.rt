@@ -17,7 +17,7 @@ pub enum Advanced {
     Hopped,
     /// The target was written, and the relay ended.
     Mended,
-    /// The next column has no block, and the relay ended.
+    /// The next column's slot is not Live, or its archive has no block of its digest; a Live slot is Lost now. The relay ended.
     Ended,
 }
 
@@ -92,7 +92,7 @@ impl<A: Archive> Group<A> {
     ghost use Rattle.pot_steps.specs.RelaySteps.{AdvanceStep, BeginStep, MendStep, no_relay};
     ghost use Rattle.std.specs.Prelude.{slice_index_or};
     ghost use Rattle.pot_group.specs.Group.{view_of, state_of, CoversOne, IsSettled};
-    ghost use Rattle.pot_group.specs.Relaying.{acted, advance_as, begin_as, mend_as, AdvanceMeans, Advances, BeginMeans, HopsOver, EndsWell, MendMeans};
+    ghost use Rattle.pot_group.specs.Relaying.{acted, advance_as, begin_as, mend_as, AdvanceMeans, AdvanceWrites, Advances, BeginMeans, HopsOver, EndsWell, MendMeans, MendWrites};
 
     /// Begins to rebuild a slot that is Lost or Broken, with a random block.
     ///
@@ -106,7 +106,7 @@ impl<A: Archive> Group<A> {
         ensures step { IsTrue A.account.tells → BeginStep job place.stripe place.column blind.now (begin_as result) (state_of (view_of A.account.meaning self.old)) (state_of (view_of A.account.meaning self.new)) }
     {
         block_law(blind);
-        let _settled = self.kept();
+        let _settled = self.logged();
         self.begin_there(job, place, blind)
     }
 
@@ -190,7 +190,7 @@ impl<A: Archive> Group<A> {
         None
     }
 
-    /// Moves the relay of a stripe by one column, or ends it.
+    /// Moves the relay of a stripe by one column, or ends it. It writes to no other slot than the target's.
     ///
     /// # Errors
     /// `LogFull` first, exactly where the log has 262,144 entries, and nothing changes then. `Idle` exactly where no relay
@@ -203,11 +203,12 @@ impl<A: Archive> Group<A> {
         ensures keeps { Keeps (view_of A.account.meaning self.old).shelves (view_of A.account.meaning self.new).shelves }
         ensures step { IsTrue A.account.tells → AdvanceStep job stripe (advance_as result) (state_of (view_of A.account.meaning self.old)) (state_of (view_of A.account.meaning self.new)) }
         ensures lossless { IsTrue A.account.tells → NoneLost (view_of A.account.meaning self.old).shelves (view_of A.account.meaning self.new).shelves → LosesNothing (state_of (view_of A.account.meaning self.old)) (state_of (view_of A.account.meaning self.new)) }
+        ensures writes { IsTrue A.account.tells → AdvanceWrites stripe result (view_of A.account.meaning self.old) (view_of A.account.meaning self.new) }
     {
         if self.log.len() >= LOG_BOUND {
             return Err(AdvanceFault::LogFull);
         }
-        let _settled = self.kept();
+        let _settled = self.logged();
         let Some(flight) = self.flight(stripe) else {
             return Err(AdvanceFault::Idle);
         };
@@ -226,7 +227,7 @@ impl<A: Archive> Group<A> {
         ensures { Advances (IsTrue A.account.tells) job flight.relay.stripe result (view_of A.account.meaning self.old) (view_of A.account.meaning self.new) }
     {
         let stripe = flight.relay.stripe;
-        let _settled = self.kept();
+        let _settled = self.logged();
         if !self.is_live(&flight, column) {
             self.leave_flight(job, flight);
             return Ok(Advanced::Ended);
@@ -263,8 +264,9 @@ impl<A: Archive> Group<A> {
         ensures keeps { Keeps (view_of A.account.meaning self.old).shelves (view_of A.account.meaning self.new).shelves }
         ensures step { IsTrue A.account.tells → MendStep job place.stripe place.column blind.now (mend_as result) (state_of (view_of A.account.meaning self.old)) (state_of (view_of A.account.meaning self.new)) }
         ensures lossless { IsTrue A.account.tells → NoneLost (view_of A.account.meaning self.old).shelves (view_of A.account.meaning self.new).shelves → LosesNothing (state_of (view_of A.account.meaning self.old)) (state_of (view_of A.account.meaning self.new)) }
+        ensures writes { IsTrue A.account.tells → MendWrites job place.stripe place.column result (view_of A.account.meaning self.old) (view_of A.account.meaning self.new) }
     {
-        let _settled = self.kept();
+        let _settled = self.logged();
         match self.begin(job, place, blind) {
             Ok(()) => Mend::Began,
             Err(BeginFault::LogFull) => Mend::LogFull,
@@ -291,13 +293,6 @@ impl<A: Archive> Group<A> {
             Some(relay) => relay.stripe,
             None => 0,
         }
-    }
-
-    /// What every group keeps.
-    pub(crate) fn kept(&self) -> u64
-        ensures { IsSettled (IsTrue A.account.tells) (view_of A.account.meaning self.now) }
-    {
-        self.log.len() as u64
     }
 
     /// Whether the slot of a flight's next column is Live.

@@ -5,6 +5,7 @@ use Rattle.std.proofs.lemmas.Bool.Decides.{nat_tests}
 use Rattle.pot_machine.specs.declared.relay.Relay.{Relay}
 use Rattle.pot_machine.specs.declared.slot.SlotState.{SlotState}
 use Rattle.pot_machine.specs.declared.slot.SlotState.TheVariants.{Void, Live, Lost, Broken}
+use Rattle.pot_machine.specs.declared.entry.Entry.{Entry}
 use Rattle.pot_machine.specs.declared.entry.Entry.TheVariants.{Hop, GaveUp, Oddly, Begin}
 use Rattle.pot_machine.specs.Slot.{is_live, is_void, is_unsound, digest_in}
 use Rattle.pot_machine.specs.Table.{Table, width, slot_at, relay_at, relay_in, next_column, skipped}
@@ -33,6 +34,8 @@ use Rattle.pot_steps.specs.Flights.{IsFlying}
 use Rattle.pot_steps.proofs.Rebuilt.{rebuilt}
 use Rattle.pot_steps.specs.Flight.{partial_of, IsPartial, unfolded, IsRelay, IsNext, weight_in, left_out, visits}
 use Rattle.pot_steps.specs.Flights.{begun_relay}
+use Rattle.pot_steps.specs.Calls.{HopMeans}
+use Rattle.pot_steps.specs.declared.rebuilding.Hopped.TheVariants as hopped
 use Rattle.pot_steps.specs.Holdings.{Holdings, stripe_of}
 use Rattle.pot_steps.proofs.Acting.{find_all}
 use Rattle.pot_steps.proofs.Standing.{next_is_next, none_is_no_next, standing_is_relay}
@@ -166,6 +169,15 @@ legal_oddly t r job found table here next differs =
 
 pub live_next : (o : Option ℕ) (c : ℕ) (P : ℕ → Type 0) → IsSomeAnd o P → o ≡ Some c → P c
 live_next o c P h e = subst (λ o. IsSomeAnd o P) e h
+
+-- a relay that ends at its next column, where what was added is no block of the slot's digest
+pub hop_ends : (job : ℕ) (folded : List ℕ) (e : Entry) (old new : Table) (f : Flight) (c : ℕ) → next_column old f.relay ≡ Some c
+    → IsSomeAnd (next_column old f.relay) (λ k. e ≡ GaveUp job f.relay.stripe f.relay.target k) → new ≡ after old e
+    → digest_in (slot_at old f.relay.stripe c) ≢ Some (digest_of (unfolded (weight_in old.data_columns f.relay c) f.sum folded)) → HopMeans job folded (hopped.Ended e) old new f f
+hop_ends job folded e old new f c next is table differs =
+    subst (λ o. IsSomeAnd o (λ k. (e ≡ GaveUp job f.relay.stripe f.relay.target k) × (new ≡ after old e) × (f ≡ f)
+    × (digest_in (slot_at old f.relay.stripe k) ≢ Some (digest_of (unfolded (weight_in old.data_columns f.relay k) f.sum folded))))) (sym next)
+    (live_next (next_column old f.relay) c (λ k. e ≡ GaveUp job f.relay.stripe f.relay.target k) is next, table, refl, differs)
 
 -- a relay that went over all its columns, whose target is Lost, has its digest
 pub lost_rebuilt : (t : Table) (h : Holdings) (f : Flight) (d : Digest) → IsTable t → relay_at t f.relay.stripe ≡ Some f.relay → next_column t f.relay ≡ None

@@ -87,7 +87,7 @@ ComesTo t s next = IsSomeAnd (relay_at t s) (λ r. next_column t r ≡ next)
 abbrev pub HearsSum : ℕ → ℕ → GroupState → GroupState → Type 0
 HearsSum s c old new = IsSomeAnd (flight_in old.flights s) (λ f. Hears s c f.sum old new)
 
--- A fold that failed may have been heard. A write that failed leaves what a failed write may in a slot that is not Live.
+-- A fold that failed may have been heard. What a write that failed left in the target's slot, which is not Live, is not said.
 abbrev pub AdvanceFails : ℕ → ℕ → ℕ → GroupState → GroupState → Type 0
 AdvanceFails job s column old new =
     Logged (entry.Fault job s column) [] old new

@@ -94,14 +94,7 @@ pub fn hop(table: &mut GroupTable, flight: &mut Flight, job: u32, folded: &Block
         flight.sum = *folded;
         Hopped::Folded(entry)
     } else {
-        let entry = Entry::GaveUp {
-            job,
-            stripe,
-            column: relay.target,
-            other: column,
-        };
-        table.apply(&entry);
-        Hopped::Ended(entry)
+        Hopped::Ended(give_up(table, *flight, job))
     }
 }
 

@@ -4,10 +4,11 @@ use Rattle.pot_group.specs.Group.{GroupParts, view_of}
 use Rattle.pot_group.proofs.AdvanceSteps.{idle_step, found_over}
 use Rattle.pot_group.proofs.Advancing.{advance_means, idle_none}
 use Rattle.pot_group.proofs.Lossless.{lossless_same}
+use Rattle.pot_group.proofs.ShelfLemmas.{loses_refl}
 use Rattle.pot_group.proofs.group.Group.advance.Goals as goal
 
 pub returns-in_default-clause-step : goal.returns-in_default-clause-step
-returns-in_default-clause-step g c = λ t. idle_step (IsTrue g.A.Archive.account.tells) (view_of g.A.Archive.account.meaning c.args.self.now) c.args.job c.args.stripe c.kept-settled.ensures (sym c.flight.ensures ∙ c.in_default.is)
+returns-in_default-clause-step g c = λ t. idle_step (IsTrue g.A.Archive.account.tells) (view_of g.A.Archive.account.meaning c.args.self.now) c.args.job c.args.stripe c.logged-settled.ensures.settled (sym c.flight.ensures ∙ c.in_default.is)
 
 pub next_column-requires : goal.next_column-requires
 next_column-requires g c =
@@ -26,7 +27,7 @@ finish_flight-requires-clause-here g c = (found_over c.args.self.now.flights c.a
 pub returns-in_default-clause-means : goal.returns-in_default-clause-means
 returns-in_default-clause-means g c =
     let room : length c.args.self.now.log < 262144 = search rules in
-    (room, idle_none (IsTrue g.A.Archive.account.tells) (view_of g.A.Archive.account.meaning c.args.self.now) c.args.stripe c.kept-settled.ensures (sym c.flight.ensures ∙ c.in_default.is), refl)
+    (room, idle_none (IsTrue g.A.Archive.account.tells) (view_of g.A.Archive.account.meaning c.args.self.now) c.args.stripe c.logged-settled.ensures.settled (sym c.flight.ensures ∙ c.in_default.is), refl)
 
 pub returns-in-Some-next_column : goal.returns-in-Some-next_column
 returns-in-Some-next_column g c =
@@ -39,6 +40,7 @@ returns-in-Some-next_column g c =
       keeps = a.keeps;
       step = a.steps;
       lossless = a.lossless;
+      writes = a.writes;
     }
 
 pub returns-in-None : goal.returns-in-None
@@ -52,6 +54,7 @@ returns-in-None g c =
       keeps = a.keeps;
       step = a.steps;
       lossless = a.lossless;
+      writes = a.writes;
     }
 
 pub returns-in_default-clause-lossless : goal.returns-in_default-clause-lossless
@@ -59,3 +62,9 @@ returns-in_default-clause-lossless g c = λ t none. lossless_same (view_of g.A.A
 
 pub returns-then-len-ge-LOG_BOUND-clause-lossless : goal.returns-then-len-ge-LOG_BOUND-clause-lossless
 returns-then-len-ge-LOG_BOUND-clause-lossless g c = λ t none. lossless_same (view_of g.A.Archive.account.meaning c.args.self.now)
+
+pub returns-in_default-clause-writes : goal.returns-in_default-clause-writes
+returns-in_default-clause-writes g c = λ t. loses_refl (view_of g.A.Archive.account.meaning c.args.self.now).shelves
+
+pub returns-then-len-ge-LOG_BOUND-clause-writes : goal.returns-then-len-ge-LOG_BOUND-clause-writes
+returns-then-len-ge-LOG_BOUND-clause-writes g c = λ t. loses_refl (view_of g.A.Archive.account.meaning c.args.self.now).shelves

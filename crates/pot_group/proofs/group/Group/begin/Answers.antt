@@ -4,4 +4,4 @@ use Rattle.pot_group.proofs.group.Group.begin.Goals as goal
 
 pub returns-clause-step : goal.returns-clause-step
 returns-clause-step g c = λ t. begin_step (IsTrue g.A.Archive.account.tells) g.A.Archive.account.meaning c.args.self.now c.args.job c.args.place.stripe c.args.place.column c.args.blind.now
-    c.kept-settled.ensures c.block_law.ensures c.requires.stripe c.requires.column c.begin_there.result c.begin_there.new.self c.begin_there.ensures
+    c.logged-settled.ensures.settled c.block_law.ensures c.requires.stripe c.requires.column c.begin_there.result c.begin_there.new.self c.begin_there.ensures

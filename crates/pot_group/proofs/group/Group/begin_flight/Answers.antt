@@ -1,8 +1,10 @@
-use Rattle.std.proofs.Common.{◌<◌, IsTrue, length, subst, sym, arith}
+use Rattle.std.proofs.Common.{◌<◌, IsTrue, length, subst, sym, arith, refl}
 use Rattle.pot_machine.specs.declared.entry.Entry.TheVariants.{Begin}
 use Rattle.pot_machine.specs.Machine.{Legal}
+use Rattle.pot_group.specs.Shelves.{numbers_of}
 use Rattle.pot_group.specs.Group.{GroupParts, view_of}
 use Rattle.pot_group.proofs.RelayExits.{begin_exit}
+use Rattle.pot_group.proofs.Arriving.{none_arrived}
 use Rattle.pot_group.proofs.group.Group.begin_flight.Goals as goal
 
 pub invariant_of-self : goal.invariant_of-self
@@ -18,4 +20,5 @@ invariant_of-self g c =
           (rw c.begin-flight.ensures.flight at c.push_reserved-2.ensures.items),
       omega (arith, c.self.invariant.1, c.push_reserved.ensures.capacity),
       omega (arith, c.self.invariant.2, c.push_reserved-2.ensures.capacity),
+      none_arrived a.first a.log.items c.push_reserved.new.self.items _ (numbers_of a.archives.shelves) (numbers_of a.archives.shelves) c.self.invariant.3 (rw c.begin-flight.ensures.entry at c.push_reserved.ensures.items) refl refl,
     )

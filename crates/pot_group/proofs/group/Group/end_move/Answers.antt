@@ -1,8 +1,11 @@
-use Rattle.std.proofs.Common.{◌<◌, IsTrue, length, subst, sym, arith}
+use Rattle.std.proofs.Common.{◌<◌, IsTrue, length, subst, sym, arith, ap, refl}
 use Rattle.pot_machine.specs.declared.entry.Entry.TheVariants.{MoveEnd}
 use Rattle.pot_machine.specs.Machine.{Legal}
+use Rattle.pot_group.specs.Shelves.{numbers_of}
 use Rattle.pot_group.specs.Group.{GroupParts, view_of}
+use Rattle.pot_group.specs.Arrivals.{arrival}
 use Rattle.pot_group.proofs.Stepping.{ended_exit}
+use Rattle.pot_group.proofs.Arriving.{none_arrived}
 use Rattle.pot_group.proofs.group.Group.end_move.Goals as goal
 
 pub invariant_of-self : goal.invariant_of-self
@@ -15,4 +18,5 @@ invariant_of-self g c =
           c.move_end-entry.result c.move_end-entry.new.table c.push_reserved.new.self.items c.move_end-entry.ensures.entry c.move_end-entry.ensures.table c.push_reserved.ensures.items,
       omega (arith, c.self.invariant.1, c.push_reserved.ensures.capacity),
       c.self.invariant.2,
+      none_arrived a.first a.log.items c.push_reserved.new.self.items c.move_end-entry.result (numbers_of a.archives.shelves) (numbers_of a.archives.shelves) c.self.invariant.3 c.push_reserved.ensures.items (ap arrival c.move_end-entry.ensures.entry) refl,
     )

@@ -1,16 +1,19 @@
-use Rattle.std.proofs.Common.{◌≡◌, ◌<◌, IsTrue, Some, None, length, subst, sym, ap, ◌∙◌, arith, rules, tests, not}
+use Rattle.std.proofs.Common.{◌≡◌, ◌<◌, IsTrue, Some, None, length, subst, sym, ap, ◌∙◌, arith, rules, tests, not, refl}
 use Rattle.std.specs.Prelude.{◌==◌, Err}
 use Rattle.std.proofs.lemmas.Fn.{filter_same}
 use Rattle.pot_machine.specs.Table.{Table, next_column}
 use Rattle.pot_steps.specs.Stripe.{digest_of}
+use Rattle.pot_group.specs.Shelves.{numbers_of}
 use Rattle.pot_group.specs.Relaying.{Advances, EndsWell}
 use Rattle.pot_group.specs.declared.relaying.AdvanceFault.TheVariants as failed
 use Rattle.pot_steps.specs.declared.flight.Flight.{Flight}
 use Rattle.pot_steps.specs.Flights.{flight_in}
 use Rattle.pot_group.specs.Group.{GroupParts, view_of}
+use Rattle.pot_group.specs.Arrivals.{arrival}
 use Rattle.pot_group.proofs.RelayExits.{stands_in_table}
 use Rattle.pot_group.proofs.AdvanceSteps.{odd_settled, some_differs}
 use Rattle.pot_group.proofs.Advancing.{odd_advances, well_advances}
+use Rattle.pot_group.proofs.Arriving.{none_arrived}
 use Rattle.pot_group.proofs.group.Group.finish_flight.Goals as goal
 
 pub finish-requires-clause-stands : goal.finish-requires-clause-stands
@@ -31,6 +34,7 @@ invariant_of-self-in-Odd g c =
           c.push_reserved.ensures.items (filter_same _ (λ (f : Flight). not (f.relay.stripe == c.args.flight.relay.stripe)) _ (λ x b q h. search (rules, tests)) _ _ c.retain.ensures.filtered),
       omega (arith, c.self.invariant.1, c.push_reserved.ensures.capacity),
       omega (arith, c.self.invariant.2, c.retain.ensures.capacity),
+      none_arrived a.first a.log.items c.push_reserved.new.self.items c.in-Odd.entry (numbers_of a.archives.shelves) (numbers_of a.archives.shelves) c.self.invariant.3 c.push_reserved.ensures.items (ap arrival c.in-Odd.ensures.0) refl,
     )
 
 pub returns-in-Odd : goal.returns-in-Odd

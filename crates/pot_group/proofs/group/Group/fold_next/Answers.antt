@@ -54,6 +54,7 @@ invariant_of-self g c =
           (plain g.A.Archive.account.meaning c.fold.new.self) c.self.invariant.0 c.fold.ensures.keeps c.fold.ensures.loses,
       c.self.invariant.1,
       c.self.invariant.2,
+      c.fold.ensures.keeps.numbers ∙ c.self.invariant.3,
     )
 
 pub returns-clause-covers : goal.returns-clause-covers

@@ -1,4 +1,4 @@
-use Rattle.std.proofs.Common.{◌≡◌, ◌<◌, IsTrue, IsSomeAnd, Some, length, map, subst, sym, ap, ◌∙◌, arith}
+use Rattle.std.proofs.Common.{◌≡◌, ◌<◌, IsTrue, IsSomeAnd, Some, length, map, refl, subst, sym, ap, ◌∙◌, arith}
 use Rattle.std.specs.Prelude.{Ok, ◌==◌}
 use Rattle.std.proofs.lemmas.List.{length-map}
 use Rattle.std.proofs.lemmas.Fn.{filter_same}
@@ -10,10 +10,11 @@ use Rattle.pot_machine.specs.Table.{slot_at, serving_at, next_column}
 use Rattle.pot_steps.specs.Flight.{weight_in}
 use Rattle.pot_steps.specs.declared.flight.Flight.{Flight}
 use Rattle.pot_steps.specs.Flights.{flight_in}
-use Rattle.pot_group.specs.Shelves.{plain}
+use Rattle.pot_group.specs.Shelves.{plain, numbers_of}
 use Rattle.pot_group.specs.Group.{GroupParts, view_of}
 use Rattle.pot_group.proofs.RelayExits.{stands_in_table, folded_exit, ended_exit, ended_means, written_all}
 use Rattle.pot_group.specs.Relaying.{flown_to}
+use Rattle.pot_group.proofs.Arriving.{none_arrived, folded_brings, ended_brings}
 use Rattle.pot_group.proofs.group.Group.hop_over.Goals as goal
 
 pub hop-requires-clause-stands : goal.hop-requires-clause-stands
@@ -37,6 +38,7 @@ invariant_of-self g c =
           (written_all a.flights.len c.fly.new.flights a.flights.items (sym c.deref_mut.ensures.len ∙ ap length c.deref_mut.ensures.value) (ap length fs ∙ length-map a.flights.items (flown_to c.args.flight.relay.stripe c.hop.new.flight.relay.last c.args.sum.now)) ∙ fs),
       omega (arith, c.self.invariant.1, c.push_reserved.ensures.capacity),
       c.self.invariant.2,
+      none_arrived a.first a.log.items c.push_reserved.new.self.items c.in-Folded.entry (numbers_of a.archives.shelves) (numbers_of a.archives.shelves) c.self.invariant.3 c.push_reserved.ensures.items (folded_brings c.args.job c.args.sum.now c.in-Folded.entry a.table c.hop.new.table c.args.flight c.hop.new.flight c.in-Folded.ensures) refl,
     )
 
 pub invariant_of-self-in-Ended : goal.invariant_of-self-in-Ended
@@ -52,6 +54,7 @@ invariant_of-self-in-Ended g c =
           (filter_same _ (λ (f : Flight). not (f.relay.stripe == c.args.flight.relay.stripe)) _ (λ x b q h. search (rules, tests)) _ _ c.retain.ensures.filtered),
       omega (arith, c.self.invariant.1, c.push_reserved-in-Ended.ensures.capacity),
       omega (arith, c.self.invariant.2, c.retain.ensures.capacity),
+      none_arrived a.first a.log.items c.push_reserved-in-Ended.new.self.items c.in-Ended.entry (numbers_of a.archives.shelves) (numbers_of a.archives.shelves) c.self.invariant.3 c.push_reserved-in-Ended.ensures.items (ended_brings c.args.job c.args.sum.now c.in-Ended.entry a.table c.hop.new.table c.args.flight c.hop.new.flight c.in-Ended.ensures) refl,
     )
 
 pub returns-in-Ended : goal.returns-in-Ended

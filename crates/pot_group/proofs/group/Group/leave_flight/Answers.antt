@@ -6,9 +6,10 @@ use Rattle.pot_steps.specs.Stripe.{Sound}
 use Rattle.pot_steps.specs.Holdings.{stripe_of}
 use Rattle.pot_steps.specs.declared.flight.Flight.{Flight}
 use Rattle.pot_steps.specs.Flights.{flight_in}
-use Rattle.pot_group.specs.Shelves.{plain}
+use Rattle.pot_group.specs.Shelves.{plain, numbers_of}
 use Rattle.pot_group.specs.Group.{GroupParts, view_of}
 use Rattle.pot_group.proofs.RelayExits.{stands_in_table, left_exit, left_means, is_some_next}
+use Rattle.pot_group.proofs.Arriving.{none_arrived, left_brings}
 use Rattle.pot_group.proofs.group.Group.leave_flight.Goals as goal
 
 pub give_up-entry-requires-clause-stands : goal.give_up-entry-requires-clause-stands
@@ -39,6 +40,7 @@ invariant_of-self g c =
           (filter_same _ (λ (f : Flight). not (f.relay.stripe == c.args.flight.relay.stripe)) _ (λ x b q h. search (rules, tests)) _ _ c.retain.ensures.filtered),
       omega (arith, c.self.invariant.1, c.push_reserved.ensures.capacity),
       omega (arith, c.self.invariant.2, c.retain.ensures.capacity),
+      none_arrived a.first a.log.items c.push_reserved.new.self.items c.give_up-entry.result (numbers_of a.archives.shelves) (numbers_of a.archives.shelves) c.self.invariant.3 c.push_reserved.ensures.items (left_brings _ _ _ _ _ c.give_up-entry.ensures.entry) refl,
     )
 
 pub returns : goal.returns

@@ -1,7 +1,9 @@
-use Rattle.std.proofs.Common.{◌<◌, IsTrue, length, subst, sym, arith}
+use Rattle.std.proofs.Common.{◌<◌, IsTrue, length, subst, sym, arith, refl}
 use Rattle.pot_machine.specs.Machine.{Legal}
+use Rattle.pot_group.specs.Shelves.{numbers_of}
 use Rattle.pot_group.specs.Group.{GroupParts, view_of, IsQuiet}
 use Rattle.pot_group.proofs.Settled.{settled_quiet}
+use Rattle.pot_group.proofs.Arriving.{none_arrived, quiet_brings}
 use Rattle.pot_group.proofs.group.Group.note.Goals as goal
 
 pub invariant_of-self : goal.invariant_of-self
@@ -12,4 +14,10 @@ invariant_of-self g c =
     (subst (λ (w : GroupParts _). Legal w.table c.args.entry) (sym c.self.view_is) c.requires.legal)
     (subst (λ (w : GroupParts _). length w.log < 262144) (sym c.self.view_is) c.requires.room)
     (subst (λ (w : GroupParts _). IsQuiet (IsTrue g.A.Archive.account.tells) (view_of g.A.Archive.account.meaning w) c.args.entry) (sym c.self.view_is) c.requires.quiet) in
-    (rw (c.note.ensures.table, c.note.ensures.log) s, omega (arith, c.self.invariant.1, c.note.ensures.capacity), c.self.invariant.2)
+    let none = quiet_brings (IsTrue g.A.Archive.account.tells) (view_of g.A.Archive.account.meaning v) c.args.entry
+    (subst (λ (w : GroupParts _). IsQuiet (IsTrue g.A.Archive.account.tells) (view_of g.A.Archive.account.meaning w) c.args.entry) (sym c.self.view_is) c.requires.quiet) in (
+      rw (c.note.ensures.table, c.note.ensures.log) s,
+      omega (arith, c.self.invariant.1, c.note.ensures.capacity),
+      c.self.invariant.2,
+      none_arrived a.first a.log.items c.note.new.log.items c.args.entry (numbers_of a.archives.shelves) (numbers_of a.archives.shelves) c.self.invariant.3 c.note.ensures.log none refl,
+    )

@@ -4,7 +4,9 @@ use Rattle.pot_machine.specs.Table.{Table}
 use Rattle.pot_group.specs.Shelves.{numbers_of}
 use Rattle.pot_group.specs.Group.{IsSettled, view_of}
 use Rattle.pot_group.specs.Beginning.{Begins}
+use Rattle.pot_group.specs.Arrivals.{HasArrived}
 use Rattle.pot_group.proofs.Opened.{handed_all, opened_settled, opened_begins}
+use Rattle.pot_group.proofs.Arriving.{opens_arrived}
 use Rattle.pot_group.proofs.group.Group.open.Goals as goal
 
 pub open_all-requires-clause-archives : goal.open_all-requires-clause-archives
@@ -21,6 +23,8 @@ invariant_of-result g c =
           (record { number = c.args.number; first = c.args.table; table = c.open_all.new.table; log = c.open_all.new.log.items; flights = fs; archives = c.open_all.new.archives }))) (sym c.requires.none) s),
       c.open_all.ensures.room,
       c.requires.places,
+      subst (λ (t : Table). HasArrived t c.open_all.new.log.items (numbers_of c.open_all.new.archives.shelves)) (sym c.requires.first)
+          (opens_arrived (IsTrue g.A.Archive.account.tells) g.A.Archive.account.meaning c.args.table c.open_all.new.table c.open_all.new.log.items c.args.archives c.open_all.new.archives c.open_all.ensures.opens c.requires.archives),
     )
 
 pub returns : goal.returns

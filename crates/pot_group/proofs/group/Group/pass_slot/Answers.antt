@@ -1,10 +1,11 @@
-use Rattle.std.proofs.Common.{◌≡◌, ◌<◌, IsTrue, Some, length, subst, sym, arith}
+use Rattle.std.proofs.Common.{◌≡◌, ◌<◌, IsTrue, Some, length, subst, sym, arith, refl}
 use Rattle.pot_machine.specs.Table.{width, column_at}
 use Rattle.pot_steps.specs.Stripe.{Sound}
 use Rattle.pot_steps.specs.Holdings.{stripe_of}
-use Rattle.pot_group.specs.Shelves.{plain}
+use Rattle.pot_group.specs.Shelves.{plain, numbers_of}
 use Rattle.pot_group.specs.Group.{GroupParts, view_of}
 use Rattle.pot_group.proofs.Stepping.{pass_exit}
+use Rattle.pot_group.proofs.Arriving.{none_arrived, moved_brings}
 use Rattle.pot_group.proofs.group.Group.pass_slot.Goals as goal
 
 pub invariant_of-self : goal.invariant_of-self
@@ -20,4 +21,5 @@ invariant_of-self g c =
           c.move_one-entry.result c.move_one-entry.new.table c.push_reserved.new.self.items c.move_one-entry.ensures.entry c.move_one-entry.ensures.table c.push_reserved.ensures.items,
       omega (arith, c.self.invariant.1, c.push_reserved.ensures.capacity),
       c.self.invariant.2,
+      none_arrived a.first a.log.items c.push_reserved.new.self.items c.move_one-entry.result (numbers_of a.archives.shelves) (numbers_of a.archives.shelves) c.self.invariant.3 c.push_reserved.ensures.items (moved_brings _ _ _ _ _ c.move_one-entry.ensures.entry) refl,
     )

@@ -1,13 +1,15 @@
-use Rattle.std.proofs.Common.{IsTrue, true, false, Ok, Err, inr, refl, ap, subst, sym, arith}
+use Rattle.std.proofs.Common.{IsTrue, true, false, Ok, Err, inr, refl, ap, subst, sym, arith, ◌∙◌}
 use Rattle.std.specs.Prelude.{Contains}
 use Rattle.pot_machine.specs.Table.{serving_at}
 use Rattle.pot_machine.specs.declared.cursor.Cursor.{Cursor}
 use Rattle.pot_group.specs.Shelves.{plain, numbers_of}
 use Rattle.pot_group.specs.Group.{GroupParts, view_of}
 use Rattle.pot_group.specs.Putting.{BlockMeans, PutsBoth}
+use Rattle.pot_group.specs.Arrivals.{arrival}
 use Rattle.pot_group.proofs.Reading.{served}
 use Rattle.pot_group.proofs.Writing.{CanPut, cursor_wide, parity_wide_of, none_exit, both_exit}
 use Rattle.pot_group.specs.declared.answers.PutFault.TheVariants as fault
+use Rattle.pot_group.proofs.Arriving.{none_arrived}
 use Rattle.pot_group.proofs.group.Group.put_block.Goals as goal
 
 pub write-requires : goal.write-requires
@@ -26,8 +28,12 @@ invariant_of-self g c =
     (c.requires.parity, c.requires.cursor, c.requires.takes, c.requires.room, c.requires.old) in
     let x = none_exit (IsTrue g.A.Archive.account.tells) (view_of g.A.Archive.account.meaning v) c.args.job c.args.block.now c.args.old_parity.now c.cursor-cursor.result c.archive_of-home.result
     (plain g.A.Archive.account.meaning c.write.new.self) c.note.new.table c.note.new.log.items c.in-Err.field-0 c.self.invariant.0 can
-    c.cursor-cursor.ensures.value c.archive_of-home.ensures c.in-Err.ensures c.note.ensures.table c.note.ensures.log in
-    (x.0, omega (arith, c.self.invariant.1, c.note.ensures.capacity), c.self.invariant.2)
+    c.cursor-cursor.ensures.value c.archive_of-home.ensures c.in-Err.ensures c.note.ensures.table c.note.ensures.log in (
+      x.0,
+      omega (arith, c.self.invariant.1, c.note.ensures.capacity),
+      c.self.invariant.2,
+      none_arrived a.first a.log.items c.note.new.log.items _ (numbers_of a.archives.shelves) (numbers_of c.write.new.self.shelves) c.self.invariant.3 c.note.ensures.log refl c.write.ensures.keeps.numbers,
+    )
 
 pub returns-in-Err : goal.returns-in-Err
 returns-in-Err g c =
@@ -62,8 +68,13 @@ invariant_of-self-in-Ok g c =
     (plain g.A.Archive.account.meaning c.write-2.new.self) c.in_default.field-0 c.write-2.result true c.note-in-Ok.new.table c.note-in-Ok.new.log.items
     c.self.invariant.0 can c.block_law.ensures c.cursor-cursor.ensures.value c.data_columns-last.ensures.value c.xor.ensures.value c.archive_of-home.ensures c.archive_of-parity_home.ensures
     c.in_default.ensures c.write-2.ensures (λ e. (c.in-Ok.field-0, c.in-Ok.is)) (λ e. absurd (cc))
-    (rw c.put_entry-entry.ensures at c.note-in-Ok.ensures.table) (rw c.put_entry-entry.ensures at c.note-in-Ok.ensures.log) in
-    (x.0, omega (arith, c.self.invariant.1, c.note-in-Ok.ensures.capacity), c.self.invariant.2)
+    (rw c.put_entry-entry.ensures at c.note-in-Ok.ensures.table) (rw c.put_entry-entry.ensures at c.note-in-Ok.ensures.log) in (
+      x.0,
+      omega (arith, c.self.invariant.1, c.note-in-Ok.ensures.capacity),
+      c.self.invariant.2,
+      none_arrived a.first a.log.items c.note-in-Ok.new.log.items c.put_entry-entry.result (numbers_of a.archives.shelves) (numbers_of c.write-2.new.self.shelves) c.self.invariant.3 c.note-in-Ok.ensures.log
+          (ap arrival c.put_entry-entry.ensures) (c.write-2.ensures.keeps.numbers ∙ c.write.ensures.keeps.numbers),
+    )
 
 pub invariant_of-self-in-Err-write : goal.invariant_of-self-in-Err-write
 invariant_of-self-in-Err-write g c =
@@ -76,8 +87,13 @@ invariant_of-self-in-Err-write g c =
     (plain g.A.Archive.account.meaning c.write-2.new.self) c.in_default.field-0 c.write-2.result false c.note-in-Err-write.new.table c.note-in-Err-write.new.log.items
     c.self.invariant.0 can c.block_law.ensures c.cursor-cursor.ensures.value c.data_columns-last.ensures.value c.xor.ensures.value c.archive_of-home.ensures c.archive_of-parity_home.ensures
     c.in_default.ensures c.write-2.ensures (λ e. absurd (cc)) (λ e. (c.in-Err-write.field-0, c.in-Err-write.is))
-    (rw c.put_entry-entry-in-Err-write.ensures at c.note-in-Err-write.ensures.table) (rw c.put_entry-entry-in-Err-write.ensures at c.note-in-Err-write.ensures.log) in
-    (x.0, omega (arith, c.self.invariant.1, c.note-in-Err-write.ensures.capacity), c.self.invariant.2)
+    (rw c.put_entry-entry-in-Err-write.ensures at c.note-in-Err-write.ensures.table) (rw c.put_entry-entry-in-Err-write.ensures at c.note-in-Err-write.ensures.log) in (
+      x.0,
+      omega (arith, c.self.invariant.1, c.note-in-Err-write.ensures.capacity),
+      c.self.invariant.2,
+      none_arrived a.first a.log.items c.note-in-Err-write.new.log.items c.put_entry-entry-in-Err-write.result (numbers_of a.archives.shelves) (numbers_of c.write-2.new.self.shelves) c.self.invariant.3 c.note-in-Err-write.ensures.log
+          (ap arrival c.put_entry-entry-in-Err-write.ensures) (c.write-2.ensures.keeps.numbers ∙ c.write.ensures.keeps.numbers),
+    )
 
 pub returns-in-Ok : goal.returns-in-Ok
 returns-in-Ok g c =

@@ -1,4 +1,4 @@
-use Rattle.std.proofs.Common.{◌<◌, IsTrue, subst, sym}
+use Rattle.std.proofs.Common.{◌<◌, IsTrue, subst, sym, ◌∙◌}
 use Rattle.std.specs.Prelude.{Contains}
 use Rattle.pot_machine.specs.Table.{width}
 use Rattle.pot_group.specs.Shelves.{plain, Finds}
@@ -23,6 +23,7 @@ invariant_of-self g c =
           (plain g.A.Archive.account.meaning c.read_sound.new.self) c.self.invariant.0 c.read_sound.ensures.stays,
       c.self.invariant.1,
       c.self.invariant.2,
+      c.read_sound.ensures.stays.keeps.numbers ∙ c.self.invariant.3,
     )
 
 pub returns-clause-covers : goal.returns-clause-covers

@@ -1,22 +1,23 @@
-use Rattle.std.proofs.Common.{◌≡◌, ◌<◌, IsTrue, true, false, length, subst, sym, ap, ◌∙◌, rules}
+use Rattle.std.proofs.Common.{◌≡◌, ◌<◌, IsTrue, true, false, length, refl, subst, sym, ap, ◌∙◌, rules}
 use Rattle.std.specs.Prelude.{Contains}
 use Rattle.pot_group.specs.Shelves.{numbers_of}
-use Rattle.pot_group.specs.Group.{GroupParts}
+use Rattle.pot_group.specs.Group.{GroupParts, with_archives}
 use Rattle.pot_group.specs.Moving.{live_in}
-use Rattle.pot_group.proofs.MovingCalls.{swap_legal, swapped_comes, came}
+use Rattle.pot_group.proofs.MovingCalls.{swap_legal, swapped_comes}
 use Rattle.pot_group.proofs.group.Group.swap.Goals as goal
 
 apart : true ≡ false → ⊥
 apart e = cc
 
+pub swap_to-requires-clause-fresh : goal.swap_to-requires-clause-fresh
+swap_to-requires-clause-fresh g c =
+    λ h. apart (sym (c.has.ensures.1 (subst (λ (w : GroupParts _). Contains (numbers_of w.archives.shelves) c.args.shelf.number) (sym c.self.view_is) h)) ∙ c.if-has.false)
+
 pub swap_to-requires-clause-legal : goal.swap_to-requires-clause-legal
 swap_to-requires-clause-legal g c =
     let fresh : Contains (numbers_of c.args.self.now.archives.shelves) c.args.shelf.number → ⊥ =
     λ h. apart (sym (c.has.ensures.1 (subst (λ (w : GroupParts _). Contains (numbers_of w.archives.shelves) c.args.shelf.number) (sym c.self.view_is) h)) ∙ c.if-has.false) in
-    swap_legal (IsTrue g.A.Archive.account.tells) g.A.Archive.account.meaning c.args.self.now c.receive.new.self c.args.job c.args.column c.args.shelf.number c.kept-settled.ensures c.requires.column fresh c.in_default.ensures.brought.0
-
-pub swap_to-requires-clause-there : goal.swap_to-requires-clause-there
-swap_to-requires-clause-there g c = came (IsTrue g.A.Archive.account.tells) g.A.Archive.account.meaning c.args.self.now.archives c.receive.new.self.archives c.args.shelf c.in_default.ensures.brought.1
+    swap_legal (IsTrue g.A.Archive.account.tells) g.A.Archive.account.meaning c.args.self.now c.args.self.now c.args.job c.args.column c.args.shelf.number c.logged-settled.ensures.settled c.requires.column fresh refl
 
 pub returns-clause-swapped : goal.returns-clause-swapped
 returns-clause-swapped g c =
@@ -24,6 +25,6 @@ returns-clause-swapped g c =
     λ h. apart (sym (c.has.ensures.1 (subst (λ (w : GroupParts _). Contains (numbers_of w.archives.shelves) c.args.shelf.number) (sym c.self.view_is) h)) ∙ c.if-has.false) in
     let room : length c.args.self.now.log < 262144 = search rules in (
       c.live_in-live.ensures ∙ ap (λ (w : GroupParts _). live_in w.table c.args.column) c.self.view_is,
-      swapped_comes (IsTrue g.A.Archive.account.tells) g.A.Archive.account.meaning c.args.self.now c.receive.new.self c.swap_to.new.self c.args.shelf c.kept-settled.ensures room fresh
-          c.in_default.ensures.brought.0 c.in_default.ensures.brought.1 c.args.job c.args.column c.requires.column c.swap_to.ensures,
+      swapped_comes (IsTrue g.A.Archive.account.tells) g.A.Archive.account.meaning c.args.self.now (with_archives c.args.self.now c.swap_to.new.self.archives) c.swap_to.new.self c.args.shelf c.logged-settled.ensures.settled room fresh
+          refl c.in_default.ensures.came.1 c.args.job c.args.column c.requires.column c.in_default.ensures.came.0,
     )

@@ -1,21 +1,37 @@
-use Rattle.std.proofs.Common.{IsTrue, ◌<◌, length, subst, sym, arith}
+use Rattle.std.proofs.Common.{◌<◌, IsTrue, [], ◌∷◌, length, refl, subst, sym, arith}
 use Rattle.std.specs.Prelude.{Contains}
-use Rattle.pot_group.specs.Shelves.{plain}
-use Rattle.pot_group.specs.Group.{GroupParts, view_of}
+use Rattle.pot_group.specs.Shelves.{Shelved, plain, numbers_of}
+use Rattle.pot_group.specs.Group.{GroupParts, IsSettled, view_of, with_archives}
+use Rattle.pot_group.specs.Arrivals.{HasArrived}
 use Rattle.pot_machine.specs.declared.entry.Entry.TheVariants.{Swapped}
 use Rattle.pot_machine.specs.Machine.{Legal}
-use Rattle.pot_group.proofs.MovingCalls.{swap_exit}
+use Rattle.pot_group.proofs.Arriving.{arrived}
+use Rattle.pot_group.proofs.Brought.{settled_brings}
+use Rattle.pot_group.proofs.MovingCalls.{swap_exit, came}
 use Rattle.pot_group.proofs.group.Group.swap_to.Goals as goal
 
 pub invariant_of-self : goal.invariant_of-self
 invariant_of-self g c =
     let a = c.self.inside in
     let v : GroupParts _ = record { number = a.number; first = a.first; table = a.table; log = a.log.items; flights = a.flights.items; archives = a.archives } in (
-      swap_exit (IsTrue g.A.Archive.account.tells) (view_of g.A.Archive.account.meaning v) c.args.job c.args.column c.args.to c.note.new.table c.note.new.log.items c.self.invariant.0
+      swap_exit (IsTrue g.A.Archive.account.tells) (view_of g.A.Archive.account.meaning (with_archives v c.bring.new.self)) c.args.job c.args.column c.args.shelf.number c.note.new.table c.note.new.log.items
+          (settled_brings (IsTrue g.A.Archive.account.tells) (view_of g.A.Archive.account.meaning v) c.args.shelf.number (g.A.Archive.account.meaning c.args.shelf.archive).held (g.A.Archive.account.meaning c.args.shelf.archive).heard (plain g.A.Archive.account.meaning c.bring.new.self) c.self.invariant.0
+          (subst (λ (w : GroupParts _). Contains (plain g.A.Archive.account.meaning w.archives).numbers c.args.shelf.number → ⊥) (sym c.self.view_is) c.requires.fresh) c.in-Ok.ensures.brought)
           (subst (λ (w : GroupParts _). length w.log < 262144) (sym c.self.view_is) c.requires.room)
-          (subst (λ (w : GroupParts _). Legal w.table (Swapped c.args.job c.args.column c.args.to)) (sym c.self.view_is) c.requires.legal)
-          (subst (λ (w : GroupParts _). Contains (plain g.A.Archive.account.meaning w.archives).numbers c.args.to) (sym c.self.view_is) c.requires.there)
+          (subst (λ (w : GroupParts _). Legal w.table (Swapped c.args.job c.args.column c.args.shelf.number)) (sym c.self.view_is) c.requires.legal)
+          (came (IsTrue g.A.Archive.account.tells) g.A.Archive.account.meaning a.archives c.bring.new.self c.args.shelf c.in-Ok.ensures.brought)
           c.note.ensures.table c.note.ensures.log,
       omega (arith, c.self.invariant.1, c.note.ensures.capacity),
       c.self.invariant.2,
+      arrived a.first a.log.items c.note.new.log.items _ (c.args.shelf.number ∷ []) (numbers_of a.archives.shelves) (numbers_of c.bring.new.self.shelves) c.self.invariant.3 c.note.ensures.log refl c.in-Ok.ensures.brought.numbers,
+    )
+
+pub invariant_of-self-in-Err : goal.invariant_of-self-in-Err
+invariant_of-self-in-Err g c =
+    let a = c.self.inside in
+    let v : GroupParts _ = record { number = a.number; first = a.first; table = a.table; log = a.log.items; flights = a.flights.items; archives = a.archives } in (
+      subst (λ (b : Shelved _). IsSettled (IsTrue g.A.Archive.account.tells) (view_of g.A.Archive.account.meaning (with_archives v b))) (sym c.in-Err.ensures.refused.1) c.self.invariant.0,
+      c.self.invariant.1,
+      c.self.invariant.2,
+      subst (λ (b : Shelved _). HasArrived a.first a.log.items (numbers_of b.shelves)) (sym c.in-Err.ensures.refused.1) c.self.invariant.3,
     )

@@ -1,4 +1,4 @@
-use Rattle.std.proofs.Common.{◌≡◌, ◌<◌, IsTrue, Some, None, length, refl, subst, sym, arith, rules, tests, not}
+use Rattle.std.proofs.Common.{◌≡◌, ◌<◌, IsTrue, Some, None, length, refl, subst, sym, arith, rules, tests, not, ap}
 use Rattle.std.specs.Prelude.{◌==◌, Contains, Ok, Err}
 use Rattle.std.proofs.lemmas.Fn.{filter_same}
 use Rattle.pot_machine.specs.Slot.{digest_in}
@@ -6,12 +6,14 @@ use Rattle.pot_machine.specs.Table.{slot_at, next_column}
 use Rattle.pot_steps.specs.Stripe.{digest_of}
 use Rattle.pot_steps.specs.declared.flight.Flight.{Flight}
 use Rattle.pot_steps.specs.Flights.{flight_in}
-use Rattle.pot_group.specs.Shelves.{plain, Writes}
+use Rattle.pot_group.specs.Shelves.{plain, Writes, numbers_of}
 use Rattle.pot_group.specs.Group.{GroupParts, view_of}
 use Rattle.pot_group.specs.Relaying.{EndsWell}
 use Rattle.pot_group.specs.declared.relaying.Advanced.TheVariants as advanced
 use Rattle.pot_group.specs.declared.relaying.AdvanceFault.TheVariants as failed
+use Rattle.pot_group.specs.Arrivals.{arrival}
 use Rattle.pot_group.proofs.RelayExits.{target_wide, target_served, mended_legal, fault_legal, mended_exit, fault_exit}
+use Rattle.pot_group.proofs.Arriving.{none_arrived}
 use Rattle.pot_group.proofs.group.Group.write_back.Goals as goal
 
 pub archive_of-number-requires : goal.archive_of-number-requires
@@ -55,6 +57,7 @@ invariant_of-self g c =
           (filter_same _ (λ (f : Flight). not (f.relay.stripe == c.args.flight.relay.stripe)) _ (λ x b q h. search (rules, tests)) _ _ c.retain.ensures.filtered),
       omega (arith, c.self.invariant.1, c.push_reserved.ensures.capacity),
       omega (arith, c.self.invariant.2, c.retain.ensures.capacity),
+      none_arrived a.first a.log.items c.push_reserved.new.self.items c.mended-entry.result (numbers_of a.archives.shelves) (numbers_of c.write.new.self.shelves) c.self.invariant.3 c.push_reserved.ensures.items (ap arrival c.mended-entry.ensures.entry) c.write.ensures.keeps.numbers,
     )
 
 pub note-requires-clause-legal : goal.note-requires-clause-legal
@@ -77,6 +80,7 @@ invariant_of-self-in-Err g c =
           c.in-Err.field-0 (subst (λ n. Writes (IsTrue g.A.Archive.account.tells) n c.args.flight.relay.stripe c.args.block.now (Err c.in-Err.field-0) (plain g.A.Archive.account.meaning a.archives) (plain g.A.Archive.account.meaning c.write.new.self)) c.archive_of-number.ensures c.in-Err.ensures) c.note.new.table c.note.new.log.items c.note.ensures.table c.note.ensures.log,
       omega (arith, c.self.invariant.1, c.note.ensures.capacity),
       c.self.invariant.2,
+      none_arrived a.first a.log.items c.note.new.log.items _ (numbers_of a.archives.shelves) (numbers_of c.write.new.self.shelves) c.self.invariant.3 c.note.ensures.log refl c.write.ensures.keeps.numbers,
     )
 
 pub returns-in-Ok : goal.returns-in-Ok

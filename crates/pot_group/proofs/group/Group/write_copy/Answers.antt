@@ -6,11 +6,12 @@ use Rattle.pot_steps.specs.Stripe.{IsSound}
 use Rattle.pot_steps.specs.Holdings.{stripe_of}
 use Rattle.pot_group.specs.declared.copying.MoveStep.TheVariants as moved
 use Rattle.pot_group.specs.declared.copying.MoveFault.TheVariants as failed
-use Rattle.pot_group.specs.Shelves.{plain}
+use Rattle.pot_group.specs.Shelves.{plain, numbers_of}
 use Rattle.pot_group.specs.Group.{GroupParts, view_of}
 use Rattle.pot_group.specs.Moving.{Steps}
 use Rattle.pot_group.proofs.MoveExits.{target_there}
 use Rattle.pot_group.proofs.Stepping.{copied_exit, copied_steps, uncopied_exit, uncopied_steps}
+use Rattle.pot_group.proofs.Arriving.{none_arrived, moved_brings}
 use Rattle.pot_group.proofs.group.Group.write_copy.Goals as goal
 
 pub write-requires : goal.write-requires
@@ -34,6 +35,7 @@ invariant_of-self g c =
           (subst (λ (w : GroupParts _). IsTrue g.A.Archive.account.tells → IsSound (stripe_of w.table (plain g.A.Archive.account.meaning w.archives).held c.args.moving.upto) c.args.column c.args.block.now) (sym c.self.view_is) c.requires.sound) c.in-Ok.ensures c.move_one-entry.result c.move_one-entry.new.table c.push_reserved.new.self.items c.move_one-entry.ensures.entry c.move_one-entry.ensures.table c.push_reserved.ensures.items,
       omega (arith, c.self.invariant.1, c.push_reserved.ensures.capacity),
       c.self.invariant.2,
+      none_arrived a.first a.log.items c.push_reserved.new.self.items c.move_one-entry.result (numbers_of a.archives.shelves) (numbers_of c.write.new.self.shelves) c.self.invariant.3 c.push_reserved.ensures.items (moved_brings _ _ _ _ _ c.move_one-entry.ensures.entry) c.write.ensures.keeps.numbers,
     )
 
 pub invariant_of-self-in-Err : goal.invariant_of-self-in-Err
@@ -48,6 +50,7 @@ invariant_of-self-in-Err g c =
           (subst (λ (w : GroupParts _). IsTrue (is_live (slot_at w.table c.args.moving.upto c.args.column))) (sym c.self.view_is) c.requires.live) (plain g.A.Archive.account.meaning c.write.new.self) c.args.block.now c.in-Err.field-0 c.in-Err.ensures c.note.new.table c.note.new.log.items c.note.ensures.table c.note.ensures.log,
       omega (arith, c.self.invariant.1, c.note.ensures.capacity),
       c.self.invariant.2,
+      none_arrived a.first a.log.items c.note.new.log.items _ (numbers_of a.archives.shelves) (numbers_of c.write.new.self.shelves) c.self.invariant.3 c.note.ensures.log refl c.write.ensures.keeps.numbers,
     )
 
 pub returns-in-Ok : goal.returns-in-Ok
@@ -75,4 +78,5 @@ returns-in-Err g c =
     (subst (λ (w : GroupParts _). c.args.column < width w.table) (sym c.self.view_is) c.requires.column)
     (subst (λ (w : GroupParts _). (column_at w.table c.args.column).moving ≡ Some c.args.moving) (sym c.self.view_is) c.requires.moves)
     (subst (λ (w : GroupParts _). c.args.moving.upto < w.table.stripes) (sym c.self.view_is) c.requires.stripe)
-    (subst (λ (w : GroupParts _). IsTrue (is_live (slot_at w.table c.args.moving.upto c.args.column))) (sym c.self.view_is) c.requires.live) (plain g.A.Archive.account.meaning c.write.new.self) c.args.block.now c.in-Err.field-0 c.in-Err.ensures c.note.new.table c.note.new.log.items c.note.ensures.table c.note.ensures.log)
+    (subst (λ (w : GroupParts _). IsTrue (is_live (slot_at w.table c.args.moving.upto c.args.column))) (sym c.self.view_is) c.requires.live) (plain g.A.Archive.account.meaning c.write.new.self) c.args.block.now c.in-Err.field-0 c.in-Err.ensures c.note.new.table c.note.new.log.items c.note.ensures.table c.note.ensures.log
+    (subst (λ (w : GroupParts _). IsTrue g.A.Archive.account.tells → IsSound (stripe_of w.table (plain g.A.Archive.account.meaning w.archives).held c.args.moving.upto) c.args.column c.args.block.now) (sym c.self.view_is) c.requires.sound))
