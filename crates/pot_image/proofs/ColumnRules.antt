@@ -14,12 +14,16 @@ use Rattle.pot_image.specs.Fields.{done}
 use Rattle.pot_image.specs.Reading.{◌>>=◌, reading}
 use Rattle.pot_image.specs.Numbers.{natural, at_most, zeros, flag}
 use Rattle.pot_image.specs.Tables.{numbers_of, is_free, moving, resting, column, column_behind, columns}
-use Rattle.pot_image.specs.Rules.{AreFree}
 use Rattle.pot_image.proofs.Once.{test, both_true}
 use Rattle.pot_image.proofs.Steps.{holds_of, unequal}
 use Rattle.pot_image.proofs.Inverse.{parts, done_is, read_chosen, read_other, several_keep}
 
 -- NUMBERS THAT STAND NOWHERE BEFORE
+
+-- each number is that of an archive, and stands nowhere before, nor among those that are taken
+abbrev pub AreFree : List ℕ → List ℕ → Type 0
+AreFree taken [] = Unit {0}
+AreFree taken (n ∷ ns) = (is_free taken n ≡ true) × AreFree (taken ++ n ∷ []) ns
 
 abbrev pub stands : ℕ → List ℕ → Bool
 stands n ns = list_any (λ m. m == n) ns
@@ -37,7 +41,7 @@ stands_left n (x ∷ xs) ys e = (by_head (x == n) e (λ h. stands_left n xs ys h
     by_head true h again = refl
     by_head false h again = again h
 
-stands_right : (n : ℕ) (xs ys : List ℕ) → stands n ys ≡ true → stands n (xs ++ ys) ≡ true
+pub stands_right : (n : ℕ) (xs ys : List ℕ) → stands n ys ≡ true → stands n (xs ++ ys) ≡ true
 stands_right n [] ys e = e
 stands_right n (x ∷ xs) ys e = (let again = stands_right n xs ys e in by_head (x == n) again)
   where

@@ -35,10 +35,10 @@ unfolding image field_bytes
 image_back v is =
     (back_as _ (head_bytes v.session v.rack ++ (flat_map table_bytes v.tables ++ (counted_bytes record_bytes v.records ++ (flat_map (counted_bytes entry_bytes) v.group_logs ++ counted_bytes index_entry_bytes v.index_log)))) _ v
     (join (head_bytes v.session v.rack) (flat_map table_bytes v.tables) (counted_bytes record_bytes v.records) (flat_map (counted_bytes entry_bytes) v.group_logs) (counted_bytes index_entry_bytes v.index_log))
-    (back_then (head Second) _ (head_bytes v.session v.rack) _ (record { session = v.session; rack = v.rack }) v (head_back v.session v.rack is.session is.rack)
-    (back_then (tables v.rack) _ (flat_map table_bytes v.tables) _ v.tables v (tables_back v.rack v.tables is.rack is.tables is.digests)
-    (back_then (records Second v.rack v.tables) _ (counted_bytes record_bytes v.records) _ v.records v (records_back v.rack v.tables v.records is.rack is.records)
-    (back_then (group_logs Second v.rack) _ (flat_map (counted_bytes entry_bytes) v.group_logs) _ v.group_logs v (logs_back v.rack is.rack v.group_logs is.logs is.group_logs)
+    (back_then (head Second) _ (head_bytes v.session v.rack) _ (record { session = v.session; rack = v.rack }) v (head_back v.session v.rack is.session is.together.rack)
+    (back_then (tables v.rack) _ (flat_map table_bytes v.tables) _ v.tables v (tables_back v.rack v.tables is.together.rack is.together.tables is.digests)
+    (back_then (records Second v.rack v.tables) _ (counted_bytes record_bytes v.records) _ v.records v (records_back v.rack v.tables v.records is.together.rack is.together.records)
+    (back_then (group_logs Second v.rack) _ (flat_map (counted_bytes entry_bytes) v.group_logs) _ v.group_logs v (logs_back v.rack is.together.rack v.group_logs is.together.logs is.group_logs)
     (back_end (index_log Second) (λ x. record { session = v.session; rack = v.rack; tables = v.tables; records = v.records; group_logs = v.group_logs; index_log = x }) (counted_bytes index_entry_bytes v.index_log) v.index_log (index_log_back v.index_log is.index_log)))))))
 
 pub fields_back : (v : Contents) → IsImage v → IsOf (image Second) (field_bytes v) v
@@ -126,7 +126,7 @@ written_apart v w p q e =
 
 pub countable : (i : Image) → IsImage (contents i) → IsCountable i
 countable i is = record {
-  records = (let n = is.records.count in omega (arith, n));
+  records = (let n = is.together.records.read.few in omega (arith, n));
   logs = λ k d l. (let size : length (map (λ v. v.items) i.group_logs.items) ≡ length i.group_logs.items = length-map i.group_logs.items (λ v. v.items) in
       let below : k < length (map (λ v. v.items) i.group_logs.items) = omega (arith, size, l) in
       let n : length (get_or (map (λ v. v.items) i.group_logs.items) k []) ≤ 262144 = (is.group_logs k [] below).count in

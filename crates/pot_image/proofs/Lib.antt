@@ -3,12 +3,16 @@ pub mod Steps
 pub mod Inverse
 pub mod SlotRules
 pub mod ColumnRules
+pub mod Archives
 pub mod TableRules
 pub mod EntryKinds
 pub mod NameRules
 pub mod MarkRules
 pub mod PlaceRules
 pub mod HeadRules
+pub mod Filled
+pub mod RecordRules
+pub mod RecordsKept
 pub mod Frames
 pub mod WriteRules
 pub mod ReadBack
@@ -17,4 +21,5 @@ pub mod TableBack
 pub mod LogBack
 pub mod RecordBack
 pub mod ImageBack
+pub mod ImageKept
 pub mod Smallest

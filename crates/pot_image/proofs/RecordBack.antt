@@ -27,8 +27,9 @@ use Rattle.pot_image.specs.Numbers.{natural, at_most, between, digest}
 use Rattle.pot_image.specs.Heads.{geometry}
 use Rattle.pot_image.specs.Records.{name, is_above, is_filled, is_at, is_apart, place, places, split, split_behind, splits, record_behind, records}
 use Rattle.pot_image.specs.Spelling.{counted_bytes}
-use Rattle.pot_image.specs.Rules.{FitsRecord, AreRecords}
+use Rattle.pot_image.specs.Rules.{IsFilled, IsRecordOver, AreRecords}
 use Rattle.pot_image.proofs.Once.{test}
+use Rattle.pot_image.proofs.Filled.{all_pass}
 use Rattle.pot_image.proofs.MarkRules.{at_same}
 use Rattle.pot_image.proofs.HeadBack.{both, is_between, geometry_back}
 use Rattle.pot_image.proofs.LogBack.{name_back}
@@ -87,16 +88,16 @@ places_back rack ts pieces s rules fits filled =
 
 -- SPLITS
 
-split_back : (rack : Rack) (ts : List Table) (pieces : ℕ) (s : Split) → IsRack rack → FitsSplit rack pieces s → All (λ p. is_filled ts p.group p.column p.stripe ≡ true) s.places → Back (split rack ts pieces) (split_bytes s) s
+split_back : (rack : Rack) (ts : List Table) (pieces : ℕ) (s : Split) → IsRack rack → FitsSplit rack pieces s → All (IsFilled ts) s.places → Back (split rack ts pieces) (split_bytes s) s
 unfolding split
 split_back rack ts pieces s rules fits filled =
     (back_then (geometry rack.groups) _ (geometry_bytes s.geometry) (flat_map place_bytes s.places) s.geometry s (geometry_back rack.groups s.geometry fits.geometry.limits fits.geometry.groups)
-    (back_end (places rack ts pieces s.geometry) (λ ps. record { geometry = s.geometry; places = ps }) (flat_map place_bytes s.places) s.places (places_back rack ts pieces s rules fits filled)))
+    (back_end (places rack ts pieces s.geometry) (λ ps. record { geometry = s.geometry; places = ps }) (flat_map place_bytes s.places) s.places (places_back rack ts pieces s rules fits (all_pass ts s.places filled))))
 
 no_split : Split
 no_split = record { geometry = record { fragments = 0; need = 0; shards = 0; blur = 0 }; places = [] }
 
-splits_back : (rack : Rack) (ts : List Table) (r : Record) → IsRack rack → FitsRack rack r → All (λ s. All (λ p. is_filled ts p.group p.column p.stripe ≡ true) s.places) (splits_of r)
+splits_back : (rack : Rack) (ts : List Table) (r : Record) → IsRack rack → FitsRack rack r → All (λ s. All (IsFilled ts) s.places) (splits_of r)
     → Back (splits Second rack ts (pieces_of r.length)) (length (splits_of r) ∷ flat_map split_bytes (splits_of r)) (record { older = r.older; current = current_of r })
 unfolding splits
 splits_back rack ts r rules fits filled =
@@ -105,7 +106,7 @@ splits_back rack ts r rules fits filled =
     (back_then (several 0 (length (splits_of r) - 1) (split_behind rack ts (pieces_of r.length)) []) _ (flat_map split_bytes r.older) (split_bytes (current_of r)) r.older _
     (back_several (split_behind rack ts (pieces_of r.length)) split_bytes r.older no_split (length (splits_of r) - 1) (omega (arith, number)) (λ i l. older i (omega (arith, l, number))))
     (back_end (split rack ts (pieces_of r.length)) (λ c. record { older = r.older; current = c }) (split_bytes (current_of r)) (current_of r)
-    (split_back rack ts (pieces_of r.length) (current_of r) rules (subst (FitsSplit rack (pieces_of r.length)) last (fits.splits (length r.older) no_split (omega (arith, number)))) (subst (λ s. All (λ p. is_filled ts p.group p.column p.stripe ≡ true) s.places) last (filled (length r.older) no_split (omega (arith, number)))))))))
+    (split_back rack ts (pieces_of r.length) (current_of r) rules (subst (FitsSplit rack (pieces_of r.length)) last (fits.splits (length r.older) no_split (omega (arith, number)))) (subst (λ s. All (IsFilled ts) s.places) last (filled (length r.older) no_split (omega (arith, number)))))))))
   where
     few : length r.older ≤ 15
     few = fits.few
@@ -122,7 +123,7 @@ splits_back rack ts r rules fits filled =
     older : (i : ℕ) → i < length r.older → Back (split rack ts (pieces_of r.length)) (split_bytes (get_or r.older i no_split)) (get_or r.older i no_split)
     older i l =
         let same : get_or (splits_of r) i no_split ≡ get_or r.older i no_split = get_or_append_left r.older (current_of r ∷ []) no_split i l in
-        split_back rack ts (pieces_of r.length) (get_or r.older i no_split) rules (subst (FitsSplit rack (pieces_of r.length)) same (fits.splits i no_split (omega (arith, number, l)))) (subst (λ s. All (λ p. is_filled ts p.group p.column p.stripe ≡ true) s.places) same (filled i no_split (omega (arith, number, l))))
+        split_back rack ts (pieces_of r.length) (get_or r.older i no_split) rules (subst (FitsSplit rack (pieces_of r.length)) same (fits.splits i no_split (omega (arith, number, l)))) (subst (λ s. All (IsFilled ts) s.places) same (filled i no_split (omega (arith, number, l))))
 
 -- RECORDS
 
@@ -144,18 +145,18 @@ name_above rs (suc i) up l =
     ap (slice_get (take (suc i) rs)) place ∙ slice_get-get_or (take (suc i) rs) i no_record (omega (arith, size)) ∙ ap Some (get_or-take (suc i) rs i no_record (omega arith)) in
     above_last (take (suc i) rs) (get_or rs (suc i) no_record).name (get_or rs i no_record) here (ap is_lt (less_at rs i (suc i) no_record up (omega arith) l))
 
-record_back : (rack : Rack) (ts : List Table) (i : ℕ) (before : List Record) (r : Record) → IsRack rack → FitsRecord rack ts r → is_above before r.name ≡ true → Back (record_behind Second rack ts i before) (record_bytes r) r
+record_back : (rack : Rack) (ts : List Table) (i : ℕ) (before : List Record) (r : Record) → IsRack rack → FitsRack rack r → IsRecordOver ts r → is_above before r.name ≡ true → Back (record_behind Second rack ts i before) (record_bytes r) r
 unfolding record_behind record_bytes
-record_back rack ts i before r rules fits above =
+record_back rack ts i before r rules fits over above =
     (back_as _ (name_bytes r.name ++ (big_bytes 8 r.length ++ (r.digest.bytes ++ (length (splits_of r) ∷ flat_map split_bytes (splits_of r))))) _ _ (spelled (name_bytes r.name) (big_bytes 8 r.length) r.digest.bytes (length (splits_of r) ∷ []) (flat_map split_bytes (splits_of r)))
-    (back_then (name (is_above before)) _ (name_bytes r.name) _ r.name r (name_back (is_above before) r.name fits.name above)
+    (back_then (name (is_above before)) _ (name_bytes r.name) _ r.name r (name_back (is_above before) r.name over.name above)
     (back_then (natural 8 (at_most longest)) _ (big_bytes 8 r.length) _ r.length r (back_number 8 (at_most longest) r.length (omega (arith, short)) (le-leb _ _ short))
-    (back_then digest _ r.digest.bytes _ r.digest r (back_digest r.digest fits.digest)
+    (back_then digest _ r.digest.bytes _ r.digest r (back_digest r.digest over.digest)
     (back_end (splits Second rack ts (pieces_of r.length)) (λ s. record { name = r.name; length = r.length; digest = r.digest; geometry = s.current.geometry; places = s.current.places; older = s.older }) _ (record { older = r.older; current = current_of r })
-    (splits_back rack ts r rules fits.fits fits.filled))))))
+    (splits_back rack ts r rules fits over.filled))))))
   where
     short : r.length ≤ 884736
-    short = fits.fits.long
+    short = fits.long
 
     spelled : (a b c d e : List ℕ) → a ++ (b ++ (c ++ (d ++ e))) ≡ (((a ++ b) ++ c) ++ d) ++ e
     spelled a b c d e = sym (append_assoc ((a ++ b) ++ c) d e ∙ append_assoc (a ++ b) c (d ++ e) ∙ append_assoc a b (c ++ (d ++ e)))
@@ -163,6 +164,6 @@ record_back rack ts i before r rules fits above =
 pub records_back : (rack : Rack) (ts : List Table) (rs : List Record) → IsRack rack → AreRecords rack ts rs → Back (records Second rack ts) (counted_bytes record_bytes rs) rs
 unfolding records
 records_back rack ts rs rules are =
-    (let few = are.count in
+    (let few = are.read.few in
     back_then (natural 4 (at_most 4000000000)) _ (big_bytes 4 (length rs)) (flat_map record_bytes rs) (length rs) rs (back_number 4 (at_most 4000000000) (length rs) (omega (arith, few)) (le-leb _ _ few))
-    (back_several (record_behind Second rack ts) record_bytes rs no_record (length rs) refl (λ i l. record_back rack ts i (take i rs) (get_or rs i no_record) rules (are.fits i no_record l) (name_above rs i are.ascends l))))
+    (back_several (record_behind Second rack ts) record_bytes rs no_record (length rs) refl (λ i l. record_back rack ts i (take i rs) (get_or rs i no_record) rules (are.read.fits i no_record l) (are.each i no_record l) (name_above rs i are.read.ascends l))))

@@ -9,6 +9,7 @@ use Rattle.pot_index.specs.Index.{Ascends}
 use Rattle.pot_image.specs.Images.{Contents}
 use Rattle.pot_image.specs.Spelling.{table_bytes, field_bytes}
 use Rattle.pot_image.specs.Rules.{FitsTable, HaveDigests, FitsEntry, IsLog, IsImage}
+use Rattle.pot_image.proofs.Archives.{archives_of_free}
 use Rattle.pot_image.proofs.ImageBack.{image_long}
 
 abbrev rack : Rack
@@ -47,11 +48,13 @@ is_image = (
   smallest,
   record {
     session = omega arith;
-    rack = is_rack;
-    tables = record { count = refl; fits = one_table; free = (refl, (refl, tt)) };
+    together = record {
+      rack = is_rack;
+      tables = record { count = refl; fits = one_table; archives = archives_of_free (0 ∷ 1 ∷ []) (refl, (refl, tt)) };
+      records = record { read = record { few = omega arith; ascends = none_ascend; fits = λ k d l. absurd (omega (arith, l)) }; each = λ k d l. absurd (omega (arith, l)) };
+      logs = refl;
+    };
     digests = one_digests;
-    records = record { count = omega arith; ascends = none_ascend; fits = λ k d l. absurd (omega (arith, l)) };
-    logs = refl;
     group_logs = one_log;
     index_log = record { count = omega arith; fits = λ k d l. absurd (omega (arith, l)) };
     short = (let a = image_long smallest in let b = size in omega (arith, a, b));

@@ -22,10 +22,11 @@ use Rattle.pot_image.specs.Reading.{◌>>=◌, over, several, reading}
 use Rattle.pot_image.specs.Numbers.{natural, at_most, between, zeros, flag, digest}
 use Rattle.pot_image.specs.Tables.{numbers_of, is_free, column, column_behind, columns, allows, state_of, slot, slot_behind, stripe_slots, slots, is_cursor, cursor, table, table_numbers, table_behind, tables}
 use Rattle.pot_image.specs.Spelling.{cursor_bytes, column_bytes, slot_bytes, table_bytes}
-use Rattle.pot_image.specs.Rules.{HasDigest, HaveDigests, AreFree, FitsTable, AreTables}
+use Rattle.pot_image.specs.Rules.{HasDigest, HaveDigests, FitsTable, AreTables}
 use Rattle.pot_image.proofs.Once.{both_true}
 use Rattle.pot_image.proofs.Steps.{unequal}
-use Rattle.pot_image.proofs.ColumnRules.{free_rest, IsWithin}
+use Rattle.pot_image.proofs.ColumnRules.{AreFree, free_rest, IsWithin}
+use Rattle.pot_image.proofs.Archives.{free_of_archives}
 use Rattle.pot_image.proofs.SlotRules.{looks_back, allowed_by}
 use Rattle.pot_image.proofs.HeadBack.{both, is_between}
 use Rattle.pot_image.proofs.ReadBack.{Back, back_done, back_then, back_end, back_as, back_number, back_byte, back_flag, back_digest, back_on, back_several, back_over, drop_all}
@@ -242,4 +243,4 @@ pub tables_back : (rack : Rack) (ts : List Table) → IsRack rack → AreTables 
 unfolding tables
 tables_back rack ts rules are digests =
     (back_several (table_behind rack) table_bytes ts no_table rack.groups are.count (λ i l. (let below : i < length ts = (let n = are.count in omega (arith, l, n)) in
-    table_back rack (flat_map table_numbers (take i ts)) (get_or ts i no_table) rules (are.fits i no_table below) (free_behind table_numbers ts [] i no_table below are.free) (λ k lk. digests i no_table below k Void lk))))
+    table_back rack (flat_map table_numbers (take i ts)) (get_or ts i no_table) rules (are.fits i no_table below) (free_behind table_numbers ts [] i no_table below (free_of_archives (flat_map table_numbers ts) are.archives)) (λ k lk. digests i no_table below k Void lk))))

@@ -15,12 +15,13 @@ use Rattle.pot_image.specs.Fields.{done}
 use Rattle.pot_image.specs.Reading.{◌>>=◌, reading}
 use Rattle.pot_image.specs.Numbers.{natural, at_most, between, zeros}
 use Rattle.pot_image.specs.Tables.{cursor, columns, slots, table, table_behind, tables, table_numbers}
-use Rattle.pot_image.specs.Rules.{AreFree, FitsTable, AreTables}
+use Rattle.pot_image.specs.Rules.{FitsTable, AreTables}
 use Rattle.pot_image.proofs.Once.{both_true}
 use Rattle.pot_image.proofs.Steps.{holds_of}
 use Rattle.pot_image.proofs.Inverse.{parts, done_is, several_keep}
 use Rattle.pot_image.proofs.SlotRules.{AreAllowed, slots_are_allowed, voids_of}
-use Rattle.pot_image.proofs.ColumnRules.{AreKept, columns_kept, columns_of, free_more}
+use Rattle.pot_image.proofs.ColumnRules.{AreFree, AreKept, columns_kept, columns_of, free_more}
+use Rattle.pot_image.proofs.Archives.{archives_of_free}
 
 nearer : (a b : ℕ) → (a < b) ⊎ (b ≤ a)
 nearer a b = grind arith
@@ -113,7 +114,7 @@ tables_kept rack bytes rest ts fits e =
     (let all = several_keep (First rack) (table_behind rack) rack.groups
     (λ i before x bs rs l p h. one_more i before x p (table_kept rack (flat_map table_numbers before) bs rs x fits h))
     rack.groups 0 [] ts bytes rest (omega arith) (record { count = refl; fits = λ k d l. absurd (omega (arith, l)); free = tt }) e in
-    record { count = all.count; fits = all.fits; free = all.free })
+    record { count = all.count; fits = all.fits; archives = archives_of_free (flat_map table_numbers ts) all.free })
   where
     one_more : (i : ℕ) (before : List Table) (x : Table) → First rack i before → Kept rack (flat_map table_numbers before) x → First rack (i + 1) (before ++ x ∷ [])
     one_more i before x p k = record {

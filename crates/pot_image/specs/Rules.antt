@@ -1,10 +1,13 @@
 -- The rules of what stands in an image, by what they say of its values.
-use Rattle.std.specs.Prelude.{◌≡◌, ◌<◌, ◌≤◌, ◌+◌, ◌^◌, ℕ, true, List, [], ◌∷◌, ◌++◌, length, All, flat_map}
+use Rattle.std.specs.Prelude.{◌≡◌, ◌<◌, ◌≤◌, ◌+◌, ◌^◌, ℕ, false, nat_eq, Some, List, [], length, slice_get, All, flat_map}
+use Rattle.std.specs.List.{IsDistinct}
 use Rattle.pot_bytes.specs.declared.digest.Digest.{Digest}
+use Rattle.pot_bytes.specs.declared.rack.Place.{Place}
 use Rattle.pot_bytes.specs.declared.rack.Rack.{Rack}
 use Rattle.pot_machine.specs.declared.slot.SlotState.{SlotState}
 use Rattle.pot_machine.specs.declared.slot.SlotState.TheVariants.{Void, Live, Lost, Broken}
-use Rattle.pot_machine.specs.Table.{Table}
+use Rattle.pot_machine.specs.Slot.{is_void}
+use Rattle.pot_machine.specs.Table.{Table, slot_at}
 use Rattle.pot_machine.specs.Rules.{IsTable}
 use Rattle.pot_bytes.specs.Names.{IsName}
 use Rattle.pot_bytes.specs.Rack.{IsRack}
@@ -14,10 +17,8 @@ use Rattle.pot_index.specs.declared.entry.IndexEntry.{IndexEntry}
 use Rattle.pot_index.specs.declared.entry.IndexEntry.TheVariants.{Reserve, Taken, Publish, Abandon, Find, Listed, Renew, Often}
 use Rattle.pot_index.specs.declared.record.Record.{Record}
 use Rattle.pot_index.specs.Records.{splits_of}
-use Rattle.pot_index.specs.Fits.{FitsRack}
-use Rattle.pot_index.specs.Index.{Ascends}
-use Rattle.pot_image.specs.Tables.{is_free, table_numbers}
-use Rattle.pot_image.specs.Records.{is_filled}
+use Rattle.pot_index.specs.Index.{AreRead}
+use Rattle.pot_image.specs.Tables.{table_numbers}
 use Rattle.pot_image.specs.Images.{Contents}
 use Rattle.pot_image.specs.Spelling.{image_bytes}
 
@@ -31,10 +32,12 @@ HasDigest (Live d) = IsDigest d
 HasDigest (Lost d) = IsDigest d
 HasDigest (Broken d) = IsDigest d
 
--- each number is that of an archive, and stands nowhere before, nor among those that are taken
-abbrev pub AreFree : List ℕ → List ℕ → Type 0
-AreFree taken [] = Unit {0}
-AreFree taken (n ∷ ns) = (is_free taken n ≡ true) × AreFree (taken ++ n ∷ []) ns
+-- WHAT GROUPS AND AN INDEX BEGIN WITH
+
+-- the numbers are those of archives, at most 511, and all distinct
+pub record AreArchives (numbers : List ℕ) : Type 0 where
+  pub within : All (λ n. n ≤ 511) numbers
+  pub distinct : IsDistinct nat_eq numbers
 
 -- a table of a group of this rack, without relays
 pub record FitsTable (rack : Rack) (t : Table) : Type 0 where
@@ -44,28 +47,41 @@ pub record FitsTable (rack : Rack) (t : Table) : Type 0 where
   pub stripes : t.stripes ≡ rack.stripes
   pub relays : t.relays ≡ []
 
--- the tables of the groups of this rack, whose archives are all distinct
+-- a table for each group of this rack, and the homes and targets of all their columns are distinct archives
 pub record AreTables (rack : Rack) (ts : List Table) : Type 0 where
   pub count : length ts ≡ rack.groups
   pub fits : All (FitsTable rack) ts
-  pub free : AreFree [] (flat_map table_numbers ts)
+  pub archives : AreArchives (flat_map table_numbers ts)
+
+-- the slot of a place, in the table of its group, is not Void
+pub record IsFilled (ts : List Table) (p : Place) : Type 0 where
+  pub table : Table
+  pub group : slice_get ts p.group ≡ Some table
+  pub slot : is_void (slot_at table p.stripe p.column) ≡ false
+
+-- a record of a name, with a whole digest, and in none of its splits a place whose slot is Void
+pub record IsRecordOver (ts : List Table) (r : Record) : Type 0 where
+  pub name : IsName r.name
+  pub digest : IsDigest r.digest
+  pub filled : All (λ s. All (IsFilled ts) s.places) (splits_of r)
+
+-- records with which an index over this rack may begin, each of them over these tables
+pub record AreRecords (rack : Rack) (ts : List Table) (rs : List Record) : Type 0 where
+  pub read : AreRead rack rs
+  pub each : All (IsRecordOver ts) rs
+
+-- the parts fit together: a rack within its limits, the tables of its groups, records over them, and a log for each group
+pub record FitsTogether (v : Contents) : Type 0 where
+  pub rack : IsRack v.rack
+  pub tables : AreTables v.rack v.tables
+  pub records : AreRecords v.rack v.tables v.records
+  pub logs : length v.group_logs ≡ v.rack.groups
+
+-- WHAT AN IMAGE MAY HOLD
 
 -- the table's slots have whole digests
 abbrev pub HaveDigests : Table → Type 0
 HaveDigests t = All HasDigest t.slots
-
--- a record of a name, whose splits fit the rack and have no place whose slot is Void
-pub record FitsRecord (rack : Rack) (ts : List Table) (r : Record) : Type 0 where
-  pub name : IsName r.name
-  pub digest : IsDigest r.digest
-  pub fits : FitsRack rack r
-  pub filled : All (λ s. All (λ p. is_filled ts p.group p.column p.stripe ≡ true) s.places) (splits_of r)
-
--- at most 4,000,000,000 such records, by ascending name
-pub record AreRecords (rack : Rack) (ts : List Table) (rs : List Record) : Type 0 where
-  pub count : length rs ≤ 4000000000
-  pub ascends : Ascends rs
-  pub fits : All (FitsRecord rack ts) rs
 
 -- a job's number has four bytes
 abbrev pub IsJob : ℕ → Type 0
@@ -116,15 +132,12 @@ pub record IsLog {X : Type 0} (Fits : X → Type 0) (xs : List X) : Type 0 where
   pub count : length xs ≤ 262144
   pub fits : All Fits xs
 
--- what an image may hold: a session whose number has four bytes, a rack within its limits, the tables of its groups, records
--- that fit them, and a log for each group and for the index. Its bytes are fewer than 2^64
+-- what an image may hold: a session whose number has four bytes, parts that fit together, whole digests, and logs of entries that
+-- fit. Its bytes are fewer than 2^64
 pub record IsImage (v : Contents) : Type 0 where
   pub session : v.session < 2 ^ 32
-  pub rack : IsRack v.rack
-  pub tables : AreTables v.rack v.tables
+  pub together : FitsTogether v
   pub digests : All HaveDigests v.tables
-  pub records : AreRecords v.rack v.tables v.records
-  pub logs : length v.group_logs ≡ v.rack.groups
   pub group_logs : All (IsLog (FitsEntry v.rack)) v.group_logs
   pub index_log : IsLog FitsIndexEntry v.index_log
   pub short : length (image_bytes v) < 2 ^ 64

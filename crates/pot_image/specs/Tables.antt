@@ -1,11 +1,12 @@
 -- The tables of an image.
-use Rattle.std.specs.Prelude.{ℕ, ◌+◌, ◌-◌, ◌*◌, ◌==◌, ◌&&◌, ◌||◌, nat_le, nat_lt, Bool, not, if◌then◌else◌, Some, None, List, [], ◌∷◌, ◌++◌, flat_map, slice_index_or}
+use Rattle.std.specs.Prelude.{ℕ, ◌+◌, ◌-◌, ◌*◌, ◌==◌, ◌&&◌, ◌||◌, nat_le, nat_lt, Bool, not, if◌then◌else◌, Option, Some, None, List, [], ◌∷◌, ◌++◌, flat_map, slice_index_or}
 use Rattle.std.specs.List.{list_any}
 use Rattle.pot_bytes.specs.declared.digest.Digest.{Digest}
 use Rattle.pot_bytes.specs.declared.rack.Rack.{Rack}
 use Rattle.pot_machine.specs.declared.slot.SlotState.{SlotState}
 use Rattle.pot_machine.specs.declared.slot.SlotState.TheVariants.{Void, Live, Lost, Broken}
 use Rattle.pot_machine.specs.declared.column.Column.{Column}
+use Rattle.pot_machine.specs.declared.column.Moving.{Moving}
 use Rattle.pot_machine.specs.declared.cursor.Cursor.{Cursor}
 use Rattle.pot_machine.specs.Slot.{is_void}
 use Rattle.pot_machine.specs.Table.{Table}
@@ -14,9 +15,14 @@ use Rattle.pot_image.specs.Fields.{Grammar, done}
 use Rattle.pot_image.specs.Reading.{◌>>=◌, over, several}
 use Rattle.pot_image.specs.Numbers.{natural, at_most, between, zeros, flag, digest}
 
--- the archive numbers that a column names: its home, and the target of its move
+-- the target of a move, if there is one
+abbrev pub target_of : Option Moving → List ℕ
+target_of None = []
+target_of (Some m) = m.to ∷ []
+
+-- the archive numbers that a column names: its home, and then the target of its move
 abbrev pub numbers_of : Column → List ℕ
-numbers_of c = elim c.moving [ None ↦ c.home ∷ [] | Some m ↦ c.home ∷ m.to ∷ [] ]
+numbers_of c = c.home ∷ target_of c.moving
 
 -- an archive number, at most 511, which none of the columns before names
 abbrev pub is_free : List ℕ → ℕ → Bool

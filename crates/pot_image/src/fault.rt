@@ -8,7 +8,7 @@ use std::alloc::{AllocError, AllocFailed};
 /// Why bytes are no image.
 #[derive(Clone, Copy, PartialEq, Eq, Debug)]
 pub enum ImageFault {
-    /// There are fewer bytes than the image says that it has, or than the shortest image has.
+    /// There are fewer than 48 bytes, or fewer than the image says that it has.
     Cut,
     /// The last 32 bytes are not the digest of all before.
     Trailer { kept: Digest, computed: Digest },

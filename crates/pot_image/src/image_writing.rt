@@ -93,7 +93,7 @@ fn put_length(text: &mut [u8], number: u64)
     BigEndian::write_u64(&mut text[8..], number);
 }
 
-/// How many bytes an image has at most, so that its room is taken at once.
+/// Room for all but the records and the entries of the logs.
 fn room(image: &Image) -> usize {
     let mut room: usize = 128;
     for table in &image.tables {
@@ -122,7 +122,15 @@ fn append_text(out: &mut Vec<u8>, image: &Image) -> Result<(), NoMemory>
     Ok(())
 }
 
-/// The bytes of an image, of the second format. Relays are not written. Its room is taken once.
+/// The bytes of an image, of the second format. The relays of its tables are not written.
+///
+/// Every image may be written that has fewer than 2^32 records and fewer than 2^32 entries in each log, as `Image::is_countable`
+/// tests: so each whose records are those of an index and whose logs are those of groups and of an index, with at most
+/// 4,000,000,000 records and 262,144 entries. Nothing is asked of what stands in them. What was written is read back where it
+/// keeps the rules of an image (`image_laws`).
+///
+/// # Errors
+/// Want of memory alone.
 pub fn write_image(alloc: Global, image: &Image) -> Result<Vec<u8>, NoMemory>
     requires { IsCountable image.now }
     ensures { IfOk result (λ v. v.items ≡ image_bytes (contents image.now)) }

@@ -6,9 +6,10 @@
 //! There are two formats. Both are read, and the second is written.
 //! 1. Bytes are an image exactly where their fields are those of the grammar, behind a front that says how many they are
 //!    and before a trailer that is their digest (`read_image`).
-//! 2. Else the answer says which comes first: too few bytes, another front, more bytes than stated, another digest, or the
-//!    place of the first field that breaks its rule or does not end (`read_image`).
-//! 3. What is written is the text of the fields and its digest (`write_image`), and it is read back (`image_laws`).
+//! 2. Else the answer says which comes first: fewer than 48 bytes, another front, the number of no format, fewer or more bytes than
+//!    stated, another digest, or the place of the first field that breaks its rule or does not end, or of bytes left (`read_image`).
+//! 3. The parts of what was read fit together, so that groups and an index can begin with them (`read_image`).
+//! 4. What is written is the text of the fields and its digest (`write_image`), and it is read back (`image_laws`).
 #![tactic(auto)]
 
 mod columns;

@@ -1,9 +1,10 @@
 //! How an image is read.
-ghost use Rattle.std.specs.Prelude.{◌≡◌, ◌≤◌, ◌<◌, ◌+◌, ◌-◌, ◌↔◌, IsTrue, length, take, drop};
+ghost use Rattle.std.specs.Prelude.{◌≡◌, ◌≤◌, ◌<◌, ◌+◌, ◌-◌, ◌↔◌, IsTrue, IfOk, length, take, drop};
 ghost use Rattle.pot_image.specs.declared.fault.ImageFault.TheVariants.{Form};
 ghost use Rattle.pot_image.specs.Following.{Gives};
 ghost use Rattle.pot_image.specs.Reading.{reading};
 ghost use Rattle.pot_image.specs.Images.{Contents, contents, image, magic, trailer, before_trailer, stated_length, Answered, Trailed, Measured, Numbered, AnswersImage};
+ghost use Rattle.pot_image.specs.Rules.{FitsTogether};
 
 use crate::fault::{Fault, ImageFault};
 use crate::format::Format;
@@ -15,7 +16,7 @@ use crate::tables::read_tables;
 use pot_bytes::{Digest, digest_of, read_be32, read_be64};
 use std::alloc::Global;
 
-/// What an image has at least: what stands before its fields, and the trailer.
+/// How many bytes stand before the fields of an image and in its trailer.
 const LEAST_BYTES: usize = 48;
 
 /// The fields of an image, and the bytes behind them.
@@ -123,6 +124,11 @@ fn is_marked(bytes: &[u8]) -> bool
 
 /// The image of these bytes. Where they are none, it is answered why.
 ///
+/// The parts of an image that was read fit together, so that groups and an index can begin with them: its rack is within its
+/// limits, each group has a table of the rack that keeps the rules of a table and has no relay, all homes and targets are
+/// distinct and at most 511, the records are those with which an index over the rack may begin, none of their places has a
+/// slot that is Void, and each group has a log.
+///
 /// # Errors
 /// In this order: `Cut` where there are fewer than 48 bytes; `Form` with place 0 where the first four are not `PSI1`,
 /// and with place 4 where the number behind them is not 1 or 2; `Cut` where there are fewer bytes than the number behind
@@ -130,7 +136,8 @@ fn is_marked(bytes: &[u8]) -> bool
 /// before; `Form` with the place of the first field that breaks its rule or does not end before the trailer, or with the
 /// trailer's place where bytes are left before it. `NoMemory` may come in place of an image, and of the last of these.
 pub fn read_image(alloc: Global, bytes: &[u8]) -> Result<Image, ImageFault>
-    ensures { AnswersImage bytes.now result }
+    ensures answers { AnswersImage bytes.now result }
+    ensures kept { IfOk result (λ i. FitsTogether (contents i)) }
 {
     if bytes.len() < LEAST_BYTES {
         return Err(ImageFault::Cut);

@@ -2,7 +2,7 @@
 ghost use Rattle.std.specs.Prelude.{◌≡◌, ◌≤◌, ◌<◌, ◌+◌, ◌-◌, ◌^◌, ℕ, [], IfOk};
 ghost use Rattle.pot_image.specs.declared.format.Format.TheVariants.{First, Second};
 ghost use Rattle.pot_bytes.specs.Rack.{IsRack, IsGeometry};
-ghost use Rattle.pot_object.specs.Pieces.{longest, pieces_of};
+ghost use Rattle.pot_object.specs.Pieces.{longest};
 ghost use Rattle.pot_image.specs.Following.{Gives};
 ghost use Rattle.pot_image.specs.Reading.{reading, several};
 ghost use Rattle.pot_image.specs.Numbers.{natural, at_most};
@@ -20,13 +20,11 @@ use crate::places::read_places;
 use pot_bytes::Rack;
 use pot_index::{Places, Record, Split, Splits};
 use pot_machine::GroupTable;
+use pot_object::{LONGEST, count_pieces};
 use std::alloc::Global;
 
 /// How many records an image may have.
 const RECORDS: u32 = 4_000_000_000;
-
-/// How long a file may be.
-const FILE_BYTES: u64 = 884_736;
 
 /// No record has fewer bytes.
 const RECORD_BYTES: usize = 42;
@@ -197,19 +195,10 @@ fn read_length(bytes: &[u8]) -> Result<(u64, &[u8]), Fault>
     ensures { Gives (λ x. (x.0, x.1.now)) result (reading (natural 8 (at_most longest)) bytes.now) }
 {
     let (number, rest) = read_long(bytes)?;
-    if number > FILE_BYTES {
+    if number > LONGEST {
         return Err(Fault::at(bytes));
     }
     Ok((number, rest))
-}
-
-/// The number of pieces of a file of this length.
-fn pieces_of(length: u64) -> u32
-    requires { length ≤ longest }
-    ensures value { result ≡ pieces_of length }
-    ensures most { result ≤ 1024 }
-{
-    length.div_ceil(864).max(1) as u32
 }
 
 /// A record behind others.
@@ -235,7 +224,7 @@ fn read_record<'a>(
     let (_, after_name) = after_count.split_at(usize::from(count));
     let (length, after_length) = read_length(after_name)?;
     let (digest, after_digest) = read_digest(after_length)?;
-    let pieces = pieces_of(length);
+    let pieces = count_pieces(length);
     let (splits, rest) = read_splits(
         alloc,
         after_digest,

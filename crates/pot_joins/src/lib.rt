@@ -1,5 +1,5 @@
-//! What some shares fix: at each place the value, at any point, of the one polynomial of degree below their number that
-//! goes through them.
+//! What some shares fix at a point that none of them has: at each of their bytes, the value there of the one polynomial of
+//! degree below their number that goes through that byte of each.
 //!
 //! It knows shares and points alone: no shard, no ring and no block. It takes no memory and refuses nothing.
 //!

@@ -35,7 +35,8 @@ pub record IsReport (g : Geometry) (file other : List ℕ) (hidden : ℕ) (seen 
   pub digest : r.digest.bytes ≡ digest_bytes (text_of (seen_upto g file random hidden seen (pieces_of (length file))))
   pub random_bytes : explained ≡ explained_file g file other (λ i. hidden) (λ i. seen) random
 
--- it is exposed exactly where as many points are seen as are needed, and the random bytes are then as they were
+-- It is exposed exactly where as many points are seen as are needed or more, and else memory was not found. The random bytes are
+-- then as they were.
 abbrev pub IsFault : Geometry → ℕ → List ℕ → List ℕ → List ℕ → DrillFault → Type 0
 IsFault g number seen random now (Exposed f h n) = (g.need ≤ length seen) × (f ≡ number) × (h ≡ length seen) × (n ≡ g.need) × (now ≡ random)
-IsFault g number seen random now NoMemory = length seen < g.need
+IsFault g number seen random now NoMemory = (length seen < g.need) × (now ≡ random)

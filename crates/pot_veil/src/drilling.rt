@@ -1,4 +1,4 @@
-//! Two files of one length, of which the second gives all that is seen of the first.
+//! Two files of one length, of which the second gives all that is seen of the first, under other random bytes.
 ghost use Rattle.std.specs.Prelude.{◌≡◌, ◌≤◌, ◌<◌, ◌-◌, ◌*◌, ◌++◌, [], List, ℕ, length, slice_index_or, take, true, IfOk, IfErr, if◌then◌else◌};
 ghost use Rattle.sha2.specs.Hashers.{Holds256};
 ghost use Rattle.pot_bytes.specs.Lists.{AreBytes};
@@ -17,18 +17,18 @@ use pot_shard::{piece_blocks, piece_len};
 use sha2::{Digest as Hash, Sha256};
 use std::alloc::{AllocError, Global};
 
-/// What a drill compared.
+/// What a drill saw.
 #[derive(Clone, Copy, PartialEq, Eq, Debug)]
 pub struct DrillReport {
     /// The number of pieces that were explained.
     pub pieces: u32,
-    /// The number of seen blocks, which were found the same.
+    /// The number of seen blocks, each of which both files give.
     pub blocks: u32,
     /// The digest of these blocks one after another, by piece, fragment and point.
     pub digest: Digest,
 }
 
-/// Why nothing was compared.
+/// Why nothing was explained.
 #[derive(Clone, Copy, PartialEq, Eq, Debug)]
 pub enum DrillFault {
     /// As many points of the fragment are seen as are needed, or more.
@@ -46,11 +46,14 @@ impl From<AllocError> for DrillFault {
     }
 }
 
-/// Explains every piece of a file by that of another file of its length, and compares all seen blocks: those of every
-/// other fragment, and those of this one at the seen points. The fragment's number is from 1.
+/// Explains every piece of a file by that of another file of its length, and counts and digests all seen blocks, which both
+/// files give: those of every other fragment, and those of this one at the seen points. The fragment's number is from 1.
 ///
-/// With the files exchanged it gives the random bytes back. `Exposed` comes exactly where as many points are seen as are
-/// needed or more, and the random bytes are then as they were.
+/// With the files exchanged it gives the random bytes back (`file_laws`).
+///
+/// # Errors
+/// `Exposed` exactly where as many points are seen as are needed or more, else `NoMemory`. The random bytes are then as they
+/// were.
 pub fn drill(
     alloc: Global,
     file: &[u8],

@@ -1,4 +1,4 @@
-ghost use Rattle.std.specs.Prelude.{◌≡◌, ◌≢◌, ◌↔◌, [], ◌∷◌, IsTrue, MatchOption, decimal};
+ghost use Rattle.std.specs.Prelude.{◌≡◌, ◌≢◌, MatchOption};
 ghost use Rattle.pot_bytes.specs.declared.rack.Geometry.{Geometry};
 ghost use Rattle.pot_index.specs.Fits.{FitsGeometry};
 ghost use Rattle.pot_script.specs.Commands.{geometry_words};
@@ -34,22 +34,9 @@ fn read_geometry(mut words: Words, rack: &Rack) -> Option<Geometry>
         shards,
         blur,
     };
-    if fits_geometry(&geometry, rack) {
+    if geometry.fits(rack.groups) {
         Some(geometry)
     } else {
         None
     }
-}
-
-// Whether a file can be split so over the groups of the rack.
-fn fits_geometry(geometry: &Geometry, rack: &Rack) -> bool
-    ensures { IsTrue result ↔ FitsGeometry rack.now geometry.now }
-{
-    2 <= geometry.fragments
-        && geometry.fragments <= 8
-        && 1 <= geometry.need
-        && geometry.need <= geometry.shards
-        && geometry.shards <= 16
-        && geometry.blur <= 63
-        && geometry.shards <= rack.groups
 }
