@@ -32,6 +32,8 @@ odd_stands held s job name wanted got w w' wide is =
           (it.0, it.1, (it.2.0, seen_as_stands job w w' wide (s.first p.group) p.group p.stripe p.column (digest_of it.0) it.2.1));
       unseen = λ i j x none. is.unseen i j x (subst (λ (m : Mine). has_seen m.own (place_at is.kept i j x) ≡ false) same none);
       wanted_is = is.wanted_is;
+      bytes = is.bytes;
+      joined = is.joined;
       got_is = is.got_is;
       differs = is.differs;
     }

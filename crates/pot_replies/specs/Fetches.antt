@@ -18,6 +18,7 @@ use Rattle.pot_index.specs.Index.{names_read, IsRecordOf}
 use Rattle.pot_replies.specs.Jobs.{own, is_seen_at, is_look_at, is_stuck_at, ends_relay}
 use Rattle.pot_replies.specs.Sections.{Section, Mine, mine, Moment, NoneInGroups, replayed, names_after}
 use Rattle.pot_replies.specs.Settings.{Setting}
+use Rattle.pot_replies.specs.Joined.{AreJoined}
 
 -- `absent`: the name was looked for and not published, and nothing else was logged
 pub record IsAbsent (job : ℕ) (name : List ℕ) (m : Mine) : Type 0 where
@@ -132,7 +133,9 @@ pub record IsOdd (held : Option (List (List ℕ))) (s : Setting) (job : ℕ) (na
       → IsTrue (has_seen (mine job w).own (place_at kept i j x)) → (b : List ℕ) × (block i j x ≡ Some b) × ReadAt held s job w (place_at kept i j x) b
   pub unseen : (i j x : ℕ) → has_seen (mine job w).own (place_at kept i j x) ≡ false → block i j x ≡ None
   pub wanted_is : wanted ≡ kept.digest
-  pub got_is : got ≡ digest_of (s.joins kept block)
+  pub bytes : List ℕ
+  pub joined : AreJoined kept block bytes
+  pub got_is : got ≡ digest_of bytes
   pub differs : got ≢ wanted
 
 -- WHY A POINT WAS NOT SEEN

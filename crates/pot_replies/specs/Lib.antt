@@ -1,6 +1,7 @@
 pub mod Jobs
 pub mod Sections
 pub mod Settings
+pub mod Joined
 pub mod Stores
 pub mod Listings
 pub mod Fetches

@@ -1,5 +1,5 @@
 -- What all rows of a session share.
-use Rattle.std.specs.Prelude.{ℕ, Bool, List, Option}
+use Rattle.std.specs.Prelude.{ℕ, Bool, List}
 use Rattle.pot_bytes.specs.declared.digest.Digest.{Digest}
 use Rattle.pot_bytes.specs.declared.rack.Geometry.{Geometry}
 use Rattle.pot_bytes.specs.declared.rack.Rack.{Rack}
@@ -15,5 +15,3 @@ pub record Setting : Type 0 where
   pub digests : Geometry → ℕ → List ℕ → List Digest
   -- whether a fetch mends what it finds missing; else a place that is Gone once can't be had
   pub mends : Bool
-  -- the bytes that the blocks seen of a file give, by piece, fragment and point
-  pub joins : Record → (ℕ → ℕ → ℕ → Option (List ℕ)) → List ℕ

@@ -167,6 +167,6 @@ module _ {A : Type 0} (meaning : A → Meaning) (told : Type 0) (job : ℕ) (old
         ap (λ (v : GroupView). v.number) e,
         ap (λ (v : GroupView). v.first) e,
         subst (λ (v : GroupView). Keeps (view old).shelves v.shelves) (sym e) (keeps_self (view old).shelves),
-        (refl, counted.0, step),
+        (refl, counted.0, ap (λ (v : GroupView). v.shelves) e, step),
       )
   count_means (Err e) full refused counted step = means_same (CountCall told job (Err e)) (view old) (view new) (ap view (refused refl)) (refl, ap view (refused refl), full refl)

@@ -34,7 +34,7 @@ use Rattle.pot_shared.specs.Catalogs.{CatalogView, KeepsSeen, Publishes}
 -- SEEN
 
 module _ (v w : GroupPasses) (long : length w.names ≡ length v.names) (more : (g : ℕ) → g < length v.names → StartsWith (view_at w g).seen (view_at v g).seen) where
-  sees_more : (p : Place) (d : Digest) → SeesPut v p d → SeesPut w p d
+  pub sees_more : (p : Place) (d : Digest) → SeesPut v p d → SeesPut w p d
   sees_more p d (within, (job, e, is, here)) =
       let grown = more p.group within in
       let all : entries_of (view_at w p.group).seen ≡ entries_of (view_at v p.group).seen ++ entries_of grown.0 =

@@ -8,11 +8,16 @@ use Rattle.pot_rows.specs.Ends.{Closed}
 use Rattle.pot_rows.specs.Rows.{view_at}
 use Rattle.pot_shared.specs.Catalogs.{CatalogView, IndexPasses, IsIndexReady, IsIndexOf, origin_of}
 
+-- what the origin says of the index that was handed out
+pub index_is : (rack : Rack) (names turn : List TurnName) (row : IndexPasses) (c : CatalogView) → IsIndexReady rack names turn row
+    → Closed c.index.log (origin_of c) (view_at row 0) → (c.index.rack ≡ rack) × (c.kept.names ≡ names)
+index_is rack names turn row c ready closed = subst (λ o. IsIndexOf rack names o) (sym closed.named) ready.origin
+
 -- the index that was handed out is that of the rack, over groups under these turns
 pub index_closed : (rack : Rack) (names turn : List TurnName) (row : IndexPasses) (c : CatalogView) → IsIndexReady rack names turn row
     → Closed c.index.log (origin_of c) (view_at row 0) → Closed c.index.log (record { rack = rack; read = c.index.read; names = names }) (view_at row 0)
 index_closed rack names turn row c ready closed =
-    let is : (c.index.rack ≡ rack) × (c.kept.names ≡ names) = subst (λ o. IsIndexOf rack names o) (sym closed.named) ready.origin in
+    let is = index_is rack names turn row c ready closed in
     subst (λ r. Closed c.index.log (record { rack = r; read = c.index.read; names = names }) (view_at row 0)) is.0
     (subst (λ ns. Closed c.index.log (record { rack = c.index.rack; read = c.index.read; names = ns }) (view_at row 0)) is.1 closed)
 

@@ -81,6 +81,7 @@ module _ (rack : Rack) (names turn : List TurnName) (row row1 : IndexPasses) (re
               is_new = is_new;
               read = on.read;
               rack = on.rack;
+              origin = (old.kept.names, origin);
               log = on.log;
               turn = ap (λ l. left_view l (took_view old.index.log v)) one ∙ ap (λ l. left_view (met ++ on.more) (took_view l v)) begins.1;
               call = call;

@@ -1,7 +1,7 @@
-mod MemberLemmas
-mod CallLemmas
-mod CatalogLemmas
-mod IndexCallLemmas
-mod SharingLemmas
-mod EndLemmas
-mod StartLemmas
+pub mod MemberLemmas
+pub mod CallLemmas
+pub mod CatalogLemmas
+pub mod IndexCallLemmas
+pub mod SharingLemmas
+pub mod EndLemmas
+pub mod StartLemmas

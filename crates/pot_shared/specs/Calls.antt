@@ -1,11 +1,12 @@
 -- What a locked call of a group does, as its caller's passes see it.
-use Rattle.std.specs.Prelude.{◌≡◌, ◌⊎◌, ℕ, Bool, true, false, List, [], ◌∷◌, ◌++◌, Option, Some, Result, Ok, Err, length}
+use Rattle.std.specs.Prelude.{◌≡◌, ◌↔◌, ◌⊎◌, ℕ, Bool, true, false, List, [], ◌∷◌, ◌++◌, Option, Some, Result, Ok, Err, length}
 use Rattle.pot_bytes.specs.declared.rack.Place.{Place}
 use Rattle.pot_machine.specs.declared.entry.Entry.{Entry}
 use Rattle.pot_machine.specs.declared.entry.Entry.TheVariants as entry
 use Rattle.pot_machine.specs.Rules.{IsTable}
 use Rattle.pot_steps.specs.GroupStep.{PutStep, LookStep, CountStep, Passed, skips, gone_entries, put_entry, look_entries, log_bound, unkept}
 use Rattle.pot_group.specs.declared.answers.Looked.{Looked}
+use Rattle.pot_group.specs.declared.answers.Looked.TheVariants as looked
 use Rattle.pot_group.specs.declared.answers.PutFault.{PutFault}
 use Rattle.pot_group.specs.declared.answers.PutFault.TheVariants as fault
 use Rattle.pot_group.specs.declared.counting.Counts.{Counts}
@@ -65,7 +66,7 @@ PutEntries job block (Err (fault.Faulted column)) old entries =
 pub record PutCall (told : Type 0) (job : ℕ) (block : List ℕ) (result : Result Place PutFault) (old new : GroupView) (entries : List Entry) : Type 0 where
   pub entries_are : PutEntries job block result old entries
   pub logs : PutLogs job block result old new
-  pub full : length old.log ≡ log_bound → result ≡ Err fault.LogFull
+  pub full : length old.log ≡ log_bound → (result ≡ Err fault.LogFull) × (new ≡ old)
   pub keeps : Keeps old.shelves new.shelves
   pub step : told → PutStep job block (put_as result) (state_of old) (state_of new)
 
@@ -73,6 +74,7 @@ pub record PutCall (told : Type 0) (job : ℕ) (block : List ℕ) (result : Resu
 
 pub record LookCall (told : Type 0) (job : ℕ) (place : Place) (into : List ℕ) (result : Looked) (old new : GroupView) (entries : List Entry) : Type 0 where
   pub entries_are : entries ≡ look_entries job place.stripe place.column (looked_as result into)
+  pub full : (result ≡ looked.LogFull) ↔ (length old.log ≡ log_bound)
   pub cause : LookCause result old new place.stripe place.column into
   pub stays : Stays told old.shelves new.shelves
   pub step : told → LookStep job place.stripe place.column (looked_as result into) (state_of old) (state_of new)
@@ -81,7 +83,7 @@ pub record LookCall (told : Type 0) (job : ℕ) (place : Place) (into : List ℕ
 
 abbrev pub CountCall : Type 0 → ℕ → Result Counts LogFull → GroupView → GroupView → List Entry → Type 0
 CountCall told job (Ok counts) old new entries =
-    (entries ≡ entry.Counted job ∷ []) × IsCounted old.table counts × (told → CountStep job (state_of old) (state_of new))
+    (entries ≡ entry.Counted job ∷ []) × IsCounted old.table counts × (new.shelves ≡ old.shelves) × (told → CountStep job (state_of old) (state_of new))
 CountCall told job (Err e) old new entries = (entries ≡ []) × (new ≡ old) × (length old.log ≡ log_bound)
 
 -- A SEARCH

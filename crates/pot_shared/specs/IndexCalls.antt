@@ -1,5 +1,5 @@
 -- What a locked call of the index does, as its caller's passes see it.
-use Rattle.std.specs.Prelude.{◌≡◌, ℕ, List, Any, Result, Ok, Err, Vec, ◌++◌}
+use Rattle.std.specs.Prelude.{◌≡◌, ℕ, List, Any, Some, Result, Ok, Err, Vec, ◌++◌}
 use Rattle.std.specs.Global.{Global}
 use Rattle.pot_index.specs.declared.entry.Logged.{Logged}
 use Rattle.pot_index.specs.declared.record.Record.{Record}
@@ -11,6 +11,7 @@ use Rattle.pot_index.specs.Calls.{Reserves, Finds, ListsNames, published_by, aba
 use Rattle.pot_index.specs.Ending.{EndsAt}
 use Rattle.pot_index.specs.Entries.{entries, IsReserving}
 use Rattle.pot_index.specs.Index.{IndexView, IsIndex, IsReservedBy}
+use Rattle.pot_turn.specs.declared.name.TurnName.{TurnName}
 use Rattle.pot_worked.specs.Worked.{IsTurn}
 use Rattle.pot_rows.specs.Rows.{view_at, with_view}
 use Rattle.pot_shared.specs.declared.catalog.Strange.{Strange}
@@ -30,6 +31,7 @@ pub record IndexTurn (R : IndexView → IndexView → Type 0) (v w : IndexPass) 
   pub is_new : IsIndex new
   pub read : new.read ≡ old.read
   pub rack : new.rack ≡ old.rack
+  pub origin : (names : List TurnName) × (Some (record { rack = old.rack; read = old.read; names = names }) ≡ v.origin)
   pub log : new.log ≡ old.log ++ entries
   pub turn : IsTurn others entries v w
   pub call : R old new

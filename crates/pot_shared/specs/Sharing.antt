@@ -8,7 +8,7 @@ use Rattle.pot_turn.specs.declared.name.TurnName.{TurnName}
 use Rattle.pot_turn.specs.Views.{first_view, cut_view}
 use Rattle.pot_rows.specs.Ends.{Closed, RowClosed}
 use Rattle.pot_rows.specs.Parts.{RowJoined}
-use Rattle.pot_rows.specs.Rows.{PassRow, view_at}
+use Rattle.pot_rows.specs.Rows.{PassRow, AreOf, view_at}
 use Rattle.pot_shared.specs.declared.member.Logged.{Logged}
 use Rattle.pot_shared.specs.declared.member.GroupOrigin.{GroupOrigin}
 use Rattle.pot_shared.specs.Members.{kept_log, origin_of as group_origin}
@@ -28,16 +28,20 @@ HasAllButKept row = (g : ℕ) → g < length row.names → (view_at row g).parts
 abbrev pub AreKept : GroupPasses → Type 0
 AreKept row = (g : ℕ) → g < length row.names → IsKept (view_at row g)
 
--- A vault ended. The passes took in those that the index kept, and each group and the index are as `Turn::close` says.
+-- A vault ended. The passes took in those that the index kept, one for each group, and each group and the index are as a turn's
+-- close says.
 pub record Ends {A : Type 0} (log_of : A → List Logged) (origin_of_group : A → GroupOrigin) (rack : Rack) (names : List TurnName) (groups : GroupPasses)
     (index : IndexPass) (members : List A) (ended : IndexView) : Type 0 where
   pub kept : GroupPasses
+  pub kept_names : kept.names ≡ names
   pub are_kept : AreKept kept
   pub whole : GroupPasses
+  pub whole_of : AreOf names whole
   pub joined : RowJoined groups kept whole
   pub closed : RowClosed log_of origin_of_group whole members
   pub seen : (r : Record) → Publishes ended.log r → SeesFile kept r
   pub is_index : IsIndex ended
+  pub index_rack : ended.rack ≡ rack
   pub index_closed : Closed ended.log (record { rack = rack; read = ended.read; names = names }) index
 
 -- a group of the rack, of this number

@@ -4,7 +4,7 @@
 //! it back: that is one *locked call*, and it tells one thing. Others had logged some entries since the caller's pass last saw
 //! the log; then this call logged these, and did what the group's or the index's own call promises (`CallTurn`, `IndexTurn`).
 //!
-//! It reads no script, knows no file and starts no thread. It promises no progress, as `pot_turn`.
+//! It reads no script and starts no thread. It promises no progress, as `pot_turn`.
 #![tactic(auto)]
 
 mod catalog;

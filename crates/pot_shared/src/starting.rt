@@ -85,6 +85,7 @@ impl<A: Archive> Vault<A> {
         requires rack { index.rack ≡ rack.now }
         requires log { index.log ≡ [] }
         ensures rack { IfOk result (λ p. p.0.rack ≡ rack.now) }
+        ensures count { IfOk result (λ p. length p.0.groups ≡ rack.now.groups) }
         ensures ready { IfOk result (λ p. AreReady rack.now p.0.groups p.1.groups × IsIndexReady rack.now p.0.groups p.0.index p.1.index) }
         ensures parts { IfOk result (λ p. HasAllButKept p.1.groups × HasAllParts p.1.index) }
         ensures first { IfOk result (λ p. AreFirst (λ m. view_of A.account.meaning m.group) members.items p.1.groups) }

@@ -80,6 +80,7 @@ fn vault(alloc: Global, rack: &Rack) -> Result<(Vault<LossyArchive>, Passes<Loss
     requires one { rack.now.groups ≡ 1 }
     requires parity { rack.now.parity ≡ 1 }
     ensures rack { IfOk result (λ p. p.0.rack ≡ rack.now) }
+    ensures count { IfOk result (λ p. length p.0.groups ≡ rack.now.groups) }
     ensures ready { IfOk result (λ p. AreReady rack.now p.0.groups p.1.groups × IsIndexReady rack.now p.0.groups p.0.index p.1.index) }
     ensures parts { IfOk result (λ p. HasAllButKept p.1.groups × HasAllParts p.1.index) }
     ensures room { IfOk result (λ p. (p.0.members.items ≡ []) × (length p.0.groups ≤ vec_capacity p.0.members) × (p.0.catalogs.items ≡ []) × (1 ≤ vec_capacity p.0.catalogs)) }
@@ -150,9 +151,6 @@ fn calls_of_a_job(rt: HostRuntime) -> Result<(), Fail> {
         .map_err(|_| Fail::from("no memory"))?;
     assert_eq!(rt; listed.len(), 0);
     assert!(rt; vault.find(&rt, alloc, &mut passes, 2, &name).is_err());
-    if vault.groups.len() != 1 {
-        return Err(Fail::from("the vault has another group"));
-    }
     let block = Block::zero();
     assert_eq!(rt; vault.put(&rt, &mut passes, 0, 1, &block), Ok(PLACE));
     assert_eq!(rt;

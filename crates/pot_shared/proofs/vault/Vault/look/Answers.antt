@@ -31,7 +31,7 @@ returns-clause-call g c =
     (look_entries c.args.job c.args.place.stripe c.args.place.column (looked_as c.look-answer.result c.look-answer.new.into)) logs.log c.enter-member.ensures.origin
     told (LookCall told c.args.job c.args.place c.look-answer.new.into c.look-answer.result) c.leave.new.passes c.leave.ensures.left c.enter-member.ensures.begins
     c.logged-before.ensures.settled c.logged-before.ensures.first c.logged-after.ensures.settled
-    (record { entries_are = refl; cause = c.look-answer.ensures.cause; stays = c.look-answer.ensures.stays; step = c.look-answer.ensures.step })
+    (record { entries_are = refl; full = c.look-answer.ensures.full; cause = c.look-answer.ensures.cause; stays = c.look-answer.ensures.stays; step = c.look-answer.ensures.step })
 
 pub returns-clause-ready : goal.returns-clause-ready
 returns-clause-ready g c =

@@ -1,4 +1,4 @@
-use Rattle.std.proofs.Common.{IsTrue}
+use Rattle.std.proofs.Common.{IsTrue, ap}
 use Rattle.pot_group.specs.Group.{view_of}
 use Rattle.pot_shared.specs.Calls.{PutCall}
 use Rattle.pot_shared.proofs.CallLemmas.{grown, same_origin, called, put_means, ready_again}
@@ -32,7 +32,7 @@ returns-clause-call g c =
     c.logged-before.ensures.settled c.logged-before.ensures.first c.logged-after.ensures.settled (record {
       entries_are = means.2;
       logs = c.put-answer.ensures.logs;
-      full = λ l. (c.put-answer.ensures.full l).0;
+      full = λ l. (let f = c.put-answer.ensures.full l in (f.0, ap (view_of g.A.Archive.account.meaning) f.1));
       keeps = c.put-answer.ensures.keeps;
       step = c.put-answer.ensures.step;
     })
