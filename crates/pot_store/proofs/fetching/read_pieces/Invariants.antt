@@ -1,0 +1,12 @@
+use Rattle.std.proofs.Common.{◌≡◌, ◌≤◌, ◌*◌, vec_len, vec_capacity}
+use Rattle.pot_object.specs.Pieces.{pieces_of}
+use Rattle.pot_shared.specs.Ready.{AreReady}
+use Rattle.pot_store.proofs.PieceLemmas.{FileSofar}
+use Rattle.pot_store.proofs.fetching.read_pieces.Given as goal
+
+abbrev pub invariant-loop-piece : goal.invariant-loop-piece
+invariant-loop-piece g l =
+    AreReady l.vault.rack l.vault.groups l.passes.groups
+    × (l.passes.index ≡ l.fn.passes.index)
+    × FileSofar l.job l.kept l.piece l.bytes.items l.fn.passes.groups l.passes.groups
+    × (7424 ≤ vec_capacity l.fragments) × (pieces_of l.kept.length * 864 ≤ vec_capacity l.bytes) × (vec_len l.bytes ≡ l.piece * 864)

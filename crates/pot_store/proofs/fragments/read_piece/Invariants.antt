@@ -1,0 +1,11 @@
+use Rattle.std.proofs.Common.{◌≡◌, ◌≤◌, ◌*◌, vec_len, vec_capacity}
+use Rattle.pot_shared.specs.Ready.{AreReady}
+use Rattle.pot_store.proofs.PieceLemmas.{PieceSofar}
+use Rattle.pot_store.proofs.fragments.read_piece.Given as goal
+
+abbrev pub invariant-loop-fragment : goal.invariant-loop-fragment
+invariant-loop-fragment g l =
+    AreReady l.vault.rack l.vault.groups l.passes.groups
+    × (l.passes.index ≡ l.fn.passes.index)
+    × PieceSofar l.job l.kept l.piece l.fragment l.fragments.items l.fn.passes.groups l.passes.groups
+    × (7424 ≤ vec_capacity l.fragments) × (vec_len l.fragments ≡ l.fragment * 928)

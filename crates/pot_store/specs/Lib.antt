@@ -1,0 +1,9 @@
+pub mod Works
+pub mod Drawing
+pub mod Puts
+pub mod Stores
+pub mod Fetches
+pub mod Looks
+pub mod Shares
+pub mod Reads
+pub mod Stored

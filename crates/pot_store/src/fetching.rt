@@ -1,0 +1,188 @@
+//! The fetch of a file.
+ghost use Rattle.std.specs.Prelude.{◌≡◌, ◌<◌, ◌≤◌, ◌+◌, ◌*◌, [], false, length, IfOk};
+ghost use Rattle.std.specs.Vec.{vec_len, vec_capacity};
+ghost use Rattle.pot_bytes.specs.Rack.{IsRack};
+ghost use Rattle.pot_object.specs.Pieces.{pieces_of};
+ghost use Rattle.pot_index.specs.Fits.{FitsRack};
+ghost use Rattle.pot_rows.specs.Rows.{HasMoreParts};
+ghost use Rattle.pot_shared.specs.Ready.{AreReady};
+ghost use Rattle.pot_shared.specs.Catalogs.{IsIndexReady};
+ghost use Rattle.pot_replies.specs.Settings.{Setting};
+ghost use Rattle.pot_store.specs.Works.{known, section_of, JobWorked, JobAlone, IsSettingOf};
+ghost use Rattle.pot_store.specs.Reads.{FileRead, RecordRead};
+ghost use Rattle.pot_store.specs.Fetches.{FetchRow};
+ghost use Rattle.pot_store.specs.Stored.{FetchGives};
+
+use crate::fragments::read_piece;
+use crate::shares::{Shares, append};
+use pot_bytes::{Digest, Name, digest_of};
+use pot_index::{FindFault, Record};
+use pot_object::{OBJECT, count_pieces};
+use pot_outside::Archive;
+use pot_shared::{Passes, Vault};
+use std::alloc::Global;
+use std::sync::Wait;
+
+/// Why a fetch gave no file.
+#[derive(Clone, Copy, PartialEq, Eq, Debug)]
+pub enum FetchFault {
+    /// The index log has no room for the search. Nothing was logged.
+    IndexLogFull,
+    /// No file is published under the name.
+    Absent,
+    /// The archive of this column failed, and without its block too few points of a fragment were seen.
+    Faulted {
+        group: u8,
+        column: u8,
+    },
+    /// Of this fragment, whose number counts from 1, no more points can be had.
+    Lost {
+        piece: u32,
+        fragment: u8,
+        have: u8,
+        need: u8,
+    },
+    /// The log of a group has no room for a look.
+    LogFull {
+        group: u8,
+    },
+    /// The bytes that were read have another digest than the file.
+    Odd {
+        wanted: Digest,
+        found: Digest,
+    },
+    NoMemory,
+}
+
+/// Fetches the file that is published under a name: looks the name up, and reads the blocks of its record in turn, of each
+/// fragment as many as give it back. Of a piece no more is held at a time than its fragments.
+///
+/// Of a record that was published in this session the bytes are the file that was stored, and `Odd` is not answered, where no
+/// two different ones of the blocks of that file and of those read have one digest.
+///
+/// # Errors
+/// `IndexLogFull` and `Absent` as `Vault::find`, `LogFull` of the first group whose log has no room for a look. Where too few
+/// points of a fragment can be seen, `Faulted` of the least one whose archive failed, and `Lost` where there is none. `Odd`
+/// exactly where the bytes that were read have another digest than the file. `NoMemory` comes before the first look.
+pub fn fetch_file<A: Archive, R: Wait>(
+    rt: &R,
+    alloc: Global,
+    vault: &Vault<A>,
+    passes: &mut Passes<A>,
+    job: u32,
+    name: &Name,
+) -> Result<Vec<u8>, FetchFault>
+    requires ready { AreReady vault.now.rack vault.now.groups passes.old.groups }
+    requires index { IsIndexReady vault.now.rack vault.now.groups vault.now.index passes.old.index }
+    requires parts { HasMoreParts 1 passes.old.groups }
+    requires rack { IsRack vault.now.rack }
+    requires count { length vault.now.groups ≡ vault.now.rack.groups }
+    requires job { 0 < job }
+    ensures ready { AreReady vault.now.rack vault.now.groups passes.new.groups }
+    ensures index { IsIndexReady vault.now.rack vault.now.groups vault.now.index passes.new.index }
+    ensures parts { HasMoreParts 1 passes.new.groups }
+    ensures worked { JobWorked job (known passes.old.groups passes.old.index) (known passes.new.groups passes.new.index) }
+    ensures says { JobAlone job (known passes.old.groups passes.old.index) (known passes.new.groups passes.new.index)
+        → (s : Setting) → IsSettingOf s vault.now.rack (known passes.old.groups passes.old.index) → s.mends ≡ false
+        → FetchRow s job name.now result (section_of (known passes.old.groups passes.old.index) (known passes.new.groups passes.new.index)) }
+    ensures stored { JobAlone job (known passes.old.groups passes.old.index) (known passes.new.groups passes.new.index)
+        → (s : Setting) → IsSettingOf s vault.now.rack (known passes.old.groups passes.old.index) → s.mends ≡ false
+        → FetchGives s job name.now result (section_of (known passes.old.groups passes.old.index) (known passes.new.groups passes.new.index)) }
+{
+    match vault.find(rt, alloc, passes, job, name) {
+        Ok(kept) => read_record(rt, alloc, vault, passes, job, &kept),
+        Err(FindFault::LogFull) => Err(FetchFault::IndexLogFull),
+        Err(FindFault::Absent) => Err(FetchFault::Absent),
+        Err(FindFault::NoMemory) => Err(FetchFault::NoMemory),
+    }
+}
+
+/// Reads the file of a record, and compares its digest.
+fn read_record<A: Archive, R: Wait>(
+    rt: &R,
+    alloc: Global,
+    vault: &Vault<A>,
+    passes: &mut Passes<A>,
+    job: u32,
+    kept: &Record,
+) -> Result<Vec<u8>, FetchFault>
+    requires ready { AreReady vault.now.rack vault.now.groups passes.old.groups }
+    requires groups { length vault.now.groups ≡ vault.now.rack.groups }
+    requires job { 0 < job }
+    requires fits { FitsRack vault.now.rack kept.now }
+    ensures ready { AreReady vault.now.rack vault.now.groups passes.new.groups }
+    ensures index { passes.new.index ≡ passes.old.index }
+    ensures read { RecordRead job kept.now result passes.old.groups passes.new.groups }
+{
+    let Ok(mut shares) = Shares::start(alloc) else {
+        return Err(FetchFault::NoMemory);
+    };
+    let Ok(mut fragments) = Vec::with_capacity(alloc, 8 * OBJECT) else {
+        return Err(FetchFault::NoMemory);
+    };
+    let Ok(mut bytes) = Vec::with_capacity(alloc, count_pieces(kept.length) as usize * 864) else {
+        return Err(FetchFault::NoMemory);
+    };
+    read_pieces(
+        rt,
+        vault,
+        passes,
+        job,
+        kept,
+        &mut shares,
+        &mut fragments,
+        &mut bytes,
+    )?;
+    let found = digest_of(&bytes);
+    if found != kept.digest {
+        return Err(FetchFault::Odd {
+            wanted: kept.digest,
+            found,
+        });
+    }
+    Ok(bytes)
+}
+
+/// Reads the pieces of a file one after another, each with the room for the fragments of one, and cuts the whole to its length.
+///
+/// # Errors
+/// Those of `read_piece`, at the first fragment that was not had.
+fn read_pieces<A: Archive, R: Wait>(
+    rt: &R,
+    vault: &Vault<A>,
+    passes: &mut Passes<A>,
+    job: u32,
+    kept: &Record,
+    shares: &mut Shares,
+    fragments: &mut Vec<u8>,
+    bytes: &mut Vec<u8>,
+) -> Result<(), FetchFault>
+    requires ready { AreReady vault.now.rack vault.now.groups passes.old.groups }
+    requires groups { length vault.now.groups ≡ vault.now.rack.groups }
+    requires job { 0 < job }
+    requires fits { FitsRack vault.now.rack kept.now }
+    requires room { 7424 ≤ vec_capacity fragments.old }
+    requires none { bytes.old.items ≡ [] }
+    requires file_room { pieces_of kept.now.length * 864 ≤ vec_capacity bytes.old }
+    ensures ready { AreReady vault.now.rack vault.now.groups passes.new.groups }
+    ensures index { passes.new.index ≡ passes.old.index }
+    ensures read { FileRead job kept.now bytes.new.items result passes.old.groups passes.new.groups }
+{
+    for piece in 0..count_pieces(kept.length) {
+        let mut object = [0; OBJECT];
+        read_piece(
+            rt,
+            vault,
+            passes,
+            job,
+            kept,
+            piece,
+            shares,
+            fragments,
+            &mut object,
+        )?;
+        append(bytes, &object[64..]);
+    }
+    bytes.truncate(kept.length as usize);
+    Ok(())
+}

@@ -1,0 +1,191 @@
+//! The looks of a fetch, fragment by fragment.
+ghost use Rattle.std.specs.Prelude.{◌≡◌, ◌<◌, ◌≤◌, ◌+◌, ◌*◌, ◌++◌, length, drop, IfOk};
+ghost use Rattle.std.specs.Vec.{vec_len, vec_capacity};
+ghost use Rattle.pot_bytes.specs.Rack.{IsGeometry};
+ghost use Rattle.pot_object.specs.Pieces.{pieces_of};
+ghost use Rattle.pot_index.specs.Fits.{FitsRack};
+ghost use Rattle.pot_shared.specs.Ready.{AreReady, HasSlot};
+ghost use Rattle.pot_store.specs.Reads.{PointRead, PointsRead, IsMissing, FragmentRead, PieceRead};
+
+use crate::fetching::FetchFault;
+use crate::shares::{Shares, append};
+use pot_bytes::{Block, Place};
+use pot_group::Looked;
+use pot_index::Record;
+use pot_object::{CONTENT, OBJECT};
+use pot_outside::Archive;
+use pot_shared::{Passes, Vault};
+use pot_split::secrecy_join;
+use std::sync::Wait;
+
+/// Looks at the place of a point, from 0, of a fragment, and notes what that answers. False where the log of its group has no room.
+fn look_at_point<A: Archive, R: Wait>(
+    rt: &R,
+    vault: &Vault<A>,
+    passes: &mut Passes<A>,
+    job: u32,
+    x: u8,
+    place: Place,
+    shares: &mut Shares,
+) -> bool
+    requires ready { AreReady vault.now.rack vault.now.groups passes.old.groups }
+    requires place { HasSlot vault.now.rack vault.now.groups place }
+    requires job { 0 < job }
+    requires point { x < 16 }
+    requires few { length shares.old.points.items < 16 }
+    ensures ready { AreReady vault.now.rack vault.now.groups passes.new.groups }
+    ensures index { passes.new.index ≡ passes.old.index }
+    ensures read { PointRead job x place shares.old shares.new result passes.old.groups passes.new.groups }
+{
+    let mut block = Block::zero();
+    let answer = vault.look(rt, passes, job, place, &mut block);
+    if let Looked::LogFull = answer {
+        return false;
+    }
+    shares.note(x, place, answer, &block);
+    true
+}
+
+/// Looks at the points of a fragment in turn, from the block of this number on, until as many are seen as give it back.
+///
+/// # Errors
+/// `LogFull` of the first group whose log has no room.
+fn look_at_points<A: Archive, R: Wait>(
+    rt: &R,
+    vault: &Vault<A>,
+    passes: &mut Passes<A>,
+    job: u32,
+    kept: &Record,
+    from: usize,
+    shares: &mut Shares,
+) -> Result<(), FetchFault>
+    requires ready { AreReady vault.now.rack vault.now.groups passes.old.groups }
+    requires groups { length vault.now.groups ≡ vault.now.rack.groups }
+    requires job { 0 < job }
+    requires fits { FitsRack vault.now.rack kept.now }
+    requires within { from + kept.now.geometry.shards ≤ length kept.now.places }
+    ensures ready { AreReady vault.now.rack vault.now.groups passes.new.groups }
+    ensures index { passes.new.index ≡ passes.old.index }
+    ensures read { PointsRead job kept.now.places from kept.now.geometry.shards kept.now.geometry.need shares.new result passes.old.groups passes.new.groups }
+{
+    shares.clear();
+    let places = kept.places.as_slice();
+    for x in 0..kept.geometry.shards {
+        if shares.count() == usize::from(kept.geometry.need) {
+            return Ok(());
+        }
+        let place = places[from + usize::from(x)];
+        if !look_at_point(rt, vault, passes, job, x, place, shares) {
+            return Err(FetchFault::LogFull { group: place.group });
+        }
+    }
+    Ok(())
+}
+
+/// Why too few points of a fragment were seen.
+fn missing(piece: u32, fragment: u8, need: u8, shares: &Shares) -> FetchFault
+    requires few { fragment < 8 }
+    requires fewer { length shares.now.points.items < need }
+    ensures { IsMissing piece fragment need shares.now result }
+{
+    match shares.failed() {
+        Some(place) => FetchFault::Faulted {
+            group: place.group,
+            column: place.column,
+        },
+        None => FetchFault::Lost {
+            piece,
+            fragment: fragment + 1,
+            have: shares.count() as u8,
+            need,
+        },
+    }
+}
+
+/// Reads a fragment of a piece, both from 0, and appends it to the fragments of the piece before.
+///
+/// # Errors
+/// Where too few points can be seen, `Faulted` of the least one whose archive failed, and `Lost` where there is none. `LogFull`
+/// of the first group whose log has no room.
+fn read_fragment<A: Archive, R: Wait>(
+    rt: &R,
+    vault: &Vault<A>,
+    passes: &mut Passes<A>,
+    job: u32,
+    kept: &Record,
+    piece: u32,
+    fragment: u8,
+    shares: &mut Shares,
+    fragments: &mut Vec<u8>,
+) -> Result<(), FetchFault>
+    requires ready { AreReady vault.now.rack vault.now.groups passes.old.groups }
+    requires groups { length vault.now.groups ≡ vault.now.rack.groups }
+    requires job { 0 < job }
+    requires fits { FitsRack vault.now.rack kept.now }
+    requires piece { piece < pieces_of kept.now.length }
+    requires fragment { fragment < kept.now.geometry.fragments }
+    requires room { vec_len fragments.old + 928 ≤ vec_capacity fragments.old }
+    ensures ready { AreReady vault.now.rack vault.now.groups passes.new.groups }
+    ensures index { passes.new.index ≡ passes.old.index }
+    ensures room { vec_capacity fragments.old ≤ vec_capacity fragments.new }
+    ensures long { IfOk result (λ _. vec_len fragments.new ≡ vec_len fragments.old + 928) }
+    ensures read { FragmentRead job kept.now piece fragment fragments.old.items fragments.new.items result passes.old.groups passes.new.groups }
+{
+    let from = first_block(kept, piece, fragment);
+    look_at_points(rt, vault, passes, job, kept, from, shares)?;
+    if shares.count() < usize::from(kept.geometry.need) {
+        return Err(missing(piece, fragment, kept.geometry.need, shares));
+    }
+    let mut content = [0; CONTENT];
+    shares.join(&mut content);
+    append(fragments, &content[64..]);
+    Ok(())
+}
+
+/// The number of the first block of a fragment of a piece, both from 0.
+fn first_block(kept: &Record, piece: u32, fragment: u8) -> usize
+    requires geometry { IsGeometry kept.now.geometry }
+    requires piece { piece < 1024 }
+    requires fragment { fragment < kept.now.geometry.fragments }
+    ensures { result ≡ (piece * kept.now.geometry.fragments + fragment) * kept.now.geometry.shards }
+{
+    (piece as usize * usize::from(kept.geometry.fragments) + usize::from(fragment))
+        * usize::from(kept.geometry.shards)
+}
+
+/// Reads a piece, from 0, fragment by fragment, and gives its object.
+///
+/// # Errors
+/// Those of `read_fragment`, at the first fragment that was not had.
+pub fn read_piece<A: Archive, R: Wait>(
+    rt: &R,
+    vault: &Vault<A>,
+    passes: &mut Passes<A>,
+    job: u32,
+    kept: &Record,
+    piece: u32,
+    shares: &mut Shares,
+    fragments: &mut Vec<u8>,
+    object: &mut [u8; OBJECT],
+) -> Result<(), FetchFault>
+    requires ready { AreReady vault.now.rack vault.now.groups passes.old.groups }
+    requires groups { length vault.now.groups ≡ vault.now.rack.groups }
+    requires job { 0 < job }
+    requires fits { FitsRack vault.now.rack kept.now }
+    requires piece { piece < pieces_of kept.now.length }
+    requires room { 7424 ≤ vec_capacity fragments.old }
+    ensures ready { AreReady vault.now.rack vault.now.groups passes.new.groups }
+    ensures index { passes.new.index ≡ passes.old.index }
+    ensures room { 7424 ≤ vec_capacity fragments.new }
+    ensures long { length object.new ≡ 928 }
+    ensures read { PieceRead job kept.now piece object.new result passes.old.groups passes.new.groups }
+{
+    fragments.clear();
+    for fragment in 0..kept.geometry.fragments {
+        read_fragment(
+            rt, vault, passes, job, kept, piece, fragment, shares, fragments,
+        )?;
+    }
+    secrecy_join(fragments, object);
+    Ok(())
+}

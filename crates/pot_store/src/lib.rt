@@ -1,0 +1,26 @@
+//! The calls that store a file and that fetch it, over the groups and the index of a session.
+//!
+//! 1. A store reserves its name, puts the blocks of the file each into its own group, and publishes their places; where a put is
+//!    refused, the name is free again: `store_file`.
+//! 2. The blocks are drawn piece by piece from the job's stream, and never more than one piece of them stands in memory:
+//!    `drawing`.
+//! 3. A fetch looks at the points of each fragment in order until enough blocks are seen, and joins them without decoding one:
+//!    `fetch_file`. It mends nothing: a place that is Gone once can't be had.
+//! 4. What each answer says is said of the logs, and holds where nobody else logged an entry of the job: `StoreRow`, `FetchRow`.
+//!
+//! It knows no script and no seed, and it starts no thread.
+#![tactic(auto)]
+
+mod drawing;
+#[cfg(test)]
+mod drawing_tests;
+#[cfg(test)]
+mod fetch_tests;
+mod fetching;
+mod fragments;
+mod putting;
+mod shares;
+mod storing;
+
+pub use fetching::{FetchFault, fetch_file};
+pub use storing::{StoreFault, Stored, store_file};

@@ -1,0 +1,75 @@
+//! The puts of a store.
+ghost use Rattle.std.specs.Prelude.{◌≡◌, ◌<◌, ◌≤◌, [], IfOk, IfErr, length};
+ghost use Rattle.std.specs.Vec.{vec_capacity};
+ghost use Rattle.pot_bytes.specs.Rack.{IsRack};
+ghost use Rattle.pot_index.specs.Fits.{group_of};
+ghost use Rattle.pot_rows.specs.Works.{RowWorked, RowAlone};
+ghost use Rattle.pot_shared.specs.Ready.{AreReady};
+ghost use Rattle.pot_store.specs.Works.{of_job};
+ghost use Rattle.pot_store.specs.Drawing.{all_blocks, count_of};
+ghost use Rattle.pot_store.specs.Puts.{ArePut, PutsEnd};
+
+use crate::drawing::Drawing;
+use pot_bytes::{Place, Rack};
+use pot_group::PutFault;
+use pot_outside::Archive;
+use pot_shared::{Passes, Vault};
+use std::sync::Wait;
+
+/// The put that a store ended at.
+#[derive(Clone, Copy, PartialEq, Eq, Debug)]
+pub(crate) struct Stopped {
+    pub group: u8,
+    pub cause: PutFault,
+}
+
+/// The group of the block of this number.
+fn group_of(rack: &Rack, number: u32) -> u8
+    requires rack { IsRack rack.now }
+    requires few { number < 1000000 }
+    ensures value { result ≡ group_of rack.now rack.now.geometry number }
+    ensures within { result < rack.now.groups }
+{
+    let shards = u32::from(rack.geometry.shards);
+    ((number / shards + number % shards) % u32::from(rack.groups)) as u8
+}
+
+/// Puts the blocks of a file, each into its own group, in order, and notes where they stand.
+///
+/// # Errors
+/// The first put that is refused.
+pub(crate) fn put_all<A: Archive, R: Wait>(
+    rt: &R,
+    vault: &Vault<A>,
+    passes: &mut Passes<A>,
+    job: u32,
+    drawing: &mut Drawing,
+    count: u32,
+    places: &mut Vec<Place>,
+) -> Result<(), Stopped>
+    requires ready { AreReady vault.now.rack vault.now.groups passes.old.groups }
+    requires rack { IsRack vault.now.rack }
+    requires parity { vault.now.rack.parity ≡ 1 }
+    requires groups { length vault.now.groups ≡ vault.now.rack.groups }
+    requires job { 0 < job }
+    requires geometry { drawing.old.geometry ≡ vault.now.rack.geometry }
+    requires first { drawing.old.next ≡ 0 }
+    requires count { count ≡ count_of drawing.old }
+    requires few { count ≤ 131072 }
+    requires room { (places.old.items ≡ []) × (count ≤ vec_capacity places.old) }
+    ensures ready { AreReady vault.now.rack vault.now.groups passes.new.groups }
+    ensures index { passes.new.index ≡ passes.old.index }
+    ensures worked { RowWorked (of_job job) passes.old.groups passes.new.groups }
+    ensures put { IfOk result (λ _. (length places.new.items ≡ count) × ArePut vault.now.rack job (all_blocks drawing.old) places.new.items passes.old.groups passes.new.groups) }
+    ensures ends { IfErr result (λ e. RowAlone (of_job job) passes.old.groups passes.new.groups → PutsEnd vault.now.rack job (all_blocks drawing.old) e.group e.cause passes.old.groups passes.new.groups) }
+{
+    for number in 0..count {
+        let group = group_of(&vault.rack, number);
+        let block = drawing.next();
+        match vault.put(rt, passes, group, job, &block) {
+            Ok(place) => places.push_reserved(place),
+            Err(cause) => return Err(Stopped { group, cause }),
+        }
+    }
+    Ok(())
+}

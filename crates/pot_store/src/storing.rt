@@ -1,0 +1,178 @@
+//! A file is stored: its name is reserved, its blocks are put, and its record is published.
+ghost use Rattle.std.specs.Prelude.{◌≡◌, ◌<◌, ◌≤◌, IfOk, IfErr, length};
+ghost use Rattle.std.specs.Vec.{vec_capacity};
+ghost use Rattle.pot_object.specs.Pieces.{longest};
+ghost use Rattle.pot_bytes.specs.Rack.{IsRack};
+ghost use Rattle.pot_rows.specs.Rows.{HasMoreParts};
+ghost use Rattle.pot_shared.specs.Ready.{AreReady};
+ghost use Rattle.pot_shared.specs.Catalogs.{IsIndexReady};
+ghost use Rattle.pot_replies.specs.Settings.{Setting};
+ghost use Rattle.pot_store.specs.Works.{known, JobWorked, JobAlone, section_of, IsSettingOf};
+ghost use Rattle.pot_store.specs.Stores.{DrawsFrom, StoreRow, record_of, fault_of, IsPlan, IsUnplanned};
+
+use crate::drawing::Drawing;
+use crate::putting::{Stopped, put_all};
+use pot_bytes::{Geometry, Name, Place, Rack, digest_of};
+use pot_group::PutFault;
+use pot_index::{Places, Record, ReserveFault, Splits};
+use pot_object::{TooLong, cut_file};
+use pot_outside::Archive;
+use pot_pads::PadStream;
+use pot_shared::{Passes, Strange, Vault};
+use std::alloc::Global;
+use std::sync::Wait;
+
+/// A file that was stored: how many pieces it has, and how many shards of it were put.
+#[derive(Clone, Copy, PartialEq, Eq, Debug)]
+pub struct Stored {
+    pub pieces: u32,
+    pub shards: u32,
+}
+
+/// Why a file was not stored.
+#[derive(Clone, Copy, PartialEq, Eq, Debug)]
+pub enum StoreFault {
+    /// The file has more than 884,736 bytes.
+    TooLong { length: u64 },
+    /// The log of the index has no room for two more entries.
+    IndexLogFull,
+    /// The name is published or reserved.
+    Exists,
+    /// No stripe of the group takes a block any more.
+    Full { group: u8 },
+    /// The archive of the column failed.
+    Faulted { group: u8, column: u8 },
+    /// The log of the group has no room.
+    LogFull { group: u8 },
+    /// Another pass ended the job's reservation, by the entry at this place of the index's log.
+    Strange { at: u32 },
+    NoMemory,
+}
+
+/// The answer to a put that was refused.
+fn fault_of(stopped: Stopped) -> StoreFault
+    ensures { result ≡ fault_of stopped.group stopped.cause }
+{
+    let group = stopped.group;
+    match stopped.cause {
+        PutFault::LogFull => StoreFault::LogFull { group },
+        PutFault::Full => StoreFault::Full { group },
+        PutFault::Faulted { column } => StoreFault::Faulted { group, column },
+    }
+}
+
+/// The record of a file whose blocks stand at these places.
+fn record_of(
+    alloc: Global,
+    name: &Name,
+    file: &[u8],
+    geometry: &Geometry,
+    places: Vec<Place>,
+) -> Record
+    requires { length file.now ≤ longest }
+    ensures { result ≡ record_of name.now file.now geometry.now places.items }
+{
+    Record {
+        name: *name,
+        length: file.len() as u64,
+        digest: digest_of(file),
+        geometry: *geometry,
+        places: Places::from_vec(places),
+        older: Splits::from_vec(Vec::new(alloc)),
+    }
+}
+
+/// What a store has beside its passes: the numbers of its pieces and blocks, the blocks, and room for their places.
+struct Plan<'a> {
+    pieces: u32,
+    shards: u32,
+    drawing: Drawing<'a>,
+    places: Vec<Place>,
+}
+
+/// Takes the memory that a store needs.
+fn prepare<'a>(
+    alloc: Global,
+    rack: &Rack,
+    file: &'a [u8],
+    pads: PadStream,
+) -> Result<Plan<'a>, StoreFault>
+    requires { IsRack rack.now }
+    ensures planned { IfOk result (λ p. IsPlan rack.now file.now pads p.pieces p.shards p.drawing p.places.items) }
+    ensures room { IfOk result (λ p. p.shards ≤ vec_capacity p.places) }
+    ensures refused { IfErr result (IsUnplanned file.now) }
+{
+    let pieces = match cut_file(file.len() as u64) {
+        Ok(pieces) => pieces,
+        Err(TooLong { length }) => return Err(StoreFault::TooLong { length }),
+    };
+    let geometry = &rack.geometry;
+    let shards = pieces * (u32::from(geometry.fragments) * u32::from(geometry.shards));
+    let Ok(drawing) = Drawing::start(alloc, geometry, file, pads) else {
+        return Err(StoreFault::NoMemory);
+    };
+    let Ok(places) = Vec::with_capacity(alloc, shards as usize) else {
+        return Err(StoreFault::NoMemory);
+    };
+    Ok(Plan {
+        pieces,
+        shards,
+        drawing,
+        places,
+    })
+}
+
+/// Stores a file under a name: its blocks are put into the groups, by piece, fragment and point, with the next bytes of the stream,
+/// and then its record is published. Never more than one piece of it stands in memory beside it.
+///
+/// # Errors
+/// In this order: `TooLong`; `IndexLogFull` and `Exists`, as `Index::reserve`; and the first put that is refused, after which the
+/// name is free again. `NoMemory` comes before anything is logged. `Strange` comes where another pass ended the job's reservation.
+pub fn store_file<A: Archive, R: Wait>(
+    rt: &R,
+    alloc: Global,
+    vault: &Vault<A>,
+    passes: &mut Passes<A>,
+    job: u32,
+    name: &Name,
+    file: &[u8],
+    pads: PadStream,
+) -> Result<Stored, StoreFault>
+    requires ready { AreReady vault.now.rack vault.now.groups passes.old.groups }
+    requires index { IsIndexReady vault.now.rack vault.now.groups vault.now.index passes.old.index }
+    requires parts { HasMoreParts 1 passes.old.groups }
+    requires rack { IsRack vault.now.rack }
+    requires parity { vault.now.rack.parity ≡ 1 }
+    requires groups { length vault.now.groups ≡ vault.now.rack.groups }
+    requires job { 0 < job }
+    ensures ready { AreReady vault.now.rack vault.now.groups passes.new.groups }
+    ensures index { IsIndexReady vault.now.rack vault.now.groups vault.now.index passes.new.index }
+    ensures worked { JobWorked job (known passes.old.groups passes.old.index) (known passes.new.groups passes.new.index) }
+    ensures says { JobAlone job (known passes.old.groups passes.old.index) (known passes.new.groups passes.new.index) → (s : Setting) → IsSettingOf s vault.now.rack (known passes.old.groups passes.old.index) → DrawsFrom s pads job file.now → StoreRow s job name.now file.now result (section_of (known passes.old.groups passes.old.index) (known passes.new.groups passes.new.index)) }
+{
+    let Plan {
+        pieces,
+        shards,
+        mut drawing,
+        mut places,
+    } = prepare(alloc, &vault.rack, file, pads)?;
+    match vault.reserve(rt, passes, job, name) {
+        Ok(()) => {}
+        Err(ReserveFault::LogFull) => return Err(StoreFault::IndexLogFull),
+        Err(ReserveFault::Exists) => return Err(StoreFault::Exists),
+        Err(ReserveFault::NoMemory) => return Err(StoreFault::NoMemory),
+    }
+    match put_all(rt, vault, passes, job, &mut drawing, shards, &mut places) {
+        Ok(()) => {
+            let kept = record_of(alloc, name, file, &vault.rack.geometry, places);
+            match vault.publish(rt, passes, job, kept) {
+                Ok(()) => Ok(Stored { pieces, shards }),
+                Err(Strange { at }) => Err(StoreFault::Strange { at }),
+            }
+        }
+        Err(stopped) => match vault.abandon(rt, passes, job, name) {
+            Ok(()) => Err(fault_of(stopped)),
+            Err(Strange { at }) => Err(StoreFault::Strange { at }),
+        },
+    }
+}
