@@ -1,0 +1,49 @@
+-- One command, and what it gives.
+use Rattle.std.proofs.Common.{◌≡◌, inl, ℕ, List, refl, ap, sym, ◌∙◌}
+use Rattle.std.specs.Prelude.{map}
+use Rattle.pot_bytes.specs.declared.rack.Rack.{Rack}
+use Rattle.pot_index.specs.Entries as index
+use Rattle.pot_pads.specs.Pads.{Pads, pads_of}
+use Rattle.pot_turn.specs.declared.name.TurnName.{TurnName}
+use Rattle.pot_rows.specs.Rows.{view_at}
+use Rattle.pot_script.specs.declared.command.Command.{Command}
+use Rattle.pot_script.specs.declared.command.Command.TheVariants as commands
+use Rattle.pot_steps.specs.Stripe.{digest_of}
+use Rattle.pot_replies.specs.Settings.{Setting}
+use Rattle.pot_replies.specs.Sections.{Section, mine, IsSilent}
+use Rattle.pot_shared.specs.Ready.{GroupPasses, AreReady}
+use Rattle.pot_shared.specs.Catalogs.{IndexPasses, IsIndexReady}
+use Rattle.pot_store.specs.Works.{of_job, Known, known, JobWorked, section_of}
+use Rattle.pot_store.specs.Stores.{DrawsFrom, drawn_blocks}
+use Rattle.pot_store.proofs.WorkLemmas.{drop_all, row_stays, index_idle}
+use Rattle.pot_commands.specs.Rows.{IsSessionSetting, IsIdle, IsSingle, IsWorked}
+use Rattle.pot_commands.proofs.ListLemmas.{none_gained}
+
+-- passes that did nothing worked for any job
+pub stayed_worked : (rack : Rack) (names turn : List TurnName) (job : ℕ) (row : GroupPasses) (i : IndexPasses) → AreReady rack names row → IsIndexReady rack names turn i
+    → JobWorked job (known row i) (known row i)
+stayed_worked rack names turn job row i ready index_ready = record {
+  groups = row_stays (of_job job) row ready.idle;
+  index = row_stays (index.is_of job) i (index_idle rack names turn i index_ready);
+}
+
+-- and logged nothing
+pub stayed_silent : (job : ℕ) (k : Known) → IsSilent (mine job (section_of k k))
+stayed_silent job k = ((λ g. none_gained job k.groups g), ap (λ ls. index.own job ls) (drop_all (view_at k.index 0).seen))
+
+pub idle_silent : (s : Setting) (job : ℕ) (c : Command) (w : Section) → IsSilent (mine job w) → IsIdle s job c w
+idle_silent s job (commands.Fetch name) w h = inl h
+idle_silent s job _ w h = h
+
+-- the stream of a job draws what its session means
+pub draws : (s : Setting) (rack : Rack) (seed : List ℕ) (session job : ℕ) (k : Known) (pads : Pads) (file : List ℕ) → IsSessionSetting s rack seed session k → pads ≡ pads_of seed session job
+    → DrawsFrom s pads job file
+draws s rack seed session job k pads file is same = is.drawn s.rack.geometry job file ∙ ap (λ p. map digest_of (drawn_blocks s p file)) (sym same)
+
+-- a command that is worked and is no `status` has one reply
+pub single : (c : Command) → IsWorked c → (c ≡ commands.Status → ⊥) → IsSingle c
+single commands.Status w ne = absurd (ne refl)
+single (commands.Store name file) w ne = w
+single (commands.Fetch name) w ne = w
+single commands.List w ne = w
+single _ w ne = w

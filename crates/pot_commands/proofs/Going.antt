@@ -1,0 +1,78 @@
+-- Passes that went on: what of them stays, and the sections that they make.
+use Rattle.std.proofs.Common.{◌≡◌, ℕ, List, length, refl, ap, sym, ◌∙◌, subst, arith}
+use Rattle.std.specs.Prelude.{IfSome}
+use Rattle.pot_bytes.specs.declared.rack.Rack.{Rack}
+use Rattle.pot_index.specs.Entries as index
+use Rattle.pot_worked.specs.Worked.{added}
+use Rattle.pot_worked.proofs.SoleLemmas.{gain_in_parts}
+use Rattle.pot_rows.specs.Rows.{view_at}
+use Rattle.pot_rows.proofs.WorkLemmas.{row_work_went, row_went_in_parts, row_sole_in_parts, row_sole_alone}
+use Rattle.pot_replies.specs.Settings.{Setting}
+use Rattle.pot_replies.specs.Sections.{Follows}
+use Rattle.pot_shared.specs.declared.member.GroupOrigin.{GroupOrigin}
+use Rattle.pot_shared.specs.declared.catalog.CatalogOrigin.{CatalogOrigin}
+use Rattle.pot_shared.specs.Members.{entries_of}
+use Rattle.pot_store.specs.Works.{of_job, Known, JobWorked, JobAlone, section_of}
+use Rattle.pot_commands.specs.Rows.{IsSessionSetting}
+use Rattle.pot_commands.specs.Ends.{AllWent, AllSole, AllStay}
+use Rattle.pot_commands.proofs.Logs.{entries_append}
+
+pub work_all_went : (job : ℕ) (old new : Known) → JobWorked job old new → AllWent old new
+work_all_went job old new worked = record { groups = row_work_went (of_job job) old.groups new.groups worked.groups; index = row_work_went (index.is_of job) old.index new.index worked.index }
+
+pub went_more : (old mid new : Known) → AllWent old mid → AllWent mid new → AllWent old new
+went_more old mid new first then = record {
+  groups = row_went_in_parts old.groups mid.groups new.groups first.groups then.groups;
+  index = row_went_in_parts old.index mid.index new.index first.index then.index;
+}
+
+pub sole_parts : (old mid new : Known) → AllWent old mid → AllWent mid new → AllSole old new → AllSole old mid × AllSole mid new
+sole_parts old mid new first then sole =
+    let g = row_sole_in_parts old.groups mid.groups new.groups first.groups then.groups sole.groups in
+    let i = row_sole_in_parts old.index mid.index new.index first.index then.index sole.index in
+    (record { groups = g.0; index = i.0 }, record { groups = g.1; index = i.1 })
+
+pub sole_alone : (job : ℕ) (old new : Known) → JobWorked job old new → AllSole old new → JobAlone job old new
+sole_alone job old new worked sole = record {
+  groups = row_sole_alone (of_job job) old.groups new.groups worked.groups sole.groups;
+  index = row_sole_alone (index.is_of job) old.index new.index worked.index sole.index;
+}
+
+pub known_follows : (old mid new : Known) → AllWent old mid → AllWent mid new → Follows (section_of old mid) (section_of mid new) (section_of old new)
+known_follows old mid new first then = record {
+  begins = λ g. refl;
+  is_added = λ g.
+      ap entries_of (gain_in_parts (view_at old.groups g) (view_at mid.groups g) (view_at new.groups g) (first.groups g) (then.groups g))
+      ∙ entries_append (added (view_at old.groups g) (view_at mid.groups g)) (added (view_at mid.groups g) (view_at new.groups g));
+  goes_on = λ g. ap entries_of (first.groups g).seen ∙ entries_append (view_at old.groups g).seen (added (view_at old.groups g) (view_at mid.groups g));
+  index_begins = refl;
+  index_is_added = gain_in_parts (view_at old.index 0) (view_at mid.index 0) (view_at new.index 0) (first.index 0) (then.index 0);
+  index_goes_on = (first.index 0).seen;
+}
+
+pub stays_more : (old mid new : Known) → AllStay old mid → AllStay mid new → AllStay old new
+stays_more old mid new p q = record {
+  groups = record {
+    names = q.groups.names ∙ p.groups.names;
+    origin = λ at. q.groups.origin at ∙ p.groups.origin at;
+    opened = λ at. q.groups.opened at ∙ p.groups.opened at;
+    parts = λ at. q.groups.parts at ∙ p.groups.parts at;
+  };
+  index = record {
+    names = q.index.names ∙ p.index.names;
+    origin = λ at. q.index.origin at ∙ p.index.origin at;
+    opened = λ at. q.index.opened at ∙ p.index.opened at;
+    parts = λ at. q.index.parts at ∙ p.index.parts at;
+  };
+}
+
+pub setting_stays : (s : Setting) (rack : Rack) (seed : List ℕ) (session : ℕ) (old new : Known) → AllStay old new → IsSessionSetting s rack seed session old → IsSessionSetting s rack seed session new
+setting_stays s rack seed session old new stays is = record {
+  setting = record {
+    rack_is = is.setting.rack_is;
+    first = λ g lt. subst (λ o. IfSome o (λ (x : GroupOrigin). s.first g ≡ x.first)) (sym (stays.groups.origin g)) (is.setting.first g (let n = ap length stays.groups.names in omega (arith, lt, n)));
+    read = subst (λ o. IfSome o (λ (x : CatalogOrigin). s.read ≡ x.read)) (sym (stays.index.origin 0)) is.setting.read;
+  };
+  drawn = is.drawn;
+  no_mends = is.no_mends;
+}

@@ -1,0 +1,12 @@
+pub mod Logs
+pub mod ListLemmas
+pub mod LineLemmas
+pub mod StatusLemmas
+pub mod AnswerLemmas
+pub mod NoMoves
+pub mod Going
+pub mod Whose
+pub mod Brought
+pub mod FoldLemmas
+pub mod StreamLemmas
+pub mod WorkingLemmas

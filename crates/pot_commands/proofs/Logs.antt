@@ -1,0 +1,43 @@
+-- Logs in parts, and where they lead.
+use Rattle.std.proofs.Common.{◌≡◌, List, [], ◌∷◌, ◌++◌, refl, ap, sym, ◌∙◌, append_assoc}
+use Rattle.std.proofs.lemmas.List.{append_cancel_left, map-append}
+use Rattle.pot_bytes.specs.declared.rack.Rack.{Rack}
+use Rattle.pot_machine.specs.declared.entry.Entry.{Entry}
+use Rattle.pot_machine.specs.Table.{Table}
+use Rattle.pot_machine.specs.Machine.{after, Replays}
+use Rattle.pot_index.specs.declared.entry.Logged as plainly
+use Rattle.pot_index.specs.Index.{Names}
+use Rattle.pot_index.specs.Index as index_of
+use Rattle.pot_turn.specs.declared.view.View.{View}
+use Rattle.pot_worked.specs.Worked.{added, IsTurn}
+use Rattle.pot_worked.proofs.WorkedLemmas.{behind}
+use Rattle.pot_shared.specs.declared.member.Logged.{Logged}
+use Rattle.pot_group.specs.Shelves.{Shelves}
+use Rattle.pot_shared.specs.Members.{all_logged, entries_of}
+use Rattle.pot_replies.specs.Sections.{replayed, names_after}
+
+-- a log that replays leads where it replays to
+pub replays_to : (t u : Table) (log : List Entry) → Replays t log u → replayed t log ≡ u
+replays_to t u [] r = sym r
+replays_to t u (e ∷ log) r = replays_to (after t e) u log r.1
+
+pub names_to : (rack : Rack) (n m : Names) (log : List plainly.Logged) → index_of.Replays rack n log m → names_after n log ≡ m
+names_to rack n m [] r = sym r
+names_to rack n m (x ∷ log) r = names_to rack (index_of.after n x) m log r.1
+
+-- what one locked call adds to what its pass had seen
+pub turn_added : {E O : Type 0} (others entries : List E) (v w : View E O) → IsTurn others entries v w → added v w ≡ others ++ entries
+turn_added {E} {O} others entries v w turn =
+    behind w.seen v.seen (others ++ entries) (ap (λ (x : View E O). x.seen) turn ∙ append_assoc v.seen others entries)
+
+-- an entry at the end
+pub same_end : {X : Type 0} (front xs ys whole : List X) → whole ≡ front ++ xs → whole ≡ front ++ ys → xs ≡ ys
+same_end front xs ys whole one two = append_cancel_left front xs ys (sym one ∙ two)
+
+pub entries_append : (xs ys : List Logged) → entries_of (xs ++ ys) ≡ entries_of xs ++ entries_of ys
+entries_append xs ys = map-append (λ (l : Logged). l.entry) xs ys
+
+-- the entries of a log of entries with marks
+pub entries_all : (s : Shelves) (entries : List Entry) → entries_of (all_logged s entries) ≡ entries
+entries_all s [] = refl
+entries_all s (e ∷ es) = ap (λ w. e ∷ w) (entries_all s es)

@@ -1,0 +1,185 @@
+-- No command that is worked brings an archive.
+use Rattle.std.proofs.Common.{◌≡◌, ◌≢◌, ◌<◌, ◌≤◌, ◌⊎◌, ⊎_elim, inl, inr, ℕ, zero, suc, Bool, true, false, List, [], ◌∷◌, ◌++◌, length, refl, ap, sym, ◌∙◌, subst, arith}
+use Rattle.std.specs.Prelude.{Option, Some, None, filter, slice_get, Contains}
+use Rattle.std.proofs.lemmas.List.Elements.{filter-append}
+use Rattle.pot_bytes.specs.declared.digest.Digest.{Digest}
+use Rattle.pot_machine.specs.declared.entry.Entry.{Entry}
+use Rattle.pot_machine.specs.declared.entry.Entry.TheVariants.{Fault, MoveBegin, Swapped}
+use Rattle.pot_steps.specs.GroupStep.{Passed, skips, gone_entries}
+use Rattle.pot_index.specs.declared.record.Record.{Record}
+use Rattle.pot_rows.proofs.RowLemmas.{below_or_past}
+use Rattle.pot_script.specs.declared.command.Command.{Command}
+use Rattle.pot_script.specs.declared.command.Command.TheVariants as commands
+use Rattle.pot_script.specs.declared.reply.Reply.{Reply}
+use Rattle.pot_script.specs.declared.reply.Reply.TheVariants as replies
+use Rattle.pot_replies.specs.Jobs.{own, is_move_begin}
+use Rattle.pot_replies.specs.Settings.{Setting}
+use Rattle.pot_replies.specs.Sections.{Section, Mine, mine}
+use Rattle.pot_replies.specs.Stores.{Placed, in_group, IsKeptPut, Puts, IsUnkept, Stops}
+use Rattle.pot_replies.specs.Listings.{StatusLine, Group, GroupFull, IsStatusLine}
+use Rattle.pot_replies.specs.Fetches.{MayFetch, FetchEntries}
+use Rattle.pot_store.specs.Fetches.{IsUnfinished}
+use Rattle.pot_commands.specs.Rows.{IsStoreReply, IsFetchReply, IsListReply, AreStatusReplies, AreReplies, IsIdle, IsLeft}
+use Rattle.pot_commands.specs.Ends.{brings_none}
+
+-- an entry that brings one
+abbrev pub brings : Entry → Bool
+brings (MoveBegin job c to) = true
+brings (Swapped job c to) = true
+brings _ = false
+
+-- PARTS OF A LIST
+
+none_one : (e : Entry) → brings e ≡ false → filter brings (e ∷ []) ≡ []
+none_one e h = rw h refl
+
+pub none_both : (xs ys : List Entry) → filter brings xs ≡ [] → filter brings ys ≡ [] → filter brings (xs ++ ys) ≡ []
+none_both xs ys p q = filter-append brings xs ys ∙ (ap (λ l. l ++ filter brings ys) p ∙ q)
+
+none_of_each : (es : List Entry) → ((e : Entry) → Contains es e → brings e ≡ false) → filter brings es ≡ []
+none_of_each [] h = refl
+none_of_each (e ∷ es) h = rw (h e (0, omega arith, refl)) (none_of_each es (λ x (k, lt, at). h x (suc k, omega (arith, lt), at)))
+
+none_same : (es fs : List Entry) → es ≡ fs → filter brings fs ≡ [] → filter brings es ≡ []
+none_same es fs same h = ap (filter brings) same ∙ h
+
+-- what has none of these begins no move
+pub no_begin : (es : List Entry) → filter brings es ≡ [] → filter is_move_begin es ≡ []
+no_begin [] h = refl
+no_begin (MoveBegin job c to ∷ es) h = absurd (cc h)
+no_begin (Swapped job c to ∷ es) h = absurd (cc h)
+no_begin (_ ∷ es) h = no_begin es h
+
+head_none : (e : Entry) (es : List Entry) → filter brings (e ∷ es) ≡ [] → brings_none e ≡ true
+head_none (MoveBegin job c to) es h = absurd (cc h)
+head_none (Swapped job c to) es h = absurd (cc h)
+head_none _ es h = refl
+
+tail_none : (e : Entry) (es : List Entry) → filter brings (e ∷ es) ≡ [] → filter brings es ≡ []
+tail_none (MoveBegin job c to) es h = absurd (cc h)
+tail_none (Swapped job c to) es h = absurd (cc h)
+tail_none _ es h = h
+
+pub each_none : (es : List Entry) → filter brings es ≡ [] → (x : Entry) → Contains es x → brings_none x ≡ true
+each_none [] h x (k, lt, at) = absurd (omega (arith, lt))
+each_none (e ∷ es) h x (zero, lt, at) = ap brings_none (sym at) ∙ head_none e es h
+each_none (e ∷ es) h x (suc k, lt, at) = each_none es (tail_none e es h) x (k, omega (arith, lt), at)
+
+-- THE ENTRIES OF A STORE
+
+no_gone : (job stripe : ℕ) (gone : Option ℕ) → filter brings (gone_entries job stripe gone) ≡ []
+no_gone job stripe None = refl
+no_gone job stripe (Some c) = refl
+
+no_skip : (job : ℕ) (passed : List Passed) → filter brings (skips job passed) ≡ []
+no_skip job [] = refl
+no_skip job (x ∷ xs) = none_both (gone_entries job x.stripe x.gone) _ (no_gone job x.stripe x.gone) (no_skip job xs)
+
+no_kept : (job : ℕ) (x : Placed) (e : Entry) → IsKeptPut job x e → brings e ≡ false
+no_kept job x e (inl (p, is)) = ap brings is
+no_kept job x e (inr (p, q, is)) = ap brings is
+
+no_puts : (job : ℕ) (xs : List Placed) (es : List Entry) → Puts job xs es → filter brings es ≡ []
+no_puts job [] es is = ap (filter brings) is
+no_puts job (x ∷ xs) es (passed, e, rest, put, is, more) =
+    none_same es ((skips job passed ++ e ∷ []) ++ rest) is
+    (none_both (skips job passed ++ e ∷ []) rest (none_both (skips job passed) (e ∷ []) (no_skip job passed) (none_one e (no_kept job x e put))) (no_puts job xs rest more))
+
+no_unkept : (columns job : ℕ) (d : Digest) (column : ℕ) (e : Entry) → IsUnkept columns job d column e → brings e ≡ false
+no_unkept columns job d column e (inl (s, c, p, is, at)) = ap brings is
+no_unkept columns job d column e (inr (inl (s, c, p, q, k, is, at))) = ap brings is
+no_unkept columns job d column e (inr (inr (s, c, p, q, is, at))) = ap brings is
+
+same_or : (a b : ℕ) → (a ≡ b) ⊎ (a ≢ b)
+same_or a b = grind arith
+
+no_stops : (s : Setting) (job : ℕ) (name file : List ℕ) (g : ℕ) (ends : List Entry) (m : Mine) → Stops s job name file g ends m → filter brings ends ≡ []
+    → (h : ℕ) → filter brings (m.own h) ≡ []
+no_stops s job name file g ends m stops none h = ⊎_elim
+    (λ (e : g ≡ h). subst (λ k. filter brings (m.own k) ≡ []) e
+    (none_same (m.own g) (stops.sofar ++ ends) stops.here (none_both stops.sofar ends (no_puts job (in_group g stops.placed) stops.sofar stops.puts_here) none)))
+    (λ (ne : g ≢ h). no_puts job (in_group h stops.placed) (m.own h) (stops.puts h (λ e. ne (sym e))))
+    (same_or g h)
+
+no_last : (job : ℕ) (e : Entry) (column : ℕ) → (stripe : ℕ) × (e ≡ Fault job stripe column) → brings e ≡ false
+no_last job e column (stripe, is) = ap brings is
+
+store_moves : (s : Setting) (job : ℕ) (name file : List ℕ) (r : Reply) (w : Section) → IsStoreReply s job name file r w → (g : ℕ) → filter brings (own job (w.added g)) ≡ []
+store_moves s job name file (replies.Stored of pieces shards) w row g = no_puts job (in_group g row.1.placed) (own job (w.added g)) (row.1.puts g)
+store_moves s job name file (replies.Long of size) w row g = ap (filter brings) (row.2.silent.0 g)
+store_moves s job name file (replies.Exists of) w row g = ap (filter brings) (row.1.groups g)
+store_moves s job name file (replies.Fault group column) w row g =
+    no_stops s job name file group (skips job row.passed ++ row.last ∷ []) (mine job w) row.stops
+    (none_both (skips job row.passed) (row.last ∷ []) (no_skip job row.passed) (none_one row.last (⊎_elim (no_last job row.last column) (no_unkept s.rack.columns job row.stops.next column row.last) row.fault)))
+    g
+store_moves s job name file (replies.Full group) w row g =
+    no_stops s job name file group (skips job row.passed) (mine job w) row.stops (no_skip job row.passed) g
+store_moves s job name file (replies.LogFull group) w row g =
+    no_stops s job name file group (skips job row.passed ++ gone_entries job row.stripe row.gone) (mine job w) row.stops
+    (none_both (skips job row.passed) (gone_entries job row.stripe row.gone) (no_skip job row.passed) (no_gone job row.stripe row.gone))
+    g
+store_moves s job name file replies.IndexLogFull w row g = ap (filter brings) (row.1.silent.0 g)
+store_moves s job name file _ w row g = absurd row
+
+-- THOSE OF A FETCH
+
+may_not : (kept : Record) (g : ℕ) (e : Entry) → MayFetch kept g e → brings e ≡ false
+may_not kept g (MoveBegin job c to) h = absurd h
+may_not kept g (Swapped job c to) h = absurd h
+may_not kept g _ h = refl
+
+reads_moves : (kept : Record) (job : ℕ) (w : Section) → FetchEntries kept job w → (g : ℕ) → filter brings (own job (w.added g)) ≡ []
+reads_moves kept job w es g = none_of_each (own job (w.added g)) (λ e there. may_not kept g e (es.reads.kinds g e there))
+
+fetch_moves : (s : Setting) (job : ℕ) (name : List ℕ) (r : Reply) (w : Section) → IsFetchReply s job name r w → (g : ℕ) → filter brings (own job (w.added g)) ≡ []
+fetch_moves s job name (replies.File of bytes) w row g = reads_moves row.1.kept job w row.1.entries g
+fetch_moves s job name (replies.Absent of) w row g = ap (filter brings) (row.1.groups g)
+fetch_moves s job name (replies.Lost of piece fragment have need) w row g = reads_moves row.1.2.kept job w row.1.2.entries g
+fetch_moves s job name (replies.Odd of wanted found) w row g = reads_moves row.1.kept job w row.1.entries g
+fetch_moves s job name (replies.Fault group column) w row g = reads_moves row.kept job w row.entries g
+fetch_moves s job name (replies.LogFull group) w row g = reads_moves row.kept job w row.entries g
+fetch_moves s job name replies.IndexLogFull w row g = ap (filter brings) (row.silent.0 g)
+fetch_moves s job name _ w row g = absurd row
+
+-- THOSE OF A LIST AND OF A STATUS
+
+list_moves : (s : Setting) (job : ℕ) (r : Reply) (w : Section) → IsListReply s job r w → (g : ℕ) → filter brings (own job (w.added g)) ≡ []
+list_moves s job (replies.Names names) w row g = ap (filter brings) (row.groups g)
+list_moves s job replies.IndexLogFull w row g = ap (filter brings) (row.silent.0 g)
+list_moves s job _ w row g = absurd row
+
+line_moves : (s : Setting) (job g : ℕ) (line : StatusLine) (w : Section) → IsStatusLine s job g line w → filter brings (own job (w.added g)) ≡ []
+line_moves s job g (Group counts) w is = ap (filter brings) is.own_is
+line_moves s job g GroupFull w is = ap (filter brings) is.none
+
+got : {X : Type 0} (xs : List X) (i : ℕ) → i < length xs → (x : X) × (slice_get xs i ≡ Some x)
+got [] i lt = absurd (omega (arith, lt))
+got (x ∷ xs) zero lt = (x, refl)
+got (x ∷ xs) (suc i) lt = got xs i (omega (arith, lt))
+
+status_moves : (s : Setting) (job : ℕ) (rs : List Reply) (w : Section) → AreStatusReplies s job rs w → (g : ℕ) → filter brings (own job (w.added g)) ≡ []
+status_moves s job rs w row g = ⊎_elim
+    (λ (lt : g < length row.lines). let x = got row.lines g lt in line_moves s job g x.0 w (row.status.each g x.0 x.1))
+    (λ (le : length row.lines ≤ g). ap (filter brings) (row.status.elsewhere g (let c = row.status.count in omega (arith, le, c))))
+    (below_or_past g (length row.lines))
+
+-- a command that has these replies brought none
+pub no_moves : (s : Setting) (job : ℕ) (c : Command) (rs : List Reply) (w : Section) → AreReplies s job c rs w → (g : ℕ) → filter brings (own job (w.added g)) ≡ []
+no_moves s job (commands.Store name file) (r ∷ []) w row g = store_moves s job name file r w row g
+no_moves s job (commands.Fetch name) (r ∷ []) w row g = fetch_moves s job name r w row g
+no_moves s job commands.List (r ∷ []) w row g = list_moves s job r w row g
+no_moves s job commands.Status rs w row g = status_moves s job rs w row g
+no_moves s job _ _ w row g = absurd row
+
+-- and so did one that was left
+unfinished_moves : (s : Setting) (job : ℕ) (name : List ℕ) (w : Section) → IsUnfinished s job name w → (g : ℕ) → filter brings (own job (w.added g)) ≡ []
+unfinished_moves s job name w (inl silent) g = ap (filter brings) (silent.0 g)
+unfinished_moves s job name w (inr (kept, found, entries)) g = reads_moves kept job w entries g
+
+idle_moves : (s : Setting) (job : ℕ) (c : Command) (w : Section) → IsIdle s job c w → (g : ℕ) → filter brings (own job (w.added g)) ≡ []
+idle_moves s job (commands.Fetch name) w is g = unfinished_moves s job name w is g
+idle_moves s job _ w is g = ap (filter brings) (is.0 g)
+
+pub left_moves : (s : Setting) (job : ℕ) (c : Command) (w : Section) → IsLeft s job c w → (g : ℕ) → filter brings (own job (w.added g)) ≡ []
+left_moves s job c w (inl idle) g = idle_moves s job c w idle g
+left_moves s job c w (inr (rs, row)) g = no_moves s job c rs w row g

@@ -1,0 +1,174 @@
+-- The commands so far, and their end.
+use Rattle.std.proofs.Common.{◌≡◌, ◌<◌, ◌+◌, ◌++◌, ℕ, zero, suc, Bool, true, false, List, [], ◌∷◌, length, take, drop, get_or, refl, ap, sym, ◌∙◌, subst, arith, append-nil, append_assoc, add-one}
+use Rattle.std.specs.Prelude.{◌||◌, Ok, Err}
+use Rattle.std.specs.List.{AllByRecursion}
+use Rattle.std.proofs.lemmas.Grind.{flat_map-append}
+use Rattle.std.proofs.lemmas.List.{length-take-le, take-append-drop}
+use Rattle.pot_bytes.specs.declared.rack.Rack.{Rack}
+use Rattle.pot_turn.specs.declared.name.TurnName.{TurnName}
+use Rattle.pot_rows.specs.Rows.{HasMoreParts}
+use Rattle.pot_script.specs.declared.command.Command.{Command}
+use Rattle.pot_script.specs.declared.reply.Reply.{Reply}
+use Rattle.pot_script.specs.Replies.{reply_text, is_refusal}
+use Rattle.pot_shared.specs.Ready.{GroupPasses, AreReady}
+use Rattle.pot_shared.specs.Catalogs.{IndexPasses, IsIndexReady}
+use Rattle.pot_store.specs.Works.{Known, known, JobWorked}
+use Rattle.pot_commands.specs.declared.working.Stopped.TheVariants as stopped
+use Rattle.pot_commands.specs.Ones.{Gives, Leaves, OneEnds}
+use Rattle.pot_commands.specs.Ends.{texts_of, any_refusal, AllStay, AllWent, BringNone, AreReplied, EndsWell, EndsCut, EndsShort}
+use Rattle.pot_commands.proofs.AnswerLemmas.{stayed_worked}
+use Rattle.pot_commands.proofs.Going.{work_all_went, went_more, stays_more}
+use Rattle.pot_commands.proofs.Brought.{NoneBrought, brings_at_first, bring_none, gives_none, leaves_none}
+use Rattle.pot_commands.proofs.FoldLemmas.{none_replied, replied_on, left_on, next_on}
+
+-- THE PASSES
+
+pub stays_same : (k : Known) → AllStay k k
+stays_same k = record {
+  groups = record { names = refl; origin = λ at. refl; opened = λ at. refl; parts = λ at. refl };
+  index = record { names = refl; origin = λ at. refl; opened = λ at. refl; parts = λ at. refl };
+}
+
+-- a job's work leaves the passes ready for another
+pub work_stays : (rack : Rack) (names turn : List TurnName) (job : ℕ) (row row' : GroupPasses) (i i' : IndexPasses) → AreReady rack names row → AreReady rack names row'
+    → IsIndexReady rack names turn i → IsIndexReady rack names turn i' → JobWorked job (known row i) (known row' i') → AllStay (known row i) (known row' i')
+work_stays rack names turn job row row' i i' ready ready' iready iready' worked = record {
+  groups = record { names = ready'.of.0 ∙ sym ready.of.0; origin = λ at. (worked.groups at).origin; opened = λ at. (worked.groups at).opened; parts = λ at. (worked.groups at).parts };
+  index = record { names = iready'.of.0 ∙ sym iready.of.0; origin = λ at. (worked.index at).origin; opened = λ at. (worked.index at).opened; parts = λ at. (worked.index at).parts };
+}
+
+pub parts_stay : (old new : Known) (n : ℕ) → AllStay old new → HasMoreParts n old.groups → HasMoreParts n new.groups
+parts_stay old new n stays more at lt =
+    let same = stays.groups.parts at in
+    let long = ap length stays.groups.names in
+    let m = more at (omega (arith, lt, long)) in
+    omega (arith, m, same)
+
+-- LISTS
+
+take_more : {X : Type 0} (xs : List X) (i : ℕ) (x : X) → i < length xs → x ≡ get_or xs i x → take (suc i) xs ≡ take i xs ++ x ∷ []
+take_more [] i x h e = absurd (omega arith)
+take_more (y ∷ xs) zero x h e = ap (λ z. z ∷ []) (sym e)
+take_more (y ∷ xs) (suc i) x h e = ap (λ r. y ∷ r) (take_more xs i x (omega arith) e)
+
+pub holds_at : {X : Type 0} (P : X → Type 0) (xs : List X) (i : ℕ) (x : X) → AllByRecursion P xs → i < length xs → x ≡ get_or xs i x → P x
+holds_at P [] i x all h e = absurd (omega arith)
+holds_at P (y ∷ xs) zero x all h e = subst P (sym e) all.0
+holds_at P (y ∷ xs) (suc i) x all h e = holds_at P xs i x all.1 (omega arith) e
+
+texts_append : (rs its : List Reply) → texts_of (rs ++ its) ≡ texts_of rs ++ texts_of its
+texts_append rs its = flat_map-append reply_text rs its
+
+refusal_append : (rs its : List Reply) → any_refusal (rs ++ its) ≡ (any_refusal rs || any_refusal its)
+refusal_append [] its = refl
+refusal_append (r ∷ rs) its = ap (λ b. is_refusal r || b) (refusal_append rs its) ∙ assoc (is_refusal r) (any_refusal rs) (any_refusal its)
+  where
+    assoc : (a b c : Bool) → (a || (b || c)) ≡ ((a || b) || c)
+    assoc true b c = refl
+    assoc false b c = refl
+
+-- THE COMMANDS SO FAR
+
+pub record IsWorking (told : Type 0) (rack : Rack) (seed : List ℕ) (session : ℕ) (before now : List ℕ) (cs : List Command) (n : ℕ) (refused : Bool) (old mid : Known) : Type 0 where
+  pub went : AllWent old mid
+  pub stays : AllStay old mid
+  pub none : NoneBrought old mid
+  pub replies : List Reply
+  pub replied : AreReplied rack seed session (take n cs) replies old mid
+  pub refusal : refused ≡ any_refusal replies
+  pub written : told → now ≡ before ++ texts_of replies
+
+pub begins_working : (told : Type 0) (rack : Rack) (seed : List ℕ) (session : ℕ) (before : List ℕ) (cs : List Command) (names turn : List TurnName) (row : GroupPasses) (i : IndexPasses)
+    → AreReady rack names row → IsIndexReady rack names turn i → IsWorking told rack seed session before before cs 0 false (known row i) (known row i)
+begins_working told rack seed session before cs names turn row i ready index_ready = record {
+  went = work_all_went 1 (known row i) (known row i) (stayed_worked rack names turn 1 row i ready index_ready);
+  stays = stays_same (known row i);
+  none = brings_at_first (known row i);
+  replies = [];
+  replied = none_replied rack seed session (known row i);
+  refusal = refl;
+  written = λ t. sym (append-nil before);
+}
+
+module _ (told : Type 0) (rack : Rack) (seed : List ℕ) (session : ℕ) (before now : List ℕ) (cs : List Command) (n : ℕ) (refused : Bool) (old mid new : Known)
+    (so : IsWorking told rack seed session before now cs n refused old mid) (c : Command) (within : n < length cs) (is : c ≡ get_or cs n c)
+    (worked : JobWorked (n + 1) mid new) (stays : AllStay mid new) where
+  number : n + 1 ≡ suc (length (take n cs))
+  number = let l = length-take-le n cs (omega (arith, within)) in omega (arith, l)
+
+  its_worked : JobWorked (suc (length (take n cs))) mid new
+  its_worked = subst (λ j. JobWorked j mid new) number worked
+
+  abbrev first : List Command
+  first = take n cs ++ c ∷ []
+
+  whole : cs ≡ first ++ drop (suc n) cs
+  whole = sym (take-append-drop (suc n) cs) ∙ ap (λ l. l ++ drop (suc n) cs) (take_more cs n c within is)
+
+  pub new_went : AllWent old new
+  new_went = went_more old mid new so.went (work_all_went (n + 1) mid new worked)
+
+  pub new_stays : AllStay old new
+  new_stays = stays_more old mid new so.stays stays
+
+  new_replied : (its : List Reply) → Gives rack seed session (n + 1) c mid new its → AreReplied rack seed session first (so.replies ++ its) old new
+  new_replied its gives = replied_on rack seed session (take n cs) so.replies c old mid new so.went so.stays so.replied its_worked its
+      (subst (λ j. Gives rack seed session j c mid new its) number gives)
+
+  pub working_more : (after : List ℕ) (some : Bool) → OneEnds rack seed session (n + 1) c mid new told now after (Ok some)
+      → IsWorking told rack seed session before after cs (n + 1) (refused || some) old new
+  working_more after some (its, gives, refuses, writes) = record {
+    went = new_went;
+    stays = new_stays;
+    none = gives_none old mid new so.went so.none (n + 1) worked rack seed session c its gives;
+    replies = so.replies ++ its;
+    replied = subst (λ ds. AreReplied rack seed session ds (so.replies ++ its) old new) (sym (ap (λ k. take k cs) (add-one n) ∙ take_more cs n c within is)) (new_replied its gives);
+    refusal = ap (λ b. b || some) so.refusal ∙ (ap (λ b. any_refusal so.replies || b) refuses ∙ sym (refusal_append so.replies its));
+    written = λ t. writes t ∙ (ap (λ l. l ++ texts_of its) (so.written t) ∙ (append_assoc before (texts_of so.replies) (texts_of its) ∙ ap (λ l. before ++ l) (sym (texts_append so.replies its))));
+  }
+
+  pub working_cut : (after : List ℕ) → OneEnds rack seed session (n + 1) c mid new told now after (Err stopped.SinkFailed)
+      → EndsCut rack seed session told before after cs old new
+  working_cut after (its, gives, writes) = record {
+    first = take n cs;
+    next = c;
+    rest = drop (suc n) cs;
+    parts = whole;
+    replies = so.replies;
+    its = its;
+    answered = next_on rack seed session (take n cs) so.replies c old mid new so.went so.stays so.replied its_worked its
+        (subst (λ j. Gives rack seed session j c mid new its) number gives);
+    replied = new_replied its gives;
+    written = λ t. let cut = writes t in (
+      cut.0,
+      cut.1,
+      cut.2 ∙ (ap (λ l. l ++ take cut.0 (texts_of its)) (so.written t) ∙ append_assoc before (texts_of so.replies) (take cut.0 (texts_of its))),
+    );
+  }
+
+  pub none_cut : (after : List ℕ) → OneEnds rack seed session (n + 1) c mid new told now after (Err stopped.SinkFailed) → BringNone old new
+  none_cut after (its, gives, writes) = bring_none old new (gives_none old mid new so.went so.none (n + 1) worked rack seed session c its gives)
+
+  pub none_short : (after : List ℕ) → OneEnds rack seed session (n + 1) c mid new told now after (Err stopped.NoMemory) → BringNone old new
+  none_short after (leaves, writes) = bring_none old new (leaves_none old mid new so.went so.none (n + 1) worked rack seed session c leaves)
+
+  pub working_short : (after : List ℕ) → OneEnds rack seed session (n + 1) c mid new told now after (Err stopped.NoMemory)
+      → EndsShort rack seed session told before after cs old new
+  working_short after (leaves, writes) = record {
+    first = take n cs;
+    next = c;
+    rest = drop (suc n) cs;
+    parts = whole;
+    replies = so.replies;
+    replied = left_on rack seed session (take n cs) so.replies c old mid new so.went so.stays so.replied its_worked (subst (λ j. Leaves rack seed session j c mid new) number leaves);
+    written = λ t. writes t ∙ so.written t;
+  }
+
+pub ends_well : (told : Type 0) (rack : Rack) (seed : List ℕ) (session : ℕ) (before now : List ℕ) (cs : List Command) (n : ℕ) (refused : Bool) (old new : Known)
+    → IsWorking told rack seed session before now cs n refused old new → take n cs ≡ cs → EndsWell rack seed session told before now cs old new refused
+ends_well told rack seed session before now cs n refused old new so all = record {
+  replies = so.replies;
+  replied = subst (λ ds. AreReplied rack seed session ds so.replies old new) all so.replied;
+  refusal = so.refusal;
+  written = so.written;
+}

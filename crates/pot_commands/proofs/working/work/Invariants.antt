@@ -1,0 +1,15 @@
+use Rattle.std.proofs.Common.{◌≤◌, IsTrue}
+use Rattle.pot_shared.specs.Ready.{AreReady}
+use Rattle.pot_shared.specs.Catalogs.{IsIndexReady}
+use Rattle.pot_store.specs.Works.{known}
+use Rattle.pot_commands.proofs.WorkingLemmas.{IsWorking}
+use Rattle.pot_commands.proofs.working.work.Given as goal
+
+abbrev pub invariant-loop-index : goal.invariant-loop-index
+invariant-loop-index g l = record {
+  working : IsWorking (IsTrue g.K.Sink.tells) l.vault.rack l.seed l.session (g.K.Sink.written l.initial.sink) (g.K.Sink.written l.sink) l.commands l.index l.refused
+      (known l.initial.passes.groups l.initial.passes.index) (known l.passes.groups l.passes.index);
+  ready : AreReady l.vault.rack l.vault.groups l.passes.groups;
+  index : IsIndexReady l.vault.rack l.vault.groups l.vault.index l.passes.index;
+  later : g.K.Sink.faults l.initial.sink ≤ g.K.Sink.faults l.sink;
+}

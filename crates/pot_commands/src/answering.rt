@@ -1,0 +1,158 @@
+//! One command, and its replies.
+ghost use Rattle.std.specs.Prelude.{◌≡◌, ◌<◌, ◌∷◌, [], ℕ, List, MatchResult, length};
+ghost use Rattle.pot_bytes.specs.Rack.{IsRack};
+ghost use Rattle.pot_rows.specs.Rows.{HasMoreParts};
+ghost use Rattle.pot_replies.specs.Settings.{Setting};
+ghost use Rattle.pot_replies.specs.Sections.{Section, mine, IsSilent};
+ghost use Rattle.pot_shared.specs.Ready.{AreReady};
+ghost use Rattle.pot_shared.specs.Catalogs.{IsIndexReady};
+ghost use Rattle.pot_store.specs.Works.{JobWorked, JobAlone, known, section_of};
+ghost use Rattle.pot_store.specs.Stores.{StoreRow};
+ghost use Rattle.pot_store.specs.Fetches.{FetchRow, IsUnfinished};
+ghost use Rattle.pot_commands.specs.Rows.{IsSessionSetting, IsStoreReply, IsFetchReply, AreReplies, IsIdle, IsSingle, IsWorked};
+
+use crate::listing::{count_groups, list_names};
+use pot_bytes::{Bytes, Name, NoMemory};
+use pot_outside::Archive;
+use pot_pads::PadStream;
+use pot_script::{Command, Reply};
+use pot_shared::{Passes, Vault};
+use pot_store::{FetchFault, StoreFault, Stored, fetch_file, store_file};
+use std::alloc::Global;
+use std::sync::Wait;
+
+/// The reply to a store, by its answer. `Strange` has none, and comes only where another pass logged an entry of the job.
+fn store_reply(name: &Name, answer: Result<Stored, StoreFault>) -> Result<Reply, NoMemory>
+    ensures { (s : Setting) → (job : ℕ) → (file : List ℕ) → (w : Section) → StoreRow s job name.now file answer w → MatchResult result (λ reply. IsStoreReply s job name.now file reply w) (λ e. IsSilent (mine job w)) }
+{
+    let name = *name;
+    match answer {
+        Ok(stored) => Ok(Reply::Stored {
+            name,
+            pieces: stored.pieces,
+            shards: stored.shards,
+        }),
+        Err(StoreFault::TooLong { length }) => Ok(Reply::Long { name, length }),
+        Err(StoreFault::IndexLogFull) => Ok(Reply::IndexLogFull),
+        Err(StoreFault::Exists) => Ok(Reply::Exists { name }),
+        Err(StoreFault::Full { group }) => Ok(Reply::Full { group }),
+        Err(StoreFault::Faulted { group, column }) => Ok(Reply::Fault { group, column }),
+        Err(StoreFault::LogFull { group }) => Ok(Reply::LogFull { group }),
+        Err(StoreFault::Strange { at: _ }) => Err(NoMemory),
+        Err(StoreFault::NoMemory) => Err(NoMemory),
+    }
+}
+
+/// The reply to a fetch, by its answer.
+fn fetch_reply(name: &Name, answer: Result<Vec<u8>, FetchFault>) -> Result<Reply, NoMemory>
+    ensures { (s : Setting) → (job : ℕ) → (w : Section) → FetchRow s job name.now answer w → MatchResult result (λ reply. IsFetchReply s job name.now reply w) (λ e. IsUnfinished s job name.now w) }
+{
+    let name = *name;
+    match answer {
+        Ok(bytes) => Ok(Reply::File {
+            name,
+            bytes: Bytes::from_vec(bytes),
+        }),
+        Err(FetchFault::IndexLogFull) => Ok(Reply::IndexLogFull),
+        Err(FetchFault::Absent) => Ok(Reply::Absent { name }),
+        Err(FetchFault::Faulted { group, column }) => Ok(Reply::Fault { group, column }),
+        Err(
+            FetchFault::Lost {
+                piece,
+                fragment,
+                have,
+                need,
+            },
+        ) => Ok(Reply::Lost {
+            name,
+            piece,
+            fragment,
+            have,
+            need,
+        }),
+        Err(FetchFault::LogFull { group }) => Ok(Reply::LogFull { group }),
+        Err(FetchFault::Odd { wanted, found }) => Ok(Reply::Odd {
+            name,
+            wanted,
+            found,
+        }),
+        Err(FetchFault::NoMemory) => Err(NoMemory),
+    }
+}
+
+/// Works a command that has one reply.
+fn answer_one<A: Archive, R: Wait>(
+    rt: &R,
+    alloc: Global,
+    vault: &Vault<A>,
+    passes: &mut Passes<A>,
+    seed: &[u8; 32],
+    session: u32,
+    job: u32,
+    command: &Command,
+) -> Result<Reply, NoMemory>
+    requires ready { AreReady vault.now.rack vault.now.groups passes.old.groups }
+    requires index { IsIndexReady vault.now.rack vault.now.groups vault.now.index passes.old.index }
+    requires parts { HasMoreParts 1 passes.old.groups }
+    requires rack { IsRack vault.now.rack }
+    requires parity { vault.now.rack.parity ≡ 1 }
+    requires count { length vault.now.groups ≡ vault.now.rack.groups }
+    requires job { 0 < job }
+    requires single { IsSingle command.now }
+    ensures ready { AreReady vault.now.rack vault.now.groups passes.new.groups }
+    ensures index { IsIndexReady vault.now.rack vault.now.groups vault.now.index passes.new.index }
+    ensures worked { JobWorked job (known passes.old.groups passes.old.index) (known passes.new.groups passes.new.index) }
+    ensures says { JobAlone job (known passes.old.groups passes.old.index) (known passes.new.groups passes.new.index) → (s : Setting) → IsSessionSetting s vault.now.rack seed.now session (known passes.old.groups passes.old.index) → let w = section_of (known passes.old.groups passes.old.index) (known passes.new.groups passes.new.index) in MatchResult result (λ reply. AreReplies s job command.now (reply ∷ []) w) (λ e. IsIdle s job command.now w) }
+{
+    match command {
+        Command::Store { name, file } => {
+            let pads = PadStream::new(seed, session, job);
+            let stored = store_file(rt, alloc, vault, passes, job, name, file.as_slice(), pads);
+            store_reply(name, stored)
+        }
+        Command::Fetch { name } => {
+            let fetched = fetch_file(rt, alloc, vault, passes, job, name);
+            fetch_reply(name, fetched)
+        }
+        Command::List => list_names(rt, alloc, vault, passes, job),
+        _ => unreachable!(),
+    }
+}
+
+/// Works a command as this job, and answers its replies: one, and for `status` one for each group.
+///
+/// # Errors
+/// `NoMemory`, with what a command logs then.
+pub fn answer<A: Archive, R: Wait>(
+    rt: &R,
+    alloc: Global,
+    vault: &Vault<A>,
+    passes: &mut Passes<A>,
+    seed: &[u8; 32],
+    session: u32,
+    job: u32,
+    command: &Command,
+) -> Result<Vec<Reply>, NoMemory>
+    requires ready { AreReady vault.now.rack vault.now.groups passes.old.groups }
+    requires index { IsIndexReady vault.now.rack vault.now.groups vault.now.index passes.old.index }
+    requires parts { HasMoreParts 1 passes.old.groups }
+    requires rack { IsRack vault.now.rack }
+    requires parity { vault.now.rack.parity ≡ 1 }
+    requires count { length vault.now.groups ≡ vault.now.rack.groups }
+    requires job { 0 < job }
+    requires worked { IsWorked command.now }
+    ensures ready { AreReady vault.now.rack vault.now.groups passes.new.groups }
+    ensures index { IsIndexReady vault.now.rack vault.now.groups vault.now.index passes.new.index }
+    ensures worked { JobWorked job (known passes.old.groups passes.old.index) (known passes.new.groups passes.new.index) }
+    ensures says { JobAlone job (known passes.old.groups passes.old.index) (known passes.new.groups passes.new.index) → (s : Setting) → IsSessionSetting s vault.now.rack seed.now session (known passes.old.groups passes.old.index) → let w = section_of (known passes.old.groups passes.old.index) (known passes.new.groups passes.new.index) in MatchResult result (λ replies. AreReplies s job command.now replies.items w) (λ e. IsIdle s job command.now w) }
+{
+    match command {
+        Command::Status => count_groups(rt, alloc, vault, passes, job),
+        _ => {
+            let mut replies = Vec::with_capacity(alloc, 1)?;
+            let reply = answer_one(rt, alloc, vault, passes, seed, session, job, command)?;
+            replies.push_reserved(reply);
+            Ok(replies)
+        }
+    }
+}

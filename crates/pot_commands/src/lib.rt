@@ -1,0 +1,23 @@
+//! The commands of a session's script, worked one after another over a vault, and their replies.
+//!
+//! It reads no script, starts no vault and closes none. Commands that work at the same time are not its matter.
+//!
+//! 1. Each command is one job, numbered from 1, and works for that job alone (`JobWorked`).
+//! 2. Each reply is the one that the job's own entries give by the table of replies (specs/Rows.antt), if nobody else logged
+//!    anything meanwhile: who closes the vault learns that from the close.
+//! 3. The replies of a command are written after it, and in order. What is written is their text; where the sink failed or
+//!    memory ran out, specs/Ends.antt says how far it came.
+#![tactic(auto)]
+
+mod answering;
+mod listing;
+mod output;
+mod working;
+
+pub use answering::answer;
+pub use listing::{count_groups, list_names};
+pub use output::write_out;
+pub use working::{Ending, work};
+
+#[cfg(test)]
+mod tests;

@@ -1,0 +1,117 @@
+//! The commands of a script, one after another.
+ghost use Rattle.std.specs.Prelude.{◌≡◌, ◌<◌, ◌^◌, IsTrue, IsErrOf, length};
+ghost use Rattle.std.specs.List.{AllByRecursion};
+ghost use Rattle.pot_bytes.specs.Rack.{IsRack};
+ghost use Rattle.pot_outside.specs.Counts.{Caused};
+ghost use Rattle.pot_rows.specs.Rows.{HasMoreParts};
+ghost use Rattle.pot_shared.specs.Ready.{AreReady};
+ghost use Rattle.pot_shared.specs.Catalogs.{IsIndexReady};
+ghost use Rattle.pot_store.specs.Works.{JobWorked, known};
+ghost use Rattle.pot_commands.specs.Rows.{IsWorked};
+ghost use Rattle.pot_commands.specs.Ones.{OneEnds};
+ghost use Rattle.pot_commands.specs.Ends.{AllWent, AllStay, BringNone, Ends};
+
+use crate::answering::answer;
+use crate::output::{has_refusal, print_replies, write_out};
+use pot_bytes::NoMemory;
+use pot_outside::{Archive, Failed, Sink};
+use pot_script::Command;
+use pot_shared::{Passes, Vault};
+use std::alloc::Global;
+use std::sync::Wait;
+
+/// How the commands of a script ended.
+#[derive(Clone, Copy, PartialEq, Eq, Debug)]
+pub enum Ending {
+    /// All have their replies, and some reply is a refusal or none is.
+    Done { refused: bool },
+    SinkFailed,
+    NoMemory,
+}
+
+/// Why a command's replies are not written.
+#[derive(Clone, Copy, PartialEq, Eq, Debug)]
+enum Stopped {
+    SinkFailed,
+    NoMemory,
+}
+
+/// Works a command, and then writes its replies. It answers whether one of them is a refusal.
+fn work_one<A: Archive, K: Sink, R: Wait>(
+    rt: &R,
+    alloc: Global,
+    vault: &Vault<A>,
+    passes: &mut Passes<A>,
+    seed: &[u8; 32],
+    session: u32,
+    job: u32,
+    command: &Command,
+    sink: &mut K,
+) -> Result<bool, Stopped>
+    requires ready { AreReady vault.now.rack vault.now.groups passes.old.groups }
+    requires index { IsIndexReady vault.now.rack vault.now.groups vault.now.index passes.old.index }
+    requires parts { HasMoreParts 1 passes.old.groups }
+    requires rack { IsRack vault.now.rack }
+    requires parity { vault.now.rack.parity ≡ 1 }
+    requires count { length vault.now.groups ≡ vault.now.rack.groups }
+    requires job { 0 < job }
+    requires worked { IsWorked command.now }
+    ensures ready { AreReady vault.now.rack vault.now.groups passes.new.groups }
+    ensures index { IsIndexReady vault.now.rack vault.now.groups vault.now.index passes.new.index }
+    ensures worked { JobWorked job (known passes.old.groups passes.old.index) (known passes.new.groups passes.new.index) }
+    ensures ends { OneEnds vault.now.rack seed.now session job command.now (known passes.old.groups passes.old.index) (known passes.new.groups passes.new.index) (IsTrue K.tells) (K.written sink.old) (K.written sink.new) result }
+    ensures cause { Caused (K.faults sink.old) (K.faults sink.new) (IsErrOf result Stopped.SinkFailed) }
+{
+    let replies = match answer(rt, alloc, vault, passes, seed, session, job, command) {
+        Ok(replies) => replies,
+        Err(NoMemory) => return Err(Stopped::NoMemory),
+    };
+    let text = match print_replies(alloc, &replies) {
+        Ok(text) => text,
+        Err(NoMemory) => return Err(Stopped::NoMemory),
+    };
+    match write_out(sink, &text) {
+        Ok(()) => Ok(has_refusal(&replies)),
+        Err(Failed) => Err(Stopped::SinkFailed),
+    }
+}
+
+/// Works the commands of a script in order over a vault, and writes the replies of each after it. The commands are jobs
+/// numbered from 1. It ends at the first reply that can't be written, and where memory runs out.
+pub fn work<A: Archive, K: Sink, R: Wait>(
+    rt: &R,
+    alloc: Global,
+    vault: &Vault<A>,
+    passes: &mut Passes<A>,
+    seed: &[u8; 32],
+    session: u32,
+    commands: &[Command],
+    sink: &mut K,
+) -> Ending
+    requires ready { AreReady vault.now.rack vault.now.groups passes.old.groups }
+    requires index { IsIndexReady vault.now.rack vault.now.groups vault.now.index passes.old.index }
+    requires parts { HasMoreParts 1 passes.old.groups }
+    requires rack { IsRack vault.now.rack }
+    requires parity { vault.now.rack.parity ≡ 1 }
+    requires count { length vault.now.groups ≡ vault.now.rack.groups }
+    requires few { length commands.now < 2 ^ 31 }
+    requires worked { AllByRecursion IsWorked commands.now }
+    ensures ready { AreReady vault.now.rack vault.now.groups passes.new.groups }
+    ensures index { IsIndexReady vault.now.rack vault.now.groups vault.now.index passes.new.index }
+    ensures stays { AllStay (known passes.old.groups passes.old.index) (known passes.new.groups passes.new.index) }
+    ensures went { AllWent (known passes.old.groups passes.old.index) (known passes.new.groups passes.new.index) }
+    ensures brings { BringNone (known passes.old.groups passes.old.index) (known passes.new.groups passes.new.index) }
+    ensures ends { Ends vault.now.rack seed.now session (IsTrue K.tells) (K.written sink.old) (K.written sink.new) commands.now (known passes.old.groups passes.old.index) (known passes.new.groups passes.new.index) result }
+    ensures cause { Caused (K.faults sink.old) (K.faults sink.new) (result ≡ Ending.SinkFailed) }
+{
+    let mut refused = false;
+    for (index, command) in commands.iter().enumerate() {
+        let job = index as u32 + 1;
+        match work_one(rt, alloc, vault, passes, seed, session, job, command, sink) {
+            Ok(some) => refused |= some,
+            Err(Stopped::SinkFailed) => return Ending::SinkFailed,
+            Err(Stopped::NoMemory) => return Ending::NoMemory,
+        }
+    }
+    Ending::Done { refused }
+}
