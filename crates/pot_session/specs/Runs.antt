@@ -1,90 +1,105 @@
--- What a script does over one plain archive: one command after another, each with the reply that the table allows.
-use Rattle.std.specs.Prelude.{◌≡◌, ◌<◌, ◌≤◌, ◌+◌, ◌*◌, ◌-◌, ◌++◌, ◌⊎◌, ◌==◌, ℕ, Bool, List, [], ◌∷◌, Option, Some, None, length, take, drop, replicate, find, IsNone, IsSome, IsSomeAnd}
-use Rattle.std.specs.Cmp.Lexicographic.{pointwise}
-use Rattle.pot_bytes.specs.Sums.{xor}
-use Rattle.pot_pads.specs.Pads.{pads_of, next_bytes}
-use Rattle.pot_object.specs.Objects.{object}
-use Rattle.pot_object.specs.Pieces.{piece_size}
+-- What a call of the program comes to, by the words, the bytes of the source, what the sink got, what the desk held and holds, and what the
+-- room meant and means.
+use Rattle.std.specs.Prelude.{◌≡◌, ◌⊎◌, ◌+◌, ◌<◌, ◌^◌, ℕ, List, Option, Some, Ok, Err, flat_map, length}
+use Rattle.std.specs.List.{AllByRecursion}
+use Rattle.pot_outside.specs.Archives.{Meaning}
+use Rattle.pot_bytes.specs.declared.rack.Rack.{Rack}
+use Rattle.pot_options.specs.Options.{Text}
 use Rattle.pot_script.specs.declared.command.Command.{Command}
-use Rattle.pot_script.specs.declared.command.Command.TheVariants.{Store, Fetch, Quit}
-use Rattle.pot_script.specs.declared.reply.Reply.{Reply}
-use Rattle.pot_script.specs.declared.reply.Reply.TheVariants.{Stored, File, Long, Exists, Absent, Lost, Fault}
+use Rattle.pot_words.specs.Tasks.{SpellTask}
+use Rattle.pot_words.specs.declared.run.Run.{Run}
+use Rattle.pot_words.specs.declared.task.Task.TheVariants as task
+use Rattle.pot_group.specs.Beginning.{archives_in}
+use Rattle.pot_image.specs.declared.image.Image.{Image}
+use Rattle.pot_image.specs.Images.{Contents, contents}
+use Rattle.pot_image.specs.Spelling.{image_bytes}
+use Rattle.pot_session.specs.declared.status.Status.{Status}
+use Rattle.pot_session.specs.declared.status.Status.TheVariants as status
+use Rattle.pot_session.specs.declared.stop.Stop.{Stop}
+use Rattle.pot_session.specs.declared.stop.Stop.TheVariants as stop
+use Rattle.pot_session.specs.Commands.{IsRead, RefusesScript}
+use Rattle.pot_session.specs.Desks.{GoesOn, HoldsImage, RefusesDesk, IsDeskStop, Keeps, IsKeepStop, begun}
+use Rattle.pot_session.specs.Holding.{Untouched}
+use Rattle.pot_session.specs.Making.{Inits}
+use Rattle.pot_session.specs.Serving.{DeskAfter, IsEnd}
+use Rattle.pot_session.specs.Stops.{Refuses}
+use Rattle.pot_session.specs.Tasks.{AsksNothing}
+use Rattle.pot_image.specs.Rules.{FitsTogether}
 
--- a stored file: its name, its bytes, the attempt to store that took slots for it, counted from 0, and the
--- place of its line among the commands, from 1
-pub record StoredFile : Type 0 where
-  pub name : List ℕ
-  pub file : List ℕ
-  pub attempt : ℕ
-  pub place : ℕ
+-- what the objects tell: whether they do, the bytes of the source before, those of the sink before and after, the desk's image before and
+-- after, and what the room means by each number before and after
+pub record Seen : Type 1 where
+  pub source_told : Type 0
+  pub input : List ℕ
+  pub sink_told : Type 0
+  pub before : List ℕ
+  pub after : List ℕ
+  pub desk_told : Type 0
+  pub held : Option (List ℕ)
+  pub holds : Option (List ℕ)
+  pub meant : ℕ → Meaning
+  pub means : ℕ → Meaning
 
--- what a script has come to: how many attempts took slots, the files stored in order, and the slots in
--- which a fetch found no block
-pub record State : Type 0 where
-  pub attempts : ℕ
-  pub stored : List StoredFile
-  pub absent : List ℕ
-
--- nothing is stored
-abbrev pub beginning : State
-beginning = record { attempts = 0; stored = []; absent = [] }
-
--- the file that is stored under a name
-abbrev pub stored_as : List ℕ → List StoredFile → Option StoredFile
-stored_as name stored = find (λ f. pointwise ◌==◌ f.name name) stored
-
--- the bytes that the command at a place consumes: 16 of file id and 928 of pad, of session 0
-abbrev pub random : List ℕ → ℕ → List ℕ
-random drawn place = next_bytes (pads_of drawn 0 place) 944
-
--- the first block of a file: the pad and 96 zeros
-unfoldable pub pad_block : List ℕ → ℕ → List ℕ
-pad_block drawn place = drop 16 (random drawn place) ++ replicate 96 0
-
--- the second: the object of the file XOR the pad, and 96 zeros
-unfoldable pub partner_block : List ℕ → ℕ → List ℕ → List ℕ
-partner_block drawn place file =
-    xor (object (take 16 (random drawn place)) file 0) (drop 16 (random drawn place)) ++ replicate 96 0
-
--- the slot of a fragment, 1 or 2
-abbrev pub slot_of : StoredFile → ℕ → ℕ
-slot_of f fragment = 2 * f.attempt + (fragment - 1)
-
--- A reply that a command may have. Where an archive tells its contents, a file comes back as it was stored.
-abbrev pub Row : Type 0 → State → Command → Reply → Type 0
-Row told s (Store name file) (Long n l) = (piece_size < length file) × (n ≡ name) × (l ≡ length file)
-Row told s (Store name file) (Exists n) = (length file ≤ piece_size) × IsSome (stored_as name s.stored) × (n ≡ name)
-Row told s (Store name file) (Stored n pieces shards) =
-    (length file ≤ piece_size) × IsNone (stored_as name s.stored) × (n ≡ name) × (pieces ≡ 1) × (shards ≡ 2)
-Row told s (Store name file) (Fault group column) =
-    (length file ≤ piece_size) × IsNone (stored_as name s.stored) × (group ≡ 0) × (column ≡ 0)
-Row told s (Fetch name) (Absent n) = IsNone (stored_as name s.stored) × (n ≡ name)
-Row told s (Fetch name) (File n bytes) =
-    IsSomeAnd (stored_as name s.stored) (λ f. (length bytes ≡ length f.file) × (told → bytes ≡ f.file)) × (n ≡ name)
-Row told s (Fetch name) (Lost n piece fragment have need) =
-    IsSome (stored_as name s.stored) × (n ≡ name) × (piece ≡ 0) × ((fragment ≡ 1) ⊎ (fragment ≡ 2)) × (have ≡ 0) × (need ≡ 1)
-Row told s (Fetch name) (Fault group column) = IsSome (stored_as name s.stored) × (group ≡ 0) × (column ≡ 0)
-Row told s _ _ = ⊥
-
--- the slot in which a fetch found no block
-abbrev pub gone : Option StoredFile → ℕ → List ℕ
-gone None fragment = []
-gone (Some f) fragment = slot_of f fragment ∷ []
-
--- what a command and its reply come to; all else stays
-abbrev pub after : ℕ → State → Command → Reply → State
-after place s (Store name file) (Stored n pieces shards) = record {
-  attempts = s.attempts + 1;
-  stored = s.stored ++ record { name = name; file = file; attempt = s.attempts; place = place } ∷ [];
-  absent = s.absent;
+-- what was seen, from its parts
+abbrev pub seen_by : Type 0 → List ℕ → Type 0 → List ℕ → List ℕ → Type 0 → Option (List ℕ) → Option (List ℕ) → (ℕ → Meaning) → (ℕ → Meaning) → Seen
+seen_by source_told input sink_told before after desk_told held holds meant means = record {
+  source_told = source_told;
+  input = input;
+  sink_told = sink_told;
+  before = before;
+  after = after;
+  desk_told = desk_told;
+  held = held;
+  holds = holds;
+  meant = meant;
+  means = means;
 }
-after place s (Store name file) (Fault group column) = record s { attempts = s.attempts + 1 }
-after place s (Fetch name) (Lost n piece fragment have need) =
-    record s { absent = s.absent ++ gone (stored_as name s.stored) fragment }
-after place s _ _ = s
 
--- the commands from a place on had these replies, one each, and came to this
-abbrev pub Answered : Type 0 → ℕ → State → List Command → List Reply → State → Type 0
-Answered told place s [] [] t = s ≡ t
-Answered told place s (c ∷ cs) (r ∷ rs) t = Row told s c r × Answered told (place + 1) (after place s c r) cs rs t
-Answered told place s _ _ t = ⊥
+-- the desk holds what it held
+abbrev pub SameDesk : Seen → Type 0
+SameDesk seen = seen.desk_told → seen.holds ≡ seen.held
+
+-- the room means what it meant
+abbrev pub SameRoom : Seen → Type 0
+SameRoom seen = (n : ℕ) → seen.means n ≡ seen.meant n
+
+-- BEFORE THE COMMANDS
+
+-- the desk held this image, from which a session may begin, and the source had these commands
+pub record IsOf (source_told : Type 0) (input : List ℕ) (desk_told : Type 0) (held : Option (List ℕ)) (i : Image) (steps : List Command) : Type 0 where
+  pub goes_on : GoesOn i
+  pub image : desk_told → HoldsImage held i
+  pub script : IsRead i.rack source_told input steps
+
+-- a session may begin with this image and these commands: the image is on the desk, one session on from the one that was read
+pub record IsPrepared (source_told : Type 0) (input : List ℕ) (desk_told : Type 0) (held holds : Option (List ℕ)) (image : Image) (steps : List Command) : Type 0 where
+  pub read : Image
+  pub of : IsOf source_told input desk_told held read steps
+  pub is : contents image ≡ begun (contents read)
+  pub fits : FitsTogether (contents image)
+  pub kept : desk_told → holds ≡ Some (image_bytes (contents image))
+
+-- Why no session begins: the desk has no image from which one may; or the source has no script; or the desk did not take the image with
+-- which it would begin.
+pub data Stops (source_told : Type 0) (input : List ℕ) (desk_told : Type 0) (held holds : Option (List ℕ)) (s : Stop) : Type 0 where
+  AtDesk : IsDeskStop s → (desk_told → RefusesDesk held s) → (desk_told → holds ≡ held) → Stops source_told input desk_told held holds s
+  AtScript : (i : Image) → GoesOn i → (desk_told → HoldsImage held i) → RefusesScript i.rack source_told input s → (desk_told → holds ≡ held) → Stops source_told input desk_told held holds s
+  AtOpening : (i : Image) (steps : List Command) → IsOf source_told input desk_told held i steps → IsKeepStop s → (desk_told → Keeps held holds (image_bytes (begun (contents i))) (Err s)) → Stops source_told input desk_told held holds s
+
+-- THE WHOLE
+
+-- A session did not begin, and it is written why; or it began with the image that was read, and ended so. Archives that this image does
+-- not name were not touched.
+pub data Holds (seen : Seen) (answer : Status) : Type 0 where
+  Stopped : (s : Stop) → Stops seen.source_told seen.input seen.desk_told seen.held seen.holds s
+      → Refuses seen.sink_told seen.before seen.after s answer → SameRoom seen → Holds seen answer
+  Served : (i : Image) (steps : List Command) → IsOf seen.source_told seen.input seen.desk_told seen.held i steps
+      → (seen.desk_told → DeskAfter (begun (contents i)) seen.holds answer) → IsEnd answer
+      → Untouched (flat_map archives_in i.tables.items) seen.meant seen.means → Holds seen answer
+
+-- The words spell no task that is worked; or memory ran out over them; or they spell `init` or `run`.
+pub data Runs (words : List Text) (seen : Seen) (answer : Status) : Type 0 where
+  Nothing : AsksNothing words → Refuses seen.sink_told seen.before seen.after stop.Words answer → SameDesk seen → SameRoom seen → Runs words seen answer
+  Unread : answer ≡ status.NoMemory → (seen.sink_told → seen.after ≡ seen.before) → SameDesk seen → SameRoom seen → Runs words seen answer
+  Makes : (rack : Rack) → SpellTask words (task.Init rack) → Inits rack seen.desk_told seen.held seen.holds seen.sink_told seen.before seen.after answer → SameRoom seen → Runs words seen answer
+  Session : (run : Run) → SpellTask words (task.Run run) → Holds seen answer → Runs words seen answer

@@ -1,8 +1,6 @@
 -- Reading a source out and writing a text.
 use Rattle.std.specs.Prelude.{◌≡◌, ◌≤◌, ◌++◌, ℕ, List, [], length, take, Result, Ok, Err}
 use Rattle.pot_outside.specs.declared.faults.Failed.{Failed as Fault}
-use Rattle.pot_session.specs.declared.working.Unwritten.{Unwritten}
-use Rattle.pot_session.specs.declared.working.Unwritten.TheVariants.{Failed, NoMemory}
 
 -- the bytes are the first ones of the source, and all of them unless they are more than the limit
 pub record IsReadOut (before after bytes : List ℕ) (limit : ℕ) : Type 0 where
@@ -13,9 +11,3 @@ pub record IsReadOut (before after bytes : List ℕ) (limit : ℕ) : Type 0 wher
 abbrev pub IsWritten : List ℕ → List ℕ → List ℕ → Result (Unit {0}) Fault → Type 0
 IsWritten before after text (Ok u) = after ≡ before ++ text
 IsWritten before after text (Err e) = (count : ℕ) × (count ≤ length text) × (after ≡ before ++ take count text)
-
--- the text was appended, or cut off by a failure, or not begun
-abbrev pub IsReplyWritten : List ℕ → List ℕ → List ℕ → Result (Unit {0}) Unwritten → Type 0
-IsReplyWritten before after text (Ok u) = after ≡ before ++ text
-IsReplyWritten before after text (Err Failed) = (count : ℕ) × (count ≤ length text) × (after ≡ before ++ take count text)
-IsReplyWritten before after text (Err NoMemory) = after ≡ before

@@ -1,33 +1,35 @@
-//! The top call: a session of the program, over any source, sink and room of archives.
+//! The top call: all that the program does, over any source, sink, room of archives and desk.
 //!
-//! Today a session stores files of at most 864 bytes in one plain archive and fetches them. Each file is one
-//! object, split by XOR into a pad and its partner: archive 0 has the pad of the q-th attempt to store in slot
-//! 2q and the partner in slot 2q + 1. It is not the archive under parity, and it keeps no index: names are known
-//! for one session.
+//! It works the words `init` and `run`, and within a session what the commands of the script ask for. It decides no reply and spells no
+//! image: these are the matter of the crates below. A batch line, and what `run` may do at the same time, are not worked.
 //!
-//! The clauses of `run` speak of the words, the bytes of the source and of the sink, and what the room means by
-//! archive 0. What stands at each moment, and who keeps it:
-//! 1. the replies written so far are those of the first commands, each by the table of replies: `work`;
-//! 2. where the archive tells its contents, the two slots of each stored file have its two blocks or have lost
-//!    them, and a slot in which a fetch found no block has none: `store` and `fetch`, by `Stands`;
-//! 3. no attempt writes into a slot that an earlier one took: `Catalog`, whose count of attempts only grows;
-//! 4. a `fault` is told only where the archive's count of faults rose, and a `lost` only where its count of losses
-//!    did: `answer`;
-//! 5. the archive goes back to the room whatever happened to the commands: `run_commands`.
+//! 1. A session keeps two images: the one with which it begins, before any archive is taken, and that of its close. Each has the number
+//!    one above that of the image that was read (`begun`).
+//! 2. An archive is taken once and given back once, whatever fails between: none is out when the call returns (`AreOut`).
+//! 3. What a session leaves is tried to its end: a failure of the sink or want of memory ends the commands, and the close follows.
+//! 4. A status that names an object comes only where that object's count of faults rose in this call (`Caused`), and the first failure
+//!    gives it.
 #![tactic(auto)]
 
-mod answering;
-mod catalog;
-mod fragments;
+mod archives;
+mod asking;
+mod closing;
+mod desk;
+mod groups;
 mod intake;
+mod making;
+mod opening;
 mod output;
-mod pair;
+mod preparing;
+mod refusing;
+mod scripting;
+mod serving;
 mod status;
-mod top;
-mod working;
-
-pub use status::Status;
-pub use top::run;
-
+mod stop;
 #[cfg(test)]
 mod tests;
+mod top;
+
+pub use status::Status;
+pub use stop::Stop;
+pub use top::run;

@@ -1,8 +1,8 @@
-//! How a session ended.
+//! How a call of the program ended.
 
 ghost use Rattle.std.specs.Prelude.{◌≡◌};
 
-/// The status of a session.
+/// The status of a call of the program.
 #[derive(Clone, Copy, PartialEq, Eq, Debug)]
 pub enum Status {
     /// The input was read to its end and no reply is a refusal.
@@ -11,19 +11,27 @@ pub enum Status {
     Refusals,
     /// The words of the command line were refused.
     WordsRefused,
-    /// The script left its grammar.
+    /// The script was refused.
     ScriptRefused,
     /// The source failed.
     SourceFault,
     /// The sink failed.
     SinkFault,
+    /// The desk failed.
+    DeskFault,
+    /// The image of the desk was refused.
+    ImageRefused,
     /// The room failed.
     RoomFault,
+    /// No number is left for a session.
+    SessionSpent,
+    /// A new archive was asked for, and the desk holds an image.
+    ImageExists,
     NoMemory,
 }
 
 impl Status {
-    ghost use Rattle.pot_session.specs.Sessions.{code_of};
+    ghost use Rattle.pot_session.specs.Stops.{code_of};
 
     /// Its number, the exit status of the program.
     pub fn code(self) -> u8
@@ -36,7 +44,11 @@ impl Status {
             Status::ScriptRefused => 3,
             Status::SourceFault => 4,
             Status::SinkFault => 5,
+            Status::DeskFault => 6,
+            Status::ImageRefused => 7,
             Status::RoomFault => 8,
+            Status::SessionSpent => 9,
+            Status::ImageExists => 10,
             Status::NoMemory => 70,
         }
     }

@@ -1,4 +1,5 @@
-ghost use Rattle.std.specs.Prelude.{◌≡◌, ◌≢◌, ◌*◌, ◌∷◌, IsErr, MatchOption, slice_index};
+ghost use Rattle.std.specs.Prelude.{◌≡◌, ◌≢◌, ◌*◌, ◌∷◌, pos, ◌<ℤ◌, IsErr, MatchOption, slice_index};
+ghost use Rattle.std.specs.Fd.{file_raw_fd};
 ghost use Rattle.pot_outside.specs.Counts.{Caused};
 
 use crate::faults::count_fault;
@@ -46,11 +47,13 @@ fn slot_of(block: &Block) -> [u8; SLOT]
 pub struct FileArchive {
     file: File,
     faults: u64,
+    ghost apart: { pos 2 <ℤ file_raw_fd file },
 }
 
 impl FileArchive {
-    /// The archive of a file that is open to be read and written.
+    /// The archive of a file that is open to be read and written, and is no standard stream.
     pub fn new(file: File) -> FileArchive
+        requires { pos 2 <ℤ file_raw_fd file }
         ensures { result.faults ≡ 0 }
     {
         FileArchive { file, faults: 0 }
@@ -64,6 +67,19 @@ impl FileArchive {
         match self.file.read_exact_at(&mut bytes, offset(slot)) {
             Ok(()) => Ok(block_of(&bytes)),
             Err(e) if e.kind() == ErrorKind::UnexpectedEof => Ok(None),
+            Err(_) => {
+                count_fault(&mut self.faults);
+                Err(Failed)
+            }
+        }
+    }
+
+    /// Brings all that was written to the disk.
+    pub fn sync(&mut self) -> Result<(), Failed>
+        ensures cause { Caused self.old.faults self.new.faults (IsErr result) }
+    {
+        match self.file.sync_all() {
+            Ok(()) => Ok(()),
             Err(_) => {
                 count_fault(&mut self.faults);
                 Err(Failed)

@@ -1,33 +1,103 @@
-ghost use Rattle.std.specs.Prelude.{◌≡◌};
+ghost use Rattle.std.specs.Prelude.{◌≡◌, OnOk, OnSome, IsSome};
 
 use crate::faults::count_fault;
+use crate::opening::{anew, as_it_is, open_apart};
 use pot_outside::{Desk, DeskFault, Failed};
-use std::io::ErrorKind;
+use std::fs::{File, OpenOptions};
+use std::io::{ErrorKind, Write};
 use std::{fs, io};
 
-/// The image in the file `desk.psi` of the working folder. None where there is no such file.
+/// The image in the file `desk.psi` of the working folder, or none where there is no such file.
+///
+/// The desk is for one run at a time: its first call locks the file `desk.lock`, and fails where another desk
+/// has the lock. It keeps the lock until it is dropped, and the file stays, empty.
 #[derive(Drop)]
 pub struct DeskFile {
     rt: HostRuntime,
+    /// `desk.lock`, locked as long as it is open.
+    lock: Option<File>,
     faults: u64,
 }
 
 impl DeskFile {
+    /// A desk that has not locked its folder yet.
     pub fn new(rt: &HostRuntime) -> DeskFile
         ensures { result.faults ≡ 0 }
     {
-        DeskFile { rt: *rt, faults: 0 }
+        DeskFile {
+            rt: *rt,
+            lock: None,
+            faults: 0,
+        }
+    }
+
+    /// Takes the lock, where this desk has not got it yet.
+    fn hold_lock(&mut self) -> io::Result<()>
+        ensures locked { OnOk result (IsSome self.new.lock) }
+        ensures keeps { OnSome self.old.lock (self.new.lock ≡ self.old.lock) }
+        ensures faults { self.new.faults ≡ self.old.faults }
+    {
+        if self.lock.is_none() {
+            self.lock = Some(take_lock(&self.rt)?);
+        }
+        Ok(())
+    }
+
+    /// The image, under the lock.
+    fn load(&mut self) -> io::Result<Option<Vec<u8>>>
+        ensures locked { OnOk result (IsSome self.new.lock) }
+        ensures keeps { OnSome self.old.lock (self.new.lock ≡ self.old.lock) }
+        ensures faults { self.new.faults ≡ self.old.faults }
+    {
+        self.hold_lock()?;
+        match fs::read(&self.rt, "desk.psi") {
+            Ok(image) => Ok(Some(image)),
+            Err(e) if e.kind() == ErrorKind::NotFound => Ok(None),
+            Err(e) => Err(e),
+        }
+    }
+
+    /// Puts an image in the place of the one before, under the lock.
+    fn put(&mut self, image: &[u8]) -> io::Result<()>
+        ensures locked { OnOk result (IsSome self.new.lock) }
+        ensures keeps { OnSome self.old.lock (self.new.lock ≡ self.old.lock) }
+        ensures faults { self.new.faults ≡ self.old.faults }
+    {
+        self.hold_lock()?;
+        put_image(&self.rt, image)
     }
 }
 
-/// Writes an image beside the old one, and then takes the old one's place.
+/// `desk.lock`, open and locked. Fails at once where it is locked elsewhere.
+fn take_lock(rt: &HostRuntime) -> io::Result<File> {
+    let file = open_apart(rt, &as_it_is(), "desk.lock")?;
+    file.try_lock()?;
+    Ok(file)
+}
+
+/// Writes an image beside the old one, brings it to the disk, and lets it take the old one's place. Where it
+/// fails, the old image stands, or the new one does.
+///
+/// The folder is synced before the rename too, so that archive files that were made in this run have their
+/// names on the disk before an image speaks of them.
 fn put_image(rt: &HostRuntime, image: &[u8]) -> io::Result<()> {
-    fs::write(rt, "desk.new", image)?;
-    fs::rename(rt, "desk.new", "desk.psi")
+    let mut file = open_apart(rt, &anew(), "desk.new")?;
+    file.write_all(image)?;
+    file.sync_all()?;
+    sync_folder(rt)?;
+    fs::rename(rt, "desk.new", "desk.psi")?;
+    sync_folder(rt)
+}
+
+/// Brings the names of the working folder's files to the disk.
+fn sync_folder(rt: &HostRuntime) -> io::Result<()> {
+    let mut how = OpenOptions::new();
+    how.read(true);
+    open_apart(rt, &how, ".")?.sync_all()
 }
 
 impl Desk for DeskFile {
-    ghost use Rattle.std.specs.Prelude.{◌≡◌, List, ℕ, Option, Some, None, false, IfOk, MatchOption, IsTrue, IsErr, IsErrOf};
+    ghost use Rattle.std.specs.Prelude.{◌≡◌, List, ℕ, Option, Some, None, false, OnOk, OnSome, IsSome, IfOk, MatchOption, IsTrue, IsErr, IsErrOf};
     ghost use Rattle.pot_outside.specs.Counts.{Caused};
     ghost use Rattle.pot_outside.specs.Streams.{Replaces};
 
@@ -37,10 +107,13 @@ impl Desk for DeskFile {
 
     ghost faults = { λ d. d.faults };
 
-    fn read(&mut self) -> Result<Option<Vec<u8>>, DeskFault> {
-        match fs::read(&self.rt, "desk.psi") {
-            Ok(image) => Ok(Some(image)),
-            Err(e) if e.kind() == ErrorKind::NotFound => Ok(None),
+    fn read(&mut self) -> Result<Option<Vec<u8>>, DeskFault>
+        ensures cause { Caused self.old.faults self.new.faults (IsErrOf result DeskFault.Failed) }
+        ensures locked { OnOk result (IsSome self.new.lock) }
+        ensures keeps { OnSome self.old.lock (self.new.lock ≡ self.old.lock) }
+    {
+        match self.load() {
+            Ok(image) => Ok(image),
             Err(e) if e.kind() == ErrorKind::OutOfMemory => Err(DeskFault::NoMemory),
             Err(_) => {
                 count_fault(&mut self.faults);
@@ -49,8 +122,12 @@ impl Desk for DeskFile {
         }
     }
 
-    fn replace(&mut self, image: &[u8]) -> Result<(), Failed> {
-        match put_image(&self.rt, image) {
+    fn replace(&mut self, image: &[u8]) -> Result<(), Failed>
+        ensures cause { Caused self.old.faults self.new.faults (IsErr result) }
+        ensures locked { OnOk result (IsSome self.new.lock) }
+        ensures keeps { OnSome self.old.lock (self.new.lock ≡ self.old.lock) }
+    {
+        match self.put(image) {
             Ok(()) => Ok(()),
             Err(_) => {
                 count_fault(&mut self.faults);

@@ -4,12 +4,14 @@ ghost use Rattle.std.specs.BTreeSet.{contains};
 
 use crate::archive::FileArchive;
 use crate::faults::count_fault;
+use crate::opening::{as_it_is, open_apart};
 use pot_outside::{Archive, Failed, Room, RoomFault};
 use std::collections::BTreeSet;
-use std::fs::OpenOptions;
 
 /// The working folder, with the archive of number N in its file `archive-N`. A file that is missing is made,
-/// and is an empty archive.
+/// and is an empty archive. A link of that name is followed and stays: the archive is where it leads.
+///
+/// An archive that is given back is on the disk after `Ok`.
 #[derive(Drop)]
 pub struct Folder {
     rt: HostRuntime,
@@ -38,9 +40,7 @@ fn open_archive(rt: &HostRuntime, number: u32) -> Result<FileArchive, RoomFault>
     let Ok(name) = format!(in rt.alloc(); "archive-{number}") else {
         return Err(RoomFault::NoMemory);
     };
-    let mut options = OpenOptions::new();
-    options.read(true).write(true).create(true);
-    match options.open(rt, name.as_str()) {
+    match open_apart(rt, &as_it_is(), name.as_str()) {
         Ok(file) => Ok(FileArchive::new(file)),
         Err(_) => Err(RoomFault::Failed),
     }
@@ -76,11 +76,12 @@ impl Room for Folder {
         }
     }
 
-    fn give(&mut self, number: u32, archive: FileArchive) -> Result<(), Failed> {
+    fn give(&mut self, number: u32, mut archive: FileArchive) -> Result<(), Failed> {
         self.out.remove(&number);
+        let synced = archive.sync();
         if archive.marks().faults > 0 {
             count_fault(&mut self.faults);
         }
-        Ok(())
+        synced
     }
 }

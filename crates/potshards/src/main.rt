@@ -8,18 +8,23 @@
 //!    and rises in each call that answers `Failed`;
 //! 2. a `Folder` keeps the numbers of the archives that are out, and an archive is handed out once until it
 //!    is given back;
-//! 3. an `Output` whose descriptor was closed at the start writes to no file that took its number.
+//! 3. no archive file has the number of a standard stream (`FileArchive`), and no other file is opened under one
+//!    (`open_apart`), so that a stream that was closed at the start is no file of ours;
+//! 4. a `DeskFile` reads and writes under its lock alone, which it keeps.
 #![tactic(auto)]
 
+mod advice;
 mod archive;
 mod desk;
 mod faults;
 mod folder;
 mod gate;
+mod opening;
 mod streams;
 #[cfg(test)]
 mod tests;
 
+use advice::advice_at;
 use desk::DeskFile;
 use folder::Folder;
 use gate::NoGate;
@@ -28,6 +33,7 @@ use rand::rngs::SysRng;
 use rand_core::TryRng;
 use std::io::ErrorKind;
 use std::process::ExitCode;
+use std::sync::Wait;
 use std::{env, io};
 use streams::{Input, Output};
 
@@ -54,18 +60,20 @@ fn words(rt: &HostRuntime) -> Option<Vec<String>> {
     }
 }
 
-fn main(rt: HostRuntime) -> ExitCode {
-    let Ok(seed) = drawn(&rt) else {
-        return ExitCode::from(SOURCE_FAULT);
+/// One session on the real objects, and its exit status. `turns` is the handle for waiting.
+fn session<X: Wait>(rt: &HostRuntime, turns: &X) -> u8 {
+    let Ok(seed) = drawn(rt) else {
+        return SOURCE_FAULT;
     };
-    let Some(words) = words(&rt) else {
-        return ExitCode::from(NO_MEMORY);
+    let Some(words) = words(rt) else {
+        return NO_MEMORY;
     };
-    let mut input = Input::new(&rt);
-    let mut output = Output::new(&rt);
-    let mut room = Folder::new(&rt);
-    let mut desk = DeskFile::new(&rt);
-    let status = run(
+    let mut input = Input::new(rt);
+    let mut output = Output::new(rt);
+    let mut room = Folder::new(rt);
+    let mut desk = DeskFile::new(rt);
+    run(
+        turns,
         rt.alloc(),
         &words,
         seed,
@@ -74,6 +82,14 @@ fn main(rt: HostRuntime) -> ExitCode {
         &mut room,
         &mut desk,
         &NoGate,
-    );
+    )
+}
+
+fn main(rt: HostRuntime) -> ExitCode {
+    let status = session(&rt, &rt);
+    if let Some(line) = advice_at(status) {
+        // A line that cannot be written changes nothing of the session.
+        let _ = eprintln!(rt; "{line}");
+    }
     ExitCode::from(status)
 }

@@ -48,8 +48,6 @@ impl Source for Input {
 #[derive(Drop)]
 pub struct Output {
     stream: Stdout,
-    /// Whether it was open at the start. Where it was not, a file that is opened later takes its number.
-    open: bool,
     faults: u64,
 }
 
@@ -57,11 +55,8 @@ impl Output {
     pub fn new(rt: &HostRuntime) -> Output
         ensures { result.faults ≡ 0 }
     {
-        let mut stream = rt.stdout();
-        let open = stream.write(&[]).is_ok();
         Output {
-            stream,
-            open,
+            stream: rt.stdout(),
             faults: 0,
         }
     }
@@ -72,9 +67,6 @@ impl Output {
         ensures some { IfSome result (λ n. 0 < length from.now → 0 < n) }
         ensures faults { self.new.faults ≡ self.old.faults }
     {
-        if !self.open {
-            return None;
-        }
         match self.stream.write(from) {
             Ok(0) if !from.is_empty() => None,
             Ok(count) => Some(count),

@@ -1,9 +1,11 @@
+use crate::advice::advice_at;
 use crate::desk::DeskFile;
 use crate::drawn;
 use crate::folder::Folder;
 use pot_bytes::Block;
-use pot_outside::{Archive, Desk, Held, Room};
+use pot_outside::{Archive, Desk, DeskFault, Held, Room};
 use std::fs;
+use std::os::unix::fs::symlink;
 use std::test::Fail;
 
 #[test]
@@ -46,21 +48,6 @@ fn an_archive_in_a_file(rt: HostRuntime) -> Result<(), Fail> {
 }
 
 #[test]
-fn an_image_in_a_file(rt: HostRuntime) -> Result<(), Fail> {
-    let mut desk = DeskFile::new(&rt);
-    assert!(rt; desk.read().is_ok_and(|image| image.is_none()));
-    let images: [&[u8]; 3] = [b"first", b"", b"the third image"];
-    for image in images {
-        assert!(rt; desk.replace(image).is_ok());
-        let found = desk.read()?.ok_or("no image")?;
-        assert!(rt; found.as_slice() == image);
-    }
-    assert!(rt; fs::read(&rt, "desk.new").is_err());
-    fs::remove_file(&rt, "desk.psi")?;
-    Ok(())
-}
-
-#[test]
 fn an_archive_that_is_taken_again_has_its_blocks(rt: HostRuntime) -> Result<(), Fail> {
     let mut room = Folder::new(&rt);
     let mut archive = room.take(8)?;
@@ -77,23 +64,132 @@ fn an_archive_that_is_taken_again_has_its_blocks(rt: HostRuntime) -> Result<(), 
 }
 
 #[test]
-fn two_seeds_differ(rt: HostRuntime) -> Result<(), Fail> {
-    let first = drawn(&rt)?;
-    let second = drawn(&rt)?;
-    assert!(rt; first != second);
+fn a_link_is_followed_and_stays(rt: HostRuntime) -> Result<(), Fail> {
+    symlink(&rt, "elsewhere", "archive-9")?;
+    let mut room = Folder::new(&rt);
+    let mut archive = room.take(9)?;
+    let written = archive.write(0, &Block::from_bytes([0x77; 1024])).is_ok();
+    let given = room.give(9, archive).is_ok();
+    let stays = fs::symlink_metadata(&rt, "archive-9")?.is_symlink();
+    let bytes = fs::read(&rt, "elsewhere")?;
+    fs::remove_file(&rt, "archive-9")?;
+    fs::remove_file(&rt, "elsewhere")?;
+    assert!(rt; written && given && stays);
+    assert_eq!(rt; bytes.len(), 1025);
+    assert!(rt; bytes.get(1024).copied() == Some(0x77));
+    Ok(())
+}
+
+/// What is written to `/dev/null` is taken, and a sync of it fails.
+#[test]
+fn an_archive_that_is_not_synced_is_a_fault(rt: HostRuntime) -> Result<(), Fail> {
+    symlink(&rt, "/dev/null", "archive-10")?;
+    let mut room = Folder::new(&rt);
+    let mut archive = room.take(10)?;
+    let written = archive.write(0, &Block::zero()).is_ok();
+    let given = room.give(10, archive).is_ok();
+    fs::remove_file(&rt, "archive-10")?;
+    assert!(rt; written && !given);
+    Ok(())
+}
+
+/// A new desk, and no file of an earlier one.
+fn new_desk(rt: &HostRuntime) -> DeskFile {
+    for name in ["desk.psi", "desk.new", "desk.lock"] {
+        let _ = fs::remove_file(rt, name);
+    }
+    DeskFile::new(rt)
+}
+
+/// Whether a desk reads just this image.
+fn has_image(desk: &mut DeskFile, image: &[u8]) -> bool {
+    match desk.read() {
+        Ok(Some(found)) => found.as_slice() == image,
+        _ => false,
+    }
+}
+
+#[test]
+fn an_image_in_a_file(rt: HostRuntime) -> Result<(), Fail> {
+    let mut desk = new_desk(&rt);
+    assert!(rt; desk.read().is_ok_and(|image| image.is_none()));
+    // of a run that was stopped
+    fs::write(&rt, "desk.new", "longer than each image that is to come")?;
+    let images: [&[u8]; 3] = [b"first", b"", b"the third image"];
+    for image in images {
+        assert!(rt; desk.replace(image).is_ok());
+        assert!(rt; has_image(&mut desk, image));
+    }
+    assert!(rt; fs::read(&rt, "desk.new").is_err());
+    assert!(rt; fs::read(&rt, "desk.lock")?.is_empty());
+    fs::remove_file(&rt, "desk.psi")?;
+    fs::remove_file(&rt, "desk.lock")?;
     Ok(())
 }
 
 #[test]
+fn a_second_desk_is_refused_until_the_first_is_gone(rt: HostRuntime) -> Result<(), Fail> {
+    let mut first = new_desk(&rt);
+    let mut second = DeskFile::new(&rt);
+    assert!(rt; first.replace(b"of the first").is_ok());
+    assert!(rt; second.read() == Err(DeskFault::Failed));
+    assert!(rt; second.replace(b"of the second").is_err());
+    assert!(rt; has_image(&mut first, b"of the first"));
+    drop(first);
+    assert!(rt; has_image(&mut second, b"of the first"));
+    assert!(rt; second.replace(b"of the second").is_ok());
+    assert!(rt; DeskFile::new(&rt).read() == Err(DeskFault::Failed));
+    fs::remove_file(&rt, "desk.psi")?;
+    fs::remove_file(&rt, "desk.lock")?;
+    Ok(())
+}
+
+/// `desk.new` is a folder, is full, or cannot be synced.
+#[test]
 fn an_image_that_is_not_replaced_stays(rt: HostRuntime) -> Result<(), Fail> {
-    let mut desk = DeskFile::new(&rt);
+    let mut desk = new_desk(&rt);
     assert!(rt; desk.replace(b"old").is_ok());
     fs::create_dir(&rt, "desk.new")?;
     let refused = desk.replace(b"new").is_err();
-    let found = desk.read()?.ok_or("no image")?;
     fs::remove_dir(&rt, "desk.new")?;
-    fs::remove_file(&rt, "desk.psi")?;
     assert!(rt; refused);
-    assert!(rt; found.as_slice() == b"old".as_slice());
+    for device in ["/dev/full", "/dev/null"] {
+        symlink(&rt, device, "desk.new")?;
+        let refused = desk.replace(b"new").is_err();
+        fs::remove_file(&rt, "desk.new")?;
+        assert!(rt; refused, "at {device}");
+    }
+    assert!(rt; has_image(&mut desk, b"old"));
+    fs::remove_file(&rt, "desk.psi")?;
+    fs::remove_file(&rt, "desk.lock")?;
+    Ok(())
+}
+
+#[test]
+fn each_status_that_leaves_something_to_do_has_its_line(rt: HostRuntime) {
+    let lines = [
+        (4, "standard input", "an input that can be read"),
+        (5, "standard output", "an output that is open and has room"),
+        (6, "the desk", "no other run works in this folder"),
+        (8, "archive file", "each archive-N can be read and written"),
+        (70, "memory ran out", "more memory"),
+    ];
+    for (status, happened, to_do) in lines {
+        let line = advice_at(status).unwrap_or("");
+        assert!(rt;
+            line.contains(happened) && line.contains(to_do),
+            "at {status}"
+        );
+    }
+    for status in [0, 1, 2, 3, 7, 9, 10, 11] {
+        assert!(rt; advice_at(status).is_none(), "at {status}");
+    }
+}
+
+#[test]
+fn two_seeds_differ(rt: HostRuntime) -> Result<(), Fail> {
+    let first = drawn(&rt)?;
+    let second = drawn(&rt)?;
+    assert!(rt; first != second);
     Ok(())
 }

@@ -1,0 +1,65 @@
+-- What the commands of a session ask for, and what they bring.
+use Rattle.std.proofs.Common.{◌≡◌, ◌≢◌, ℕ, zero, suc, Bool, true, false, List, [], ◌∷◌, ◌++◌, refl, ap, sym, ◌∙◌, arith, length, get_or, ◌<◌}
+use Rattle.std.specs.List.{AllByRecursion}
+use Rattle.std.specs.Prelude.{Contains}
+use Rattle.pot_script.specs.declared.command.Command.{Command}
+use Rattle.pot_script.specs.declared.command.Command.TheVariants as command
+use Rattle.pot_machine.specs.declared.entry.Entry.{Entry}
+use Rattle.pot_machine.specs.declared.entry.Entry.TheVariants.{Put, Skip, Seen, Gone, Broke, Fault, Begin, Hop, Mended, GaveUp, Oddly, Stuck, MoveBegin, Moved, MoveEnd, Swapped, Counted, Put2}
+use Rattle.pot_group.specs.Arrivals.{arrival, arrivals}
+use Rattle.pot_replies.specs.Jobs.{EachIs}
+use Rattle.pot_shared.specs.Ready.{GroupPasses}
+use Rattle.pot_shared.specs.Catalogs.{IndexPasses}
+use Rattle.pot_store.specs.Works.{known, gained}
+use Rattle.pot_commands.specs.Ends.{BringNone, brings_none as is_none}
+use Rattle.pot_commands.specs.Rows.{IsWorked}
+use Rattle.pot_session.specs.Commands.{IsStep}
+use Rattle.pot_session.specs.Groups.{BringsNone}
+
+-- a line that is worked and does not end the script is one that the commands work
+is_worked : (c : Command) → IsStep c → IsWorked c
+is_worked (command.Store name file) s = tt
+is_worked (command.Fetch name) s = tt
+is_worked command.List s = tt
+is_worked command.Status s = tt
+is_worked (command.Scrub group) s = absurd (cc (s.1))
+is_worked (command.Repair group) s = absurd (cc (s.1))
+is_worked (command.Replace from to) s = absurd (cc (s.1))
+is_worked (command.Migrate from to) s = absurd (cc (s.1))
+is_worked (command.Renew name geometry) s = absurd (cc (s.1))
+is_worked (command.Together count) s = absurd (cc (s.1))
+is_worked command.End s = absurd (cc (s.1))
+is_worked command.Quit s = absurd (s.0 refl)
+
+pub are_worked : (cs : List Command) → AllByRecursion IsStep cs → AllByRecursion IsWorked cs
+are_worked [] s = tt
+are_worked (c ∷ cs) s = (is_worked c s.0, are_worked cs s.1)
+
+-- an entry that brings no archive
+no_arrival : (e : Entry) → is_none e ≡ true → arrival e ≡ []
+no_arrival (MoveBegin job c to) is = absurd (cc is)
+no_arrival (Swapped job c to) is = absurd (cc is)
+no_arrival (Put job s c d p kept) is = refl
+no_arrival (Put2 job s c d p q kept kept2) is = refl
+no_arrival (Skip job s) is = refl
+no_arrival (Seen job s c) is = refl
+no_arrival (Gone job s c) is = refl
+no_arrival (Broke job s c) is = refl
+no_arrival (Fault job s c) is = refl
+no_arrival (Begin job s c) is = refl
+no_arrival (Hop job s c) is = refl
+no_arrival (Mended job s c) is = refl
+no_arrival (GaveUp job s c o) is = refl
+no_arrival (Oddly job s c f) is = refl
+no_arrival (Stuck job s c o) is = refl
+no_arrival (Moved job s c k) is = refl
+no_arrival (MoveEnd job c) is = refl
+no_arrival (Counted job) is = refl
+
+no_arrivals : (es : List Entry) → EachIs is_none es → arrivals es ≡ []
+no_arrivals [] each = refl
+no_arrivals (e ∷ es) each =
+    ap (λ l. l ++ arrivals es) (no_arrival e (each e (0, omega arith, refl))) ∙ no_arrivals es (λ x has. each x (suc has.0, (let l = has.1 in omega (arith, l)), has.2))
+
+pub brings_none : (old new : GroupPasses) (index_old index_new : IndexPasses) → BringNone (known old index_old) (known new index_new) → BringsNone old new index_old index_new
+brings_none old new index_old index_new none sole index_sole g = no_arrivals (gained old new g) (none (record { groups = sole; index = index_sole }) g)

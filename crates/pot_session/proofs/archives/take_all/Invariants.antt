@@ -1,0 +1,15 @@
+use Rattle.std.proofs.Common.{◌≡◌, ◌≤◌, ℕ, take}
+use Rattle.std.specs.Prelude.{vec_capacity}
+use Rattle.pot_outside.specs.Counts.{Caused}
+use Rattle.pot_group.specs.Shelves.{numbers_of}
+use Rattle.pot_session.specs.Holding.{AreOut, Untouched}
+use Rattle.pot_session.proofs.archives.take_all.Given as goal
+
+abbrev pub invariant-loop-number : goal.invariant-loop-number
+invariant-loop-number g l = record {
+  taken : numbers_of l.hand.items ≡ take l.number-index l.numbers;
+  out : AreOut (g.R.Room.out l.room) (take l.number-index l.numbers);
+  untouched : Untouched l.numbers (g.R.Room.means l.initial.room) (g.R.Room.means l.room);
+  space : vec_capacity l.hand ≡ vec_capacity l.initial.hand;
+  later : g.R.Room.faults l.initial.room ≤ g.R.Room.faults l.room;
+}

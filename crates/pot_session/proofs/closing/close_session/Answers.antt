@@ -1,0 +1,36 @@
+use Rattle.std.proofs.Common.{refl, sym, ap, subst, ◌∙◌}
+use Rattle.pot_session.specs.Holding.{times, AreOut}
+use Rattle.pot_session.specs.Serving.{Closes, IsCloseStop}
+use Rattle.pot_session.proofs.Countable.{countable}
+use Rattle.pot_session.proofs.CloseImages.{close_told, close_stop, room_failure, desk_failure}
+use Rattle.pot_session.proofs.closing.close_session.Goals as goal
+
+pub give_hand-given-requires-after_bounds : goal.give_hand-given-requires-after_bounds
+give_hand-given-requires-after_bounds g c = λ bounds within. subst (AreOut (g.R.Room.out c.args.room.now)) (sym c.end_vault-remains.ensures.hand) c.requires.out
+
+pub keep_image-kept-requires : goal.keep_image-kept-requires
+keep_image-kept-requires g c =
+    countable _ _ refl c.end_vault-remains.ensures.countable.0 c.end_vault-remains.ensures.countable.1 c.end_vault-remains.ensures.countable.2
+
+pub returns-clause-untouched : goal.returns-clause-untouched
+returns-clause-untouched g c n none = c.give_hand-given.ensures.untouched n (ap (times n) c.end_vault-remains.ensures.hand ∙ none)
+
+pub returns-clause-told : goal.returns-clause-told
+returns-clause-told g c told first begun held =
+    subst (λ r. Closes first (g.D.Desk.held c.keep_image-kept.new.desk) r) (sym c.first_failure.ensures)
+    (close_told _ _ _ first _ _ _ c.give_hand-given.result c.keep_image-kept.result (c.keep_image-kept.ensures.told told) held begun c.requires.rack c.end_vault-remains.ensures.tables c.end_vault-remains.ensures.records)
+
+pub returns-clause-which : goal.returns-clause-which
+returns-clause-which g c = subst IsCloseStop (sym c.first_failure.ensures) (close_stop c.give_hand-given.result c.keep_image-kept.result c.keep_image-kept.ensures.which)
+
+pub returns-clause-room : goal.returns-clause-room
+returns-clause-room g c = record {
+  later = c.give_hand-given.ensures.cause.later;
+  rose = λ e. c.give_hand-given.ensures.cause.rose (room_failure c.give_hand-given.result c.keep_image-kept.result c.keep_image-kept.ensures.which (sym c.first_failure.ensures ∙ e));
+}
+
+pub returns-clause-desk : goal.returns-clause-desk
+returns-clause-desk g c = record {
+  later = c.keep_image-kept.ensures.cause.later;
+  rose = λ e. c.keep_image-kept.ensures.cause.rose (desk_failure c.give_hand-given.result c.keep_image-kept.result (sym c.first_failure.ensures ∙ e));
+}

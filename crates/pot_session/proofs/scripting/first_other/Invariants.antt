@@ -1,0 +1,6 @@
+use Rattle.std.proofs.Common.{◌≡◌, ◌+◌, drop}
+use Rattle.pot_session.specs.Commands.{other_line}
+use Rattle.pot_session.proofs.scripting.first_other.Given as goal
+
+abbrev pub invariant-loop-index : goal.invariant-loop-index
+invariant-loop-index l = other_line 1 l.commands ≡ other_line (l.index + 1) (drop l.index l.commands)

@@ -1,0 +1,24 @@
+use Rattle.std.proofs.Common.{refl, map, subst, arith}
+use Rattle.std.specs.String.{string_bytes}
+use Rattle.pot_session.specs.Tasks.{Asks}
+use Rattle.pot_session.specs.Runs.{Makes, Session}
+use Rattle.pot_session.proofs.TopLemmas.{init_source, init_room}
+use Rattle.pot_session.proofs.top.answer.Goals as goal
+
+pub returns-in-Ok-Init-clause-runs : goal.returns-in-Ok-Init-clause-runs
+returns-in-Ok-Init-clause-runs g c = Makes _ (subst (Asks (map string_bytes c.args.words.now)) c.in-Ok-Init.field-0-is c.in-Ok-Init.ensures).0 c.init.ensures.inits (λ n. refl)
+
+pub returns-in-Ok-Init-clause-source : goal.returns-in-Ok-Init-clause-source
+returns-in-Ok-Init-clause-source g c = record {
+  later = omega arith;
+  rose = λ e. absurd (init_source _ _ _ c.init.ensures.inits.made c.init.result c.init.ensures.inits.which c.init.ensures.inits.answers e);
+}
+
+pub returns-in-Ok-Init-clause-room : goal.returns-in-Ok-Init-clause-room
+returns-in-Ok-Init-clause-room g c = record {
+  later = omega arith;
+  rose = λ e. absurd (init_room _ _ _ c.init.ensures.inits.made c.init.result c.init.ensures.inits.which c.init.ensures.inits.answers e);
+}
+
+pub returns-in-Ok-Run-clause-runs : goal.returns-in-Ok-Run-clause-runs
+returns-in-Ok-Run-clause-runs g c = Session _ (subst (Asks (map string_bytes c.args.words.now)) c.in-Ok-Run.field-0-is c.in-Ok-Run.ensures) c.hold.ensures.holds

@@ -1,6 +1,0 @@
-use Rattle.std.proofs.Common.{◌≡◌, ◌+◌, drop}
-use Rattle.pot_session.specs.Plain.{other_line}
-use Rattle.pot_session.proofs.top.first_other.Given as goal
-
-abbrev pub invariant-loop-index : goal.invariant-loop-index
-invariant-loop-index l = other_line 1 l.commands ≡ other_line (l.index + 1) (drop l.index l.commands)

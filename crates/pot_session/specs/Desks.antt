@@ -1,0 +1,84 @@
+-- What a session reads from its desk and writes there.
+use Rattle.std.specs.Prelude.{◌≡◌, ◌≢◌, ◌<◌, ◌+◌, ◌-◌, ◌^◌, ℕ, List, [], Option, Some, None, Result, Ok, Err, replicate}
+use Rattle.pot_outside.specs.Streams.{IsLeft}
+use Rattle.pot_image.specs.declared.image.Image.{Image}
+use Rattle.pot_image.specs.declared.fault.ImageFault.TheVariants as faults
+use Rattle.pot_image.specs.Images.{Contents, AnswersImage}
+use Rattle.pot_session.specs.declared.stop.Stop.{Stop}
+use Rattle.pot_session.specs.declared.stop.Stop.TheVariants as stop
+
+-- WHAT IS READ
+
+-- One more session may begin: the rack has one parity column, and the number of the image's session is not the last one.
+pub record GoesOn (i : Image) : Type 0 where
+  pub parity : i.rack.parity ≡ 1
+  pub session : i.session < 2 ^ 32 - 1
+
+-- why the bytes are no image from which a session may begin
+abbrev pub RefusesBytes : List ℕ → Stop → Type 0
+RefusesBytes bytes stop.Cut = AnswersImage bytes (Err faults.Cut)
+RefusesBytes bytes (stop.Trailer kept computed) = AnswersImage bytes (Err (faults.Trailer kept computed))
+RefusesBytes bytes (stop.Form place) = AnswersImage bytes (Err (faults.Form place))
+RefusesBytes bytes stop.SecondParity = (i : Image) × AnswersImage bytes (Ok i) × (i.rack.parity ≢ 1)
+RefusesBytes bytes stop.Spent = (i : Image) × AnswersImage bytes (Ok i) × (i.session ≡ 2 ^ 32 - 1)
+RefusesBytes bytes stop.NoMemory = Unit {0}
+RefusesBytes bytes _ = ⊥
+
+-- the bytes are an image from which a session may begin, or it is said why not
+abbrev pub Opens : List ℕ → Result Image Stop → Type 0
+Opens bytes (Ok i) = AnswersImage bytes (Ok i) × GoesOn i
+Opens bytes (Err s) = RefusesBytes bytes s
+
+-- The desk holds this image.
+abbrev pub HoldsImage : Option (List ℕ) → Image → Type 0
+HoldsImage held i = (bytes : List ℕ) × (held ≡ Some bytes) × AnswersImage bytes (Ok i)
+
+-- why the desk holds no image from which a session may begin
+abbrev pub RefusesDesk : Option (List ℕ) → Stop → Type 0
+RefusesDesk held stop.NoImage = held ≡ None
+RefusesDesk held stop.DeskFault = Unit {0}
+RefusesDesk held stop.NoMemory = Unit {0}
+RefusesDesk held s = (bytes : List ℕ) × (held ≡ Some bytes) × RefusesBytes bytes s
+
+-- why no image may come from a desk, whether it tells its image or not
+abbrev pub IsDeskStop : Stop → Type 0
+IsDeskStop stop.NoImage = Unit {0}
+IsDeskStop stop.Cut = Unit {0}
+IsDeskStop (stop.Trailer kept computed) = Unit {0}
+IsDeskStop (stop.Form place) = Unit {0}
+IsDeskStop stop.SecondParity = Unit {0}
+IsDeskStop stop.Spent = Unit {0}
+IsDeskStop stop.DeskFault = Unit {0}
+IsDeskStop stop.NoMemory = Unit {0}
+IsDeskStop _ = ⊥
+
+-- The desk's image was read, or it is said why not. `told` is whether the desk tells its image.
+abbrev pub OpensDesk : Type 0 → Option (List ℕ) → Result Image Stop → Type 0
+OpensDesk told held (Ok i) = GoesOn i × (told → HoldsImage held i)
+OpensDesk told held (Err s) = told → RefusesDesk held s
+
+-- WHAT IS WRITTEN
+
+-- the image with which the session after this one begins
+abbrev pub begun : Contents → Contents
+begun v = record {
+  session = v.session + 1;
+  rack = v.rack;
+  tables = v.tables;
+  records = v.records;
+  group_logs = replicate v.rack.groups [];
+  index_log = [];
+}
+
+-- why a desk did not take an image, whether it tells its image or not
+abbrev pub IsKeepStop : Stop → Type 0
+IsKeepStop stop.DeskFault = Unit {0}
+IsKeepStop stop.NoMemory = Unit {0}
+IsKeepStop _ = ⊥
+
+-- The desk holds these bytes now. Where it failed it holds them, what it held before or nothing, and for want of memory what it held before.
+abbrev pub Keeps : Option (List ℕ) → Option (List ℕ) → List ℕ → Result (Unit {0}) Stop → Type 0
+Keeps before after bytes (Ok u) = after ≡ Some bytes
+Keeps before after bytes (Err stop.DeskFault) = IsLeft before bytes after
+Keeps before after bytes (Err stop.NoMemory) = after ≡ before
+Keeps before after bytes (Err _) = ⊥

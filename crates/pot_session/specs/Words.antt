@@ -1,7 +1,0 @@
--- The words of the command line.
-use Rattle.std.specs.Prelude.{◌≡◌, List, [], ◌∷◌, map, codes, String, string_bytes}
-use Rattle.std.specs.Global.{Global}
-
--- the one word `run`
-abbrev pub IsRun : List (String Global) → Type 0
-IsRun words = map string_bytes words ≡ codes "run" ∷ []

@@ -1,0 +1,145 @@
+//! How a session closes.
+
+ghost use Rattle.std.specs.Prelude.{◌≡◌, ◌<◌, ◌≤◌, ◌^◌, ℕ, [], IsTrue, IsErr, IsErrOf, false, length, vec_capacity, map, flat_map, Some};
+ghost use Rattle.pot_outside.specs.Counts.{Caused};
+ghost use Rattle.pot_image.specs.Images.{Contents};
+ghost use Rattle.pot_image.specs.Spelling.{image_bytes};
+ghost use Rattle.pot_group.specs.Beginning.{archives_in};
+ghost use Rattle.pot_group.specs.Shelves.{numbers_of};
+ghost use Rattle.pot_rows.specs.Ends.{HasAllParts};
+ghost use Rattle.pot_shared.specs.Ready.{AreReady};
+ghost use Rattle.pot_shared.specs.Catalogs.{IsIndexReady};
+ghost use Rattle.pot_shared.specs.Sharing.{HasAllButKept};
+ghost use Rattle.pot_session.specs.Groups.{AreServed, tables_read, records_read};
+ghost use Rattle.pot_session.specs.Holding.{AreOut, Untouched};
+ghost use Rattle.pot_session.specs.Serving.{HasSpaces, AreShort, LeaveTables, LeavesRecords, Closes, still, IsBegun, IsCloseStop, first_failure};
+
+use crate::archives::give_all;
+use crate::desk::keep_image;
+use crate::groups::{Remains, end_groups};
+use crate::stop::Stop;
+use pot_bytes::Rack;
+use pot_image::Image;
+use pot_index::{IndexEnded, IndexEntry, Record};
+use pot_outside::{Archive, Desk, Failed, Room, Shelf};
+use pot_shared::{Closed, Passes, Vault};
+use std::alloc::Global;
+
+/// A session that was opened.
+pub struct Opened<A: Archive> {
+    pub session: u32,
+    pub rack: Rack,
+    pub vault: Vault<A>,
+    pub passes: Passes<A>,
+    /// Room for what remains at the end.
+    pub remains: Remains<A>,
+}
+
+/// What a vault was.
+struct Ended<A: Archive> {
+    remains: Remains<A>,
+    records: Vec<Record>,
+    log: Vec<IndexEntry>,
+}
+
+/// Ends a vault whose commands brought no archive: its groups' tables, logs and archives come to what remains.
+fn end_vault<A: Archive>(vault: Vault<A>, passes: Passes<A>, remains: Remains<A>) -> Ended<A>
+    requires served { AreServed passes.groups passes.index }
+    requires ready { AreReady vault.rack vault.groups passes.groups }
+    requires index { IsIndexReady vault.rack vault.groups vault.index passes.index }
+    requires parts { HasAllButKept passes.groups × HasAllParts passes.index }
+    requires places { (vault.members.items ≡ []) × (length vault.groups ≤ vec_capacity vault.members) × (vault.catalogs.items ≡ []) × (1 ≤ vec_capacity vault.catalogs) }
+    requires fresh { (remains.tables.items ≡ []) × (remains.logs.items ≡ []) × (remains.hand.items ≡ []) }
+    requires spaces { HasSpaces (length (tables_read passes.groups)) (length (flat_map archives_in (tables_read passes.groups))) (vec_capacity remains.tables) (vec_capacity remains.logs) (vec_capacity remains.hand) }
+    ensures hand { numbers_of result.remains.hand.items ≡ flat_map archives_in (tables_read passes.groups) }
+    ensures tables { LeaveTables (tables_read passes.groups) (map (λ v. v.items) result.remains.logs.items) (map still result.remains.tables.items) }
+    ensures records { LeavesRecords vault.rack (records_read passes.index) result.log.items result.records.items }
+    ensures countable { (length result.records.items < 2 ^ 32) × AreShort (map (λ v. v.items) result.remains.logs.items) × (length result.log.items < 2 ^ 32) }
+{
+    let Closed { members, index } = vault.close(passes);
+    let mut remains = remains;
+    end_groups(members, &mut remains);
+    let IndexEnded { records, log } = index.end();
+    Ended {
+        remains,
+        records,
+        log,
+    }
+}
+
+/// Closes a session: ends its vault, gives all archives back, and puts the image of the close in the place of the desk's. Each is
+/// tried, whatever became of those before.
+///
+/// # Errors
+/// The first failure: `RoomFault` or `DeskFault` only where that object's count of faults rose, or `NoMemory`. No archive is out
+/// then either.
+pub fn close_session<R: Room, D: Desk>(
+    alloc: Global,
+    opened: Opened<R::A>,
+    room: &mut R,
+    desk: &mut D,
+) -> Result<(), Stop>
+    requires served { AreServed opened.passes.groups opened.passes.index }
+    requires ready { AreReady opened.vault.rack opened.vault.groups opened.passes.groups }
+    requires index { IsIndexReady opened.vault.rack opened.vault.groups opened.vault.index opened.passes.index }
+    requires parts { HasAllButKept opened.passes.groups × HasAllParts opened.passes.index }
+    requires places { (opened.vault.members.items ≡ []) × (length opened.vault.groups ≤ vec_capacity opened.vault.members) × (opened.vault.catalogs.items ≡ []) × (1 ≤ vec_capacity opened.vault.catalogs) }
+    requires fresh { (opened.remains.tables.items ≡ []) × (opened.remains.logs.items ≡ []) × (opened.remains.hand.items ≡ []) }
+    requires spaces { HasSpaces (length (tables_read opened.passes.groups)) (length (flat_map archives_in (tables_read opened.passes.groups))) (vec_capacity opened.remains.tables) (vec_capacity opened.remains.logs) (vec_capacity opened.remains.hand) }
+    requires rack { opened.rack ≡ opened.vault.rack }
+    requires out { AreOut (R.out room.old) (flat_map archives_in (tables_read opened.passes.groups)) }
+    ensures home { (n : ℕ) → R.out room.new n ≡ false }
+    ensures untouched { Untouched (flat_map archives_in (tables_read opened.passes.groups)) (R.means room.old) (R.means room.new) }
+    ensures told { IsTrue D.tells → (first : Contents) → IsBegun first opened.session opened.rack (tables_read opened.passes.groups) (records_read opened.passes.index) → D.held desk.old ≡ Some (image_bytes first) → Closes first (D.held desk.new) result }
+    ensures which { IsCloseStop result }
+    ensures room { Caused (R.faults room.old) (R.faults room.new) (IsErrOf result Stop.RoomFault) }
+    ensures desk { Caused (D.faults desk.old) (D.faults desk.new) (IsErrOf result Stop.DeskFault) }
+{
+    let Opened {
+        session,
+        rack,
+        vault,
+        passes,
+        remains,
+    } = opened;
+    let Ended {
+        remains,
+        records,
+        log,
+    } = end_vault(vault, passes, remains);
+    let Remains { tables, logs, hand } = remains;
+    let given = give_hand(room, hand);
+    let image = Image {
+        session,
+        rack,
+        tables,
+        records,
+        group_logs: logs,
+        index_log: log,
+    };
+    let kept = keep_image(alloc, &image, desk);
+    first_failure(given, kept)
+}
+
+/// Gives back all archives of a hand.
+fn give_hand<R: Room>(room: &mut R, hand: Vec<Shelf<R::A>>) -> Result<(), Failed>
+    requires { AreOut (R.out room.old) (numbers_of hand.items) }
+    ensures home { (n : ℕ) → R.out room.new n ≡ false }
+    ensures untouched { Untouched (numbers_of hand.items) (R.means room.old) (R.means room.new) }
+    ensures cause { Caused (R.faults room.old) (R.faults room.new) (IsErr result) }
+{
+    let mut hand = hand;
+    let given = give_all(room, &mut hand);
+    hand.destroy_empty();
+    given
+}
+
+/// What failed first, if anything did: the room, or what came after it.
+fn first_failure(given: Result<(), Failed>, kept: Result<(), Stop>) -> Result<(), Stop>
+    ensures { result ≡ first_failure given kept }
+{
+    match given {
+        Ok(()) => kept,
+        Err(Failed) => Err(Stop::RoomFault),
+    }
+}

@@ -1,0 +1,114 @@
+//! What a session reads from its desk and writes there.
+
+ghost use Rattle.std.specs.Prelude.{◌≡◌, ◌<◌, ◌+◌, ◌-◌, ◌^◌, [], IsTrue, IfOk, IfErr, IsErrOf, map, replicate};
+ghost use Rattle.pot_outside.specs.Counts.{Caused};
+ghost use Rattle.pot_image.specs.Images.{contents};
+ghost use Rattle.pot_image.specs.Spelling.{IsCountable, image_bytes};
+ghost use Rattle.pot_image.specs.Rules.{FitsTogether};
+ghost use Rattle.pot_session.specs.Desks.{Opens, OpensDesk, IsDeskStop, begun, Keeps, IsKeepStop};
+
+use crate::stop::Stop;
+use pot_bytes::NoMemory;
+use pot_image::{Image, ImageFault, read_image, write_image};
+use pot_machine::Entry;
+use pot_outside::{Desk, DeskFault, Failed};
+use std::alloc::Global;
+
+/// The image that the bytes are, from which one more session may begin.
+fn open_image(alloc: Global, bytes: &[u8]) -> Result<Image, Stop>
+    ensures opens { Opens bytes.now result }
+    ensures fits { IfOk result (λ i. FitsTogether (contents i)) }
+    ensures which { IfErr result IsDeskStop }
+{
+    let image = match read_image(alloc, bytes) {
+        Ok(image) => image,
+        Err(ImageFault::Cut) => return Err(Stop::Cut),
+        Err(ImageFault::Trailer { kept, computed }) => {
+            return Err(Stop::Trailer { kept, computed });
+        }
+        Err(ImageFault::Form { place }) => return Err(Stop::Form { place }),
+        Err(ImageFault::NoMemory) => return Err(Stop::NoMemory),
+    };
+    if image.rack.parity != 1 {
+        return Err(Stop::SecondParity);
+    }
+    if image.session == u32::MAX {
+        return Err(Stop::Spent);
+    }
+    Ok(image)
+}
+
+/// The image of the desk, from which one more session may begin. The desk's image stays.
+///
+/// # Errors
+/// `DeskFault` only where the desk's count of faults rose; `NoImage` where the desk has none; else why its bytes are no image, or
+/// that its rack has two parity columns, or that no number of a session is left.
+pub fn open_desk<D: Desk>(alloc: Global, desk: &mut D) -> Result<Image, Stop>
+    ensures opens { OpensDesk (IsTrue D.tells) (D.held desk.old) result }
+    ensures fits { IfOk result (λ i. FitsTogether (contents i)) }
+    ensures which { IfErr result IsDeskStop }
+    ensures keeps { IsTrue D.tells → D.held desk.new ≡ D.held desk.old }
+    ensures cause { Caused (D.faults desk.old) (D.faults desk.new) (IsErrOf result Stop.DeskFault) }
+{
+    match desk.read() {
+        Ok(Some(bytes)) => open_image(alloc, &bytes),
+        Ok(None) => Err(Stop::NoImage),
+        Err(DeskFault::Failed) => Err(Stop::DeskFault),
+        Err(DeskFault::NoMemory) => Err(Stop::NoMemory),
+    }
+}
+
+/// So many logs without entries.
+pub fn empty_logs(alloc: Global, count: usize) -> Result<Vec<Vec<Entry>>, NoMemory>
+    ensures { IfOk result (λ logs. map (λ v. v.items) logs.items ≡ replicate count []) }
+{
+    let mut logs = Vec::with_capacity(alloc, count)?;
+    while logs.len() < count {
+        logs.push_reserved(Vec::new(alloc));
+    }
+    Ok(logs)
+}
+
+/// The image with which the session after this one begins: one more session, the tables and the records as they were, and
+/// empty logs.
+pub fn begin(alloc: Global, image: Image) -> Result<Image, NoMemory>
+    requires { image.session < 2 ^ 32 - 1 }
+    ensures { IfOk result (λ i. contents i ≡ begun (contents image)) }
+{
+    let Image {
+        session,
+        rack,
+        tables,
+        records,
+        group_logs: _,
+        index_log: _,
+    } = image;
+    Ok(Image {
+        session: session + 1,
+        rack,
+        tables,
+        records,
+        group_logs: empty_logs(alloc, usize::from(rack.groups))?,
+        index_log: Vec::new(alloc),
+    })
+}
+
+/// Puts an image in the place of the desk's.
+///
+/// # Errors
+/// `DeskFault` only where the desk's count of faults rose: the desk then has the old image, this one or none. `NoMemory` leaves the old
+/// one.
+pub fn keep_image<D: Desk>(alloc: Global, image: &Image, desk: &mut D) -> Result<(), Stop>
+    requires { IsCountable image.now }
+    ensures which { IfErr result IsKeepStop }
+    ensures told { IsTrue D.tells → Keeps (D.held desk.old) (D.held desk.new) (image_bytes (contents image.now)) result }
+    ensures cause { Caused (D.faults desk.old) (D.faults desk.new) (IsErrOf result Stop.DeskFault) }
+{
+    let Ok(bytes) = write_image(alloc, image) else {
+        return Err(Stop::NoMemory);
+    };
+    match desk.replace(&bytes) {
+        Ok(()) => Ok(()),
+        Err(Failed) => Err(Stop::DeskFault),
+    }
+}

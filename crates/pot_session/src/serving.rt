@@ -1,0 +1,196 @@
+//! A session from the taking of its archives to its close.
+
+ghost use Rattle.std.specs.Prelude.{◌≡◌, ◌⊎◌, ◌<◌, ◌≤◌, ◌+◌, ◌^◌, ℕ, [], IsTrue, IfOk, OnOk, OnErr, IsErr, IsErrOf, false, Some, length, vec_capacity, flat_map};
+ghost use Rattle.std.specs.List.{AllByRecursion};
+ghost use Rattle.pot_outside.specs.Counts.{Caused};
+ghost use Rattle.pot_image.specs.Images.{contents};
+ghost use Rattle.pot_image.specs.Spelling.{image_bytes};
+ghost use Rattle.pot_image.specs.Rules.{FitsTogether};
+ghost use Rattle.pot_group.specs.Beginning.{archives_in};
+ghost use Rattle.pot_group.specs.Shelves.{numbers_of};
+ghost use Rattle.pot_rows.specs.Ends.{HasAllParts};
+ghost use Rattle.pot_shared.specs.Ready.{AreReady};
+ghost use Rattle.pot_shared.specs.Catalogs.{IsIndexReady};
+ghost use Rattle.pot_shared.specs.Sharing.{HasAllButKept};
+ghost use Rattle.pot_session.specs.Commands.{IsStep};
+ghost use Rattle.pot_session.specs.Groups.{AreFirstPasses, AreServed, tables_read, records_read};
+ghost use Rattle.pot_session.specs.Holding.{AreApart, AreOut, Untouched};
+ghost use Rattle.pot_session.specs.Serving.{HasSpaces, DeskAfter, IsEnd, status_after};
+
+use crate::archives::{give_all, numbers_in, take_all};
+use crate::closing::{Opened, close_session};
+use crate::groups::Remains;
+use crate::opening::open_vault;
+use crate::status::Status;
+use crate::stop::Stop;
+use pot_bytes::NoMemory;
+use pot_commands::{Ending, work};
+use pot_image::Image;
+use pot_machine::GroupTable;
+use pot_outside::{Desk, Failed, Room, RoomFault, Sink};
+use pot_script::Command;
+use std::alloc::Global;
+use std::sync::Wait;
+
+/// Takes all archives of the tables from the room.
+///
+/// # Errors
+/// `Failed` only where the room's count of faults rose, or `NoMemory`. No archive is out then.
+fn take_archives<R: Room>(
+    alloc: Global,
+    tables: &[GroupTable],
+    room: &mut R,
+) -> Result<Remains<R::A>, RoomFault>
+    requires home { (n : ℕ) → R.out room.old n ≡ false }
+    requires apart { AreApart (flat_map archives_in tables.now) }
+    ensures taken { IfOk result (λ r. numbers_of r.hand.items ≡ flat_map archives_in tables.now) }
+    ensures fresh { IfOk result (λ r. (r.tables.items ≡ []) × (r.logs.items ≡ [])) }
+    ensures spaces { IfOk result (λ r. HasSpaces (length tables.now) (length r.hand.items) (vec_capacity r.tables) (vec_capacity r.logs) (vec_capacity r.hand)) }
+    ensures out { OnOk result (AreOut (R.out room.new) (flat_map archives_in tables.now)) }
+    ensures home { OnErr result ((n : ℕ) → R.out room.new n ≡ false) }
+    ensures untouched { Untouched (flat_map archives_in tables.now) (R.means room.old) (R.means room.new) }
+    ensures cause { Caused (R.faults room.old) (R.faults room.new) (IsErrOf result RoomFault.Failed) }
+{
+    let Ok(numbers) = numbers_in(alloc, tables) else {
+        return Err(RoomFault::NoMemory);
+    };
+    let Ok(mut remains) = Remains::reserve(alloc, tables.len(), numbers.len()) else {
+        return Err(RoomFault::NoMemory);
+    };
+    match take_all(room, &numbers, &mut remains.hand) {
+        Ok(()) => Ok(remains),
+        Err(fault) => {
+            remains.end();
+            Err(fault)
+        }
+    }
+}
+
+/// Gives back all archives that remain.
+fn give_back<R: Room>(room: &mut R, remains: Remains<R::A>) -> Result<(), Failed>
+    requires { AreOut (R.out room.old) (numbers_of remains.hand.items) }
+    ensures home { (n : ℕ) → R.out room.new n ≡ false }
+    ensures untouched { Untouched (numbers_of remains.hand.items) (R.means room.old) (R.means room.new) }
+    ensures cause { Caused (R.faults room.old) (R.faults room.new) (IsErr result) }
+{
+    let mut remains = remains;
+    let given = give_all(room, &mut remains.hand);
+    remains.end();
+    given
+}
+
+/// Takes the archives of the tables of an image from the room, and opens a vault over them.
+///
+/// # Errors
+/// `Failed` only where the room's count of faults rose, or `NoMemory`. No archive is out then.
+fn open_session<R: Room>(
+    alloc: Global,
+    image: Image,
+    room: &mut R,
+) -> Result<Opened<R::A>, RoomFault>
+    requires together { FitsTogether (contents image) }
+    requires parity { image.rack.parity ≡ 1 }
+    requires home { (n : ℕ) → R.out room.old n ≡ false }
+    ensures opened { IfOk result (λ o. AreFirstPasses o.passes.groups o.passes.index) }
+    ensures read { IfOk result (λ o. (tables_read o.passes.groups ≡ image.tables.items) × (records_read o.passes.index ≡ image.records.items)) }
+    ensures same { IfOk result (λ o. (o.session ≡ image.session) × (o.rack ≡ image.rack) × (o.vault.rack ≡ image.rack)) }
+    ensures ready { IfOk result (λ o. AreReady o.vault.rack o.vault.groups o.passes.groups × IsIndexReady o.vault.rack o.vault.groups o.vault.index o.passes.index) }
+    ensures count { IfOk result (λ o. length o.vault.groups ≡ o.vault.rack.groups) }
+    ensures parts { IfOk result (λ o. HasAllButKept o.passes.groups × HasAllParts o.passes.index) }
+    ensures places { IfOk result (λ o. (o.vault.members.items ≡ []) × (length o.vault.groups ≤ vec_capacity o.vault.members) × (o.vault.catalogs.items ≡ []) × (1 ≤ vec_capacity o.vault.catalogs)) }
+    ensures fresh { IfOk result (λ o. (o.remains.tables.items ≡ []) × (o.remains.logs.items ≡ []) × (o.remains.hand.items ≡ [])) }
+    ensures spaces { IfOk result (λ o. HasSpaces (length image.tables.items) (length (flat_map archives_in image.tables.items)) (vec_capacity o.remains.tables) (vec_capacity o.remains.logs) (vec_capacity o.remains.hand)) }
+    ensures out { OnOk result (AreOut (R.out room.new) (flat_map archives_in image.tables.items)) }
+    ensures home { OnErr result ((n : ℕ) → R.out room.new n ≡ false) }
+    ensures untouched { Untouched (flat_map archives_in image.tables.items) (R.means room.old) (R.means room.new) }
+    ensures cause { Caused (R.faults room.old) (R.faults room.new) (IsErrOf result RoomFault.Failed) }
+{
+    let Image {
+        session,
+        rack,
+        tables,
+        records,
+        group_logs: _,
+        index_log: _,
+    } = image;
+    let mut remains = match take_archives(alloc, &tables, room) {
+        Ok(remains) => remains,
+        Err(fault) => return Err(fault),
+    };
+    match open_vault(alloc, &rack, tables, records, &mut remains) {
+        Ok((vault, passes)) => Ok(Opened {
+            session,
+            rack,
+            vault,
+            passes,
+            remains,
+        }),
+        Err(NoMemory) => {
+            let _given = give_back(room, remains);
+            Err(RoomFault::NoMemory)
+        }
+    }
+}
+
+/// Works the commands of a session that begins with this image, and closes.
+pub fn serve<K: Sink, R: Room, D: Desk, X: Wait>(
+    rt: &X,
+    alloc: Global,
+    seed: &[u8; 32],
+    image: Image,
+    commands: &[Command],
+    sink: &mut K,
+    room: &mut R,
+    desk: &mut D,
+) -> Status
+    requires together { FitsTogether (contents image) }
+    requires parity { image.rack.parity ≡ 1 }
+    requires few { length commands.now < 2 ^ 31 }
+    requires worked { AllByRecursion IsStep commands.now }
+    requires home { (n : ℕ) → R.out room.old n ≡ false }
+    ensures home { (n : ℕ) → R.out room.new n ≡ false }
+    ensures untouched { Untouched (flat_map archives_in image.tables.items) (R.means room.old) (R.means room.new) }
+    ensures told { IsTrue D.tells → D.held desk.old ≡ Some (image_bytes (contents image)) → DeskAfter (contents image) (D.held desk.new) result }
+    ensures which { IsEnd result }
+    ensures sink { Caused (K.faults sink.old) (K.faults sink.new) (result ≡ Status.SinkFault) }
+    ensures room { Caused (R.faults room.old) (R.faults room.new) (result ≡ Status.RoomFault) }
+    ensures desk { Caused (D.faults desk.old) (D.faults desk.new) (result ≡ Status.DeskFault) }
+{
+    let mut opened = match open_session(alloc, image, room) {
+        Ok(opened) => opened,
+        Err(RoomFault::Failed) => return Status::RoomFault,
+        Err(RoomFault::NoMemory) => return Status::NoMemory,
+    };
+    let ending = work(
+        rt,
+        alloc,
+        &opened.vault,
+        &mut opened.passes,
+        seed,
+        opened.session,
+        commands,
+        sink,
+    );
+    let closed = close_session(alloc, opened, room, desk);
+    status_after(ending, closed)
+}
+
+/// The status of a session, by how its commands and its close ended.
+fn status_after(ending: Ending, closed: Result<(), Stop>) -> Status
+    ensures { result ≡ status_after ending closed }
+{
+    match ending {
+        Ending::SinkFailed => Status::SinkFault,
+        Ending::NoMemory => Status::NoMemory,
+        Ending::Done { refused } => match closed {
+            Err(stop) => stop.status(),
+            Ok(()) => {
+                if refused {
+                    Status::Refusals
+                } else {
+                    Status::Good
+                }
+            }
+        },
+    }
+}

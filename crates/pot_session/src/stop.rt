@@ -1,0 +1,142 @@
+//! Why a call of the program stops before its commands, and what it writes then.
+
+ghost use Rattle.std.specs.Prelude.{◌≡◌, ◌++◌, OnOk, IfOk, codes};
+ghost use Rattle.pot_script.specs.Replies.{spaced, in_hex};
+ghost use Rattle.pot_session.specs.Stops.{status_of, stop_text};
+
+use crate::status::Status;
+use hex::encode_to_slice;
+use itoa::Buffer;
+use pot_bytes::{Digest, NoMemory};
+use std::alloc::{AllocError, Global};
+
+/// Where an image has the number of its parity columns.
+const PARITY_PLACE: u64 = 26;
+
+/// Why there are no commands.
+#[derive(Clone, Copy, PartialEq, Eq, Debug)]
+pub enum Stop {
+    /// The words spell no task that is worked.
+    Words,
+    /// The source failed.
+    SourceFault,
+    /// The script leaves its grammar at this line, or the line is not worked yet.
+    BadLine { number: u32 },
+    /// The desk failed.
+    DeskFault,
+    /// The desk holds no image.
+    NoImage,
+    /// The desk's image has fewer bytes than it says.
+    Cut,
+    /// The last bytes of the image are not the digest of all before.
+    Trailer { kept: Digest, computed: Digest },
+    /// The field of the image at this place breaks its rule or does not end.
+    Form { place: u64 },
+    /// The image is of a rack with two parity columns, which is not worked yet.
+    SecondParity,
+    /// The image is that of the last session that there can be.
+    Spent,
+    /// The desk holds an image already.
+    Exists,
+    /// The room failed.
+    RoomFault,
+    NoMemory,
+}
+
+impl From<NoMemory> for Stop {
+    ghost use Rattle.std.specs.Prelude.{◌≡◌};
+    ghost use Rattle.pot_session.specs.declared.stop.Stop.TheVariants as stop;
+
+    ghost from_gives = { λ _ e. e ≡ stop.NoMemory };
+
+    fn from(_: NoMemory) -> Stop {
+        Stop::NoMemory
+    }
+}
+
+impl From<AllocError> for Stop {
+    ghost use Rattle.std.specs.Prelude.{◌≡◌};
+    ghost use Rattle.pot_session.specs.declared.stop.Stop.TheVariants as stop;
+
+    ghost from_gives = { λ _ e. e ≡ stop.NoMemory };
+
+    fn from(_: AllocError) -> Stop {
+        Stop::NoMemory
+    }
+}
+
+impl Stop {
+    /// The status that it gives.
+    pub fn status(self) -> Status
+        ensures { result ≡ status_of self }
+    {
+        match self {
+            Stop::Words => Status::WordsRefused,
+            Stop::SourceFault => Status::SourceFault,
+            Stop::BadLine { .. } => Status::ScriptRefused,
+            Stop::DeskFault => Status::DeskFault,
+            Stop::NoImage
+            | Stop::Cut
+            | Stop::Trailer { .. }
+            | Stop::Form { .. }
+            | Stop::SecondParity => Status::ImageRefused,
+            Stop::Spent => Status::SessionSpent,
+            Stop::Exists => Status::ImageExists,
+            Stop::RoomFault => Status::RoomFault,
+            Stop::NoMemory => Status::NoMemory,
+        }
+    }
+}
+
+/// The text that is written for it, which is empty where nothing is.
+pub fn text_of(alloc: Global, stop: Stop) -> Result<Vec<u8>, AllocError>
+    ensures { IfOk result (λ v. v.items ≡ stop_text stop) }
+{
+    match stop {
+        Stop::Words => b"words refused\n".to_vec(alloc),
+        Stop::BadLine { number } => numbered(alloc, b"bad line", u64::from(number)),
+        Stop::NoImage => b"image refused none\n".to_vec(alloc),
+        Stop::Cut => b"image refused cut\n".to_vec(alloc),
+        Stop::Trailer { kept, computed } => trailer(alloc, kept, computed),
+        Stop::Form { place } => numbered(alloc, b"image refused form", place),
+        Stop::SecondParity => numbered(alloc, b"image refused form", PARITY_PLACE),
+        Stop::Spent => b"session spent\n".to_vec(alloc),
+        Stop::Exists => b"image exists\n".to_vec(alloc),
+        Stop::SourceFault | Stop::DeskFault | Stop::RoomFault | Stop::NoMemory => {
+            Ok(Vec::new(alloc))
+        }
+    }
+}
+
+/// A line of some words and a number.
+fn numbered(alloc: Global, words: &[u8], number: u64) -> Result<Vec<u8>, AllocError>
+    ensures { IfOk result (λ v. v.items ≡ words.now ++ spaced number ++ codes "\n") }
+{
+    let mut digits = Buffer::new();
+    let mut line = words.to_vec(alloc)?;
+    line.extend_from_slice(b" ")?;
+    line.extend_from_slice(digits.format(number).as_bytes())?;
+    line.extend_from_slice(b"\n")?;
+    Ok(line)
+}
+
+/// The line that names two digests which are to be one.
+fn trailer(alloc: Global, kept: Digest, computed: Digest) -> Result<Vec<u8>, AllocError>
+    ensures { IfOk result (λ v. v.items ≡ codes "image refused trailer" ++ in_hex kept ++ in_hex computed ++ codes "\n") }
+{
+    let mut line = b"image refused trailer".to_vec(alloc)?;
+    append_digest(&mut line, kept)?;
+    append_digest(&mut line, computed)?;
+    line.extend_from_slice(b"\n")?;
+    Ok(line)
+}
+
+/// A space and the 64 hexadecimal digits of a digest.
+fn append_digest(line: &mut Vec<u8>, digest: Digest) -> Result<(), AllocError>
+    ensures { OnOk result (line.new.items ≡ line.old.items ++ in_hex digest) }
+{
+    let mut digits = [0u8; 64];
+    encode_to_slice(digest.bytes, &mut digits).unwrap();
+    line.extend_from_slice(b" ")?;
+    line.extend_from_slice(&digits)
+}
