@@ -1,5 +1,5 @@
 -- The image of a close.
-use Rattle.std.proofs.Common.{◌≡◌, ◌<◌, ◌≤◌, ◌+◌, ◌^◌, ◌++◌, ◌⊎◌, inl, inr, ℕ, zero, suc, List, [], ◌∷◌, length, map, refl, sym, ap, subst, ◌∙◌, arith}
+use Rattle.std.proofs.Common.{◌≡◌, ◌+◌, ◌++◌, ◌⊎◌, inl, inr, ℕ, zero, suc, List, [], ◌∷◌, length, map, refl, sym, ap, subst, ◌∙◌}
 use Rattle.std.specs.Prelude.{Option, Some, None, Result, Ok, Err, IfErr, IsErr, IsErrOf, slice_get, flat_map}
 use Rattle.std.proofs.lemmas.List.{length-map}
 use Rattle.std.proofs.lemmas.Option.{same_Some}
@@ -9,7 +9,6 @@ use Rattle.pot_bytes.specs.declared.rack.Rack.{Rack}
 use Rattle.pot_outside.specs.declared.faults.Failed.{Failed}
 use Rattle.pot_machine.specs.Machine.{Replays}
 use Rattle.pot_machine.specs.Table.{Table}
-use Rattle.pot_machine.specs.declared.entry.Entry.{Entry}
 use Rattle.pot_index.specs.Records.{record_bytes}
 use Rattle.pot_index.specs.declared.record.Record.{Record}
 use Rattle.pot_group.specs.Group.{GroupView}
@@ -19,7 +18,7 @@ use Rattle.pot_session.specs.declared.stop.Stop.{Stop}
 use Rattle.pot_session.specs.declared.stop.Stop.TheVariants as stop
 use Rattle.pot_session.specs.Desks.{Keeps, IsKeepStop}
 use Rattle.pot_session.specs.Groups.{AreEnded}
-use Rattle.pot_session.specs.Serving.{still, LeavesTable, LeaveTables, LeavesRecords, Leaves, IsBegun, IsCloseStop, Closes, first_failure}
+use Rattle.pot_session.specs.Serving.{still, LeaveTables, LeavesRecords, Leaves, IsBegun, IsCloseStop, Closes, first_failure}
 
 -- RELAYS ARE NOT WRITTEN
 

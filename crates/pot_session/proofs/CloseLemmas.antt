@@ -1,12 +1,10 @@
 -- How a vault ends: its groups are those that it was opened with, and brought no archive.
-use Rattle.std.proofs.Common.{◌≡◌, ◌<◌, ◌≤◌, ◌+◌, ◌++◌, ◌⊎◌, inl, inr, ℕ, zero, suc, List, [], ◌∷◌, length, drop, map, refl, sym, ap, subst, ◌∙◌, arith, append-nil, length-append}
-use Rattle.std.specs.Prelude.{Some, slice_get, flat_map}
+use Rattle.std.proofs.Common.{◌≡◌, ◌<◌, ◌≤◌, ◌+◌, ◌++◌, inl, inr, ℕ, zero, suc, List, [], ◌∷◌, length, drop, map, refl, sym, ap, subst, ◌∙◌, arith, append-nil, length-append}
+use Rattle.std.specs.Prelude.{Some, slice_get}
 use Rattle.std.proofs.Math.Seq.{drop-append_seam}
 use Rattle.std.proofs.lemmas.List.{map-append}
 use Rattle.std.proofs.lemmas.Option.{slice_get_within}
 use Rattle.pot_bytes.specs.declared.rack.Rack.{Rack}
-use Rattle.pot_machine.specs.declared.entry.Entry.{Entry}
-use Rattle.pot_machine.specs.Table.{Table}
 use Rattle.pot_index.specs.Index.{IndexView}
 use Rattle.pot_group.specs.Arrivals.{arrivals}
 use Rattle.pot_group.proofs.Arriving.{arrivals-append}
@@ -14,11 +12,11 @@ use Rattle.pot_group.specs.Group.{GroupView}
 use Rattle.pot_turn.specs.declared.name.TurnName.{TurnName}
 use Rattle.pot_turn.specs.declared.view.View.{View}
 use Rattle.pot_turn.specs.Stretches.{times, LieIn, IsOnceEach}
-use Rattle.pot_turn.specs.Views.{stretches_of, both_views, spent_view}
+use Rattle.pot_turn.specs.Views.{stretches_of}
 use Rattle.pot_worked.specs.Worked.{added, mine, theirs}
-use Rattle.pot_worked.specs.Sole.{Went, Sole, IsWhole}
+use Rattle.pot_worked.specs.Sole.{Went, Sole}
 use Rattle.pot_worked.proofs.SoleLemmas.{went_in_parts, sole_in_parts, sole_at_close}
-use Rattle.pot_rows.specs.Rows.{AreOf, view_at}
+use Rattle.pot_rows.specs.Rows.{view_at}
 use Rattle.pot_rows.specs.Works.{RowSole}
 use Rattle.pot_rows.specs.Parts.{Joined}
 use Rattle.pot_rows.specs.Ends.{Closed}

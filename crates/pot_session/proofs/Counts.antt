@@ -1,6 +1,6 @@
 -- Counts of faults over calls in a row.
 use Rattle.std.specs.Prelude.{IsErrOf, Err}
-use Rattle.std.proofs.Common.{◌≡◌, ap, ◌<◌, ◌≤◌, ◌-◌, ◌^◌, ◌⊎◌, inl, inr, ℕ, arith}
+use Rattle.std.proofs.Common.{◌≡◌, ap, ◌≤◌, ◌⊎◌, inl, inr, ℕ, arith}
 use Rattle.pot_outside.specs.Counts.{Rose, Caused}
 
 pub rose_before : (a b c : ℕ) → b ≤ c → Rose a b → Rose a c

@@ -1,5 +1,5 @@
 -- How many records an index has after a log.
-use Rattle.std.proofs.Common.{◌≡◌, ◌≤◌, ◌+◌, ℕ, Bool, true, false, List, [], ◌∷◌, length, map, refl, ap, subst, arith, cond}
+use Rattle.std.proofs.Common.{◌≡◌, ◌≤◌, ◌+◌, Bool, true, false, List, [], ◌∷◌, length, refl, ap, arith, cond}
 use Rattle.std.specs.Prelude.{Option, Some, None}
 use Rattle.std.specs.Ordering.{is_lt, nat_cmp}
 use Rattle.std.specs.Cmp.Lexicographic.{slice_cmp}
@@ -9,7 +9,7 @@ use Rattle.pot_index.specs.declared.entry.IndexEntry.{IndexEntry}
 use Rattle.pot_index.specs.declared.entry.IndexEntry.TheVariants.{Reserve, Taken, Publish, Abandon, Find, Listed, Renew, Often}
 use Rattle.pot_index.specs.declared.entry.Logged.{Logged}
 use Rattle.pot_index.specs.declared.record.Record.{Record}
-use Rattle.pot_index.specs.Index.{Names, inserted, replaced, after_entry, after, Replays, same_name}
+use Rattle.pot_index.specs.Index.{Names, inserted, after_entry, after, Replays, same_name}
 
 by_test : (b : Bool) (r o : Record) (os more : List Record) → length more ≡ length os + 1 → length (cond b (o ∷ more) (r ∷ o ∷ os)) ≡ length os + 2
 by_test true r o os more e = omega (arith, e)

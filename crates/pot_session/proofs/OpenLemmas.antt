@@ -1,6 +1,6 @@
 -- How a vault is opened: what its first passes know of the groups that were started.
-use Rattle.std.proofs.Common.{◌≡◌, ◌<◌, ◌≤◌, ◌+◌, ◌++◌, ℕ, zero, suc, List, [], ◌∷◌, length, map, refl, sym, ap, subst, ◌∙◌, arith}
-use Rattle.std.specs.Prelude.{Option, Some, None, All, slice_get, slice_index_or, flat_map}
+use Rattle.std.proofs.Common.{◌≡◌, ◌++◌, ℕ, suc, List, [], ◌∷◌, length, map, refl, sym, ap, subst, ◌∙◌, arith}
+use Rattle.std.specs.Prelude.{Some, All, slice_get, slice_index_or, flat_map}
 use Rattle.std.proofs.lemmas.Option.{slice_get_within}
 use Rattle.pot_bytes.specs.declared.rack.Rack.{Rack}
 use Rattle.pot_machine.specs.declared.entry.Entry.{Entry}
@@ -11,7 +11,7 @@ use Rattle.pot_group.specs.Beginning.{archives_in}
 use Rattle.pot_group.specs.Group.{GroupView}
 use Rattle.pot_group.specs.Shelves.{Shelves}
 use Rattle.pot_turn.specs.declared.name.TurnName.{TurnName}
-use Rattle.pot_turn.specs.Views.{first_view, cut_view, spent_view}
+use Rattle.pot_turn.specs.Views.{first_view, spent_view}
 use Rattle.pot_rows.specs.Rows.{AreOf, view_at}
 use Rattle.pot_shared.specs.declared.catalog.CatalogOrigin.{CatalogOrigin}
 use Rattle.pot_shared.specs.Members.{kept_log, origin_of, entries_of, all_logged}

@@ -1,5 +1,5 @@
 -- What holds of an answer holds of one that follows from it.
-use Rattle.std.specs.Prelude.{Result, Ok, Err, OnOk, OnErr, IfOk}
+use Rattle.std.specs.Prelude.{Result, Ok, Err, OnOk, OnErr}
 
 pub on_ok : {T E X Y : Type 0} (r : Result T E) → OnOk r X → (X → Y) → OnOk r Y
 on_ok (Ok x) h f = f h

@@ -1,5 +1,5 @@
 -- What passes know after commands, and how a session ends.
-use Rattle.std.proofs.Common.{◌≡◌, ◌<◌, ◌≤◌, ◌+◌, ◌^◌, ◌++◌, ◌⊎◌, inl, inr, ℕ, zero, suc, Bool, true, false, cond, List, [], ◌∷◌, length, drop, refl, sym, ap, subst, ◌∙◌, arith, append-nil}
+use Rattle.std.proofs.Common.{◌≡◌, ◌++◌, ◌⊎◌, inl, inr, ℕ, suc, Bool, true, false, cond, List, [], ◌∷◌, length, drop, refl, sym, ap, subst, ◌∙◌, arith, append-nil}
 use Rattle.std.specs.Prelude.{Option, Some, Result, Ok, Err, IsErrOf, slice_index_or, flat_map}
 use Rattle.std.proofs.Math.Seq.{drop-append_seam}
 use Rattle.pot_bytes.specs.declared.rack.Rack.{Rack}
@@ -10,16 +10,15 @@ use Rattle.pot_turn.specs.declared.name.TurnName.{TurnName}
 use Rattle.pot_turn.specs.declared.view.View.{View}
 use Rattle.pot_turn.specs.Stretches.{LieIn}
 use Rattle.pot_turn.specs.Views.{spent_view}
-use Rattle.pot_worked.specs.Worked.{added, mine, theirs}
+use Rattle.pot_worked.specs.Worked.{theirs}
 use Rattle.pot_worked.specs.Sole.{Went}
-use Rattle.pot_rows.specs.Rows.{PassRow, AreOf, HasMoreParts, view_at}
+use Rattle.pot_rows.specs.Rows.{PassRow, HasMoreParts, view_at}
 use Rattle.pot_rows.specs.Works.{RowWent}
 use Rattle.pot_rows.specs.Ends.{HasAllParts}
 use Rattle.pot_shared.specs.Members.{entries_of}
 use Rattle.pot_shared.specs.Ready.{GroupPass, GroupPasses, AreReady}
 use Rattle.pot_shared.specs.Catalogs.{IndexPasses}
 use Rattle.pot_shared.specs.Sharing.{HasAllButKept}
-use Rattle.pot_session.specs.declared.status.Status.{Status}
 use Rattle.pot_session.specs.declared.status.Status.TheVariants as status
 use Rattle.pot_session.specs.declared.stop.Stop.{Stop}
 use Rattle.pot_session.specs.declared.stop.Stop.TheVariants as stop

@@ -1,7 +1,6 @@
 -- What a refusal and a session say of the failures of objects.
-use Rattle.std.proofs.Common.{◌≡◌, ◌+◌, ◌++◌, ◌⊎◌, inl, inr, ℕ, List, refl, sym, ap, subst, ◌∙◌}
+use Rattle.std.proofs.Common.{◌≡◌, inl, inr, ℕ, List, refl, sym, ap, subst, ◌∙◌}
 use Rattle.std.specs.Prelude.{Option, Result, Ok, Err, IfErr, flat_map}
-use Rattle.pot_outside.specs.Archives.{Meaning}
 use Rattle.pot_script.specs.declared.command.Command.{Command}
 use Rattle.pot_group.specs.Beginning.{archives_in}
 use Rattle.pot_image.specs.declared.image.Image.{Image}

@@ -9,7 +9,7 @@ use Rattle.pot_group.specs.Arrivals.{arrivals}
 use Rattle.pot_group.specs.Group.{GroupView}
 use Rattle.pot_turn.specs.Views.{first_view, cut_view}
 use Rattle.pot_worked.specs.Worked.{added}
-use Rattle.pot_rows.specs.Rows.{PassRow, view_at}
+use Rattle.pot_rows.specs.Rows.{view_at}
 use Rattle.pot_rows.specs.Works.{RowWent, RowSole}
 use Rattle.pot_shared.specs.declared.member.Logged.{Logged}
 use Rattle.pot_shared.specs.declared.member.GroupOrigin.{GroupOrigin}

@@ -1,5 +1,5 @@
 -- A new archive.
-use Rattle.std.specs.Prelude.{◌≡◌, ◌≢◌, ◌⊎◌, ◌++◌, ℕ, List, [], Option, Some, None, Result, Ok, Err, IfErr, IsSome, codes, take, map, replicate}
+use Rattle.std.specs.Prelude.{◌≡◌, ◌⊎◌, ◌++◌, ℕ, List, [], Option, Some, None, Result, Ok, Err, IfErr, IsSome, codes, take, map, replicate}
 use Rattle.std.specs.List.{range_with_len}
 use Rattle.pot_bytes.specs.declared.rack.Rack.{Rack}
 use Rattle.pot_machine.specs.Making.{empty_table}

@@ -1,6 +1,5 @@
-use Rattle.std.proofs.Common.{◌≡◌, ◌≤◌, ℕ, take}
+use Rattle.std.proofs.Common.{◌≡◌, ◌≤◌, take}
 use Rattle.std.specs.Prelude.{vec_capacity}
-use Rattle.pot_outside.specs.Counts.{Caused}
 use Rattle.pot_group.specs.Shelves.{numbers_of}
 use Rattle.pot_session.specs.Holding.{AreOut, Untouched}
 use Rattle.pot_session.proofs.archives.take_all.Given as goal

@@ -1,4 +1,4 @@
-use Rattle.std.proofs.Common.{◌≡◌, ◌≤◌, ◌+◌, ◌++◌, [], map, length, ap, ◌∙◌, arith}
+use Rattle.std.proofs.Common.{◌++◌, map, length, ap, ◌∙◌, arith}
 use Rattle.std.specs.Prelude.{flat_map}
 use Rattle.pot_group.specs.Group.{view_of}
 use Rattle.pot_group.specs.Shelves.{numbers_of}

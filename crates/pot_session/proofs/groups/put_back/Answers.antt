@@ -1,4 +1,4 @@
-use Rattle.std.proofs.Common.{◌≡◌, ◌≤◌, ◌++◌, take, length, sym, ap, ◌∙◌, arith, length-drop}
+use Rattle.std.proofs.Common.{◌≡◌, ◌++◌, take, length, ap, ◌∙◌, arith, length-drop}
 use Rattle.std.proofs.Math.Seq.{take-length}
 use Rattle.pot_session.proofs.groups.put_back.Goals as goal
 

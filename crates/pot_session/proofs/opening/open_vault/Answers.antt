@@ -1,15 +1,14 @@
-use Rattle.std.proofs.Common.{◌≡◌, ◌≤◌, ◌+◌, ◌++◌, length, map, sym, ap, subst, ◌∙◌, arith}
-use Rattle.std.specs.Prelude.{IfOk, vec_capacity, flat_map}
+use Rattle.std.proofs.Common.{◌≡◌, ◌++◌, length, ap, subst, ◌∙◌, arith}
+use Rattle.std.specs.Prelude.{IfOk, flat_map}
 use Rattle.std.proofs.lemmas.List.{length-map}
 use Rattle.pot_outside.specs.declared.archive.Shelf.{Shelf}
-use Rattle.pot_group.specs.Beginning.{archives_in}
 use Rattle.pot_group.specs.Group.{view_of}
 use Rattle.pot_group.specs.Shelves.{numbers_of}
 use Rattle.pot_session.specs.Groups.{had_by, tables_read}
-use Rattle.pot_session.specs.Holding.{times, AreSame}
+use Rattle.pot_session.specs.Holding.{times}
 use Rattle.pot_session.proofs.GroupLemmas.{had_all}
 use Rattle.pot_session.proofs.OpenLemmas.{of_rack, firsts}
-use Rattle.pot_session.proofs.Results.{on_ok, on_err}
+use Rattle.pot_session.proofs.Results.{on_err}
 use Rattle.pot_session.proofs.opening.open_vault.Goals as goal
 
 pub share-requires-clause-groups : goal.share-requires-clause-groups

@@ -1,12 +1,9 @@
-use Rattle.std.proofs.Common.{◌≡◌, ◌≤◌, length, sym, ap, subst, ◌∙◌, arith}
-use Rattle.std.proofs.lemmas.List.{length-map}
-use Rattle.pot_outside.specs.declared.archive.Shelf.{Shelf}
+use Rattle.std.proofs.Common.{sym, subst}
 use Rattle.pot_image.specs.Images.{contents}
 use Rattle.std.specs.Prelude.{flat_map}
 use Rattle.pot_group.specs.Beginning.{archives_in}
 use Rattle.pot_session.specs.Holding.{AreApart}
 use Rattle.pot_session.proofs.ArchiveLemmas.{image_apart}
-use Rattle.pot_session.proofs.Counts.{err_again}
 use Rattle.pot_session.proofs.serving.open_session.Goals as goal
 
 pub take_archives-requires-clause-apart : goal.take_archives-requires-clause-apart

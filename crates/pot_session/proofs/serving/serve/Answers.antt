@@ -1,4 +1,4 @@
-use Rattle.std.proofs.Common.{◌≡◌, inl, length, sym, ap, subst, ◌∙◌, IsTrue}
+use Rattle.std.proofs.Common.{length, sym, ap, subst, ◌∙◌}
 use Rattle.std.specs.Prelude.{flat_map, vec_capacity}
 use Rattle.pot_bytes.specs.Rack.{IsRack}
 use Rattle.pot_image.specs.Images.{contents}
