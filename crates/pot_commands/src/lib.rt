@@ -18,6 +18,3 @@ pub use answering::answer;
 pub use listing::{count_groups, list_names};
 pub use output::write_out;
 pub use working::{Ending, work};
-
-#[cfg(test)]
-mod tests;

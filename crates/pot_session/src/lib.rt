@@ -19,7 +19,6 @@ mod groups;
 mod intake;
 mod making;
 mod opening;
-mod output;
 mod preparing;
 mod refusing;
 mod scripting;

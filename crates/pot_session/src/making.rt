@@ -9,11 +9,11 @@ ghost use Rattle.pot_image.specs.Images.{contents};
 ghost use Rattle.pot_session.specs.Making.{empty_contents, Makes, IsMakeStop, Inits};
 
 use crate::desk::{empty_logs, keep_image};
-use crate::output::write_out;
 use crate::refusing::refuse;
 use crate::status::Status;
 use crate::stop::Stop;
 use pot_bytes::{NoMemory, Rack};
+use pot_commands::write_out;
 use pot_image::Image;
 use pot_machine::GroupTable;
 use pot_outside::{Desk, DeskFault, Failed, Sink};

@@ -4,9 +4,9 @@ ghost use Rattle.std.specs.Prelude.{◌≡◌, IsTrue};
 ghost use Rattle.pot_outside.specs.Counts.{Caused};
 ghost use Rattle.pot_session.specs.Stops.{Refuses};
 
-use crate::output::write_out;
 use crate::status::Status;
 use crate::stop::{Stop, text_of};
+use pot_commands::write_out;
 use pot_outside::{Failed, Sink};
 use std::alloc::Global;
 

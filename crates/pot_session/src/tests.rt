@@ -298,22 +298,25 @@ fn tells_which_object_failed(rt: HostRuntime) -> Result<(), Fail> {
         assert_eq!(rt; outcome.status, *status);
         assert_eq!(rt; outcome.written.as_slice(), b"".as_slice());
     }
+    let sinks: [(u32, &[u8], &[u8]); 3] = [
+        (0, b"", b""),
+        (0, b"list\nquit\n", b""),
+        (1, b"list\nfetch a\nquit\n", b"names 0\n"),
+    ];
+    for (at, script, text) in &sinks {
+        let trouble = Trouble {
+            sink: &[*at],
+            ..NO_TROUBLE
+        };
+        let image = Some(first.to_vec(rt.alloc())?);
+        let outcome = call(&rt, &rt, &["run"], script, image, &trouble)?;
+        assert_eq!(rt; outcome.status, 5);
+        assert_eq!(rt; outcome.written.as_slice(), *text);
+    }
     let sink = Trouble {
         sink: &[0],
         ..NO_TROUBLE
     };
-    assert_eq!(rt;
-        call(
-            &rt,
-            &rt,
-            &["run"],
-            b"",
-            Some(first.to_vec(rt.alloc())?),
-            &sink
-        )?
-        .status,
-        5
-    );
     assert_eq!(rt; call(&rt, &rt, &INIT, b"", None, &sink)?.status, 5);
     Ok(())
 }

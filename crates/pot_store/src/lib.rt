@@ -14,8 +14,6 @@
 mod drawing;
 #[cfg(test)]
 mod drawing_tests;
-#[cfg(test)]
-mod fetch_tests;
 mod fetching;
 mod fragments;
 mod putting;
