@@ -10,3 +10,4 @@ pub mod Brought
 pub mod FoldLemmas
 pub mod StreamLemmas
 pub mod WorkingLemmas
+pub mod Judging

@@ -13,9 +13,10 @@ use Rattle.pot_script.specs.Replies.{reply_text, is_refusal}
 use Rattle.pot_shared.specs.Ready.{GroupPasses, AreReady}
 use Rattle.pot_shared.specs.Catalogs.{IndexPasses, IsIndexReady}
 use Rattle.pot_store.specs.Works.{Known, known, JobWorked}
+use Rattle.pot_commands.specs.declared.working.Ending.TheVariants as ending
 use Rattle.pot_commands.specs.declared.working.Stopped.TheVariants as stopped
 use Rattle.pot_commands.specs.Ones.{Gives, Leaves, OneEnds}
-use Rattle.pot_commands.specs.Ends.{texts_of, any_refusal, AllStay, AllWent, BringNone, AreReplied, EndsWell, EndsCut, EndsShort}
+use Rattle.pot_commands.specs.Ends.{texts_of, any_refusal, AllStay, AllWent, BringNone, AreReplied, Ends}
 use Rattle.pot_commands.proofs.AnswerLemmas.{stayed_worked}
 use Rattle.pot_commands.proofs.Going.{work_all_went, went_more, stays_more}
 use Rattle.pot_commands.proofs.Brought.{NoneBrought, brings_at_first, bring_none, gives_none, leaves_none}
@@ -128,7 +129,7 @@ module _ (told : Type 0) (rack : Rack) (seed : List ℕ) (session : ℕ) (before
   }
 
   pub working_cut : (after : List ℕ) → OneEnds rack seed session (n + 1) c mid new told now after (Err stopped.SinkFailed)
-      → EndsCut rack seed session told before after cs old new
+      → Ends rack seed session told before after cs old new ending.SinkFailed
   working_cut after (its, gives, writes) = record {
     first = take n cs;
     next = c;
@@ -153,7 +154,7 @@ module _ (told : Type 0) (rack : Rack) (seed : List ℕ) (session : ℕ) (before
   none_short after (leaves, writes) = bring_none old new (leaves_none old mid new so.went so.none (n + 1) worked rack seed session c leaves)
 
   pub working_short : (after : List ℕ) → OneEnds rack seed session (n + 1) c mid new told now after (Err stopped.NoMemory)
-      → EndsShort rack seed session told before after cs old new
+      → Ends rack seed session told before after cs old new ending.NoMemory
   working_short after (leaves, writes) = record {
     first = take n cs;
     next = c;
@@ -165,7 +166,7 @@ module _ (told : Type 0) (rack : Rack) (seed : List ℕ) (session : ℕ) (before
   }
 
 pub ends_well : (told : Type 0) (rack : Rack) (seed : List ℕ) (session : ℕ) (before now : List ℕ) (cs : List Command) (n : ℕ) (refused : Bool) (old new : Known)
-    → IsWorking told rack seed session before now cs n refused old new → take n cs ≡ cs → EndsWell rack seed session told before now cs old new refused
+    → IsWorking told rack seed session before now cs n refused old new → take n cs ≡ cs → Ends rack seed session told before now cs old new (ending.Done refused)
 ends_well told rack seed session before now cs n refused old new so all = record {
   replies = so.replies;
   replied = subst (λ ds. AreReplied rack seed session ds so.replies old new) all so.replied;

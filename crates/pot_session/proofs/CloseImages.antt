@@ -1,24 +1,36 @@
 -- The image of a close.
-use Rattle.std.proofs.Common.{◌≡◌, ◌+◌, ◌++◌, ◌⊎◌, inl, inr, ℕ, zero, suc, List, [], ◌∷◌, length, map, refl, sym, ap, subst, ◌∙◌}
-use Rattle.std.specs.Prelude.{Option, Some, None, Result, Ok, Err, IfErr, IsErr, IsErrOf, slice_get, flat_map}
+use Rattle.std.proofs.Common.{◌≡◌, ◌+◌, ◌++◌, ◌⊎◌, inl, inr, ℕ, zero, suc, List, [], ◌∷◌, length, map, refl, sym, ap, subst, ◌∙◌, arith}
+use Rattle.std.specs.Prelude.{Option, Some, None, Result, Ok, Err, IfErr, OnOk, IsErr, IsErrOf, slice_get, flat_map}
 use Rattle.std.proofs.lemmas.List.{length-map}
 use Rattle.std.proofs.lemmas.Option.{same_Some}
 use Rattle.byteorder.specs.Endian.{big_bytes}
 use Rattle.pot_bytes.specs.Digests.{digest_bytes}
 use Rattle.pot_bytes.specs.declared.rack.Rack.{Rack}
+use Rattle.pot_outside.specs.Archives.{Meaning}
+use Rattle.pot_outside.specs.declared.archive.Shelf.{Shelf}
 use Rattle.pot_outside.specs.declared.faults.Failed.{Failed}
-use Rattle.pot_machine.specs.Machine.{Replays}
+use Rattle.pot_outside.specs.Streams.{IsLeft}
+use Rattle.pot_machine.specs.declared.entry.Entry.{Entry}
 use Rattle.pot_machine.specs.Table.{Table}
 use Rattle.pot_index.specs.Records.{record_bytes}
 use Rattle.pot_index.specs.declared.record.Record.{Record}
 use Rattle.pot_group.specs.Group.{GroupView}
+use Rattle.pot_group.specs.Shelves.{Shelves}
 use Rattle.pot_image.specs.Images.{Contents, magic}
 use Rattle.pot_image.specs.Spelling.{table_bytes, head_bytes, counted_bytes, entry_bytes, index_entry_bytes, field_bytes, text_bytes, image_bytes}
 use Rattle.pot_session.specs.declared.stop.Stop.{Stop}
 use Rattle.pot_session.specs.declared.stop.Stop.TheVariants as stop
 use Rattle.pot_session.specs.Desks.{Keeps, IsKeepStop}
-use Rattle.pot_session.specs.Groups.{AreEnded}
-use Rattle.pot_session.specs.Serving.{still, LeaveTables, LeavesRecords, Leaves, IsBegun, IsCloseStop, Closes, first_failure}
+use Rattle.pot_rows.specs.Rows.{view_at}
+use Rattle.pot_rows.proofs.RowLemmas.{at_past, below_or_past}
+use Rattle.pot_replies.specs.Sessions.{ByNobody}
+use Rattle.pot_shared.specs.Members.{entries_of}
+use Rattle.pot_shared.specs.Ready.{GroupPass}
+use Rattle.pot_shared.specs.Catalogs.{IndexPass}
+use Rattle.pot_store.specs.Works.{Known, section_of}
+use Rattle.pot_session.specs.Groups.{AreFirstPasses, records_read}
+use Rattle.pot_session.specs.Holding.{AreMeant}
+use Rattle.pot_session.specs.Serving.{still, Shows, Rooms, IsInHand, IsInRoom, IsBack, LeavesGroup, LeaveGroups, LeavesRecords, LeavesLogs, Leaves, IsBegun, IsCloseStop, Closes, HoldsAfter, first_failure}
 
 -- RELAYS ARE NOT WRITTEN
 
@@ -42,57 +54,98 @@ same_image v = ap (λ t. t ++ digest_bytes t) (same_text v)
 
 -- THE TABLES
 
-got_map : {X Y : Type 0} (f : X → Y) (xs : List X) (n : ℕ) (y : Y) → slice_get (map f xs) n ≡ Some y → (x : X) × (slice_get xs n ≡ Some x) × (f x ≡ y)
+pub got_map : {X Y : Type 0} (f : X → Y) (xs : List X) (n : ℕ) (y : Y) → slice_get (map f xs) n ≡ Some y → (x : X) × (slice_get xs n ≡ Some x) × (f x ≡ y)
 got_map f [] n y e = absurd (cc)
 got_map f (x ∷ xs) zero y e = (x, refl, same_Some (f x) y e)
 got_map f (x ∷ xs) (suc n) y e = got_map f xs n y e
 
-pub leave_tables : {M : Type 0} (see : M → GroupView) (ms : List M) → AreEnded see ms → LeaveTables (map (λ m. (see m).first) ms) (map (λ m. (see m).log) ms) (map still (map (λ m. (see m).table) ms))
-leave_tables see ms ended = record {
+pub leave_groups : {M : Type 0} (told : Type 0) (meant : ℕ → Meaning) (Has : Shelves → ℕ → Type 0) (see : M → GroupView) (ms : List M)
+    → ((n : ℕ) (m : M) → slice_get ms n ≡ Some m → LeavesGroup told meant Has (see m).first (see m).log (still (see m).table))
+    → LeaveGroups told meant Has (map (λ m. (see m).first) ms) (map (λ m. (see m).log) ms) (map still (map (λ m. (see m).table) ms))
+leave_groups told meant Has see ms leaves = record {
   count = length-map (map (λ m. (see m).table) ms) still ∙ (length-map ms (λ m. (see m).table) ∙ sym (length-map ms (λ m. (see m).first)));
   count_logs = length-map ms (λ m. (see m).log) ∙ sym (length-map ms (λ m. (see m).first));
   each = λ g t u log et eu el.
       (let a = got_map (λ m. (see m).first) ms g t et in let b = got_map (λ m. (see m).log) ms g log el in
       let d = got_map still (map (λ m. (see m).table) ms) g u eu in let f = got_map (λ m. (see m).table) ms g d.0 d.1 in
       let sb : b.0 ≡ a.0 = same_Some b.0 a.0 (sym b.1 ∙ a.1) in let sf : f.0 ≡ a.0 = same_Some f.0 a.0 (sym f.1 ∙ a.1) in
-      record {
-        now = (see a.0).table;
-        replays = subst (λ x. Replays x log (see a.0).table) a.2 (subst (λ x. Replays (see a.0).first x (see a.0).table) (ap (λ m. (see m).log) (sym sb) ∙ b.2) (ended.replays g a.0 a.1));
-        is = sym d.2 ∙ ap still (sym f.2 ∙ ap (λ m. (see m).table) sf);
-      });
+      let log_is : (see a.0).log ≡ log = ap (λ m. (see m).log) (sym sb) ∙ b.2 in
+      let written : still (see a.0).table ≡ u = ap still (ap (λ m. (see m).table) (sym sf) ∙ f.2) ∙ d.2 in
+      subst (λ x. LeavesGroup told meant Has x log u) a.2 (subst (λ x. LeavesGroup told meant Has (see a.0).first x u) log_is
+      (subst (λ x. LeavesGroup told meant Has (see a.0).first (see a.0).log x) written (leaves g a.0 a.1))));
 }
+
+-- what is known of the archives, by another word
+pub other_groups : (told : Type 0) (meant : ℕ → Meaning) (Has Is : Shelves → ℕ → Type 0) (read : List Table) (logs : List (List Entry)) (written : List Table) → ((s : Shelves) (n : ℕ) → Has s n → Is s n)
+    → LeaveGroups told meant Has read logs written → LeaveGroups told meant Is read logs written
+other_groups told meant Has Is read logs written is l = record {
+  count = l.count;
+  count_logs = l.count_logs;
+  each = λ g t u log et eu el. (let x = l.each g t u log et eu el in record {
+    view = x.view;
+    first = x.first;
+    is_log = x.is_log;
+    is = x.is;
+    settled = x.settled;
+    marked = x.marked;
+    archives = λ n has. is x.view.shelves n (x.archives n has);
+  });
+}
+
+-- archives that were in the hand are in the room, where it took all back
+in_room : {A : Type 0} (meaning : A → Meaning) (hand : List (Shelf A)) (rooms : Rooms) (given : Result (Unit {0}) Failed) (kept : Result (Unit {0}) Stop) → (rooms.told → OnOk given (AreMeant meaning rooms.means hand))
+    → (s : Shelves) (n : ℕ) → IsInHand meaning hand s n → IsInRoom rooms (IsBack (first_failure given kept)) s n
+in_room meaning hand rooms (Ok u) kept are s n (x, has, e, shows) told back = subst (λ k. Shows s n (rooms.means k)) e (record {
+  blocks = λ slot. shows.blocks slot ∙ (are told x has).blocks slot;
+  sums = shows.sums ∙ (are told x has).sums;
+  faults = shows.faults ∙ (are told x has).faulted;
+  losses = shows.losses ∙ (are told x has).lost;
+})
+in_room meaning hand rooms (Err f) kept are s n has told back = absurd (back refl)
 
 -- THE ANSWER
 
-pub closes : (first last left : Contents) (holds : Option (List ℕ)) (given : Result (Unit {0}) Failed) (kept : Result (Unit {0}) Stop) → Leaves first left → image_bytes left ≡ image_bytes last
-    → Keeps (Some (image_bytes first)) holds (image_bytes last) kept → Closes first holds (first_failure given kept)
-closes first last left holds (Ok u) (Ok v) leaves e k = (left, leaves, k ∙ ap (λ b. Some b) (sym e))
-closes first last left holds (Ok u) (Err stop.DeskFault) leaves e k = (left, leaves, at_bytes k)
+holds_after : (first last left : Contents) (holds : Option (List ℕ)) (given : Result (Unit {0}) Failed) (kept : Result (Unit {0}) Stop) → image_bytes left ≡ image_bytes last
+    → Keeps (Some (image_bytes first)) holds (image_bytes last) kept → HoldsAfter first left holds (first_failure given kept)
+holds_after first last left holds given kept e k = by_both given kept k
   where
-    at_bytes : (holds ≡ Some (image_bytes first)) ⊎ ((holds ≡ Some (image_bytes last)) ⊎ (holds ≡ None)) → (holds ≡ Some (image_bytes first)) ⊎ ((holds ≡ Some (image_bytes left)) ⊎ (holds ≡ None))
-    at_bytes (inl x) = inl x
-    at_bytes (inr (inl x)) = inr (inl (x ∙ ap (λ b. Some b) (sym e)))
-    at_bytes (inr (inr x)) = inr (inr x)
-closes first last left holds (Ok u) (Err stop.NoMemory) leaves e k = (left, leaves, inl k)
-closes first last left holds (Ok u) (Err _) leaves e k = absurd k
-closes first last left holds (Err f) (Ok v) leaves e k = (left, leaves, inr (inl (k ∙ ap (λ b. Some b) (sym e))))
-closes first last left holds (Err f) (Err stop.DeskFault) leaves e k = (left, leaves, at_bytes k)
+    at_bytes : IsLeft (Some (image_bytes first)) (image_bytes last) holds → IsLeft (Some (image_bytes first)) (image_bytes left) holds
+    at_bytes l = subst (λ b. IsLeft (Some (image_bytes first)) b holds) (sym e) l
+
+    by_both : (given : Result (Unit {0}) Failed) (kept : Result (Unit {0}) Stop) → Keeps (Some (image_bytes first)) holds (image_bytes last) kept → HoldsAfter first left holds (first_failure given kept)
+    by_both (Ok u) (Ok v) k = k ∙ ap (λ b. Some b) (sym e)
+    by_both (Ok u) (Err stop.DeskFault) k = at_bytes k
+    by_both (Ok u) (Err stop.NoMemory) k = inl k
+    by_both (Ok u) (Err _) k = absurd k
+    by_both (Err f) (Ok v) k = inr (inl (k ∙ ap (λ b. Some b) (sym e)))
+    by_both (Err f) (Err stop.DeskFault) k = at_bytes k
+    by_both (Err f) (Err stop.NoMemory) k = inl k
+    by_both (Err f) (Err _) k = absurd k
+
+-- what was seen at the start of a session: what the openings logged, which is of no job, and nothing of the index
+opened_by : (old : Known) → AreFirstPasses old.groups old.index → (g : ℕ) → ByNobody (entries_of (view_at old.groups g).seen)
+opened_by old first g = elim (below_or_past g (length old.groups.names)) [
+  | inl l ↦ (let p = first.each g l in subst (λ (v : GroupPass). ByNobody (entries_of v.seen)) (sym p.is) p.nobody)
+  | inr l ↦ subst (λ (v : GroupPass). ByNobody (entries_of v.seen)) (sym (at_past old.groups.names old.groups g (refl, first.count) l)) of_none
+]
   where
-    at_bytes : (holds ≡ Some (image_bytes first)) ⊎ ((holds ≡ Some (image_bytes last)) ⊎ (holds ≡ None)) → (holds ≡ Some (image_bytes first)) ⊎ ((holds ≡ Some (image_bytes left)) ⊎ (holds ≡ None))
-    at_bytes (inl x) = inl x
-    at_bytes (inr (inl x)) = inr (inl (x ∙ ap (λ b. Some b) (sym e)))
-    at_bytes (inr (inr x)) = inr (inr x)
-closes first last left holds (Err f) (Err stop.NoMemory) leaves e k = (left, leaves, inl k)
-closes first last left holds (Err f) (Err _) leaves e k = absurd k
+    of_none : ByNobody []
+    of_none [] y e q = absurd (cc q)
+    of_none (x ∷ xs) y e q = absurd (cc q)
 
 -- what the image of a close is, from its parts
-pub leaves_of : (rack : Rack) (read : List Table) (records : List Record) (first last : Contents) → IsBegun first last.session last.rack read records → last.rack ≡ rack
-    → LeaveTables read last.group_logs (map still last.tables) → LeavesRecords rack records last.index_log last.records → Leaves first (record last { tables = map still last.tables })
-leaves_of rack read records first last b same tables left = record {
+leaves_of : (read : List Table) (old new : Known) (rooms : Rooms) (back : Type 0) (first last : Contents) → AreFirstPasses old.groups old.index → IsBegun first last.session last.rack read (records_read new.index)
+    → LeaveGroups rooms.told rooms.meant (IsInRoom rooms back) read last.group_logs (map still last.tables) → LeavesLogs old new last.rack last.group_logs last.index_log last.records
+    → Leaves rooms back first (record last { tables = map still last.tables }) (section_of old new)
+leaves_of read old new rooms back first last opened b groups left = record {
   session = sym b.is_session;
   rack = sym b.is_rack;
-  tables = subst (λ ts. LeaveTables ts last.group_logs (map still last.tables)) (sym b.are_tables) tables;
-  records = subst (λ rs. LeavesRecords first.rack rs last.index_log last.records) (sym b.are_records) (subst (λ r. LeavesRecords r records last.index_log last.records) (sym (b.is_rack ∙ same)) left);
+  groups = subst (λ ts. LeaveGroups rooms.told rooms.meant (IsInRoom rooms back) ts last.group_logs (map still last.tables)) (sym b.are_tables) groups;
+  records = subst (λ r. LeavesRecords r first.records (section_of old new).index_added last.index_log last.records) (sym b.is_rack)
+      (subst (λ rs. LeavesRecords last.rack rs (section_of old new).index_added last.index_log last.records) (sym b.are_records) left.records);
+  logs = left.are_logs;
+  opened = opened_by old opened;
+  index_opened = ap (λ (v : IndexPass). v.seen) opened.index_first;
 }
 
 pub close_stop : (given : Result (Unit {0}) Failed) (kept : Result (Unit {0}) Stop) → IfErr kept IsKeepStop → IsCloseStop (first_failure given kept)
@@ -113,10 +166,16 @@ pub desk_failure : (given : Result (Unit {0}) Failed) (kept : Result (Unit {0}) 
 desk_failure (Err f) kept e = absurd (cc)
 desk_failure (Ok u) kept e = e
 
--- what the desk holds after a close
-pub close_told : (rack : Rack) (read : List Table) (records : List Record) (first last : Contents) (before holds : Option (List ℕ)) (given : Result (Unit {0}) Failed) (kept : Result (Unit {0}) Stop)
-    → Keeps before holds (image_bytes last) kept → before ≡ Some (image_bytes first) → IsBegun first last.session last.rack read records → last.rack ≡ rack
-    → LeaveTables read last.group_logs (map still last.tables) → LeavesRecords rack records last.index_log last.records → Closes first holds (first_failure given kept)
-close_told rack read records first last before holds given kept k held b same tables left =
-    closes first last (record last { tables = map still last.tables }) holds given kept (leaves_of rack read records first last b same tables left) (same_image last)
-    (subst (λ h. Keeps h holds (image_bytes last) kept) held k)
+-- a close leaves the image of what its vault left
+pub closes : {A : Type 0} (meaning : A → Meaning) (hand : List (Shelf A)) (rooms : Rooms) (read : List Table) (old new : Known) (rack : Rack) (told : Type 0) (first last : Contents) (before holds : Option (List ℕ))
+    (given : Result (Unit {0}) Failed) (kept : Result (Unit {0}) Stop) → (told → Keeps before holds (image_bytes last) kept) → (rooms.told → OnOk given (AreMeant meaning rooms.means hand)) → AreFirstPasses old.groups old.index
+    → IsBegun first last.session last.rack read (records_read new.index) → last.rack ≡ rack → LeaveGroups rooms.told rooms.meant (IsInHand meaning hand) read last.group_logs (map still last.tables)
+    → LeavesLogs old new rack last.group_logs last.index_log last.records → Closes old new rooms (told × (before ≡ Some (image_bytes first))) first holds (first_failure given kept)
+closes meaning hand rooms read old new rack told first last before holds given kept k are opened b same groups left = record {
+  last = record last { tables = map still last.tables };
+  sole = left.sole;
+  leaves = leaves_of read old new rooms (IsBack (first_failure given kept)) first last opened b
+      (other_groups rooms.told rooms.meant (IsInHand meaning hand) (IsInRoom rooms (IsBack (first_failure given kept))) read last.group_logs (map still last.tables) (in_room meaning hand rooms given kept are) groups)
+      (subst (λ r. LeavesLogs old new r last.group_logs last.index_log last.records) (sym same) left);
+  desk = λ t. holds_after first last (record last { tables = map still last.tables }) holds given kept (same_image last) (subst (λ h. Keeps h holds (image_bytes last) kept) t.1 (k t.0));
+}

@@ -26,9 +26,12 @@ use Rattle.pot_shared.specs.Members.{kept_log, origin_of, entries_of}
 use Rattle.pot_shared.specs.Ready.{GroupPass, GroupPasses, AreReady}
 use Rattle.pot_shared.specs.Catalogs.{IndexPass, IndexPasses, IsIndexReady, IsKept}
 use Rattle.pot_shared.specs.Sharing.{Ends}
+use Rattle.pot_store.specs.Works.{Known, known, gained}
+use Rattle.pot_commands.specs.Ends.{AllSole}
 use Rattle.pot_session.specs.Groups.{IsFirstPass, AreServed, table_read, tables_read}
 use Rattle.pot_session.proofs.Lists.{at_place}
 use Rattle.pot_session.proofs.OpenLemmas.{entries_kept, read_of}
+use Rattle.pot_session.proofs.WorkLemmas.{brought_none}
 
 first_gained : {E : Type 0} (xs : List E) → ((i : ℕ) (e : E) → slice_get xs i ≡ Some e → ⊥) → xs ≡ []
 first_gained [] h = refl
@@ -88,13 +91,13 @@ closed_firsts see rack names groups index ms ended ready e =
 -- ONE GROUP
 
 module _ {M : Type 0} (see : M → GroupView) (rack : Rack) (names turn : List TurnName) (groups : GroupPasses) (passes : IndexPasses) (ms : List M) (ended : IndexView)
-    (ready : AreReady rack names groups) (index_ready : IsIndexReady rack names turn passes) (s : AreServed groups passes)
+    (ready : AreReady rack names groups) (index_ready : IsIndexReady rack names turn passes) (old : Known) (s : AreServed old (known groups passes))
     (e : Ends (λ m. kept_log (see m)) (λ m. origin_of (see m)) rack names groups (view_at passes 0) ms ended) where
   members_long : length ms ≡ length names
   members_long = e.closed.count ∙ ap length e.whole_of.0
 
-  first_names : s.first_groups.names ≡ names
-  first_names = sym s.stays.names ∙ ready.of.0
+  first_names : old.groups.names ≡ names
+  first_names = sym s.stays.groups.names ∙ ready.of.0
 
   kept_at : (n : ℕ) → n < length names → IsKept (view_at e.kept n)
   kept_at n l = e.are_kept n (let a = ap length e.kept_names in omega (arith, l, a))
@@ -103,67 +106,73 @@ module _ {M : Type 0} (see : M → GroupView) (rack : Rack) (names turn : List T
   last n l = joined_went (view_at groups n) (view_at e.kept n) (view_at e.whole n) (e.joined n) (kept_at n l).1 (kept_at n l).2
 
   -- at the close the passes had been sole since the start
-  sole_whole : (n : ℕ) → n < length names → Sole (view_at s.first_groups n) (view_at e.whole n)
-  sole_whole n l = sole_at_close (view_at s.first_groups n) (view_at e.whole n) (went_in_parts (view_at s.first_groups n) (view_at groups n) (view_at e.whole n) (s.went n) (last n l).0) (record {
-    opened = (let a = ap (λ (v : GroupPass). length v.opened) (e.joined n).both in let b = ap length (s.stays.opened n) in
-        let c : length (view_at s.first_groups n).opened ≡ length (view_at s.first_groups n).seen = ap (λ (v : GroupPass). length v.opened) first.is ∙ sym (ap (λ (v : GroupPass). length v.seen) first.is) in
+  sole_whole : (n : ℕ) → n < length names → Sole (view_at old.groups n) (view_at e.whole n)
+  sole_whole n l = sole_at_close (view_at old.groups n) (view_at e.whole n) (went_in_parts (view_at old.groups n) (view_at groups n) (view_at e.whole n) (s.went.groups n) (last n l).0) (record {
+    opened = (let a = ap (λ (v : GroupPass). length v.opened) (e.joined n).both in let b = ap length (s.stays.groups.opened n) in
+        let c : length (view_at old.groups n).opened ≡ length (view_at old.groups n).seen = ap (λ (v : GroupPass). length v.opened) first.is ∙ sym (ap (λ (v : GroupPass). length v.seen) first.is) in
         omega (arith, a, b, c));
     fresh = ap (λ (v : GroupPass). stretches_of v) first.is;
     once = (let m = at_place ms n (let k = members_long in omega (arith, l, k)) in let closed = e.closed.each n m.0 m.1 in
         subst (λ log. IsOnceEach (view_at e.whole n).opened log (stretches_of (view_at e.whole n))) closed.seen closed.once);
   })
     where
-      first : IsFirstPass n (view_at s.first_groups n)
+      first : IsFirstPass n (view_at old.groups n)
       first = s.opened.each n (let a = ap length first_names in omega (arith, l, a))
 
-  sole_past : (n : ℕ) → length names ≤ n → Sole (view_at s.first_groups n) (view_at groups n)
+  sole_past : (n : ℕ) → length names ≤ n → Sole (view_at old.groups n) (view_at groups n)
   sole_past n l i x le q = absurd (let none : slice_get [] i ≡ Some x = subst (λ (v : GroupPass). slice_get v.seen i ≡ Some x) (at_past names groups n ready.of l) q in past i x none)
     where
       past : (i : ℕ) (x : Logged) → slice_get {X = Logged} [] i ≡ Some x → ⊥
       past i x h = (let b = slice_get_within {A = Logged} [] i x h in omega (arith, b))
 
-  pub sole_groups : RowSole s.first_groups groups
+  pub sole_groups : RowSole old.groups groups
   sole_groups n = elim (below_or_past n (length names)) [
-    | inl l ↦ (sole_in_parts (view_at s.first_groups n) (view_at groups n) (view_at e.whole n) (s.went n) (last n l).0 (sole_whole n l)).0
+    | inl l ↦ (sole_in_parts (view_at old.groups n) (view_at groups n) (view_at e.whole n) (s.went.groups n) (last n l).0 (sole_whole n l)).0
     | inr l ↦ sole_past n l
   ]
 
-  sole_first : Sole (view_at s.first_index 0) (view_at passes 0)
-  sole_first = sole_at_close (view_at s.first_index 0) (view_at passes 0) (s.went_index 0) (record {
-    opened = (let b = ap length (s.stays_index.opened 0) in let a = ap (λ (v : IndexPass). length v.opened) s.opened.index_first in let c = ap (λ (v : IndexPass). length v.seen) s.opened.index_first in
+  sole_first : Sole (view_at old.index 0) (view_at passes 0)
+  sole_first = sole_at_close (view_at old.index 0) (view_at passes 0) (s.went.index 0) (record {
+    opened = (let b = ap length (s.stays.index.opened 0) in let a = ap (λ (v : IndexPass). length v.opened) s.opened.index_first in let c = ap (λ (v : IndexPass). length v.seen) s.opened.index_first in
         omega (arith, a, b, c));
     fresh = ap (λ (v : IndexPass). stretches_of v) s.opened.index_first;
     once = subst (λ log. IsOnceEach (view_at passes 0).opened log (stretches_of (view_at passes 0))) e.index_closed.seen e.index_closed.once;
   })
 
-  sole_behind : (n : ℕ) → length turn ≤ n → Sole (view_at s.first_index n) (view_at passes n)
+  sole_behind : (n : ℕ) → length turn ≤ n → Sole (view_at old.index n) (view_at passes n)
   sole_behind n l i x le q = absurd (let none : slice_get [] i ≡ Some x = subst (λ (v : IndexPass). slice_get v.seen i ≡ Some x) (at_past turn passes n index_ready.of l) q in
       let b = slice_get_within [] i x none in omega (arith, b))
 
-  sole_index : RowSole s.first_index passes
+  sole_index : RowSole old.index passes
   sole_index zero = sole_first
   sole_index (suc n) = sole_behind (suc n) (let one = index_ready.one in omega (arith, one))
 
-  -- no group's log brought an archive
-  pub none_came : (n : ℕ) (m : M) → slice_get ms n ≡ Some m → arrivals (see m).log ≡ []
-  none_came n m q =
-      ap arrivals (sym (entries_kept (see m).shelves (see m).log) ∙ ap entries_of (closed.seen ∙ (whole_seen ∙ groups_seen)))
-      ∙ (ap arrivals (entries-append first.log (added (view_at s.first_groups n) (view_at groups n)))
-      ∙ (arrivals-append (entries_of first.log) (entries_of (added (view_at s.first_groups n) (view_at groups n)))
-      ∙ (ap (λ l. l ++ arrivals (entries_of (added (view_at s.first_groups n) (view_at groups n)))) first.none ∙ s.brings sole_groups sole_index n)))
+  pub sole_all : AllSole old (known groups passes)
+  sole_all = record { groups = sole_groups; index = sole_index }
+
+  first_pass : (n : ℕ) (m : M) → slice_get ms n ≡ Some m → IsFirstPass n (view_at old.groups n)
+  first_pass n m q = s.opened.each n (let a = ap length first_names in let l = slice_get_within ms n m q in let k = members_long in omega (arith, a, l, k))
+
+  -- each group's log is what the passes saw at first, and what they gained
+  pub closed_log : (n : ℕ) (m : M) → slice_get ms n ≡ Some m → (see m).log ≡ entries_of (view_at old.groups n).seen ++ gained old.groups groups n
+  closed_log n m q =
+      sym (entries_kept (see m).shelves (see m).log) ∙ (ap entries_of ((e.closed.each n m q).seen ∙ (whole_seen ∙ (s.went.groups n).seen))
+      ∙ entries-append (view_at old.groups n).seen (added (view_at old.groups n) (view_at groups n)))
     where
       below : n < length names
       below = (let l = slice_get_within ms n m q in let k = members_long in omega (arith, l, k))
 
-      closed : Closed (kept_log (see m)) (origin_of (see m)) (view_at e.whole n)
-      closed = e.closed.each n m q
-
-      first : IsFirstPass n (view_at s.first_groups n)
-      first = s.opened.each n (let a = ap length first_names in let b = below in omega (arith, a, b))
-
       whole_seen : (view_at e.whole n).seen ≡ (view_at groups n).seen
       whole_seen = (last n below).0.seen ∙ (ap (λ l. (view_at groups n).seen ++ l) (none_gained (view_at groups n) (view_at e.whole n) (last n below).0
-          (sole_in_parts (view_at s.first_groups n) (view_at groups n) (view_at e.whole n) (s.went n) (last n below).0 (sole_whole n below)).1 (last n below).1) ∙ append-nil (view_at groups n).seen)
+          (sole_in_parts (view_at old.groups n) (view_at groups n) (view_at e.whole n) (s.went.groups n) (last n below).0 (sole_whole n below)).1 (last n below).1) ∙ append-nil (view_at groups n).seen)
 
-      groups_seen : (view_at groups n).seen ≡ first.log ++ added (view_at s.first_groups n) (view_at groups n)
-      groups_seen = (s.went n).seen ∙ ap (λ l. l ++ added (view_at s.first_groups n) (view_at groups n)) (ap (λ (v : GroupPass). v.seen) first.is)
+  -- no group's log brought an archive
+  pub none_came : (n : ℕ) (m : M) → slice_get ms n ≡ Some m → arrivals (see m).log ≡ []
+  none_came n m q =
+      ap arrivals (closed_log n m q) ∙ (arrivals-append (entries_of (view_at old.groups n).seen) (gained old.groups groups n)
+      ∙ (ap (λ l. l ++ arrivals (gained old.groups groups n)) (ap (λ (v : GroupPass). arrivals (entries_of v.seen)) (first_pass n m q).is ∙ (first_pass n m q).none)
+      ∙ brought_none old (known groups passes) s.brings sole_all n))
+
+  -- the log of the index is what its passes gained
+  pub closed_story : ended.log ≡ added (view_at old.index 0) (view_at passes 0)
+  closed_story = e.index_closed.seen ∙ ((s.went.index 0).seen ∙ ap (λ (v : IndexPass). v.seen ++ added (view_at old.index 0) (view_at passes 0)) s.opened.index_first)

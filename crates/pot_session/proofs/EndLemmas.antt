@@ -1,8 +1,10 @@
 -- What a vault that ended leaves: its records, its tables, and the archives of its groups.
 use Rattle.std.proofs.Common.{◌≡◌, ◌<◌, ◌≤◌, ◌^◌, ◌++◌, ℕ, zero, suc, List, [], ◌∷◌, length, map, refl, sym, ap, subst, ◌∙◌, arith, append-nil, get_or}
-use Rattle.std.specs.Prelude.{Some, All, slice_get, flat_map}
+use Rattle.std.specs.Prelude.{Some, None, All, Contains, slice_get, flat_map}
 use Rattle.std.proofs.lemmas.List.{length-map}
 use Rattle.pot_bytes.specs.declared.rack.Rack.{Rack}
+use Rattle.pot_outside.specs.Archives.{Meaning}
+use Rattle.pot_outside.specs.declared.archive.Shelf.{Shelf}
 use Rattle.pot_machine.specs.Table.{Table}
 use Rattle.pot_machine.specs.declared.entry.Entry.{Entry}
 use Rattle.pot_index.specs.declared.entry.IndexEntry.{IndexEntry}
@@ -11,32 +13,25 @@ use Rattle.pot_index.specs.Entries.{entries}
 use Rattle.pot_index.specs.Index.{IndexView, IsIndex, names_read, Replays}
 use Rattle.pot_group.specs.Arrivals.{arrivals}
 use Rattle.pot_group.specs.Beginning.{archives_in}
-use Rattle.pot_group.specs.Group.{GroupView}
+use Rattle.pot_group.specs.Group.{GroupView, GroupParts, view_of}
+use Rattle.pot_group.specs.Shelves.{numbers_of, shelf_of, given, plain}
 use Rattle.pot_turn.specs.declared.name.TurnName.{TurnName}
+use Rattle.pot_worked.specs.Worked.{added}
 use Rattle.pot_rows.specs.Rows.{view_at}
-use Rattle.pot_shared.specs.Members.{kept_log, origin_of}
-use Rattle.pot_shared.specs.Ready.{GroupPasses, AreReady}
+use Rattle.pot_shared.specs.Members.{kept_log, origin_of, mark_at}
+use Rattle.pot_shared.specs.Ready.{GroupPass, GroupPasses, AreReady}
 use Rattle.pot_shared.specs.Catalogs.{IndexPasses, IsIndexReady}
 use Rattle.pot_shared.specs.Sharing.{Ends}
-use Rattle.pot_session.specs.Groups.{AreServed, AreEnded, had_by, tables_read, records_in, records_read}
-use Rattle.pot_session.specs.Serving.{LeavesRecords, LeaveTables, still}
-use Rattle.pot_session.proofs.CloseLemmas.{closed_firsts, none_came}
-use Rattle.pot_session.proofs.CloseImages.{leave_tables}
+use Rattle.pot_store.specs.Works.{Known, known}
+use Rattle.pot_session.specs.Groups.{AreServed, AreEnded, AreMarked, AreTakenAt, had_by, marks_of, tables_read, records_in, records_read}
+use Rattle.pot_session.specs.Serving.{IsInHand, LeavesRecords, LeavesLogs, LeaveGroups, still}
+use Rattle.pot_session.proofs.Lists.{same_at, flat_contains}
+use Rattle.pot_session.proofs.GroupLemmas.{find_shelf}
+use Rattle.pot_session.proofs.CloseLemmas.{closed_firsts, closed_log, closed_story, none_came, sole_all}
+use Rattle.pot_session.proofs.CloseImages.{got_map, leave_groups}
 use Rattle.pot_session.proofs.IndexCounts.{published_few}
 
 -- THE INDEX
-
-pub leave_records : {M : Type 0} (see : M → GroupView) (rack : Rack) (names : List TurnName) (groups : GroupPasses) (passes : IndexPasses) (ms : List M) (ended : IndexView)
-    → Ends (λ m. kept_log (see m)) (λ m. origin_of (see m)) rack names groups (view_at passes 0) ms ended
-    → (log : List IndexEntry) (records : List Record) → log ≡ entries ended.log → records ≡ ended.now.published → LeavesRecords rack (records_read passes) log records
-leave_records see rack names groups passes ms ended e log records el er = record {
-  story = ended.log;
-  ended = ended.now;
-  is_log = el;
-  replays = subst (λ rs. Replays rack (names_read rs) ended.log ended.now) (ap records_in e.index_closed.named)
-      (subst (λ r. Replays r (names_read ended.read) ended.log ended.now) e.index_rack e.is_index.replays);
-  is = er;
-}
 
 -- it has no more records than an image may have, and its log no more entries
 pub few_records : (s : IndexView) (records : List Record) → IsIndex s → records ≡ s.now.published → length records < 2 ^ 32
@@ -56,23 +51,84 @@ had_maps see (m ∷ ms) h =
     ∙ ap (λ l. archives_in (see m).first ++ l) (had_maps see ms (λ n x q. h (suc n) x q))
 
 module _ {M : Type 0} (see : M → GroupView) (rack : Rack) (names turn : List TurnName) (groups : GroupPasses) (passes : IndexPasses) (ms : List M) (ended : IndexView)
-    (ready : AreReady rack names groups) (index_ready : IsIndexReady rack names turn passes) (s : AreServed groups passes) (e : Ends (λ m. kept_log (see m)) (λ m. origin_of (see m)) rack names groups (view_at passes 0) ms ended) where
+    (ready : AreReady rack names groups) (index_ready : IsIndexReady rack names turn passes) (old : Known) (s : AreServed old (known groups passes)) (e : Ends (λ m. kept_log (see m)) (λ m. origin_of (see m)) rack names groups (view_at passes 0) ms ended) where
   firsts : map (λ m. (see m).first) ms ≡ tables_read groups
   firsts = closed_firsts see rack names groups (view_at passes 0) ms ended ready e
 
   -- the archives of the groups are those of the tables that they began with
   pub closed_had : flat_map (λ m. had_by (see m)) ms ≡ flat_map archives_in (tables_read groups)
-  closed_had = had_maps see ms (none_came see rack names turn groups passes ms ended ready index_ready s e) ∙ ap (flat_map archives_in) firsts
+  closed_had = had_maps see ms (none_came see rack names turn groups passes ms ended ready index_ready old s e) ∙ ap (flat_map archives_in) firsts
 
   pub closed_long : length ms ≡ length (tables_read groups)
   closed_long = sym (length-map ms (λ m. (see m).first)) ∙ ap length firsts
 
-  pub closed_tables : AreEnded see ms → (logs : List (List Entry)) (tables : List Table) → logs ≡ map (λ m. (see m).log) ms → tables ≡ map (λ m. (see m).table) ms
-      → LeaveTables (tables_read groups) logs (map still tables)
-  closed_tables ended logs tables el et =
-      subst (λ ts. LeaveTables ts logs (map still tables)) firsts
-      (subst (λ ls. LeaveTables (map (λ m. (see m).first) ms) ls (map still tables)) (sym el)
-      (subst (λ ts. LeaveTables (map (λ m. (see m).first) ms) (map (λ m. (see m).log) ms) (map still ts)) (sym et) (leave_tables see ms ended)))
+  -- its log leads from the records read to those that are left, and it is what the passes gained
+  closed_records : (log : List IndexEntry) (records : List Record) → log ≡ entries ended.log → records ≡ ended.now.published
+      → LeavesRecords rack (records_read passes) (added (view_at old.index 0) (view_at passes 0)) log records
+  closed_records log records el er = subst (λ story. LeavesRecords rack (records_read passes) story log records) (closed_story see rack names turn groups passes ms ended ready index_ready old s e) (record {
+    ended = ended.now;
+    is_log = el;
+    replays = subst (λ rs. Replays rack (names_read rs) ended.log ended.now) (ap records_in e.index_closed.named)
+        (subst (λ r. Replays r (names_read ended.read) ended.log ended.now) e.index_rack e.is_index.replays);
+    is = er;
+  })
+
+  -- what the vault leaves
+  pub closed_leaves : (logs : List (List Entry)) (log : List IndexEntry) (records : List Record) → logs ≡ map (λ m. (see m).log) ms → log ≡ entries ended.log → records ≡ ended.now.published
+      → LeavesLogs old (known groups passes) rack logs log records
+  closed_leaves logs log records eg el er = record {
+    sole = sole_all see rack names turn groups passes ms ended ready index_ready old s e;
+    are_logs = λ n l q. (let m = got_map (λ m. (see m).log) ms n l (subst (λ ls. slice_get ls n ≡ Some l) eg q) in
+        sym m.2 ∙ closed_log see rack names turn groups passes ms ended ready index_ready old s e n m.0 m.1);
+    records = closed_records log records el er;
+  }
+
+-- WHAT THE GROUPS LEAVE
+
+module _ {A M : Type 0} (told : Type 0) (meaning : A → Meaning) (parts : M → GroupParts A) (rack : Rack) (names turn : List TurnName) (groups : GroupPasses) (passes : IndexPasses) (ms : List M) (ended : IndexView)
+    (ready : AreReady rack names groups) (index_ready : IsIndexReady rack names turn passes) (old : Known) (s : AreServed old (known groups passes))
+    (e : Ends (λ m. kept_log (view_of meaning (parts m))) (λ m. origin_of (view_of meaning (parts m))) rack names groups (view_at passes 0) ms ended) (all : AreEnded told (λ m. view_of meaning (parts m)) ms)
+    (meant : ℕ → Meaning) (taken : told → AreTakenAt meant old.groups) (hand : List (Shelf A)) (is_hand : hand ≡ flat_map (λ m. (parts m).archives.shelves) ms) where
+  -- the marks of its archives are those that the first passes know
+  marked : (n : ℕ) (m : M) → slice_get ms n ≡ Some m → told → AreMarked meant (parts m).first (plain meaning (parts m).archives)
+  marked n m q t k has = same_at (mark_at (plain meaning (parts m).archives)) (λ x. marks_of (meant x)) (archives_in (parts m).first) k
+      (taken t n (origin_of (view_of meaning (parts m))) (sym (s.stays.groups.origin n) ∙ (sym (ap (λ (v : GroupPass). v.origin) (e.joined n).both) ∙ sym (e.closed.each n m q).named))) has
+
+  -- its archives are in the hand
+  handed : (n : ℕ) (m : M) → slice_get ms n ≡ Some m → (k : ℕ) → Contains (archives_in (parts m).first) k → IsInHand meaning hand (plain meaning (parts m).archives) k
+  handed n m q k has = (
+    found.0,
+    subst (λ ss. Contains ss found.0) (sym is_hand) (flat_contains (λ x. (parts x).archives.shelves) ms n m found.0 q found.3),
+    found.2,
+    record {
+      blocks = λ slot. ap (λ o. given (λ x. (meaning x).held slot) None o) found.1;
+      sums = ap (λ o. given (λ x. (meaning x).heard) [] o) found.1;
+      faults = ap (λ o. given (λ x. (meaning x).faults) 0 o) found.1;
+      losses = ap (λ o. given (λ x. (meaning x).losses) 0 o) found.1;
+    },
+  )
+    where
+      numbers : numbers_of (parts m).archives.shelves ≡ archives_in (parts m).first
+      numbers = (all n m q).arrived ∙ (ap (λ l. archives_in (parts m).first ++ l) (none_came (λ x. view_of meaning (parts x)) rack names turn groups passes ms ended ready index_ready old s e n m q) ∙ append-nil (archives_in (parts m).first))
+
+      found : (x : Shelf A) × (shelf_of (parts m).archives.shelves k ≡ Some x) × (x.number ≡ k) × Contains (parts m).archives.shelves x
+      found = find_shelf (parts m).archives.shelves k (subst (λ ns. Contains ns k) (sym numbers) has)
+
+  pub closed_groups : (logs : List (List Entry)) (tables : List Table) → logs ≡ map (λ m. (parts m).log) ms → tables ≡ map (λ m. (parts m).table) ms
+      → LeaveGroups told meant (IsInHand meaning hand) (tables_read groups) logs (map still tables)
+  closed_groups logs tables el et =
+      subst (λ ts. LeaveGroups told meant (IsInHand meaning hand) ts logs (map still tables)) (closed_firsts (λ m. view_of meaning (parts m)) rack names groups (view_at passes 0) ms ended ready e)
+      (subst (λ ls. LeaveGroups told meant (IsInHand meaning hand) (map (λ m. (parts m).first) ms) ls (map still tables)) (sym el)
+      (subst (λ ts. LeaveGroups told meant (IsInHand meaning hand) (map (λ m. (parts m).first) ms) (map (λ m. (parts m).log) ms) (map still ts)) (sym et)
+      (leave_groups told meant (IsInHand meaning hand) (λ m. view_of meaning (parts m)) ms (λ n m q. record {
+        view = view_of meaning (parts m);
+        first = refl;
+        is_log = refl;
+        is = refl;
+        settled = (all n m q).settled;
+        marked = marked n m q;
+        archives = handed n m q;
+      }))))
 
 -- each log has no more entries than an image may have
 few_logs : {M : Type 0} (see : M → GroupView) (ms : List M) → ((n : ℕ) (m : M) → slice_get ms n ≡ Some m → length (see m).log ≤ 262144) → (logs : List (List Entry)) → logs ≡ map (λ m. (see m).log) ms
@@ -83,5 +139,5 @@ few_logs see (m ∷ ms) few logs e (suc k) d l =
     subst (λ ls. length (get_or ls (suc k) d) < 2 ^ 32) (sym e)
     (few_logs see ms (λ n x q. few (suc n) x q) (map (λ x. (see x).log) ms) refl k d (let n = ap length e in omega (arith, n, l)))
 
-pub all_few : {M : Type 0} (see : M → GroupView) (ms : List M) → AreEnded see ms → (logs : List (List Entry)) → logs ≡ map (λ m. (see m).log) ms → All (λ (l : List Entry). length l < 2 ^ 32) logs
-all_few see ms ended logs e = λ k d l. few_logs see ms ended.few logs e k d l
+pub all_few : {M : Type 0} (told : Type 0) (see : M → GroupView) (ms : List M) → AreEnded told see ms → (logs : List (List Entry)) → logs ≡ map (λ m. (see m).log) ms → All (λ (l : List Entry). length l < 2 ^ 32) logs
+all_few told see ms ended logs e = λ k d l. few_logs see ms (λ n m q. (ended n m q).settled.bound) logs e k d l

@@ -1,26 +1,42 @@
 -- Groups that were started, and that end one by one.
-use Rattle.std.proofs.Common.{◌≡◌, ◌≤◌, ◌+◌, ◌++◌, ℕ, List, [], ◌∷◌, length, take, drop, map, refl, sym, ap, subst, ◌∙◌, arith, append_assoc, append-nil, length-append}
-use Rattle.std.specs.Prelude.{Some, All, slice_get, flat_map}
+use Rattle.std.proofs.Common.{◌≡◌, ◌≤◌, ◌+◌, ◌++◌, inl, inr, ℕ, zero, suc, List, [], ◌∷◌, length, take, drop, map, refl, sym, ap, subst, ◌∙◌, arith, append_assoc, append-nil, length-append}
+use Rattle.std.specs.Prelude.{Some, All, Contains, slice_get, flat_map}
 use Rattle.std.proofs.Math.Seq.{take-append_seam, drop-append_seam}
 use Rattle.std.proofs.lemmas.Grind.{flat_map-append}
+use Rattle.std.proofs.lemmas.List.Elements.{All-head, All-tail}
 use Rattle.pot_bytes.specs.declared.rack.Rack.{Rack}
 use Rattle.pot_image.specs.Rules.{FitsTable}
 use Rattle.std.proofs.lemmas.List.{map-append, length-map, append_cancel_left, take-append-drop}
-use Rattle.pot_outside.specs.Archives.{Meaning}
+use Rattle.std.proofs.lemmas.Bool.Decides.{eqb_tells}
+use Rattle.pot_outside.specs.Archives.{Meaning, IsMeant}
+use Rattle.pot_outside.specs.declared.archive.Marks.{Marks}
 use Rattle.pot_outside.specs.declared.archive.Shelf.{Shelf}
 use Rattle.pot_machine.specs.declared.entry.Entry.{Entry}
-use Rattle.pot_machine.specs.Machine.{Replays}
-use Rattle.pot_machine.specs.Table.{Table}
+use Rattle.pot_machine.specs.declared.entry.Entry.TheVariants.{Gone, Broke}
+use Rattle.pot_machine.specs.Table.{Table, width}
 use Rattle.pot_group.specs.Arrivals.{arrivals, HasArrived}
 use Rattle.pot_group.specs.Beginning.{Begins, archives_in}
 use Rattle.pot_group.specs.Group.{GroupView, GroupParts, view_of}
-use Rattle.pot_group.specs.Shelves.{numbers_of}
-use Rattle.pot_session.specs.Groups.{IsStarted, AreStarted, AreEnded, had_by}
-use Rattle.pot_session.specs.Holding.{times, AreSame}
+use Rattle.pot_group.specs.Shelves.{numbers_of, shelf_of, given, plain}
+use Rattle.pot_group.proofs.CauseLemmas.{OfOpening, opening_entries}
+use Rattle.pot_replies.specs.Jobs.{job_of}
+use Rattle.pot_shared.specs.Members.{mark_at}
+use Rattle.pot_session.specs.Groups.{IsStarted, IsEnded, AreStarted, AreMarked, AreEnded, had_by, marks_of}
+use Rattle.pot_session.specs.Holding.{times, AreSame, AreMeant}
 use Rattle.pot_session.proofs.Lists.{each_more, pair_more, same_flat, flat_snoc, flat_parts, grown, all_at}
+use Rattle.pot_session.proofs.MeantLemmas.{none_contained}
 use Rattle.pot_session.proofs.OutLemmas.{times-append}
 
 -- A START
+
+of_opening : (e : Entry) → OfOpening e → job_of e ≡ 0
+of_opening (Gone job s c) h = h
+of_opening (Broke job s c) h = h
+of_opening _ h = absurd h
+
+by_nobody : (log x y : List Entry) (e : Entry) → All OfOpening log → log ≡ x ++ e ∷ y → job_of e ≡ 0
+by_nobody log [] y e all q = of_opening e (All-head OfOpening e y (subst (λ l. All OfOpening l) q all))
+by_nobody log (f ∷ x) y e all q = by_nobody (x ++ e ∷ y) x y e (All-tail OfOpening f (x ++ e ∷ y) (subst (λ l. All OfOpening l) q all)) refl
 
 pub started_of : {A : Type 0} (told : Type 0) (meaning : A → Meaning) (number : ℕ) (t : Table) (handed : List (Shelf A)) (g : GroupParts A) → Begins told meaning number t handed g
     → numbers_of handed ≡ archives_in t → HasArrived g.first g.log (numbers_of g.archives.shelves) → IsStarted number t (view_of meaning g)
@@ -29,7 +45,43 @@ started_of told meaning number t handed g b e arrived = record {
   first = b.first;
   none = append_cancel_left (archives_in t) (arrivals g.log) []
       (ap (λ x. archives_in x ++ arrivals g.log) (sym b.first) ∙ (sym arrived ∙ (b.opens.stays.keeps.numbers ∙ (ap numbers_of b.shelves ∙ (e ∙ sym (append-nil (archives_in t)))))));
+  nobody = λ x y entry q. by_nobody g.log x y entry (subst (λ l. All OfOpening l) (sym b.opens.log) (opening_entries (width t) t.stripes b.opens.gone b.opens.broke)) q;
 }
+
+-- an archive that has a number is found by it
+pub find_shelf : {A : Type 0} (ss : List (Shelf A)) (n : ℕ) → Contains (numbers_of ss) n → (s : Shelf A) × (shelf_of ss n ≡ Some s) × (s.number ≡ n) × Contains ss s
+find_shelf [] n has = absurd (none_contained n has)
+find_shelf (x ∷ xs) n has = elim (eqb_tells x.number n) [
+  | inl t ↦ (x, rw t.0 refl, t.1, (0, omega arith, refl))
+  | inr t ↦ (let h = find_shelf xs n (later t.1 has) in (h.0, rw t.0 h.1, h.2, (suc h.3.0, (let l = h.3.1 in omega (arith, l)), h.3.2)))
+]
+  where
+    later : (x.number ≡ n → ⊥) → Contains (x.number ∷ numbers_of xs) n → Contains (numbers_of xs) n
+    later ne (zero, l, e) = absurd (ne e)
+    later ne (suc k, l, e) = (k, omega (arith, l), e)
+
+-- the marks of its archives are what the room meant
+pub marked_of : {A : Type 0} (told : Type 0) (meaning : A → Meaning) (meant : ℕ → Meaning) (number : ℕ) (t : Table) (handed : List (Shelf A)) (g : GroupParts A) → told → Begins told meaning number t handed g
+    → numbers_of handed ≡ archives_in t → AreMeant meaning meant handed → AreMarked meant t (view_of meaning g).shelves
+marked_of {A} told meaning meant number t handed g tells b e are n has = same
+  where
+    found : (s : Shelf A) × (shelf_of b.taken.shelves n ≡ Some s) × (s.number ≡ n) × Contains b.taken.shelves s
+    found = find_shelf b.taken.shelves n (subst (λ ss. Contains (numbers_of ss) n) (sym b.shelves) (subst (λ ns. Contains ns n) (sym e) has))
+
+    is : IsMeant (meant n) (meaning found.0.archive)
+    is = subst (λ k. IsMeant (meant k) (meaning found.0.archive)) found.2 (are found.0 (subst (λ ss. Contains ss found.0) b.shelves found.3))
+
+    faulted : (plain meaning g.archives).faults_taken n ≡ (meant n).faults
+    faulted = b.opens.stays.keeps.faults_taken n ∙ (b.marks.faults n ∙ (ap (λ o. given (λ x. (meaning x).faults) 0 o) found.1 ∙ is.faulted))
+
+    lost : (plain meaning g.archives).losses_taken n ≡ (meant n).losses
+    lost = b.opens.stays.keeps.losses_taken n ∙ (b.marks.losses tells n ∙ (ap (λ o. given (λ x. (meaning x).losses) 0 o) found.1 ∙ is.lost))
+
+    marks : ℕ → ℕ → Marks
+    marks f l = record { faults = f; losses = l }
+
+    same : mark_at (plain meaning g.archives) n ≡ marks_of (meant n)
+    same = ap (λ f. marks f ((plain meaning g.archives).losses_taken n)) faulted ∙ ap (λ l. marks (meant n).faults l) lost
 
 -- the archives of a group that was started are those of its table
 pub had_started : (number : ℕ) (t : Table) (g : GroupView) → IsStarted number t g → had_by g ≡ archives_in t
@@ -88,66 +140,71 @@ all_there see all left members hand now s same n =
 -- AN END
 
 -- the first groups came to what remains, and these are left
-pub record EndedSofar {M : Type 0} (see : M → GroupView) (all left : List M) (t0 t : List Table) (l0 l : List (List Entry)) (h0 h : List ℕ) : Type 0 where
+pub record EndedSofar {M X : Type 0} (told : Type 0) (see : M → GroupView) (hold : M → List X) (all left : List M) (t0 t : List Table) (l0 l : List (List Entry)) (h0 h : List ℕ) (x0 x : List X) : Type 0 where
   pub done : List M
   pub parts : all ≡ done ++ left
   pub tables : t ≡ t0 ++ map (λ m. (see m).table) done
   pub logs : l ≡ l0 ++ map (λ m. (see m).log) done
   pub hand : h ≡ h0 ++ flat_map (λ m. had_by (see m)) done
-  pub replays : (n : ℕ) (m : M) → slice_get done n ≡ Some m → Replays (see m).first (see m).log (see m).table
-  pub few : (n : ℕ) (m : M) → slice_get done n ≡ Some m → length (see m).log ≤ 262144
+  pub shelves : x ≡ x0 ++ flat_map hold done
+  pub ended : (n : ℕ) (m : M) → slice_get done n ≡ Some m → IsEnded told (see m)
 
-pub none_ended : {M : Type 0} (see : M → GroupView) (all : List M) (t0 : List Table) (l0 : List (List Entry)) (h0 : List ℕ) → EndedSofar see all all t0 t0 l0 l0 h0 h0
-none_ended see all t0 l0 h0 = record {
+pub none_ended : {M X : Type 0} (told : Type 0) (see : M → GroupView) (hold : M → List X) (all : List M) (t0 : List Table) (l0 : List (List Entry)) (h0 : List ℕ) (x0 : List X) → EndedSofar told see hold all all t0 t0 l0 l0 h0 h0 x0 x0
+none_ended told see hold all t0 l0 h0 x0 = record {
   done = [];
   parts = refl;
   tables = sym (append-nil t0);
   logs = sym (append-nil l0);
   hand = sym (append-nil h0);
-  replays = λ n m e. absurd (cc);
-  few = λ n m e. absurd (cc);
+  shelves = sym (append-nil x0);
+  ended = λ n m e. absurd (cc);
 }
 
-pub one_ended : {M : Type 0} (see : M → GroupView) (all left rest : List M) (m : M) (t0 t u : List Table) (l0 l k : List (List Entry)) (h0 h j : List ℕ) → EndedSofar see all left t0 t l0 l h0 h → left ≡ m ∷ rest
-    → u ≡ t ++ (see m).table ∷ [] → k ≡ l ++ (see m).log ∷ [] → j ≡ h ++ had_by (see m) → Replays (see m).first (see m).log (see m).table → length (see m).log ≤ 262144 → EndedSofar see all rest t0 u l0 k h0 j
-one_ended see all left rest m t0 t u l0 l k h0 h j s el eu ek ej replays few = record {
+pub one_ended : {M X : Type 0} (told : Type 0) (see : M → GroupView) (hold : M → List X) (all left rest : List M) (m : M) (t0 t u : List Table) (l0 l k : List (List Entry)) (h0 h j : List ℕ) (x0 x y : List X)
+    → EndedSofar told see hold all left t0 t l0 l h0 h x0 x → left ≡ m ∷ rest → u ≡ t ++ (see m).table ∷ [] → k ≡ l ++ (see m).log ∷ [] → j ≡ h ++ had_by (see m) → y ≡ x ++ hold m → IsEnded told (see m)
+    → EndedSofar told see hold all rest t0 u l0 k h0 j x0 y
+one_ended told see hold all left rest m t0 t u l0 l k h0 h j x0 x y s el eu ek ej ey ended = record {
   done = s.done ++ m ∷ [];
-  parts = s.parts ∙ (ap (λ x. s.done ++ x) el ∙ sym (append_assoc s.done (m ∷ []) rest));
-  tables = grown t0 t u _ _ s.tables eu ∙ ap (λ x. t0 ++ x) (sym (map-append (λ x. (see x).table) s.done (m ∷ [])));
-  logs = grown l0 l k _ _ s.logs ek ∙ ap (λ x. l0 ++ x) (sym (map-append (λ x. (see x).log) s.done (m ∷ [])));
-  hand = grown h0 h j _ _ s.hand ej ∙ ap (λ x. h0 ++ x) (sym (flat_snoc (λ x. had_by (see x)) s.done m));
-  replays = each_more (λ x. Replays (see x).first (see x).log (see x).table) s.done m s.replays replays;
-  few = each_more (λ x. length (see x).log ≤ 262144) s.done m s.few few;
+  parts = s.parts ∙ (ap (λ z. s.done ++ z) el ∙ sym (append_assoc s.done (m ∷ []) rest));
+  tables = grown t0 t u _ _ s.tables eu ∙ ap (λ z. t0 ++ z) (sym (map-append (λ z. (see z).table) s.done (m ∷ [])));
+  logs = grown l0 l k _ _ s.logs ek ∙ ap (λ z. l0 ++ z) (sym (map-append (λ z. (see z).log) s.done (m ∷ [])));
+  hand = grown h0 h j _ _ s.hand ej ∙ ap (λ z. h0 ++ z) (sym (flat_snoc (λ z. had_by (see z)) s.done m));
+  shelves = grown x0 x y _ _ s.shelves ey ∙ ap (λ z. x0 ++ z) (sym (flat_snoc hold s.done m));
+  ended = each_more (λ z. IsEnded told (see z)) s.done m s.ended ended;
 }
 
 -- what all groups came to
-pub record AllEnded {M : Type 0} (see : M → GroupView) (all : List M) (t0 t : List Table) (l0 l : List (List Entry)) (h0 h : List ℕ) : Type 0 where
+pub record AllEnded {M X : Type 0} (told : Type 0) (see : M → GroupView) (hold : M → List X) (all : List M) (t0 t : List Table) (l0 l : List (List Entry)) (h0 h : List ℕ) (x0 x : List X) : Type 0 where
   pub tables : t ≡ t0 ++ map (λ m. (see m).table) all
   pub logs : l ≡ l0 ++ map (λ m. (see m).log) all
   pub hand : h ≡ h0 ++ flat_map (λ m. had_by (see m)) all
-  pub ended : AreEnded see all
+  pub shelves : x ≡ x0 ++ flat_map hold all
+  pub ended : AreEnded told see all
 
-pub all_ended : {M : Type 0} (see : M → GroupView) (all left : List M) (t0 t : List Table) (l0 l : List (List Entry)) (h0 h : List ℕ) → EndedSofar see all left t0 t l0 l h0 h → left ≡ [] → AllEnded see all t0 t l0 l h0 h
-all_ended see all left t0 t l0 l h0 h s none = subst (λ x. AllEnded see x t0 t l0 l h0 h) (sym (s.parts ∙ (ap (λ x. s.done ++ x) none ∙ append-nil s.done))) (record {
+pub all_ended : {M X : Type 0} (told : Type 0) (see : M → GroupView) (hold : M → List X) (all left : List M) (t0 t : List Table) (l0 l : List (List Entry)) (h0 h : List ℕ) (x0 x : List X)
+    → EndedSofar told see hold all left t0 t l0 l h0 h x0 x → left ≡ [] → AllEnded told see hold all t0 t l0 l h0 h x0 x
+all_ended told see hold all left t0 t l0 l h0 h x0 x s none = subst (λ y. AllEnded told see hold y t0 t l0 l h0 h x0 x) (sym (s.parts ∙ (ap (λ y. s.done ++ y) none ∙ append-nil s.done))) (record {
   tables = s.tables;
   logs = s.logs;
   hand = s.hand;
-  ended = record { replays = s.replays; few = s.few };
+  shelves = s.shelves;
+  ended = s.ended;
 })
 
 -- how many are done and left
-pub ended_long : {M : Type 0} (see : M → GroupView) (all left : List M) (t0 t : List Table) (l0 l : List (List Entry)) (h0 h : List ℕ) → EndedSofar see all left t0 t l0 l h0 h
+pub ended_long : {M X : Type 0} (told : Type 0) (see : M → GroupView) (hold : M → List X) (all left : List M) (t0 t : List Table) (l0 l : List (List Entry)) (h0 h : List ℕ) (x0 x : List X) → EndedSofar told see hold all left t0 t l0 l h0 h x0 x
     → (length t + length left ≡ length t0 + length all) × (length l + length left ≡ length l0 + length all)
-ended_long see all left t0 t l0 l h0 h s =
+ended_long told see hold all left t0 t l0 l h0 h x0 x s =
     (let n = ap length s.parts in let m = length-append s.done left in
     let a = ap length s.tables in let b = length-append t0 (map (λ x. (see x).table) s.done) in let c = length-map s.done (λ x. (see x).table) in
     let d = ap length s.logs in let e = length-append l0 (map (λ x. (see x).log) s.done) in let f = length-map s.done (λ x. (see x).log) in
     (omega (arith, n, m, a, b, c), omega (arith, n, m, d, e, f)))
 
 -- the room that is taken, and that is still to be taken
-pub hand_room : {M : Type 0} (see : M → GroupView) (all left rest : List M) (m : M) (t0 t : List Table) (l0 l : List (List Entry)) (h0 h : List ℕ) → EndedSofar see all left t0 t l0 l h0 h → left ≡ m ∷ rest
+pub hand_room : {M X : Type 0} (told : Type 0) (see : M → GroupView) (hold : M → List X) (all left rest : List M) (m : M) (t0 t : List Table) (l0 l : List (List Entry)) (h0 h : List ℕ) (x0 x : List X)
+    → EndedSofar told see hold all left t0 t l0 l h0 h x0 x → left ≡ m ∷ rest
     → length h + (length (had_by (see m)) + length (flat_map (λ x. had_by (see x)) rest)) ≡ length h0 + length (flat_map (λ x. had_by (see x)) all)
-hand_room see all left rest m t0 t l0 l h0 h s el =
+hand_room told see hold all left rest m t0 t l0 l h0 h x0 x s el =
     (let n = ap length s.hand in let a = length-append h0 (flat_map (λ x. had_by (see x)) s.done) in
     let p = flat_parts (λ x. had_by (see x)) all s.done rest m (s.parts ∙ ap (λ x. s.done ++ x) el) in omega (arith, n, a, p))
 

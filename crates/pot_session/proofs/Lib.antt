@@ -8,6 +8,7 @@ pub mod EndLemmas
 pub mod GroupLemmas
 pub mod IndexCounts
 pub mod Lists
+pub mod MeantLemmas
 pub mod OpenLemmas
 pub mod OutLemmas
 pub mod Results

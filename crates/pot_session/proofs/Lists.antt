@@ -1,9 +1,9 @@
 -- Lists that are taken apart from the front, and grow at the end.
 use Rattle.std.proofs.Common.{◌≡◌, ◌<◌, ◌+◌, ◌++◌, ℕ, zero, suc, List, [], ◌∷◌, length, take, drop, get_or, map, refl, sym, ap, subst, ◌∙◌, arith, append_assoc, append-nil, length-append, eqb, false}
-use Rattle.std.specs.Prelude.{Some, slice_get, flat_map, All}
-use Rattle.std.proofs.lemmas.List.Elements.{All-head, All-tail}
+use Rattle.std.specs.Prelude.{Some, Contains, slice_get, flat_map, All}
+use Rattle.std.proofs.lemmas.List.Elements.{All-head, All-tail, Contains-append_left, Contains-append_right}
 use Rattle.std.specs.List.{remove}
-use Rattle.std.proofs.lemmas.List.{take_more, drop_more}
+use Rattle.std.proofs.lemmas.List.{take_more, drop_more, take-append-drop}
 use Rattle.std.proofs.lemmas.Grind.{flat_map-append}
 use Rattle.std.proofs.lemmas.Option.{same_Some}
 
@@ -95,3 +95,26 @@ pub all_at_place : {A : Type 0} (P : A → Type 0) (xs : List A) (n : ℕ) (x : 
 all_at_place P [] n x a e = absurd (cc)
 all_at_place P (y ∷ ys) zero x a e = subst P (same_Some y x e) (All-head P y ys a)
 all_at_place P (y ∷ ys) (suc n) x a e = all_at_place P ys n x (All-tail P y ys a) e
+
+-- parts of a list have elements of it
+pub take_contains : {X : Type 0} (xs : List X) (n : ℕ) (x : X) → Contains (take n xs) x → Contains xs x
+take_contains xs n x has = subst (λ ys. Contains ys x) (take-append-drop n xs) (Contains-append_left (take n xs) (drop n xs) x has)
+
+pub drop_contains : {X : Type 0} (xs : List X) (n : ℕ) (x : X) → Contains (drop n xs) x → Contains xs x
+drop_contains xs n x has = subst (λ ys. Contains ys x) (take-append-drop n xs) (Contains-append_right (take n xs) (drop n xs) x has)
+
+-- and so has a list of lists of those at each place
+pub flat_contains : {M X : Type 0} (f : M → List X) (ms : List M) (n : ℕ) (m : M) (x : X) → slice_get ms n ≡ Some m → Contains (f m) x → Contains (flat_map f ms) x
+flat_contains f [] n m x e has = absurd (cc)
+flat_contains f (k ∷ ms) zero m x e has = Contains-append_left (f k) (flat_map f ms) x (subst (λ y. Contains (f y) x) (sym (same_Some k m e)) has)
+flat_contains f (k ∷ ms) (suc n) m x e has = Contains-append_right (f k) (flat_map f ms) x (flat_contains f ms n m x e has)
+
+-- two functions that agree on the elements of a list, and those whose values on it are the same
+pub same_on : {X Y : Type 0} (f h : X → Y) (xs : List X) → ((x : X) → Contains xs x → f x ≡ h x) → map f xs ≡ map h xs
+same_on f h [] e = refl
+same_on f h (x ∷ xs) e = ap (λ y. y ∷ map f xs) (e x (0, omega arith, refl)) ∙ ap (λ l. h x ∷ l) (same_on f h xs (λ y has. e y (suc has.0, (let l = has.1 in omega (arith, l)), has.2)))
+
+pub same_at : {X Y : Type 0} (f h : X → Y) (xs : List X) (x : X) → map f xs ≡ map h xs → Contains xs x → f x ≡ h x
+same_at f h [] x e (k, l, q) = absurd (omega (arith, l))
+same_at f h (y ∷ ys) x e (zero, l, q) = subst (λ z. f z ≡ h z) q (ap (λ zs. get_or zs 0 (f y)) e)
+same_at f h (y ∷ ys) x e (suc k, l, q) = same_at f h ys x (ap (λ zs. drop 1 zs) e) (k, omega (arith, l), q)

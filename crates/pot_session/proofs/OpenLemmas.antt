@@ -1,7 +1,10 @@
 -- How a vault is opened: what its first passes know of the groups that were started.
-use Rattle.std.proofs.Common.{◌≡◌, ◌++◌, ℕ, suc, List, [], ◌∷◌, length, map, refl, sym, ap, subst, ◌∙◌, arith}
+use Rattle.std.proofs.Common.{◌≡◌, ◌++◌, inl, inr, ℕ, suc, List, [], ◌∷◌, length, map, refl, sym, ap, subst, ◌∙◌, arith}
 use Rattle.std.specs.Prelude.{Some, All, slice_get, slice_index_or, flat_map}
-use Rattle.std.proofs.lemmas.Option.{slice_get_within}
+use Rattle.std.proofs.lemmas.Option.{slice_get_within, same_Some}
+use Rattle.pot_outside.specs.Archives.{Meaning}
+use Rattle.pot_rows.proofs.RowLemmas.{at_past, below_or_past}
+use Rattle.pot_shared.specs.declared.member.GroupOrigin.{GroupOrigin}
 use Rattle.pot_bytes.specs.declared.rack.Rack.{Rack}
 use Rattle.pot_machine.specs.declared.entry.Entry.{Entry}
 use Rattle.pot_machine.specs.Table.{Table}
@@ -14,12 +17,13 @@ use Rattle.pot_turn.specs.declared.name.TurnName.{TurnName}
 use Rattle.pot_turn.specs.Views.{first_view, spent_view}
 use Rattle.pot_rows.specs.Rows.{AreOf, view_at}
 use Rattle.pot_shared.specs.declared.catalog.CatalogOrigin.{CatalogOrigin}
-use Rattle.pot_shared.specs.Members.{kept_log, origin_of, entries_of, all_logged}
+use Rattle.pot_shared.specs.Members.{kept_log, origin_of, entries_of, all_logged, mark_at}
 use Rattle.pot_shared.specs.Ready.{GroupPass, GroupPasses, IsTableOf}
 use Rattle.pot_shared.specs.Catalogs.{IndexPasses}
 use Rattle.pot_shared.specs.Sharing.{AreFirst, HaveLogs}
-use Rattle.pot_session.specs.Groups.{AreStarted, AreOfRack, AreFirstPasses, IsFirstPass, had_by, table_read, tables_read}
-use Rattle.pot_session.proofs.Lists.{same_maps, same_flat, at_place, all_at_place}
+use Rattle.pot_replies.specs.Sessions.{ByNobody}
+use Rattle.pot_session.specs.Groups.{AreStarted, AreOfRack, AreAllMarked, AreFirstPasses, AreTakenAt, IsFirstPass, had_by, marks_of, table_read, tables_read}
+use Rattle.pot_session.proofs.Lists.{same_maps, same_flat, same_on, at_place, all_at_place}
 
 -- the entries of a group's log as passes see it are those of its log
 pub entries_kept : (s : Shelves) (log : List Entry) → entries_of (all_logged s log) ≡ log
@@ -38,6 +42,7 @@ of_rack {M} see rack ts ms s fits count = record {
       (let f = all_at_place (FitsTable rack) ts n (at n m q).0 fits (at n m q).1 in
       subst (IsTableOf rack) (sym (s.each n m (at n m q).0 q (at n m q).1).first) (f.data_columns, f.parity, f.stripes));
   none = λ n m q. (s.each n m (at n m q).0 q (at n m q).1).none;
+  nobody = λ n m q. (s.each n m (at n m q).0 q (at n m q).1).nobody;
 }
   where
     at : (n : ℕ) (m : M) → slice_get ms n ≡ Some m → (t : Table) × (slice_get ts n ≡ Some t)
@@ -48,6 +53,7 @@ of_rack {M} see rack ts ms s fits count = record {
 pub first_passes : {M : Type 0} (see : M → GroupView) (rack : Rack) (ms : List M) (names : List TurnName) (row : GroupPasses) (index : IndexPasses) (origin : CatalogOrigin) → AreOfRack see rack ms → AreFirst see ms row
     → AreOf names row → length names ≡ rack.groups → index.views ≡ first_view [] origin ∷ [] → AreFirstPasses row index
 first_passes {M} see rack ms names row index origin of first are count one = record {
+  count = are.1 ∙ sym (ap length are.0);
   each = λ n l. pass n (at_place ms n (let a = ap length are.0 in omega (arith, l, a, count, of.count)));
   index_origin = origin;
   index_first = ap (λ vs. slice_index_or vs 0 spent_view) one;
@@ -60,6 +66,7 @@ first_passes {M} see rack ms names row index origin of first are count one = rec
       is = first n h.0 h.1;
       is_number = of.number n h.0 h.1;
       none = ap arrivals (entries_kept (see h.0).shelves (see h.0).log) ∙ of.none n h.0 h.1;
+      nobody = subst ByNobody (sym (entries_kept (see h.0).shelves (see h.0).log)) (of.nobody n h.0 h.1);
     }
 
 -- the tables that passes read are these, where each has the origin of the group at its place
@@ -84,3 +91,15 @@ same_had see ms hs h = same_flat (λ m. had_by (see m)) (λ m. had_by (see m)) h
     each y m e =
         ap (λ o. archives_in o.first ++ arrivals (see y).log) e.1
         ∙ ap (λ l. archives_in (see m).first ++ arrivals l) (sym (entries_kept (see y).shelves (see y).log) ∙ (ap entries_of e.0 ∙ entries_kept (see m).shelves (see m).log))
+
+-- the marks of the archives that the first passes know are those of the groups
+pub taken_at : {M : Type 0} (see : M → GroupView) (ms : List M) (names : List TurnName) (row : GroupPasses) (meant : ℕ → Meaning) → AreFirst see ms row → AreOf names row → length names ≡ length ms → AreAllMarked meant see ms
+    → AreTakenAt meant row
+taken_at {M} see ms names row meant first of long marked g o e = elim (below_or_past g (length names)) [
+  | inl l ↦ (let m = at_place ms g (let n = long in omega (arith, l, n)) in at m.0 m.1)
+  | inr l ↦ absurd (let q = sym e ∙ ap (λ (v : GroupPass). v.origin) (at_past names row g of l) in cc)
+]
+  where
+    at : (m : M) → slice_get ms g ≡ Some m → o.taken ≡ map (λ n. marks_of (meant n)) (archives_in o.first)
+    at m q = subst (λ (p : GroupOrigin). p.taken ≡ map (λ n. marks_of (meant n)) (archives_in p.first)) (same_Some (origin_of (see m)) o (sym (ap (λ (v : GroupPass). v.origin) (first g m q)) ∙ e))
+        (same_on (mark_at (see m).shelves) (λ n. marks_of (meant n)) (archives_in (see m).first) (marked g m q))

@@ -113,7 +113,7 @@ times-front : (n : ℕ) (ns : List ℕ) (i : ℕ) → times n (take i ns) ≤ ti
 times-front n ns i = (let e = times-append n (take i ns) (drop i ns) in let f = ap (times n) (take-append-drop i ns) in omega (arith, e, f))
 
 -- a front and one more
-times-next : (n : ℕ) (ns : List ℕ) (i : ℕ) → i < length ns → times n (take (i + 1) ns) ≡ times n (take i ns) + (cond (eqb (get_or ns i 0) n) 1 0 + 0)
+pub times-next : (n : ℕ) (ns : List ℕ) (i : ℕ) → i < length ns → times n (take (i + 1) ns) ≡ times n (take i ns) + (cond (eqb (get_or ns i 0) n) 1 0 + 0)
 times-next n ns i l = ap (times n) (take_more ns i 0 l) ∙ times-append n (take i ns) (get_or ns i 0 ∷ [])
 
 at_itself : (n : ℕ) → bit (eqb n n) ≡ 1
@@ -129,6 +129,11 @@ pub apart_from : (ns : List ℕ) (i n : ℕ) → i < length ns → times n ns �
 apart_from ns i n l none same =
     absurd (let e = times-next n ns i l in let f = times-front n ns (i + 1) in
     let s : cond (eqb (get_or ns i 0) n) 1 0 ≡ 1 = subst (λ m. bit (eqb m n) ≡ 1) same (at_itself n) in omega (arith, e, f, s, none))
+
+-- nor one that does not stand in the front that ends with it
+pub apart_next : (ns : List ℕ) (i n : ℕ) → i < length ns → times n (take (i + 1) ns) ≡ 0 → n ≢ get_or ns i 0
+apart_next ns i n l none same =
+    absurd (let e = times-next n ns i l in let s : cond (eqb (get_or ns i 0) n) 1 0 ≡ 1 = subst (λ m. bit (eqb m n) ≡ 1) same (at_itself n) in omega (arith, e, s, none))
 
 -- none of a front either
 pub none_before : (n : ℕ) (ns : List ℕ) (i : ℕ) → times n ns ≡ 0 → times n (take i ns) ≡ 0

@@ -1,32 +1,32 @@
 -- What passes know after commands, and how a session ends.
-use Rattle.std.proofs.Common.{◌≡◌, ◌++◌, ◌⊎◌, inl, inr, ℕ, suc, Bool, true, false, cond, List, [], ◌∷◌, length, drop, refl, sym, ap, subst, ◌∙◌, arith, append-nil}
-use Rattle.std.specs.Prelude.{Option, Some, Result, Ok, Err, IsErrOf, slice_index_or, flat_map}
-use Rattle.std.proofs.Math.Seq.{drop-append_seam}
+use Rattle.std.proofs.Common.{◌≡◌, ◌<◌, ◌++◌, inl, inr, ℕ, zero, suc, Bool, true, false, cond, List, [], ◌∷◌, length, refl, sym, ap, subst, ◌∙◌, arith}
+use Rattle.std.specs.Prelude.{Option, Some, IfSome, Result, Ok, Err, IsErrOf, slice_index_or, flat_map}
 use Rattle.pot_bytes.specs.declared.rack.Rack.{Rack}
-use Rattle.pot_group.specs.Arrivals.{arrivals}
+use Rattle.pot_machine.specs.Table.{Table}
+use Rattle.pot_machine.specs.Making.{empty_table}
+use Rattle.pot_script.specs.declared.command.Command.{Command}
 use Rattle.pot_image.specs.Images.{Contents}
 use Rattle.pot_image.specs.Spelling.{image_bytes}
 use Rattle.pot_turn.specs.declared.name.TurnName.{TurnName}
-use Rattle.pot_turn.specs.declared.view.View.{View}
-use Rattle.pot_turn.specs.Stretches.{LieIn}
 use Rattle.pot_turn.specs.Views.{spent_view}
-use Rattle.pot_worked.specs.Worked.{theirs}
-use Rattle.pot_worked.specs.Sole.{Went}
 use Rattle.pot_rows.specs.Rows.{PassRow, HasMoreParts, view_at}
-use Rattle.pot_rows.specs.Works.{RowWent}
 use Rattle.pot_rows.specs.Ends.{HasAllParts}
-use Rattle.pot_shared.specs.Members.{entries_of}
+use Rattle.pot_shared.specs.declared.member.GroupOrigin.{GroupOrigin}
 use Rattle.pot_shared.specs.Ready.{GroupPass, GroupPasses, AreReady}
-use Rattle.pot_shared.specs.Catalogs.{IndexPasses}
+use Rattle.pot_shared.specs.Catalogs.{IndexPass, IndexPasses}
 use Rattle.pot_shared.specs.Sharing.{HasAllButKept}
+use Rattle.pot_store.specs.Works.{Known, known, section_of}
+use Rattle.pot_commands.specs.declared.working.Ending.{Ending}
+use Rattle.pot_commands.specs.declared.working.Ending.TheVariants as ending
+use Rattle.pot_commands.specs.Rows.{IsSessionSetting}
+use Rattle.pot_commands.specs.Ends.{Stays, Ends}
+use Rattle.pot_commands.proofs.Judging.{ends_over}
+use Rattle.pot_session.specs.declared.status.Status.{Status}
 use Rattle.pot_session.specs.declared.status.Status.TheVariants as status
 use Rattle.pot_session.specs.declared.stop.Stop.{Stop}
 use Rattle.pot_session.specs.declared.stop.Stop.TheVariants as stop
-use Rattle.pot_commands.specs.declared.working.Ending.{Ending}
-use Rattle.pot_commands.specs.declared.working.Ending.TheVariants as ending
-use Rattle.pot_commands.specs.Ends.{Stays}
-use Rattle.pot_session.specs.Groups.{BringsNone, table_read, tables_read, records_in, records_read}
-use Rattle.pot_session.specs.Serving.{DeskAfter, Closes, MayLeave, LeavesImage, IsCloseStop, IsEnd, status_after}
+use Rattle.pot_session.specs.Groups.{AreFirstPasses, table_read, tables_read, records_in, records_read}
+use Rattle.pot_session.specs.Serving.{Rooms, Serves, Closed, Closes, IsCloseStop, IsEnd, setting_of, status_after}
 
 -- WHAT STAYS
 
@@ -53,47 +53,59 @@ still_but_kept old new s h g l = (let p = h g (let n = ap length s.names in omeg
 pub still_all : {E O : Type 0} (old new : PassRow E O) → Stays old new → HasAllParts old → HasAllParts new
 still_all old new s h at l = s.parts at ∙ h at (let n = ap length s.names in omega (arith, n, l))
 
--- NOTHING WAS DONE
+-- THE SETTING
 
-none_left : {X : Type 0} (xs : List X) → drop (length xs) xs ≡ []
-none_left xs = ap (drop (length xs)) (sym (append-nil xs)) ∙ drop-append_seam xs []
+-- the group at each place began with the table of that place
+reads_at : (vs : List GroupPass) (d : Table) → ((n : ℕ) → n < length vs → (o : GroupOrigin) × ((slice_index_or vs n spent_view).origin ≡ Some o))
+    → (g : ℕ) (o : GroupOrigin) → g < length vs → (slice_index_or vs g spent_view).origin ≡ Some o → slice_index_or (flat_map (λ (v : GroupPass). table_read v.origin) vs) g d ≡ o.first
+reads_at [] d each g o l e = absurd (omega (arith, l))
+reads_at (v ∷ vs) d each zero o l e = ap (λ x. slice_index_or (table_read x ++ flat_map (λ (w : GroupPass). table_read w.origin) vs) 0 d) e
+reads_at (v ∷ vs) d each (suc g) o l e =
+    ap (λ x. slice_index_or (table_read x ++ flat_map (λ (w : GroupPass). table_read w.origin) vs) (suc g) d) (each 0 (omega arith)).1
+    ∙ reads_at vs d (λ n k. each (suc n) (omega (arith, k))) g o (omega (arith, l)) e
 
-module _ {E O : Type 0} where
-  went_same : (v : View E O) → Went v v
-  went_same v = record {
-    seen = sym (append-nil v.seen) ∙ ap (λ l. v.seen ++ l) (sym (none_left v.seen));
-    turns = sym (append-nil v.turns) ∙ ap (λ l. v.turns ++ l) (sym (none_left v.turns));
-    joined = sym (append-nil v.joined) ∙ ap (λ l. v.joined ++ l) (sym (none_left v.joined));
-    lies = subst (λ ss. LieIn (length v.seen) ss (length v.seen)) (sym (ap (λ l. l ++ theirs v v) (none_left v.turns) ∙ none_left v.joined)) (omega arith);
-  }
+-- what the first passes read is the setting of the session
+pub session_setting : (seed : List ℕ) (first : Contents) (groups : GroupPasses) (index : IndexPasses) → AreFirstPasses groups index → tables_read groups ≡ first.tables → records_read index ≡ first.records
+    → IsSessionSetting (setting_of seed first) first.rack seed first.session (known groups index)
+session_setting seed first groups index f et er = record {
+  setting = record {
+    rack_is = refl;
+    first = λ g l. if_some (view_at groups g).origin (λ o. slice_index_or first.tables g (empty_table first.rack g) ≡ o.first) (origin_of g l).0 (origin_of g l).1
+        (ap (λ ts. slice_index_or ts g (empty_table first.rack g)) (sym et)
+        ∙ reads_at groups.views (empty_table first.rack g) (λ n k. origin_of n (let a = f.count in omega (arith, a, k))) g (origin_of g l).0 (let a = f.count in omega (arith, a, l)) (origin_of g l).1);
+    read = if_some (view_at index 0).origin (λ o. first.records ≡ o.read) f.index_origin (ap (λ (v : IndexPass). v.origin) f.index_first)
+        (sym er ∙ ap records_in (ap (λ (v : IndexPass). v.origin) f.index_first));
+  };
+  drawn = λ geometry job file. refl;
+  no_mends = refl;
+}
+  where
+    if_some : {X : Type 0} (x : Option X) (P : X → Type 0) (o : X) → x ≡ Some o → P o → IfSome x P
+    if_some x P o e p = subst (λ y. IfSome y P) (sym e) p
 
-  pub row_same : (row : PassRow E O) → RowWent row row
-  row_same row at = went_same (view_at row at)
-
-  pub stays_same : (row : PassRow E O) → Stays row row
-  stays_same row = record { names = refl; opened = λ n. refl; origin = λ n. refl; parts = λ n. refl }
-
-pub brings_same : (row : GroupPasses) (index : IndexPasses) → BringsNone row row index index
-brings_same row index sole sole_index g = ap (λ l. arrivals (entries_of l)) (none_left (view_at row g).seen)
+    origin_of : (n : ℕ) → n < length groups.names → (o : GroupOrigin) × ((view_at groups n).origin ≡ Some o)
+    origin_of n l = (let p = f.each n l in (p.origin, ap (λ (v : GroupPass). v.origin) p.is))
 
 -- THE END
 
-may_leave : (first : Contents) (holds : Option (List ℕ)) (closed : Result (Unit {0}) Stop) → Closes first holds closed → (holds ≡ Some (image_bytes first)) ⊎ MayLeave first holds
-may_leave first holds (Ok u) c = inr (c.0, c.1, inr (inl c.2))
-may_leave first holds (Err s) c = inr c
-
-by_refused : (first : Contents) (holds : Option (List ℕ)) (refused : Bool) → LeavesImage first holds → DeskAfter first holds (cond refused status.Refusals status.Good)
-by_refused first holds true l = l
-by_refused first holds false l = l
-
-pub desk_after : (first : Contents) (holds : Option (List ℕ)) (e : Ending) (closed : Result (Unit {0}) Stop) → IsCloseStop closed → Closes first holds closed → DeskAfter first holds (status_after e closed)
-desk_after first holds ending.SinkFailed closed is c = may_leave first holds closed c
-desk_after first holds ending.NoMemory closed is c = may_leave first holds closed c
-desk_after first holds (ending.Done refused) (Ok u) is c = by_refused first holds refused c
-desk_after first holds (ending.Done refused) (Err stop.RoomFault) is c = inr c
-desk_after first holds (ending.Done refused) (Err stop.DeskFault) is c = inr c
-desk_after first holds (ending.Done refused) (Err stop.NoMemory) is c = inr c
-desk_after first holds (ending.Done refused) (Err _) is c = absurd is
+-- a session that worked its commands and closed
+pub serves_closed : (seed : List ℕ) (first : Contents) (steps : List Command) (rooms : Rooms) (sink_told : Type 0) (before after : List ℕ) (desk_told : Type 0) (held holds : Option (List ℕ)) (rack : Rack) (session : ℕ) (old new : Known)
+    (e : Ending) (closed : Result (Unit {0}) Stop) (answer : Status) → AreFirstPasses old.groups old.index → tables_read old.groups ≡ first.tables → records_read old.index ≡ first.records → rack ≡ first.rack → session ≡ first.session
+    → Ends rack seed session sink_told before after steps old new e → Closes old new rooms (desk_told × (held ≡ Some (image_bytes first))) first holds closed → IsCloseStop closed → (desk_told → held ≡ Some (image_bytes first))
+    → answer ≡ status_after e closed → Serves seed first steps rooms sink_told before after desk_told holds answer
+serves_closed seed first steps rooms sink_told before after desk_told held holds rack session old new e closed answer opened tables records same number ends closes is kept status = Closed (record {
+  last = closes.last;
+  story = section_of old new;
+  leaves = closes.leaves;
+  ending = e;
+  ends = ends_over rack seed session sink_told before after steps old new e ends closes.sole (setting_of seed first)
+      (subst (λ r. IsSessionSetting (setting_of seed first) r seed session old) (sym same) (subst (λ n. IsSessionSetting (setting_of seed first) first.rack seed n old) (sym number)
+      (session_setting seed first old.groups old.index opened tables records)));
+  closed = closed;
+  is_stop = is;
+  desk = λ t. closes.desk (t, kept t);
+  status = status;
+})
 
 end_by : (refused : Bool) → IsEnd (cond refused status.Refusals status.Good)
 end_by true = tt

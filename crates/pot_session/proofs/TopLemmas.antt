@@ -1,5 +1,5 @@
 -- What a refusal and a session say of the failures of objects.
-use Rattle.std.proofs.Common.{◌≡◌, inl, inr, ℕ, List, refl, sym, ap, subst, ◌∙◌}
+use Rattle.std.proofs.Common.{◌≡◌, inl, inr, ℕ, List, [], refl, sym, ap, subst, ◌∙◌}
 use Rattle.std.specs.Prelude.{Option, Result, Ok, Err, IfErr, flat_map}
 use Rattle.pot_script.specs.declared.command.Command.{Command}
 use Rattle.pot_group.specs.Beginning.{archives_in}
@@ -10,9 +10,14 @@ use Rattle.pot_session.specs.declared.status.Status.TheVariants as status
 use Rattle.pot_session.specs.declared.stop.Stop.{Stop}
 use Rattle.pot_session.specs.declared.stop.Stop.TheVariants as stop
 use Rattle.pot_session.specs.Holding.{times, Untouched}
-use Rattle.pot_session.specs.Runs.{IsPrepared, Seen, Holds, Served}
+use Rattle.pot_options.specs.Options.{Text}
+use Rattle.pot_words.specs.Tasks.{SpellTask}
+use Rattle.pot_words.specs.declared.run.Run.{Run}
+use Rattle.pot_words.specs.declared.task.Task.TheVariants as task
+use Rattle.pot_session.specs.Runs.{IsPrepared, Seen, Holds, Served, Runs, Session}
+use Rattle.pot_session.specs.Tasks.{seed_of}
 use Rattle.pot_session.specs.Making.{IsMakeStop, InitAnswers}
-use Rattle.pot_session.specs.Serving.{DeskAfter, IsEnd}
+use Rattle.pot_session.specs.Serving.{Serves, IsEnd, rooms_by}
 use Rattle.pot_session.specs.Stops.{Refuses, status_of}
 
 by_status : (told : Type 0) (before after : List ℕ) (s : Stop) (answer x : Status) → Refuses told before after s answer → answer ≡ x → (x ≡ status.SinkFault → ⊥) → (x ≡ status.NoMemory → ⊥) → status_of s ≡ x
@@ -68,8 +73,14 @@ init_room seen before after (Ok u) answer w (inr h) e = (let q : status.SinkFaul
 init_room seen before after (Err s) answer w r e = subst IsMakeStop (refused_room seen before after s answer r e) w
 
 -- a session that was prepared and served
-pub served : (seen : Seen) (answer : Status) (image : Image) (steps : List Command) (now : Option (List ℕ)) → IsPrepared seen.source_told seen.input seen.desk_told seen.held now image steps
-    → (seen.desk_told → DeskAfter (contents image) seen.holds answer) → IsEnd answer → Untouched (flat_map archives_in image.tables.items) seen.meant seen.means → Holds seen answer
-served seen answer image steps now p told is untouched =
-    Served p.read steps p.of (λ t. subst (λ v. DeskAfter v seen.holds answer) p.is (told t)) is
+pub served : (seed : List ℕ) (seen : Seen) (answer : Status) (image : Image) (steps used : List Command) (now : Option (List ℕ)) → IsPrepared seen.source_told seen.input seen.desk_told seen.held now image steps
+    → (seen.source_told → seen.rest ≡ []) → used ≡ steps → Serves seed (contents image) used (rooms_by seen.room_told seen.meant seen.means) seen.sink_told seen.before seen.after seen.desk_told seen.holds answer → IsEnd answer
+    → Untouched (flat_map archives_in image.tables.items) seen.meant seen.means → Holds seed seen answer
+served seed seen answer image steps used now p read same serves is untouched =
+    Served p.read steps p.of read (subst (λ v. Serves seed v steps (rooms_by seen.room_told seen.meant seen.means) seen.sink_told seen.before seen.after seen.desk_told seen.holds answer) p.is
+    (subst (λ cs. Serves seed (contents image) cs (rooms_by seen.room_told seen.meant seen.means) seen.sink_told seen.before seen.after seen.desk_told seen.holds answer) same serves)) is
     (λ n none. untouched n (ap (λ ts. times n (flat_map archives_in ts)) (ap (λ v. v.tables) p.is) ∙ none))
+
+-- a session with the seed of its words
+pub with_seed : (words : List Text) (drawn seed : List ℕ) (run : Run) (seen : Seen) (answer : Status) → seed ≡ seed_of run drawn → SpellTask words (task.Run run) → Holds seed seen answer → Runs words drawn seen answer
+with_seed words drawn seed run seen answer e spelled holds = Session run spelled (subst (λ s. Holds s seen answer) e holds)

@@ -1,5 +1,5 @@
 -- What the commands of a session ask for, and what they bring.
-use Rattle.std.proofs.Common.{◌≡◌, suc, true, List, [], ◌∷◌, ◌++◌, refl, ap, ◌∙◌, arith}
+use Rattle.std.proofs.Common.{◌≡◌, ℕ, suc, true, List, [], ◌∷◌, ◌++◌, refl, ap, ◌∙◌, arith}
 use Rattle.std.specs.List.{AllByRecursion}
 use Rattle.pot_script.specs.declared.command.Command.{Command}
 use Rattle.pot_script.specs.declared.command.Command.TheVariants as command
@@ -7,13 +7,10 @@ use Rattle.pot_machine.specs.declared.entry.Entry.{Entry}
 use Rattle.pot_machine.specs.declared.entry.Entry.TheVariants.{Put, Skip, Seen, Gone, Broke, Fault, Begin, Hop, Mended, GaveUp, Oddly, Stuck, MoveBegin, Moved, MoveEnd, Swapped, Counted, Put2}
 use Rattle.pot_group.specs.Arrivals.{arrival, arrivals}
 use Rattle.pot_replies.specs.Jobs.{EachIs}
-use Rattle.pot_shared.specs.Ready.{GroupPasses}
-use Rattle.pot_shared.specs.Catalogs.{IndexPasses}
-use Rattle.pot_store.specs.Works.{known, gained}
-use Rattle.pot_commands.specs.Ends.{BringNone, brings_none as is_none}
+use Rattle.pot_store.specs.Works.{Known, gained}
+use Rattle.pot_commands.specs.Ends.{AllSole, BringNone, brings_none as is_none}
 use Rattle.pot_commands.specs.Rows.{IsWorked}
 use Rattle.pot_session.specs.Commands.{IsStep}
-use Rattle.pot_session.specs.Groups.{BringsNone}
 
 -- a line that is worked and does not end the script is one that the commands work
 is_worked : (c : Command) → IsStep c → IsWorked c
@@ -60,5 +57,6 @@ no_arrivals [] each = refl
 no_arrivals (e ∷ es) each =
     ap (λ l. l ++ arrivals es) (no_arrival e (each e (0, omega arith, refl))) ∙ no_arrivals es (λ x has. each x (suc has.0, (let l = has.1 in omega (arith, l)), has.2))
 
-pub brings_none : (old new : GroupPasses) (index_old index_new : IndexPasses) → BringNone (known old index_old) (known new index_new) → BringsNone old new index_old index_new
-brings_none old new index_old index_new none sole index_sole g = no_arrivals (gained old new g) (none (record { groups = sole; index = index_sole }) g)
+-- where nobody else logged anything, commands that bring no archive brought none
+pub brought_none : (old new : Known) → BringNone old new → AllSole old new → (g : ℕ) → arrivals (gained old.groups new.groups g) ≡ []
+brought_none old new none sole g = no_arrivals (gained old.groups new.groups g) (none sole g)

@@ -1,23 +1,25 @@
 -- The groups of a session, from their start to their end.
-use Rattle.std.specs.Prelude.{◌≡◌, ◌<◌, ◌≤◌, ◌++◌, ℕ, List, [], ◌∷◌, Option, Some, None, length, slice_get, flat_map}
+use Rattle.std.specs.Prelude.{◌≡◌, ◌<◌, ◌++◌, ℕ, List, [], ◌∷◌, Option, Some, None, Contains, length, map, slice_get, flat_map}
+use Rattle.pot_outside.specs.Archives.{Meaning}
+use Rattle.pot_outside.specs.declared.archive.Marks.{Marks}
 use Rattle.pot_bytes.specs.declared.rack.Rack.{Rack}
-use Rattle.pot_machine.specs.Machine.{Replays}
 use Rattle.pot_machine.specs.Table.{Table}
 use Rattle.pot_index.specs.declared.record.Record.{Record}
 use Rattle.pot_group.specs.Beginning.{archives_in}
-use Rattle.pot_group.specs.Arrivals.{arrivals}
-use Rattle.pot_group.specs.Group.{GroupView}
+use Rattle.pot_group.specs.Arrivals.{arrivals, HasArrived}
+use Rattle.pot_group.specs.Group.{GroupView, IsSettled}
+use Rattle.pot_group.specs.Shelves.{Shelves}
 use Rattle.pot_turn.specs.Views.{first_view, cut_view}
-use Rattle.pot_worked.specs.Worked.{added}
 use Rattle.pot_rows.specs.Rows.{view_at}
-use Rattle.pot_rows.specs.Works.{RowWent, RowSole}
+use Rattle.pot_replies.specs.Sessions.{ByNobody}
 use Rattle.pot_shared.specs.declared.member.Logged.{Logged}
 use Rattle.pot_shared.specs.declared.member.GroupOrigin.{GroupOrigin}
 use Rattle.pot_shared.specs.declared.catalog.CatalogOrigin.{CatalogOrigin}
-use Rattle.pot_shared.specs.Members.{entries_of}
+use Rattle.pot_shared.specs.Members.{entries_of, mark_at}
 use Rattle.pot_shared.specs.Ready.{GroupPass, GroupPasses, IsTableOf}
 use Rattle.pot_shared.specs.Catalogs.{IndexPasses}
-use Rattle.pot_commands.specs.Ends.{Stays}
+use Rattle.pot_store.specs.Works.{Known}
+use Rattle.pot_commands.specs.Ends.{AllStay, AllWent, BringNone}
 
 -- the archives that a group has: those of the table that it began with, and those that its log brought
 abbrev pub had_by : GroupView → List ℕ
@@ -25,23 +27,37 @@ had_by g = archives_in g.first ++ arrivals g.log
 
 -- THE START
 
--- a group of this number that was started over this table, and whose opening brought no archive
+-- a group of this number that was started over this table, and whose opening brought no archive and is of no job
 pub record IsStarted (number : ℕ) (t : Table) (g : GroupView) : Type 0 where
   pub is_number : g.number ≡ number
   pub first : g.first ≡ t
   pub none : arrivals g.log ≡ []
+  pub nobody : ByNobody g.log
 
 -- the group at each place was started with the number of that place over the table of that place; `see` is what a value is seen as
 pub record AreStarted {M : Type 0} (see : M → GroupView) (tables : List Table) (members : List M) : Type 0 where
   pub count : length members ≡ length tables
   pub each : (n : ℕ) (m : M) (t : Table) → slice_get members n ≡ Some m → slice_get tables n ≡ Some t → IsStarted n t (see m)
 
--- the group at each place has that number and a table of the rack, and its opening brought no archive
+-- the group at each place has that number and a table of the rack, and its opening brought no archive and is of no job
 pub record AreOfRack {M : Type 0} (see : M → GroupView) (rack : Rack) (members : List M) : Type 0 where
   pub count : length members ≡ rack.groups
   pub number : (n : ℕ) (m : M) → slice_get members n ≡ Some m → (see m).number ≡ n
   pub table : (n : ℕ) (m : M) → slice_get members n ≡ Some m → IsTableOf rack (see m).first
   pub none : (n : ℕ) (m : M) → slice_get members n ≡ Some m → arrivals (see m).log ≡ []
+  pub nobody : (n : ℕ) (m : M) → slice_get members n ≡ Some m → ByNobody (see m).log
+
+-- the counts of what an archive means
+abbrev pub marks_of : Meaning → Marks
+marks_of m = record { faults = m.faults; losses = m.losses }
+
+-- the marks of the archives of a table are the counts of what the numbers meant
+abbrev pub AreMarked : (ℕ → Meaning) → Table → Shelves → Type 0
+AreMarked meant t s = (n : ℕ) → Contains (archives_in t) n → mark_at s n ≡ marks_of (meant n)
+
+-- and so are those of each group
+abbrev pub AreAllMarked : {M : Type 0} → (ℕ → Meaning) → (M → GroupView) → List M → Type 0
+AreAllMarked {M} meant see members = (n : ℕ) (m : M) → slice_get members n ≡ Some m → AreMarked meant (see m).first (see m).shelves
 
 -- WHAT PASSES KNOW OF THE START
 
@@ -62,40 +78,41 @@ records_in (Some o) = o.read
 abbrev pub records_read : IndexPasses → List Record
 records_read row = records_in (view_at row 0).origin
 
--- the first pass of a group of this number, whose opening brought no archive
+-- the marks at the taking of the archives of each group are the counts of what the numbers meant
+abbrev pub AreTakenAt : (ℕ → Meaning) → GroupPasses → Type 0
+AreTakenAt meant row = (g : ℕ) (o : GroupOrigin) → (view_at row g).origin ≡ Some o → o.taken ≡ map (λ n. marks_of (meant n)) (archives_in o.first)
+
+-- the first pass of a group of this number, whose opening brought no archive and is of no job
 pub record IsFirstPass (number : ℕ) (v : GroupPass) : Type 0 where
   pub log : List Logged
   pub origin : GroupOrigin
   pub is : v ≡ cut_view 2 (first_view log origin)
   pub is_number : origin.number ≡ number
   pub none : arrivals (entries_of log) ≡ []
+  pub nobody : ByNobody (entries_of log)
 
 -- the first passes of a vault
 pub record AreFirstPasses (groups : GroupPasses) (index : IndexPasses) : Type 0 where
+  pub count : length groups.views ≡ length groups.names
   pub each : (n : ℕ) → n < length groups.names → IsFirstPass n (view_at groups n)
   pub index_origin : CatalogOrigin
   pub index_first : view_at index 0 ≡ first_view [] index_origin
 
 -- THE COMMANDS
 
--- what the passes of the groups saw anew brings no archive, if nobody else logged anything
-abbrev pub BringsNone : GroupPasses → GroupPasses → IndexPasses → IndexPasses → Type 0
-BringsNone old new index_old index_new = RowSole old new → RowSole index_old index_new → (g : ℕ) → arrivals (entries_of (added (view_at old g) (view_at new g))) ≡ []
-
--- the passes of a vault after commands that bring no archive
-pub record AreServed (groups : GroupPasses) (index : IndexPasses) : Type 0 where
-  pub first_groups : GroupPasses
-  pub first_index : IndexPasses
-  pub opened : AreFirstPasses first_groups first_index
-  pub went : RowWent first_groups groups
-  pub went_index : RowWent first_index index
-  pub stays : Stays first_groups groups
-  pub stays_index : Stays first_index index
-  pub brings : BringsNone first_groups groups first_index index
+-- the passes of a vault from its start to the end of commands that brought no archive
+pub record AreServed (old new : Known) : Type 0 where
+  pub opened : AreFirstPasses old.groups old.index
+  pub went : AllWent old new
+  pub stays : AllStay old new
+  pub brings : BringNone old new
 
 -- THE END
 
--- each group's log leads from its first table to its table, and has at most 262,144 entries
-pub record AreEnded {M : Type 0} (see : M → GroupView) (members : List M) : Type 0 where
-  pub replays : (n : ℕ) (m : M) → slice_get members n ≡ Some m → Replays (see m).first (see m).log (see m).table
-  pub few : (n : ℕ) (m : M) → slice_get members n ≡ Some m → length (see m).log ≤ 262144
+-- a group that ended: it keeps what a group keeps, and its archives are those of its first table and those that its log brought
+pub record IsEnded (told : Type 0) (g : GroupView) : Type 0 where
+  pub settled : IsSettled told g
+  pub arrived : HasArrived g.first g.log g.shelves.numbers
+
+abbrev pub AreEnded : {M : Type 0} → Type 0 → (M → GroupView) → List M → Type 0
+AreEnded {M} told see members = (n : ℕ) (m : M) → slice_get members n ≡ Some m → IsEnded told (see m)

@@ -1,6 +1,6 @@
 -- What a call of the program comes to, by the words, the bytes of the source, what the sink got, what the desk held and holds, and what the
 -- room meant and means.
-use Rattle.std.specs.Prelude.{◌≡◌, ℕ, List, Option, Some, Err, flat_map}
+use Rattle.std.specs.Prelude.{◌≡◌, ℕ, List, [], Option, Some, Err, flat_map}
 use Rattle.pot_outside.specs.Archives.{Meaning}
 use Rattle.pot_bytes.specs.declared.rack.Rack.{Rack}
 use Rattle.pot_options.specs.Options.{Text}
@@ -20,39 +20,47 @@ use Rattle.pot_session.specs.Commands.{IsRead, RefusesScript}
 use Rattle.pot_session.specs.Desks.{GoesOn, HoldsImage, RefusesDesk, IsDeskStop, Keeps, IsKeepStop, begun}
 use Rattle.pot_session.specs.Holding.{Untouched}
 use Rattle.pot_session.specs.Making.{Inits}
-use Rattle.pot_session.specs.Serving.{DeskAfter, IsEnd}
+use Rattle.pot_session.specs.Serving.{Serves, IsEnd, rooms_by}
 use Rattle.pot_session.specs.Stops.{Refuses}
-use Rattle.pot_session.specs.Tasks.{AsksNothing}
+use Rattle.pot_session.specs.Tasks.{AsksNothing, seed_of}
 use Rattle.pot_image.specs.Rules.{FitsTogether}
 
--- what the objects tell: whether they do, the bytes of the source before, those of the sink before and after, the desk's image before and
--- after, and what the room means by each number before and after
+-- what the objects tell: whether they do, the bytes of the source before and what is left of them after, those of the sink before and after, the
+-- desk's image before and after, and what the room means by each number before and after
 pub record Seen : Type 1 where
   pub source_told : Type 0
   pub input : List ℕ
+  pub rest : List ℕ
   pub sink_told : Type 0
   pub before : List ℕ
   pub after : List ℕ
   pub desk_told : Type 0
   pub held : Option (List ℕ)
   pub holds : Option (List ℕ)
+  pub room_told : Type 0
   pub meant : ℕ → Meaning
   pub means : ℕ → Meaning
 
 -- what was seen, from its parts
-abbrev pub seen_by : Type 0 → List ℕ → Type 0 → List ℕ → List ℕ → Type 0 → Option (List ℕ) → Option (List ℕ) → (ℕ → Meaning) → (ℕ → Meaning) → Seen
-seen_by source_told input sink_told before after desk_told held holds meant means = record {
+abbrev pub seen_by : Type 0 → List ℕ → List ℕ → Type 0 → List ℕ → List ℕ → Type 0 → Option (List ℕ) → Option (List ℕ) → Type 0 → (ℕ → Meaning) → (ℕ → Meaning) → Seen
+seen_by source_told input rest sink_told before after desk_told held holds room_told meant means = record {
   source_told = source_told;
   input = input;
+  rest = rest;
   sink_told = sink_told;
   before = before;
   after = after;
   desk_told = desk_told;
   held = held;
   holds = holds;
+  room_told = room_told;
   meant = meant;
   means = means;
 }
+
+-- nothing was read
+abbrev pub Unread : Seen → Type 0
+Unread seen = seen.source_told → seen.rest ≡ seen.input
 
 -- the desk holds what it held
 abbrev pub SameDesk : Seen → Type 0
@@ -89,16 +97,17 @@ pub data Stops (source_told : Type 0) (input : List ℕ) (desk_told : Type 0) (h
 
 -- A session did not begin, and it is written why; or it began with the image that was read, and ended so. Archives that this image does
 -- not name were not touched.
-pub data Holds (seen : Seen) (answer : Status) : Type 0 where
+pub data Holds (seed : List ℕ) (seen : Seen) (answer : Status) : Type 0 where
   Stopped : (s : Stop) → Stops seen.source_told seen.input seen.desk_told seen.held seen.holds s
-      → Refuses seen.sink_told seen.before seen.after s answer → SameRoom seen → Holds seen answer
-  Served : (i : Image) (steps : List Command) → IsOf seen.source_told seen.input seen.desk_told seen.held i steps
-      → (seen.desk_told → DeskAfter (begun (contents i)) seen.holds answer) → IsEnd answer
-      → Untouched (flat_map archives_in i.tables.items) seen.meant seen.means → Holds seen answer
+      → Refuses seen.sink_told seen.before seen.after s answer → SameRoom seen → Holds seed seen answer
+  Served : (i : Image) (steps : List Command) → IsOf seen.source_told seen.input seen.desk_told seen.held i steps → (seen.source_told → seen.rest ≡ [])
+      → Serves seed (begun (contents i)) steps (rooms_by seen.room_told seen.meant seen.means) seen.sink_told seen.before seen.after seen.desk_told seen.holds answer → IsEnd answer
+      → Untouched (flat_map archives_in i.tables.items) seen.meant seen.means → Holds seed seen answer
 
--- The words spell no task that is worked; or memory ran out over them; or they spell `init` or `run`.
-pub data Runs (words : List Text) (seen : Seen) (answer : Status) : Type 0 where
-  Nothing : AsksNothing words → Refuses seen.sink_told seen.before seen.after stop.Words answer → SameDesk seen → SameRoom seen → Runs words seen answer
-  Unread : answer ≡ status.NoMemory → (seen.sink_told → seen.after ≡ seen.before) → SameDesk seen → SameRoom seen → Runs words seen answer
-  Makes : (rack : Rack) → SpellTask words (task.Init rack) → Inits rack seen.desk_told seen.held seen.holds seen.sink_told seen.before seen.after answer → SameRoom seen → Runs words seen answer
-  Session : (run : Run) → SpellTask words (task.Run run) → Holds seen answer → Runs words seen answer
+-- The words spell no task that is worked; or memory ran out over them; or they spell `init`; and the source was not read. Or they spell `run`. A session has the seed that the
+-- words give, or else the drawn one.
+pub data Runs (words : List Text) (drawn : List ℕ) (seen : Seen) (answer : Status) : Type 0 where
+  Nothing : AsksNothing words → Unread seen → Refuses seen.sink_told seen.before seen.after stop.Words answer → SameDesk seen → SameRoom seen → Runs words drawn seen answer
+  Short : answer ≡ status.NoMemory → Unread seen → (seen.sink_told → seen.after ≡ seen.before) → SameDesk seen → SameRoom seen → Runs words drawn seen answer
+  Makes : (rack : Rack) → SpellTask words (task.Init rack) → Unread seen → Inits rack seen.desk_told seen.held seen.holds seen.sink_told seen.before seen.after answer → SameRoom seen → Runs words drawn seen answer
+  Session : (run : Run) → SpellTask words (task.Run run) → Holds (seed_of run drawn) seen answer → Runs words drawn seen answer

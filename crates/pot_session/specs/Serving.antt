@@ -1,25 +1,40 @@
--- What a session leaves of its desk's image.
-use Rattle.std.specs.Prelude.{◌≡◌, ◌⊎◌, ◌<◌, ◌≤◌, ◌^◌, All, ℕ, List, [], Option, Some, Result, Ok, Err, if◌then◌else◌, length, slice_get}
+-- What a session leaves: the replies of its commands, and the image of its close with the logs by which they have them.
+use Rattle.std.specs.Prelude.{◌≡◌, ◌⊎◌, ◌<◌, ◌≤◌, ◌^◌, ◌++◌, All, Contains, ℕ, false, List, [], Option, Some, Result, Ok, Err, if◌then◌else◌, length, map, slice_get, slice_index_or}
 use Rattle.pot_outside.specs.Streams.{IsLeft}
+use Rattle.pot_outside.specs.Archives.{Meaning}
+use Rattle.pot_outside.specs.declared.archive.Shelf.{Shelf}
 use Rattle.pot_outside.specs.declared.faults.Failed.{Failed}
 use Rattle.pot_bytes.specs.declared.rack.Rack.{Rack}
+use Rattle.pot_pads.specs.Pads.{pads_of}
 use Rattle.pot_machine.specs.declared.entry.Entry.{Entry}
 use Rattle.pot_machine.specs.Table.{Table}
-use Rattle.pot_machine.specs.Machine.{Replays}
+use Rattle.pot_machine.specs.Making.{empty_table}
+use Rattle.pot_steps.specs.Stripe.{digest_of}
+use Rattle.pot_group.specs.Beginning.{archives_in}
+use Rattle.pot_group.specs.Group.{GroupView, IsSettled}
+use Rattle.pot_group.specs.Shelves.{Shelves}
 use Rattle.pot_index.specs.declared.record.Record.{Record}
 use Rattle.pot_index.specs.declared.entry.IndexEntry.{IndexEntry}
 use Rattle.pot_index.specs.declared.entry.Logged.{Logged}
 use Rattle.pot_index.specs.Entries.{entries}
 use Rattle.pot_index.specs.Index.{Names, names_read}
 use Rattle.pot_index.specs.Index as names
+use Rattle.pot_script.specs.declared.command.Command.{Command}
 use Rattle.pot_image.specs.Images.{Contents}
 use Rattle.pot_image.specs.Spelling.{image_bytes}
+use Rattle.pot_replies.specs.Sections.{Section}
+use Rattle.pot_replies.specs.Sessions.{ByNobody}
+use Rattle.pot_replies.specs.Settings.{Setting}
+use Rattle.pot_store.specs.Drawing.{blocks_from}
+use Rattle.pot_store.specs.Works.{Known, section_of}
+use Rattle.pot_commands.specs.declared.working.Ending.{Ending}
+use Rattle.pot_commands.specs.declared.working.Ending.TheVariants as ending
+use Rattle.pot_commands.specs.Ends.{AllSole, EndsOver}
 use Rattle.pot_session.specs.declared.status.Status.{Status}
 use Rattle.pot_session.specs.declared.status.Status.TheVariants as status
 use Rattle.pot_session.specs.declared.stop.Stop.{Stop}
 use Rattle.pot_session.specs.declared.stop.Stop.TheVariants as stop
-use Rattle.pot_commands.specs.declared.working.Ending.{Ending}
-use Rattle.pot_commands.specs.declared.working.Ending.TheVariants as ending
+use Rattle.pot_session.specs.Groups.{AreMarked, records_read}
 use Rattle.pot_session.specs.Stops.{status_of}
 
 -- room for the tables and the logs of so many groups, and for so many archives
@@ -38,32 +53,69 @@ AreShort logs = All (λ (l : List Entry). length l < 2 ^ 32) logs
 abbrev pub still : Table → Table
 still t = record t { relays = [] }
 
--- the log leads from the table read to one that is written so
-pub record LeavesTable (read : Table) (log : List Entry) (written : Table) : Type 0 where
-  pub now : Table
-  pub replays : Replays read log now
-  pub is : written ≡ still now
+-- what is seen of an archive of a group is what it means
+pub record Shows (s : Shelves) (n : ℕ) (m : Meaning) : Type 0 where
+  pub blocks : (slot : ℕ) → s.held n slot ≡ m.held slot
+  pub sums : s.heard n ≡ m.heard
+  pub faults : s.faults n ≡ m.faults
+  pub losses : s.losses n ≡ m.losses
 
--- each group's log leads from its table read to its table written
-pub record LeaveTables (read : List Table) (logs : List (List Entry)) (written : List Table) : Type 0 where
+-- an archive of this number is in the hand, and means what is seen of it
+abbrev pub IsInHand : {A : Type 0} → (A → Meaning) → List (Shelf A) → Shelves → ℕ → Type 0
+IsInHand {A} meaning hand s n = (x : Shelf A) × Contains hand x × (x.number ≡ n) × Shows s n (meaning x.archive)
+
+-- A group that began with this table, and ended with this log and a table that is written so. It keeps what a group keeps: its log leads
+-- from the first table to the last, its stripes keep their law over the blocks that its archives hold, and the log names no more faults and losses
+-- than these counted since they were taken. `Has` tells what each of them is.
+pub record LeavesGroup (told : Type 0) (meant : ℕ → Meaning) (Has : Shelves → ℕ → Type 0) (read : Table) (log : List Entry) (written : Table) : Type 0 where
+  pub view : GroupView
+  pub first : view.first ≡ read
+  pub is_log : view.log ≡ log
+  pub is : written ≡ still view.table
+  pub settled : IsSettled told view
+  pub marked : told → AreMarked meant read view.shelves
+  pub archives : (n : ℕ) → Contains (archives_in read) n → Has view.shelves n
+
+-- each group so
+pub record LeaveGroups (told : Type 0) (meant : ℕ → Meaning) (Has : Shelves → ℕ → Type 0) (read : List Table) (logs : List (List Entry)) (written : List Table) : Type 0 where
   pub count : length written ≡ length read
   pub count_logs : length logs ≡ length read
-  pub each : (g : ℕ) (t u : Table) (log : List Entry) → slice_get read g ≡ Some t → slice_get written g ≡ Some u → slice_get logs g ≡ Some log → LeavesTable t log u
+  pub each : (g : ℕ) (t u : Table) (log : List Entry) → slice_get read g ≡ Some t → slice_get written g ≡ Some u → slice_get logs g ≡ Some log → LeavesGroup told meant Has t log u
 
--- the log of the index leads from the records read to those written
-pub record LeavesRecords (rack : Rack) (read : List Record) (log : List IndexEntry) (written : List Record) : Type 0 where
-  pub story : List Logged
+-- whether a room tells what its archives hold, and what it meant by each number before a session and means after it
+pub record Rooms : Type 1 where
+  pub told : Type 0
+  pub meant : ℕ → Meaning
+  pub means : ℕ → Meaning
+
+abbrev pub rooms_by : Type 0 → (ℕ → Meaning) → (ℕ → Meaning) → Rooms
+rooms_by told meant means = record { told = told; meant = meant; means = means }
+
+-- the room means what is seen of the archive, where it tells and took all archives back
+abbrev pub IsInRoom : Rooms → Type 0 → Shelves → ℕ → Type 0
+IsInRoom rooms back s n = rooms.told → back → Shows s n (rooms.means n)
+
+-- the log of the index, which is of these entries with what they brought, leads from the records read to those written
+pub record LeavesRecords (rack : Rack) (read : List Record) (story : List Logged) (log : List IndexEntry) (written : List Record) : Type 0 where
   pub ended : Names
   pub is_log : log ≡ entries story
   pub replays : names.Replays rack (names_read read) story ended
   pub is : written ≡ ended.published
 
--- The image that a session which began with the first one leaves.
-pub record Leaves (first last : Contents) : Type 0 where
+-- each group's log is what stood before this section and what this section added
+abbrev pub AreLogs : List (List Entry) → Section → Type 0
+AreLogs logs w = (g : ℕ) (log : List Entry) → slice_get logs g ≡ Some log → log ≡ w.before g ++ w.added g
+
+-- The image that a session which began with the first one leaves. Its logs are those of the openings, which are of no job, and then
+-- this section. `back` is whether the room took all archives back.
+pub record Leaves (rooms : Rooms) (back : Type 0) (first last : Contents) (w : Section) : Type 0 where
   pub session : last.session ≡ first.session
   pub rack : last.rack ≡ first.rack
-  pub tables : LeaveTables first.tables last.group_logs last.tables
-  pub records : LeavesRecords first.rack first.records last.index_log last.records
+  pub groups : LeaveGroups rooms.told rooms.meant (IsInRoom rooms back) first.tables last.group_logs last.tables
+  pub records : LeavesRecords first.rack first.records w.index_added last.index_log last.records
+  pub logs : AreLogs last.group_logs w
+  pub opened : (g : ℕ) → ByNobody (w.before g)
+  pub index_opened : w.index_before ≡ []
 
 -- an image of this session, this rack, these tables and these records
 pub record IsBegun (first : Contents) (session : ℕ) (rack : Rack) (tables : List Table) (records : List Record) : Type 0 where
@@ -72,12 +124,27 @@ pub record IsBegun (first : Contents) (session : ℕ) (rack : Rack) (tables : Li
   pub are_tables : first.tables ≡ tables
   pub are_records : first.records ≡ records
 
--- the desk holds it; or holds it, the first one or none
-abbrev pub LeavesImage : Contents → Option (List ℕ) → Type 0
-LeavesImage first holds = (last : Contents) × Leaves first last × (holds ≡ Some (image_bytes last))
+-- what a desk that held the first image holds after a close that leaves the last one, by the close's answer
+abbrev pub HoldsAfter : Contents → Contents → Option (List ℕ) → Result (Unit {0}) Stop → Type 0
+HoldsAfter first last holds (Ok u) = holds ≡ Some (image_bytes last)
+HoldsAfter first last holds (Err s) = IsLeft (Some (image_bytes first)) (image_bytes last) holds
 
-abbrev pub MayLeave : Contents → Option (List ℕ) → Type 0
-MayLeave first holds = (last : Contents) × Leaves first last × IsLeft (Some (image_bytes first)) (image_bytes last) holds
+-- What a vault leaves whose passes knew and know this: nobody else logged anything meanwhile, and its logs are what the passes saw.
+pub record LeavesLogs (old new : Known) (rack : Rack) (logs : List (List Entry)) (log : List IndexEntry) (written : List Record) : Type 0 where
+  pub sole : AllSole old new
+  pub are_logs : AreLogs logs (section_of old new)
+  pub records : LeavesRecords rack (records_read new.index) (section_of old new).index_added log written
+
+-- the room took all archives back, by the answer of a close
+abbrev pub IsBack : Result (Unit {0}) Stop → Type 0
+IsBack closed = closed ≡ Err stop.RoomFault → ⊥
+
+-- A close leaves this image: nobody else logged anything since the passes knew the first, and its logs are what they saw.
+pub record Closes (old new : Known) (rooms : Rooms) (told : Type 0) (first : Contents) (holds : Option (List ℕ)) (closed : Result (Unit {0}) Stop) : Type 0 where
+  pub last : Contents
+  pub sole : AllSole old new
+  pub leaves : Leaves rooms (IsBack closed) first last (section_of old new)
+  pub desk : told → HoldsAfter first last holds closed
 
 -- THE ANSWER
 
@@ -94,11 +161,6 @@ IsCloseStop (Err stop.DeskFault) = Unit {0}
 IsCloseStop (Err stop.NoMemory) = Unit {0}
 IsCloseStop (Err _) = ⊥
 
--- what the desk holds after a close, by its answer
-abbrev pub Closes : Contents → Option (List ℕ) → Result (Unit {0}) Stop → Type 0
-Closes first holds (Ok u) = LeavesImage first holds
-Closes first holds (Err s) = MayLeave first holds
-
 -- the status of a session, by how its commands and its close ended: the first failure gives it
 abbrev pub status_after : Ending → Result (Unit {0}) Stop → Status
 status_after ending.SinkFailed closed = status.SinkFault
@@ -106,11 +168,37 @@ status_after ending.NoMemory closed = status.NoMemory
 status_after (ending.Done refused) (Err s) = status_of s
 status_after (ending.Done refused) (Ok u) = if refused then status.Refusals else status.Good
 
--- what the desk holds after a session that began with this image, by its status: where all is well the image of the close, and else that, the first one or none
-abbrev pub DeskAfter : Contents → Option (List ℕ) → Status → Type 0
-DeskAfter first holds status.Good = LeavesImage first holds
-DeskAfter first holds status.Refusals = LeavesImage first holds
-DeskAfter first holds _ = (holds ≡ Some (image_bytes first)) ⊎ MayLeave first holds
+-- THE WHOLE
+
+-- The setting of a session that begins with this image: the blocks of a job's file are made with the stream of the seed, the session
+-- and the job, and a fetch mends nothing.
+abbrev pub setting_of : List ℕ → Contents → Setting
+setting_of seed first = record {
+  rack = first.rack;
+  first = λ g. slice_index_or first.tables g (empty_table first.rack g);
+  read = first.records;
+  digests = λ geometry job file. map digest_of (blocks_from geometry file (pads_of seed first.session job));
+  mends = false;
+}
+
+-- Commands were worked, and the session closed. The image of the close has the logs by which the commands have their replies.
+pub record IsClosed (seed : List ℕ) (first : Contents) (steps : List Command) (rooms : Rooms) (sink_told : Type 0) (before after : List ℕ) (desk_told : Type 0) (holds : Option (List ℕ)) (answer : Status) : Type 0 where
+  pub last : Contents
+  pub story : Section
+  pub ending : Ending
+  pub ends : EndsOver (setting_of seed first) story sink_told before after steps ending
+  pub closed : Result (Unit {0}) Stop
+  pub is_stop : IsCloseStop closed
+  pub leaves : Leaves rooms (IsBack closed) first last story
+  pub desk : desk_told → HoldsAfter first last holds closed
+  pub status : answer ≡ status_after ending closed
+
+-- What a session comes to that begins with this image: the room did not give its archives, or memory ran out, before any command was worked;
+-- or it closed.
+pub data Serves (seed : List ℕ) (first : Contents) (steps : List Command) (rooms : Rooms) (sink_told : Type 0) (before after : List ℕ) (desk_told : Type 0) (holds : Option (List ℕ)) (answer : Status) : Type 0 where
+  Unopened : (answer ≡ status.RoomFault) ⊎ (answer ≡ status.NoMemory) → (sink_told → after ≡ before) → (desk_told → holds ≡ Some (image_bytes first))
+      → Serves seed first steps rooms sink_told before after desk_told holds answer
+  Closed : IsClosed seed first steps rooms sink_told before after desk_told holds answer → Serves seed first steps rooms sink_told before after desk_told holds answer
 
 -- how a session may end
 abbrev pub IsEnd : Status → Type 0

@@ -4,7 +4,7 @@ ghost use Rattle.std.specs.Prelude.{◌≡◌, ◌⊎◌, ◌<◌, ◌≤◌, �
 ghost use Rattle.pot_outside.specs.Counts.{Caused};
 ghost use Rattle.pot_group.specs.Beginning.{archives_in, homes_of};
 ghost use Rattle.pot_group.specs.Shelves.{numbers_of};
-ghost use Rattle.pot_session.specs.Holding.{AreApart, AreOut, Untouched};
+ghost use Rattle.pot_session.specs.Holding.{AreApart, AreMeant, AreOut, Untouched};
 
 use pot_machine::{Column, GroupTable};
 use pot_outside::{Failed, Room, RoomFault, Shelf};
@@ -61,6 +61,7 @@ pub fn take_all<R: Room>(
     ensures empty { OnErr result (hand.new.items ≡ []) }
     ensures space { vec_capacity hand.new ≡ vec_capacity hand.old }
     ensures untouched { Untouched numbers.now (R.means room.old) (R.means room.new) }
+    ensures meant { IsTrue R.A.account.tells → OnOk result (AreMeant R.A.account.meaning (R.means room.old) hand.new.items) }
     ensures cause { Caused (R.faults room.old) (R.faults room.new) (IsErrOf result RoomFault.Failed) }
 {
     for number in numbers {
@@ -102,6 +103,7 @@ pub fn give_all<R: Room>(room: &mut R, hand: &mut Vec<Shelf<R::A>>) -> Result<()
     ensures empty { hand.new.items ≡ [] }
     ensures space { vec_capacity hand.new ≡ vec_capacity hand.old }
     ensures untouched { Untouched (numbers_of hand.old.items) (R.means room.old) (R.means room.new) }
+    ensures meant { IsTrue R.A.account.tells → OnOk result (AreMeant R.A.account.meaning (R.means room.new) hand.old.items) }
     ensures cause { Caused (R.faults room.old) (R.faults room.new) (IsErr result) }
 {
     let mut answer = Ok(());
@@ -115,7 +117,9 @@ pub fn give_all<R: Room>(room: &mut R, hand: &mut Vec<Shelf<R::A>>) -> Result<()
 
 /// The first failure of two calls, if one failed.
 fn either(first: Result<(), Failed>, second: Result<(), Failed>) -> Result<(), Failed>
-    ensures { IsErr result → IsErr first ⊎ IsErr second }
+    ensures some { IsErr result → IsErr first ⊎ IsErr second }
+    ensures first { IsErr first → IsErr result }
+    ensures second { IsErr second → IsErr result }
 {
     match first {
         Ok(()) => second,

@@ -1,7 +1,8 @@
 //! How a session closes.
 
-ghost use Rattle.std.specs.Prelude.{◌≡◌, ◌<◌, ◌≤◌, ◌^◌, ℕ, [], IsTrue, IsErr, IsErrOf, false, length, vec_capacity, map, flat_map, Some};
+ghost use Rattle.std.specs.Prelude.{◌≡◌, ◌<◌, ◌≤◌, ◌^◌, ℕ, [], IsTrue, OnOk, IsErr, IsErrOf, false, length, vec_capacity, map, flat_map, Some};
 ghost use Rattle.pot_outside.specs.Counts.{Caused};
+ghost use Rattle.pot_outside.specs.Archives.{Meaning};
 ghost use Rattle.pot_image.specs.Images.{Contents};
 ghost use Rattle.pot_image.specs.Spelling.{image_bytes};
 ghost use Rattle.pot_group.specs.Beginning.{archives_in};
@@ -10,9 +11,10 @@ ghost use Rattle.pot_rows.specs.Ends.{HasAllParts};
 ghost use Rattle.pot_shared.specs.Ready.{AreReady};
 ghost use Rattle.pot_shared.specs.Catalogs.{IsIndexReady};
 ghost use Rattle.pot_shared.specs.Sharing.{HasAllButKept};
-ghost use Rattle.pot_session.specs.Groups.{AreServed, tables_read, records_read};
-ghost use Rattle.pot_session.specs.Holding.{AreOut, Untouched};
-ghost use Rattle.pot_session.specs.Serving.{HasSpaces, AreShort, LeaveTables, LeavesRecords, Closes, still, IsBegun, IsCloseStop, first_failure};
+ghost use Rattle.pot_store.specs.Works.{Known, known};
+ghost use Rattle.pot_session.specs.Groups.{AreServed, AreTakenAt, tables_read, records_read};
+ghost use Rattle.pot_session.specs.Holding.{AreMeant, AreOut, Untouched};
+ghost use Rattle.pot_session.specs.Serving.{HasSpaces, AreShort, LeaveGroups, IsInHand, LeavesLogs, Closes, rooms_by, still, IsBegun, IsCloseStop, first_failure};
 
 use crate::archives::give_all;
 use crate::desk::keep_image;
@@ -44,7 +46,7 @@ struct Ended<A: Archive> {
 
 /// Ends a vault whose commands brought no archive: its groups' tables, logs and archives come to what remains.
 fn end_vault<A: Archive>(vault: Vault<A>, passes: Passes<A>, remains: Remains<A>) -> Ended<A>
-    requires served { AreServed passes.groups passes.index }
+    requires served { (old : Known) × AreServed old (known passes.groups passes.index) }
     requires ready { AreReady vault.rack vault.groups passes.groups }
     requires index { IsIndexReady vault.rack vault.groups vault.index passes.index }
     requires parts { HasAllButKept passes.groups × HasAllParts passes.index }
@@ -52,8 +54,8 @@ fn end_vault<A: Archive>(vault: Vault<A>, passes: Passes<A>, remains: Remains<A>
     requires fresh { (remains.tables.items ≡ []) × (remains.logs.items ≡ []) × (remains.hand.items ≡ []) }
     requires spaces { HasSpaces (length (tables_read passes.groups)) (length (flat_map archives_in (tables_read passes.groups))) (vec_capacity remains.tables) (vec_capacity remains.logs) (vec_capacity remains.hand) }
     ensures hand { numbers_of result.remains.hand.items ≡ flat_map archives_in (tables_read passes.groups) }
-    ensures tables { LeaveTables (tables_read passes.groups) (map (λ v. v.items) result.remains.logs.items) (map still result.remains.tables.items) }
-    ensures records { LeavesRecords vault.rack (records_read passes.index) result.log.items result.records.items }
+    ensures groups { (old : Known) (meant : ℕ → Meaning) → AreServed old (known passes.groups passes.index) → (IsTrue A.account.tells → AreTakenAt meant old.groups) → LeaveGroups (IsTrue A.account.tells) meant (IsInHand A.account.meaning result.remains.hand.items) (tables_read passes.groups) (map (λ v. v.items) result.remains.logs.items) (map still result.remains.tables.items) }
+    ensures logs { (old : Known) → AreServed old (known passes.groups passes.index) → LeavesLogs old (known passes.groups passes.index) vault.rack (map (λ v. v.items) result.remains.logs.items) result.log.items result.records.items }
     ensures countable { (length result.records.items < 2 ^ 32) × AreShort (map (λ v. v.items) result.remains.logs.items) × (length result.log.items < 2 ^ 32) }
 {
     let Closed { members, index } = vault.close(passes);
@@ -79,7 +81,7 @@ pub fn close_session<R: Room, D: Desk>(
     room: &mut R,
     desk: &mut D,
 ) -> Result<(), Stop>
-    requires served { AreServed opened.passes.groups opened.passes.index }
+    requires served { (old : Known) × AreServed old (known opened.passes.groups opened.passes.index) }
     requires ready { AreReady opened.vault.rack opened.vault.groups opened.passes.groups }
     requires index { IsIndexReady opened.vault.rack opened.vault.groups opened.vault.index opened.passes.index }
     requires parts { HasAllButKept opened.passes.groups × HasAllParts opened.passes.index }
@@ -90,7 +92,7 @@ pub fn close_session<R: Room, D: Desk>(
     requires out { AreOut (R.out room.old) (flat_map archives_in (tables_read opened.passes.groups)) }
     ensures home { (n : ℕ) → R.out room.new n ≡ false }
     ensures untouched { Untouched (flat_map archives_in (tables_read opened.passes.groups)) (R.means room.old) (R.means room.new) }
-    ensures told { IsTrue D.tells → (first : Contents) → IsBegun first opened.session opened.rack (tables_read opened.passes.groups) (records_read opened.passes.index) → D.held desk.old ≡ Some (image_bytes first) → Closes first (D.held desk.new) result }
+    ensures closes { (old : Known) (first : Contents) (meant : ℕ → Meaning) → AreServed old (known opened.passes.groups opened.passes.index) → (IsTrue R.A.account.tells → AreTakenAt meant old.groups) → IsBegun first opened.session opened.rack (tables_read opened.passes.groups) (records_read opened.passes.index) → Closes old (known opened.passes.groups opened.passes.index) (rooms_by (IsTrue R.A.account.tells) meant (R.means room.new)) (IsTrue D.tells × (D.held desk.old ≡ Some (image_bytes first))) first (D.held desk.new) result }
     ensures which { IsCloseStop result }
     ensures room { Caused (R.faults room.old) (R.faults room.new) (IsErrOf result Stop.RoomFault) }
     ensures desk { Caused (D.faults desk.old) (D.faults desk.new) (IsErrOf result Stop.DeskFault) }
@@ -126,6 +128,7 @@ fn give_hand<R: Room>(room: &mut R, hand: Vec<Shelf<R::A>>) -> Result<(), Failed
     requires { AreOut (R.out room.old) (numbers_of hand.items) }
     ensures home { (n : ℕ) → R.out room.new n ≡ false }
     ensures untouched { Untouched (numbers_of hand.items) (R.means room.old) (R.means room.new) }
+    ensures meant { IsTrue R.A.account.tells → OnOk result (AreMeant R.A.account.meaning (R.means room.new) hand.items) }
     ensures cause { Caused (R.faults room.old) (R.faults room.new) (IsErr result) }
 {
     let mut hand = hand;

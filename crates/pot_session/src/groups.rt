@@ -1,12 +1,12 @@
 //! The groups of a session: started over their archives, and ended.
 
 ghost use Rattle.std.specs.Prelude.{◌≡◌, ◌<◌, ◌≤◌, ◌+◌, ◌++◌, ℕ, [], ◌∷◌, IsTrue, IfOk, OnOk, OnErr, length, vec_capacity, map, flat_map, take, drop};
-ghost use Rattle.pot_machine.specs.Machine.{Replays};
+ghost use Rattle.pot_outside.specs.Archives.{Meaning};
 ghost use Rattle.pot_group.specs.Beginning.{archives_in};
 ghost use Rattle.pot_group.specs.Group.{view_of};
 ghost use Rattle.pot_group.specs.Shelves.{numbers_of};
-ghost use Rattle.pot_session.specs.Groups.{IsStarted, AreEnded, had_by};
-ghost use Rattle.pot_session.specs.Holding.{AreSame};
+ghost use Rattle.pot_session.specs.Groups.{IsStarted, IsEnded, AreMarked, AreEnded, had_by};
+ghost use Rattle.pot_session.specs.Holding.{AreMeant, AreSame};
 
 use crate::archives::append_table;
 use pot_bytes::NoMemory;
@@ -114,7 +114,8 @@ pub fn start_group<A: Archive>(
     requires hand { take (length (archives_in table)) (numbers_of hand.old.items) ≡ archives_in table }
     requires space { length hand.old.items ≤ vec_capacity hand.old }
     ensures started { IfOk result (λ m. IsStarted number table (view_of A.account.meaning m.group)) }
-    ensures rest { OnOk result (numbers_of hand.new.items ≡ drop (length (archives_in table)) (numbers_of hand.old.items)) }
+    ensures marked { (meant : ℕ → Meaning) → IsTrue A.account.tells → AreMeant A.account.meaning meant hand.old.items → IfOk result (λ m. AreMarked meant table (view_of A.account.meaning m.group).shelves) }
+    ensures rest { OnOk result (hand.new.items ≡ drop (length (archives_in table)) hand.old.items) }
     ensures refused { OnErr result (AreSame (numbers_of hand.new.items) (numbers_of hand.old.items)) }
     ensures count { OnErr result (length hand.new.items ≡ length hand.old.items) }
     ensures space { vec_capacity hand.new ≡ vec_capacity hand.old }
@@ -141,7 +142,8 @@ pub fn end_groups<A: Archive>(members: Vec<Member<A>>, remains: &mut Remains<A>)
     ensures tables { remains.new.tables.items ≡ remains.old.tables.items ++ map (λ m. m.group.table) members.items }
     ensures logs { map (λ v. v.items) remains.new.logs.items ≡ map (λ v. v.items) remains.old.logs.items ++ map (λ m. m.group.log) members.items }
     ensures hand { numbers_of remains.new.hand.items ≡ numbers_of remains.old.hand.items ++ flat_map (λ m. had_by (view_of A.account.meaning m.group)) members.items }
-    ensures ended { AreEnded (λ m. view_of A.account.meaning m.group) members.items }
+    ensures shelves { remains.new.hand.items ≡ remains.old.hand.items ++ flat_map (λ m. m.group.archives.shelves) members.items }
+    ensures ended { AreEnded (IsTrue A.account.tells) (λ m. view_of A.account.meaning m.group) members.items }
 {
     let mut members = members;
     while !members.is_empty() {
@@ -159,9 +161,9 @@ fn end_group<A: Archive>(group: Group<A>, remains: &mut Remains<A>)
     ensures tables { remains.new.tables.items ≡ remains.old.tables.items ++ group.table ∷ [] }
     ensures logs { map (λ v. v.items) remains.new.logs.items ≡ map (λ v. v.items) remains.old.logs.items ++ group.log ∷ [] }
     ensures hand { numbers_of remains.new.hand.items ≡ numbers_of remains.old.hand.items ++ had_by (view_of A.account.meaning group) }
+    ensures shelves { remains.new.hand.items ≡ remains.old.hand.items ++ group.archives.shelves }
     ensures spaces { (vec_capacity remains.new.tables ≡ vec_capacity remains.old.tables) × (vec_capacity remains.new.logs ≡ vec_capacity remains.old.logs) × (vec_capacity remains.new.hand ≡ vec_capacity remains.old.hand) }
-    ensures replays { Replays group.first group.log group.table }
-    ensures few { length group.log ≤ 262144 }
+    ensures ended { IsEnded (IsTrue A.account.tells) (view_of A.account.meaning group) }
 {
     let Ended {
         table,

@@ -1,6 +1,6 @@
 //! What stands before the commands of a session: its image, its script, and the image with which it begins.
 
-ghost use Rattle.std.specs.Prelude.{IsTrue, IfOk, IfErr, IsErrOf};
+ghost use Rattle.std.specs.Prelude.{◌≡◌, [], IsTrue, IfOk, OnOk, IfErr, IsErrOf};
 ghost use Rattle.pot_outside.specs.Counts.{Caused};
 ghost use Rattle.pot_session.specs.Runs.{IsPrepared, Stops};
 
@@ -29,6 +29,7 @@ pub fn prepare<S: Source, D: Desk>(
     desk: &mut D,
 ) -> Result<Prepared, Stop>
     ensures prepared { IfOk result (λ p. IsPrepared (IsTrue S.tells) (S.left source.old) (IsTrue D.tells) (D.held desk.old) (D.held desk.new) p.image p.commands.items) }
+    ensures read { IsTrue S.tells → OnOk result (S.left source.new ≡ []) }
     ensures stops { IfErr result (Stops (IsTrue S.tells) (S.left source.old) (IsTrue D.tells) (D.held desk.old) (D.held desk.new)) }
     ensures source { Caused (S.faults source.old) (S.faults source.new) (IsErrOf result Stop.SourceFault) }
     ensures desk { Caused (D.faults desk.old) (D.faults desk.new) (IsErrOf result Stop.DeskFault) }

@@ -1,6 +1,6 @@
 //! Reads the commands of a session.
 
-ghost use Rattle.std.specs.Prelude.{◌≡◌, ◌<◌, ◌^◌, ℕ, IsTrue, IfOk, IfErr, IsErrOf, length};
+ghost use Rattle.std.specs.Prelude.{◌≡◌, ◌<◌, ◌^◌, ℕ, [], IsTrue, IfOk, OnOk, IfErr, IsErrOf, length};
 ghost use Rattle.pot_outside.specs.Counts.{Caused};
 ghost use Rattle.pot_session.specs.Commands.{IsRead, RefusesScript, is_worked, other_line};
 
@@ -25,6 +25,7 @@ pub fn read_commands<S: Source>(
     source: &mut S,
 ) -> Result<Vec<Command>, Stop>
     ensures script { IfOk result (λ steps. IsRead rack.now (IsTrue S.tells) (S.left source.old) steps.items) }
+    ensures read { IsTrue S.tells → OnOk result (S.left source.new ≡ []) }
     ensures bad { IfErr result (RefusesScript rack.now (IsTrue S.tells) (S.left source.old)) }
     ensures cause { Caused (S.faults source.old) (S.faults source.new) (IsErrOf result Stop.SourceFault) }
 {

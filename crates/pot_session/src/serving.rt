@@ -13,9 +13,9 @@ ghost use Rattle.pot_shared.specs.Ready.{AreReady};
 ghost use Rattle.pot_shared.specs.Catalogs.{IsIndexReady};
 ghost use Rattle.pot_shared.specs.Sharing.{HasAllButKept};
 ghost use Rattle.pot_session.specs.Commands.{IsStep};
-ghost use Rattle.pot_session.specs.Groups.{AreFirstPasses, AreServed, tables_read, records_read};
-ghost use Rattle.pot_session.specs.Holding.{AreApart, AreOut, Untouched};
-ghost use Rattle.pot_session.specs.Serving.{HasSpaces, DeskAfter, IsEnd, status_after};
+ghost use Rattle.pot_session.specs.Groups.{AreFirstPasses, AreTakenAt, tables_read, records_read};
+ghost use Rattle.pot_session.specs.Holding.{AreApart, AreMeant, AreOut, Untouched};
+ghost use Rattle.pot_session.specs.Serving.{HasSpaces, Serves, IsEnd, rooms_by, status_after};
 
 use crate::archives::{give_all, numbers_in, take_all};
 use crate::closing::{Opened, close_session};
@@ -44,6 +44,7 @@ fn take_archives<R: Room>(
     requires home { (n : ℕ) → R.out room.old n ≡ false }
     requires apart { AreApart (flat_map archives_in tables.now) }
     ensures taken { IfOk result (λ r. numbers_of r.hand.items ≡ flat_map archives_in tables.now) }
+    ensures meant { IsTrue R.A.account.tells → IfOk result (λ r. AreMeant R.A.account.meaning (R.means room.old) r.hand.items) }
     ensures fresh { IfOk result (λ r. (r.tables.items ≡ []) × (r.logs.items ≡ [])) }
     ensures spaces { IfOk result (λ r. HasSpaces (length tables.now) (length r.hand.items) (vec_capacity r.tables) (vec_capacity r.logs) (vec_capacity r.hand)) }
     ensures out { OnOk result (AreOut (R.out room.new) (flat_map archives_in tables.now)) }
@@ -92,6 +93,7 @@ fn open_session<R: Room>(
     requires parity { image.rack.parity ≡ 1 }
     requires home { (n : ℕ) → R.out room.old n ≡ false }
     ensures opened { IfOk result (λ o. AreFirstPasses o.passes.groups o.passes.index) }
+    ensures marked { IsTrue R.A.account.tells → IfOk result (λ o. AreTakenAt (R.means room.old) o.passes.groups) }
     ensures read { IfOk result (λ o. (tables_read o.passes.groups ≡ image.tables.items) × (records_read o.passes.index ≡ image.records.items)) }
     ensures same { IfOk result (λ o. (o.session ≡ image.session) × (o.rack ≡ image.rack) × (o.vault.rack ≡ image.rack)) }
     ensures ready { IfOk result (λ o. AreReady o.vault.rack o.vault.groups o.passes.groups × IsIndexReady o.vault.rack o.vault.groups o.vault.index o.passes.index) }
@@ -148,9 +150,10 @@ pub fn serve<K: Sink, R: Room, D: Desk, X: Wait>(
     requires few { length commands.now < 2 ^ 31 }
     requires worked { AllByRecursion IsStep commands.now }
     requires home { (n : ℕ) → R.out room.old n ≡ false }
+    requires kept { IsTrue D.tells → D.held desk.old ≡ Some (image_bytes (contents image)) }
     ensures home { (n : ℕ) → R.out room.new n ≡ false }
     ensures untouched { Untouched (flat_map archives_in image.tables.items) (R.means room.old) (R.means room.new) }
-    ensures told { IsTrue D.tells → D.held desk.old ≡ Some (image_bytes (contents image)) → DeskAfter (contents image) (D.held desk.new) result }
+    ensures serves { Serves seed.now (contents image) commands.now (rooms_by (IsTrue R.A.account.tells) (R.means room.old) (R.means room.new)) (IsTrue K.tells) (K.written sink.old) (K.written sink.new) (IsTrue D.tells) (D.held desk.new) result }
     ensures which { IsEnd result }
     ensures sink { Caused (K.faults sink.old) (K.faults sink.new) (result ≡ Status.SinkFault) }
     ensures room { Caused (R.faults room.old) (R.faults room.new) (result ≡ Status.RoomFault) }

@@ -32,7 +32,7 @@ fn hold<S: Source, K: Sink, R: Room, D: Desk, X: Wait>(
     desk: &mut D,
 ) -> Status
     requires home { (n : ℕ) → R.out room.old n ≡ false }
-    ensures holds { Holds (seen_by (IsTrue S.tells) (S.left source.old) (IsTrue K.tells) (K.written sink.old) (K.written sink.new) (IsTrue D.tells) (D.held desk.old) (D.held desk.new) (R.means room.old) (R.means room.new)) result }
+    ensures holds { Holds seed.now (seen_by (IsTrue S.tells) (S.left source.old) (S.left source.new) (IsTrue K.tells) (K.written sink.old) (K.written sink.new) (IsTrue D.tells) (D.held desk.old) (D.held desk.new) (IsTrue R.A.account.tells) (R.means room.old) (R.means room.new)) result }
     ensures home { (n : ℕ) → R.out room.new n ≡ false }
     ensures source { Caused (S.faults source.old) (S.faults source.new) (result ≡ Status.SourceFault) }
     ensures sink { Caused (K.faults sink.old) (K.faults sink.new) (result ≡ Status.SinkFault) }
@@ -69,7 +69,7 @@ fn answer<S: Source, K: Sink, R: Room, D: Desk, X: Wait>(
     desk: &mut D,
 ) -> Status
     requires home { (n : ℕ) → R.out room.old n ≡ false }
-    ensures runs { Runs (map string_bytes words.now) (seen_by (IsTrue S.tells) (S.left source.old) (IsTrue K.tells) (K.written sink.old) (K.written sink.new) (IsTrue D.tells) (D.held desk.old) (D.held desk.new) (R.means room.old) (R.means room.new)) result }
+    ensures runs { Runs (map string_bytes words.now) drawn (seen_by (IsTrue S.tells) (S.left source.old) (S.left source.new) (IsTrue K.tells) (K.written sink.old) (K.written sink.new) (IsTrue D.tells) (D.held desk.old) (D.held desk.new) (IsTrue R.A.account.tells) (R.means room.old) (R.means room.new)) result }
     ensures home { (n : ℕ) → R.out room.new n ≡ false }
     ensures source { Caused (S.faults source.old) (S.faults source.new) (result ≡ Status.SourceFault) }
     ensures sink { Caused (K.faults sink.old) (K.faults sink.new) (result ≡ Status.SinkFault) }
@@ -108,7 +108,7 @@ pub fn run<S: Source, K: Sink, R: Room, D: Desk, W: Gate, X: Wait>(
     _gate: &W,
 ) -> u8
     requires home { (n : ℕ) → R.out room.old n ≡ false }
-    ensures runs { (status : Status) × (result ≡ code_of status) × Runs (map string_bytes words.now) (seen_by (IsTrue S.tells) (S.left source.old) (IsTrue K.tells) (K.written sink.old) (K.written sink.new) (IsTrue D.tells) (D.held desk.old) (D.held desk.new) (R.means room.old) (R.means room.new)) status }
+    ensures runs { (status : Status) × (result ≡ code_of status) × Runs (map string_bytes words.now) drawn (seen_by (IsTrue S.tells) (S.left source.old) (S.left source.new) (IsTrue K.tells) (K.written sink.old) (K.written sink.new) (IsTrue D.tells) (D.held desk.old) (D.held desk.new) (IsTrue R.A.account.tells) (R.means room.old) (R.means room.new)) status }
     ensures home { (n : ℕ) → R.out room.new n ≡ false }
     ensures source { Caused (S.faults source.old) (S.faults source.new) (result ≡ 4) }
     ensures sink { Caused (K.faults sink.old) (K.faults sink.new) (result ≡ 5) }

@@ -1,11 +1,14 @@
-use Rattle.std.proofs.Common.{◌≡◌, length, take, get_or, refl, sym, ap, subst, ◌∙◌, arith}
+use Rattle.std.proofs.Common.{◌≡◌, IsTrue, length, take, get_or, refl, sym, ap, subst, ◌∙◌, arith}
 use Rattle.std.proofs.lemmas.List.{take_more}
 use Rattle.std.proofs.Math.Seq.{take-length}
 use Rattle.pot_group.specs.Shelves.{numbers_of}
-use Rattle.pot_session.specs.Holding.{times, AreOut}
+use Rattle.std.specs.Prelude.{Contains}
+use Rattle.pot_outside.specs.Archives.{IsMeant}
+use Rattle.pot_session.specs.Holding.{times, AreMeant, AreOut}
 use Rattle.pot_session.proofs.Counts.{rose_before, rose_after}
-use Rattle.pot_session.proofs.OutLemmas.{none_out, is_home, out_more, out_same, apart_before, apart_from, none_before, numbers-snoc, numbers-length}
+use Rattle.pot_session.proofs.OutLemmas.{none_out, is_home, out_more, out_same, apart_before, apart_from, apart_next, none_before, times-next, numbers-snoc, numbers-length}
 use Rattle.pot_session.proofs.Counts.{err_again}
+use Rattle.pot_session.proofs.MeantLemmas.{meant_more, none_contained}
 use Rattle.pot_session.proofs.archives.take_all.Goals as goal
 
 pub take-requires : goal.take-requires
@@ -29,6 +32,7 @@ pub loop-number-init : goal.loop-number-init
 loop-number-init g c = record {
   taken = ap numbers_of c.requires.empty;
   out = none_out (g.R.Room.out c.args.room.now) c.requires.home;
+  meant = λ told s has. absurd (none_contained s (subst (λ ss. Contains ss s) c.requires.empty has));
   untouched = λ n e. refl;
   space = refl;
   later = omega arith;
@@ -44,7 +48,14 @@ loop-number-preserved g c =
           (is_home (g.R.Room.out c.loop-number.room) (take c.loop-number.number-index c.args.numbers.now) (get_or c.args.numbers.now c.loop-number.number-index 0) c.loop-number.invariant.out
           (apart_before c.args.numbers.now c.loop-number.number-index c.requires.apart c.loop-number-test.true))
           c.in-Ok.ensures.taken (λ n ne. (c.take.ensures.others n ne).1));
-      untouched = λ n none. (c.take.ensures.others n (apart_from c.args.numbers.now c.loop-number.number-index n c.loop-number-test.true none)).0 ∙ c.loop-number.invariant.untouched n none;
+      meant = λ told. subst (λ ss. AreMeant g.R.A.Archive.account.meaning (g.R.Room.means c.args.room.now) ss) (sym c.push_reserved.ensures.items)
+          (meant_more g.R.A.Archive.account.meaning (g.R.Room.means c.args.room.now) c.loop-number.hand.items _ (c.loop-number.invariant.meant told)
+          (subst (λ m. IsMeant m (g.R.A.Archive.account.meaning c.in-Ok.archive))
+          (c.loop-number.invariant.untouched (get_or c.args.numbers.now c.loop-number.number-index 0) (apart_before c.args.numbers.now c.loop-number.number-index c.requires.apart c.loop-number-test.true)) (c.in-Ok.ensures.told told)));
+      untouched = λ n none.
+          (let parts = times-next n c.args.numbers.now c.loop-number.number-index c.loop-number-test.true in
+          let before : times n (take c.loop-number.number-index c.args.numbers.now) ≡ 0 = omega (arith, parts, none) in
+          (c.take.ensures.others n (apart_next c.args.numbers.now c.loop-number.number-index n c.loop-number-test.true none)).0 ∙ c.loop-number.invariant.untouched n before);
       space = c.push_reserved.ensures.capacity ∙ c.loop-number.invariant.space;
       later = omega (arith, c.loop-number.invariant.later, c.take.ensures.cause.later);
     }
@@ -58,7 +69,9 @@ returns-in-Err g c = record {
   space = c.give_all-given.ensures.space ∙ c.loop-number.invariant.space;
   untouched = λ n none.
       c.give_all-given.ensures.untouched n (ap (times n) c.loop-number.invariant.taken ∙ none_before n c.args.numbers.now c.loop-number.number-index none)
-      ∙ ((c.take.ensures.others n (apart_from c.args.numbers.now c.loop-number.number-index n c.loop-number-test.true none)).0 ∙ c.loop-number.invariant.untouched n none);
+      ∙ ((c.take.ensures.others n (apart_from c.args.numbers.now c.loop-number.number-index n c.loop-number-test.true none)).0
+      ∙ c.loop-number.invariant.untouched n (none_before n c.args.numbers.now c.loop-number.number-index none));
+  meant = λ told. tt;
   cause = record {
     later = omega (arith, c.loop-number.invariant.later, c.take.ensures.cause.later, c.give_all-given.ensures.cause.later);
     rose = λ e. rose_before _ _ _ c.give_all-given.ensures.cause.later (rose_after _ _ _ c.loop-number.invariant.later (c.in-Err.ensures.cause.rose (err_again _ _ e)));
@@ -75,6 +88,7 @@ returns g c =
       home = tt;
       empty = tt;
       space = c.loop-number.invariant.space;
-      untouched = c.loop-number.invariant.untouched;
+      untouched = λ n none. c.loop-number.invariant.untouched n (none_before n c.args.numbers.now c.loop-number.number-index none);
+      meant = c.loop-number.invariant.meant;
       cause = record { later = c.loop-number.invariant.later; rose = λ e. absurd (cc) };
     }

@@ -1,8 +1,11 @@
-use Rattle.std.proofs.Common.{refl, sym, ap, subst, ◌∙◌}
+use Rattle.std.proofs.Common.{◌≡◌, IsTrue, refl, sym, ap, subst, ◌∙◌}
+use Rattle.std.specs.Prelude.{Some}
+use Rattle.pot_image.specs.Spelling.{image_bytes}
+use Rattle.pot_store.specs.Works.{known}
 use Rattle.pot_session.specs.Holding.{times, AreOut}
-use Rattle.pot_session.specs.Serving.{Closes, IsCloseStop}
+use Rattle.pot_session.specs.Serving.{Closes, IsCloseStop, rooms_by}
 use Rattle.pot_session.proofs.Countable.{countable}
-use Rattle.pot_session.proofs.CloseImages.{close_told, close_stop, room_failure, desk_failure}
+use Rattle.pot_session.proofs.CloseImages.{closes, close_stop, room_failure, desk_failure}
 use Rattle.pot_session.proofs.closing.close_session.Goals as goal
 
 pub give_hand-given-requires-after_bounds : goal.give_hand-given-requires-after_bounds
@@ -15,10 +18,13 @@ keep_image-kept-requires g c =
 pub returns-clause-untouched : goal.returns-clause-untouched
 returns-clause-untouched g c n none = c.give_hand-given.ensures.untouched n (ap (times n) c.end_vault-remains.ensures.hand ∙ none)
 
-pub returns-clause-told : goal.returns-clause-told
-returns-clause-told g c told first begun held =
-    subst (λ r. Closes first (g.D.Desk.held c.keep_image-kept.new.desk) r) (sym c.first_failure.ensures)
-    (close_told _ _ _ first _ _ _ c.give_hand-given.result c.keep_image-kept.result (c.keep_image-kept.ensures.told told) held begun c.requires.rack c.end_vault-remains.ensures.tables c.end_vault-remains.ensures.records)
+pub returns-clause-closes : goal.returns-clause-closes
+returns-clause-closes g c old first meant served taken begun =
+    let rooms = rooms_by (IsTrue g.R.A.Archive.account.tells) meant (g.R.Room.means c.give_hand-given.new.room) in
+    subst (λ r. Closes old (known c.args.opened.passes.groups c.args.opened.passes.index) rooms (IsTrue g.D.Desk.tells × (g.D.Desk.held c.args.desk.now ≡ Some (image_bytes first))) first (g.D.Desk.held c.keep_image-kept.new.desk) r)
+    (sym c.first_failure.ensures)
+    (closes g.R.A.Archive.account.meaning _ rooms _ old _ _ _ first _ _ _ c.give_hand-given.result c.keep_image-kept.result c.keep_image-kept.ensures.told c.give_hand-given.ensures.meant served.opened begun c.requires.rack
+    (c.end_vault-remains.ensures.groups old meant served taken) (c.end_vault-remains.ensures.logs old served))
 
 pub returns-clause-which : goal.returns-clause-which
 returns-clause-which g c = subst IsCloseStop (sym c.first_failure.ensures) (close_stop c.give_hand-given.result c.keep_image-kept.result c.keep_image-kept.ensures.which)

@@ -1,10 +1,12 @@
 use Rattle.std.proofs.Common.{◌≡◌, ◌++◌, take, drop, length, sym, ap, subst, ◌∙◌, IsTrue, arith}
-use Rattle.std.proofs.lemmas.List.{take-map, drop-map}
+use Rattle.std.proofs.lemmas.List.{take-map}
+use Rattle.std.specs.Prelude.{Contains}
 use Rattle.pot_outside.specs.declared.archive.Shelf.{Shelf}
 use Rattle.pot_group.specs.Beginning.{archives_in}
 use Rattle.pot_group.specs.Shelves.{numbers_of}
 use Rattle.pot_session.specs.Holding.{AreSame}
-use Rattle.pot_session.proofs.GroupLemmas.{started_of, same_parts, long_parts}
+use Rattle.pot_session.proofs.GroupLemmas.{started_of, marked_of, same_parts, long_parts}
+use Rattle.pot_session.proofs.Lists.{take_contains}
 use Rattle.pot_session.proofs.groups.start_group.Goals as goal
 
 pub start-requires-clause-shelves : goal.start-requires-clause-shelves
@@ -17,9 +19,11 @@ returns-in-Ok-clause-started g c =
     (ap numbers_of c.in_ok-shelves.ensures.front ∙ (sym (take-map (λ (s : Shelf _). s.number) (length (archives_in c.args.table)) c.args.hand.now.items) ∙ c.requires.hand))
     c.logged-rules.ensures.arrived
 
-pub returns-in-Ok-clause-rest : goal.returns-in-Ok-clause-rest
-returns-in-Ok-clause-rest g c =
-    ap numbers_of c.in_ok-shelves.ensures.rest ∙ sym (drop-map (λ (s : Shelf _). s.number) (length (archives_in c.args.table)) c.args.hand.now.items)
+pub returns-in-Ok-clause-marked : goal.returns-in-Ok-clause-marked
+returns-in-Ok-clause-marked g c meant told are =
+    marked_of (IsTrue g.A.Archive.account.tells) g.A.Archive.account.meaning meant c.args.number c.args.table c.in_ok-shelves.shelves.items c.in-Ok.group told c.in-Ok.ensures.begins
+    (ap numbers_of c.in_ok-shelves.ensures.front ∙ (sym (take-map (λ (s : Shelf _). s.number) (length (archives_in c.args.table)) c.args.hand.now.items) ∙ c.requires.hand))
+    (λ s has. are s (take_contains c.args.hand.now.items (length (archives_in c.args.table)) s (subst (λ ss. Contains ss s) c.in_ok-shelves.ensures.front has)))
 
 pub put_back-requires : goal.put_back-requires
 put_back-requires g c =

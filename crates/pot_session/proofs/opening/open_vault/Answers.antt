@@ -39,3 +39,6 @@ returns-in-Ok-start_groups-clause-refused g c =
     on_err c.share.result c.share.ensures.refused (λ e n. ap (times n) e ∙ (
     let had = had_all (λ m. view_of g.A.Archive.account.meaning m.group) c.args.tables.items c.start_groups.new.members.items c.in-Ok-start_groups.ensures.started in
     ap (λ l. times n (numbers_of l ++ flat_map (λ m. had_by (view_of g.A.Archive.account.meaning m.group)) c.start_groups.new.members.items)) c.in-Ok-start_groups.ensures.empty ∙ ap (times n) had))
+
+pub returns-in-Ok-start_groups-clause-marked : goal.returns-in-Ok-start_groups-clause-marked
+returns-in-Ok-start_groups-clause-marked g c meant told are = c.share.ensures.marked meant (c.in-Ok-start_groups.ensures.marked meant told are)

@@ -26,3 +26,6 @@ returns-clause-script g c =
     (λ t. whole_source _ _ c.in-Ok.bytes.items 67108864 (c.in-Ok.ensures.told t) (omega (arith, script.short, ap length c.deref.ensures.value)) ∙ sym c.deref.ensures.value)
     script (ap (other_line 1) (sym c.deref-2.ensures.value) ∙ sym c.in_default.ensures)
     (c.pop-quit.ensures.rest ∙ ap (λ n. take (n - 1) cs.items) long)
+
+pub returns-clause-read : goal.returns-clause-read
+returns-clause-read g c = λ t. (c.in-Ok.ensures.told t).all (let script = c.in-Ok-read_script.ensures.ok in omega (arith, script.short, ap length c.deref.ensures.value))

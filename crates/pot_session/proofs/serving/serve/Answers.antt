@@ -1,13 +1,14 @@
-use Rattle.std.proofs.Common.{length, sym, ap, subst, ◌∙◌}
+use Rattle.std.proofs.Common.{IsTrue, length, sym, ap, subst, ◌∙◌}
 use Rattle.std.specs.Prelude.{flat_map, vec_capacity}
 use Rattle.pot_bytes.specs.Rack.{IsRack}
 use Rattle.pot_image.specs.Images.{contents}
 use Rattle.pot_group.specs.Beginning.{archives_in}
+use Rattle.pot_store.specs.Works.{known}
 use Rattle.pot_session.specs.Holding.{times, AreOut}
-use Rattle.pot_session.specs.Serving.{HasSpaces, DeskAfter, IsEnd}
+use Rattle.pot_session.specs.Serving.{HasSpaces, IsEnd}
 use Rattle.pot_session.proofs.Counts.{caused_second}
-use Rattle.pot_session.proofs.WorkLemmas.{brings_none, are_worked}
-use Rattle.pot_session.proofs.ServeLemmas.{same_read, same_records, more_parts, still_but_kept, still_all, desk_after, end_of, sink_failed, room_failed, desk_failed}
+use Rattle.pot_session.proofs.WorkLemmas.{are_worked}
+use Rattle.pot_session.proofs.ServeLemmas.{same_read, same_records, more_parts, still_but_kept, still_all, serves_closed, end_of, sink_failed, room_failed, desk_failed}
 use Rattle.pot_session.proofs.serving.serve.Goals as goal
 
 pub work-ending-requires-clause-parts : goal.work-ending-requires-clause-parts
@@ -23,16 +24,15 @@ pub work-ending-requires-clause-worked : goal.work-ending-requires-clause-worked
 work-ending-requires-clause-worked g c = are_worked c.args.commands.now c.requires.worked
 
 pub close_session-closed-requires-clause-served : goal.close_session-closed-requires-clause-served
-close_session-closed-requires-clause-served g c = λ bounds within. record {
-  first_groups = c.in-Ok.opened.passes.groups;
-  first_index = c.in-Ok.opened.passes.index;
-  opened = c.in-Ok.ensures.opened;
-  went = c.work-ending.ensures.went.groups;
-  went_index = c.work-ending.ensures.went.index;
-  stays = c.work-ending.ensures.stays.groups;
-  stays_index = c.work-ending.ensures.stays.index;
-  brings = brings_none _ _ _ _ c.work-ending.ensures.brings;
-}
+close_session-closed-requires-clause-served g c = λ bounds within. (
+  known c.in-Ok.opened.passes.groups c.in-Ok.opened.passes.index,
+  record {
+    opened = c.in-Ok.ensures.opened;
+    went = c.work-ending.ensures.went;
+    stays = c.work-ending.ensures.stays;
+    brings = c.work-ending.ensures.brings;
+  },
+)
 
 pub close_session-closed-requires-clause-parts : goal.close_session-closed-requires-clause-parts
 close_session-closed-requires-clause-parts g c = λ bounds within.
@@ -56,16 +56,16 @@ returns-clause-untouched g c n none =
     c.close_session-closed.ensures.untouched n (ap (λ ts. times n (flat_map archives_in ts)) (same_read _ _ _ _ c.in-Ok.ensures.ready.0 c.work-ending.ensures.ready c.work-ending.ensures.stays.groups ∙ c.in-Ok.ensures.read.0) ∙ none)
     ∙ c.open_session.ensures.untouched n none
 
-pub returns-clause-told : goal.returns-clause-told
-returns-clause-told g c told held =
-    subst (DeskAfter (contents c.args.image) (g.D.Desk.held c.close_session-closed.new.desk)) (sym c.status_after.ensures)
-    (desk_after (contents c.args.image) (g.D.Desk.held c.close_session-closed.new.desk) c.work-ending.result c.close_session-closed.result c.close_session-closed.ensures.which
-    (c.close_session-closed.ensures.told told (contents c.args.image) (record {
+pub returns-clause-serves : goal.returns-clause-serves
+returns-clause-serves g c =
+    serves_closed c.args.seed.now (contents c.args.image) c.args.commands.now _ _ _ _ (IsTrue g.D.Desk.tells) (g.D.Desk.held c.args.desk.now) _ _ _ (known c.in-Ok.opened.passes.groups c.in-Ok.opened.passes.index) _ c.work-ending.result
+    c.close_session-closed.result _ c.in-Ok.ensures.opened c.in-Ok.ensures.read.0 c.in-Ok.ensures.read.1 c.in-Ok.ensures.same.2 c.in-Ok.ensures.same.0 c.work-ending.ensures.ends
+    (c.close_session-closed.ensures.closes _ (contents c.args.image) (g.R.Room.means c.args.room.now) (record { opened = c.in-Ok.ensures.opened; went = c.work-ending.ensures.went; stays = c.work-ending.ensures.stays; brings = c.work-ending.ensures.brings }) c.in-Ok.ensures.marked (record {
       is_session = sym c.in-Ok.ensures.same.0;
       is_rack = sym c.in-Ok.ensures.same.1;
       are_tables = sym (same_read _ _ _ _ c.in-Ok.ensures.ready.0 c.work-ending.ensures.ready c.work-ending.ensures.stays.groups ∙ c.in-Ok.ensures.read.0);
       are_records = sym (same_records _ _ c.work-ending.ensures.stays.index ∙ c.in-Ok.ensures.read.1);
-    }) held))
+    })) c.close_session-closed.ensures.which c.requires.kept c.status_after.ensures
 
 pub returns-clause-which : goal.returns-clause-which
 returns-clause-which g c = subst IsEnd (sym c.status_after.ensures) (end_of c.work-ending.result c.close_session-closed.result c.close_session-closed.ensures.which)

@@ -1,12 +1,12 @@
 use Rattle.std.proofs.Common.{refl, map, subst, arith}
 use Rattle.std.specs.String.{string_bytes}
 use Rattle.pot_session.specs.Tasks.{Asks}
-use Rattle.pot_session.specs.Runs.{Makes, Session}
-use Rattle.pot_session.proofs.TopLemmas.{init_source, init_room}
+use Rattle.pot_session.specs.Runs.{Makes}
+use Rattle.pot_session.proofs.TopLemmas.{init_source, init_room, with_seed}
 use Rattle.pot_session.proofs.top.answer.Goals as goal
 
 pub returns-in-Ok-Init-clause-runs : goal.returns-in-Ok-Init-clause-runs
-returns-in-Ok-Init-clause-runs g c = Makes _ (subst (Asks (map string_bytes c.args.words.now)) c.in-Ok-Init.field-0-is c.in-Ok-Init.ensures).0 c.init.ensures.inits (λ n. refl)
+returns-in-Ok-Init-clause-runs g c = Makes _ (subst (Asks (map string_bytes c.args.words.now)) c.in-Ok-Init.field-0-is c.in-Ok-Init.ensures).0 (λ t. refl) c.init.ensures.inits (λ n. refl)
 
 pub returns-in-Ok-Init-clause-source : goal.returns-in-Ok-Init-clause-source
 returns-in-Ok-Init-clause-source g c = record {
@@ -21,4 +21,5 @@ returns-in-Ok-Init-clause-room g c = record {
 }
 
 pub returns-in-Ok-Run-clause-runs : goal.returns-in-Ok-Run-clause-runs
-returns-in-Ok-Run-clause-runs g c = Session _ (subst (Asks (map string_bytes c.args.words.now)) c.in-Ok-Run.field-0-is c.in-Ok-Run.ensures) c.hold.ensures.holds
+returns-in-Ok-Run-clause-runs g c =
+    with_seed _ _ _ _ _ _ c.seed_of-seed.ensures (subst (Asks (map string_bytes c.args.words.now)) c.in-Ok-Run.field-0-is c.in-Ok-Run.ensures) c.hold.ensures.holds
