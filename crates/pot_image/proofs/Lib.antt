@@ -15,6 +15,12 @@ pub mod RecordRules
 pub mod RecordsKept
 pub mod Frames
 pub mod WriteRules
+pub mod Spelled
+pub mod HeadSpelled
+pub mod TableSpelled
+pub mod RecordSpelled
+pub mod LogSpelled
+pub mod ImageSpelled
 pub mod ReadBack
 pub mod HeadBack
 pub mod TableBack

@@ -1,11 +1,13 @@
--- What is proved of grammars of fields, and of an image that is read after it was written.
-use Rattle.std.specs.Prelude.{◌≡◌, ◌⊎◌, ℕ, List, Result, MatchResult}
+-- What is proved of grammars of fields, of an image that is read after it was written, and of the bytes of one that is read.
+use Rattle.std.specs.Prelude.{◌≡◌, ◌⊎◌, ℕ, List, Result, Ok, MatchResult}
+use Rattle.pot_bytes.specs.Lists.{AreBytes}
+use Rattle.pot_image.specs.declared.format.Format.{Format}
 use Rattle.pot_image.specs.declared.format.Format.TheVariants.{Second}
 use Rattle.pot_image.specs.declared.image.Image.{Image}
 use Rattle.pot_image.specs.declared.fault.ImageFault.{ImageFault}
 use Rattle.pot_image.specs.declared.fault.ImageFault.TheVariants as faults
 use Rattle.pot_image.specs.Fields.{Grammar, IsOf, LeavesAt}
-use Rattle.pot_image.specs.Images.{Contents, contents, image, AnswersImage}
+use Rattle.pot_image.specs.Images.{Contents, contents, image, format_number, AnswersImage}
 use Rattle.pot_image.specs.Spelling.{IsCountable, field_bytes, image_bytes}
 use Rattle.pot_image.specs.Rules.{IsImage}
 
@@ -46,3 +48,21 @@ MayBeWritten = (i : Image) → IsImage (contents i) → IsCountable i
 -- there is one
 abbrev pub SomeImage : Type 0
 SomeImage = (v : Contents) × IsImage v
+
+-- A VALUE HAS ONE SPELLING
+
+-- in each format: bytes that are read as the same value are the same bytes
+abbrev pub OneSpelling : Type 0
+OneSpelling = (format : Format) (x y : List ℕ) (v : Contents) → AreBytes x → AreBytes y → IsOf (image format) x v → IsOf (image format) y v → x ≡ y
+
+-- in the second format they are those that are written
+abbrev pub SpelledAsWritten : Type 0
+SpelledAsWritten = (bytes : List ℕ) (v : Contents) → AreBytes bytes → IsOf (image Second) bytes v → bytes ≡ field_bytes v
+
+-- the same of all bytes of an image: those that reading answers with one value, in one format, are the same bytes
+abbrev pub OneImage : Type 0
+OneImage = (x y : List ℕ) (i j : Image) → AreBytes x → AreBytes y → AnswersImage x (Ok i) → AnswersImage y (Ok j) → format_number x ≡ format_number y → contents i ≡ contents j → x ≡ y
+
+-- and in the second format they are those that are written
+abbrev pub ImageAsWritten : Type 0
+ImageAsWritten = (x : List ℕ) (i : Image) → AreBytes x → AnswersImage x (Ok i) → format_number x ≡ 2 → x ≡ image_bytes (contents i)

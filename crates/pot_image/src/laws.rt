@@ -1,5 +1,5 @@
 //! What is proved of grammars of fields.
-ghost use Rattle.pot_image.specs.Laws.{ReadOnce, LeftOnce, NeverBoth, Decided, FieldsReadBack, ReadBack, WrittenApart, MayBeWritten, SomeImage};
+ghost use Rattle.pot_image.specs.Laws.{ReadOnce, LeftOnce, NeverBoth, Decided, FieldsReadBack, ReadBack, WrittenApart, MayBeWritten, SomeImage, OneSpelling, SpelledAsWritten, OneImage, ImageAsWritten};
 
 /// A grammar over values of some type.
 pub trait GrammarShape {
@@ -23,11 +23,16 @@ pub fn field_laws<S: GrammarShape>()
 
 /// What is proved of an image that was written. Its fields are those of the grammar, whatever `read_image` may answer to its
 /// bytes is the image, unless memory was not found, and no two images have the same bytes. Each may be
-/// written, and there is one. It does nothing.
+/// written, and there is one. And of bytes that are read as an image: in each format they are its only ones, the fields alone and
+/// all bytes, and in the second they are those that are written. It does nothing.
 pub fn image_laws()
     ensures fields { FieldsReadBack }
     ensures back { ReadBack }
     ensures apart { WrittenApart }
     ensures countable { MayBeWritten }
     ensures some { SomeImage }
+    ensures one { OneSpelling }
+    ensures written { SpelledAsWritten }
+    ensures one_image { OneImage }
+    ensures image_written { ImageAsWritten }
 {}
