@@ -62,6 +62,7 @@ module _ {A : Type 0} (told : Type 0) (meaning : A → Meaning) (old mid new : G
       → Comes told meaning e shelf (view_of meaning old) (view_of meaning (acted (with_archives old mid.archives) e []))
   came_by e legal acts = record {
     room = room;
+    fresh = fresh;
     acts = record { number = refl; first = refl; legal = legal; table = refl; log = refl; flights = refl };
     brings = brings;
     steps = λ t. record {

@@ -43,9 +43,11 @@ RefusesSwap g number cause.LogFull = length g.log ≡ 262144
 RefusesSwap g number (cause.InUse n) = (length g.log < 262144) × Contains g.shelves.numbers number × (n ≡ number)
 RefusesSwap g number cause.NoMemory = (length g.log < 262144) × (Contains g.shelves.numbers number → ⊥)
 
--- An archive comes, with its marks then, and its entry is logged. Where archives tell, that is a step of the group.
+-- An archive comes under a number that none has had, with its marks then, and its entry is logged. Where archives tell, that is a
+-- step of the group.
 pub record Comes {A : Type 0} (told : Type 0) (meaning : A → Meaning) (e : Entry) (shelf : Shelf A) (old new : GroupView) : Type 0 where
   pub room : length old.log < 262144
+  pub fresh : Contains old.shelves.numbers shelf.number → ⊥
   pub acts : Acts e [] old new
   pub brings : Brings told shelf.number (meaning shelf.archive).held (meaning shelf.archive).heard old.shelves new.shelves
   pub steps : told → step.BringStep e shelf.number (meaning shelf.archive).held (meaning shelf.archive).heard (state_of old) (state_of new)
