@@ -1,5 +1,9 @@
 pub mod MemberLemmas
 pub mod CallLemmas
+pub mod MendLemmas
+pub mod MoveLemmas
+pub mod UseLemmas
+pub mod PlaceLemmas
 pub mod CatalogLemmas
 pub mod IndexCallLemmas
 pub mod SharingLemmas

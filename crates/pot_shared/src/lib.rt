@@ -12,10 +12,13 @@ mod ending;
 mod grouping;
 mod indexing;
 mod member;
+mod mending;
+mod moving;
 mod sharing;
 mod starting;
 #[cfg(test)]
 mod tests;
+mod uses;
 mod vault;
 
 pub use catalog::{Catalog, CatalogOrigin, Strange};

@@ -1,41 +1,40 @@
 use Rattle.std.proofs.Common.{IsTrue, ap}
 use Rattle.pot_group.specs.Group.{view_of}
 use Rattle.pot_shared.specs.Calls.{PutCall}
-use Rattle.pot_shared.proofs.CallLemmas.{grown, same_origin, called, put_means, ready_again}
+use Rattle.pot_shared.proofs.CallLemmas.{grown, same_origin, called, ready_again, put_means}
 use Rattle.pot_shared.proofs.vault.Vault.put.Goals as goal
 
 pub leave-requires-clause-grown : goal.leave-requires-clause-grown
 leave-requires-clause-grown g c =
+    let told = IsTrue g.A.Archive.account.tells in
     let old = view_of g.A.Archive.account.meaning c.enter-member.result.group in
     let new = view_of g.A.Archive.account.meaning c.put-answer.new.self in
-    let means = put_means c.args.job c.args.block.now c.put-answer.result old new c.put-answer.ensures.logs in
+    let means = put_means told c.args.job c.args.block.now c.put-answer.result old new c.put-answer.ensures.logs
+    (λ l. (let f = c.put-answer.ensures.full l in (f.0, ap (view_of g.A.Archive.account.meaning) f.1))) c.put-answer.ensures.keeps c.put-answer.ensures.step in
     grown c.args.self.now.groups c.args.passes.now.groups c.enter-member.new.passes c.args.group c.requires.ready.of c.requires.group old c.enter-member.ensures.took
-    new c.put-answer.ensures.keeps means.1.number means.1.first means.0 means.1.log c.enter-member.ensures.origin
+    new means.0 means.1 c.enter-member.ensures.origin
 
 pub leave-requires-clause-origin : goal.leave-requires-clause-origin
 leave-requires-clause-origin g c =
+    let told = IsTrue g.A.Archive.account.tells in
     let old = view_of g.A.Archive.account.meaning c.enter-member.result.group in
     let new = view_of g.A.Archive.account.meaning c.put-answer.new.self in
-    let means = put_means c.args.job c.args.block.now c.put-answer.result old new c.put-answer.ensures.logs in
+    let means = put_means told c.args.job c.args.block.now c.put-answer.result old new c.put-answer.ensures.logs
+    (λ l. (let f = c.put-answer.ensures.full l in (f.0, ap (view_of g.A.Archive.account.meaning) f.1))) c.put-answer.ensures.keeps c.put-answer.ensures.step in
     same_origin c.args.self.now.groups c.args.passes.now.groups c.enter-member.new.passes c.args.group c.requires.ready.of c.requires.group old c.enter-member.ensures.took
-    new c.put-answer.ensures.keeps means.1.number means.1.first means.0 means.1.log c.enter-member.ensures.origin
+    new means.0 means.1 c.enter-member.ensures.origin
 
 pub returns-clause-call : goal.returns-clause-call
 returns-clause-call g c =
     let told = IsTrue g.A.Archive.account.tells in
     let old = view_of g.A.Archive.account.meaning c.enter-member.result.group in
     let new = view_of g.A.Archive.account.meaning c.put-answer.new.self in
-    let means = put_means c.args.job c.args.block.now c.put-answer.result old new c.put-answer.ensures.logs in
+    let means = put_means told c.args.job c.args.block.now c.put-answer.result old new c.put-answer.ensures.logs
+    (λ l. (let f = c.put-answer.ensures.full l in (f.0, ap (view_of g.A.Archive.account.meaning) f.1))) c.put-answer.ensures.keeps c.put-answer.ensures.step in
     called c.args.self.now.groups c.args.passes.now.groups c.enter-member.new.passes c.args.group c.requires.ready.of c.requires.group old c.enter-member.ensures.took
-    new c.put-answer.ensures.keeps means.1.number means.1.first means.0 means.1.log c.enter-member.ensures.origin
+    new means.0 means.1 c.enter-member.ensures.origin
     told (PutCall told c.args.job c.args.block.now c.put-answer.result) c.leave.new.passes c.leave.ensures.left c.enter-member.ensures.begins
-    c.logged-before.ensures.settled c.logged-before.ensures.first c.logged-after.ensures.settled (record {
-      entries_are = means.2;
-      logs = c.put-answer.ensures.logs;
-      full = λ l. (let f = c.put-answer.ensures.full l in (f.0, ap (view_of g.A.Archive.account.meaning) f.1));
-      keeps = c.put-answer.ensures.keeps;
-      step = c.put-answer.ensures.step;
-    })
+    c.logged-before.ensures.settled c.logged-before.ensures.first c.logged-after.ensures.settled means.2
 
 pub returns-clause-ready : goal.returns-clause-ready
 returns-clause-ready g c =

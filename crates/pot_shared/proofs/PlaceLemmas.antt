@@ -1,0 +1,191 @@
+-- The mending of a place, step by step.
+use Rattle.std.proofs.Common.{◌≡◌, ◌<◌, ◌≤◌, ◌+◌, ◌-◌, ℕ, zero, suc, List, [], ◌∷◌, ◌++◌, length, length-append, refl, ap, sym, ◌∙◌, subst, arith, set}
+use Rattle.std.specs.Prelude.{All, Option, None, Some, IsSomeAnd, Result, Ok, Err}
+use Rattle.std.proofs.lemmas.List.{length-map, set-get_or}
+use Rattle.std.proofs.lemmas.List.Elements.{All-append, All-nil}
+use Rattle.pot_bytes.specs.declared.rack.Place.{Place}
+use Rattle.pot_bytes.specs.declared.rack.Rack.{Rack}
+use Rattle.pot_machine.specs.declared.entry.Entry.{Entry}
+use Rattle.pot_machine.specs.declared.entry.Entry.TheVariants as entry
+use Rattle.pot_machine.specs.Table.{next_column}
+use Rattle.pot_steps.specs.declared.flight.Flight.{Flight}
+use Rattle.pot_steps.specs.Flights.{flight_in}
+use Rattle.pot_group.specs.declared.relaying.Advanced.{Advanced}
+use Rattle.pot_group.specs.declared.relaying.Advanced.TheVariants as advanced
+use Rattle.pot_group.specs.declared.relaying.AdvanceFault.{AdvanceFault}
+use Rattle.pot_group.specs.declared.relaying.AdvanceFault.TheVariants as failed
+use Rattle.pot_group.specs.declared.relaying.Mend.{Mend}
+use Rattle.pot_group.specs.declared.relaying.Mend.TheVariants as mend
+use Rattle.pot_group.specs.Group.{GroupView}
+use Rattle.pot_pads.specs.Pads.{Pads, moved, next_bytes}
+use Rattle.pot_turn.specs.declared.name.TurnName.{TurnName}
+use Rattle.pot_rows.specs.Rows.{AreOf, view_at, with_view}
+use Rattle.pot_rows.proofs.RowLemmas.{at_set}
+use Rattle.pot_shared.specs.Members.{all_logged, kept_log, logged_at}
+use Rattle.pot_shared.specs.Ready.{GroupPass, GroupPasses}
+use Rattle.pot_shared.specs.Calls.{CallAt, CallTurn}
+use Rattle.pot_shared.specs.MendCalls.{GoesOn, MendCall, MendTurns, MendsPlace, RelayEntries, begins, begun, blind_at, drawn}
+use Rattle.pot_shared.proofs.CallLemmas.{set_twice}
+
+zero_front : (n : ℕ) → n ≡ 0 + n
+zero_front n = omega arith
+
+just_one : (answer : Mend) → GoesOn answer → All GoesOn (answer ∷ [])
+just_one answer on zero d lt = on
+just_one answer on (suc k) d lt = absurd (omega (arith, lt))
+
+module _ (told : Type 0) (job : ℕ) (place : Place) (pads : Pads) where
+  abbrev Call : List ℕ → Mend → GroupView → GroupView → List Entry → Type 0
+  Call blind answer = MendCall told job place blind answer
+
+  turns_more : (n : ℕ) (before : List Mend) (answer : Mend) (v u w : GroupPass) → MendTurns told job place pads n before v u
+      → CallTurn told (Call (blind_at pads (n + begun before)) answer) u w → MendTurns told job place pads n (before ++ answer ∷ []) v w
+  turns_more n [] answer v u w same call =
+      let zero_more : n + 0 ≡ n = omega arith in
+      (w, subst (λ x. CallTurn told (Call (blind_at pads n) answer) x w) same (subst (λ k. CallTurn told (Call (blind_at pads k) answer) u w) zero_more call), refl)
+  turns_more n (b ∷ before) answer v u w (x, first, more) call =
+      let later : n + begun (b ∷ before) ≡ (n + begins b) + begun before = omega arith in
+      (x, first, turns_more (n + begins b) before answer x u w more (subst (λ k. CallTurn told (Call (blind_at pads k) answer) u w) later call))
+
+  -- what was done so far, with the blind at hand and where the stream stands
+  pub record IsMending (old now : GroupPasses) (blind : List ℕ) (after : Pads) : Type 0 where
+    pub before : List Mend
+    pub go_on : All GoesOn before
+    pub pass : GroupPass
+    pub is : now ≡ with_view old place.group pass
+    pub turns : MendTurns told job place pads 0 before (view_at old place.group) pass
+    pub blind_is : blind ≡ blind_at pads (begun before)
+    pub stream : after ≡ drawn pads (suc (begun before))
+
+  pub mending_none : (old : GroupPasses) (blind : List ℕ) (after : Pads) → blind ≡ next_bytes pads 1024 → after ≡ moved pads 1024 → IsMending old old blind after
+  mending_none old blind after blind_is stream = record {
+    before = [];
+    go_on = All-nil GoesOn;
+    pass = view_at old place.group;
+    is = ap (λ vs. record old { views = vs }) (sym (set-get_or old.views place.group _));
+    turns = refl;
+    blind_is = blind_is;
+    stream = stream;
+  }
+
+  module _ (names : List TurnName) (old now next : GroupPasses) (blind : List ℕ) (after : Pads) (of : AreOf names old) (within : place.group < length names)
+      (sofar : IsMending old now blind after) (answer : Mend) (call : CallAt told (Call blind answer) place.group now next) where
+    long : place.group < length old.views
+    long = let l = of.1 in omega (arith, within, l)
+
+    knows : view_at now place.group ≡ sofar.pass
+    knows = ap (λ (r : GroupPasses). view_at r place.group) sofar.is ∙ at_set old place.group sofar.pass long
+
+    next_is : next ≡ with_view old place.group call.pass
+    next_is = call.is
+        ∙ (ap (λ (r : GroupPasses). with_view r place.group call.pass) sofar.is
+        ∙ ap (λ vs. record old { views = vs }) (set_twice old.views place.group sofar.pass call.pass))
+
+    all_turns : MendTurns told job place pads 0 (sofar.before ++ answer ∷ []) (view_at old place.group) call.pass
+    all_turns = turns_more 0 sofar.before answer (view_at old place.group) sofar.pass call.pass sofar.turns
+        (subst (λ k. CallTurn told (Call (blind_at pads k) answer) sofar.pass call.pass) (zero_front (begun sofar.before))
+        (subst (λ b. CallTurn told (Call b answer) sofar.pass call.pass) sofar.blind_is (subst (λ v. CallTurn told (Call blind answer) v call.pass) knows call.turn)))
+
+    pub mending_ends : (GoesOn answer → ⊥) → MendsPlace told job place pads after answer old next
+    mending_ends ends = record {
+      before = sofar.before;
+      go_on = sofar.go_on;
+      ends = ends;
+      pass = call.pass;
+      is = next_is;
+      turns = all_turns;
+      stream = sofar.stream;
+    }
+
+    begun_more : (before : List Mend) → begun (before ++ answer ∷ []) ≡ begun before + begins answer
+    begun_more [] = omega arith
+    begun_more (b ∷ before) = (let h = begun_more before in omega (arith, h))
+
+    pub mending_more : (blind1 : List ℕ) (after1 : Pads) → GoesOn answer
+        → blind1 ≡ blind_at pads (begun sofar.before + begins answer) → after1 ≡ drawn pads (suc (begun sofar.before + begins answer)) → IsMending old next blind1 after1
+    mending_more blind1 after1 goes_on blind_is stream = record {
+      before = sofar.before ++ answer ∷ [];
+      go_on = All-append GoesOn sofar.before (answer ∷ []) sofar.go_on (just_one answer goes_on);
+      pass = call.pass;
+      is = next_is;
+      turns = all_turns;
+      blind_is = blind_is ∙ ap (blind_at pads) (sym (begun_more sofar.before));
+      stream = stream ∙ ap (λ n. drawn pads (suc n)) (sym (begun_more sofar.before));
+    }
+
+  -- after a step of a relay the same blind is at hand
+  pub mending_went : (names : List TurnName) (old now next : GroupPasses) (blind : List ℕ) (after : Pads) → AreOf names old → place.group < length names
+      → IsMending old now blind after → CallAt told (Call blind mend.Went) place.group now next → IsMending old next blind after
+  mending_went names old now next blind after of within sofar call =
+      let same : begun sofar.before ≡ begun sofar.before + 0 = omega arith in
+      mending_more names old now next blind after of within sofar mend.Went call blind after (tt)
+      (sofar.blind_is ∙ ap (blind_at pads) same) (sofar.stream ∙ ap (λ n. drawn pads (suc n)) same)
+
+  -- and after a relay that began, the next one
+  pub mending_began : (names : List TurnName) (old now next : GroupPasses) (blind blind1 : List ℕ) (after after1 : Pads) → AreOf names old → place.group < length names
+      → IsMending old now blind after → CallAt told (Call blind mend.Began) place.group now next
+      → blind1 ≡ next_bytes after 1024 → after1 ≡ moved after 1024 → IsMending old next blind1 after1
+  mending_began names old now next blind blind1 after after1 of within sofar call blind_is stream =
+      let one : suc (begun sofar.before) ≡ begun sofar.before + 1 = omega arith in
+      mending_more names old now next blind after of within sofar mend.Began call blind1 after1 (tt)
+      (blind_is ∙ (ap (λ p. next_bytes p 1024) sofar.stream ∙ ap (blind_at pads) one))
+      (stream ∙ (ap (λ p. moved p 1024) sofar.stream ∙ ap (λ n. drawn pads (suc n)) one))
+
+-- an answer of another kind is the last
+pub is_last : (answer : Mend) → (answer ≡ mend.Began → ⊥) → (answer ≡ mend.Went → ⊥) → GoesOn answer → ⊥
+is_last mend.Began not_began not_went on = not_began refl
+is_last mend.Went not_began not_went on = not_went refl
+is_last _ not_began not_went on = on
+
+-- IT ENDS
+
+one_of : {X : Type 0} (o : Option X) (e : X → Entry) (entries : List Entry) → IsSomeAnd o (λ x. entries ≡ e x ∷ []) → length entries ≡ 1
+one_of None e entries h = absurd h
+one_of (Some x) e entries h = ap length h
+
+one_way : (o : Option Flight) (next : Flight → Option ℕ) (e : Flight → ℕ → Entry) (entries : List Entry) → IsSomeAnd o (λ f. IsSomeAnd (next f) (λ c. entries ≡ e f c ∷ [])) → length entries ≡ 1
+one_way None next e entries h = absurd h
+one_way (Some f) next e entries h = one_of (next f) (e f) entries h
+
+one_end : (o : Option Flight) (Q : Flight → Type 0) (e : Flight → Entry) (entries : List Entry) → IsSomeAnd o (λ f. Q f × (entries ≡ e f ∷ [])) → length entries ≡ 1
+one_end None Q e entries h = absurd h
+one_end (Some f) Q e entries h = ap length h.1
+
+relay_one : (job s : ℕ) (result : Result Advanced AdvanceFault) (old : GroupView) (entries : List Entry) → RelayEntries job s result old entries → length entries ≡ 1
+relay_one job s (Ok advanced.Hopped) old entries h = one_way (flight_in old.flights s) (λ f. next_column old.table f.relay) (λ f c. entry.Hop job s c) entries h
+relay_one job s (Ok advanced.Ended) old entries h = one_way (flight_in old.flights s) (λ f. next_column old.table f.relay) (λ f c. entry.GaveUp job s f.relay.target c) entries h
+relay_one job s (Ok advanced.Mended) old entries h = one_end (flight_in old.flights s) (λ f. next_column old.table f.relay ≡ None) (λ f. entry.Mended job s f.relay.target) entries h
+relay_one job s (Err (failed.Odd wanted found)) old entries h =
+    one_end (flight_in old.flights s) (λ f. next_column old.table f.relay ≡ None) (λ f. entry.Oddly job s f.relay.target found) entries h
+relay_one job s (Err (failed.Faulted column)) old entries h = ap length h
+relay_one job s (Err failed.LogFull) old entries h = absurd h
+relay_one job s (Err failed.Idle) old entries h = absurd h
+
+-- a step that goes on logs an entry
+one_entry : (told : Type 0) (job : ℕ) (place : Place) (blind : List ℕ) (answer : Mend) (old new : GroupView) (entries : List Entry) → GoesOn answer
+    → MendCall told job place blind answer old new entries → length entries ≡ 1
+one_entry told job place blind mend.Began old new entries on call = ap length call.tells.0
+one_entry told job place blind mend.Went old new entries on call =
+    let d = call.tells.1 in relay_one job d.0.stripe d.0.result old entries d.1
+one_entry told job place blind _ old new entries on call = absurd on
+
+-- so the log that the pass has seen grows, which has a bound
+pub falls : (told : Type 0) (job : ℕ) (place : Place) (blind : List ℕ) (answer : Mend) (names : List TurnName) (now next : GroupPasses) → AreOf names now → place.group < length names
+    → GoesOn answer → CallAt told (MendCall told job place blind answer) place.group now next
+    → 262145 - length (view_at next place.group).seen < 262145 - length (view_at now place.group).seen
+falls told job place blind answer names now next of within on call =
+    let t = call.turn in
+    let v = view_at now place.group in
+    let long = of.1 in
+    let here : place.group < length now.views = omega (arith, within, long) in
+    let knows : view_at next place.group ≡ call.pass = ap (λ (r : GroupPasses). view_at r place.group) call.is ∙ at_set now place.group call.pass here in
+    let seen : length (view_at next place.group).seen ≡ length ((v.seen ++ t.others) ++ all_logged t.new.shelves t.entries) =
+    ap (λ (w : GroupPass). length w.seen) knows ∙ ap (λ (w : GroupPass). length w.seen) t.turn in
+    let parts = length-append (v.seen ++ t.others) (all_logged t.new.shelves t.entries) in
+    let front = length-append v.seen t.others in
+    let own = length-map t.entries (logged_at t.new.shelves) in
+    let one = one_entry told job place blind answer t.old t.new t.entries on t.call in
+    let met = sym (ap length t.met) ∙ length-map t.old.log (logged_at t.old.shelves) in
+    let log = ap length t.log ∙ length-append t.old.log t.entries in
+    let bound = t.settled.bound in
+    omega (arith, seen, parts, front, own, one, met, log, bound)
