@@ -18,7 +18,7 @@ use Rattle.pot_group.specs.Arrivals.{HasArrived}
 use Rattle.pot_group.specs.Shelves.{Keeps}
 use Rattle.pot_group.specs.Group.{GroupView, GroupParts, IsSettled, view_of, state_of}
 use Rattle.pot_group.specs.Moving.{Comes, MoveMeans, MoveWrites, MovesOn, RefusesMove, RefusesSwap, live_in, move_as}
-use Rattle.pot_shared.specs.Members.{origin_of}
+use Rattle.pot_shared.specs.Members.{mark_at, origin_of, taken_by}
 use Rattle.pot_shared.specs.declared.member.GroupOrigin.{GroupOrigin}
 use Rattle.pot_shared.specs.Ready.{IsOrigin}
 use Rattle.pot_shared.specs.MoveCalls.{ComesBy, MoveBeginCall, MoveEntries, MoveStepCall, MoveTells, SwapCall}
@@ -83,19 +83,19 @@ module _ {A : Type 0} (meaning : A → Meaning) (told : Type 0) (job c : ℕ) (s
   abbrev shown : GroupParts A → GroupView
   shown g = view_of meaning g
 
-  comes_by : (e : Entry) → Comes told meaning e shelf (shown old) (shown new)
+  comes_by : (e : Entry) → taken_by (shown new).shelves e ≡ Some (mark_at (shown new).shelves shelf.number) → Comes told meaning e shelf (shown old) (shown new)
       → (entries : List Entry) × GrowsBy (shown old) (shown new) entries × ComesBy told meaning e shelf (shown old) (shown new) entries
-  comes_by e comes = (
+  comes_by e taken comes = (
     e ∷ [],
     brings_grow (shown old) (shown new) (e ∷ []) comes.acts.number comes.acts.first comes.acts.log comes.brings comes.fresh arrived,
-    record { entries_are = refl; comes = comes },
+    record { entries_are = refl; taken = taken; comes = comes },
   )
 
   pub begin_means : (result : Result (Unit {0}) (ShelfRefused A))
       → IfOk result (λ u. Comes told meaning (entry.MoveBegin job c shelf.number) shelf (shown old) (shown new))
       → IfErr result (λ r. (r.shelf ≡ shelf) × (new ≡ old) × RefusesMove (shown old) c shelf.number r.cause)
       → Means (MoveBeginCall told meaning job c shelf result) (shown old) (shown new)
-  begin_means (Ok u) begun refused = comes_by (entry.MoveBegin job c shelf.number) begun
+  begin_means (Ok u) begun refused = comes_by (entry.MoveBegin job c shelf.number) refl begun
   begin_means (Err r) begun (back, same, why) =
       let e = ap shown same in ([], grows_same (shown old) (shown new) e, (record { entries_are = refl; same = e; shelf_is = back }, why))
 
@@ -104,6 +104,6 @@ module _ {A : Type 0} (meaning : A → Meaning) (told : Type 0) (job c : ℕ) (s
       → IfErr result (λ r. (r.shelf ≡ shelf) × (new ≡ old) × RefusesSwap (shown old) shelf.number r.cause)
       → Means (SwapCall told meaning job c shelf result) (shown old) (shown new)
   swap_means (Ok n) swapped refused =
-      let m = comes_by (entry.Swapped job c shelf.number) swapped.1 in (m.0, m.1, (m.2, swapped.0))
+      let m = comes_by (entry.Swapped job c shelf.number) refl swapped.1 in (m.0, m.1, (m.2, swapped.0))
   swap_means (Err r) swapped (back, same, why) =
       let e = ap shown same in ([], grows_same (shown old) (shown new) e, (record { entries_are = refl; same = e; shelf_is = back }, why))

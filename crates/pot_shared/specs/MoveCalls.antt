@@ -1,5 +1,5 @@
 -- What the locked calls do that move a column and that bring an archive.
-use Rattle.std.specs.Prelude.{◌≡◌, ℕ, ◌<◌, true, false, List, [], ◌∷◌, None, Result, Ok, Err, length}
+use Rattle.std.specs.Prelude.{◌≡◌, ℕ, ◌<◌, true, false, List, [], ◌∷◌, None, Some, Result, Ok, Err, length}
 use Rattle.pot_outside.specs.Archives.{Meaning}
 use Rattle.pot_outside.specs.declared.archive.Shelf.{Shelf}
 use Rattle.pot_machine.specs.declared.entry.Entry.{Entry}
@@ -15,6 +15,7 @@ use Rattle.pot_group.specs.declared.moving.ShelfRefused.{ShelfRefused}
 use Rattle.pot_group.specs.Shelves.{Keeps}
 use Rattle.pot_group.specs.Group.{GroupView, state_of}
 use Rattle.pot_group.specs.Moving.{Comes, MovesOn, MoveWrites, OnMove, RefusesMove, RefusesSwap, live_in, move_as}
+use Rattle.pot_shared.specs.Members.{mark_at, taken_by}
 
 -- A STEP OF A MOVE
 
@@ -41,9 +42,10 @@ pub record MoveStepCall (told : Type 0) (job column : ℕ) (result : Result Move
 
 -- AN ARCHIVE COMES
 
--- Its entry was logged, and carries the marks of the archive.
+-- Its entry was logged, and carries the marks that the archive has from its taking, which are its counts now.
 pub record ComesBy {A : Type 0} (told : Type 0) (meaning : A → Meaning) (e : Entry) (shelf : Shelf A) (old new : GroupView) (entries : List Entry) : Type 0 where
   pub entries_are : entries ≡ e ∷ []
+  pub taken : taken_by new.shelves e ≡ Some (mark_at new.shelves shelf.number)
   pub comes : Comes told meaning e shelf old new
 
 -- it was handed back, and nothing changes
