@@ -17,6 +17,7 @@ use Rattle.pot_replies.specs.Fetches.{IsAbsent, IsFile, IsOdd, IsLost, IsFetchFa
 use Rattle.pot_store.specs.Works.{Known, IsSettingOf}
 use Rattle.pot_store.specs.Drawing.{blocks_from}
 use Rattle.pot_store.specs.Fetches.{IsUnfinished}
+use Rattle.pot_store.specs.Stored.{GivesOf}
 
 -- THE SETTING OF A SESSION
 
@@ -40,13 +41,14 @@ IsStoreReply s job name file (replies.LogFull group) w = IsStoreLogFull s job na
 IsStoreReply s job name file replies.IndexLogFull w = IsStoreIndexFull s (length file) job w
 IsStoreReply s job name file _ w = ⊥
 
--- the replies to `fetch`; the number of a fragment counts from 1
+-- The replies to `fetch`; the number of a fragment counts from 1. Of a record that was published in the session the bytes are the file
+-- that was stored, and `odd` is no reply, where no two different ones of that file's blocks and of those that were read have one digest.
 abbrev pub IsFetchReply : Setting → ℕ → List ℕ → Reply → Section → Type 0
-IsFetchReply s job name (replies.File of bytes) w = (of ≡ name) × IsFile s job name bytes w
+IsFetchReply s job name (replies.File of bytes) w = (of ≡ name) × IsFile s job name bytes w × GivesOf s job name w (λ file. bytes ≡ file)
 IsFetchReply s job name (replies.Absent of) w = (of ≡ name) × IsAbsent job name (mine job w)
 IsFetchReply s job name (replies.Lost of piece fragment have need) w =
     (of ≡ name) × ((j : ℕ) × (fragment ≡ suc j) × IsLost s job name piece j have need w)
-IsFetchReply s job name (replies.Odd of wanted found) w = (of ≡ name) × IsOdd None s job name wanted found w
+IsFetchReply s job name (replies.Odd of wanted found) w = (of ≡ name) × IsOdd None s job name wanted found w × GivesOf s job name w (λ file. ⊥)
 IsFetchReply s job name (replies.Fault group column) w = IsFetchFault s job name group column w
 IsFetchReply s job name (replies.LogFull group) w = IsFetchLogFull s job name group w
 IsFetchReply s job name replies.IndexLogFull w = IsIndexFull s 1 job w

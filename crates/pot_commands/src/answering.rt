@@ -9,6 +9,7 @@ ghost use Rattle.pot_shared.specs.Catalogs.{IsIndexReady};
 ghost use Rattle.pot_store.specs.Works.{JobWorked, JobAlone, known, section_of};
 ghost use Rattle.pot_store.specs.Stores.{StoreRow};
 ghost use Rattle.pot_store.specs.Fetches.{FetchRow, IsUnfinished};
+ghost use Rattle.pot_store.specs.Stored.{FetchGives};
 ghost use Rattle.pot_commands.specs.Rows.{IsSessionSetting, IsStoreReply, IsFetchReply, AreReplies, IsIdle, IsSingle, IsWorked};
 
 use crate::listing::{count_groups, list_names};
@@ -45,7 +46,7 @@ fn store_reply(name: &Name, answer: Result<Stored, StoreFault>) -> Result<Reply,
 
 /// The reply to a fetch, by its answer.
 fn fetch_reply(name: &Name, answer: Result<Vec<u8>, FetchFault>) -> Result<Reply, NoMemory>
-    ensures { (s : Setting) → (job : ℕ) → (w : Section) → FetchRow s job name.now answer w → MatchResult result (λ reply. IsFetchReply s job name.now reply w) (λ e. IsUnfinished s job name.now w) }
+    ensures { (s : Setting) → (job : ℕ) → (w : Section) → FetchRow s job name.now answer w → FetchGives s job name.now answer w → MatchResult result (λ reply. IsFetchReply s job name.now reply w) (λ e. IsUnfinished s job name.now w) }
 {
     let name = *name;
     match answer {

@@ -1,6 +1,5 @@
 //! The locked calls that mend a slot.
 ghost use Rattle.std.specs.Prelude.{◌<◌, ◌≡◌, IsTrue};
-
 ghost use Rattle.pot_pads.specs.Pads.{moved, next_bytes};
 
 use crate::vault::{Passes, Vault};

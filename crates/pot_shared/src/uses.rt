@@ -45,13 +45,7 @@ impl<A: Archive> Vault<A> {
     }
 
     /// Asks one group what it uses an archive as, in one turn of it, as `Group::use_of`.
-    fn use_at<R: Wait>(
-        &self,
-        rt: &R,
-        passes: &mut Passes<A>,
-        at: usize,
-        number: u32,
-    ) -> Option<Use>
+    fn use_at<R: Wait>(&self, rt: &R, passes: &mut Passes<A>, at: usize, number: u32) -> Option<Use>
         requires ready { AreReady self.now.rack self.now.groups passes.old.groups }
         requires group { at < length self.now.groups }
         ensures ready { AreReady self.now.rack self.now.groups passes.new.groups }
