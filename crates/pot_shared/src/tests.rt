@@ -1,5 +1,5 @@
 //! A vault of one group over archives in memory.
-ghost use Rattle.std.specs.Prelude.{◌≡◌, ◌≤◌, ◌∷◌, [], IsTrue, IfOk, length, map};
+ghost use Rattle.std.specs.Prelude.{◌≡◌, ◌<◌, ◌+◌, ◌≤◌, ◌∷◌, [], IsTrue, IfOk, length, map};
 ghost use Rattle.std.specs.Vec.{vec_capacity};
 ghost use Rattle.std.specs.List.{flat_map};
 ghost use Rattle.pot_bytes.specs.Rack.{IsRack};
@@ -8,18 +8,20 @@ ghost use Rattle.pot_group.specs.Beginning.{homes_of};
 ghost use Rattle.pot_group.specs.Group.{view_of};
 ghost use Rattle.pot_rows.specs.Ends.{HasAllParts};
 ghost use Rattle.pot_rows.specs.Rows.{HasMoreParts};
-ghost use Rattle.pot_shared.specs.Ready.{AreReady};
+ghost use Rattle.pot_shared.specs.Ready.{AreReady, HasSlot};
 ghost use Rattle.pot_shared.specs.Catalogs.{IsIndexReady};
 ghost use Rattle.pot_shared.specs.Sharing.{HasAllButKept, IsGroupOf};
 
 use crate::*;
 use pot_bytes::{Block, Geometry, Name, Place, Rack};
-use pot_doubles::LossyArchive;
-use pot_group::{Group, Kind, Looked, StartRefused};
+use pot_doubles::{Loss, LossyArchive};
+use pot_group::{Group, Kind, Looked, Mend, MoveFault, MoveStep, Role, StartRefused};
 use pot_index::{FindFault, Index};
 use pot_machine::{Column, GroupTable};
 use pot_outside::Shelf;
+use pot_pads::PadStream;
 use std::alloc::Global;
+use std::sync::Wait;
 use std::test::Fail;
 
 /// Whether the column stays, and its home is this archive.
@@ -45,8 +47,20 @@ fn are_homes(columns: &[Column], shelves: &[Shelf<LossyArchive>]) -> bool
     }
 }
 
-/// The first group of a rack with one parity column, over empty archives.
-fn member(alloc: Global, rack: &Rack) -> Result<Member<LossyArchive>, Fail>
+/// An empty archive with these losses.
+fn shelf(alloc: Global, number: u32, lost: &[Loss]) -> Result<Shelf<LossyArchive>, Fail>
+    ensures { IfOk result (λ s. s.number ≡ number) }
+{
+    let mut losses = Vec::new(alloc);
+    for loss in lost {
+        losses.push(*loss)?;
+    }
+    let archive = LossyArchive::new(alloc, Vec::new(alloc), losses);
+    Ok(Shelf { number, archive })
+}
+
+/// The first group of a rack with one parity column, over empty archives, of which the first has these losses.
+fn member(alloc: Global, rack: &Rack, lost: &[Loss]) -> Result<Member<LossyArchive>, Fail>
     requires fits { IsRack rack.now }
     requires one { rack.now.groups ≡ 1 }
     requires parity { rack.now.parity ≡ 1 }
@@ -56,9 +70,9 @@ fn member(alloc: Global, rack: &Rack) -> Result<Member<LossyArchive>, Fail>
         return Err(Fail::from("no memory"));
     };
     let mut shelves = Vec::new(alloc);
-    for number in 0..u32::from(rack.columns) + 1 {
-        let archive = LossyArchive::new(alloc, Vec::new(alloc), Vec::new(alloc));
-        shelves.push(Shelf { number, archive })?;
+    shelves.push(shelf(alloc, 0, lost)?)?;
+    for number in 1..u32::from(rack.columns) + 1 {
+        shelves.push(shelf(alloc, number, &[])?)?;
     }
     if !are_homes(table.columns(), &shelves) {
         return Err(Fail::from("the table is another one"));
@@ -75,7 +89,11 @@ fn member(alloc: Global, rack: &Rack) -> Result<Member<LossyArchive>, Fail>
 }
 
 /// A vault of that group and an empty index.
-fn vault(alloc: Global, rack: &Rack) -> Result<(Vault<LossyArchive>, Passes<LossyArchive>), Fail>
+fn vault(
+    alloc: Global,
+    rack: &Rack,
+    lost: &[Loss],
+) -> Result<(Vault<LossyArchive>, Passes<LossyArchive>), Fail>
     requires fits { IsRack rack.now }
     requires one { rack.now.groups ≡ 1 }
     requires parity { rack.now.parity ≡ 1 }
@@ -89,7 +107,7 @@ fn vault(alloc: Global, rack: &Rack) -> Result<(Vault<LossyArchive>, Passes<Loss
         return Err(Fail::from("no memory"));
     };
     let mut members = Vec::new(alloc);
-    members.push(member(alloc, rack)?)?;
+    members.push(member(alloc, rack, lost)?)?;
     match Vault::start(alloc, rack, members, index) {
         Ok(made) => Ok(made),
         Err(_) => Err(Fail::from("no memory")),
@@ -126,7 +144,7 @@ fn begins_and_ends(rt: HostRuntime) -> Result<(), Fail> {
     if !rack.fits() || rack.groups != 1 || rack.parity != 1 {
         return Err(Fail::from("the rack does not fit"));
     }
-    let (vault, passes) = vault(rt.alloc(), &rack)?;
+    let (vault, passes) = vault(rt.alloc(), &rack, &[])?;
     let Closed { members, index } = vault.close(passes);
     assert_eq!(rt; members.len(), 1);
     assert_eq!(rt; index.logged(), 0);
@@ -140,7 +158,7 @@ fn calls_of_a_job(rt: HostRuntime) -> Result<(), Fail> {
         return Err(Fail::from("the rack does not fit"));
     }
     let alloc = rt.alloc();
-    let (vault, mut passes) = vault(alloc, &rack)?;
+    let (vault, mut passes) = vault(alloc, &rack, &[])?;
     let Some(name) = Name::read(b"a") else {
         return Err(Fail::from("no name"));
     };
@@ -176,7 +194,7 @@ fn passes_shared_out(rt: HostRuntime) -> Result<(), Fail> {
         return Err(Fail::from("the rack does not fit"));
     }
     let alloc = rt.alloc();
-    let (vault, mut passes) = vault(alloc, &rack)?;
+    let (vault, mut passes) = vault(alloc, &rack, &[])?;
     let Ok(mut given) = vault.split(alloc, &mut passes, 4) else {
         return Err(Fail::from("no memory"));
     };
@@ -186,5 +204,181 @@ fn passes_shared_out(rt: HostRuntime) -> Result<(), Fail> {
     assert!(rt; vault.reserve(&rt, &mut given, 1, &name).is_ok());
     assert!(rt; vault.reserve(&rt, &mut passes, 2, &name).is_err());
     vault.join(&mut passes, given);
+    Ok(())
+}
+
+/// A vault of the rack whose first archive has these losses, and where a first block was put.
+fn filled<R: Wait>(
+    rt: &R,
+    alloc: Global,
+    rack: &Rack,
+    lost: &[Loss],
+) -> Result<(Vault<LossyArchive>, Passes<LossyArchive>), Fail>
+    requires fits { IsRack rack.now }
+    requires one { rack.now.groups ≡ 1 }
+    requires parity { rack.now.parity ≡ 1 }
+    ensures rack { IfOk result (λ p. p.0.rack ≡ rack.now) }
+    ensures count { IfOk result (λ p. length p.0.groups ≡ rack.now.groups) }
+    ensures ready { IfOk result (λ p. AreReady rack.now p.0.groups p.1.groups) }
+{
+    let (vault, mut passes) = vault(alloc, rack, lost)?;
+    let block = Block::from_bytes([0x11; 1024]);
+    match vault.put(rt, &mut passes, 0, 1, &block) {
+        Ok(_) => Ok((vault, passes)),
+        Err(_) => Err(Fail::from("the block was not put")),
+    }
+}
+
+/// Looks at the first slot: whether it is seen, with its first byte.
+fn look<R: Wait>(
+    rt: &R,
+    vault: &Vault<LossyArchive>,
+    passes: &mut Passes<LossyArchive>,
+) -> (Looked, u8)
+    requires ready { AreReady vault.now.rack vault.now.groups passes.old.groups }
+    requires place { HasSlot vault.now.rack vault.now.groups (record { group = 0; column = 0; stripe = 0 }) }
+    ensures ready { AreReady vault.now.rack vault.now.groups passes.new.groups }
+{
+    let mut into = Block::zero();
+    let answer = vault.look(rt, passes, 2, PLACE, &mut into);
+    (answer, into.bytes()[0])
+}
+
+/// Mends the first slot.
+fn mend<R: Wait>(
+    rt: &R,
+    vault: &Vault<LossyArchive>,
+    passes: &mut Passes<LossyArchive>,
+) -> Mend
+    requires ready { AreReady vault.now.rack vault.now.groups passes.old.groups }
+    requires place { HasSlot vault.now.rack vault.now.groups (record { group = 0; column = 0; stripe = 0 }) }
+    ensures ready { AreReady vault.now.rack vault.now.groups passes.new.groups }
+{
+    let mut pads = PadStream::new(&[0; 32], 0, 2);
+    vault.mend_place(rt, passes, 2, PLACE, &mut pads)
+}
+
+/// The first column is to move to an empty archive.
+fn begin_move<R: Wait>(
+    rt: &R,
+    alloc: Global,
+    vault: &Vault<LossyArchive>,
+    passes: &mut Passes<LossyArchive>,
+    number: u32,
+) -> Result<bool, Fail>
+    requires ready { AreReady vault.now.rack vault.now.groups passes.old.groups }
+    requires group { 0 < length vault.now.groups }
+    requires column { 0 < vault.now.rack.columns + vault.now.rack.parity }
+    ensures ready { AreReady vault.now.rack vault.now.groups passes.new.groups }
+{
+    let target = shelf(alloc, number, &[])?;
+    Ok(vault.move_begin(rt, passes, 0, 2, 0, target).is_ok())
+}
+
+/// One step of that move.
+fn go_on<R: Wait>(
+    rt: &R,
+    vault: &Vault<LossyArchive>,
+    passes: &mut Passes<LossyArchive>,
+) -> Result<MoveStep, MoveFault>
+    requires ready { AreReady vault.now.rack vault.now.groups passes.old.groups }
+    requires group { 0 < length vault.now.groups }
+    requires column { 0 < vault.now.rack.columns + vault.now.rack.parity }
+    ensures ready { AreReady vault.now.rack vault.now.groups passes.new.groups }
+{
+    vault.move_step(rt, passes, 0, 2, 0)
+}
+
+/// An empty archive replaces the home of the first column: how many slots were Live, if it does.
+fn replace<R: Wait>(
+    rt: &R,
+    alloc: Global,
+    vault: &Vault<LossyArchive>,
+    passes: &mut Passes<LossyArchive>,
+    number: u32,
+) -> Result<Option<u32>, Fail>
+    requires ready { AreReady vault.now.rack vault.now.groups passes.old.groups }
+    requires group { 0 < length vault.now.groups }
+    requires column { 0 < vault.now.rack.columns + vault.now.rack.parity }
+    ensures ready { AreReady vault.now.rack vault.now.groups passes.new.groups }
+{
+    let home = shelf(alloc, number, &[])?;
+    Ok(vault.swap(rt, passes, 0, 2, 0, home).ok())
+}
+
+/// What the archive of a number is to its column.
+fn role<R: Wait>(
+    rt: &R,
+    vault: &Vault<LossyArchive>,
+    passes: &mut Passes<LossyArchive>,
+    number: u32,
+) -> Option<Role>
+    requires ready { AreReady vault.now.rack vault.now.groups passes.old.groups }
+    ensures ready { AreReady vault.now.rack vault.now.groups passes.new.groups }
+{
+    match vault.use_of(rt, passes, number) {
+        Some(found) => Some(found.role),
+        None => None,
+    }
+}
+
+/// The column whose home the first archive is, and whether the second is in use.
+fn trace<R: Wait>(
+    rt: &R,
+    vault: &Vault<LossyArchive>,
+    passes: &mut Passes<LossyArchive>,
+    from: u32,
+    to: u32,
+) -> (Option<u8>, bool)
+    requires ready { AreReady vault.now.rack vault.now.groups passes.old.groups }
+    ensures ready { AreReady vault.now.rack vault.now.groups passes.new.groups }
+{
+    let told = vault.trace(rt, passes, from, to);
+    match told.home {
+        Some(home) => (Some(home.column), told.taken),
+        None => (None, told.taken),
+    }
+}
+
+/// Archive 0 loses its block at its second call, which is the first look's read.
+#[test]
+fn a_place_is_mended(rt: HostRuntime) -> Result<(), Fail> {
+    let rack = rack();
+    if !rack.fits() || rack.groups != 1 || rack.parity != 1 {
+        return Err(Fail::from("the rack does not fit"));
+    }
+    let (vault, mut passes) = filled(&rt, rt.alloc(), &rack, &[Loss { call: 1, slot: 0 }])?;
+    assert_eq!(rt; look(&rt, &vault, &mut passes).0, Looked::Gone);
+    assert_eq!(rt; mend(&rt, &vault, &mut passes), Mend::Whole);
+    assert_eq!(rt; look(&rt, &vault, &mut passes), (Looked::Seen, 0x11));
+    Ok(())
+}
+
+#[test]
+fn a_column_moves(rt: HostRuntime) -> Result<(), Fail> {
+    let rack = rack();
+    if !rack.fits() || rack.groups != 1 || rack.parity != 1 {
+        return Err(Fail::from("the rack does not fit"));
+    }
+    let (vault, mut passes) = filled(&rt, rt.alloc(), &rack, &[])?;
+    assert!(rt; begin_move(&rt, rt.alloc(), &vault, &mut passes, 7)?);
+    assert_eq!(rt; go_on(&rt, &vault, &mut passes), Ok(MoveStep::Copied));
+    assert_eq!(rt; go_on(&rt, &vault, &mut passes), Ok(MoveStep::Passed));
+    assert_eq!(rt; go_on(&rt, &vault, &mut passes), Ok(MoveStep::Ended));
+    assert_eq!(rt; go_on(&rt, &vault, &mut passes), Err(MoveFault::Idle));
+    Ok(())
+}
+
+#[test]
+fn an_archive_is_replaced(rt: HostRuntime) -> Result<(), Fail> {
+    let rack = rack();
+    if !rack.fits() || rack.groups != 1 || rack.parity != 1 {
+        return Err(Fail::from("the rack does not fit"));
+    }
+    let (vault, mut passes) = filled(&rt, rt.alloc(), &rack, &[])?;
+    assert_eq!(rt; replace(&rt, rt.alloc(), &vault, &mut passes, 9)?, Some(1));
+    assert_eq!(rt; role(&rt, &vault, &mut passes, 0), Some(Role::Retired));
+    assert_eq!(rt; role(&rt, &vault, &mut passes, 5), None);
+    assert_eq!(rt; trace(&rt, &vault, &mut passes, 9, 0), (Some(0), true));
     Ok(())
 }
