@@ -245,11 +245,7 @@ fn look<R: Wait>(
 }
 
 /// Mends the first slot.
-fn mend<R: Wait>(
-    rt: &R,
-    vault: &Vault<LossyArchive>,
-    passes: &mut Passes<LossyArchive>,
-) -> Mend
+fn mend<R: Wait>(rt: &R, vault: &Vault<LossyArchive>, passes: &mut Passes<LossyArchive>) -> Mend
     requires ready { AreReady vault.now.rack vault.now.groups passes.old.groups }
     requires place { HasSlot vault.now.rack vault.now.groups (record { group = 0; column = 0; stripe = 0 }) }
     ensures ready { AreReady vault.now.rack vault.now.groups passes.new.groups }

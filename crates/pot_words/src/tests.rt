@@ -175,6 +175,12 @@ fn run(rt: HostRuntime) -> Result<(), Fail> {
     for (line, wanted) in good {
         assert_eq!(rt; task_of(alloc, line)?, Some(Task::Run(wanted)));
     }
+    Ok(())
+}
+
+#[test]
+fn refused_runs(rt: HostRuntime) -> Result<(), Fail> {
+    let alloc = rt.alloc();
     let bad = [
         "run --workers",
         "run --workers=",
@@ -355,14 +361,24 @@ fn drill(rt: HostRuntime) -> Result<(), Fail> {
             Some(points)
         );
     }
+    Ok(())
+}
+
+#[test]
+fn refused_drills(rt: HostRuntime) -> Result<(), Fail> {
+    let alloc = rt.alloc();
     let bad = [
         "drill --need 2 --shards 3 --blur 16 --hidden 1",
         "drill --fragments 2 --shards 3 --blur 16 --hidden 1",
         "drill --fragments 2 --need 2 --blur 16 --hidden 1",
         "drill --fragments 2 --need 2 --shards 3 --hidden 1",
         "drill --fragments 2 --need 2 --shards 3 --blur 16",
+        "drill --fragments 1 --need 2 --shards 3 --blur 16 --hidden 1",
         "drill --fragments 9 --need 2 --shards 3 --blur 16 --hidden 1",
+        "drill --fragments 2 --need 0 --shards 3 --blur 16 --hidden 1",
         "drill --fragments 2 --need 4 --shards 3 --blur 16 --hidden 1",
+        "drill --fragments 2 --need 2 --shards 0 --blur 16 --hidden 1",
+        "drill --fragments 2 --need 2 --shards 1 --blur 16 --hidden 1",
         "drill --fragments 2 --need 2 --shards 17 --blur 16 --hidden 1",
         "drill --fragments 2 --need 2 --shards 3 --blur 64 --hidden 1",
         "drill --fragments 2 --need 2 --shards 3 --blur 16 --hidden 0",
@@ -422,7 +438,11 @@ fn audit(rt: HostRuntime) -> Result<(), Fail> {
         "audit --seen 0,0",
         "audit --seen 00.0",
         "audit --seen 0.00",
+        "audit --seen +1.0",
+        "audit --seen -1.0",
+        "audit --seen=-1.0",
         "audit --seen 0.+1",
+        "audit --seen 0.-1",
         "audit --seen 16.0",
         "audit --seen 0.18",
         "audit --seen 1.0,0.0",
