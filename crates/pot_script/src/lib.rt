@@ -35,6 +35,7 @@ mod spelled;
 mod words;
 
 pub use command::Command;
+pub use cuts::{cut_after, cut_at};
 pub use decimal_number::read_number;
 pub use fault::ScriptFault;
 pub use laws::{batches_are_whole, lines_are_short, one_reading};

@@ -4,6 +4,7 @@ pub mod CloseImages
 pub mod CloseLemmas
 pub mod Countable
 pub mod Counts
+pub mod DrillLemmas
 pub mod EndLemmas
 pub mod GroupLemmas
 pub mod IndexCounts
@@ -11,9 +12,12 @@ pub mod Lists
 pub mod MeantLemmas
 pub mod OpenLemmas
 pub mod OutLemmas
+pub mod PairLemmas
+pub mod PointLemmas
 pub mod Results
 pub mod ScriptLemmas
 pub mod ServeLemmas
 pub mod StreamLemmas
+pub mod WordLemmas
 pub mod WorkLemmas
 pub mod TopLemmas

@@ -1,5 +1,6 @@
 pub mod Commands
 pub mod Desks
+pub mod Drills
 pub mod Groups
 pub mod Holding
 pub mod Making
@@ -8,3 +9,4 @@ pub mod Serving
 pub mod Stops
 pub mod Streams
 pub mod Tasks
+pub mod Telling

@@ -8,14 +8,15 @@ use Rattle.pot_words.specs.declared.task.Task.{Task}
 use Rattle.pot_words.specs.declared.task.Task.TheVariants as task
 use Rattle.pot_session.specs.declared.asking.Asked.{Asked}
 use Rattle.pot_session.specs.declared.asking.Asked.TheVariants as asked
+use Rattle.pot_session.specs.Drills.{IsDrill}
 
--- `init` and `run`
+-- `init`, `run` and `drill`
 abbrev pub IsWorkedTask : Task → Type 0
 IsWorkedTask (task.Init rack) = Unit {0}
 IsWorkedTask (task.Run run) = Unit {0}
 IsWorkedTask (task.Generate n) = ⊥
 IsWorkedTask (task.Recover r) = ⊥
-IsWorkedTask (task.Drill d) = ⊥
+IsWorkedTask (task.Drill d) = Unit {0}
 IsWorkedTask (task.Audit a) = ⊥
 
 -- the words spell no task that is worked
@@ -26,6 +27,7 @@ AsksNothing words = (t : Task) → SpellTask words t → IsWorkedTask t → ⊥
 abbrev pub Asks : List Text → Asked → Type 0
 Asks words (asked.Init rack) = SpellTask words (task.Init rack) × IsRack rack
 Asks words (asked.Run run) = SpellTask words (task.Run run)
+Asks words (asked.Drill d) = SpellTask words (task.Drill d) × IsDrill d
 Asks words asked.Other = AsksNothing words
 
 -- the seed of a session: the one that the words give, or else the drawn one

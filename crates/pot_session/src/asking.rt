@@ -5,16 +5,18 @@ ghost use Rattle.std.specs.String.{string_bytes};
 ghost use Rattle.pot_session.specs.Tasks.{Asks};
 
 use pot_bytes::{NoMemory, Rack};
-use pot_words::{Run, Task, read_words};
+use pot_words::{Drill, Run, Task, read_words};
 use std::alloc::Global;
 
 /// What is asked for.
-#[derive(Clone, Copy, PartialEq, Debug)]
+#[derive(PartialEq, Debug, Drop)]
 pub enum Asked {
     /// An empty archive of this shape.
     Init(Rack),
     /// A session.
     Run(Run),
+    /// A drill over two files.
+    Drill(Drill),
     /// Another task, which is not worked yet, or none.
     Other,
 }
@@ -26,6 +28,7 @@ pub fn read_task(alloc: Global, words: &[String]) -> Result<Asked, NoMemory>
     match read_words(alloc, words)? {
         Some(Task::Init(rack)) => Ok(Asked::Init(rack)),
         Some(Task::Run(run)) => Ok(Asked::Run(run)),
+        Some(Task::Drill(drill)) => Ok(Asked::Drill(drill)),
         Some(_) => Ok(Asked::Other),
         None => Ok(Asked::Other),
     }

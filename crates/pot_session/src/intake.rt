@@ -1,6 +1,6 @@
 //! Reads a source to its end.
 
-ghost use Rattle.std.specs.Prelude.{◌≡◌, ◌<◌, ◌^◌, ◌≤◌, ◌++◌, [], List, ℕ, length, IsTrue, IfOk, IsErrOf};
+ghost use Rattle.std.specs.Prelude.{◌≡◌, ◌<◌, ◌^◌, ◌≤◌, ◌+◌, ◌++◌, [], List, ℕ, length, IsTrue, IfOk, IsErrOf};
 ghost use Rattle.pot_outside.specs.Counts.{Caused};
 ghost use Rattle.pot_session.specs.Streams.{IsReadOut};
 
@@ -36,7 +36,7 @@ impl From<AllocError> for IntakeFault {
     }
 }
 
-/// The bytes of the source up to its end, or its first bytes, more than `limit`.
+/// The bytes of the source up to its end, or its first bytes, one more than `limit`. No more of it is read.
 pub fn read_out<S: Source>(
     alloc: Global,
     source: &mut S,
@@ -44,12 +44,14 @@ pub fn read_out<S: Source>(
 ) -> Result<Vec<u8>, IntakeFault>
     requires { limit < 2 ^ 32 }
     ensures told { IsTrue S.tells → IfOk result (λ bytes. IsReadOut (S.left source.old) (S.left source.new) bytes.items limit) }
+    ensures most { IfOk result (λ bytes. length bytes.items ≤ limit + 1) }
     ensures cause { Caused (S.faults source.old) (S.faults source.new) (IsErrOf result IntakeFault.Failed) }
 {
     let mut bytes = Vec::new(alloc);
     let mut buffer = [0u8; 4096];
     while bytes.len() <= limit {
-        let count = source.read(&mut buffer)?;
+        let most = buffer.len().min(limit + 1 - bytes.len());
+        let count = source.read(&mut buffer[..most])?;
         if count == 0 {
             return Ok(bytes);
         }

@@ -1,7 +1,7 @@
 //! The top call: all that the program does, over any source, sink, room of archives and desk.
 //!
-//! It works the words `init` and `run`, and within a session what the commands of the script ask for. It decides no reply and spells no
-//! image: these are the matter of the crates below. A batch line, and what `run` may do at the same time, are not worked.
+//! It works the words `init`, `run` and `drill`, and within a session what the commands of the script ask for. It decides no reply and
+//! spells no image: these are the matter of the crates below. A batch line, and what `run` may do at the same time, are not worked.
 //!
 //! 1. A session keeps two images: the one with which it begins, before any archive is taken, and that of its close. Each has the number
 //!    one above that of the image that was read (`begun`).
@@ -15,16 +15,22 @@ mod archives;
 mod asking;
 mod closing;
 mod desk;
+#[cfg(test)]
+mod drill_tests;
+mod drilling;
 mod groups;
 mod intake;
 mod making;
 mod opening;
+mod pairing;
 mod preparing;
 mod refusing;
 mod scripting;
 mod serving;
+mod spelling;
 mod status;
 mod stop;
+mod telling;
 #[cfg(test)]
 mod tests;
 mod top;

@@ -1,12 +1,11 @@
 //! Why a call of the program stops before its commands, and what it writes then.
 
-ghost use Rattle.std.specs.Prelude.{◌≡◌, ◌++◌, OnOk, IfOk, codes};
+ghost use Rattle.std.specs.Prelude.{◌≡◌, ◌++◌, IfOk, codes};
 ghost use Rattle.pot_script.specs.Replies.{spaced, in_hex};
 ghost use Rattle.pot_session.specs.Stops.{status_of, stop_text};
 
+use crate::spelling::{append_digest, append_number};
 use crate::status::Status;
-use hex::encode_to_slice;
-use itoa::Buffer;
 use pot_bytes::{Digest, NoMemory};
 use std::alloc::{AllocError, Global};
 
@@ -112,10 +111,8 @@ pub fn text_of(alloc: Global, stop: Stop) -> Result<Vec<u8>, AllocError>
 fn numbered(alloc: Global, words: &[u8], number: u64) -> Result<Vec<u8>, AllocError>
     ensures { IfOk result (λ v. v.items ≡ words.now ++ spaced number ++ codes "\n") }
 {
-    let mut digits = Buffer::new();
     let mut line = words.to_vec(alloc)?;
-    line.extend_from_slice(b" ")?;
-    line.extend_from_slice(digits.format(number).as_bytes())?;
+    append_number(&mut line, number)?;
     line.extend_from_slice(b"\n")?;
     Ok(line)
 }
@@ -129,14 +126,4 @@ fn trailer(alloc: Global, kept: Digest, computed: Digest) -> Result<Vec<u8>, All
     append_digest(&mut line, computed)?;
     line.extend_from_slice(b"\n")?;
     Ok(line)
-}
-
-/// A space and the 64 hexadecimal digits of a digest.
-fn append_digest(line: &mut Vec<u8>, digest: Digest) -> Result<(), AllocError>
-    ensures { OnOk result (line.new.items ≡ line.old.items ++ in_hex digest) }
-{
-    let mut digits = [0u8; 64];
-    encode_to_slice(digest.bytes, &mut digits).unwrap();
-    line.extend_from_slice(b" ")?;
-    line.extend_from_slice(&digits)
 }

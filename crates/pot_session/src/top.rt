@@ -9,6 +9,7 @@ ghost use Rattle.pot_session.specs.declared.status.Status.{Status};
 ghost use Rattle.pot_session.specs.Runs.{Holds, Runs, seen_by};
 
 use crate::asking::{Asked, read_task};
+use crate::drilling::drill_files;
 use crate::making::init;
 use crate::preparing::{Prepared, prepare};
 use crate::refusing::refuse;
@@ -82,6 +83,7 @@ fn answer<S: Source, K: Sink, R: Room, D: Desk, X: Wait>(
             let seed = seed_of(&run, drawn);
             hold(rt, alloc, &seed, source, sink, room, desk)
         }
+        Ok(Asked::Drill(task)) => drill_files(alloc, &task, drawn, source, sink),
         Ok(Asked::Other) => refuse(alloc, Stop::Words, sink),
         Err(NoMemory) => Status::NoMemory,
     }

@@ -4,6 +4,7 @@ use Rattle.pot_session.proofs.intake.read_out.Given as goal
 abbrev pub invariant-loop-buffer : goal.invariant-loop-buffer
 invariant-loop-buffer g l = record {
   told : IsTrue g.S.Source.tells → g.S.Source.left l.initial.source ≡ l.bytes.items ++ g.S.Source.left l.source;
+  most : length l.bytes.items ≤ l.limit + 1;
   later : g.S.Source.faults l.initial.source ≤ g.S.Source.faults l.source;
 }
 

@@ -1,8 +1,9 @@
 use Rattle.std.proofs.Common.{refl, map, subst, arith}
 use Rattle.std.specs.String.{string_bytes}
 use Rattle.pot_session.specs.Tasks.{Asks}
-use Rattle.pot_session.specs.Runs.{Makes}
+use Rattle.pot_session.specs.Runs.{Makes, Drilling}
 use Rattle.pot_session.proofs.TopLemmas.{init_source, init_room, with_seed}
+use Rattle.pot_session.proofs.WordLemmas.{drill_room, drill_desk}
 use Rattle.pot_session.proofs.top.answer.Goals as goal
 
 pub returns-in-Ok-Init-clause-runs : goal.returns-in-Ok-Init-clause-runs
@@ -23,3 +24,19 @@ returns-in-Ok-Init-clause-room g c = record {
 pub returns-in-Ok-Run-clause-runs : goal.returns-in-Ok-Run-clause-runs
 returns-in-Ok-Run-clause-runs g c =
     with_seed _ _ _ _ _ _ c.seed_of-seed.ensures (subst (Asks (map string_bytes c.args.words.now)) c.in-Ok-Run.field-0-is c.in-Ok-Run.ensures) c.hold.ensures.holds
+
+pub returns-in-Ok-Drill-clause-runs : goal.returns-in-Ok-Drill-clause-runs
+returns-in-Ok-Drill-clause-runs g c =
+    Drilling _ (subst (Asks (map string_bytes c.args.words.now)) c.in-Ok-Drill.field-0-is c.in-Ok-Drill.ensures).0 c.drill_files.ensures.drills (λ t. refl) (λ n. refl)
+
+pub returns-in-Ok-Drill-clause-room : goal.returns-in-Ok-Drill-clause-room
+returns-in-Ok-Drill-clause-room g c = record {
+  later = omega arith;
+  rose = λ e. absurd (drill_room _ _ _ _ _ _ _ c.drill_files.result c.drill_files.ensures.drills e);
+}
+
+pub returns-in-Ok-Drill-clause-desk : goal.returns-in-Ok-Drill-clause-desk
+returns-in-Ok-Drill-clause-desk g c = record {
+  later = omega arith;
+  rose = λ e. absurd (drill_desk _ _ _ _ _ _ _ c.drill_files.result c.drill_files.ensures.drills e);
+}

@@ -1,0 +1,22 @@
+-- What a word that holds no session writes and answers.
+use Rattle.std.specs.Prelude.{◌≡◌, ◌⊎◌, ◌++◌, ℕ, Bool, List, Result, Ok, Err, if◌then◌else◌, take}
+use Rattle.pot_session.specs.declared.status.Status.{Status}
+use Rattle.pot_session.specs.declared.status.Status.TheVariants as status
+use Rattle.pot_session.specs.declared.stop.Stop.{Stop}
+use Rattle.pot_session.specs.declared.telling.Telling.{Telling}
+use Rattle.pot_session.specs.Stops.{Refuses}
+
+-- the status of a text, by whether it says that something was refused
+abbrev pub told_status : Bool → Status
+told_status refused = if refused then status.Refusals else status.Good
+
+-- The text was written, and the answer says whether something was refused; or some first bytes of the text were written and the sink failed.
+abbrev pub Tells : Type 0 → List ℕ → List ℕ → Telling → Status → Type 0
+Tells told before after t answer =
+    ((answer ≡ told_status t.refused) × (told → after ≡ before ++ t.text.items))
+    ⊎ ((answer ≡ status.SinkFault) × (told → (count : ℕ) × (after ≡ before ++ take count t.text.items)))
+
+-- what is written and answered, by what a word comes to
+abbrev pub Answers : Type 0 → List ℕ → List ℕ → Result Telling Stop → Status → Type 0
+Answers told before after (Ok t) answer = Tells told before after t answer
+Answers told before after (Err s) answer = Refuses told before after s answer
