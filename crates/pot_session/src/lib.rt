@@ -25,6 +25,8 @@ mod opening;
 mod pairing;
 mod preparing;
 mod refusing;
+#[cfg(test)]
+mod row_tests;
 mod scripting;
 mod serving;
 mod spelling;
