@@ -1,14 +1,8 @@
 -- A session: what the opening logged, and then a section for each step of the script, as far as it came.
 use Rattle.std.specs.Prelude.{◌≡◌, ℕ, suc, ◌+◌, List, [], ◌∷◌, ◌++◌, length}
 use Rattle.pot_machine.specs.declared.entry.Entry.{Entry}
-use Rattle.pot_machine.specs.Table.{Table}
-use Rattle.pot_machine.specs.Machine.{Replays}
-use Rattle.pot_index.specs.declared.entry.Logged.{Logged}
-use Rattle.pot_index.specs.Index.{Names, names_read}
-use Rattle.pot_index.specs.Index as names
 use Rattle.pot_replies.specs.Jobs.{job_of}
 use Rattle.pot_replies.specs.Sections.{Section, Halves, IsOfJobs, Follows, IsEmpty}
-use Rattle.pot_replies.specs.Settings.{Setting}
 
 -- one line, or the lines of a batch
 pub data Step (Line : Type 0) : Type 0 where
@@ -59,13 +53,3 @@ module _ {Line Reply : Type 0} (Row : ℕ → Line → List Reply → (w : Secti
 -- each entry of an opening is of no job
 abbrev pub ByNobody : List Entry → Type 0
 ByNobody opening = (x y : List Entry) (e : Entry) → opening ≡ x ++ e ∷ y → job_of e ≡ 0
-
--- The logs of a session that closed: each group's replay leads from the table read to the one written, and the index's from the
--- records read to the names written; each group's log begins with its opening, and the section is all behind that.
-pub record IsLogged (s : Setting) (last : ℕ → Table) (ended : Names) (logs : ℕ → List Entry) (index : List Logged) (w : Section) : Type 0 where
-  pub opened : (g : ℕ) → ByNobody (w.before g)
-  pub parts : (g : ℕ) → logs g ≡ w.before g ++ w.added g
-  pub index_opened : w.index_before ≡ []
-  pub index_is : index ≡ w.index_added
-  pub replays : (g : ℕ) → Replays (s.first g) (logs g) (last g)
-  pub index_replays : names.Replays s.rack (names_read s.read) index ended
