@@ -7,7 +7,9 @@ ghost use Rattle.pot_veil.specs.Seen.{AreSeen};
 
 use crate::{DrillFault, drill, explain};
 use pot_bytes::{Geometry, digest_of};
-use pot_object::{OBJECT, write_object};
+use pot_object::{CONTENT, OBJECT, write_object};
+use pot_shard::fragment_content;
+use pot_split::share_out;
 use std::alloc::Global;
 use std::process::Abort;
 
@@ -81,6 +83,49 @@ fn explains_another_object(rt: HostRuntime) {
     let mut random = [0; 7_944];
     let start = [0x2e, 0xc0, 0x9d, 0xb4, 0x63, 0x95, 0xb8, 0x3f];
     assert_explains(&rt, &OF_THREE, 2, &[2, 5], &mut random, &start);
+}
+
+/// An object of zeros behind this byte.
+fn object_from(first: u8) -> [u8; OBJECT] {
+    let mut object = [0; OBJECT];
+    object[0] = first;
+    object
+}
+
+/// The share at point 1 of the first of two fragments.
+fn first_share(object: &[u8; OBJECT], random: &[u8; 2_976]) -> [u8; CONTENT] {
+    let content = fragment_content(object, &OF_TWO, random, 0);
+    let mut share = [0; CONTENT];
+    share_out(&content, &random[944..1_936], 1, &mut share);
+    share
+}
+
+/// By hand: the first byte of an object stands in its two contents at byte 64, as the pad 10 and as 41 + 10 = 51. For 42 the pad is
+/// 13. Its difference 03 times 1 + x, which is 1 at 0 and 0 at point 1, makes the coefficient a5 there a6.
+#[test]
+fn explains_one_byte(rt: HostRuntime) {
+    let mut random = [0; 2_976];
+    fill(&mut random);
+    random[16] = 0x10;
+    random[1_008] = 0xa5;
+    let first = random;
+    let (object, other) = (object_from(0x41), object_from(0x42));
+    explain(&object, &other, &OF_TWO, 1, &[1], &mut random);
+    assert_eq!(rt; (random[16], random[1_008]), (0x13, 0xa6));
+    let share = first_share(&other, &random);
+    assert_eq!(rt; share[64], 0xb5);
+    assert!(rt; share == first_share(&object, &first));
+    let content = fragment_content(&other, &OF_TWO, &random, 1);
+    assert_eq!(rt; content[64], 0x51);
+    assert!(rt; content == fragment_content(&object, &OF_TWO, &first, 1));
+    // all else stays but the coefficients at the digest of the content
+    let mut rest = random;
+    rest[16] = 0x10;
+    rest[1_008] = 0xa5;
+    rest[976..1_008].copy_from_slice(&first[976..1_008]);
+    assert!(rt; rest == first);
+    explain(&other, &object, &OF_TWO, 1, &[1], &mut random);
+    assert!(rt; random == first);
 }
 
 /// What a drill reports over these files: so many pieces and seen blocks, whose digest begins so.
