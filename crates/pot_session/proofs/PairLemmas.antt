@@ -88,6 +88,10 @@ pub source_pair : (before after bytes file other : List ℕ) → IsReadOut befor
 source_pair before after bytes file other read p =
     subst (λ b. ArePair b file other) (sym (whole_source before after bytes 1769481 read (short bytes file other p))) p
 
+-- nothing is left behind them
+pub nothing_left : (before after bytes file other : List ℕ) → IsReadOut before after bytes 1769481 → ArePair bytes file other → after ≡ []
+nothing_left before after bytes file other read p = read.all (short bytes file other p)
+
 -- the bytes that were read are no two files, and neither are those of the source
 pub source_none : (before after bytes : List ℕ) → IsReadOut before after bytes 1769481 → IsNoPair bytes → IsNoPair before
 source_none before after bytes read none file other p =

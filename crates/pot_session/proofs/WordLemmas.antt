@@ -50,17 +50,17 @@ drill_stop d seed told input stop.Spent h = absurd h
 drill_stop d seed told input stop.Exists h = absurd h
 drill_stop d seed told input stop.RoomFault h = absurd h
 
-drill_status : (d : Drill) (drawn : List ℕ) (source_told : Type 0) (input : List ℕ) (sink_told : Type 0) (before after : List ℕ) (answer : Status)
-    → Drills d drawn source_told input sink_told before after answer → IsDrillStatus answer
-drill_status d drawn source_told input sink_told before after answer h =
+drill_status : (d : Drill) (drawn : List ℕ) (source_told : Type 0) (input rest : List ℕ) (sink_told : Type 0) (before after : List ℕ) (answer : Status)
+    → Drills d drawn source_told input rest sink_told before after answer → IsDrillStatus answer
+drill_status d drawn source_told input rest sink_told before after answer h =
     answered IsDrillStatus sink_told before after h.made answer tt tt tt tt
     (λ s e. drill_stop d (unwrap_or d.seed drawn) source_told input s (subst (Drilled d (unwrap_or d.seed drawn) source_told input) e h.is)) h.answers
 
 -- a drill fails neither for the room nor for the desk
-pub drill_room : (d : Drill) (drawn : List ℕ) (source_told : Type 0) (input : List ℕ) (sink_told : Type 0) (before after : List ℕ) (answer : Status)
-    → Drills d drawn source_told input sink_told before after answer → answer ≡ status.RoomFault → ⊥
-drill_room d drawn source_told input sink_told before after answer h e = subst IsDrillStatus e (drill_status d drawn source_told input sink_told before after answer h)
+pub drill_room : (d : Drill) (drawn : List ℕ) (source_told : Type 0) (input rest : List ℕ) (sink_told : Type 0) (before after : List ℕ) (answer : Status)
+    → Drills d drawn source_told input rest sink_told before after answer → answer ≡ status.RoomFault → ⊥
+drill_room d drawn source_told input rest sink_told before after answer h e = subst IsDrillStatus e (drill_status d drawn source_told input rest sink_told before after answer h)
 
-pub drill_desk : (d : Drill) (drawn : List ℕ) (source_told : Type 0) (input : List ℕ) (sink_told : Type 0) (before after : List ℕ) (answer : Status)
-    → Drills d drawn source_told input sink_told before after answer → answer ≡ status.DeskFault → ⊥
-drill_desk d drawn source_told input sink_told before after answer h e = subst IsDrillStatus e (drill_status d drawn source_told input sink_told before after answer h)
+pub drill_desk : (d : Drill) (drawn : List ℕ) (source_told : Type 0) (input rest : List ℕ) (sink_told : Type 0) (before after : List ℕ) (answer : Status)
+    → Drills d drawn source_told input rest sink_told before after answer → answer ≡ status.DeskFault → ⊥
+drill_desk d drawn source_told input rest sink_told before after answer h e = subst IsDrillStatus e (drill_status d drawn source_told input rest sink_told before after answer h)

@@ -1,5 +1,5 @@
 -- A drill: two files of one length, and what is told of them.
-use Rattle.std.specs.Prelude.{◌≡◌, ◌≤◌, ◌-◌, ◌++◌, ℕ, true, false, List, [], ◌∷◌, Result, Ok, Err, codes, decimal, length, unwrap_or}
+use Rattle.std.specs.Prelude.{◌≡◌, ◌≤◌, ◌-◌, ◌++◌, ℕ, true, false, List, [], ◌∷◌, Result, Ok, Err, OnOk, codes, decimal, length, unwrap_or}
 use Rattle.pot_bytes.specs.Rack.{IsGeometry}
 use Rattle.pot_bytes.specs.declared.rack.Geometry.{Geometry}
 use Rattle.pot_object.specs.Pieces.{longest, pieces_of}
@@ -16,6 +16,7 @@ use Rattle.pot_session.specs.declared.status.Status.{Status}
 use Rattle.pot_session.specs.declared.stop.Stop.{Stop}
 use Rattle.pot_session.specs.declared.stop.Stop.TheVariants as stop
 use Rattle.pot_session.specs.declared.telling.Telling.{Telling}
+use Rattle.pot_session.specs.Streams.{ReadsAtMost}
 use Rattle.pot_session.specs.Telling.{Answers}
 
 -- the split of a drill is within the limits, and its hidden fragment and its seen points are of it
@@ -32,6 +33,11 @@ pub record ArePair (bytes file other : List ℕ) : Type 0 where
   pub fits : length file ≤ longest
   pub same_length : length other ≡ length file
   pub spelled : bytes ≡ decimal (length file) ++ 10 ∷ (file ++ 10 ∷ (other ++ 10 ∷ []))
+
+-- Reading ends with this byte at the latest: the longest two files are one byte shorter, the length's six digits, twice 884736 bytes,
+-- and three LF.
+abbrev pub read_most : ℕ
+read_most = 1769482
 
 -- the bytes are no two files
 abbrev pub IsNoPair : List ℕ → Type 0
@@ -72,8 +78,10 @@ Drilled d seed told input (Err stop.SourceFault) = Unit {0}
 Drilled d seed told input (Err stop.NoMemory) = Unit {0}
 Drilled d seed told input (Err _) = ⊥
 
--- What `drill` comes to. Where the words give no seed it is the drawn one.
-pub record Drills (d : Drill) (drawn : List ℕ) (source_told : Type 0) (input : List ℕ) (sink_told : Type 0) (before after : List ℕ) (answer : Status) : Type 0 where
+-- What `drill` comes to, and what it leaves of the source: nothing behind two files. Where the words give no seed it is the drawn one.
+pub record Drills (d : Drill) (drawn : List ℕ) (source_told : Type 0) (input rest : List ℕ) (sink_told : Type 0) (before after : List ℕ) (answer : Status) : Type 0 where
   pub made : Result Telling Stop
   pub is : Drilled d (unwrap_or d.seed drawn) source_told input made
+  pub read : source_told → ReadsAtMost read_most input rest
+  pub whole : source_told → OnOk made (rest ≡ [])
   pub answers : Answers sink_told before after made answer

@@ -113,4 +113,4 @@ pub data Runs (words : List Text) (drawn : List ℕ) (seen : Seen) (answer : Sta
   Short : answer ≡ status.NoMemory → Unread seen → (seen.sink_told → seen.after ≡ seen.before) → SameDesk seen → SameRoom seen → Runs words drawn seen answer
   Makes : (rack : Rack) → SpellTask words (task.Init rack) → Unread seen → Inits rack seen.desk_told seen.held seen.holds seen.sink_told seen.before seen.after answer → SameRoom seen → Runs words drawn seen answer
   Session : (run : Run) → SpellTask words (task.Run run) → Holds (seed_of run drawn) seen answer → Runs words drawn seen answer
-  Drilling : (d : Drill) → SpellTask words (task.Drill d) → Drills d drawn seen.source_told seen.input seen.sink_told seen.before seen.after answer → SameDesk seen → SameRoom seen → Runs words drawn seen answer
+  Drilling : (d : Drill) → SpellTask words (task.Drill d) → Drills d drawn seen.source_told seen.input seen.rest seen.sink_told seen.before seen.after answer → SameDesk seen → SameRoom seen → Runs words drawn seen answer

@@ -2,7 +2,7 @@
 
 ghost use Rattle.std.specs.Prelude.{◌≡◌, ◌<◌, ◌^◌, ◌≤◌, ◌+◌, ◌++◌, [], List, ℕ, length, IsTrue, IfOk, IsErrOf};
 ghost use Rattle.pot_outside.specs.Counts.{Caused};
-ghost use Rattle.pot_session.specs.Streams.{IsReadOut};
+ghost use Rattle.pot_session.specs.Streams.{IsReadOut, ReadsAtMost};
 
 use pot_outside::{Failed, Source};
 use std::alloc::{AllocError, Global};
@@ -44,6 +44,7 @@ pub fn read_out<S: Source>(
 ) -> Result<Vec<u8>, IntakeFault>
     requires { limit < 2 ^ 32 }
     ensures told { IsTrue S.tells → IfOk result (λ bytes. IsReadOut (S.left source.old) (S.left source.new) bytes.items limit) }
+    ensures least_left { IsTrue S.tells → ReadsAtMost (limit + 1) (S.left source.old) (S.left source.new) }
     ensures most { IfOk result (λ bytes. length bytes.items ≤ limit + 1) }
     ensures cause { Caused (S.faults source.old) (S.faults source.new) (IsErrOf result IntakeFault.Failed) }
 {

@@ -32,11 +32,11 @@ returns-in-Ok-Drill-clause-runs g c =
 pub returns-in-Ok-Drill-clause-room : goal.returns-in-Ok-Drill-clause-room
 returns-in-Ok-Drill-clause-room g c = record {
   later = omega arith;
-  rose = λ e. absurd (drill_room _ _ _ _ _ _ _ c.drill_files.result c.drill_files.ensures.drills e);
+  rose = λ e. absurd (drill_room _ _ _ _ _ _ _ _ c.drill_files.result c.drill_files.ensures.drills e);
 }
 
 pub returns-in-Ok-Drill-clause-desk : goal.returns-in-Ok-Drill-clause-desk
 returns-in-Ok-Drill-clause-desk g c = record {
   later = omega arith;
-  rose = λ e. absurd (drill_desk _ _ _ _ _ _ _ c.drill_files.result c.drill_files.ensures.drills e);
+  rose = λ e. absurd (drill_desk _ _ _ _ _ _ _ _ c.drill_files.result c.drill_files.ensures.drills e);
 }
