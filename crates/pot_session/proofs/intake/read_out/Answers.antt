@@ -1,4 +1,4 @@
-use Rattle.std.proofs.Common.{rules, arith}
+use Rattle.std.proofs.Common.{rules}
 use Rattle.pot_session.proofs.StreamLemmas.{read_on}
 use Rattle.pot_session.proofs.intake.read_out.Goals as goal
 
