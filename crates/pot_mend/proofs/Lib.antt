@@ -1,0 +1,4 @@
+pub mod StepLemmas
+pub mod OrderLemmas
+pub mod SectionLemmas
+pub mod ScrubLemmas
