@@ -1,28 +1,26 @@
 -- What the calls of a job on one group say of the section of the logs.
-use Rattle.std.proofs.Common.{◌≡◌, ◌≢◌, ◌<◌, ◌≤◌, ◌⊎◌, ℕ, Bool, true, false, List, [], ◌∷◌, ◌++◌, length, refl, ap, sym, ◌∙◌, subst, arith, append-nil}
-use Rattle.std.specs.Prelude.{Option, Some, None, IsTrue}
+use Rattle.std.proofs.Common.{◌≡◌, ◌<◌, ℕ, Bool, false, List, [], length, refl, ap, sym, ◌∙◌, subst, append-nil}
+use Rattle.std.specs.Prelude.{Some, IsTrue}
 use Rattle.std.proofs.lemmas.List.{length-map}
 use Rattle.pot_bytes.specs.declared.rack.Place.{Place}
 use Rattle.pot_bytes.specs.declared.rack.Rack.{Rack}
 use Rattle.pot_index.specs.Entries as index
 use Rattle.pot_machine.specs.declared.entry.Entry.{Entry}
 use Rattle.pot_machine.specs.declared.slot.SlotState.{SlotState}
-use Rattle.pot_machine.specs.Table.{Table, width, slot_at}
+use Rattle.pot_machine.specs.Table.{width, slot_at}
 use Rattle.pot_steps.specs.GroupStep.{log_bound}
 use Rattle.pot_worked.specs.Worked.{added}
 use Rattle.pot_rows.specs.Rows.{view_at}
-use Rattle.pot_rows.specs.Works.{RowWorked, RowAlone}
+use Rattle.pot_rows.specs.Works.{RowAlone}
 use Rattle.pot_shared.specs.Members.{entries_of}
 use Rattle.pot_shared.specs.Catalogs.{IndexPasses}
 use Rattle.pot_shared.specs.Ready.{GroupPasses}
-use Rattle.pot_replies.specs.Jobs.{own}
 use Rattle.pot_replies.specs.Sections.{Section, mine, replayed, AlwaysAt, IsOnlyIn, Moment}
 use Rattle.pot_replies.specs.Settings.{Setting}
 use Rattle.pot_replies.specs.Scrubs.{WasAt}
-use Rattle.pot_store.specs.Works.{of_job, gained, known, section_of, IsSettingOf}
+use Rattle.pot_store.specs.Works.{of_job, known, section_of, IsSettingOf}
 use Rattle.pot_store.proofs.WorkLemmas.{drop_all}
 use Rattle.pot_mend.specs.Steps.{Adds, FailsOnce, FindsNext, IsFirst}
-use Rattle.pot_mend.proofs.OrderLemmas.{AtOrAfter}
 use Rattle.pot_mend.proofs.StepLemmas.{replayed_append, seen_parts}
 
 module _ (st : Setting) (job g : ℕ) (rack : Rack) (u w : GroupPasses) (ui wi : IndexPasses) (same : wi ≡ ui) (within : g < length u.names)

@@ -1,6 +1,6 @@
 -- Calls of a job on one group, one after another.
-use Rattle.std.proofs.Common.{◌≡◌, ◌≢◌, ◌<◌, ◌≤◌, ◌⊎◌, ⊎_elim, ℕ, ◌+◌, Bool, List, [], ◌∷◌, ◌++◌, length, refl, ap, sym, ◌∙◌, subst, arith, append-nil, append_assoc, length-append}
-use Rattle.std.specs.Prelude.{Option, Some, None, IfSome}
+use Rattle.std.proofs.Common.{◌≡◌, ◌<◌, ◌≤◌, ℕ, ◌+◌, List, [], ◌∷◌, ◌++◌, length, refl, ap, sym, ◌∙◌, subst, arith, append_assoc, length-append}
+use Rattle.std.specs.Prelude.{Option, Some, IfSome}
 use Rattle.std.proofs.lemmas.List.{map-append, length-map}
 use Rattle.pot_bytes.specs.declared.rack.Place.{Place}
 use Rattle.pot_bytes.specs.declared.rack.Rack.{Rack}
@@ -16,14 +16,14 @@ use Rattle.pot_worked.specs.Worked.{added}
 use Rattle.pot_worked.specs.Laws.{AllOf}
 use Rattle.pot_worked.proofs.WorkedLemmas.{behind, both_added}
 use Rattle.pot_rows.specs.Rows.{view_at}
-use Rattle.pot_rows.specs.Works.{AllIdle, RowWorked, RowAlone}
+use Rattle.pot_rows.specs.Works.{AllIdle, RowWorked}
 use Rattle.pot_rows.proofs.RowLemmas.{at_set}
 use Rattle.pot_rows.proofs.WorkLemmas.{row_work_in_parts, row_alone_in_parts}
 use Rattle.pot_replies.specs.Jobs.{own, is_of}
 use Rattle.pot_replies.specs.Sections.{replayed}
 use Rattle.pot_shared.specs.declared.member.Logged.{Logged}
 use Rattle.pot_shared.specs.declared.member.GroupOrigin.{GroupOrigin}
-use Rattle.pot_shared.specs.Members.{entries_of, all_logged, logged_at, origin_of, kept_log}
+use Rattle.pot_shared.specs.Members.{entries_of, all_logged, logged_at, origin_of}
 use Rattle.pot_shared.specs.Ready.{GroupPass, GroupPasses, AreReady, HasSlot}
 use Rattle.pot_shared.specs.Calls.{CallAt, NextCall}
 use Rattle.pot_shared.proofs.CallLemmas.{is_origin, is_table}

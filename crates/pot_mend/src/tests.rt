@@ -98,6 +98,27 @@ fn member(
     }
 }
 
+/// Puts so many blocks.
+fn put_blocks<R: Wait>(
+    rt: &R,
+    vault: &Vault<LossyArchive>,
+    passes: &mut Passes<LossyArchive>,
+    count: u8,
+) -> Result<(), Fail>
+    requires ready { AreReady vault.now.rack vault.now.groups passes.old.groups }
+    requires group { 0 < length vault.now.groups }
+    requires parity { vault.now.rack.parity ≡ 1 }
+    ensures ready { AreReady vault.now.rack vault.now.groups passes.new.groups }
+{
+    for number in 0..count {
+        let block = Block::from_bytes([number; 1024]);
+        if vault.put(rt, passes, 0, 1, &block).is_err() {
+            return Err(Fail::from("the block was not put"));
+        }
+    }
+    Ok(())
+}
+
 /// A vault of that group and an empty index, where so many blocks were put.
 fn filled<R: Wait>(
     rt: &R,
@@ -122,12 +143,7 @@ fn filled<R: Wait>(
     let Ok((vault, mut passes)) = Vault::start(alloc, rack, members, index) else {
         return Err(Fail::from("no memory"));
     };
-    for number in 0..puts {
-        let block = Block::from_bytes([number; 1024]);
-        if vault.put(rt, &mut passes, 0, 1, &block).is_err() {
-            return Err(Fail::from("the block was not put"));
-        }
-    }
+    put_blocks(rt, &vault, &mut passes, puts)?;
     Ok((vault, passes))
 }
 

@@ -1,4 +1,4 @@
-use Rattle.std.proofs.Common.{◌<◌, length, refl, ◌∙◌, arith}
+use Rattle.std.proofs.Common.{◌<◌, length, refl, ◌∙◌}
 use Rattle.std.proofs.lemmas.Result.{err_from_is_err_and}
 use Rattle.pot_mend.proofs.ScrubLemmas.{scrub_begin, scrub_end_row, scrub_ends, scrub_step, scrub_stop_row, scrub_stops}
 use Rattle.pot_mend.proofs.scrubbing.scrub_group.Goals as goal
