@@ -1,4 +1,9 @@
 pub mod StepLemmas
 pub mod OrderLemmas
+pub mod EntryLemmas
 pub mod SectionLemmas
 pub mod ScrubLemmas
+pub mod SteppingLemmas
+pub mod RepairLemmas
+pub mod PlaceLemmas
+pub mod RowLemmas

@@ -1,8 +1,8 @@
 -- A scrub, look by look.
-use Rattle.std.proofs.Common.{◌≡◌, ◌<◌, ◌⊎◌, inl, inr, ⊎_elim, ℕ, zero, suc, ◌+◌, ◌-◌, Bool, true, List, [], ◌∷◌, ◌++◌, length, refl, ap, sym, ◌∙◌, subst, arith, append-nil, length-append, eq-eqb}
+use Rattle.std.proofs.Common.{◌≡◌, ◌<◌, ◌⊎◌, inl, inr, ⊎_elim, ℕ, ◌+◌, ◌-◌, true, List, [], ◌∷◌, ◌++◌, length, refl, ap, sym, ◌∙◌, subst, arith, append-nil, length-append, eq-eqb}
 use Rattle.std.specs.Prelude.{Option, Some, None, Contains, filter, map, Ok, Err}
 use Rattle.std.proofs.lemmas.List.{map-append}
-use Rattle.std.proofs.lemmas.List.Elements.{Contains-append_left, Contains-append_right, Contains-append_cases, filter-append}
+use Rattle.std.proofs.lemmas.List.Elements.{Contains-append_left, Contains-append_right}
 use Rattle.pot_bytes.specs.declared.rack.Place.{Place}
 use Rattle.pot_bytes.specs.declared.rack.Rack.{Rack}
 use Rattle.pot_machine.specs.declared.entry.Entry.{Entry}
@@ -33,6 +33,7 @@ use Rattle.pot_mend.specs.declared.fault.MendFault.TheVariants as fault
 use Rattle.pot_mend.specs.declared.scrubbing.Scrubbed.{Scrubbed}
 use Rattle.pot_mend.specs.Steps.{Adds, Fails, FailsOnce, FindsNext, IsFromOn, IsNextOf}
 use Rattle.pot_mend.specs.Scrubs.{logged, IsHere, LooksAt, LooksNext, ScrubsNext, ScrubRow}
+use Rattle.pot_mend.proofs.EntryLemmas.{count_one, each_more, just_it, one_in}
 use Rattle.pot_mend.proofs.OrderLemmas.{AtOrAfter, ascend_front, ascend_later, ascend_more, before_next, before_or_after}
 use Rattle.pot_mend.proofs.SectionLemmas.{found_was, last_full, not_always, only_in}
 use Rattle.pot_mend.proofs.StepLemmas.{adds_call, adds_none, adds_then, left_bound, left_long, next_adds, next_finds, next_from, next_group, next_narrow, once_back, once_front}
@@ -144,19 +145,6 @@ scrub_begin job g row idle = record {
   both = refl;
   done = λ n k before. absurd (none_before n k before);
 }
-
-one_in : (x : Entry) → Contains (x ∷ []) x
-one_in x = (zero, omega arith, refl)
-
-just_it : (x e : Entry) → Contains (x ∷ []) e → x ≡ e
-just_it x e (zero, lt, is) = is
-just_it x e (suc i, lt, is) = absurd (omega (arith, lt))
-
-each_more : (test : Entry → Bool) (xs ys : List Entry) → EachIs test xs → EachIs test ys → EachIs test (xs ++ ys)
-each_more test xs ys a b e has = ⊎_elim (λ (front : Contains xs e). a e front) (λ (back : Contains ys e). b e back) (Contains-append_cases xs ys e has)
-
-pub count_one : (test : Entry → Bool) (xs : List Entry) (e : Entry) → length (filter test (xs ++ e ∷ [])) ≡ length (filter test xs) + length (filter test (e ∷ []))
-count_one test xs e = ap length (filter-append test xs (e ∷ [])) ∙ length-append (filter test xs) (filter test (e ∷ []))
 
 looked_more : (xs ys : List Entry) (job n k : ℕ) → WasLooked xs job n k → WasLooked (xs ++ ys) job n k
 looked_more xs ys job n k (inl a) = inl (Contains-append_left xs ys (entry.Seen job n k) a)

@@ -1,2 +1,4 @@
 pub mod Steps
 pub mod Scrubs
+pub mod Stepping
+pub mod Repairs

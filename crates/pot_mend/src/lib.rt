@@ -7,9 +7,12 @@
 #![tactic(auto)]
 
 mod fault;
+mod repairing;
 mod scrubbing;
+mod stepping;
 #[cfg(test)]
 mod tests;
 
 pub use fault::MendFault;
+pub use repairing::{Repaired, repair_group};
 pub use scrubbing::{Scrubbed, scrub_group};

@@ -15,6 +15,7 @@ use pot_group::{Group, StartRefused};
 use pot_index::Index;
 use pot_machine::{Column, GroupTable};
 use pot_outside::Shelf;
+use pot_pads::PadStream;
 use pot_shared::{Member, Passes, Vault};
 use std::alloc::Global;
 use std::sync::Wait;
@@ -197,5 +198,64 @@ fn scrubs_of_a_group(rt: HostRuntime) -> Result<(), Fail> {
             column: 0
         })
     );
+    Ok(())
+}
+
+/// An empty archive replaces the home of a column: how many slots were Live, if it does.
+fn replace<R: Wait>(
+    rt: &R,
+    alloc: Global,
+    vault: &Vault<LossyArchive>,
+    passes: &mut Passes<LossyArchive>,
+    column: u8,
+    number: u32,
+) -> Result<Option<u32>, Fail>
+    requires ready { AreReady vault.now.rack vault.now.groups passes.old.groups }
+    requires group { 0 < length vault.now.groups }
+    requires column { column < vault.now.rack.columns + vault.now.rack.parity }
+    ensures ready { AreReady vault.now.rack vault.now.groups passes.new.groups }
+{
+    let home = shelf(alloc, number, &[], &[])?;
+    Ok(vault.swap(rt, passes, 0, 2, column, home).ok())
+}
+
+/// Two stripes whose archives were replaced in these columns: what a repair comes to, and a scrub after it.
+fn repaired<R: Wait>(
+    rt: &R,
+    alloc: Global,
+    first: bool,
+    second: bool,
+) -> Result<(Result<Repaired, MendFault>, Result<Scrubbed, MendFault>), Fail> {
+    let rack = rack();
+    if !rack.fits() || rack.groups != 1 || rack.parity != 1 {
+        return Err(Fail::from("the rack does not fit"));
+    }
+    let (vault, mut passes) = filled(rt, alloc, &rack, 2, &[], &[])?;
+    if first && replace(rt, alloc, &vault, &mut passes, 0, 6)? != Some(2) {
+        return Err(Fail::from("the first archive was not replaced"));
+    }
+    if second && replace(rt, alloc, &vault, &mut passes, 1, 7)? != Some(2) {
+        return Err(Fail::from("the second archive was not replaced"));
+    }
+    let mut pads = PadStream::new(&[0; 32], 0, 3);
+    let repaired = repair_group(rt, &vault, &mut passes, 0, 3, &mut pads);
+    Ok((repaired, scrub_group(rt, &vault, &mut passes, 0, 4)))
+}
+
+#[test]
+fn repairs_of_a_group(rt: HostRuntime) -> Result<(), Fail> {
+    let alloc = rt.alloc();
+    let whole = repaired(&rt, alloc, false, false)?;
+    assert_eq!(rt; whole.0, Ok(Repaired { mended: 0, left: 0 }));
+    assert_eq!(rt; whole.1, Ok(Scrubbed { seen: 4, gone: 0 }));
+    let one = repaired(&rt, alloc, true, false)?;
+    assert_eq!(rt; one.0, Ok(Repaired { mended: 2, left: 0 }));
+    assert_eq!(rt; one.1, Ok(Scrubbed { seen: 4, gone: 0 }));
+    let parity = repaired(&rt, alloc, false, true)?;
+    assert_eq!(rt; parity.0, Ok(Repaired { mended: 2, left: 0 }));
+    assert_eq!(rt; parity.1, Ok(Scrubbed { seen: 4, gone: 0 }));
+    let both = repaired(&rt, alloc, true, true)?;
+    assert_eq!(rt; both.0, Ok(Repaired { mended: 0, left: 4 }));
+    assert_eq!(rt; both.1, Ok(Scrubbed { seen: 0, gone: 0 }));
     Ok(())
 }

@@ -1,0 +1,13 @@
+use Rattle.std.proofs.Common.{◌≡◌, ◌+◌, ◌-◌, ◌*◌}
+use Rattle.pot_shared.specs.Ready.{AreReady}
+use Rattle.pot_mend.proofs.RowLemmas.{Repairing}
+use Rattle.pot_mend.proofs.repairing.repair_group.Given as goal
+
+abbrev pub invariant-places : goal.invariant-places
+invariant-places g l =
+    AreReady l.vault.rack l.vault.groups l.passes.groups
+    × (l.passes.index ≡ l.fn.passes.index)
+    × Repairing l.job l.group l.stripe l.column l.repaired l.fn.pads l.pads l.fn.passes.groups l.passes.groups
+
+abbrev pub decreases-places : goal.decreases-places
+decreases-places g l = 32 * (4096 - l.stripe) + (18 - l.column)
