@@ -1,5 +1,5 @@
 -- The repair of one place, step by step, and of a group, place by place.
-use Rattle.std.proofs.Common.{◌≡◌, ◌<◌, ◌≤◌, inl, inr, ⊎_elim, ℕ, zero, suc, ◌+◌, ◌-◌, true, List, [], ◌∷◌, ◌++◌, length, refl, ap, sym, ◌∙◌, subst, arith, append-nil}
+use Rattle.std.proofs.Common.{◌≡◌, ◌<◌, ◌≤◌, inl, inr, ⊎_elim, ℕ, zero, suc, ◌+◌, true, List, [], ◌∷◌, ◌++◌, length, refl, ap, sym, ◌∙◌, subst, arith, append-nil}
 use Rattle.std.specs.Prelude.{filter, Ok, Err}
 use Rattle.std.proofs.lemmas.List.Elements.{Contains-append_right}
 use Rattle.pot_bytes.specs.declared.digest.Digest.{Digest}
@@ -204,14 +204,6 @@ placing_begin job p r pads after v idle few is = record {
 }
 
 module _ (job : ℕ) (p : Place) (r now_r : Repaired) (pads after : Pads) (v now next : GroupPasses) (placing : Placing job p r now_r pads after v now) where
-  -- the room for one more
-  pub one_more_fits : (entries : List Entry) → Adds job p.group entries now next → length entries ≡ 1 → now_r.mended + now_r.left + 1 ≤ length (view_at next p.group).seen
-  one_more_fits entries adds one = (let a = adds.grew in let b = placing.few in omega (arith, a, b, one))
-
-  pub step_falls : (entries : List Entry) → Adds job p.group entries now next → length entries ≡ 1 → length (view_at next p.group).seen ≤ log_bound
-      → 262145 - length (view_at next p.group).seen < 262145 - length (view_at now p.group).seen
-  step_falls entries adds one bound = (let a = adds.grew in omega (arith, a, bound, one))
-
   pub placing_began : (after' : Pads) → StepsAt job p step.Began now next → after' ≡ moved after 1024 → Placing job p r now_r pads after' v next
   placing_began after' steps is =
       let adds = subst (λ es. Adds job p.group es now next) steps.says steps.adds in

@@ -1,5 +1,5 @@
 -- The repair of a group, place after place, and what its answers say of the section.
-use Rattle.std.proofs.Common.{◌≡◌, ◌<◌, ◌≤◌, ◌⊎◌, inl, inr, ⊎_elim, ℕ, ◌+◌, ◌-◌, ◌*◌, true, List, [], ◌∷◌, ◌++◌, length, refl, ap, sym, ◌∙◌, subst, arith, append-nil, eq-eqb}
+use Rattle.std.proofs.Common.{◌≡◌, ◌<◌, ◌≤◌, inl, inr, ⊎_elim, ℕ, ◌+◌, true, List, [], ◌∷◌, ◌++◌, length, refl, ap, sym, ◌∙◌, subst, arith, append-nil, eq-eqb}
 use Rattle.std.specs.Prelude.{Contains, filter, Some, None, Ok, Err}
 use Rattle.std.proofs.lemmas.List.Elements.{filter-append}
 use Rattle.pot_bytes.specs.declared.rack.Place.{Place}
@@ -116,11 +116,6 @@ module _ (job g s c mended left draws : ℕ) (u v w : GroupPasses) (sofar : Repa
       rest n k at first read =
           let (x, y, parts, next) = finds first read in
           (x, y, parts, λ in_stripes in_columns. next.2 n k ((subst (λ m. n < m) (sym next.0) in_stripes, subst (λ m. k < m) (sym next.1) in_columns), at))
-
--- each place that follows is nearer to the end
-pub place_falls : (s c n k : ℕ) → n < 4096 → k < 18 → (s < n) ⊎ ((s ≡ n) × (c ≤ k)) → 32 * (4096 - n) + (18 - (k + 1)) < 32 * (4096 - s) + (18 - c)
-place_falls s c n k low narrow (inl a) = omega (arith, low, narrow, a)
-place_falls s c n k low narrow (inr a) = (let e = a.0 in let l = a.1 in omega (arith, low, narrow, e, l))
 
 -- WHAT THE LISTS SAY
 

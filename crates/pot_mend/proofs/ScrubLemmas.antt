@@ -1,5 +1,5 @@
 -- A scrub, look by look.
-use Rattle.std.proofs.Common.{◌≡◌, ◌<◌, ◌⊎◌, inl, inr, ⊎_elim, ℕ, ◌+◌, ◌-◌, true, List, [], ◌∷◌, ◌++◌, length, refl, ap, sym, ◌∙◌, subst, arith, append-nil, length-append, eq-eqb}
+use Rattle.std.proofs.Common.{◌≡◌, ◌<◌, ◌⊎◌, inl, inr, ⊎_elim, ℕ, ◌+◌, true, List, [], ◌∷◌, ◌++◌, length, refl, ap, sym, ◌∙◌, subst, arith, append-nil, length-append, eq-eqb}
 use Rattle.std.specs.Prelude.{Option, Some, None, Contains, filter, map, Ok, Err}
 use Rattle.std.proofs.lemmas.List.{map-append}
 use Rattle.std.proofs.lemmas.List.Elements.{Contains-append_left, Contains-append_right}
@@ -289,21 +289,6 @@ module _ (job g s c : ℕ) (r r' : Scrubbed) (u v w : GroupPasses) (sofar : Scru
       at : ScrubsNext job g s c (Ok (Some p)) r r' v w → ScrubSofar job g p.stripe (p.column + 1) r'.seen r'.gone u w
       at (inl (looks, seen, gone)) = rw (seen, gone) (scrub_seen job g s c r.seen r.gone u v w sofar p looks)
       at (inr (looks, seen, gone)) = rw (seen, gone) (scrub_gone job g s c r.seen r.gone u v w sofar p looks)
-
-  -- the look that went on logged an entry
-  pub scrub_falls : (o : Option Place) (p : Place) → o ≡ Some p → ScrubsNext job g s c (Ok o) r r' v w → 262145 - length (view_at w g).seen < 262145 - length (view_at v g).seen
-  scrub_falls o p is next = at (subst (λ x. ScrubsNext job g s c (Ok x) r r' v w) is next)
-    where
-      at : ScrubsNext job g s c (Ok (Some p)) r r' v w → 262145 - length (view_at w g).seen < 262145 - length (view_at v g).seen
-      at (inl (looks, seen, gone)) = (let a = looks.2.adds.grew in let b = looks.2.bound in omega (arith, a, b))
-      at (inr (looks, seen, gone)) = (let a = looks.2.adds.grew in let b = looks.2.bound in omega (arith, a, b))
-
-  pub scrub_narrow : (o : Option Place) (p : Place) → o ≡ Some p → ScrubsNext job g s c (Ok o) r r' v w → p.column < 18
-  scrub_narrow o p is next = at (subst (λ x. ScrubsNext job g s c (Ok x) r r' v w) is next)
-    where
-      at : ScrubsNext job g s c (Ok (Some p)) r r' v w → p.column < 18
-      at (inl (looks, seen, gone)) = looks.2.narrow
-      at (inr (looks, seen, gone)) = looks.2.narrow
 
   pub scrub_stops : (e : MendFault) → ScrubsNext job g s c (Err e) r r' v w → RowWorked (of_job job) u w
   scrub_stops (fault.Faulted group column) (same, (p, looks)) = row_work_in_parts (of_job job) u v w sofar.adds.worked looks.2.adds.worked

@@ -215,10 +215,3 @@ module _ (told : Type 0) (job : ℕ) (rack : Rack) (names : List TurnName) (grou
         let b = size.parity.1 in
         let column = is_place.1.0.0.1 in
         omega (arith, column, a, b)
-
-    pub next_low : p.stripe < 4096
-    next_low =
-        let size = call.turn.settled_old.table.size in
-        let a = size.stripes.1 in
-        let stripe = is_place.1.0.0.0 in
-        omega (arith, stripe, a)

@@ -25,7 +25,6 @@ use Rattle.pot_group.specs.Shelves.{Keeps}
 use Rattle.pot_group.specs.Group.{GroupParts, GroupView, IsSettled, view_of}
 use Rattle.pot_group.specs.Relaying.{Acts, AdvanceMeans, BeginMeans, Moves, Owns}
 use Rattle.pot_group.proofs.BeginSteps.{crowded}
-use Rattle.pot_group.proofs.MendSteps.{begin_keeps}
 use Rattle.pot_rows.specs.Rows.{view_at}
 use Rattle.pot_shared.specs.Ready.{GroupPasses}
 use Rattle.pot_shared.specs.Calls.{CallAt}
@@ -57,17 +56,6 @@ owns_where t s k c h = (λ e. there (relay_at t s) h (is_same k c e), λ o. same
     back : (o : Option Relay) → IsSomeAnd o (λ r. r.target ≡ k) → IsSomeAnd o (λ r. (s ≡ s) × (r.target ≡ c)) → k ≡ c
     back (Some r) h w = sym h ∙ w.1
     back None h w = absurd h
-
--- where no relay stands in the stripe, none of another owns a slot of it
-pub owns_none : (t : Table) (n s c : ℕ) → relay_at t s ≡ None → IsTrue false ↔ Owns t n s c
-owns_none t n s c none = (λ e. absurd (no e), λ o. absurd (away (relay_at t n) refl o))
-  where
-    no : IsTrue false → ⊥
-    no e = cc
-
-    away : (o : Option Relay) → relay_at t n ≡ o → IsSomeAnd o (λ r. (n ≡ s) × (r.target ≡ c)) → ⊥
-    away (Some r) is h = (let e : relay_at t s ≡ Some r = ap (relay_at t) (sym h.0) ∙ is in cc (e, none))
-    away None is h = h
 
 -- a table with relays has one in a stripe
 first_stands : (rs : List Relay) (r : Relay) → relay_in (r ∷ rs) r.stripe ≢ None
@@ -130,27 +118,6 @@ module _ {A : Type 0} (told : Type 0) (meaning : A → Meaning) (job s c : ℕ) 
     log = ap (λ (g : GroupView). g.log) same ∙ sym (append-nil o.log);
     keeps = keeps;
   }
-
-  in_log : (answer : Step) (e : Entry) → StepEntries job s c answer (e ∷ []) → StepCause s c answer o → w.number ≡ o.number → w.first ≡ o.first → w.log ≡ o.log ++ e ∷ []
-      → Keeps o.shelves w.shelves → StepsIn job s c answer o w
-  in_log answer e says cause number first log keeps = record { entries = e ∷ []; says = says; cause = cause; number = number; first = first; log = log; keeps = keeps }
-
-  -- a begin
-  module _ (blind : List ℕ) where
-    pub began_in : BeginMeans job s c blind (Ok (tt)) old new → StepsIn job s c step.Began o w
-    began_in m = in_log step.Began (entry.Begin job s c) refl tt (ap (λ (g : GroupParts A). g.number) m.2) (ap (λ (g : GroupParts A). g.first) m.2) (ap (λ (g : GroupParts A). g.log) m.2)
-        (begin_keeps told meaning old job s c blind (Ok (tt)) new m)
-
-    pub full_in : BeginMeans job s c blind (Err fault.LogFull) old new → StepsIn job s c step.LogFull o w
-    full_in m = in_same step.LogFull (ap (view_of meaning) m.0) refl m.1 (begin_keeps told meaning old job s c blind (Err fault.LogFull) new m)
-
-    pub whole_in : BeginMeans job s c blind (Err fault.Whole) old new → StepsIn job s c step.Whole o w
-    whole_in m = in_same step.Whole (ap (view_of meaning) m.1) refl m.2 (begin_keeps told meaning old job s c blind (Err fault.Whole) new m)
-
-    pub stuck_in : (first second : ℕ) → BeginMeans job s c blind (Err (fault.TwoGone first second)) old new → StepsIn job s c step.Left o w
-    stuck_in first second m = in_log step.Left (entry.Stuck job s c second) (inl (second, refl)) tt
-        (ap (λ (g : GroupParts A). g.number) m.3) (ap (λ (g : GroupParts A). g.first) m.3) (ap (λ (g : GroupParts A). g.log) m.3)
-        (begin_keeps told meaning old job s c blind (Err (fault.TwoGone first second)) new m)
 
   -- the step of a relay that stands
   module _ (settled : IsSettled told o) (n : ℕ) (keeps : Keeps o.shelves w.shelves) where

@@ -21,8 +21,8 @@ pub struct Scrubbed {
     pub gone: u32,
 }
 
-/// Looks at each Live slot of a group once, in order of stripe and column. A slot that turns Live behind the look before it is
-/// looked at too; of any other it is open.
+/// Looks at the Live slots of a group, in order of stripe and column, at each once. A slot that is Live all the time is among
+/// them; one that turns Live or Lost meanwhile may be.
 ///
 /// # Errors
 /// At the first look that fails, or that the log has no room for.

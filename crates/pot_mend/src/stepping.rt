@@ -1,6 +1,7 @@
 //! One step towards the mending of a slot, in one turn of its group.
 //!
-//! It is the step of `Vault::mend_step`, and tells besides whether a slot was mended or left.
+//! It is the step of `Vault::mend_step`, and tells besides whether a slot was mended or left, which that does not. Where 16 relays
+//! stand it drives the one of the first stripe.
 ghost use Rattle.std.specs.Prelude.{◌≡◌, ◌<◌, ◌↔◌, ℕ, None, Err, IsTrue, length};
 ghost use Rattle.pot_machine.specs.Table.{relay_at, width};
 ghost use Rattle.pot_shared.specs.Ready.{AreReady, HasSlot};
