@@ -219,10 +219,12 @@ fn replace<R: Wait>(
     Ok(vault.swap(rt, passes, 0, 2, column, home).ok())
 }
 
-/// Two stripes whose archives were replaced in these columns: what a repair comes to, and a scrub after it.
+/// Two stripes whose archives were replaced in these columns: what a repair comes to, and a scrub after it. Calls 0 and 1 of the
+/// first archive are the writes.
 fn repaired<R: Wait>(
     rt: &R,
     alloc: Global,
+    failing: &[u32],
     first: bool,
     second: bool,
 ) -> Result<(Result<Repaired, MendFault>, Result<Scrubbed, MendFault>), Fail> {
@@ -230,7 +232,7 @@ fn repaired<R: Wait>(
     if !rack.fits() || rack.groups != 1 || rack.parity != 1 {
         return Err(Fail::from("the rack does not fit"));
     }
-    let (vault, mut passes) = filled(rt, alloc, &rack, 2, &[], &[])?;
+    let (vault, mut passes) = filled(rt, alloc, &rack, 2, failing, &[])?;
     if first && replace(rt, alloc, &vault, &mut passes, 0, 6)? != Some(2) {
         return Err(Fail::from("the first archive was not replaced"));
     }
@@ -245,17 +247,26 @@ fn repaired<R: Wait>(
 #[test]
 fn repairs_of_a_group(rt: HostRuntime) -> Result<(), Fail> {
     let alloc = rt.alloc();
-    let whole = repaired(&rt, alloc, false, false)?;
+    let whole = repaired(&rt, alloc, &[], false, false)?;
     assert_eq!(rt; whole.0, Ok(Repaired { mended: 0, left: 0 }));
     assert_eq!(rt; whole.1, Ok(Scrubbed { seen: 4, gone: 0 }));
-    let one = repaired(&rt, alloc, true, false)?;
+    let one = repaired(&rt, alloc, &[], true, false)?;
     assert_eq!(rt; one.0, Ok(Repaired { mended: 2, left: 0 }));
     assert_eq!(rt; one.1, Ok(Scrubbed { seen: 4, gone: 0 }));
-    let parity = repaired(&rt, alloc, false, true)?;
+    let parity = repaired(&rt, alloc, &[], false, true)?;
     assert_eq!(rt; parity.0, Ok(Repaired { mended: 2, left: 0 }));
     assert_eq!(rt; parity.1, Ok(Scrubbed { seen: 4, gone: 0 }));
-    let both = repaired(&rt, alloc, true, true)?;
+    let both = repaired(&rt, alloc, &[], true, true)?;
     assert_eq!(rt; both.0, Ok(Repaired { mended: 0, left: 4 }));
     assert_eq!(rt; both.1, Ok(Scrubbed { seen: 0, gone: 0 }));
+    let failed = repaired(&rt, alloc, &[2], false, true)?;
+    assert_eq!(rt;
+        failed.0,
+        Err(MendFault::Faulted {
+            group: 0,
+            column: 0
+        })
+    );
+    assert_eq!(rt; failed.1, Ok(Scrubbed { seen: 2, gone: 0 }));
     Ok(())
 }
