@@ -7,3 +7,7 @@ pub mod SteppingLemmas
 pub mod RepairLemmas
 pub mod PlaceLemmas
 pub mod RowLemmas
+pub mod HadLemmas
+pub mod CheckLemmas
+pub mod MoveLemmas
+pub mod ReplyLemmas

@@ -2,3 +2,4 @@ pub mod Steps
 pub mod Scrubs
 pub mod Stepping
 pub mod Repairs
+pub mod Moves

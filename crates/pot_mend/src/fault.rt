@@ -1,6 +1,6 @@
-//! Why a group was not gone over to its end.
+//! Why a call that mends a group or moves a column did not come to its end.
 
-/// Why a group was not gone over to its end.
+/// Why a call did not come to its end. What it did before stands.
 #[derive(Clone, Copy, PartialEq, Eq, Debug)]
 pub enum MendFault {
     /// The archive of this column failed.
