@@ -1,10 +1,9 @@
 -- What the groups tell of two archives, said of the logs that their passes have seen.
-use Rattle.std.proofs.Common.{◌≡◌, ◌≢◌, ◌⊎◌, inl, inr, ⊎_elim, ℕ, zero, suc, ◌<◌, ◌≤◌, ◌+◌, ◌++◌, ◌||◌, Bool, true, false, List, [], ◌∷◌, Option, Some, None, length, refl, sym, ap, ◌∙◌, subst, arith, append-nil}
-use Rattle.std.specs.Prelude.{is_some, IsSome, IsSomeAnd, IfSome, Result, Ok, Err, Contains, filter, slice_get}
+use Rattle.std.proofs.Common.{◌≡◌, ◌≢◌, inl, inr, ⊎_elim, ℕ, zero, suc, ◌<◌, ◌≤◌, ◌+◌, ◌++◌, ◌||◌, Bool, true, false, List, [], ◌∷◌, Option, Some, None, length, refl, sym, ap, ◌∙◌, subst, arith, append-nil}
+use Rattle.std.specs.Prelude.{is_some, IsSome, IsSomeAnd, IfSome, Ok, Err, filter, slice_get}
 use Rattle.std.specs.List.{list_any}
 use Rattle.std.specs.Option.{option_or}
-use Rattle.std.proofs.lemmas.Option.{slice_get_within, slice_get-get_or, same_Some}
-use Rattle.std.proofs.lemmas.List.{map-append}
+use Rattle.std.proofs.lemmas.Option.{slice_get_within, same_Some}
 use Rattle.pot_bytes.specs.declared.rack.Rack.{Rack}
 use Rattle.pot_machine.specs.declared.column.Moving.{Moving}
 use Rattle.pot_machine.specs.declared.entry.Entry.{Entry}
@@ -29,20 +28,18 @@ use Rattle.pot_rows.proofs.TieLemmas.{knows_same}
 use Rattle.pot_replies.specs.Jobs.{own}
 use Rattle.pot_replies.specs.Sections.{replayed}
 use Rattle.pot_replies.specs.Settings.{Setting}
-use Rattle.pot_replies.specs.Moves.{HasHome, IsUsed, NoHome, GoesElsewhere, IsTakenTo, MayBegin, MayGoOn, moving_at}
+use Rattle.pot_replies.specs.Moves.{HasHome, IsUsed, NoHome, moving_at}
 use Rattle.pot_shared.specs.declared.member.GroupOrigin.{GroupOrigin}
 use Rattle.pot_shared.specs.Members.{all_logged, entries_of, kept_log, origin_of}
 use Rattle.pot_shared.specs.Ready.{AreReady, GroupPass, GroupPasses}
 use Rattle.pot_shared.specs.Calls.{CallTurn}
 use Rattle.pot_shared.specs.Catalogs.{IndexPasses}
-use Rattle.pot_shared.specs.UseCalls.{AsksEach, TraceCall, TracesAll, first_home}
+use Rattle.pot_shared.specs.UseCalls.{TraceCall, TracesAll, first_home}
 use Rattle.pot_shared.proofs.MemberLemmas.{entries_all}
 use Rattle.pot_store.specs.Works.{of_job, gained, known, IsSettingOf}
 use Rattle.pot_store.proofs.TurnLemmas.{replays_is}
 use Rattle.pot_store.proofs.WorkLemmas.{all_none, own_entries}
 use Rattle.pot_mend.specs.Moves.{IsAsked, MigrateChecked, ReplaceChecked, seen_in}
-use Rattle.pot_mend.specs.declared.checking.MoveAt.{MoveAt}
-use Rattle.pot_mend.specs.declared.checking.UseFault.{UseFault}
 use Rattle.pot_mend.specs.declared.checking.UseFault.TheVariants as used
 use Rattle.pot_mend.proofs.HadLemmas.{IsUsedIn, had_used, home_named, named_held, target_named, used_had}
 

@@ -1,13 +1,13 @@
 -- The steps of a move, one after another, as work of a job.
-use Rattle.std.proofs.Common.{◌≡◌, ◌≢◌, ◌⊎◌, inl, inr, ⊎_elim, ℕ, zero, suc, ◌<◌, ◌≤◌, ◌+◌, ◌-◌, ◌++◌, Bool, true, false, List, [], ◌∷◌, Option, Some, None, length, refl, sym, ap, ◌∙◌, subst, arith, append-nil, append_assoc, length-append, drop, eq-eqb}
-use Rattle.std.specs.Prelude.{cond, IsSome, IsSomeAnd, IfSome, Result, Ok, Err, Contains, filter, ◌==◌}
+use Rattle.std.proofs.Common.{◌≡◌, ◌≢◌, inl, ⊎_elim, ℕ, zero, suc, ◌<◌, ◌≤◌, ◌+◌, ◌-◌, ◌++◌, Bool, true, false, List, [], ◌∷◌, Option, Some, None, length, refl, sym, ap, ◌∙◌, subst, arith, append-nil, length-append, eq-eqb}
+use Rattle.std.specs.Prelude.{cond, IsSomeAnd, Result, Ok, Err, Contains, filter, ◌==◌}
 use Rattle.std.proofs.lemmas.List.{map-append, length-map}
 use Rattle.std.proofs.lemmas.List.Elements.{Contains-append_right, Contains-append_cases, filter-append}
 use Rattle.pot_bytes.specs.declared.rack.Rack.{Rack}
 use Rattle.pot_machine.specs.declared.column.Moving.{Moving}
 use Rattle.pot_machine.specs.declared.entry.Entry.{Entry}
-use Rattle.pot_machine.specs.declared.entry.Entry.TheVariants.{Fault, Moved, MoveEnd, Swapped}
-use Rattle.pot_machine.specs.Table.{Table, column_at}
+use Rattle.pot_machine.specs.declared.entry.Entry.TheVariants.{Fault, Moved, MoveEnd}
+use Rattle.pot_machine.specs.Table.{column_at}
 use Rattle.pot_machine.specs.Machine.{Replays}
 use Rattle.pot_machine.specs.Rules.{IsTable}
 use Rattle.pot_machine.proofs.LeftAlone.{rules_stay}
@@ -28,18 +28,16 @@ use Rattle.pot_index.specs.Entries as index
 use Rattle.pot_replies.specs.Jobs.{own, is_of, is_copied, is_move_of, EachIs}
 use Rattle.pot_replies.specs.Sections.{Section, IsOnlyIn, mine, replayed}
 use Rattle.pot_replies.specs.Settings.{Setting}
-use Rattle.pot_replies.specs.Moves.{moving_at}
 use Rattle.pot_shared.specs.declared.member.GroupOrigin.{GroupOrigin}
-use Rattle.pot_shared.specs.Members.{all_logged, entries_of, kept_log, logged_at, origin_of}
+use Rattle.pot_shared.specs.Members.{all_logged, entries_of, logged_at, origin_of}
 use Rattle.pot_shared.specs.Ready.{AreReady, GroupPass, GroupPasses}
 use Rattle.pot_shared.specs.Calls.{CallAt}
 use Rattle.pot_shared.specs.Catalogs.{IndexPasses}
-use Rattle.pot_shared.specs.MoveCalls.{MoveEntries, MoveStepCall, MoveTells}
+use Rattle.pot_shared.specs.MoveCalls.{MoveStepCall, MoveTells}
 use Rattle.pot_shared.proofs.MemberLemmas.{entries_all}
 use Rattle.pot_store.specs.Works.{of_job, gained, known, section_of, IsSettingOf}
-use Rattle.pot_store.proofs.TurnLemmas.{replays_is}
-use Rattle.pot_store.proofs.WorkLemmas.{all_none, all_one, drop_all, group_else, group_own, group_work, own_entries, own_more, row_stays}
-use Rattle.pot_mend.specs.Moves.{EndsMove, IsMoved, IsMoveFault, IsMoveLogFull, MoveRow, seen_in}
+use Rattle.pot_store.proofs.WorkLemmas.{all_none, all_one, drop_all, group_else, group_own, group_work, own_more, row_stays}
+use Rattle.pot_mend.specs.Moves.{IsMoved, IsMoveFault, IsMoveLogFull, MoveRow, seen_in}
 use Rattle.pot_mend.specs.declared.fault.MendFault.{MendFault}
 use Rattle.pot_mend.specs.declared.fault.MendFault.TheVariants as fault
 use Rattle.pot_mend.proofs.HadLemmas.{back_replays, front_replays, move_ended}

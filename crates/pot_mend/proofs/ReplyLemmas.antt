@@ -1,5 +1,5 @@
 -- What a move was stepped to, with what its line began, is a row of the replies.
-use Rattle.std.proofs.Common.{◌≡◌, ◌≢◌, ◌⊎◌, ⊎_elim, ℕ, List, []}
+use Rattle.std.proofs.Common.{⊎_elim, ℕ, List}
 use Rattle.std.specs.Prelude.{Contains, IsSome}
 use Rattle.pot_machine.specs.declared.entry.Entry.{Entry}
 use Rattle.pot_machine.specs.declared.entry.Entry.TheVariants.{MoveEnd, Swapped}

@@ -1,8 +1,8 @@
-use Rattle.std.proofs.Common.{IsTrue, arith, refl, ◌∙◌}
+use Rattle.std.proofs.Common.{IsTrue, refl, ◌∙◌}
 use Rattle.std.specs.Prelude.{Ok, Err}
 use Rattle.pot_group.specs.declared.copying.MoveStep.TheVariants as moved
 use Rattle.pot_group.specs.declared.copying.MoveFault.TheVariants as failed
-use Rattle.pot_mend.proofs.MoveLemmas.{copied_fits, falls_copied, falls_passed, moving_copied, moving_none, moving_passed, says_ended, says_faulted, says_full, says_idle, worked_on}
+use Rattle.pot_mend.proofs.MoveLemmas.{falls_passed, moving_copied, moving_none, moving_passed, says_ended, says_faulted, says_full, says_idle, worked_on}
 use Rattle.pot_mend.proofs.moving.migrate.Goals as goal
 
 pub steps-init : goal.steps-init

@@ -1,0 +1,5 @@
+use Rattle.pot_shared.specs.Ready.{AreReady}
+use Rattle.pot_mend.proofs.move_tests.archives_are_checked.Given as goal
+
+abbrev pub invariant-loop-from : goal.invariant-loop-from
+invariant-loop-from g l = AreReady l.vault.rack l.vault.groups l.passes.groups
