@@ -77,7 +77,7 @@ ends_not : (c job k : ℕ) → is_step c (MoveEnd job k) ≡ true → ⊥
 ends_not c job k h = cc h
 
 -- an element of what was filtered
-kept_in : {X : Type 0} (test : X → Bool) (xs : List X) (x : X) → Contains (filter test xs) x → Contains xs x
+pub kept_in : {X : Type 0} (test : X → Bool) (xs : List X) (x : X) → Contains (filter test xs) x → Contains xs x
 kept_in test [] x h = h
 kept_in {X} test (y ∷ xs) x h = by (λ more. kept_in test xs x more) (test y) h
   where
