@@ -41,9 +41,11 @@ pub draws : (s : Setting) (rack : Rack) (seed : List ℕ) (session job : ℕ) (k
 draws s rack seed session job k pads file is same = is.drawn s.rack.geometry job file ∙ ap (λ p. map digest_of (drawn_blocks s p file)) (sym same)
 
 -- a command that is worked and is no `status` has one reply
-pub single : (c : Command) → IsWorked c → (c ≡ commands.Status → ⊥) → IsSingle c
-single commands.Status w ne = absurd (ne refl)
-single (commands.Store name file) w ne = w
-single (commands.Fetch name) w ne = w
-single commands.List w ne = w
-single _ w ne = w
+pub single : (groups : ℕ) (c : Command) → IsWorked groups c → (c ≡ commands.Status → ⊥) → IsSingle groups c
+single groups commands.Status w ne = absurd (ne refl)
+single groups (commands.Store name file) w ne = w
+single groups (commands.Fetch name) w ne = w
+single groups commands.List w ne = w
+single groups (commands.Scrub group) w ne = w
+single groups (commands.Repair group) w ne = w
+single groups _ w ne = w

@@ -12,14 +12,14 @@ use Rattle.pot_script.specs.declared.command.Command.{Command}
 use Rattle.pot_script.specs.declared.command.Command.TheVariants as commands
 use Rattle.pot_script.specs.declared.reply.Reply.{Reply}
 use Rattle.pot_script.specs.declared.reply.Reply.TheVariants as replies
-use Rattle.pot_replies.specs.Jobs.{own, is_move_begin}
+use Rattle.pot_replies.specs.Jobs.{own, is_move_begin, is_look, is_relay, EachIs}
 use Rattle.pot_replies.specs.Settings.{Setting}
 use Rattle.pot_replies.specs.Sections.{Section, Mine, mine}
 use Rattle.pot_replies.specs.Stores.{Placed, in_group, IsKeptPut, Puts, IsUnkept, Stops}
 use Rattle.pot_replies.specs.Listings.{StatusLine, Group, GroupFull, IsStatusLine}
 use Rattle.pot_replies.specs.Fetches.{MayFetch, FetchEntries}
 use Rattle.pot_store.specs.Fetches.{IsUnfinished}
-use Rattle.pot_commands.specs.Rows.{IsStoreReply, IsFetchReply, IsListReply, AreStatusReplies, AreReplies, IsIdle, IsLeft}
+use Rattle.pot_commands.specs.Rows.{IsStoreReply, IsFetchReply, IsScrubReply, IsRepairReply, IsListReply, AreStatusReplies, AreReplies, IsIdle, IsLeft}
 use Rattle.pot_commands.specs.Ends.{brings_none}
 
 -- an entry that brings one
@@ -141,6 +141,49 @@ fetch_moves s job name (replies.LogFull group) w row g = reads_moves row.kept jo
 fetch_moves s job name replies.IndexLogFull w row g = ap (filter brings) (row.silent.0 g)
 fetch_moves s job name _ w row g = absurd row
 
+-- THOSE OF A SCRUB AND OF A REPAIR
+
+looks_bring : (e : Entry) → is_look e ≡ true → brings e ≡ false
+looks_bring (MoveBegin job c to) h = absurd (cc h)
+looks_bring (Swapped job c to) h = absurd (cc h)
+looks_bring _ h = refl
+
+relays_bring : (e : Entry) → is_relay e ≡ true → brings e ≡ false
+relays_bring (MoveBegin job c to) h = absurd (cc h)
+relays_bring (Swapped job c to) h = absurd (cc h)
+relays_bring _ h = refl
+
+looks_none : (es : List Entry) → EachIs is_look es → filter brings es ≡ []
+looks_none es each = none_of_each es (λ e there. looks_bring e (each e there))
+
+relays_none : (es : List Entry) → EachIs is_relay es → filter brings es ≡ []
+relays_none es each = none_of_each es (λ e there. relays_bring e (each e there))
+
+-- what a job logged in one group, and nothing in any other
+only_moves : (m : Mine) (group : ℕ) → ((h : ℕ) → h ≢ group → m.own h ≡ []) → filter brings (m.own group) ≡ [] → (g : ℕ) → filter brings (m.own g) ≡ []
+only_moves m group others here g = ⊎_elim
+    (λ (e : g ≡ group). subst (λ k. filter brings (m.own k) ≡ []) (sym e) here)
+    (λ (ne : g ≢ group). ap (filter brings) (others g ne))
+    (same_or g group)
+
+scrub_moves : (s : Setting) (job group : ℕ) (r : Reply) (w : Section) → IsScrubReply s job group r w → (g : ℕ) → filter brings (own job (w.added g)) ≡ []
+scrub_moves s job group (replies.Scrubbed of seen gone) w row g = only_moves (mine job w) group row.1.only.0 (looks_none (own job (w.added group)) row.1.looks.kinds) g
+scrub_moves s job group (replies.Fault of column) w row g =
+    only_moves (mine job w) group row.1.only.0
+    (none_same (own job (w.added group)) (row.1.looks ++ Fault job row.1.stripe column ∷ []) row.1.own_is
+    (none_both row.1.looks (Fault job row.1.stripe column ∷ []) (looks_none row.1.looks row.1.kinds) refl)) g
+scrub_moves s job group (replies.LogFull of) w row g = only_moves (mine job w) group row.1.only.0 (looks_none (own job (w.added group)) row.1.looks.kinds) g
+scrub_moves s job group _ w row g = absurd row
+
+repair_moves : (s : Setting) (job group : ℕ) (r : Reply) (w : Section) → IsRepairReply s job group r w → (g : ℕ) → filter brings (own job (w.added g)) ≡ []
+repair_moves s job group (replies.Repaired of mended left) w row g = only_moves (mine job w) group row.1.only.0 (relays_none (own job (w.added group)) row.1.relays.kinds) g
+repair_moves s job group (replies.Fault of column) w row g =
+    only_moves (mine job w) group row.1.only.0
+    (none_same (own job (w.added group)) (row.1.sofar ++ Fault job row.1.stripe column ∷ []) row.1.own_is
+    (none_both row.1.sofar (Fault job row.1.stripe column ∷ []) (relays_none row.1.sofar row.1.kinds) refl)) g
+repair_moves s job group (replies.LogFull of) w row g = only_moves (mine job w) group row.1.only.0 (relays_none (own job (w.added group)) row.1.relays.kinds) g
+repair_moves s job group _ w row g = absurd row
+
 -- THOSE OF A LIST AND OF A STATUS
 
 list_moves : (s : Setting) (job : ℕ) (r : Reply) (w : Section) → IsListReply s job r w → (g : ℕ) → filter brings (own job (w.added g)) ≡ []
@@ -169,6 +212,8 @@ no_moves s job (commands.Store name file) (r ∷ []) w row g = store_moves s job
 no_moves s job (commands.Fetch name) (r ∷ []) w row g = fetch_moves s job name r w row g
 no_moves s job commands.List (r ∷ []) w row g = list_moves s job r w row g
 no_moves s job commands.Status rs w row g = status_moves s job rs w row g
+no_moves s job (commands.Scrub group) (r ∷ []) w row g = scrub_moves s job group r w row g
+no_moves s job (commands.Repair group) (r ∷ []) w row g = repair_moves s job group r w row g
 no_moves s job _ _ w row g = absurd row
 
 -- and so did one that was left

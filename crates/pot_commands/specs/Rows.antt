@@ -1,5 +1,5 @@
 -- Which replies a command has, each as the entries of its job give it.
-use Rattle.std.specs.Prelude.{◌≡◌, ◌⊎◌, ℕ, suc, false, List, [], ◌∷◌, None, length, map}
+use Rattle.std.specs.Prelude.{◌≡◌, ◌<◌, ◌⊎◌, ℕ, suc, false, List, [], ◌∷◌, None, length, map}
 use Rattle.pot_bytes.specs.declared.rack.Rack.{Rack}
 use Rattle.pot_bytes.specs.declared.rack.Geometry.{Geometry}
 use Rattle.pot_pads.specs.Pads.{pads_of}
@@ -14,6 +14,7 @@ use Rattle.pot_replies.specs.Sections.{Section, mine, Halves, work_of, IsSilent}
 use Rattle.pot_replies.specs.Stores.{IsLong, IsTaken, IsStored, IsStoreFault, IsFull, IsStoreLogFull}
 use Rattle.pot_replies.specs.Listings.{StatusLine, Group, GroupFull, IsIndexFull, IsStoreIndexFull, IsListed, IsStatus}
 use Rattle.pot_replies.specs.Fetches.{IsAbsent, IsFile, IsOdd, IsLost, IsFetchFault, IsFetchLogFull}
+use Rattle.pot_replies.specs.Scrubs.{IsScrubbed, IsScrubFault, IsScrubLogFull, IsRepaired, IsRepairFault, IsRepairLogFull}
 use Rattle.pot_store.specs.Works.{Known, IsSettingOf}
 use Rattle.pot_store.specs.Drawing.{blocks_from}
 use Rattle.pot_store.specs.Fetches.{IsUnfinished}
@@ -54,6 +55,20 @@ IsFetchReply s job name (replies.LogFull group) w = IsFetchLogFull s job name gr
 IsFetchReply s job name replies.IndexLogFull w = IsIndexFull s 1 job w
 IsFetchReply s job name _ w = ⊥
 
+-- the replies to `scrub`
+abbrev pub IsScrubReply : Setting → ℕ → ℕ → Reply → Section → Type 0
+IsScrubReply s job g (replies.Scrubbed group seen gone) w = (group ≡ g) × IsScrubbed s job g seen gone w
+IsScrubReply s job g (replies.Fault group column) w = (group ≡ g) × IsScrubFault job g column (mine job w)
+IsScrubReply s job g (replies.LogFull group) w = (group ≡ g) × IsScrubLogFull s job g w
+IsScrubReply s job g _ w = ⊥
+
+-- the replies to `repair`
+abbrev pub IsRepairReply : Setting → ℕ → ℕ → Reply → Section → Type 0
+IsRepairReply s job g (replies.Repaired group mended left) w = (group ≡ g) × IsRepaired s job g mended left w
+IsRepairReply s job g (replies.Fault group column) w = (group ≡ g) × IsRepairFault job g column w
+IsRepairReply s job g (replies.LogFull group) w = (group ≡ g) × IsRepairLogFull s job g w
+IsRepairReply s job g _ w = ⊥
+
 -- the replies to `list`
 abbrev pub IsListReply : Setting → ℕ → Reply → Section → Type 0
 IsListReply s job (replies.Names names) w = IsListed s job names w
@@ -82,6 +97,8 @@ AreReplies s job (commands.Store name file) (r ∷ []) w = IsStoreReply s job na
 AreReplies s job (commands.Fetch name) (r ∷ []) w = IsFetchReply s job name r w
 AreReplies s job commands.List (r ∷ []) w = IsListReply s job r w
 AreReplies s job commands.Status rs w = AreStatusReplies s job rs w
+AreReplies s job (commands.Scrub group) (r ∷ []) w = IsScrubReply s job group r w
+AreReplies s job (commands.Repair group) (r ∷ []) w = IsRepairReply s job group r w
 AreReplies s job _ _ w = ⊥
 
 -- The table of replies of a session: the line began no move, and is judged on the work of its step.
@@ -99,13 +116,15 @@ IsIdle s job _ w = IsSilent (mine job w)
 abbrev pub IsLeft : Setting → ℕ → Command → Section → Type 0
 IsLeft s job c w = IsIdle s job c w ⊎ ((rs : List Reply) × AreReplies s job c rs w)
 
--- the commands that are worked: those that have one reply, and `status`
-abbrev pub IsSingle : Command → Type 0
-IsSingle (commands.Store name file) = Unit {0}
-IsSingle (commands.Fetch name) = Unit {0}
-IsSingle commands.List = Unit {0}
-IsSingle _ = ⊥
+-- the commands that are worked over so many groups: those that have one reply, and `status`
+abbrev pub IsSingle : ℕ → Command → Type 0
+IsSingle groups (commands.Store name file) = Unit {0}
+IsSingle groups (commands.Fetch name) = Unit {0}
+IsSingle groups commands.List = Unit {0}
+IsSingle groups (commands.Scrub group) = group < groups
+IsSingle groups (commands.Repair group) = group < groups
+IsSingle groups _ = ⊥
 
-abbrev pub IsWorked : Command → Type 0
-IsWorked commands.Status = Unit {0}
-IsWorked c = IsSingle c
+abbrev pub IsWorked : ℕ → Command → Type 0
+IsWorked groups commands.Status = Unit {0}
+IsWorked groups c = IsSingle groups c

@@ -10,10 +10,13 @@ ghost use Rattle.pot_store.specs.Works.{JobWorked, JobAlone, known, section_of};
 ghost use Rattle.pot_store.specs.Stores.{StoreRow};
 ghost use Rattle.pot_store.specs.Fetches.{FetchRow, IsUnfinished};
 ghost use Rattle.pot_store.specs.Stored.{FetchGives};
-ghost use Rattle.pot_commands.specs.Rows.{IsSessionSetting, IsStoreReply, IsFetchReply, AreReplies, IsIdle, IsSingle, IsWorked};
+ghost use Rattle.pot_mend.specs.Scrubs.{ScrubRow};
+ghost use Rattle.pot_mend.specs.Repairs.{RepairRow};
+ghost use Rattle.pot_commands.specs.Rows.{IsSessionSetting, IsStoreReply, IsFetchReply, IsScrubReply, IsRepairReply, AreReplies, IsIdle, IsSingle, IsWorked};
 
 use crate::listing::{count_groups, list_names};
 use pot_bytes::{Bytes, Name, NoMemory};
+use pot_mend::{MendFault, Repaired, Scrubbed, repair_group, scrub_group};
 use pot_outside::Archive;
 use pot_pads::PadStream;
 use pot_script::{Command, Reply};
@@ -81,6 +84,36 @@ fn fetch_reply(name: &Name, answer: Result<Vec<u8>, FetchFault>) -> Result<Reply
     }
 }
 
+/// The reply to a scrub, by its answer.
+fn scrub_reply(group: u8, answer: Result<Scrubbed, MendFault>) -> Reply
+    ensures { (s : Setting) → (job : ℕ) → (w : Section) → ScrubRow s job group answer w → IsScrubReply s job group result w }
+{
+    match answer {
+        Ok(scrubbed) => Reply::Scrubbed {
+            group,
+            seen: scrubbed.seen,
+            gone: scrubbed.gone,
+        },
+        Err(MendFault::Faulted { group, column }) => Reply::Fault { group, column },
+        Err(MendFault::LogFull { group }) => Reply::LogFull { group },
+    }
+}
+
+/// The reply to a repair, by its answer.
+fn repair_reply(group: u8, answer: Result<Repaired, MendFault>) -> Reply
+    ensures { (s : Setting) → (job : ℕ) → (w : Section) → RepairRow s job group answer w → IsRepairReply s job group result w }
+{
+    match answer {
+        Ok(repaired) => Reply::Repaired {
+            group,
+            mended: repaired.mended,
+            left: repaired.left,
+        },
+        Err(MendFault::Faulted { group, column }) => Reply::Fault { group, column },
+        Err(MendFault::LogFull { group }) => Reply::LogFull { group },
+    }
+}
+
 /// Works a command that has one reply.
 fn answer_one<A: Archive, R: Wait>(
     rt: &R,
@@ -99,7 +132,7 @@ fn answer_one<A: Archive, R: Wait>(
     requires parity { vault.now.rack.parity ≡ 1 }
     requires count { length vault.now.groups ≡ vault.now.rack.groups }
     requires job { 0 < job }
-    requires single { IsSingle command.now }
+    requires single { IsSingle vault.now.rack.groups command.now }
     ensures ready { AreReady vault.now.rack vault.now.groups passes.new.groups }
     ensures index { IsIndexReady vault.now.rack vault.now.groups vault.now.index passes.new.index }
     ensures worked { JobWorked job (known passes.old.groups passes.old.index) (known passes.new.groups passes.new.index) }
@@ -116,6 +149,15 @@ fn answer_one<A: Archive, R: Wait>(
             fetch_reply(name, fetched)
         }
         Command::List => list_names(rt, alloc, vault, passes, job),
+        Command::Scrub { group } => {
+            let scrubbed = scrub_group(rt, vault, passes, *group, job);
+            Ok(scrub_reply(*group, scrubbed))
+        }
+        Command::Repair { group } => {
+            let mut pads = PadStream::new(seed, session, job);
+            let repaired = repair_group(rt, vault, passes, *group, job, &mut pads);
+            Ok(repair_reply(*group, repaired))
+        }
         _ => unreachable!(),
     }
 }
@@ -141,7 +183,7 @@ pub fn answer<A: Archive, R: Wait>(
     requires parity { vault.now.rack.parity ≡ 1 }
     requires count { length vault.now.groups ≡ vault.now.rack.groups }
     requires job { 0 < job }
-    requires worked { IsWorked command.now }
+    requires worked { IsWorked vault.now.rack.groups command.now }
     ensures ready { AreReady vault.now.rack vault.now.groups passes.new.groups }
     ensures index { IsIndexReady vault.now.rack vault.now.groups vault.now.index passes.new.index }
     ensures worked { JobWorked job (known passes.old.groups passes.old.index) (known passes.new.groups passes.new.index) }

@@ -55,7 +55,7 @@ fn work_one<A: Archive, K: Sink, R: Wait>(
     requires parity { vault.now.rack.parity ≡ 1 }
     requires count { length vault.now.groups ≡ vault.now.rack.groups }
     requires job { 0 < job }
-    requires worked { IsWorked command.now }
+    requires worked { IsWorked vault.now.rack.groups command.now }
     ensures ready { AreReady vault.now.rack vault.now.groups passes.new.groups }
     ensures index { IsIndexReady vault.now.rack vault.now.groups vault.now.index passes.new.index }
     ensures worked { JobWorked job (known passes.old.groups passes.old.index) (known passes.new.groups passes.new.index) }
@@ -95,7 +95,7 @@ pub fn work<A: Archive, K: Sink, R: Wait>(
     requires parity { vault.now.rack.parity ≡ 1 }
     requires count { length vault.now.groups ≡ vault.now.rack.groups }
     requires few { length commands.now < 2 ^ 31 }
-    requires worked { AllByRecursion IsWorked commands.now }
+    requires worked { AllByRecursion (IsWorked vault.now.rack.groups) commands.now }
     ensures ready { AreReady vault.now.rack vault.now.groups passes.new.groups }
     ensures index { IsIndexReady vault.now.rack vault.now.groups vault.now.index passes.new.index }
     ensures stays { AllStay (known passes.old.groups passes.old.index) (known passes.new.groups passes.new.index) }

@@ -5,7 +5,7 @@ use Rattle.std.specs.List.{AllByRecursion}
 use Rattle.std.proofs.Math.Seq.{take-append_seam}
 use Rattle.pot_bytes.specs.declared.rack.Rack.{Rack}
 use Rattle.pot_script.specs.declared.command.Command.{Command}
-use Rattle.pot_script.specs.declared.command.Command.TheVariants.{Store, Fetch, List as Names, Status, Quit}
+use Rattle.pot_script.specs.declared.command.Command.TheVariants.{Store, Fetch, List as Names, Status, Scrub, Repair, Quit}
 use Rattle.pot_script.specs.Commands.{command_text, command_line, stated_bytes}
 use Rattle.pot_script.specs.Scripts.{IsScript, AreSteps, script_text}
 use Rattle.pot_script.specs.Batches.{after_command}
@@ -35,15 +35,17 @@ worked_first number (Store name file) cs e = (refl, e)
 worked_first number (Fetch name) cs e = (refl, e)
 worked_first number Names cs e = (refl, e)
 worked_first number Status cs e = (refl, e)
+worked_first number (Scrub group) cs e = (refl, e)
+worked_first number (Repair group) cs e = (refl, e)
 worked_first number Quit cs e = (refl, e)
 worked_first number _ cs e = absurd (cc)
 
 -- each command before the last is a step
-are_steps : (rack : Rack) (batch : Option ℕ) (number : ℕ) (steps rest : List Command) → AreSteps rack batch steps → other_line number (steps ++ rest) ≡ None → AllByRecursion IsStep steps
+are_steps : (rack : Rack) (batch : Option ℕ) (number : ℕ) (steps rest : List Command) → AreSteps rack batch steps → other_line number (steps ++ rest) ≡ None → AllByRecursion (IsStep rack) steps
 are_steps rack batch number [] rest are none = tt
 are_steps rack batch number (c ∷ cs) rest are none =
     let first = worked_first number c (cs ++ rest) none in
-    ((are.0.goes_on, first.0), are_steps rack (after_command batch c) (number + 1) cs rest are.1 first.1)
+    ((are.0.goes_on, first.0, are.0.is), are_steps rack (after_command batch c) (number + 1) cs rest are.1 first.1)
 
 -- what was read, without its last command
 pub is_read : (rack : Rack) (told : Type 0) (input bytes : List ℕ) (cs steps : List Command) → (told → input ≡ bytes) → IsScript rack bytes cs → other_line 1 cs ≡ None → steps ≡ take (length cs - 1) cs → IsRead rack told input steps

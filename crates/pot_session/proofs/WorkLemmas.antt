@@ -1,6 +1,7 @@
 -- What the commands of a session ask for, and what they bring.
 use Rattle.std.proofs.Common.{◌≡◌, ℕ, suc, true, List, [], ◌∷◌, ◌++◌, refl, ap, ◌∙◌, arith}
 use Rattle.std.specs.List.{AllByRecursion}
+use Rattle.pot_bytes.specs.declared.rack.Rack.{Rack}
 use Rattle.pot_script.specs.declared.command.Command.{Command}
 use Rattle.pot_script.specs.declared.command.Command.TheVariants as command
 use Rattle.pot_machine.specs.declared.entry.Entry.{Entry}
@@ -13,23 +14,23 @@ use Rattle.pot_commands.specs.Rows.{IsWorked}
 use Rattle.pot_session.specs.Commands.{IsStep}
 
 -- a line that is worked and does not end the script is one that the commands work
-is_worked : (c : Command) → IsStep c → IsWorked c
-is_worked (command.Store name file) s = tt
-is_worked (command.Fetch name) s = tt
-is_worked command.List s = tt
-is_worked command.Status s = tt
-is_worked (command.Scrub group) s = absurd (cc (s.1))
-is_worked (command.Repair group) s = absurd (cc (s.1))
-is_worked (command.Replace from to) s = absurd (cc (s.1))
-is_worked (command.Migrate from to) s = absurd (cc (s.1))
-is_worked (command.Renew name geometry) s = absurd (cc (s.1))
-is_worked (command.Together count) s = absurd (cc (s.1))
-is_worked command.End s = absurd (cc (s.1))
-is_worked command.Quit s = absurd (s.0 refl)
+is_worked : (rack : Rack) (c : Command) → IsStep rack c → IsWorked rack.groups c
+is_worked rack (command.Store name file) s = tt
+is_worked rack (command.Fetch name) s = tt
+is_worked rack command.List s = tt
+is_worked rack command.Status s = tt
+is_worked rack (command.Scrub group) s = s.2.0
+is_worked rack (command.Repair group) s = s.2.0
+is_worked rack (command.Replace from to) s = absurd (cc (s.1))
+is_worked rack (command.Migrate from to) s = absurd (cc (s.1))
+is_worked rack (command.Renew name geometry) s = absurd (cc (s.1))
+is_worked rack (command.Together count) s = absurd (cc (s.1))
+is_worked rack command.End s = absurd (cc (s.1))
+is_worked rack command.Quit s = absurd (s.0 refl)
 
-pub are_worked : (cs : List Command) → AllByRecursion IsStep cs → AllByRecursion IsWorked cs
-are_worked [] s = tt
-are_worked (c ∷ cs) s = (is_worked c s.0, are_worked cs s.1)
+pub are_worked : (rack : Rack) (cs : List Command) → AllByRecursion (IsStep rack) cs → AllByRecursion (IsWorked rack.groups) cs
+are_worked rack [] s = tt
+are_worked rack (c ∷ cs) s = (is_worked rack c s.0, are_worked rack cs s.1)
 
 -- an entry that brings no archive
 no_arrival : (e : Entry) → is_none e ≡ true → arrival e ≡ []

@@ -1,9 +1,10 @@
--- The scripts that this program works: those of `store`, `fetch`, `list`, `status` and `quit` lines alone.
+-- The scripts that this program works: those of `store`, `fetch`, `list`, `status`, `scrub`, `repair` and `quit` lines alone.
 use Rattle.std.specs.Prelude.{◌≡◌, ◌≢◌, ◌<◌, ◌+◌, ◌^◌, ◌++◌, ℕ, Bool, true, false, List, [], ◌∷◌, Option, Some, None, if◌then◌else◌, length}
 use Rattle.std.specs.List.{AllByRecursion}
 use Rattle.pot_bytes.specs.declared.rack.Rack.{Rack}
 use Rattle.pot_script.specs.declared.command.Command.{Command}
 use Rattle.pot_script.specs.declared.command.Command.TheVariants as command
+use Rattle.pot_script.specs.Commands.{IsCommand}
 use Rattle.pot_script.specs.Scripts.{IsScript, LeavesAt}
 use Rattle.pot_session.specs.declared.stop.Stop.{Stop}
 use Rattle.pot_session.specs.declared.stop.Stop.TheVariants as stop
@@ -13,6 +14,8 @@ is_worked (command.Store name file) = true
 is_worked (command.Fetch name) = true
 is_worked command.List = true
 is_worked command.Status = true
+is_worked (command.Scrub group) = true
+is_worked (command.Repair group) = true
 is_worked command.Quit = true
 is_worked _ = false
 
@@ -31,9 +34,9 @@ pub data LeavesWorked (rack : Rack) (bytes : List ℕ) (number : ℕ) : Type 0 w
   Leaves : LeavesAt rack bytes number → LeavesWorked rack bytes number
   Other : (commands : List Command) → IsScript rack bytes commands → other_line 1 commands ≡ Some number → LeavesWorked rack bytes number
 
--- a line that is worked and does not end the script
-abbrev pub IsStep : Command → Type 0
-IsStep c = (c ≢ command.Quit) × (is_worked c ≡ true)
+-- a line of the rack's grammar that is worked and does not end the script
+abbrev pub IsStep : Rack → Command → Type 0
+IsStep rack c = (c ≢ command.Quit) × (is_worked c ≡ true) × IsCommand rack c
 
 -- These are the commands before `quit` of a script whose bytes the source had, where it tells them. There are fewer than 2^31.
 pub record IsRead (rack : Rack) (told : Type 0) (input : List ℕ) (steps : List Command) : Type 0 where
@@ -41,7 +44,7 @@ pub record IsRead (rack : Rack) (told : Type 0) (input : List ℕ) (steps : List
   pub read : told → input ≡ bytes
   pub script : IsWorkedScript rack bytes (steps ++ command.Quit ∷ [])
   pub few : length steps < 2 ^ 31
-  pub goes_on : AllByRecursion IsStep steps
+  pub goes_on : AllByRecursion (IsStep rack) steps
 
 -- why there are no commands
 abbrev pub RefusesScript : Rack → Type 0 → List ℕ → Stop → Type 0

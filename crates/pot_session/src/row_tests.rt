@@ -29,6 +29,10 @@ const SIX: &str =
 const ONE: &str =
     "init --groups 3 --columns 1 --stripes 1 --fragments 2 --need 2 --shards 3 --blur 16";
 
+/// One data column, so that each stripe is a block and its parity.
+const NARROW: &str =
+    "init --groups 3 --columns 1 --stripes 8 --fragments 2 --need 3 --shards 3 --blur 16";
+
 /// A file is stored and fetched.
 const SCRIPT: &[u8] = b"store a 5\nhello\nfetch a\nquit\n";
 
@@ -397,6 +401,53 @@ fn tell<X: Wait + Abort>(rt: &X, alloc: Global, story: &Story) -> Result<(), Fai
 fn sessions_that_follow_one_another(rt: HostRuntime) -> Result<(), Fail> {
     for story in &STORIES {
         tell(&rt, rt.alloc(), story)?;
+    }
+    Ok(())
+}
+
+/// An archive fails while a file is stored, and while a session opens: the block that it loses is mended.
+#[test]
+fn repairs_and_scrubs_a_group(rt: HostRuntime) -> Result<(), Fail> {
+    let alloc = rt.alloc();
+    let table: [(u32, u32, &[(&[u8], u8)], &[u8]); 2] = [
+        (
+            1,
+            1,
+            &[(
+                b"store a 5\nhello\nstatus\nstore a 5\nhello\nrepair 0\nscrub 0\nfetch a\nquit\n",
+                1,
+            )],
+            b"ready\nfault 0 1\n\
+            group 0 live 3 lost 1 broken 0 cursor 2 0\n\
+            group 1 live 4 lost 0 broken 0 cursor 2 0\n\
+            group 2 live 4 lost 0 broken 0 cursor 2 0\n\
+            stored a 1 6\nrepaired 0 1 0\nscrubbed 0 8 0\nfile a 5\nhello\n",
+        ),
+        (
+            0,
+            2,
+            &[
+                (b"store a 5\nhello\nquit\n", 0),
+                (b"status\nrepair 0\nscrub 0\nfetch a\nquit\n", 0),
+            ],
+            b"ready\nstored a 1 6\n\
+            group 0 live 3 lost 1 broken 0 cursor 2 0\n\
+            group 1 live 4 lost 0 broken 0 cursor 2 0\n\
+            group 2 live 4 lost 0 broken 0 cursor 2 0\n\
+            repaired 0 1 0\nscrubbed 0 4 0\nfile a 5\nhello\n",
+        ),
+    ];
+    for (archive, call, sessions, text) in &table {
+        let trouble = Trouble {
+            object: Object::Archive(*archive),
+            call: *call,
+        };
+        let mut outside = Outside::new(alloc, None, &[], trouble)?;
+        assert_eq!(rt; outside.call(&rt, alloc, NARROW, b"", NO_TROUBLE)?, 0);
+        for (script, status) in *sessions {
+            assert_eq!(rt; outside.call(&rt, alloc, "run", script, NO_TROUBLE)?, *status);
+        }
+        assert_eq!(rt; outside.sink.written(), *text);
     }
     Ok(())
 }

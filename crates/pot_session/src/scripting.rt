@@ -69,6 +69,8 @@ fn is_worked(command: &Command) -> bool
             | Command::Fetch { .. }
             | Command::List
             | Command::Status
+            | Command::Scrub { .. }
+            | Command::Repair { .. }
             | Command::Quit
     )
 }

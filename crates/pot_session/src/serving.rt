@@ -148,7 +148,7 @@ pub fn serve<K: Sink, R: Room, D: Desk, X: Wait>(
     requires together { FitsTogether (contents image) }
     requires parity { image.rack.parity ≡ 1 }
     requires few { length commands.now < 2 ^ 31 }
-    requires worked { AllByRecursion IsStep commands.now }
+    requires worked { AllByRecursion (IsStep image.rack) commands.now }
     requires home { (n : ℕ) → R.out room.old n ≡ false }
     requires kept { IsTrue D.tells → D.held desk.old ≡ Some (image_bytes (contents image)) }
     ensures home { (n : ℕ) → R.out room.new n ≡ false }

@@ -1,9 +1,12 @@
 use Rattle.std.proofs.Common.{IsTrue, length, sym, ap, subst, ◌∙◌}
 use Rattle.std.specs.Prelude.{flat_map, vec_capacity}
+use Rattle.std.specs.List.{AllByRecursion}
 use Rattle.pot_bytes.specs.Rack.{IsRack}
+use Rattle.pot_bytes.specs.declared.rack.Rack.{Rack}
 use Rattle.pot_image.specs.Images.{contents}
 use Rattle.pot_group.specs.Beginning.{archives_in}
 use Rattle.pot_store.specs.Works.{known}
+use Rattle.pot_commands.specs.Rows.{IsWorked}
 use Rattle.pot_session.specs.Holding.{times, AreOut}
 use Rattle.pot_session.specs.Serving.{HasSpaces, IsEnd}
 use Rattle.pot_session.proofs.Counts.{caused_second}
@@ -21,7 +24,8 @@ pub work-ending-requires-clause-parity : goal.work-ending-requires-clause-parity
 work-ending-requires-clause-parity g c = ap (λ (r : _). r.parity) c.in-Ok.ensures.same.2 ∙ c.requires.parity
 
 pub work-ending-requires-clause-worked : goal.work-ending-requires-clause-worked
-work-ending-requires-clause-worked g c = are_worked c.args.commands.now c.requires.worked
+work-ending-requires-clause-worked g c =
+    subst (λ (r : Rack). AllByRecursion (IsWorked r.groups) c.args.commands.now) (sym c.in-Ok.ensures.same.2) (are_worked c.args.image.rack c.args.commands.now c.requires.worked)
 
 pub close_session-closed-requires-clause-served : goal.close_session-closed-requires-clause-served
 close_session-closed-requires-clause-served g c = λ bounds within. (

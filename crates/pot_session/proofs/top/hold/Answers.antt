@@ -1,4 +1,8 @@
-use Rattle.std.proofs.Common.{refl}
+use Rattle.std.proofs.Common.{refl, ap, sym, subst}
+use Rattle.std.specs.List.{AllByRecursion}
+use Rattle.pot_bytes.specs.declared.rack.Rack.{Rack}
+use Rattle.pot_image.specs.Images.{Contents}
+use Rattle.pot_session.specs.Commands.{IsStep}
 use Rattle.pot_session.specs.Runs.{Stopped}
 use Rattle.pot_session.proofs.TopLemmas.{served}
 use Rattle.pot_session.proofs.top.hold.Goals as goal
@@ -9,3 +13,9 @@ returns-in-Ok-clause-holds g c =
 
 pub returns-in-Err-clause-holds : goal.returns-in-Err-clause-holds
 returns-in-Err-clause-holds g c = Stopped c.in-Err.stop c.in-Err.ensures.stops c.refuse.ensures.told (λ n. refl)
+
+pub serve-requires-clause-worked : goal.serve-requires-clause-worked
+serve-requires-clause-worked g c = λ bounds within.
+    let p = c.in-Ok.ensures.prepared in
+    subst (AllByRecursion (IsStep c.in-Ok.field-0.image.rack)) (sym c.deref.ensures.value)
+    (subst (λ (r : Rack). AllByRecursion (IsStep r) c.in-Ok.field-0.commands.items) (sym (ap (λ (v : Contents). v.rack) p.is)) p.of.script.goes_on)
