@@ -9,6 +9,7 @@ pub mod EndLemmas
 pub mod GroupLemmas
 pub mod IndexCounts
 pub mod Lists
+pub mod LossLemmas
 pub mod MeantLemmas
 pub mod OpenLemmas
 pub mod OutLemmas

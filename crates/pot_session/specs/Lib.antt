@@ -3,6 +3,7 @@ pub mod Desks
 pub mod Drills
 pub mod Groups
 pub mod Holding
+pub mod Losses
 pub mod Making
 pub mod Runs
 pub mod Serving

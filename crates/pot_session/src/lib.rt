@@ -20,6 +20,7 @@ mod drill_tests;
 mod drilling;
 mod groups;
 mod intake;
+mod laws;
 mod making;
 mod opening;
 mod pairing;
@@ -37,6 +38,7 @@ mod telling;
 mod tests;
 mod top;
 
+pub use laws::loss_laws;
 pub use status::Status;
 pub use stop::Stop;
 pub use top::run;

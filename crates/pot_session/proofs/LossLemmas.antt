@@ -1,0 +1,201 @@
+-- Where no archive lost a block, a Gone that a job logged names a slot that was not Live.
+use Rattle.std.proofs.Common.{◌≡◌, ◌<◌, ℕ, zero, suc, ◌+◌, ◌*◌, Bool, true, false, List, [], ◌∷◌, ◌++◌, length, refl, ap, sym, ◌∙◌, subst, arith, append_assoc, IsTrue}
+use Rattle.std.specs.Prelude.{Contains, Some, Result, filter, slice_get, slice_index_or}
+use Rattle.std.proofs.lemmas.Option.{same_Some}
+use Rattle.pot_bytes.specs.declared.rack.Place.{Place}
+use Rattle.pot_bytes.specs.declared.rack.Rack.{Rack}
+use Rattle.pot_outside.specs.Archives.{Meaning}
+use Rattle.pot_outside.specs.declared.archive.Marks.{Marks}
+use Rattle.pot_outside.specs.Counts.{Rose}
+use Rattle.pot_machine.specs.declared.entry.Entry.{Entry}
+use Rattle.pot_machine.specs.declared.entry.Entry.TheVariants as entry
+use Rattle.pot_machine.specs.Slot.{is_live}
+use Rattle.pot_machine.specs.Making.{empty_table}
+use Rattle.pot_machine.specs.Table.{Table, width, slot_at, column_at, no_column}
+use Rattle.pot_machine.specs.Machine.{after}
+use Rattle.pot_group.specs.Beginning.{archives_in, homes_of}
+use Rattle.pot_group.specs.Causes.{Misses, WhereMissed, HasLost, archives_of, brought, brought_by, target_of}
+use Rattle.pot_index.specs.declared.record.Record.{Record}
+use Rattle.pot_index.specs.Fits.{FitsRack}
+use Rattle.pot_image.specs.Images.{Contents}
+use Rattle.pot_image.specs.Rules.{FitsTable, FitsTogether}
+use Rattle.pot_replies.specs.Jobs.{EachIs, own, is_of}
+use Rattle.pot_replies.specs.Sections.{Section, replayed}
+use Rattle.pot_replies.specs.Fetches.{IsLost, LastIs, place_at}
+use Rattle.pot_store.specs.Looks.{place_in}
+use Rattle.pot_store.proofs.FitLemmas.{current_fits, fits_place, fragment_within, point_within}
+use Rattle.pot_commands.specs.Ends.{brings_none}
+use Rattle.pot_session.specs.declared.stop.Stop.{Stop}
+use Rattle.pot_session.specs.Serving.{IsBack, IsInRoom, LeavesGroup, LeaveGroups, rooms_by, setting_of}
+use Rattle.pot_session.specs.Losses.{LostNone, BroughtNone, BeginWith, WasNotLive, FewAreLive, LostWhereFew}
+use Rattle.pot_session.proofs.Lists.{at_place, all_at_place, flat_contains}
+
+-- THE LAST OF SOME ELEMENTS
+
+-- where the elements that pass a test end with one, the list is split there, and none behind it passes
+module _ {X : Type 0} (test : X → Bool) where
+  abbrev Cut : List X → X → Type 0
+  Cut xs e = (x : List X) × (y : List X) × (xs ≡ x ++ e ∷ y) × (filter test y ≡ [])
+
+  cut_step : (x : X) (xs : List X) (e : X) → ((sofar : List X) → filter test xs ≡ sofar ++ e ∷ [] → Cut xs e) → (b : Bool) → test x ≡ b → (sofar : List X)
+      → filter test (x ∷ xs) ≡ sofar ++ e ∷ [] → Cut (x ∷ xs) e
+  cut_step x xs e rest true b [] is =
+      let here : x ∷ filter test xs ≡ e ∷ [] = (let h : filter test (x ∷ xs) ≡ x ∷ filter test xs = rw b refl in sym h) ∙ is in
+      ([], xs, (let h : x ≡ e = cc here in ap (λ z. z ∷ xs) h), cc here)
+  cut_step x xs e rest true b (s ∷ sofar) is =
+      let here : x ∷ filter test xs ≡ s ∷ (sofar ++ e ∷ []) = (let h : filter test (x ∷ xs) ≡ x ∷ filter test xs = rw b refl in sym h) ∙ is in
+      let it = rest sofar (cc here) in
+      (x ∷ it.0, it.1, ap (λ z. x ∷ z) it.2, it.3)
+  cut_step x xs e rest false b sofar is =
+      let it = rest sofar ((let h : filter test (x ∷ xs) ≡ filter test xs = rw b refl in sym h) ∙ is) in
+      (x ∷ it.0, it.1, ap (λ z. x ∷ z) it.2, it.3)
+
+  cut_last : (xs sofar : List X) (e : X) → filter test xs ≡ sofar ++ e ∷ [] → Cut xs e
+  cut_last [] [] e is = absurd (cc is)
+  cut_last [] (s ∷ sofar) e is = absurd (cc is)
+  cut_last (x ∷ xs) sofar e is = cut_step x xs e (λ s i. cut_last xs s e i) (test x) refl sofar is
+
+-- A LOG
+
+missed_at : (t : Table) (x y : List Entry) (e : Entry) (c : ℕ) (why : Type 0) → WhereMissed t (x ++ e ∷ y) c why → Misses (replayed t x) e c → why
+missed_at t [] y e c why w = w.0
+missed_at t (a ∷ x) y e c why w = missed_at (after t a) x y e c why w.1
+
+brings_nothing : (c : ℕ) (e : Entry) → brings_none e ≡ true → brought c e ≡ []
+brings_nothing c (entry.MoveBegin job k to) is = absurd (cc)
+brings_nothing c (entry.Swapped job k to) is = absurd (cc)
+brings_nothing c (entry.Put job s k d p kept) is = refl
+brings_nothing c (entry.Put2 job s k d p q kept kept2) is = refl
+brings_nothing c (entry.Skip job s) is = refl
+brings_nothing c (entry.Seen job s k) is = refl
+brings_nothing c (entry.Gone job s k) is = refl
+brings_nothing c (entry.Broke job s k) is = refl
+brings_nothing c (entry.Fault job s k) is = refl
+brings_nothing c (entry.Begin job s k) is = refl
+brings_nothing c (entry.Hop job s k) is = refl
+brings_nothing c (entry.Mended job s k) is = refl
+brings_nothing c (entry.GaveUp job s k o) is = refl
+brings_nothing c (entry.Oddly job s k f) is = refl
+brings_nothing c (entry.Stuck job s k o) is = refl
+brings_nothing c (entry.Moved job s k copied) is = refl
+brings_nothing c (entry.MoveEnd job k) is = refl
+brings_nothing c (entry.Counted job) is = refl
+
+brought_nothing : (c : ℕ) (log : List Entry) → EachIs brings_none log → brought_by c log ≡ []
+brought_nothing c [] none = refl
+brought_nothing c (e ∷ log) none =
+    ap (λ l. l ++ brought_by c log) (brings_nothing c e (none e (0, omega arith, refl)))
+    ∙ brought_nothing c log (λ x has. none x (suc has.0, (let l = has.1 in omega (arith, l)), has.2))
+
+-- what stands at a place of a list, whatever stands past its end
+pub at_same : {X : Type 0} (xs : List X) (n : ℕ) (d x : X) → slice_get xs n ≡ Some x → slice_index_or xs n d ≡ x
+at_same [] n d x e = absurd (cc)
+at_same (y ∷ ys) zero d x e = same_Some y x e
+at_same (y ∷ ys) (suc n) d x e = at_same ys n d x e
+
+-- the archives of a column are among those of its table, where none came
+column_archives : (t : Table) (log : List Entry) (c n : ℕ) → c < length t.columns → EachIs brings_none log → Contains (archives_of t log c) n → Contains (archives_in t) n
+column_archives t log c n lt none has =
+    let column = at_place t.columns c lt in
+    let same : column_at t c ≡ column.0 = at_same t.columns c no_column column.0 column.1 in
+    let nothing : archives_of t log c ≡ homes_of (column_at t c) = ap (λ l. (column_at t c).home ∷ (target_of (column_at t c).moving ++ l)) (brought_nothing c log none) ∙ no_more (column_at t c) in
+    flat_contains homes_of t.columns c column.0 n column.1 (subst (λ k. Contains (homes_of k) n) same (subst (λ l. Contains l n) nothing has))
+  where
+    no_more : (k : _) → k.home ∷ (target_of k.moving ++ []) ≡ homes_of k
+    no_more k = ap (λ l. k.home ∷ l) (nil_right (target_of k.moving))
+      where
+        nil_right : (xs : List ℕ) → xs ++ [] ≡ xs
+        nil_right [] = refl
+        nil_right (x ∷ xs) = ap (λ l. x ∷ l) (nil_right xs)
+
+get_within : {X : Type 0} (xs : List X) (n : ℕ) (x : X) → slice_get xs n ≡ Some x → n < length xs
+get_within [] n x e = absurd (cc)
+get_within (y ∷ ys) zero x e = omega arith
+get_within (y ∷ ys) (suc n) x e = (let l = get_within ys n x e in omega (arith, l))
+
+split : {X : Type 0} (before x y rest : List X) (e : X) → (before ++ (x ++ e ∷ y)) ++ rest ≡ (before ++ x) ++ e ∷ (y ++ rest)
+split before x y rest e =
+    append_assoc before (x ++ e ∷ y) rest
+    ∙ (ap (λ l. before ++ l) (append_assoc x (e ∷ y) rest) ∙ sym (append_assoc before x (e ∷ (y ++ rest))))
+
+-- the group of a place of a record that fits the rack
+group_within : (rack : Rack) (kept : Record) → FitsRack rack kept → (b : ℕ) → b < length kept.places → (place_in kept.places b).group < rack.groups
+group_within rack kept room b lt =
+    let group = (fits_place rack kept room b lt).group in
+    let some : 0 < rack.groups = (let g = (current_fits rack kept room).geometry in let a = g.groups in let c = g.limits.need.0 in let d = g.limits.need.1 in omega (arith, a, c, d)) in
+    omega (arith, group, some)
+
+not_live : (b : Bool) → (IsTrue b → ⊥) → b ≡ false
+not_live true none = absurd (none refl)
+not_live false none = refl
+
+-- THE LAW
+
+module _ (told : Type 0) (seed : List ℕ) (first last : Contents) (meant means : ℕ → Meaning) (closed : Result (Unit {0}) Stop) (is_told : told) (back : IsBack closed)
+    (fits : FitsTogether first) (groups : LeaveGroups told meant (IsInRoom (rooms_by told meant means) (IsBack closed)) first.tables last.group_logs last.tables)
+    (kept_all : LostNone meant means first.tables) (none : BroughtNone last.group_logs) where
+  -- a Gone of a job in the log of a group
+  gone_at : (g s c job : ℕ) (t : Table) (log x y : List Entry) → slice_get first.tables g ≡ Some t → slice_get last.group_logs g ≡ Some log
+      → log ≡ x ++ entry.Gone job s c ∷ y → c < width t → 0 < job → is_live (slot_at (replayed t x) s c) ≡ false
+  gone_at g s c job t log x y is_table is_log parts lt some =
+      let in_last : g < length last.tables = (let a = groups.count in let b = get_within first.tables g t is_table in omega (arith, a, b)) in
+      let written = at_place last.tables g in_last in
+      let left : LeavesGroup told meant (IsInRoom (rooms_by told meant means) (IsBack closed)) t log written.0 = groups.each g t written.0 log is_table written.1 is_log in
+      let view = left.view in
+      let rules : FitsTable first.rack t = all_at_place (FitsTable first.rack) first.tables g t fits.tables.fits is_table in
+      let lt_columns : c < length t.columns = (let a = rules.rules.size.columns in omega (arith, lt, a)) in
+      let missed : WhereMissed t log c (HasLost view.shelves (archives_of t log c)) =
+      subst (λ l. WhereMissed t l c (HasLost view.shelves (archives_of t l c))) left.is_log
+      (subst (λ f. WhereMissed f view.log c (HasLost view.shelves (archives_of f view.log c))) left.first
+      (left.settled.causes.losses is_told c (subst (λ (f : Table). c < width f) (sym left.first) lt))) in
+      let brought_none : EachIs brings_none log = all_at_place (EachIs brings_none) last.group_logs g log none is_log in
+      let lost_none : HasLost view.shelves (archives_of t log c) → ⊥ = λ h.
+      (let among : Contains (archives_in t) h.0 = column_archives t log c h.0 lt_columns brought_none h.1 in
+      let marks : view.shelves.losses_taken h.0 ≡ (meant h.0).losses = ap (λ (m : Marks). m.losses) (left.marked is_told h.0 among) in
+      let shows = left.archives h.0 among is_told back in
+      kept_all h.0 (flat_contains archives_in first.tables g t h.0 is_table among)
+      (subst (λ n. Rose n (means h.0).losses) marks (subst (λ n. Rose (view.shelves.losses_taken h.0) n) shows.losses h.2))) in
+      not_live (is_live (slot_at (replayed t x) s c)) (λ live.
+      lost_none (missed_at t x y (entry.Gone job s c) c (HasLost view.shelves (archives_of t log c))
+      (subst (λ l. WhereMissed t l c (HasLost view.shelves (archives_of t log c))) parts missed) (λ z. (let e = z in omega (arith, some, e)), refl, live)))
+
+  module _ (job : ℕ) (name : List ℕ) (piece fragment have need : ℕ) (w : Section) (begin : BeginWith w last.group_logs) (some : 0 < job)
+      (lost : IsLost (setting_of seed first) job name piece fragment have need w) (room : FitsRack first.rack lost.kept) where
+    abbrev kept : Record
+    kept = lost.kept
+
+    not_live_at : (x : ℕ) → x < kept.geometry.shards → LastIs (own job (w.added (place_at kept piece fragment x).group)) (λ e. e ≡ entry.Gone job (place_at kept piece fragment x).stripe (place_at kept piece fragment x).column)
+        → WasNotLive (setting_of seed first) job w (place_at kept piece fragment x)
+    not_live_at x lt ends =
+        let p : Place = place_at kept piece fragment x in
+        let b : ℕ = (piece * kept.geometry.fragments + fragment) * kept.geometry.shards + x in
+        let within : b < length kept.places = point_within first.rack kept room (piece * kept.geometry.fragments + fragment) x (fragment_within first.rack kept room piece fragment lost.short.in_pieces lost.short.in_fragments) lt in
+        let fit = fits_place first.rack kept room b within in
+        let g_lt : p.group < first.rack.groups = group_within first.rack kept room b within in
+        let table = at_place first.tables p.group (let n = fits.tables.count in omega (arith, g_lt, n)) in
+        let log = at_place last.group_logs p.group (let n = fits.tables.count in let m = groups.count_logs in omega (arith, g_lt, n, m)) in
+        let cut = cut_last (is_of job) (w.added p.group) ends.0 ends.1 ends.2 in
+        let gone : w.added p.group ≡ cut.0 ++ entry.Gone job p.stripe p.column ∷ cut.1 = cut.2 ∙ ap (λ e. cut.0 ++ e ∷ cut.1) ends.3 in
+        let more = begin p.group log.0 log.1 in
+        let parts : log.0 ≡ (w.before p.group ++ cut.0) ++ entry.Gone job p.stripe p.column ∷ (cut.1 ++ more.0) =
+        more.1 ∙ (ap (λ l. (w.before p.group ++ l) ++ more.0) gone ∙ split (w.before p.group) cut.0 cut.1 more.0 (entry.Gone job p.stripe p.column)) in
+        let rules : FitsTable first.rack table.0 = all_at_place (FitsTable first.rack) first.tables p.group table.0 fits.tables.fits table.1 in
+        let c_lt : p.column < width table.0 = (let a = fit.column in let k = rules.data_columns in omega (arith, a, k)) in
+        let same : (setting_of seed first).first p.group ≡ table.0 = at_same first.tables p.group (empty_table first.rack p.group) table.0 table.1 in (
+          cut.0,
+          cut.1,
+          gone,
+          cut.3,
+          ap (λ t. is_live (slot_at (replayed t (w.before p.group ++ cut.0)) p.stripe p.column)) same
+              ∙ gone_at p.group p.stripe p.column job table.0 log.0 (w.before p.group ++ cut.0) (cut.1 ++ more.0) table.1 log.1 parts c_lt some,
+        )
+
+    pub few_are_live : FewAreLive (setting_of seed first) job kept piece fragment w
+    few_are_live = record {
+      few = (let a = lost.short.has in let b = lost.short.fewer in omega (arith, a, b));
+      others = λ x unseen. not_live_at x unseen.0 (lost.hopeless x unseen);
+    }
+
+pub lost_where_few : (told : Type 0) → LostWhereFew told
+lost_where_few told seed first last meant means closed job name piece fragment have need w is_told back fits groups kept_all none begin some lost room =
+    few_are_live told seed first last meant means closed is_told back fits groups kept_all none job name piece fragment have need w begin some lost room
