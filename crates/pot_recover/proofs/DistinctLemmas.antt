@@ -61,7 +61,7 @@ in_front a (x ∷ ls) h zero d less = h.0
 in_front a (x ∷ ls) h (suc j) d less = in_front a ls h.1 j d (omega arith)
 
 -- what is strictly in order is so for each two
-pairs_in_order : (ls : List (List ℕ)) → IsStrictlySortedBy (slice_cmp nat_cmp) ls → AllPairs (λ a b. slice_cmp nat_cmp a b ≡ Less) ls
+pub pairs_in_order : (ls : List (List ℕ)) → IsStrictlySortedBy (slice_cmp nat_cmp) ls → AllPairs (λ a b. slice_cmp nat_cmp a b ≡ Less) ls
 unfolding IsStrictlySortedBy
 pairs_in_order [] h i j d less within = absurd (omega arith)
 pairs_in_order (x ∷ ls) h zero zero d less within = absurd (omega arith)
@@ -70,7 +70,7 @@ pairs_in_order (x ∷ ls) h (suc i) zero d less within = absurd (omega arith)
 pairs_in_order (x ∷ ls) h (suc i) (suc j) d less within = pairs_in_order ls h.1 i j d (omega arith) (omega arith)
 
 -- fronts do not fall where lists rise
-fronts_rise : (k : ℕ) (a b : List ℕ) → slice_cmp nat_cmp a b ≡ Less → IsTrue (is_le (slice_cmp nat_cmp (take k a) (take k b)))
+pub fronts_rise : (k : ℕ) (a b : List ℕ) → slice_cmp nat_cmp a b ≡ Less → IsTrue (is_le (slice_cmp nat_cmp (take k a) (take k b)))
 fronts_rise zero a b h = refl
 fronts_rise (suc k) [] [] h = refl
 fronts_rise (suc k) [] (y ∷ ys) h = refl

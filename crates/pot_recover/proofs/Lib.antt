@@ -2,6 +2,7 @@ pub mod ChoiceLemmas
 pub mod ClosingLemmas
 pub mod ContentLemmas
 pub mod DistinctLemmas
+pub mod FrontLemmas
 pub mod GroupLemmas
 pub mod HeldLemmas
 pub mod JoinLemmas

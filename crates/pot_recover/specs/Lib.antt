@@ -1,6 +1,7 @@
 pub mod Choices
 pub mod Contents
 pub mod Counts
+pub mod Fronts
 pub mod Groups
 pub mod Held
 pub mod HeldShards

@@ -17,6 +17,7 @@
 mod choices;
 mod closing;
 mod distinct;
+mod fronts;
 mod group;
 mod held;
 mod joining;

@@ -1,12 +1,14 @@
 ghost use Rattle.std.specs.Prelude.{◌≡◌, ◌↔◌, ◌<◌, ◌≤◌, ◌^◌, ℕ, List, [], length, IsTrue, IfOk, IfErr, OnOk, AllPairs};
-ghost use Rattle.std.specs.List.{slice_index_or};
+ghost use Rattle.std.specs.List.{position, slice_index_or};
 ghost use Rattle.pot_chains.specs.Listed.{IsIn};
 ghost use Rattle.pot_recover.specs.Choices.{AreContents};
+ghost use Rattle.pot_recover.specs.Fronts.{has_front};
 ghost use Rattle.pot_recover.specs.Recovered.{AreRecovered, IsBefore, IsChoice, IsRecovered};
 ghost use Rattle.pot_recover.specs.Wide.{IsTooWide, IsWithin, AreFew, AreTooWide};
 
 use crate::choices::{count_choices, objects_of};
 use crate::distinct::sort_distinct;
+use crate::fronts::first_front;
 use crate::held::held_in;
 use crate::rings::{WIDEST, closed_contents};
 use pot_bytes::Block;
@@ -31,10 +33,15 @@ pub struct Recovered {
 
 impl Model for Recovered {
     ghost use Rattle.std.specs.Prelude.{List, ℕ};
+    ghost use Rattle.std.specs.Ordering.{nat_cmp};
+    ghost use Rattle.std.specs.List.Sorted.{IsStrictlySortedBy};
+    ghost use Rattle.std.specs.Cmp.Lexicographic.{slice_cmp};
 
     ghost Value = { List (List ℕ) };
 
     ghost view = { λ r. r.objects.items };
+
+    ghost invariant = { λ r. IsStrictlySortedBy (slice_cmp nat_cmp) r.objects.items };
 }
 
 impl Recovered {
@@ -58,6 +65,14 @@ impl Recovered {
         ensures { result.now ≡ slice_index_or self.now at result.now }
     {
         &self.objects.as_slice()[at]
+    }
+
+    /// The place of the first object that begins with these bytes: a file id, a piece, a number of pieces and a length, as
+    /// they stand in an object.
+    pub fn first_with(&self, front: &[u8; 32]) -> Option<usize>
+        ensures { result ≡ position (has_front front.now) self.now }
+    {
+        first_front(self.objects.as_slice(), *front)
     }
 }
 
