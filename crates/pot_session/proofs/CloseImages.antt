@@ -1,6 +1,6 @@
 -- The image of a close.
-use Rattle.std.proofs.Common.{◌≡◌, ◌+◌, ◌++◌, ◌⊎◌, inl, inr, ℕ, zero, suc, List, [], ◌∷◌, length, map, refl, sym, ap, subst, ◌∙◌, arith}
-use Rattle.std.specs.Prelude.{Option, Some, None, Result, Ok, Err, IfErr, OnOk, IsErr, IsErrOf, slice_get, flat_map}
+use Rattle.std.proofs.Common.{◌≡◌, ◌+◌, ◌++◌, inl, inr, ℕ, zero, suc, List, [], ◌∷◌, length, map, refl, sym, ap, subst, ◌∙◌}
+use Rattle.std.specs.Prelude.{Option, Some, Result, Ok, Err, IfErr, OnOk, IsErr, IsErrOf, slice_get, flat_map}
 use Rattle.std.proofs.lemmas.List.{length-map}
 use Rattle.std.proofs.lemmas.Option.{same_Some}
 use Rattle.byteorder.specs.Endian.{big_bytes}
@@ -13,7 +13,6 @@ use Rattle.pot_outside.specs.Streams.{IsLeft}
 use Rattle.pot_machine.specs.declared.entry.Entry.{Entry}
 use Rattle.pot_machine.specs.Table.{Table}
 use Rattle.pot_index.specs.Records.{record_bytes}
-use Rattle.pot_index.specs.declared.record.Record.{Record}
 use Rattle.pot_group.specs.Group.{GroupView}
 use Rattle.pot_group.specs.Shelves.{Shelves}
 use Rattle.pot_image.specs.Images.{Contents, magic}

@@ -19,7 +19,6 @@ use Rattle.pot_worked.proofs.SoleLemmas.{went_in_parts, sole_in_parts, sole_at_c
 use Rattle.pot_rows.specs.Rows.{view_at}
 use Rattle.pot_rows.specs.Works.{RowSole}
 use Rattle.pot_rows.specs.Parts.{Joined}
-use Rattle.pot_rows.specs.Ends.{Closed}
 use Rattle.pot_rows.proofs.RowLemmas.{at_past, below_or_past}
 use Rattle.pot_shared.specs.declared.member.Logged.{Logged}
 use Rattle.pot_shared.specs.Members.{kept_log, origin_of, entries_of}

@@ -1,5 +1,5 @@
 -- What is told of two files.
-use Rattle.std.proofs.Common.{◌≡◌, ◌≤◌, ◌-◌, ℕ, true, false, List, length, refl, subst}
+use Rattle.std.proofs.Common.{◌≡◌, ◌-◌, ℕ, true, false, List, length, refl, subst}
 use Rattle.pot_veil.specs.Drills.{IsReport, IsFault}
 use Rattle.pot_veil.specs.declared.drilling.DrillFault.TheVariants as fault
 use Rattle.pot_veil.specs.declared.drilling.DrillReport.{DrillReport}

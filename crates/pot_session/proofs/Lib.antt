@@ -6,8 +6,10 @@ pub mod Countable
 pub mod Counts
 pub mod DrillLemmas
 pub mod EndLemmas
+pub mod FrontLemmas
 pub mod GroupLemmas
 pub mod IndexCounts
+pub mod ListingLemmas
 pub mod Lists
 pub mod LossLemmas
 pub mod MeantLemmas
@@ -15,6 +17,7 @@ pub mod OpenLemmas
 pub mod OutLemmas
 pub mod PairLemmas
 pub mod PointLemmas
+pub mod RecoveringLemmas
 pub mod Results
 pub mod ScriptLemmas
 pub mod ServeLemmas

@@ -1,5 +1,5 @@
 -- The points that the words of a drill name.
-use Rattle.std.proofs.Common.{◌≡◌, ◌+◌, ◌<◌, ◌≤◌, ℕ, zero, suc, List, [], ◌∷◌, length, get_or, arith}
+use Rattle.std.proofs.Common.{◌+◌, ◌<◌, ◌≤◌, ℕ, zero, suc, List, [], ◌∷◌, length, get_or, arith}
 use Rattle.pot_veil.specs.Seen.{AreSeen}
 use Rattle.pot_words.specs.Lists.{AscendFrom, ArePoints}
 

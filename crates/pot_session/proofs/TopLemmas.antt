@@ -38,6 +38,7 @@ of_source stop.SecondParity e = absurd (cc)
 of_source stop.Spent e = absurd (cc)
 of_source stop.Exists e = absurd (cc)
 of_source stop.RoomFault e = absurd (cc)
+of_source stop.TooWide e = absurd (cc)
 of_source stop.NoMemory e = absurd (cc)
 
 of_room : (s : Stop) → status_of s ≡ status.RoomFault → s ≡ stop.RoomFault
@@ -53,6 +54,7 @@ of_room (stop.Form place) e = absurd (cc)
 of_room stop.SecondParity e = absurd (cc)
 of_room stop.Spent e = absurd (cc)
 of_room stop.Exists e = absurd (cc)
+of_room stop.TooWide e = absurd (cc)
 of_room stop.NoMemory e = absurd (cc)
 
 pub refused_source : (told : Type 0) (before after : List ℕ) (s : Stop) (answer : Status) → Refuses told before after s answer → answer ≡ status.SourceFault → s ≡ stop.SourceFault

@@ -49,6 +49,7 @@ drill_stop d seed told input stop.SecondParity h = absurd h
 drill_stop d seed told input stop.Spent h = absurd h
 drill_stop d seed told input stop.Exists h = absurd h
 drill_stop d seed told input stop.RoomFault h = absurd h
+drill_stop d seed told input stop.TooWide h = absurd h
 
 drill_status : (d : Drill) (drawn : List ℕ) (source_told : Type 0) (input rest : List ℕ) (sink_told : Type 0) (before after : List ℕ) (answer : Status)
     → Drills d drawn source_told input rest sink_told before after answer → IsDrillStatus answer

@@ -8,7 +8,6 @@ use Rattle.pot_script.specs.Replies.{spaced, in_hex}
 use Rattle.pot_shard.specs.FileBlocks.{random_len}
 use Rattle.pot_veil.specs.Drills.{IsReport, IsFault}
 use Rattle.pot_veil.specs.Seen.{AreSeen}
-use Rattle.pot_veil.specs.declared.drilling.DrillFault.{DrillFault}
 use Rattle.pot_veil.specs.declared.drilling.DrillFault.TheVariants as fault
 use Rattle.pot_veil.specs.declared.drilling.DrillReport.{DrillReport}
 use Rattle.pot_words.specs.declared.drill.Drill.{Drill}

@@ -3,8 +3,10 @@ pub mod Desks
 pub mod Drills
 pub mod Groups
 pub mod Holding
+pub mod Listing
 pub mod Losses
 pub mod Making
+pub mod Recovering
 pub mod Runs
 pub mod Serving
 pub mod Stops

@@ -7,6 +7,7 @@ use Rattle.pot_options.specs.Options.{Text}
 use Rattle.pot_script.specs.declared.command.Command.{Command}
 use Rattle.pot_words.specs.Tasks.{SpellTask}
 use Rattle.pot_words.specs.declared.drill.Drill.{Drill}
+use Rattle.pot_words.specs.declared.recover.Recover.{Recover}
 use Rattle.pot_words.specs.declared.run.Run.{Run}
 use Rattle.pot_words.specs.declared.task.Task.TheVariants as task
 use Rattle.pot_group.specs.Beginning.{archives_in}
@@ -22,6 +23,7 @@ use Rattle.pot_session.specs.Desks.{GoesOn, HoldsImage, RefusesDesk, IsDeskStop,
 use Rattle.pot_session.specs.Drills.{Drills}
 use Rattle.pot_session.specs.Holding.{Untouched}
 use Rattle.pot_session.specs.Making.{Inits}
+use Rattle.pot_session.specs.Recovering.{Recovers}
 use Rattle.pot_session.specs.Serving.{Serves, IsEnd, rooms_by}
 use Rattle.pot_session.specs.Stops.{Refuses}
 use Rattle.pot_session.specs.Tasks.{AsksNothing, seed_of}
@@ -107,10 +109,12 @@ pub data Holds (seed : List ℕ) (seen : Seen) (answer : Status) : Type 0 where
       → Untouched (flat_map archives_in i.tables.items) seen.meant seen.means → Holds seed seen answer
 
 -- The words spell no task that is worked; or memory ran out over them; or they spell `init`; and the source was not read. Or they spell
--- `run` or `drill`, each with the seed that the words give, or else the drawn one.
+-- `run` or `drill`, each with the seed that the words give, or else the drawn one. Or they spell `recover`, and neither the source nor the
+-- desk was touched.
 pub data Runs (words : List Text) (drawn : List ℕ) (seen : Seen) (answer : Status) : Type 0 where
   Nothing : AsksNothing words → Unread seen → Refuses seen.sink_told seen.before seen.after stop.Words answer → SameDesk seen → SameRoom seen → Runs words drawn seen answer
   Short : answer ≡ status.NoMemory → Unread seen → (seen.sink_told → seen.after ≡ seen.before) → SameDesk seen → SameRoom seen → Runs words drawn seen answer
   Makes : (rack : Rack) → SpellTask words (task.Init rack) → Unread seen → Inits rack seen.desk_told seen.held seen.holds seen.sink_told seen.before seen.after answer → SameRoom seen → Runs words drawn seen answer
   Session : (run : Run) → SpellTask words (task.Run run) → Holds (seed_of run drawn) seen answer → Runs words drawn seen answer
   Drilling : (d : Drill) → SpellTask words (task.Drill d) → Drills d drawn seen.source_told seen.input seen.rest seen.sink_told seen.before seen.after answer → SameDesk seen → SameRoom seen → Runs words drawn seen answer
+  Recovering : (r : Recover) → SpellTask words (task.Recover r) → Unread seen → Recovers r seen.room_told seen.meant seen.means seen.sink_told seen.before seen.after answer → SameDesk seen → Runs words drawn seen answer

@@ -19,6 +19,7 @@ code_of status.ImageRefused = 7
 code_of status.RoomFault = 8
 code_of status.SessionSpent = 9
 code_of status.ImageExists = 10
+code_of status.TooWide = 11
 code_of status.NoMemory = 70
 
 -- the status that a stop gives
@@ -35,6 +36,7 @@ status_of stop.SecondParity = status.ImageRefused
 status_of stop.Spent = status.SessionSpent
 status_of stop.Exists = status.ImageExists
 status_of stop.RoomFault = status.RoomFault
+status_of stop.TooWide = status.TooWide
 status_of stop.NoMemory = status.NoMemory
 
 -- the image is refused because of the field at this place
@@ -55,6 +57,7 @@ stop_text stop.SecondParity = form_text 26
 stop_text stop.Spent = codes "session spent\n"
 stop_text stop.Exists = codes "image exists\n"
 stop_text stop.RoomFault = []
+stop_text stop.TooWide = codes "too wide\n"
 stop_text stop.NoMemory = []
 
 -- The text of a stop was written, and its status is the answer; or some first bytes of the text were written and the sink failed;

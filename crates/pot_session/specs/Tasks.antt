@@ -9,13 +9,14 @@ use Rattle.pot_words.specs.declared.task.Task.TheVariants as task
 use Rattle.pot_session.specs.declared.asking.Asked.{Asked}
 use Rattle.pot_session.specs.declared.asking.Asked.TheVariants as asked
 use Rattle.pot_session.specs.Drills.{IsDrill}
+use Rattle.pot_session.specs.Recovering.{IsRecovery}
 
--- `init`, `run` and `drill`
+-- `init`, `run`, `recover` and `drill`
 abbrev pub IsWorkedTask : Task → Type 0
 IsWorkedTask (task.Init rack) = Unit {0}
 IsWorkedTask (task.Run run) = Unit {0}
 IsWorkedTask (task.Generate n) = ⊥
-IsWorkedTask (task.Recover r) = ⊥
+IsWorkedTask (task.Recover r) = Unit {0}
 IsWorkedTask (task.Drill d) = Unit {0}
 IsWorkedTask (task.Audit a) = ⊥
 
@@ -28,6 +29,7 @@ abbrev pub Asks : List Text → Asked → Type 0
 Asks words (asked.Init rack) = SpellTask words (task.Init rack) × IsRack rack
 Asks words (asked.Run run) = SpellTask words (task.Run run)
 Asks words (asked.Drill d) = SpellTask words (task.Drill d) × IsDrill d
+Asks words (asked.Recover r) = SpellTask words (task.Recover r) × IsRecovery r
 Asks words asked.Other = AsksNothing words
 
 -- the seed of a session: the one that the words give, or else the drawn one

@@ -5,7 +5,7 @@ ghost use Rattle.std.specs.String.{string_bytes};
 ghost use Rattle.pot_session.specs.Tasks.{Asks};
 
 use pot_bytes::{NoMemory, Rack};
-use pot_words::{Drill, Run, Task, read_words};
+use pot_words::{Drill, Recover, Run, Task, read_words};
 use std::alloc::Global;
 
 /// What is asked for.
@@ -17,6 +17,8 @@ pub enum Asked {
     Run(Run),
     /// A drill over two files.
     Drill(Drill),
+    /// What archives hold, without a desk.
+    Recover(Recover),
     /// Another task, which is not worked yet, or none.
     Other,
 }
@@ -29,6 +31,7 @@ pub fn read_task(alloc: Global, words: &[String]) -> Result<Asked, NoMemory>
         Some(Task::Init(rack)) => Ok(Asked::Init(rack)),
         Some(Task::Run(run)) => Ok(Asked::Run(run)),
         Some(Task::Drill(drill)) => Ok(Asked::Drill(drill)),
+        Some(Task::Recover(recover)) => Ok(Asked::Recover(recover)),
         Some(_) => Ok(Asked::Other),
         None => Ok(Asked::Other),
     }

@@ -1,6 +1,6 @@
 //! The top call: all that the program does, over any source, sink, room of archives and desk.
 //!
-//! It works the words `init`, `run` and `drill`, and within a session what the commands of the script ask for. It decides no reply and
+//! It works the words `init`, `run`, `drill` and `recover`, and within a session what the commands of the script ask for. It decides no reply and
 //! spells no image: these are the matter of the crates below. A batch line, and what `run` may do at the same time, are not worked.
 //!
 //! 1. A session keeps two images: the one with which it begins, before any archive is taken, and that of its close. Each has the number
@@ -21,10 +21,12 @@ mod drilling;
 mod groups;
 mod intake;
 mod laws;
+mod listing;
 mod making;
 mod opening;
 mod pairing;
 mod preparing;
+mod recovering;
 mod refusing;
 #[cfg(test)]
 mod row_tests;

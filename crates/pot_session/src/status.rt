@@ -27,6 +27,8 @@ pub enum Status {
     SessionSpent,
     /// A new archive was asked for, and the desk holds an image.
     ImageExists,
+    /// Recovery has too many chains or choices.
+    TooWide,
     NoMemory,
 }
 
@@ -49,6 +51,7 @@ impl Status {
             Status::RoomFault => 8,
             Status::SessionSpent => 9,
             Status::ImageExists => 10,
+            Status::TooWide => 11,
             Status::NoMemory => 70,
         }
     }

@@ -39,6 +39,8 @@ pub enum Stop {
     Exists,
     /// The room failed.
     RoomFault,
+    /// Recovery has too many chains or choices.
+    TooWide,
     NoMemory,
 }
 
@@ -82,6 +84,7 @@ impl Stop {
             Stop::Spent => Status::SessionSpent,
             Stop::Exists => Status::ImageExists,
             Stop::RoomFault => Status::RoomFault,
+            Stop::TooWide => Status::TooWide,
             Stop::NoMemory => Status::NoMemory,
         }
     }
@@ -101,6 +104,7 @@ pub fn text_of(alloc: Global, stop: Stop) -> Result<Vec<u8>, AllocError>
         Stop::SecondParity => numbered(alloc, b"image refused form", PARITY_PLACE),
         Stop::Spent => b"session spent\n".to_vec(alloc),
         Stop::Exists => b"image exists\n".to_vec(alloc),
+        Stop::TooWide => b"too wide\n".to_vec(alloc),
         Stop::SourceFault | Stop::DeskFault | Stop::RoomFault | Stop::NoMemory => {
             Ok(Vec::new(alloc))
         }

@@ -12,6 +12,7 @@ use crate::asking::{Asked, read_task};
 use crate::drilling::drill_files;
 use crate::making::init;
 use crate::preparing::{Prepared, prepare};
+use crate::recovering::recover_files;
 use crate::refusing::refuse;
 use crate::serving::serve;
 use crate::status::Status;
@@ -84,6 +85,7 @@ fn answer<S: Source, K: Sink, R: Room, D: Desk, X: Wait>(
             hold(rt, alloc, &seed, source, sink, room, desk)
         }
         Ok(Asked::Drill(task)) => drill_files(alloc, &task, drawn, source, sink),
+        Ok(Asked::Recover(task)) => recover_files(alloc, &task, sink, room),
         Ok(Asked::Other) => refuse(alloc, Stop::Words, sink),
         Err(NoMemory) => Status::NoMemory,
     }
@@ -92,12 +94,13 @@ fn answer<S: Source, K: Sink, R: Room, D: Desk, X: Wait>(
 /// The top call: all that the program does. It reads the words. `init` makes the image of a new archive. `run` reads the desk's
 /// image, reads the source to its end, puts the image with which the session begins in the place of the desk's, takes the archives of
 /// all columns, works the commands of the script in order and writes the replies of each after it, gives the archives back and puts the
-/// image of the close in the place of the desk's. The answer is the exit status.
+/// image of the close in the place of the desk's. `recover` reads the archives alone and lists what they give. The answer is the exit
+/// status.
 ///
 /// 0 and 1 say that all commands were answered, and 1 that some reply is a refusal; 2 that the words spell no task that is
 /// worked; 3 that the script leaves its grammar, or has a line that is not worked; 4, 5, 6 and 8 that the source, the sink, the desk or the
 /// room failed; 7 that the desk holds no image from which a session may begin; 9 that no number of a session is left; 10 that `init` found an
-/// image; 70 that memory ran out. The gate is not used yet.
+/// image; 11 that recovery is too wide; 70 that memory ran out. The gate is not used yet.
 pub fn run<S: Source, K: Sink, R: Room, D: Desk, W: Gate, X: Wait>(
     rt: &X,
     alloc: Global,

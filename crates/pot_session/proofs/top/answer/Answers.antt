@@ -1,7 +1,8 @@
 use Rattle.std.proofs.Common.{refl, map, subst, arith}
 use Rattle.std.specs.String.{string_bytes}
 use Rattle.pot_session.specs.Tasks.{Asks}
-use Rattle.pot_session.specs.Runs.{Makes, Drilling}
+use Rattle.pot_session.specs.Runs.{Makes, Drilling, Recovering}
+use Rattle.pot_session.proofs.RecoveringLemmas.{recover_source, recover_desk}
 use Rattle.pot_session.proofs.TopLemmas.{init_source, init_room, with_seed}
 use Rattle.pot_session.proofs.WordLemmas.{drill_room, drill_desk}
 use Rattle.pot_session.proofs.top.answer.Goals as goal
@@ -39,4 +40,20 @@ pub returns-in-Ok-Drill-clause-desk : goal.returns-in-Ok-Drill-clause-desk
 returns-in-Ok-Drill-clause-desk g c = record {
   later = omega arith;
   rose = λ e. absurd (drill_desk _ _ _ _ _ _ _ _ c.drill_files.result c.drill_files.ensures.drills e);
+}
+
+pub returns-in-Ok-Recover-clause-runs : goal.returns-in-Ok-Recover-clause-runs
+returns-in-Ok-Recover-clause-runs g c =
+    Recovering _ (subst (Asks (map string_bytes c.args.words.now)) c.in-Ok-Recover.field-0-is c.in-Ok-Recover.ensures).0 (λ t. refl) c.recover_files.ensures.recovers (λ t. refl)
+
+pub returns-in-Ok-Recover-clause-source : goal.returns-in-Ok-Recover-clause-source
+returns-in-Ok-Recover-clause-source g c = record {
+  later = omega arith;
+  rose = λ e. absurd (recover_source _ _ _ _ _ _ _ c.recover_files.result c.recover_files.ensures.recovers e);
+}
+
+pub returns-in-Ok-Recover-clause-desk : goal.returns-in-Ok-Recover-clause-desk
+returns-in-Ok-Recover-clause-desk g c = record {
+  later = omega arith;
+  rose = λ e. absurd (recover_desk _ _ _ _ _ _ _ c.recover_files.result c.recover_files.ensures.recovers e);
 }

@@ -1,0 +1,23 @@
+use Rattle.std.proofs.Common.{◌≡◌, inl, inr, false, subst, ◌∙◌, arith}
+use Rattle.std.proofs.lemmas.Bool.{cases_lt}
+use Rattle.pot_session.proofs.RecoveringLemmas.{held_more}
+use Rattle.pot_session.proofs.recovering.read_archives.Goals as goal
+
+pub loop-number-preserved : goal.loop-number-preserved
+loop-number-preserved g c =
+    let number = c.loop-number.number in
+    let home = c.loop-number.invariant.home in
+    let others = c.in-Ok.ensures.others in
+    record {
+      held = λ told. held_more number c.args.task.now.stripes _ _ _ _ _ (c.loop-number.invariant.held told) c.loop-number.invariant.others (c.in-Ok.ensures.gathers told) (λ n ne. (others n ne).0);
+      few = (let a = c.loop-number.invariant.few in let b = c.in-Ok.ensures.length in let s = c.requires.task.stripes in omega (arith, a, b, s));
+      home = λ n. elim (cases_lt n number) [
+        | inl less ↦ (others n (λ e. omega (arith, less, e))).1 ∙ home n
+        | inr le ↦ elim (cases_lt number n) [
+          | inl more ↦ (others n (λ e. omega (arith, more, e))).1 ∙ home n
+          | inr ge ↦ subst (λ k. g.R.Room.out c.read_archive.new.room k ≡ false) (let e : number ≡ n = omega (arith, le, ge) in e) c.in-Ok.ensures.home
+        ]
+      ];
+      others = λ n le. (others n (λ e. omega (arith, le, e))).0 ∙ c.loop-number.invariant.others n (omega (arith, le));
+      later = (let a = c.loop-number.invariant.later in let b = c.in-Ok.ensures.cause.later in omega (arith, a, b));
+    }

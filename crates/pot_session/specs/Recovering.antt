@@ -1,0 +1,81 @@
+-- The blocks that are read from archives without a desk, the objects that they give, and what `recover` comes to.
+use Rattle.std.specs.Prelude.{◌≡◌, ◌<◌, ◌≤◌, ◌-◌, ◌^◌, ◌⊎◌, ℕ, List, Some, Result, Ok, Err, Contains}
+use Rattle.pot_outside.specs.Archives.{Meaning, OnlyLoses}
+use Rattle.pot_recover.specs.Recovered.{AreRecovered}
+use Rattle.pot_recover.specs.Wide.{IsTooWide, IsWithin}
+use Rattle.pot_recover.specs.declared.top.RecoverFault.TheVariants.{Wide}
+use Rattle.pot_words.specs.declared.recover.Recover.{Recover}
+use Rattle.pot_session.specs.declared.status.Status.{Status}
+use Rattle.pot_session.specs.declared.stop.Stop.{Stop}
+use Rattle.pot_session.specs.declared.stop.Stop.TheVariants as stop
+use Rattle.pot_session.specs.Listing.{Lists}
+use Rattle.pot_session.specs.Stops.{Refuses}
+
+-- how many archives are read, how many slots of each, and the bits that pointers leave out are within their limits
+pub record IsRecovery (r : Recover) : Type 0 where
+  pub archives : r.archives ≤ 512
+  pub stripes : r.stripes ≤ 4096
+  pub blur : r.blur ≤ 63
+
+-- ONE ARCHIVE
+
+-- An archive was read and no more: it may have lost blocks.
+pub record WasRead (old new : Meaning) : Type 0 where
+  pub loses : OnlyLoses old.held new.held old.losses new.losses
+  pub past : new.history ≡ old.history
+  pub hears : new.heard ≡ old.heard
+
+-- the archive held this block in one of its first slots
+abbrev pub IsHeldIn : ℕ → Meaning → List ℕ → Type 0
+IsHeldIn count m block = (slot : ℕ) × (slot < count) × (m.held slot ≡ Some block)
+
+-- The blocks of its first slots came to those that were read before: each that came was held at first, and each that was held at first came,
+-- unless the archive's count of losses rose.
+pub record Gathers (count : ℕ) (old new : Meaning) (before after : List (List ℕ)) : Type 0 where
+  pub read : WasRead old new
+  pub keeps : (b : List ℕ) → Contains before b → Contains after b
+  pub only : (b : List ℕ) → Contains after b → Contains before b ⊎ IsHeldIn count old b
+  pub all : new.losses ≡ old.losses → new.losses < 2 ^ 64 - 1 → (b : List ℕ) → IsHeldIn count old b → Contains after b
+
+-- The same of one slot.
+pub record Adds (slot : ℕ) (old new : Meaning) (before after : List (List ℕ)) : Type 0 where
+  pub read : WasRead old new
+  pub keeps : (b : List ℕ) → Contains before b → Contains after b
+  pub only : (b : List ℕ) → Contains after b → Contains before b ⊎ (old.held slot ≡ Some b)
+  pub all : (b : List ℕ) → new.held slot ≡ Some b → Contains after b
+
+-- ALL ARCHIVES
+
+-- These are the blocks that the first archives held in their first slots, by what the room meant before and means after. A block may be left
+-- out only where its archive's count of losses rose, and the archives were read and no more.
+pub record AreHeldIn (archives stripes : ℕ) (meant means : ℕ → Meaning) (blocks : List (List ℕ)) : Type 0 where
+  pub only : (b : List ℕ) → Contains blocks b → (n : ℕ) × (n < archives) × IsHeldIn stripes (meant n) b
+  pub all : (n : ℕ) → n < archives → (means n).losses ≡ (meant n).losses → (means n).losses < 2 ^ 64 - 1
+      → (b : List ℕ) → IsHeldIn stripes (meant n) b → Contains blocks b
+  pub read : (n : ℕ) → n < archives → WasRead (meant n) (means n)
+
+-- THE WHOLE
+
+-- The blocks that were read give these objects; or they are too wide; or an archive or the room failed, or memory ran out. `told` is whether the
+-- archives tell their blocks.
+abbrev pub Finds : Recover → Type 0 → (ℕ → Meaning) → (ℕ → Meaning) → Result (List (List ℕ)) Stop → Type 0
+Finds r told meant means (Ok objects) =
+    (blocks : List (List ℕ)) × (told → AreHeldIn r.archives r.stripes meant means blocks) × AreRecovered blocks r.blur objects × IsWithin blocks r.blur
+Finds r told meant means (Err stop.TooWide) =
+    (blocks : List (List ℕ)) × (told → AreHeldIn r.archives r.stripes meant means blocks)
+    × ((chains : ℕ) × (choices : ℕ) × IsTooWide blocks r.blur (Wide chains choices))
+Finds r told meant means (Err stop.RoomFault) = Unit {0}
+Finds r told meant means (Err stop.NoMemory) = Unit {0}
+Finds r told meant means (Err _) = ⊥
+
+-- what is written and answered: the listing, or why there is none
+abbrev pub ListAnswers : Type 0 → List ℕ → List ℕ → Result (List (List ℕ)) Stop → Status → Type 0
+ListAnswers told before after (Ok objects) answer = Lists told before after objects answer
+ListAnswers told before after (Err s) answer = Refuses told before after s answer
+
+-- What `recover` comes to. Other archives are not touched.
+pub record Recovers (r : Recover) (room_told : Type 0) (meant means : ℕ → Meaning) (sink_told : Type 0) (before after : List ℕ) (answer : Status) : Type 0 where
+  pub found : Result (List (List ℕ)) Stop
+  pub is : Finds r room_told meant means found
+  pub answers : ListAnswers sink_told before after found answer
+  pub others : (n : ℕ) → r.archives ≤ n → means n ≡ meant n
