@@ -1,2 +1,4 @@
 pub mod WholeRows
 pub mod Sizes
+pub mod Parts
+pub mod Members

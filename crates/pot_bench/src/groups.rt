@@ -35,7 +35,7 @@ pub struct Trial {
 }
 
 /// An archive without blocks that never fails.
-fn shelf(alloc: Global, number: u32) -> Shelf<LossyArchive>
+pub fn shelf(alloc: Global, number: u32) -> Shelf<LossyArchive>
     ensures { result.number ≡ number }
 {
     Shelf {

@@ -7,14 +7,18 @@
 //! times as many. It is no part of the archive.
 #![tactic(auto)]
 
+mod filing;
+mod given;
 mod groups;
 mod kernels;
 mod pieces;
 mod report;
 mod rows;
+mod sessions;
 mod timing;
 
-use report::Report;
+use filing::time_sessions;
+use report::{Beside, Report};
 use rows::Rows;
 use std::{env, io};
 use timing::Trials;
@@ -32,7 +36,7 @@ fn main(rt: HostRuntime) -> io::Result<()> {
     let sum = rows.fold_weighted(rounds);
     report.line(&rt, "fold_weighted", 1, sum.bytes())?;
     rows.share_two_of_three(rounds);
-    report.line(&rt, "share_out 2 of 3", 1, rows.out())?;
+    let share_out = report.line(&rt, "share_out 2 of 3", 1, rows.out())?;
     rows.share_three_of_five(rounds);
     report.line(&rt, "share_out 3 of 5", 1, rows.out())?;
     rows.join_two_of_three(rounds);
@@ -40,7 +44,7 @@ fn main(rt: HostRuntime) -> io::Result<()> {
     rows.join_three_of_five(rounds);
     report.line(&rt, "share_join 3 of 5", 3, rows.out())?;
     rows.digest_of(rounds);
-    report.line(&rt, "digest_of", 1, rows.out())?;
+    let digest_of = report.line(&rt, "digest_of", 1, rows.out())?;
     rows.fill(rounds);
     report.line(&rt, "fill", 1, rows.out())?;
     rows.fill_bytes(rounds);
@@ -50,5 +54,10 @@ fn main(rt: HostRuntime) -> io::Result<()> {
     let blocks = pieces::three_of_five(rt.alloc(), rounds)?;
     report.line(&rt, "piece_blocks 3, 3 of 5", 1, &blocks)?;
     let trials = Trials::over(&rt, rt.alloc(), rows.blocks(), megabytes)?;
-    trials.report(&rt, &report)
+    trials.report(&rt, &report)?;
+    let beside = Beside {
+        digest_of,
+        share_out,
+    };
+    time_sessions(&rt, rt.alloc(), megabytes, &report, &beside)
 }

@@ -2,6 +2,7 @@ ghost use Rattle.std.specs.Prelude.{◌≡◌, drop};
 ghost use Rattle.byteorder.specs.Endian.{big_number};
 ghost use Rattle.pot_bytes.specs.Digests.{digest_bytes};
 
+use crate::filing::Timed;
 use pot_bytes::{digest_of, read_be64};
 use std::io;
 use std::rt::Clock;
@@ -15,6 +16,13 @@ pub struct Report {
     measure: f64,
 }
 
+/// How fast the loops were, in MB/s, that the calls of sessions are compared with.
+#[derive(Clone, Copy)]
+pub struct Beside {
+    pub digest_of: f64,
+    pub share_out: f64,
+}
+
 impl Report {
     /// The clock starts.
     pub fn new(clock: &impl Clock, rounds: u32) -> io::Result<Report> {
@@ -25,14 +33,14 @@ impl Report {
         })
     }
 
-    /// Prints how fast the loop was that ends now, over `rows` rows a round, and starts the clock again.
+    /// Prints how fast the loop was that ends now, over `rows` rows a round, starts the clock again, and answers that speed in MB/s.
     pub fn line(
         &mut self,
         rt: &(impl Print + Eprint + Clock),
         name: &str,
         rows: u8,
         bytes: &[u8],
-    ) -> io::Result<()>
+    ) -> io::Result<f64>
         ensures { self.new.rounds ≡ self.old.rounds }
     {
         let seconds = self.start.elapsed(rt)?.as_secs_f64() / f64::from(rows);
@@ -44,7 +52,7 @@ impl Report {
         eprintln!(rt; "{name}: {speed:.0} MB/s, 1/{times:.1} of xor_into")?;
         println!(rt; "{name} {:016x}", checksum(bytes))?;
         self.start = Instant::now(rt)?;
-        Ok(())
+        Ok(speed)
     }
 
     /// Prints how fast a loop over the three megabytes of each group was, and which part of its time the digests alone
@@ -60,6 +68,40 @@ impl Report {
         let speed = self.rounds * 3.0 / 16.0 / seconds;
         let part = digests / seconds;
         eprintln!(rt; "{name}: {speed:.0} MB/s, its digests alone take {part:.2} of that time")?;
+        println!(rt; "{name} {:016x}", checksum(bytes))
+    }
+
+    /// Prints how fast calls of sessions were over all files, beside two loops of the same run; how many bytes SHA-256 was given by
+    /// them for each byte of file; and which part of their time the digests alone take.
+    pub fn calls(
+        &self,
+        rt: &(impl Print + Eprint),
+        name: &str,
+        timed: &Timed,
+        given: u64,
+        files: &[u8],
+        beside: &Beside,
+        bytes: &[u8],
+    ) -> io::Result<()> {
+        let count = files.len() as f64;
+        let speed = count / 1_048_576.0 / timed.seconds;
+        let digests = beside.digest_of / speed;
+        let shares = beside.share_out / speed;
+        let each = given as f64 / count;
+        let part = timed.digests / timed.seconds;
+        eprintln!(rt; "{name}: {speed:.2} MB/s, 1/{digests:.1} of digest_of, 1/{shares:.0} of share_out 2 of 3")?;
+        eprintln!(rt; "{name}: {each:.2} bytes for SHA-256 a byte of file, its digests alone take {part:.2} of that time")?;
+        println!(rt; "{name} {:016x}, {given} bytes digested", checksum(bytes))
+    }
+
+    /// Prints whether the fetched bytes are those of the files.
+    pub fn same(&self, rt: &impl Print, same: bool) -> io::Result<()> {
+        let word = if same { "the files" } else { "other bytes" };
+        println!(rt; "fetched {word}")
+    }
+
+    /// Prints the checksum of what a loop computed whose time is told elsewhere.
+    pub fn sum(&self, rt: &impl Print, name: &str, bytes: &[u8]) -> io::Result<()> {
         println!(rt; "{name} {:016x}", checksum(bytes))
     }
 }

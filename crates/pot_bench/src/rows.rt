@@ -18,7 +18,7 @@ pub const ROW: usize = 65_536;
 pub const SEED: [u8; 32] = [7; 32];
 
 /// As many zeros.
-fn zeros(alloc: Global, count: usize) -> Result<Vec<u8>, AllocError>
+pub fn zeros(alloc: Global, count: usize) -> Result<Vec<u8>, AllocError>
     ensures { IfOk result (λ v. length v.items ≡ count) }
 {
     vec![in alloc; 0u8; count]

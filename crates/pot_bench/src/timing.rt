@@ -69,8 +69,9 @@ impl Trials {
         Ok(())
     }
 
-    /// Prints a line for each. A look makes one digest. The three puts of a stripe make eight: of each block, of each new
-    /// parity block, and of each old one but the first, which stands for zeros and is not read.
+    /// Prints a line for each. A look makes one digest. The three puts of a stripe make five: of each block, and of each new
+    /// parity block but the first, which is the first block itself. The old parity block that a put reads is the one written last,
+    /// whose digest is known.
     pub fn report(&self, rt: &(impl Print + Eprint), report: &Report) -> io::Result<()> {
         let Trials {
             digests,
@@ -79,7 +80,7 @@ impl Trials {
         } = self;
         let seconds = digests.seconds;
         report.part(rt, "digest_of, blocks", seconds, seconds, &digests.bytes)?;
-        report.part(rt, "put", puts.seconds, seconds * 8.0 / 3.0, &puts.bytes)?;
+        report.part(rt, "put", puts.seconds, seconds * 5.0 / 3.0, &puts.bytes)?;
         report.part(rt, "look", looks.seconds, seconds, &looks.bytes)
     }
 }

@@ -1,0 +1,22 @@
+use Rattle.pot_index.specs.Entries as index
+use Rattle.pot_store.specs.Works.{of_job}
+use Rattle.pot_bench.proofs.Parts.{more_parts, still_but_kept, still_all}
+use Rattle.pot_bench.proofs.sessions.Session.store.Goals as goal
+
+pub store_file-requires-clause-parts : goal.store_file-requires-clause-parts
+store_file-requires-clause-parts g c = more_parts _ c.args.self.now.parts.0
+
+pub invariant_of-self : goal.invariant_of-self
+invariant_of-self g c =
+    let s = c.args.self.now in record {
+      rack = s.rack;
+      parity = s.parity;
+      count = s.count;
+      ready = c.store_file.ensures.ready;
+      index = c.store_file.ensures.index;
+      parts = (
+        still_but_kept (of_job c.args.job) _ _ _ s.ready.of c.store_file.ensures.ready.of c.store_file.ensures.worked.groups s.parts.0,
+        still_all (index.is_of c.args.job) _ _ _ s.index.of c.store_file.ensures.index.of c.store_file.ensures.worked.index s.parts.1,
+      );
+      room = s.room;
+    }

@@ -1,0 +1,167 @@
+//! How long the stores, the fetches and the opening of sessions take, and the digests alone that they make.
+//!
+//! Just before each store, each fetch and the opening run the digests alone that it takes, so that a change in the speed of the
+//! machine comes to both.
+ghost use Rattle.std.specs.Prelude.{◌≡◌, ◌≤◌, ◌↔◌, IsTrue, IfOk};
+
+use crate::given::{FETCH, FILE, Given, Row, STORE, by_opening};
+use crate::report::{Beside, Report};
+use crate::rows::{SEED, zeros};
+use crate::sessions::{Desk, Session};
+use pot_bytes::Name;
+use pot_pads::PadStream;
+use std::alloc::{AllocError, Global};
+use std::io;
+use std::rt::Clock;
+use std::sync::Wait;
+use std::time::Instant;
+
+/// How many seconds calls took, and how many the digests alone that they make.
+#[derive(Clone, Copy)]
+pub struct Timed {
+    pub seconds: f64,
+    pub digests: f64,
+}
+
+/// No call yet.
+const UNTIMED: Timed = Timed {
+    seconds: 0.0,
+    digests: 0.0,
+};
+
+/// What was fetched, and whether it is the files.
+#[derive(Drop)]
+struct Fetched {
+    timed: Timed,
+    bytes: Vec<u8>,
+    same: bool,
+}
+
+/// A session stores files of 800 KB, ten for eight megabytes but no more than ten; one that is opened after it fetches them. It
+/// prints a line for each.
+pub fn time_sessions<R: Clock + Wait + Print + Eprint>(
+    rt: &R,
+    alloc: Global,
+    megabytes: u16,
+    report: &Report,
+    beside: &Beside,
+) -> io::Result<()> {
+    let count = (u32::from(megabytes) * 10 / 8).clamp(1, 10);
+    let files = files(alloc, count)?;
+    let mut row = Row::new(alloc)?;
+    let mut session = Desk::new(alloc)?.open(alloc)?;
+    let timed = store_files(rt, alloc, &mut session, &mut row, &files)?;
+    let desk = session.end(alloc)?;
+    let given = STORE.times(count, desk.put_digests()).bytes(files.len());
+    report.calls(rt, "store", &timed, given, &files, beside, desk.image())?;
+    let given = by_opening(desk.live());
+    let digested = given.bytes(desk.text().len());
+    let (mut session, timed) = open_desk(rt, alloc, desk, &mut row, &given)?;
+    let fetched = fetch_files(rt, alloc, &mut session, &mut row, &files)?;
+    let desk = session.end(alloc)?;
+    report.calls(rt, "opening", &timed, digested, &files, beside, desk.image())?;
+    let Fetched { timed, bytes, same } = fetched;
+    let given = FETCH.times(count, count.saturating_mul(FETCH.blocks)).bytes(files.len());
+    report.calls(rt, "fetch", &timed, given, &files, beside, &bytes)?;
+    report.same(rt, same)?;
+    report.sum(rt, "digest_of, sessions", row.bytes())
+}
+
+/// The bytes of as many files.
+fn files(alloc: Global, count: u32) -> Result<Vec<u8>, AllocError>
+    requires { count ≤ 10 }
+{
+    let mut files = zeros(alloc, count as usize * FILE)?;
+    PadStream::new(&SEED, 0, 4).fill(&mut files);
+    Ok(files)
+}
+
+/// The name of the file that a job stores or fetches: a letter.
+fn name_of(job: u32) -> Result<Name, AllocError> {
+    let letter = b'a' + (job % 26) as u8;
+    match Name::read(&[letter]) {
+        Some(name) => Ok(name),
+        None => Err(AllocError),
+    }
+}
+
+/// How long the digests alone take.
+fn time_digests(
+    clock: &impl Clock,
+    row: &mut Row,
+    given: &Given,
+    whole: &[u8],
+) -> io::Result<f64> {
+    let begun = Instant::now(clock)?;
+    row.digest(given, whole);
+    Ok(begun.elapsed(clock)?.as_secs_f64())
+}
+
+/// Stores the files one after another, each as a job.
+fn store_files<R: Clock + Wait>(
+    rt: &R,
+    alloc: Global,
+    session: &mut Session,
+    row: &mut Row,
+    files: &[u8],
+) -> io::Result<Timed> {
+    let mut timed = UNTIMED;
+    let mut job = 0u32;
+    for file in files.chunks(FILE) {
+        job = job.saturating_add(1);
+        let name = name_of(job)?;
+        timed.digests += time_digests(rt, row, &STORE, file)?;
+        let begun = Instant::now(rt)?;
+        session.store(rt, alloc, job, &name, file)?;
+        timed.seconds += begun.elapsed(rt)?.as_secs_f64();
+    }
+    Ok(timed)
+}
+
+/// Opens a session over what another one left.
+fn open_desk(
+    clock: &impl Clock,
+    alloc: Global,
+    desk: Desk,
+    row: &mut Row,
+    given: &Given,
+) -> io::Result<(Session, Timed)> {
+    let digests = time_digests(clock, row, given, desk.text())?;
+    let begun = Instant::now(clock)?;
+    let session = desk.open(alloc)?;
+    let seconds = begun.elapsed(clock)?.as_secs_f64();
+    Ok((session, Timed { seconds, digests }))
+}
+
+/// Fetches the files one after another, each as a job.
+fn fetch_files<R: Clock + Wait>(
+    rt: &R,
+    alloc: Global,
+    session: &mut Session,
+    row: &mut Row,
+    files: &[u8],
+) -> io::Result<Fetched>
+    ensures { IfOk result (λ f. IsTrue f.same ↔ f.bytes.items ≡ files.now) }
+{
+    let mut timed = UNTIMED;
+    let mut bytes = Vec::with_capacity(alloc, files.len())?;
+    let mut job = 0u32;
+    for file in files.chunks(FILE) {
+        job = job.saturating_add(1);
+        let name = name_of(job)?;
+        timed.digests += time_digests(rt, row, &FETCH, file)?;
+        let begun = Instant::now(rt)?;
+        let fetched = session.fetch(rt, alloc, job, &name)?;
+        timed.seconds += begun.elapsed(rt)?.as_secs_f64();
+        bytes.extend_from_slice(&fetched)?;
+    }
+    let same = are_same(&bytes, files);
+    Ok(Fetched { timed, bytes, same })
+}
+
+/// Whether the bytes that were fetched are those of the files.
+fn are_same(fetched: &[u8], files: &[u8]) -> bool
+    ensures { IsTrue result ↔ fetched.now ≡ files.now }
+{
+    fetched == files
+}

@@ -1,0 +1,378 @@
+//! Sessions over archives in memory: each begins with what a desk keeps, stores and fetches files, and leaves a desk again.
+ghost use Rattle.std.specs.Prelude.{◌≡◌, ◌<◌, ◌≤◌, ◌∷◌, [], ℕ, IsTrue, IfOk, Some, length, map, slice_get};
+ghost use Rattle.std.specs.List.{flat_map};
+ghost use Rattle.std.proofs.Props.{props};
+ghost use Rattle.std.specs.Vec.{vec_capacity};
+ghost use Rattle.pot_bytes.specs.Rack.{IsRack};
+ghost use Rattle.pot_doubles.specs.Archives.{meaning_in};
+ghost use Rattle.pot_group.specs.Beginning.{homes_of};
+ghost use Rattle.pot_group.specs.Group.{view_of};
+ghost use Rattle.pot_rows.specs.Ends.{HasAllParts};
+ghost use Rattle.pot_shared.specs.Catalogs.{IsIndexReady};
+ghost use Rattle.pot_shared.specs.Ready.{AreReady, IsTableOf};
+ghost use Rattle.pot_shared.specs.Sharing.{HasAllButKept, IsGroupOf};
+
+use crate::groups::shelf;
+use crate::rows::SEED;
+use pot_bytes::{Geometry, Name, Rack};
+use pot_doubles::LossyArchive;
+use pot_group::{Ended, Group, StartRefused};
+use pot_image::{Image, read_image, write_image};
+use pot_index::{Index, IndexEnded};
+use pot_machine::{Column, Entry, GroupTable};
+use pot_outside::Shelf;
+use pot_pads::PadStream;
+use pot_shared::{Closed, Member, Passes, Vault};
+use pot_store::{fetch_file, store_file};
+use std::alloc::{AllocError, Global};
+use std::sync::Wait;
+
+/// The rack of the sessions. It has room for ten files of 800 KB, whose blocks fill nine tenths of it.
+const RACK: Rack = Rack {
+    groups: 5,
+    columns: 3,
+    parity: 1,
+    stripes: 4096,
+    geometry: Geometry {
+        fragments: 2,
+        need: 2,
+        shards: 3,
+        blur: 16,
+    },
+};
+
+/// What a session leaves to the next one.
+#[derive(Drop)]
+pub struct Desk {
+    image: Vec<u8>,
+    /// The archives of each group, column by column.
+    archives: Vec<Vec<Shelf<LossyArchive>>>,
+    /// How many blocks that session put, and how many of them were the first of their stripe.
+    puts: u32,
+    firsts: u32,
+}
+
+impl Desk {
+    /// The desk of a new archive, on which nothing is stored.
+    pub fn new(alloc: Global) -> Result<Desk, AllocError> {
+        let mut left = Left::new(alloc, 0, RACK);
+        for group in 0..RACK.groups {
+            let Ok(table) = GroupTable::empty(alloc, &RACK, group) else {
+                return Err(AllocError);
+            };
+            left.archives.push(homes(alloc, &table)?)?;
+            left.image.tables.push(table)?;
+            left.image.group_logs.push(Vec::new(alloc))?;
+        }
+        left.keep(alloc)
+    }
+
+    /// The bytes of the image of which its digest is taken: all but that digest.
+    pub fn text(&self) -> &[u8] {
+        let (text, _digest) = self.image.split_at(self.image.len().saturating_sub(32));
+        text
+    }
+
+    /// Its image.
+    pub fn image(&self) -> &[u8] {
+        &self.image
+    }
+
+    /// How many digests of blocks the puts of its session took. A block is digested once. So is each parity block, but for the
+    /// first of a stripe, which is the same block as the first data block.
+    pub fn put_digests(&self) -> u32 {
+        self.puts
+            .saturating_add(self.puts)
+            .saturating_sub(self.firsts)
+    }
+
+    /// How many slots are Live, where all were put by its session.
+    pub fn live(&self) -> u32 {
+        self.puts.saturating_add(self.firsts)
+    }
+
+    /// What a session does before its first command: it reads the image, starts each group over its archives, which reads every
+    /// block that the image names, and puts the groups and the index under turns.
+    pub fn open(self, alloc: Global) -> Result<Session, AllocError> {
+        let Desk {
+            image,
+            archives,
+            puts: _,
+            firsts: _,
+        } = self;
+        let Ok(Image {
+            session,
+            rack,
+            tables,
+            records,
+            group_logs: _,
+            index_log: _,
+        }) = read_image(alloc, &image)
+        else {
+            return Err(AllocError);
+        };
+        if rack.parity != 1 {
+            return Err(AllocError);
+        }
+        let members = start_groups(alloc, &rack, tables, archives)?;
+        let Ok(index) = Index::start(alloc, &rack, records) else {
+            return Err(AllocError);
+        };
+        match Vault::start(alloc, &rack, members, index) {
+            Ok((vault, passes)) => Ok(Session {
+                number: session.wrapping_add(1),
+                vault,
+                passes,
+            }),
+            Err(_) => Err(AllocError),
+        }
+    }
+}
+
+/// Archives without blocks for the columns of a table.
+fn homes(alloc: Global, table: &GroupTable) -> Result<Vec<Shelf<LossyArchive>>, AllocError> {
+    let mut shelves = Vec::new(alloc);
+    for column in table.columns() {
+        shelves.push(shelf(alloc, column.home))?;
+    }
+    Ok(shelves)
+}
+
+/// Whether the column stays, and its home is this archive.
+fn is_home(column: &Column, shelf: &Shelf<LossyArchive>) -> bool
+    ensures { IsTrue result → homes_of column.now ≡ shelf.now.number ∷ [] }
+{
+    match column.moving {
+        None => column.home == shelf.number,
+        Some(_) => false,
+    }
+}
+
+/// Whether the columns stay, and their homes are these archives, in order.
+fn are_homes(columns: &[Column], shelves: &[Shelf<LossyArchive>]) -> bool
+    ensures { IsTrue result → map (λ s. s.number) shelves.now ≡ flat_map homes_of columns.now }
+{
+    match columns {
+        [] => shelves.is_empty(),
+        [column, columns @ ..] => match shelves {
+            [] => false,
+            [shelf, shelves @ ..] => is_home(column, shelf) && are_homes(columns, shelves),
+        },
+    }
+}
+
+/// Whether the table is of a group of the rack, has one parity column, and has no relay.
+fn is_of_rack(table: &GroupTable, rack: &Rack) -> bool
+    ensures table { IsTrue result → IsTableOf rack.now table.now }
+    ensures relays { IsTrue result → table.now.relays ≡ [] }
+{
+    table.data_columns() == rack.columns
+        && table.parity() == rack.parity
+        && table.stripes() == rack.stripes
+        && table.relays().is_empty()
+}
+
+/// The group of this number, started over a table and its archives.
+fn start_group(
+    alloc: Global,
+    rack: &Rack,
+    number: u8,
+    table: GroupTable,
+    shelves: Vec<Shelf<LossyArchive>>,
+) -> Result<Member<LossyArchive>, AllocError>
+    requires parity { rack.now.parity ≡ 1 }
+    ensures { IfOk result (λ m. IsGroupOf rack.now number (view_of meaning_in m.group)) }
+{
+    if !is_of_rack(&table, rack) || !are_homes(table.columns(), &shelves) {
+        return Err(AllocError);
+    }
+    match Group::start(alloc, number, table, shelves) {
+        Ok(group) => Ok(Member { group }),
+        Err(
+            StartRefused {
+                table: _,
+                shelves: _,
+            },
+        ) => Err(AllocError),
+    }
+}
+
+/// The groups of a rack, each started over its table and its archives.
+fn start_groups(
+    alloc: Global,
+    rack: &Rack,
+    tables: Vec<GroupTable>,
+    archives: Vec<Vec<Shelf<LossyArchive>>>,
+) -> Result<Vec<Member<LossyArchive>>, AllocError>
+    requires parity { rack.now.parity ≡ 1 }
+    ensures count { IfOk result (λ v. length v.items ≡ rack.now.groups) }
+    ensures groups { IfOk result (λ v. (n : ℕ) (m : _) → slice_get v.items n ≡ Some m → IsGroupOf rack.now n (view_of meaning_in m.group)) }
+{
+    let mut tables = tables.into_iter();
+    let mut archives = archives.into_iter();
+    let mut members = Vec::new(alloc);
+    for number in 0..rack.groups {
+        let Some(table) = tables.next() else {
+            return Err(AllocError);
+        };
+        let Some(shelves) = archives.next() else {
+            return Err(AllocError);
+        };
+        members.push(start_group(alloc, rack, number, table, shelves)?)?;
+    }
+    Ok(members)
+}
+
+/// A session that was opened.
+#[derive(Drop)]
+pub struct Session {
+    number: u32,
+    vault: Vault<LossyArchive>,
+    passes: Passes<LossyArchive>,
+    ghost rack: { IsRack vault.rack },
+    ghost parity: { vault.rack.parity ≡ 1 },
+    ghost count: { length vault.groups ≡ vault.rack.groups },
+    ghost ready: { AreReady vault.rack vault.groups passes.groups } by { Prim.hlevel props },
+    ghost index: { IsIndexReady vault.rack vault.groups vault.index passes.index } by { Prim.hlevel props },
+    ghost parts: { HasAllButKept passes.groups × HasAllParts passes.index },
+    ghost room: { (vault.members.items ≡ []) × (length vault.groups ≤ vec_capacity vault.members) × (vault.catalogs.items ≡ []) × (1 ≤ vec_capacity vault.catalogs) },
+}
+
+impl Session {
+    /// Stores a file as this job. It fails where the store is refused, and for want of memory.
+    pub fn store<R: Wait>(
+        &mut self,
+        rt: &R,
+        alloc: Global,
+        job: u32,
+        name: &Name,
+        file: &[u8],
+    ) -> Result<(), AllocError>
+        requires { 0 < job }
+    {
+        let pads = PadStream::new(&SEED, self.number, job);
+        match store_file(
+            rt,
+            alloc,
+            &self.vault,
+            &mut self.passes,
+            job,
+            name,
+            file,
+            pads,
+        ) {
+            Ok(_) => Ok(()),
+            Err(_) => Err(AllocError),
+        }
+    }
+
+    /// Fetches a file as this job. It fails where the fetch is refused, and for want of memory.
+    pub fn fetch<R: Wait>(
+        &mut self,
+        rt: &R,
+        alloc: Global,
+        job: u32,
+        name: &Name,
+    ) -> Result<Vec<u8>, AllocError>
+        requires { 0 < job }
+    {
+        match fetch_file(rt, alloc, &self.vault, &mut self.passes, job, name) {
+            Ok(bytes) => Ok(bytes),
+            Err(_) => Err(AllocError),
+        }
+    }
+
+    /// Ends the session. Its image is that of its close.
+    pub fn end(self, alloc: Global) -> Result<Desk, AllocError> {
+        let Session {
+            number,
+            vault,
+            passes,
+        } = self;
+        let mut left = Left::new(alloc, number, vault.rack);
+        let Closed { members, index } = vault.close(passes);
+        let IndexEnded { records, log } = index.end();
+        left.image.records = records;
+        left.image.index_log = log;
+        for Member { group } in members {
+            left.end_group(group)?;
+        }
+        left.keep(alloc)
+    }
+}
+
+/// What remains of a session, group by group.
+#[derive(Drop)]
+struct Left {
+    image: Image,
+    archives: Vec<Vec<Shelf<LossyArchive>>>,
+    puts: u32,
+    firsts: u32,
+}
+
+impl Left {
+    /// Nothing yet.
+    fn new(alloc: Global, session: u32, rack: Rack) -> Left {
+        Left {
+            image: Image {
+                session,
+                rack,
+                tables: Vec::new(alloc),
+                records: Vec::new(alloc),
+                group_logs: Vec::new(alloc),
+                index_log: Vec::new(alloc),
+            },
+            archives: Vec::new(alloc),
+            puts: 0,
+            firsts: 0,
+        }
+    }
+
+    /// Ends a group, and counts its puts.
+    fn end_group(&mut self, group: Group<LossyArchive>) -> Result<(), AllocError> {
+        let Ended {
+            table,
+            log,
+            shelves,
+        } = group.end();
+        for entry in &log {
+            self.count(entry);
+        }
+        self.image.tables.push(table)?;
+        self.image.group_logs.push(log)?;
+        self.archives.push(shelves)?;
+        Ok(())
+    }
+
+    /// Counts an entry that is a put.
+    fn count(&mut self, entry: &Entry) {
+        if let Entry::Put { column, .. } = entry {
+            self.puts = self.puts.saturating_add(1);
+            if *column == 0 {
+                self.firsts = self.firsts.saturating_add(1);
+            }
+        }
+    }
+
+    /// The desk on which it is kept.
+    fn keep(self, alloc: Global) -> Result<Desk, AllocError> {
+        let Left {
+            image,
+            archives,
+            puts,
+            firsts,
+        } = self;
+        if !image.is_countable() {
+            return Err(AllocError);
+        }
+        match write_image(alloc, &image) {
+            Ok(image) => Ok(Desk {
+                image,
+                archives,
+                puts,
+                firsts,
+            }),
+            Err(_) => Err(AllocError),
+        }
+    }
+}
