@@ -4,7 +4,7 @@
 //! machine comes to both.
 ghost use Rattle.std.specs.Prelude.{◌≡◌, ◌≤◌, ◌↔◌, IsTrue, IfOk};
 
-use crate::given::{FETCH, FILE, Given, Row, STORE, by_opening};
+use crate::given::{FETCH, FILE, Given, STORE, by_opening};
 use crate::report::{Beside, Report};
 use crate::rows::{SEED, zeros};
 use crate::sessions::{Desk, Session};
@@ -48,23 +48,23 @@ pub fn time_sessions<R: Clock + Wait + Print + Eprint>(
 ) -> io::Result<()> {
     let count = (u32::from(megabytes) * 10 / 8).clamp(1, 10);
     let files = files(alloc, count)?;
-    let mut row = Row::new(alloc)?;
+    let mut sums = Vec::new(alloc);
     let mut session = Desk::new(alloc)?.open(alloc)?;
-    let timed = store_files(rt, alloc, &mut session, &mut row, &files)?;
+    let timed = store_files(rt, alloc, &mut session, &mut sums, &files)?;
     let desk = session.end(alloc)?;
     let given = STORE.times(count, desk.put_digests()).bytes(files.len());
-    report.calls(rt, "store", &timed, given, &files, beside, desk.image())?;
+    report.calls(rt, "store", &timed, given, count, beside, desk.image())?;
     let given = by_opening(desk.live());
     let digested = given.bytes(desk.text().len());
-    let (mut session, timed) = open_desk(rt, alloc, desk, &mut row, &given)?;
-    let fetched = fetch_files(rt, alloc, &mut session, &mut row, &files)?;
+    let (mut session, timed) = open_desk(rt, alloc, desk, &mut sums, &given)?;
+    let fetched = fetch_files(rt, alloc, &mut session, &mut sums, &files)?;
     let desk = session.end(alloc)?;
-    report.calls(rt, "opening", &timed, digested, &files, beside, desk.image())?;
+    report.calls(rt, "opening", &timed, digested, count, beside, desk.image())?;
     let Fetched { timed, bytes, same } = fetched;
     let given = FETCH.times(count, count.saturating_mul(FETCH.blocks)).bytes(files.len());
-    report.calls(rt, "fetch", &timed, given, &files, beside, &bytes)?;
+    report.calls(rt, "fetch", &timed, given, count, beside, &bytes)?;
     report.same(rt, same)?;
-    report.sum(rt, "digest_of, sessions", row.bytes())
+    report.sum(rt, "digest_of, sessions", &sums)
 }
 
 /// The bytes of as many files.
@@ -85,15 +85,15 @@ fn name_of(job: u32) -> Result<Name, AllocError> {
     }
 }
 
-/// How long the digests alone take.
+/// How long the digests alone take, whose first bytes are added to the sums.
 fn time_digests(
     clock: &impl Clock,
-    row: &mut Row,
+    sums: &mut Vec<u8>,
     given: &Given,
     whole: &[u8],
 ) -> io::Result<f64> {
     let begun = Instant::now(clock)?;
-    row.digest(given, whole);
+    sums.extend_from_slice(&given.digest(whole))?;
     Ok(begun.elapsed(clock)?.as_secs_f64())
 }
 
@@ -102,7 +102,7 @@ fn store_files<R: Clock + Wait>(
     rt: &R,
     alloc: Global,
     session: &mut Session,
-    row: &mut Row,
+    sums: &mut Vec<u8>,
     files: &[u8],
 ) -> io::Result<Timed> {
     let mut timed = UNTIMED;
@@ -110,7 +110,7 @@ fn store_files<R: Clock + Wait>(
     for file in files.chunks(FILE) {
         job = job.saturating_add(1);
         let name = name_of(job)?;
-        timed.digests += time_digests(rt, row, &STORE, file)?;
+        timed.digests += time_digests(rt, sums, &STORE, file)?;
         let begun = Instant::now(rt)?;
         session.store(rt, alloc, job, &name, file)?;
         timed.seconds += begun.elapsed(rt)?.as_secs_f64();
@@ -123,10 +123,10 @@ fn open_desk(
     clock: &impl Clock,
     alloc: Global,
     desk: Desk,
-    row: &mut Row,
+    sums: &mut Vec<u8>,
     given: &Given,
 ) -> io::Result<(Session, Timed)> {
-    let digests = time_digests(clock, row, given, desk.text())?;
+    let digests = time_digests(clock, sums, given, desk.text())?;
     let begun = Instant::now(clock)?;
     let session = desk.open(alloc)?;
     let seconds = begun.elapsed(clock)?.as_secs_f64();
@@ -138,7 +138,7 @@ fn fetch_files<R: Clock + Wait>(
     rt: &R,
     alloc: Global,
     session: &mut Session,
-    row: &mut Row,
+    sums: &mut Vec<u8>,
     files: &[u8],
 ) -> io::Result<Fetched>
     ensures { IfOk result (λ f. IsTrue f.same ↔ f.bytes.items ≡ files.now) }
@@ -149,7 +149,7 @@ fn fetch_files<R: Clock + Wait>(
     for file in files.chunks(FILE) {
         job = job.saturating_add(1);
         let name = name_of(job)?;
-        timed.digests += time_digests(rt, row, &FETCH, file)?;
+        timed.digests += time_digests(rt, sums, &FETCH, file)?;
         let begun = Instant::now(rt)?;
         let fetched = session.fetch(rt, alloc, job, &name)?;
         timed.seconds += begun.elapsed(rt)?.as_secs_f64();

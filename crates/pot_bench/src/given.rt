@@ -1,11 +1,6 @@
 //! What SHA-256 is given by a store, a fetch and an opening, and the digests alone of as many bytes.
-ghost use Rattle.std.specs.Prelude.{◌≡◌, length};
-ghost use Rattle.pot_bench.specs.declared.rows.TheConstants.{ROW};
-
 use crate::kernels::digest_rounds;
-use crate::rows::{ROW, zeros};
 use pot_bytes::digest_of;
-use std::alloc::{AllocError, Global};
 
 /// The bytes of a file: 800 KB, in 949 pieces.
 pub const FILE: usize = 819_200;
@@ -61,40 +56,26 @@ impl Given {
     }
 
     /// How many bytes these are, with so many bytes of whole files or of the text of an image.
-    pub fn bytes(&self, whole: usize) -> u64 {
-        let blocks = u64::from(self.blocks) * 1_024 + u64::from(self.contents) * 960;
-        let others = u64::from(self.objects) * 896 + u64::from(self.records) * 34_211;
-        (blocks + others).saturating_add(whole as u64)
-    }
-}
-
-/// The row that digests alone go over.
-#[derive(Drop)]
-pub struct Row {
-    bytes: Vec<u8>,
-    ghost long: { length bytes.items ≡ ROW },
-}
-
-impl Row {
-    /// Zeros.
-    pub fn new(alloc: Global) -> Result<Row, AllocError> {
-        Ok(Row {
-            bytes: zeros(alloc, ROW)?,
-        })
+    pub fn bytes(&self, whole: usize) -> u32 {
+        u32::try_from(whole)
+            .unwrap_or(u32::MAX)
+            .saturating_add(self.blocks.saturating_mul(1_024))
+            .saturating_add(self.contents.saturating_mul(960))
+            .saturating_add(self.objects.saturating_mul(896))
+            .saturating_add(self.records.saturating_mul(34_211))
     }
 
-    /// Its bytes.
-    pub fn bytes(&self) -> &[u8] {
-        &self.bytes
-    }
-
-    /// Digests as many bytes in as many parts, and the whole file or text. Each time the first byte of the row becomes that of the
-    /// last digest.
-    pub fn digest(&mut self, given: &Given, whole: &[u8]) {
-        digest_rounds(&mut self.bytes[..1_024], given.blocks);
-        digest_rounds(&mut self.bytes[..960], given.contents);
-        digest_rounds(&mut self.bytes[..896], given.objects);
-        digest_rounds(&mut self.bytes[..RECORD], given.records);
-        self.bytes[0] = self.bytes[0] ^ digest_of(whole).bytes[0];
+    /// Digests as many bytes in as many parts, and the whole file or text: the first bytes of the last digest of each kind.
+    pub fn digest(&self, whole: &[u8]) -> [u8; 5] {
+        let mut block = [0; 1_024];
+        let mut content = [0; 960];
+        let mut object = [0; 896];
+        let mut record = [0; RECORD];
+        digest_rounds(&mut block, self.blocks);
+        digest_rounds(&mut content, self.contents);
+        digest_rounds(&mut object, self.objects);
+        digest_rounds(&mut record, self.records);
+        let digest = digest_of(whole);
+        [block[0], content[0], object[0], record[0], digest.bytes[0]]
     }
 }

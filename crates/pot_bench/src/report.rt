@@ -71,23 +71,23 @@ impl Report {
         println!(rt; "{name} {:016x}", checksum(bytes))
     }
 
-    /// Prints how fast calls of sessions were over all files, beside two loops of the same run; how many bytes SHA-256 was given by
+    /// Prints how fast calls of sessions were over so many files, beside two loops of the same run; how many bytes SHA-256 was given by
     /// them for each byte of file; and which part of their time the digests alone take.
     pub fn calls(
         &self,
         rt: &(impl Print + Eprint),
         name: &str,
         timed: &Timed,
-        given: u64,
-        files: &[u8],
+        given: u32,
+        files: u32,
         beside: &Beside,
         bytes: &[u8],
     ) -> io::Result<()> {
-        let count = files.len() as f64;
+        let count = f64::from(files) * 819_200.0;
         let speed = count / 1_048_576.0 / timed.seconds;
         let digests = beside.digest_of / speed;
         let shares = beside.share_out / speed;
-        let each = given as f64 / count;
+        let each = f64::from(given) / count;
         let part = timed.digests / timed.seconds;
         eprintln!(rt; "{name}: {speed:.2} MB/s, 1/{digests:.1} of digest_of, 1/{shares:.0} of share_out 2 of 3")?;
         eprintln!(rt; "{name}: {each:.2} bytes for SHA-256 a byte of file, its digests alone take {part:.2} of that time")?;
