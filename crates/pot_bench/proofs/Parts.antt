@@ -1,7 +1,7 @@
 -- What a job leaves of the parts of passes.
-use Rattle.std.proofs.Common.{◌≡◌, ◌<◌, ℕ, Bool, List, length, ap, sym, ◌∙◌, arith}
+use Rattle.std.proofs.Common.{Bool, List, length, ap, sym, ◌∙◌, arith}
 use Rattle.pot_turn.specs.declared.name.TurnName.{TurnName}
-use Rattle.pot_rows.specs.Rows.{PassRow, AreOf, HasMoreParts, view_at}
+use Rattle.pot_rows.specs.Rows.{PassRow, AreOf, HasMoreParts}
 use Rattle.pot_rows.specs.Ends.{HasAllParts}
 use Rattle.pot_rows.specs.Works.{RowWorked}
 use Rattle.pot_shared.specs.declared.member.Logged.{Logged}

@@ -61,7 +61,9 @@ pub fn time_sessions<R: Clock + Wait + Print + Eprint>(
     let desk = session.end(alloc)?;
     report.calls(rt, "opening", &timed, digested, count, beside, desk.image())?;
     let Fetched { timed, bytes, same } = fetched;
-    let given = FETCH.times(count, count.saturating_mul(FETCH.blocks)).bytes(files.len());
+    let given = FETCH
+        .times(count, count.saturating_mul(FETCH.blocks))
+        .bytes(files.len());
     report.calls(rt, "fetch", &timed, given, count, beside, &bytes)?;
     report.same(rt, same)?;
     report.sum(rt, "digest_of, sessions", &sums)

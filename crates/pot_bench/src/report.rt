@@ -89,8 +89,12 @@ impl Report {
         let shares = beside.share_out / speed;
         let each = f64::from(given) / count;
         let part = timed.digests / timed.seconds;
-        eprintln!(rt; "{name}: {speed:.2} MB/s, 1/{digests:.1} of digest_of, 1/{shares:.0} of share_out 2 of 3")?;
-        eprintln!(rt; "{name}: {each:.2} bytes for SHA-256 a byte of file, its digests alone take {part:.2} of that time")?;
+        eprintln!(rt;
+            "{name}: {speed:.2} MB/s, 1/{digests:.1} of digest_of, 1/{shares:.0} of share_out 2 of 3"
+        )?;
+        eprintln!(rt;
+            "{name}: {each:.2} bytes for SHA-256 a byte of file, its digests alone take {part:.2} of that time"
+        )?;
         println!(rt; "{name} {:016x}, {given} bytes digested", checksum(bytes))
     }
 

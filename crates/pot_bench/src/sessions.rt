@@ -100,14 +100,16 @@ impl Desk {
             puts: _,
             firsts: _,
         } = self;
-        let Ok(Image {
-            session,
-            rack,
-            tables,
-            records,
-            group_logs: _,
-            index_log: _,
-        }) = read_image(alloc, &image)
+        let Ok(
+            Image {
+                session,
+                rack,
+                tables,
+                records,
+                group_logs: _,
+                index_log: _,
+            },
+        ) = read_image(alloc, &image)
         else {
             return Err(AllocError);
         };
