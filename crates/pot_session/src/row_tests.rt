@@ -445,7 +445,10 @@ fn repairs_and_scrubs_a_group(rt: HostRuntime) -> Result<(), Fail> {
         let mut outside = Outside::new(alloc, None, &[], trouble)?;
         assert_eq!(rt; outside.call(&rt, alloc, NARROW, b"", NO_TROUBLE)?, 0);
         for (script, status) in *sessions {
-            assert_eq!(rt; outside.call(&rt, alloc, "run", script, NO_TROUBLE)?, *status);
+            assert_eq!(rt;
+                outside.call(&rt, alloc, "run", script, NO_TROUBLE)?,
+                *status
+            );
         }
         assert_eq!(rt; outside.sink.written(), *text);
     }
