@@ -26,6 +26,8 @@ mod making;
 mod opening;
 mod pairing;
 mod preparing;
+#[cfg(test)]
+mod recover_tests;
 mod recovering;
 mod refusing;
 #[cfg(test)]
