@@ -5,6 +5,7 @@ ghost use Rattle.std.specs.BTreeSet.{contains};
 use crate::archive::FileArchive;
 use crate::faults::count_fault;
 use crate::opening::{as_it_is, open_apart};
+use crate::progress::Progress;
 use pot_outside::{Archive, Failed, Room, RoomFault};
 use std::collections::BTreeSet;
 
@@ -17,6 +18,7 @@ pub struct Folder {
     rt: HostRuntime,
     out: BTreeSet<u32>,
     faults: u64,
+    progress: Progress,
 }
 
 impl Folder {
@@ -29,6 +31,7 @@ impl Folder {
             rt: *rt,
             out: BTreeSet::new(rt.alloc()),
             faults: 0,
+            progress: Progress::new(rt),
         }
     }
 }
@@ -62,6 +65,7 @@ impl Room for Folder {
     ghost faults = { λ f. f.faults };
 
     fn take(&mut self, number: u32) -> Result<FileArchive, RoomFault> {
+        self.progress.at(&self.rt, number);
         let archive = match open_archive(&self.rt, number) {
             Ok(archive) => archive,
             Err(RoomFault::NoMemory) => return Err(RoomFault::NoMemory),

@@ -20,6 +20,7 @@ mod faults;
 mod folder;
 mod gate;
 mod opening;
+mod progress;
 mod streams;
 #[cfg(test)]
 mod tests;
