@@ -99,3 +99,9 @@ pub next_bytes-moved : (seed : List ℕ) (session job place count : ℕ)
     → next_bytes (moved (pads_of seed session job) place) count ≡ bytes_from (stream seed session job) place count
 next_bytes-moved seed session job place count =
     bytes_from-repeats (key_of seed) (session * 2 ^ 32 + job) ((0 + place) % 2 ^ 70) place count (omega arith)
+
+-- three cuts one after another
+pub three_cuts : (p q r : Pads) (a b d : List ℕ) (i j k n : ℕ) → a ≡ next_bytes p i → q ≡ moved p i → b ≡ next_bytes q j → r ≡ moved q j
+    → d ≡ next_bytes r k → i + (j + k) ≡ n → a ++ (b ++ d) ≡ next_bytes p n
+three_cuts p q r a b d i j k n ea eq eb er ed en =
+    rw (ea, eb, ed, er, ← next_bytes-append q j k, eq, ← next_bytes-append p i (j + k), en) refl

@@ -11,12 +11,12 @@
 #[cfg(test)]
 mod tests;
 
-ghost use Rattle.std.specs.Prelude.{◌≡◌, ◌↔◌, ◌%◌, [], ◌∷◌, length, IsTrue};
+ghost use Rattle.std.specs.Prelude.{◌≡◌, ◌↔◌, ◌<◌, ◌%◌, [], ◌∷◌, length, IsTrue};
 ghost use Rattle.pot_pads.specs.Pads.{pads_of, next_bytes, moved, GivesThatMany, GivesBytes, CutsAnywhere, StepsAddUp, GoesOnFrom};
 
 use rand_chacha::ChaCha20Rng;
 use rand_core::SeedableRng;
-use rand_core::utils::NextWord;
+use rand_core::utils::{NextWord, fill_bytes_via_u32};
 use std::marker::Model;
 
 /// The laws of a stream, for those who cut it.
@@ -74,18 +74,39 @@ impl PadStream {
         ensures bytes { out.new ≡ next_bytes self.old (length out.old) }
         ensures place { self.new ≡ moved self.old (length out.old) }
     {
+        let (head, rest) = out.split_at_mut(self.left.min(out.len()));
+        self.fill_bytewise(head);
+        let whole = if self.is_between_words() {
+            rest.len() / 4 * 4
+        } else {
+            0
+        };
+        let (words, tail) = rest.split_at_mut(whole);
+        self.fill_words(words);
+        self.fill_bytewise(tail);
+    }
+
+    // Writes whole words.
+    fn fill_words(&mut self, out: &mut [u8])
+        requires whole { length out.old % 4 ≡ 0 }
+        requires between { 0 < length out.old → self.old.place % 4 ≡ 0 }
+        ensures bytes { out.new ≡ next_bytes self.old (length out.old) }
+        ensures place { self.new ≡ moved self.old (length out.old) }
+    {
+        fill_bytes_via_u32(&mut self.generator, out);
+    }
+
+    // Writes byte by byte.
+    fn fill_bytewise(&mut self, out: &mut [u8])
+        ensures bytes { out.new ≡ next_bytes self.old (length out.old) }
+        ensures place { self.new ≡ moved self.old (length out.old) }
+    {
         // A proof reads in a field that the place is below 2 ^ 70.
         let _ = &self.left;
         let mut at = 0;
         'bytes: while at < out.len() {
-            if out.len() - at >= 4 && self.is_between_words() {
-                let word = self.next_word();
-                out[at..at + 4].copy_from_slice(&word);
-                at += 4;
-            } else {
-                out[at] = self.next_byte();
-                at += 1;
-            }
+            out[at] = self.next_byte();
+            at += 1;
         }
     }
 
@@ -94,15 +115,6 @@ impl PadStream {
         ensures { IsTrue result ↔ (self.now.place % 4 ≡ 0) }
     {
         self.left == 0
-    }
-
-    // The next four bytes, which are one word.
-    fn next_word(&mut self) -> [u8; 4]
-        requires { self.old.place % 4 ≡ 0 }
-        ensures bytes { result ≡ next_bytes self.old 4 }
-        ensures place { self.new ≡ moved self.old 4 }
-    {
-        self.generator.next_word().to_le_bytes()
     }
 
     // The next byte of the stream.

@@ -1,7 +1,7 @@
 -- What was written so far are the next bytes of the stream, which stands after them.
 use Rattle.std.proofs.Common.{◌≡◌, ◌≤◌, ◌-◌, length, take}
 use Rattle.pot_pads.specs.Pads.{next_bytes, moved}
-use Rattle.pot_pads.proofs.PadStream.fill.Given as goal
+use Rattle.pot_pads.proofs.PadStream.fill_bytewise.Given as goal
 
 abbrev pub invariant-bytes : goal.invariant-bytes
 invariant-bytes l = record {
