@@ -73,7 +73,7 @@ mark_none f (x ∷ ns) (y ∷ ms) k none = elim (eqb_tells x k) [
 -- an archive at the end of the list, with its marks
 pub brings_one : {A : Type 0} (told : Type 0) (meaning : A → Meaning) (xs : List (Shelf A)) (ms : List Marks) (s : Shelf A) (m : Marks)
     → length xs ≡ length ms → (Contains (numbers_of xs) s.number → ⊥) → m.faults ≡ (meaning s.archive).faults → (told → m.losses ≡ (meaning s.archive).losses)
-    → Brings told s.number (meaning s.archive).held (meaning s.archive).heard (plain meaning (record { shelves = xs; marks = ms })) (plain meaning (record { shelves = xs ++ s ∷ []; marks = ms ++ m ∷ [] }))
+    → Brings told s.number (meaning s.archive) (plain meaning (record { shelves = xs; marks = ms })) (plain meaning (record { shelves = xs ++ s ∷ []; marks = ms ++ m ∷ [] }))
 brings_one told meaning xs ms s m l none mf ml =
     let all : numbers_of (xs ++ s ∷ []) ≡ numbers_of xs ++ s.number ∷ [] = map-append (λ s. s.number) xs (s ∷ []) in
     let lens : length (numbers_of xs) ≡ length ms = length-map xs (λ s. s.number) ∙ l in
@@ -81,6 +81,7 @@ brings_one told meaning xs ms s m l none mf ml =
       numbers = all;
       blocks = (λ slot. ap (given (λ x. (meaning x).held slot) None) (find_new xs s none));
       sums = ap (given (λ x. (meaning x).heard) []) (find_new xs s none);
+      counts = (ap (given (λ x. (meaning x).faults) 0) (find_new xs s none), ap (given (λ x. (meaning x).losses) 0) (find_new xs s none));
       marked = ap (λ ns. mark_of (λ m. m.faults) ns (ms ++ m ∷ []) s.number) all ∙ mark_new (λ m. m.faults) (numbers_of xs) ms s.number m lens none ∙ mf ∙ sym (ap (given (λ x. (meaning x).faults) 0) (find_new xs s none));
       marked_losses = (λ t. ap (λ ns. mark_of (λ m. m.losses) ns (ms ++ m ∷ []) s.number) all ∙ mark_new (λ m. m.losses) (numbers_of xs) ms s.number m lens none ∙ ml t ∙ sym (ap (given (λ x. (meaning x).losses) 0) (find_new xs s none)));
       absent = (
@@ -102,7 +103,7 @@ Contains-front [] ys n h = absurd (omega (arith, h.1))
 Contains-front (x ∷ xs) ys n (zero, l, e) = (zero, omega arith, e)
 Contains-front (x ∷ xs) ys n (suc k, l, e) = (let h : Contains (xs ++ ys) n = Contains-front xs ys n (k, omega (arith, l), e) in (suc h.0, omega (arith, h.1), h.2))
 
-module _ (told : Type 0) (g : GroupView) (number : ℕ) (held : ℕ → Option (List ℕ)) (heard : List (ℕ × List ℕ)) (s : Shelves) (settled : IsSettled told g) (fresh : Contains g.shelves.numbers number → ⊥) (b : Brings told number held heard g.shelves s) where
+module _ (told : Type 0) (g : GroupView) (number : ℕ) (meant : Meaning) (s : Shelves) (settled : IsSettled told g) (fresh : Contains g.shelves.numbers number → ⊥) (b : Brings told number meant g.shelves s) where
   -- no slot is served by it
   apart : (n k : ℕ) → k < width g.table → serving_at g.table n k ≢ number
   apart n k lk e = fresh (subst (λ m. Contains g.shelves.numbers m) e (served told g settled n k lk))

@@ -3,13 +3,16 @@ pub mod TouchLemmas
 pub mod CauseLemmas
 pub mod Counted
 pub mod OpeningStripe
+pub mod OpeningFills
 pub mod OpeningLogs
 pub mod OpeningColumns
 pub mod OpeningAll
 pub mod Settled
 pub mod Reading
+pub mod PutWrites
 pub mod Writing
 pub mod Passing
+pub mod ParityReads
 pub mod Placed
 pub mod LookSteps
 pub mod Opened

@@ -57,7 +57,7 @@ swap_legal told meaning old mid job c to settled column fresh e =
 -- An archive has come, and an entry is logged that leaves what is held at Live places.
 module _ {A : Type 0} (told : Type 0) (meaning : A → Meaning) (old mid new : GroupParts A) (shelf : Shelf A) (settled : IsSettled told (view_of meaning old)) (room : length old.log < log_bound)
     (fresh : Contains (plain meaning old.archives).numbers shelf.number → ⊥) (em : mid ≡ with_archives old mid.archives)
-    (brings : Brings told shelf.number (meaning shelf.archive).held (meaning shelf.archive).heard (plain meaning old.archives) (plain meaning mid.archives)) where
+    (brings : Brings told shelf.number (meaning shelf.archive) (plain meaning old.archives) (plain meaning mid.archives)) where
   came_by : (e : Entry) → Legal old.table e → ((h h' : Holdings) → OnlyLoses old.table h h' → Acts old.table old.flights [] e h h')
       → Comes told meaning e shelf (view_of meaning old) (view_of meaning (acted (with_archives old mid.archives) e []))
   came_by e legal acts = record {
@@ -76,7 +76,7 @@ module _ {A : Type 0} (told : Type 0) (meaning : A → Meaning) (old mid new : G
         now = (plain meaning mid.archives).held;
         lost = (λ n m b q. q);
         acts = acts (view_of meaning old).shelves.held (plain meaning mid.archives).held
-            (λ n k b ln lk live q. sym (held_same told (view_of meaning old) shelf.number (meaning shelf.archive).held (meaning shelf.archive).heard (plain meaning mid.archives) settled fresh brings n k lk) ∙ q);
+            (λ n k b ln lk live q. sym (held_same told (view_of meaning old) shelf.number (meaning shelf.archive) (plain meaning mid.archives) settled fresh brings n k lk) ∙ q);
         loses = (λ n m b q. q);
       };
       brings = record { blocks = brings.blocks; sums = brings.sums; others = brings.same_held; silent = brings.same_heard };
@@ -99,5 +99,5 @@ contains_last [] n = (0, omega arith, refl)
 contains_last (x ∷ xs) n = (let h : Contains (xs ++ n ∷ []) n = contains_last xs n in (suc h.0, omega (arith, h.1), h.2))
 
 pub came : {A : Type 0} (told : Type 0) (meaning : A → Meaning) (old b : Shelved A) (shelf : Shelf A)
-    → Brings told shelf.number (meaning shelf.archive).held (meaning shelf.archive).heard (plain meaning old) (plain meaning b) → Contains (plain meaning b).numbers shelf.number
+    → Brings told shelf.number (meaning shelf.archive) (plain meaning old) (plain meaning b) → Contains (plain meaning b).numbers shelf.number
 came told meaning old b shelf brings = subst (λ ns. Contains ns shelf.number) (sym brings.numbers) (contains_last (plain meaning old).numbers shelf.number)

@@ -1,7 +1,10 @@
 -- A stripe whose columns were read is opened, and the stripes one after the other.
-use Rattle.std.proofs.Common.{◌≡◌, ◌⊎◌, inl, inr, ℕ, suc, ◌+◌, ◌<◌, ◌≤◌, List, [], ◌∷◌, ◌++◌, Option, Some, None, Bool, true, false, Contains, nat_eq, refl, sym, ap, ap₂, ◌∙◌, subst, arith, append-nil, append_assoc}
+use Rattle.std.proofs.Common.{◌≡◌, ◌⊎◌, inl, inr, ℕ, suc, ◌+◌, ◌<◌, ◌≤◌, List, [], ◌∷◌, ◌++◌, Option, Some, None, Bool, true, false, Contains, nat_eq, refl, sym, ap, ap₂, ◌∙◌, subst, arith, append_assoc, ◌||◌}
+use Rattle.std.specs.Prelude.{IsTrue}
+use Rattle.std.proofs.lemmas.Bool.{cases_lt}
+use Rattle.std.proofs.lemmas.Bool.Decides.{nat_tests}
 use Rattle.pot_machine.proofs.Cases.{last_or}
-use Rattle.pot_bytes.specs.declared.digest.Digest.{Digest}
+use Rattle.pot_machine.proofs.Places.{slot_other}
 use Rattle.pot_machine.specs.declared.slot.SlotState.{SlotState}
 use Rattle.pot_machine.specs.declared.slot.SlotState.TheVariants.{Void, Live, Lost, Broken}
 use Rattle.pot_machine.specs.declared.entry.Entry.{Entry}
@@ -12,167 +15,142 @@ use Rattle.pot_machine.specs.Table.{Table, width, slot_at, column_at, serving_at
 use Rattle.pot_machine.specs.Machine.{Replays, Legal, after, TakesBroke}
 use Rattle.pot_machine.specs.Rules.{IsTable}
 use Rattle.pot_machine.proofs.Logs.{replays_append}
-use Rattle.pot_steps.specs.Stripe.{Stripe, Sound, digest_of}
+use Rattle.pot_steps.specs.Stripe.{Stripe, Sound}
 use Rattle.pot_steps.specs.Holdings.{stripe_of}
 use Rattle.pot_steps.specs.GroupStep.{FindsGone, Breaks, Spared, as_read, entries_where, opening}
 use Rattle.pot_group.specs.declared.opening.Shortage.{Shortage}
-use Rattle.pot_group.specs.declared.opening.Shortage.TheVariants.{Nothing, One, More}
+use Rattle.pot_group.specs.declared.filling.Breaking.{Breaking}
+use Rattle.pot_group.specs.declared.filling.Breaking.TheVariants as breaking
 use Rattle.pot_group.specs.Shelves.{Shelves}
-use Rattle.pot_group.specs.Opening.{HasArchives, FailedSo, ChangesStripe, OpensColumns, OpensStripe, Opens, IsBroken, IsShort, IsSum, IsWell, failures, failures_at}
+use Rattle.pot_group.specs.Opening.{HasArchives, FailedSo, ChangesStripe, OpensColumns, OpensStripe, Opens, failures, failures_at}
+use Rattle.pot_group.specs.Filling.{IsBroken, breaks_at}
 use Rattle.pot_group.proofs.ShelfLemmas.{stays_refl, stays_then}
-use Rattle.pot_group.proofs.OpeningStripe.{reading, sound_same, find_moved, breaks_moved, whole_spared, whole_breaks, but_spared, but_breaks, more_spared, void_sums}
-use Rattle.pot_group.proofs.OpeningLogs.{with_at, at_here, at_below, entries_none, entries_one, opening_begin, opening_more, failures_more}
-use Rattle.pot_group.proofs.OpeningColumns.{failed_none, failed_then, changes_then, changes_slot, sound_before}
+use Rattle.pot_group.proofs.OpeningStripe.{reading, sound_same, find_moved, breaks_moved}
+use Rattle.pot_group.proofs.OpeningFills.{IsOrdered, outcome, takes_broke}
+use Rattle.pot_group.proofs.OpeningLogs.{with_at, at_here, at_below, entries_none, entries_one, entries_two, opening_begin, opening_more, failures_more}
+use Rattle.pot_group.proofs.OpeningColumns.{failed_none, failed_then, changes_none, changes_then, changes_slot, sound_before}
 
 -- ONE STRIPE
 
-module _ (told : Type 0) (s : ℕ) (t u : Table) (before mid : List Entry) (shortage : Shortage) (sum : List ℕ) (a b : Shelves)
-    (one : t.parity ≡ 1) (o : OpensColumns told (width t) s t u before mid shortage sum a b) where
+-- the entries of the slots that break
+abbrev pub broke_entries : ℕ → Breaking → List Entry
+broke_entries s breaking.Nothing = []
+broke_entries s (breaking.One c) = Broke 0 s c ∷ []
+broke_entries s (breaking.Both c k) = Broke 0 s c ∷ Broke 0 s k ∷ []
+
+-- the slots that change
+module _ (s : ℕ) (u v : Table) where
+  changes_one : (c : ℕ) → c < width u → v ≡ after u (Broke 0 s c) → ChangesStripe s u v
+  changes_one c lc e = changes_slot s c u v (broken_of (slot_at u s c)) lc e
+
+changes_broke : (s : ℕ) (u v : Table) (b : Breaking) → Replays u (broke_entries s b) v → ChangesStripe s u v
+changes_broke s u v breaking.Nothing r = subst (λ v. ChangesStripe s u v) (sym r) (changes_none s u)
+changes_broke s u v (breaking.One c) r = changes_one s u v c r.0.1.1 r.1
+changes_broke s u v (breaking.Both c k) r =
+    changes_then s u (after u (Broke 0 s c)) v (changes_one s u (after u (Broke 0 s c)) c r.0.1.1 refl) (changes_one s (after u (Broke 0 s c)) v k r.1.0.1.1 r.1.1)
+
+module _ (told : Type 0) (s : ℕ) (t u : Table) (before mid : List Entry) (shortage : Shortage) (p q : List ℕ) (a b : Shelves)
+    (rules : IsTable t) (inside : s < t.stripes) (o : OpensColumns told (width t) s t u before mid shortage p q a b) where
   abbrev was_read : Stripe
   was_read = as_read t (λ _ c. o.read c) s
 
-  wide : width t ≡ suc t.data_columns
-  wide = omega arith
+  stripes_stay : u.stripes ≡ t.stripes
+  stripes_stay = ap {A = Table} (λ x. x.stripes) o.changes.shape
 
-  lives : (c : ℕ) (d : List ℕ) → c < suc t.data_columns → was_read.held c ≡ Some d → was_read.slots c ≡ Live (digest_of d)
-  lives c d lt e = o.lives c d (let w : width t ≡ suc t.data_columns = wide in omega arith) e
+  same_wide : width u ≡ width t
+  same_wide = ap width o.changes.shape
 
-  adds : IsSum (suc t.data_columns) o.read sum
-  adds = subst (λ n. IsSum n o.read sum) wide o.adds
-
-  short : IsShort (suc t.data_columns) was_read shortage
-  short = subst (λ n. IsShort n was_read shortage) wide o.short
-
-  -- where none breaks
-  module _ (spared : Spared t.data_columns t.parity was_read (λ c. false)) where
-    none_more : entries_where (width t) o.gone (Gone 0 s) ++ entries_where (width t) (λ c. false) (Broke 0 s) ≡ entries_where (width t) o.gone (Gone 0 s)
-    none_more =
-        ap (λ xs. entries_where (width t) o.gone (Gone 0 s) ++ xs) (entries_none (width t) (λ c. false) (Broke 0 s) (λ k l. refl)) ∙ append-nil (entries_where (width t) o.gone (Gone 0 s))
-
-    stripe_spared : OpensStripe told s t u before mid a b
-    stripe_spared = record {
-      read = o.read;
-      gone = o.gone;
-      broke = λ c. false;
-      failed = o.failed;
-      missing = o.missing;
-      reads = o.reads;
-      finds = o.finds;
-      breaks = inr spared;
-      log = o.log ∙ ap (λ xs. before ++ xs) (sym none_more);
-      replay = subst (λ xs. Replays t xs u) (sym none_more) o.replay;
-      few = o.few;
-      changes = o.changes;
-      stays = o.stays;
-    }
-
-  -- where one does
-  module _ (v : Table) (now : List Entry) (c : ℕ) (lt : c < width t) (breaks : Breaks t.data_columns t.parity was_read (λ k. nat_eq k c)) (legal : Legal u (Broke 0 s c))
-      (changed : v ≡ after u (Broke 0 s c)) (logged : now ≡ mid ++ Broke 0 s c ∷ []) where
-    one_more : entries_where (width t) o.gone (Gone 0 s) ++ entries_where (width t) (λ k. nat_eq k c) (Broke 0 s) ≡ entries_where (width t) o.gone (Gone 0 s) ++ Broke 0 s c ∷ []
-    one_more = ap (λ xs. entries_where (width t) o.gone (Gone 0 s) ++ xs) (entries_one (width t) c (Broke 0 s) lt)
-
-    replayed : Replays t (entries_where (width t) o.gone (Gone 0 s) ++ Broke 0 s c ∷ []) v
-    replayed = replays_append t (entries_where (width t) o.gone (Gone 0 s)) u (Broke 0 s c ∷ []) v o.replay (legal, changed)
-
-    stripe_breaks : OpensStripe told s t v before now a b
-    stripe_breaks = record {
-      read = o.read;
-      gone = o.gone;
-      broke = λ k. nat_eq k c;
-      failed = o.failed;
-      missing = o.missing;
-      reads = o.reads;
-      finds = o.finds;
-      breaks = inl breaks;
-      log = logged ∙ ap (λ xs. xs ++ Broke 0 s c ∷ []) o.log ∙ append_assoc before (entries_where (width t) o.gone (Gone 0 s)) (Broke 0 s c ∷ []) ∙ ap (λ xs. before ++ xs) (sym one_more);
-      replay = subst (λ xs. Replays t xs v) (sym one_more) replayed;
-      few = o.few;
-      changes = changes_then s t u v o.changes (changes_slot s c u v (broken_of (slot_at u s c)) (let e : width u ≡ width t = ap width o.changes.shape in omega arith) changed);
-      stays = o.stays;
-    }
-
--- the parity slot of a stripe of which all blocks were read is Live, unless all slots are Void
-module _ (t : Table) (s : ℕ) (rules : IsTable t) (one : t.parity ≡ 1) (inside : s < t.stripes) where
   void_is : (x : SlotState) → is_void x ≡ true → x ≡ Void
   void_is Void e = refl
   void_is (Live d) e = absurd (cc)
   void_is (Lost d) e = absurd (cc)
   void_is (Broken d) e = absurd (cc)
 
-  all_void : slot_at t s t.data_columns ≡ Void → (c : ℕ) → c < suc t.data_columns → slot_at t s c ≡ Void
-  all_void e c lt = elim (last_or c t.data_columns lt) [
-    | inl q ↦ ap (λ k. slot_at t s k) q ∙ e
-    | inr l ↦ void_is (slot_at t s c) (rules.voids.first s 0 c inside (omega arith) l
-        (sym (rules.voids.parity s t.data_columns inside (omega arith) (omega arith)) ∙ ap is_void e))
-  ]
+  -- where a parity slot is Void every slot is
+  all_void : (c : ℕ) → c < width t → t.data_columns ≤ c → slot_at t s c ≡ Void → (k : ℕ) → k < width t → slot_at t s k ≡ Void
+  all_void c lc le e k lk =
+      let first : is_void (slot_at t s 0) ≡ true = sym (rules.voids.parity s c inside le lc) ∙ ap is_void e in
+      elim (cases_lt k t.data_columns) [
+        | inl l ↦ void_is (slot_at t s k) (rules.voids.first s 0 k inside (omega arith) l first)
+        | inr g ↦ void_is (slot_at t s k) (rules.voids.parity s k inside g lk ∙ first)
+      ]
 
--- WHICH SLOT BREAKS
+  module _ (x : Breaking) (broken : IsBroken t.data_columns t.parity shortage p q x) where
+    abbrev Ends : Type 0
+    Ends = IsOrdered t.data_columns t.parity x × (Breaks t.data_columns t.parity was_read (breaks_at x) ⊎ Spared t.data_columns t.parity was_read (breaks_at x))
 
-module _ (told : Type 0) (s : ℕ) (t u : Table) (before mid : List Entry) (sum : List ℕ) (a b : Shelves)
-    (one : t.parity ≡ 1) (rules : IsTable t) (inside : s < t.stripes) where
-  abbrev Reads : Shortage → Type 0
-  Reads shortage = OpensColumns told (width t) s t u before mid shortage sum a b
+    ends : Ends
+    ends = outcome t.data_columns t.parity rules.size.data_columns.1 rules.size.parity.0 rules.size.parity.1 was_read p q o.lives o.adds shortage x o.short broken
 
-  small : t.data_columns ≤ 16
-  small = rules.size.data_columns.1
+    -- a slot that breaks is Live or Lost
+    takes : (c : ℕ) → c < width t → breaks_at x c ≡ true → TakesBroke t s c
+    takes c lc e = elim ends.1 [
+      | inl w ↦ takes_broke t.data_columns t.parity was_read (breaks_at x) w all_void c lc e
+      | inr w ↦ absurd (no (sym (w.none c lc) ∙ e))
+    ]
+      where
+        no : false ≡ true → ⊥
+        no e = cc
 
-  -- the entry of the slot that breaks is legal
-  pub legal_broke : (shortage : Shortage) (c : ℕ) → Reads shortage → IsBroken t.data_columns shortage sum (Some c) → (c < width t) × Legal u (Broke 0 s c)
-  legal_broke shortage c o w =
-      let p : (c < width t) × TakesBroke t s c = takes shortage o w in
-      let stripes : u.stripes ≡ t.stripes = ap {A = Table} (λ x. x.stripes) o.changes.shape in
-      let columns : width u ≡ width t = ap width o.changes.shape in
-      let l : c < width t = p.0 in
-      (l, (refl, (omega arith, omega arith), o.takes c p.0 p.1))
+    legal_at : (c : ℕ) → c < width t → breaks_at x c ≡ true → Legal u (Broke 0 s c)
+    legal_at c lc e = (refl, (omega (arith, inside, stripes_stay), omega (arith, lc, same_wide)), o.takes c lc (takes c lc e))
+
+    entries : entries_where (width t) (breaks_at x) (Broke 0 s) ≡ broke_entries s x
+    entries = by_kind x ends.0
+      where
+        by_kind : (x : Breaking) → IsOrdered t.data_columns t.parity x → entries_where (width t) (breaks_at x) (Broke 0 s) ≡ broke_entries s x
+        by_kind breaking.Nothing l = entries_none (width t) (λ c. false) (Broke 0 s) (λ k l. refl)
+        by_kind (breaking.One c) l = entries_one (width t) c (Broke 0 s) l
+        by_kind (breaking.Both c k) l = entries_two (width t) c k (Broke 0 s) l.0 l.1
+
+    -- the stripe with the entries of its slots that break
+    pub opens_as : (v : Table) (now : List Entry) → Replays u (broke_entries s x) v → now ≡ mid ++ broke_entries s x → OpensStripe told s t v before now a b
+    opens_as v now replay logged = record {
+      read = o.read;
+      gone = o.gone;
+      broke = breaks_at x;
+      failed = o.failed;
+      missing = o.missing;
+      reads = o.reads;
+      finds = o.finds;
+      breaks = ends.1;
+      log = logged ∙ ap (λ xs. xs ++ broke_entries s x) o.log ∙ append_assoc before (entries_where (width t) o.gone (Gone 0 s)) (broke_entries s x)
+          ∙ ap (λ xs. before ++ (entries_where (width t) o.gone (Gone 0 s) ++ xs)) (sym entries);
+      replay = subst (λ xs. Replays t (entries_where (width t) o.gone (Gone 0 s) ++ xs) v) (sym entries)
+          (replays_append t (entries_where (width t) o.gone (Gone 0 s)) u (broke_entries s x) v o.replay replay);
+      few = o.few;
+      changes = changes_then s t u v o.changes (changes_broke s u v x replay);
+      stays = o.stays;
+    }
+
+  -- LEGAL ENTRIES
+
+  pub legal_one : (c : ℕ) → IsBroken t.data_columns t.parity shortage p q (breaking.One c) → Legal u (Broke 0 s c)
+  legal_one c w = legal_at (breaking.One c) w c (ends (breaking.One c) w).0 (equal c)
     where
-      well_taken : (k : ℕ) (r : Stripe) → r.slots k ≡ slot_at t s k → IsWell r k → (slot_at t s k ≡ Void → ⊥) → TakesBroke t s k
-      well_taken k r e (inl v) n = absurd (n (sym e ∙ v))
-      well_taken k r e (inr x) n = inl (ap is_live (sym e ∙ x.1.live))
+      equal : (c : ℕ) → nat_eq c c ≡ true
+      equal c = grind (arith, nat_tests)
 
-      taken : (k : ℕ) (d : Digest) → (slot_at t s k ≡ Live d) ⊎ (slot_at t s k ≡ Lost d) → TakesBroke t s k
-      taken k d (inl l) = inl (ap is_live l)
-      taken k d (inr l) = inr (ap is_lost l)
+  pub legal_first : (c k : ℕ) → IsBroken t.data_columns t.parity shortage p q (breaking.Both c k) → Legal u (Broke 0 s c)
+  legal_first c k w =
+      let l : (c < k) × (k < width t) = (ends (breaking.Both c k) w).0 in
+      legal_at (breaking.Both c k) w c (omega (arith, l.0, l.1)) (here c k)
+    where
+      here : (c k : ℕ) → nat_eq c c || nat_eq c k ≡ true
+      here c k = grind (arith, nat_tests)
 
-      takes : (shortage : Shortage) → Reads shortage → IsBroken t.data_columns shortage sum (Some c) → (c < width t) × TakesBroke t s c
-      takes Nothing o w = (
-        (let e : c ≡ t.data_columns = w.0 in omega arith),
-        subst (λ k. TakesBroke t s k) (sym w.0)
-            (well_taken t.data_columns (was_read told s t u before mid Nothing sum a b one o) refl (o.short t.data_columns (omega arith))
-            (λ e. w.1 (void_sums t.data_columns (was_read told s t u before mid Nothing sum a b one o) sum small
-            (lives told s t u before mid Nothing sum a b one o) (adds told s t u before mid Nothing sum a b one o) (all_void t s rules one inside e)))),
+  pub legal_second : (c k : ℕ) → IsBroken t.data_columns t.parity shortage p q (breaking.Both c k) → Legal (after u (Broke 0 s c)) (Broke 0 s k)
+  legal_second c k w =
+      let l : (c < k) × (k < width t) = (ends (breaking.Both c k) w).0 in
+      let x : Legal u (Broke 0 s k) = legal_at (breaking.Both c k) w k l.1 (there c k) in (
+        refl,
+        x.1,
+        subst (λ z. IsTrue (is_live z) ⊎ IsTrue (is_lost z))
+            (sym (slot_other u s c s k (broken_of (slot_at u s c)) (omega (arith, l.0, l.1, same_wide)) x.1.1 (λ e. absurd (omega (arith, l.0, e.1))))) x.2,
       )
-      takes (One k d) o w = ((let e : c ≡ k = w.0 in let l : k < width t = o.short.0 in omega arith), subst (λ k. TakesBroke t s k) (sym w.0) (taken k d o.short.1))
-      takes More o w = absurd w
-
-  pub opens_spared : (shortage : Shortage) → Reads shortage → IsBroken t.data_columns shortage sum None → OpensStripe told s t u before mid a b
-  opens_spared shortage o w =
-      stripe_spared told s t u before mid shortage sum a b one o
-      (subst (λ m. Spared t.data_columns m (was_read told s t u before mid shortage sum a b one o) (λ c. false)) (sym one) (spares shortage o w))
     where
-      spares : (shortage : Shortage) (o : Reads shortage) → IsBroken t.data_columns shortage sum None → Spared t.data_columns 1 (was_read told s t u before mid shortage sum a b one o) (λ c. false)
-      spares Nothing o w = whole_spared t.data_columns (was_read told s t u before mid Nothing sum a b one o) sum small
-          (lives told s t u before mid Nothing sum a b one o) (adds told s t u before mid Nothing sum a b one o) (short told s t u before mid Nothing sum a b one o) w
-      spares (One k d) o w = but_spared t.data_columns (was_read told s t u before mid (One k d) sum a b one o) sum small
-          (lives told s t u before mid (One k d) sum a b one o) (adds told s t u before mid (One k d) sum a b one o) k d (short told s t u before mid (One k d) sum a b one o) w
-      spares More o w = more_spared t.data_columns (was_read told s t u before mid More sum a b one o) sum small
-          (lives told s t u before mid More sum a b one o) (adds told s t u before mid More sum a b one o) (short told s t u before mid More sum a b one o)
-
-  pub opens_breaks : (shortage : Shortage) (v : Table) (now : List Entry) (c : ℕ) → Reads shortage → IsBroken t.data_columns shortage sum (Some c)
-      → v ≡ after u (Broke 0 s c) → now ≡ mid ++ Broke 0 s c ∷ [] → OpensStripe told s t v before now a b
-  opens_breaks shortage v now c o w changed logged =
-      let l : (c < width t) × Legal u (Broke 0 s c) = legal_broke shortage c o w in
-      stripe_breaks told s t u before mid shortage sum a b one o v now c l.0
-      (subst (λ m. Breaks t.data_columns m (was_read told s t u before mid shortage sum a b one o) (λ k. nat_eq k c)) (sym one) (breaks shortage o w)) l.1 changed logged
-    where
-      breaks : (shortage : Shortage) (o : Reads shortage) → IsBroken t.data_columns shortage sum (Some c) → Breaks t.data_columns 1 (was_read told s t u before mid shortage sum a b one o) (λ k. nat_eq k c)
-      breaks Nothing o w = subst (λ m. Breaks t.data_columns 1 (was_read told s t u before mid Nothing sum a b one o) (λ k. nat_eq k m)) (sym w.0)
-          (whole_breaks t.data_columns (was_read told s t u before mid Nothing sum a b one o) sum small
-          (lives told s t u before mid Nothing sum a b one o) (adds told s t u before mid Nothing sum a b one o) (short told s t u before mid Nothing sum a b one o) w.1)
-      breaks (One k d) o w = subst (λ m. Breaks t.data_columns 1 (was_read told s t u before mid (One k d) sum a b one o) (λ k. nat_eq k m)) (sym w.0)
-          (but_breaks t.data_columns (was_read told s t u before mid (One k d) sum a b one o) sum small
-          (lives told s t u before mid (One k d) sum a b one o) (adds told s t u before mid (One k d) sum a b one o) k d (short told s t u before mid (One k d) sum a b one o) w.1)
-      breaks More o w = absurd w
+      there : (c k : ℕ) → nat_eq k c || nat_eq k k ≡ true
+      there c k = grind (arith, nat_tests)
 
 -- ALL STRIPES
 

@@ -21,9 +21,9 @@ use Rattle.pot_group.specs.declared.opening.Part.TheVariants as part
 use Rattle.pot_group.specs.declared.opening.Shortage.{Shortage}
 use Rattle.pot_group.specs.declared.opening.Shortage.TheVariants.{Nothing}
 use Rattle.pot_group.specs.Shelves.{Shelves, Stays}
-use Rattle.pot_group.specs.Opening.{HasArchives, FailedSo, ChangesStripe, IsPart, block_of, is_missing, gone_entry, OpensSlot, OpensColumns, short_by, sum_by}
+use Rattle.pot_group.specs.Opening.{HasArchives, FailedSo, ChangesStripe, IsPart, block_of, is_missing, gone_entry, OpensSlot, OpensColumns, short_by, first_by, second_by}
 use Rattle.pot_group.proofs.ShelfLemmas.{stays_refl, stays_then}
-use Rattle.pot_group.proofs.OpeningStripe.{sound_same, find_more, short_more, lives_more, sum_more, sum_none}
+use Rattle.pot_group.proofs.OpeningStripe.{sound_same, find_more, short_more, lives_more, sums_more, sums_none}
 use Rattle.pot_group.proofs.OpeningLogs.{with_at, at_here, at_below, entries_begin, entries_more, entries_length, count_begin, count_more}
 
 -- WHAT THE ARCHIVES DO MEANWHILE
@@ -87,7 +87,7 @@ took s c t u false lc r = subst (λ u. Took s c t u) (sym r) record {
 
 -- THE COLUMNS
 
-pub columns_none : (told : Type 0) (s : ℕ) (t : Table) (before : List Entry) (a : Shelves) → OpensColumns told 0 s t t before before Nothing zero_block a a
+pub columns_none : (told : Type 0) (s : ℕ) (t : Table) (before : List Entry) (a : Shelves) → OpensColumns told 0 s t t before before Nothing zero_block zero_block a a
 columns_none told s t before a = record {
   read = λ c. None;
   gone = λ c. false;
@@ -97,7 +97,7 @@ columns_none told s t before a = record {
   lives = λ c b lt. absurd (omega arith);
   finds = record { found = λ c lt. absurd (omega arith); left = λ c lt. absurd (omega arith) };
   short = λ c lt. absurd (omega arith);
-  adds = sum_none (λ c. None);
+  adds = sums_none t.data_columns t.parity (λ c. None);
   log = sym (ap (λ xs. before ++ xs) (entries_begin (λ c. false) (Gone 0 s)) ∙ append-nil before);
   replay = subst (λ xs. Replays t xs t) (sym (entries_begin (λ c. false) (Gone 0 s))) refl;
   few = λ number. subst (λ m. FailedSo a a number m) (sym (count_begin (λ c. false && (serving_at t s c == number)))) (failed_none told a a number (stays_refl told a));
@@ -108,25 +108,26 @@ columns_none told s t before a = record {
 }
 
 -- the log grew by an entry a column at most
-pub columns_length : (told : Type 0) (n s : ℕ) (t u : Table) (before mid : List Entry) (shortage : Shortage) (sum : List ℕ) (a b : Shelves)
-    → OpensColumns told n s t u before mid shortage sum a b → length mid ≤ length before + n
-columns_length told n s t u before mid shortage sum a b o =
+pub columns_length : (told : Type 0) (n s : ℕ) (t u : Table) (before mid : List Entry) (shortage : Shortage) (first second : List ℕ) (a b : Shelves)
+    → OpensColumns told n s t u before mid shortage first second a b → length mid ≤ length before + n
+columns_length told n s t u before mid shortage first second a b o =
     let e : length mid ≡ length before + length (entries_where n o.gone (Gone 0 s)) = ap length o.log ∙ length-append before (entries_where n o.gone (Gone 0 s)) in
     let l : length (entries_where n o.gone (Gone 0 s)) ≤ n = entries_length n o.gone (Gone 0 s) in
     omega arith
 
 -- the archive that serves a slot of the table now
-pub columns_served : (told : Type 0) (n s : ℕ) (t u : Table) (before mid : List Entry) (shortage : Shortage) (sum : List ℕ) (a b : Shelves)
-    → OpensColumns told n s t u before mid shortage sum a b → HasArchives t a.numbers → (c : ℕ) → c < width t → Contains b.numbers (serving_at u s c)
-columns_served told n s t u before mid shortage sum a b o h c lt =
+pub columns_served : (told : Type 0) (n s : ℕ) (t u : Table) (before mid : List Entry) (shortage : Shortage) (first second : List ℕ) (a b : Shelves)
+    → OpensColumns told n s t u before mid shortage first second a b → HasArchives t a.numbers → (c : ℕ) → c < width t → Contains b.numbers (serving_at u s c)
+columns_served told n s t u before mid shortage first second a b o h c lt =
     subst (λ m. Contains b.numbers m) (sym (served s t u o.changes s c)) (subst (λ ns. Contains ns (serving_at t s c)) (sym o.stays.keeps.numbers) (h c (serving_at t s c) lt (names_serving (column_at t c) s)))
 
 -- a slot that is sound now was sound before blocks were lost
 pub sound_before : (told : Type 0) (t : Table) (s c : ℕ) (a b : Shelves) → Stays told a b → told → Sound (stripe_of t b.held s) c → Sound (stripe_of t a.held s) c
 sound_before told t s c a b h z x = (x.0, record { digest = x.1.digest; live = x.1.live; held = (h.loses z (serving_at t s c)).keeps s x.0 x.1.held; right = x.1.right })
 
-module _ (told : Type 0) (n s : ℕ) (t u v : Table) (before mid now : List Entry) (shortage : Shortage) (sum : List ℕ) (p : Part) (into : List ℕ) (a b c : Shelves)
-    (lt : n < width t) (o : OpensColumns told n s t u before mid shortage sum a b) (x : OpensSlot told s n u v mid now p into b c) where
+module _ (told : Type 0) (n s : ℕ) (t u v : Table) (before mid now : List Entry) (shortage : Shortage) (first second first' second' : List ℕ) (p : Part) (into : List ℕ) (a b c : Shelves)
+    (lt : n < width t) (o : OpensColumns told n s t u before mid shortage first second a b) (x : OpensSlot told s n u v mid now p into b c)
+    (first_is : first' ≡ first_by t.data_columns n p first into) (second_is : t.parity ≡ 2 → second' ≡ second_by t.data_columns n p second into) where
   same_width : width u ≡ width t
   same_width = ap width o.changes.shape
 
@@ -184,7 +185,7 @@ module _ (told : Type 0) (n s : ℕ) (t u v : Table) (before mid now : List Entr
           (λ k l. ap (λ b. b && (serving_at t s k == number)) (at_below n o.failed x.failed k l))
           (ap₂ (λ b m. b && (m == number)) (at_here n o.failed x.failed) (sym (served s t u o.changes s n)))
 
-  pub columns_more : OpensColumns told (suc n) s t v before now (short_by shortage n p) (sum_by p sum into) a c
+  pub columns_more : OpensColumns told (suc n) s t v before now (short_by shortage n p) first' second' a c
   columns_more = record {
     read = read';
     gone = gone';
@@ -195,7 +196,7 @@ module _ (told : Type 0) (n s : ℕ) (t u v : Table) (before mid now : List Entr
     finds = find_more (λ k. slot_at t s k) n o.read read' (at_below n o.read (block_of into p)) into p is_here (at_here n o.read (block_of into p)) o.gone gone'
         (at_below n o.gone x.gone) (at_here n o.gone x.gone ∙ x.found ∙ ap (λ z. is_live z && is_missing p) slot_same) o.finds;
     short = short_more (λ k. slot_at t s k) n o.read read' (at_below n o.read (block_of into p)) into p is_here (at_here n o.read (block_of into p)) shortage o.short;
-    adds = sum_more (λ k. slot_at t s k) n o.read read' (at_below n o.read (block_of into p)) into p is_here (at_here n o.read (block_of into p)) sum o.adds;
+    adds = sums_more (λ k. slot_at t s k) n o.read read' (at_below n o.read (block_of into p)) into p is_here (at_here n o.read (block_of into p)) t.data_columns t.parity first second first' second' first_is second_is o.adds;
     log = x.log ∙ ap (λ xs. xs ++ gone_entry x.gone s n) o.log ∙ append_assoc before (entries_where n o.gone (Gone 0 s)) (gone_entry x.gone s n) ∙ ap (λ xs. before ++ xs) (sym entries);
     replay = subst (λ xs. Replays t xs v) (sym entries) (replays_append t (entries_where n o.gone (Gone 0 s)) u (gone_entry x.gone s n) v o.replay x.replay);
     few = few';

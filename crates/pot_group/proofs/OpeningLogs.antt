@@ -1,5 +1,5 @@
 -- Functions with one value more, and what is made of their first values.
-use Rattle.std.proofs.Common.{◌≡◌, ◌≢◌, inl, inr, ℕ, zero, suc, ◌+◌, ◌<◌, ◌≤◌, [], ◌∷◌, ◌++◌, length, Bool, true, false, nat_eq, refl, sym, ap, ap₂, ◌∙◌, arith, length-append, if◌then◌else◌}
+use Rattle.std.proofs.Common.{◌≡◌, ◌≢◌, inl, inr, ℕ, zero, suc, ◌+◌, ◌<◌, ◌≤◌, [], ◌∷◌, ◌++◌, length, Bool, true, false, nat_eq, refl, sym, ap, ap₂, ◌∙◌, arith, length-append, ◌||◌, if◌then◌else◌}
 use Rattle.std.proofs.lemmas.Bool.Decides.{nat_tests, eqb_tells}
 use Rattle.pot_machine.specs.declared.entry.Entry.{Entry}
 use Rattle.pot_machine.specs.declared.entry.Entry.TheVariants.{Gone, Broke}
@@ -66,6 +66,25 @@ entries_one (suc n) u make lt = elim (last_or u n lt) [
 
     equal : (k u : ℕ) → k ≡ u → nat_eq k u ≡ true
     equal k u e = grind (arith, nat_tests)
+
+pub entries_two : (n u k : ℕ) (make : ℕ → Entry) → u < k → k < n → entries_where n (λ c. nat_eq c u || nat_eq c k) make ≡ make u ∷ make k ∷ []
+unfolding entries_where
+entries_two zero u k make l lt = absurd (omega arith)
+entries_two (suc n) u k make l lt = elim (last_or k n lt) [
+  | inl e ↦ ap₂ (λ xs b. xs ++ (if b then make n ∷ [] else []))
+      (entries_same n (λ c. nat_eq c u) (λ c. nat_eq c u || nat_eq c k) make (λ c lc. below c u k (omega arith)) ∙ entries_one n u make (omega arith)) (last n u k (sym e))
+      ∙ ap (λ z. make u ∷ make z ∷ []) (sym e)
+  | inr m ↦ ap₂ (λ xs b. xs ++ (if b then make n ∷ [] else [])) (entries_two n u k make l m) (neither n u k (omega arith) (omega arith))
+]
+  where
+    below : (c u k : ℕ) → c ≢ k → (nat_eq c u || nat_eq c k) ≡ nat_eq c u
+    below c u k ne = grind (arith, nat_tests)
+
+    last : (c u k : ℕ) → c ≡ k → (nat_eq c u || nat_eq c k) ≡ true
+    last c u k e = grind (arith, nat_tests)
+
+    neither : (c u k : ℕ) → c ≢ u → c ≢ k → (nat_eq c u || nat_eq c k) ≡ false
+    neither c u k nu nk = grind (arith, nat_tests)
 
 -- THE ENTRIES OF ALL STRIPES
 

@@ -1,30 +1,31 @@
 -- What the blocks that were read of one stripe say of it. Nothing here knows a table or an archive.
-use Rattle.std.proofs.Common.{◌≡◌, ◌≢◌, ◌⊎◌, inl, inr, ◌↔◌, ℕ, zero, suc, ◌+◌, ◌<◌, ◌≤◌, List, Option, Some, None, Bool, true, false, ◌&&◌, IsTrue, nat_eq, get_or, bit_xor, refl, sym, ap, ◌∙◌, subst, arith, if◌then◌else◌}
-use Rattle.std.proofs.lemmas.Bool.Decides.{nat_tests, eqb_tells}
+use Rattle.std.proofs.Common.{◌≡◌, ◌≢◌, ◌⊎◌, inl, inr, ℕ, suc, ◌+◌, ◌<◌, List, Option, Some, None, Bool, true, false, ◌&&◌, IsTrue, get_or, bit_xor, refl, sym, ap, ◌∙◌, subst, arith, if◌then◌else◌}
+use Rattle.std.specs.Prelude.{nat_le}
 use Rattle.std.specs.Int.Bits.{xor_zero_r}
 use Rattle.pot_bytes.specs.declared.digest.Digest.{Digest}
 use Rattle.pot_bytes.specs.Totals.{total}
-use Rattle.pot_bytes.specs.Sums.{zero_block}
-use Rattle.pot_bytes.proofs.TotalLemmas.{total_same, total_zero}
-use Rattle.pot_bytes.proofs.WeightedLemmas.{get_or-xor}
+use Rattle.pot_bytes.specs.Product.{byte_product}
+use Rattle.pot_bytes.specs.Sums.{xor, zero_block}
+use Rattle.pot_bytes.specs.Weighted.{scaled}
+use Rattle.pot_bytes.proofs.ProductLemmas.{byte_product-zero_left, byte_product-zero_right, byte_product-one_left}
+use Rattle.pot_bytes.proofs.TotalLemmas.{total_same}
+use Rattle.pot_bytes.proofs.WeightedLemmas.{get_or-xor, get_or-scaled}
 use Rattle.pot_machine.specs.declared.slot.SlotState.{SlotState}
 use Rattle.pot_machine.specs.declared.slot.SlotState.TheVariants.{Void, Live, Lost, Broken}
 use Rattle.pot_machine.specs.Slot.{digest_in, is_live}
-use Rattle.pot_machine.specs.Table.{count}
+use Rattle.pot_machine.proofs.Cases.{not_both, last_or}
 use Rattle.pot_bytes.specs.Lists.{IsBlock}
-use Rattle.pot_steps.specs.Stripe.{Stripe, IsSound, Sound, NoneBroken, HasFilling, digest_of}
-use Rattle.pot_steps.specs.Law.{IsRead, FindsUnsound, FewUnsound}
+use Rattle.pot_steps.specs.Equations.{p_weight, q_weight}
+use Rattle.pot_steps.specs.Stripe.{Stripe, Sound, HasFilling, digest_of}
+use Rattle.pot_steps.specs.Law.{FindsUnsound}
 use Rattle.pot_steps.specs.GroupStep.{FindsGone, Breaks, Spared}
-use Rattle.pot_steps.proofs.Single.{single_whole, single_but}
-use Rattle.pot_steps.proofs.BlockLemmas.{IsBlock-zero_block, IsBlock-xor, get_or-zero_block, same_blocks}
-use Rattle.pot_steps.proofs.PutLaw.{count-zero}
+use Rattle.pot_steps.proofs.BlockLemmas.{IsBlock-zero_block, IsBlock-xor, IsBlock-scaled, get_or-zero_block}
 use Rattle.pot_steps.proofs.Steps.{filling_stays}
 use Rattle.pot_group.specs.declared.opening.Part.{Part}
 use Rattle.pot_group.specs.declared.opening.Part.TheVariants as part
 use Rattle.pot_group.specs.declared.opening.Shortage.{Shortage}
-use Rattle.pot_group.specs.declared.opening.Shortage.TheVariants.{Nothing, One, More}
-use Rattle.pot_group.specs.Opening.{IsPart, block_of, is_missing, short_one, short_by, sum_by, or_zeros, IsWell, IsUnwell, IsShort, IsSum}
-use Rattle.pot_machine.proofs.Cases.{same_or, not_both, last_or}
+use Rattle.pot_group.specs.declared.opening.Shortage.TheVariants.{Nothing, One, Two, More}
+use Rattle.pot_group.specs.Opening.{IsPart, block_of, is_missing, short_one, short_by, first_by, second_by, or_zeros, IsWell, IsUnwell, IsAbsent, IsShort, IsSum, AreSums}
 
 -- the stripe with these slots, of which these blocks were read
 abbrev pub reading : (ℕ → SlotState) → (ℕ → Option (List ℕ)) → Stripe
@@ -85,6 +86,14 @@ total_step : (n : ℕ) (f : ℕ → ℕ) → total (suc n) f ≡ bit_xor (total 
 unfolding total
 total_step n f = refl
 
+p_weight_one : (data_columns c : ℕ) → nat_le c data_columns ≡ true → p_weight data_columns c ≡ 1
+unfolding p_weight
+p_weight_one data_columns c e = ap (λ b. if b then 1 else 0) e
+
+p_weight_none : (data_columns c : ℕ) → nat_le c data_columns ≡ false → p_weight data_columns c ≡ 0
+unfolding p_weight
+p_weight_none data_columns c e = ap (λ b. if b then 1 else 0) e
+
 -- ONE SLOT
 
 module _ (s : Stripe) (c : ℕ) (into : List ℕ) where
@@ -105,51 +114,66 @@ module _ (s : Stripe) (c : ℕ) (into : List ℕ) where
   part_left (part.Missing d) is last h live = absurd (not_both (and_both (is_live (s.slots c)) true live refl) h)
   part_left part.Broken is last h live = absurd (false_true (sym (ap is_live is.1) ∙ live))
 
-  missing_unwell : (d : Digest) → IsPart (s.slots c) into (part.Missing d) → s.held c ≡ None → IsUnwell s c
-  missing_unwell d is last = (not_void is, not_sound s c last)
-    where
-      not_void : (s.slots c ≡ Live d) ⊎ (s.slots c ≡ Lost d) → s.slots c ≢ Void
-      not_void (inl l) e = void_live (sym e ∙ l)
-      not_void (inr l) e = void_lost (sym e ∙ l)
-
 -- ONE COLUMN MORE
 
 module _ (n : ℕ) (s : Stripe) (well : (c : ℕ) → c < n → IsWell s c) (last : IsWell s n) where
   all_well : (c : ℕ) → c < suc n → IsWell s c
   all_well c lt = elim (last_or c n lt) [ inl e ↦ subst (λ k. IsWell s k) (sym e) last | inr l ↦ well c l ]
 
+taken_unvoid : (x : SlotState) (d : Digest) → (x ≡ Live d) ⊎ (x ≡ Lost d) → x ≢ Void
+taken_unvoid x d (inl l) v = void_live (sym v ∙ l)
+taken_unvoid x d (inr l) v = void_lost (sym v ∙ l)
+
+-- a slot that gave no block is unwell
+pub absent_unwell : (s : Stripe) (c : ℕ) (d : Digest) → IsAbsent s c d → IsUnwell s c
+absent_unwell s c d a = (taken_unvoid (s.slots c) d a.0, a.1)
+
+absent_same : (s s' : Stripe) (c : ℕ) (d : Digest) → s'.slots c ≡ s.slots c → s'.held c ≡ s.held c → IsAbsent s c d → IsAbsent s' c d
+absent_same s s' c d e h a = (elim a.0 [ inl l ↦ inl (e ∙ l) | inr l ↦ inr (e ∙ l) ], λ y. a.1 (sound_same s' s c (sym e) (sym h) y))
+
 short_same : (n : ℕ) (s s' : Stripe) → ((k : ℕ) → s'.slots k ≡ s.slots k) → ((k : ℕ) → k < n → s'.held k ≡ s.held k) → (shortage : Shortage) → IsShort n s shortage → IsShort n s' shortage
 short_same n s s' e h Nothing x = λ c lt. well_same s s' c (e c) (h c lt) (x c lt)
-short_same n s s' e h (One u d) x = (
+short_same n s s' e h (One u d) x = (x.0, absent_same s s' u d (e u) (h u x.0) x.1, λ c lt ne. well_same s s' c (e c) (h c lt) (x.2 c lt ne))
+short_same n s s' e h (Two u d k f) x = (
   x.0,
-  elim x.1 [ inl l ↦ inl (e u ∙ l) | inr l ↦ inr (e u ∙ l) ],
-  λ y. x.2 (sound_same s' s u (sym (e u)) (sym (h u x.0)) y),
-  λ c lt ne. well_same s s' c (e c) (h c lt) (x.3 c lt ne),
+  x.1,
+  absent_same s s' u d (e u) (h u (omega (arith, x.0, x.1))) x.2,
+  absent_same s s' k f (e k) (h k x.1) x.3,
+  λ c lt nu nk. well_same s s' c (e c) (h c lt) (x.4 c lt nu nk),
 )
 short_same n s s' e h More (inl b) = inl (b.0, b.1, b.2, e b.0 ∙ b.3)
-short_same n s s' e h More (inr b) = inr (b.0, b.1, b.2, b.3, unwell_same s s' b.0 (e b.0) (h b.0 (omega arith)) b.4, unwell_same s s' b.1 (e b.1) (h b.1 (omega arith)) b.5)
+short_same n s s' e h More (inr (c, j, k, cj, jk, lt, uc, uj, uk)) = inr (
+  c,
+  j,
+  k,
+  cj,
+  jk,
+  lt,
+  unwell_same s s' c (e c) (h c (omega (arith, cj, jk, lt))) uc,
+  unwell_same s s' j (e j) (h j (omega (arith, jk, lt))) uj,
+  unwell_same s s' k (e k) (h k lt) uk,
+)
 
 module _ (n : ℕ) (s : Stripe) where
   short_well : (shortage : Shortage) → IsWell s n → IsShort n s shortage → IsShort (suc n) s shortage
   short_well Nothing w x = all_well n s x w
-  short_well (One u d) w x = (omega arith, x.1, x.2, λ c lt ne. elim (last_or c n lt) [ inl e ↦ subst (λ k. IsWell s k) (sym e) w | inr l ↦ x.3 c l ne ])
-  short_well More w (inl b) = inl (b.0, b.1, omega arith, b.3)
-  short_well More w (inr b) = inr (b.0, b.1, b.2, omega arith, b.4, b.5)
+  short_well (One u d) w x = (omega (arith, x.0), x.1, λ c lt ne. elim (last_or c n lt) [ inl e ↦ subst (λ k. IsWell s k) (sym e) w | inr l ↦ x.2 c l ne ])
+  short_well (Two u d k e) w x =
+      (x.0, omega (arith, x.1), x.2, x.3, λ c lt nu nk. elim (last_or c n lt) [ inl e ↦ subst (λ k. IsWell s k) (sym e) w | inr l ↦ x.4 c l nu nk ])
+  short_well More w (inl b) = inl (b.0, b.1, omega (arith, b.2), b.3)
+  short_well More w (inr (c, j, k, cj, jk, lt, uc, uj, uk)) = inr (c, j, k, cj, jk, omega (arith, lt), uc, uj, uk)
 
-  short_unwell : (shortage : Shortage) (d : Digest) → (s.slots n ≡ Live d) ⊎ (s.slots n ≡ Lost d) → IsUnwell s n → IsShort n s shortage → IsShort (suc n) s (short_one shortage n d)
-  short_unwell Nothing d is w x = (omega arith, is, w.1, λ c lt ne. elim (last_or c n lt) [ inl e ↦ absurd (ne e) | inr l ↦ x c l ])
-  short_unwell (One u e) d is w x = inr (u, n, x.0, omega arith, (one_unwell x.1, x.2), w)
-    where
-      one_unwell : (s.slots u ≡ Live e) ⊎ (s.slots u ≡ Lost e) → s.slots u ≢ Void
-      one_unwell (inl l) v = void_live (sym v ∙ l)
-      one_unwell (inr l) v = void_lost (sym v ∙ l)
-  short_unwell More d is w (inl b) = inl (b.0, b.1, omega arith, b.3)
-  short_unwell More d is w (inr b) = inr (b.0, b.1, b.2, omega arith, b.4, b.5)
+  short_absent : (shortage : Shortage) (d : Digest) → IsAbsent s n d → IsShort n s shortage → IsShort (suc n) s (short_one shortage n d)
+  short_absent Nothing d a x = (omega arith, a, λ c lt ne. elim (last_or c n lt) [ inl e ↦ absurd (ne e) | inr l ↦ x c l ])
+  short_absent (One u e) d a x = (x.0, omega arith, x.1, a, λ c lt nu nn. elim (last_or c n lt) [ inl e ↦ absurd (nn e) | inr l ↦ x.2 c l nu ])
+  short_absent (Two u e k f) d a x = inr (u, k, n, x.0, x.1, omega arith, absent_unwell s u e x.2, absent_unwell s k f x.3, absent_unwell s n d a)
+  short_absent More d a (inl b) = inl (b.0, b.1, omega (arith, b.2), b.3)
+  short_absent More d a (inr (c, j, k, cj, jk, lt, uc, uj, uk)) = inr (c, j, k, cj, jk, omega (arith, lt), uc, uj, uk)
 
   short_part : (shortage : Shortage) (into : List ℕ) (p : Part) → IsPart (s.slots n) into p → s.held n ≡ block_of into p → IsShort n s shortage → IsShort (suc n) s (short_by shortage n p)
   short_part shortage into part.Empty is last x = short_well shortage (inl is) x
   short_part shortage into part.Present is last x = short_well shortage (inr (present_sound s n into is last)) x
-  short_part shortage into (part.Missing d) is last x = short_unwell shortage d is (missing_unwell s n into d is last) x
+  short_part shortage into (part.Missing d) is last x = short_absent shortage d (is, not_sound s n last) x
   short_part shortage into part.Broken is last x = inl (n, is.0, omega arith, is.1)
 
 module _ (slots : ℕ → SlotState) (n : ℕ) (read read' : ℕ → Option (List ℕ)) (same : (k : ℕ) → k < n → read' k ≡ read k) (into : List ℕ) (p : Part)
@@ -185,46 +209,85 @@ module _ (slots : ℕ → SlotState) (n : ℕ) (read read' : ℕ → Option (Lis
       lives_last (part.Missing d) is last b e = absurd (none_some (sym last ∙ e))
       lives_last part.Broken is last b e = absurd (none_some (sym last ∙ e))
 
-  pub sum_more : (sum : List ℕ) → IsSum n read sum → IsSum (suc n) read' (sum_by p sum into)
-  sum_more sum x = record {
-    block = block_last p is;
+  -- a weighted sum grows by the block of the last column
+  sum_more : (w : ℕ → ℕ) (sum sum' : List ℕ) → IsBlock sum' → ((k : ℕ) → get_or sum' k 0 ≡ bit_xor (get_or sum k 0) (byte_product (w n) (get_or (or_zeros (block_of into p)) k 0)))
+      → IsSum n w read sum → IsSum (suc n) w read' sum'
+  sum_more w sum sum' block grows x = record {
+    block = block;
+    bytes = λ k. grows k ∙ ap (λ z. bit_xor z (byte_product (w n) (get_or (or_zeros (block_of into p)) k 0))) (x.bytes k ∙ total_same n _ _ (λ c l. ap (λ o. byte_product (w c) (get_or (or_zeros o) k 0)) (sym (same c l))))
+        ∙ ap (λ o. bit_xor (total n (λ c. byte_product (w c) (get_or (or_zeros (read' c)) k 0))) (byte_product (w n) (get_or (or_zeros o) k 0))) (sym last)
+        ∙ sym (total_step n (λ c. byte_product (w c) (get_or (or_zeros (read' c)) k 0)));
+  }
+
+  -- where the last column gave no block nothing is added
+  nothing : (w : ℕ) (sum : List ℕ) (k : ℕ) → get_or sum k 0 ≡ bit_xor (get_or sum k 0) (byte_product w (get_or zero_block k 0))
+  nothing w sum k = sym (ap (bit_xor (get_or sum k 0)) (ap (byte_product w) (get_or-zero_block k) ∙ byte_product-zero_right w) ∙ xor_zero_r (get_or sum k 0))
+
+  module _ (data_columns : ℕ) (sum : List ℕ) (block : IsBlock sum) where
+    first_block : (b : Bool) → IsBlock into → IsBlock (if b then xor sum into else sum)
+    first_block true i = IsBlock-xor sum into block i
+    first_block false i = block
+
+    first_bytes : (b : Bool) (w : ℕ) → IsBlock into → (b ≡ true → w ≡ 1) → (b ≡ false → w ≡ 0) → (k : ℕ) → get_or (if b then xor sum into else sum) k 0 ≡ bit_xor (get_or sum k 0) (byte_product w (get_or into k 0))
+    first_bytes true w i one none k =
+        get_or-xor sum into k (block.size ∙ sym i.size) ∙ ap (bit_xor (get_or sum k 0)) (sym (ap (λ z. byte_product z (get_or into k 0)) (one refl) ∙ byte_product-one_left (get_or into k 0) (i.bytes k)))
+    first_bytes false w i one none k =
+        sym (ap (bit_xor (get_or sum k 0)) (ap (λ z. byte_product z (get_or into k 0)) (none refl) ∙ byte_product-zero_left (get_or into k 0)) ∙ xor_zero_r (get_or sum k 0))
+
+  first_more : (data_columns : ℕ) (sum : List ℕ) → IsSum n (p_weight data_columns) read sum → IsSum (suc n) (p_weight data_columns) read' (first_by data_columns n p sum into)
+  first_more data_columns sum x = sum_more (p_weight data_columns) sum (first_by data_columns n p sum into) (grown_block p is) (grown p is) x
+    where
+      grown_block : (p : Part) → IsPart (slots n) into p → IsBlock (first_by data_columns n p sum into)
+      grown_block part.Empty is = x.block
+      grown_block part.Present is = first_block data_columns sum x.block (nat_le n data_columns) is.1
+      grown_block (part.Missing d) is = x.block
+      grown_block part.Broken is = x.block
+
+      grown : (p : Part) → IsPart (slots n) into p → (k : ℕ) → get_or (first_by data_columns n p sum into) k 0 ≡ bit_xor (get_or sum k 0) (byte_product (p_weight data_columns n) (get_or (or_zeros (block_of into p)) k 0))
+      grown part.Empty is k = nothing (p_weight data_columns n) sum k
+      grown part.Present is k = first_bytes data_columns sum x.block (nat_le n data_columns) (p_weight data_columns n) is.1 (p_weight_one data_columns n) (p_weight_none data_columns n) k
+      grown (part.Missing d) is k = nothing (p_weight data_columns n) sum k
+      grown part.Broken is k = nothing (p_weight data_columns n) sum k
+
+  second_more : (data_columns : ℕ) (sum : List ℕ) → IsSum n (q_weight data_columns) read sum → IsSum (suc n) (q_weight data_columns) read' (second_by data_columns n p sum into)
+  second_more data_columns sum x = sum_more (q_weight data_columns) sum (second_by data_columns n p sum into) (grown_block p is) (grown p is) x
+    where
+      grown_block : (p : Part) → IsPart (slots n) into p → IsBlock (second_by data_columns n p sum into)
+      grown_block part.Empty is = x.block
+      grown_block part.Present is = IsBlock-xor sum (scaled (q_weight data_columns n) into) x.block (IsBlock-scaled (q_weight data_columns n) into is.1)
+      grown_block (part.Missing d) is = x.block
+      grown_block part.Broken is = x.block
+
+      grown : (p : Part) → IsPart (slots n) into p → (k : ℕ) → get_or (second_by data_columns n p sum into) k 0 ≡ bit_xor (get_or sum k 0) (byte_product (q_weight data_columns n) (get_or (or_zeros (block_of into p)) k 0))
+      grown part.Empty is k = nothing (q_weight data_columns n) sum k
+      grown part.Present is k =
+          get_or-xor sum (scaled (q_weight data_columns n) into) k (x.block.size ∙ sym (IsBlock-scaled (q_weight data_columns n) into is.1).size) ∙ ap (bit_xor (get_or sum k 0)) (get_or-scaled (q_weight data_columns n) into k)
+      grown (part.Missing d) is k = nothing (q_weight data_columns n) sum k
+      grown part.Broken is k = nothing (q_weight data_columns n) sum k
+
+  pub sums_more : (data_columns parity : ℕ) (first second first' second' : List ℕ) → first' ≡ first_by data_columns n p first into → (parity ≡ 2 → second' ≡ second_by data_columns n p second into)
+      → AreSums data_columns parity n read first second → AreSums data_columns parity (suc n) read' first' second'
+  sums_more data_columns parity first second first' second' f g x = record {
     blocks = λ c lt. elim (last_or c n lt) [
-      | inl e ↦ subst (λ k. IsBlock (or_zeros (read' k))) (sym e) (subst (λ o. IsBlock (or_zeros o)) (sym last) (blocks_last p is))
+      | inl e ↦ subst (λ k. IsBlock (or_zeros (read' k))) (sym e) (subst (λ o. IsBlock (or_zeros o)) (sym last) (last_block p is))
       | inr l ↦ subst (λ o. IsBlock (or_zeros o)) (sym (same c l)) (x.blocks c l)
     ];
-    bytes = λ k. bytes_last p is k ∙ grown k;
+    first = subst (λ s. IsSum (suc n) (p_weight data_columns) read' s) (sym f) (first_more data_columns first x.first);
+    second = λ two. subst (λ s. IsSum (suc n) (q_weight data_columns) read' s) (sym (g two)) (second_more data_columns second (x.second two));
   }
     where
-      block_last : (p : Part) → IsPart (slots n) into p → IsBlock (sum_by p sum into)
-      block_last part.Empty is = x.block
-      block_last part.Present is = IsBlock-xor sum into x.block is.1
-      block_last (part.Missing d) is = x.block
-      block_last part.Broken is = x.block
+      last_block : (p : Part) → IsPart (slots n) into p → IsBlock (or_zeros (block_of into p))
+      last_block part.Empty is = IsBlock-zero_block
+      last_block part.Present is = is.1
+      last_block (part.Missing d) is = IsBlock-zero_block
+      last_block part.Broken is = IsBlock-zero_block
 
-      blocks_last : (p : Part) → IsPart (slots n) into p → IsBlock (or_zeros (block_of into p))
-      blocks_last part.Empty is = IsBlock-zero_block
-      blocks_last part.Present is = is.1
-      blocks_last (part.Missing d) is = IsBlock-zero_block
-      blocks_last part.Broken is = IsBlock-zero_block
-
-      nothing : (k : ℕ) → get_or sum k 0 ≡ bit_xor (get_or sum k 0) (get_or zero_block k 0)
-      nothing k = sym (ap (bit_xor (get_or sum k 0)) (get_or-zero_block k) ∙ xor_zero_r (get_or sum k 0))
-
-      bytes_last : (p : Part) → IsPart (slots n) into p → (k : ℕ) → get_or (sum_by p sum into) k 0 ≡ bit_xor (get_or sum k 0) (get_or (or_zeros (block_of into p)) k 0)
-      bytes_last part.Empty is k = nothing k
-      bytes_last part.Present is k = get_or-xor sum into k (x.block.size ∙ sym is.1.size)
-      bytes_last (part.Missing d) is k = nothing k
-      bytes_last part.Broken is k = nothing k
-
-      grown : (k : ℕ) → bit_xor (get_or sum k 0) (get_or (or_zeros (block_of into p)) k 0) ≡ total (suc n) (λ c. get_or (or_zeros (read' c)) k 0)
-      grown k =
-          ap (λ z. bit_xor z (get_or (or_zeros (block_of into p)) k 0)) (x.bytes k ∙ total_same n _ _ (λ c l. ap (λ o. get_or (or_zeros o) k 0) (sym (same c l))))
-          ∙ ap (λ o. bit_xor (total n (λ c. get_or (or_zeros (read' c)) k 0)) (get_or (or_zeros o) k 0)) (sym last)
-          ∙ sym (total_step n (λ c. get_or (or_zeros (read' c)) k 0))
-
-pub sum_none : (read : ℕ → Option (List ℕ)) → IsSum 0 read zero_block
+sum_none : (w : ℕ → ℕ) (read : ℕ → Option (List ℕ)) → IsSum 0 w read zero_block
 unfolding total
-sum_none read = record { block = IsBlock-zero_block; blocks = λ c lt. absurd (omega arith); bytes = λ k. get_or-zero_block k }
+sum_none w read = record { block = IsBlock-zero_block; bytes = λ k. get_or-zero_block k }
+
+pub sums_none : (data_columns parity : ℕ) (read : ℕ → Option (List ℕ)) → AreSums data_columns parity 0 read zero_block zero_block
+sums_none data_columns parity read = record { blocks = λ c lt. absurd (omega arith); first = sum_none (p_weight data_columns) read; second = λ two. sum_none (q_weight data_columns) read }
 
 -- THE SAME STRIPE IN ANOTHER TABLE
 
@@ -295,160 +358,3 @@ module _ (data_columns parity : ℕ) (slots slots' : ℕ → SlotState) (read : 
       → Breaks data_columns parity (reading slots' read) test ⊎ Spared data_columns parity (reading slots' read) test
   breaks_moved test (inl b) = inl (breaks_there test b)
   breaks_moved test (inr b) = inr (spared_there test b)
-
--- WHAT A STRIPE WITH ONE PARITY COLUMN COMES TO
-
-well_unbroken : (s : Stripe) (c : ℕ) (d : Digest) → IsWell s c → s.slots c ≢ Broken d
-well_unbroken s c d (inl v) e = void_broken (sym v ∙ e)
-well_unbroken s c d (inr x) e = live_broken (sym x.1.live ∙ e)
-
-taken_unbroken : (x : SlotState) (d e : Digest) → (x ≡ Live d) ⊎ (x ≡ Lost d) → x ≢ Broken e
-taken_unbroken x d e (inl l) b = live_broken (sym l ∙ b)
-taken_unbroken x d e (inr l) b = lost_broken (sym l ∙ b)
-
-taken_unvoid : (x : SlotState) (d : Digest) → (x ≡ Live d) ⊎ (x ≡ Lost d) → x ≢ Void
-taken_unvoid x d (inl l) v = void_live (sym v ∙ l)
-taken_unvoid x d (inr l) v = void_lost (sym v ∙ l)
-
-taken_digest : (x : SlotState) (d : Digest) → (x ≡ Live d) ⊎ (x ≡ Lost d) → digest_in x ≡ Some d
-taken_digest x d (inl l) = ap digest_in l
-taken_digest x d (inr l) = ap digest_in l
-
-well_not_unwell : (s : Stripe) (c : ℕ) → IsWell s c → IsUnwell s c → ⊥
-well_not_unwell s c (inl v) u = u.0 v
-well_not_unwell s c (inr x) u = u.1 x
-
-eq_true : (c u : ℕ) → nat_eq c u ≡ true → c ≡ u
-eq_true c u h = grind (arith, nat_tests)
-
-true_eq : (c u : ℕ) → c ≡ u → nat_eq c u ≡ true
-true_eq c u h = grind (arith, nat_tests)
-
-count_step : (n : ℕ) (f : ℕ → Bool) → count (suc n) f ≡ count n f + (if f n then 1 else 0)
-unfolding count
-count_step n f = refl
-
--- a test that is true at one number at most
-count_one : (n u : ℕ) → count n (λ c. nat_eq c u) ≤ 1
-unfolding count
-count_one zero u = omega arith
-count_one (suc n) u = elim (same_or n u) [
-  | inl e ↦ rw (count-zero n (λ c. nat_eq c u) (λ c l. (let ne : c ≢ u = omega arith in eq_false c u ne)), true_eq n u e) (omega arith)
-  | inr ne ↦ rw (eq_false n u ne) (let ih : count n (λ c. nat_eq c u) ≤ 1 = count_one n u in omega arith)
-]
-  where
-    eq_false : (c u : ℕ) → c ≢ u → nat_eq c u ≡ false
-    eq_false c u h = grind (arith, nat_tests)
-
--- and one that is true at one number
-count_some : (n : ℕ) (f : ℕ → Bool) (c : ℕ) → c < n → f c ≡ true → 1 ≤ count n f
-unfolding count
-count_some zero f c lt h = absurd (omega arith)
-count_some (suc n) f c lt h = elim (last_or c n lt) [
-  | inl e ↦ rw (sym (ap f e) ∙ h) (omega arith)
-  | inr l ↦ (let ih : 1 ≤ count n f = count_some n f c l h in omega arith)
-]
-
--- at two
-count_two : (n : ℕ) (f : ℕ → Bool) (c k : ℕ) → c < k → k < n → f c ≡ true → f k ≡ true → 2 ≤ count n f
-unfolding count
-count_two zero f c k l lt h g = absurd (omega arith)
-count_two (suc n) f c k l lt h g = elim (last_or k n lt) [
-  | inl e ↦ rw (sym (ap f e) ∙ g) (let one : 1 ≤ count n f = count_some n f c (omega arith) h in omega arith)
-  | inr m ↦ (let ih : 2 ≤ count n f = count_two n f c k l m h g in omega arith)
-]
-
-module _ (data_columns : ℕ) (s : Stripe) (sum : List ℕ) (small : data_columns ≤ 16) (lives : (c : ℕ) (b : List ℕ) → c < suc data_columns → s.held c ≡ Some b → s.slots c ≡ Live (digest_of b))
-    (adds : IsSum (suc data_columns) s.held sum) where
-  -- a slot without a block gives zeros
-  none_read : (c : ℕ) → (o : Option (List ℕ)) → s.held c ≡ o → ((b : List ℕ) → o ≡ Some b → ⊥) → or_zeros (s.held c) ≡ zero_block
-  none_read c None e h = ap or_zeros e
-  none_read c (Some b) e h = absurd (h b refl)
-
-  well_read : (c : ℕ) → c < suc data_columns → IsWell s c → IsBlock (or_zeros (s.held c)) × IsRead s c (or_zeros (s.held c))
-  well_read c lt (inl v) =
-      (adds.blocks c lt, inr (v, none_read c (s.held c) refl (λ b e. void_live (sym v ∙ lives c b lt e))))
-  well_read c lt (inr x) =
-      (adds.blocks c lt, inl (subst (λ b. IsSound s c b) (sym (ap or_zeros x.1.held)) x.1))
-
-  module _ (short : IsShort (suc data_columns) s Nothing) where
-    filled : HasFilling data_columns 1 s ↔ ((k : ℕ) → total (suc data_columns) (λ c. get_or (or_zeros (s.held c)) k 0) ≡ 0)
-    filled = single_whole data_columns s (λ c. or_zeros (s.held c)) small (λ c le. (let lt : c < suc data_columns = omega arith in well_read c lt (short c lt)))
-
-    pub whole_spared : sum ≡ zero_block → Spared data_columns 1 s (λ c. false)
-    whole_spared z = record {
-      none = λ c lt. refl;
-      why = inl (filled.1 (λ k. sym (adds.bytes k) ∙ ap (λ b. get_or b k 0) z ∙ get_or-zero_block k));
-    }
-
-    pub whole_breaks : sum ≢ zero_block → Breaks data_columns 1 s (λ c. nat_eq c data_columns)
-    whole_breaks ne = record {
-      none_broken = λ c d lt. well_unbroken s c d (short c (omega arith));
-      no_filling = λ f. ne (same_blocks sum zero_block adds.block IsBlock-zero_block (λ k. adds.bytes k ∙ filled.0 f k ∙ sym (get_or-zero_block k)));
-      few = (
-        (λ c. false),
-        (λ c lt. ((λ h. absurd (false_true h)), (λ u. absurd (well_not_unwell s c (short c (omega arith)) u)))),
-        rw (count-zero (data_columns + 1) (λ c. false) (λ c lt. refl)) (omega arith),
-      );
-      which = inr (
-        (λ c lt. short c (omega arith)),
-        λ c lt. ((λ h. (let e : c ≡ data_columns = eq_true c data_columns h in omega arith)), (λ le. true_eq c data_columns (omega arith))),
-      );
-    }
-
-  module _ (u : ℕ) (d : Digest) (short : IsShort (suc data_columns) s (One u d)) where
-    missing_zero : or_zeros (s.held u) ≡ zero_block
-    missing_zero = none_read u (s.held u) refl
-        (λ b e. short.2 (b, record { digest = digest_of b; live = lives u b short.0 e; held = e; right = refl }))
-
-    but_bytes : (k : ℕ) → get_or sum k 0 ≡ total (suc data_columns) (λ c. if nat_eq c u then 0 else get_or (or_zeros (s.held c)) k 0)
-    but_bytes k = adds.bytes k ∙ total_same (suc data_columns) _ _ (λ c lt. at c)
-      where
-        at : (c : ℕ) → get_or (or_zeros (s.held c)) k 0 ≡ (if nat_eq c u then 0 else get_or (or_zeros (s.held c)) k 0)
-        at c = elim (eqb_tells c u) [
-          | inl e ↦ rw e.0 (ap (λ c. get_or (or_zeros (s.held c)) k 0) e.1 ∙ ap (λ b. get_or b k 0) missing_zero ∙ get_or-zero_block k)
-          | inr e ↦ rw e.0 refl
-        ]
-
-    but_filled : HasFilling data_columns 1 s ↔ (digest_of sum ≡ d)
-    but_filled =
-        single_but data_columns u s (λ c. or_zeros (s.held c)) d sum small (let lt : u < suc data_columns = short.0 in omega arith) (taken_digest (s.slots u) d short.1) short.2
-        (λ c le ne. (let lt : c < suc data_columns = omega arith in well_read c lt (short.3 c lt ne))) adds.block but_bytes
-
-    pub but_spared : digest_of sum ≡ d → Spared data_columns 1 s (λ c. false)
-    but_spared e = record { none = λ c lt. refl; why = inl (but_filled.1 e) }
-
-    but_finds : FindsUnsound data_columns 1 s (λ c. nat_eq c u)
-    but_finds c lt = (
-      λ h. (let e : c ≡ u = eq_true c u h in subst (λ k. IsUnwell s k) (sym e) (taken_unvoid (s.slots u) d short.1, short.2)),
-      λ w. elim (same_or c u) [ inl e ↦ true_eq c u e | inr ne ↦ absurd (well_not_unwell s c (short.3 c (omega arith) ne) w) ],
-    )
-
-    pub but_breaks : digest_of sum ≢ d → Breaks data_columns 1 s (λ c. nat_eq c u)
-    but_breaks ne = record {
-      none_broken = λ c e lt. elim (same_or c u) [
-        | inl q ↦ subst (λ k. s.slots k ≢ Broken e) (sym q) (taken_unbroken (s.slots u) d e short.1)
-        | inr q ↦ well_unbroken s c e (short.3 c (omega arith) q)
-      ];
-      no_filling = λ f. ne (but_filled.0 f);
-      few = ((λ c. nat_eq c u), but_finds, count_one (data_columns + 1) u);
-      which = inl (but_finds, u, (let lt : u < suc data_columns = short.0 in omega arith), true_eq u u refl);
-    }
-
-  pub void_sums : ((c : ℕ) → c < suc data_columns → s.slots c ≡ Void) → sum ≡ zero_block
-  void_sums void = same_blocks sum zero_block adds.block IsBlock-zero_block (λ k. adds.bytes k ∙ total_zero (suc data_columns) _ (zero k) ∙ sym (get_or-zero_block k))
-    where
-      zero : (k c : ℕ) → c < suc data_columns → get_or (or_zeros (s.held c)) k 0 ≡ 0
-      zero k c lt = ap (λ b. get_or b k 0) (none_read c (s.held c) refl (λ b e. void_live (sym (void c lt) ∙ lives c b lt e))) ∙ get_or-zero_block k
-
-  pub more_spared : IsShort (suc data_columns) s More → Spared data_columns 1 s (λ c. false)
-  more_spared x = record { none = λ c lt. refl; why = inr (λ none few. refuted x none few) }
-    where
-      refuted : IsShort (suc data_columns) s More → NoneBroken data_columns 1 s → FewUnsound data_columns 1 s → ⊥
-      refuted (inl b) none few = none b.0 b.1 (let lt : b.0 < suc data_columns = b.2 in omega arith) b.3
-      refuted (inr b) none few =
-          let two : 2 ≤ count (data_columns + 1) few.0 =
-          count_two (data_columns + 1) few.0 b.0 b.1 b.2 (let lt : b.1 < suc data_columns = b.3 in omega arith)
-          ((few.1 b.0 (let lt : b.1 < suc data_columns = b.3 in let l : b.0 < b.1 = b.2 in omega arith)).1 b.4) ((few.1 b.1 (let lt : b.1 < suc data_columns = b.3 in omega arith)).1 b.5) in
-          let one : count (data_columns + 1) few.0 ≤ 1 = few.2 in
-          omega arith

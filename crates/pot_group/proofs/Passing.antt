@@ -22,7 +22,7 @@ use Rattle.pot_group.specs.declared.putting.Stop.{Stop}
 use Rattle.pot_group.specs.declared.putting.Stop.TheVariants as stop
 use Rattle.pot_group.specs.Shelves.{Shelves, Stays, LosesFrom}
 use Rattle.pot_group.specs.Group.{GroupView, Logs, FitsGone, state_of}
-use Rattle.pot_group.specs.Putting.{FoundGone, Passes, PassesAll, Finds}
+use Rattle.pot_group.specs.Putting.{FoundGone, IsLeast, Passes, PassesAll, Finds}
 use Rattle.pot_group.proofs.ShelfLemmas.{stays_refl, stays_then}
 
 -- an entry is logged, and does in the table what it says
@@ -52,81 +52,86 @@ live_else (Live d) ne e = refl
 live_else (Lost d) ne e = absurd (cc)
 live_else (Broken d) ne e = absurd (cc)
 
-module _ (told : Type 0) (job s c : ℕ) (v : GroupView) (rules : IsTable v.table) (at : AtCursor v.table s) (is : c ≡ v.table.data_columns) where
-  within : c < width v.table
-  within = omega (arith, is, rules.size.parity)
-
+module _ (told : Type 0) (job s c : ℕ) (v : GroupView) (rules : IsTable v.table) (at : AtCursor v.table s) (parity : v.table.data_columns ≤ c) (within : c < width v.table)
+    (some : slot_at v.table s c ≢ Void) where
   -- the stripe can be passed then
-  pub skip_legal : slot_at v.table s v.table.data_columns ≢ Void → TakesSkip (after v.table (entry.Gone job s c)) s
-  skip_legal some = (
+  pub skip_legal : TakesSkip (after v.table (entry.Gone job s c)) s
+  skip_legal = (
     at,
     inr (some_least (width v.table) (λ k. is_unsound (slot_at (with_loss v.table s c) s k)) c within
-        (ap is_unsound (slot_same v.table s c (lost_of (slot_at v.table s c)) rules.size.slots at.1 within)
-        ∙ unsound_lost (slot_at v.table s c) (subst (λ k. slot_at v.table s k ≢ Void) (sym is) some))),
+        (ap is_unsound (slot_same v.table s c (lost_of (slot_at v.table s c)) rules.size.slots at.1 within) ∙ unsound_lost (slot_at v.table s c) some)),
   )
 
-  found : (told → Sound (stripe_of v.table v.shelves.held s) v.table.data_columns → ⊥) → TakesBlocks v.table s → slot_at v.table s v.table.data_columns ≢ Void
-      → FoundGone told v v v.table.cursor.stripe (Some c)
-  found gone takes some = (
-    is,
-    subst (λ k. told → Sound (stripe_of v.table v.shelves.held v.table.cursor.stripe) k → ⊥) (sym is)
-        (subst (λ n. told → Sound (stripe_of v.table v.shelves.held n) v.table.data_columns → ⊥) at.0 gone),
-    subst (λ n. TakesBlocks v.table n) at.0 takes,
-    subst (λ n. IsTrue (is_live (slot_at v.table n c))) at.0
-        (live_else (slot_at v.table s c) (subst (λ k. slot_at v.table s k ≢ Void) (sym is) some) (least_none (width v.table) (λ k. is_unsound (slot_at v.table s k)) takes.1 c within)),
-  )
+  module _ (gone : told → Sound (stripe_of v.table v.shelves.held s) c → ⊥) (takes : TakesBlocks v.table s) (least : IsLeast told v.table v.shelves.held s c) where
+    found : FoundGone told v v v.table.cursor.stripe (Some c)
+    found = (
+      parity,
+      within,
+      subst (λ n. told → Sound (stripe_of v.table v.shelves.held n) c → ⊥) at.0 gone,
+      subst (λ n. TakesBlocks v.table n) at.0 takes,
+      subst (λ n. IsTrue (is_live (slot_at v.table n c))) at.0
+          (live_else (slot_at v.table s c) some (least_none (width v.table) (λ k. is_unsound (slot_at v.table s k)) takes.1 c within)),
+      subst (λ n. IsLeast told v.table v.shelves.held n c) at.0 least,
+    )
 
-  -- the log has no room then
-  pub left_full : (told → Sound (stripe_of v.table v.shelves.held s) v.table.data_columns → ⊥) → TakesBlocks v.table s → slot_at v.table s v.table.data_columns ≢ Void → (new : GroupView) → new ≡ entered v (entry.Gone job s c) → length new.log ≡ log_bound
-      → Passes told job [] (Some stop.LogFull) v new
-  left_full gone takes some new e full =
-      subst (λ x. Passes told job [] (Some stop.LogFull) v x) (sym e) (record {
-        stays = stays_refl told v.shelves;
-        means = (
-          Some c,
-          found gone takes some,
-          subst (λ n. Logs (entry.Gone job n c ∷ []) v (entered v (entry.Gone job s c))) at.0 (record { number = refl; first = refl; log = refl; flights = refl; replay = ((at.1, within), refl) }),
-          sym (ap (λ x. length x.log) e) ∙ full,
-          subst (λ n. n < v.table.stripes) at.0 at.1,
-        );
-      })
+    -- the log has no room then
+    pub left_full : (new : GroupView) → new ≡ entered v (entry.Gone job s c) → length new.log ≡ log_bound → Passes told job [] [] (Some stop.LogFull) v new
+    left_full new e full =
+        subst (λ x. Passes told job [] [] (Some stop.LogFull) v x) (sym e) (record {
+          stays = stays_refl told v.shelves;
+          means = (
+            Some c,
+            found,
+            subst (λ n. Logs (entry.Gone job n c ∷ []) v (entered v (entry.Gone job s c))) at.0 (record { number = refl; first = refl; log = refl; flights = refl; replay = ((at.1, within), refl) }),
+            sym (ap (λ x. length x.log) e) ∙ full,
+            subst (λ n. n < v.table.stripes) at.0 at.1,
+          );
+        })
 
-  -- the stripe is passed
-  pub left_behind : (told → Sound (stripe_of v.table v.shelves.held s) v.table.data_columns → ⊥) → TakesBlocks v.table s → slot_at v.table s v.table.data_columns ≢ Void
-      → (new : GroupView) → new ≡ entered (entered v (entry.Gone job s c)) (entry.Skip job s) → Passes told job [] None v new
-  left_behind gone takes some new e =
-      subst (λ x. Passes told job [] None v x) (sym e) (record {
-        stays = stays_refl told v.shelves;
-        means = (
-          Some c,
-          found gone takes some,
-          subst (λ n. Logs (entry.Gone job n c ∷ entry.Skip job n ∷ []) v (entered (entered v (entry.Gone job s c)) (entry.Skip job s))) at.0 (record {
-            number = refl;
-            first = refl;
-            flights = refl;
-            log = append_assoc v.log (entry.Gone job s c ∷ []) (entry.Skip job s ∷ []);
-            replay = ((at.1, within), (skip_legal some, refl));
-          }),
-        );
-      })
+    -- the stripe is passed
+    pub left_behind : (new : GroupView) → new ≡ entered (entered v (entry.Gone job s c)) (entry.Skip job s) → Passes told job [] [] None v new
+    left_behind new e =
+        subst (λ x. Passes told job [] [] None v x) (sym e) (record {
+          stays = stays_refl told v.shelves;
+          means = (
+            Some c,
+            found,
+            subst (λ n. Logs (entry.Gone job n c ∷ entry.Skip job n ∷ []) v (entered (entered v (entry.Gone job s c)) (entry.Skip job s))) at.0 (record {
+              number = refl;
+              first = refl;
+              flights = refl;
+              log = append_assoc v.log (entry.Gone job s c ∷ []) (entry.Skip job s ∷ []);
+              replay = ((at.1, within), (skip_legal, refl));
+            }),
+          );
+        })
 
 logs_from : (entries : List Entry) (old : GroupView) (s : Shelves) (new : GroupView) → Logs entries (record old { shelves = s }) new → Logs entries old new
 logs_from entries old s new l = record { number = l.number; first = l.first; log = l.log; flights = l.flights; replay = l.replay }
 
+-- what was sound after a loss was sound before it
+pub sound_before : (t : Table) (a b : Shelves) (n k : ℕ) → LosesFrom a.held a b → Sound (stripe_of t b.held n) k → Sound (stripe_of t a.held n) k
+sound_before t a b n k l x = (x.0, record { digest = x.1.digest; live = x.1.live; held = (l (serving_at t n k)).keeps n x.0 x.1.held; right = x.1.right })
+
+-- what was found gone after a read
+gone_before : (told : Type 0) (old : GroupView) (s : Shelves) (new : GroupView) (n : ℕ) (gone : Option ℕ) → Stays told old.shelves s → FoundGone told (record old { shelves = s }) new n gone → FoundGone told old new n gone
+gone_before told old s new n None stays f = tt
+gone_before told old s new n (Some c) stays f = (f.0, f.1, f.2, f.3, f.4, λ t e. sound_before old.table old.shelves s n old.table.data_columns (stays.loses t) (f.5 t e))
+
 -- what was read before is lost at most
-pub left_passes : (told : Type 0) (job : ℕ) (parity : List ℕ) (result : Option Stop) (old : GroupView) (s : Shelves) (new : GroupView) → Stays told old.shelves s
-    → (result ≡ None) ⊎ (result ≡ Some stop.LogFull) → Passes told job [] result (record old { shelves = s }) new → Passes told job parity result old new
-left_passes told job parity None old s new stays which p = record {
-  stays = stays_then told old.shelves s new.shelves stays p.stays;
-  means = (p.means.0, p.means.1, logs_from _ old s new p.means.2);
+pub left_passes : (told : Type 0) (job : ℕ) (p q : List ℕ) (result : Option Stop) (old : GroupView) (s : Shelves) (new : GroupView) → Stays told old.shelves s
+    → (result ≡ None) ⊎ (result ≡ Some stop.LogFull) → Passes told job [] [] result (record old { shelves = s }) new → Passes told job p q result old new
+left_passes told job p q None old s new stays which l = record {
+  stays = stays_then told old.shelves s new.shelves stays l.stays;
+  means = (l.means.0, gone_before told old s new old.table.cursor.stripe l.means.0 stays l.means.1, logs_from _ old s new l.means.2);
 }
-left_passes told job parity (Some stop.LogFull) old s new stays which p = record {
-  stays = stays_then told old.shelves s new.shelves stays p.stays;
-  means = (p.means.0, p.means.1, logs_from _ old s new p.means.2, p.means.3, p.means.4);
+left_passes told job p q (Some stop.LogFull) old s new stays which l = record {
+  stays = stays_then told old.shelves s new.shelves stays l.stays;
+  means = (l.means.0, gone_before told old s new old.table.cursor.stripe l.means.0 stays l.means.1, logs_from _ old s new l.means.2, l.means.3, l.means.4);
 }
-left_passes told job parity (Some stop.Here) old s new stays which p = absurd (elim which [ inl e ↦ (cc) | inr e ↦ (cc) ])
-left_passes told job parity (Some stop.Full) old s new stays which p = absurd (elim which [ inl e ↦ (cc) | inr e ↦ (cc) ])
-left_passes told job parity (Some stop.Faulted) old s new stays which p = absurd (elim which [ inl e ↦ (cc) | inr e ↦ (cc) ])
+left_passes told job p q (Some stop.Here) old s new stays which l = absurd (elim which [ inl e ↦ (cc) | inr e ↦ (cc) ])
+left_passes told job p q (Some stop.Full) old s new stays which l = absurd (elim which [ inl e ↦ (cc) | inr e ↦ (cc) ])
+left_passes told job p q (Some (stop.Faulted column)) old s new stays which l = absurd (elim which [ inl e ↦ (cc) | inr e ↦ (cc) ])
 
 -- STRIPES THAT WERE PASSED, AND ONE MORE
 
@@ -179,8 +184,8 @@ crossed t u job s (Some c) r = record {
   stripes = ap (λ x. x.stripes) r.1.1;
 }
 
-passed_one : (told : Type 0) (job : ℕ) (parity : List ℕ) (now new : GroupView) → Passes told job parity None now new → Crossed now.table new.table now.table.cursor.stripe
-passed_one told job parity now new p = crossed now.table new.table job now.table.cursor.stripe p.means.0 p.means.2.replay
+passed_one : (told : Type 0) (job : ℕ) (p q : List ℕ) (now new : GroupView) → Passes told job p q None now new → Crossed now.table new.table now.table.cursor.stripe
+passed_one told job p q now new x = crossed now.table new.table job now.table.cursor.stripe x.means.0 x.means.2.replay
 
 -- what is missing is missing under later losses
 pub missing_on : (old : GroupView) (now new : Shelves) (s : ℕ) (gone : Option ℕ) → LosesFrom now.held now new
@@ -199,47 +204,62 @@ pub same_serving : (t u : Table) → t.columns ≡ u.columns → (n k : ℕ) →
 same_serving t u e n k = ap (λ cs. serving (slice_index_or cs k no_column) n) e
 
 -- a parity slot that was Live in a stripe that takes blocks was so in the old table
-pub fits_gone : (told : Type 0) (job : ℕ) (passed : List Passed) (old now new : GroupView) → old.table.parity ≡ 1 → PassesAll told job passed old now
+pub fits_gone : (told : Type 0) (job : ℕ) (passed : List Passed) (old now new : GroupView) → PassesAll told job passed old now
     → (s : ℕ) (gone : Option ℕ) → now.table.cursor.stripe ≤ s → FoundGone told now new s gone → FitsGone old.table s gone
-fits_gone told job passed old now new single all s None le f = tt
-fits_gone told job passed old now new single all s (Some c) le f = (
+fits_gone told job passed old now new all s None le f = tt
+fits_gone told job passed old now new all s (Some c) le f = (
   omega (arith, f.0, all.data_columns),
   (
-    ap (λ l. relay_in l s) (sym all.relays) ∙ f.2.0,
+    ap (λ l. relay_in l s) (sym all.relays) ∙ f.3.0,
     none_least (width old.table) (λ k. is_unsound (slot_at old.table s k))
-        (λ k lk. ap is_unsound (sym (all.ahead s k le lk)) ∙ least_none (width now.table) (λ k. is_unsound (slot_at now.table s k)) f.2.1 k (omega (arith, lk, all.data_columns, all.parity))),
+        (λ k lk. ap is_unsound (sym (all.ahead s k le lk)) ∙ least_none (width now.table) (λ k. is_unsound (slot_at now.table s k)) f.3.1 k (omega (arith, lk, all.data_columns, all.parity))),
   ),
-  ap is_live (sym (all.ahead s c le (omega (arith, f.0, all.data_columns, single)))) ∙ f.3,
+  ap is_live (sym (all.ahead s c le (omega (arith, f.1, all.data_columns, all.parity)))) ∙ f.4,
+)
+
+-- a slot ahead that is sound now was sound in the old group
+sound_ahead : (told : Type 0) (job : ℕ) (passed : List Passed) (old now : GroupView) → PassesAll told job passed old now → (h : Shelves) (s c : ℕ) → now.table.cursor.stripe ≤ s → c < width old.table
+    → Sound (stripe_of now.table h.held s) c → Sound (stripe_of old.table h.held s) c
+sound_ahead told job passed old now all h s c le lc x = (
+  x.0,
+  record {
+    digest = x.1.digest;
+    live = sym (all.ahead s c le lc) ∙ x.1.live;
+    held = ap (λ n. h.held n s) (sym (same_serving now.table old.table all.columns s c)) ∙ x.1.held;
+    right = x.1.right;
+  },
 )
 
 -- a parity block that is missing in the table now is missing in the old one
-pub missing_here : (told : Type 0) (job : ℕ) (passed : List Passed) (old now new : GroupView) → old.table.parity ≡ 1 → PassesAll told job passed old now
+pub missing_here : (told : Type 0) (job : ℕ) (passed : List Passed) (old now new : GroupView) → PassesAll told job passed old now
     → told → (s : ℕ) (gone : Option ℕ) → now.table.cursor.stripe ≤ s → FoundGone told now new s gone → IfSome gone (λ c. IsMissing (state_of old) new.shelves.held s c)
-missing_here told job passed old now new single all t s None le f = tt
-missing_here told job passed old now new single all t s (Some c) le f = record {
-  takes = (fits_gone told job passed old now new single all s (Some c) le f).1;
-  live = (fits_gone told job passed old now new single all s (Some c) le f).2;
+missing_here told job passed old now new all t s None le f = tt
+missing_here told job passed old now new all t s (Some c) le f = record {
+  takes = (fits_gone told job passed old now new all s (Some c) le f).1;
+  live = (fits_gone told job passed old now new all s (Some c) le f).2;
   parity = omega (arith, f.0, all.data_columns);
-  missing = (λ x. f.1 t (
+  missing = (λ x. f.2 t (
     x.0,
     record {
       digest = x.1.digest;
-      live = all.ahead s c le (omega (arith, f.0, all.data_columns, single)) ∙ x.1.live;
+      live = all.ahead s c le (omega (arith, f.1, all.data_columns, all.parity)) ∙ x.1.live;
       held = ap (λ n. new.shelves.held n s) (same_serving now.table old.table all.columns s c) ∙ x.1.held;
       right = x.1.right;
     },
   ));
-  least = (λ e. absurd (omega (arith, e, f.0, all.data_columns)));
+  least = (λ e. sound_before old.table old.shelves now.shelves s old.table.data_columns (all.stays.loses t)
+      (sound_ahead told job passed old now all now.shelves s old.table.data_columns le (omega (arith, f.1, e, all.data_columns, all.parity))
+      (subst (λ k. Sound (stripe_of now.table now.shelves.held s) k) all.data_columns (f.5 t (e ∙ ap (λ k. k + 1) (sym all.data_columns))))));
 }
 
-module _ (told : Type 0) (job : ℕ) (passed : List Passed) (parity : List ℕ) (old now new : GroupView) (single : old.table.parity ≡ 1)
-    (all : PassesAll told job passed old now) (one : Passes told job parity None now new) where
+module _ (told : Type 0) (job : ℕ) (passed : List Passed) (p q : List ℕ) (old now new : GroupView)
+    (all : PassesAll told job passed old now) (one : Passes told job p q None now new) where
   -- the stripe passed last
   abbrev last : Passed
   last = record { stripe = now.table.cursor.stripe; gone = one.means.0 }
 
   beyond : Crossed now.table new.table now.table.cursor.stripe
-  beyond = passed_one told job parity now new one
+  beyond = passed_one told job p q now new one
 
   ahead : (n k : ℕ) → new.table.cursor.stripe ≤ n → k < width old.table → slot_at new.table n k ≡ slot_at old.table n k
   ahead n k le lk =
@@ -254,8 +274,8 @@ module _ (told : Type 0) (job : ℕ) (passed : List Passed) (parity : List ℕ) 
     missing = (λ t. All-push (λ x. IfSome x.gone (λ c. IsMissing (state_of old) new.shelves.held x.stripe c)) passed last
         (All-weaker (λ x. IfSome x.gone (λ c. IsMissing (state_of old) now.shelves.held x.stripe c)) (λ x. IfSome x.gone (λ c. IsMissing (state_of old) new.shelves.held x.stripe c))
         (λ x m. missing_on old now.shelves new.shelves x.stripe x.gone (one.stays.loses t) m) passed (all.missing t))
-        (missing_here told job passed old now new single all t now.table.cursor.stripe one.means.0 (omega arith) one.means.1));
-    gones = All-push (λ x. FitsGone old.table x.stripe x.gone) passed last all.gones (fits_gone told job passed old now new single all now.table.cursor.stripe one.means.0 (omega arith) one.means.1);
+        (missing_here told job passed old now new all t now.table.cursor.stripe one.means.0 (omega arith) one.means.1));
+    gones = All-push (λ x. FitsGone old.table x.stripe x.gone) passed last all.gones (fits_gone told job passed old now new all now.table.cursor.stripe one.means.0 (omega arith) one.means.1);
     ahead = ahead;
     relays = beyond.relays ∙ all.relays;
     columns = beyond.columns ∙ all.columns;
@@ -280,13 +300,13 @@ passes_none told job v = record {
 }
 
 -- fewer stripes are left
-pub fewer_left : (told : Type 0) (job : ℕ) (parity : List ℕ) (now new : GroupView) → Passes told job parity None now new
+pub fewer_left : (told : Type 0) (job : ℕ) (p q : List ℕ) (now new : GroupView) → Passes told job p q None now new
     → new.table.stripes - new.table.cursor.stripe < now.table.stripes - now.table.cursor.stripe
-fewer_left told job parity now new one =
-    let x : Crossed now.table new.table now.table.cursor.stripe = passed_one told job parity now new one in
+fewer_left told job p q now new one =
+    let x : Crossed now.table new.table now.table.cursor.stripe = passed_one told job p q now new one in
     omega (arith, x.below, x.cursor, x.stripes)
 
 -- the put stops at the next stripe
-pub finds_at : (told : Type 0) (job : ℕ) (passed : List Passed) (parity : List ℕ) (s : Stop) (old now new : GroupView) → PassesAll told job passed old now
-    → Passes told job parity (Some s) now new → Finds told job parity s old new
-finds_at told job passed parity s old now new all one = record { passed = passed; now = now; passes = all; stays = one.stays; means = one.means }
+pub finds_at : (told : Type 0) (job : ℕ) (passed : List Passed) (p q : List ℕ) (s : Stop) (old now new : GroupView) → PassesAll told job passed old now
+    → Passes told job p q (Some s) now new → Finds told job p q s old new
+finds_at told job passed p q s old now new all one = record { passed = passed; now = now; passes = all; stays = one.stays; means = one.means }

@@ -1,30 +1,25 @@
 -- A put: its step, from the stripes that it passed, why it stopped and its writes.
-use Rattle.std.proofs.Common.{◌≡◌, ◌≢◌, ◌⊎◌, inl, inr, ℕ, ◌+◌, ◌<◌, ◌≤◌, ◌++◌, List, [], ◌∷◌, Option, Some, None, Bool, true, false, length, refl, sym, ap, ◌∙◌, subst, arith, append-nil, length-append}
+use Rattle.std.proofs.Common.{◌≡◌, ◌⊎◌, inl, inr, ℕ, ◌+◌, ◌<◌, ◌≤◌, ◌++◌, List, [], ◌∷◌, Option, Some, None, Bool, true, false, length, refl, sym, ap, ◌∙◌, subst, arith, append-nil, length-append}
 use Rattle.std.specs.Prelude.{IfSome, All, Result, Ok, Err}
 use Rattle.std.proofs.lemmas.List.Elements.{All-weaker, All-nil}
 use Rattle.pot_bytes.specs.declared.rack.Place.{Place}
 use Rattle.pot_bytes.specs.Sums.{xor}
+use Rattle.pot_bytes.specs.Weighted.{scaled}
+use Rattle.pot_gf.specs.Field.{power}
 use Rattle.pot_outside.specs.Counts.{Rose}
-use Rattle.pot_machine.specs.declared.slot.SlotState.TheVariants.{Void}
 use Rattle.pot_machine.specs.declared.entry.Entry.{Entry}
 use Rattle.pot_machine.specs.declared.entry.Entry.TheVariants as entry
 use Rattle.pot_machine.specs.Table.{Table, width, serving_at, slot_at}
-use Rattle.pot_machine.specs.Machine.{TakesBlocks, Legal, after, Replays}
-use Rattle.pot_machine.specs.Rules.{IsTable}
-use Rattle.pot_steps.specs.Stripe.{IsOld}
-use Rattle.pot_steps.specs.Holdings.{Holdings, stripe_of}
-use Rattle.pot_steps.specs.Entries.{held_at}
-use Rattle.pot_steps.specs.GroupStep.{Logs as StepLogs, Loses, Passed, PassesTo, PutsBlock, PutStep, PutFailed, IsMissing, IsLeft, log_bound, skips, gone_entries, put_entry}
-use Rattle.pot_machine.proofs.Columns.{serving_apart}
+use Rattle.pot_machine.specs.Machine.{TakesBlocks, Replays}
+use Rattle.pot_steps.specs.GroupStep.{Logs as StepLogs, Loses, Passed, PassesTo, PutsBlock, PutStep, PutFailed, IsMissing, IsLeft, log_bound, skips, gone_entries, put_entry, unkept}
 use Rattle.pot_group.specs.declared.answers.PutFault.{PutFault}
 use Rattle.pot_group.specs.declared.answers.PutFault.TheVariants as fault
 use Rattle.pot_group.specs.declared.putting.Stop.TheVariants as stop
 use Rattle.pot_group.specs.Shelves.{Stays, LosesFrom, put_at}
 use Rattle.pot_group.specs.Group.{GroupView, Logs, FailedAt, PutLogs, state_of, put_as, FitsSlot, FitsParity, FitsGone}
-use Rattle.pot_group.specs.Putting.{PassesAll, Finds, PutsBoth, PutsNone, BlockMeans, IsKept, both_at, one_put}
+use Rattle.pot_group.specs.Putting.{PassesAll, Finds, HasOld, PutsAll, PutsNone, BlockMeans, IsKept}
 use Rattle.pot_group.proofs.Passing.{logs_then, same_serving, missing_on, missing_here, fits_gone}
 use Rattle.pot_group.proofs.ShelfLemmas.{put_at-here, put_at-other, rose_on}
-use Rattle.pot_machine.proofs.Cases.{same_or}
 
 -- LOGS ONE AFTER ANOTHER
 
@@ -73,7 +68,7 @@ module _ (told : Type 0) (job : ℕ) (passed : List Passed) (old now mid : Group
 
 -- NO STRIPE IS LEFT
 
-module _ (told : Type 0) (job : ℕ) (parity block : List ℕ) (old mid : GroupView) (f : Finds told job parity stop.Full old mid) where
+module _ (told : Type 0) (job : ℕ) (p q block : List ℕ) (old mid : GroupView) (f : Finds told job p q stop.Full old mid) where
   behind : mid.table.cursor.stripe ≡ mid.table.stripes
   behind = subst (λ t. t.cursor.stripe ≡ t.stripes) (sym f.means.0.replay) f.means.1
 
@@ -120,26 +115,26 @@ gone_stays job s None t u r l = subst (λ v. v.cursor.stripe < v.stripes) (sym r
 gone_stays job s (Some c) t u r l = subst (λ v. v.cursor.stripe < v.stripes) (sym r.1) l
 
 -- after some entries
-module _ (told : Type 0) (job : ℕ) (parity block : List ℕ) (old mid : GroupView) (f : Finds told job parity stop.LogFull old mid) where
+module _ (told : Type 0) (job : ℕ) (p q block : List ℕ) (old mid : GroupView) (f : Finds told job p q stop.LogFull old mid) where
   as_far : Logs (skips job f.passed ++ gone_entries job f.now.table.cursor.stripe f.means.0) old mid
   as_far = logs_then (skips job f.passed) (gone_entries job f.now.table.cursor.stripe f.means.0) old f.now mid f.passes.logs f.means.2
 
   still_left : mid.table.cursor.stripe < mid.table.stripes
   still_left = gone_stays job f.now.table.cursor.stripe f.means.0 f.now.table mid.table f.means.2.replay f.means.4
 
-  pub log_full_logs : old.table.parity ≡ 1 → PutLogs job block (Err fault.LogFull) old mid
-  log_full_logs one = (
+  pub log_full_logs : PutLogs job block (Err fault.LogFull) old mid
+  log_full_logs = (
     f.means.3,
-    (f.passed, f.now.table.cursor.stripe, f.means.0, as_far, f.passes.gones, fits_gone told job f.passed old f.now mid one f.passes f.now.table.cursor.stripe f.means.0 (omega arith) f.means.1),
+    (f.passed, f.now.table.cursor.stripe, f.means.0, as_far, f.passes.gones, fits_gone told job f.passed old f.now mid f.passes f.now.table.cursor.stripe f.means.0 (omega arith) f.means.1),
     inr still_left,
   )
 
-  pub log_full_step : old.table.parity ≡ 1 → told → PutStep job block (put_as (Err fault.LogFull)) (state_of old) (state_of mid)
-  log_full_step one t = record {
+  pub log_full_step : told → PutStep job block (put_as (Err fault.LogFull)) (state_of old) (state_of mid)
+  log_full_step t = record {
     passed = f.passed;
     at = f.now.table;
     gone = f.means.0;
-    missing = missing_here told job f.passed old f.now mid one f.passes t f.now.table.cursor.stripe f.means.0 (omega arith) f.means.1;
+    missing = missing_here told job f.passed old f.now mid f.passes t f.now.table.cursor.stripe f.means.0 (omega arith) f.means.1;
     passes = passes_to told job f.passed old f.now mid f.passes f.stays f.now.table refl t;
     replay = f.means.2.replay;
     logs = logged told job f.passed old f.now mid f.passes f.stays t (skips job f.passed ++ gone_entries job f.now.table.cursor.stripe f.means.0) mid as_far (omega (arith, f.means.3)) (λ n. refl);
@@ -147,28 +142,20 @@ module _ (told : Type 0) (job : ℕ) (parity block : List ℕ) (old mid : GroupV
     next = inr still_left;
   }
 
--- THE PARITY COLUMN FAILED
+-- A PARITY COLUMN FAILED
 
-module _ (told : Type 0) (job : ℕ) (parity block : List ℕ) (old mid : GroupView) (f : Finds told job parity stop.Faulted old mid) (column : ℕ) (last : column ≡ mid.table.data_columns) where
-  last_now : f.now.table.data_columns ≡ column
-  last_now = sym (last ∙ ap (λ t. t.data_columns) f.means.0.replay.1)
-
+module _ (told : Type 0) (job : ℕ) (p q block : List ℕ) (old mid : GroupView) (column : ℕ) (f : Finds told job p q (stop.Faulted column) old mid) where
   fault_logged : Logs (skips job f.passed ++ entry.Fault job f.now.table.cursor.stripe column ∷ []) old mid
-  fault_logged = logs_then (skips job f.passed) (entry.Fault job f.now.table.cursor.stripe column ∷ []) old f.now mid f.passes.logs
-      (subst (λ c. Logs (entry.Fault job f.now.table.cursor.stripe c ∷ []) f.now mid) last_now f.means.0)
+  fault_logged = logs_then (skips job f.passed) (entry.Fault job f.now.table.cursor.stripe column ∷ []) old f.now mid f.passes.logs f.means.0
 
   failed_here : FailedAt old mid f.now.table.cursor.stripe column
   failed_here =
       let n : ℕ = serving_at f.now.table f.now.table.cursor.stripe column in
       subst (λ n. Rose (old.shelves.faults n) (mid.shelves.faults n)) (same_serving f.now.table old.table f.passes.columns f.now.table.cursor.stripe column)
-      (rose_on (old.shelves.faults n) (f.now.shelves.faults n) (mid.shelves.faults n) (f.passes.stays.keeps.later n)
-      (subst (λ c. FailedAt f.now mid f.now.table.cursor.stripe c) last_now f.means.1))
-
-  parity_column : old.table.data_columns ≤ column
-  parity_column = omega (arith, last_now, f.passes.data_columns)
+      (rose_on (old.shelves.faults n) (f.now.shelves.faults n) (mid.shelves.faults n) (f.passes.stays.keeps.later n) f.means.1)
 
   pub faulted_logs : PutLogs job block (Err (fault.Faulted column)) old mid
-  faulted_logs = (f.passed, f.now.table.cursor.stripe, failed_here, inl (fault_logged, inr parity_column), f.passes.gones)
+  faulted_logs = (f.passed, f.now.table.cursor.stripe, failed_here, inl (fault_logged, inr (omega (arith, f.means.3, f.passes.data_columns))), f.passes.gones)
 
   pub faulted_step : length mid.log ≤ log_bound → told → PutStep job block (put_as (Err (fault.Faulted column))) (state_of old) (state_of mid)
   faulted_step room t = inr (record {
@@ -177,8 +164,8 @@ module _ (told : Type 0) (job : ℕ) (parity block : List ℕ) (old mid : GroupV
     now = mid.shelves.held;
     passes = passes_to told job f.passed old f.now mid f.passes f.stays f.now.table refl t;
     takes = f.means.2;
-    place = inr (omega (arith, last_now), subst (λ c. slot_at f.now.table f.now.table.cursor.stripe c ≢ Void) last_now f.means.3);
-    legal = subst (λ c. Legal f.now.table (entry.Fault job f.now.table.cursor.stripe c)) last_now f.means.0.replay.0;
+    place = inr (f.means.3, f.means.4);
+    legal = f.means.0.replay.0;
     table = f.means.0.replay.1;
     logs = logged told job f.passed old f.now mid f.passes f.stays t (skips job f.passed ++ entry.Fault job f.now.table.cursor.stripe column ∷ []) mid fault_logged room (λ n. refl);
     written = mid.shelves.held;
@@ -188,96 +175,49 @@ module _ (told : Type 0) (job : ℕ) (parity block : List ℕ) (old mid : GroupV
 
 -- THE STRIPE TAKES THE BLOCK
 
-kept_block : (kept : Bool) (h : Holdings) (t : Table) (s : ℕ) (new : List ℕ) (left : Option (List ℕ)) → IsKept kept h t s new left → kept ≡ true → left ≡ Some new
-kept_block true h t s new left k e = k
-kept_block false h t s new left k e = absurd (cc)
+new_block : (kept : Bool) (was left : Option (List ℕ)) (new : List ℕ) → IsKept kept was new left → kept ≡ true → left ≡ Some new
+new_block true was left new k e = k
+new_block false was left new k e = absurd (cc)
 
-left_block : (kept : Bool) (h : Holdings) (t : Table) (s : ℕ) (new : List ℕ) (left : Option (List ℕ)) → IsKept kept h t s new left → kept ≡ false
-    → IsLeft (h (serving_at t s t.data_columns) s) new left
-left_block true h t s new left k e = absurd (cc)
-left_block false h t s new left k e = k
-
--- what is held after the writes
-module _ (t : Table) (table : IsTable t) (h : Holdings) (s c : ℕ) (column : c < t.data_columns) (block : List ℕ) (left : Option (List ℕ)) where
-  wide : c < width t
-  wide = omega arith
-
-  last_wide : t.data_columns < width t
-  last_wide = omega (arith, table.size.parity.0)
-
-  held_data : held_at t (both_at t h s c block left) s c ≡ Some block
-  held_data =
-      put_at-other (put_at h (serving_at t s c) s (Some block)) (serving_at t s t.data_columns) s left (serving_at t s c) s
-      (inl (serving_apart t s c t.data_columns table.columns wide last_wide (λ e. absurd (omega arith)))) ∙ put_at-here h (serving_at t s c) s (Some block)
-
-  held_parity : held_at t (both_at t h s c block left) s t.data_columns ≡ left
-  held_parity = put_at-here (put_at h (serving_at t s c) s (Some block)) (serving_at t s t.data_columns) s left
-
-  held_else : (n m : ℕ) → (n ≢ serving_at t s c) ⊎ (m ≢ s) → (n ≢ serving_at t s t.data_columns) ⊎ (m ≢ s) → both_at t h s c block left n m ≡ h n m
-  held_else n m d p =
-      put_at-other (put_at h (serving_at t s c) s (Some block)) (serving_at t s t.data_columns) s left n m p ∙ put_at-other h (serving_at t s c) s (Some block) n m d
-
-  -- a place of another stripe or column is another place of the archives
-  place_differs : (n k j : ℕ) → k < width t → j < width t → (n ≢ s) ⊎ (k ≢ j) → (serving_at t n k ≢ serving_at t s j) ⊎ (n ≢ s)
-  place_differs n k j lk lj (inl d) = inr d
-  place_differs n k j lk lj (inr d) = elim (same_or n s) [
-    | inl e ↦ inl (λ g. serving_apart t s k j table.columns lk lj d (ap (λ m. serving_at t m k) (sym e) ∙ g))
-    | inr ne ↦ inr ne
-  ]
-
-  held_others : (n k : ℕ) → n < t.stripes → k < width t → (n ≢ s) ⊎ ((k < t.data_columns) × (k ≢ c))
-      → held_at t (both_at t h s c block left) n k ≡ held_at t h n k
-  held_others n k ln lk (inl d) = held_else (serving_at t n k) n (inr d) (inr d)
-  held_others n k ln lk (inr d) =
-      held_else (serving_at t n k) n (place_differs n k c lk wide (inr d.1)) (place_differs n k t.data_columns lk last_wide (inr (λ e. absurd (omega (arith, d.0)))))
-
-  held_elsewhere : (n m : ℕ) → (m ≢ s) ⊎ ((k : ℕ) → k < width t → serving_at t s k ≢ n) → both_at t h s c block left n m ≡ h n m
-  held_elsewhere n m (inl d) = held_else n m (inr d) (inr d)
-  held_elsewhere n m (inr d) = held_else n m (inl (λ e. d c wide (sym e))) (inl (λ e. d t.data_columns last_wide (sym e)))
+left_block : (kept : Bool) (was left : Option (List ℕ)) (new : List ℕ) → IsKept kept was new left → kept ≡ false → IsLeft was new left
+left_block true was left new k e = absurd (cc)
+left_block false was left new k e = k
 
 -- the writes of a put and its entry
-module _ (told : Type 0) (job s c : ℕ) (block p : List ℕ) (kept : Bool) (mid new : GroupView) (puts : PutsBoth told job s c block p kept mid new) (table : IsTable mid.table) (one : mid.table.parity ≡ 1) where
-  its_column : c < mid.table.data_columns
-  its_column = omega (arith, puts.logs.replay.0.1.1, table.cursor.column)
+puts_block : (told : Type 0) (job s c : ℕ) (block p q : List ℕ) (kept kept2 : Bool) (mid new : GroupView) → PutsAll told job s c block p q kept kept2 mid new → told
+    → HasOld told mid.table mid.shelves.held s p q → PutsBlock job s c block p q kept kept2 mid.table mid.shelves.held (state_of new)
+puts_block told job s c block p q kept kept2 mid new puts t old =
+    let w = puts.writes.wrote t in
+    record {
+      legal = puts.logs.replay.0;
+      table = puts.logs.replay.1;
+      written = w.0;
+      writes = record {
+        is_block = puts.is_block;
+        old_p = old.first t;
+        old_q = old.second t;
+        data_block = w.1.data_block;
+        new_p = new_block kept _ _ (xor p block) w.1.first;
+        new_q = (λ two. new_block kept2 _ _ (xor q (scaled (power 3 c) block)) (w.1.second two));
+        others = w.1.others;
+      };
+      left_p = left_block kept _ _ (xor p block) w.1.first;
+      left_q = (λ two. left_block kept2 _ _ (xor q (scaled (power 3 c) block)) (w.1.second two));
+      elsewhere = w.1.elsewhere;
+      loses = (λ n m b e. (w.2 n).keeps m b e);
+    }
 
-  its_entry : one_put job s c block p kept ≡ put_entry mid.table.parity job s c block p p kept kept
-  its_entry = ap (λ n. put_entry n job s c block p p kept kept) (sym one)
-
-  puts_block : told → IsOld (stripe_of mid.table mid.shelves.held s) mid.table.data_columns p → PutsBlock job s c block p p kept kept mid.table mid.shelves.held (state_of new)
-  puts_block t old =
-      let holds : (left : Option (List ℕ)) × IsKept kept mid.shelves.held mid.table s (xor p block) left × LosesFrom (both_at mid.table mid.shelves.held s c block left) mid.shelves new.shelves = puts.holds t in
-      record {
-        legal = subst (λ e. Legal mid.table e) its_entry puts.logs.replay.0;
-        table = subst (λ e. new.table ≡ after mid.table e) its_entry puts.logs.replay.1;
-        written = both_at mid.table mid.shelves.held s c block holds.0;
-        writes = record {
-          is_block = puts.is_block;
-          old_p = old;
-          old_q = (λ two. absurd (omega (arith, one, two)));
-          data_block = held_data mid.table table mid.shelves.held s c its_column block holds.0;
-          new_p = (λ e. held_parity mid.table table mid.shelves.held s c its_column block holds.0 ∙ kept_block kept mid.shelves.held mid.table s (xor p block) holds.0 holds.1 e);
-          new_q = (λ two e. absurd (omega (arith, one, two)));
-          others = held_others mid.table table mid.shelves.held s c its_column block holds.0;
-        };
-        left_p = (λ e. subst (λ x. IsLeft (held_at mid.table mid.shelves.held s mid.table.data_columns) (xor p block) x)
-            (sym (held_parity mid.table table mid.shelves.held s c its_column block holds.0))
-            (left_block kept mid.shelves.held mid.table s (xor p block) holds.0 holds.1 e));
-        left_q = (λ two e. absurd (omega (arith, one, two)));
-        elsewhere = held_elsewhere mid.table table mid.shelves.held s c its_column block holds.0;
-        loses = (λ n m b e. (holds.2 n).keeps m b e);
-      }
-
-module _ (told : Type 0) (job : ℕ) (parity block : List ℕ) (old mid new : GroupView) (f : Finds told job parity stop.Here old mid) (one : old.table.parity ≡ 1) where
-  still_one : mid.table.parity ≡ 1
-  still_one = ap (λ t. t.parity) f.means.0.replay ∙ f.passes.parity ∙ one
+module _ (told : Type 0) (job : ℕ) (p q block : List ℕ) (old mid new : GroupView) (f : Finds told job p q stop.Here old mid) where
+  same_parity : mid.table.parity ≡ old.table.parity
+  same_parity = ap (λ t. t.parity) f.means.0.replay ∙ f.passes.parity
 
   same_columns : mid.table.data_columns ≡ old.table.data_columns
   same_columns = ap (λ t. t.data_columns) f.means.0.replay ∙ f.passes.data_columns
 
-  old_parity : told → (s : ℕ) → s ≡ mid.table.cursor.stripe → IsOld (stripe_of mid.table mid.shelves.held s) mid.table.data_columns parity
-  old_parity t s e =
-      subst (λ n. IsOld (stripe_of mid.table mid.shelves.held n) mid.table.data_columns parity) (sym e)
-      (subst (λ u. IsOld (stripe_of u mid.shelves.held u.cursor.stripe) u.data_columns parity) (sym f.means.0.replay) (f.means.4 t))
+  old_blocks : (s : ℕ) → s ≡ mid.table.cursor.stripe → HasOld told mid.table mid.shelves.held s p q
+  old_blocks s e =
+      subst (λ n. HasOld told mid.table mid.shelves.held n p q) (sym e)
+      (subst (λ u. HasOld told u mid.shelves.held u.cursor.stripe p q) (sym f.means.0.replay) f.means.4)
 
   has_room : (e : Entry) → Logs (e ∷ []) mid new → length new.log ≤ log_bound
   has_room e l = one_more mid.log new.log e (subst (λ log. length log < log_bound) (sym (f.means.0.log ∙ append-nil f.now.log)) f.means.3) l.log
@@ -285,38 +225,59 @@ module _ (told : Type 0) (job : ℕ) (parity block : List ℕ) (old mid new : Gr
   all_logged : (e : Entry) → Logs (e ∷ []) mid new → Logs (skips job f.passed ++ e ∷ []) old new
   all_logged e l = logs_then (skips job f.passed) (e ∷ []) old mid new (logs_end (skips job f.passed) old f.now mid f.passes.logs f.means.0) l
 
-  put_logged : (s c : ℕ) (kept : Bool) (n : ℕ) → n ≡ 1 → Logs (one_put job s c block parity kept ∷ []) mid new
-      → Logs (skips job f.passed ++ put_entry n job s c block parity parity kept kept ∷ []) old new
-  put_logged s c kept n e l =
-      subst (λ n. Logs (skips job f.passed ++ put_entry n job s c block parity parity kept kept ∷ []) old new) (sym e)
-      (all_logged (one_put job s c block parity kept) l)
+  put_logged : (s c : ℕ) (kept kept2 : Bool) → Logs (put_entry mid.table.parity job s c block p q kept kept2 ∷ []) mid new
+      → Logs (skips job f.passed ++ put_entry old.table.parity job s c block p q kept kept2 ∷ []) old new
+  put_logged s c kept kept2 l =
+      subst (λ n. Logs (skips job f.passed ++ put_entry n job s c block p q kept kept2 ∷ []) old new) same_parity
+      (all_logged (put_entry mid.table.parity job s c block p q kept kept2) l)
 
   failed : (s c : ℕ) → FailedAt mid new s c → FailedAt old new s c
   failed s c x = failed_since told job f.passed old f.now mid f.passes f.stays new s c f.means.0.replay x
 
-  -- the old parity block fits its slot, which the stripes passed left alone
-  fits_here : (s : ℕ) → s ≡ mid.table.cursor.stripe → FitsParity old.table s parity parity
-  fits_here s e = (
-    subst (λ n. FitsSlot (slot_at old.table n old.table.data_columns) parity) (sym (e ∙ ap (λ u. u.cursor.stripe) f.means.0.replay))
-        (subst (λ x. FitsSlot x parity) (f.passes.ahead f.now.table.cursor.stripe old.table.data_columns (omega arith) (omega (arith, one)))
-        (subst (λ k. FitsSlot (slot_at f.now.table f.now.table.cursor.stripe k) parity) f.passes.data_columns f.means.5)),
-    λ two. absurd (omega (arith, one, two)),
-  )
+  -- the old parity blocks fit their slots, which the stripes passed left alone
+  fits_at : (block : List ℕ) (c k : ℕ) → c ≡ k → k < width old.table → FitsSlot (slot_at f.now.table f.now.table.cursor.stripe c) block → FitsSlot (slot_at old.table f.now.table.cursor.stripe k) block
+  fits_at block c k e lk x =
+      subst (λ x. FitsSlot x block) (f.passes.ahead f.now.table.cursor.stripe k (omega arith) lk)
+      (subst (λ k. FitsSlot (slot_at f.now.table f.now.table.cursor.stripe k) block) e x)
 
-  pub here_logs : (result : Result Place PutFault) → BlockMeans told job block parity result mid new → PutLogs job block result old new
-  here_logs (Ok place) m =
-      (m.0 ∙ f.means.0.number ∙ f.passes.logs.number, (f.passed, parity, parity, fits_here place.stripe m.1, put_logged place.stripe place.column true old.table.parity one m.3.logs, f.passes.gones))
-  here_logs (Err (fault.Faulted column)) (inl m) =
+  fits_here : 1 ≤ old.table.parity → (s : ℕ) → s ≡ mid.table.cursor.stripe → FitsParity old.table s p q
+  fits_here some s e =
+      subst (λ n. FitsParity old.table n p q) (sym (e ∙ ap (λ u. u.cursor.stripe) f.means.0.replay)) (
+        fits_at p f.now.table.data_columns old.table.data_columns f.passes.data_columns (omega (arith, some)) f.means.4.fits.0,
+        λ two. fits_at q (f.now.table.data_columns + 1) (old.table.data_columns + 1) (ap (λ n. n + 1) f.passes.data_columns) (omega (arith, two)) (f.means.4.fits.1 (f.passes.parity ∙ two)),
+      )
+
+  -- which parity column failed
+  fails_at : (s c : ℕ) (kept kept2 : Bool) → PutsAll told job s c block p q kept kept2 mid new → (kept ≡ false) ⊎ (kept2 ≡ false) → FailedAt old new s (unkept mid.table.data_columns kept)
+  fails_at s c false kept2 puts which = failed s mid.table.data_columns (puts.writes.first refl)
+  fails_at s c true kept2 puts (inl e) = absurd (cc)
+  fails_at s c true kept2 puts (inr e) = failed s (mid.table.data_columns + 1) (puts.writes.second e).1
+
+  -- with two parity columns, where it is Q
+  which_failed : (s c : ℕ) (kept kept2 : Bool) → PutsAll told job s c block p q kept kept2 mid new → (kept ≡ false) ⊎ (kept2 ≡ false) → (kept ≡ false) ⊎ ((mid.table.parity ≡ 2) × (kept2 ≡ false))
+  which_failed s c kept kept2 puts (inl e) = inl e
+  which_failed s c kept kept2 puts (inr e) = inr ((puts.writes.second e).0, e)
+
+  in_old : (kept kept2 : Bool) → (kept ≡ false) ⊎ ((mid.table.parity ≡ 2) × (kept2 ≡ false)) → (kept ≡ false) ⊎ ((old.table.parity ≡ 2) × (kept2 ≡ false))
+  in_old kept kept2 (inl e) = inl e
+  in_old kept kept2 (inr e) = inr (sym same_parity ∙ e.0, e.1)
+
+  pub here_logs : 1 ≤ old.table.parity → (result : Result Place PutFault) → BlockMeans told job block p q result mid new → PutLogs job block result old new
+  here_logs some (Ok place) m =
+      (m.0 ∙ f.means.0.number ∙ f.passes.logs.number, (f.passed, p, q, fits_here some place.stripe m.1, put_logged place.stripe place.column true true m.3.logs, f.passes.gones))
+  here_logs some (Err (fault.Faulted column)) (inl m) =
       (f.passed, mid.table.cursor.stripe, failed mid.table.cursor.stripe column m.0.fails, inl (all_logged (entry.Fault job mid.table.cursor.stripe column) m.0.logs, inl (m.1 ∙ sym (ap (λ u. u.cursor.column) m.0.logs.replay.1))), f.passes.gones)
-  here_logs (Err (fault.Faulted column)) (inr m) = (
-    f.passed,
-    mid.table.cursor.stripe,
-    subst (λ c. FailedAt old new mid.table.cursor.stripe c) (sym m.1) (failed mid.table.cursor.stripe mid.table.data_columns (m.0.fails refl)),
-    inr (mid.table.cursor.column, parity, parity, false, false, m.1 ∙ same_columns, inl refl, fits_here mid.table.cursor.stripe refl, put_logged mid.table.cursor.stripe mid.table.cursor.column false old.table.parity one m.0.logs),
-    f.passes.gones,
-  )
-  here_logs (Err fault.Full) m = absurd m
-  here_logs (Err fault.LogFull) m = absurd m
+  here_logs some (Err (fault.Faulted column)) (inr (kept, kept2, puts, which, is)) =
+      let s : ℕ = mid.table.cursor.stripe in
+      let c : ℕ = mid.table.cursor.column in (
+        f.passed,
+        s,
+        subst (λ k. FailedAt old new s k) (sym is) (fails_at s c kept kept2 puts which),
+        inr (c, p, q, kept, kept2, is ∙ ap (λ n. unkept n kept) same_columns, in_old kept kept2 (which_failed s c kept kept2 puts which), fits_here some s refl, put_logged s c kept kept2 puts.logs),
+        f.passes.gones,
+      )
+  here_logs some (Err fault.Full) m = absurd m
+  here_logs some (Err fault.LogFull) m = absurd m
 
   passes_here : told → PassesTo job f.passed (state_of old) mid.table mid.shelves.held
   passes_here t = passes_to told job f.passed old f.now mid f.passes f.stays mid.table f.means.0.replay t
@@ -324,6 +285,12 @@ module _ (told : Type 0) (job : ℕ) (parity block : List ℕ) (old mid new : Gr
   logged_here : told → (entries : List Entry) → Logs entries old new → length new.log ≤ log_bound → ((n : ℕ) → new.shelves.heard n ≡ mid.shelves.heard n)
       → StepLogs entries (state_of old) (state_of new)
   logged_here t entries l room heard = logged told job f.passed old f.now mid f.passes f.stays t entries new l room heard
+
+  -- the entry of the put
+  put_here : told → (s c : ℕ) (kept kept2 : Bool) → PutsAll told job s c block p q kept kept2 mid new → StepLogs (skips job f.passed ++ put_entry mid.table.parity job s c block p q kept kept2 ∷ []) (state_of old) (state_of new)
+  put_here t s c kept kept2 puts =
+      let e : Entry = put_entry mid.table.parity job s c block p q kept kept2 in
+      logged_here t (skips job f.passed ++ e ∷ []) (all_logged e puts.logs) (has_room e puts.logs) (puts.writes.heard t)
 
   -- the data block was not written
   none_step : (column : ℕ) → PutsNone told job mid.table.cursor.stripe column block mid new → column ≡ mid.table.cursor.column → told
@@ -351,21 +318,19 @@ module _ (told : Type 0) (job : ℕ) (parity block : List ℕ) (old mid new : Gr
         loses = (λ k m b h. (holds.2 k).keeps m b h);
       }
 
-  pub here_step : IsTable mid.table → (result : Result Place PutFault) → BlockMeans told job block parity result mid new → told → PutStep job block (put_as result) (state_of old) (state_of new)
-  here_step table (Ok place) m t = record {
+  pub here_step : (result : Result Place PutFault) → BlockMeans told job block p q result mid new → told → PutStep job block (put_as result) (state_of old) (state_of new)
+  here_step (Ok place) m t = record {
     passed = f.passed;
     at = mid.table;
     now = mid.shelves.held;
-    p = parity;
-    q = parity;
+    p = p;
+    q = q;
     passes = passes_here t;
-    puts = puts_block told job place.stripe place.column block parity true mid new m.3 table still_one t (old_parity t place.stripe m.1);
-    logs = logged_here t (skips job f.passed ++ put_entry mid.table.parity job place.stripe place.column block parity parity true true ∷ [])
-        (put_logged place.stripe place.column true mid.table.parity still_one m.3.logs)
-        (has_room (one_put job place.stripe place.column block parity true) m.3.logs) (m.3.heard t);
+    puts = puts_block told job place.stripe place.column block p q true true mid new m.3 t (old_blocks place.stripe m.1);
+    logs = put_here t place.stripe place.column true true m.3;
   }
-  here_step table (Err (fault.Faulted column)) (inl m) t = inr (none_step column m.0 m.1 t)
-  here_step table (Err (fault.Faulted column)) (inr m) t =
+  here_step (Err (fault.Faulted column)) (inl m) t = inr (none_step column m.0 m.1 t)
+  here_step (Err (fault.Faulted column)) (inr (kept, kept2, puts, which, is)) t =
       let s : ℕ = mid.table.cursor.stripe in
       let c : ℕ = mid.table.cursor.column in
       inl (record {
@@ -374,16 +339,15 @@ module _ (told : Type 0) (job : ℕ) (parity block : List ℕ) (old mid new : Gr
         now = mid.shelves.held;
         s = s;
         c = c;
-        p = parity;
-        q = parity;
-        kept = false;
-        kept2 = false;
+        p = p;
+        q = q;
+        kept = kept;
+        kept2 = kept2;
         passes = passes_here t;
-        puts = puts_block told job s c block parity false mid new m.0 table still_one t (old_parity t s refl);
-        logs = logged_here t (skips job f.passed ++ put_entry mid.table.parity job s c block parity parity false false ∷ [])
-            (put_logged s c false mid.table.parity still_one m.0.logs) (has_room (one_put job s c block parity false) m.0.logs) (m.0.heard t);
-        fails = inl refl;
-        names = m.1 ∙ same_columns;
+        puts = puts_block told job s c block p q kept kept2 mid new puts t (old_blocks s refl);
+        logs = put_here t s c kept kept2 puts;
+        fails = which_failed s c kept kept2 puts which;
+        names = is ∙ ap (λ n. unkept n kept) same_columns;
       })
-  here_step table (Err fault.Full) m t = absurd m
-  here_step table (Err fault.LogFull) m t = absurd m
+  here_step (Err fault.Full) m t = absurd m
+  here_step (Err fault.LogFull) m t = absurd m

@@ -64,9 +64,13 @@ written_after before now slot block (Err e) left keeps (inl w) = there (now slot
     there None w keeps = inr (inr w)
     there (Some b) w keeps = inl (w ∙ sym (keeps b refl))
 
+-- a write after other changes and losses
+pub write_then : (h : Holdings) (a b c : Shelves) (n slot : ℕ) (block : List ℕ) (r : Result (Unit {0}) Failed) → LosesFrom h a b → WritesInto n slot block r b c
+    → (left : Option (List ℕ)) × IsWritten r (h n) slot block left × LosesFrom (put_at h n slot left) a c
+write_then h a b c n slot block r l w = (w.0, written_after (h n) (b.held n) slot block r w.0 (λ x e. (l n).keeps slot x e) w.1, loses_put h a b c n slot w.0 l w.2)
+
 pub into_after : (a b c : Shelves) (n slot : ℕ) (block : List ℕ) (r : Result (Unit {0}) Failed) → LosesFrom a.held a b → WritesInto n slot block r b c → WritesInto n slot block r a c
-into_after a b c n slot block r l w =
-    (w.0, written_after (a.held n) (b.held n) slot block r w.0 (λ x e. (l n).keeps slot x e) w.1, loses_put a.held a b c n slot w.0 l w.2)
+into_after a b c n slot block r l w = write_then a.held a b c n slot block r l w
 
 pub put_at-here : (h : Holdings) (n slot : ℕ) (x : Option (List ℕ)) → put_at h n slot x n slot ≡ x
 put_at-here h n slot x = elim (eqb_tells n n) [ inl e ↦ rw e.0 (at_slot-here (h n) slot x) | inr e ↦ absurd (e.1 refl) ]

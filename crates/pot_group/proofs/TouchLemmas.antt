@@ -221,28 +221,32 @@ module _ {A : Type 0} (told : Type 0) (meaning : A → Meaning) (marks : List Ma
     heard = (λ z. hears number _ old new t (t.by.hears z));
   }
 
+  others : (number slot : ℕ) (into : List ℕ) (result : Result IsHeld Failed) (old new : List (Shelf A)) → Touches number (Calls meaning (Reads told slot into result)) old new
+      → told → (n m : ℕ) → n ≢ number → (data_of new).held n m ≡ (data_of old).held n m
+  others number slot into result old new t z n m ne = ap (given (λ x. (meaning x).held m) None) (t.others n ne)
+
   reads_there : (number slot : ℕ) (into : List ℕ) (result : Result IsHeld Failed) (old new : List (Shelf A))
       → (t : Touches number (Calls meaning (Reads told slot into result)) old new) → told → ReadTells ((data_of new).held number) slot into result
   reads_there number slot into result old new t z = subst (λ (w : Option (Shelf A)). ReadTells (λ m. given (λ x. (meaning x).held m) None w) slot into result) (sym t.now) (t.by.tells z)
 
   module _ (number slot : ℕ) (digest : Digest) (into : List ℕ) (result : Result IsHeld Failed) (old new : List (Shelf A)) (t : Touches number (Calls meaning (Reads told slot into result)) old new) where
     pub finds_sound : result ≡ Ok Held → digest_of into ≡ digest → Finds told number slot digest into Sound (data_of old) (data_of new)
-    finds_sound e d = record { stays = stays number slot into result old new t; means = (d, λ z. subst (ReadTells ((data_of new).held number) slot into) e (reads_there number slot into result old new t z)) }
+    finds_sound e d = record { stays = stays number slot into result old new t; others = others number slot into result old new t; means = (d, λ z. subst (ReadTells ((data_of new).held number) slot into) e (reads_there number slot into result old new t z)) }
 
     pub finds_other : result ≡ Ok Held → digest_of into ≢ digest → Finds told number slot digest into Missing (data_of old) (data_of new)
-    finds_other e d = record { stays = stays number slot into result old new t; means = λ z b h q. d (ap digest_of (same into b (sym (subst (ReadTells ((data_of new).held number) slot into) e (reads_there number slot into result old new t z)) ∙ h)) ∙ q) }
+    finds_other e d = record { stays = stays number slot into result old new t; others = others number slot into result old new t; means = λ z b h q. d (ap digest_of (same into b (sym (subst (ReadTells ((data_of new).held number) slot into) e (reads_there number slot into result old new t z)) ∙ h)) ∙ q) }
       where
         same : (a b : List ℕ) → Some a ≡ Some b → a ≡ b
         same a b e = cc
 
     pub finds_absent : result ≡ Ok Absent → Finds told number slot digest into Missing (data_of old) (data_of new)
-    finds_absent e = record { stays = stays number slot into result old new t; means = λ z b h q. none b (sym (subst (ReadTells ((data_of new).held number) slot into) e (reads_there number slot into result old new t z)) ∙ h) }
+    finds_absent e = record { stays = stays number slot into result old new t; others = others number slot into result old new t; means = λ z b h q. none b (sym (subst (ReadTells ((data_of new).held number) slot into) e (reads_there number slot into result old new t z)) ∙ h) }
       where
         none : (b : List ℕ) → None ≡ Some b → ⊥
         none b e = cc
 
     pub finds_failed : (f : Failed) → result ≡ Err f → Finds told number slot digest into NotRead (data_of old) (data_of new)
-    finds_failed f e = record { stays = stays number slot into result old new t; means = rose number _ old new t (t.by.cause.rose (subst IsErr (sym e) refl)) }
+    finds_failed f e = record { stays = stays number slot into result old new t; others = others number slot into result old new t; means = rose number _ old new t (t.by.cause.rose (subst IsErr (sym e) refl)) }
 
   -- MARKS
 

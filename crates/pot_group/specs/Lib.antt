@@ -1,6 +1,7 @@
 pub mod Shelves
 pub mod Causes
 pub mod Opening
+pub mod Filling
 pub mod Group
 pub mod Arrivals
 pub mod Beginning

@@ -49,7 +49,7 @@ pub record Comes {A : Type 0} (told : Type 0) (meaning : A → Meaning) (e : Ent
   pub room : length old.log < 262144
   pub fresh : Contains old.shelves.numbers shelf.number → ⊥
   pub acts : Acts e [] old new
-  pub brings : Brings told shelf.number (meaning shelf.archive).held (meaning shelf.archive).heard old.shelves new.shelves
+  pub brings : Brings told shelf.number (meaning shelf.archive) old.shelves new.shelves
   pub steps : told → step.BringStep e shelf.number (meaning shelf.archive).held (meaning shelf.archive).heard (state_of old) (state_of new)
 
 -- how many slots of a column are Live

@@ -1,8 +1,8 @@
 -- The opening of a group: what it reads, what it logs of it, and what the archives do meanwhile.
-use Rattle.std.specs.Prelude.{◌≡◌, ◌≢◌, ◌⊎◌, ◌≤◌, ◌<◌, ◌+◌, ◌-◌, ◌^◌, ◌==◌, ◌&&◌, ◌++◌, ℕ, zero, suc, Bool, true, false, IsTrue, List, [], ◌∷◌, Option, Some, None, Contains, slice_index, if◌then◌else◌}
+use Rattle.std.specs.Prelude.{◌≡◌, ◌≢◌, ◌⊎◌, ◌≤◌, ◌<◌, ◌+◌, ◌-◌, ◌^◌, ◌==◌, ◌&&◌, ◌++◌, ℕ, zero, suc, nat_le, Bool, true, false, IsTrue, List, [], ◌∷◌, Option, Some, None, Contains, slice_index, if◌then◌else◌}
 use Rattle.pot_bytes.specs.declared.digest.Digest.{Digest}
 use Rattle.pot_bytes.specs.Sums.{xor, zero_block}
-use Rattle.pot_bytes.specs.Totals.{total}
+use Rattle.pot_bytes.specs.Weighted.{scaled}
 use Rattle.pot_machine.specs.declared.slot.SlotState.{SlotState}
 use Rattle.pot_machine.specs.declared.slot.SlotState.TheVariants as slot
 use Rattle.pot_machine.specs.declared.entry.Entry.{Entry}
@@ -12,13 +12,14 @@ use Rattle.pot_machine.specs.Column.{names}
 use Rattle.pot_machine.specs.Table.{Table, width, slot_at, column_at, serving_at, count}
 use Rattle.pot_machine.specs.Machine.{Replays, TakesBroke}
 use Rattle.pot_bytes.specs.Lists.{IsBlock}
+use Rattle.pot_steps.specs.Equations.{sum_at, p_weight, q_weight}
 use Rattle.pot_steps.specs.Stripe.{Stripe, Sound, digest_of}
 use Rattle.pot_steps.specs.Holdings.{stripe_of}
 use Rattle.pot_steps.specs.GroupStep.{FindsGone, Breaks, Spared, as_read, entries_where, opening}
 use Rattle.pot_group.specs.declared.opening.Part.{Part}
 use Rattle.pot_group.specs.declared.opening.Part.TheVariants.{Empty, Present, Missing, Broken}
 use Rattle.pot_group.specs.declared.opening.Shortage.{Shortage}
-use Rattle.pot_group.specs.declared.opening.Shortage.TheVariants.{Nothing, One, More}
+use Rattle.pot_group.specs.declared.opening.Shortage.TheVariants.{Nothing, One, Two, More}
 use Rattle.pot_group.specs.Shelves.{Shelves, Stays}
 
 -- each home and each target of the table is one of these archives
@@ -87,7 +88,8 @@ pub record OpensSlot (told : Type 0) (s c : ℕ) (t u : Table) (before now : Lis
 -- one slot more that gave no block and is not Broken
 abbrev pub short_one : Shortage → ℕ → Digest → Shortage
 short_one Nothing c d = One c d
-short_one (One u e) c d = More
+short_one (One u e) c d = Two u e c d
+short_one (Two u e k f) c d = More
 short_one More c d = More
 
 -- one part more
@@ -97,11 +99,19 @@ short_by shortage c Present = shortage
 short_by shortage c (Missing d) = short_one shortage c d
 short_by shortage c Broken = More
 
-abbrev pub sum_by : Part → List ℕ → List ℕ → List ℕ
-sum_by Empty sum block = sum
-sum_by Present sum block = xor sum block
-sum_by (Missing d) sum block = sum
-sum_by Broken sum block = sum
+-- the sum of P once a slot gave this
+abbrev pub first_by : ℕ → ℕ → Part → List ℕ → List ℕ → List ℕ
+first_by data_columns c Empty sum block = sum
+first_by data_columns c Present sum block = if nat_le c data_columns then xor sum block else sum
+first_by data_columns c (Missing d) sum block = sum
+first_by data_columns c Broken sum block = sum
+
+-- and that of Q
+abbrev pub second_by : ℕ → ℕ → Part → List ℕ → List ℕ → List ℕ
+second_by data_columns c Empty sum block = sum
+second_by data_columns c Present sum block = xor sum (scaled (q_weight data_columns c) block)
+second_by data_columns c (Missing d) sum block = sum
+second_by data_columns c Broken sum block = sum
 
 -- a block, or zeros for none
 abbrev pub or_zeros : Option (List ℕ) → List ℕ
@@ -116,23 +126,32 @@ IsWell s c = (s.slots c ≡ slot.Void) ⊎ Sound s c
 abbrev pub IsUnwell : Stripe → ℕ → Type 0
 IsUnwell s c = (s.slots c ≢ slot.Void) × (Sound s c → ⊥)
 
+-- the slot has this digest, is not Broken, and gave no block
+abbrev pub IsAbsent : Stripe → ℕ → Digest → Type 0
+IsAbsent s c d = ((s.slots c ≡ slot.Live d) ⊎ (s.slots c ≡ slot.Lost d)) × (Sound s c → ⊥)
+
 -- which of the first `n` slots gave no block
 abbrev pub IsShort : ℕ → Stripe → Shortage → Type 0
 IsShort n s Nothing = (c : ℕ) → c < n → IsWell s c
-IsShort n s (One u d) =
-    (u < n) × ((s.slots u ≡ slot.Live d) ⊎ (s.slots u ≡ slot.Lost d)) × (Sound s u → ⊥) × ((c : ℕ) → c < n → c ≢ u → IsWell s c)
+IsShort n s (One u d) = (u < n) × IsAbsent s u d × ((c : ℕ) → c < n → c ≢ u → IsWell s c)
+IsShort n s (Two u d k e) = (u < k) × (k < n) × IsAbsent s u d × IsAbsent s k e × ((c : ℕ) → c < n → c ≢ u → c ≢ k → IsWell s c)
 IsShort n s More =
     ((c : ℕ) × (d : Digest) × (c < n) × (s.slots c ≡ slot.Broken d))
-    ⊎ ((c : ℕ) × (k : ℕ) × (c < k) × (k < n) × IsUnwell s c × IsUnwell s k)
+    ⊎ ((c : ℕ) × (j : ℕ) × (k : ℕ) × (c < j) × (j < k) × (k < n) × IsUnwell s c × IsUnwell s j × IsUnwell s k)
 
--- the sum of the blocks that were read of the first `n` columns
-pub record IsSum (n : ℕ) (read : ℕ → Option (List ℕ)) (sum : List ℕ) : Type 0 where
+-- the sum of weight times block over the blocks that were read of the first `n` columns
+pub record IsSum (n : ℕ) (weight : ℕ → ℕ) (read : ℕ → Option (List ℕ)) (sum : List ℕ) : Type 0 where
   pub block : IsBlock sum
+  pub bytes : (k : ℕ) → slice_index sum k ≡ sum_at n weight (λ c. or_zeros (read c)) k
+
+-- the sums of both equations, that of Q where there are two parity columns
+pub record AreSums (data_columns parity n : ℕ) (read : ℕ → Option (List ℕ)) (p q : List ℕ) : Type 0 where
   pub blocks : (c : ℕ) → c < n → IsBlock (or_zeros (read c))
-  pub bytes : (k : ℕ) → slice_index sum k ≡ total n (λ c. slice_index (or_zeros (read c)) k)
+  pub first : IsSum n (p_weight data_columns) read p
+  pub second : parity ≡ 2 → IsSum n (q_weight data_columns) read q
 
 -- The first `n` columns of a stripe are opened.
-pub record OpensColumns (told : Type 0) (n s : ℕ) (t u : Table) (before now : List Entry) (shortage : Shortage) (sum : List ℕ) (old new : Shelves) : Type 0 where
+pub record OpensColumns (told : Type 0) (n s : ℕ) (t u : Table) (before now : List Entry) (shortage : Shortage) (p q : List ℕ) (old new : Shelves) : Type 0 where
   pub read : ℕ → Option (List ℕ)
   pub gone : ℕ → Bool
   pub failed : ℕ → Bool
@@ -141,7 +160,7 @@ pub record OpensColumns (told : Type 0) (n s : ℕ) (t u : Table) (before now : 
   pub lives : (c : ℕ) (b : List ℕ) → c < n → read c ≡ Some b → slot_at t s c ≡ slot.Live (digest_of b)
   pub finds : FindsGone n (as_read t (λ _ c. read c) s) gone
   pub short : IsShort n (as_read t (λ _ c. read c) s) shortage
-  pub adds : IsSum n read sum
+  pub adds : AreSums t.data_columns t.parity n read p q
   pub log : now ≡ before ++ entries_where n gone (Gone 0 s)
   pub replay : Replays t (entries_where n gone (Gone 0 s)) u
   pub few : (number : ℕ) → FailedSo old new number (count n (λ c. failed c && (serving_at t s c == number)))
@@ -151,16 +170,6 @@ pub record OpensColumns (told : Type 0) (n s : ℕ) (t u : Table) (before now : 
   pub stays : Stays told old new
 
 -- ONE STRIPE
-
--- The slot that breaks, if one does. Where no block is short, the blocks add up to zeros, or the parity slot breaks. Where
--- one is short, the others add up to a block of its digest, or its slot breaks.
-abbrev pub IsBroken : ℕ → Shortage → List ℕ → Option ℕ → Type 0
-IsBroken parity_column Nothing sum None = sum ≡ zero_block
-IsBroken parity_column Nothing sum (Some c) = (c ≡ parity_column) × (sum ≢ zero_block)
-IsBroken parity_column (One u d) sum None = digest_of sum ≡ d
-IsBroken parity_column (One u d) sum (Some c) = (c ≡ u) × (digest_of sum ≢ d)
-IsBroken parity_column More sum None = Unit {0}
-IsBroken parity_column More sum (Some c) = ⊥
 
 -- One stripe is opened. `read` has the block of each place that gave one of its digest, and `failed` is true where a read failed.
 pub record OpensStripe (told : Type 0) (s : ℕ) (t u : Table) (before now : List Entry) (old new : Shelves) : Type 0 where

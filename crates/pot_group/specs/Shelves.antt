@@ -109,9 +109,11 @@ FoundMeans told number slot digest into Sound old new = (digest_of into ≡ dige
 FoundMeans told number slot digest into Missing old new = told → (b : List ℕ) → new.held number slot ≡ Some b → digest_of b ≢ digest
 FoundMeans told number slot digest into NotRead old new = Rose (old.faults number) (new.faults number)
 
+-- An archive was read. The others hold what they held.
 pub record Finds (told : Type 0) (number slot : ℕ) (digest : Digest) (into : List ℕ) (found : Found) (old new : Shelves) : Type 0 where
   pub stays : Stays told old new
   pub means : FoundMeans told number slot digest into found old new
+  pub others : told → (n m : ℕ) → n ≢ number → new.held n m ≡ old.held n m
 
 -- A block of a slot of an archive is folded into a sum. That archive alone hears.
 pub record Folds (told : Type 0) (number slot weight : ℕ) (before sum : List ℕ) (result : Result IsHeld Failed) (old new : Shelves) : Type 0 where
@@ -123,11 +125,12 @@ pub record Folds (told : Type 0) (number slot weight : ℕ) (before sum : List �
   pub silent : told → (n : ℕ) → n ≢ number → new.heard n ≡ old.heard n
   pub cause : IsErr result → Rose (old.faults number) (new.faults number)
 
--- An archive comes under a number that no other has. Its marks are taken then, and the others stay as they are.
-pub record Brings (told : Type 0) (number : ℕ) (held : ℕ → Option (List ℕ)) (heard : List (ℕ × List ℕ)) (old new : Shelves) : Type 0 where
+-- An archive that means this comes under a number that no other has. Its marks are taken then, and are its counts; the others stay as they are.
+pub record Brings (told : Type 0) (number : ℕ) (m : Meaning) (old new : Shelves) : Type 0 where
   pub numbers : new.numbers ≡ old.numbers ++ number ∷ []
-  pub blocks : (slot : ℕ) → new.held number slot ≡ held slot
-  pub sums : new.heard number ≡ heard
+  pub blocks : (slot : ℕ) → new.held number slot ≡ m.held slot
+  pub sums : new.heard number ≡ m.heard
+  pub counts : (new.faults number ≡ m.faults) × (new.losses number ≡ m.losses)
   pub marked : new.faults_taken number ≡ new.faults number
   pub marked_losses : told → new.losses_taken number ≡ new.losses number
   -- a number without an archive has nothing

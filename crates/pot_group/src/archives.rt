@@ -98,7 +98,7 @@ impl<A: Archive> Archives<A> {
     /// Adds an archive of a number that none has, with its marks now. Where memory is short it comes back.
     pub(crate) fn bring(&mut self, shelf: Shelf<A>) -> Result<(), Shelf<A>>
         requires fresh { Contains (numbers_of self.old.shelves) shelf.number → ⊥ }
-        ensures brought { IfOk result (λ u. Brings (IsTrue A.account.tells) shelf.number (A.account.meaning shelf.archive).held (A.account.meaning shelf.archive).heard (plain A.account.meaning self.old) (plain A.account.meaning self.new)) }
+        ensures brought { IfOk result (λ u. Brings (IsTrue A.account.tells) shelf.number (A.account.meaning shelf.archive) (plain A.account.meaning self.old) (plain A.account.meaning self.new)) }
         ensures refused { IfErr result (λ s. (s ≡ shelf) × (self.new ≡ self.old)) }
     {
         if self.shelves.reserve(1).is_err() {

@@ -24,7 +24,7 @@ impl<A: Archive> Group<A> {
 
     /// The group of this number over a table and its archives, opened: the block of every Live slot is read, and what is
     /// missing or does not fit its stripe is logged by job 0. The archives are, column by column, the home and then the
-    /// target of the move. The table has one parity column.
+    /// target of the move.
     ///
     /// # Errors
     /// `StartRefused` for want of memory alone, before any read.
@@ -35,7 +35,6 @@ impl<A: Archive> Group<A> {
         shelves: Vec<Shelf<A>>,
     ) -> Result<Group<A>, StartRefused<A>>
         requires relays { table.relays ≡ [] }
-        requires parity { table.parity ≡ 1 }
         requires shelves { map (λ s. s.number) shelves.items ≡ archives_in table }
         ensures begins { IfOk result (λ g. Begins (IsTrue A.account.tells) A.account.meaning number table shelves.items g) }
         ensures refused { IfErr result (λ r. (r.table ≡ table) × (r.shelves ≡ shelves)) }
@@ -66,7 +65,6 @@ impl<A: Archive> Group<A> {
     ) -> Group<A>
         requires first { first ≡ table }
         requires relays { table.relays ≡ [] }
-        requires parity { table.parity ≡ 1 }
         requires log { log.items ≡ [] }
         requires room { 262144 ≤ vec_capacity log }
         requires none { flights.items ≡ [] }

@@ -6,13 +6,14 @@
 //!
 //! Relays rebuild slots that are Lost or Broken, a column moves to another archive stripe by stripe, and an archive is replaced,
 //! while puts and looks go on. It knows no file, no thread and no name, stores no table and no log, and does not choose the group
-//! that a block goes to. It takes memory at `start`, `move_begin` and `swap` alone. `start` and `put` ask for a table with one
-//! parity column. A call that logs takes a job above 0, since job 0 is the opening's. Digests that are known already (`expect`, and
-//! those of the last put) are not taken anew; that changes no answer.
+//! that a block goes to. It takes memory at `start`, `move_begin` and `swap` alone. A group has one parity column or two, and
+//! every call holds for both. A call that logs takes a job above 0, since job 0 is the opening's. Digests that are known already
+//! (`expect`, and those of the last put) are not taken anew; that changes no answer.
 //!
-//! The equation of a stripe: the XOR of its data blocks and of the parity block P is zeros, with zeros for a slot that is Void.
-//! A put of a block D fills a slot that is Void, so the new parity block is P XOR D. D is written first: where its write
-//! fails, the slot is still Void and P stays.
+//! The equations of a stripe, with zeros for a slot that is Void: the XOR of its data blocks and of the parity block P is zeros,
+//! and where there are two parity columns, so is the XOR of 3^c times the block of each data column c and of the parity block Q.
+//! A put of a block D at column c fills a slot that is Void, so the new parity blocks are P XOR D and Q XOR 3^c times D. D is
+//! written first: where its write fails, the slot is still Void, and P and Q stay.
 //!
 //! Invariants of every `Group`, kept by its type (`IsSettled`); `end` hands them out as `settled`:
 //! 1. The log replays from the table that was read to the table now (`replay`; an entry is logged where it is applied, by `note`
@@ -41,21 +42,21 @@
 //!
 //! What `start` makes of a stripe, after a Gone for each Live slot that gave no block of its digest:
 //!
-//! | slots that are neither Void nor gave their block | the XOR of the blocks that were read | Broke |
+//! | slots that are neither Void nor gave their block | the blocks that were read | Broke |
 //! |---|---|---|
-//! | none | zeros | |
-//! | none | any other | the parity slot |
-//! | one, which is not Broken | of its digest | |
-//! | one, which is not Broken | of another digest | that slot |
-//! | one that is Broken, or two and more | any | |
+//! | none | add up to zeros in each equation | |
+//! | none | do not | each parity slot |
+//! | no more than there are parity columns, and none is Broken | give each of them a block of its digest, by all equations | |
+//! | the same | do not | each of them |
+//! | more, or one that is Broken | any | |
 //!
 //! What the other calls log. LogFull comes first, with no entry, where the log is full:
 //!
 //! | call | entries | answer |
 //! |---|---|---|
-//! | `put` | for each stripe that it passes Skip, or Gone of the parity slot and Skip; then one of these: | |
-//! | | Put | the place |
-//! | | Put, not kept | Faulted, of the parity column |
+//! | `put` | for each stripe that it passes Skip, or Gone of its first parity slot without its block and Skip; then one of these: | |
+//! | | Put, or Put2 with two parity columns | the place |
+//! | | Put or Put2 with a parity block that was not kept | Faulted, of the first such parity column |
 //! | | Fault | Faulted, of the column whose write or read failed |
 //! | | none, behind the last stripe | Full |
 //! | | none, or that Gone, where the next one has no room | LogFull |
@@ -75,6 +76,7 @@ mod archives;
 mod beginning;
 mod copying;
 mod counting;
+mod filling;
 mod finding;
 mod group;
 mod known;
@@ -84,6 +86,9 @@ mod move_tests;
 mod moving;
 mod noting;
 mod opening;
+mod parities;
+#[cfg(test)]
+mod parity_tests;
 mod putting;
 #[cfg(test)]
 mod relay_tests;

@@ -129,7 +129,7 @@ impl<A: Archive> Group<A> {
         requires fresh { Contains (plain A.account.meaning self.old.archives).numbers shelf.number → ⊥ }
         requires legal { Legal self.old.table (MoveBegin job column shelf.number) }
         requires room { length self.old.log < 262144 }
-        ensures came { IfOk result (λ u. (self.new ≡ acted (with_archives self.old self.new.archives) (MoveBegin job column shelf.number) []) × Brings (IsTrue A.account.tells) shelf.number (A.account.meaning shelf.archive).held (A.account.meaning shelf.archive).heard (plain A.account.meaning self.old.archives) (plain A.account.meaning self.new.archives)) }
+        ensures came { IfOk result (λ u. (self.new ≡ acted (with_archives self.old self.new.archives) (MoveBegin job column shelf.number) []) × Brings (IsTrue A.account.tells) shelf.number (A.account.meaning shelf.archive) (plain A.account.meaning self.old.archives) (plain A.account.meaning self.new.archives)) }
         ensures refused { IfErr result (λ s. (s ≡ shelf) × (self.new ≡ self.old)) }
     {
         let to = shelf.number;
@@ -148,7 +148,7 @@ impl<A: Archive> Group<A> {
         requires fresh { Contains (plain A.account.meaning self.old.archives).numbers shelf.number → ⊥ }
         requires legal { Legal self.old.table (Swapped job column shelf.number) }
         requires room { length self.old.log < 262144 }
-        ensures came { IfOk result (λ u. (self.new ≡ acted (with_archives self.old self.new.archives) (Swapped job column shelf.number) []) × Brings (IsTrue A.account.tells) shelf.number (A.account.meaning shelf.archive).held (A.account.meaning shelf.archive).heard (plain A.account.meaning self.old.archives) (plain A.account.meaning self.new.archives)) }
+        ensures came { IfOk result (λ u. (self.new ≡ acted (with_archives self.old self.new.archives) (Swapped job column shelf.number) []) × Brings (IsTrue A.account.tells) shelf.number (A.account.meaning shelf.archive) (plain A.account.meaning self.old.archives) (plain A.account.meaning self.new.archives)) }
         ensures refused { IfErr result (λ s. (s ≡ shelf) × (self.new ≡ self.old)) }
     {
         let to = shelf.number;

@@ -4,16 +4,20 @@ ghost use Rattle.pot_machine.specs.Table.{width, serving_at};
 ghost use Rattle.pot_machine.specs.Machine.{InRange};
 ghost use Rattle.pot_bytes.specs.Lists.{IsBlock};
 ghost use Rattle.pot_group.specs.Shelves.{plain};
-ghost use Rattle.pot_group.specs.Opening.{HasArchives, OpensSlot, OpensColumns, OpensStripe, Opens, IsBroken, short_by, sum_by};
+ghost use Rattle.pot_group.specs.Opening.{HasArchives, OpensSlot, OpensColumns, OpensStripe, Opens, short_by, first_by, second_by};
+ghost use Rattle.pot_machine.specs.declared.entry.Entry.TheVariants.{Broke};
 
-use crate::archives::{Archives, Found, has_digest};
+use crate::archives::{Archives, Found};
+use crate::filling::{Breaking, broken};
 use crate::known::Known;
 use crate::noting::note;
-use pot_bytes::{Block, Digest, block_law};
+use crate::parities::Parity;
+use pot_bytes::{Block, Digest, block_law, fold_weighted};
 use pot_machine::{Entry, GroupTable, SlotState};
 use pot_outside::Archive;
+use pot_steps::q_weight;
 
-/// What one slot gives to the sum of its stripe.
+/// What one slot gives to the sums of its stripe.
 #[derive(Clone, Copy)]
 pub(crate) enum Part {
     /// The slot is Void.
@@ -32,19 +36,28 @@ pub(crate) enum Shortage {
     /// None: each is Void, or its block was read.
     Nothing,
     /// One, which is not Broken.
-    One { column: u8, digest: Digest },
-    /// Two or more, or a Broken one.
+    One {
+        column: u8,
+        digest: Digest,
+    },
+    /// Two, of which none is Broken, in ascending order.
+    Two {
+        column: u8,
+        digest: Digest,
+        other: u8,
+        other_digest: Digest,
+    },
+    /// Three or more, or a Broken one.
     More,
 }
 
-/// Opens every stripe of a table with one parity column, in ascending order. It takes no memory but the log's room.
+/// Opens every stripe of a table, in ascending order. It takes no memory but the log's room.
 pub(crate) fn open_all<A: Archive>(
     table: &mut GroupTable,
     log: &mut Vec<Entry>,
     archives: &mut Archives<A>,
     known: &Known,
 )
-    requires parity { table.old.parity ≡ 1 }
     requires log { log.old.items ≡ [] }
     requires room { 262144 ≤ vec_capacity log.old }
     requires archives { HasArchives table.old (plain A.account.meaning archives.old).numbers }
@@ -57,7 +70,7 @@ pub(crate) fn open_all<A: Archive>(
     }
 }
 
-/// Reads a stripe, and notes first each slot whose block is missing, and then the one that its stripe does not give back.
+/// Reads a stripe, and notes first each slot whose block is missing, and then those that its stripe does not give back.
 fn open_stripe<A: Archive>(
     table: &mut GroupTable,
     log: &mut Vec<Entry>,
@@ -65,49 +78,62 @@ fn open_stripe<A: Archive>(
     known: &Known,
     stripe: u32,
 )
-    requires parity { table.old.parity ≡ 1 }
     requires stripe { stripe < table.old.stripes }
-    requires room { vec_len log.old + 18 ≤ vec_capacity log.old }
+    requires room { vec_len log.old + 20 ≤ vec_capacity log.old }
     requires archives { HasArchives table.old (plain A.account.meaning archives.old).numbers }
     ensures opens { OpensStripe (IsTrue A.account.tells) stripe table.old table.new log.old.items log.new.items (plain A.account.meaning archives.old) (plain A.account.meaning archives.new) }
     ensures capacity { vec_capacity log.old ≤ vec_capacity log.new }
-    ensures bound { length log.new.items ≤ length log.old.items + 18 }
+    ensures bound { length log.new.items ≤ length log.old.items + 20 }
 {
-    let parity_column = table.data_columns();
-    let mut sum = Block::zero();
-    let shortage = open_columns(table, log, archives, known, stripe, &mut sum);
-    if let Some(column) = broken(shortage, &sum, parity_column) {
-        let entry = Entry::Broke {
-            job: 0,
-            stripe,
-            column,
-        };
-        note(table, log, entry);
+    let data_columns = table.data_columns();
+    let parity_columns = table.parity();
+    let mut sums = Parity::zero();
+    let shortage = open_columns(table, log, archives, known, stripe, &mut sums);
+    match broken(shortage, &sums, data_columns, parity_columns) {
+        Breaking::Nothing => {}
+        Breaking::One { column } => note(table, log, broke(stripe, column)),
+        Breaking::Both { column, other } => {
+            note(table, log, broke(stripe, column));
+            note(table, log, broke(stripe, other));
+        }
     }
 }
 
-/// Reads the columns of a stripe in ascending order, and sums up the blocks that they gave.
+/// The entry of a slot that breaks.
+fn broke(stripe: u32, column: u8) -> Entry
+    ensures { result ≡ Broke 0 stripe column }
+{
+    Entry::Broke {
+        job: 0,
+        stripe,
+        column,
+    }
+}
+
+/// Reads the columns of a stripe in ascending order, and sums up the blocks that they gave, by both equations.
 fn open_columns<A: Archive>(
     table: &mut GroupTable,
     log: &mut Vec<Entry>,
     archives: &mut Archives<A>,
     known: &Known,
     stripe: u32,
-    sum: &mut Block,
+    sums: &mut Parity,
 ) -> Shortage
     requires stripe { stripe < table.old.stripes }
     requires room { vec_len log.old + width table.old ≤ vec_capacity log.old }
     requires archives { HasArchives table.old (plain A.account.meaning archives.old).numbers }
-    ensures opens { OpensColumns (IsTrue A.account.tells) (width table.old) stripe table.old table.new log.old.items log.new.items result sum.new (plain A.account.meaning archives.old) (plain A.account.meaning archives.new) }
+    ensures opens { OpensColumns (IsTrue A.account.tells) (width table.old) stripe table.old table.new log.old.items log.new.items result sums.new.first sums.new.second (plain A.account.meaning archives.old) (plain A.account.meaning archives.new) }
     ensures capacity { vec_capacity log.old ≤ vec_capacity log.new }
 {
-    *sum = Block::zero();
+    *sums = Parity::zero();
+    let data_columns = table.data_columns();
+    let parity_columns = table.parity();
     let mut shortage = Shortage::Nothing;
     let mut into = Block::zero();
-    let end = table.data_columns() + table.parity();
-    for column in 0..end {
+    for column in 0..data_columns + parity_columns {
         let part = open_slot(table, log, archives, known, stripe, column, &mut into);
-        shortage = add_part(shortage, column, part, sum, &into);
+        shortage = add_part(shortage, column, part);
+        add_block(sums, part, &into, column, data_columns, parity_columns);
     }
     shortage
 }
@@ -150,42 +176,51 @@ fn open_slot<A: Archive>(
 }
 
 /// One part more.
-fn add_part(shortage: Shortage, column: u8, part: Part, sum: &mut Block, block: &Block) -> Shortage
-    ensures short { result ≡ short_by shortage column part }
-    ensures sum { sum.new ≡ sum_by part sum.old block.now }
+fn add_part(shortage: Shortage, column: u8, part: Part) -> Shortage
+    ensures { result ≡ short_by shortage column part }
 {
     match part {
         Part::Empty => shortage,
-        Part::Present => {
-            sum.xor(block);
-            shortage
-        }
-        Part::Missing(digest) => match shortage {
-            Shortage::Nothing => Shortage::One { column, digest },
-            Shortage::One { .. } => Shortage::More,
+        Part::Present => shortage,
+        Part::Missing(missing) => match shortage {
+            Shortage::Nothing => Shortage::One {
+                column,
+                digest: missing,
+            },
+            Shortage::One {
+                column: first,
+                digest,
+            } => Shortage::Two {
+                column: first,
+                digest,
+                other: column,
+                other_digest: missing,
+            },
+            Shortage::Two { .. } => Shortage::More,
             Shortage::More => Shortage::More,
         },
         Part::Broken => Shortage::More,
     }
 }
 
-/// The slot whose block the other slots of the stripe do not give, if there is one.
-fn broken(shortage: Shortage, sum: &Block, parity_column: u8) -> Option<u8>
-    ensures { IsBroken parity_column shortage sum.now result }
+/// The block of a slot, where it gave one, is added to the sums.
+fn add_block(
+    sums: &mut Parity,
+    part: Part,
+    block: &Block,
+    column: u8,
+    data_columns: u8,
+    parity_columns: u8,
+)
+    ensures first { sums.new.first ≡ first_by data_columns column part sums.old.first block.now }
+    ensures second { parity_columns ≡ 2 → sums.new.second ≡ second_by data_columns column part sums.old.second block.now }
 {
-    match shortage {
-        Shortage::Nothing => {
-            if sum.bytes() == Block::zero().bytes() {
-                return None;
-            }
-            Some(parity_column)
+    if let Part::Present = part {
+        if column <= data_columns {
+            sums.first.xor(block);
         }
-        Shortage::One { column, digest } => {
-            if has_digest(sum, digest) {
-                return None;
-            }
-            Some(column)
+        if parity_columns == 2 {
+            fold_weighted(&mut sums.second, q_weight(data_columns, column), block);
         }
-        Shortage::More => None,
     }
 }

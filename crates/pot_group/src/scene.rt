@@ -1,5 +1,5 @@
-//! The stage of the tests: a group of number 5 with one to three data columns and one parity column, over archives in memory
-//! from number 0 on, whose blocks each repeat one byte.
+//! The stage of the tests: a group of number 5 with at most four columns, over archives in memory from number 0 on, whose blocks
+//! each repeat one byte.
 ghost use Rattle.std.specs.Prelude.{◌≡◌, ◌<◌, ◌∷◌, [], IsTrue, map};
 ghost use Rattle.pot_machine.specs.Table.{width};
 ghost use Rattle.std.specs.List.{flat_map};
@@ -22,6 +22,8 @@ pub(crate) const JOB: u32 = 7;
 pub(crate) struct Scene<'a> {
     /// The number of data columns.
     pub(crate) columns: u8,
+    /// The number of parity columns.
+    pub(crate) parity: u8,
     pub(crate) stripes: u32,
     /// The entries that led to the table.
     pub(crate) before: &'a [Entry],
@@ -33,9 +35,10 @@ pub(crate) struct Scene<'a> {
     pub(crate) losses: &'a [(u32, Loss)],
 }
 
-/// Two stripes of three data columns where nothing was put.
+/// Two stripes of three data columns and one parity column where nothing was put.
 pub(crate) const EMPTY: Scene<'static> = Scene {
     columns: 3,
+    parity: 1,
     stripes: 2,
     before: &[],
     blocks: [[0; 4]; 2],
@@ -125,6 +128,27 @@ pub(crate) fn put(stripe: u32, column: u8, byte: u8, parity: u8, kept: bool) -> 
     }
 }
 
+/// The same with two parity columns, of which the second has the block of `second` then.
+pub(crate) fn put2(
+    stripe: u32,
+    column: u8,
+    byte: u8,
+    parity: u8,
+    second: u8,
+    kept: (bool, bool),
+) -> Entry {
+    Entry::Put2 {
+        job: JOB,
+        stripe,
+        column,
+        digest: digest(byte),
+        parity_digest: digest(parity),
+        second_digest: digest(second),
+        kept: kept.0,
+        kept2: kept.1,
+    }
+}
+
 pub(crate) fn gone(job: u32, stripe: u32, column: u8) -> Entry {
     Entry::Gone {
         job,
@@ -209,7 +233,7 @@ fn table(alloc: Global, scene: &Scene) -> Result<GroupTable, Fail> {
     let rack = Rack {
         groups: 1,
         columns: scene.columns,
-        parity: 1,
+        parity: scene.parity,
         stripes: scene.stripes,
         geometry,
     };
@@ -252,10 +276,7 @@ pub(crate) fn start(
     table: GroupTable,
     shelves: Vec<Shelf<LossyArchive>>,
 ) -> Result<Group<LossyArchive>, Fail> {
-    if !are_homes(table.columns(), &shelves)
-        || table.parity() != 1
-        || table.relays() != [].as_slice()
-    {
+    if !are_homes(table.columns(), &shelves) || table.relays() != [].as_slice() {
         return Err(Fail::from("the table is another one"));
     }
     match Group::start(alloc, 5, table, shelves) {
@@ -272,7 +293,8 @@ pub(crate) fn start(
 /// Begins the group of a scene.
 pub(crate) fn begin(alloc: Global, scene: &Scene) -> Result<Group<LossyArchive>, Fail> {
     let mut shelves = Vec::new(alloc);
-    for number in 0..u32::from(scene.columns % 4) + 1 {
+    let archives = u32::from(scene.columns % 4) + u32::from(scene.parity % 3);
+    for number in 0..archives % 5 {
         let archive = archive(alloc, scene, number)?;
         shelves.push(Shelf { number, archive })?;
     }
@@ -331,9 +353,6 @@ pub(crate) fn make(
 }
 
 fn put_next(group: &mut Group<LossyArchive>, byte: u8) -> Answer {
-    if group.table.parity() != 1 {
-        return Answer::Refused;
-    }
     Answer::Put(group.put(JOB, &block(byte)))
 }
 

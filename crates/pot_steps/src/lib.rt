@@ -53,4 +53,4 @@ pub use laws::{
 };
 pub use moving::{move_begin, move_end, move_one};
 pub use rebuilding::{Finished, Hopped, begin, finish, give_up, hop, mended};
-pub use weighing::weight_of;
+pub use weighing::{power_of_three, q_weight, times_of, weight_of};

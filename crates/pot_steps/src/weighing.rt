@@ -59,6 +59,18 @@ fn weight(data_columns: u8, target: u8, out: u8, column: u8) -> u8
     mul(a, p_weight) ^ mul(b, q_weight(data_columns, column))
 }
 
+/// What the equations of P and of Q are taken times, so that in their sum column `target` has weight 1 and column `out` has
+/// weight 0.
+pub fn times_of(data_columns: u8, target: u8, out: u8) -> (u8, u8)
+    requires small { data_columns ≤ 16 }
+    requires apart { out ≢ target }
+    ensures first { result.0 ≡ p_times data_columns target out }
+    ensures second { result.1 ≡ q_times data_columns target out }
+{
+    let b = q_times(data_columns, target, out);
+    (p_times(data_columns, target, out, b), b)
+}
+
 /// What the equation of Q is taken times.
 fn q_times(data_columns: u8, target: u8, out: u8) -> u8
     requires small { data_columns ≤ 16 }
@@ -107,7 +119,7 @@ fn p_times(data_columns: u8, target: u8, out: u8, b: u8) -> u8
 }
 
 /// The weight of a column in the equation of Q.
-fn q_weight(data_columns: u8, column: u8) -> u8
+pub fn q_weight(data_columns: u8, column: u8) -> u8
     ensures { result ≡ q_weight data_columns column }
 {
     if column < data_columns {
@@ -119,9 +131,9 @@ fn q_weight(data_columns: u8, column: u8) -> u8
     }
 }
 
-/// 3 to the power `n`.
+/// 3 to the power `n`, the weight of data column `n` in the equation of Q.
 #[tactic(auto, using(crate::proofs::WeightLemmas::power_zero, crate::proofs::WeightLemmas::power_more))]
-fn power_of_three(n: u8) -> u8
+pub fn power_of_three(n: u8) -> u8
     ensures { result ≡ power 3 n }
 {
     let mut power = 1;

@@ -1,4 +1,4 @@
-use Rattle.std.proofs.Common.{◌≡◌, IsTrue, add-one, ap, ◌∙◌, subst, arith}
+use Rattle.std.proofs.Common.{◌≡◌, IsTrue, add-one, ap, subst, arith}
 use Rattle.pot_machine.specs.Table.{Table}
 use Rattle.pot_group.specs.Shelves.{plain}
 use Rattle.pot_group.specs.Opening.{Opens}
@@ -12,9 +12,6 @@ loop-stripe-init g c = record {
   bound = rw c.requires.log (omega arith);
   capacity = c.requires.room;
 }
-
-pub open_stripe-requires-clause-parity : goal.open_stripe-requires-clause-parity
-open_stripe-requires-clause-parity g c = ap {A = Table} (λ x. x.parity) c.loop-stripe.invariant.later.shape ∙ c.requires.parity
 
 pub open_stripe-requires-clause-stripe : goal.open_stripe-requires-clause-stripe
 open_stripe-requires-clause-stripe g c =

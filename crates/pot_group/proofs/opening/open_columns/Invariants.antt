@@ -5,6 +5,6 @@ use Rattle.pot_group.proofs.opening.open_columns.Given as goal
 
 abbrev pub invariant-loop-column : goal.invariant-loop-column
 invariant-loop-column g l = record {
-  opens : OpensColumns (IsTrue g.A.Archive.account.tells) l.column l.stripe l.fn.table l.table l.fn.log.items l.log.items l.shortage l.sum (plain g.A.Archive.account.meaning l.fn.archives) (plain g.A.Archive.account.meaning l.archives);
+  opens : OpensColumns (IsTrue g.A.Archive.account.tells) l.column l.stripe l.fn.table l.table l.fn.log.items l.log.items l.shortage l.sums.first l.sums.second (plain g.A.Archive.account.meaning l.fn.archives) (plain g.A.Archive.account.meaning l.archives);
   capacity : vec_capacity l.fn.log ≤ vec_capacity l.log;
 }

@@ -7,7 +7,7 @@ use Rattle.pot_group.proofs.archives.Archives.bring.Goals as goal
 pub returns-clause-brought : goal.returns-clause-brought
 returns-clause-brought g c =
     let v : Shelved g.row.A.Denot = record { shelves = c.self.inside.shelves.items; marks = c.self.inside.marks.items } in
-    subst (λ (w : Shelved g.row.A.Denot). Brings (IsTrue g.A.Archive.account.tells) c.args.shelf.number (g.A.Archive.account.meaning c.args.shelf.archive).held (g.A.Archive.account.meaning c.args.shelf.archive).heard
+    subst (λ (w : Shelved g.row.A.Denot). Brings (IsTrue g.A.Archive.account.tells) c.args.shelf.number (g.A.Archive.account.meaning c.args.shelf.archive)
     (plain g.A.Archive.account.meaning w)
     (plain g.A.Archive.account.meaning (record { shelves = c.push_reserved-2.new.self.items; marks = c.push_reserved.new.self.items }))) c.self.view_is
     (rw (c.push_reserved-2.ensures.items, c.push_reserved.ensures.items, c.reserve.ensures.items, c.reserve-2.ensures.items)

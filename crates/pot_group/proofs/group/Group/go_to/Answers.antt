@@ -15,7 +15,7 @@ invariant_of-self g c =
     let a = c.self.inside in
     let v : GroupParts _ = record { number = a.number; first = a.first; table = a.table; log = a.log.items; flights = a.flights.items; archives = a.archives } in (
       go_exit (IsTrue g.A.Archive.account.tells) (view_of g.A.Archive.account.meaning (with_archives v c.bring.new.self)) c.args.job c.args.column c.args.shelf.number c.move_begin-entry.result c.move_begin-entry.new.table c.push_reserved.new.self.items
-          (settled_brings (IsTrue g.A.Archive.account.tells) (view_of g.A.Archive.account.meaning v) c.args.shelf.number (g.A.Archive.account.meaning c.args.shelf.archive).held (g.A.Archive.account.meaning c.args.shelf.archive).heard (plain g.A.Archive.account.meaning c.bring.new.self) c.self.invariant.0
+          (settled_brings (IsTrue g.A.Archive.account.tells) (view_of g.A.Archive.account.meaning v) c.args.shelf.number (g.A.Archive.account.meaning c.args.shelf.archive) (plain g.A.Archive.account.meaning c.bring.new.self) c.self.invariant.0
           (subst (λ (w : GroupParts _). Contains (plain g.A.Archive.account.meaning w.archives).numbers c.args.shelf.number → ⊥) (sym c.self.view_is) c.requires.fresh) c.in-Ok.ensures.brought)
           (subst (λ (w : GroupParts _). length w.log < 262144) (sym c.self.view_is) c.requires.room)
           (subst (λ (w : GroupParts _). Legal w.table (MoveBegin c.args.job c.args.column c.args.shelf.number)) (sym c.self.view_is) c.requires.legal)
