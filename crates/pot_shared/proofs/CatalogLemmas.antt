@@ -1,5 +1,5 @@
 -- What passes have seen stays seen, and what the calls of an index leave of its log.
-use Rattle.std.proofs.Common.{◌≡◌, ◌<◌, ◌⊎◌, inl, inr, ℕ, zero, suc, List, [], ◌∷◌, ◌++◌, length, ap, sym, ◌∙◌, subst, arith, append-nil}
+use Rattle.std.proofs.Common.{◌≡◌, ◌<◌, ◌⊎◌, inl, inr, ℕ, zero, suc, List, [], ◌∷◌, ◌++◌, length, refl, ap, sym, ◌∙◌, subst, arith, append-nil}
 use Rattle.std.specs.Prelude.{Contains, Some, None, Result, Ok, Err, Vec}
 use Rattle.std.specs.Global.{Global}
 use Rattle.std.proofs.lemmas.List.{map-append}
@@ -20,7 +20,8 @@ use Rattle.pot_index.specs.declared.listed.Listed.{Listed}
 use Rattle.pot_index.specs.declared.record.Record.{Record}
 use Rattle.pot_index.specs.Calls.{Reserves, Finds, ListsNames, published_by}
 use Rattle.pot_index.specs.Entries.{plain, bringing}
-use Rattle.pot_index.specs.Index.{IndexView, logged}
+use Rattle.pot_index.specs.Index.{IndexView, Names, after, logged}
+use Rattle.pot_index.proofs.RecordLemmas.{inserted_from}
 use Rattle.pot_index.specs.Records.{mark_of}
 use Rattle.pot_turn.specs.declared.name.TurnName.{TurnName}
 use Rattle.pot_turn.specs.Logs.{StartsWith}
@@ -29,7 +30,7 @@ use Rattle.pot_rows.specs.Ties.{RowTied}
 use Rattle.pot_shared.specs.Members.{entries_of}
 use Rattle.pot_shared.specs.Ready.{GroupPasses, AreReady, IsOrigin}
 use Rattle.pot_shared.specs.Seen.{SeesPut, SeesFile, RowKnowsMore}
-use Rattle.pot_shared.specs.Catalogs.{CatalogView, KeepsSeen, Publishes}
+use Rattle.pot_shared.specs.Catalogs.{AreTold, CatalogView, KeepsSeen, Publishes}
 
 -- SEEN
 
@@ -110,6 +111,28 @@ pub small_log : (s t : IndexView) → IsSmall s t → (entries : List Logged) ×
 small_log s t (inl e) = ([], ap (λ (i : IndexView). i.log) e ∙ sym (append-nil s.log))
 small_log s t (inr (e, is)) = (plain e ∷ [], ap (λ (i : IndexView). i.log) is)
 
+-- an entry that brings no record publishes none
+plain_published : (n : Names) (e : IndexEntry) → (after n (plain e)).published ≡ n.published
+plain_published n (entry.Reserve job name) = refl
+plain_published n (entry.Taken job name) = refl
+plain_published n (entry.Publish job name mark) = refl
+plain_published n (entry.Abandon job name) = refl
+plain_published n (entry.Find job name found) = refl
+plain_published n (entry.Listed job) = refl
+plain_published n (entry.Renew job name mark) = refl
+plain_published n (entry.Often job name) = refl
+
+-- a longer log publishes what it published
+publishes_more : (log : List Logged) (x : Logged) (r : Record) → Publishes log r → Publishes (log ++ x ∷ []) r
+publishes_more log x r (job, has) = (job, Contains-append_left log (x ∷ []) (bringing (entry.Publish job r.name (mark_of r)) r) has)
+
+pub small_told : (s t : IndexView) → IsSmall s t → AreTold s → AreTold t
+small_told s t (inl e) told = subst AreTold (sym e) told
+small_told s t (inr (e, is)) told = subst AreTold (sym is) (λ r has. elim (told r (subst (λ rs. Contains rs r) (plain_published s.now e) has)) [
+  | inl read ↦ inl read
+  | inr put ↦ inr (publishes_more s.log (plain e) r put)
+])
+
 -- an index whose kept passes did nothing
 pub keeps_small : (s t : IndexView) (kept : GroupPasses) → IsSmall s t → KeepsSeen (record { index = s; kept = kept }) → KeepsSeen (record { index = t; kept = kept })
 keeps_small s t kept small keeps =
@@ -119,6 +142,7 @@ keeps_small s t kept small keeps =
       ready = subst (λ x. AreReady x kept.names kept) (sym rack) keeps.ready;
       kept = keeps.kept;
       seen = (λ r p. keeps.seen r (small_publishes s t small r p));
+      told = small_told s t small keeps.told;
     }
 
 -- TWO ROWS THAT ARE TIED
@@ -154,6 +178,7 @@ module _ (rack : Rack) (names : List TurnName) (mine kept mine' kept' : GroupPas
           });
           kept = (λ g lt. (let q = keeps.kept g (omega (arith, lt, long)) in let o = (tied g).other in (o.parts ∙ q.0, o.turns ∙ q.1, o.joined ∙ q.2, o.made ∙ q.3)));
           seen = (λ r p. file_more kept kept' long (λ g lt. (tied g).other.seen) r (keeps.seen r p));
+          told = keeps.told;
         }
 
     -- the kept passes have seen the puts that the caller had
@@ -161,6 +186,10 @@ module _ (rack : Rack) (names : List TurnName) (mine kept mine' kept' : GroupPas
     file_heard r f = file_more mine kept' (ap length (own_kept.0 ∙ sym ready.of.0)) (λ g lt. (tied g).heard) r f
 
 -- ONE RECORD MORE
+
+contains_end : {X : Type 0} (xs : List X) (y : X) → Contains (xs ++ y ∷ []) y
+contains_end [] y = (zero, omega arith, refl)
+contains_end (x ∷ xs) y = (let h = contains_end xs y in (suc h.0, omega (arith, h.1), h.2))
 
 same_record : (e f : IndexEntry) (r o : Record) → bringing e r ≡ bringing f o → r ≡ o
 same_record e f r o is = (let same : Some r ≡ Some o = ap (λ (x : Logged). x.brought) is in cc)
@@ -174,6 +203,13 @@ keeps_published s job r t kept is seen keeps = subst (λ (i : IndexView). KeepsS
   seen = (λ o p. elim (contains_last s.log (bringing (entry.Publish job r.name (mark_of r)) r) (bringing (entry.Publish p.0 o.name (mark_of o)) o) p.1) [
     | inl h ↦ keeps.seen o (p.0, h)
     | inr same ↦ subst (λ x. SeesFile kept x) (same_record (entry.Publish job r.name (mark_of r)) (entry.Publish p.0 o.name (mark_of o)) r o same) seen
+  ]);
+  told = (λ o has. elim (inserted_from r o s.now.published has) [
+    | inl same ↦ inr (job, subst (λ x. Contains (s.log ++ x ∷ []) (bringing (entry.Publish job o.name (mark_of o)) o)) (ap (λ (x : Record). bringing (entry.Publish job x.name (mark_of x)) x) (sym same)) (contains_end s.log (bringing (entry.Publish job o.name (mark_of o)) o)))
+    | inr old ↦ elim (keeps.told o old) [
+      | inl read ↦ inl read
+      | inr put ↦ inr (publishes_more s.log (bringing (entry.Publish job r.name (mark_of r)) r) o put)
+    ]
   ]);
 })
 

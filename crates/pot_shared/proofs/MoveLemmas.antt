@@ -97,7 +97,7 @@ module _ {A : Type 0} (meaning : A → Meaning) (told : Type 0) (job c : ℕ) (s
       → Means (MoveBeginCall told meaning job c shelf result) (shown old) (shown new)
   begin_means (Ok u) begun refused = comes_by (entry.MoveBegin job c shelf.number) refl begun
   begin_means (Err r) begun (back, same, why) =
-      let e = ap shown same in ([], grows_same (shown old) (shown new) e, (record { entries_are = refl; same = e; shelf_is = back }, why))
+      let e = ap shown same in ([], grows_same (shown old) (shown new) e, (record { entries_are = refl; same = e; shelf_is = back; arrived = arrived }, why))
 
   pub swap_means : (result : Result ℕ (ShelfRefused A))
       → IfOk result (λ n. (n ≡ live_in old.table c) × Comes told meaning (entry.Swapped job c shelf.number) shelf (shown old) (shown new))
@@ -106,4 +106,4 @@ module _ {A : Type 0} (meaning : A → Meaning) (told : Type 0) (job c : ℕ) (s
   swap_means (Ok n) swapped refused =
       let m = comes_by (entry.Swapped job c shelf.number) refl swapped.1 in (m.0, m.1, (m.2, swapped.0))
   swap_means (Err r) swapped (back, same, why) =
-      let e = ap shown same in ([], grows_same (shown old) (shown new) e, (record { entries_are = refl; same = e; shelf_is = back }, why))
+      let e = ap shown same in ([], grows_same (shown old) (shown new) e, (record { entries_are = refl; same = e; shelf_is = back; arrived = arrived }, why))

@@ -1,11 +1,11 @@
 -- How a vault is made.
-use Rattle.std.proofs.Common.{◌≡◌, ◌<◌, ◌+◌, ◌-◌, inl, inr, ℕ, Bool, true, false, List, [], ◌∷◌, ◌++◌, length, refl, ap, sym, ◌∙◌, subst, arith, append-nil, cond}
+use Rattle.std.proofs.Common.{◌≡◌, ◌<◌, ◌+◌, ◌-◌, inl, inr, ℕ, Bool, true, false, List, [], ◌∷◌, ◌++◌, Contains, length, refl, ap, sym, ◌∙◌, subst, arith, append-nil, cond}
 use Rattle.std.specs.Prelude.{nat_lt, map, slice_get, Some, option_map, ◌^◌}
 use Rattle.std.proofs.lemmas.List.{length-map}
 use Rattle.std.proofs.lemmas.Option.{slice_get-map, slice_get_cases, slice_get_within, get_or_from_slice_get, same_Some}
 use Rattle.pot_group.specs.Group.{GroupView}
 use Rattle.pot_bytes.specs.declared.rack.Rack.{Rack}
-use Rattle.pot_index.specs.Index.{IndexView}
+use Rattle.pot_index.specs.Index.{IndexView, Names, IsIndex, Replays, names_read}
 use Rattle.pot_turn.specs.declared.name.TurnName.{TurnName}
 use Rattle.pot_turn.specs.declared.view.Stretch.{Stretch}
 use Rattle.pot_turn.specs.Logs.{longer}
@@ -24,8 +24,8 @@ use Rattle.pot_shared.proofs.SharingLemmas.{new_ready}
 
 -- an index that has published nothing, with new passes of two parts each
 pub keeps_first : (rack : Rack) (names : List TurnName) (old kept : GroupPasses) (index : IndexView) → AreReady rack names old → AreOf names kept → RowNew 2 old kept
-    → index.rack ≡ rack → index.log ≡ [] → length names ≡ rack.groups → KeepsSeen (record { index = index; kept = kept })
-keeps_first rack names old kept index ready of new same log count = record {
+    → index.rack ≡ rack → index.log ≡ [] → IsIndex index → length names ≡ rack.groups → KeepsSeen (record { index = index; kept = kept })
+keeps_first rack names old kept index ready of new same log is_index count = record {
   groups = ap length of.0 ∙ (count ∙ sym (ap (λ (r : Rack). r.groups) same));
   ready = subst (λ r. AreReady r kept.names kept) (sym same) (subst (λ ns. AreReady rack ns kept) (sym of.0) (new_ready rack names 2 old kept ready of new));
   kept = (λ g lt. (let is = new g (let a = ap length ready.of.0 in let b = ap length of.0 in omega (arith, lt, a, b)) in (
@@ -35,6 +35,8 @@ keeps_first rack names old kept index ready of new same log count = record {
     ap (λ (v : GroupPass). v.made) is,
   )));
   seen = (λ r p. absurd (let q = subst (λ l. Publishes l r) log p in let lt = q.1.1 in omega (arith, lt)));
+  told = (λ r has. (let now : index.now ≡ names_read index.read = subst (λ l. Replays index.rack (names_read index.read) l index.now) log is_index.replays in
+      inl (subst (λ (n : Names). Contains n.published r) now has)));
 }
 
 longer_self : {X : Type 0} (xs : List X) → longer xs xs ≡ xs

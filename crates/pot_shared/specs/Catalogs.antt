@@ -1,5 +1,5 @@
 -- What the contracts see of an index under its turn, with the passes that it keeps.
-use Rattle.std.specs.Prelude.{◌≡◌, ◌<◌, ℕ, List, [], false, Option, IfSome, Contains, length}
+use Rattle.std.specs.Prelude.{◌≡◌, ◌<◌, ◌⊎◌, ℕ, List, [], false, Option, IfSome, Contains, length}
 use Rattle.pot_bytes.specs.declared.rack.Rack.{Rack}
 use Rattle.pot_index.specs.declared.entry.IndexEntry.TheVariants.{Publish}
 use Rattle.pot_index.specs.declared.entry.Logged.{Logged}
@@ -22,16 +22,22 @@ pub record CatalogView : Type 0 where
 abbrev pub Publishes : List Logged → Record → Type 0
 Publishes log r = (job : ℕ) × Contains log (bringing (Publish job r.name (mark_of r)) r)
 
+-- each record that is published was read, or was published by an entry of the log
+abbrev pub AreTold : IndexView → Type 0
+AreTold s = (r : Record) → Contains s.now.published r → Contains s.read r ⊎ Publishes s.log r
+
 -- a pass that has two parts of its turn and never called
 abbrev pub IsKept : GroupPass → Type 0
 IsKept v = (v.parts ≡ 2) × (v.turns ≡ []) × (v.joined ≡ []) × (v.made ≡ 0)
 
--- The kept passes are of all groups, have two parts and never called, and have seen the puts of each record that was published.
+-- The kept passes are of all groups, have two parts and never called, and have seen the puts of each record that was published;
+-- every other record was read.
 pub record KeepsSeen (c : CatalogView) : Type 0 where
   pub groups : length c.kept.names ≡ c.index.rack.groups
   pub ready : AreReady c.index.rack c.kept.names c.kept
   pub kept : (g : ℕ) → g < length c.kept.names → IsKept (view_at c.kept g)
   pub seen : (r : Record) → Publishes c.index.log r → SeesFile c.kept r
+  pub told : AreTold c.index
 
 -- what never changes of it
 abbrev pub origin_of : CatalogView → CatalogOrigin

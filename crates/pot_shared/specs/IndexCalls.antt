@@ -17,7 +17,7 @@ use Rattle.pot_rows.specs.Rows.{view_at, with_view}
 use Rattle.pot_shared.specs.declared.catalog.Strange.{Strange}
 use Rattle.pot_shared.specs.Ready.{GroupPasses}
 use Rattle.pot_shared.specs.Seen.{SeesFile}
-use Rattle.pot_shared.specs.Catalogs.{IndexPass, IndexPasses, Publishes}
+use Rattle.pot_shared.specs.Catalogs.{AreTold, IndexPass, IndexPasses, Publishes}
 
 -- One turn of a pass: the index was so when it came, others having logged some entries since; the call added these entries, and is
 -- what `R` says.
@@ -49,9 +49,9 @@ ReservesName job name result s t = Reserves job name s t result
 abbrev pub ListsAll : ℕ → Result (Vec Listed Global) ListFault → IndexView → IndexView → Type 0
 ListsAll job result s t = ListsNames job s t result
 
--- a record that was published since the index began is one whose puts the passes have seen
+-- a record that was published since the index began is one whose puts the passes have seen, and every other one was read
 abbrev pub FindsRecord : ℕ → List ℕ → Result Record FindFault → GroupPasses → IndexView → IndexView → Type 0
-FindsRecord job name result row s t = Finds job name s t result × ((r : Record) → Publishes s.log r → SeesFile row r)
+FindsRecord job name result row s t = Finds job name s t result × ((r : Record) → Publishes s.log r → SeesFile row r) × AreTold s
 
 -- the pass of the index has seen that the job reserved the name
 abbrev pub HasReserved : ℕ → List ℕ → IndexPasses → Type 0

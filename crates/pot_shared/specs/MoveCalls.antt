@@ -12,6 +12,7 @@ use Rattle.pot_group.specs.declared.copying.MoveStep.TheVariants as moved
 use Rattle.pot_group.specs.declared.copying.MoveFault.{MoveFault}
 use Rattle.pot_group.specs.declared.copying.MoveFault.TheVariants as failed
 use Rattle.pot_group.specs.declared.moving.ShelfRefused.{ShelfRefused}
+use Rattle.pot_group.specs.Arrivals.{HasArrived}
 use Rattle.pot_group.specs.Shelves.{Keeps}
 use Rattle.pot_group.specs.Group.{GroupView, state_of}
 use Rattle.pot_group.specs.Moving.{Comes, MovesOn, MoveWrites, OnMove, RefusesMove, RefusesSwap, live_in, move_as}
@@ -48,11 +49,13 @@ pub record ComesBy {A : Type 0} (told : Type 0) (meaning : A → Meaning) (e : E
   pub taken : taken_by new.shelves e ≡ Some (mark_at new.shelves shelf.number)
   pub comes : Comes told meaning e shelf old new
 
--- it was handed back, and nothing changes
+-- It was handed back, and nothing changes. The archives of the group are those of the table that it began with, and those that its log
+-- brought.
 pub record HandedBack {A : Type 0} (shelf : Shelf A) (refused : ShelfRefused A) (old new : GroupView) (entries : List Entry) : Type 0 where
   pub entries_are : entries ≡ []
   pub same : new ≡ old
   pub shelf_is : refused.shelf ≡ shelf
+  pub arrived : HasArrived old.first old.log old.shelves.numbers
 
 abbrev pub MoveBeginCall : {A : Type 0} → Type 0 → (A → Meaning) → ℕ → ℕ → Shelf A → Result (Unit {0}) (ShelfRefused A) → GroupView → GroupView → List Entry → Type 0
 MoveBeginCall told meaning job c shelf (Ok u) old new entries = ComesBy told meaning (entry.MoveBegin job c shelf.number) shelf old new entries

@@ -6,7 +6,7 @@ ghost use Rattle.pot_index.specs.Entries.{entries, IsReserving};
 ghost use Rattle.pot_index.specs.Fits.{FitsRack};
 ghost use Rattle.pot_shared.specs.Ready.{AreReady};
 ghost use Rattle.pot_shared.specs.Seen.{RowKnowsMore, SeesFile};
-ghost use Rattle.pot_shared.specs.Catalogs.{Publishes};
+ghost use Rattle.pot_shared.specs.Catalogs.{AreTold, Publishes};
 ghost use Rattle.pot_shared.specs.IndexCalls.{Abandons, PublishesRecord};
 
 use crate::member::Member;
@@ -109,6 +109,7 @@ impl<A: Archive> Catalog<A> {
         ensures names { self.new.kept.names ≡ self.old.kept.names }
         ensures tied { RowKnowsMore passes.old passes.new }
         ensures seen { (r : Record) → Publishes self.old.index.log r → SeesFile passes.new r }
+        ensures told { AreTold self.old.index }
     {
         groups.tie(passes, &mut self.kept);
         self.index.find(alloc, job, name)

@@ -25,7 +25,6 @@ impl<A: Archive> Vault<A> {
     ) -> Result<Place, PutFault>
         requires ready { AreReady self.now.rack self.now.groups passes.old.groups }
         requires group { group < length self.now.groups }
-        requires parity { self.now.rack.parity ≡ 1 }
         requires job { 0 < job }
         ensures ready { AreReady self.now.rack self.now.groups passes.new.groups }
         ensures index { passes.new.index ≡ passes.old.index }

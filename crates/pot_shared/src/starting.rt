@@ -51,6 +51,7 @@ fn share_index<A: Archive>(
         Ok(kept) => kept,
         Err(NoMemory) => return Err(index),
     };
+    index.logged();
     catalogs.push_reserved(Catalog { index, kept });
     match Turns::start(alloc, catalogs) {
         Ok(made) => Ok(made),

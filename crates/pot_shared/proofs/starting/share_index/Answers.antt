@@ -7,7 +7,7 @@ use Rattle.pot_shared.proofs.starting.share_index.Goals as goal
 
 pub invariant_of-push_reserved : goal.invariant_of-push_reserved
 invariant_of-push_reserved g c =
-    keeps_first c.args.rack.now c.args.groups.now c.args.passes.now c.in-Ok.kept c.args.index c.requires.ready c.in-Ok.ensures.given.0 c.in-Ok.ensures.given.1 c.requires.rack c.requires.log c.requires.count
+    keeps_first c.args.rack.now c.args.groups.now c.args.passes.now c.in-Ok.kept c.args.index c.requires.ready c.in-Ok.ensures.given.0 c.in-Ok.ensures.given.1 c.requires.rack c.requires.log c.logged.ensures.rules c.requires.count
 
 pub returns-in-Some-clause-refused : goal.returns-in-Some-clause-refused
 returns-in-Some-clause-refused g c =

@@ -1,5 +1,5 @@
 use Rattle.std.proofs.Common.{ap, ◌∙◌, subst, sym}
-use Rattle.pot_shared.specs.Catalogs.{CatalogView, Publishes}
+use Rattle.pot_shared.specs.Catalogs.{AreTold, CatalogView, Publishes}
 use Rattle.pot_shared.proofs.CatalogLemmas.{keeps_small, finds_small, keeps_tied, mine_more, file_told}
 use Rattle.pot_shared.proofs.catalog.Catalog.find.Goals as goal
 
@@ -23,3 +23,6 @@ returns-clause-seen g c = λ r p.
     file_told c.args.self.now.index.rack c.args.groups.now c.args.passes.now c.self.inside.kept c.tie.new.mine c.tie.new.others
     c.tie.ensures.own.0 c.tie.ensures.own.1 c.requires.ready same c.tie.ensures.tied r
     (c.self.invariant.seen r (subst (λ (v : CatalogView). Publishes v.index.log r) (sym c.self.view_is) p))
+
+pub returns-clause-told : goal.returns-clause-told
+returns-clause-told g c = subst (λ (v : CatalogView). AreTold v.index) c.self.view_is c.self.invariant.told
