@@ -110,7 +110,7 @@ swapped_other t c k to ne =
     let u : Table = with_losses t.stripes t c in
     column_other u c k (record { home = to; moving = None }) ne ∙ ap (λ cs. column_at (record t { columns = cs }) k) (columns-with_losses t.stripes t c)
 
-brought_here : (c k to n : ℕ) → c ≡ k → to ≡ n → Contains (if nat_eq c k then to ∷ [] else []) n
+pub brought_here : (c k to n : ℕ) → c ≡ k → to ≡ n → Contains (if nat_eq c k then to ∷ [] else []) n
 brought_here c k to n same is = subst (λ l. Contains l n) (sym (here (nat_eq c k) (same_is c k same))) (one_in to n is)
   where
     here : (b : Bool) → b ≡ true → (if b then to ∷ [] else []) ≡ to ∷ []
@@ -171,7 +171,7 @@ module _ (t : Table) (c n : ℕ) (sized : length t.columns ≡ width t) where
   named_after _ legal h = inl h
 
   -- what an entry brings to a column is named then
-  brought_named : (e : Entry) → Legal t e → Contains (brought c e) n → IsTrue (names (column_at (after t e) c) n)
+  pub brought_named : (e : Entry) → Legal t e → Contains (brought c e) n → IsTrue (names (column_at (after t e) c) n)
   brought_named (MoveBegin job k to) legal h =
       let b = brought_there c k to n h in
       let x : Column = record (column_at t k) { moving = Some (record { to = to; upto = 0 }) } in

@@ -1,4 +1,3 @@
-pub mod StepLemmas
 pub mod OrderLemmas
 pub mod EntryLemmas
 pub mod SectionLemmas

@@ -20,11 +20,11 @@ use Rattle.pot_replies.specs.Jobs.{is_relay, is_mended, is_left, is_stuck_at, Pr
 use Rattle.pot_mend.specs.declared.fault.MendFault.TheVariants as fault
 use Rattle.pot_mend.specs.declared.repairing.Repaired.{Repaired}
 use Rattle.pot_mend.specs.declared.stepping.Step.TheVariants as step
-use Rattle.pot_mend.specs.Steps.{Adds, Fails, FailsOnce}
+use Rattle.pot_store.specs.Adds.{Adds, Fails, FailsOnce}
 use Rattle.pot_mend.specs.Stepping.{StepEntries, StepsAt}
 use Rattle.pot_mend.specs.Repairs.{is_begin, NotOdd, AreRepairs, WasLeft, IsDone, RepairSofar, RepairFails, RepairFills, RepairsPlace}
 use Rattle.pot_mend.proofs.OrderLemmas.{AtOrAfter, before_next, not_before}
-use Rattle.pot_mend.proofs.StepLemmas.{adds_then, once_back, once_front}
+use Rattle.pot_store.proofs.AddLemmas.{adds_then, once_back, once_front}
 use Rattle.pot_mend.proofs.EntryLemmas.{count_one, one_in}
 use Rattle.pot_mend.proofs.RepairLemmas.{MayCome, left_more, none_stuck_at, not_odd_more, not_odd_none, repairs_more, repairs_wider}
 

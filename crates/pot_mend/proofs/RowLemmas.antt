@@ -27,11 +27,11 @@ use Rattle.pot_store.specs.Works.{of_job, gained, known, section_of, IsSettingOf
 use Rattle.pot_mend.specs.declared.fault.MendFault.{MendFault}
 use Rattle.pot_mend.specs.declared.fault.MendFault.TheVariants as fault
 use Rattle.pot_mend.specs.declared.repairing.Repaired.{Repaired}
-use Rattle.pot_mend.specs.Steps.{Adds, Fails, FailsOnce, FindsNext, IsFromOn, IsNextOf}
+use Rattle.pot_store.specs.Adds.{Adds, Fails, FailsOnce, FindsNext, IsFromOn, IsNextOf}
 use Rattle.pot_mend.specs.Repairs.{is_begin, NoneAgain, AreRepairs, WasLeft, IsDone, RepairSofar, RepairFails, RepairFills, RepairsPlace, Draws, RepairRow}
 use Rattle.pot_mend.proofs.OrderLemmas.{AtOrAfter, before_or_after}
 use Rattle.pot_mend.proofs.EntryLemmas.{count_one}
-use Rattle.pot_mend.proofs.StepLemmas.{adds_none, adds_then, next_adds, next_finds, next_from, next_group, once_back, once_front}
+use Rattle.pot_store.proofs.AddLemmas.{adds_none, adds_then, next_adds, next_finds, next_from, next_group, once_back, once_front}
 use Rattle.pot_mend.proofs.SectionLemmas.{found_was, last_full, not_always, only_in}
 use Rattle.pot_mend.proofs.RepairLemmas.{none_again_more, repairs_wider}
 use Rattle.pot_mend.proofs.PlaceLemmas.{drawn_more}

@@ -31,12 +31,12 @@ use Rattle.pot_store.proofs.WorkLemmas.{all_none, all_one}
 use Rattle.pot_mend.specs.declared.fault.MendFault.{MendFault}
 use Rattle.pot_mend.specs.declared.fault.MendFault.TheVariants as fault
 use Rattle.pot_mend.specs.declared.scrubbing.Scrubbed.{Scrubbed}
-use Rattle.pot_mend.specs.Steps.{Adds, Fails, FailsOnce, FindsNext, IsFromOn, IsNextOf}
+use Rattle.pot_store.specs.Adds.{Adds, Fails, FailsOnce, FindsNext, IsFromOn, IsNextOf}
 use Rattle.pot_mend.specs.Scrubs.{logged, IsHere, LooksAt, LooksNext, ScrubsNext, ScrubRow}
 use Rattle.pot_mend.proofs.EntryLemmas.{count_one, each_more, just_it, one_in}
 use Rattle.pot_mend.proofs.OrderLemmas.{AtOrAfter, ascend_front, ascend_later, ascend_more, before_next, before_or_after}
 use Rattle.pot_mend.proofs.SectionLemmas.{found_was, last_full, not_always, only_in}
-use Rattle.pot_mend.proofs.StepLemmas.{adds_call, adds_none, adds_then, left_bound, left_long, next_adds, next_finds, next_from, next_group, next_narrow, once_back, once_front}
+use Rattle.pot_store.proofs.AddLemmas.{adds_call, adds_none, adds_then, left_bound, left_long, next_adds, next_finds, next_from, next_group, next_narrow, once_back, once_front}
 
 -- ONE LOOK
 

@@ -20,8 +20,8 @@ use Rattle.pot_replies.specs.Settings.{Setting}
 use Rattle.pot_replies.specs.Scrubs.{WasAt}
 use Rattle.pot_store.specs.Works.{of_job, known, section_of, IsSettingOf}
 use Rattle.pot_store.proofs.WorkLemmas.{drop_all}
-use Rattle.pot_mend.specs.Steps.{Adds, FailsOnce, FindsNext, IsFirst}
-use Rattle.pot_mend.proofs.StepLemmas.{replayed_append, seen_parts}
+use Rattle.pot_store.specs.Adds.{Adds, FailsOnce, FindsNext, IsFirst}
+use Rattle.pot_store.proofs.AddLemmas.{replayed_append, seen_parts}
 
 module _ (st : Setting) (job g : ℕ) (rack : Rack) (u w : GroupPasses) (ui wi : IndexPasses) (same : wi ≡ ui) (within : g < length u.names)
     (alone : RowAlone (of_job job) u w) (set : IsSettingOf st rack (known u ui)) where

@@ -35,7 +35,7 @@ use Rattle.pot_store.proofs.WorkLemmas.{all_none, all_one}
 use Rattle.pot_mend.specs.declared.stepping.Step.{Step}
 use Rattle.pot_mend.specs.declared.stepping.Step.TheVariants as step
 use Rattle.pot_mend.specs.Stepping.{HasRelay, StepCause, StepEntries, StepWhy, StepsAt, StepsIn, stepped_as}
-use Rattle.pot_mend.proofs.StepLemmas.{adds_call, left_bound, left_long, met_once}
+use Rattle.pot_store.proofs.AddLemmas.{adds_call, left_bound, left_long, met_once}
 
 -- WHICH RELAY
 

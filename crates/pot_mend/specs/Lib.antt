@@ -1,4 +1,3 @@
-pub mod Steps
 pub mod Scrubs
 pub mod Stepping
 pub mod Repairs

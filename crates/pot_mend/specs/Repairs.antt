@@ -19,7 +19,7 @@ use Rattle.pot_store.specs.Works.{of_job, gained}
 use Rattle.pot_mend.specs.declared.fault.MendFault.{MendFault}
 use Rattle.pot_mend.specs.declared.fault.MendFault.TheVariants as fault
 use Rattle.pot_mend.specs.declared.repairing.Repaired.{Repaired}
-use Rattle.pot_mend.specs.Steps.{Adds, FailsOnce}
+use Rattle.pot_store.specs.Adds.{Adds, FailsOnce}
 
 -- THE JOB'S OWN ENTRIES
 

@@ -15,7 +15,7 @@ use Rattle.pot_replies.specs.Scrubs.{IsScrubbed, IsScrubFault, IsScrubLogFull}
 use Rattle.pot_mend.specs.declared.fault.MendFault.{MendFault}
 use Rattle.pot_mend.specs.declared.fault.MendFault.TheVariants as fault
 use Rattle.pot_mend.specs.declared.scrubbing.Scrubbed.{Scrubbed}
-use Rattle.pot_mend.specs.Steps.{Adds, FindsNext, IsFromOn}
+use Rattle.pot_store.specs.Adds.{Adds, FindsNext, IsFromOn}
 
 -- ONE LOOK
 

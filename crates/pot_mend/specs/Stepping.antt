@@ -17,7 +17,7 @@ use Rattle.pot_rows.specs.Rows.{view_at}
 use Rattle.pot_shared.specs.Ready.{GroupPasses}
 use Rattle.pot_mend.specs.declared.stepping.Step.{Step}
 use Rattle.pot_mend.specs.declared.stepping.Step.TheVariants as step
-use Rattle.pot_mend.specs.Steps.{Adds, FailsOnce}
+use Rattle.pot_store.specs.Adds.{Adds, FailsOnce}
 
 -- what an answer says was logged for the place of this stripe and column
 abbrev pub StepEntries : ℕ → ℕ → ℕ → Step → List Entry → Type 0

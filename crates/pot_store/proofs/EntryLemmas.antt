@@ -1,75 +1,19 @@
--- Which entries the looks at a record's blocks log: looks and Faults of its places alone, and of each place one look at most.
+-- Which entries the visits to a record's blocks log: those that a fetch of the record may, each place being visited once.
 use Rattle.std.proofs.Common.{◌≡◌, ◌≢◌, ◌<◌, ◌≤◌, ◌⊎◌, inl, inr, ⊎_elim, ℕ, zero, suc, ◌+◌, Bool, true, false, List, [], ◌∷◌, ◌++◌, length, refl, ap, sym, ◌∙◌, subst, arith, append-nil, eq-eqb}
-use Rattle.std.specs.Prelude.{filter, ◌==◌, ◌&&◌, Contains, slice_index_or}
-use Rattle.std.proofs.lemmas.List.Elements.{filter-append, Contains-append_cases}
+use Rattle.std.specs.Prelude.{filter, if◌then◌else◌, ◌==◌, ◌&&◌, Contains, slice_index_or}
+use Rattle.std.proofs.lemmas.List.Elements.{filter-append, Contains-append_cases, Contains-append_right}
+use Rattle.pot_bytes.specs.declared.digest.Digest.{Digest}
 use Rattle.pot_bytes.specs.declared.rack.Place.{Place}
 use Rattle.pot_machine.specs.declared.entry.Entry.{Entry}
 use Rattle.pot_machine.specs.declared.entry.Entry.TheVariants as entry
-use Rattle.pot_steps.specs.GroupStep.{Looked, look_entries}
-use Rattle.pot_steps.specs.GroupStep as step
 use Rattle.pot_index.specs.declared.record.Record.{Record}
 use Rattle.pot_replies.specs.Jobs.{own, is_of, is_look_at, is_stuck_at}
 use Rattle.pot_replies.specs.Fetches.{no_place, IsOfPlace, MayFetch, LooksTwice, Mends, AreReads}
-use Rattle.pot_store.specs.Looks.{place_in, logged_at, logged_from}
-use Rattle.pot_store.proofs.LookLemmas.{nat_same, in_group, in_other, same_place, both, hit, Apart}
+use Rattle.pot_store.specs.Visits.{Visit, MayVisit, IsVisit, is_begin_at, is_oddly_at, begun_next, begun_from, place_in, logged_at, logged_from}
+use Rattle.pot_store.proofs.LookLemmas.{nat_same, in_group, in_other, same_place, both, hit, is_elsewhere, Apart, AreVisits, first_visit, rest_visits}
 
-abbrev spot : ℕ → ℕ → ℕ → Place
+abbrev pub spot : ℕ → ℕ → ℕ → Place
 spot g s c = record { group = g; column = c; stripe = s }
-
--- NO OTHER KIND
-
--- a test that no look and no Fault passes
-abbrev PassesNone : (Entry → Bool) → Type 0
-PassesNone test = (job s c : ℕ) (a : Looked) → filter test (look_entries job s c a) ≡ []
-
-none_at : (test : Entry → Bool) → PassesNone test → (p : Place) (job g : ℕ) (a : Looked) → filter test (logged_at p job g a) ≡ []
-none_at test none p job g a = ⊎_elim
-    (λ (e : p.group ≡ g). ap (filter test) (in_group p job g a e) ∙ none job p.stripe p.column a)
-    (λ (ne : p.group ≢ g). ap (filter test) (in_other p job g a ne))
-    (nat_same p.group g)
-
-none_from : (test : Entry → Bool) → PassesNone test → (places : List Place) (job g b : ℕ) (ans : List Looked) → filter test (logged_from places job g b ans) ≡ []
-none_from test none places job g b [] = refl
-none_from test none places job g b (a ∷ ans) =
-    filter-append test (logged_at (place_in places b) job g a) (logged_from places job g (suc b) ans)
-    ∙ (ap (λ l. l ++ filter test (logged_from places job g (suc b) ans)) (none_at test none (place_in places b) job g a) ∙ none_from test none places job g (suc b) ans)
-
-no_stuck : (s c : ℕ) → PassesNone (is_stuck_at s c)
-no_stuck s c job t d (step.Seen block) = refl
-no_stuck s c job t d step.Gone = refl
-no_stuck s c job t d step.Faulted = refl
-no_stuck s c job t d step.LogFull = refl
-
-abbrev is_begin : Entry → Bool
-is_begin (entry.Begin job s c) = true
-is_begin _ = false
-
-no_begin : PassesNone is_begin
-no_begin job t d (step.Seen block) = refl
-no_begin job t d step.Gone = refl
-no_begin job t d step.Faulted = refl
-no_begin job t d step.LogFull = refl
-
-not_nil : {X : Type 0} (xs ys : List X) (y : X) → xs ++ y ∷ ys ≡ [] → ⊥
-not_nil [] ys y e = cc e
-not_nil (x ∷ xs) ys y e = cc e
-
--- such entries keep the rules of a job that mends: they begin no relay and end none
-pub mends_none : (places : List Place) (job g : ℕ) (added : List Entry) (ans : List Looked) → own job added ≡ logged_from places job g 0 ans → Mends job added
-mends_none places job g added ans is = record {
-  one_stuck = λ s c. (let none : length (filter (is_stuck_at s c) (own job added)) ≡ 0 =
-      ap (λ es. length (filter (is_stuck_at s c) es)) is ∙ ap length (none_from (is_stuck_at s c) (no_stuck s c) places job g 0 ans) in omega (arith, none));
-  none_again = λ s c f x between y z at none.
-      let front : List Entry = x ++ entry.Begin job s c ∷ (between ++ entry.Oddly job s c f ∷ y) in
-      let mine : is_of job (entry.Begin job s c) ≡ true = eq-eqb job job refl in
-      let here : own job (entry.Begin job s c ∷ z) ≡ entry.Begin job s c ∷ own job z = rw mine refl in
-      let all : own job added ≡ own job front ++ entry.Begin job s c ∷ own job z =
-      ap (own job) at ∙ (filter-append (is_of job) front (entry.Begin job s c ∷ z) ∙ ap (λ l. own job front ++ l) here) in
-      let begun : filter is_begin (own job added) ≡ filter is_begin (own job front) ++ entry.Begin job s c ∷ filter is_begin (own job z) =
-      ap (filter is_begin) all ∙ filter-append is_begin (own job front) (entry.Begin job s c ∷ own job z) in
-      let nothing : filter is_begin (own job added) ≡ [] = ap (filter is_begin) is ∙ none_from is_begin no_begin places job g 0 ans in
-      not_nil (filter is_begin (own job front)) (filter is_begin (own job z)) (entry.Begin job s c) (sym begun ∙ nothing);
-}
 
 -- OF THE RECORD'S PLACES ALONE
 
@@ -80,7 +24,7 @@ pub one_contained : {X : Type 0} (x e : X) → Contains (x ∷ []) e → x ≡ e
 one_contained x e (zero, lt, is) = is
 one_contained x e (suc k, lt, is) = absurd (omega (arith, lt))
 
-same_default : {X : Type 0} (xs : List X) (i : ℕ) (d e : X) → i < length xs → slice_index_or xs i d ≡ slice_index_or xs i e
+pub same_default : {X : Type 0} (xs : List X) (i : ℕ) (d e : X) → i < length xs → slice_index_or xs i d ≡ slice_index_or xs i e
 same_default [] i d e lt = absurd (omega (arith, lt))
 same_default (x ∷ xs) zero d e lt = refl
 same_default (x ∷ xs) (suc i) d e lt = same_default xs i d e (omega (arith, lt))
@@ -88,111 +32,280 @@ same_default (x ∷ xs) (suc i) d e lt = same_default xs i d e (omega (arith, lt
 pub has_place : (places : List Place) (b : ℕ) → b < length places → Contains places (place_in places b)
 has_place places b lt = (b, lt, same_default places b (place_in places b) no_place lt)
 
-of_place : (kept : Record) (p : Place) (g : ℕ) → p.group ≡ g → Contains kept.places p → IsOfPlace kept g p.stripe p.column
-of_place kept p g e has = subst (λ q. Contains kept.places q) (same_place p (spot g p.stripe p.column) e refl refl) has
+of_place : (kept : Record) (p : Place) (g s c : ℕ) → p.group ≡ g → s ≡ p.stripe → c ≡ p.column → Contains kept.places p → IsOfPlace kept g s c
+of_place kept p g s c group stripe column has = subst (λ q. Contains kept.places q) (same_place p (spot g s c) group (sym stripe) (sym column)) has
 
-may_one : (kept : Record) (p : Place) (job g : ℕ) (a : Looked) (e : Entry) → p.group ≡ g → Contains kept.places p
-    → Contains (look_entries job p.stripe p.column a) e → MayFetch kept g e
-may_one kept p job g (step.Seen block) e same has is = subst (MayFetch kept g) (one_contained (entry.Seen job p.stripe p.column) e is) (of_place kept p g same has)
-may_one kept p job g step.Gone e same has is = subst (MayFetch kept g) (one_contained (entry.Gone job p.stripe p.column) e is) (of_place kept p g same has)
-may_one kept p job g step.Faulted e same has is = subst (MayFetch kept g) (one_contained (entry.Fault job p.stripe p.column) e is) tt
-may_one kept p job g step.LogFull e same has is = absurd (none_contained e is)
+may_one : (kept : Record) (p : Place) (job g : ℕ) (e : Entry) → p.group ≡ g → Contains kept.places p → MayVisit job p e → MayFetch kept g e
+may_one kept p job g (entry.Seen j s c) same has (a, b, d) = of_place kept p g s c same b d has
+may_one kept p job g (entry.Gone j s c) same has (a, b, d) = of_place kept p g s c same b d has
+may_one kept p job g (entry.Begin j s c) same has (a, b, d) = of_place kept p g s c same b d has
+may_one kept p job g (entry.Stuck j s c o) same has (a, b, d) = of_place kept p g s c same b d has
+may_one kept p job g (entry.Hop j s c) same has may = tt
+may_one kept p job g (entry.Mended j s c) same has may = tt
+may_one kept p job g (entry.GaveUp j s c o) same has may = tt
+may_one kept p job g (entry.Oddly j s c f) same has may = tt
+may_one kept p job g (entry.Fault j s c) same has may = tt
+may_one kept p job g (entry.Put j s c x d k) same has may = absurd may
+may_one kept p job g (entry.Skip j s) same has may = absurd may
+may_one kept p job g (entry.Broke j s c) same has may = absurd may
+may_one kept p job g (entry.MoveBegin j c t) same has may = absurd may
+may_one kept p job g (entry.Moved j s c k) same has may = absurd may
+may_one kept p job g (entry.MoveEnd j c) same has may = absurd may
+may_one kept p job g (entry.Swapped j c t) same has may = absurd may
+may_one kept p job g (entry.Counted j) same has may = absurd may
+may_one kept p job g (entry.Put2 j s c x d q k l) same has may = absurd may
 
-may_at : (kept : Record) (p : Place) (job g : ℕ) (a : Looked) (e : Entry) → Contains kept.places p → Contains (logged_at p job g a) e → MayFetch kept g e
-may_at kept p job g a e has is = ⊎_elim
-    (λ (same : p.group ≡ g). may_one kept p job g a e same has (subst (λ es. Contains es e) (in_group p job g a same) is))
-    (λ (ne : p.group ≢ g). absurd (none_contained e (subst (λ es. Contains es e) (in_other p job g a ne) is)))
+may_at : (kept : Record) (p : Place) (job g : ℕ) (v : Visit) (e : Entry) → IsVisit job p v → Contains kept.places p → Contains (logged_at p g v) e → MayFetch kept g e
+may_at kept p job g v e is has there = ⊎_elim
+    (λ (same : p.group ≡ g). may_one kept p job g e same has (is.kinds e (subst (λ es. Contains es e) (in_group p g v same) there)))
+    (λ (ne : p.group ≢ g). absurd (none_contained e (subst (λ es. Contains es e) (in_other p g v ne) there)))
     (nat_same p.group g)
 
-pub may_from : (kept : Record) (job g b : ℕ) (ans : List Looked) (e : Entry) → b + length ans ≤ length kept.places
-    → Contains (logged_from kept.places job g b ans) e → MayFetch kept g e
-may_from kept job g b [] e fits is = absurd (none_contained e is)
-may_from kept job g b (a ∷ ans) e fits is = ⊎_elim
-    (λ (here : Contains (logged_at (place_in kept.places b) job g a) e). may_at kept (place_in kept.places b) job g a e (has_place kept.places b (omega (arith, fits))) here)
-    (λ (there : Contains (logged_from kept.places job g (suc b) ans) e). may_from kept job g (suc b) ans e (omega (arith, fits)) there)
-    (Contains-append_cases (logged_at (place_in kept.places b) job g a) (logged_from kept.places job g (suc b) ans) e is)
+pub may_from : (kept : Record) (job g b : ℕ) (vs : List Visit) (e : Entry) → AreVisits job kept.places b vs → b + length vs ≤ length kept.places
+    → Contains (logged_from kept.places g b vs) e → MayFetch kept g e
+may_from kept job g b [] e are fits is = absurd (none_contained e is)
+may_from kept job g b (v ∷ vs) e are fits is = ⊎_elim
+    (λ (here : Contains (logged_at (place_in kept.places b) g v) e).
+    may_at kept (place_in kept.places b) job g v e (first_visit job kept.places b v vs are) (has_place kept.places b (omega (arith, fits))) here)
+    (λ (there : Contains (logged_from kept.places g (suc b) vs) e).
+    may_from kept job g (suc b) vs e (rest_visits job kept.places b v vs are) (omega (arith, fits)) there)
+    (Contains-append_cases (logged_at (place_in kept.places b) g v) (logged_from kept.places g (suc b) vs) e is)
 
--- ONE LOOK OF A PLACE
+-- WHAT PASSES A TEST OF ONE PLACE
 
-abbrev looks_at : ℕ → ℕ → List Entry → List Entry
-looks_at s c es = filter (is_look_at s c) es
+pub none_passes : (test : Entry → Bool) (es : List Entry) → ((e : Entry) → Contains es e → test e ≡ false) → filter test es ≡ []
+none_passes test [] none = refl
+none_passes test (e ∷ es) none = rw (none e (zero, omega arith, refl)) (none_passes test es (λ x has. none x (Contains-append_right (e ∷ []) es x has)))
 
-abbrev OneLook : ℕ → ℕ → List Entry → Type 0
-OneLook s c es = (e : Entry) × (looks_at s c es ≡ e ∷ [])
+-- it stands in the visit to that place
+module _ (job : ℕ) (places : List Place) (g s c : ℕ) (test : Entry → Bool)
+    (passes : (p : Place) (e : Entry) → ((p.stripe == s) && (p.column == c)) ≡ false → MayVisit job p e → test e ≡ false) where
+  at_place : (p : Place) (v : Visit) → IsVisit job p v → (filter test (logged_at p g v) ≡ []) ⊎ ((p ≡ spot g s c) × (logged_at p g v ≡ v.entries))
+  at_place p v is = ⊎_elim
+      (λ (same : p.group ≡ g). ⊎_elim
+      (λ (on : (p.stripe ≡ s) × (p.column ≡ c)). inr (same_place p (spot g s c) same on.0 on.1, in_group p g v same))
+      (λ (off : ((p.stripe == s) && (p.column == c)) ≡ false). inl (ap (filter test) (in_group p g v same) ∙ none_passes test v.entries (λ e has. passes p e off (is.kinds e has))))
+      (both p.stripe p.column s c))
+      (λ (ne : p.group ≢ g). inl (ap (filter test) (in_other p g v ne)))
+      (nat_same p.group g)
 
-look_off : (p : Place) (job s c : ℕ) (a : Looked) → ((p.stripe == s) && (p.column == c)) ≡ false → looks_at s c (look_entries job p.stripe p.column a) ≡ []
-look_off p job s c (step.Seen block) e = rw e refl
-look_off p job s c step.Gone e = rw e refl
-look_off p job s c step.Faulted e = refl
-look_off p job s c step.LogFull e = refl
-
-look_on : (p : Place) (job s c : ℕ) (a : Looked) → ((p.stripe == s) && (p.column == c)) ≡ true
-    → (looks_at s c (look_entries job p.stripe p.column a) ≡ []) ⊎ OneLook s c (look_entries job p.stripe p.column a)
-look_on p job s c (step.Seen block) e = inr (entry.Seen job p.stripe p.column, rw e refl)
-look_on p job s c step.Gone e = inr (entry.Gone job p.stripe p.column, rw e refl)
-look_on p job s c step.Faulted e = inl refl
-look_on p job s c step.LogFull e = inl refl
-
--- a look logs none at a place, or it is the look of that place
-look_one : (p : Place) (job g s c : ℕ) (a : Looked)
-    → (looks_at s c (logged_at p job g a) ≡ []) ⊎ ((p ≡ spot g s c) × OneLook s c (logged_at p job g a))
-look_one p job g s c a = ⊎_elim
-    (λ (same : p.group ≡ g).
-    let is : logged_at p job g a ≡ look_entries job p.stripe p.column a = in_group p job g a same in
-    ⊎_elim
-    (λ (on : (p.stripe ≡ s) × (p.column ≡ c)).
-    ⊎_elim
-    (λ (none : looks_at s c (look_entries job p.stripe p.column a) ≡ []). inl (ap (looks_at s c) is ∙ none))
-    (λ (one : OneLook s c (look_entries job p.stripe p.column a)). inr (same_place p (spot g s c) same on.0 on.1, (one.0, ap (looks_at s c) is ∙ one.1)))
-    (look_on p job s c a (hit p.stripe p.column s c on.0 on.1)))
-    (λ (off : ((p.stripe == s) && (p.column == c)) ≡ false). inl (ap (looks_at s c) is ∙ look_off p job s c a off))
-    (both p.stripe p.column s c))
-    (λ (ne : p.group ≢ g). inl (ap (looks_at s c) (in_other p job g a ne)))
-    (nat_same p.group g)
-
-module _ (places : List Place) (job g s c : ℕ) where
-  look_none : (b : ℕ) (ans : List Looked) → ((x : ℕ) → x < length ans → place_in places (b + x) ≢ spot g s c) → looks_at s c (logged_from places job g b ans) ≡ []
-  look_none b [] other = refl
-  look_none b (a ∷ ans) other =
+  pub none_of : (b : ℕ) (vs : List Visit) → AreVisits job places b vs → ((x : ℕ) → x < length vs → place_in places (b + x) ≢ spot g s c) → filter test (logged_from places g b vs) ≡ []
+  none_of b [] are other = refl
+  none_of b (v ∷ vs) are other =
       let here : place_in places b ≢ spot g s c = (let e : b + 0 ≡ b = omega arith in subst (λ n. place_in places n ≢ spot g s c) e (other 0 (omega arith))) in
-      let there : (x : ℕ) → x < length ans → place_in places (suc b + x) ≢ spot g s c =
+      let there : (x : ℕ) → x < length vs → place_in places (suc b + x) ≢ spot g s c =
       λ x lt. (let e : b + suc x ≡ suc b + x = omega arith in subst (λ n. place_in places n ≢ spot g s c) e (other (suc x) (omega (arith, lt)))) in
-      let first : looks_at s c (logged_at (place_in places b) job g a) ≡ [] =
-      ⊎_elim (λ (none : looks_at s c (logged_at (place_in places b) job g a) ≡ []). none)
-      (λ (one : (place_in places b ≡ spot g s c) × OneLook s c (logged_at (place_in places b) job g a)). absurd (here one.0))
-      (look_one (place_in places b) job g s c a) in
-      filter-append (is_look_at s c) (logged_at (place_in places b) job g a) (logged_from places job g (suc b) ans)
-      ∙ (ap (λ l. l ++ looks_at s c (logged_from places job g (suc b) ans)) first ∙ look_none (suc b) ans there)
+      let first : filter test (logged_at (place_in places b) g v) ≡ [] =
+      ⊎_elim (λ (none : filter test (logged_at (place_in places b) g v) ≡ []). none)
+      (λ (on : (place_in places b ≡ spot g s c) × (logged_at (place_in places b) g v ≡ v.entries)). absurd (here on.0))
+      (at_place (place_in places b) v (first_visit job places b v vs are)) in
+      filter-append test (logged_at (place_in places b) g v) (logged_from places g (suc b) vs)
+      ∙ (ap (λ l. l ++ filter test (logged_from places g (suc b) vs)) first ∙ none_of (suc b) vs (rest_visits job places b v vs are) there)
 
-  abbrev OnceFrom : ℕ → List Looked → Type 0
-  OnceFrom b ans = (looks_at s c (logged_from places job g b ans) ≡ []) ⊎ OneLook s c (logged_from places job g b ans)
+  -- behind the visit to the place there is none
+  none_behind : (n b : ℕ) (vs : List Visit) → Apart places n → suc b + length vs ≤ n → AreVisits job places (suc b) vs → place_in places b ≡ spot g s c
+      → filter test (logged_from places g (suc b) vs) ≡ []
+  none_behind n b vs apart fits are on =
+      none_of (suc b) vs are (λ x lt same. (let twice : suc b + x ≡ b = apart (suc b + x) b (omega (arith, fits, lt)) (omega (arith, fits)) (same ∙ sym on) in omega (arith, twice)))
 
-  look_once : (n b : ℕ) (ans : List Looked) → Apart places n → b + length ans ≤ n → OnceFrom b ans
-  look_once n b [] apart fits = inl refl
-  look_once n b (a ∷ ans) apart fits =
-      let split = filter-append (is_look_at s c) (logged_at (place_in places b) job g a) (logged_from places job g (suc b) ans) in
-      let rest = look_once n (suc b) ans apart (omega (arith, fits)) in
+  abbrev pub OneOf : ℕ → List Visit → Type 0
+  OneOf b vs =
+      (filter test (logged_from places g b vs) ≡ [])
+      ⊎ ((v : Visit) × IsVisit job (spot g s c) v × (filter test (logged_from places g b vs) ≡ filter test v.entries))
+
+  pub one_of : (n b : ℕ) (vs : List Visit) → Apart places n → b + length vs ≤ n → AreVisits job places b vs → OneOf b vs
+  one_of n b [] apart fits are = inl refl
+  one_of n b (v ∷ vs) apart fits are =
+      let split = filter-append test (logged_at (place_in places b) g v) (logged_from places g (suc b) vs) in
+      let is : IsVisit job (place_in places b) v = first_visit job places b v vs are in
+      let next : AreVisits job places (suc b) vs = rest_visits job places b v vs are in
       ⊎_elim
-      (λ (none : looks_at s c (logged_at (place_in places b) job g a) ≡ []).
-      let same : looks_at s c (logged_from places job g b (a ∷ ans)) ≡ looks_at s c (logged_from places job g (suc b) ans) =
-      split ∙ ap (λ l. l ++ looks_at s c (logged_from places job g (suc b) ans)) none in
-      ⊎_elim (λ (e : looks_at s c (logged_from places job g (suc b) ans) ≡ []). inl (same ∙ e)) (λ (one : OneLook s c (logged_from places job g (suc b) ans)). inr (one.0, same ∙ one.1)) rest)
-      (λ (one : (place_in places b ≡ spot g s c) × OneLook s c (logged_at (place_in places b) job g a)).
-      let others : looks_at s c (logged_from places job g (suc b) ans) ≡ [] =
-      look_none (suc b) ans (λ x lt same. (let twice : suc b + x ≡ b = apart (suc b + x) b (omega (arith, fits, lt)) (omega (arith, fits)) (same ∙ sym one.0) in omega (arith, twice))) in
-      inr (one.1.0, split ∙ (ap (λ l. looks_at s c (logged_at (place_in places b) job g a) ++ l) others ∙ (append-nil (looks_at s c (logged_at (place_in places b) job g a)) ∙ one.1.1))))
-      (look_one (place_in places b) job g s c a)
+      (λ (none : filter test (logged_at (place_in places b) g v) ≡ []).
+      let same : filter test (logged_from places g b (v ∷ vs)) ≡ filter test (logged_from places g (suc b) vs) =
+      split ∙ ap (λ l. l ++ filter test (logged_from places g (suc b) vs)) none in
+      ⊎_elim (λ (e : filter test (logged_from places g (suc b) vs) ≡ []). inl (same ∙ e))
+      (λ (one : (w : Visit) × IsVisit job (spot g s c) w × (filter test (logged_from places g (suc b) vs) ≡ filter test w.entries)). inr (one.0, one.1, same ∙ one.2))
+      (one_of n (suc b) vs apart (omega (arith, fits)) next))
+      (λ (on : (place_in places b ≡ spot g s c) × (logged_at (place_in places b) g v ≡ v.entries)).
+      inr (
+        v,
+        subst (λ p. IsVisit job p v) on.0 is,
+        split
+            ∙ (ap (λ l. filter test (logged_at (place_in places b) g v) ++ l) (none_behind n b vs apart (omega (arith, fits)) next on.0)
+            ∙ (append-nil (filter test (logged_at (place_in places b) g v)) ∙ ap (filter test) on.1)),
+      ))
+      (at_place (place_in places b) v is)
 
-  pub looks_once : (n b : ℕ) (ans : List Looked) → Apart places n → b + length ans ≤ n → LooksTwice job s c (logged_from places job g b ans)
-  looks_once n b ans apart fits = ⊎_elim
-      (λ (none : looks_at s c (logged_from places job g b ans) ≡ []). inl none)
-      (λ (one : OneLook s c (logged_from places job g b ans)). inr (inl one))
-      (look_once n b ans apart fits)
+-- LOOKS
+
+-- how often a place is looked at depends on the looks there alone
+looks_same : (job s c : ℕ) (es fs : List Entry) → filter (is_look_at s c) es ≡ filter (is_look_at s c) fs → LooksTwice job s c fs → LooksTwice job s c es
+looks_same job s c es fs same (inl none) = inl (same ∙ none)
+looks_same job s c es fs same (inr (inl (e, one))) = inr (inl (e, same ∙ one))
+looks_same job s c es fs same (inr (inr (e, two))) = inr (inr (e, same ∙ two))
+
+module _ (job : ℕ) (places : List Place) (n : ℕ) (vs : List Visit) (apart : Apart places n) (fits : length vs ≤ n) (are : AreVisits job places 0 vs) where
+  pub looks_twice : (g s c : ℕ) → LooksTwice job s c (logged_from places g 0 vs)
+  looks_twice g s c = ⊎_elim
+      (λ (none : filter (is_look_at s c) (logged_from places g 0 vs) ≡ []). inl none)
+      (λ (one : (v : Visit) × IsVisit job (spot g s c) v × (filter (is_look_at s c) (logged_from places g 0 vs) ≡ filter (is_look_at s c) v.entries)).
+      looks_same job s c (logged_from places g 0 vs) one.0.entries one.2 one.1.looks)
+      (one_of job places g s c (is_look_at s c) (λ p e off may. (is_elsewhere job p s c off e may).look) n 0 vs apart (omega (arith, fits)) are)
+
+  pub one_stuck : (g s c : ℕ) → length (filter (is_stuck_at s c) (logged_from places g 0 vs)) ≤ 1
+  one_stuck g s c = ⊎_elim
+      (λ (none : filter (is_stuck_at s c) (logged_from places g 0 vs) ≡ []). (let z = ap length none in omega (arith, z)))
+      (λ (one : (v : Visit) × IsVisit job (spot g s c) v × (filter (is_stuck_at s c) (logged_from places g 0 vs) ≡ filter (is_stuck_at s c) v.entries)).
+      (let e = ap length one.2 in let l = one.1.one_stuck in omega (arith, e, l)))
+      (one_of job places g s c (is_stuck_at s c) (λ p e off may. (is_elsewhere job p s c off e may).stuck) n 0 vs apart (omega (arith, fits)) are)
+
+-- RELAYS BEGUN ANEW
+
+pub begun_append : (s c n : ℕ) (x y : List Entry) → begun_from s c n (x ++ y) ≡ begun_from s c (begun_from s c n x) y
+begun_append s c n [] y = refl
+begun_append s c n (e ∷ x) y = begun_append s c (begun_next s c n e) x y
+
+-- where no entry passes a test, the first does not, and no later one
+first_fails : (test : Entry → Bool) (e : Entry) (es : List Entry) → filter test (e ∷ es) ≡ [] → (test e ≡ false) × (filter test es ≡ [])
+first_fails test e es none = at (test e) refl
+  where
+    at : (b : Bool) → test e ≡ b → (test e ≡ false) × (filter test es ≡ [])
+    at true is = absurd (let h : e ∷ filter test es ≡ [] = subst (λ b. (if b then e ∷ filter test es else filter test es) ≡ []) is none in cc h)
+    at false is = (is, subst (λ b. (if b then e ∷ filter test es else filter test es) ≡ []) is none)
+
+-- where none begins at the place
+begun_none : (s c : ℕ) (es : List Entry) → filter (is_begin_at s c) es ≡ [] → begun_from s c 0 es ≡ 0
+begun_none s c [] none = refl
+begun_none s c (e ∷ es) none = (let h = first_fails (is_begin_at s c) e es none in rw h.0 (begun_none s c es h.1))
+
+low_next : (s c n : ℕ) (e : Entry) → is_begin_at s c e ≡ false → n ≤ 2 → begun_next s c n e ≤ 2
+low_next s c zero e is le = rw is (omega arith)
+low_next s c (suc zero) e is le = at (is_oddly_at s c e)
+  where
+    at : (b : Bool) → (if b then 2 else 1) ≤ 2
+    at true = omega arith
+    at false = omega arith
+low_next s c (suc (suc zero)) e is le = rw is (omega arith)
+low_next s c (suc (suc (suc n))) e is le = absurd (omega (arith, le))
+
+begun_low : (s c n : ℕ) (es : List Entry) → n ≤ 2 → filter (is_begin_at s c) es ≡ [] → begun_from s c n es ≤ 2
+begun_low s c n [] low none = low
+begun_low s c n (e ∷ es) low none = (let h = first_fails (is_begin_at s c) e es none in begun_low s c (begun_next s c n e) es (low_next s c n e h.0 low) h.1)
+
+-- no visits but those to the place begin one there, and none of these comes to an end
+module _ (job : ℕ) (places : List Place) (g s c n : ℕ) (apart : Apart places n) where
+  passes : (p : Place) (e : Entry) → ((p.stripe == s) && (p.column == c)) ≡ false → MayVisit job p e → is_begin_at s c e ≡ false
+  passes p e off may = (is_elsewhere job p s c off e may).begin
+
+  pub begun_all : (b : ℕ) (vs : List Visit) → b + length vs ≤ n → AreVisits job places b vs → begun_from s c 0 (logged_from places g b vs) ≤ 2
+  begun_all b [] fits are = omega arith
+  begun_all b (v ∷ vs) fits are =
+      let here : List Entry = logged_at (place_in places b) g v in
+      let behind : List Entry = logged_from places g (suc b) vs in
+      let is : IsVisit job (place_in places b) v = first_visit job places b v vs are in
+      let next : AreVisits job places (suc b) vs = rest_visits job places b v vs are in
+      let split : begun_from s c 0 (here ++ behind) ≡ begun_from s c (begun_from s c 0 here) behind = begun_append s c 0 here behind in
+      ⊎_elim
+      (λ (none : filter (is_begin_at s c) here ≡ []).
+      let e : begun_from s c 0 (here ++ behind) ≡ begun_from s c 0 behind = split ∙ ap (λ m. begun_from s c m behind) (begun_none s c here none) in
+      let low = begun_all (suc b) vs (omega (arith, fits)) next in omega (arith, e, low))
+      (λ (on : (place_in places b ≡ spot g s c) × (here ≡ v.entries)).
+      let at : IsVisit job (spot g s c) v = subst (λ p. IsVisit job p v) on.0 is in
+      let low : begun_from s c 0 here ≤ 2 = (let l = at.begun in let e = ap (begun_from s c 0) on.1 in omega (arith, l, e)) in
+      let none = none_behind job places g s c (is_begin_at s c) passes n b vs apart (omega (arith, fits)) next on.0 in
+      let end = begun_low s c (begun_from s c 0 here) behind low none in omega (arith, split, end))
+      (at_place job places g s c (is_begin_at s c) passes (place_in places b) v is)
+
+-- it never goes back
+next_rises : (s c n : ℕ) (e : Entry) → n ≤ begun_next s c n e
+next_rises s c zero e = omega arith
+next_rises s c (suc zero) e = at (is_oddly_at s c e)
+  where
+    at : (b : Bool) → 1 ≤ (if b then 2 else 1)
+    at true = omega arith
+    at false = omega arith
+next_rises s c (suc (suc zero)) e = at (is_begin_at s c e)
+  where
+    at : (b : Bool) → 2 ≤ (if b then 3 else 2)
+    at true = omega arith
+    at false = omega arith
+next_rises s c (suc (suc (suc n))) e = omega arith
+
+begun_rises : (s c n : ℕ) (es : List Entry) → n ≤ begun_from s c n es
+begun_rises s c n [] = omega arith
+begun_rises s c n (e ∷ es) = (let a = next_rises s c n e in let b = begun_rises s c (begun_next s c n e) es in omega (arith, a, b))
+
+at_begin : (j s c n : ℕ) → 1 ≤ begun_next s c n (entry.Begin j s c)
+at_begin j s c zero = rw (hit s c s c refl refl) (omega arith)
+at_begin j s c (suc zero) = omega arith
+at_begin j s c (suc (suc zero)) = rw (hit s c s c refl refl) (omega arith)
+at_begin j s c (suc (suc (suc n))) = omega arith
+
+at_oddly : (j s c n : ℕ) (f : Digest) → 1 ≤ n → 2 ≤ begun_next s c n (entry.Oddly j s c f)
+at_oddly j s c zero f le = absurd (omega (arith, le))
+at_oddly j s c (suc zero) f le = rw (hit s c s c refl refl) (omega arith)
+at_oddly j s c (suc (suc zero)) f le = omega arith
+at_oddly j s c (suc (suc (suc n))) f le = omega arith
+
+at_last : (j s c n : ℕ) → 2 ≤ n → 3 ≤ begun_next s c n (entry.Begin j s c)
+at_last j s c zero le = absurd (omega (arith, le))
+at_last j s c (suc zero) le = absurd (omega (arith, le))
+at_last j s c (suc (suc zero)) le = rw (hit s c s c refl refl) (omega arith)
+at_last j s c (suc (suc (suc n))) le = omega arith
+
+-- a relay that began anew behind the Oddly of one before brings it to the end
+begun_anew : (j s c : ℕ) (f : Digest) (x t y z : List Entry) → 3 ≤ begun_from s c 0 ((x ++ entry.Begin j s c ∷ (t ++ entry.Oddly j s c f ∷ y)) ++ entry.Begin j s c ∷ z)
+begun_anew j s c f x t y z =
+    let front : List Entry = x ++ entry.Begin j s c ∷ (t ++ entry.Oddly j s c f ∷ y) in
+    let a : ℕ = begun_next s c (begun_from s c 0 x) (entry.Begin j s c) in
+    let one : 1 ≤ begun_from s c a t = (let b = at_begin j s c (begun_from s c 0 x) in let r = begun_rises s c a t in omega (arith, b, r)) in
+    let d : ℕ = begun_next s c (begun_from s c a t) (entry.Oddly j s c f) in
+    let two : 2 ≤ begun_from s c d y = (let b = at_oddly j s c (begun_from s c a t) f one in let r = begun_rises s c d y in omega (arith, b, r)) in
+    let at : begun_from s c 0 front ≡ begun_from s c d y =
+    begun_append s c 0 x (entry.Begin j s c ∷ (t ++ entry.Oddly j s c f ∷ y)) ∙ begun_append s c a t (entry.Oddly j s c f ∷ y) in
+    let h : ℕ = begun_next s c (begun_from s c 0 front) (entry.Begin j s c) in
+    let three : 3 ≤ begun_from s c h z = (let b = at_last j s c (begun_from s c 0 front) (omega (arith, at, two)) in let r = begun_rises s c h z in omega (arith, b, r)) in
+    let all = begun_append s c 0 front (entry.Begin j s c ∷ z) in
+    omega (arith, all, three)
+
+-- THE RULES OF A JOB THAT MENDS
+
+own_append : (job : ℕ) (x y : List Entry) → own job (x ++ y) ≡ own job x ++ own job y
+own_append job x y = filter-append (is_of job) x y
+
+pub own_cons : (job : ℕ) (e : Entry) (es : List Entry) → is_of job e ≡ true → own job (e ∷ es) ≡ e ∷ own job es
+own_cons job e es is = rw is refl
+
+module _ (job : ℕ) (places : List Place) (n : ℕ) (vs : List Visit) (apart : Apart places n) (fits : length vs ≤ n) (are : AreVisits job places 0 vs) where
+  none_again : (g : ℕ) (added : List Entry) → own job added ≡ logged_from places g 0 vs → (s c : ℕ) (f : Digest) (x t y z : List Entry)
+      → added ≡ (x ++ entry.Begin job s c ∷ (t ++ entry.Oddly job s c f ∷ y)) ++ entry.Begin job s c ∷ z → ⊥
+  none_again g added is s c f x t y z at =
+      let b : Entry = entry.Begin job s c in
+      let o : Entry = entry.Oddly job s c f in
+      let mine : is_of job b ≡ true = eq-eqb job job refl in
+      let odd : is_of job o ≡ true = eq-eqb job job refl in
+      let inner : own job (t ++ o ∷ y) ≡ own job t ++ o ∷ own job y = own_append job t (o ∷ y) ∙ ap (λ l. own job t ++ l) (own_cons job o y odd) in
+      let front : own job (x ++ b ∷ (t ++ o ∷ y)) ≡ own job x ++ b ∷ (own job t ++ o ∷ own job y) =
+      own_append job x (b ∷ (t ++ o ∷ y)) ∙ ap (λ l. own job x ++ l) (own_cons job b (t ++ o ∷ y) mine ∙ ap (λ l. b ∷ l) inner) in
+      let all : own job added ≡ (own job x ++ b ∷ (own job t ++ o ∷ own job y)) ++ b ∷ own job z =
+      ap (own job) at ∙ (own_append job (x ++ b ∷ (t ++ o ∷ y)) (b ∷ z)
+      ∙ (ap (λ l. l ++ own job (b ∷ z)) front ∙ ap (λ l. (own job x ++ b ∷ (own job t ++ o ∷ own job y)) ++ l) (own_cons job b z mine))) in
+      let high = begun_anew job s c f (own job x) (own job t) (own job y) (own job z) in
+      let low = begun_all job places g s c n apart 0 vs (omega (arith, fits)) are in
+      let same : begun_from s c 0 (logged_from places g 0 vs) ≡ begun_from s c 0 ((own job x ++ b ∷ (own job t ++ o ∷ own job y)) ++ b ∷ own job z) =
+      ap (begun_from s c 0) (sym is ∙ all) in
+      omega (arith, high, low, same)
+
+  pub mends_from : (g : ℕ) (added : List Entry) → own job added ≡ logged_from places g 0 vs → Mends job added
+  mends_from g added is = record {
+    one_stuck = λ s c. (let e = ap (λ es. length (filter (is_stuck_at s c) es)) is in let l = one_stuck job places n vs apart fits are g s c in omega (arith, e, l));
+    none_again = λ s c f x t y z at none. none_again g added is s c f x t y z at;
+  }
 
 -- what a fetch of the record may log
-pub reads_from : (kept : Record) (job : ℕ) (ans : List Looked) (logs : ℕ → List Entry) → ((g : ℕ) → logs g ≡ logged_from kept.places job g 0 ans)
-    → Apart kept.places (length kept.places) → length ans ≤ length kept.places → AreReads kept job logs
-reads_from kept job ans logs are apart fits = record {
-  kinds = λ g e has. may_from kept job g 0 ans e (omega (arith, fits)) (subst (λ es. Contains es e) (are g) has);
-  looks = λ g s c. subst (LooksTwice job s c) (sym (are g)) (looks_once kept.places job g s c (length kept.places) 0 ans apart (omega (arith, fits)));
+pub reads_from : (kept : Record) (job : ℕ) (vs : List Visit) (logs : ℕ → List Entry) → ((g : ℕ) → logs g ≡ logged_from kept.places g 0 vs)
+    → Apart kept.places (length kept.places) → length vs ≤ length kept.places → AreVisits job kept.places 0 vs → AreReads kept job logs
+reads_from kept job vs logs log apart fits are = record {
+  kinds = λ g e has. may_from kept job g 0 vs e are (omega (arith, fits)) (subst (λ es. Contains es e) (log g) has);
+  looks = λ g s c. subst (LooksTwice job s c) (sym (log g)) (looks_twice job kept.places (length kept.places) vs apart fits are g s c);
 }

@@ -12,7 +12,8 @@ use Rattle.pot_index.specs.Records.{current_of, splits_of}
 use Rattle.pot_rows.proofs.Lists.{get_or_last}
 use Rattle.pot_turn.specs.declared.name.TurnName.{TurnName}
 use Rattle.pot_shared.specs.Ready.{HasSlot}
-use Rattle.pot_store.specs.Looks.{place_in}
+use Rattle.pot_store.specs.Visits.{place_in}
+use Rattle.pot_store.specs.Reads.{IsFragmentFrom}
 use Rattle.pot_store.proofs.LookLemmas.{Apart}
 
 -- an element by its place
@@ -39,6 +40,10 @@ differ a d n more less same =
   where
     le_or : (x y : ℕ) → (x ≤ y) ⊎ (y < x)
     le_or x y = grind arith
+
+-- n blocks from one on stand in groups of their own
+abbrev pub GroupsDiffer : List Place → ℕ → ℕ → Type 0
+GroupsDiffer places from n = (x y : ℕ) → x < y → y < n → (place_in places (from + y)).group ≢ (place_in places (from + x)).group
 
 module _ (rack : Rack) (kept : Record) (fits : FitsRack rack kept) where
   pub current_fits : FitsSplit rack (pieces_of kept.length) (current_of kept)
@@ -101,6 +106,10 @@ module _ (rack : Rack) (kept : Record) (fits : FitsRack rack kept) where
       let gy : (place_in kept.places (f * n + y)).group ≡ (f + y) % rack.groups = py ∙ (ap (λ q. (q + (f * n + y) % n) % rack.groups) dy ∙ ap (λ r. (f + r) % rack.groups) qy) in
       let e : (f + x) + (y - x) ≡ f + y = omega (arith, less) in
       differ (f + x) (y - x) rack.groups (omega (arith, less)) (omega (arith, less, lt, few)) (sym gx ∙ (sym same ∙ (gy ∙ ap (λ m. m % rack.groups) (sym e))))
+
+  -- the points from the first block of a fragment on
+  pub fragment_apart : (from : ℕ) → IsFragmentFrom kept from → GroupsDiffer kept.places from n
+  fragment_apart from (f, within, is) x y less lt = subst (λ m. (place_in kept.places (m + y)).group ≢ (place_in kept.places (m + x)).group) (sym is) (groups_differ f x y within less lt)
 
 -- a file that is not too long has at most 1,024 pieces, which hold it
 pub pieces_few : (n : ℕ) → n ≤ longest → pieces_of n ≤ 1024

@@ -3,7 +3,6 @@ use Rattle.std.proofs.Common.{◌≡◌, ◌<◌, ◌≤◌, ◌⊎◌, ⊎_elim
 use Rattle.std.specs.List.{flat_map, range_with_len}
 use Rattle.std.proofs.lemmas.Nat.{mul-add-lt}
 use Rattle.pot_steps.proofs.AheadLemmas.{count_same}
-use Rattle.pot_steps.specs.GroupStep.{Looked}
 use Rattle.pot_object.specs.Pieces.{content_size, object_size, pieces_of}
 use Rattle.pot_split.specs.Secrecy.{meaning}
 use Rattle.pot_split.specs.Threshold.{IsJoin}
@@ -12,9 +11,9 @@ use Rattle.pot_index.specs.declared.record.Record.{Record}
 use Rattle.pot_replies.specs.Joined.{Read, point_in, share_in, points_read, shares_read}
 use Rattle.pot_shared.specs.Ready.{GroupPasses}
 use Rattle.pot_store.specs.declared.fetching.FetchFault.{FetchFault}
-use Rattle.pot_store.specs.Looks.{answer_at, was_seen, block_in, seen_in, read_in}
+use Rattle.pot_store.specs.Visits.{Visit, was_seen, block_in, came_at, seen_in, read_in}
 use Rattle.pot_store.specs.Reads.{IsHad, AreHad, IsStopped, IsRefused, content_at, fragments_in, object_at}
-use Rattle.pot_store.proofs.LookLemmas.{answer_front, answer_back}
+use Rattle.pot_store.proofs.LookLemmas.{came_front, came_back}
 
 pub below_or_not : (a b : ℕ) → (a < b) ⊎ (b ≤ a)
 below_or_not a b = grind arith
@@ -55,78 +54,78 @@ at_back (c ∷ cs) ds f = (let e : length (c ∷ cs) + f ≡ suc (length cs + f)
 
 -- A FRAGMENT AMONG OTHERS
 
--- what was had of a fragment is had where its answers stand elsewhere
-pub had_same : (n need : ℕ) (ans os : List Looked) (f g : ℕ) (c d : List ℕ) → ((x : ℕ) → x < n → answer_at ans (f * n + x) ≡ answer_at os (g * n + x)) → c ≡ d
-    → IsHad n need ans f c → IsHad n need os g d
-had_same n need ans os f g c d same is had =
-    let reads : (x : ℕ) → x < n → read_in n ans f x ≡ read_in n os g x = λ x lt. ap block_in (same x lt) in
+-- what was had of a fragment is had where its visits stand elsewhere
+pub had_same : (n need : ℕ) (vs ws : List Visit) (f g : ℕ) (c d : List ℕ) → ((x : ℕ) → x < n → came_at vs (f * n + x) ≡ came_at ws (g * n + x)) → c ≡ d
+    → IsHad n need vs f c → IsHad n need ws g d
+had_same n need vs ws f g c d same is had =
+    let reads : (x : ℕ) → x < n → read_in n vs f x ≡ read_in n ws g x = λ x lt. ap block_in (same x lt) in
     record {
-      enough = sym (count_same n (λ x. was_seen (answer_at ans (f * n + x))) (λ x. was_seen (answer_at os (g * n + x))) (λ x lt. ap was_seen (same x lt))) ∙ had.enough;
+      enough = sym (count_same n (λ x. was_seen (came_at vs (f * n + x))) (λ x. was_seen (came_at ws (g * n + x))) (λ x lt. ap was_seen (same x lt))) ∙ had.enough;
       long = ap length (sym is) ∙ had.long;
-      joined = subst (λ ps. IsJoin ps (shares_read n (read_in n os g)) d) (points_same n (read_in n ans f) (read_in n os g) reads)
-          (subst (λ ss. IsJoin (points_read n (read_in n ans f)) ss d) (shares_same n (read_in n ans f) (read_in n os g) reads)
-          (subst (λ e. IsJoin (points_read n (read_in n ans f)) (shares_read n (read_in n ans f)) e) is had.joined));
+      joined = subst (λ ps. IsJoin ps (shares_read n (read_in n ws g)) d) (points_same n (read_in n vs f) (read_in n ws g) reads)
+          (subst (λ ss. IsJoin (points_read n (read_in n vs f)) ss d) (shares_same n (read_in n vs f) (read_in n ws g) reads)
+          (subst (λ e. IsJoin (points_read n (read_in n vs f)) (shares_read n (read_in n vs f)) e) is had.joined));
     }
 
 -- none
 pub had_none : (kept : Record) → AreHad kept 0 [] []
-had_none kept = record { looks = (omega arith); count = refl; each = λ f lt. absurd (omega (arith, lt)) }
+had_none kept = record { visited = (omega arith); count = refl; each = λ f lt. absurd (omega (arith, lt)) }
 
--- one, by its own answers
-pub had_one : (kept : Record) (ans : List Looked) (c : List ℕ) → length ans ≡ kept.geometry.shards → seen_in kept.geometry.shards ans ≡ kept.geometry.need → length c ≡ content_size
-    → IsJoin (points_read kept.geometry.shards (λ x. block_in (answer_at ans x))) (shares_read kept.geometry.shards (λ x. block_in (answer_at ans x))) c
-    → AreHad kept 1 ans (c ∷ [])
-had_one kept ans c looks enough long joined =
+-- one, by its own visits
+pub had_one : (kept : Record) (vs : List Visit) (c : List ℕ) → length vs ≡ kept.geometry.shards → seen_in kept.geometry.shards vs ≡ kept.geometry.need → length c ≡ content_size
+    → IsJoin (points_read kept.geometry.shards (λ x. block_in (came_at vs x))) (shares_read kept.geometry.shards (λ x. block_in (came_at vs x))) c
+    → AreHad kept 1 vs (c ∷ [])
+had_one kept vs c visited enough long joined =
     let n = kept.geometry.shards in
-    let at : (x : ℕ) → answer_at ans x ≡ answer_at ans (0 * n + x) = λ x. (let e : x ≡ 0 * n + x = omega arith in ap (answer_at ans) e) in
-    let reads : (x : ℕ) → x < n → block_in (answer_at ans x) ≡ read_in n ans 0 x = λ x lt. ap block_in (at x) in
-    let first : IsHad n kept.geometry.need ans 0 c = record {
-      enough = sym (count_same n (λ x. was_seen (answer_at ans x)) (λ x. was_seen (answer_at ans (0 * n + x))) (λ x lt. ap was_seen (at x))) ∙ enough;
+    let at : (x : ℕ) → came_at vs x ≡ came_at vs (0 * n + x) = λ x. (let e : x ≡ 0 * n + x = omega arith in ap (came_at vs) e) in
+    let reads : (x : ℕ) → x < n → block_in (came_at vs x) ≡ read_in n vs 0 x = λ x lt. ap block_in (at x) in
+    let first : IsHad n kept.geometry.need vs 0 c = record {
+      enough = sym (count_same n (λ x. was_seen (came_at vs x)) (λ x. was_seen (came_at vs (0 * n + x))) (λ x lt. ap was_seen (at x))) ∙ enough;
       long = long;
-      joined = subst (λ ps. IsJoin ps (shares_read n (read_in n ans 0)) c) (points_same n (λ x. block_in (answer_at ans x)) (read_in n ans 0) reads)
-          (subst (λ ss. IsJoin (points_read n (λ x. block_in (answer_at ans x))) ss c) (shares_same n (λ x. block_in (answer_at ans x)) (read_in n ans 0) reads) joined);
+      joined = subst (λ ps. IsJoin ps (shares_read n (read_in n vs 0)) c) (points_same n (λ x. block_in (came_at vs x)) (read_in n vs 0) reads)
+          (subst (λ ss. IsJoin (points_read n (λ x. block_in (came_at vs x))) ss c) (shares_same n (λ x. block_in (came_at vs x)) (read_in n vs 0) reads) joined);
     } in
     record {
-      looks = (omega (arith, looks));
+      visited = (omega (arith, visited));
       count = refl;
-      each = λ f lt. (let e : 0 ≡ f = omega (arith, lt) in subst (λ m. IsHad n kept.geometry.need ans m (content_at (c ∷ []) m)) e first);
+      each = λ f lt. (let e : 0 ≡ f = omega (arith, lt) in subst (λ m. IsHad n kept.geometry.need vs m (content_at (c ∷ []) m)) e first);
     }
 
 -- some, and some more
-pub had_then : (kept : Record) (m k : ℕ) (ans os : List Looked) (cs ds : List (List ℕ)) → AreHad kept m ans cs → AreHad kept k os ds → AreHad kept (m + k) (ans ++ os) (cs ++ ds)
-had_then kept m k ans os cs ds one two =
+pub had_then : (kept : Record) (m k : ℕ) (vs ws : List Visit) (cs ds : List (List ℕ)) → AreHad kept m vs cs → AreHad kept k ws ds → AreHad kept (m + k) (vs ++ ws) (cs ++ ds)
+had_then kept m k vs ws cs ds one two =
     let n = kept.geometry.shards in
     let need = kept.geometry.need in
-    let long : length ans ≡ m * n = one.looks in
+    let long : length vs ≡ m * n = one.visited in
     record {
-      looks = (let a = length-append ans os in let b = two.looks in omega (arith, a, b, long));
+      visited = (let a = length-append vs ws in let b = two.visited in omega (arith, a, b, long));
       count = (let a = length-append cs ds in let b = one.count in let c = two.count in omega (arith, a, b, c));
       each = λ f lt. ⊎_elim
           (λ (low : f < m).
-          had_same n need ans (ans ++ os) f f (content_at cs f) (content_at (cs ++ ds) f)
-          (λ x less. sym (answer_front ans os (f * n + x) (let within : f * n + x < n * m = mul-add-lt f n x m low less in omega (arith, within, long))))
+          had_same n need vs (vs ++ ws) f f (content_at cs f) (content_at (cs ++ ds) f)
+          (λ x less. sym (came_front vs ws (f * n + x) (let within : f * n + x < n * m = mul-add-lt f n x m low less in omega (arith, within, long))))
           (sym (at_front cs ds f (let b = one.count in omega (arith, low, b)))) (one.each f low))
           (λ (high : m ≤ f).
           let e : m + (f - m) ≡ f = omega (arith, high) in
-          let at : (x : ℕ) → answer_at os ((f - m) * n + x) ≡ answer_at (ans ++ os) (f * n + x) = λ x.
-          (let place : length ans + ((f - m) * n + x) ≡ f * n + x = (let p : (m + (f - m)) * n ≡ f * n = ap (λ y. y * n) e in omega (arith, p, long)) in
-          sym (answer_back ans os ((f - m) * n + x)) ∙ ap (answer_at (ans ++ os)) place) in
+          let at : (x : ℕ) → came_at ws ((f - m) * n + x) ≡ came_at (vs ++ ws) (f * n + x) = λ x.
+          (let place : length vs + ((f - m) * n + x) ≡ f * n + x = (let p : (m + (f - m)) * n ≡ f * n = ap (λ y. y * n) e in omega (arith, p, long)) in
+          sym (came_back vs ws ((f - m) * n + x)) ∙ ap (came_at (vs ++ ws)) place) in
           let content : content_at ds (f - m) ≡ content_at (cs ++ ds) f =
           sym (at_back cs ds (f - m)) ∙ ap (content_at (cs ++ ds)) (let b = one.count in omega (arith, e, b)) in
-          had_same n need os (ans ++ os) (f - m) f (content_at ds (f - m)) (content_at (cs ++ ds) f) (λ x less. at x) content (two.each (f - m) (omega (arith, lt, high))))
+          had_same n need ws (vs ++ ws) (f - m) f (content_at ds (f - m)) (content_at (cs ++ ds) f) (λ x less. at x) content (two.each (f - m) (omega (arith, lt, high))))
           (below_or_not f m);
     }
 
 -- a stop behind more fragments
-pub stopped_then : (kept : Record) (base m : ℕ) (ans os : List Looked) (cs : List (List ℕ)) (e : FetchFault) (w : GroupPasses)
-    → AreHad kept m ans cs → IsStopped kept (base + m) os e w → IsStopped kept base (ans ++ os) e w
-stopped_then kept base m ans os cs e w had is = record {
+pub stopped_then : (kept : Record) (base m : ℕ) (vs ws : List Visit) (cs : List (List ℕ)) (e : FetchFault) (w : GroupPasses)
+    → AreHad kept m vs cs → IsStopped kept (base + m) ws e w → IsStopped kept base (vs ++ ws) e w
+stopped_then kept base m vs ws cs e w had is = record {
   many = m + is.many;
-  done = ans ++ is.done;
+  done = vs ++ is.done;
   last = is.last;
   contents = cs ++ is.contents;
-  are = ap (λ l. ans ++ l) is.are ∙ sym (append_assoc ans is.done is.last);
-  had = had_then kept m is.many ans is.done cs is.contents had is.had;
+  are = ap (λ l. vs ++ l) is.are ∙ sym (append_assoc vs is.done is.last);
+  had = had_then kept m is.many vs is.done cs is.contents had is.had;
   piece = is.piece;
   fragment = is.fragment;
   at = (let a = is.at in omega (arith, a));
@@ -137,12 +136,12 @@ stopped_then kept base m ans os cs e w had is = record {
 }
 
 -- a stop at the very first
-pub stopped_first : (kept : Record) (i j : ℕ) (ans : List Looked) (e : FetchFault) (w : GroupPasses) → i < pieces_of kept.length → j < kept.geometry.fragments
-    → length ans ≡ kept.geometry.shards → IsRefused kept i j ans e w → IsStopped kept (i * kept.geometry.fragments + j) ans e w
-stopped_first kept i j ans e w in_pieces in_fragments long refused = record {
+pub stopped_first : (kept : Record) (i j : ℕ) (vs : List Visit) (e : FetchFault) (w : GroupPasses) → i < pieces_of kept.length → j < kept.geometry.fragments
+    → length vs ≡ kept.geometry.shards → IsRefused kept i j vs e w → IsStopped kept (i * kept.geometry.fragments + j) vs e w
+stopped_first kept i j vs e w in_pieces in_fragments long refused = record {
   many = 0;
   done = [];
-  last = ans;
+  last = vs;
   contents = [];
   are = refl;
   had = had_none kept;

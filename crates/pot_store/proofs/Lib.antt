@@ -13,10 +13,16 @@ pub mod LookLemmas
 pub mod EntryLemmas
 pub mod DigestLemmas
 pub mod TurnLemmas
+pub mod AddLemmas
+pub mod VisitLemmas
+pub mod RelayLemmas
+pub mod MendLemmas
 pub mod ReadLemmas
 pub mod GatherLemmas
 pub mod FitLemmas
 pub mod NoteLemmas
+pub mod KnownLemmas
+pub mod GoneLemmas
 pub mod RowLemmas
 pub mod ShortLemmas
 pub mod PointLemmas
@@ -24,4 +30,5 @@ pub mod PieceLemmas
 pub mod StoredLemmas
 pub mod RecordLemmas
 pub mod SearchLemmas
+pub mod FilledLemmas
 pub mod FetchLemmas

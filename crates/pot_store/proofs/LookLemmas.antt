@@ -1,52 +1,77 @@
--- What looks at the blocks of a record log, group by group.
+-- What the visits to the blocks of a record log, group by group.
 use Rattle.std.proofs.Common.{◌≡◌, ◌≢◌, ◌<◌, ◌≤◌, ◌⊎◌, inl, inr, ⊎_elim, ℕ, zero, suc, ◌+◌, Bool, true, false, List, [], ◌∷◌, ◌++◌, length, refl, ap, sym, ◌∙◌, subst, arith, append_assoc, append-nil, eq-eqb, ne_eqb, replicate}
-use Rattle.std.specs.Prelude.{find, is_some, ◌==◌, ◌&&◌, ◌||◌}
+use Rattle.std.specs.Prelude.{find, is_some, slice_set, Contains, ◌==◌, ◌&&◌, ◌||◌}
+use Rattle.std.proofs.lemmas.List.Elements.{Contains-append_right}
 use Rattle.pot_bytes.specs.declared.rack.Place.{Place}
 use Rattle.pot_machine.specs.declared.entry.Entry.{Entry}
-use Rattle.pot_steps.specs.GroupStep.{Looked, look_entries}
-use Rattle.pot_steps.specs.GroupStep as step
-use Rattle.pot_replies.specs.Jobs.{is_seen_at}
-use Rattle.pot_store.specs.Looks.{answer_at, was_seen, place_in, logged_at, logged_from}
+use Rattle.pot_machine.specs.declared.entry.Entry.TheVariants as entry
+use Rattle.pot_replies.specs.Jobs.{is_look_at, is_seen_at, is_stuck_at}
+use Rattle.pot_store.specs.Visits.{Unknown, was_seen, Visit, unvisited, MayVisit, IsVisit, is_begin_at, visit_at, came_at, place_in, logged_at, logged_from}
 
 pub nat_same : (a b : ℕ) → (a ≡ b) ⊎ (a ≢ b)
 nat_same a b = grind arith
 
--- ANSWERS
+-- VISITS BY NUMBER
 
-pub answer_front : (ans os : List Looked) (x : ℕ) → x < length ans → answer_at (ans ++ os) x ≡ answer_at ans x
-answer_front [] os x lt = absurd (omega (arith, lt))
-answer_front (a ∷ ans) os zero lt = refl
-answer_front (a ∷ ans) os (suc x) lt = answer_front ans os x (omega (arith, lt))
+pub visit_front : (vs ws : List Visit) (x : ℕ) → x < length vs → visit_at (vs ++ ws) x ≡ visit_at vs x
+visit_front [] ws x lt = absurd (omega (arith, lt))
+visit_front (v ∷ vs) ws zero lt = refl
+visit_front (v ∷ vs) ws (suc x) lt = visit_front vs ws x (omega (arith, lt))
 
-pub answer_back : (ans os : List Looked) (x : ℕ) → answer_at (ans ++ os) (length ans + x) ≡ answer_at os x
-answer_back [] os x = ap (answer_at os) (let e : 0 + x ≡ x = omega arith in e)
-answer_back (a ∷ ans) os x = (let e : length (a ∷ ans) + x ≡ suc (length ans + x) = omega arith in ap (answer_at (a ∷ (ans ++ os))) e) ∙ answer_back ans os x
+pub visit_back : (vs ws : List Visit) (x : ℕ) → visit_at (vs ++ ws) (length vs + x) ≡ visit_at ws x
+visit_back [] ws x = ap (visit_at ws) (let e : 0 + x ≡ x = omega arith in e)
+visit_back (v ∷ vs) ws x = (let e : length (v ∷ vs) + x ≡ suc (length vs + x) = omega arith in ap (visit_at (v ∷ (vs ++ ws))) e) ∙ visit_back vs ws x
 
--- past the last there is no answer
-pub answer_past : (ans : List Looked) (x : ℕ) → length ans ≤ x → answer_at ans x ≡ step.LogFull
-answer_past [] x le = refl
-answer_past (a ∷ ans) zero le = absurd (omega (arith, le))
-answer_past (a ∷ ans) (suc x) le = answer_past ans x (omega (arith, le))
+-- past the last there is none
+pub visit_past : (vs : List Visit) (x : ℕ) → length vs ≤ x → visit_at vs x ≡ unvisited
+visit_past [] x le = refl
+visit_past (v ∷ vs) zero le = absurd (omega (arith, le))
+visit_past (v ∷ vs) (suc x) le = visit_past vs x (omega (arith, le))
 
--- looks that were not made answer nothing
-pub answer_padded : (ans : List Looked) (k x : ℕ) → answer_at (ans ++ replicate k step.LogFull) x ≡ answer_at ans x
-answer_padded [] zero x = refl
-answer_padded [] (suc k) zero = refl
-answer_padded [] (suc k) (suc x) = answer_padded [] k x
-answer_padded (a ∷ ans) k zero = refl
-answer_padded (a ∷ ans) k (suc x) = answer_padded ans k x
+pub visit_none : (n x : ℕ) → visit_at (replicate n unvisited) x ≡ unvisited
+visit_none zero x = refl
+visit_none (suc n) zero = refl
+visit_none (suc n) (suc x) = visit_none n x
 
--- ONE LOOK
+-- one visit in place of another
+pub visit_set : (vs : List Visit) (x : ℕ) (v : Visit) → x < length vs → visit_at (slice_set vs x v) x ≡ v
+visit_set [] x v lt = absurd (omega (arith, lt))
+visit_set (w ∷ vs) zero v lt = refl
+visit_set (w ∷ vs) (suc x) v lt = visit_set vs x v (omega (arith, lt))
 
-pub in_group : (p : Place) (job g : ℕ) (a : Looked) → p.group ≡ g → logged_at p job g a ≡ look_entries job p.stripe p.column a
-in_group p job g a e = rw (eq-eqb p.group g e) refl
+pub visit_other : (vs : List Visit) (x y : ℕ) (v : Visit) → y ≢ x → visit_at (slice_set vs x v) y ≡ visit_at vs y
+visit_other [] x y v ne = refl
+visit_other (w ∷ vs) zero zero v ne = absurd (ne refl)
+visit_other (w ∷ vs) zero (suc y) v ne = refl
+visit_other (w ∷ vs) (suc x) zero v ne = refl
+visit_other (w ∷ vs) (suc x) (suc y) v ne = visit_other vs x y v (λ e. ne (ap suc e))
 
-pub in_other : (p : Place) (job g : ℕ) (a : Looked) → p.group ≢ g → logged_at p job g a ≡ []
-in_other p job g a ne = rw (ne_eqb p.group g ne) refl
+pub set_long : (vs : List Visit) (x : ℕ) (v : Visit) → length (slice_set vs x v) ≡ length vs
+set_long [] x v = refl
+set_long (w ∷ vs) zero v = refl
+set_long (w ∷ vs) (suc x) v = ap suc (set_long vs x v)
 
--- what was not logged anywhere
-pub in_none : (p : Place) (job g : ℕ) → logged_at p job g step.LogFull ≡ []
-in_none p job g = ⊎_elim (λ (e : p.group ≡ g). in_group p job g step.LogFull e) (λ (ne : p.group ≢ g). in_other p job g step.LogFull ne) (nat_same p.group g)
+-- what came of them
+pub came_front : (vs ws : List Visit) (x : ℕ) → x < length vs → came_at (vs ++ ws) x ≡ came_at vs x
+came_front vs ws x lt = ap (λ (v : Visit). v.came) (visit_front vs ws x lt)
+
+pub came_back : (vs ws : List Visit) (x : ℕ) → came_at (vs ++ ws) (length vs + x) ≡ came_at ws x
+came_back vs ws x = ap (λ (v : Visit). v.came) (visit_back vs ws x)
+
+pub came_past : (vs : List Visit) (x : ℕ) → length vs ≤ x → came_at vs x ≡ Unknown
+came_past vs x le = ap (λ (v : Visit). v.came) (visit_past vs x le)
+
+-- ONE VISIT
+
+pub in_group : (p : Place) (g : ℕ) (v : Visit) → p.group ≡ g → logged_at p g v ≡ v.entries
+in_group p g v e = rw (eq-eqb p.group g e) refl
+
+pub in_other : (p : Place) (g : ℕ) (v : Visit) → p.group ≢ g → logged_at p g v ≡ []
+in_other p g v ne = rw (ne_eqb p.group g ne) refl
+
+-- a visit that was not made logs nothing anywhere
+pub in_none : (p : Place) (g : ℕ) → logged_at p g unvisited ≡ []
+in_none p g = ⊎_elim (λ (e : p.group ≡ g). in_group p g unvisited e) (λ (ne : p.group ≢ g). in_other p g unvisited ne) (nat_same p.group g)
 
 pub same_place : (p q : Place) → p.group ≡ q.group → p.stripe ≡ q.stripe → p.column ≡ q.column → p ≡ q
 same_place p q g s c = λ i. record { group = g i; column = c i; stripe = s i }
@@ -64,6 +89,33 @@ both a b s c = ⊎_elim
 pub hit : (a b s c : ℕ) → a ≡ s → b ≡ c → ((a == s) && (b == c)) ≡ true
 hit a b s c e f = rw (eq-eqb a s e, eq-eqb b c f) refl
 
+-- no test of a place passes this entry
+pub record IsElsewhere (s c : ℕ) (e : Entry) : Type 0 where
+  pub look : is_look_at s c e ≡ false
+  pub seen : is_seen_at s c e ≡ false
+  pub stuck : is_stuck_at s c e ≡ false
+  pub begin : is_begin_at s c e ≡ false
+
+pub is_elsewhere : (job : ℕ) (q : Place) (s c : ℕ) → ((q.stripe == s) && (q.column == c)) ≡ false → (e : Entry) → MayVisit job q e → IsElsewhere s c e
+is_elsewhere job q s c off (entry.Seen j t d) (a, b, f) = (let h : ((t == s) && (d == c)) ≡ false = rw (b, f) off in record { look = h; seen = h; stuck = refl; begin = refl })
+is_elsewhere job q s c off (entry.Gone j t d) (a, b, f) = (let h : ((t == s) && (d == c)) ≡ false = rw (b, f) off in record { look = h; seen = refl; stuck = refl; begin = refl })
+is_elsewhere job q s c off (entry.Begin j t d) (a, b, f) = (let h : ((t == s) && (d == c)) ≡ false = rw (b, f) off in record { look = refl; seen = refl; stuck = refl; begin = h })
+is_elsewhere job q s c off (entry.Stuck j t d o) (a, b, f) = (let h : ((t == s) && (d == c)) ≡ false = rw (b, f) off in record { look = refl; seen = refl; stuck = h; begin = refl })
+is_elsewhere job q s c off (entry.Hop j t d) may = record { look = refl; seen = refl; stuck = refl; begin = refl }
+is_elsewhere job q s c off (entry.Mended j t d) may = record { look = refl; seen = refl; stuck = refl; begin = refl }
+is_elsewhere job q s c off (entry.GaveUp j t d o) may = record { look = refl; seen = refl; stuck = refl; begin = refl }
+is_elsewhere job q s c off (entry.Oddly j t d f) may = record { look = refl; seen = refl; stuck = refl; begin = refl }
+is_elsewhere job q s c off (entry.Fault j t d) may = record { look = refl; seen = refl; stuck = refl; begin = refl }
+is_elsewhere job q s c off (entry.Put j t d x p k) may = absurd may
+is_elsewhere job q s c off (entry.Skip j t) may = absurd may
+is_elsewhere job q s c off (entry.Broke j t d) may = absurd may
+is_elsewhere job q s c off (entry.MoveBegin j d t) may = absurd may
+is_elsewhere job q s c off (entry.Moved j t d k) may = absurd may
+is_elsewhere job q s c off (entry.MoveEnd j d) may = absurd may
+is_elsewhere job q s c off (entry.Swapped j d t) may = absurd may
+is_elsewhere job q s c off (entry.Counted j) may = absurd may
+is_elsewhere job q s c off (entry.Put2 j t d x p r k l) may = absurd may
+
 -- A BLOCK THAT WAS SEEN
 
 abbrev seen_among : ℕ → ℕ → List Entry → Bool
@@ -78,118 +130,151 @@ seen_append s c (x ∷ xs) ys = go (is_seen_at s c x) refl (seen_append s c xs y
     go true e rest = rw e refl
     go false e rest = rw e rest
 
-seen_here : (p : Place) (job : ℕ) (a : Looked) → seen_among p.stripe p.column (look_entries job p.stripe p.column a) ≡ was_seen a
-seen_here p job (step.Seen block) = rw (hit p.stripe p.column p.stripe p.column refl refl) refl
-seen_here p job step.Gone = refl
-seen_here p job step.Faulted = refl
-seen_here p job step.LogFull = refl
+-- where no entry is such a Seen, none is found
+none_among : (s c : ℕ) (es : List Entry) → ((e : Entry) → Contains es e → is_seen_at s c e ≡ false) → seen_among s c es ≡ false
+none_among s c [] none = refl
+none_among s c (e ∷ es) none = rw (none e (zero, omega arith, refl)) (none_among s c es (λ x has. none x (Contains-append_right (e ∷ []) es x has)))
 
-missed : (q : Place) (job s c : ℕ) (a : Looked) → ((q.stripe == s) && (q.column == c)) ≡ false → seen_among s c (look_entries job q.stripe q.column a) ≡ false
-missed q job s c (step.Seen block) e = rw e refl
-missed q job s c step.Gone e = refl
-missed q job s c step.Faulted e = refl
-missed q job s c step.LogFull e = refl
-
-not_seen : (p q : Place) (job : ℕ) (a : Looked) → q ≢ p → seen_among p.stripe p.column (logged_at q job p.group a) ≡ false
-not_seen p q job a ne = ⊎_elim
+not_seen : (p q : Place) (job : ℕ) (v : Visit) → IsVisit job q v → q ≢ p → seen_among p.stripe p.column (logged_at q p.group v) ≡ false
+not_seen p q job v is ne = ⊎_elim
     (λ (e : q.group ≡ p.group).
-    ap (seen_among p.stripe p.column) (in_group q job p.group a e)
+    ap (seen_among p.stripe p.column) (in_group q p.group v e)
     ∙ ⊎_elim
     (λ (same : (q.stripe ≡ p.stripe) × (q.column ≡ p.column)). absurd (ne (same_place q p e same.0 same.1)))
-    (λ (off : ((q.stripe == p.stripe) && (q.column == p.column)) ≡ false). missed q job p.stripe p.column a off)
+    (λ (off : ((q.stripe == p.stripe) && (q.column == p.column)) ≡ false).
+    none_among p.stripe p.column v.entries (λ x has. (is_elsewhere job q p.stripe p.column off x (is.kinds x has)).seen))
     (both q.stripe q.column p.stripe p.column))
-    (λ (other : q.group ≢ p.group). ap (seen_among p.stripe p.column) (in_other q job p.group a other))
+    (λ (other : q.group ≢ p.group). ap (seen_among p.stripe p.column) (in_other q p.group v other))
     (nat_same q.group p.group)
 
--- THE LOOKS AT THE BLOCKS OF A RECORD
+-- THE VISITS TO THE BLOCKS OF A RECORD
 
 -- no two of the first n blocks have one place
 abbrev pub Apart : List Place → ℕ → Type 0
 Apart places n = (a b : ℕ) → a < n → b < n → place_in places a ≡ place_in places b → a ≡ b
 
-module _ (places : List Place) (job : ℕ) where
-  pub logged-append : (g b : ℕ) (ans os : List Looked)
-      → logged_from places job g b (ans ++ os) ≡ logged_from places job g b ans ++ logged_from places job g (b + length ans) os
-  logged-append g b [] os = (let e : b ≡ b + 0 = omega arith in ap (λ n. logged_from places job g n os) e)
-  logged-append g b (a ∷ ans) os =
-      let next : suc b + length ans ≡ b + length (a ∷ ans) = omega arith in
-      ap (λ l. logged_at (place_in places b) job g a ++ l) (logged-append g (suc b) ans os ∙ ap (λ n. logged_from places job g (suc b) ans ++ logged_from places job g n os) next)
-      ∙ sym (append_assoc (logged_at (place_in places b) job g a) (logged_from places job g (suc b) ans) (logged_from places job g (b + length (a ∷ ans)) os))
+-- each of these is a visit of the job, from the block of a number on
+abbrev pub AreVisits : ℕ → List Place → ℕ → List Visit → Type 0
+AreVisits job places b vs = (x : ℕ) → x < length vs → IsVisit job (place_in places (b + x)) (visit_at vs x)
 
-  pub logged_padded : (g b : ℕ) (k : ℕ) → logged_from places job g b (replicate k step.LogFull) ≡ []
-  logged_padded g b zero = refl
-  logged_padded g b (suc k) = ap (λ l. l ++ logged_from places job g (suc b) (replicate k step.LogFull)) (in_none (place_in places b) job g) ∙ logged_padded g (suc b) k
+pub first_visit : (job : ℕ) (places : List Place) (b : ℕ) (v : Visit) (vs : List Visit) → AreVisits job places b (v ∷ vs) → IsVisit job (place_in places b) v
+first_visit job places b v vs are = (let e : b + 0 ≡ b = omega arith in subst (λ n. IsVisit job (place_in places n) v) e (are 0 (omega arith)))
+
+pub rest_visits : (job : ℕ) (places : List Place) (b : ℕ) (v : Visit) (vs : List Visit) → AreVisits job places b (v ∷ vs) → AreVisits job places (suc b) vs
+rest_visits job places b v vs are x lt = (let e : b + suc x ≡ suc b + x = omega arith in subst (λ n. IsVisit job (place_in places n) (visit_at vs x)) e (are (suc x) (omega (arith, lt))))
+
+module _ (places : List Place) where
+  pub logged-append : (g b : ℕ) (vs ws : List Visit)
+      → logged_from places g b (vs ++ ws) ≡ logged_from places g b vs ++ logged_from places g (b + length vs) ws
+  logged-append g b [] ws = (let e : b ≡ b + 0 = omega arith in ap (λ n. logged_from places g n ws) e)
+  logged-append g b (v ∷ vs) ws =
+      let next : suc b + length vs ≡ b + length (v ∷ vs) = omega arith in
+      ap (λ l. logged_at (place_in places b) g v ++ l) (logged-append g (suc b) vs ws ∙ ap (λ n. logged_from places g (suc b) vs ++ logged_from places g n ws) next)
+      ∙ sym (append_assoc (logged_at (place_in places b) g v) (logged_from places g (suc b) vs) (logged_from places g (b + length (v ∷ vs)) ws))
+
+  pub logged_none : (g b : ℕ) (k : ℕ) → logged_from places g b (replicate k unvisited) ≡ []
+  logged_none g b zero = refl
+  logged_none g b (suc k) = ap (λ l. l ++ logged_from places g (suc b) (replicate k unvisited)) (in_none (place_in places b) g) ∙ logged_none g (suc b) k
 
   -- blocks of other groups log nothing in this one
-  pub logged_else : (g b : ℕ) (ans : List Looked) → ((x : ℕ) → x < length ans → (place_in places (b + x)).group ≢ g) → logged_from places job g b ans ≡ []
+  pub logged_else : (g b : ℕ) (vs : List Visit) → ((x : ℕ) → x < length vs → (place_in places (b + x)).group ≢ g) → logged_from places g b vs ≡ []
   logged_else g b [] other = refl
-  logged_else g b (a ∷ ans) other =
+  logged_else g b (v ∷ vs) other =
       let here : (place_in places b).group ≢ g = (let e : b + 0 ≡ b = omega arith in subst (λ n. (place_in places n).group ≢ g) e (other 0 (omega arith))) in
-      let there : (x : ℕ) → x < length ans → (place_in places (suc b + x)).group ≢ g =
+      let there : (x : ℕ) → x < length vs → (place_in places (suc b + x)).group ≢ g =
       λ x lt. (let e : b + suc x ≡ suc b + x = omega arith in subst (λ n. (place_in places n).group ≢ g) e (other (suc x) (omega (arith, lt)))) in
-      ap (λ l. l ++ logged_from places job g (suc b) ans) (in_other (place_in places b) job g a here) ∙ logged_else g (suc b) ans there
+      ap (λ l. l ++ logged_from places g (suc b) vs) (in_other (place_in places b) g v here) ∙ logged_else g (suc b) vs there
 
-  -- where no later block is of the group, the look at this one is the last in it
-  pub logged_last : (g b : ℕ) (ans : List Looked) (x : ℕ) → x < length ans → (place_in places (b + x)).group ≡ g
-      → ((y : ℕ) → x < y → y < length ans → (place_in places (b + y)).group ≢ g)
-      → (sofar : List Entry) × (logged_from places job g b ans ≡ sofar ++ look_entries job (place_in places (b + x)).stripe (place_in places (b + x)).column (answer_at ans x))
+  -- where no later block is of the group, the visit to this one is the last in it
+  pub logged_last : (g b : ℕ) (vs : List Visit) (x : ℕ) → x < length vs → (place_in places (b + x)).group ≡ g
+      → ((y : ℕ) → x < y → y < length vs → (place_in places (b + y)).group ≢ g)
+      → (sofar : List Entry) × (logged_from places g b vs ≡ sofar ++ (visit_at vs x).entries)
   logged_last g b [] x lt is later = absurd (omega (arith, lt))
-  logged_last g b (a ∷ ans) zero lt is later =
+  logged_last g b (v ∷ vs) zero lt is later =
       let e : b + 0 ≡ b = omega arith in
-      let none : logged_from places job g (suc b) ans ≡ [] =
-      logged_else g (suc b) ans (λ y less. (let f : b + suc y ≡ suc b + y = omega arith in subst (λ n. (place_in places n).group ≢ g) f (later (suc y) (omega arith) (omega (arith, less))))) in
-      let p : Place = place_in places (b + 0) in
-      let here : logged_at (place_in places b) job g a ≡ look_entries job p.stripe p.column a =
-      ap (λ n. logged_at (place_in places n) job g a) (sym e) ∙ in_group p job g a is in
-      ([], ap (λ l. logged_at (place_in places b) job g a ++ l) none ∙ (append-nil (logged_at (place_in places b) job g a) ∙ here))
-  logged_last g b (a ∷ ans) (suc x) lt is later =
+      let none : logged_from places g (suc b) vs ≡ [] =
+      logged_else g (suc b) vs (λ y less. (let f : b + suc y ≡ suc b + y = omega arith in subst (λ n. (place_in places n).group ≢ g) f (later (suc y) (omega arith) (omega (arith, less))))) in
+      let here : logged_at (place_in places b) g v ≡ v.entries = in_group (place_in places b) g v (ap (λ n. (place_in places n).group) (sym e) ∙ is) in
+      ([], ap (λ l. logged_at (place_in places b) g v ++ l) none ∙ (append-nil (logged_at (place_in places b) g v) ∙ here))
+  logged_last g b (v ∷ vs) (suc x) lt is later =
       let e : b + suc x ≡ suc b + x = omega arith in
-      let rest = logged_last g (suc b) ans x (omega (arith, lt)) (ap (λ n. (place_in places n).group) (sym e) ∙ is)
-      (λ y more less. (let f : b + suc y ≡ suc b + y = omega arith in subst (λ n. (place_in places n).group ≢ g) f (later (suc y) (omega (arith, more)) (omega (arith, less))))) in
-      let p : Place = place_in places (suc b + x) in (
-        logged_at (place_in places b) job g a ++ rest.0,
-        ap (λ l. logged_at (place_in places b) job g a ++ l) rest.1
-            ∙ (sym (append_assoc (logged_at (place_in places b) job g a) rest.0 (look_entries job p.stripe p.column (answer_at ans x)))
-            ∙ ap (λ n. (logged_at (place_in places b) job g a ++ rest.0) ++ look_entries job (place_in places n).stripe (place_in places n).column (answer_at ans x)) (sym e)),
+      let rest = logged_last g (suc b) vs x (omega (arith, lt)) (ap (λ n. (place_in places n).group) (sym e) ∙ is)
+      (λ y more less. (let f : b + suc y ≡ suc b + y = omega arith in subst (λ n. (place_in places n).group ≢ g) f (later (suc y) (omega (arith, more)) (omega (arith, less))))) in (
+        logged_at (place_in places b) g v ++ rest.0,
+        ap (λ l. logged_at (place_in places b) g v ++ l) rest.1 ∙ sym (append_assoc (logged_at (place_in places b) g v) rest.0 (visit_at vs x).entries),
       )
 
-  -- a block that is none of these is not seen by their looks
-  seen_none : (p : Place) (b : ℕ) (ans : List Looked) → ((x : ℕ) → x < length ans → place_in places (b + x) ≢ p)
-      → seen_among p.stripe p.column (logged_from places job p.group b ans) ≡ false
-  seen_none p b [] apart = refl
-  seen_none p b (a ∷ ans) apart =
-      let here : place_in places b ≢ p = (let e : b + 0 ≡ b = omega arith in subst (λ n. place_in places n ≢ p) e (apart 0 (omega arith))) in
-      let there : (x : ℕ) → x < length ans → place_in places (suc b + x) ≢ p =
-      λ x lt. (let e : b + suc x ≡ suc b + x = omega arith in subst (λ n. place_in places n ≢ p) e (apart (suc x) (omega (arith, lt)))) in
-      seen_append p.stripe p.column (logged_at (place_in places b) job p.group a) (logged_from places job p.group (suc b) ans)
-      ∙ rw (not_seen p (place_in places b) job a here) (seen_none p (suc b) ans there)
+  -- one visit that logs more: nothing changes in another group
+  pub logged_set_else : (g b : ℕ) (vs : List Visit) (x : ℕ) (v : Visit) → (place_in places (b + x)).group ≢ g → logged_from places g b (slice_set vs x v) ≡ logged_from places g b vs
+  logged_set_else g b [] x v ne = refl
+  logged_set_else g b (w ∷ vs) zero v ne =
+      let here : (place_in places b).group ≢ g = (let e : b + 0 ≡ b = omega arith in subst (λ n. (place_in places n).group ≢ g) e ne) in
+      ap (λ l. l ++ logged_from places g (suc b) vs) (in_other (place_in places b) g v here ∙ sym (in_other (place_in places b) g w here))
+  logged_set_else g b (w ∷ vs) (suc x) v ne =
+      let there : (place_in places (suc b + x)).group ≢ g = (let e : b + suc x ≡ suc b + x = omega arith in subst (λ n. (place_in places n).group ≢ g) e ne) in
+      ap (λ l. logged_at (place_in places b) g w ++ l) (logged_set_else g (suc b) vs x v there)
 
-  -- a block was seen just where its look said so
-  pub seen_is : (n b : ℕ) (ans : List Looked) (x : ℕ) → Apart places n → b + length ans ≤ n → x < length ans
-      → seen_among (place_in places (b + x)).stripe (place_in places (b + x)).column (logged_from places job (place_in places (b + x)).group b ans) ≡ was_seen (answer_at ans x)
-  seen_is n b [] x apart fits lt = absurd (omega (arith, lt))
-  seen_is n b (a ∷ ans) zero apart fits lt =
+  -- and in its own, where no later block is of the group, more stands behind
+  pub logged_set : (g b : ℕ) (vs : List Visit) (x : ℕ) (v : Visit) (es : List Entry) → x < length vs → (place_in places (b + x)).group ≡ g
+      → ((y : ℕ) → x < y → y < length vs → (place_in places (b + y)).group ≢ g) → v.entries ≡ (visit_at vs x).entries ++ es
+      → logged_from places g b (slice_set vs x v) ≡ logged_from places g b vs ++ es
+  logged_set g b [] x v es lt is later more = absurd (omega (arith, lt))
+  logged_set g b (w ∷ vs) zero v es lt is later more =
       let e : b + 0 ≡ b = omega arith in
-      subst (λ m. seen_among (place_in places m).stripe (place_in places m).column (logged_from places job (place_in places m).group b (a ∷ ans)) ≡ was_seen a) (sym e)
-      (let p : Place = place_in places b in
-      let here : seen_among p.stripe p.column (logged_at p job p.group a) ≡ was_seen a = ap (seen_among p.stripe p.column) (in_group p job p.group a refl) ∙ seen_here p job a in
-      let rest : seen_among p.stripe p.column (logged_from places job p.group (suc b) ans) ≡ false =
-      seen_none p (suc b) ans (λ y less same. (let twice : suc b + y ≡ b = apart (suc b + y) b (omega (arith, fits, less)) (omega (arith, fits)) same in omega (arith, twice))) in
-      seen_append p.stripe p.column (logged_at p job p.group a) (logged_from places job p.group (suc b) ans) ∙ rw (here, rest) (or_false (was_seen a)))
-    where
-      or_false : (v : Bool) → (v || false) ≡ v
-      or_false true = refl
-      or_false false = refl
-  seen_is n b (a ∷ ans) (suc x) apart fits lt =
+      let group : (place_in places b).group ≡ g = ap (λ n. (place_in places n).group) (sym e) ∙ is in
+      let none : logged_from places g (suc b) vs ≡ [] =
+      logged_else g (suc b) vs (λ y less. (let f : b + suc y ≡ suc b + y = omega arith in subst (λ n. (place_in places n).group ≢ g) f (later (suc y) (omega arith) (omega (arith, less))))) in
+      let before : logged_from places g b (w ∷ vs) ≡ w.entries =
+      ap (λ l. logged_at (place_in places b) g w ++ l) none ∙ (append-nil (logged_at (place_in places b) g w) ∙ in_group (place_in places b) g w group) in
+      ap (λ l. logged_at (place_in places b) g v ++ l) none
+      ∙ (append-nil (logged_at (place_in places b) g v) ∙ (in_group (place_in places b) g v group ∙ (more ∙ ap (λ l. l ++ es) (sym before))))
+  logged_set g b (w ∷ vs) (suc x) v es lt is later more =
       let e : b + suc x ≡ suc b + x = omega arith in
-      subst (λ m. seen_among (place_in places m).stripe (place_in places m).column (logged_from places job (place_in places m).group b (a ∷ ans)) ≡ was_seen (answer_at ans x)) (sym e)
-      (let p : Place = place_in places (suc b + x) in
-      let other : place_in places b ≢ p = λ same. (let twice : b ≡ suc b + x = apart b (suc b + x) (omega (arith, fits)) (omega (arith, fits, lt)) same in omega (arith, twice)) in
-      seen_append p.stripe p.column (logged_at (place_in places b) job p.group a) (logged_from places job p.group (suc b) ans)
-      ∙ rw (not_seen p (place_in places b) job a other) (seen_is n (suc b) ans x apart (omega (arith, fits)) (omega (arith, lt))))
+      let rest = logged_set g (suc b) vs x v es (omega (arith, lt)) (ap (λ n. (place_in places n).group) (sym e) ∙ is)
+      (λ y past less. (let f : b + suc y ≡ suc b + y = omega arith in subst (λ n. (place_in places n).group ≢ g) f (later (suc y) (omega (arith, past)) (omega (arith, less))))) more in
+      ap (λ l. logged_at (place_in places b) g w ++ l) rest ∙ sym (append_assoc (logged_at (place_in places b) g w) (logged_from places g (suc b) vs) es)
 
-  -- a block with no look was not seen
-  pub seen_not : (n b : ℕ) (ans : List Looked) (x : ℕ) → Apart places n → b + length ans ≤ n → length ans ≤ x → b + x < n
-      → seen_among (place_in places (b + x)).stripe (place_in places (b + x)).column (logged_from places job (place_in places (b + x)).group b ans) ≡ false
-  seen_not n b ans x apart fits past lt =
-      seen_none (place_in places (b + x)) b ans (λ y less same. (let twice : b + y ≡ b + x = apart (b + y) (b + x) (omega (arith, fits, less)) lt same in omega (arith, twice, less, past)))
+  module _ (job : ℕ) where
+    -- a block that is none of these is not seen by the visits to them
+    seen_none : (p : Place) (b : ℕ) (vs : List Visit) → AreVisits job places b vs → ((x : ℕ) → x < length vs → place_in places (b + x) ≢ p)
+        → seen_among p.stripe p.column (logged_from places p.group b vs) ≡ false
+    seen_none p b [] are apart = refl
+    seen_none p b (v ∷ vs) are apart =
+        let here : place_in places b ≢ p = (let e : b + 0 ≡ b = omega arith in subst (λ n. place_in places n ≢ p) e (apart 0 (omega arith))) in
+        let there : (x : ℕ) → x < length vs → place_in places (suc b + x) ≢ p =
+        λ x lt. (let e : b + suc x ≡ suc b + x = omega arith in subst (λ n. place_in places n ≢ p) e (apart (suc x) (omega (arith, lt)))) in
+        seen_append p.stripe p.column (logged_at (place_in places b) p.group v) (logged_from places p.group (suc b) vs)
+        ∙ rw (not_seen p (place_in places b) job v (first_visit job places b v vs are) here) (seen_none p (suc b) vs (rest_visits job places b v vs are) there)
+
+    -- a block was seen just where the visit to it came to that
+    pub seen_is : (n b : ℕ) (vs : List Visit) (x : ℕ) → Apart places n → AreVisits job places b vs → b + length vs ≤ n → x < length vs
+        → seen_among (place_in places (b + x)).stripe (place_in places (b + x)).column (logged_from places (place_in places (b + x)).group b vs) ≡ was_seen (came_at vs x)
+    seen_is n b [] x apart are fits lt = absurd (omega (arith, lt))
+    seen_is n b (v ∷ vs) zero apart are fits lt =
+        let e : b + 0 ≡ b = omega arith in
+        subst (λ m. seen_among (place_in places m).stripe (place_in places m).column (logged_from places (place_in places m).group b (v ∷ vs)) ≡ was_seen v.came) (sym e)
+        (let p : Place = place_in places b in
+        let here : seen_among p.stripe p.column (logged_at p p.group v) ≡ was_seen v.came =
+        ap (seen_among p.stripe p.column) (in_group p p.group v refl) ∙ (first_visit job places b v vs are).seen in
+        let rest : seen_among p.stripe p.column (logged_from places p.group (suc b) vs) ≡ false =
+        seen_none p (suc b) vs (rest_visits job places b v vs are)
+        (λ y less same. (let twice : suc b + y ≡ b = apart (suc b + y) b (omega (arith, fits, less)) (omega (arith, fits)) same in omega (arith, twice))) in
+        seen_append p.stripe p.column (logged_at p p.group v) (logged_from places p.group (suc b) vs) ∙ rw (here, rest) (or_false (was_seen v.came)))
+      where
+        or_false : (w : Bool) → (w || false) ≡ w
+        or_false true = refl
+        or_false false = refl
+    seen_is n b (v ∷ vs) (suc x) apart are fits lt =
+        let e : b + suc x ≡ suc b + x = omega arith in
+        subst (λ m. seen_among (place_in places m).stripe (place_in places m).column (logged_from places (place_in places m).group b (v ∷ vs)) ≡ was_seen (came_at vs x)) (sym e)
+        (let p : Place = place_in places (suc b + x) in
+        let other : place_in places b ≢ p = λ same. (let twice : b ≡ suc b + x = apart b (suc b + x) (omega (arith, fits)) (omega (arith, fits, lt)) same in omega (arith, twice)) in
+        seen_append p.stripe p.column (logged_at (place_in places b) p.group v) (logged_from places p.group (suc b) vs)
+        ∙ rw (not_seen p (place_in places b) job v (first_visit job places b v vs are) other)
+        (seen_is n (suc b) vs x apart (rest_visits job places b v vs are) (omega (arith, fits)) (omega (arith, lt))))
+
+    -- a block with no visit was not seen
+    pub seen_not : (n b : ℕ) (vs : List Visit) (x : ℕ) → Apart places n → AreVisits job places b vs → b + length vs ≤ n → length vs ≤ x → b + x < n
+        → seen_among (place_in places (b + x)).stripe (place_in places (b + x)).column (logged_from places (place_in places (b + x)).group b vs) ≡ false
+    seen_not n b vs x apart are fits past lt =
+        seen_none (place_in places (b + x)) b vs are (λ y less same. (let twice : b + y ≡ b + x = apart (b + y) (b + x) (omega (arith, fits, less)) lt same in omega (arith, twice, less, past)))

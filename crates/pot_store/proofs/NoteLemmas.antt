@@ -1,26 +1,22 @@
--- What is kept of the looks at the points of a fragment.
-use Rattle.std.proofs.Common.{◌≡◌, ◌≢◌, ◌<◌, ◌≤◌, ⊎_elim, ℕ, zero, suc, ◌+◌, Bool, false, List, [], ◌∷◌, ◌++◌, length, refl, ap, sym, ◌∙◌, subst, arith, append-nil, length-append, replicate, add-one, get_or, ne_eqb}
+-- What is known of the points of a fragment, and what is gathered of them.
+use Rattle.std.proofs.Common.{◌≡◌, ◌≢◌, ◌<◌, ◌≤◌, ⊎_elim, ℕ, zero, suc, ◌+◌, Bool, true, false, List, ◌++◌, length, refl, ap, sym, ◌∙◌, subst, arith, append-nil, length-append, add-one, get_or, ne_eqb}
 use Rattle.std.specs.Prelude.{Option, Some, None, if◌then◌else◌, nat_eq}
-use Rattle.std.specs.List.{flat_map, range_with_len, All, IsDistinct, list_any}
+use Rattle.std.specs.List.{All, IsDistinct, list_any}
 use Rattle.std.specs.Cmp.{nat_eq_equiv}
 use Rattle.std.proofs.lemmas.List.Elements.{All-push}
 use Rattle.std.proofs.lemmas.List.Folds.{list_any_none}
 use Rattle.std.proofs.lemmas.Map.Keys.{IsDistinct-push}
-use Rattle.pot_bytes.specs.declared.rack.Place.{Place}
 use Rattle.pot_machine.specs.Table.{count}
 use Rattle.pot_machine.proofs.Searches.{count_zero}
 use Rattle.pot_steps.proofs.AheadLemmas.{count_same}
-use Rattle.pot_steps.specs.GroupStep.{Looked}
-use Rattle.pot_steps.specs.GroupStep as step
 use Rattle.pot_replies.specs.Joined.{Read, point_in, share_in, points_read, shares_read}
-use Rattle.pot_store.specs.declared.shares.Shares.{Shares}
-use Rattle.pot_store.specs.Looks.{answer_at, was_seen, block_in, place_in, seen_in}
-use Rattle.pot_store.specs.Shares.{AreNone, IsNoted, failed_by}
-use Rattle.pot_store.specs.Reads.{IsFirstFailed, AreNoted}
-use Rattle.pot_store.proofs.LookLemmas.{answer_front, answer_back, answer_past, answer_padded}
-use Rattle.pot_store.proofs.GatherLemmas.{below_or_not, flat_same, flat_more, points_same, shares_same}
+use Rattle.pot_store.specs.declared.visiting.Point.{Point}
+use Rattle.pot_store.specs.declared.visiting.Point.TheVariants as point
+use Rattle.pot_store.specs.Visits.{Came, Unknown, Seen, Gone, Lost, Failed, Barred, came_of, was_seen, block_in}
+use Rattle.pot_store.proofs.LookLemmas.{nat_same}
+use Rattle.pot_store.proofs.GatherLemmas.{flat_more}
 
--- ONE NUMBER MORE
+-- COUNTS
 
 abbrev pub one_if : Bool → ℕ
 one_if b = if b then 1 else 0
@@ -29,151 +25,104 @@ pub count_more : (n : ℕ) (test : ℕ → Bool) → count (n + 1) test ≡ coun
 unfolding count
 count_more n test = rw add-one refl
 
-answer_last : (ans : List Looked) (a : Looked) (n : ℕ) → length ans ≡ n → answer_at (ans ++ a ∷ []) n ≡ a
-answer_last ans a n long = (let e : n ≡ length ans + 0 = omega (arith, long) in ap (answer_at (ans ++ a ∷ [])) e) ∙ answer_back ans (a ∷ []) 0
+pub count_none : (n : ℕ) (test : ℕ → Bool) → ((x : ℕ) → x < n → test x ≡ false) → count n test ≡ 0
+count_none zero test none = count_zero test
+count_none (suc n) test none =
+    let e : suc n ≡ n + 1 = omega arith in
+    let last : one_if (test n) ≡ 0 = ap one_if (none n (omega arith)) in
+    let rest = count_none n test (λ x lt. none x (omega (arith, lt))) in
+    let more = count_more n test in
+    ap (λ m. count m test) e ∙ omega (arith, more, last, rest)
 
-pub points_one : (n : ℕ) (a : Looked) → length (point_in n (block_in a)) ≡ one_if (was_seen a)
-points_one n (step.Seen block) = refl
-points_one n step.Gone = refl
-points_one n step.Faulted = refl
-points_one n step.LogFull = refl
+-- one number changed: at most one more
+pub count_change : (n x : ℕ) (old new : ℕ → Bool) → ((y : ℕ) → y ≢ x → new y ≡ old y) → count n new ≤ count n old + one_if (new x)
+count_change zero x old new same = (let a = count_zero new in omega (arith, a))
+count_change (suc n) x old new same =
+    let e : suc n ≡ n + 1 = omega arith in
+    let a : count (suc n) new ≡ count n new + one_if (new n) = ap (λ m. count m new) e ∙ count_more n new in
+    let b : count (suc n) old ≡ count n old + one_if (old n) = ap (λ m. count m old) e ∙ count_more n old in
+    ⊎_elim
+    (λ (here : n ≡ x).
+    let before : count n new ≡ count n old = count_same n new old (λ y lt. same y (λ at. (let h : n ≡ y = here ∙ sym at in omega (arith, h, lt)))) in
+    let at : one_if (new n) ≡ one_if (new x) = ap (λ m. one_if (new m)) here in
+    omega (arith, a, b, before, at))
+    (λ (ne : n ≢ x).
+    let before = count_change n x old new same in
+    let at : one_if (new n) ≡ one_if (old n) = ap one_if (same n ne) in
+    omega (arith, a, b, before, at))
+    (nat_same n x)
 
-one_most : (a : Looked) → one_if (was_seen a) ≤ 1
-one_most (step.Seen block) = omega arith
-one_most step.Gone = omega arith
-one_most step.Faulted = omega arith
-one_most step.LogFull = omega arith
+pub one_most : (b : Bool) → one_if b ≤ 1
+one_most true = omega arith
+one_most false = omega arith
 
-module _ (ans : List Looked) (a : Looked) (n : ℕ) (long : length ans ≡ n) where
-  front : (x : ℕ) → x < n → answer_at (ans ++ a ∷ []) x ≡ answer_at ans x
-  front x lt = answer_front ans (a ∷ []) x (omega (arith, lt, long))
+-- WHAT IS KNOWN OF ONE POINT
 
-  pub seen_more : seen_in (n + 1) (ans ++ a ∷ []) ≡ seen_in n ans + one_if (was_seen a)
-  seen_more =
-      count_more n (λ x. was_seen (answer_at (ans ++ a ∷ []) x))
-      ∙ (ap (λ m. m + one_if (was_seen (answer_at (ans ++ a ∷ []) n))) (count_same n (λ x. was_seen (answer_at (ans ++ a ∷ []) x)) (λ x. was_seen (answer_at ans x)) (λ x lt. ap was_seen (front x lt)))
-      ∙ ap (λ b. seen_in n ans + one_if (was_seen b)) (answer_last ans a n long))
+-- no call was refused at it
+pub not_barred : (p : Point) (b : List ℕ) → came_of p b ≢ Barred
+not_barred point.Unknown b e = cc e
+not_barred point.Seen b e = cc e
+not_barred point.Gone b e = cc e
+not_barred point.Lost b e = cc e
+not_barred (point.Failed column) b e = cc e
 
-  pub seen_step : seen_in (n + 1) (ans ++ a ∷ []) ≤ seen_in n ans + 1
-  seen_step = let e = seen_more in let m = one_most a in omega (arith, e, m)
+pub not_gone : (p : Point) (b : List ℕ) → p ≢ point.Gone → came_of p b ≢ Gone
+not_gone point.Unknown b ne e = cc e
+not_gone point.Seen b ne e = cc e
+not_gone point.Gone b ne e = ne refl
+not_gone point.Lost b ne e = cc e
+not_gone (point.Failed column) b ne e = cc e
 
-  read_more : (part : ℕ → Option (List ℕ) → List ℕ)
-      → flat_map (λ x. part x (block_in (answer_at (ans ++ a ∷ []) x))) (range_with_len 0 (n + 1))
-      ≡ flat_map (λ x. part x (block_in (answer_at ans x))) (range_with_len 0 n) ++ part n (block_in a)
-  read_more part =
-      let at : part (0 + n) (block_in (answer_at (ans ++ a ∷ []) (0 + n))) ≡ part n (block_in a) =
-      (let e : 0 + n ≡ n = omega arith in ap (λ m. part m (block_in (answer_at (ans ++ a ∷ []) m))) e ∙ ap (λ b. part n (block_in b)) (answer_last ans a n long)) in
-      flat_more (λ x. part x (block_in (answer_at (ans ++ a ∷ []) x))) 0 n
-      ∙ (ap (λ l. l ++ part (0 + n) (block_in (answer_at (ans ++ a ∷ []) (0 + n))))
-      (flat_same (λ x. part x (block_in (answer_at (ans ++ a ∷ []) x))) (λ x. part x (block_in (answer_at ans x))) 0 n (λ x le lt. ap (λ b. part x (block_in b)) (front x (omega (arith, lt)))))
-      ∙ ap (λ l. flat_map (λ x. part x (block_in (answer_at ans x))) (range_with_len 0 n) ++ l) at)
+pub not_seen : (p : Point) (b : List ℕ) → p ≢ point.Seen → was_seen (came_of p b) ≡ false
+not_seen point.Unknown b ne = refl
+not_seen point.Seen b ne = absurd (ne refl)
+not_seen point.Gone b ne = refl
+not_seen point.Lost b ne = refl
+not_seen (point.Failed column) b ne = refl
 
-  pub points_more : points_read (n + 1) (λ x. block_in (answer_at (ans ++ a ∷ []) x)) ≡ points_read n (λ x. block_in (answer_at ans x)) ++ point_in n (block_in a)
-  points_more = read_more point_in
+pub failed_known : (p : Point) (b : List ℕ) (k : ℕ) → came_of p b ≡ Failed k → p ≡ point.Failed k
+failed_known point.Unknown b k e = absurd (cc e)
+failed_known point.Seen b k e = absurd (cc e)
+failed_known point.Gone b k e = absurd (cc e)
+failed_known point.Lost b k e = absurd (cc e)
+failed_known (point.Failed column) b k e = cc e
 
-  pub shares_more : shares_read (n + 1) (λ x. block_in (answer_at (ans ++ a ∷ []) x)) ≡ shares_read n (λ x. block_in (answer_at ans x)) ++ share_in (block_in a)
-  shares_more = read_more (λ x. share_in)
+pub no_block : (c : Came) → was_seen c ≡ false → block_in c ≡ None
+no_block Unknown none = refl
+no_block (Seen block) none = absurd (cc none)
+no_block Gone none = refl
+no_block Lost none = refl
+no_block (Failed column) none = refl
+no_block Barred none = refl
 
-  -- each was looked at
-  pub looked_more : ((x : ℕ) → x < n → answer_at ans x ≢ step.LogFull) → a ≢ step.LogFull → (x : ℕ) → x < n + 1 → answer_at (ans ++ a ∷ []) x ≢ step.LogFull
-  looked_more old new x lt is = ⊎_elim
-      (λ (low : x < n). old x low (sym (front x low) ∙ is))
-      (λ (high : n ≤ x). (let e : n ≡ x = omega (arith, lt, high) in new (sym (answer_last ans a n long) ∙ (ap (answer_at (ans ++ a ∷ [])) e ∙ is))))
-      (below_or_not x n)
+-- ONE POINT MORE
 
-  module _ (places : List Place) (from : ℕ) where
-    none_failed : ((x : ℕ) → answer_at ans x ≢ step.Faulted) → a ≢ step.Faulted → (x : ℕ) → answer_at (ans ++ a ∷ []) x ≢ step.Faulted
-    none_failed old new x is = ⊎_elim
-        (λ (low : x < n). old x (sym (front x low) ∙ is))
-        (λ (high : n ≤ x). ⊎_elim
-        (λ (at : x < n + 1). (let e : n ≡ x = omega (arith, at, high) in new (sym (answer_last ans a n long) ∙ (ap (answer_at (ans ++ a ∷ [])) e ∙ is))))
-        (λ (past : n + 1 ≤ x). cc (is, answer_past (ans ++ a ∷ []) x (let l = length-append ans (a ∷ []) in omega (arith, l, long, past))))
-        (below_or_not x (n + 1)))
-        (below_or_not x n)
+pub points_more : (n : ℕ) (r : Read) → points_read (n + 1) r ≡ points_read n r ++ point_in n (r n)
+points_more n r = (let z : 0 + n ≡ n = omega arith in flat_more (λ x. point_in x (r x)) 0 n ∙ ap (λ m. points_read n r ++ point_in m (r m)) z)
 
-    some_failed : (p : Place) → IsFirstFailed places from ans (Some p) → IsFirstFailed places from (ans ++ a ∷ []) (Some p)
-    some_failed p (x, is, place, before) =
-        let low : x < n = ⊎_elim (λ (l : x < n). l) (λ (high : n ≤ x). absurd (cc (is, answer_past ans x (omega (arith, long, high))))) (below_or_not x n) in
-        (x, front x low ∙ is, place, λ y less fails. before y less (sym (front y (omega (arith, less, low))) ∙ fails))
+pub shares_more : (n : ℕ) (r : Read) → shares_read (n + 1) r ≡ shares_read n r ++ share_in (r n)
+shares_more n r = (let z : 0 + n ≡ n = omega arith in flat_more (λ x. share_in (r x)) 0 n ∙ ap (λ m. shares_read n r ++ share_in (r m)) z)
 
-    failed_more : (p : Place) (old : Option Place) → p ≡ place_in places (from + n) → IsFirstFailed places from ans old
-        → (b : Looked) → a ≡ b → IsFirstFailed places from (ans ++ a ∷ []) (failed_by p b old)
-    failed_more p None is none (step.Seen block) e = none_failed none (λ f. cc (e, f))
-    failed_more p None is none step.Gone e = none_failed none (λ f. cc (e, f))
-    failed_more p None is none step.LogFull e = none_failed none (λ f. cc (e, f))
-    failed_more p None is none step.Faulted e = (n, answer_last ans a n long ∙ e, is, λ y less fails. none y (sym (front y less) ∙ fails))
-    failed_more p (Some q) is some (step.Seen block) e = some_failed q some
-    failed_more p (Some q) is some step.Gone e = some_failed q some
-    failed_more p (Some q) is some step.LogFull e = some_failed q some
-    failed_more p (Some q) is some step.Faulted e = some_failed q some
+points_one : (n : ℕ) (a : Came) → length (point_in n (block_in a)) ≡ one_if (was_seen a)
+points_one n Unknown = refl
+points_one n (Seen block) = refl
+points_one n Gone = refl
+points_one n Lost = refl
+points_one n (Failed column) = refl
+points_one n Barred = refl
 
-    pub noted_more : (p : Place) (old new : Shares) → p ≡ place_in places (from + n) → AreNoted places from n ans old → IsNoted n p a old new
-        → AreNoted places from (n + 1) (ans ++ a ∷ []) new
-    noted_more p old new is sofar now = record {
-      points = now.points ∙ (ap (λ l. l ++ point_in n (block_in a)) sofar.points ∙ sym points_more);
-      rows = now.rows ∙ (ap (λ l. l ++ share_in (block_in a)) sofar.rows ∙ sym shares_more);
-      many = ap length now.points
-          ∙ (length-append old.points.items (point_in n (block_in a))
-          ∙ (ap (λ m. m + length (point_in n (block_in a))) sofar.many ∙ (ap (λ m. seen_in n ans + m) (points_one n a) ∙ sym seen_more)));
-      failed = subst (IsFirstFailed places from (ans ++ a ∷ [])) (sym now.failed) (failed_more p old.failed is sofar.failed a refl);
-    }
-
--- NONE YET
-
-pub noted_none : (places : List Place) (from : ℕ) (shares : Shares) → AreNone shares → AreNoted places from 0 [] shares
-noted_none places from shares none = record {
-  points = none.0;
-  rows = none.1;
-  many = ap length none.0 ∙ sym (count_zero (λ x. was_seen (answer_at [] x)));
-  failed = subst (IsFirstFailed places from []) (sym none.2) (λ x is. cc (is, answer_past [] x (omega arith)));
-}
-
--- THE LAST ONES WERE NOT LOOKED AT
-
-flat_past : (f : ℕ → List ℕ) (n k : ℕ) → ((x : ℕ) → n ≤ x → f x ≡ []) → flat_map f (range_with_len 0 (n + k)) ≡ flat_map f (range_with_len 0 n)
-flat_past f n zero none = (let e : n + 0 ≡ n = omega arith in ap (λ m. flat_map f (range_with_len 0 m)) e)
-flat_past f n (suc k) none =
-    let e : n + suc k ≡ (n + k) + 1 = omega arith in
-    let last : f (0 + (n + k)) ≡ [] = none (0 + (n + k)) (omega arith) in
-    ap (λ m. flat_map f (range_with_len 0 m)) e
-    ∙ (flat_more f 0 (n + k)
-    ∙ (ap (λ l. flat_map f (range_with_len 0 (n + k)) ++ l) last
-    ∙ (append-nil (flat_map f (range_with_len 0 (n + k))) ∙ flat_past f n k none)))
-
-count_past : (test : ℕ → Bool) (n k : ℕ) → ((x : ℕ) → n ≤ x → test x ≡ false) → count (n + k) test ≡ count n test
-count_past test n zero none = (let e : n + 0 ≡ n = omega arith in ap (λ m. count m test) e)
-count_past test n (suc k) none =
-    let e : n + suc k ≡ (n + k) + 1 = omega arith in
-    let last : one_if (test (n + k)) ≡ 0 = ap one_if (none (n + k) (omega arith)) in
-    ap (λ m. count m test) e ∙ (count_more (n + k) test ∙ (let ih = count_past test n k none in omega (arith, ih, last)))
-
-module _ (ans : List Looked) (n k : ℕ) (long : length ans ≡ n) where
-  abbrev padded : List Looked
-  padded = ans ++ replicate k step.LogFull
-
-  not_read : (x : ℕ) → n ≤ x → answer_at padded x ≡ step.LogFull
-  not_read x le = answer_padded ans k x ∙ answer_past ans x (omega (arith, le, long))
-
-  pub seen_padded : seen_in (n + k) padded ≡ seen_in n ans
-  seen_padded =
-      count_past (λ x. was_seen (answer_at padded x)) n k (λ x le. ap was_seen (not_read x le))
-      ∙ count_same n (λ x. was_seen (answer_at padded x)) (λ x. was_seen (answer_at ans x)) (λ x lt. ap was_seen (answer_padded ans k x))
-
-  pub noted_padded : (places : List Place) (from : ℕ) (shares : Shares) → AreNoted places from n ans shares → AreNoted places from (n + k) padded shares
-  noted_padded places from shares is = record {
-    points = is.points
-        ∙ sym (flat_past (λ x. point_in x (block_in (answer_at padded x))) n k (λ x le. ap (λ b. point_in x (block_in b)) (not_read x le))
-        ∙ points_same n (λ x. block_in (answer_at padded x)) (λ x. block_in (answer_at ans x)) (λ x lt. ap block_in (answer_padded ans k x)));
-    rows = is.rows
-        ∙ sym (flat_past (λ x. share_in (block_in (answer_at padded x))) n k (λ x le. ap (λ b. share_in (block_in b)) (not_read x le))
-        ∙ shares_same n (λ x. block_in (answer_at padded x)) (λ x. block_in (answer_at ans x)) (λ x lt. ap block_in (answer_padded ans k x)));
-    many = is.many ∙ sym seen_padded;
-    failed = at shares.failed is.failed;
-  }
-    where
-      at : (o : Option Place) → IsFirstFailed places from ans o → IsFirstFailed places from padded o
-      at None none = λ x is. none x (sym (answer_padded ans k x) ∙ is)
-      at (Some p) (x, is, place, before) = (x, answer_padded ans k x ∙ is, place, λ y less fails. before y less (sym (answer_padded ans k y) ∙ fails))
+-- as many points as were seen
+pub points_count : (came : ℕ → Came) (n : ℕ) → length (points_read n (λ x. block_in (came x))) ≡ count n (λ x. was_seen (came x))
+points_count came zero = sym (count_zero (λ x. was_seen (came x)))
+points_count came (suc n) =
+    let r : Read = λ x. block_in (came x) in
+    let e : suc n ≡ n + 1 = omega arith in
+    ap (λ m. length (points_read m r)) e
+    ∙ (ap length (points_more n r)
+    ∙ (length-append (points_read n r) (point_in n (r n))
+    ∙ (ap (λ m. m + length (point_in n (r n))) (points_count came n)
+    ∙ (ap (λ m. count n (λ x. was_seen (came x)) + m) (points_one n (came n))
+    ∙ (sym (count_more n (λ x. was_seen (came x))) ∙ ap (λ m. count m (λ x. was_seen (came x))) (sym e))))))
 
 -- THE POINTS THAT WERE READ
 

@@ -5,15 +5,15 @@ use Rattle.std.specs.Cmp.Lexicographic.{pointwise, same_text, other_text}
 use Rattle.std.specs.Global.{Global}
 use Rattle.pot_bytes.specs.Digests.{digest_bytes}
 use Rattle.pot_bytes.specs.declared.digest.Digest.{Digest}
-use Rattle.pot_steps.specs.GroupStep.{Looked}
 use Rattle.pot_steps.specs.Stripe.{digest_of}
 use Rattle.pot_index.specs.declared.record.Record.{Record}
 use Rattle.pot_rows.specs.Works.{AllIdle}
 use Rattle.pot_shared.specs.Ready.{GroupPasses}
 use Rattle.pot_store.specs.declared.fetching.FetchFault.{FetchFault}
 use Rattle.pot_store.specs.declared.fetching.FetchFault.TheVariants as fault
+use Rattle.pot_store.specs.Visits.{Visit}
 use Rattle.pot_store.specs.Reads.{IsStopped, EndsFetch, FileRead, RecordRead}
-use Rattle.pot_store.proofs.PointLemmas.{no_reads}
+use Rattle.pot_store.proofs.ReadLemmas.{no_reads}
 
 pub is_digest : (d : Digest) (b : List ℕ) → d.bytes ≡ digest_bytes b → d ≡ digest_of b
 unfolding digest_of
@@ -35,25 +35,25 @@ digests_differ a b told same = go (pointwise nat_eq a.bytes b.bytes) refl told
     go false is t = other_text a.bytes b.bytes (sym is) (ap (λ (d : Digest). d.bytes) same)
 
 pub record_none : (job : ℕ) (kept : Record) (u : GroupPasses) → AllIdle u → RecordRead job kept (Err fault.NoMemory) u u
-record_none job kept u idle = record { answers = []; reads = no_reads job kept.places 0 u idle; ends = refl }
+record_none job kept u idle = record { visits = []; reads = no_reads job kept.places 0 0 u idle; ends = refl }
 
-stopped_ends : (kept : Record) (answers : List Looked) (e : FetchFault) (w : GroupPasses) → IsStopped kept 0 answers e w → EndsFetch kept answers (Err e) w
-stopped_ends kept answers fault.IndexLogFull w is = is
-stopped_ends kept answers fault.Absent w is = is
-stopped_ends kept answers (fault.Faulted group column) w is = is
-stopped_ends kept answers (fault.Lost piece fragment have need) w is = is
-stopped_ends kept answers (fault.LogFull group) w is = is
-stopped_ends kept answers (fault.Odd wanted found) w is = absurd is.refused
-stopped_ends kept answers fault.NoMemory w is = absurd is.refused
+stopped_ends : (kept : Record) (visits : List Visit) (e : FetchFault) (w : GroupPasses) → IsStopped kept 0 visits e w → EndsFetch kept visits (Err e) w
+stopped_ends kept visits fault.IndexLogFull w is = is
+stopped_ends kept visits fault.Absent w is = is
+stopped_ends kept visits (fault.Faulted group column) w is = is
+stopped_ends kept visits (fault.Lost piece fragment have need) w is = is
+stopped_ends kept visits (fault.LogFull group) w is = is
+stopped_ends kept visits (fault.Odd wanted found) w is = absurd is.refused.1
+stopped_ends kept visits fault.NoMemory w is = absurd is.refused.1
 
 module _ (job : ℕ) (kept : Record) (u w : GroupPasses) where
   pub record_stopped : (bytes : List ℕ) (e : FetchFault) → FileRead job kept bytes (Err e) u w → RecordRead job kept (Err e) u w
-  record_stopped bytes e read = record { answers = read.answers; reads = read.reads; ends = stopped_ends kept read.answers e w read.ends }
+  record_stopped bytes e read = record { visits = read.visits; reads = read.reads; ends = stopped_ends kept read.visits e w read.ends }
 
   pub record_odd : (bytes : List ℕ) (found : Digest) → FileRead job kept bytes (Ok tt) u w → found ≡ digest_of bytes → found ≢ kept.digest
       → RecordRead job kept (Err (fault.Odd kept.digest found)) u w
   record_odd bytes found read is differs = record {
-    answers = read.answers;
+    visits = read.visits;
     reads = read.reads;
     ends = (read.ends.0, bytes, read.ends.1, refl, is, differs);
   }
@@ -61,7 +61,7 @@ module _ (job : ℕ) (kept : Record) (u w : GroupPasses) where
   pub record_file : (bytes : Vec ℕ Global) (found : Digest) → FileRead job kept bytes.items (Ok tt) u w → found ≡ digest_of bytes.items → found ≡ kept.digest
       → RecordRead job kept (Ok bytes) u w
   record_file bytes found read is same = record {
-    answers = read.answers;
+    visits = read.visits;
     reads = read.reads;
     ends = (read.ends.0, read.ends.1, sym is ∙ same);
   }

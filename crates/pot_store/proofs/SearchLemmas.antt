@@ -103,7 +103,7 @@ module _ (job : ℕ) (name : List ℕ) (rack : Rack) (names turn : List TurnName
       at_origin o same is = (subst (λ x. IsIndexOf rack names x) (sym same) is).0
 
   module _ (s : Setting) (groups : GroupPasses) (set : IsSettingOf s rack (known groups u)) where
-    met_read : s.read ≡ call.turn.old.read
+    pub met_read : s.read ≡ call.turn.old.read
     met_read = subst (λ o. IfSome o (λ x. s.read ≡ x.read)) (sym call.turn.origin.1) set.read
 
     pub met_names : names_after (names_read s.read) ((view_at u 0).seen ++ call.turn.others) ≡ call.turn.old.now

@@ -1,6 +1,9 @@
 -- The answers of `fetch_file`, each as the job's own entries give it.
-use Rattle.std.specs.Prelude.{◌≡◌, ◌⊎◌, ℕ, suc, List, None, Vec, Result, Ok, Err}
+use Rattle.std.specs.Prelude.{◌≡◌, ◌⊎◌, ℕ, suc, false, List, None, Vec, Result, Ok, Err, Contains}
 use Rattle.std.specs.Global.{Global}
+use Rattle.pot_bytes.specs.declared.rack.Place.{Place}
+use Rattle.pot_machine.specs.Slot.{is_void}
+use Rattle.pot_machine.specs.Table.{slot_at}
 use Rattle.pot_index.specs.declared.record.Record.{Record}
 use Rattle.pot_replies.specs.Settings.{Setting}
 use Rattle.pot_replies.specs.Sections.{Section, mine, IsSilent}
@@ -8,6 +11,10 @@ use Rattle.pot_replies.specs.Listings.{IsIndexFull}
 use Rattle.pot_replies.specs.Fetches.{IsAbsent, Found, FetchEntries, IsFile, IsOdd, IsLost, IsFetchFault, IsFetchLogFull}
 use Rattle.pot_store.specs.declared.fetching.FetchFault.{FetchFault}
 use Rattle.pot_store.specs.declared.fetching.FetchFault.TheVariants as fault
+
+-- each place of a record that was read had a block in the table read
+abbrev pub AreFilled : Setting → Type 0
+AreFilled s = (r : Record) (p : Place) → Contains s.read r → Contains r.places p → is_void (slot_at (s.first p.group) p.stripe p.column) ≡ false
 
 -- no memory: nothing was logged, or the record was found and some of its places were looked at
 abbrev pub IsUnfinished : Setting → ℕ → List ℕ → Section → Type 0

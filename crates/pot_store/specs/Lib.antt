@@ -1,9 +1,11 @@
 pub mod Works
+pub mod Adds
 pub mod Drawing
 pub mod Puts
 pub mod Stores
 pub mod Fetches
-pub mod Looks
+pub mod Visits
+pub mod Points
 pub mod Shares
 pub mod Reads
 pub mod Stored

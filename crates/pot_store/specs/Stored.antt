@@ -2,8 +2,6 @@
 use Rattle.std.specs.Prelude.{◌≡◌, ℕ, List, [], ◌∷◌, ◌++◌, Result, Ok, Err, Vec, Contains, length}
 use Rattle.std.specs.Global.{Global}
 use Rattle.pot_bytes.specs.declared.rack.Place.{Place}
-use Rattle.pot_steps.specs.GroupStep.{Looked}
-use Rattle.pot_steps.specs.GroupStep as step
 use Rattle.pot_steps.specs.Stripe.{digest_of}
 use Rattle.pot_shard.specs.FileBlocks.{file_blocks}
 use Rattle.pot_shard.specs.FileLaws.{IsStore}
@@ -15,14 +13,16 @@ use Rattle.pot_replies.specs.Settings.{Setting}
 use Rattle.pot_shared.specs.Catalogs.{Publishes}
 use Rattle.pot_store.specs.declared.fetching.FetchFault.{FetchFault}
 use Rattle.pot_store.specs.declared.fetching.FetchFault.TheVariants as fault
+use Rattle.pot_store.specs.Visits.{Came, Seen, Visit}
 
--- the blocks that looks gave
-abbrev pub blocks_in : List Looked → List (List ℕ)
+-- the blocks that visits gave
+abbrev pub blocks_of : Came → List (List ℕ)
+blocks_of (Seen block) = block ∷ []
+blocks_of _ = []
+
+abbrev pub blocks_in : List Visit → List (List ℕ)
 blocks_in [] = []
-blocks_in (step.Seen block ∷ answers) = block ∷ blocks_in answers
-blocks_in (step.Gone ∷ answers) = blocks_in answers
-blocks_in (step.Faulted ∷ answers) = blocks_in answers
-blocks_in (step.LogFull ∷ answers) = blocks_in answers
+blocks_in (v ∷ visits) = blocks_of v.came ++ blocks_in visits
 
 -- A file with the record's length and digest was stored, and where no two different ones of its blocks and of the blocks that
 -- were read have one digest, this is so of the file.

@@ -1,5 +1,5 @@
 //! The fetch of a file.
-ghost use Rattle.std.specs.Prelude.{◌≡◌, ◌<◌, ◌≤◌, ◌+◌, ◌*◌, [], false, length, IfOk};
+ghost use Rattle.std.specs.Prelude.{◌≡◌, ◌<◌, ◌≤◌, ◌+◌, ◌*◌, [], true, length, IfOk};
 ghost use Rattle.std.specs.Vec.{vec_len, vec_capacity};
 ghost use Rattle.pot_bytes.specs.Rack.{IsRack};
 ghost use Rattle.pot_object.specs.Pieces.{pieces_of};
@@ -10,15 +10,17 @@ ghost use Rattle.pot_shared.specs.Catalogs.{IsIndexReady};
 ghost use Rattle.pot_replies.specs.Settings.{Setting};
 ghost use Rattle.pot_store.specs.Works.{known, section_of, JobWorked, JobAlone, IsSettingOf};
 ghost use Rattle.pot_store.specs.Reads.{FileRead, RecordRead};
-ghost use Rattle.pot_store.specs.Fetches.{FetchRow};
+ghost use Rattle.pot_store.specs.Fetches.{AreFilled, FetchRow};
 ghost use Rattle.pot_store.specs.Stored.{FetchGives};
 
 use crate::fragments::read_piece;
+use crate::points::Points;
 use crate::shares::{Shares, append};
 use pot_bytes::{Digest, Name, digest_of};
 use pot_index::{FindFault, Record};
 use pot_object::{OBJECT, count_pieces};
 use pot_outside::Archive;
+use pot_pads::PadStream;
 use pot_shared::{Passes, Vault};
 use std::alloc::Global;
 use std::sync::Wait;
@@ -30,7 +32,7 @@ pub enum FetchFault {
     IndexLogFull,
     /// No file is published under the name.
     Absent,
-    /// The archive of this column failed, and without its block too few points of a fragment were seen.
+    /// The archive of this column failed at a point of a fragment, and too few of its points were seen.
     Faulted {
         group: u8,
         column: u8,
@@ -42,7 +44,7 @@ pub enum FetchFault {
         have: u8,
         need: u8,
     },
-    /// The log of a group has no room for a look.
+    /// The log of a group has no room for a look or a mend.
     LogFull {
         group: u8,
     },
@@ -55,15 +57,16 @@ pub enum FetchFault {
 }
 
 /// Fetches the file that is published under a name: looks the name up, and reads the blocks of its record in turn, of each
-/// fragment as many as give it back. Of a piece no more is held at a time than its fragments.
+/// fragment as many as give it back. Where a fragment has too few, it mends the places at which a look gave nothing, blinded by
+/// `pads`, and looks once more at each that is whole again. Of a piece no more is held at a time than its fragments.
 ///
 /// Of a record that was published in this session the bytes are the file that was stored, and `Odd` is not answered, where no
 /// two different ones of the blocks of that file and of those read have one digest.
 ///
 /// # Errors
-/// `IndexLogFull` and `Absent` as `Vault::find`, `LogFull` of the first group whose log has no room for a look. Where too few
-/// points of a fragment can be seen, `Faulted` of the least one whose archive failed, and `Lost` where there is none. `Odd`
-/// exactly where the bytes that were read have another digest than the file. `NoMemory` comes before the first look.
+/// `IndexLogFull` and `Absent` as `Vault::find`, `LogFull` of the first group whose log has no room for a look or a mend. Where
+/// too few points of a fragment can be seen, `Faulted` of the least one at which an archive failed, and `Lost` where there is
+/// none. `Odd` exactly where the bytes that were read have another digest than the file. `NoMemory` comes before the first look.
 pub fn fetch_file<A: Archive, R: Wait>(
     rt: &R,
     alloc: Global,
@@ -71,6 +74,7 @@ pub fn fetch_file<A: Archive, R: Wait>(
     passes: &mut Passes<A>,
     job: u32,
     name: &Name,
+    pads: &mut PadStream,
 ) -> Result<Vec<u8>, FetchFault>
     requires ready { AreReady vault.now.rack vault.now.groups passes.old.groups }
     requires index { IsIndexReady vault.now.rack vault.now.groups vault.now.index passes.old.index }
@@ -83,14 +87,14 @@ pub fn fetch_file<A: Archive, R: Wait>(
     ensures parts { HasMoreParts 1 passes.new.groups }
     ensures worked { JobWorked job (known passes.old.groups passes.old.index) (known passes.new.groups passes.new.index) }
     ensures says { JobAlone job (known passes.old.groups passes.old.index) (known passes.new.groups passes.new.index)
-        → (s : Setting) → IsSettingOf s vault.now.rack (known passes.old.groups passes.old.index) → s.mends ≡ false
+        → (s : Setting) → IsSettingOf s vault.now.rack (known passes.old.groups passes.old.index) → s.mends ≡ true → AreFilled s
         → FetchRow s job name.now result (section_of (known passes.old.groups passes.old.index) (known passes.new.groups passes.new.index)) }
     ensures stored { JobAlone job (known passes.old.groups passes.old.index) (known passes.new.groups passes.new.index)
-        → (s : Setting) → IsSettingOf s vault.now.rack (known passes.old.groups passes.old.index) → s.mends ≡ false
+        → (s : Setting) → IsSettingOf s vault.now.rack (known passes.old.groups passes.old.index) → s.mends ≡ true → AreFilled s
         → FetchGives s job name.now result (section_of (known passes.old.groups passes.old.index) (known passes.new.groups passes.new.index)) }
 {
     match vault.find(rt, alloc, passes, job, name) {
-        Ok(kept) => read_record(rt, alloc, vault, passes, job, &kept),
+        Ok(kept) => read_record(rt, alloc, vault, passes, job, &kept, pads),
         Err(FindFault::LogFull) => Err(FetchFault::IndexLogFull),
         Err(FindFault::Absent) => Err(FetchFault::Absent),
         Err(FindFault::NoMemory) => Err(FetchFault::NoMemory),
@@ -105,6 +109,7 @@ fn read_record<A: Archive, R: Wait>(
     passes: &mut Passes<A>,
     job: u32,
     kept: &Record,
+    pads: &mut PadStream,
 ) -> Result<Vec<u8>, FetchFault>
     requires ready { AreReady vault.now.rack vault.now.groups passes.old.groups }
     requires groups { length vault.now.groups ≡ vault.now.rack.groups }
@@ -114,6 +119,9 @@ fn read_record<A: Archive, R: Wait>(
     ensures index { passes.new.index ≡ passes.old.index }
     ensures read { RecordRead job kept.now result passes.old.groups passes.new.groups }
 {
+    let Ok(mut points) = Points::start(alloc) else {
+        return Err(FetchFault::NoMemory);
+    };
     let Ok(mut shares) = Shares::start(alloc) else {
         return Err(FetchFault::NoMemory);
     };
@@ -129,6 +137,8 @@ fn read_record<A: Archive, R: Wait>(
         passes,
         job,
         kept,
+        pads,
+        &mut points,
         &mut shares,
         &mut fragments,
         &mut bytes,
@@ -153,6 +163,8 @@ fn read_pieces<A: Archive, R: Wait>(
     passes: &mut Passes<A>,
     job: u32,
     kept: &Record,
+    pads: &mut PadStream,
+    points: &mut Points,
     shares: &mut Shares,
     fragments: &mut Vec<u8>,
     bytes: &mut Vec<u8>,
@@ -177,6 +189,8 @@ fn read_pieces<A: Archive, R: Wait>(
             job,
             kept,
             piece,
+            pads,
+            points,
             shares,
             fragments,
             &mut object,

@@ -1,24 +1,28 @@
-//! The looks of a fetch, fragment by fragment.
+//! The visits of a fetch, fragment by fragment.
 ghost use Rattle.std.specs.Prelude.{◌≡◌, ◌<◌, ◌≤◌, ◌+◌, ◌*◌, ◌++◌, length, drop, IfOk};
 ghost use Rattle.std.specs.Vec.{vec_len, vec_capacity};
 ghost use Rattle.pot_bytes.specs.Rack.{IsGeometry};
 ghost use Rattle.pot_object.specs.Pieces.{pieces_of};
 ghost use Rattle.pot_index.specs.Fits.{FitsRack};
-ghost use Rattle.pot_shared.specs.Ready.{AreReady, HasSlot};
-ghost use Rattle.pot_store.specs.Reads.{PointRead, PointsRead, IsMissing, FragmentRead, PieceRead};
+ghost use Rattle.pot_shared.specs.Ready.{GroupPasses, AreReady, HasSlot};
+ghost use Rattle.pot_store.specs.Visits.{LooksOnce, MendsOn};
+ghost use Rattle.pot_store.specs.Points.{came_in};
+ghost use Rattle.pot_store.specs.Reads.{IsFragmentFrom, PointRead, PointsTried, PointsRead, IsMissing, FragmentRead, PieceRead};
 
 use crate::fetching::FetchFault;
+use crate::points::Points;
 use crate::shares::{Shares, append};
+use crate::visiting::{Point, look_at, mend};
 use pot_bytes::{Block, Place};
-use pot_group::Looked;
 use pot_index::Record;
 use pot_object::{CONTENT, OBJECT};
 use pot_outside::Archive;
+use pot_pads::PadStream;
 use pot_shared::{Passes, Vault};
 use pot_split::secrecy_join;
 use std::sync::Wait;
 
-/// Looks at the place of a point, from 0, of a fragment, and notes what that answers. False where the log of its group has no room.
+/// Looks at the place of a point, from 0, and notes what came of it. False where the log of its group has no room.
 fn look_at_point<A: Archive, R: Wait>(
     rt: &R,
     vault: &Vault<A>,
@@ -26,23 +30,21 @@ fn look_at_point<A: Archive, R: Wait>(
     job: u32,
     x: u8,
     place: Place,
-    shares: &mut Shares,
+    points: &mut Points,
 ) -> bool
     requires ready { AreReady vault.now.rack vault.now.groups passes.old.groups }
     requires place { HasSlot vault.now.rack vault.now.groups place }
     requires job { 0 < job }
     requires point { x < 16 }
-    requires few { length shares.old.points.items < 16 }
     ensures ready { AreReady vault.now.rack vault.now.groups passes.new.groups }
     ensures index { passes.new.index ≡ passes.old.index }
-    ensures read { PointRead job x place shares.old shares.new result passes.old.groups passes.new.groups }
+    ensures read { PointRead (LooksOnce job place) x points.old points.new result passes.old.groups passes.new.groups }
 {
     let mut block = Block::zero();
-    let answer = vault.look(rt, passes, job, place, &mut block);
-    if let Looked::LogFull = answer {
+    let Some(point) = look_at(rt, vault, passes, job, place, &mut block) else {
         return false;
-    }
-    shares.note(x, place, answer, &block);
+    };
+    points.note(x, point, &block);
     true
 }
 
@@ -57,55 +59,159 @@ fn look_at_points<A: Archive, R: Wait>(
     job: u32,
     kept: &Record,
     from: usize,
-    shares: &mut Shares,
+    points: &mut Points,
 ) -> Result<(), FetchFault>
     requires ready { AreReady vault.now.rack vault.now.groups passes.old.groups }
     requires groups { length vault.now.groups ≡ vault.now.rack.groups }
     requires job { 0 < job }
     requires fits { FitsRack vault.now.rack kept.now }
+    requires fragment { IsFragmentFrom kept.now from }
     requires within { from + kept.now.geometry.shards ≤ length kept.now.places }
     ensures ready { AreReady vault.now.rack vault.now.groups passes.new.groups }
     ensures index { passes.new.index ≡ passes.old.index }
-    ensures read { PointsRead job kept.now.places from kept.now.geometry.shards kept.now.geometry.need shares.new result passes.old.groups passes.new.groups }
+    ensures read { PointsRead job kept.now.places from kept.now.geometry.shards kept.now.geometry.need 0 points.new result passes.old.groups passes.new.groups }
 {
-    shares.clear();
+    points.clear();
     let places = kept.places.as_slice();
     for x in 0..kept.geometry.shards {
-        if shares.count() == usize::from(kept.geometry.need) {
+        if points.count(kept.geometry.shards) == kept.geometry.need {
             return Ok(());
         }
         let place = places[from + usize::from(x)];
-        if !look_at_point(rt, vault, passes, job, x, place, shares) {
+        if !look_at_point(rt, vault, passes, job, x, place, points) {
             return Err(FetchFault::LogFull { group: place.group });
         }
     }
     Ok(())
 }
 
-/// Why too few points of a fragment were seen.
-fn missing(piece: u32, fragment: u8, need: u8, shares: &Shares) -> FetchFault
-    requires few { fragment < 8 }
-    requires fewer { length shares.now.points.items < need }
-    ensures { IsMissing piece fragment need shares.now result }
+/// Mends the place of a point, from 0, at which a look gave nothing, and notes what came of it. False where the log of its group
+/// has no room.
+fn mend_point<A: Archive, R: Wait>(
+    rt: &R,
+    vault: &Vault<A>,
+    passes: &mut Passes<A>,
+    job: u32,
+    x: u8,
+    place: Place,
+    pads: &mut PadStream,
+    points: &mut Points,
+) -> bool
+    requires ready { AreReady vault.now.rack vault.now.groups passes.old.groups }
+    requires place { HasSlot vault.now.rack vault.now.groups place }
+    requires job { 0 < job }
+    requires point { x < 16 }
+    ensures ready { AreReady vault.now.rack vault.now.groups passes.new.groups }
+    ensures index { passes.new.index ≡ passes.old.index }
+    ensures read { PointRead (MendsOn job place) x points.old points.new result passes.old.groups passes.new.groups }
 {
-    match shares.failed() {
-        Some(place) => FetchFault::Faulted {
-            group: place.group,
-            column: place.column,
-        },
-        None => FetchFault::Lost {
-            piece,
-            fragment: fragment + 1,
-            have: shares.count() as u8,
-            need,
-        },
+    let mut block = Block::zero();
+    let Some(point) = mend(rt, vault, passes, job, place, pads, &mut block) else {
+        return false;
+    };
+    points.note(x, point, &block);
+    true
+}
+
+/// Mends the places of a fragment at which a look gave nothing, in the order of their points, until as many points are seen as
+/// give it back.
+///
+/// # Errors
+/// `LogFull` of the first group whose log has no room.
+fn mend_points<A: Archive, R: Wait>(
+    rt: &R,
+    vault: &Vault<A>,
+    passes: &mut Passes<A>,
+    job: u32,
+    kept: &Record,
+    from: usize,
+    pads: &mut PadStream,
+    points: &mut Points,
+) -> Result<(), FetchFault>
+    requires ready { AreReady vault.now.rack vault.now.groups passes.old.groups }
+    requires groups { length vault.now.groups ≡ vault.now.rack.groups }
+    requires job { 0 < job }
+    requires fits { FitsRack vault.now.rack kept.now }
+    requires fragment { IsFragmentFrom kept.now from }
+    requires within { from + kept.now.geometry.shards ≤ length kept.now.places }
+    ensures ready { AreReady vault.now.rack vault.now.groups passes.new.groups }
+    ensures index { passes.new.index ≡ passes.old.index }
+    ensures read { (first : GroupPasses)
+        → PointsTried job kept.now.places from kept.now.geometry.shards kept.now.geometry.need 0 points.old first passes.old.groups
+        → PointsRead job kept.now.places from kept.now.geometry.shards kept.now.geometry.need kept.now.geometry.shards points.new result first passes.new.groups }
+{
+    let places = kept.places.as_slice();
+    for x in 0..kept.geometry.shards {
+        if points.count(kept.geometry.shards) == kept.geometry.need {
+            return Ok(());
+        }
+        if let Point::Gone = points.known(x) {
+            let place = places[from + usize::from(x)];
+            if !mend_point(rt, vault, passes, job, x, place, pads, points) {
+                return Err(FetchFault::LogFull { group: place.group });
+            }
+        }
+    }
+    Ok(())
+}
+
+/// Looks at the points of a fragment and mends those of which nothing came, until as many are seen as give it back.
+///
+/// # Errors
+/// `LogFull` of the first group whose log has no room.
+fn see_points<A: Archive, R: Wait>(
+    rt: &R,
+    vault: &Vault<A>,
+    passes: &mut Passes<A>,
+    job: u32,
+    kept: &Record,
+    from: usize,
+    pads: &mut PadStream,
+    points: &mut Points,
+) -> Result<(), FetchFault>
+    requires ready { AreReady vault.now.rack vault.now.groups passes.old.groups }
+    requires groups { length vault.now.groups ≡ vault.now.rack.groups }
+    requires job { 0 < job }
+    requires fits { FitsRack vault.now.rack kept.now }
+    requires fragment { IsFragmentFrom kept.now from }
+    requires within { from + kept.now.geometry.shards ≤ length kept.now.places }
+    ensures ready { AreReady vault.now.rack vault.now.groups passes.new.groups }
+    ensures index { passes.new.index ≡ passes.old.index }
+    ensures read { PointsRead job kept.now.places from kept.now.geometry.shards kept.now.geometry.need kept.now.geometry.shards points.new result passes.old.groups passes.new.groups }
+{
+    look_at_points(rt, vault, passes, job, kept, from, points)?;
+    mend_points(rt, vault, passes, job, kept, from, pads, points)
+}
+
+/// Why too few points of a fragment were seen.
+fn missing(kept: &Record, piece: u32, fragment: u8, from: usize, points: &Points) -> FetchFault
+    requires geometry { IsGeometry kept.now.geometry }
+    requires within { from + kept.now.geometry.shards ≤ length kept.now.places }
+    requires few { fragment < 8 }
+    ensures { IsMissing kept.now from piece fragment (came_in points.now) result }
+{
+    let places = kept.places.as_slice();
+    for x in 0..kept.geometry.shards {
+        if let Point::Failed { column } = points.known(x) {
+            let place = places[from + usize::from(x)];
+            return FetchFault::Faulted {
+                group: place.group,
+                column,
+            };
+        }
+    }
+    FetchFault::Lost {
+        piece,
+        fragment: fragment + 1,
+        have: points.count(kept.geometry.shards),
+        need: kept.geometry.need,
     }
 }
 
 /// Reads a fragment of a piece, both from 0, and appends it to the fragments of the piece before.
 ///
 /// # Errors
-/// Where too few points can be seen, `Faulted` of the least one whose archive failed, and `Lost` where there is none. `LogFull`
+/// Where too few points can be seen, `Faulted` of the least one at which an archive failed, and `Lost` where there is none. `LogFull`
 /// of the first group whose log has no room.
 fn read_fragment<A: Archive, R: Wait>(
     rt: &R,
@@ -115,6 +221,8 @@ fn read_fragment<A: Archive, R: Wait>(
     kept: &Record,
     piece: u32,
     fragment: u8,
+    pads: &mut PadStream,
+    points: &mut Points,
     shares: &mut Shares,
     fragments: &mut Vec<u8>,
 ) -> Result<(), FetchFault>
@@ -132,11 +240,12 @@ fn read_fragment<A: Archive, R: Wait>(
     ensures read { FragmentRead job kept.now piece fragment fragments.old.items fragments.new.items result passes.old.groups passes.new.groups }
 {
     let from = first_block(kept, piece, fragment);
-    look_at_points(rt, vault, passes, job, kept, from, shares)?;
-    if shares.count() < usize::from(kept.geometry.need) {
-        return Err(missing(piece, fragment, kept.geometry.need, shares));
+    see_points(rt, vault, passes, job, kept, from, pads, points)?;
+    if points.count(kept.geometry.shards) < kept.geometry.need {
+        return Err(missing(kept, piece, fragment, from, points));
     }
     let mut content = [0; CONTENT];
+    points.gather(kept.geometry.shards, shares);
     shares.join(&mut content);
     append(fragments, &content[64..]);
     Ok(())
@@ -164,6 +273,8 @@ pub fn read_piece<A: Archive, R: Wait>(
     job: u32,
     kept: &Record,
     piece: u32,
+    pads: &mut PadStream,
+    points: &mut Points,
     shares: &mut Shares,
     fragments: &mut Vec<u8>,
     object: &mut [u8; OBJECT],
@@ -183,7 +294,7 @@ pub fn read_piece<A: Archive, R: Wait>(
     fragments.clear();
     for fragment in 0..kept.geometry.fragments {
         read_fragment(
-            rt, vault, passes, job, kept, piece, fragment, shares, fragments,
+            rt, vault, passes, job, kept, piece, fragment, pads, points, shares, fragments,
         )?;
     }
     secrecy_join(fragments, object);

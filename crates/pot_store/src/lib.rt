@@ -4,8 +4,8 @@
 //!    refused, the name is free again: `store_file`.
 //! 2. The blocks are drawn piece by piece from the job's stream, and never more than one piece of them stands in memory:
 //!    `drawing`.
-//! 3. A fetch looks at the points of each fragment in order until enough blocks are seen, and joins them without decoding one:
-//!    `fetch_file`. It mends nothing: a place that is Gone once can't be had.
+//! 3. A fetch looks at the points of each fragment in order until enough blocks are seen, mends those of which nothing came where
+//!    they are too few, and joins what was seen without decoding a block: `fetch_file`.
 //! 4. What each answer says is said of the logs, and holds where nobody else logged an entry of the job: `StoreRow`, `FetchRow`.
 //!
 //! It knows no script and no seed, and it starts no thread.
@@ -16,9 +16,11 @@ mod drawing;
 mod drawing_tests;
 mod fetching;
 mod fragments;
+mod points;
 mod putting;
 mod shares;
 mod storing;
+mod visiting;
 
 pub use fetching::{FetchFault, fetch_file};
 pub use storing::{StoreFault, Stored, store_file};

@@ -1,11 +1,10 @@
-//! What is read of one fragment.
+//! The shares of one fragment.
 ghost use Rattle.std.specs.Prelude.{◌≡◌, ◌<◌, ◌≤◌, ◌+◌, ◌*◌, ◌++◌, [], ◌∷◌, length, nat_eq, IfOk};
 ghost use Rattle.std.specs.List.{All, IsDistinct};
 ghost use Rattle.std.specs.Vec.{vec_len, vec_capacity};
 ghost use Rattle.pot_split.specs.Threshold.{IsJoin};
 
-use pot_bytes::{Block, NoMemory, Place};
-use pot_group::Looked;
+use pot_bytes::NoMemory;
 use pot_object::CONTENT;
 use pot_split::share_join;
 use std::alloc::Global;
@@ -15,16 +14,13 @@ use std::alloc::Global;
 pub struct Shares {
     points: Vec<u8>,
     rows: Vec<u8>,
-    /// The place of the least point whose archive failed.
-    failed: Option<Place>,
     ghost wide: { length rows.items ≡ length points.items * 992 },
     ghost room: { 16 ≤ vec_capacity points },
     ghost rows_room: { 15872 ≤ vec_capacity rows },
 }
 
 impl Shares {
-    ghost use Rattle.pot_group.specs.Group.{looked_as};
-    ghost use Rattle.pot_store.specs.Shares.{AreNone, IsNoted};
+    ghost use Rattle.pot_store.specs.Shares.{AreNone};
 
     /// Room for the shares of 16 points, and none yet.
     pub fn start(alloc: Global) -> Result<Shares, NoMemory>
@@ -32,61 +28,23 @@ impl Shares {
     {
         let points = Vec::with_capacity(alloc, 16)?;
         let rows = Vec::with_capacity(alloc, 16 * CONTENT)?;
-        Ok(Shares {
-            points,
-            rows,
-            failed: None,
-        })
+        Ok(Shares { points, rows })
     }
 
-    /// There are none, and no archive failed.
+    /// There are none.
     pub fn clear(&mut self)
         ensures { AreNone self.new }
     {
         self.points.clear();
         self.rows.clear();
-        self.failed = None;
-    }
-
-    /// How many shares were read.
-    pub fn count(&self) -> usize
-        ensures { result ≡ length self.now.points.items }
-    {
-        self.points.len()
-    }
-
-    /// The place of the least point whose archive failed.
-    pub fn failed(&self) -> Option<Place>
-        ensures { result ≡ self.now.failed }
-    {
-        self.failed
-    }
-
-    /// Notes what the look at a point, from 0, answered, and keeps the share of a block that was seen.
-    pub fn note(&mut self, x: u8, place: Place, answer: Looked, block: &Block)
-        requires point { x < 16 }
-        requires few { length self.old.points.items < 16 }
-        ensures { IsNoted x place (looked_as answer block.now) self.old self.new }
-    {
-        match answer {
-            Looked::Seen => self.keep(x + 1, &block.bytes()[32..]),
-            Looked::Gone => {}
-            Looked::Faulted { column: _ } => {
-                if self.failed.is_none() {
-                    self.failed = Some(place);
-                }
-            }
-            Looked::LogFull => {}
-        }
     }
 
     /// One share more, and its point.
-    fn keep(&mut self, point: u8, share: &[u8])
+    pub fn keep(&mut self, point: u8, share: &[u8])
         requires few { length self.old.points.items < 16 }
         requires wide { length share.now ≡ 992 }
         ensures points { self.new.points.items ≡ self.old.points.items ++ point ∷ [] }
         ensures rows { self.new.rows.items ≡ self.old.rows.items ++ share.now }
-        ensures failed { self.new.failed ≡ self.old.failed }
     {
         self.points.push_reserved(point);
         append(&mut self.rows, share);

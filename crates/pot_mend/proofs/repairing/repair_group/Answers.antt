@@ -1,7 +1,7 @@
 use Rattle.std.proofs.Common.{◌<◌, IsTrue, Some, length, refl, ◌∙◌}
 use Rattle.std.proofs.lemmas.Result.{err_from_is_err_and}
 use Rattle.pot_group.specs.declared.finding.Kind.TheVariants as kind
-use Rattle.pot_mend.proofs.StepLemmas.{next_slot}
+use Rattle.pot_store.proofs.AddLemmas.{next_slot}
 use Rattle.pot_mend.proofs.RowLemmas.{found_few, found_step, group_draws, group_row, group_work, repairing_begin, stop_draws, stop_row, stop_work}
 use Rattle.pot_mend.proofs.repairing.repair_group.Goals as goal
 

@@ -1,7 +1,7 @@
-use Rattle.std.proofs.Common.{◌≡◌, false, sym, subst}
+use Rattle.std.proofs.Common.{◌≡◌, true, sym, subst}
 use Rattle.pot_replies.specs.Settings.{Setting}
 use Rattle.pot_store.specs.Works.{known, section_of, JobWorked, JobAlone, IsSettingOf}
-use Rattle.pot_store.specs.Fetches.{FetchRow}
+use Rattle.pot_store.specs.Fetches.{AreFilled, FetchRow}
 use Rattle.pot_store.specs.Stored.{FetchGives}
 use Rattle.pot_store.proofs.SearchLemmas.{lone_work, absent_row, silent_row, index_full_row}
 use Rattle.pot_store.proofs.FetchLemmas.{all_work, record_row, gives_row}
@@ -13,29 +13,29 @@ returns-in-Ok-clause-worked g c =
     let new = c.read_record.new.passes in
     subst (λ i. JobWorked c.args.job (known old.groups old.index) (known new.groups i)) (sym c.read_record.ensures.index)
     (all_work c.args.job c.args.name.now c.args.vault.now.rack c.args.vault.now.groups c.args.vault.now.index old.groups c.find.new.passes.groups new.groups old.index c.find.new.passes.index
-    c.in-Ok.kept c.requires.ready c.requires.count c.requires.index c.find.ensures.groups c.in-Ok.ensures.call c.read_record.ensures.read.answers c.read_record.ensures.read.reads)
+    c.in-Ok.kept c.requires.ready c.requires.count c.requires.index c.find.ensures.groups c.in-Ok.ensures.call c.read_record.ensures.read.visits c.read_record.ensures.read.reads)
 
 pub returns-in-Ok-clause-says : goal.returns-in-Ok-clause-says
 returns-in-Ok-clause-says g c =
     let old = c.args.passes.now in
     let new = c.read_record.new.passes in
-    subst (λ i. JobAlone c.args.job (known old.groups old.index) (known new.groups i) → (s : Setting) → IsSettingOf s c.args.vault.now.rack (known old.groups old.index) → s.mends ≡ false
+    subst (λ i. JobAlone c.args.job (known old.groups old.index) (known new.groups i) → (s : Setting) → IsSettingOf s c.args.vault.now.rack (known old.groups old.index) → s.mends ≡ true → AreFilled s
     → FetchRow s c.args.job c.args.name.now c.read_record.result (section_of (known old.groups old.index) (known new.groups i))) (sym c.read_record.ensures.index)
-    (λ alone s set plainly.
+    (λ alone s set mends filled.
     record_row c.args.job c.args.name.now c.args.vault.now.rack c.args.vault.now.groups c.args.vault.now.index old.groups c.find.new.passes.groups new.groups old.index c.find.new.passes.index
-    c.in-Ok.kept c.requires.ready c.requires.count c.requires.index c.find.ensures.groups c.in-Ok.ensures.call c.read_record.ensures.read.answers c.read_record.ensures.read.reads
-    alone s set plainly c.read_record.result c.read_record.ensures.read.ends)
+    c.in-Ok.kept c.requires.ready c.requires.count c.requires.index c.find.ensures.groups c.in-Ok.ensures.call c.read_record.ensures.read.visits c.read_record.ensures.read.reads
+    alone s set mends filled c.read_record.result c.read_record.ensures.read.ends)
 
 pub returns-in-Ok-clause-stored : goal.returns-in-Ok-clause-stored
 returns-in-Ok-clause-stored g c =
     let old = c.args.passes.now in
     let new = c.read_record.new.passes in
-    subst (λ i. JobAlone c.args.job (known old.groups old.index) (known new.groups i) → (s : Setting) → IsSettingOf s c.args.vault.now.rack (known old.groups old.index) → s.mends ≡ false
+    subst (λ i. JobAlone c.args.job (known old.groups old.index) (known new.groups i) → (s : Setting) → IsSettingOf s c.args.vault.now.rack (known old.groups old.index) → s.mends ≡ true → AreFilled s
     → FetchGives s c.args.job c.args.name.now c.read_record.result (section_of (known old.groups old.index) (known new.groups i))) (sym c.read_record.ensures.index)
-    (λ alone s set plainly.
+    (λ alone s set mends filled.
     gives_row c.args.job c.args.name.now c.args.vault.now.rack c.args.vault.now.groups c.args.vault.now.index old.groups c.find.new.passes.groups new.groups old.index c.find.new.passes.index
-    c.in-Ok.kept c.requires.ready c.requires.count c.requires.index c.find.ensures.groups c.in-Ok.ensures.call c.read_record.ensures.read.answers c.read_record.ensures.read.reads
-    alone s set plainly c.read_record.result c.read_record.ensures.read.ends)
+    c.in-Ok.kept c.requires.ready c.requires.count c.requires.index c.find.ensures.groups c.in-Ok.ensures.call c.read_record.ensures.read.visits c.read_record.ensures.read.reads
+    alone s set mends filled c.read_record.result c.read_record.ensures.read.ends)
 
 pub returns-in-Err-LogFull-clause-worked : goal.returns-in-Err-LogFull-clause-worked
 returns-in-Err-LogFull-clause-worked g c =
@@ -43,7 +43,7 @@ returns-in-Err-LogFull-clause-worked g c =
     c.in-Err-LogFull.field-0 c.requires.ready c.requires.index c.find.ensures.groups c.in-Err-LogFull.ensures.call
 
 pub returns-in-Err-LogFull-clause-says : goal.returns-in-Err-LogFull-clause-says
-returns-in-Err-LogFull-clause-says g c = λ alone s set plainly.
+returns-in-Err-LogFull-clause-says g c = λ alone s set mends filled.
     index_full_row c.args.job c.args.name.now c.args.vault.now.rack c.args.vault.now.groups c.args.vault.now.index c.args.passes.now.groups c.find.new.passes.groups c.args.passes.now.index c.find.new.passes.index
     c.in-Err-LogFull.field-0 c.requires.ready c.requires.index c.find.ensures.groups c.in-Err-LogFull.ensures.call alone c.in-Err-LogFull.field-0-is s set
 
@@ -53,7 +53,7 @@ returns-in-Err-Absent-clause-worked g c =
     c.in-Err-Absent.field-0 c.requires.ready c.requires.index c.find.ensures.groups c.in-Err-Absent.ensures.call
 
 pub returns-in-Err-Absent-clause-says : goal.returns-in-Err-Absent-clause-says
-returns-in-Err-Absent-clause-says g c = λ alone s set plainly.
+returns-in-Err-Absent-clause-says g c = λ alone s set mends filled.
     absent_row c.args.job c.args.name.now c.args.vault.now.rack c.args.vault.now.groups c.args.vault.now.index c.args.passes.now.groups c.find.new.passes.groups c.args.passes.now.index c.find.new.passes.index
     c.in-Err-Absent.field-0 c.requires.ready c.requires.index c.find.ensures.groups c.in-Err-Absent.ensures.call alone c.in-Err-Absent.field-0-is
 
@@ -63,6 +63,6 @@ returns-in-Err-NoMemory-clause-worked g c =
     c.in-Err-NoMemory.field-0 c.requires.ready c.requires.index c.find.ensures.groups c.in-Err-NoMemory.ensures.call
 
 pub returns-in-Err-NoMemory-clause-says : goal.returns-in-Err-NoMemory-clause-says
-returns-in-Err-NoMemory-clause-says g c = λ alone s set plainly.
+returns-in-Err-NoMemory-clause-says g c = λ alone s set mends filled.
     silent_row c.args.job c.args.name.now c.args.vault.now.rack c.args.vault.now.groups c.args.vault.now.index c.args.passes.now.groups c.find.new.passes.groups c.args.passes.now.index c.find.new.passes.index
     c.in-Err-NoMemory.field-0 c.requires.ready c.requires.index c.find.ensures.groups c.in-Err-NoMemory.ensures.call alone c.in-Err-NoMemory.field-0-is s

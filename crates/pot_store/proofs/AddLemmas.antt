@@ -31,7 +31,7 @@ use Rattle.pot_shared.proofs.MemberLemmas.{entries_all}
 use Rattle.pot_store.specs.Works.{of_job, gained}
 use Rattle.pot_store.proofs.TurnLemmas.{replays_is}
 use Rattle.pot_store.proofs.WorkLemmas.{all_none, drop_all, group_work, group_own, group_else, own_more, row_stays}
-use Rattle.pot_mend.specs.Steps.{Adds, FindsNext, IsFromOn, IsNextOf, Once}
+use Rattle.pot_store.specs.Adds.{Adds, FindsNext, IsFromOn, IsNextOf, Once}
 
 -- WHAT A LOG LEADS TO
 
