@@ -1,5 +1,5 @@
 -- One command, and what it gives.
-use Rattle.std.proofs.Common.{◌≡◌, inl, ℕ, List, refl, ap, sym, ◌∙◌}
+use Rattle.std.proofs.Common.{◌≡◌, inl, ℕ, List, [], ◌∷◌, refl, ap, sym, ◌∙◌, subst}
 use Rattle.std.specs.Prelude.{map}
 use Rattle.pot_bytes.specs.declared.rack.Rack.{Rack}
 use Rattle.pot_index.specs.Entries as index
@@ -16,7 +16,9 @@ use Rattle.pot_shared.specs.Catalogs.{IndexPasses, IsIndexReady}
 use Rattle.pot_store.specs.Works.{of_job, Known, known, JobWorked, section_of}
 use Rattle.pot_store.specs.Stores.{DrawsFrom, drawn_blocks}
 use Rattle.pot_store.proofs.WorkLemmas.{drop_all, row_stays, index_idle}
-use Rattle.pot_commands.specs.Rows.{IsSessionSetting, IsIdle, IsSingle, IsWorked}
+use Rattle.pot_script.specs.declared.reply.Reply.{Reply}
+use Rattle.pot_commands.specs.Rows.{AreReplies, IsSessionSetting, IsIdle, IsPlain, IsSingle, IsWorked}
+use Rattle.pot_commands.specs.Taking.{asks}
 use Rattle.pot_commands.proofs.ListLemmas.{none_gained}
 
 -- passes that did nothing worked for any job
@@ -41,7 +43,7 @@ pub draws : (s : Setting) (rack : Rack) (seed : List ℕ) (session job : ℕ) (k
 draws s rack seed session job k pads file is same = is.drawn s.rack.geometry job file ∙ ap (λ p. map digest_of (drawn_blocks s p file)) (sym same)
 
 -- a command that is worked and is no `status` has one reply
-pub single : (groups : ℕ) (c : Command) → IsWorked groups c → (c ≡ commands.Status → ⊥) → IsSingle groups c
+pub single : (groups : ℕ) (c : Command) → IsPlain groups c → (c ≡ commands.Status → ⊥) → IsSingle groups c
 single groups commands.Status w ne = absurd (ne refl)
 single groups (commands.Store name file) w ne = w
 single groups (commands.Fetch name) w ne = w
@@ -49,3 +51,24 @@ single groups commands.List w ne = w
 single groups (commands.Scrub group) w ne = w
 single groups (commands.Repair group) w ne = w
 single groups _ w ne = w
+
+-- a command that is worked and is neither `replace` nor `migrate` asks for no archive
+pub plain : (groups : ℕ) (c : Command) → IsWorked groups c → ((from to : ℕ) → c ≡ commands.Replace from to → ⊥) → ((from to : ℕ) → c ≡ commands.Migrate from to → ⊥) → IsPlain groups c
+plain groups (commands.Replace from to) w ne nm = absurd (ne from to refl)
+plain groups (commands.Migrate from to) w ne nm = absurd (nm from to refl)
+plain groups commands.Status w ne nm = w
+plain groups (commands.Store name file) w ne nm = w
+plain groups (commands.Fetch name) w ne nm = w
+plain groups commands.List w ne nm = w
+plain groups (commands.Scrub group) w ne nm = w
+plain groups (commands.Repair group) w ne nm = w
+plain groups _ w ne nm = w
+
+pub asks_none : (c : Command) → ((from to : ℕ) → c ≡ commands.Replace from to → ⊥) → ((from to : ℕ) → c ≡ commands.Migrate from to → ⊥) → asks c ≡ []
+asks_none (commands.Replace from to) ne nm = absurd (ne from to refl)
+asks_none (commands.Migrate from to) ne nm = absurd (nm from to refl)
+asks_none _ ne nm = refl
+
+-- the one reply of a `migrate`
+pub migrate_replies : (s : Setting) (job : ℕ) (c : Command) (from to : ℕ) (r : Reply) (rs : List Reply) (w : Section) → c ≡ commands.Migrate from to → rs ≡ r ∷ [] → AreReplies s job (commands.Migrate from to) (r ∷ []) w → AreReplies s job c rs w
+migrate_replies s job c from to r rs w is one row = subst (λ d. AreReplies s job d rs w) (sym is) (subst (λ l. AreReplies s job (commands.Migrate from to) l w) (sym one) row)

@@ -1,9 +1,11 @@
--- No archive was brought by commands so far.
+-- A setting that there is, and commands that bring no archive.
 use Rattle.std.proofs.Common.{◌≡◌, ℕ, List, [], refl, ap, sym, ◌∙◌}
-use Rattle.std.specs.Prelude.{false, Option, Some, None, IfSome, filter, map}
+use Rattle.std.specs.Prelude.{true, Option, Some, None, IfSome, Result, Ok, Err, Vec, MatchResult, filter, map}
+use Rattle.std.specs.Global.{Global}
 use Rattle.pot_bytes.specs.declared.rack.Rack.{Rack}
 use Rattle.pot_machine.specs.Table.{Table}
 use Rattle.pot_steps.specs.Stripe.{digest_of}
+use Rattle.pot_group.specs.Arrivals.{arrivals}
 use Rattle.pot_pads.specs.Pads.{pads_of}
 use Rattle.pot_index.specs.declared.record.Record.{Record}
 use Rattle.pot_rows.specs.Rows.{view_at}
@@ -13,15 +15,13 @@ use Rattle.pot_replies.specs.Jobs.{own}
 use Rattle.pot_replies.specs.Settings.{Setting}
 use Rattle.pot_shared.specs.declared.member.GroupOrigin.{GroupOrigin}
 use Rattle.pot_shared.specs.declared.catalog.CatalogOrigin.{CatalogOrigin}
-use Rattle.pot_shared.specs.Members.{entries_of}
-use Rattle.pot_store.specs.Works.{gained, Known, JobWorked, section_of}
+use Rattle.pot_store.specs.Works.{gained, Known, JobWorked, JobAlone, IsSettingOf, section_of}
 use Rattle.pot_store.specs.Drawing.{blocks_from}
-use Rattle.pot_store.proofs.WorkLemmas.{drop_all}
-use Rattle.pot_commands.specs.Rows.{IsSessionSetting}
-use Rattle.pot_commands.specs.Ones.{Gives, Leaves}
-use Rattle.pot_commands.specs.Ends.{AllWent, AllSole, BringNone}
-use Rattle.pot_commands.proofs.NoMoves.{brings, none_both, each_none, no_moves, left_moves}
-use Rattle.pot_commands.proofs.Going.{work_all_went, sole_parts, sole_alone, known_follows}
+use Rattle.pot_commands.specs.Rows.{HasFilled, IsSessionSetting, AreReplies, IsIdle}
+use Rattle.pot_commands.specs.Ends.{AllSole}
+use Rattle.pot_commands.specs.Taking.{asks}
+use Rattle.pot_commands.proofs.NoMoves.{brings, no_arrivals, no_moves, idle_moves}
+use Rattle.pot_commands.proofs.Going.{sole_alone}
 use Rattle.pot_commands.proofs.Whose.{its_jobs, own_all}
 
 -- there is a setting
@@ -42,47 +42,34 @@ are_records None = tt
 are_records (Some o) = refl
 
 module _ (rack : Rack) (seed : List ℕ) (session : ℕ) (k : Known) where
-  abbrev its_setting : Setting
+  abbrev pub its_setting : Setting
   its_setting = record {
     rack = rack;
     first = λ g. table_of (view_at k.groups g).origin;
     read = records_of (view_at k.index 0).origin;
     digests = λ geometry job file. map digest_of (blocks_from geometry file (pads_of seed session job));
-    mends = false;
+    mends = true;
   }
 
-  is_setting : IsSessionSetting its_setting rack seed session k
-  is_setting = record {
-    setting = record { rack_is = refl; first = λ g lt. is_table (view_at k.groups g).origin; read = are_records (view_at k.index 0).origin };
+  pub is_its : IsSettingOf its_setting rack k
+  is_its = record { rack_is = refl; first = λ g lt. is_table (view_at k.groups g).origin; read = are_records (view_at k.index 0).origin }
+
+  pub is_setting : HasFilled rack k → IsSessionSetting its_setting rack seed session k
+  is_setting filled = record {
+    setting = is_its;
     drawn = λ geometry job file. refl;
-    no_mends = refl;
+    mends = refl;
+    filled = filled its_setting is_its;
   }
 
--- no entry so far
-abbrev pub NoneBrought : Known → Known → Type 0
-NoneBrought old new = AllSole old new → (g : ℕ) → filter brings (gained old.groups new.groups g) ≡ []
+-- a command that asks for no archive brought none
+module _ (rack : Rack) (seed : List ℕ) (session job : ℕ) (c : Command) (none : asks c ≡ []) (old new : Known) (filled : HasFilled rack old) (worked : JobWorked job old new) where
+  plain_none : (JobAlone job old new → (g : ℕ) → filter brings (own job (gained old.groups new.groups g)) ≡ []) → AllSole old new → (g : ℕ) → arrivals (gained old.groups new.groups g) ≡ []
+  plain_none its sole g =
+      no_arrivals (gained old.groups new.groups g)
+      (ap (filter brings) (sym (own_all job (gained old.groups new.groups g) ((its_jobs job old new worked sole).groups g))) ∙ its (sole_alone job old new worked sole) g)
 
-pub brings_at_first : (k : Known) → NoneBrought k k
-brings_at_first k sole g = ap (λ ls. filter brings (entries_of ls)) (drop_all (view_at k.groups g).seen)
-
-pub bring_none : (old new : Known) → NoneBrought old new → BringNone old new
-bring_none old new none sole g e there = each_none (gained old.groups new.groups g) (none sole g) e there
-
-module _ (old mid new : Known) (went : AllWent old mid) (none : NoneBrought old mid) (job : ℕ) (worked : JobWorked job mid new) where
-  brings_on : (AllSole mid new → (g : ℕ) → filter brings (own job (gained mid.groups new.groups g)) ≡ []) → NoneBrought old new
-  brings_on its sole g =
-      let then = work_all_went job mid new worked in
-      let parts = sole_parts old mid new went then sole in
-      let all = own_all job (gained mid.groups new.groups g) ((its_jobs job mid new worked parts.1).groups g) in
-      ap (filter brings) ((known_follows old mid new went then).is_added g)
-      ∙ none_both (gained old.groups mid.groups g) (gained mid.groups new.groups g) (none parts.0 g) (ap (filter brings) (sym all) ∙ its parts.1 g)
-
-  pub gives_none : (rack : Rack) (seed : List ℕ) (session : ℕ) (c : Command) (rs : List Reply) → Gives rack seed session job c mid new rs → NoneBrought old new
-  gives_none rack seed session c rs gives = brings_on (λ sole g.
-      no_moves (its_setting rack seed session mid) job c rs (section_of mid new)
-      (gives (sole_alone job mid new worked sole) (its_setting rack seed session mid) (is_setting rack seed session mid)) g)
-
-  pub leaves_none : (rack : Rack) (seed : List ℕ) (session : ℕ) (c : Command) → Leaves rack seed session job c mid new → NoneBrought old new
-  leaves_none rack seed session c leaves = brings_on (λ sole g.
-      left_moves (its_setting rack seed session mid) job c (section_of mid new)
-      (leaves (sole_alone job mid new worked sole) (its_setting rack seed session mid) (is_setting rack seed session mid)) g)
+  pub answered_none : {E : Type 0} (result : Result (Vec Reply Global) E) → (JobAlone job old new → (s : Setting) → IsSessionSetting s rack seed session old
+      → MatchResult result (λ rs. AreReplies s job c rs.items (section_of old new)) (λ e. IsIdle s job c (section_of old new))) → AllSole old new → (g : ℕ) → arrivals (gained old.groups new.groups g) ≡ []
+  answered_none (Ok rs) says = plain_none (λ alone g. no_moves (its_setting rack seed session old) job c rs.items (section_of old new) none (says alone (its_setting rack seed session old) (is_setting rack seed session old filled)) g)
+  answered_none (Err e) says = plain_none (λ alone g. idle_moves (its_setting rack seed session old) job c (section_of old new) (says alone (its_setting rack seed session old) (is_setting rack seed session old filled)) g)

@@ -12,8 +12,8 @@ use Rattle.pot_replies.specs.Sections.{Follows}
 use Rattle.pot_shared.specs.declared.member.GroupOrigin.{GroupOrigin}
 use Rattle.pot_shared.specs.declared.catalog.CatalogOrigin.{CatalogOrigin}
 use Rattle.pot_shared.specs.Members.{entries_of}
-use Rattle.pot_store.specs.Works.{of_job, Known, JobWorked, JobAlone, section_of}
-use Rattle.pot_commands.specs.Rows.{IsSessionSetting}
+use Rattle.pot_store.specs.Works.{of_job, Known, JobWorked, JobAlone, IsSettingOf, section_of}
+use Rattle.pot_commands.specs.Rows.{HasFilled, IsSessionSetting}
 use Rattle.pot_commands.specs.Ends.{AllWent, AllSole, AllStay}
 use Rattle.pot_commands.proofs.Logs.{entries_append}
 
@@ -66,13 +66,24 @@ stays_more old mid new p q = record {
   };
 }
 
+-- a setting of what passes know is one of what they know then
+pub setting_of_stays : (s : Setting) (rack : Rack) (old new : Known) → new.groups.names ≡ old.groups.names → ((at : ℕ) → (view_at new.groups at).origin ≡ (view_at old.groups at).origin)
+    → ((at : ℕ) → (view_at new.index at).origin ≡ (view_at old.index at).origin) → IsSettingOf s rack old → IsSettingOf s rack new
+setting_of_stays s rack old new names groups index is = record {
+  rack_is = is.rack_is;
+  first = λ g lt. subst (λ o. IfSome o (λ (x : GroupOrigin). s.first g ≡ x.first)) (sym (groups g)) (is.first g (let n = ap length names in omega (arith, lt, n)));
+  read = subst (λ o. IfSome o (λ (x : CatalogOrigin). s.read ≡ x.read)) (sym (index 0)) is.read;
+}
+
 pub setting_stays : (s : Setting) (rack : Rack) (seed : List ℕ) (session : ℕ) (old new : Known) → AllStay old new → IsSessionSetting s rack seed session old → IsSessionSetting s rack seed session new
 setting_stays s rack seed session old new stays is = record {
-  setting = record {
-    rack_is = is.setting.rack_is;
-    first = λ g lt. subst (λ o. IfSome o (λ (x : GroupOrigin). s.first g ≡ x.first)) (sym (stays.groups.origin g)) (is.setting.first g (let n = ap length stays.groups.names in omega (arith, lt, n)));
-    read = subst (λ o. IfSome o (λ (x : CatalogOrigin). s.read ≡ x.read)) (sym (stays.index.origin 0)) is.setting.read;
-  };
+  setting = setting_of_stays s rack old new stays.groups.names stays.groups.origin stays.index.origin is.setting;
   drawn = is.drawn;
-  no_mends = is.no_mends;
+  mends = is.mends;
+  filled = is.filled;
 }
+
+-- what passes know later gives the settings that it gave before
+pub filled_stays : (rack : Rack) (old new : Known) → AllStay old new → HasFilled rack old → HasFilled rack new
+filled_stays rack old new stays filled s is =
+    filled s (setting_of_stays s rack new old (sym stays.groups.names) (λ at. sym (stays.groups.origin at)) (λ at. sym (stays.index.origin at)) is)

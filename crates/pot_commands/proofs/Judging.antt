@@ -37,3 +37,12 @@ ends_over rack seed session told before after cs old new ending.NoMemory e sole 
   replied = e.replied sole s is;
   written = e.written;
 }
+ends_over rack seed session told before after cs old new ending.RoomFailed e sole s is = record {
+  first = e.first;
+  next = e.next;
+  rest = e.rest;
+  parts = e.parts;
+  replies = e.replies;
+  replied = e.replied sole s is;
+  written = e.written;
+}

@@ -6,7 +6,12 @@ pub mod AnswerLemmas
 pub mod NoMoves
 pub mod Going
 pub mod Whose
+pub mod TakingLemmas
 pub mod Brought
+pub mod ArrivingLemmas
+pub mod ReplaceLemmas
+pub mod MigrateLemmas
+pub mod MovedLemmas
 pub mod FoldLemmas
 pub mod StreamLemmas
 pub mod WorkingLemmas

@@ -1,4 +1,4 @@
--- No command that is worked brings an archive.
+-- Which commands bring no archive, and that none begins a move.
 use Rattle.std.proofs.Common.{◌≡◌, ◌≢◌, ◌<◌, ◌≤◌, ◌⊎◌, ⊎_elim, inl, inr, ℕ, zero, suc, Bool, true, false, List, [], ◌∷◌, ◌++◌, length, refl, ap, sym, ◌∙◌, subst, arith}
 use Rattle.std.specs.Prelude.{Option, Some, None, filter, slice_get, Contains}
 use Rattle.std.proofs.lemmas.List.Elements.{filter-append}
@@ -6,6 +6,7 @@ use Rattle.pot_bytes.specs.declared.digest.Digest.{Digest}
 use Rattle.pot_machine.specs.declared.entry.Entry.{Entry}
 use Rattle.pot_machine.specs.declared.entry.Entry.TheVariants.{Fault, MoveBegin, Swapped}
 use Rattle.pot_steps.specs.GroupStep.{Passed, skips, gone_entries}
+use Rattle.pot_group.specs.Arrivals.{arrivals}
 use Rattle.pot_index.specs.declared.record.Record.{Record}
 use Rattle.pot_rows.proofs.RowLemmas.{below_or_past}
 use Rattle.pot_script.specs.declared.command.Command.{Command}
@@ -14,13 +15,13 @@ use Rattle.pot_script.specs.declared.reply.Reply.{Reply}
 use Rattle.pot_script.specs.declared.reply.Reply.TheVariants as replies
 use Rattle.pot_replies.specs.Jobs.{own, is_move_begin, is_look, is_relay, EachIs}
 use Rattle.pot_replies.specs.Settings.{Setting}
-use Rattle.pot_replies.specs.Sections.{Section, Mine, mine}
+use Rattle.pot_replies.specs.Sections.{Section, Mine, mine, IsOfJobs}
 use Rattle.pot_replies.specs.Stores.{Placed, in_group, IsKeptPut, Puts, IsUnkept, Stops}
 use Rattle.pot_replies.specs.Listings.{StatusLine, Group, GroupFull, IsStatusLine}
 use Rattle.pot_replies.specs.Fetches.{MayFetch, FetchEntries}
 use Rattle.pot_store.specs.Fetches.{IsUnfinished}
-use Rattle.pot_commands.specs.Rows.{IsStoreReply, IsFetchReply, IsScrubReply, IsRepairReply, IsListReply, AreStatusReplies, AreReplies, IsIdle, IsLeft}
-use Rattle.pot_commands.specs.Ends.{brings_none}
+use Rattle.pot_commands.specs.Rows.{IsStoreReply, IsFetchReply, IsScrubReply, IsRepairReply, IsListReply, IsReplaceReply, AreStatusReplies, AreReplies, IsIdle}
+use Rattle.pot_commands.specs.Taking.{asks}
 
 -- an entry that brings one
 abbrev pub brings : Entry → Bool
@@ -36,7 +37,7 @@ none_one e h = rw h refl
 pub none_both : (xs ys : List Entry) → filter brings xs ≡ [] → filter brings ys ≡ [] → filter brings (xs ++ ys) ≡ []
 none_both xs ys p q = filter-append brings xs ys ∙ (ap (λ l. l ++ filter brings ys) p ∙ q)
 
-none_of_each : (es : List Entry) → ((e : Entry) → Contains es e → brings e ≡ false) → filter brings es ≡ []
+pub none_of_each : (es : List Entry) → ((e : Entry) → Contains es e → brings e ≡ false) → filter brings es ≡ []
 none_of_each [] h = refl
 none_of_each (e ∷ es) h = rw (h e (0, omega arith, refl)) (none_of_each es (λ x (k, lt, at). h x (suc k, omega (arith, lt), at)))
 
@@ -50,20 +51,12 @@ no_begin (MoveBegin job c to ∷ es) h = absurd (cc h)
 no_begin (Swapped job c to ∷ es) h = absurd (cc h)
 no_begin (_ ∷ es) h = no_begin es h
 
-head_none : (e : Entry) (es : List Entry) → filter brings (e ∷ es) ≡ [] → brings_none e ≡ true
-head_none (MoveBegin job c to) es h = absurd (cc h)
-head_none (Swapped job c to) es h = absurd (cc h)
-head_none _ es h = refl
-
-tail_none : (e : Entry) (es : List Entry) → filter brings (e ∷ es) ≡ [] → filter brings es ≡ []
-tail_none (MoveBegin job c to) es h = absurd (cc h)
-tail_none (Swapped job c to) es h = absurd (cc h)
-tail_none _ es h = h
-
-pub each_none : (es : List Entry) → filter brings es ≡ [] → (x : Entry) → Contains es x → brings_none x ≡ true
-each_none [] h x (k, lt, at) = absurd (omega (arith, lt))
-each_none (e ∷ es) h x (zero, lt, at) = ap brings_none (sym at) ∙ head_none e es h
-each_none (e ∷ es) h x (suc k, lt, at) = each_none es (tail_none e es h) x (k, omega (arith, lt), at)
+-- what has none of these brings no archive
+pub no_arrivals : (es : List Entry) → filter brings es ≡ [] → arrivals es ≡ []
+no_arrivals [] h = refl
+no_arrivals (MoveBegin job c to ∷ es) h = absurd (cc h)
+no_arrivals (Swapped job c to ∷ es) h = absurd (cc h)
+no_arrivals (_ ∷ es) h = no_arrivals es h
 
 -- THE ENTRIES OF A STORE
 
@@ -160,11 +153,14 @@ relays_none : (es : List Entry) → EachIs is_relay es → filter brings es ≡ 
 relays_none es each = none_of_each es (λ e there. relays_bring e (each e there))
 
 -- what a job logged in one group, and nothing in any other
-only_moves : (m : Mine) (group : ℕ) → ((h : ℕ) → h ≢ group → m.own h ≡ []) → filter brings (m.own group) ≡ [] → (g : ℕ) → filter brings (m.own g) ≡ []
-only_moves m group others here g = ⊎_elim
-    (λ (e : g ≡ group). subst (λ k. filter brings (m.own k) ≡ []) (sym e) here)
-    (λ (ne : g ≢ group). ap (filter brings) (others g ne))
+only_in : (test : Entry → Bool) (m : Mine) (group : ℕ) → ((h : ℕ) → h ≢ group → m.own h ≡ []) → filter test (m.own group) ≡ [] → (g : ℕ) → filter test (m.own g) ≡ []
+only_in test m group others here g = ⊎_elim
+    (λ (e : g ≡ group). subst (λ k. filter test (m.own k) ≡ []) (sym e) here)
+    (λ (ne : g ≢ group). ap (filter test) (others g ne))
     (same_or g group)
+
+only_moves : (m : Mine) (group : ℕ) → ((h : ℕ) → h ≢ group → m.own h ≡ []) → filter brings (m.own group) ≡ [] → (g : ℕ) → filter brings (m.own g) ≡ []
+only_moves m group others here g = only_in brings m group others here g
 
 scrub_moves : (s : Setting) (job group : ℕ) (r : Reply) (w : Section) → IsScrubReply s job group r w → (g : ℕ) → filter brings (own job (w.added g)) ≡ []
 scrub_moves s job group (replies.Scrubbed of seen gone) w row g = only_moves (mine job w) group row.1.only.0 (looks_none (own job (w.added group)) row.1.looks.kinds) g
@@ -206,25 +202,45 @@ status_moves s job rs w row g = ⊎_elim
     (λ (le : length row.lines ≤ g). ap (filter brings) (row.status.elsewhere g (let c = row.status.count in omega (arith, le, c))))
     (below_or_past g (length row.lines))
 
--- a command that has these replies brought none
-pub no_moves : (s : Setting) (job : ℕ) (c : Command) (rs : List Reply) (w : Section) → AreReplies s job c rs w → (g : ℕ) → filter brings (own job (w.added g)) ≡ []
-no_moves s job (commands.Store name file) (r ∷ []) w row g = store_moves s job name file r w row g
-no_moves s job (commands.Fetch name) (r ∷ []) w row g = fetch_moves s job name r w row g
-no_moves s job commands.List (r ∷ []) w row g = list_moves s job r w row g
-no_moves s job commands.Status rs w row g = status_moves s job rs w row g
-no_moves s job (commands.Scrub group) (r ∷ []) w row g = scrub_moves s job group r w row g
-no_moves s job (commands.Repair group) (r ∷ []) w row g = repair_moves s job group r w row g
-no_moves s job _ _ w row g = absurd row
+-- a command that asks for no archive and has these replies brought none
+pub no_moves : (s : Setting) (job : ℕ) (c : Command) (rs : List Reply) (w : Section) → asks c ≡ [] → AreReplies s job c rs w → (g : ℕ) → filter brings (own job (w.added g)) ≡ []
+no_moves s job (commands.Store name file) (r ∷ []) w none row g = store_moves s job name file r w row g
+no_moves s job (commands.Fetch name) (r ∷ []) w none row g = fetch_moves s job name r w row g
+no_moves s job commands.List (r ∷ []) w none row g = list_moves s job r w row g
+no_moves s job commands.Status rs w none row g = status_moves s job rs w row g
+no_moves s job (commands.Scrub group) (r ∷ []) w none row g = scrub_moves s job group r w row g
+no_moves s job (commands.Repair group) (r ∷ []) w none row g = repair_moves s job group r w row g
+no_moves s job (commands.Replace from to) rs w none row g = absurd (cc none)
+no_moves s job (commands.Migrate from to) rs w none row g = absurd (cc none)
+no_moves s job _ _ w none row g = absurd row
 
 -- and so did one that was left
 unfinished_moves : (s : Setting) (job : ℕ) (name : List ℕ) (w : Section) → IsUnfinished s job name w → (g : ℕ) → filter brings (own job (w.added g)) ≡ []
 unfinished_moves s job name w (inl silent) g = ap (filter brings) (silent.0 g)
 unfinished_moves s job name w (inr (kept, found, entries)) g = reads_moves kept job w entries g
 
-idle_moves : (s : Setting) (job : ℕ) (c : Command) (w : Section) → IsIdle s job c w → (g : ℕ) → filter brings (own job (w.added g)) ≡ []
+pub idle_moves : (s : Setting) (job : ℕ) (c : Command) (w : Section) → IsIdle s job c w → (g : ℕ) → filter brings (own job (w.added g)) ≡ []
 idle_moves s job (commands.Fetch name) w is g = unfinished_moves s job name w is g
 idle_moves s job _ w is g = ap (filter brings) (is.0 g)
 
-pub left_moves : (s : Setting) (job : ℕ) (c : Command) (w : Section) → IsLeft s job c w → (g : ℕ) → filter brings (own job (w.added g)) ≡ []
-left_moves s job c w (inl idle) g = idle_moves s job c w idle g
-left_moves s job c w (inr (rs, row)) g = no_moves s job c rs w row g
+-- A COMMAND THAT ASKS FOR AN ARCHIVE
+
+replace_begins : (s : Setting) (job from to : ℕ) (r : Reply) (m : Mine) → IsReplaceReply s job from to r m → (g : ℕ) → filter is_move_begin (m.own g) ≡ []
+replace_begins s job from to (replies.Replaced old new slots) m row g =
+    only_in is_move_begin m row.2.group row.2.only.0 (ap (filter is_move_begin) row.2.own_is) g
+replace_begins s job from to (replies.NoArchive number) m row g = ap (filter is_move_begin) (row.1.1.0 g)
+replace_begins s job from to (replies.InUse number) m row g = ap (filter is_move_begin) (row.1.2.0 g)
+replace_begins s job from to (replies.LogFull group) m row g = ap (filter is_move_begin) (row.silent.0 g)
+replace_begins s job from to _ m row g = absurd row
+
+-- no command but `migrate` that has these replies began a move
+pub begins_none : (s : Setting) (job : ℕ) (c : Command) (rs : List Reply) (w : Section) → ((from to : ℕ) → c ≡ commands.Migrate from to → ⊥) → IsOfJobs job 1 w → AreReplies s job c rs w → (g : ℕ) → filter is_move_begin (own job (w.added g)) ≡ []
+begins_none s job (commands.Store name file) (r ∷ []) w ne its row g = no_begin (own job (w.added g)) (store_moves s job name file r w row g)
+begins_none s job (commands.Fetch name) (r ∷ []) w ne its row g = no_begin (own job (w.added g)) (fetch_moves s job name r w row g)
+begins_none s job commands.List (r ∷ []) w ne its row g = no_begin (own job (w.added g)) (list_moves s job r w row g)
+begins_none s job commands.Status rs w ne its row g = no_begin (own job (w.added g)) (status_moves s job rs w row g)
+begins_none s job (commands.Scrub group) (r ∷ []) w ne its row g = no_begin (own job (w.added g)) (scrub_moves s job group r w row g)
+begins_none s job (commands.Repair group) (r ∷ []) w ne its row g = no_begin (own job (w.added g)) (repair_moves s job group r w row g)
+begins_none s job (commands.Replace from to) (r ∷ []) w ne its row g = replace_begins s job from to r (mine job w) (row its) g
+begins_none s job (commands.Migrate from to) rs w ne its row g = absurd (ne from to refl)
+begins_none s job _ _ w ne its row g = absurd row

@@ -10,8 +10,9 @@ use Rattle.pot_worked.specs.Laws.{AllOf}
 use Rattle.pot_worked.proofs.SoleLemmas.{sole_owns}
 use Rattle.pot_rows.specs.Rows.{view_at}
 use Rattle.pot_script.specs.declared.command.Command.{Command}
+use Rattle.pot_script.specs.declared.command.Command.TheVariants as commands
 use Rattle.pot_script.specs.declared.reply.Reply.{Reply}
-use Rattle.pot_replies.specs.Jobs.{own, job_of, is_of}
+use Rattle.pot_replies.specs.Jobs.{own, job_of, is_of, is_move_begin}
 use Rattle.pot_replies.specs.Settings.{Setting}
 use Rattle.pot_replies.specs.Sections.{Section, IsAmong, IsOfJobs, Halves, work_of}
 use Rattle.pot_shared.specs.declared.member.Logged.{Logged}
@@ -19,7 +20,7 @@ use Rattle.pot_shared.specs.Members.{entries_of}
 use Rattle.pot_store.specs.Works.{of_job, Known, JobWorked, section_of}
 use Rattle.pot_commands.specs.Rows.{AreReplies, Row}
 use Rattle.pot_commands.specs.Ends.{AllSole}
-use Rattle.pot_commands.proofs.NoMoves.{brings, no_begin, no_moves}
+use Rattle.pot_commands.proofs.NoMoves.{begins_none}
 
 among_one : (job k : ℕ) → (k == job) ≡ true → IsAmong job 1 k
 among_one job k is = let same : k ≡ job = eqb-true k job is in (omega (arith, same), omega (arith, same))
@@ -55,17 +56,36 @@ own_all job (e ∷ es) each =
     let here : is_of job e ≡ true = eq-eqb (job_of e) job (let a = (each [] es e refl).0 in let b = (each [] es e refl).1 in omega (arith, a, b)) in
     rw here (ap (λ l. e ∷ l) (own_all job es (λ x y f at. each (e ∷ x) y f (ap (λ l. e ∷ l) at))))
 
--- A command that has its replies began no move, and is judged on all that it added.
-pub judged : (s : Setting) (job : ℕ) (c : Command) (rs : List Reply) (w : Section) → IsOfJobs job 1 w → AreReplies s job c rs w → (h : Halves w) × Row s job c rs w h
-judged s job c rs w its row =
+-- the table of replies for a command that began no move
+row_of : (s : Setting) (job : ℕ) (c : Command) (rs : List Reply) (w : Section) (h : Halves w) → ((from to : ℕ) → c ≡ commands.Migrate from to → ⊥) → ((g : ℕ) → own job (h.begun g) ≡ []) → IsOfJobs job 1 (work_of w h)
+    → AreReplies s job c rs (work_of w h) → Row s job c rs w h
+row_of s job (commands.Replace from to) (r ∷ []) w h ne none its row = (none, row its)
+row_of s job (commands.Migrate from to) rs w h ne none its row = absurd (ne from to refl)
+row_of s job _ _ w h ne none its row = (none, row)
+
+-- it is judged on all that it added
+began_none : (s : Setting) (job : ℕ) (c : Command) (rs : List Reply) (w : Section) → ((from to : ℕ) → c ≡ commands.Migrate from to → ⊥) → IsOfJobs job 1 w → AreReplies s job c rs w → (h : Halves w) × Row s job c rs w h
+began_none s job c rs w ne its row =
     let h : Halves w = record {
       begun = λ g. [];
       worked = w.added;
       parts = λ g. refl;
       begins = λ g e (k, lt, at). absurd (omega (arith, lt));
-      no_more = λ g. no_begin (w.added g) (ap (filter brings) (sym (own_all job (w.added g) (its.groups g))) ∙ no_moves s job c rs w row g);
+      no_more = λ g. ap (filter is_move_begin) (sym (own_all job (w.added g) (its.groups g))) ∙ begins_none s job c rs w ne its row g;
       in_order = λ g. tt;
     } in
     let befores : (λ g. w.before g ++ []) ≡ w.before = fun_ext (λ g. append-nil (w.before g)) in
     let whole : work_of w h ≡ w = λ i. record { before = befores i; added = w.added; index_before = w.index_before; index_added = w.index_added } in
-    (h, ((λ g. refl), subst (λ (x : Section). AreReplies s job c rs x) (sym whole) row))
+    (h, row_of s job c rs w h ne (λ g. refl) (subst (λ (x : Section). IsOfJobs job 1 x) (sym whole) its) (subst (λ (x : Section). AreReplies s job c rs x) (sym whole) row))
+
+-- a command that has its replies is judged by the table
+pub judged : (s : Setting) (job : ℕ) (c : Command) (rs : List Reply) (w : Section) → IsOfJobs job 1 w → AreReplies s job c rs w → (h : Halves w) × Row s job c rs w h
+judged s job (commands.Migrate from to) (r ∷ []) w its row = row its
+judged s job (commands.Store name file) rs w its row = began_none s job (commands.Store name file) rs w (λ a b e. cc e) its row
+judged s job (commands.Fetch name) rs w its row = began_none s job (commands.Fetch name) rs w (λ a b e. cc e) its row
+judged s job commands.List rs w its row = began_none s job commands.List rs w (λ a b e. cc e) its row
+judged s job commands.Status rs w its row = began_none s job commands.Status rs w (λ a b e. cc e) its row
+judged s job (commands.Scrub group) rs w its row = began_none s job (commands.Scrub group) rs w (λ a b e. cc e) its row
+judged s job (commands.Repair group) rs w its row = began_none s job (commands.Repair group) rs w (λ a b e. cc e) its row
+judged s job (commands.Replace from to) rs w its row = began_none s job (commands.Replace from to) rs w (λ a b e. cc e) its row
+judged s job _ _ w its row = absurd row

@@ -10,16 +10,23 @@ use Rattle.pot_rows.specs.Rows.{HasMoreParts}
 use Rattle.pot_script.specs.declared.command.Command.{Command}
 use Rattle.pot_script.specs.declared.reply.Reply.{Reply}
 use Rattle.pot_script.specs.Replies.{reply_text, is_refusal}
+use Rattle.pot_group.specs.Arrivals.{arrivals}
+use Rattle.pot_rows.specs.Rows.{view_at}
+use Rattle.pot_shared.specs.Members.{entries_of}
+use Rattle.pot_store.proofs.WorkLemmas.{drop_all}
 use Rattle.pot_shared.specs.Ready.{GroupPasses, AreReady}
 use Rattle.pot_shared.specs.Catalogs.{IndexPasses, IsIndexReady}
 use Rattle.pot_store.specs.Works.{Known, known, JobWorked}
+use Rattle.pot_commands.specs.Rows.{HasFilled}
 use Rattle.pot_commands.specs.declared.working.Ending.TheVariants as ending
 use Rattle.pot_commands.specs.declared.working.Stopped.TheVariants as stopped
 use Rattle.pot_commands.specs.Ones.{Gives, Leaves, OneEnds}
-use Rattle.pot_commands.specs.Ends.{texts_of, any_refusal, AllStay, AllWent, BringNone, AreReplied, Ends}
+use Rattle.pot_commands.specs.Ends.{texts_of, any_refusal, AllStay, AllWent, AreReplied, Ends}
+use Rattle.pot_commands.specs.Holding.{times}
+use Rattle.pot_commands.specs.Taking.{Lending, Took, asks, asked_by}
 use Rattle.pot_commands.proofs.AnswerLemmas.{stayed_worked}
-use Rattle.pot_commands.proofs.Going.{work_all_went, went_more, stays_more}
-use Rattle.pot_commands.proofs.Brought.{NoneBrought, brings_at_first, bring_none, gives_none, leaves_none}
+use Rattle.pot_commands.proofs.Going.{filled_stays, work_all_went, went_more, stays_more}
+use Rattle.pot_commands.proofs.TakingLemmas.{took_none, took_more, took_wider, times-append}
 use Rattle.pot_commands.proofs.FoldLemmas.{none_replied, replied_on, left_on, next_on}
 
 -- THE PASSES
@@ -70,29 +77,31 @@ refusal_append (r ∷ rs) its = ap (λ b. is_refusal r || b) (refusal_append rs 
 
 -- THE COMMANDS SO FAR
 
-pub record IsWorking (told : Type 0) (rack : Rack) (seed : List ℕ) (session : ℕ) (before now : List ℕ) (cs : List Command) (n : ℕ) (refused : Bool) (old mid : Known) : Type 0 where
+pub record IsWorking (told tells : Type 0) (rack : Rack) (seed : List ℕ) (session : ℕ) (before now : List ℕ) (cs : List Command) (n : ℕ) (refused : Bool) (lent lends : Lending) (old mid : Known) : Type 0 where
   pub went : AllWent old mid
   pub stays : AllStay old mid
-  pub none : NoneBrought old mid
+  pub took : Took tells (Unit {0}) (asked_by (take n cs)) lent lends old mid
+  pub filled : HasFilled rack mid
   pub replies : List Reply
   pub replied : AreReplied rack seed session (take n cs) replies old mid
   pub refusal : refused ≡ any_refusal replies
   pub written : told → now ≡ before ++ texts_of replies
 
-pub begins_working : (told : Type 0) (rack : Rack) (seed : List ℕ) (session : ℕ) (before : List ℕ) (cs : List Command) (names turn : List TurnName) (row : GroupPasses) (i : IndexPasses)
-    → AreReady rack names row → IsIndexReady rack names turn i → IsWorking told rack seed session before before cs 0 false (known row i) (known row i)
-begins_working told rack seed session before cs names turn row i ready index_ready = record {
+pub begins_working : (told tells : Type 0) (rack : Rack) (seed : List ℕ) (session : ℕ) (before : List ℕ) (cs : List Command) (lent : Lending) (names turn : List TurnName) (row : GroupPasses) (i : IndexPasses)
+    → AreReady rack names row → IsIndexReady rack names turn i → HasFilled rack (known row i) → IsWorking told tells rack seed session before before cs 0 false lent lent (known row i) (known row i)
+begins_working told tells rack seed session before cs lent names turn row i ready index_ready filled = record {
   went = work_all_went 1 (known row i) (known row i) (stayed_worked rack names turn 1 row i ready index_ready);
   stays = stays_same (known row i);
-  none = brings_at_first (known row i);
+  took = took_none tells (Unit {0}) [] lent lent (known row i) (known row i) (λ n. refl) (λ n. refl) (λ sole g. ap (λ ls. arrivals (entries_of ls)) (drop_all (view_at row g).seen));
+  filled = filled;
   replies = [];
   replied = none_replied rack seed session (known row i);
   refusal = refl;
   written = λ t. sym (append-nil before);
 }
 
-module _ (told : Type 0) (rack : Rack) (seed : List ℕ) (session : ℕ) (before now : List ℕ) (cs : List Command) (n : ℕ) (refused : Bool) (old mid new : Known)
-    (so : IsWorking told rack seed session before now cs n refused old mid) (c : Command) (within : n < length cs) (is : c ≡ get_or cs n c)
+module _ (told tells : Type 0) (rack : Rack) (seed : List ℕ) (session : ℕ) (before now : List ℕ) (cs : List Command) (n : ℕ) (refused : Bool) (lent lends then : Lending) (old mid new : Known)
+    (so : IsWorking told tells rack seed session before now cs n refused lent lends old mid) (c : Command) (within : n < length cs) (is : c ≡ get_or cs n c)
     (worked : JobWorked (n + 1) mid new) (stays : AllStay mid new) where
   number : n + 1 ≡ suc (length (take n cs))
   number = let l = length-take-le n cs (omega (arith, within)) in omega (arith, l)
@@ -116,12 +125,28 @@ module _ (told : Type 0) (rack : Rack) (seed : List ℕ) (session : ℕ) (before
   new_replied its gives = replied_on rack seed session (take n cs) so.replies c old mid new so.went so.stays so.replied its_worked its
       (subst (λ j. Gives rack seed session j c mid new its) number gives)
 
-  pub working_more : (after : List ℕ) (some : Bool) → OneEnds rack seed session (n + 1) c mid new told now after (Ok some)
-      → IsWorking told rack seed session before after cs (n + 1) (refused || some) old new
-  working_more after some (its, gives, refuses, writes) = record {
+  -- what was taken before and for this command
+  next_took : (well : Type 0) → Took tells well (asks c) lends then mid new → Took tells well (asked_by (take n cs) ++ asks c) lent then old new
+  next_took well took = took_more tells well (asked_by (take n cs)) (asks c) lent lends then old mid new so.went (work_all_went (n + 1) mid new worked) so.stays.groups.names so.took took
+
+  asked_next : asked_by (take (n + 1) cs) ≡ asked_by (take n cs) ++ asks c
+  asked_next = ap (λ k. asked_by (take k cs)) (add-one n) ∙ (ap asked_by (take_more cs n c within is) ∙ (flat_map-append asks (take n cs) (c ∷ []) ∙ ap (λ l. asked_by (take n cs) ++ l) (append-nil (asks c))))
+
+  pub ends_took : (well then_well : Type 0) → (then_well → well) → Took tells well (asks c) lends then mid new → Took tells then_well (asked_by cs) lent then old new
+  ends_took well then_well from took =
+      took_wider tells well then_well (asked_by (take n cs) ++ asks c) (asked_by cs) lent then old new
+      (λ k. (let a = ap (times k) asked_next in
+      let b : times k (asked_by cs) ≡ times k (asked_by (take (n + 1) cs) ++ asked_by (drop (n + 1) cs)) = ap (times k) (ap asked_by (sym (take-append-drop (n + 1) cs)) ∙ flat_map-append asks (take (n + 1) cs) (drop (n + 1) cs)) in
+      let d = times-append k (asked_by (take (n + 1) cs)) (asked_by (drop (n + 1) cs)) in omega (arith, a, b, d)))
+      from (next_took well took)
+
+  pub working_more : (after : List ℕ) (some : Bool) (well : Type 0) → well → Took tells well (asks c) lends then mid new → OneEnds rack seed session (n + 1) c mid new told now after (Ok some)
+      → IsWorking told tells rack seed session before after cs (n + 1) (refused || some) lent then old new
+  working_more after some well is_well took (its, gives, refuses, writes) = record {
     went = new_went;
     stays = new_stays;
-    none = gives_none old mid new so.went so.none (n + 1) worked rack seed session c its gives;
+    took = subst (λ ns. Took tells (Unit {0}) ns lent then old new) (sym asked_next) (took_wider tells well (Unit {0}) (asked_by (take n cs) ++ asks c) (asked_by (take n cs) ++ asks c) lent then old new (λ k. omega arith) (λ u. is_well) (next_took well took));
+    filled = filled_stays rack mid new stays so.filled;
     replies = so.replies ++ its;
     replied = subst (λ ds. AreReplied rack seed session ds (so.replies ++ its) old new) (sym (ap (λ k. take k cs) (add-one n) ∙ take_more cs n c within is)) (new_replied its gives);
     refusal = ap (λ b. b || some) so.refusal ∙ (ap (λ b. any_refusal so.replies || b) refuses ∙ sym (refusal_append so.replies its));
@@ -147,15 +172,8 @@ module _ (told : Type 0) (rack : Rack) (seed : List ℕ) (session : ℕ) (before
     );
   }
 
-  pub none_cut : (after : List ℕ) → OneEnds rack seed session (n + 1) c mid new told now after (Err stopped.SinkFailed) → BringNone old new
-  none_cut after (its, gives, writes) = bring_none old new (gives_none old mid new so.went so.none (n + 1) worked rack seed session c its gives)
-
-  pub none_short : (after : List ℕ) → OneEnds rack seed session (n + 1) c mid new told now after (Err stopped.NoMemory) → BringNone old new
-  none_short after (leaves, writes) = bring_none old new (leaves_none old mid new so.went so.none (n + 1) worked rack seed session c leaves)
-
-  pub working_short : (after : List ℕ) → OneEnds rack seed session (n + 1) c mid new told now after (Err stopped.NoMemory)
-      → Ends rack seed session told before after cs old new ending.NoMemory
-  working_short after (leaves, writes) = record {
+  left_short : (after : List ℕ) → Leaves rack seed session (n + 1) c mid new → (told → after ≡ now) → Ends rack seed session told before after cs old new ending.NoMemory
+  left_short after leaves writes = record {
     first = take n cs;
     next = c;
     rest = drop (suc n) cs;
@@ -165,9 +183,23 @@ module _ (told : Type 0) (rack : Rack) (seed : List ℕ) (session : ℕ) (before
     written = λ t. writes t ∙ so.written t;
   }
 
-pub ends_well : (told : Type 0) (rack : Rack) (seed : List ℕ) (session : ℕ) (before now : List ℕ) (cs : List Command) (n : ℕ) (refused : Bool) (old new : Known)
-    → IsWorking told rack seed session before now cs n refused old new → take n cs ≡ cs → Ends rack seed session told before now cs old new (ending.Done refused)
-ends_well told rack seed session before now cs n refused old new so all = record {
+  pub working_short : (after : List ℕ) → OneEnds rack seed session (n + 1) c mid new told now after (Err stopped.NoMemory)
+      → Ends rack seed session told before after cs old new ending.NoMemory
+  working_short after (leaves, writes) = left_short after leaves writes
+
+  pub working_failed : (after : List ℕ) → OneEnds rack seed session (n + 1) c mid new told now after (Err stopped.RoomFailed)
+      → Ends rack seed session told before after cs old new ending.RoomFailed
+  working_failed after (leaves, writes) = left_short after leaves writes
+
+-- all commands were worked
+pub all_took : (told tells well : Type 0) (rack : Rack) (seed : List ℕ) (session : ℕ) (before now : List ℕ) (cs : List Command) (n : ℕ) (refused : Bool) (lent lends : Lending) (old new : Known)
+    → IsWorking told tells rack seed session before now cs n refused lent lends old new → take n cs ≡ cs → Took tells well (asked_by cs) lent lends old new
+all_took told tells well rack seed session before now cs n refused lent lends old new so all =
+    took_wider tells (Unit {0}) well (asked_by (take n cs)) (asked_by cs) lent lends old new (λ k. (let e = ap (λ ds. times k (asked_by ds)) all in omega (arith, e))) (λ w. tt) so.took
+
+pub ends_well : (told tells : Type 0) (rack : Rack) (seed : List ℕ) (session : ℕ) (before now : List ℕ) (cs : List Command) (n : ℕ) (refused : Bool) (lent lends : Lending) (old new : Known)
+    → IsWorking told tells rack seed session before now cs n refused lent lends old new → take n cs ≡ cs → Ends rack seed session told before now cs old new (ending.Done refused)
+ends_well told tells rack seed session before now cs n refused lent lends old new so all = record {
   replies = so.replies;
   replied = subst (λ ds. AreReplied rack seed session ds so.replies old new) all so.replied;
   refusal = so.refusal;

@@ -24,4 +24,5 @@ module _ (rack : Rack) (seed : List ℕ) (session job : ℕ) (c : Command) (old 
   OneEnds told before after (Ok refused) = (rs : List Reply) × Gives rs × (refused ≡ any_refusal rs) × (told → after ≡ before ++ texts_of rs)
   OneEnds told before after (Err stopped.SinkFailed) =
       (rs : List Reply) × Gives rs × (told → (count : ℕ) × (count ≤ length (texts_of rs)) × (after ≡ before ++ take count (texts_of rs)))
+  OneEnds told before after (Err stopped.RoomFailed) = Leaves × (told → after ≡ before)
   OneEnds told before after (Err stopped.NoMemory) = Leaves × (told → after ≡ before)

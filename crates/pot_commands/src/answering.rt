@@ -1,6 +1,7 @@
 //! One command, and its replies.
-ghost use Rattle.std.specs.Prelude.{◌≡◌, ◌<◌, ◌∷◌, [], ℕ, List, MatchResult, length};
+ghost use Rattle.std.specs.Prelude.{◌≡◌, ◌≢◌, ◌<◌, ◌∷◌, [], ℕ, List, Err, IsErrOf, IsTrue, MatchResult, length};
 ghost use Rattle.pot_bytes.specs.Rack.{IsRack};
+ghost use Rattle.pot_outside.specs.Counts.{Caused};
 ghost use Rattle.pot_rows.specs.Rows.{HasMoreParts};
 ghost use Rattle.pot_replies.specs.Settings.{Setting};
 ghost use Rattle.pot_replies.specs.Sections.{Section, mine, IsSilent};
@@ -12,12 +13,15 @@ ghost use Rattle.pot_store.specs.Fetches.{FetchRow, IsUnfinished};
 ghost use Rattle.pot_store.specs.Stored.{FetchGives};
 ghost use Rattle.pot_mend.specs.Scrubs.{ScrubRow};
 ghost use Rattle.pot_mend.specs.Repairs.{RepairRow};
-ghost use Rattle.pot_commands.specs.Rows.{IsSessionSetting, IsStoreReply, IsFetchReply, IsScrubReply, IsRepairReply, AreReplies, IsIdle, IsSingle, IsWorked};
+ghost use Rattle.pot_commands.specs.Rows.{HasFilled, IsSessionSetting, IsStoreReply, IsFetchReply, IsScrubReply, IsRepairReply, AreReplies, IsIdle, IsPlain, IsSingle, IsWorked};
+ghost use Rattle.pot_commands.specs.Taking.{AreUsed, Took, asks, lending};
 
+use crate::arriving::{Unanswered, replace_archive};
 use crate::listing::{count_groups, list_names};
+use crate::moving::migrate_archive;
 use pot_bytes::{Bytes, Name, NoMemory};
 use pot_mend::{MendFault, Repaired, Scrubbed, repair_group, scrub_group};
-use pot_outside::Archive;
+use pot_outside::{Archive, Room};
 use pot_pads::PadStream;
 use pot_script::{Command, Reply};
 use pot_shared::{Passes, Vault};
@@ -145,7 +149,8 @@ fn answer_one<A: Archive, R: Wait>(
             store_reply(name, stored)
         }
         Command::Fetch { name } => {
-            let fetched = fetch_file(rt, alloc, vault, passes, job, name);
+            let mut pads = PadStream::new(seed, session, job);
+            let fetched = fetch_file(rt, alloc, vault, passes, job, name, &mut pads);
             fetch_reply(name, fetched)
         }
         Command::List => list_names(rt, alloc, vault, passes, job),
@@ -162,11 +167,11 @@ fn answer_one<A: Archive, R: Wait>(
     }
 }
 
-/// Works a command as this job, and answers its replies: one, and for `status` one for each group.
+/// Works a command that takes no archive: one reply, and for `status` one for each group.
 ///
 /// # Errors
 /// `NoMemory`, with what a command logs then.
-pub fn answer<A: Archive, R: Wait>(
+fn answer_plain<A: Archive, R: Wait>(
     rt: &R,
     alloc: Global,
     vault: &Vault<A>,
@@ -183,7 +188,7 @@ pub fn answer<A: Archive, R: Wait>(
     requires parity { vault.now.rack.parity ≡ 1 }
     requires count { length vault.now.groups ≡ vault.now.rack.groups }
     requires job { 0 < job }
-    requires worked { IsWorked vault.now.rack.groups command.now }
+    requires plain { IsPlain vault.now.rack.groups command.now }
     ensures ready { AreReady vault.now.rack vault.now.groups passes.new.groups }
     ensures index { IsIndexReady vault.now.rack vault.now.groups vault.now.index passes.new.index }
     ensures worked { JobWorked job (known passes.old.groups passes.old.index) (known passes.new.groups passes.new.index) }
@@ -197,5 +202,69 @@ pub fn answer<A: Archive, R: Wait>(
             replies.push_reserved(reply);
             Ok(replies)
         }
+    }
+}
+
+/// Works a command as this job, and answers its replies: one, and for `status` one for each group. An archive that it asks for is taken
+/// from the room.
+///
+/// # Errors
+/// `RoomFailed` only where the room's count of faults rose, or `NoMemory`, each with what a command logs then.
+pub fn answer<R: Room, X: Wait>(
+    rt: &X,
+    alloc: Global,
+    vault: &Vault<R::A>,
+    passes: &mut Passes<R::A>,
+    seed: &[u8; 32],
+    session: u32,
+    job: u32,
+    command: &Command,
+    room: &mut R,
+) -> Result<Vec<Reply>, Unanswered>
+    requires ready { AreReady vault.now.rack vault.now.groups passes.old.groups }
+    requires index { IsIndexReady vault.now.rack vault.now.groups vault.now.index passes.old.index }
+    requires parts { HasMoreParts 1 passes.old.groups }
+    requires rack { IsRack vault.now.rack }
+    requires parity { vault.now.rack.parity ≡ 1 }
+    requires count { length vault.now.groups ≡ vault.now.rack.groups }
+    requires job { 0 < job }
+    requires worked { IsWorked vault.now.rack.groups command.now }
+    requires filled { HasFilled vault.now.rack (known passes.old.groups passes.old.index) }
+    requires used { AreUsed (R.out room.old) passes.old.groups }
+    ensures ready { AreReady vault.now.rack vault.now.groups passes.new.groups }
+    ensures index { IsIndexReady vault.now.rack vault.now.groups vault.now.index passes.new.index }
+    ensures worked { JobWorked job (known passes.old.groups passes.old.index) (known passes.new.groups passes.new.index) }
+    ensures says { JobAlone job (known passes.old.groups passes.old.index) (known passes.new.groups passes.new.index) → (s : Setting) → IsSessionSetting s vault.now.rack seed.now session (known passes.old.groups passes.old.index) → let w = section_of (known passes.old.groups passes.old.index) (known passes.new.groups passes.new.index) in MatchResult result (λ replies. AreReplies s job command.now replies.items w) (λ e. IsIdle s job command.now w) }
+    ensures used { AreUsed (R.out room.new) passes.new.groups }
+    ensures took { Took (IsTrue R.A.account.tells) (result ≢ Err Unanswered.RoomFailed) (asks command.now) (lending (R.out room.old) (R.means room.old)) (lending (R.out room.new) (R.means room.new)) (known passes.old.groups passes.old.index) (known passes.new.groups passes.new.index) }
+    ensures cause { Caused (R.faults room.old) (R.faults room.new) (IsErrOf result Unanswered.RoomFailed) }
+{
+    match command {
+        Command::Replace { from, to } => {
+            let Ok(mut replies) = Vec::with_capacity(alloc, 1) else {
+                return Err(Unanswered::NoMemory);
+            };
+            let reply = match replace_archive(rt, vault, passes, job, *from, *to, room) {
+                Ok(reply) => reply,
+                Err(unanswered) => return Err(unanswered),
+            };
+            replies.push_reserved(reply);
+            Ok(replies)
+        }
+        Command::Migrate { from, to } => {
+            let Ok(mut replies) = Vec::with_capacity(alloc, 1) else {
+                return Err(Unanswered::NoMemory);
+            };
+            let reply = match migrate_archive(rt, vault, passes, job, *from, *to, room) {
+                Ok(reply) => reply,
+                Err(unanswered) => return Err(unanswered),
+            };
+            replies.push_reserved(reply);
+            Ok(replies)
+        }
+        _ => match answer_plain(rt, alloc, vault, passes, seed, session, job, command) {
+            Ok(replies) => Ok(replies),
+            Err(NoMemory) => Err(Unanswered::NoMemory),
+        },
     }
 }

@@ -5,16 +5,22 @@
 //! 1. Each command is one job, numbered from 1, and works for that job alone (`JobWorked`).
 //! 2. Each reply is the one that the job's own entries give by the table of replies (specs/Rows.antt), if nobody else logged
 //!    anything meanwhile: who closes the vault learns that from the close.
-//! 3. The replies of a command are written after it, and in order. What is written is their text; where the sink failed or
+//! 3. An archive that a command asks for is taken from the room when the command is worked, and comes to a group or is given back at once
+//!    (`Took`). Who closes the vault gives back those that came.
+//! 4. The replies of a command are written after it, and in order. What is written is their text; where the sink failed or
 //!    memory ran out, specs/Ends.antt says how far it came.
 #![tactic(auto)]
 
 mod answering;
+mod arriving;
 mod listing;
+mod moving;
 mod output;
 mod working;
 
 pub use answering::answer;
+pub use arriving::{Unanswered, replace_archive};
 pub use listing::{count_groups, list_names};
+pub use moving::migrate_archive;
 pub use output::write_out;
 pub use working::{Ending, work};

@@ -9,7 +9,7 @@ use Rattle.pot_group.specs.Causes as group
 use Rattle.pot_image.specs.Images.{Contents}
 use Rattle.pot_image.specs.Rules.{FitsTogether}
 use Rattle.pot_image.specs.Tables as image
-use Rattle.pot_session.specs.Holding.{AreApart}
+use Rattle.pot_commands.specs.Holding.{AreApart}
 use Rattle.pot_session.proofs.OutLemmas.{apart_of}
 
 same_target : (m : Option Moving) → image.target_of m ≡ group.target_of m
@@ -20,7 +20,7 @@ same_columns : (cs : List Column) → flat_map image.numbers_of cs ≡ flat_map 
 same_columns [] = refl
 same_columns (c ∷ cs) = ap (λ l. (c.home ∷ l) ++ flat_map image.numbers_of cs) (same_target c.moving) ∙ ap (λ l. homes_of c ++ l) (same_columns cs)
 
-same_numbers : (ts : List Table) → flat_map image.table_numbers ts ≡ flat_map archives_in ts
+pub same_numbers : (ts : List Table) → flat_map image.table_numbers ts ≡ flat_map archives_in ts
 same_numbers [] = refl
 same_numbers (t ∷ ts) = ap (λ l. l ++ flat_map image.table_numbers ts) (same_columns t.columns) ∙ ap (λ l. archives_in t ++ l) (same_numbers ts)
 

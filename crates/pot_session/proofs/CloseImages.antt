@@ -28,7 +28,7 @@ use Rattle.pot_shared.specs.Ready.{GroupPass}
 use Rattle.pot_shared.specs.Catalogs.{IndexPass}
 use Rattle.pot_store.specs.Works.{Known, section_of}
 use Rattle.pot_session.specs.Groups.{AreFirstPasses, records_read}
-use Rattle.pot_session.specs.Holding.{AreMeant}
+use Rattle.pot_commands.specs.Holding.{AreMeant}
 use Rattle.pot_session.specs.Serving.{still, Shows, Rooms, IsInHand, IsInRoom, IsBack, LeavesGroup, LeaveGroups, LeavesRecords, LeavesLogs, Leaves, IsBegun, IsCloseStop, Closes, HoldsAfter, first_failure}
 
 -- RELAYS ARE NOT WRITTEN

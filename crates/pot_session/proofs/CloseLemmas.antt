@@ -1,4 +1,4 @@
--- How a vault ends: its groups are those that it was opened with, and brought no archive.
+-- How a vault ends: its groups are those that it was opened with, and have the archives that came since.
 use Rattle.std.proofs.Common.{◌≡◌, ◌<◌, ◌≤◌, ◌+◌, ◌++◌, inl, inr, ℕ, zero, suc, List, [], ◌∷◌, length, drop, map, refl, sym, ap, subst, ◌∙◌, arith, append-nil, length-append}
 use Rattle.std.specs.Prelude.{Some, slice_get}
 use Rattle.std.proofs.Math.Seq.{drop-append_seam}
@@ -30,7 +30,6 @@ use Rattle.pot_commands.specs.Ends.{AllSole}
 use Rattle.pot_session.specs.Groups.{IsFirstPass, AreServed, table_read, tables_read}
 use Rattle.pot_session.proofs.Lists.{at_place}
 use Rattle.pot_session.proofs.OpenLemmas.{entries_kept, read_of}
-use Rattle.pot_session.proofs.WorkLemmas.{brought_none}
 
 first_gained : {E : Type 0} (xs : List E) → ((i : ℕ) (e : E) → slice_get xs i ≡ Some e → ⊥) → xs ≡ []
 first_gained [] h = refl
@@ -152,25 +151,35 @@ module _ {M : Type 0} (see : M → GroupView) (rack : Rack) (names turn : List T
   first_pass : (n : ℕ) (m : M) → slice_get ms n ≡ Some m → IsFirstPass n (view_at old.groups n)
   first_pass n m q = s.opened.each n (let a = ap length first_names in let l = slice_get_within ms n m q in let k = members_long in omega (arith, a, l, k))
 
-  -- each group's log is what the passes saw at first, and what they gained
+  -- as many groups as passes
+  pub members_of : length ms ≡ length old.groups.names
+  members_of = members_long ∙ sym (ap length first_names)
+
+  below : (n : ℕ) (m : M) → slice_get ms n ≡ Some m → n < length names
+  below n m q = (let l = slice_get_within ms n m q in let k = members_long in omega (arith, l, k))
+
+  whole_seen : (n : ℕ) → n < length names → (view_at e.whole n).seen ≡ (view_at groups n).seen
+  whole_seen n l = (last n l).0.seen ∙ (ap (λ x. (view_at groups n).seen ++ x) (none_gained (view_at groups n) (view_at e.whole n) (last n l).0
+      (sole_in_parts (view_at old.groups n) (view_at groups n) (view_at e.whole n) (s.went.groups n) (last n l).0 (sole_whole n l)).1 (last n l).1) ∙ append-nil (view_at groups n).seen)
+
+  -- each group's log is what the passes saw at first, and what they gained, with the marks of archives
+  pub closed_kept : (n : ℕ) (m : M) → slice_get ms n ≡ Some m → kept_log (see m) ≡ (view_at old.groups n).seen ++ added (view_at old.groups n) (view_at groups n)
+  closed_kept n m q = (e.closed.each n m q).seen ∙ (whole_seen n (below n m q) ∙ (s.went.groups n).seen)
+
+  -- and without them
   pub closed_log : (n : ℕ) (m : M) → slice_get ms n ≡ Some m → (see m).log ≡ entries_of (view_at old.groups n).seen ++ gained old.groups groups n
   closed_log n m q =
-      sym (entries_kept (see m).shelves (see m).log) ∙ (ap entries_of ((e.closed.each n m q).seen ∙ (whole_seen ∙ (s.went.groups n).seen))
+      sym (entries_kept (see m).shelves (see m).log) ∙ (ap entries_of (closed_kept n m q)
       ∙ entries-append (view_at old.groups n).seen (added (view_at old.groups n) (view_at groups n)))
-    where
-      below : n < length names
-      below = (let l = slice_get_within ms n m q in let k = members_long in omega (arith, l, k))
 
-      whole_seen : (view_at e.whole n).seen ≡ (view_at groups n).seen
-      whole_seen = (last n below).0.seen ∙ (ap (λ l. (view_at groups n).seen ++ l) (none_gained (view_at groups n) (view_at e.whole n) (last n below).0
-          (sole_in_parts (view_at old.groups n) (view_at groups n) (view_at e.whole n) (s.went.groups n) (last n below).0 (sole_whole n below)).1 (last n below).1) ∙ append-nil (view_at groups n).seen)
+  -- the openings brought no archive, so those that came are what the passes gained
+  pub opened_none : (n : ℕ) (m : M) → slice_get ms n ≡ Some m → arrivals (entries_of (view_at old.groups n).seen) ≡ []
+  opened_none n m q = ap (λ (v : GroupPass). arrivals (entries_of v.seen)) (first_pass n m q).is ∙ (first_pass n m q).none
 
-  -- no group's log brought an archive
-  pub none_came : (n : ℕ) (m : M) → slice_get ms n ≡ Some m → arrivals (see m).log ≡ []
-  none_came n m q =
+  pub its_came : (n : ℕ) (m : M) → slice_get ms n ≡ Some m → arrivals (see m).log ≡ arrivals (gained old.groups groups n)
+  its_came n m q =
       ap arrivals (closed_log n m q) ∙ (arrivals-append (entries_of (view_at old.groups n).seen) (gained old.groups groups n)
-      ∙ (ap (λ l. l ++ arrivals (gained old.groups groups n)) (ap (λ (v : GroupPass). arrivals (entries_of v.seen)) (first_pass n m q).is ∙ (first_pass n m q).none)
-      ∙ brought_none old (known groups passes) s.brings sole_all n))
+      ∙ ap (λ l. l ++ arrivals (gained old.groups groups n)) (opened_none n m q))
 
   -- the log of the index is what its passes gained
   pub closed_story : ended.log ≡ added (view_at old.index 0) (view_at passes 0)

@@ -1,7 +1,9 @@
 -- What a vault that ended leaves: its records, its tables, and the archives of its groups.
-use Rattle.std.proofs.Common.{◌≡◌, ◌<◌, ◌≤◌, ◌^◌, ◌++◌, ℕ, zero, suc, List, [], ◌∷◌, length, map, refl, sym, ap, subst, ◌∙◌, arith, append-nil, get_or}
+use Rattle.std.proofs.Common.{◌≡◌, ◌<◌, ◌≤◌, ◌^◌, ◌+◌, ◌++◌, ⊎_elim, ℕ, zero, suc, List, [], ◌∷◌, length, map, refl, sym, ap, subst, ◌∙◌, arith, append-nil, get_or}
 use Rattle.std.specs.Prelude.{Some, None, All, Contains, slice_get, flat_map}
 use Rattle.std.proofs.lemmas.List.{length-map}
+use Rattle.std.proofs.lemmas.List.Elements.{Contains-append_cases}
+use Rattle.std.proofs.lemmas.Option.{slice_get_within}
 use Rattle.pot_bytes.specs.declared.rack.Rack.{Rack}
 use Rattle.pot_outside.specs.Archives.{Meaning}
 use Rattle.pot_outside.specs.declared.archive.Shelf.{Shelf}
@@ -22,12 +24,17 @@ use Rattle.pot_shared.specs.Members.{kept_log, origin_of, mark_at}
 use Rattle.pot_shared.specs.Ready.{GroupPass, GroupPasses, AreReady}
 use Rattle.pot_shared.specs.Catalogs.{IndexPasses, IsIndexReady}
 use Rattle.pot_shared.specs.Sharing.{Ends}
-use Rattle.pot_store.specs.Works.{Known, known}
-use Rattle.pot_session.specs.Groups.{AreServed, AreEnded, AreMarked, AreTakenAt, had_by, marks_of, tables_read, records_in, records_read}
+use Rattle.pot_store.specs.Works.{Known, known, gained}
+use Rattle.pot_commands.specs.Ends.{AllSole}
+use Rattle.pot_commands.specs.Holding.{times, AreApart}
+use Rattle.pot_commands.proofs.TakingLemmas.{times-append}
+use Rattle.pot_commands.specs.Taking.{AreMarkedBy, came_in, marks_of}
+use Rattle.pot_session.specs.Groups.{AreServed, AreEnded, AreLow, AreTakenAt, HasMarks, HaveCome, had_by, tables_read, records_in, records_read}
 use Rattle.pot_session.specs.Serving.{IsInHand, LeavesRecords, LeavesLogs, LeaveGroups, still}
 use Rattle.pot_session.proofs.Lists.{same_at, flat_contains}
 use Rattle.pot_session.proofs.GroupLemmas.{find_shelf}
-use Rattle.pot_session.proofs.CloseLemmas.{closed_firsts, closed_log, closed_story, none_came, sole_all}
+use Rattle.pot_session.proofs.CloseLemmas.{closed_firsts, closed_kept, closed_log, closed_story, its_came, members_of, opened_none, sole_all}
+use Rattle.pot_session.proofs.ComingLemmas.{came_marked, came_of, few_archives}
 use Rattle.pot_session.proofs.CloseImages.{got_map, leave_groups}
 use Rattle.pot_session.proofs.IndexCounts.{published_few}
 
@@ -43,21 +50,38 @@ few_entries s log is e = (let n = ap length e in let m = length-map s.log (λ x.
 
 -- THE GROUPS
 
-had_maps : {M : Type 0} (see : M → GroupView) (ms : List M) → ((n : ℕ) (m : M) → slice_get ms n ≡ Some m → arrivals (see m).log ≡ [])
-    → flat_map (λ m. had_by (see m)) ms ≡ flat_map archives_in (map (λ m. (see m).first) ms)
-had_maps see [] h = refl
-had_maps see (m ∷ ms) h =
-    ap (λ l. l ++ flat_map (λ x. had_by (see x)) ms) (ap (λ l. archives_in (see m).first ++ l) (h 0 m refl) ∙ append-nil (archives_in (see m).first))
-    ∙ ap (λ l. archives_in (see m).first ++ l) (had_maps see ms (λ n x q. h (suc n) x q))
+-- the archives of groups are those of the tables that they began with, and those that came
+had_parts : {M : Type 0} (see : M → GroupView) (ms : List M) (n : ℕ)
+    → times n (flat_map (λ m. had_by (see m)) ms) ≡ times n (flat_map archives_in (map (λ m. (see m).first) ms)) + times n (flat_map (λ m. arrivals (see m).log) ms)
+had_parts see [] n = refl
+had_parts see (m ∷ ms) n =
+    (let a = times-append n (had_by (see m)) (flat_map (λ x. had_by (see x)) ms) in
+    let b = times-append n (archives_in (see m).first) (arrivals (see m).log) in
+    let c = times-append n (archives_in (see m).first) (flat_map archives_in (map (λ x. (see x).first) ms)) in
+    let d = times-append n (arrivals (see m).log) (flat_map (λ x. arrivals (see x).log) ms) in
+    let e = had_parts see ms n in omega (arith, a, b, c, d, e))
 
 module _ {M : Type 0} (see : M → GroupView) (rack : Rack) (names turn : List TurnName) (groups : GroupPasses) (passes : IndexPasses) (ms : List M) (ended : IndexView)
     (ready : AreReady rack names groups) (index_ready : IsIndexReady rack names turn passes) (old : Known) (s : AreServed old (known groups passes)) (e : Ends (λ m. kept_log (see m)) (λ m. origin_of (see m)) rack names groups (view_at passes 0) ms ended) where
   firsts : map (λ m. (see m).first) ms ≡ tables_read groups
   firsts = closed_firsts see rack names groups (view_at passes 0) ms ended ready e
 
-  -- the archives of the groups are those of the tables that they began with
-  pub closed_had : flat_map (λ m. had_by (see m)) ms ≡ flat_map archives_in (tables_read groups)
-  closed_had = had_maps see ms (none_came see rack names turn groups passes ms ended ready index_ready old s e) ∙ ap (flat_map archives_in) firsts
+  -- the archives of the groups are those of the tables that they began with, and those that came
+  pub closed_had : (numbers : List ℕ) → HaveCome old (known groups passes) numbers → (n : ℕ) → times n (flat_map (λ m. had_by (see m)) ms) ≡ times n numbers
+  closed_had numbers have n =
+      (let a = had_parts see ms n in
+      let b : times n (flat_map archives_in (map (λ m. (see m).first) ms)) ≡ times n (flat_map archives_in (tables_read groups)) = ap (λ ts. times n (flat_map archives_in ts)) firsts in
+      let c = came_of (λ m. (see m).log) ms (gained old.groups groups) (its_came see rack names turn groups passes ms ended ready index_ready old s e) n in
+      let d : times n (came_in (length ms) (gained old.groups groups)) ≡ times n (came_in (length old.groups.names) (gained old.groups groups)) =
+      ap (λ k. times n (came_in k (gained old.groups groups))) (members_of see rack names turn groups passes ms ended ready index_ready old s e) in
+      let h = have (sole_all see rack names turn groups passes ms ended ready index_ready old s e) n in omega (arith, a, b, c, d, h))
+
+  -- so there are few
+  pub closed_few : (numbers : List ℕ) → HaveCome old (known groups passes) numbers → AreApart numbers → AreLow numbers → length (flat_map (λ m. had_by (see m)) ms) ≤ 512
+  closed_few numbers have apart low =
+      few_archives (flat_map (λ m. had_by (see m)) ms)
+      (λ n. (let a = closed_had numbers have n in let b = apart n in omega (arith, a, b)))
+      (λ n lt. closed_had numbers have n ∙ low n lt)
 
   pub closed_long : length ms ≡ length (tables_read groups)
   closed_long = sym (length-map ms (λ m. (see m).first)) ∙ ap length firsts
@@ -88,14 +112,24 @@ module _ {M : Type 0} (see : M → GroupView) (rack : Rack) (names turn : List T
 module _ {A M : Type 0} (told : Type 0) (meaning : A → Meaning) (parts : M → GroupParts A) (rack : Rack) (names turn : List TurnName) (groups : GroupPasses) (passes : IndexPasses) (ms : List M) (ended : IndexView)
     (ready : AreReady rack names groups) (index_ready : IsIndexReady rack names turn passes) (old : Known) (s : AreServed old (known groups passes))
     (e : Ends (λ m. kept_log (view_of meaning (parts m))) (λ m. origin_of (view_of meaning (parts m))) rack names groups (view_at passes 0) ms ended) (all : AreEnded told (λ m. view_of meaning (parts m)) ms)
-    (meant : ℕ → Meaning) (taken : told → AreTakenAt meant old.groups) (hand : List (Shelf A)) (is_hand : hand ≡ flat_map (λ m. (parts m).archives.shelves) ms) where
-  -- the marks of its archives are those that the first passes know
-  marked : (n : ℕ) (m : M) → slice_get ms n ≡ Some m → told → AreMarked meant (parts m).first (plain meaning (parts m).archives)
-  marked n m q t k has = same_at (mark_at (plain meaning (parts m).archives)) (λ x. marks_of (meant x)) (archives_in (parts m).first) k
-      (taken t n (origin_of (view_of meaning (parts m))) (sym (s.stays.groups.origin n) ∙ (sym (ap (λ (v : GroupPass). v.origin) (e.joined n).both) ∙ sym (e.closed.each n m q).named))) has
+    (meant : ℕ → Meaning) (taken : told → AreTakenAt meant old.groups)
+    (marks : told → AllSole old (known groups passes) → (g : ℕ) → g < length old.groups.names → AreMarkedBy meant (added (view_at old.groups g) (view_at groups g))) (hand : List (Shelf A)) (is_hand : hand ≡ flat_map (λ m. (parts m).archives.shelves) ms) where
+  -- the marks of its archives are those that the first passes know, and those with which they came
+  marked : (n : ℕ) (m : M) → slice_get ms n ≡ Some m → told → HasMarks meant (view_of meaning (parts m))
+  marked n m q t k has = ⊎_elim
+      (λ (h : Contains (archives_in (parts m).first) k).
+      same_at (mark_at (plain meaning (parts m).archives)) (λ x. marks_of (meant x)) (archives_in (parts m).first) k
+      (taken t n (origin_of (view_of meaning (parts m))) (sym (s.stays.groups.origin n) ∙ (sym (ap (λ (v : GroupPass). v.origin) (e.joined n).both) ∙ sym (e.closed.each n m q).named))) h)
+      (λ (h : Contains (arrivals (parts m).log) k).
+      came_marked meant (plain meaning (parts m).archives) (parts m).log (view_at old.groups n).seen (added (view_at old.groups n) (view_at groups n))
+      (closed_kept (λ x. view_of meaning (parts x)) rack names turn groups passes ms ended ready index_ready old s e n m q)
+      (opened_none (λ x. view_of meaning (parts x)) rack names turn groups passes ms ended ready index_ready old s e n m q)
+      (marks t (sole_all (λ x. view_of meaning (parts x)) rack names turn groups passes ms ended ready index_ready old s e) n
+      (let a = slice_get_within ms n m q in let b = members_of (λ x. view_of meaning (parts x)) rack names turn groups passes ms ended ready index_ready old s e in omega (arith, a, b))) k h)
+      (Contains-append_cases (archives_in (parts m).first) (arrivals (parts m).log) k has)
 
   -- its archives are in the hand
-  handed : (n : ℕ) (m : M) → slice_get ms n ≡ Some m → (k : ℕ) → Contains (archives_in (parts m).first) k → IsInHand meaning hand (plain meaning (parts m).archives) k
+  handed : (n : ℕ) (m : M) → slice_get ms n ≡ Some m → (k : ℕ) → Contains (had_by (view_of meaning (parts m))) k → IsInHand meaning hand (plain meaning (parts m).archives) k
   handed n m q k has = (
     found.0,
     subst (λ ss. Contains ss found.0) (sym is_hand) (flat_contains (λ x. (parts x).archives.shelves) ms n m found.0 q found.3),
@@ -108,8 +142,8 @@ module _ {A M : Type 0} (told : Type 0) (meaning : A → Meaning) (parts : M →
     },
   )
     where
-      numbers : numbers_of (parts m).archives.shelves ≡ archives_in (parts m).first
-      numbers = (all n m q).arrived ∙ (ap (λ l. archives_in (parts m).first ++ l) (none_came (λ x. view_of meaning (parts x)) rack names turn groups passes ms ended ready index_ready old s e n m q) ∙ append-nil (archives_in (parts m).first))
+      numbers : numbers_of (parts m).archives.shelves ≡ had_by (view_of meaning (parts m))
+      numbers = (all n m q).arrived
 
       found : (x : Shelf A) × (shelf_of (parts m).archives.shelves k ≡ Some x) × (x.number ≡ k) × Contains (parts m).archives.shelves x
       found = find_shelf (parts m).archives.shelves k (subst (λ ns. Contains ns k) (sym numbers) has)

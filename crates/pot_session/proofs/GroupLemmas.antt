@@ -21,11 +21,12 @@ use Rattle.pot_group.specs.Shelves.{numbers_of, shelf_of, given, plain}
 use Rattle.pot_group.proofs.CauseLemmas.{OfOpening, opening_entries}
 use Rattle.pot_replies.specs.Jobs.{job_of}
 use Rattle.pot_shared.specs.Members.{mark_at}
-use Rattle.pot_session.specs.Groups.{IsStarted, IsEnded, AreStarted, AreMarked, AreEnded, had_by, marks_of}
-use Rattle.pot_session.specs.Holding.{times, AreSame, AreMeant}
+use Rattle.pot_commands.specs.Taking.{marks_of}
+use Rattle.pot_session.specs.Groups.{IsStarted, IsEnded, AreStarted, AreMarked, AreEnded, had_by}
+use Rattle.pot_commands.specs.Holding.{times, AreSame, AreMeant}
 use Rattle.pot_session.proofs.Lists.{each_more, pair_more, same_flat, flat_snoc, flat_parts, grown, all_at}
 use Rattle.pot_session.proofs.MeantLemmas.{none_contained}
-use Rattle.pot_session.proofs.OutLemmas.{times-append}
+use Rattle.pot_commands.proofs.TakingLemmas.{times-append}
 
 -- A START
 

@@ -15,6 +15,8 @@ pub mod LossLemmas
 pub mod MeantLemmas
 pub mod OpenLemmas
 pub mod OutLemmas
+pub mod ComingLemmas
+pub mod LendLemmas
 pub mod PairLemmas
 pub mod PointLemmas
 pub mod RecoveringLemmas

@@ -1,6 +1,6 @@
 -- Lists that are taken apart from the front, and grow at the end.
 use Rattle.std.proofs.Common.{◌≡◌, ◌<◌, ◌+◌, ◌++◌, ℕ, zero, suc, List, [], ◌∷◌, length, take, drop, get_or, map, refl, sym, ap, subst, ◌∙◌, arith, append_assoc, append-nil, length-append, eqb, false}
-use Rattle.std.specs.Prelude.{Some, Contains, slice_get, flat_map, All}
+use Rattle.std.specs.Prelude.{Some, Contains, slice_get, slice_index_or, flat_map, All}
 use Rattle.std.proofs.lemmas.List.Elements.{All-head, All-tail, Contains-append_left, Contains-append_right}
 use Rattle.std.specs.List.{remove}
 use Rattle.std.proofs.lemmas.List.{take_more, drop_more, take-append-drop}
@@ -25,6 +25,12 @@ one_moved all i0 now left i x l en el ex = (
 
     at : x ≡ get_or all i x
     at = ex ∙ ap (λ ys. get_or ys 0 x) split
+
+-- what stands at a place of a list, whatever stands past its end
+pub at_same : {X : Type 0} (xs : List X) (n : ℕ) (d x : X) → slice_get xs n ≡ Some x → slice_index_or xs n d ≡ x
+at_same [] n d x e = absurd (cc)
+at_same (y ∷ ys) zero d x e = same_Some y x e
+at_same (y ∷ ys) (suc n) d x e = at_same ys n d x e
 
 -- a fact at each place of a list, and of one more element
 pub each_more : {M : Type 0} (P : M → Type 0) (ds : List M) (m : M) → ((n : ℕ) (x : M) → slice_get ds n ≡ Some x → P x) → P m → (n : ℕ) (x : M) → slice_get (ds ++ m ∷ []) n ≡ Some x → P x
@@ -118,3 +124,8 @@ pub same_at : {X Y : Type 0} (f h : X → Y) (xs : List X) (x : X) → map f xs 
 same_at f h [] x e (k, l, q) = absurd (omega (arith, l))
 same_at f h (y ∷ ys) x e (zero, l, q) = subst (λ z. f z ≡ h z) q (ap (λ zs. get_or zs 0 (f y)) e)
 same_at f h (y ∷ ys) x e (suc k, l, q) = same_at f h ys x (ap (λ zs. drop 1 zs) e) (k, omega (arith, l), q)
+
+pub all_contained : {A : Type 0} (P : A → Type 0) (xs : List A) (x : A) → All P xs → Contains xs x → P x
+all_contained P [] x a (k, l, e) = absurd (omega (arith, l))
+all_contained P (y ∷ ys) x a (zero, l, e) = subst P e (All-head P y ys a)
+all_contained P (y ∷ ys) x a (suc k, l, e) = all_contained P ys x (All-tail P y ys a) (k, omega (arith, l), e)

@@ -22,7 +22,8 @@ use Rattle.pot_shared.specs.Ready.{GroupPass, GroupPasses, IsTableOf}
 use Rattle.pot_shared.specs.Catalogs.{IndexPasses}
 use Rattle.pot_shared.specs.Sharing.{AreFirst, HaveLogs}
 use Rattle.pot_replies.specs.Sessions.{ByNobody}
-use Rattle.pot_session.specs.Groups.{AreStarted, AreOfRack, AreAllMarked, AreFirstPasses, AreTakenAt, IsFirstPass, had_by, marks_of, table_read, tables_read}
+use Rattle.pot_commands.specs.Taking.{marks_of}
+use Rattle.pot_session.specs.Groups.{AreStarted, AreOfRack, AreAllMarked, AreFirstPasses, AreTakenAt, IsFirstPass, had_by, table_read, tables_read}
 use Rattle.pot_session.proofs.Lists.{same_maps, same_flat, same_on, at_place, all_at_place}
 
 -- the entries of a group's log as passes see it are those of its log

@@ -6,11 +6,8 @@ use Rattle.std.proofs.lemmas.List.{take_more, take-append-drop, length-take-le, 
 use Rattle.std.proofs.lemmas.Bool.Decides.{eqb_tells}
 use Rattle.pot_outside.specs.declared.archive.Shelf.{Shelf}
 use Rattle.pot_group.specs.Shelves.{numbers_of}
-use Rattle.pot_session.specs.Holding.{times, AreApart, AreOut}
-
-pub times-append : (n : ℕ) (xs ys : List ℕ) → times n (xs ++ ys) ≡ times n xs + times n ys
-times-append n [] ys = omega arith
-times-append n (x ∷ xs) ys = (let e = times-append n xs ys in omega (arith, e))
+use Rattle.pot_commands.specs.Holding.{times, AreApart, AreOut}
+use Rattle.pot_commands.proofs.TakingLemmas.{times-append}
 
 -- without one shelf, its number stands once less
 pub times-removed : {A : Type 0} (n : ℕ) (ss : List (Shelf A)) (p : ℕ) (s : Shelf A) → p < length ss → s ≡ slice_index_or ss p s
@@ -49,6 +46,17 @@ none_out out h n = sym (ap bit (h n))
 
 pub all_home : (out : ℕ → Bool) → AreOut out [] → (n : ℕ) → out n ≡ false
 all_home out h n = one_or_none (out n) (times n []) refl (h n)
+
+-- archives that are out are distinct
+pub out_apart : (out : ℕ → Bool) (ns : List ℕ) → AreOut out ns → AreApart ns
+out_apart out ns h n = (let e = h n in let l = at_most (out n) in omega (arith, e, l))
+  where
+    at_most : (b : Bool) → bit b ≤ 1
+    at_most true = omega arith
+    at_most false = omega arith
+
+pub none_out_of : (out : ℕ → Bool) (ns : List ℕ) (n : ℕ) → AreOut out ns → out n ≡ false → times n ns ≡ 0
+none_out_of out ns n h e = h n ∙ ap bit e
 
 -- a number of which there is none yet is not out
 pub is_home : (out : ℕ → Bool) (ns : List ℕ) (n : ℕ) → AreOut out ns → times n ns ≡ 0 → out n ≡ false

@@ -1,8 +1,16 @@
 -- What passes know after commands, and how a session ends.
-use Rattle.std.proofs.Common.{◌≡◌, ◌<◌, ◌++◌, ℕ, zero, suc, Bool, true, false, cond, List, [], ◌∷◌, length, refl, sym, ap, subst, ◌∙◌, arith}
-use Rattle.std.specs.Prelude.{Option, Some, IfSome, Result, Ok, Err, IsErrOf, slice_index_or, flat_map}
+use Rattle.std.proofs.Common.{◌≡◌, ◌<◌, ◌++◌, ◌⊎◌, inl, inr, ℕ, zero, suc, Bool, true, false, cond, List, [], ◌∷◌, length, refl, sym, ap, subst, ◌∙◌, arith}
+use Rattle.std.specs.Prelude.{All, Contains, Option, Some, IfSome, Result, Ok, Err, IsErrOf, slice_index_or, flat_map}
 use Rattle.pot_bytes.specs.declared.rack.Rack.{Rack}
-use Rattle.pot_machine.specs.Table.{Table}
+use Rattle.pot_bytes.specs.declared.rack.Place.{Place}
+use Rattle.pot_index.specs.declared.record.Record.{Record}
+use Rattle.pot_index.specs.declared.record.Split.{Split}
+use Rattle.pot_index.specs.Records.{current_of, splits_of}
+use Rattle.pot_image.specs.Rules.{FitsTogether, IsFilled, IsRecordOver}
+use Rattle.std.proofs.lemmas.List.Elements.{All-contains, Contains-append_right}
+use Rattle.std.proofs.lemmas.Option.{slice_get_within}
+use Rattle.pot_machine.specs.Slot.{is_void}
+use Rattle.pot_machine.specs.Table.{Table, slot_at}
 use Rattle.pot_machine.specs.Making.{empty_table}
 use Rattle.pot_script.specs.declared.command.Command.{Command}
 use Rattle.pot_image.specs.Images.{Contents}
@@ -18,7 +26,7 @@ use Rattle.pot_shared.specs.Sharing.{HasAllButKept}
 use Rattle.pot_store.specs.Works.{Known, known, section_of}
 use Rattle.pot_commands.specs.declared.working.Ending.{Ending}
 use Rattle.pot_commands.specs.declared.working.Ending.TheVariants as ending
-use Rattle.pot_commands.specs.Rows.{IsSessionSetting}
+use Rattle.pot_commands.specs.Rows.{HasFilled, IsSessionSetting}
 use Rattle.pot_commands.specs.Ends.{Stays, Ends}
 use Rattle.pot_commands.proofs.Judging.{ends_over}
 use Rattle.pot_session.specs.declared.status.Status.{Status}
@@ -26,6 +34,7 @@ use Rattle.pot_session.specs.declared.status.Status.TheVariants as status
 use Rattle.pot_session.specs.declared.stop.Stop.{Stop}
 use Rattle.pot_session.specs.declared.stop.Stop.TheVariants as stop
 use Rattle.pot_session.specs.Groups.{AreFirstPasses, table_read, tables_read, records_in, records_read}
+use Rattle.pot_session.proofs.Lists.{at_same}
 use Rattle.pot_session.specs.Serving.{Rooms, Serves, Closed, Closes, IsCloseStop, IsEnd, setting_of, status_after}
 
 -- WHAT STAYS
@@ -64,10 +73,18 @@ reads_at (v ∷ vs) d each (suc g) o l e =
     ap (λ x. slice_index_or (table_read x ++ flat_map (λ (w : GroupPass). table_read w.origin) vs) (suc g) d) (each 0 (omega arith)).1
     ∙ reads_at vs d (λ n k. each (suc n) (omega (arith, k))) g o (omega (arith, l)) e
 
+-- each place of a record has a block in the table of its group
+filled_in : (first : Contents) → FitsTogether first → (r : Record) (p : Place) → Contains first.records r → Contains r.places p → IsFilled first.tables p
+filled_in first fits r p read has =
+    let over : IsRecordOver first.tables r = All-contains (IsRecordOver first.tables) first.records r fits.records.each read in
+    let current : All (IsFilled first.tables) r.places =
+    All-contains (λ (s : Split). All (IsFilled first.tables) s.places) (splits_of r) (current_of r) over.filled (Contains-append_right r.older (current_of r ∷ []) (current_of r) (0, omega arith, refl)) in
+    All-contains (IsFilled first.tables) r.places p current has
+
 -- what the first passes read is the setting of the session
-pub session_setting : (seed : List ℕ) (first : Contents) (groups : GroupPasses) (index : IndexPasses) → AreFirstPasses groups index → tables_read groups ≡ first.tables → records_read index ≡ first.records
+pub session_setting : (seed : List ℕ) (first : Contents) (groups : GroupPasses) (index : IndexPasses) → FitsTogether first → AreFirstPasses groups index → tables_read groups ≡ first.tables → records_read index ≡ first.records
     → IsSessionSetting (setting_of seed first) first.rack seed first.session (known groups index)
-session_setting seed first groups index f et er = record {
+session_setting seed first groups index fits f et er = record {
   setting = record {
     rack_is = refl;
     first = λ g l. if_some (view_at groups g).origin (λ o. slice_index_or first.tables g (empty_table first.rack g) ≡ o.first) (origin_of g l).0 (origin_of g l).1
@@ -77,7 +94,8 @@ session_setting seed first groups index f et er = record {
         (sym er ∙ ap records_in (ap (λ (v : IndexPass). v.origin) f.index_first));
   };
   drawn = λ geometry job file. refl;
-  no_mends = refl;
+  mends = refl;
+  filled = λ r p read has. (let x = filled_in first fits r p read has in ap (λ t. is_void (slot_at t p.stripe p.column)) (at_same first.tables p.group (empty_table first.rack p.group) x.table x.group) ∙ x.slot);
 }
   where
     if_some : {X : Type 0} (x : Option X) (P : X → Type 0) (o : X) → x ≡ Some o → P o → IfSome x P
@@ -86,21 +104,40 @@ session_setting seed first groups index f et er = record {
     origin_of : (n : ℕ) → n < length groups.names → (o : GroupOrigin) × ((view_at groups n).origin ≡ Some o)
     origin_of n l = (let p = f.each n l in (p.origin, ap (λ (v : GroupPass). v.origin) p.is))
 
+-- all settings that the first passes give are filled
+pub has_filled : (seed : List ℕ) (first : Contents) (groups : GroupPasses) (index : IndexPasses) → FitsTogether first → AreFirstPasses groups index → tables_read groups ≡ first.tables → records_read index ≡ first.records
+    → length groups.names ≡ first.rack.groups → HasFilled first.rack (known groups index)
+has_filled seed first groups index fits f et er count s is r p read has =
+    let mine = session_setting seed first groups index fits f et er in
+    let o = ap (λ (v : IndexPass). v.origin) f.index_first in
+    let records : s.read ≡ first.records = of_some (view_at index 0).origin (λ x. s.read ≡ x.read) f.index_origin o is.read ∙ sym (of_some (view_at index 0).origin (λ x. first.records ≡ x.read) f.index_origin o mine.setting.read) in
+    let x = filled_in first fits r p (subst (λ rs. Contains rs r) records read) has in
+    let within : p.group < length groups.names = (let a = slice_get_within first.tables p.group x.table x.group in let b = fits.tables.count in omega (arith, a, b, count)) in
+    let g = f.each p.group within in
+    let at = ap (λ (v : GroupPass). v.origin) g.is in
+    let same : s.first p.group ≡ (setting_of seed first).first p.group =
+    of_some (view_at groups p.group).origin (λ y. s.first p.group ≡ y.first) g.origin at (is.first p.group within)
+    ∙ sym (of_some (view_at groups p.group).origin (λ y. (setting_of seed first).first p.group ≡ y.first) g.origin at (mine.setting.first p.group within)) in
+    ap (λ t. is_void (slot_at t p.stripe p.column)) same ∙ mine.filled r p (subst (λ rs. Contains rs r) records read) has
+  where
+    of_some : {X : Type 0} (y : Option X) (P : X → Type 0) (o : X) → y ≡ Some o → IfSome y P → P o
+    of_some y P o e h = subst (λ z. IfSome z P) e h
+
 -- THE END
 
 -- a session that worked its commands and closed
 pub serves_closed : (seed : List ℕ) (first : Contents) (steps : List Command) (rooms : Rooms) (sink_told : Type 0) (before after : List ℕ) (desk_told : Type 0) (held holds : Option (List ℕ)) (rack : Rack) (session : ℕ) (old new : Known)
     (e : Ending) (closed : Result (Unit {0}) Stop) (answer : Status) → AreFirstPasses old.groups old.index → tables_read old.groups ≡ first.tables → records_read old.index ≡ first.records → rack ≡ first.rack → session ≡ first.session
     → Ends rack seed session sink_told before after steps old new e → Closes old new rooms (desk_told × (held ≡ Some (image_bytes first))) first holds closed → IsCloseStop closed → (desk_told → held ≡ Some (image_bytes first))
-    → answer ≡ status_after e closed → Serves seed first steps rooms sink_told before after desk_told holds answer
-serves_closed seed first steps rooms sink_told before after desk_told held holds rack session old new e closed answer opened tables records same number ends closes is kept status = Closed (record {
+    → answer ≡ status_after e closed → FitsTogether first → Serves seed first steps rooms sink_told before after desk_told holds answer
+serves_closed seed first steps rooms sink_told before after desk_told held holds rack session old new e closed answer opened tables records same number ends closes is kept status fits = Closed (record {
   last = closes.last;
   story = section_of old new;
   leaves = closes.leaves;
   ending = e;
   ends = ends_over rack seed session sink_told before after steps old new e ends closes.sole (setting_of seed first)
       (subst (λ r. IsSessionSetting (setting_of seed first) r seed session old) (sym same) (subst (λ n. IsSessionSetting (setting_of seed first) first.rack seed n old) (sym number)
-      (session_setting seed first old.groups old.index opened tables records)));
+      (session_setting seed first old.groups old.index fits opened tables records)));
   closed = closed;
   is_stop = is;
   desk = λ t. closes.desk (t, kept t);
@@ -113,6 +150,7 @@ end_by false = tt
 
 pub end_of : (e : Ending) (closed : Result (Unit {0}) Stop) → IsCloseStop closed → IsEnd (status_after e closed)
 end_of ending.SinkFailed closed is = tt
+end_of ending.RoomFailed closed is = tt
 end_of ending.NoMemory closed is = tt
 end_of (ending.Done refused) (Ok u) is = end_by refused
 end_of (ending.Done refused) (Err stop.RoomFault) is = tt
@@ -135,6 +173,7 @@ desk_by false e = cc
 
 pub sink_failed : (e : Ending) (closed : Result (Unit {0}) Stop) → IsCloseStop closed → status_after e closed ≡ status.SinkFault → e ≡ ending.SinkFailed
 sink_failed ending.SinkFailed closed is q = refl
+sink_failed ending.RoomFailed closed is q = absurd (cc)
 sink_failed ending.NoMemory closed is q = absurd (cc)
 sink_failed (ending.Done refused) (Ok u) is q = absurd (sink_by refused q)
 sink_failed (ending.Done refused) (Err stop.RoomFault) is q = absurd (cc)
@@ -142,17 +181,19 @@ sink_failed (ending.Done refused) (Err stop.DeskFault) is q = absurd (cc)
 sink_failed (ending.Done refused) (Err stop.NoMemory) is q = absurd (cc)
 sink_failed (ending.Done refused) (Err _) is q = absurd is
 
-pub room_failed : (e : Ending) (closed : Result (Unit {0}) Stop) → IsCloseStop closed → status_after e closed ≡ status.RoomFault → IsErrOf closed stop.RoomFault
+pub room_failed : (e : Ending) (closed : Result (Unit {0}) Stop) → IsCloseStop closed → status_after e closed ≡ status.RoomFault → (e ≡ ending.RoomFailed) ⊎ IsErrOf closed stop.RoomFault
 room_failed ending.SinkFailed closed is q = absurd (cc)
+room_failed ending.RoomFailed closed is q = inl refl
 room_failed ending.NoMemory closed is q = absurd (cc)
 room_failed (ending.Done refused) (Ok u) is q = absurd (room_by refused q)
-room_failed (ending.Done refused) (Err stop.RoomFault) is q = refl
+room_failed (ending.Done refused) (Err stop.RoomFault) is q = inr refl
 room_failed (ending.Done refused) (Err stop.DeskFault) is q = absurd (cc)
 room_failed (ending.Done refused) (Err stop.NoMemory) is q = absurd (cc)
 room_failed (ending.Done refused) (Err _) is q = absurd is
 
 pub desk_failed : (e : Ending) (closed : Result (Unit {0}) Stop) → IsCloseStop closed → status_after e closed ≡ status.DeskFault → IsErrOf closed stop.DeskFault
 desk_failed ending.SinkFailed closed is q = absurd (cc)
+desk_failed ending.RoomFailed closed is q = absurd (cc)
 desk_failed ending.NoMemory closed is q = absurd (cc)
 desk_failed (ending.Done refused) (Ok u) is q = absurd (desk_by refused q)
 desk_failed (ending.Done refused) (Err stop.RoomFault) is q = absurd (cc)

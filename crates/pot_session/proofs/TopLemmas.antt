@@ -1,5 +1,5 @@
 -- What a refusal and a session say of the failures of objects.
-use Rattle.std.proofs.Common.{◌≡◌, inl, inr, ℕ, List, [], refl, sym, ap, subst, ◌∙◌}
+use Rattle.std.proofs.Common.{◌≡◌, ◌++◌, inl, inr, ℕ, List, [], refl, sym, ap, subst, ◌∙◌}
 use Rattle.std.specs.Prelude.{Option, Result, Ok, Err, IfErr, flat_map}
 use Rattle.pot_script.specs.declared.command.Command.{Command}
 use Rattle.pot_group.specs.Beginning.{archives_in}
@@ -9,7 +9,8 @@ use Rattle.pot_session.specs.declared.status.Status.{Status}
 use Rattle.pot_session.specs.declared.status.Status.TheVariants as status
 use Rattle.pot_session.specs.declared.stop.Stop.{Stop}
 use Rattle.pot_session.specs.declared.stop.Stop.TheVariants as stop
-use Rattle.pot_session.specs.Holding.{times, Untouched}
+use Rattle.pot_commands.specs.Holding.{times, Untouched}
+use Rattle.pot_commands.specs.Taking.{asked_by}
 use Rattle.pot_options.specs.Options.{Text}
 use Rattle.pot_words.specs.Tasks.{SpellTask}
 use Rattle.pot_words.specs.declared.run.Run.{Run}
@@ -77,11 +78,11 @@ init_room seen before after (Err s) answer w r e = subst IsMakeStop (refused_roo
 -- a session that was prepared and served
 pub served : (seed : List ℕ) (seen : Seen) (answer : Status) (image : Image) (steps used : List Command) (now : Option (List ℕ)) → IsPrepared seen.source_told seen.input seen.desk_told seen.held now image steps
     → (seen.source_told → seen.rest ≡ []) → used ≡ steps → Serves seed (contents image) used (rooms_by seen.room_told seen.meant seen.means) seen.sink_told seen.before seen.after seen.desk_told seen.holds answer → IsEnd answer
-    → Untouched (flat_map archives_in image.tables.items) seen.meant seen.means → Holds seed seen answer
+    → Untouched (flat_map archives_in image.tables.items ++ asked_by used) seen.meant seen.means → Holds seed seen answer
 served seed seen answer image steps used now p read same serves is untouched =
     Served p.read steps p.of read (subst (λ v. Serves seed v steps (rooms_by seen.room_told seen.meant seen.means) seen.sink_told seen.before seen.after seen.desk_told seen.holds answer) p.is
     (subst (λ cs. Serves seed (contents image) cs (rooms_by seen.room_told seen.meant seen.means) seen.sink_told seen.before seen.after seen.desk_told seen.holds answer) same serves)) is
-    (λ n none. untouched n (ap (λ ts. times n (flat_map archives_in ts)) (ap (λ v. v.tables) p.is) ∙ none))
+    (λ n none. untouched n (ap (λ ts. times n (flat_map archives_in ts ++ asked_by used)) (ap (λ v. v.tables) p.is) ∙ (ap (λ cs. times n (flat_map archives_in p.read.tables.items ++ asked_by cs)) same ∙ none)))
 
 -- a session with the seed of its words
 pub with_seed : (words : List Text) (drawn seed : List ℕ) (run : Run) (seen : Seen) (answer : Status) → seed ≡ seed_of run drawn → SpellTask words (task.Run run) → Holds seed seen answer → Runs words drawn seen answer

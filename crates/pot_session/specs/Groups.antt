@@ -1,7 +1,6 @@
 -- The groups of a session, from their start to their end.
-use Rattle.std.specs.Prelude.{◌≡◌, ◌<◌, ◌++◌, ℕ, List, [], ◌∷◌, Option, Some, None, Contains, length, map, slice_get, flat_map}
+use Rattle.std.specs.Prelude.{◌≡◌, ◌<◌, ◌+◌, ◌++◌, ℕ, List, [], ◌∷◌, Option, Some, None, Contains, length, map, slice_get, flat_map}
 use Rattle.pot_outside.specs.Archives.{Meaning}
-use Rattle.pot_outside.specs.declared.archive.Marks.{Marks}
 use Rattle.pot_bytes.specs.declared.rack.Rack.{Rack}
 use Rattle.pot_machine.specs.Table.{Table}
 use Rattle.pot_index.specs.declared.record.Record.{Record}
@@ -18,8 +17,10 @@ use Rattle.pot_shared.specs.declared.catalog.CatalogOrigin.{CatalogOrigin}
 use Rattle.pot_shared.specs.Members.{entries_of, mark_at}
 use Rattle.pot_shared.specs.Ready.{GroupPass, GroupPasses, IsTableOf}
 use Rattle.pot_shared.specs.Catalogs.{IndexPasses}
-use Rattle.pot_store.specs.Works.{Known}
-use Rattle.pot_commands.specs.Ends.{AllStay, AllWent, BringNone}
+use Rattle.pot_store.specs.Works.{Known, gained}
+use Rattle.pot_commands.specs.Ends.{AllSole, AllStay, AllWent}
+use Rattle.pot_commands.specs.Holding.{times}
+use Rattle.pot_commands.specs.Taking.{came_in, marks_of}
 
 -- the archives that a group has: those of the table that it began with, and those that its log brought
 abbrev pub had_by : GroupView → List ℕ
@@ -47,15 +48,15 @@ pub record AreOfRack {M : Type 0} (see : M → GroupView) (rack : Rack) (members
   pub none : (n : ℕ) (m : M) → slice_get members n ≡ Some m → arrivals (see m).log ≡ []
   pub nobody : (n : ℕ) (m : M) → slice_get members n ≡ Some m → ByNobody (see m).log
 
--- the counts of what an archive means
-abbrev pub marks_of : Meaning → Marks
-marks_of m = record { faults = m.faults; losses = m.losses }
-
 -- the marks of the archives of a table are the counts of what the numbers meant
 abbrev pub AreMarked : (ℕ → Meaning) → Table → Shelves → Type 0
 AreMarked meant t s = (n : ℕ) → Contains (archives_in t) n → mark_at s n ≡ marks_of (meant n)
 
--- and so are those of each group
+-- and so are those of all archives that a group has had
+abbrev pub HasMarks : (ℕ → Meaning) → GroupView → Type 0
+HasMarks meant g = (n : ℕ) → Contains (had_by g) n → mark_at g.shelves n ≡ marks_of (meant n)
+
+-- the marks of the archives of the first table of each group are such
 abbrev pub AreAllMarked : {M : Type 0} → (ℕ → Meaning) → (M → GroupView) → List M → Type 0
 AreAllMarked {M} meant see members = (n : ℕ) (m : M) → slice_get members n ≡ Some m → AreMarked meant (see m).first (see m).shelves
 
@@ -100,12 +101,19 @@ pub record AreFirstPasses (groups : GroupPasses) (index : IndexPasses) : Type 0 
 
 -- THE COMMANDS
 
--- the passes of a vault from its start to the end of commands that brought no archive
+-- the passes of a vault from its start to the end of commands
 pub record AreServed (old new : Known) : Type 0 where
   pub opened : AreFirstPasses old.groups old.index
   pub went : AllWent old new
   pub stays : AllStay old new
-  pub brings : BringNone old new
+
+-- If nobody else logged anything, these are the archives of the tables that were read and those that came since, in some order.
+abbrev pub HaveCome : Known → Known → List ℕ → Type 0
+HaveCome old new numbers = AllSole old new → (n : ℕ) → times n numbers ≡ times n (flat_map archives_in (tables_read new.groups)) + times n (came_in (length old.groups.names) (gained old.groups new.groups))
+
+-- an archive's number is at most 511
+abbrev pub AreLow : List ℕ → Type 0
+AreLow numbers = (n : ℕ) → 511 < n → times n numbers ≡ 0
 
 -- THE END
 

@@ -2,7 +2,6 @@ pub mod Commands
 pub mod Desks
 pub mod Drills
 pub mod Groups
-pub mod Holding
 pub mod Listing
 pub mod Losses
 pub mod Making

@@ -1,10 +1,11 @@
 -- When a session answers `lost`, where no archive lost a block.
-use Rattle.std.specs.Prelude.{◌≡◌, ◌<◌, ◌++◌, ℕ, false, All, Contains, List, [], ◌∷◌, Some, Result, flat_map, slice_get}
+use Rattle.std.specs.Prelude.{◌≡◌, ◌⊎◌, ◌<◌, ◌++◌, ℕ, false, All, Contains, List, [], ◌∷◌, Some, Result, flat_map, slice_get}
+use Rattle.pot_bytes.specs.declared.digest.Digest.{Digest}
 use Rattle.pot_bytes.specs.declared.rack.Place.{Place}
 use Rattle.pot_outside.specs.Archives.{Meaning}
 use Rattle.pot_outside.specs.Counts.{Rose}
 use Rattle.pot_machine.specs.declared.entry.Entry.{Entry}
-use Rattle.pot_machine.specs.declared.entry.Entry.TheVariants.{Gone}
+use Rattle.pot_machine.specs.declared.entry.Entry.TheVariants.{Gone, Stuck, Oddly}
 use Rattle.pot_machine.specs.Slot.{is_live}
 use Rattle.pot_machine.specs.Table.{Table, slot_at}
 use Rattle.pot_group.specs.Beginning.{archives_in}
@@ -32,13 +33,18 @@ BroughtNone logs = All (EachIs brings_none) logs
 abbrev pub BeginWith : Section → List (List Entry) → Type 0
 BeginWith w logs = (g : ℕ) (log : List Entry) → slice_get logs g ≡ Some log → (rest : List Entry) × (log ≡ (w.before g ++ w.added g) ++ rest)
 
--- the job's last entry in the group of a place is a Gone of it, and the slot was not Live then
+-- a look at the place gave nothing, or no relay could mend it, or its relay came to a block of another digest
+abbrev pub IsInVain : ℕ → Place → Entry → Type 0
+IsInVain job p e =
+    (e ≡ Gone job p.stripe p.column) ⊎ (((o : ℕ) × (e ≡ Stuck job p.stripe p.column o)) ⊎ ((f : Digest) × (e ≡ Oddly job p.stripe p.column f)))
+
+-- the job's last entry in the group of a place is such a one, and the slot was not Live then
 abbrev pub WasNotLive : Setting → ℕ → Section → Place → Type 0
 WasNotLive s job w p =
-    (x : List Entry) × (y : List Entry) × (w.added p.group ≡ x ++ Gone job p.stripe p.column ∷ y) × (own job y ≡ [])
+    (x : List Entry) × (e : Entry) × (y : List Entry) × (w.added p.group ≡ x ++ e ∷ y) × (own job y ≡ []) × IsInVain job p e
     × (is_live (slot_at (replayed (s.first p.group) (w.before p.group ++ x)) p.stripe p.column) ≡ false)
 
--- Of a fragment fewer points were seen than are needed, and each other one lay in a slot that was not Live when the job last looked there.
+-- Of a fragment fewer points were seen than are needed, and each other one lay in a slot that was not Live when the job last came there.
 pub record FewAreLive (s : Setting) (job : ℕ) (kept : Record) (piece fragment : ℕ) (w : Section) : Type 0 where
   pub few : seen_of (mine job w).own kept piece fragment < kept.geometry.need
   pub others : (x : ℕ) → IsUnseen kept piece fragment (mine job w) x → WasNotLive s job w (place_at kept piece fragment x)

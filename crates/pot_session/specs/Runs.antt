@@ -1,6 +1,6 @@
 -- What a call of the program comes to, by the words, the bytes of the source, what the sink got, what the desk held and holds, and what the
 -- room meant and means.
-use Rattle.std.specs.Prelude.{◌≡◌, ℕ, List, [], Option, Some, Err, flat_map}
+use Rattle.std.specs.Prelude.{◌≡◌, ◌++◌, ℕ, List, [], Option, Some, Err, flat_map}
 use Rattle.pot_outside.specs.Archives.{Meaning}
 use Rattle.pot_bytes.specs.declared.rack.Rack.{Rack}
 use Rattle.pot_options.specs.Options.{Text}
@@ -21,7 +21,8 @@ use Rattle.pot_session.specs.declared.stop.Stop.TheVariants as stop
 use Rattle.pot_session.specs.Commands.{IsRead, RefusesScript}
 use Rattle.pot_session.specs.Desks.{GoesOn, HoldsImage, RefusesDesk, IsDeskStop, Keeps, IsKeepStop, begun}
 use Rattle.pot_session.specs.Drills.{Drills}
-use Rattle.pot_session.specs.Holding.{Untouched}
+use Rattle.pot_commands.specs.Holding.{Untouched}
+use Rattle.pot_commands.specs.Taking.{asked_by}
 use Rattle.pot_session.specs.Making.{Inits}
 use Rattle.pot_session.specs.Recovering.{Recovers}
 use Rattle.pot_session.specs.Serving.{Serves, IsEnd, rooms_by}
@@ -99,14 +100,14 @@ pub data Stops (source_told : Type 0) (input : List ℕ) (desk_told : Type 0) (h
 
 -- THE WHOLE
 
--- A session did not begin, and it is written why; or it began with the image that was read, and ended so. Archives that this image does
--- not name were not touched.
+-- A session did not begin, and it is written why; or it began with the image that was read, and ended so. Archives that neither this
+-- image names nor a command asks for were not touched.
 pub data Holds (seed : List ℕ) (seen : Seen) (answer : Status) : Type 0 where
   Stopped : (s : Stop) → Stops seen.source_told seen.input seen.desk_told seen.held seen.holds s
       → Refuses seen.sink_told seen.before seen.after s answer → SameRoom seen → Holds seed seen answer
   Served : (i : Image) (steps : List Command) → IsOf seen.source_told seen.input seen.desk_told seen.held i steps → (seen.source_told → seen.rest ≡ [])
       → Serves seed (begun (contents i)) steps (rooms_by seen.room_told seen.meant seen.means) seen.sink_told seen.before seen.after seen.desk_told seen.holds answer → IsEnd answer
-      → Untouched (flat_map archives_in i.tables.items) seen.meant seen.means → Holds seed seen answer
+      → Untouched (flat_map archives_in i.tables.items ++ asked_by steps) seen.meant seen.means → Holds seed seen answer
 
 -- The words spell no task that is worked; or memory ran out over them; or they spell `init`; and the source was not read. Or they spell
 -- `run` or `drill`, each with the seed that the words give, or else the drawn one. Or they spell `recover`, and neither the source nor the

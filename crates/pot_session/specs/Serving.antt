@@ -1,5 +1,5 @@
 -- What a session leaves: the replies of its commands, and the image of its close with the logs by which they have them.
-use Rattle.std.specs.Prelude.{◌≡◌, ◌⊎◌, ◌<◌, ◌≤◌, ◌^◌, ◌++◌, All, Contains, ℕ, false, List, [], Option, Some, Result, Ok, Err, if◌then◌else◌, length, map, slice_get, slice_index_or}
+use Rattle.std.specs.Prelude.{◌≡◌, ◌⊎◌, ◌<◌, ◌≤◌, ◌^◌, ◌++◌, All, Contains, ℕ, true, List, [], Option, Some, Result, Ok, Err, if◌then◌else◌, length, map, slice_get, slice_index_or}
 use Rattle.pot_outside.specs.Streams.{IsLeft}
 use Rattle.pot_outside.specs.Archives.{Meaning}
 use Rattle.pot_outside.specs.declared.archive.Shelf.{Shelf}
@@ -10,7 +10,6 @@ use Rattle.pot_machine.specs.declared.entry.Entry.{Entry}
 use Rattle.pot_machine.specs.Table.{Table}
 use Rattle.pot_machine.specs.Making.{empty_table}
 use Rattle.pot_steps.specs.Stripe.{digest_of}
-use Rattle.pot_group.specs.Beginning.{archives_in}
 use Rattle.pot_group.specs.Group.{GroupView, IsSettled}
 use Rattle.pot_group.specs.Shelves.{Shelves}
 use Rattle.pot_index.specs.declared.record.Record.{Record}
@@ -34,7 +33,7 @@ use Rattle.pot_session.specs.declared.status.Status.{Status}
 use Rattle.pot_session.specs.declared.status.Status.TheVariants as status
 use Rattle.pot_session.specs.declared.stop.Stop.{Stop}
 use Rattle.pot_session.specs.declared.stop.Stop.TheVariants as stop
-use Rattle.pot_session.specs.Groups.{AreMarked, records_read}
+use Rattle.pot_session.specs.Groups.{HasMarks, had_by, records_read}
 use Rattle.pot_session.specs.Stops.{status_of}
 
 -- room for the tables and the logs of so many groups, and for so many archives
@@ -66,15 +65,16 @@ IsInHand {A} meaning hand s n = (x : Shelf A) × Contains hand x × (x.number �
 
 -- A group that began with this table, and ended with this log and a table that is written so. It keeps what a group keeps: its log leads
 -- from the first table to the last, its stripes keep their law over the blocks that its archives hold, and the log names no more faults and losses
--- than these counted since they were taken. `Has` tells what each of them is.
+-- than these counted since they were taken. Its archives are those of the first table and those that its log brought: the marks of each are what
+-- its number meant, and `Has` tells what each of them is.
 pub record LeavesGroup (told : Type 0) (meant : ℕ → Meaning) (Has : Shelves → ℕ → Type 0) (read : Table) (log : List Entry) (written : Table) : Type 0 where
   pub view : GroupView
   pub first : view.first ≡ read
   pub is_log : view.log ≡ log
   pub is : written ≡ still view.table
   pub settled : IsSettled told view
-  pub marked : told → AreMarked meant read view.shelves
-  pub archives : (n : ℕ) → Contains (archives_in read) n → Has view.shelves n
+  pub marked : told → HasMarks meant view
+  pub archives : (n : ℕ) → Contains (had_by view) n → Has view.shelves n
 
 -- each group so
 pub record LeaveGroups (told : Type 0) (meant : ℕ → Meaning) (Has : Shelves → ℕ → Type 0) (read : List Table) (logs : List (List Entry)) (written : List Table) : Type 0 where
@@ -164,6 +164,7 @@ IsCloseStop (Err _) = ⊥
 -- the status of a session, by how its commands and its close ended: the first failure gives it
 abbrev pub status_after : Ending → Result (Unit {0}) Stop → Status
 status_after ending.SinkFailed closed = status.SinkFault
+status_after ending.RoomFailed closed = status.RoomFault
 status_after ending.NoMemory closed = status.NoMemory
 status_after (ending.Done refused) (Err s) = status_of s
 status_after (ending.Done refused) (Ok u) = if refused then status.Refusals else status.Good
@@ -171,14 +172,14 @@ status_after (ending.Done refused) (Ok u) = if refused then status.Refusals else
 -- THE WHOLE
 
 -- The setting of a session that begins with this image: the blocks of a job's file are made with the stream of the seed, the session
--- and the job, and a fetch mends nothing.
+-- and the job, and a fetch mends what it finds missing.
 abbrev pub setting_of : List ℕ → Contents → Setting
 setting_of seed first = record {
   rack = first.rack;
   first = λ g. slice_index_or first.tables g (empty_table first.rack g);
   read = first.records;
   digests = λ geometry job file. map digest_of (blocks_from geometry file (pads_of seed first.session job));
-  mends = false;
+  mends = true;
 }
 
 -- Commands were worked, and the session closed. The image of the close has the logs by which the commands have their replies.

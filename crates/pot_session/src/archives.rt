@@ -4,7 +4,7 @@ ghost use Rattle.std.specs.Prelude.{◌≡◌, ◌⊎◌, ◌<◌, ◌≤◌, �
 ghost use Rattle.pot_outside.specs.Counts.{Caused};
 ghost use Rattle.pot_group.specs.Beginning.{archives_in, homes_of};
 ghost use Rattle.pot_group.specs.Shelves.{numbers_of};
-ghost use Rattle.pot_session.specs.Holding.{AreApart, AreMeant, AreOut, Untouched};
+ghost use Rattle.pot_commands.specs.Holding.{AreApart, AreMeant, AreOut, Untouched};
 
 use pot_machine::{Column, GroupTable};
 use pot_outside::{Failed, Room, RoomFault, Shelf};

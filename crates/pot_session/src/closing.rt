@@ -1,19 +1,22 @@
 //! How a session closes.
 
-ghost use Rattle.std.specs.Prelude.{◌≡◌, ◌<◌, ◌≤◌, ◌^◌, ℕ, [], IsTrue, OnOk, IsErr, IsErrOf, false, length, vec_capacity, map, flat_map, Some};
+ghost use Rattle.std.specs.Prelude.{◌≡◌, ◌<◌, ◌≤◌, ◌^◌, ℕ, List, [], IsTrue, OnOk, IsErr, IsErrOf, false, length, vec_capacity, map, Some};
 ghost use Rattle.pot_outside.specs.Counts.{Caused};
 ghost use Rattle.pot_outside.specs.Archives.{Meaning};
 ghost use Rattle.pot_image.specs.Images.{Contents};
 ghost use Rattle.pot_image.specs.Spelling.{image_bytes};
-ghost use Rattle.pot_group.specs.Beginning.{archives_in};
 ghost use Rattle.pot_group.specs.Shelves.{numbers_of};
 ghost use Rattle.pot_rows.specs.Ends.{HasAllParts};
+ghost use Rattle.pot_rows.specs.Rows.{view_at};
 ghost use Rattle.pot_shared.specs.Ready.{AreReady};
+ghost use Rattle.pot_worked.specs.Worked.{added};
 ghost use Rattle.pot_shared.specs.Catalogs.{IsIndexReady};
 ghost use Rattle.pot_shared.specs.Sharing.{HasAllButKept};
 ghost use Rattle.pot_store.specs.Works.{Known, known};
-ghost use Rattle.pot_session.specs.Groups.{AreServed, AreTakenAt, tables_read, records_read};
-ghost use Rattle.pot_session.specs.Holding.{AreMeant, AreOut, Untouched};
+ghost use Rattle.pot_session.specs.Groups.{AreServed, AreTakenAt, AreLow, HaveCome, tables_read, records_read};
+ghost use Rattle.pot_commands.specs.Ends.{AllSole};
+ghost use Rattle.pot_commands.specs.Holding.{AreApart, AreMeant, AreOut, AreSame, Untouched};
+ghost use Rattle.pot_commands.specs.Taking.{AreMarkedBy};
 ghost use Rattle.pot_session.specs.Serving.{HasSpaces, AreShort, LeaveGroups, IsInHand, LeavesLogs, Closes, rooms_by, still, IsBegun, IsCloseStop, first_failure};
 
 use crate::archives::give_all;
@@ -33,7 +36,7 @@ pub struct Opened<A: Archive> {
     pub rack: Rack,
     pub vault: Vault<A>,
     pub passes: Passes<A>,
-    /// Room for what remains at the end.
+    /// Room for what remains at the end, and for all archives that a session can have.
     pub remains: Remains<A>,
 }
 
@@ -44,17 +47,17 @@ struct Ended<A: Archive> {
     log: Vec<IndexEntry>,
 }
 
-/// Ends a vault whose commands brought no archive: its groups' tables, logs and archives come to what remains.
+/// Ends a vault: its groups' tables, logs and archives come to what remains, those that came since its start too.
 fn end_vault<A: Archive>(vault: Vault<A>, passes: Passes<A>, remains: Remains<A>) -> Ended<A>
-    requires served { (old : Known) × AreServed old (known passes.groups passes.index) }
+    requires served { (old : Known) × (numbers : List ℕ) × AreServed old (known passes.groups passes.index) × HaveCome old (known passes.groups passes.index) numbers × AreApart numbers × AreLow numbers }
     requires ready { AreReady vault.rack vault.groups passes.groups }
     requires index { IsIndexReady vault.rack vault.groups vault.index passes.index }
     requires parts { HasAllButKept passes.groups × HasAllParts passes.index }
     requires places { (vault.members.items ≡ []) × (length vault.groups ≤ vec_capacity vault.members) × (vault.catalogs.items ≡ []) × (1 ≤ vec_capacity vault.catalogs) }
     requires fresh { (remains.tables.items ≡ []) × (remains.logs.items ≡ []) × (remains.hand.items ≡ []) }
-    requires spaces { HasSpaces (length (tables_read passes.groups)) (length (flat_map archives_in (tables_read passes.groups))) (vec_capacity remains.tables) (vec_capacity remains.logs) (vec_capacity remains.hand) }
-    ensures hand { numbers_of result.remains.hand.items ≡ flat_map archives_in (tables_read passes.groups) }
-    ensures groups { (old : Known) (meant : ℕ → Meaning) → AreServed old (known passes.groups passes.index) → (IsTrue A.account.tells → AreTakenAt meant old.groups) → LeaveGroups (IsTrue A.account.tells) meant (IsInHand A.account.meaning result.remains.hand.items) (tables_read passes.groups) (map (λ v. v.items) result.remains.logs.items) (map still result.remains.tables.items) }
+    requires spaces { HasSpaces (length (tables_read passes.groups)) 512 (vec_capacity remains.tables) (vec_capacity remains.logs) (vec_capacity remains.hand) }
+    ensures hand { (old : Known) (numbers : List ℕ) → AreServed old (known passes.groups passes.index) → HaveCome old (known passes.groups passes.index) numbers → AreSame (numbers_of result.remains.hand.items) numbers }
+    ensures groups { (old : Known) (meant : ℕ → Meaning) → AreServed old (known passes.groups passes.index) → (IsTrue A.account.tells → AreTakenAt meant old.groups) → (IsTrue A.account.tells → AllSole old (known passes.groups passes.index) → (g : ℕ) → g < length old.groups.names → AreMarkedBy meant (added (view_at old.groups g) (view_at passes.groups g))) → LeaveGroups (IsTrue A.account.tells) meant (IsInHand A.account.meaning result.remains.hand.items) (tables_read passes.groups) (map (λ v. v.items) result.remains.logs.items) (map still result.remains.tables.items) }
     ensures logs { (old : Known) → AreServed old (known passes.groups passes.index) → LeavesLogs old (known passes.groups passes.index) vault.rack (map (λ v. v.items) result.remains.logs.items) result.log.items result.records.items }
     ensures countable { (length result.records.items < 2 ^ 32) × AreShort (map (λ v. v.items) result.remains.logs.items) × (length result.log.items < 2 ^ 32) }
 {
@@ -81,18 +84,17 @@ pub fn close_session<R: Room, D: Desk>(
     room: &mut R,
     desk: &mut D,
 ) -> Result<(), Stop>
-    requires served { (old : Known) × AreServed old (known opened.passes.groups opened.passes.index) }
+    requires served { (old : Known) × (numbers : List ℕ) × AreServed old (known opened.passes.groups opened.passes.index) × HaveCome old (known opened.passes.groups opened.passes.index) numbers × AreOut (R.out room.old) numbers × AreLow numbers }
     requires ready { AreReady opened.vault.rack opened.vault.groups opened.passes.groups }
     requires index { IsIndexReady opened.vault.rack opened.vault.groups opened.vault.index opened.passes.index }
     requires parts { HasAllButKept opened.passes.groups × HasAllParts opened.passes.index }
     requires places { (opened.vault.members.items ≡ []) × (length opened.vault.groups ≤ vec_capacity opened.vault.members) × (opened.vault.catalogs.items ≡ []) × (1 ≤ vec_capacity opened.vault.catalogs) }
     requires fresh { (opened.remains.tables.items ≡ []) × (opened.remains.logs.items ≡ []) × (opened.remains.hand.items ≡ []) }
-    requires spaces { HasSpaces (length (tables_read opened.passes.groups)) (length (flat_map archives_in (tables_read opened.passes.groups))) (vec_capacity opened.remains.tables) (vec_capacity opened.remains.logs) (vec_capacity opened.remains.hand) }
+    requires spaces { HasSpaces (length (tables_read opened.passes.groups)) 512 (vec_capacity opened.remains.tables) (vec_capacity opened.remains.logs) (vec_capacity opened.remains.hand) }
     requires rack { opened.rack ≡ opened.vault.rack }
-    requires out { AreOut (R.out room.old) (flat_map archives_in (tables_read opened.passes.groups)) }
     ensures home { (n : ℕ) → R.out room.new n ≡ false }
-    ensures untouched { Untouched (flat_map archives_in (tables_read opened.passes.groups)) (R.means room.old) (R.means room.new) }
-    ensures closes { (old : Known) (first : Contents) (meant : ℕ → Meaning) → AreServed old (known opened.passes.groups opened.passes.index) → (IsTrue R.A.account.tells → AreTakenAt meant old.groups) → IsBegun first opened.session opened.rack (tables_read opened.passes.groups) (records_read opened.passes.index) → Closes old (known opened.passes.groups opened.passes.index) (rooms_by (IsTrue R.A.account.tells) meant (R.means room.new)) (IsTrue D.tells × (D.held desk.old ≡ Some (image_bytes first))) first (D.held desk.new) result }
+    ensures untouched { (n : ℕ) → R.out room.old n ≡ false → R.means room.new n ≡ R.means room.old n }
+    ensures closes { (old : Known) (first : Contents) (meant : ℕ → Meaning) → AreServed old (known opened.passes.groups opened.passes.index) → (IsTrue R.A.account.tells → AreTakenAt meant old.groups) → (IsTrue R.A.account.tells → AllSole old (known opened.passes.groups opened.passes.index) → (g : ℕ) → g < length old.groups.names → AreMarkedBy meant (added (view_at old.groups g) (view_at opened.passes.groups g))) → IsBegun first opened.session opened.rack (tables_read opened.passes.groups) (records_read opened.passes.index) → Closes old (known opened.passes.groups opened.passes.index) (rooms_by (IsTrue R.A.account.tells) meant (R.means room.new)) (IsTrue D.tells × (D.held desk.old ≡ Some (image_bytes first))) first (D.held desk.new) result }
     ensures which { IsCloseStop result }
     ensures room { Caused (R.faults room.old) (R.faults room.new) (IsErrOf result Stop.RoomFault) }
     ensures desk { Caused (D.faults desk.old) (D.faults desk.new) (IsErrOf result Stop.DeskFault) }

@@ -6,7 +6,7 @@ ghost use Rattle.pot_group.specs.Beginning.{archives_in};
 ghost use Rattle.pot_group.specs.Group.{view_of};
 ghost use Rattle.pot_group.specs.Shelves.{numbers_of};
 ghost use Rattle.pot_session.specs.Groups.{IsStarted, IsEnded, AreMarked, AreEnded, had_by};
-ghost use Rattle.pot_session.specs.Holding.{AreMeant, AreSame};
+ghost use Rattle.pot_commands.specs.Holding.{AreMeant, AreSame};
 
 use crate::archives::append_table;
 use pot_bytes::NoMemory;

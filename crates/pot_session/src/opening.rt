@@ -15,7 +15,7 @@ ghost use Rattle.pot_shared.specs.Ready.{AreReady};
 ghost use Rattle.pot_shared.specs.Catalogs.{IsIndexReady};
 ghost use Rattle.pot_shared.specs.Sharing.{HasAllButKept};
 ghost use Rattle.pot_session.specs.Groups.{AreStarted, AreOfRack, AreAllMarked, AreFirstPasses, AreTakenAt, had_by, tables_read, records_read};
-ghost use Rattle.pot_session.specs.Holding.{AreMeant, AreSame};
+ghost use Rattle.pot_commands.specs.Holding.{AreMeant, AreSame};
 
 use crate::groups::{Remains, end_groups, start_group};
 use pot_bytes::{NoMemory, Rack};

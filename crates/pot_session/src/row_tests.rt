@@ -21,17 +21,13 @@ const TWELVE: &str =
 const LONG: &str =
     "init --groups 3 --columns 3 --stripes 1024 --fragments 2 --need 2 --shards 3 --blur 16";
 
-/// A rack of 6 archives.
+/// A rack of 6 archives, with one data column in a group: each stripe is a block and its parity.
 const SIX: &str =
     "init --groups 3 --columns 1 --stripes 8 --fragments 2 --need 3 --shards 3 --blur 16";
 
 /// A rack of one stripe.
 const ONE: &str =
     "init --groups 3 --columns 1 --stripes 1 --fragments 2 --need 2 --shards 3 --blur 16";
-
-/// One data column, so that each stripe is a block and its parity.
-const NARROW: &str =
-    "init --groups 3 --columns 1 --stripes 8 --fragments 2 --need 3 --shards 3 --blur 16";
 
 /// A file is stored and fetched.
 const SCRIPT: &[u8] = b"store a 5\nhello\nfetch a\nquit\n";
@@ -236,8 +232,8 @@ struct Story<'a> {
     sessions: &'a [Session<'a>],
 }
 
-const STORIES: [Story; 5] = [
-    // A file, and what becomes of it where two of its blocks are lost; the rest of a session stays as it is.
+const STORIES: [Story; 8] = [
+    // A file of which two blocks get lost: its fetch mends the one that it needs.
     Story {
         words: TWELVE,
         losses: &[
@@ -254,23 +250,118 @@ const STORIES: [Story; 5] = [
             },
             Session {
                 script: &[(b"fetch a\nstore b 5\nworld\nstatus\nquit\n", 0)],
-                status: 1,
+                status: 0,
                 text: &[(
-                    b"lost a 0 1 1 2\nstored b 1 6\n\
-                    group 0 live 5 lost 1 broken 0 cursor 1 2\n\
+                    b"file a 5\nhello\nstored b 1 6\n\
+                    group 0 live 6 lost 0 broken 0 cursor 1 1\n\
                     group 1 live 5 lost 1 broken 0 cursor 1 2\n\
                     group 2 live 6 lost 0 broken 0 cursor 1 1\n",
                     0,
                 )],
-                image: (1821, 0x6c11_5b48_1c70_37db),
-                blocks: (16512, 0x104a_adaf_b032_a13b),
+                image: (1882, 0x34bd_5fe8_e836_0161),
+                blocks: (17544, 0xc94a_6f1d_f7c7_3060),
             },
             Session {
                 script: &[(b"fetch b\nlist\nquit\n", 0)],
                 status: 0,
                 text: &[(b"file b 5\nworld\nnames 2\nname a 5\nname b 5\n", 0)],
-                image: (1287, 0x30ce_4188_cbfb_fbe5),
-                blocks: (16512, 0x104a_adaf_b032_a13b),
+                image: (1287, 0x416d_9c76_534f_0bb9),
+                blocks: (17544, 0xc94a_6f1d_f7c7_3060),
+            },
+        ],
+    },
+    // Both blocks of a stripe are lost: no relay can mend the one that a fetch needs.
+    Story {
+        words: SIX,
+        losses: &[
+            (0, Loss { call: 2, slot: 0 }),
+            (1, Loss { call: 2, slot: 0 }),
+        ],
+        sessions: &[
+            Session {
+                script: &[(b"store a 5\nhello\nquit\n", 0)],
+                status: 0,
+                text: &[(b"stored a 1 6\n", 0)],
+                image: (1215, 0x0a1a_63fa_2a03_f244),
+                blocks: (12384, 0x9807_42f7_562f_6d3d),
+            },
+            Session {
+                script: &[(b"fetch a\nrepair 0\nscrub 0\nstatus\nquit\n", 0)],
+                status: 1,
+                text: &[(
+                    b"lost a 0 1 2 3\nrepaired 0 0 2\nscrubbed 0 2 0\n\
+                    group 0 live 2 lost 2 broken 0 cursor 2 0\n\
+                    group 1 live 4 lost 0 broken 0 cursor 2 0\n\
+                    group 2 live 4 lost 0 broken 0 cursor 2 0\n",
+                    0,
+                )],
+                image: (845, 0xe201_acf8_2899_af60),
+                blocks: (10320, 0x5c0f_c907_e619_8f19),
+            },
+        ],
+    },
+    // The first shards of four fragments are lost, in three groups: four relays bring them back.
+    Story {
+        words: SIX,
+        losses: &[
+            (0, Loss { call: 4, slot: 0 }),
+            (0, Loss { call: 4, slot: 3 }),
+            (2, Loss { call: 4, slot: 1 }),
+            (4, Loss { call: 4, slot: 2 }),
+        ],
+        sessions: &[
+            Session {
+                script: &[(b"store c 865\n", 865), (b"\nquit\n", 0)],
+                status: 0,
+                text: &[(b"stored c 2 12\n", 0)],
+                image: (2085, 0x12b2_a53d_ffc8_5f1d),
+                blocks: (24768, 0xa4ca_d842_596e_5753),
+            },
+            Session {
+                script: &[(b"fetch c\nstatus\nquit\n", 0)],
+                status: 0,
+                text: &[
+                    (b"file c 865\n", 865),
+                    (
+                        b"\n\
+                        group 0 live 8 lost 0 broken 0 cursor 4 0\n\
+                        group 1 live 8 lost 0 broken 0 cursor 4 0\n\
+                        group 2 live 8 lost 0 broken 0 cursor 4 0\n",
+                        0,
+                    ),
+                ],
+                image: (1482, 0x1689_6fc3_df2a_af83),
+                blocks: (24768, 0xa4ca_d842_596e_5753),
+            },
+        ],
+    },
+    // The block that a relay needs is lost on its way.
+    Story {
+        words: SIX,
+        losses: &[
+            (0, Loss { call: 2, slot: 0 }),
+            (1, Loss { call: 4, slot: 0 }),
+        ],
+        sessions: &[
+            Session {
+                script: &[(b"store a 5\nhello\nquit\n", 0)],
+                status: 0,
+                text: &[(b"stored a 1 6\n", 0)],
+                image: (1215, 0x0a1a_63fa_2a03_f244),
+                blocks: (12384, 0x9807_42f7_562f_6d3d),
+            },
+            Session {
+                script: &[(b"fetch a\nstatus\nquit\n", 0)],
+                status: 1,
+                text: &[(
+                    b"lost a 0 1 2 3\n\
+                    group 0 live 2 lost 2 broken 0 cursor 2 0\n\
+                    group 1 live 4 lost 0 broken 0 cursor 2 0\n\
+                    group 2 live 4 lost 0 broken 0 cursor 2 0\n",
+                    0,
+                )],
+                image: (814, 0xff18_afb3_8acd_a4f4),
+                blocks: (10320, 0x5c0f_c907_e619_8f19),
             },
         ],
     },
@@ -405,14 +496,25 @@ fn sessions_that_follow_one_another(rt: HostRuntime) -> Result<(), Fail> {
     Ok(())
 }
 
-/// An archive fails while a file is stored, and while a session opens: the block that it loses is mended.
+/// An archive fails while a file is stored, while a session opens, and in the relay of a fetch: the block that is lost is mended.
 #[test]
 fn repairs_and_scrubs_a_group(rt: HostRuntime) -> Result<(), Fail> {
     let alloc = rt.alloc();
-    let table: [(u32, u32, &[(&[u8], u8)], &[u8]); 2] = [
+    let table: [(u32, u32, &[(u32, Loss)], &[(&[u8], u8)], &[u8]); 3] = [
+        (
+            1,
+            2,
+            &[(0, Loss { call: 2, slot: 0 })],
+            &[(b"store a 5\nhello\nfetch a\nfetch a\nstatus\nquit\n", 1)],
+            b"ready\nstored a 1 6\nfault 0 1\nfile a 5\nhello\n\
+            group 0 live 4 lost 0 broken 0 cursor 2 0\n\
+            group 1 live 4 lost 0 broken 0 cursor 2 0\n\
+            group 2 live 4 lost 0 broken 0 cursor 2 0\n",
+        ),
         (
             1,
             1,
+            &[],
             &[(
                 b"store a 5\nhello\nstatus\nstore a 5\nhello\nrepair 0\nscrub 0\nfetch a\nquit\n",
                 1,
@@ -426,6 +528,7 @@ fn repairs_and_scrubs_a_group(rt: HostRuntime) -> Result<(), Fail> {
         (
             0,
             2,
+            &[],
             &[
                 (b"store a 5\nhello\nquit\n", 0),
                 (b"status\nrepair 0\nscrub 0\nfetch a\nquit\n", 0),
@@ -437,13 +540,13 @@ fn repairs_and_scrubs_a_group(rt: HostRuntime) -> Result<(), Fail> {
             repaired 0 1 0\nscrubbed 0 4 0\nfile a 5\nhello\n",
         ),
     ];
-    for (archive, call, sessions, text) in &table {
+    for (archive, call, losses, sessions, text) in &table {
         let trouble = Trouble {
             object: Object::Archive(*archive),
             call: *call,
         };
-        let mut outside = Outside::new(alloc, None, &[], trouble)?;
-        assert_eq!(rt; outside.call(&rt, alloc, NARROW, b"", NO_TROUBLE)?, 0);
+        let mut outside = Outside::new(alloc, None, losses, trouble)?;
+        assert_eq!(rt; outside.call(&rt, alloc, SIX, b"", NO_TROUBLE)?, 0);
         for (script, status) in *sessions {
             assert_eq!(rt;
                 outside.call(&rt, alloc, "run", script, NO_TROUBLE)?,
@@ -455,9 +558,195 @@ fn repairs_and_scrubs_a_group(rt: HostRuntime) -> Result<(), Fail> {
     Ok(())
 }
 
+/// Sessions over a rack of 6 archives, each with its status, and all that they write.
+type Sessions<'a> = (&'a [(&'a [u8], u8)], &'a [u8]);
+
+/// Archives that come to groups: where a home is replaced its blocks are rebuilt, and a column that moves has them still. They are
+/// in the room again behind each session.
+const ARRIVALS: [Sessions; 3] = [
+    (
+        &[
+            (
+                b"store a 5\nhello\nstore b 5\nworld\nreplace 0 6\nfetch a\nstatus\n\
+                repair 0\nscrub 0\nquit\n",
+                0,
+            ),
+            (b"fetch b\nscrub 0\nquit\n", 0),
+        ],
+        b"ready\nstored a 1 6\nstored b 1 6\nreplaced 0 6 4\nfile a 5\nhello\n\
+        group 0 live 6 lost 2 broken 0 cursor 4 0\n\
+        group 1 live 8 lost 0 broken 0 cursor 4 0\n\
+        group 2 live 8 lost 0 broken 0 cursor 4 0\n\
+        repaired 0 2 0\nscrubbed 0 8 0\nfile b 5\nworld\nscrubbed 0 8 0\n",
+    ),
+    (
+        &[
+            (
+                b"store a 5\nhello\nreplace 0 6\nreplace 1 7\nfetch a\nquit\n",
+                1,
+            ),
+            (b"replace 0 8\nreplace 6 7\nquit\n", 1),
+        ],
+        b"ready\nstored a 1 6\nreplaced 0 6 2\nreplaced 1 7 2\nlost a 0 1 2 3\n\
+        noarchive 0\ninuse 7\n",
+    ),
+    (
+        &[
+            (
+                b"store a 5\nhello\nmigrate 2 6\nmigrate 2 7\nmigrate 4 6\nreplace 4 2\nquit\n",
+                1,
+            ),
+            (b"scrub 1\nfetch a\nquit\n", 0),
+        ],
+        b"ready\nstored a 1 6\nmigrated 2 6 2\nnoarchive 2\ninuse 6\ninuse 2\n\
+        scrubbed 1 4 0\nfile a 5\nhello\n",
+    ),
+];
+
+/// Makes a new archive, and holds these sessions over it, while a call fails.
+fn hold_all<X: Wait + Abort>(
+    rt: &X,
+    alloc: Global,
+    sessions: &Sessions,
+    trouble: Trouble,
+) -> Result<(), Fail> {
+    let (scripts, text) = *sessions;
+    let mut outside = Outside::new(alloc, None, &[], trouble)?;
+    assert_eq!(rt; outside.call(rt, alloc, SIX, b"", NO_TROUBLE)?, 0);
+    for (script, status) in scripts {
+        assert_eq!(rt;
+            outside.call(rt, alloc, "run", script, NO_TROUBLE)?,
+            *status
+        );
+    }
+    assert_eq!(rt; outside.sink.written(), text);
+    Ok(())
+}
+
+#[test]
+fn archives_that_come(rt: HostRuntime) -> Result<(), Fail> {
+    for sessions in &ARRIVALS {
+        hold_all(&rt, rt.alloc(), sessions, NO_TROUBLE)?;
+    }
+    Ok(())
+}
+
+/// The room does not give the archive: the commands end, and the next session has what stood before. And the archive fails to which a
+/// column moves: the move stays where it is, and the next session ends it.
+#[test]
+fn archives_that_do_not_come(rt: HostRuntime) -> Result<(), Fail> {
+    let table: [(Object, u32, Sessions); 2] = [
+        (
+            Object::Room,
+            6,
+            (
+                &[
+                    (b"store a 5\nhello\nreplace 0 6\nfetch a\nquit\n", 8),
+                    (b"fetch a\nreplace 0 6\nquit\n", 0),
+                ],
+                b"ready\nstored a 1 6\nfile a 5\nhello\nreplaced 0 6 2\n",
+            ),
+        ),
+        (
+            Object::Archive(6),
+            0,
+            (
+                &[
+                    (b"store a 5\nhello\nmigrate 2 6\nquit\n", 1),
+                    (b"migrate 2 6\nscrub 1\nfetch a\nquit\n", 0),
+                ],
+                b"ready\nstored a 1 6\nfault 1 0\nmigrated 2 6 2\nscrubbed 1 4 0\nfile a 5\nhello\n",
+            ),
+        ),
+    ];
+    for (object, call, sessions) in &table {
+        let trouble = Trouble {
+            object: *object,
+            call: *call,
+        };
+        hold_all(&rt, rt.alloc(), sessions, trouble)?;
+    }
+    Ok(())
+}
+
 #[test]
 fn the_longest_file(rt: HostRuntime) -> Result<(), Fail> {
     tell(&rt, rt.alloc(), &LONGEST)
+}
+
+/// What a fetch answers that comes after these losses: F is the file, and else the number of the fragment that is lost.
+fn answer_after<X: Wait + Abort>(
+    rt: &X,
+    alloc: Global,
+    words: &str,
+    losses: &[(u32, Loss)],
+) -> Result<u8, Fail> {
+    let mut outside = Outside::new(alloc, None, losses, NO_TROUBLE)?;
+    assert_eq!(rt; outside.call(rt, alloc, words, b"", NO_TROUBLE)?, 0);
+    let stored = outside.call(rt, alloc, "run", b"store a 5\nhello\nquit\n", NO_TROUBLE)?;
+    assert_eq!(rt; stored, 0);
+    let before = outside.sink.written().len();
+    let _status = outside.call(rt, alloc, "run", b"fetch a\nquit\n", NO_TROUBLE)?;
+    let text = outside.sink.written().get(before..).unwrap_or(&[]);
+    if text == b"file a 5\nhello\n".as_slice() {
+        return Ok(b'F');
+    }
+    assert!(rt; text.starts_with(b"lost a 0 "));
+    Ok(text.get(9).copied().unwrap_or(0))
+}
+
+/// The answers where each set of the six archives is emptied before the fetch. The archive of number a is in the sets whose number
+/// has its bit a.
+const SIX_EMPTIED: &[u8; 64] = b"FFF1FFF1FFF11111FFF1FFF1FFF11111FFF1FFF1FFF111111111111111111111";
+
+/// The losses that empty each of the twelve archives behind the store of a file: at which call, as far as it has a block.
+const TWELVE_EMPTIED: [Option<u32>; 12] = [
+    Some(1),
+    Some(1),
+    None,
+    Some(3),
+    Some(1),
+    Some(1),
+    None,
+    Some(3),
+    Some(1),
+    Some(1),
+    None,
+    Some(3),
+];
+
+#[test]
+fn fetches_from_any_set_of_archives(rt: HostRuntime) -> Result<(), Fail> {
+    let alloc = rt.alloc();
+    for (set, wanted) in SIX_EMPTIED.iter().enumerate() {
+        let mut losses = Vec::new(alloc);
+        for archive in 0..6u32 {
+            if set >> archive & 1 == 1 {
+                losses.push((archive, Loss { call: 2, slot: 0 }))?;
+                losses.push((archive, Loss { call: 2, slot: 1 }))?;
+            }
+        }
+        assert_eq!(rt; answer_after(&rt, alloc, SIX, &losses)?, *wanted);
+    }
+    Ok(())
+}
+
+/// Where at most two of the twelve archives are gone the file comes back, whichever they are.
+#[test]
+fn fetches_with_two_archives_gone(rt: HostRuntime) -> Result<(), Fail> {
+    let alloc = rt.alloc();
+    for first in 0..12u32 {
+        for second in first..12 {
+            let mut losses = Vec::new(alloc);
+            for archive in [first, second] {
+                if let Some(call) = TWELVE_EMPTIED[archive as usize] {
+                    losses.push((archive, Loss { call, slot: 0 }))?;
+                }
+            }
+            assert_eq!(rt; answer_after(&rt, alloc, TWELVE, &losses)?, b'F');
+        }
+    }
+    Ok(())
 }
 
 /// The image of a new archive.

@@ -71,6 +71,8 @@ fn is_worked(command: &Command) -> bool
             | Command::Status
             | Command::Scrub { .. }
             | Command::Repair { .. }
+            | Command::Replace { .. }
+            | Command::Migrate { .. }
             | Command::Quit
     )
 }

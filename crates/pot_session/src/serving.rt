@@ -1,6 +1,6 @@
 //! A session from the taking of its archives to its close.
 
-ghost use Rattle.std.specs.Prelude.{◌≡◌, ◌⊎◌, ◌<◌, ◌≤◌, ◌+◌, ◌^◌, ℕ, [], IsTrue, IfOk, OnOk, OnErr, IsErr, IsErrOf, false, Some, length, vec_capacity, flat_map};
+ghost use Rattle.std.specs.Prelude.{◌≡◌, ◌⊎◌, ◌<◌, ◌≤◌, ◌+◌, ◌++◌, ◌^◌, ℕ, [], IsTrue, IfOk, OnOk, OnErr, IsErr, IsErrOf, false, Some, length, vec_capacity, flat_map};
 ghost use Rattle.std.specs.List.{AllByRecursion};
 ghost use Rattle.pot_outside.specs.Counts.{Caused};
 ghost use Rattle.pot_image.specs.Images.{contents};
@@ -13,8 +13,9 @@ ghost use Rattle.pot_shared.specs.Ready.{AreReady};
 ghost use Rattle.pot_shared.specs.Catalogs.{IsIndexReady};
 ghost use Rattle.pot_shared.specs.Sharing.{HasAllButKept};
 ghost use Rattle.pot_session.specs.Commands.{IsStep};
-ghost use Rattle.pot_session.specs.Groups.{AreFirstPasses, AreTakenAt, tables_read, records_read};
-ghost use Rattle.pot_session.specs.Holding.{AreApart, AreMeant, AreOut, Untouched};
+ghost use Rattle.pot_session.specs.Groups.{AreFirstPasses, AreLow, AreTakenAt, tables_read, records_read};
+ghost use Rattle.pot_commands.specs.Taking.{asked_by};
+ghost use Rattle.pot_commands.specs.Holding.{AreApart, AreMeant, AreOut, Untouched};
 ghost use Rattle.pot_session.specs.Serving.{HasSpaces, Serves, IsEnd, rooms_by, status_after};
 
 use crate::archives::{give_all, numbers_in, take_all};
@@ -32,6 +33,9 @@ use pot_script::Command;
 use std::alloc::Global;
 use std::sync::Wait;
 
+/// The most archives that a session can have, those that come in it among them: their numbers are at most 511.
+const MOST_ARCHIVES: usize = 512;
+
 /// Takes all archives of the tables from the room.
 ///
 /// # Errors
@@ -43,10 +47,12 @@ fn take_archives<R: Room>(
 ) -> Result<Remains<R::A>, RoomFault>
     requires home { (n : ℕ) → R.out room.old n ≡ false }
     requires apart { AreApart (flat_map archives_in tables.now) }
+    requires low { AreLow (flat_map archives_in tables.now) }
     ensures taken { IfOk result (λ r. numbers_of r.hand.items ≡ flat_map archives_in tables.now) }
     ensures meant { IsTrue R.A.account.tells → IfOk result (λ r. AreMeant R.A.account.meaning (R.means room.old) r.hand.items) }
     ensures fresh { IfOk result (λ r. (r.tables.items ≡ []) × (r.logs.items ≡ [])) }
-    ensures spaces { IfOk result (λ r. HasSpaces (length tables.now) (length r.hand.items) (vec_capacity r.tables) (vec_capacity r.logs) (vec_capacity r.hand)) }
+    ensures spaces { IfOk result (λ r. HasSpaces (length tables.now) 512 (vec_capacity r.tables) (vec_capacity r.logs) (vec_capacity r.hand)) }
+    ensures few { IfOk result (λ r. length r.hand.items ≤ 512) }
     ensures out { OnOk result (AreOut (R.out room.new) (flat_map archives_in tables.now)) }
     ensures home { OnErr result ((n : ℕ) → R.out room.new n ≡ false) }
     ensures untouched { Untouched (flat_map archives_in tables.now) (R.means room.old) (R.means room.new) }
@@ -55,7 +61,7 @@ fn take_archives<R: Room>(
     let Ok(numbers) = numbers_in(alloc, tables) else {
         return Err(RoomFault::NoMemory);
     };
-    let Ok(mut remains) = Remains::reserve(alloc, tables.len(), numbers.len()) else {
+    let Ok(mut remains) = Remains::reserve(alloc, tables.len(), MOST_ARCHIVES) else {
         return Err(RoomFault::NoMemory);
     };
     match take_all(room, &numbers, &mut remains.hand) {
@@ -101,7 +107,7 @@ fn open_session<R: Room>(
     ensures parts { IfOk result (λ o. HasAllButKept o.passes.groups × HasAllParts o.passes.index) }
     ensures places { IfOk result (λ o. (o.vault.members.items ≡ []) × (length o.vault.groups ≤ vec_capacity o.vault.members) × (o.vault.catalogs.items ≡ []) × (1 ≤ vec_capacity o.vault.catalogs)) }
     ensures fresh { IfOk result (λ o. (o.remains.tables.items ≡ []) × (o.remains.logs.items ≡ []) × (o.remains.hand.items ≡ [])) }
-    ensures spaces { IfOk result (λ o. HasSpaces (length image.tables.items) (length (flat_map archives_in image.tables.items)) (vec_capacity o.remains.tables) (vec_capacity o.remains.logs) (vec_capacity o.remains.hand)) }
+    ensures spaces { IfOk result (λ o. HasSpaces (length image.tables.items) 512 (vec_capacity o.remains.tables) (vec_capacity o.remains.logs) (vec_capacity o.remains.hand)) }
     ensures out { OnOk result (AreOut (R.out room.new) (flat_map archives_in image.tables.items)) }
     ensures home { OnErr result ((n : ℕ) → R.out room.new n ≡ false) }
     ensures untouched { Untouched (flat_map archives_in image.tables.items) (R.means room.old) (R.means room.new) }
@@ -152,7 +158,7 @@ pub fn serve<K: Sink, R: Room, D: Desk, X: Wait>(
     requires home { (n : ℕ) → R.out room.old n ≡ false }
     requires kept { IsTrue D.tells → D.held desk.old ≡ Some (image_bytes (contents image)) }
     ensures home { (n : ℕ) → R.out room.new n ≡ false }
-    ensures untouched { Untouched (flat_map archives_in image.tables.items) (R.means room.old) (R.means room.new) }
+    ensures untouched { Untouched (flat_map archives_in image.tables.items ++ asked_by commands.now) (R.means room.old) (R.means room.new) }
     ensures serves { Serves seed.now (contents image) commands.now (rooms_by (IsTrue R.A.account.tells) (R.means room.old) (R.means room.new)) (IsTrue K.tells) (K.written sink.old) (K.written sink.new) (IsTrue D.tells) (D.held desk.new) result }
     ensures which { IsEnd result }
     ensures sink { Caused (K.faults sink.old) (K.faults sink.new) (result ≡ Status.SinkFault) }
@@ -173,6 +179,7 @@ pub fn serve<K: Sink, R: Room, D: Desk, X: Wait>(
         opened.session,
         commands,
         sink,
+        room,
     );
     let closed = close_session(alloc, opened, room, desk);
     status_after(ending, closed)
@@ -184,6 +191,7 @@ fn status_after(ending: Ending, closed: Result<(), Stop>) -> Status
 {
     match ending {
         Ending::SinkFailed => Status::SinkFault,
+        Ending::RoomFailed => Status::RoomFault,
         Ending::NoMemory => Status::NoMemory,
         Ending::Done { refused } => match closed {
             Err(stop) => stop.status(),

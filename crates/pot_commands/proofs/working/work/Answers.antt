@@ -1,68 +1,95 @@
-use Rattle.std.proofs.Common.{arith}
-use Rattle.pot_commands.proofs.Brought.{bring_none}
-use Rattle.pot_commands.proofs.WorkingLemmas.{begins_working, new_went, working_more, working_cut, working_short, none_cut, none_short, work_stays}
+use Rattle.std.proofs.Common.{◌≡◌, length, take, ap, ◌∙◌, refl, arith}
+use Rattle.std.proofs.Math.Seq.{take-length}
+use Rattle.pot_commands.specs.Taking.{lending}
+use Rattle.pot_commands.proofs.WorkingLemmas.{begins_working, all_took, ends_took, new_went, working_more, working_cut, working_failed, working_short, work_stays}
 use Rattle.pot_commands.proofs.working.work.Goals as goal
 
 pub loop-index-init : goal.loop-index-init
 loop-index-init g c = record {
-  working = begins_working _ _ _ _ _ _ c.args.vault.now.groups c.args.vault.now.index _ _ c.requires.ready c.requires.index;
+  working = begins_working _ _ _ _ _ _ _ _ c.args.vault.now.groups c.args.vault.now.index _ _ c.requires.ready c.requires.index c.requires.filled;
   ready = c.requires.ready;
   index = c.requires.index;
+  used = c.requires.used;
+  room_later = omega arith;
   later = omega arith;
 }
 
 pub returns-in-Err-SinkFailed-clause-went : goal.returns-in-Err-SinkFailed-clause-went
 returns-in-Err-SinkFailed-clause-went g c =
     let i = c.loop-index.invariant in
-    new_went _ _ _ _ _ _ _ _ _ _ _ _ i.working c.index-commands-index.result c.loop-index-test.true c.index-commands-index.is c.work_one.ensures.worked
+    new_went _ _ _ _ _ _ _ _ _ _ _ _ (lending (g.R.Room.out c.work_one.new.room) (g.R.Room.means c.work_one.new.room)) _ _ _ i.working c.index-commands-index.result c.loop-index-test.true c.index-commands-index.is c.work_one.ensures.worked
     (work_stays c.args.vault.now.rack c.args.vault.now.groups c.args.vault.now.index _ _ _ _ _ i.ready c.work_one.ensures.ready i.index c.work_one.ensures.index c.work_one.ensures.worked)
 
 pub returns-in-Err-SinkFailed-clause-ends : goal.returns-in-Err-SinkFailed-clause-ends
 returns-in-Err-SinkFailed-clause-ends g c =
     let i = c.loop-index.invariant in
-    working_cut _ _ _ _ _ _ _ _ _ _ _ _ i.working c.index-commands-index.result c.loop-index-test.true c.index-commands-index.is c.work_one.ensures.worked
+    working_cut _ _ _ _ _ _ _ _ _ _ _ _ (lending (g.R.Room.out c.work_one.new.room) (g.R.Room.means c.work_one.new.room)) _ _ _ i.working c.index-commands-index.result c.loop-index-test.true c.index-commands-index.is c.work_one.ensures.worked
     (work_stays c.args.vault.now.rack c.args.vault.now.groups c.args.vault.now.index _ _ _ _ _ i.ready c.work_one.ensures.ready i.index c.work_one.ensures.index c.work_one.ensures.worked)
     _ (rw c.in-Err-SinkFailed.field-0-is at c.in-Err-SinkFailed.ensures.ends)
+
+pub returns-in-Err-SinkFailed-clause-took : goal.returns-in-Err-SinkFailed-clause-took
+returns-in-Err-SinkFailed-clause-took g c =
+    let i = c.loop-index.invariant in
+    ends_took _ _ _ _ _ _ _ _ _ _ _ _ (lending (g.R.Room.out c.work_one.new.room) (g.R.Room.means c.work_one.new.room)) _ _ _ i.working c.index-commands-index.result c.loop-index-test.true c.index-commands-index.is c.work_one.ensures.worked
+    (work_stays c.args.vault.now.rack c.args.vault.now.groups c.args.vault.now.index _ _ _ _ _ i.ready c.work_one.ensures.ready i.index c.work_one.ensures.index c.work_one.ensures.worked)
+    _ _ (λ w e. cc) (rw c.in-Err-SinkFailed.field-0-is at c.in-Err-SinkFailed.ensures.took)
+
+pub returns-in-Err-RoomFailed-clause-went : goal.returns-in-Err-RoomFailed-clause-went
+returns-in-Err-RoomFailed-clause-went g c =
+    let i = c.loop-index.invariant in
+    new_went _ _ _ _ _ _ _ _ _ _ _ _ (lending (g.R.Room.out c.work_one.new.room) (g.R.Room.means c.work_one.new.room)) _ _ _ i.working c.index-commands-index.result c.loop-index-test.true c.index-commands-index.is c.work_one.ensures.worked
+    (work_stays c.args.vault.now.rack c.args.vault.now.groups c.args.vault.now.index _ _ _ _ _ i.ready c.work_one.ensures.ready i.index c.work_one.ensures.index c.work_one.ensures.worked)
+
+pub returns-in-Err-RoomFailed-clause-ends : goal.returns-in-Err-RoomFailed-clause-ends
+returns-in-Err-RoomFailed-clause-ends g c =
+    let i = c.loop-index.invariant in
+    working_failed _ _ _ _ _ _ _ _ _ _ _ _ (lending (g.R.Room.out c.work_one.new.room) (g.R.Room.means c.work_one.new.room)) _ _ _ i.working c.index-commands-index.result c.loop-index-test.true c.index-commands-index.is c.work_one.ensures.worked
+    (work_stays c.args.vault.now.rack c.args.vault.now.groups c.args.vault.now.index _ _ _ _ _ i.ready c.work_one.ensures.ready i.index c.work_one.ensures.index c.work_one.ensures.worked)
+    _ (rw c.in-Err-RoomFailed.field-0-is at c.in-Err-RoomFailed.ensures.ends)
+
+pub returns-in-Err-RoomFailed-clause-took : goal.returns-in-Err-RoomFailed-clause-took
+returns-in-Err-RoomFailed-clause-took g c =
+    let i = c.loop-index.invariant in
+    ends_took _ _ _ _ _ _ _ _ _ _ _ _ (lending (g.R.Room.out c.work_one.new.room) (g.R.Room.means c.work_one.new.room)) _ _ _ i.working c.index-commands-index.result c.loop-index-test.true c.index-commands-index.is c.work_one.ensures.worked
+    (work_stays c.args.vault.now.rack c.args.vault.now.groups c.args.vault.now.index _ _ _ _ _ i.ready c.work_one.ensures.ready i.index c.work_one.ensures.index c.work_one.ensures.worked)
+    _ _ (λ w e. w refl) (rw c.in-Err-RoomFailed.field-0-is at c.in-Err-RoomFailed.ensures.took)
 
 pub returns-in-Err-NoMemory-clause-went : goal.returns-in-Err-NoMemory-clause-went
 returns-in-Err-NoMemory-clause-went g c =
     let i = c.loop-index.invariant in
-    new_went _ _ _ _ _ _ _ _ _ _ _ _ i.working c.index-commands-index.result c.loop-index-test.true c.index-commands-index.is c.work_one.ensures.worked
+    new_went _ _ _ _ _ _ _ _ _ _ _ _ (lending (g.R.Room.out c.work_one.new.room) (g.R.Room.means c.work_one.new.room)) _ _ _ i.working c.index-commands-index.result c.loop-index-test.true c.index-commands-index.is c.work_one.ensures.worked
     (work_stays c.args.vault.now.rack c.args.vault.now.groups c.args.vault.now.index _ _ _ _ _ i.ready c.work_one.ensures.ready i.index c.work_one.ensures.index c.work_one.ensures.worked)
 
 pub returns-in-Err-NoMemory-clause-ends : goal.returns-in-Err-NoMemory-clause-ends
 returns-in-Err-NoMemory-clause-ends g c =
     let i = c.loop-index.invariant in
-    working_short _ _ _ _ _ _ _ _ _ _ _ _ i.working c.index-commands-index.result c.loop-index-test.true c.index-commands-index.is c.work_one.ensures.worked
+    working_short _ _ _ _ _ _ _ _ _ _ _ _ (lending (g.R.Room.out c.work_one.new.room) (g.R.Room.means c.work_one.new.room)) _ _ _ i.working c.index-commands-index.result c.loop-index-test.true c.index-commands-index.is c.work_one.ensures.worked
     (work_stays c.args.vault.now.rack c.args.vault.now.groups c.args.vault.now.index _ _ _ _ _ i.ready c.work_one.ensures.ready i.index c.work_one.ensures.index c.work_one.ensures.worked)
     _ (rw c.in-Err-NoMemory.field-0-is at c.in-Err-NoMemory.ensures.ends)
 
-pub returns-in-Err-SinkFailed-clause-brings : goal.returns-in-Err-SinkFailed-clause-brings
-returns-in-Err-SinkFailed-clause-brings g c =
+pub returns-in-Err-NoMemory-clause-took : goal.returns-in-Err-NoMemory-clause-took
+returns-in-Err-NoMemory-clause-took g c =
     let i = c.loop-index.invariant in
-    none_cut _ _ _ _ _ _ _ _ _ _ _ _ i.working c.index-commands-index.result c.loop-index-test.true c.index-commands-index.is c.work_one.ensures.worked
+    ends_took _ _ _ _ _ _ _ _ _ _ _ _ (lending (g.R.Room.out c.work_one.new.room) (g.R.Room.means c.work_one.new.room)) _ _ _ i.working c.index-commands-index.result c.loop-index-test.true c.index-commands-index.is c.work_one.ensures.worked
     (work_stays c.args.vault.now.rack c.args.vault.now.groups c.args.vault.now.index _ _ _ _ _ i.ready c.work_one.ensures.ready i.index c.work_one.ensures.index c.work_one.ensures.worked)
-    _ (rw c.in-Err-SinkFailed.field-0-is at c.in-Err-SinkFailed.ensures.ends)
+    _ _ (λ w e. cc) (rw c.in-Err-NoMemory.field-0-is at c.in-Err-NoMemory.ensures.took)
 
-pub returns-in-Err-NoMemory-clause-brings : goal.returns-in-Err-NoMemory-clause-brings
-returns-in-Err-NoMemory-clause-brings g c =
-    let i = c.loop-index.invariant in
-    none_short _ _ _ _ _ _ _ _ _ _ _ _ i.working c.index-commands-index.result c.loop-index-test.true c.index-commands-index.is c.work_one.ensures.worked
-    (work_stays c.args.vault.now.rack c.args.vault.now.groups c.args.vault.now.index _ _ _ _ _ i.ready c.work_one.ensures.ready i.index c.work_one.ensures.index c.work_one.ensures.worked)
-    _ (rw c.in-Err-NoMemory.field-0-is at c.in-Err-NoMemory.ensures.ends)
-
-pub returns-clause-brings : goal.returns-clause-brings
-returns-clause-brings g c = bring_none _ _ c.loop-index.invariant.working.none
+pub returns-clause-took : goal.returns-clause-took
+returns-clause-took g c =
+    let last : c.loop-index.index ≡ length c.args.commands.now = omega (arith, c.loop-index-test.false, c.loop-index.auto.index-end) in
+    all_took _ _ _ _ _ _ _ _ _ _ _ _ _ _ _ c.loop-index.invariant.working (ap (λ n. take n c.args.commands.now) last ∙ take-length c.args.commands.now)
 
 pub loop-index-preserved : goal.loop-index-preserved
 loop-index-preserved g c =
     let i = c.loop-index.invariant in
     record {
       working =
-          working_more _ _ _ _ _ _ _ _ _ _ _ _ i.working c.index-commands-index.result c.loop-index-test.true c.index-commands-index.is c.work_one.ensures.worked
+          working_more _ _ _ _ _ _ _ _ _ _ _ _ (lending (g.R.Room.out c.work_one.new.room) (g.R.Room.means c.work_one.new.room)) _ _ _ i.working c.index-commands-index.result c.loop-index-test.true c.index-commands-index.is c.work_one.ensures.worked
           (work_stays c.args.vault.now.rack c.args.vault.now.groups c.args.vault.now.index _ _ _ _ _ i.ready c.work_one.ensures.ready i.index c.work_one.ensures.index c.work_one.ensures.worked)
-          _ c.in-Ok.some c.in-Ok.ensures.ends;
+          _ c.in-Ok.some _ (λ e. cc) c.in-Ok.ensures.took c.in-Ok.ensures.ends;
       ready = c.work_one.ensures.ready;
       index = c.work_one.ensures.index;
-      later = omega (arith, i.later, c.work_one.ensures.cause.later);
+      used = c.work_one.ensures.used;
+      room_later = omega (arith, i.room_later, c.work_one.ensures.room.later);
+      later = omega (arith, i.later, c.work_one.ensures.sink.later);
     }

@@ -5,7 +5,7 @@ use Rattle.pot_outside.specs.declared.archive.Shelf.{Shelf}
 use Rattle.pot_group.specs.Group.{view_of}
 use Rattle.pot_group.specs.Shelves.{numbers_of}
 use Rattle.pot_session.specs.Groups.{had_by, tables_read}
-use Rattle.pot_session.specs.Holding.{times}
+use Rattle.pot_commands.specs.Holding.{times}
 use Rattle.pot_session.proofs.GroupLemmas.{had_all}
 use Rattle.pot_session.proofs.OpenLemmas.{of_rack, firsts}
 use Rattle.pot_session.proofs.Results.{on_err}

@@ -4,7 +4,7 @@ use Rattle.pot_outside.specs.Archives.{Meaning}
 use Rattle.pot_group.specs.Group.{view_of}
 use Rattle.pot_group.specs.Shelves.{numbers_of}
 use Rattle.pot_session.specs.Groups.{AreAllMarked}
-use Rattle.pot_session.specs.Holding.{AreMeant}
+use Rattle.pot_commands.specs.Holding.{AreMeant}
 use Rattle.pot_session.proofs.GroupLemmas.{StartedSofar}
 use Rattle.pot_session.proofs.opening.start_groups.Given as goal
 

@@ -1,4 +1,4 @@
-use Rattle.std.proofs.Common.{IsTrue, length, sym, ap, subst, ◌∙◌}
+use Rattle.std.proofs.Common.{◌++◌, IsTrue, length, sym, ap, subst, ◌∙◌}
 use Rattle.std.specs.Prelude.{flat_map, vec_capacity}
 use Rattle.std.specs.List.{AllByRecursion}
 use Rattle.pot_bytes.specs.Rack.{IsRack}
@@ -6,36 +6,47 @@ use Rattle.pot_bytes.specs.declared.rack.Rack.{Rack}
 use Rattle.pot_image.specs.Images.{contents}
 use Rattle.pot_group.specs.Beginning.{archives_in}
 use Rattle.pot_store.specs.Works.{known}
-use Rattle.pot_commands.specs.Rows.{IsWorked}
-use Rattle.pot_session.specs.Holding.{times, AreOut}
+use Rattle.pot_commands.specs.Rows.{HasFilled, IsWorked}
+use Rattle.pot_commands.specs.Taking.{asked_by, lending}
 use Rattle.pot_session.specs.Serving.{HasSpaces, IsEnd}
-use Rattle.pot_session.proofs.Counts.{caused_second}
-use Rattle.pot_session.proofs.WorkLemmas.{are_worked}
-use Rattle.pot_session.proofs.ServeLemmas.{same_read, same_records, more_parts, still_but_kept, still_all, serves_closed, end_of, sink_failed, room_failed, desk_failed}
+use Rattle.pot_session.proofs.Counts.{caused_both, caused_second}
+use Rattle.pot_session.proofs.LendLemmas.{first_used, have_come, home_after, image_low, low_after, marks_before, means_after, none_before_asked, none_first, out_after}
+use Rattle.pot_session.proofs.WorkLemmas.{are_worked, asked_low}
+use Rattle.pot_session.proofs.ServeLemmas.{has_filled, same_read, same_records, more_parts, still_but_kept, still_all, serves_closed, end_of, sink_failed, room_failed, desk_failed}
 use Rattle.pot_session.proofs.serving.serve.Goals as goal
 
 pub work-ending-requires-clause-parts : goal.work-ending-requires-clause-parts
-work-ending-requires-clause-parts g c = more_parts _ c.in-Ok.ensures.parts.0
+work-ending-requires-clause-parts g c = λ bounds within. more_parts _ c.in-Ok.ensures.parts.0
 
 pub work-ending-requires-clause-rack : goal.work-ending-requires-clause-rack
-work-ending-requires-clause-rack g c = subst IsRack (sym c.in-Ok.ensures.same.2) c.requires.together.rack
+work-ending-requires-clause-rack g c = λ bounds within. subst IsRack (sym c.in-Ok.ensures.same.2) c.requires.together.rack
+
+pub work-ending-requires-clause-filled : goal.work-ending-requires-clause-filled
+work-ending-requires-clause-filled g c = λ bounds within.
+    subst (λ (r : Rack). HasFilled r (known c.in-Ok.opened.passes.groups c.in-Ok.opened.passes.index)) (sym c.in-Ok.ensures.same.2)
+    (has_filled c.args.seed.now (contents c.args.image) c.in-Ok.opened.passes.groups c.in-Ok.opened.passes.index c.requires.together c.in-Ok.ensures.opened c.in-Ok.ensures.read.0 c.in-Ok.ensures.read.1
+    (ap length c.in-Ok.ensures.ready.0.of.0 ∙ (c.in-Ok.ensures.count ∙ ap (λ (r : Rack). r.groups) c.in-Ok.ensures.same.2)))
 
 pub work-ending-requires-clause-parity : goal.work-ending-requires-clause-parity
-work-ending-requires-clause-parity g c = ap (λ (r : _). r.parity) c.in-Ok.ensures.same.2 ∙ c.requires.parity
+work-ending-requires-clause-parity g c = λ bounds within. ap (λ (r : _). r.parity) c.in-Ok.ensures.same.2 ∙ c.requires.parity
 
 pub work-ending-requires-clause-worked : goal.work-ending-requires-clause-worked
-work-ending-requires-clause-worked g c =
+work-ending-requires-clause-worked g c = λ bounds within.
     subst (λ (r : Rack). AllByRecursion (IsWorked r.groups) c.args.commands.now) (sym c.in-Ok.ensures.same.2) (are_worked c.args.image.rack c.args.commands.now c.requires.worked)
+
+pub work-ending-requires-clause-used : goal.work-ending-requires-clause-used
+work-ending-requires-clause-used g c = λ bounds within.
+    first_used (g.R.Room.out c.open_session.new.room) (contents c.args.image) c.in-Ok.opened.passes.groups c.in-Ok.opened.passes.index c.requires.together c.in-Ok.ensures.opened c.in-Ok.ensures.read.0 c.in-Ok.ensures.out
 
 pub close_session-closed-requires-clause-served : goal.close_session-closed-requires-clause-served
 close_session-closed-requires-clause-served g c = λ bounds within. (
   known c.in-Ok.opened.passes.groups c.in-Ok.opened.passes.index,
-  record {
-    opened = c.in-Ok.ensures.opened;
-    went = c.work-ending.ensures.went;
-    stays = c.work-ending.ensures.stays;
-    brings = c.work-ending.ensures.brings;
-  },
+  (flat_map archives_in c.args.image.tables.items) ++ c.work-ending.ensures.took.taken,
+  record { opened = c.in-Ok.ensures.opened; went = c.work-ending.ensures.went; stays = c.work-ending.ensures.stays },
+  have_come (IsTrue g.R.A.Archive.account.tells) _ (asked_by c.args.commands.now) (lending (g.R.Room.out c.open_session.new.room) (g.R.Room.means c.open_session.new.room)) (lending (g.R.Room.out c.work-ending.new.room) (g.R.Room.means c.work-ending.new.room)) (known c.in-Ok.opened.passes.groups c.in-Ok.opened.passes.index) (known c.work-ending.new.passes.groups c.work-ending.new.passes.index) c.work-ending.ensures.took.taken c.work-ending.ensures.took.takes c.work-ending.ensures.took.come (flat_map archives_in c.args.image.tables.items) c.in-Ok.ensures.out
+      (ap (flat_map archives_in) (same_read _ _ _ _ c.in-Ok.ensures.ready.0 c.work-ending.ensures.ready c.work-ending.ensures.stays.groups ∙ c.in-Ok.ensures.read.0)),
+  out_after (IsTrue g.R.A.Archive.account.tells) _ (asked_by c.args.commands.now) (lending (g.R.Room.out c.open_session.new.room) (g.R.Room.means c.open_session.new.room)) (lending (g.R.Room.out c.work-ending.new.room) (g.R.Room.means c.work-ending.new.room)) (known c.in-Ok.opened.passes.groups c.in-Ok.opened.passes.index) (known c.work-ending.new.passes.groups c.work-ending.new.passes.index) c.work-ending.ensures.took.taken c.work-ending.ensures.took.takes c.work-ending.ensures.took.come (flat_map archives_in c.args.image.tables.items) c.in-Ok.ensures.out,
+  low_after (IsTrue g.R.A.Archive.account.tells) _ (asked_by c.args.commands.now) (lending (g.R.Room.out c.open_session.new.room) (g.R.Room.means c.open_session.new.room)) (lending (g.R.Room.out c.work-ending.new.room) (g.R.Room.means c.work-ending.new.room)) (known c.in-Ok.opened.passes.groups c.in-Ok.opened.passes.index) (known c.work-ending.new.passes.groups c.work-ending.new.passes.index) c.work-ending.ensures.took.taken c.work-ending.ensures.took.takes c.work-ending.ensures.took.come (flat_map archives_in c.args.image.tables.items) c.in-Ok.ensures.out (image_low (contents c.args.image) c.requires.together) (asked_low c.args.image.rack c.args.commands.now c.requires.worked),
 )
 
 pub close_session-closed-requires-clause-parts : goal.close_session-closed-requires-clause-parts
@@ -44,45 +55,42 @@ close_session-closed-requires-clause-parts g c = λ bounds within.
 
 pub close_session-closed-requires-clause-spaces : goal.close_session-closed-requires-clause-spaces
 close_session-closed-requires-clause-spaces g c = λ bounds within.
-    subst (λ ts. HasSpaces (length ts) (length (flat_map archives_in ts)) (vec_capacity c.in-Ok.opened.remains.tables) (vec_capacity c.in-Ok.opened.remains.logs) (vec_capacity c.in-Ok.opened.remains.hand))
+    subst (λ ts. HasSpaces (length ts) 512 (vec_capacity c.in-Ok.opened.remains.tables) (vec_capacity c.in-Ok.opened.remains.logs) (vec_capacity c.in-Ok.opened.remains.hand))
     (sym (same_read _ _ _ _ c.in-Ok.ensures.ready.0 c.work-ending.ensures.ready c.work-ending.ensures.stays.groups ∙ c.in-Ok.ensures.read.0)) c.in-Ok.ensures.spaces
 
 pub close_session-closed-requires-clause-rack : goal.close_session-closed-requires-clause-rack
 close_session-closed-requires-clause-rack g c = λ bounds within. c.in-Ok.ensures.same.1 ∙ sym c.in-Ok.ensures.same.2
 
-pub close_session-closed-requires-clause-out : goal.close_session-closed-requires-clause-out
-close_session-closed-requires-clause-out g c = λ bounds within.
-    subst (λ ts. AreOut (g.R.Room.out c.open_session.new.room) (flat_map archives_in ts))
-    (sym (same_read _ _ _ _ c.in-Ok.ensures.ready.0 c.work-ending.ensures.ready c.work-ending.ensures.stays.groups ∙ c.in-Ok.ensures.read.0)) c.in-Ok.ensures.out
-
 pub returns-clause-untouched : goal.returns-clause-untouched
 returns-clause-untouched g c n none =
-    c.close_session-closed.ensures.untouched n (ap (λ ts. times n (flat_map archives_in ts)) (same_read _ _ _ _ c.in-Ok.ensures.ready.0 c.work-ending.ensures.ready c.work-ending.ensures.stays.groups ∙ c.in-Ok.ensures.read.0) ∙ none)
-    ∙ c.open_session.ensures.untouched n none
+    c.close_session-closed.ensures.untouched n (home_after (IsTrue g.R.A.Archive.account.tells) _ (asked_by c.args.commands.now) (lending (g.R.Room.out c.open_session.new.room) (g.R.Room.means c.open_session.new.room)) (lending (g.R.Room.out c.work-ending.new.room) (g.R.Room.means c.work-ending.new.room)) (known c.in-Ok.opened.passes.groups c.in-Ok.opened.passes.index) (known c.work-ending.new.passes.groups c.work-ending.new.passes.index) c.work-ending.ensures.took.taken c.work-ending.ensures.took.takes c.work-ending.ensures.took.come (flat_map archives_in c.args.image.tables.items) c.in-Ok.ensures.out n none)
+    ∙ (means_after (IsTrue g.R.A.Archive.account.tells) _ (asked_by c.args.commands.now) (lending (g.R.Room.out c.open_session.new.room) (g.R.Room.means c.open_session.new.room)) (lending (g.R.Room.out c.work-ending.new.room) (g.R.Room.means c.work-ending.new.room)) (known c.in-Ok.opened.passes.groups c.in-Ok.opened.passes.index) (known c.work-ending.new.passes.groups c.work-ending.new.passes.index) c.work-ending.ensures.took.taken c.work-ending.ensures.took.takes c.work-ending.ensures.took.come (flat_map archives_in c.args.image.tables.items) c.in-Ok.ensures.out n none
+    ∙ c.open_session.ensures.untouched n (none_first (IsTrue g.R.A.Archive.account.tells) _ (asked_by c.args.commands.now) (lending (g.R.Room.out c.open_session.new.room) (g.R.Room.means c.open_session.new.room)) (lending (g.R.Room.out c.work-ending.new.room) (g.R.Room.means c.work-ending.new.room)) (known c.in-Ok.opened.passes.groups c.in-Ok.opened.passes.index) (known c.work-ending.new.passes.groups c.work-ending.new.passes.index) c.work-ending.ensures.took.taken c.work-ending.ensures.took.takes c.work-ending.ensures.took.come (flat_map archives_in c.args.image.tables.items) c.in-Ok.ensures.out n none))
 
 pub returns-clause-serves : goal.returns-clause-serves
 returns-clause-serves g c =
     serves_closed c.args.seed.now (contents c.args.image) c.args.commands.now _ _ _ _ (IsTrue g.D.Desk.tells) (g.D.Desk.held c.args.desk.now) _ _ _ (known c.in-Ok.opened.passes.groups c.in-Ok.opened.passes.index) _ c.work-ending.result
     c.close_session-closed.result _ c.in-Ok.ensures.opened c.in-Ok.ensures.read.0 c.in-Ok.ensures.read.1 c.in-Ok.ensures.same.2 c.in-Ok.ensures.same.0 c.work-ending.ensures.ends
-    (c.close_session-closed.ensures.closes _ (contents c.args.image) (g.R.Room.means c.args.room.now) (record { opened = c.in-Ok.ensures.opened; went = c.work-ending.ensures.went; stays = c.work-ending.ensures.stays; brings = c.work-ending.ensures.brings }) c.in-Ok.ensures.marked (record {
+    (c.close_session-closed.ensures.closes _ (contents c.args.image) (g.R.Room.means c.args.room.now) (record { opened = c.in-Ok.ensures.opened; went = c.work-ending.ensures.went; stays = c.work-ending.ensures.stays }) c.in-Ok.ensures.marked
+    (marks_before (IsTrue g.R.A.Archive.account.tells) _ (asked_by c.args.commands.now) (lending (g.R.Room.out c.open_session.new.room) (g.R.Room.means c.open_session.new.room)) (lending (g.R.Room.out c.work-ending.new.room) (g.R.Room.means c.work-ending.new.room)) (known c.in-Ok.opened.passes.groups c.in-Ok.opened.passes.index) (known c.work-ending.new.passes.groups c.work-ending.new.passes.index) c.work-ending.ensures.took.taken c.work-ending.ensures.took.takes c.work-ending.ensures.took.come (flat_map archives_in c.args.image.tables.items) c.in-Ok.ensures.out (g.R.Room.means c.args.room.now) c.open_session.ensures.untouched) (record {
       is_session = sym c.in-Ok.ensures.same.0;
       is_rack = sym c.in-Ok.ensures.same.1;
       are_tables = sym (same_read _ _ _ _ c.in-Ok.ensures.ready.0 c.work-ending.ensures.ready c.work-ending.ensures.stays.groups ∙ c.in-Ok.ensures.read.0);
       are_records = sym (same_records _ _ c.work-ending.ensures.stays.index ∙ c.in-Ok.ensures.read.1);
-    })) c.close_session-closed.ensures.which c.requires.kept c.status_after.ensures
+    })) c.close_session-closed.ensures.which c.requires.kept c.status_after.ensures c.requires.together
 
 pub returns-clause-which : goal.returns-clause-which
 returns-clause-which g c = subst IsEnd (sym c.status_after.ensures) (end_of c.work-ending.result c.close_session-closed.result c.close_session-closed.ensures.which)
 
 pub returns-clause-sink : goal.returns-clause-sink
 returns-clause-sink g c = record {
-  later = c.work-ending.ensures.cause.later;
-  rose = λ e. c.work-ending.ensures.cause.rose (sink_failed c.work-ending.result c.close_session-closed.result c.close_session-closed.ensures.which (sym c.status_after.ensures ∙ e));
+  later = c.work-ending.ensures.sink.later;
+  rose = λ e. c.work-ending.ensures.sink.rose (sink_failed c.work-ending.result c.close_session-closed.result c.close_session-closed.ensures.which (sym c.status_after.ensures ∙ e));
 }
 
 pub returns-clause-room : goal.returns-clause-room
 returns-clause-room g c =
-    caused_second _ _ _ c.open_session.ensures.cause c.close_session-closed.ensures.room
+    caused_second _ _ _ c.open_session.ensures.cause (caused_both _ _ _ c.work-ending.ensures.room c.close_session-closed.ensures.room (λ h. h))
     (λ e. room_failed c.work-ending.result c.close_session-closed.result c.close_session-closed.ensures.which (sym c.status_after.ensures ∙ e))
 
 pub returns-clause-desk : goal.returns-clause-desk
@@ -90,3 +98,11 @@ returns-clause-desk g c = record {
   later = c.close_session-closed.ensures.desk.later;
   rose = λ e. c.close_session-closed.ensures.desk.rose (desk_failed c.work-ending.result c.close_session-closed.result c.close_session-closed.ensures.which (sym c.status_after.ensures ∙ e));
 }
+
+pub returns-in-Err-Failed-clause-untouched : goal.returns-in-Err-Failed-clause-untouched
+returns-in-Err-Failed-clause-untouched g c n none =
+    c.open_session.ensures.untouched n (none_before_asked n (flat_map archives_in c.args.image.tables.items) (asked_by c.args.commands.now) none)
+
+pub returns-in-Err-NoMemory-clause-untouched : goal.returns-in-Err-NoMemory-clause-untouched
+returns-in-Err-NoMemory-clause-untouched g c n none =
+    c.open_session.ensures.untouched n (none_before_asked n (flat_map archives_in c.args.image.tables.items) (asked_by c.args.commands.now) none)

@@ -1,0 +1,261 @@
+-- A `migrate`, by how it ends.
+use Rattle.std.proofs.Common.{◌≡◌, ◌≢◌, ◌<◌, ◌⊎◌, ⊎_elim, inl, inr, ℕ, zero, suc, Bool, true, false, List, [], ◌∷◌, ◌++◌, length, refl, sym, ap, subst, ◌∙◌, arith, eq-eqb, append-nil}
+use Rattle.std.specs.Prelude.{nat_lt, Contains, IsSome, Option, Some, None, Result, Ok, Err, MatchResult, filter}
+use Rattle.std.proofs.lemmas.List.Elements.{filter-append}
+use Rattle.std.proofs.lemmas.Bool.Decides.{nat_tests}
+use mathlib.Core.Path.{fun_ext}
+use Rattle.pot_bytes.specs.declared.rack.Rack.{Rack}
+use Rattle.pot_outside.specs.Archives.{Meaning, IsMeant}
+use Rattle.pot_outside.specs.declared.archive.Shelf.{Shelf}
+use Rattle.pot_index.specs.declared.entry.Logged as of_index
+use Rattle.pot_index.specs.Entries as index
+use Rattle.pot_machine.specs.declared.column.Column.{Column}
+use Rattle.pot_machine.specs.declared.column.Moving.{Moving}
+use Rattle.pot_machine.specs.declared.entry.Entry.{Entry}
+use Rattle.pot_machine.specs.declared.entry.Entry.TheVariants as entry
+use Rattle.pot_machine.specs.Machine.{after}
+use Rattle.pot_machine.specs.Table.{Table, column_at}
+use Rattle.pot_machine.proofs.Columns.{column_same}
+use Rattle.pot_group.specs.declared.moving.ShelfCause.{ShelfCause}
+use Rattle.pot_group.specs.declared.moving.ShelfCause.TheVariants as cause
+use Rattle.pot_group.specs.declared.moving.ShelfRefused.{ShelfRefused}
+use Rattle.pot_group.specs.Arrivals.{arrivals}
+use Rattle.pot_group.specs.Group.{GroupView}
+use Rattle.pot_group.specs.Moving.{RefusesMove}
+use Rattle.pot_turn.specs.declared.name.TurnName.{TurnName}
+use Rattle.pot_worked.specs.Worked.{added}
+use Rattle.pot_worked.specs.Laws.{AllOf}
+use Rattle.pot_worked.proofs.SoleLemmas.{gain_in_parts}
+use Rattle.pot_rows.specs.Rows.{view_at}
+use Rattle.pot_rows.specs.Works.{RowAlone, RowWorked}
+use Rattle.pot_script.specs.declared.reply.Reply.{Reply}
+use Rattle.pot_script.specs.declared.reply.Reply.TheVariants as replies
+use Rattle.pot_replies.specs.Jobs.{own, is_of, job_of, is_move_begin, is_move_of, EachIs}
+use Rattle.pot_replies.specs.Settings.{Setting}
+use Rattle.pot_replies.specs.Sections.{Section, Halves, replayed, JobsAscend, mine, work_of, checked, IsSilent, IsOfJobs}
+use Rattle.pot_replies.specs.Moves.{HasHome, IsUsed, NoHome, GoesElsewhere, IsTakenTo, MayBegin, MayGoOn, Begins, moving_at}
+use Rattle.pot_shared.specs.Calls.{CallAt}
+use Rattle.pot_shared.specs.Catalogs.{IndexPasses, IsIndexReady}
+use Rattle.pot_shared.specs.Members.{entries_of}
+use Rattle.pot_shared.specs.MoveCalls.{MoveBeginCall}
+use Rattle.pot_shared.specs.Ready.{AreReady, GroupPasses}
+use Rattle.pot_store.specs.Works.{Known, known, of_job, gained, JobWorked, JobAlone, IsSettingOf, section_of}
+use Rattle.pot_store.proofs.WorkLemmas.{all_none, all_one, alone_parts, drop_all, index_idle, row_stays, same_number, work_more}
+use Rattle.pot_mend.specs.declared.checking.MoveAt.{MoveAt}
+use Rattle.pot_mend.specs.Moves.{IsAsked, MayMove, MigrateChecked, MoveRow, EndsMove, seen_in}
+use Rattle.pot_mend.specs.declared.checking.UseFault.{UseFault}
+use Rattle.pot_mend.specs.declared.checking.UseFault.TheVariants as used
+use Rattle.pot_mend.specs.declared.fault.MendFault.{MendFault}
+use Rattle.pot_mend.specs.declared.fault.MendFault.TheVariants as fault
+use Rattle.pot_commands.specs.declared.arriving.Unanswered.{Unanswered}
+use Rattle.pot_commands.specs.declared.arriving.Unanswered.TheVariants as unanswered
+use Rattle.pot_commands.specs.declared.moving.Unbegun.{Unbegun}
+use Rattle.pot_commands.specs.declared.moving.Unbegun.TheVariants as unbegun
+use Rattle.pot_commands.specs.Arriving.{HandsBack, HasBegun, Unbegins, move_reply, unbegun_of, use_reply}
+use Rattle.pot_commands.specs.Ends.{AllSole, AllWent}
+use Rattle.pot_commands.specs.Rows.{IsMigrateReply}
+use Rattle.pot_commands.specs.Taking.{Lending, Took, AreUsed}
+use Rattle.pot_commands.proofs.ArrivingLemmas.{back_silent, back_took, back_used, came_took, came_used, checked_silent, group_used, its_first, logs_met, met_log, met_logs, met_table, of_jobs, only_here, own_each, own_here, table_now, whole_work}
+use Rattle.pot_commands.proofs.Brought.{its_setting, is_its}
+use Rattle.pot_commands.proofs.Going.{sole_alone, sole_parts, work_all_went}
+use Rattle.pot_commands.proofs.Logs.{entries_append}
+use Rattle.pot_commands.proofs.NoMoves.{brings, no_arrivals, no_begin, none_of_each, none_both}
+use Rattle.pot_commands.proofs.Whose.{its_jobs, own_all}
+
+-- LOGS AT A CHECK
+
+-- a line that began nothing was checked over the logs before
+unchanged : (before : ℕ → List Entry) (job : ℕ) → checked before (λ g. []) job ≡ before
+unchanged before job = fun_ext (λ g. append-nil (before g))
+
+not_less : (job : ℕ) (e : Entry) → is_of job e ≡ true → nat_lt (job_of e) job ≡ false
+not_less job e is = grind (arith, nat_tests, is)
+
+none_less : (job : ℕ) (es : List Entry) → ((x y : List Entry) (e : Entry) → es ≡ x ++ e ∷ y → is_of job e ≡ true) → filter (λ e. nat_lt (job_of e) job) es ≡ []
+none_less job [] each = refl
+none_less job (e ∷ es) each = rw (not_less job e (each [] es e refl)) (none_less job es (λ x y f at. each (e ∷ x) y f (ap (λ l. e ∷ l) at)))
+
+-- nor do moves of the job itself count
+pub none_before : (before begun : ℕ → List Entry) (job : ℕ) → ((g : ℕ) (x y : List Entry) (e : Entry) → begun g ≡ x ++ e ∷ y → is_of job e ≡ true) → checked before begun job ≡ before
+none_before before begun job each = fun_ext (λ g. ap (λ l. before g ++ l) (none_less job (begun g) (each g)) ∙ append-nil (before g))
+
+-- a column that does not move to the archive already may begin to
+pub may_begin : (b : Bool) (s : Setting) (logs : ℕ → List Entry) (from to g c : ℕ) → b ≡ false → MayMove b s logs from to g c → MayBegin s logs from to g c
+may_begin b s logs from to g c off may = subst (λ x. MayMove x s logs from to g c) off may
+
+-- what did not fail in one way did not in the other
+abbrev failed : Unbegun → Result MoveAt Unbegun
+failed end = Err end
+
+pub still_well : (answer : Result Reply Unanswered) (end : Unbegun) → end ≡ unbegun_of answer → (failed end ≢ failed unbegun.RoomFailed) → answer ≢ Err unanswered.RoomFailed
+still_well answer end is well e = well (ap failed (is ∙ ap unbegun_of e))
+
+module _ (rack : Rack) (names turn : List TurnName) (job from to : ℕ) (row0 row1 : GroupPasses) (i i1 : IndexPasses) (ready : AreReady rack names row0) (ready1 : AreReady rack names row1)
+    (iready : IsIndexReady rack names turn i) (same : i1 ≡ i) (asked : IsAsked row0 row1) where
+  abbrev first : Known
+  first = known row0 i
+
+  -- A CHECK REFUSED IT
+
+  refused_row : (s : Setting) (fault : UseFault) (w : Section) → w.before ≡ seen_in row1 → IsSilent (mine job w) → MigrateChecked s (seen_in row1) from to (Err fault) → IsMigrateReply s w.before (λ g. []) job from to (use_reply fault) w
+  refused_row s (used.NoSuchArchive n) w met silent says = (says.0, (subst (λ logs. NoHome s logs from) (sym (unchanged w.before job ∙ met)) says.1, (λ g. refl), silent))
+  refused_row s (used.InUse n) w met silent says = (
+    ⊎_elim
+        (λ (h : (n ≡ from) × GoesElsewhere s (seen_in row1) from to). inl (h.0, subst (λ logs. GoesElsewhere s logs from to) (sym (unchanged w.before job ∙ met)) h.1))
+        (λ (h : (n ≡ to) × IsTakenTo s (seen_in row1) from to). inr (h.0, subst (λ logs. IsTakenTo s logs from to) (sym (unchanged w.before job ∙ met)) h.1))
+        says,
+    (λ g. refl),
+    silent,
+  )
+
+  abbrev asked_section : Section
+  asked_section = section_of first (known row1 i1)
+
+  pub refused_begins : (fault : UseFault) (reply : Reply) → reply ≡ use_reply fault → ((s : Setting) → IsSettingOf s rack first → MigrateChecked s (seen_in row1) from to (Err fault)) → JobAlone job first (known row1 i1)
+      → (s : Setting) → IsSettingOf s rack first → Unbegins s job from to (unbegun.Answered reply) asked_section
+  refused_begins fault reply is says alone s set = λ its.
+      let silent = checked_silent rack names turn job row0 row1 i i1 ready ready1 iready same asked alone in
+      (subst (λ r. IsMigrateReply s asked_section.before (λ g. []) job from to r asked_section) (sym is)
+      (refused_row s fault asked_section (sym (met_logs rack names turn job row0 row1 i i1 ready ready1 iready same asked alone (of_jobs job asked_section its))) silent (says s set)), silent)
+
+  -- THE COLUMN MOVES ALREADY
+
+  some_moving : (o : Option Moving) → ((m : Moving) × (o ≡ Some m) × (m.to ≡ to)) → IsSome o
+  some_moving None h = absurd (cc (h.1))
+  some_moving (Some m) h = refl
+
+  pub goes_on : (g c : ℕ) (b : Bool) → b ≡ true → ((s : Setting) → IsSettingOf s rack first → MigrateChecked s (seen_in row1) from to (Ok (record { group = g; column = c; resumes = b }))) → JobAlone job first (known row1 i1)
+      → (s : Setting) → IsSettingOf s rack first → IsOfJobs job 1 asked_section → HasBegun s job from to g c asked_section
+  goes_on g c false on says alone s set its = absurd (cc on)
+  goes_on g c true on says alone s set its =
+      let silent = checked_silent rack names turn job row0 row1 i i1 ready ready1 iready same asked alone in
+      let all = of_jobs job asked_section its in
+      let met = met_logs rack names turn job row0 row1 i i1 ready ready1 iready same asked alone all in
+      let may = subst (λ logs. MayGoOn s logs from to g c) met (says s set) in
+      let none : asked_section.added g ≡ [] = sym (own_each job (asked_section.added g) (all g)) ∙ silent.0 g in
+      record {
+        begins = inr (may, silent.0 g);
+        only = ((λ h ne. silent.0 h), silent.1);
+        moves = subst (λ l. IsSome (column_at (replayed (s.first g) l) c).moving) (sym (ap (λ l. seen_in row0 g ++ l) none ∙ append-nil (seen_in row0 g))) (some_moving (moving_at s (seen_in row0) g c) may.1);
+      }
+
+  -- A CALL OF THE GROUP
+  module _ {A : Type 0} (told : Type 0) (meaning : A → Meaning) (group c : ℕ) (shelf : Shelf A) (number : shelf.number ≡ to) (row2 : GroupPasses) (i2 : IndexPasses) (same2 : i2 ≡ i1) (ready2 : AreReady rack names row2)
+      (within : group < length names) where
+    abbrev last : Known
+    last = known row2 i2
+
+    -- IT CAME
+    module _ (u : Unit {0}) (call : CallAt told (MoveBeginCall told meaning job c shelf (Ok u)) group row1 row2) where
+      abbrev R : GroupView → GroupView → List Entry → Type 0
+      R = MoveBeginCall told meaning job c shelf (Ok u)
+
+      abbrev e : Entry
+      e = entry.MoveBegin job c shelf.number
+
+      begin_all : AllOf (is_of job) call.turn.entries
+      begin_all = subst (λ es. AllOf (is_of job) es) (sym call.turn.call.entries_are) (all_one (is_of job) e (eq-eqb job job refl))
+
+      pub begin_work : JobWorked job first last
+      begin_work = whole_work rack names turn job row0 row1 i i1 ready ready1 iready same asked told R group row2 i2 same2 ready2 within call begin_all
+
+      pub begin_used : (out now : ℕ → Bool) → ((n : ℕ) → n ≢ to → now n ≡ out n) → AreUsed out row0 → AreUsed now row2
+      begin_used out now others used =
+          came_used rack names turn job row0 row1 i i1 ready ready1 iready same asked told R group row2 i2 same2 ready2 within call begin_all meaning e shelf refl call.turn.call
+          out now (λ n ne. others n (λ z. ne (z ∙ sym number))) used
+
+      pub begin_took : (well : Type 0) (r r' : Lending) → r.out to ≡ false → ((n : ℕ) → n ≢ to → (r'.means n ≡ r.means n) × (r'.out n ≡ r.out n)) → r'.out to ≡ true → (told → IsMeant (r.means to) (meaning shelf.archive))
+          → Took told well (to ∷ []) r r' first last
+      begin_took well r r' home others out is = subst (λ n. Took told well (n ∷ []) r r' first last) number
+          (came_took rack names turn job row0 row1 i i1 ready ready1 iready same asked told R group row2 i2 same2 ready2 within call begin_all meaning e shelf refl call.turn.call well r r'
+          (subst (λ n. r.out n ≡ false) (sym number) home) (λ n ne. others n (λ z. ne (z ∙ sym number))) (subst (λ n. r'.out n ≡ true) (sym number) out) (subst (λ n. told → IsMeant (r.means n) (meaning shelf.archive)) (sym number) is))
+
+      now_moves : IsSome (column_at call.turn.new.table c).moving
+      now_moves =
+          let comes = call.turn.call.comes in
+          let x : Column = record (column_at call.turn.old.table c) { moving = Some (record { to = shelf.number; upto = 0 }) } in
+          subst (λ (t : Table). IsSome (column_at t c).moving) (sym comes.acts.table)
+          (subst (λ (k : Column). IsSome k.moving) (sym (column_same call.turn.old.table c x call.turn.settled_old.table.size.columns comes.acts.legal.0.0)) refl)
+
+      pub begin_says : (b : Bool) → b ≡ false → ((s : Setting) → IsSettingOf s rack first → MigrateChecked s (seen_in row1) from to (Ok (record { group = group; column = c; resumes = b }))) → JobAlone job first last → (s : Setting)
+          → IsSettingOf s rack first → IsOfJobs job 1 (section_of first last) → HasBegun s job from to group c (section_of first last)
+      begin_says true off says alone s set its = absurd (cc off)
+      begin_says false off says alone s set its =
+          let all = of_jobs job (section_of first last) its in
+          let met = logs_met rack names turn job row0 row1 i i1 ready ready1 iready same asked told R group row2 i2 same2 ready2 within call begin_all alone all in
+          let began = its_first rack names turn job row0 row1 i i1 ready ready1 iready same asked told R group row2 i2 same2 ready2 within call begin_all alone all s set in
+          let grows : seen_in row0 group ++ gained row0 row2 group ≡ seen_in row2 group =
+          sym (ap entries_of (begin_work.groups group).seen ∙ entries_append (view_at row0 group).seen (added (view_at row0 group) (view_at row2 group))) in
+          let table : replayed (s.first group) (seen_in row0 group ++ gained row0 row2 group) ≡ call.turn.new.table =
+          ap (replayed (s.first group)) grows
+          ∙ (ap (λ t. replayed t (seen_in row2 group)) began ∙ table_now rack names turn job row0 row1 i i1 ready ready1 iready same asked told R group row2 i2 same2 ready2 within call begin_all) in
+          record {
+            begins = inl (subst (λ logs. MayBegin s logs from to group c) met (says s set),
+                own_here rack names turn job row0 row1 i i1 ready ready1 iready same asked told R group row2 i2 same2 ready2 within call begin_all alone
+                ∙ (call.turn.call.entries_are ∙ ap (λ n. entry.MoveBegin job c n ∷ []) number));
+            only = only_here rack names turn job row0 row1 i i1 ready ready1 iready same asked told R group row2 i2 same2 ready2 within call begin_all alone;
+            moves = subst (λ (t : Table). IsSome (column_at t c).moving) (sym table) now_moves;
+          }
+
+    -- IT WAS HANDED BACK
+    module _ (r : ShelfRefused A) (call : CallAt told (MoveBeginCall told meaning job c shelf (Err r)) group row1 row2) where
+      abbrev Q : GroupView → GroupView → List Entry → Type 0
+      Q = MoveBeginCall told meaning job c shelf (Err r)
+
+      none : call.turn.entries ≡ []
+      none = call.turn.call.0.entries_are
+
+      none_all : AllOf (is_of job) call.turn.entries
+      none_all = subst (λ es. AllOf (is_of job) es) (sym none) (all_none (is_of job))
+
+      pub unbegun_work : JobWorked job first last
+      unbegun_work = whole_work rack names turn job row0 row1 i i1 ready ready1 iready same asked told Q group row2 i2 same2 ready2 within call none_all
+
+      pub unbegun_used : (out now : ℕ → Bool) → ((n : ℕ) → now n ≡ out n) → AreUsed out row0 → AreUsed now row2
+      unbegun_used out now lends used = back_used rack names turn job row0 row1 i i1 ready ready1 iready same asked told Q group row2 i2 same2 ready2 within call none_all none out now lends used
+
+      pub unbegun_took : (well : Type 0) (l l' : Lending) → l.out to ≡ false → ((n : ℕ) → n ≢ to → (l'.means n ≡ l.means n) × (l'.out n ≡ l.out n)) → l'.out to ≡ false
+          → (told → well → IsMeant (l.means to) (l'.means to)) → Took told well (to ∷ []) l l' first last
+      unbegun_took well l l' home others out still =
+          back_took rack names turn job row0 row1 i i1 ready ready1 iready same asked told Q group row2 i2 same2 ready2 within call none_all none well to l l' home others out still
+
+      no_move : (o : Option Moving) → o ≡ None → IsSome o → ⊥
+      no_move None e h = cc h
+      no_move (Some m) e h = cc e
+
+      module _ (s : Setting) (set : IsSettingOf s rack first) (count : length names ≡ rack.groups) (may : MayBegin s (seen_in row1) from to group c) (alone : JobAlone job first last)
+          (all : (g : ℕ) (x y : List Entry) (e : Entry) → gained row0 row2 g ≡ x ++ e ∷ y → is_of job e ≡ true) (silent : IsSilent (mine job (section_of first last))) where
+        met : seen_in row1 ≡ seen_in row0
+        met = logs_met rack names turn job row0 row1 i i1 ready ready1 iready same asked told Q group row2 i2 same2 ready2 within call none_all alone all
+
+        full_row : (why : ShelfCause) → RefusesMove call.turn.old c shelf.number why → (reply : Reply) → HandsBack group why (Ok reply) → IsMigrateReply s (seen_in row0) (λ g. []) job from to reply (section_of first last)
+        full_row cause.LogFull why (replies.LogFull g) e = subst (λ k. IsMigrateReply s (seen_in row0) (λ h. []) job from to (replies.LogFull k) (section_of first last)) (sym e) (inl (record {
+          column = c;
+          may = subst (λ logs. MayBegin s logs from to group c) (met ∙ sym (unchanged (seen_in row0) job)) may;
+          none = λ h. refl;
+          silent = silent;
+          full = ap (λ f. length (f group)) (unchanged (seen_in row0) job)
+              ∙ (ap length (sym (met_log rack names turn job row0 row1 i i1 ready ready1 iready same asked told Q group row2 i2 same2 ready2 within call none_all alone all)) ∙ why);
+        }))
+        full_row (cause.InUse n) why (replies.InUse k) e = absurd (⊎_elim
+            (λ (h : IsSome (column_at call.turn.old.table c).moving × (n ≡ (column_at call.turn.old.table c).home)).
+            no_move (column_at call.turn.old.table c).moving
+            (ap (λ (t : Table). (column_at t c).moving) (sym (met_table rack names turn job row0 row1 i i1 ready ready1 iready same asked told Q group row2 i2 same2 ready2 within call none_all alone all s set))
+            ∙ subst (λ logs. moving_at s logs group c ≡ None) met may.1) h.0)
+            (λ (h : ((column_at call.turn.old.table c).moving ≡ None) × Contains call.turn.old.shelves.numbers shelf.number × (n ≡ shelf.number)).
+            may.2 (subst (λ logs. IsUsed s logs to) (sym met)
+            (group_used rack names turn job row0 row1 i i1 ready ready1 iready same asked told Q group row2 i2 same2 ready2 within call none_all alone all s set count call.turn.call.0.arrived to
+            (subst (λ m. Contains call.turn.old.shelves.numbers m) number h.1))))
+            why.1)
+        full_row _ why _ e = absurd e
+
+      pub unbegun_says : (b : Bool) → b ≡ false → length names ≡ rack.groups → ((s : Setting) → IsSettingOf s rack first → MigrateChecked s (seen_in row1) from to (Ok (record { group = group; column = c; resumes = b })))
+          → (answer : Result Reply Unanswered) → HandsBack group r.cause answer → JobAlone job first last → (s : Setting) → IsSettingOf s rack first → Unbegins s job from to (unbegun_of answer) (section_of first last)
+      unbegun_says true off count says answer h alone s set = absurd (cc off)
+      unbegun_says false off count says (Ok reply) h alone s set = λ its.
+          let silent = back_silent rack names turn job row0 row1 i i1 ready ready1 iready same asked told Q group row2 i2 same2 ready2 within call none_all none alone in
+          (full_row s set count (says s set) alone (of_jobs job (section_of first last) its) silent r.cause call.turn.call.1 reply h, silent)
+      unbegun_says false off count says (Err unanswered.RoomFailed) h alone s set =
+          back_silent rack names turn job row0 row1 i i1 ready ready1 iready same asked told Q group row2 i2 same2 ready2 within call none_all none alone
+      unbegun_says false off count says (Err unanswered.NoMemory) h alone s set =
+          back_silent rack names turn job row0 row1 i i1 ready ready1 iready same asked told Q group row2 i2 same2 ready2 within call none_all none alone

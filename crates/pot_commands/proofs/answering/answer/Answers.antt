@@ -1,0 +1,55 @@
+use Rattle.std.proofs.Common.{[], ◌∷◌, ◌++◌, refl, sym, ap, ◌∙◌, arith}
+use Rattle.pot_group.specs.Arrivals.{arrivals}
+use Rattle.pot_rows.specs.Rows.{view_at}
+use Rattle.pot_shared.specs.Members.{entries_of}
+use Rattle.pot_store.specs.Works.{known, section_of}
+use Rattle.pot_store.proofs.WorkLemmas.{drop_all}
+use Rattle.pot_commands.specs.Taking.{asks}
+use Rattle.pot_commands.proofs.AnswerLemmas.{asks_none, migrate_replies}
+use Rattle.pot_commands.proofs.Brought.{answered_none}
+use Rattle.pot_commands.proofs.TakingLemmas.{took_none, used_more}
+use Rattle.pot_commands.proofs.answering.answer.Goals as goal
+
+pub returns-in_default-with_capacity-clause-took : goal.returns-in_default-with_capacity-clause-took
+returns-in_default-with_capacity-clause-took g c =
+    took_none _ _ (asks c.args.command.now) _ _ _ _ (λ n. refl) (λ n. refl) (λ sole h. ap (λ ls. arrivals (entries_of ls)) (drop_all (view_at c.args.passes.now.groups h).seen))
+
+pub returns-in_default-with_capacity-2-clause-took : goal.returns-in_default-with_capacity-2-clause-took
+returns-in_default-with_capacity-2-clause-took g c =
+    took_none _ _ (asks c.args.command.now) _ _ _ _ (λ n. refl) (λ n. refl) (λ sole h. ap (λ ls. arrivals (entries_of ls)) (drop_all (view_at c.args.passes.now.groups h).seen))
+
+pub returns-in-Ok-migrate_archive-clause-says : goal.returns-in-Ok-migrate_archive-clause-says
+returns-in-Ok-migrate_archive-clause-says g c alone s set =
+    migrate_replies s c.args.job c.args.command.now c.in-Migrate.from c.in-Migrate.to c.in-Ok-migrate_archive.reply c.push_reserved-in-Migrate.new.self.items
+    (section_of (known c.args.passes.now.groups c.args.passes.now.index) (known c.migrate_archive.new.passes.groups c.migrate_archive.new.passes.index)) c.in-Migrate.is
+    (c.push_reserved-in-Migrate.ensures.items ∙ ap (λ l. l ++ c.in-Ok-migrate_archive.reply ∷ []) c.in-Ok-with_capacity.ensures.items) (c.in-Ok-migrate_archive.ensures.says alone s set.setting)
+
+pub returns-in-Ok-answer_plain : goal.returns-in-Ok-answer_plain
+returns-in-Ok-answer_plain g c =
+    record {
+      ready = c.answer_plain.ensures.ready;
+      index = c.answer_plain.ensures.index;
+      worked = c.answer_plain.ensures.worked;
+      says = c.in-Ok-answer_plain.ensures.says;
+      used = used_more c.args.job (g.R.Room.out c.args.room.now) (g.R.Room.out c.args.room.now) c.args.passes.now.groups c.answer_plain.new.passes.groups c.answer_plain.ensures.worked.groups
+          (c.answer_plain.ensures.ready.of.0 ∙ sym c.requires.ready.of.0) (λ n. refl) c.requires.used;
+      took = took_none _ _ (asks c.args.command.now) _ _ _ _ (λ n. refl) (λ n. refl)
+          (answered_none c.args.vault.now.rack c.args.seed.now c.args.session c.args.job c.args.command.now (asks_none c.args.command.now c.in_default.not-Replace c.in_default.not-Migrate)
+          (known c.args.passes.now.groups c.args.passes.now.index) (known c.answer_plain.new.passes.groups c.answer_plain.new.passes.index) c.requires.filled c.answer_plain.ensures.worked c.answer_plain.result c.answer_plain.ensures.says);
+      cause = record { later = omega arith; rose = λ e. absurd (cc) };
+    }
+
+pub returns-in-Err-answer_plain : goal.returns-in-Err-answer_plain
+returns-in-Err-answer_plain g c =
+    record {
+      ready = c.answer_plain.ensures.ready;
+      index = c.answer_plain.ensures.index;
+      worked = c.answer_plain.ensures.worked;
+      says = c.in-Err-answer_plain.ensures.says;
+      used = used_more c.args.job (g.R.Room.out c.args.room.now) (g.R.Room.out c.args.room.now) c.args.passes.now.groups c.answer_plain.new.passes.groups c.answer_plain.ensures.worked.groups
+          (c.answer_plain.ensures.ready.of.0 ∙ sym c.requires.ready.of.0) (λ n. refl) c.requires.used;
+      took = took_none _ _ (asks c.args.command.now) _ _ _ _ (λ n. refl) (λ n. refl)
+          (answered_none c.args.vault.now.rack c.args.seed.now c.args.session c.args.job c.args.command.now (asks_none c.args.command.now c.in_default.not-Replace c.in_default.not-Migrate)
+          (known c.args.passes.now.groups c.args.passes.now.index) (known c.answer_plain.new.passes.groups c.answer_plain.new.passes.index) c.requires.filled c.answer_plain.ensures.worked c.answer_plain.result c.answer_plain.ensures.says);
+      cause = record { later = omega arith; rose = λ e. absurd (cc) };
+    }

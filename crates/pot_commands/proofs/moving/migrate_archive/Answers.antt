@@ -1,0 +1,36 @@
+use Rattle.std.proofs.Common.{◌≡◌, [], ◌∷◌, refl, sym, ap, subst, ◌∙◌, IsTrue}
+use Rattle.pot_replies.specs.Sections.{Halves, work_of}
+use Rattle.pot_store.specs.Works.{known, section_of}
+use Rattle.pot_commands.specs.Arriving.{Unbegins}
+use Rattle.pot_commands.specs.Rows.{IsMigrateReply}
+use Rattle.pot_commands.proofs.MovedLemmas.{both_says, both_took, both_used, both_work, unbegun_row}
+use Rattle.pot_commands.proofs.moving.migrate_archive.Goals as goal
+
+pub returns-in-Err-Answered-clause-says : goal.returns-in-Err-Answered-clause-says
+returns-in-Err-Answered-clause-says g c alone s set its =
+    let w = section_of (known c.args.passes.now.groups c.args.passes.now.index) (known c.begin_move.new.passes.groups c.begin_move.new.passes.index) in
+    let u = subst (λ e. Unbegins s c.args.job c.args.from c.args.to e w) c.in-Err-Answered.field-0-is (c.in-Err-Answered.ensures.says alone s set) its in
+    unbegun_row s c.args.job c.args.from c.args.to c.in-Err-Answered.reply w its u.0 u.1
+
+pub returns-clause-worked : goal.returns-clause-worked
+returns-clause-worked g c = both_work c.args.vault.now.rack c.args.vault.now.groups c.args.vault.now.index c.args.job c.args.from c.args.to c.in-Ok.at.group c.in-Ok.at.column c.args.passes.now.groups c.begin_move.new.passes.groups c.migrate-moved.new.passes.groups
+    c.args.passes.now.index c.begin_move.new.passes.index c.migrate-moved.new.passes.index c.requires.ready c.begin_move.ensures.ready c.migrate-moved.ensures.ready c.requires.index c.begin_move.ensures.index c.migrate-moved.ensures.index
+    c.begin_move.ensures.worked c.migrate-moved.ensures.worked
+
+pub returns-clause-says : goal.returns-clause-says
+returns-clause-says g c alone s set its =
+    let w = section_of (known c.args.passes.now.groups c.args.passes.now.index) (known c.migrate-moved.new.passes.groups c.migrate-moved.new.passes.index) in
+    subst (λ r. (h : Halves w) × IsMigrateReply s w.before h.begun c.args.job c.args.from c.args.to r (work_of w h)) (sym c.move_reply.ensures)
+    (both_says c.args.vault.now.rack c.args.vault.now.groups c.args.vault.now.index c.args.job c.args.from c.args.to c.in-Ok.at.group c.in-Ok.at.column c.args.passes.now.groups c.begin_move.new.passes.groups c.migrate-moved.new.passes.groups
+    c.args.passes.now.index c.begin_move.new.passes.index c.migrate-moved.new.passes.index c.requires.ready c.begin_move.ensures.ready c.migrate-moved.ensures.ready c.requires.index c.begin_move.ensures.index c.migrate-moved.ensures.index
+    c.begin_move.ensures.worked c.migrate-moved.ensures.worked c.migrate-moved.result c.migrate-moved.ensures.says alone s set its c.in-Ok.ensures.says)
+
+pub returns-clause-used : goal.returns-clause-used
+returns-clause-used g c = both_used c.args.vault.now.rack c.args.vault.now.groups c.args.vault.now.index c.args.job c.args.from c.args.to c.in-Ok.at.group c.in-Ok.at.column c.args.passes.now.groups c.begin_move.new.passes.groups c.migrate-moved.new.passes.groups
+    c.args.passes.now.index c.begin_move.new.passes.index c.migrate-moved.new.passes.index c.requires.ready c.begin_move.ensures.ready c.migrate-moved.ensures.ready c.requires.index c.begin_move.ensures.index c.migrate-moved.ensures.index
+    c.begin_move.ensures.worked c.migrate-moved.ensures.worked (g.R.Room.out c.begin_move.new.room) (g.R.Room.out c.begin_move.new.room) (λ n. refl) c.begin_move.ensures.used
+
+pub returns-clause-took : goal.returns-clause-took
+returns-clause-took g c = both_took c.args.vault.now.rack c.args.vault.now.groups c.args.vault.now.index c.args.job c.args.from c.args.to c.in-Ok.at.group c.in-Ok.at.column c.args.passes.now.groups c.begin_move.new.passes.groups c.migrate-moved.new.passes.groups
+    c.args.passes.now.index c.begin_move.new.passes.index c.migrate-moved.new.passes.index c.requires.ready c.begin_move.ensures.ready c.migrate-moved.ensures.ready c.requires.index c.begin_move.ensures.index c.migrate-moved.ensures.index
+    c.begin_move.ensures.worked c.migrate-moved.ensures.worked c.migrate-moved.result c.migrate-moved.ensures.says _ _ _ _ _ (λ e. cc) c.in-Ok.ensures.took _

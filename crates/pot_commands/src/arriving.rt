@@ -1,0 +1,111 @@
+//! Archives that come from the room for a command.
+ghost use Rattle.std.specs.Prelude.{◌≡◌, ◌<◌, ◌≢◌, ℕ, [], ◌∷◌, Err, IsTrue, IsErrOf, MatchResult, true, false, length};
+ghost use Rattle.pot_outside.specs.Archives.{IsMeant};
+ghost use Rattle.pot_outside.specs.Counts.{Caused};
+ghost use Rattle.pot_replies.specs.Settings.{Setting};
+ghost use Rattle.pot_replies.specs.Sections.{mine, IsOfJobs, IsSilent};
+ghost use Rattle.pot_shared.specs.Ready.{AreReady};
+ghost use Rattle.pot_shared.specs.Catalogs.{IsIndexReady};
+ghost use Rattle.pot_store.specs.Works.{JobWorked, JobAlone, IsSettingOf, known, section_of};
+ghost use Rattle.pot_commands.specs.Arriving.{HandsBack, use_reply};
+ghost use Rattle.pot_commands.specs.Rows.{IsReplaceReply};
+ghost use Rattle.pot_commands.specs.Taking.{AreUsed, Took, lending};
+
+use pot_group::{ShelfCause, ShelfRefused};
+use pot_mend::{UseFault, check_replace};
+use pot_outside::{Failed, Room, RoomFault, Shelf};
+use pot_script::Reply;
+use pot_shared::{Passes, Vault};
+use std::sync::Wait;
+
+/// Why a command has no replies.
+#[derive(Clone, Copy, PartialEq, Eq, Debug)]
+pub enum Unanswered {
+    /// The room did not give an archive, or did not take one back.
+    RoomFailed,
+    NoMemory,
+}
+
+/// Takes an archive from the room, and lets it take the place of a column's home. A shelf that the group refuses is given back to the
+/// room at once.
+///
+/// # Errors
+/// `RoomFailed` only where the room's count of faults rose, or `NoMemory`. Nothing was logged then.
+pub fn replace_archive<R: Room, X: Wait>(
+    rt: &X,
+    vault: &Vault<R::A>,
+    passes: &mut Passes<R::A>,
+    job: u32,
+    from: u32,
+    to: u32,
+    room: &mut R,
+) -> Result<Reply, Unanswered>
+    requires ready { AreReady vault.now.rack vault.now.groups passes.old.groups }
+    requires index { IsIndexReady vault.now.rack vault.now.groups vault.now.index passes.old.index }
+    requires count { length vault.now.groups ≡ vault.now.rack.groups }
+    requires job { 0 < job }
+    requires used { AreUsed (R.out room.old) passes.old.groups }
+    ensures ready { AreReady vault.now.rack vault.now.groups passes.new.groups }
+    ensures index { passes.new.index ≡ passes.old.index }
+    ensures worked { JobWorked job (known passes.old.groups passes.old.index) (known passes.new.groups passes.new.index) }
+    ensures says { JobAlone job (known passes.old.groups passes.old.index) (known passes.new.groups passes.new.index) → (s : Setting) → IsSettingOf s vault.now.rack (known passes.old.groups passes.old.index) → let w = section_of (known passes.old.groups passes.old.index) (known passes.new.groups passes.new.index) in MatchResult result (λ reply. IsOfJobs job 1 w → IsReplaceReply s job from to reply (mine job w)) (λ e. IsSilent (mine job w)) }
+    ensures used { AreUsed (R.out room.new) passes.new.groups }
+    ensures took { Took (IsTrue R.A.account.tells) (result ≢ Err Unanswered.RoomFailed) (to ∷ []) (lending (R.out room.old) (R.means room.old)) (lending (R.out room.new) (R.means room.new)) (known passes.old.groups passes.old.index) (known passes.new.groups passes.new.index) }
+    ensures cause { Caused (R.faults room.old) (R.faults room.new) (IsErrOf result Unanswered.RoomFailed) }
+{
+    let at = match check_replace(rt, vault, passes, from, to) {
+        Ok(at) => at,
+        Err(fault) => return Ok(use_reply(fault)),
+    };
+    let archive = match room.take(to) {
+        Ok(archive) => archive,
+        Err(RoomFault::Failed) => return Err(Unanswered::RoomFailed),
+        Err(RoomFault::NoMemory) => return Err(Unanswered::NoMemory),
+    };
+    let shelf = Shelf {
+        number: to,
+        archive,
+    };
+    match vault.swap(rt, passes, at.group, job, at.column, shelf) {
+        Ok(slots) => Ok(Reply::Replaced { from, to, slots }),
+        Err(refused) => hand_back(room, at.group, refused),
+    }
+}
+
+/// The reply to a line whose archives can't be used so.
+pub(crate) fn use_reply(fault: UseFault) -> Reply
+    ensures { result ≡ use_reply fault }
+{
+    match fault {
+        UseFault::NoSuchArchive { number } => Reply::NoArchive { number },
+        UseFault::InUse { number } => Reply::InUse { number },
+    }
+}
+
+/// Gives a shelf that a group refused back to the room, and answers why it was refused.
+///
+/// # Errors
+/// `RoomFailed` only where the room's count of faults rose; the archive may be lost then. `NoMemory` where the group had none.
+pub(crate) fn hand_back<R: Room>(
+    room: &mut R,
+    group: u8,
+    refused: ShelfRefused<R::A>,
+) -> Result<Reply, Unanswered>
+    requires out { R.out room.old refused.shelf.number ≡ true }
+    ensures back { R.out room.new refused.shelf.number ≡ false }
+    ensures others { (n : ℕ) → n ≢ refused.shelf.number → (R.means room.new n ≡ R.means room.old n) × (R.out room.new n ≡ R.out room.old n) }
+    ensures told { (result ≢ Err Unanswered.RoomFailed) → IsTrue R.A.account.tells → IsMeant (R.means room.new refused.shelf.number) (R.A.account.meaning refused.shelf.archive) }
+    ensures answer { HandsBack group refused.cause result }
+    ensures cause { Caused (R.faults room.old) (R.faults room.new) (IsErrOf result Unanswered.RoomFailed) }
+{
+    let ShelfRefused { shelf, cause } = refused;
+    let Shelf { number, archive } = shelf;
+    if let Err(Failed) = room.give(number, archive) {
+        return Err(Unanswered::RoomFailed);
+    }
+    match cause {
+        ShelfCause::LogFull => Ok(Reply::LogFull { group }),
+        ShelfCause::InUse { number } => Ok(Reply::InUse { number }),
+        ShelfCause::NoMemory => Err(Unanswered::NoMemory),
+    }
+}

@@ -1,0 +1,140 @@
+//! A column that moves to an archive from the room.
+ghost use Rattle.std.specs.Prelude.{◌≡◌, ◌<◌, ◌≢◌, ◌+◌, ℕ, [], ◌∷◌, Err, IfOk, IsTrue, IsErrOf, MatchResult, length};
+ghost use Rattle.pot_outside.specs.Counts.{Caused};
+ghost use Rattle.pot_replies.specs.Settings.{Setting};
+ghost use Rattle.pot_replies.specs.Sections.{mine, work_of, Halves, IsOfJobs, IsSilent};
+ghost use Rattle.pot_shared.specs.Ready.{AreReady};
+ghost use Rattle.pot_shared.specs.Catalogs.{IsIndexReady};
+ghost use Rattle.pot_store.specs.Works.{JobWorked, JobAlone, IsSettingOf, known, section_of};
+ghost use Rattle.pot_commands.specs.Arriving.{HasBegun, Unbegins, move_reply, unbegun_of};
+ghost use Rattle.pot_commands.specs.Rows.{IsMigrateReply};
+ghost use Rattle.pot_commands.specs.Taking.{AreUsed, Took, lending};
+
+use crate::arriving::{Unanswered, hand_back, use_reply};
+use pot_mend::{MendFault, MoveAt, check_migrate, migrate};
+use pot_outside::{Room, RoomFault, Shelf};
+use pot_script::Reply;
+use pot_shared::{Passes, Vault};
+use std::sync::Wait;
+
+/// Why a move did not begin.
+#[derive(Drop)]
+enum Unbegun {
+    /// It can't, and this is the reply.
+    Answered { reply: Reply },
+    /// The room did not give the archive, or did not take it back.
+    RoomFailed,
+    NoMemory,
+}
+
+/// Moves a column from one archive to another: the column begins to move to an archive that is taken from the room, unless it moves there
+/// already, and then moves to its end. A shelf that the group refuses is given back to the room at once.
+///
+/// # Errors
+/// `RoomFailed` only where the room's count of faults rose, or `NoMemory`. Nothing was logged then.
+pub fn migrate_archive<R: Room, X: Wait>(
+    rt: &X,
+    vault: &Vault<R::A>,
+    passes: &mut Passes<R::A>,
+    job: u32,
+    from: u32,
+    to: u32,
+    room: &mut R,
+) -> Result<Reply, Unanswered>
+    requires ready { AreReady vault.now.rack vault.now.groups passes.old.groups }
+    requires index { IsIndexReady vault.now.rack vault.now.groups vault.now.index passes.old.index }
+    requires count { length vault.now.groups ≡ vault.now.rack.groups }
+    requires job { 0 < job }
+    requires used { AreUsed (R.out room.old) passes.old.groups }
+    ensures ready { AreReady vault.now.rack vault.now.groups passes.new.groups }
+    ensures index { passes.new.index ≡ passes.old.index }
+    ensures worked { JobWorked job (known passes.old.groups passes.old.index) (known passes.new.groups passes.new.index) }
+    ensures says { JobAlone job (known passes.old.groups passes.old.index) (known passes.new.groups passes.new.index) → (s : Setting) → IsSettingOf s vault.now.rack (known passes.old.groups passes.old.index) → let w = section_of (known passes.old.groups passes.old.index) (known passes.new.groups passes.new.index) in MatchResult result (λ reply. IsOfJobs job 1 w → (h : Halves w) × IsMigrateReply s w.before h.begun job from to reply (work_of w h)) (λ e. IsSilent (mine job w)) }
+    ensures used { AreUsed (R.out room.new) passes.new.groups }
+    ensures took { Took (IsTrue R.A.account.tells) (result ≢ Err Unanswered.RoomFailed) (to ∷ []) (lending (R.out room.old) (R.means room.old)) (lending (R.out room.new) (R.means room.new)) (known passes.old.groups passes.old.index) (known passes.new.groups passes.new.index) }
+    ensures cause { Caused (R.faults room.old) (R.faults room.new) (IsErrOf result Unanswered.RoomFailed) }
+{
+    let at = match begin_move(rt, vault, passes, job, from, to, room) {
+        Ok(at) => at,
+        Err(Unbegun::Answered { reply }) => return Ok(reply),
+        Err(Unbegun::RoomFailed) => return Err(Unanswered::RoomFailed),
+        Err(Unbegun::NoMemory) => return Err(Unanswered::NoMemory),
+    };
+    let moved = migrate(rt, vault, passes, at.group, job, at.column);
+    Ok(move_reply(from, to, moved))
+}
+
+/// Lets a column begin to move to an archive that is taken from the room, unless it moves there already.
+///
+/// # Errors
+/// As `Unbegun` says. Nothing was logged then.
+fn begin_move<R: Room, X: Wait>(
+    rt: &X,
+    vault: &Vault<R::A>,
+    passes: &mut Passes<R::A>,
+    job: u32,
+    from: u32,
+    to: u32,
+    room: &mut R,
+) -> Result<MoveAt, Unbegun>
+    requires ready { AreReady vault.now.rack vault.now.groups passes.old.groups }
+    requires index { IsIndexReady vault.now.rack vault.now.groups vault.now.index passes.old.index }
+    requires count { length vault.now.groups ≡ vault.now.rack.groups }
+    requires job { 0 < job }
+    requires used { AreUsed (R.out room.old) passes.old.groups }
+    ensures ready { AreReady vault.now.rack vault.now.groups passes.new.groups }
+    ensures index { passes.new.index ≡ passes.old.index }
+    ensures worked { JobWorked job (known passes.old.groups passes.old.index) (known passes.new.groups passes.new.index) }
+    ensures place { IfOk result (λ at. (at.group < length vault.now.groups) × (at.column < vault.now.rack.columns + vault.now.rack.parity)) }
+    ensures says { JobAlone job (known passes.old.groups passes.old.index) (known passes.new.groups passes.new.index) → (s : Setting) → IsSettingOf s vault.now.rack (known passes.old.groups passes.old.index) → let w = section_of (known passes.old.groups passes.old.index) (known passes.new.groups passes.new.index) in MatchResult result (λ at. IsOfJobs job 1 w → HasBegun s job from to at.group at.column w) (λ e. Unbegins s job from to e w) }
+    ensures used { AreUsed (R.out room.new) passes.new.groups }
+    ensures took { Took (IsTrue R.A.account.tells) (result ≢ Err Unbegun.RoomFailed) (to ∷ []) (lending (R.out room.old) (R.means room.old)) (lending (R.out room.new) (R.means room.new)) (known passes.old.groups passes.old.index) (known passes.new.groups passes.new.index) }
+    ensures cause { Caused (R.faults room.old) (R.faults room.new) (IsErrOf result Unbegun.RoomFailed) }
+{
+    let at = match check_migrate(rt, vault, passes, from, to) {
+        Ok(at) => at,
+        Err(fault) => {
+            return Err(Unbegun::Answered {
+                reply: use_reply(fault),
+            });
+        }
+    };
+    if at.resumes {
+        return Ok(at);
+    }
+    let archive = match room.take(to) {
+        Ok(archive) => archive,
+        Err(RoomFault::Failed) => return Err(Unbegun::RoomFailed),
+        Err(RoomFault::NoMemory) => return Err(Unbegun::NoMemory),
+    };
+    let shelf = Shelf {
+        number: to,
+        archive,
+    };
+    match vault.move_begin(rt, passes, at.group, job, at.column, shelf) {
+        Ok(()) => Ok(at),
+        Err(refused) => Err(unbegun_of(hand_back(room, at.group, refused))),
+    }
+}
+
+/// The end of a line that began no move, by what was answered for its archive.
+fn unbegun_of(answer: Result<Reply, Unanswered>) -> Unbegun
+    ensures { result ≡ unbegun_of answer }
+{
+    match answer {
+        Ok(reply) => Unbegun::Answered { reply },
+        Err(Unanswered::RoomFailed) => Unbegun::RoomFailed,
+        Err(Unanswered::NoMemory) => Unbegun::NoMemory,
+    }
+}
+
+/// The reply to a line whose column moves, by how far the move came.
+fn move_reply(from: u32, to: u32, moved: Result<u32, MendFault>) -> Reply
+    ensures { result ≡ move_reply from to moved }
+{
+    match moved {
+        Ok(slots) => Reply::Migrated { from, to, slots },
+        Err(MendFault::Faulted { group, column }) => Reply::Fault { group, column },
+        Err(MendFault::LogFull { group }) => Reply::LogFull { group },
+    }
+}
