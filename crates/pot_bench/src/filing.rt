@@ -37,8 +37,8 @@ struct Fetched {
     same: bool,
 }
 
-/// A session stores files of 800 KB, ten for eight megabytes but no more than ten; one that is opened after it fetches them. It
-/// prints a line for each.
+/// A session stores files of 800 KB, ten for eight megabytes but no more than ten; one that is opened after it fetches them, and so
+/// does one for which an archive is gone. It prints a line for each.
 pub fn time_sessions<R: Clock + Wait + Print + Eprint>(
     rt: &R,
     alloc: Global,
@@ -66,7 +66,32 @@ pub fn time_sessions<R: Clock + Wait + Print + Eprint>(
         .bytes(files.len());
     report.calls(rt, "fetch", &timed, given, count, beside, &bytes)?;
     report.same(rt, same)?;
+    let gone = fetch_with_one_gone(rt, alloc, desk, &files)?;
+    let whole = timed.seconds;
+    report.beside(
+        rt,
+        "fetch, an archive gone",
+        &gone.timed,
+        whole,
+        &gone.bytes,
+    )?;
     report.sum(rt, "digest_of, sessions", &sums)
+}
+
+/// A session that is opened after one archive was emptied fetches the files.
+fn fetch_with_one_gone<R: Clock + Wait>(
+    rt: &R,
+    alloc: Global,
+    desk: Desk,
+    files: &[u8],
+) -> io::Result<Fetched>
+    ensures { IfOk result (λ f. IsTrue f.same ↔ f.bytes.items ≡ files.now) }
+{
+    let mut session = desk.with_one_gone(alloc).open(alloc)?;
+    let mut sums = Vec::new(alloc);
+    let fetched = fetch_files(rt, alloc, &mut session, &mut sums, files)?;
+    session.end(alloc)?;
+    Ok(fetched)
 }
 
 /// The bytes of as many files.

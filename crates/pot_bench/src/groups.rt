@@ -1,11 +1,13 @@
-//! A group over archives in memory: puts that fill it, and looks at all that it holds.
+//! A group over archives in memory: puts that fill it, looks at all that it holds, relays that rebuild a column, and a column
+//! that moves.
 ghost use Rattle.std.specs.Prelude.{◌≡◌, ◌<◌};
 
 use pot_bytes::{Block, Geometry, Place, Rack};
 use pot_doubles::LossyArchive;
-use pot_group::{Ended, Group, Looked, StartRefused};
+use pot_group::{Ended, Group, Looked, Mend, MoveFault, MoveStep, ShelfRefused, StartRefused};
 use pot_machine::GroupTable;
 use pot_outside::Shelf;
+use pot_pads::PadStream;
 use std::alloc::{AllocError, Global};
 
 /// The rack of the group, of which each data column holds a megabyte.
@@ -24,6 +26,15 @@ const RACK: Rack = Rack {
 
 /// How often the 64 blocks of a row go into the group until it is full.
 pub const TURNS: u32 = 48;
+
+/// The archive that replaces the home of column 0.
+const REPLACING: u32 = 4;
+
+/// The archive that column 1 moves to.
+const TARGET: u32 = 5;
+
+/// The calls in which a slot is rebuilt: its relay begins, goes over three columns and ends, and then the slot is whole.
+const CALLS: u32 = 6;
 
 /// A group of three data columns and one parity column over archives in memory.
 #[derive(Drop)]
@@ -45,6 +56,10 @@ pub fn shelf(alloc: Global, number: u32) -> Shelf<LossyArchive>
 }
 
 impl Trial {
+    ghost use Rattle.std.specs.Prelude.{IfOk, false};
+    ghost use Rattle.pot_machine.specs.Slot.{is_unsound};
+    ghost use Rattle.pot_machine.specs.Table.{slot_at};
+
     /// The group without blocks.
     pub fn new(alloc: Global) -> Result<Trial, AllocError> {
         let Ok(table) = GroupTable::empty(alloc, &RACK, 0) else {
@@ -113,20 +128,129 @@ impl Trial {
         Ok(())
     }
 
-    /// The blocks that the archives hold, archive by archive.
-    pub fn end(self, alloc: Global) -> Result<Vec<u8>, AllocError> {
+    /// An archive without blocks replaces the home of column 0, whose slots are then Lost.
+    pub fn replace(&mut self, alloc: Global) -> Result<(), AllocError> {
+        match self.group.swap(1, 0, shelf(alloc, REPLACING)) {
+            Ok(_) => Ok(()),
+            Err(ShelfRefused { shelf: _, cause: _ }) => Err(AllocError),
+        }
+    }
+
+    /// Rebuilds the slots of column 0. It fails where one of them is not rebuilt.
+    pub fn mend(&mut self, pads: &mut PadStream) -> Result<(), AllocError> {
+        let mut blind = draw_blind(pads);
+        for stripe in 0..RACK.stripes {
+            self.mend_slot(stripe, pads, &mut blind)?;
+        }
+        Ok(())
+    }
+
+    /// Mends a slot of column 0 until it is whole. It draws a new blind where one was used.
+    fn mend_slot(
+        &mut self,
+        stripe: u32,
+        pads: &mut PadStream,
+        blind: &mut Block,
+    ) -> Result<(), AllocError>
+        requires stripe { stripe < 1024 }
+        ensures whole { IfOk result (λ u. is_unsound (slot_at self.new.group.table stripe 0) ≡ false) }
+    {
+        for _ in 0..CALLS {
+            match self.mend_step(stripe, blind) {
+                Mend::Whole => return Ok(()),
+                Mend::Began => *blind = draw_blind(pads),
+                Mend::Went => {}
+                _ => return Err(AllocError),
+            }
+        }
+        Err(AllocError)
+    }
+
+    /// One step of a slot of column 0.
+    fn mend_step(&mut self, stripe: u32, blind: &Block) -> Mend
+        requires stripe { stripe < 1024 }
+        ensures whole { result ≡ Mend.Whole → is_unsound (slot_at self.new.group.table stripe 0) ≡ false }
+    {
+        let place = Place {
+            group: 0,
+            column: 0,
+            stripe,
+        };
+        self.group.mend(1, place, blind)
+    }
+
+    /// Column 1 begins to move to an archive without blocks.
+    pub fn leave_home(&mut self, alloc: Global) -> Result<(), AllocError> {
+        match self.group.move_begin(1, 1, shelf(alloc, TARGET)) {
+            Ok(()) => Ok(()),
+            Err(ShelfRefused { shelf: _, cause: _ }) => Err(AllocError),
+        }
+    }
+
+    /// Moves column 1 to the end of its move, one stripe after another. It fails where the move does not end behind the last.
+    pub fn move_home(&mut self) -> Result<(), AllocError> {
+        for _ in 0..=RACK.stripes {
+            match self.move_step() {
+                Ok(MoveStep::Ended) => return Ok(()),
+                Ok(_) => {}
+                Err(_) => return Err(AllocError),
+            }
+        }
+        Err(AllocError)
+    }
+
+    /// One step of the move of column 1.
+    fn move_step(&mut self) -> Result<MoveStep, MoveFault> {
+        self.group.move_step(1, 1)
+    }
+
+    /// The blocks that the archives hold.
+    pub fn end(self, alloc: Global) -> Result<Blocks, AllocError> {
         let Trial { group } = self;
-        let mut bytes = Vec::new(alloc);
+        let mut blocks = Blocks {
+            filled: Vec::new(alloc),
+            mended: Vec::new(alloc),
+            moved: Vec::new(alloc),
+        };
         let Ended {
             table: _,
             log: _,
             shelves,
         } = group.end();
         for shelf in &shelves {
-            add_blocks(&shelf.archive, &mut bytes)?;
+            blocks.add(shelf)?;
         }
-        Ok(bytes)
+        Ok(blocks)
     }
+}
+
+/// The blocks that archives hold at the end, stripe by stripe.
+#[derive(Drop)]
+pub struct Blocks {
+    /// Of the four archives that the puts filled, one after another.
+    pub filled: Vec<u8>,
+    /// Of the archive that replaced the home of column 0.
+    pub mended: Vec<u8>,
+    /// Of the archive that column 1 moved to.
+    pub moved: Vec<u8>,
+}
+
+impl Blocks {
+    /// Adds the blocks that an archive holds.
+    fn add(&mut self, shelf: &Shelf<LossyArchive>) -> Result<(), AllocError> {
+        match shelf.number {
+            REPLACING => add_blocks(&shelf.archive, &mut self.mended),
+            TARGET => add_blocks(&shelf.archive, &mut self.moved),
+            _ => add_blocks(&shelf.archive, &mut self.filled),
+        }
+    }
+}
+
+/// Draws a blind from a stream.
+fn draw_blind(pads: &mut PadStream) -> Block {
+    let mut bytes = [0; 1024];
+    pads.fill(&mut bytes);
+    Block::from_bytes(bytes)
 }
 
 /// Adds the blocks that an archive holds.

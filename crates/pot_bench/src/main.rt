@@ -2,11 +2,14 @@
 //!
 //! To standard output goes a line for each loop with a checksum of what it computed, the same at each
 //! run. To standard error goes how fast it went, and how many times slower than `xor_into` of that run;
-//! of puts and looks in a group, which part of their time the digests alone take that they make.
+//! of puts, looks, relays and moves in a group, which part of their time the digests alone take that they make.
 //! The argument says over how many megabytes each loop goes: 1 without it. Puts and looks go over three
-//! times as many. Sessions store and fetch ten files of 800 KB for 8 megabytes, and no more than ten: to standard
-//! output goes how many bytes they digest, and whether the fetched bytes are those of the files. It is no part of
-//! the archive.
+//! times as many. After the looks the archive of a column is replaced, and relays rebuild its blocks (`mend`);
+//! then another column moves (`move`). Each goes over as many megabytes as the argument says, and its checksum
+//! is of the blocks that the new archive holds, which are those of the archive that was replaced or left.
+//! Sessions store and fetch ten files of 800 KB for 8 megabytes, and no more than ten, and fetch them again with an
+//! archive gone: to standard output goes how many bytes they digest, and whether the fetched bytes are those of the
+//! files. It is no part of the archive.
 #![tactic(auto)]
 
 mod filing;

@@ -55,17 +55,18 @@ impl Report {
         Ok(speed)
     }
 
-    /// Prints how fast a loop over the three megabytes of each group was, and which part of its time the digests alone
-    /// take that it makes.
+    /// Prints how fast a loop was over so many columns of each group, of a megabyte each, and which part of its time the digests
+    /// alone take that it makes.
     pub fn part(
         &self,
         rt: &(impl Print + Eprint),
         name: &str,
+        columns: u8,
         seconds: f64,
         digests: f64,
         bytes: &[u8],
     ) -> io::Result<()> {
-        let speed = self.rounds * 3.0 / 16.0 / seconds;
+        let speed = self.rounds * f64::from(columns) / 16.0 / seconds;
         let part = digests / seconds;
         eprintln!(rt; "{name}: {speed:.0} MB/s, its digests alone take {part:.2} of that time")?;
         println!(rt; "{name} {:016x}", checksum(bytes))
@@ -96,6 +97,20 @@ impl Report {
             "{name}: {each:.2} bytes for SHA-256 a byte of file, its digests alone take {part:.2} of that time"
         )?;
         println!(rt; "{name} {:016x}, {given} bytes digested", checksum(bytes))
+    }
+
+    /// Prints how many times as long calls took as others that took this many seconds, with whole archives.
+    pub fn beside(
+        &self,
+        rt: &(impl Print + Eprint),
+        name: &str,
+        timed: &Timed,
+        whole: f64,
+        bytes: &[u8],
+    ) -> io::Result<()> {
+        let times = timed.seconds / whole;
+        eprintln!(rt; "{name}: {times:.2} times as long as with all archives")?;
+        println!(rt; "{name} {:016x}", checksum(bytes))
     }
 
     /// Prints whether the fetched bytes are those of the files.

@@ -91,6 +91,17 @@ impl Desk {
         self.puts.saturating_add(self.firsts)
     }
 
+    /// The same desk, with an archive without blocks in the place of the first of all.
+    pub fn with_one_gone(self, alloc: Global) -> Desk {
+        let mut desk = self;
+        for group in desk.archives.iter_mut().take(1) {
+            for place in group.iter_mut().take(1) {
+                *place = shelf(alloc, place.number);
+            }
+        }
+        desk
+    }
+
     /// What a session does before its first command: it reads the image, starts each group over its archives, which reads every
     /// block that the image names, and puts the groups and the index under turns.
     pub fn open(self, alloc: Global) -> Result<Session, AllocError> {
@@ -278,7 +289,16 @@ impl Session {
     ) -> Result<Vec<u8>, AllocError>
         requires { 0 < job }
     {
-        match fetch_file(rt, alloc, &self.vault, &mut self.passes, job, name) {
+        let mut pads = PadStream::new(&SEED, self.number, job);
+        match fetch_file(
+            rt,
+            alloc,
+            &self.vault,
+            &mut self.passes,
+            job,
+            name,
+            &mut pads,
+        ) {
             Ok(bytes) => Ok(bytes),
             Err(_) => Err(AllocError),
         }

@@ -1,11 +1,14 @@
-//! How long puts and looks in groups take, and the digests alone that they make.
+//! How long puts, looks, relays and moves in groups take, and the digests alone that they make.
 //!
-//! For each group the three loops run one after the other, so that a change in the speed of the machine comes to all of
-//! them alike.
+//! For each group the five loops run one after the other, so that a change in the speed of the machine comes to all of
+//! them alike. A relay's time has the drawing of its blind in it. The archives in memory keep each sum that they hear and each
+//! block that was ever written, and that is in the times too.
 
-use crate::groups::{TURNS, Trial};
+use crate::groups::{Blocks, TURNS, Trial};
 use crate::report::Report;
+use crate::rows::SEED;
 use pot_bytes::{Block, digest_of};
+use pot_pads::PadStream;
 use std::alloc::{AllocError, Global};
 use std::io;
 use std::rt::Clock;
@@ -26,12 +29,15 @@ fn untimed(alloc: Global) -> Timed {
     }
 }
 
-/// Digests of as many blocks as a group has data slots, puts that fill it, and looks at all of them.
+/// Digests of as many blocks as a group has data slots, puts that fill it, looks at all of them, relays that rebuild those of
+/// one column after its archive was replaced, and the move of another column.
 #[derive(Drop)]
 pub struct Trials {
     digests: Timed,
     puts: Timed,
     looks: Timed,
+    mends: Timed,
+    moves: Timed,
 }
 
 impl Trials {
@@ -46,6 +52,8 @@ impl Trials {
             digests: untimed(alloc),
             puts: untimed(alloc),
             looks: untimed(alloc),
+            mends: untimed(alloc),
+            moves: untimed(alloc),
         };
         for _ in 0..megabytes {
             trials.go_on(clock, alloc, blocks)?;
@@ -65,23 +73,56 @@ impl Trials {
         let begun = Instant::now(clock)?;
         self.looks.bytes = trial.look(alloc)?;
         self.looks.seconds += begun.elapsed(clock)?.as_secs_f64();
-        self.puts.bytes = trial.end(alloc)?;
+        self.change_archives(clock, alloc, &mut trial)?;
+        let Blocks {
+            filled,
+            mended,
+            moved,
+        } = trial.end(alloc)?;
+        self.puts.bytes = filled;
+        self.mends.bytes = mended;
+        self.moves.bytes = moved;
         Ok(())
     }
 
-    /// Prints a line for each. A look makes one digest. The three puts of a stripe make five: of each block, and of each new
-    /// parity block but the first, which is the first block itself. The old parity block that a put reads is the one written last,
-    /// whose digest is known.
+    /// The relays and the move of a group that is full. Archives come before the clock starts.
+    fn change_archives(
+        &mut self,
+        clock: &impl Clock,
+        alloc: Global,
+        trial: &mut Trial,
+    ) -> io::Result<()> {
+        let mut pads = PadStream::new(&SEED, 0, 5);
+        trial.replace(alloc)?;
+        let begun = Instant::now(clock)?;
+        trial.mend(&mut pads)?;
+        self.mends.seconds += begun.elapsed(clock)?.as_secs_f64();
+        trial.leave_home(alloc)?;
+        let begun = Instant::now(clock)?;
+        trial.move_home()?;
+        self.moves.seconds += begun.elapsed(clock)?.as_secs_f64();
+        Ok(())
+    }
+
+    /// Prints a line for each. The three puts of a stripe make five digests: of each block, and of each new parity block but the
+    /// first, which is the first block itself. The old parity block that a put reads is the one written last, whose digest is known.
+    /// A look makes one digest, and so does the move of a block, but for one block in 64: that is the block put last, whose digest is
+    /// known too. A relay makes four: of each block of the three columns that it goes over, and of the block that it writes.
     pub fn report(&self, rt: &(impl Print + Eprint), report: &Report) -> io::Result<()> {
         let Trials {
             digests,
             puts,
             looks,
+            mends,
+            moves,
         } = self;
-        let seconds = digests.seconds;
-        report.part(rt, "digest_of, blocks", seconds, seconds, &digests.bytes)?;
-        report.part(rt, "put", puts.seconds, seconds * 5.0 / 3.0, &puts.bytes)?;
-        report.part(rt, "look", looks.seconds, seconds, &looks.bytes)
+        let all = digests.seconds;
+        let read = all * 63.0 / 64.0;
+        report.part(rt, "digest_of, blocks", 3, all, all, &digests.bytes)?;
+        report.part(rt, "put", 3, puts.seconds, all * 5.0 / 3.0, &puts.bytes)?;
+        report.part(rt, "look", 3, looks.seconds, read, &looks.bytes)?;
+        report.part(rt, "mend", 1, mends.seconds, all * 4.0 / 3.0, &mends.bytes)?;
+        report.part(rt, "move", 1, moves.seconds, read / 3.0, &moves.bytes)
     }
 }
 

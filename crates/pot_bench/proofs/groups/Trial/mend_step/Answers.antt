@@ -1,0 +1,10 @@
+use Rattle.pot_doubles.specs.Archives.{meaning_in}
+use Rattle.pot_bench.proofs.Sizes.{HasSizes}
+use Rattle.pot_bench.proofs.Sizes as sizes
+use Rattle.pot_bench.proofs.groups.Trial.mend_step.Goals as goal
+
+pub invariant_of-self : goal.invariant_of-self
+invariant_of-self c =
+    let old = c.args.self.now in
+    let kept : HasSizes c.mend.new.self.table = sizes.mended meaning_in 1 c.args.stripe 0 c.args.blind.now c.mend.result _ _ c.mend.ensures.means (old.data_columns, old.parity, old.stripes) in
+    record { data_columns = kept.0; parity = kept.1; stripes = kept.2 }
