@@ -114,9 +114,11 @@ module _ (rack : Rack) (names turn : List TurnName) (job from to : ℕ) (row0 ro
   pub refused_begins : (fault : UseFault) (reply : Reply) → reply ≡ use_reply fault → ((s : Setting) → IsSettingOf s rack first → MigrateChecked s (seen_in row1) from to (Err fault)) → JobAlone job first (known row1 i1)
       → (s : Setting) → IsSettingOf s rack first → Unbegins s job from to (unbegun.Answered reply) asked_section
   refused_begins fault reply is says alone s set = λ its.
-      let silent = checked_silent rack names turn job row0 row1 i i1 ready ready1 iready same asked alone in
-      (subst (λ r. IsMigrateReply s asked_section.before (λ g. []) job from to r asked_section) (sym is)
-      (refused_row s fault asked_section (sym (met_logs rack names turn job row0 row1 i i1 ready ready1 iready same asked alone (of_jobs job asked_section its))) silent (says s set)), silent)
+      let silent = checked_silent rack names turn job row0 row1 i i1 ready ready1 iready same asked alone in (
+        subst (λ r. IsMigrateReply s asked_section.before (λ g. []) job from to r asked_section) (sym is)
+            (refused_row s fault asked_section (sym (met_logs rack names turn job row0 row1 i i1 ready ready1 iready same asked alone (of_jobs job asked_section its))) silent (says s set)),
+        silent,
+      )
 
   -- THE COLUMN MOVES ALREADY
 
@@ -190,9 +192,11 @@ module _ (rack : Rack) (names turn : List TurnName) (job from to : ℕ) (row0 ro
           ap (replayed (s.first group)) grows
           ∙ (ap (λ t. replayed t (seen_in row2 group)) began ∙ table_now rack names turn job row0 row1 i i1 ready ready1 iready same asked told R group row2 i2 same2 ready2 within call begin_all) in
           record {
-            begins = inl (subst (λ logs. MayBegin s logs from to group c) met (says s set),
-                own_here rack names turn job row0 row1 i i1 ready ready1 iready same asked told R group row2 i2 same2 ready2 within call begin_all alone
-                ∙ (call.turn.call.entries_are ∙ ap (λ n. entry.MoveBegin job c n ∷ []) number));
+            begins = inl (
+              subst (λ logs. MayBegin s logs from to group c) met (says s set),
+              own_here rack names turn job row0 row1 i i1 ready ready1 iready same asked told R group row2 i2 same2 ready2 within call begin_all alone
+                  ∙ (call.turn.call.entries_are ∙ ap (λ n. entry.MoveBegin job c n ∷ []) number),
+            );
             only = only_here rack names turn job row0 row1 i i1 ready ready1 iready same asked told R group row2 i2 same2 ready2 within call begin_all alone;
             moves = subst (λ (t : Table). IsSome (column_at t c).moving) (sym table) now_moves;
           }

@@ -178,7 +178,7 @@ module _ (rack : Rack) (names turn : List TurnName) (job from to g c : ℕ) (row
         (took_wider told well (Unit {0}) ns ns r r' k0 k1 (λ n. omega arith) (λ u. is) took)
         (took_none told then [] r' r' k1 k2 (λ n. refl) (λ n. refl) none_came))
 
-    module _ (alone : JobAlone job k0 k2) (s : Setting) (set : IsSettingOf s rack k0) (its : IsOfJobs job 1 (section_of k0 k2)) 
+    module _ (alone : JobAlone job k0 k2) (s : Setting) (set : IsSettingOf s rack k0) (its : IsOfJobs job 1 (section_of k0 k2))
         (has : JobAlone job k0 k1 → (s : Setting) → IsSettingOf s rack k0 → IsOfJobs job 1 (section_of k0 k1) → HasBegun s job from to g c (section_of k0 k1)) where
       parts : JobAlone job k0 k1 × JobAlone job k1 k2
       parts = alone_parts job k0 k1 k2 begun moves_work alone

@@ -5,7 +5,8 @@
 //!
 //! 1. A session keeps two images: the one with which it begins, before any archive is taken, and that of its close. Each has the number
 //!    one above that of the image that was read (`begun`).
-//! 2. An archive is taken once and given back once, whatever fails between: none is out when the call returns (`AreOut`).
+//! 2. Each archive that is taken is given back, whatever fails between: those of the tables read, and those that commands ask for. None is out when
+//!    the call returns (`AreOut`).
 //! 3. What a session leaves is tried to its end: a failure of the sink or want of memory ends the commands, and the close follows.
 //! 4. A status that names an object comes only where that object's count of faults rose in this call (`Caused`), and the first failure
 //!    gives it.
