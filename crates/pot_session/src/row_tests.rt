@@ -17,6 +17,10 @@ use std::test::Fail;
 const TWELVE: &str =
     "init --groups 3 --columns 3 --stripes 16 --fragments 2 --need 2 --shards 3 --blur 16";
 
+/// The same with room for ordinary files.
+const ORDINARY: &str =
+    "init --groups 3 --columns 3 --stripes 256 --fragments 2 --need 2 --shards 3 --blur 16";
+
 /// The same with room for the longest file.
 const LONG: &str =
     "init --groups 3 --columns 3 --stripes 1024 --fragments 2 --need 2 --shards 3 --blur 16";
@@ -82,7 +86,7 @@ struct Outside {
 }
 
 impl Outside {
-    /// A desk with this image, and 12 archives without blocks.
+    /// A desk with this image, and 13 archives without blocks.
     fn new(
         alloc: Global,
         image: Option<Vec<u8>>,
@@ -90,7 +94,7 @@ impl Outside {
         trouble: Trouble,
     ) -> Result<Outside, Fail> {
         let mut shelves = Vec::new(alloc);
-        for number in 0..12 {
+        for number in 0..13 {
             let fails = trouble.calls_of(alloc, Object::Archive(number))?;
             let archive = LossyArchive::new(alloc, fails, losses_of(alloc, number, losses)?);
             shelves.push(Shelf { number, archive })?;
@@ -152,12 +156,23 @@ impl Outside {
     /// All blocks that the archives hold, each behind the numbers of its archive and its slot.
     fn blocks(&self, alloc: Global) -> Result<Vec<u8>, AllocError> {
         let mut blocks = Vec::new(alloc);
-        for number in 0..12 {
+        for number in 0..13 {
             if let Some(archive) = self.room.archive(number) {
                 append_blocks(&mut blocks, number, archive)?;
             }
         }
         Ok(blocks)
+    }
+
+    /// All sums that the archives heard, each behind the numbers of its archive and its slot.
+    fn heard(&self, alloc: Global) -> Result<Vec<u8>, AllocError> {
+        let mut sums = Vec::new(alloc);
+        for number in 0..13 {
+            if let Some(archive) = self.room.archive(number) {
+                append_heard(&mut sums, number, archive)?;
+            }
+        }
+        Ok(sums)
     }
 }
 
@@ -184,6 +199,16 @@ fn append_blocks(
             blocks.extend_from_slice(&slot.to_be_bytes())?;
             blocks.extend_from_slice(block.bytes())?;
         }
+    }
+    Ok(())
+}
+
+/// The sums that an archive heard, each behind the numbers of its archive and its slot.
+fn append_heard(sums: &mut Vec<u8>, number: u32, archive: &LossyArchive) -> Result<(), AllocError> {
+    for heard in archive.heard() {
+        sums.extend_from_slice(&number.to_be_bytes())?;
+        sums.extend_from_slice(&heard.slot.to_be_bytes())?;
+        sums.extend_from_slice(heard.sum.bytes())?;
     }
     Ok(())
 }
@@ -562,54 +587,67 @@ fn repairs_and_scrubs_a_group(rt: HostRuntime) -> Result<(), Fail> {
 type Sessions<'a> = (&'a [(&'a [u8], u8)], &'a [u8]);
 
 /// Archives that come to groups: where a home is replaced its blocks are rebuilt, and a column that moves has them still. They are
-/// in the room again behind each session.
-const ARRIVALS: [Sessions; 3] = [
+/// in the room again behind each session. And the length and the mark of all sums heard: each is a block of the random stream of
+/// the job whose relay it is, behind those of the relays that it began before.
+const ARRIVALS: [(Sessions, (usize, u64)); 3] = [
     (
-        &[
-            (
-                b"store a 5\nhello\nstore b 5\nworld\nreplace 0 6\nfetch a\nstatus\n\
+        (
+            &[
+                (
+                    b"store a 5\nhello\nstore b 5\nworld\nreplace 0 6\nfetch a\nstatus\n\
                 repair 0\nscrub 0\nquit\n",
-                0,
-            ),
-            (b"fetch b\nscrub 0\nquit\n", 0),
-        ],
-        b"ready\nstored a 1 6\nstored b 1 6\nreplaced 0 6 4\nfile a 5\nhello\n\
+                    0,
+                ),
+                (b"fetch b\nscrub 0\nquit\n", 0),
+            ],
+            b"ready\nstored a 1 6\nstored b 1 6\nreplaced 0 6 4\nfile a 5\nhello\n\
         group 0 live 6 lost 2 broken 0 cursor 4 0\n\
         group 1 live 8 lost 0 broken 0 cursor 4 0\n\
         group 2 live 8 lost 0 broken 0 cursor 4 0\n\
         repaired 0 2 0\nscrubbed 0 8 0\nfile b 5\nworld\nscrubbed 0 8 0\n",
+        ),
+        (4128, 0xa259_2a29_1ef4_62d6),
     ),
     (
-        &[
-            (
-                b"store a 5\nhello\nreplace 0 6\nreplace 1 7\nfetch a\nquit\n",
-                1,
-            ),
-            (b"replace 0 8\nreplace 6 7\nquit\n", 1),
-        ],
-        b"ready\nstored a 1 6\nreplaced 0 6 2\nreplaced 1 7 2\nlost a 0 1 2 3\n\
+        (
+            &[
+                (
+                    b"store a 5\nhello\nreplace 0 6\nreplace 1 7\nfetch a\nquit\n",
+                    1,
+                ),
+                (b"replace 0 8\nreplace 6 7\nquit\n", 1),
+            ],
+            b"ready\nstored a 1 6\nreplaced 0 6 2\nreplaced 1 7 2\nlost a 0 1 2 3\n\
         noarchive 0\ninuse 7\n",
+        ),
+        NOTHING_HEARD,
     ),
     (
-        &[
-            (
-                b"store a 5\nhello\nmigrate 2 6\nmigrate 2 7\nmigrate 4 6\nreplace 4 2\nquit\n",
-                1,
-            ),
-            (b"scrub 1\nfetch a\nquit\n", 0),
-        ],
-        b"ready\nstored a 1 6\nmigrated 2 6 2\nnoarchive 2\ninuse 6\ninuse 2\n\
+        (
+            &[
+                (
+                    b"store a 5\nhello\nmigrate 2 6\nmigrate 2 7\nmigrate 4 6\nreplace 4 2\nquit\n",
+                    1,
+                ),
+                (b"scrub 1\nfetch a\nquit\n", 0),
+            ],
+            b"ready\nstored a 1 6\nmigrated 2 6 2\nnoarchive 2\ninuse 6\ninuse 2\n\
         scrubbed 1 4 0\nfile a 5\nhello\n",
+        ),
+        NOTHING_HEARD,
     ),
 ];
 
-/// Makes a new archive, and holds these sessions over it, while a call fails.
+/// The length and the mark of no bytes.
+const NOTHING_HEARD: (usize, u64) = (0, 0xe3b0_c442_98fc_1c14);
+
+/// Makes a new archive, holds these sessions over it, while a call fails, and gives back what is outside.
 fn hold_all<X: Wait + Abort>(
     rt: &X,
     alloc: Global,
     sessions: &Sessions,
     trouble: Trouble,
-) -> Result<(), Fail> {
+) -> Result<Outside, Fail> {
     let (scripts, text) = *sessions;
     let mut outside = Outside::new(alloc, None, &[], trouble)?;
     assert_eq!(rt; outside.call(rt, alloc, SIX, b"", NO_TROUBLE)?, 0);
@@ -620,22 +658,26 @@ fn hold_all<X: Wait + Abort>(
         );
     }
     assert_eq!(rt; outside.sink.written(), text);
-    Ok(())
+    Ok(outside)
 }
 
 #[test]
 fn archives_that_come(rt: HostRuntime) -> Result<(), Fail> {
-    for sessions in &ARRIVALS {
-        hold_all(&rt, rt.alloc(), sessions, NO_TROUBLE)?;
+    let alloc = rt.alloc();
+    for (sessions, wanted) in &ARRIVALS {
+        let outside = hold_all(&rt, alloc, sessions, NO_TROUBLE)?;
+        let heard = outside.heard(alloc)?;
+        assert_eq!(rt; (heard.len(), mark_of(&heard)), *wanted);
     }
     Ok(())
 }
 
-/// The room does not give the archive: the commands end, and the next session has what stood before. And the archive fails to which a
-/// column moves: the move stays where it is, and the next session ends it.
+/// The room does not give the archive: the commands end, and the next session has what stood before. The archive fails to which a
+/// column moves: the move stays where it is, and a later command or the next session ends it. And an archive fails in a relay: the
+/// next fetch ends it.
 #[test]
 fn archives_that_do_not_come(rt: HostRuntime) -> Result<(), Fail> {
-    let table: [(Object, u32, Sessions); 2] = [
+    let table: [(Object, u32, Sessions); 4] = [
         (
             Object::Room,
             6,
@@ -658,14 +700,106 @@ fn archives_that_do_not_come(rt: HostRuntime) -> Result<(), Fail> {
                 b"ready\nstored a 1 6\nfault 1 0\nmigrated 2 6 2\nscrubbed 1 4 0\nfile a 5\nhello\n",
             ),
         ),
+        (
+            Object::Archive(6),
+            0,
+            (
+                &[(
+                    b"store a 5\nhello\nmigrate 0 6\nmigrate 0 7\nmigrate 0 6\nquit\n",
+                    1,
+                )],
+                b"ready\nstored a 1 6\nfault 0 0\ninuse 0\nmigrated 0 6 2\n",
+            ),
+        ),
+        (
+            Object::Archive(1),
+            2,
+            (
+                &[(
+                    b"store a 5\nhello\nreplace 0 6\nfetch a\nfetch a\nquit\n",
+                    1,
+                )],
+                b"ready\nstored a 1 6\nreplaced 0 6 2\nfault 0 1\nfile a 5\nhello\n",
+            ),
+        ),
     ];
     for (object, call, sessions) in &table {
         let trouble = Trouble {
             object: *object,
             call: *call,
         };
-        hold_all(&rt, rt.alloc(), sessions, trouble)?;
+        let _outside = hold_all(&rt, rt.alloc(), sessions, trouble)?;
     }
+    Ok(())
+}
+
+/// An ordinary file, of which each shard of one archive is gone: its fetch needs no relay, and each block of a stripe in which one
+/// is gone hears one sum, that of the repair.
+#[test]
+fn an_ordinary_file(rt: HostRuntime) -> Result<(), Fail> {
+    let alloc = rt.alloc();
+    let script = joined(
+        alloc,
+        &[
+            (b"store report.txt 100000\n", 100_000),
+            (
+                b"\nstatus\nreplace 0 12\nfetch report.txt\nrepair 0\nquit\n",
+                0,
+            ),
+        ],
+    )?;
+    let text = joined(
+        alloc,
+        &[
+            (
+                b"ready\nstored report.txt 116 696\n\
+                group 0 live 310 lost 0 broken 0 cursor 77 1\n\
+                group 1 live 310 lost 0 broken 0 cursor 77 1\n\
+                group 2 live 310 lost 0 broken 0 cursor 77 1\n\
+                replaced 0 12 78\nfile report.txt 100000\n",
+                100_000,
+            ),
+            (b"\nrepaired 0 78 0\n", 0),
+        ],
+    )?;
+    let mut outside = Outside::new(alloc, None, &[], NO_TROUBLE)?;
+    assert_eq!(rt; outside.call(&rt, alloc, ORDINARY, b"", NO_TROUBLE)?, 0);
+    assert_eq!(rt; outside.call(&rt, alloc, "run", &script, NO_TROUBLE)?, 0);
+    assert!(rt; outside.sink.written() == text.as_slice());
+    assert_eq!(rt; outside.heard(alloc)?.len(), 232 * 1032);
+    Ok(())
+}
+
+/// The bytes of an image in which the places of a file stand, and those of another.
+const PLACES: (usize, usize) = (1067, 1150);
+
+/// A record has the places of another file: its fetch tells the digest of what was stored, and that of what came.
+#[test]
+fn a_file_with_the_places_of_another(rt: HostRuntime) -> Result<(), Fail> {
+    let alloc = rt.alloc();
+    let mut outside = Outside::new(alloc, None, &[], NO_TROUBLE)?;
+    let script = b"store a 5\nhello\nstore b 5\nworld\nquit\n";
+    assert_eq!(rt; outside.call(&rt, alloc, TWELVE, b"", NO_TROUBLE)?, 0);
+    assert_eq!(rt; outside.call(&rt, alloc, "run", script, NO_TROUBLE)?, 0);
+    let Some(image) = outside.image()? else {
+        return Err(Fail::from("no image"));
+    };
+    let (own, other) = PLACES;
+    let mut given = image.get(..own).unwrap_or(&[]).to_vec(alloc)?;
+    given.extend_from_slice(image.get(other..other + 36).unwrap_or(&[]))?;
+    given.extend_from_slice(image.get(own + 36..image.len() - 32).unwrap_or(&[]))?;
+    outside.desk = MemDesk::new(alloc, Some(sealed(alloc, &given)?), Vec::new(alloc));
+    let status = outside.call(&rt, alloc, "run", b"fetch a\nquit\n", NO_TROUBLE)?;
+    assert_eq!(rt;
+        (status, outside.sink.written()),
+        (
+            1,
+            b"ready\nstored a 1 6\nstored b 1 6\n\
+            odd a 2cf24dba5fb0a30e26e83b2ac5b9e29e1b161e5c1fa7425e73043362938b9824 \
+            486ea46224d1bb4fb680f34f7c9ad96a8f24ec88be73ea8e5a6c65260e9cb8a7\n"
+                .as_slice()
+        )
+    );
     Ok(())
 }
 
