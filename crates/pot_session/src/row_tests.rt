@@ -587,8 +587,9 @@ fn repairs_and_scrubs_a_group(rt: HostRuntime) -> Result<(), Fail> {
 type Sessions<'a> = (&'a [(&'a [u8], u8)], &'a [u8]);
 
 /// Archives that come to groups: where a home is replaced its blocks are rebuilt, and a column that moves has them still. They are
-/// in the room again behind each session. And the length and the mark of all sums heard: each is a block of the random stream of
-/// the job whose relay it is, behind those of the relays that it began before.
+/// in the room again behind each session. And the length and the mark of all sums heard: they are blocks of the random stream of the
+/// job whose relay it is. A block is drawn before the first step at a slot, and one behind each relay that begins, so that the
+/// relays of two slots have the first and the third.
 const ARRIVALS: [(Sessions, (usize, u64)); 3] = [
     (
         (
@@ -606,7 +607,7 @@ const ARRIVALS: [(Sessions, (usize, u64)); 3] = [
         group 2 live 8 lost 0 broken 0 cursor 4 0\n\
         repaired 0 2 0\nscrubbed 0 8 0\nfile b 5\nworld\nscrubbed 0 8 0\n",
         ),
-        (4128, 0xa259_2a29_1ef4_62d6),
+        (4128, 0xf8d2_29d2_b129_33cc),
     ),
     (
         (
