@@ -774,6 +774,9 @@ fn an_ordinary_file(rt: HostRuntime) -> Result<(), Fail> {
 /// The bytes of an image in which the places of a file stand, and those of another.
 const PLACES: (usize, usize) = (1067, 1150);
 
+/// Where the trailer of that image begins.
+const TRAILER: usize = 2194;
+
 /// A record has the places of another file: its fetch tells the digest of what was stored, and that of what came.
 #[test]
 fn a_file_with_the_places_of_another(rt: HostRuntime) -> Result<(), Fail> {
@@ -788,7 +791,7 @@ fn a_file_with_the_places_of_another(rt: HostRuntime) -> Result<(), Fail> {
     let (own, other) = PLACES;
     let mut given = image.get(..own).unwrap_or(&[]).to_vec(alloc)?;
     given.extend_from_slice(image.get(other..other + 36).unwrap_or(&[]))?;
-    given.extend_from_slice(image.get(own + 36..image.len() - 32).unwrap_or(&[]))?;
+    given.extend_from_slice(image.get(own + 36..TRAILER).unwrap_or(&[]))?;
     outside.desk = MemDesk::new(alloc, Some(sealed(alloc, &given)?), Vec::new(alloc));
     let status = outside.call(&rt, alloc, "run", b"fetch a\nquit\n", NO_TROUBLE)?;
     assert_eq!(rt;
