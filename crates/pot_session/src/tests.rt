@@ -126,7 +126,12 @@ fn refuses_words_and_scripts(rt: HostRuntime) -> Result<(), Fail> {
         ("generate", b"quit\n", 2, b"words refused\n"),
         ("run", b"", 3, b"bad line 1\n"),
         ("run", b"quit\n\n", 3, b"bad line 2\n"),
-        ("run", b"together 1\nfetch a\nend\nquit\n", 3, b"bad line 1\n"),
+        (
+            "run",
+            b"together 1\nfetch a\nend\nquit\n",
+            3,
+            b"bad line 1\n",
+        ),
         ("run", b"list\nscrub 5\nquit\n", 3, b"bad line 2\n"),
     ];
     for (words, script, status, text) in &table {
