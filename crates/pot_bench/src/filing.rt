@@ -52,7 +52,7 @@ pub fn time_sessions<R: Clock + Wait + Print + Eprint>(
     let mut session = Desk::new(alloc)?.open(alloc)?;
     let timed = store_files(rt, alloc, &mut session, &mut sums, &files)?;
     let desk = session.end(alloc)?;
-    let given = STORE.times(count, desk.put_digests()).bytes(files.len());
+    let given = STORE.times(count).bytes(files.len());
     report.calls(rt, "store", &timed, given, count, beside, desk.image())?;
     let given = by_opening(desk.live());
     let digested = given.bytes(desk.text().len());
@@ -61,9 +61,7 @@ pub fn time_sessions<R: Clock + Wait + Print + Eprint>(
     let desk = session.end(alloc)?;
     report.calls(rt, "opening", &timed, digested, count, beside, desk.image())?;
     let Fetched { timed, bytes, same } = fetched;
-    let given = FETCH
-        .times(count, count.saturating_mul(FETCH.blocks))
-        .bytes(files.len());
+    let given = FETCH.times(count).bytes(files.len());
     report.calls(rt, "fetch", &timed, given, count, beside, &bytes)?;
     report.same(rt, same)?;
     let gone = fetch_with_one_gone(rt, alloc, desk, &files)?;

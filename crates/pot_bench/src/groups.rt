@@ -8,6 +8,7 @@ use pot_group::{Ended, Group, Looked, Mend, MoveFault, MoveStep, ShelfRefused, S
 use pot_machine::GroupTable;
 use pot_outside::Shelf;
 use pot_pads::PadStream;
+use pot_store::{Expected, SealedPut};
 use std::alloc::{AllocError, Global};
 
 /// The rack of the group, of which each data column holds a megabyte.
@@ -40,6 +41,7 @@ const CALLS: u32 = 6;
 #[derive(Drop)]
 pub struct Trial {
     group: Group<LossyArchive>,
+    expected: Expected,
     ghost data_columns: { group.table.data_columns ≡ 3 },
     ghost parity: { group.table.parity ≡ 1 },
     ghost stripes: { group.table.stripes ≡ 1024 },
@@ -72,7 +74,10 @@ impl Trial {
             shelf(alloc, 3),
         ]?;
         match Group::start(alloc, 0, table, shelves) {
-            Ok(group) => Ok(Trial { group }),
+            Ok(group) => Ok(Trial {
+                group,
+                expected: Expected::new(RACK.columns),
+            }),
             Err(
                 StartRefused {
                     table: _,
@@ -82,22 +87,42 @@ impl Trial {
         }
     }
 
-    /// Puts a block. It fails where the group is full, and for want of memory.
-    fn put(&mut self, block: &Block) -> Result<(), AllocError> {
-        match self.group.put(1, block) {
-            Ok(_) => Ok(()),
+    /// Puts a block, of which the group knows what is expected. It fails where the group is full, and for want of memory.
+    fn put(&mut self, put: &SealedPut) -> Result<(), AllocError> {
+        self.group.expect(&put.block, &put.parity);
+        match self.group.put(1, put.block.block()) {
+            Ok(place) => {
+                self.expected.note(place, put);
+                Ok(())
+            }
             Err(_) => Err(AllocError),
         }
     }
 
-    /// Fills the group with the blocks of a row, over and over.
+    /// Fills the group with the blocks of a row, over and over, two at a time.
     pub fn fill(&mut self, blocks: &[Block]) -> Result<(), AllocError> {
         for _ in 0..TURNS {
-            for block in blocks {
-                self.put(block)?;
+            for pair in blocks.chunks(2) {
+                self.put_pair(pair)?;
             }
         }
         Ok(())
+    }
+
+    /// Puts two blocks, or one.
+    fn put_pair(&mut self, pair: &[Block]) -> Result<(), AllocError> {
+        match pair {
+            [first, second] => {
+                let (first, second) = self.expected.seal_two((0, 0), first, second);
+                self.put(&first)?;
+                self.put(&second)
+            }
+            [block] => {
+                let put = self.expected.seal(0, block);
+                self.put(&put)
+            }
+            _ => Ok(()),
+        }
     }
 
     /// Looks at each data slot: the first byte of each block that was seen, and then the length of the log.
@@ -206,7 +231,7 @@ impl Trial {
 
     /// The blocks that the archives hold.
     pub fn end(self, alloc: Global) -> Result<Blocks, AllocError> {
-        let Trial { group } = self;
+        let Trial { group, expected: _ } = self;
         let mut blocks = Blocks {
             filled: Vec::new(alloc),
             mended: Vec::new(alloc),

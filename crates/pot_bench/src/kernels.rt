@@ -5,6 +5,7 @@ ghost use Rattle.std.specs.List.{All, IsDistinct};
 
 use pot_bytes::{Block, digest_of, fold_weighted, xor_into};
 use pot_pads::PadStream;
+use pot_sealed::digests_of_four;
 use pot_split::{share_join, share_out};
 use rand_chacha::ChaCha20Rng;
 use rand_core::Rng;
@@ -96,6 +97,20 @@ pub fn digest_rounds(row: &mut [u8], rounds: u32)
         let digest = digest_of(row);
         row[0] = digest.bytes[0];
     }
+}
+
+/// Digests four blocks, of which the first one is that of zeros with the first digest in front from then on, and the others are the
+/// blocks of the numbers 1 to 3, repeated. The first byte of the first digest.
+pub fn four_rounds(rounds: u32) -> u8 {
+    let mut bytes = [0; 1024];
+    let b = Block::from_bytes([1; 1024]);
+    let c = Block::from_bytes([2; 1024]);
+    let d = Block::from_bytes([3; 1024]);
+    for _ in 0..rounds {
+        let digests = digests_of_four(&Block::from_bytes(bytes), &b, &c, &d);
+        bytes[0] = digests[0].bytes[0];
+    }
+    bytes[0]
 }
 
 /// Fills the row with the next bytes of a stream.

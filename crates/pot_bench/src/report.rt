@@ -72,6 +72,21 @@ impl Report {
         println!(rt; "{name} {:016x}", checksum(bytes))
     }
 
+    /// Prints how fast a loop was over three columns of each group, of a megabyte each, and how many times as fast as another one.
+    pub fn times(
+        &self,
+        rt: &(impl Print + Eprint),
+        name: &str,
+        seconds: f64,
+        other: f64,
+        bytes: &[u8],
+    ) -> io::Result<()> {
+        let speed = self.rounds * 3.0 / 16.0 / seconds;
+        let times = other / seconds;
+        eprintln!(rt; "{name}: {speed:.0} MB/s, {times:.2} times digest_of")?;
+        println!(rt; "{name} {:016x}", checksum(bytes))
+    }
+
     /// Prints how fast calls of sessions were over so many files, beside two loops of the same run; how many bytes SHA-256 was given by
     /// them for each byte of file; and which part of their time the digests alone take.
     pub fn calls(

@@ -78,14 +78,6 @@ impl Desk {
         &self.image
     }
 
-    /// How many digests of blocks the puts of its session took. A block is digested once. So is each parity block, but for the
-    /// first of a stripe, which is the same block as the first data block.
-    pub fn put_digests(&self) -> u32 {
-        self.puts
-            .saturating_add(self.puts)
-            .saturating_sub(self.firsts)
-    }
-
     /// How many slots are Live, where all were put by its session.
     pub fn live(&self) -> u32 {
         self.puts.saturating_add(self.firsts)

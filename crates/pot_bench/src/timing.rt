@@ -1,6 +1,6 @@
 //! How long puts, looks, relays and moves in groups take, and the digests alone that they make.
 //!
-//! For each group the five loops run one after the other, so that a change in the speed of the machine comes to all of
+//! For each group the six loops run one after the other, so that a change in the speed of the machine comes to all of
 //! them alike. A relay's time has the drawing of its blind in it. The archives in memory keep each sum that they hear and each
 //! block that was ever written, and that is in the times too.
 
@@ -9,6 +9,7 @@ use crate::report::Report;
 use crate::rows::SEED;
 use pot_bytes::{Block, digest_of};
 use pot_pads::PadStream;
+use pot_sealed::digests_of_four;
 use std::alloc::{AllocError, Global};
 use std::io;
 use std::rt::Clock;
@@ -29,11 +30,12 @@ fn untimed(alloc: Global) -> Timed {
     }
 }
 
-/// Digests of as many blocks as a group has data slots, puts that fill it, looks at all of them, relays that rebuild those of
+/// Digests of as many blocks as a group has data slots, one at a time and four at a time, puts that fill it, looks at all of them, relays that rebuild those of
 /// one column after its archive was replaced, and the move of another column.
 #[derive(Drop)]
 pub struct Trials {
     digests: Timed,
+    quartets: Timed,
     puts: Timed,
     looks: Timed,
     mends: Timed,
@@ -50,6 +52,7 @@ impl Trials {
     ) -> io::Result<Trials> {
         let mut trials = Trials {
             digests: untimed(alloc),
+            quartets: untimed(alloc),
             puts: untimed(alloc),
             looks: untimed(alloc),
             mends: untimed(alloc),
@@ -67,6 +70,9 @@ impl Trials {
         let begun = Instant::now(clock)?;
         self.digests.bytes = digests(alloc, blocks)?;
         self.digests.seconds += begun.elapsed(clock)?.as_secs_f64();
+        let begun = Instant::now(clock)?;
+        self.quartets.bytes = digests_in_fours(alloc, blocks)?;
+        self.quartets.seconds += begun.elapsed(clock)?.as_secs_f64();
         let begun = Instant::now(clock)?;
         trial.fill(blocks)?;
         self.puts.seconds += begun.elapsed(clock)?.as_secs_f64();
@@ -104,13 +110,14 @@ impl Trials {
         Ok(())
     }
 
-    /// Prints a line for each. The three puts of a stripe make five digests: of each block, and of each new parity block but the
-    /// first, which is the first block itself. The old parity block that a put reads is the one written last, whose digest is known.
+    /// Prints a line for each. Two puts make four digests at a time: of each block, and of each parity block that is expected. The
+    /// old parity block that a put reads is the one written last, whose digest is known.
     /// A look makes one digest, and so does the move of a block, but for one block in 64: that is the block put last, whose digest is
     /// known too. A relay makes four: of each block of the three columns that it goes over, and of the block that it writes.
     pub fn report(&self, rt: &(impl Print + Eprint), report: &Report) -> io::Result<()> {
         let Trials {
             digests,
+            quartets,
             puts,
             looks,
             mends,
@@ -118,8 +125,10 @@ impl Trials {
         } = self;
         let all = digests.seconds;
         let read = all * 63.0 / 64.0;
+        let four = quartets.seconds;
         report.part(rt, "digest_of, blocks", 3, all, all, &digests.bytes)?;
-        report.part(rt, "put", 3, puts.seconds, all * 5.0 / 3.0, &puts.bytes)?;
+        report.times(rt, "digest_four, blocks", four, all, &quartets.bytes)?;
+        report.part(rt, "put", 3, puts.seconds, four * 2.0, &puts.bytes)?;
         report.part(rt, "look", 3, looks.seconds, read, &looks.bytes)?;
         report.part(rt, "mend", 1, mends.seconds, all * 4.0 / 3.0, &mends.bytes)?;
         report.part(rt, "move", 1, moves.seconds, read / 3.0, &moves.bytes)
@@ -135,4 +144,26 @@ fn digests(alloc: Global, blocks: &[Block]) -> Result<Vec<u8>, AllocError> {
         }
     }
     Ok(bytes)
+}
+
+/// The same digests, taken four at a time.
+fn digests_in_fours(alloc: Global, blocks: &[Block]) -> Result<Vec<u8>, AllocError> {
+    let mut bytes = Vec::new(alloc);
+    for _ in 0..TURNS {
+        for four in blocks.chunks(4) {
+            add_four(four, &mut bytes)?;
+        }
+    }
+    Ok(bytes)
+}
+
+/// Adds the digests of four blocks.
+fn add_four(blocks: &[Block], bytes: &mut Vec<u8>) -> Result<(), AllocError> {
+    let [a, b, c, d] = blocks else {
+        return Err(AllocError);
+    };
+    for digest in digests_of_four(a, b, c, d) {
+        bytes.extend_from_slice(&digest.bytes)?;
+    }
+    Ok(())
 }

@@ -15,6 +15,7 @@ use pot_group::{Group, StartRefused};
 use pot_index::Index;
 use pot_machine::{Column, GroupTable};
 use pot_outside::Shelf;
+use pot_sealed::Sealed;
 use pot_shared::{Member, Passes, Vault};
 use std::alloc::Global;
 use std::sync::Wait;
@@ -130,8 +131,8 @@ fn filled<R: Wait>(
     ensures ready { IfOk result (λ p. AreReady rack.now p.0.groups p.1.groups) }
 {
     let (vault, mut passes) = vault(alloc, rack)?;
-    let block = Block::from_bytes([0x11; 1024]);
-    match vault.put(rt, &mut passes, 0, 1, &block) {
+    let block = Sealed::new(&Block::from_bytes([0x11; 1024]));
+    match vault.put(rt, &mut passes, 0, 1, &block, &block) {
         Ok(_) => Ok((vault, passes)),
         Err(_) => Err(Fail::from("the block was not put")),
     }

@@ -16,6 +16,7 @@ use pot_index::Index;
 use pot_machine::{Column, GroupTable};
 use pot_outside::Shelf;
 use pot_pads::PadStream;
+use pot_sealed::Sealed;
 use pot_shared::{Member, Passes, Vault};
 use std::alloc::Global;
 use std::sync::Wait;
@@ -112,8 +113,8 @@ fn put_blocks<R: Wait>(
     ensures ready { AreReady vault.now.rack vault.now.groups passes.new.groups }
 {
     for number in 0..count {
-        let block = Block::from_bytes([number; 1024]);
-        if vault.put(rt, passes, 0, 1, &block).is_err() {
+        let block = Sealed::new(&Block::from_bytes([number; 1024]));
+        if vault.put(rt, passes, 0, 1, &block, &block).is_err() {
             return Err(Fail::from("the block was not put"));
         }
     }

@@ -5,13 +5,15 @@ use crate::vault::{Passes, Vault};
 use pot_bytes::{Block, Place};
 use pot_group::{Counts, Kind, LogFull, Looked, PutFault};
 use pot_outside::Archive;
+use pot_sealed::Sealed;
 use std::sync::Wait;
 
 impl<A: Archive> Vault<A> {
     ghost use Rattle.pot_shared.specs.Ready.{AreReady, HasSlot};
     ghost use Rattle.pot_shared.specs.Calls.{CallAt, PutCall, LookCall, CountCall, NextCall};
 
-    /// Puts a block into a group, in one turn of it, as `Group::put`.
+    /// Puts a block into a group, in one turn of it, as `Group::put`. The group takes over the block's digest, and that of `parity`
+    /// where this is the parity block that it writes: another one changes no answer.
     ///
     /// # Errors
     /// Those of `Group::put`.
@@ -21,18 +23,20 @@ impl<A: Archive> Vault<A> {
         passes: &mut Passes<A>,
         group: u8,
         job: u32,
-        block: &Block,
+        block: &Sealed,
+        parity: &Sealed,
     ) -> Result<Place, PutFault>
         requires ready { AreReady self.now.rack self.now.groups passes.old.groups }
         requires group { group < length self.now.groups }
         requires job { 0 < job }
         ensures ready { AreReady self.now.rack self.now.groups passes.new.groups }
         ensures index { passes.new.index ≡ passes.old.index }
-        ensures call { CallAt (IsTrue A.account.tells) (PutCall (IsTrue A.account.tells) job block.now result) group passes.old.groups passes.new.groups }
+        ensures call { CallAt (IsTrue A.account.tells) (PutCall (IsTrue A.account.tells) job block.now.block result) group passes.old.groups passes.new.groups }
     {
         let mut member = self.groups.enter(rt, &mut passes.groups, group as usize);
         let _before = member.group.logged();
-        let answer = member.group.put(job, block);
+        member.group.expect(block, parity);
+        let answer = member.group.put(job, block.block());
         let _after = member.group.logged();
         self.groups
             .leave(&mut passes.groups, group as usize, member);

@@ -20,6 +20,7 @@ use pot_index::{FindFault, Index};
 use pot_machine::{Column, GroupTable};
 use pot_outside::Shelf;
 use pot_pads::PadStream;
+use pot_sealed::Sealed;
 use std::alloc::Global;
 use std::sync::Wait;
 use std::test::Fail;
@@ -169,8 +170,8 @@ fn calls_of_a_job(rt: HostRuntime) -> Result<(), Fail> {
         .map_err(|_| Fail::from("no memory"))?;
     assert_eq!(rt; listed.len(), 0);
     assert!(rt; vault.find(&rt, alloc, &mut passes, 2, &name).is_err());
-    let block = Block::zero();
-    assert_eq!(rt; vault.put(&rt, &mut passes, 0, 1, &block), Ok(PLACE));
+    let block = Sealed::new(&Block::zero());
+    assert_eq!(rt; vault.put(&rt, &mut passes, 0, 1, &block, &block), Ok(PLACE));
     assert_eq!(rt;
         vault.next(&rt, &mut passes, 0, 0, 0, Kind::Live),
         Some(PLACE)
@@ -222,8 +223,8 @@ fn filled<R: Wait>(
     ensures ready { IfOk result (λ p. AreReady rack.now p.0.groups p.1.groups) }
 {
     let (vault, mut passes) = vault(alloc, rack, lost)?;
-    let block = Block::from_bytes([0x11; 1024]);
-    match vault.put(rt, &mut passes, 0, 1, &block) {
+    let block = Sealed::new(&Block::from_bytes([0x11; 1024]));
+    match vault.put(rt, &mut passes, 0, 1, &block, &block) {
         Ok(_) => Ok((vault, passes)),
         Err(_) => Err(Fail::from("the block was not put")),
     }

@@ -1,6 +1,7 @@
 pub mod Works
 pub mod Adds
 pub mod Drawing
+pub mod Sealing
 pub mod Puts
 pub mod Stores
 pub mod Fetches

@@ -3,7 +3,8 @@
 //! 1. A store reserves its name, puts the blocks of the file each into its own group, and publishes their places; where a put is
 //!    refused, the name is free again: `store_file`.
 //! 2. The blocks are drawn piece by piece from the job's stream, and never more than one piece of them stands in memory:
-//!    `drawing`.
+//!    `drawing`. Their digests, and those of the parity blocks that the puts are expected to write, are taken four at a time:
+//!    `sealing`.
 //! 3. A fetch looks at the points of each fragment in order until enough blocks are seen, mends those of which nothing came where
 //!    they are too few, and joins what was seen without decoding a block: `fetch_file`.
 //! 4. What each answer says is said of the logs, and holds where nobody else logged an entry of the job: `StoreRow`, `FetchRow`.
@@ -14,13 +15,16 @@
 mod drawing;
 #[cfg(test)]
 mod drawing_tests;
+mod expecting;
 mod fetching;
 mod fragments;
 mod points;
 mod putting;
+mod sealing;
 mod shares;
 mod storing;
 mod visiting;
 
+pub use expecting::{Expected, SealedPut};
 pub use fetching::{FetchFault, fetch_file};
 pub use storing::{StoreFault, Stored, store_file};

@@ -9,7 +9,7 @@ ghost use Rattle.pot_store.specs.Works.{of_job};
 ghost use Rattle.pot_store.specs.Drawing.{all_blocks, count_of};
 ghost use Rattle.pot_store.specs.Puts.{ArePut, PutsEnd};
 
-use crate::drawing::Drawing;
+use crate::sealing::SealedDrawing;
 use pot_bytes::{Place, Rack};
 use pot_group::PutFault;
 use pot_outside::Archive;
@@ -43,7 +43,7 @@ pub(crate) fn put_all<A: Archive, R: Wait>(
     vault: &Vault<A>,
     passes: &mut Passes<A>,
     job: u32,
-    drawing: &mut Drawing,
+    drawing: &mut SealedDrawing,
     count: u32,
     places: &mut Vec<Place>,
 ) -> Result<(), Stopped>
@@ -65,9 +65,12 @@ pub(crate) fn put_all<A: Archive, R: Wait>(
 {
     for number in 0..count {
         let group = group_of(&vault.rack, number);
-        let block = drawing.next();
-        match vault.put(rt, passes, group, job, &block) {
-            Ok(place) => places.push_reserved(place),
+        let next = drawing.next((group, group_of(&vault.rack, number + 1)));
+        match vault.put(rt, passes, group, job, &next.block, &next.parity) {
+            Ok(place) => {
+                drawing.note(place, &next);
+                places.push_reserved(place);
+            }
             Err(cause) => return Err(Stopped { group, cause }),
         }
     }

@@ -12,6 +12,7 @@ ghost use Rattle.pot_store.specs.Stores.{DrawsFrom, StoreRow, record_of, fault_o
 
 use crate::drawing::Drawing;
 use crate::putting::{Stopped, put_all};
+use crate::sealing::SealedDrawing;
 use pot_bytes::{Geometry, Name, Place, Rack, digest_of};
 use pot_group::PutFault;
 use pot_index::{Places, Record, ReserveFault, Splits};
@@ -86,7 +87,7 @@ fn record_of(
 struct Plan<'a> {
     pieces: u32,
     shards: u32,
-    drawing: Drawing<'a>,
+    drawing: SealedDrawing<'a>,
     places: Vec<Place>,
 }
 
@@ -117,7 +118,7 @@ fn prepare<'a>(
     Ok(Plan {
         pieces,
         shards,
-        drawing,
+        drawing: SealedDrawing::new(drawing, shards, rack.columns),
         places,
     })
 }

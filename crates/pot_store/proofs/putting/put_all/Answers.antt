@@ -25,7 +25,7 @@ returns-in-Err-clause-worked g c =
     let sofar = c.loop-number.invariant in
     let lt : c.group_of-group.result < length c.args.vault.now.groups = (let w = c.group_of-group.ensures.within in let n = c.requires.groups in omega (arith, w, n)) in
     refused_work c.args.vault.now.rack c.args.vault.now.groups (IsTrue g.A.Archive.account.tells) c.args.job c.args.passes.now.groups c.loop-number.passes.groups c.put.new.passes.groups c.group_of-group.result
-    c.next-block.result c.in-Err.cause sofar.0 lt c.requires.parity c.in-Err.ensures.call sofar.2.worked
+    c.next-next.result.block.block c.in-Err.cause sofar.0 lt c.requires.parity c.in-Err.ensures.call sofar.2.worked
 
 pub returns-in-Err-clause-ends : goal.returns-in-Err-clause-ends
 returns-in-Err-clause-ends g c =
@@ -33,13 +33,13 @@ returns-in-Err-clause-ends g c =
     let lt : c.group_of-group.result < length c.args.vault.now.groups = (let w = c.group_of-group.ensures.within in let n = c.requires.groups in omega (arith, w, n)) in
     let less : c.loop-number.number < c.args.count = search rules in
     let all : length (all_blocks c.args.drawing.now) ≡ count_of c.args.drawing.now = place_laws.count c.args.drawing.now.geometry c.args.drawing.now.file (random_from c.args.drawing.now.geometry c.args.drawing.now.file c.args.drawing.now.start) in
-    let block : c.next-block.result ≡ slice_index_or (all_blocks c.args.drawing.now) c.loop-number.number [] =
-    c.next-block.ensures.block ∙ (ap (λ (d : Drawn). slice_index_or (all_blocks d) d.next []) sofar.4) in
-    let is : slice_get (all_blocks c.args.drawing.now) (length c.loop-number.places.items) ≡ Some c.next-block.result =
-    get_some (all_blocks c.args.drawing.now) (length c.loop-number.places.items) c.next-block.result []
+    let block : c.next-next.result.block.block ≡ slice_index_or (all_blocks c.args.drawing.now) c.loop-number.number [] =
+    c.next-next.ensures.block ∙ (ap (λ (d : Drawn). slice_index_or (all_blocks d) d.next []) sofar.4) in
+    let is : slice_get (all_blocks c.args.drawing.now) (length c.loop-number.places.items) ≡ Some c.next-next.result.block.block =
+    get_some (all_blocks c.args.drawing.now) (length c.loop-number.places.items) c.next-next.result.block.block []
     (let n = sofar.3 in let k = c.requires.count in omega (arith, less, all, n, k)) (block ∙ ap (λ n. slice_index_or (all_blocks c.args.drawing.now) n []) (sym sofar.3)) in
     puts_end c.args.vault.now.rack c.args.vault.now.groups (IsTrue g.A.Archive.account.tells) c.args.job c.args.passes.now.groups c.loop-number.passes.groups c.put.new.passes.groups c.group_of-group.result
-    c.next-block.result c.in-Err.cause sofar.0 lt c.requires.parity c.in-Err.ensures.call (all_blocks c.args.drawing.now) c.loop-number.places.items sofar.2 is
+    c.next-next.result.block.block c.in-Err.cause sofar.0 lt c.requires.parity c.in-Err.ensures.call (all_blocks c.args.drawing.now) c.loop-number.places.items sofar.2 is
     (c.group_of-group.ensures.value ∙ ap (λ n. Rattle.pot_index.specs.Fits.group_of c.args.vault.now.rack c.args.vault.now.rack.geometry n) (sym sofar.3)) c.requires.ready.of.0
 
 pub loop-number-preserved : goal.loop-number-preserved
@@ -48,18 +48,18 @@ loop-number-preserved g c =
     let lt : c.group_of-group.result < length c.args.vault.now.groups = (let w = c.group_of-group.ensures.within in let n = c.requires.groups in omega (arith, w, n)) in
     let less : c.loop-number.number < c.args.count = search rules in
     let all : length (all_blocks c.args.drawing.now) ≡ count_of c.args.drawing.now = place_laws.count c.args.drawing.now.geometry c.args.drawing.now.file (random_from c.args.drawing.now.geometry c.args.drawing.now.file c.args.drawing.now.start) in
-    let block : c.next-block.result ≡ slice_index_or (all_blocks c.args.drawing.now) c.loop-number.number [] =
-    c.next-block.ensures.block ∙ (ap (λ (d : Drawn). slice_index_or (all_blocks d) d.next []) sofar.4) in
-    let is : slice_get (all_blocks c.args.drawing.now) (length c.loop-number.places.items) ≡ Some c.next-block.result =
-    get_some (all_blocks c.args.drawing.now) (length c.loop-number.places.items) c.next-block.result []
+    let block : c.next-next.result.block.block ≡ slice_index_or (all_blocks c.args.drawing.now) c.loop-number.number [] =
+    c.next-next.ensures.block ∙ (ap (λ (d : Drawn). slice_index_or (all_blocks d) d.next []) sofar.4) in
+    let is : slice_get (all_blocks c.args.drawing.now) (length c.loop-number.places.items) ≡ Some c.next-next.result.block.block =
+    get_some (all_blocks c.args.drawing.now) (length c.loop-number.places.items) c.next-next.result.block.block []
     (let n = sofar.3 in let k = c.requires.count in omega (arith, less, all, n, k)) (block ∙ ap (λ n. slice_index_or (all_blocks c.args.drawing.now) n []) (sym sofar.3)) in
     let more = put_one c.args.vault.now.rack c.args.vault.now.groups (IsTrue g.A.Archive.account.tells) c.args.job c.loop-number.passes.groups c.put.new.passes.groups c.group_of-group.result
-    c.next-block.result c.in-Ok.place sofar.0 lt c.requires.parity c.in-Ok.ensures.call (all_blocks c.args.drawing.now) c.loop-number.places.items c.args.passes.now.groups sofar.2 is
+    c.next-next.result.block.block c.in-Ok.place sofar.0 lt c.requires.parity c.in-Ok.ensures.call (all_blocks c.args.drawing.now) c.loop-number.places.items c.args.passes.now.groups sofar.2 is
     (c.group_of-group.ensures.value ∙ ap (λ n. Rattle.pot_index.specs.Fits.group_of c.args.vault.now.rack c.args.vault.now.rack.geometry n) (sym sofar.3)) in (
       c.in-Ok.ensures.ready,
       c.in-Ok.ensures.index ∙ sofar.1,
       subst (λ ps. ArePut c.args.vault.now.rack c.args.job (all_blocks c.args.drawing.now) ps c.args.passes.now.groups c.put.new.passes.groups) (sym c.push_reserved.ensures.items) more,
       search rules,
-      c.next-block.ensures.next ∙ ap (λ (d : Drawn). record d { next = d.next + 1 }) sofar.4,
+      c.note.ensures ∙ c.next-next.ensures.next ∙ ap (λ (d : Drawn). record d { next = d.next + 1 }) sofar.4,
       search rules,
     )

@@ -9,11 +9,12 @@ returns-clause-planned c =
     let cut = c.in-Ok.ensures.cut in
     let rack = c.args.rack.now in
     let shards : c.in-Ok.pieces * (c.from.result * c.from-2.result) ≡ pieces_of _ * (rack.geometry.fragments * rack.geometry.shards) = cc (cut.1, c.from.ensures, c.from-2.ensures) in
+    let drawing = c.new.ensures ∙ c.in-Ok-start.ensures in
     record {
       short = cut.0;
       pieces_is = cut.1;
-      shards_is = shards ∙ sym (ap count_of c.in-Ok-start.ensures);
+      shards_is = shards ∙ sym (ap count_of drawing);
       few = subst (λ n. n ≤ 131072) (sym shards) (few_blocks _ rack.geometry.fragments rack.geometry.shards (few_pieces _ cut.0) c.requires.geometry.fragments.1 c.requires.geometry.shards);
-      drawing = c.in-Ok-start.ensures;
+      drawing = drawing;
       none = c.in-Ok-with_capacity.ensures.items;
     }

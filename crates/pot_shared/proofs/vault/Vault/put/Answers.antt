@@ -9,8 +9,8 @@ leave-requires-clause-grown g c =
     let told = IsTrue g.A.Archive.account.tells in
     let old = view_of g.A.Archive.account.meaning c.enter-member.result.group in
     let new = view_of g.A.Archive.account.meaning c.put-answer.new.self in
-    let means = put_means told c.args.job c.args.block.now c.put-answer.result old new c.put-answer.ensures.logs
-    (λ l. (let f = c.put-answer.ensures.full l in (f.0, ap (view_of g.A.Archive.account.meaning) f.1))) c.put-answer.ensures.keeps c.put-answer.ensures.step in
+    let means = put_means told c.args.job c.args.block.now.block c.put-answer.result old new (rw (c.expect.ensures, c.block.ensures) at c.put-answer.ensures.logs)
+    (λ l. (let f = (rw c.expect.ensures at c.put-answer.ensures.full) l in (f.0, ap (view_of g.A.Archive.account.meaning) f.1))) (rw c.expect.ensures at c.put-answer.ensures.keeps) (rw (c.expect.ensures, c.block.ensures) at c.put-answer.ensures.step) in
     grown c.args.self.now.groups c.args.passes.now.groups c.enter-member.new.passes c.args.group c.requires.ready.of c.requires.group old c.enter-member.ensures.took
     new means.0 means.1 c.enter-member.ensures.origin
 
@@ -19,8 +19,8 @@ leave-requires-clause-origin g c =
     let told = IsTrue g.A.Archive.account.tells in
     let old = view_of g.A.Archive.account.meaning c.enter-member.result.group in
     let new = view_of g.A.Archive.account.meaning c.put-answer.new.self in
-    let means = put_means told c.args.job c.args.block.now c.put-answer.result old new c.put-answer.ensures.logs
-    (λ l. (let f = c.put-answer.ensures.full l in (f.0, ap (view_of g.A.Archive.account.meaning) f.1))) c.put-answer.ensures.keeps c.put-answer.ensures.step in
+    let means = put_means told c.args.job c.args.block.now.block c.put-answer.result old new (rw (c.expect.ensures, c.block.ensures) at c.put-answer.ensures.logs)
+    (λ l. (let f = (rw c.expect.ensures at c.put-answer.ensures.full) l in (f.0, ap (view_of g.A.Archive.account.meaning) f.1))) (rw c.expect.ensures at c.put-answer.ensures.keeps) (rw (c.expect.ensures, c.block.ensures) at c.put-answer.ensures.step) in
     same_origin c.args.self.now.groups c.args.passes.now.groups c.enter-member.new.passes c.args.group c.requires.ready.of c.requires.group old c.enter-member.ensures.took
     new means.0 means.1 c.enter-member.ensures.origin
 
@@ -29,15 +29,15 @@ returns-clause-call g c =
     let told = IsTrue g.A.Archive.account.tells in
     let old = view_of g.A.Archive.account.meaning c.enter-member.result.group in
     let new = view_of g.A.Archive.account.meaning c.put-answer.new.self in
-    let means = put_means told c.args.job c.args.block.now c.put-answer.result old new c.put-answer.ensures.logs
-    (λ l. (let f = c.put-answer.ensures.full l in (f.0, ap (view_of g.A.Archive.account.meaning) f.1))) c.put-answer.ensures.keeps c.put-answer.ensures.step in
+    let means = put_means told c.args.job c.args.block.now.block c.put-answer.result old new (rw (c.expect.ensures, c.block.ensures) at c.put-answer.ensures.logs)
+    (λ l. (let f = (rw c.expect.ensures at c.put-answer.ensures.full) l in (f.0, ap (view_of g.A.Archive.account.meaning) f.1))) (rw c.expect.ensures at c.put-answer.ensures.keeps) (rw (c.expect.ensures, c.block.ensures) at c.put-answer.ensures.step) in
     called c.args.self.now.groups c.args.passes.now.groups c.enter-member.new.passes c.args.group c.requires.ready.of c.requires.group old c.enter-member.ensures.took
     new means.0 means.1 c.enter-member.ensures.origin
-    told (PutCall told c.args.job c.args.block.now c.put-answer.result) c.leave.new.passes c.leave.ensures.left c.enter-member.ensures.begins
+    told (PutCall told c.args.job c.args.block.now.block c.put-answer.result) c.leave.new.passes c.leave.ensures.left c.enter-member.ensures.begins
     c.logged-before.ensures.settled c.logged-before.ensures.first c.logged-after.ensures.settled means.2
 
 pub returns-clause-ready : goal.returns-clause-ready
 returns-clause-ready g c =
     let told = IsTrue g.A.Archive.account.tells in
-    ready_again c.args.self.now.rack c.args.self.now.groups told (PutCall told c.args.job c.args.block.now c.put-answer.result) c.args.group c.args.passes.now.groups c.leave.new.passes
+    ready_again c.args.self.now.rack c.args.self.now.groups told (PutCall told c.args.job c.args.block.now.block c.put-answer.result) c.args.group c.args.passes.now.groups c.leave.new.passes
     c.requires.group c.requires.ready (returns-clause-call g c)
