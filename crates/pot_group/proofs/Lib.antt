@@ -6,6 +6,7 @@ pub mod OpeningStripe
 pub mod OpeningFills
 pub mod OpeningLogs
 pub mod OpeningColumns
+pub mod SlotReads
 pub mod OpeningAll
 pub mod Settled
 pub mod Reading

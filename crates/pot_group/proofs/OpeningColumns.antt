@@ -1,5 +1,5 @@
 -- The columns of a stripe are opened one after the other.
-use Rattle.std.proofs.Common.{◌≡◌, ◌≢◌, ◌⊎◌, inl, inr, ℕ, suc, ◌+◌, ◌<◌, ◌≤◌, List, ◌++◌, length, Option, Some, None, Bool, true, false, ◌&&◌, IsTrue, Contains, refl, sym, ap, ap₂, ◌∙◌, subst, arith, append-nil, append_assoc, length-append, if◌then◌else◌}
+use Rattle.std.proofs.Common.{◌≡◌, ◌≢◌, ◌⊎◌, inl, inr, ℕ, suc, ◌+◌, ◌<◌, ◌≤◌, List, ◌++◌, length, Option, Some, None, Bool, true, false, ◌&&◌, IsTrue, refl, sym, ap, ap₂, ◌∙◌, subst, arith, append-nil, append_assoc, length-append, if◌then◌else◌}
 use Rattle.std.specs.Prelude.{◌==◌}
 use Rattle.pot_machine.proofs.Cases.{last_or}
 use Rattle.pot_bytes.specs.Sums.{zero_block}
@@ -8,20 +8,19 @@ use Rattle.pot_machine.specs.declared.slot.SlotState.TheVariants.{Void, Live, Lo
 use Rattle.pot_machine.specs.declared.entry.Entry.{Entry}
 use Rattle.pot_machine.specs.declared.entry.Entry.TheVariants.{Gone}
 use Rattle.pot_machine.specs.Slot.{is_live, is_lost, lost_of}
-use Rattle.pot_machine.specs.Table.{Table, width, slot_at, column_at, serving_at, count}
+use Rattle.pot_machine.specs.Table.{Table, width, slot_at, serving_at, count}
 use Rattle.pot_machine.specs.Machine.{Replays, TakesBroke, with_slot}
 use Rattle.pot_machine.proofs.Places.{slot_after, slot_other}
 use Rattle.pot_machine.proofs.Logs.{replays_append}
 use Rattle.pot_steps.specs.Stripe.{Sound}
 use Rattle.pot_steps.specs.Holdings.{stripe_of}
 use Rattle.pot_steps.specs.GroupStep.{entries_where}
-use Rattle.pot_machine.proofs.Columns.{names_serving}
 use Rattle.pot_group.specs.declared.opening.Part.{Part}
 use Rattle.pot_group.specs.declared.opening.Part.TheVariants as part
 use Rattle.pot_group.specs.declared.opening.Shortage.{Shortage}
 use Rattle.pot_group.specs.declared.opening.Shortage.TheVariants.{Nothing}
 use Rattle.pot_group.specs.Shelves.{Shelves, Stays}
-use Rattle.pot_group.specs.Opening.{HasArchives, FailedSo, ChangesStripe, IsPart, block_of, is_missing, gone_entry, OpensSlot, OpensColumns, short_by, first_by, second_by}
+use Rattle.pot_group.specs.Opening.{FailedSo, ChangesStripe, IsPart, block_of, is_missing, gone_entry, OpensSlot, OpensColumns, short_by, first_by, second_by}
 use Rattle.pot_group.proofs.ShelfLemmas.{stays_refl, stays_then}
 use Rattle.pot_group.proofs.OpeningStripe.{sound_same, find_more, short_more, lives_more, sums_more, sums_none}
 use Rattle.pot_group.proofs.OpeningLogs.{with_at, at_here, at_below, entries_begin, entries_more, entries_length, count_begin, count_more}
@@ -114,12 +113,6 @@ columns_length told n s t u before mid shortage first second a b o =
     let e : length mid ≡ length before + length (entries_where n o.gone (Gone 0 s)) = ap length o.log ∙ length-append before (entries_where n o.gone (Gone 0 s)) in
     let l : length (entries_where n o.gone (Gone 0 s)) ≤ n = entries_length n o.gone (Gone 0 s) in
     omega arith
-
--- the archive that serves a slot of the table now
-pub columns_served : (told : Type 0) (n s : ℕ) (t u : Table) (before mid : List Entry) (shortage : Shortage) (first second : List ℕ) (a b : Shelves)
-    → OpensColumns told n s t u before mid shortage first second a b → HasArchives t a.numbers → (c : ℕ) → c < width t → Contains b.numbers (serving_at u s c)
-columns_served told n s t u before mid shortage first second a b o h c lt =
-    subst (λ m. Contains b.numbers m) (sym (served s t u o.changes s c)) (subst (λ ns. Contains ns (serving_at t s c)) (sym o.stays.keeps.numbers) (h c (serving_at t s c) lt (names_serving (column_at t c) s)))
 
 -- a slot that is sound now was sound before blocks were lost
 pub sound_before : (told : Type 0) (t : Table) (s c : ℕ) (a b : Shelves) → Stays told a b → told → Sound (stripe_of t b.held s) c → Sound (stripe_of t a.held s) c

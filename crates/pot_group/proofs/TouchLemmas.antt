@@ -22,7 +22,7 @@ use Rattle.pot_outside.specs.declared.archive.Held.{Held as IsHeld}
 use Rattle.pot_outside.specs.declared.faults.Failed.{Failed}
 use Rattle.pot_outside.proofs.LossLemmas.{loses_nothing}
 use Rattle.pot_steps.specs.Stripe.{digest_of}
-use Rattle.pot_group.specs.Shelves.{Shelves, numbers_of, shelf_of, given, mark_of, plain, put_at, Touches, Calls, Keeps, LosesFrom, IsTaken, IsWritten, Writes, Folds, Stays, Finds}
+use Rattle.pot_group.specs.Shelves.{Shelves, numbers_of, shelf_of, given, mark_of, plain, put_at, Touches, Calls, Keeps, LosesFrom, IsTaken, IsWritten, Writes, Folds, Stays, Answers, Finds}
 use Rattle.pot_group.specs.declared.archives.Found.TheVariants.{Sound, Missing, NotRead}
 use Rattle.pot_outside.specs.declared.archive.Held.TheVariants.{Held, Absent}
 
@@ -228,6 +228,14 @@ module _ {A : Type 0} (told : Type 0) (meaning : A → Meaning) (marks : List Ma
   reads_there : (number slot : ℕ) (into : List ℕ) (result : Result IsHeld Failed) (old new : List (Shelf A))
       → (t : Touches number (Calls meaning (Reads told slot into result)) old new) → told → ReadTells ((data_of new).held number) slot into result
   reads_there number slot into result old new t z = subst (λ (w : Option (Shelf A)). ReadTells (λ m. given (λ x. (meaning x).held m) None w) slot into result) (sym t.now) (t.by.tells z)
+
+  pub answers : (number slot : ℕ) (into : List ℕ) (result : Result IsHeld Failed) (old new : List (Shelf A))
+      → Touches number (Calls meaning (Reads told slot into result)) old new → Answers told number slot into result (data_of old) (data_of new)
+  answers number slot into result old new t = record {
+    stays = stays number slot into result old new t;
+    tells = reads_there number slot into result old new t;
+    cause = (λ h. rose number _ old new t (t.by.cause.rose h));
+  }
 
   module _ (number slot : ℕ) (digest : Digest) (into : List ℕ) (result : Result IsHeld Failed) (old new : List (Shelf A)) (t : Touches number (Calls meaning (Reads told slot into result)) old new) where
     pub finds_sound : result ≡ Ok Held → digest_of into ≡ digest → Finds told number slot digest into Sound (data_of old) (data_of new)

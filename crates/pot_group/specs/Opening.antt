@@ -1,8 +1,13 @@
 -- The opening of a group: what it reads, what it logs of it, and what the archives do meanwhile.
-use Rattle.std.specs.Prelude.{◌≡◌, ◌≢◌, ◌⊎◌, ◌≤◌, ◌<◌, ◌+◌, ◌-◌, ◌^◌, ◌==◌, ◌&&◌, ◌++◌, ℕ, zero, suc, nat_le, Bool, true, false, IsTrue, List, [], ◌∷◌, Option, Some, None, Contains, slice_index, if◌then◌else◌}
+use Rattle.std.specs.Prelude.{◌≡◌, ◌≢◌, ◌⊎◌, ◌≤◌, ◌<◌, ◌+◌, ◌-◌, ◌^◌, ◌==◌, ◌&&◌, ◌++◌, ℕ, zero, suc, nat_le, Bool, true, false, IsTrue, List, [], ◌∷◌, Option, Some, None, Result, Ok, Err, IsErr, Contains, length, slice_get, slice_index, if◌then◌else◌}
 use Rattle.pot_bytes.specs.declared.digest.Digest.{Digest}
 use Rattle.pot_bytes.specs.Sums.{xor, zero_block}
 use Rattle.pot_bytes.specs.Weighted.{scaled}
+use Rattle.pot_outside.specs.Archives.{ReadTells}
+use Rattle.pot_outside.specs.Counts.{Rose}
+use Rattle.pot_outside.specs.declared.archive.Held.{Held as IsHeld}
+use Rattle.pot_outside.specs.declared.archive.Held.TheVariants.{Held, Absent}
+use Rattle.pot_outside.specs.declared.faults.Failed.{Failed}
 use Rattle.pot_machine.specs.declared.slot.SlotState.{SlotState}
 use Rattle.pot_machine.specs.declared.slot.SlotState.TheVariants as slot
 use Rattle.pot_machine.specs.declared.entry.Entry.{Entry}
@@ -20,6 +25,7 @@ use Rattle.pot_group.specs.declared.opening.Part.{Part}
 use Rattle.pot_group.specs.declared.opening.Part.TheVariants.{Empty, Present, Missing, Broken}
 use Rattle.pot_group.specs.declared.opening.Shortage.{Shortage}
 use Rattle.pot_group.specs.declared.opening.Shortage.TheVariants.{Nothing, One, Two, More}
+use Rattle.pot_group.specs.declared.slots.Reading.{Reading}
 use Rattle.pot_group.specs.Shelves.{Shelves, Stays}
 
 -- each home and each target of the table is one of these archives
@@ -43,6 +49,38 @@ FailedSo old new number times = (2 ^ 64 - 1 ≤ new.faults number) ⊎ (old.faul
 pub record ChangesStripe (s : ℕ) (t u : Table) : Type 0 where
   pub shape : u ≡ record t { slots = u.slots }
   pub others : (n k : ℕ) → n ≢ s → k < width t → slot_at u n k ≡ slot_at t n k
+
+-- THE READS OF ONE STRIPE
+
+-- whether a slot was read and its archive gave a block
+abbrev pub is_held : Option (Result IsHeld Failed) → Bool
+is_held None = false
+is_held (Some (Ok Held)) = true
+is_held (Some (Ok Absent)) = false
+is_held (Some (Err e)) = false
+
+-- what an answer says of a slot in this state, which the archive of this number serves; a slot that is not Live is not read
+abbrev pub AnswerMeans : Type 0 → SlotState → ℕ → ℕ → List ℕ → Option (Result IsHeld Failed) → Shelves → Shelves → Type 0
+AnswerMeans told x number slot block None old new = is_live x ≡ false
+AnswerMeans told x number slot block (Some r) old new = (told → ReadTells (new.held number) slot block r) × (IsErr r → Rose (old.faults number) (new.faults number))
+
+-- One slot is read where it is Live.
+pub record ReadsSlot (told : Type 0) (s c : ℕ) (t : Table) (r : Reading) (old new : Shelves) : Type 0 where
+  pub stays : Stays told old new
+  pub means : AnswerMeans told (slot_at t s c) (serving_at t s c) s r.block r.answer old new
+
+-- The first `n` columns of a stripe are read, one after the other: the archives before and after each. There are 20 places for the reads.
+pub record ReadsColumns (told : Type 0) (n s : ℕ) (t : Table) (readings : List Reading) (old new : Shelves) : Type 0 where
+  pub places : length readings ≡ 20
+  pub at : ℕ → Shelves
+  pub begins : at 0 ≡ old
+  pub ends : at n ≡ new
+  pub reads : (c : ℕ) (r : Reading) → c < n → slice_get readings c ≡ Some r → ReadsSlot told s c t r (at c) (at (suc c))
+
+-- The digests of the first `n` blocks, of those that were read. There are 20 places for them too.
+pub record AreDigests (n : ℕ) (readings : List Reading) (digests : List Digest) : Type 0 where
+  pub places : length digests ≡ 20
+  pub right : (c : ℕ) (r : Reading) (d : Digest) → c < n → slice_get readings c ≡ Some r → slice_get digests c ≡ Some d → IsTrue (is_held r.answer) → d ≡ digest_of r.block
 
 -- ONE SLOT
 

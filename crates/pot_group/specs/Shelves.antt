@@ -5,7 +5,7 @@ use Rattle.pot_outside.specs.declared.archive.Marks.{Marks}
 use Rattle.pot_outside.specs.declared.archive.Shelf.{Shelf}
 use Rattle.pot_outside.specs.declared.faults.Failed.{Failed}
 use Rattle.pot_outside.specs.declared.archive.Held.{Held as IsHeld}
-use Rattle.pot_outside.specs.Archives.{Meaning, OnlyLoses, FoldTells, LeavesSum, HearsFold, MayLeave, at_slot}
+use Rattle.pot_outside.specs.Archives.{Meaning, OnlyLoses, ReadTells, FoldTells, LeavesSum, HearsFold, MayLeave, at_slot}
 use Rattle.pot_outside.specs.Counts.{Rose}
 use Rattle.pot_steps.specs.Holdings.{Holdings}
 use Rattle.pot_steps.specs.Stripe.{digest_of}
@@ -108,6 +108,12 @@ abbrev pub FoundMeans : Type 0 → ℕ → ℕ → Digest → List ℕ → Found
 FoundMeans told number slot digest into Sound old new = (digest_of into ≡ digest) × (told → new.held number slot ≡ Some into)
 FoundMeans told number slot digest into Missing old new = told → (b : List ℕ) → new.held number slot ≡ Some b → digest_of b ≢ digest
 FoundMeans told number slot digest into NotRead old new = Rose (old.faults number) (new.faults number)
+
+-- One archive was asked for the block of a slot.
+pub record Answers (told : Type 0) (number slot : ℕ) (into : List ℕ) (result : Result IsHeld Failed) (old new : Shelves) : Type 0 where
+  pub stays : Stays told old new
+  pub tells : told → ReadTells (new.held number) slot into result
+  pub cause : IsErr result → Rose (old.faults number) (new.faults number)
 
 -- An archive was read. The others hold what they held.
 pub record Finds (told : Type 0) (number slot : ℕ) (digest : Digest) (into : List ℕ) (found : Found) (old new : Shelves) : Type 0 where

@@ -3,7 +3,7 @@ ghost use Rattle.std.specs.Prelude.{◌≡◌, ◌<◌, ◌==◌, ◌↔◌, IsT
 ghost use Rattle.std.specs.List.{position};
 ghost use Rattle.pot_steps.specs.Stripe.{digest_of};
 ghost use Rattle.pot_outside.specs.Archives.{Reads, Writes as WritesOne, Folds as FoldsOne};
-ghost use Rattle.pot_group.specs.Shelves.{plain, numbers_of, Touches, Calls, IsTaken, Finds, Writes, Folds, Brings};
+ghost use Rattle.pot_group.specs.Shelves.{plain, numbers_of, Touches, Calls, IsTaken, Answers, Finds, Writes, Folds, Brings};
 
 use crate::known::Known;
 use pot_bytes::{Block, Digest, digest_of};
@@ -61,6 +61,17 @@ impl<A: Archive> Archives<A> {
     {
         let Archives { shelves, marks: _ } = self;
         shelves
+    }
+
+    /// Reads the block of a slot of an archive into `into`, where the slot has one.
+    ///
+    /// # Errors
+    /// `Failed` only where the archive's count of faults rose.
+    pub(crate) fn read(&mut self, number: u32, slot: u32, into: &mut Block) -> Result<Held, Failed>
+        requires { Contains (plain A.account.meaning self.old).numbers number }
+        ensures { Answers (IsTrue A.account.tells) number slot into.new result (plain A.account.meaning self.old) (plain A.account.meaning self.new) }
+    {
+        read(&mut self.shelves, number, slot, into)
     }
 
     /// Reads the block of a slot of an archive, which is to have this digest, into `into`. Some digests are known.

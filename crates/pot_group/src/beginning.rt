@@ -78,7 +78,7 @@ impl<A: Archive> Group<A> {
         let mut archives = archives;
         let _rules = table.cursor();
         let known = Known::nothing();
-        open_all(&mut table, &mut log, &mut archives, &known);
+        open_all(&mut table, &mut log, &mut archives);
         Group {
             number,
             first,

@@ -95,6 +95,7 @@ mod relay_tests;
 mod relaying;
 #[cfg(test)]
 mod scene;
+mod slots;
 mod telling;
 #[cfg(test)]
 mod tests;

@@ -1,17 +1,19 @@
-//! The opening of a group: no image is trusted, and the block of every Live slot is read.
-ghost use Rattle.std.specs.Prelude.{◌≡◌, ◌<◌, ◌≤◌, ◌+◌, ◌*◌, [], ℕ, slice_index, IsTrue, Contains, length, vec_len, vec_capacity};
-ghost use Rattle.pot_machine.specs.Table.{width, serving_at};
+//! The opening of a group: no image is trusted, and the block of every Live slot is read. The slots of a stripe are read
+//! first, then their blocks are digested side by side, and only then is it noted which are missing.
+ghost use Rattle.std.specs.Prelude.{◌≡◌, ◌<◌, ◌≤◌, ◌+◌, ◌*◌, ◌↔◌, [], ℕ, Bool, slice_index, IsTrue, length, vec_len, vec_capacity};
+ghost use Rattle.pot_machine.specs.Table.{width};
 ghost use Rattle.pot_machine.specs.Machine.{InRange};
 ghost use Rattle.pot_bytes.specs.Lists.{IsBlock};
-ghost use Rattle.pot_group.specs.Shelves.{plain};
-ghost use Rattle.pot_group.specs.Opening.{HasArchives, OpensSlot, OpensColumns, OpensStripe, Opens, short_by, first_by, second_by};
+ghost use Rattle.pot_steps.specs.Stripe.{digest_of};
+ghost use Rattle.pot_group.specs.Shelves.{Shelves, plain};
+ghost use Rattle.pot_group.specs.Opening.{HasArchives, is_held, ReadsSlot, OpensSlot, OpensColumns, OpensStripe, Opens, short_by, first_by, second_by};
 ghost use Rattle.pot_machine.specs.declared.entry.Entry.TheVariants.{Broke};
 
-use crate::archives::{Archives, Found};
+use crate::archives::Archives;
 use crate::filling::{Breaking, broken};
-use crate::known::Known;
 use crate::noting::note;
 use crate::parities::Parity;
+use crate::slots::{Reading, StripeReads, read_stripe};
 use pot_bytes::{Block, Digest, block_law, fold_weighted};
 use pot_machine::{Entry, GroupTable, SlotState};
 use pot_outside::Archive;
@@ -56,7 +58,6 @@ pub(crate) fn open_all<A: Archive>(
     table: &mut GroupTable,
     log: &mut Vec<Entry>,
     archives: &mut Archives<A>,
-    known: &Known,
 )
     requires log { log.old.items ≡ [] }
     requires room { 262144 ≤ vec_capacity log.old }
@@ -65,8 +66,9 @@ pub(crate) fn open_all<A: Archive>(
     ensures room { 262144 ≤ vec_capacity log.new }
     ensures bound { length log.new.items ≤ 262144 }
 {
+    let mut reads = StripeReads::nothing();
     for stripe in 0..table.stripes() {
-        open_stripe(table, log, archives, known, stripe);
+        open_stripe(table, log, archives, &mut reads, stripe);
     }
 }
 
@@ -75,7 +77,7 @@ fn open_stripe<A: Archive>(
     table: &mut GroupTable,
     log: &mut Vec<Entry>,
     archives: &mut Archives<A>,
-    known: &Known,
+    reads: &mut StripeReads,
     stripe: u32,
 )
     requires stripe { stripe < table.old.stripes }
@@ -88,7 +90,7 @@ fn open_stripe<A: Archive>(
     let data_columns = table.data_columns();
     let parity_columns = table.parity();
     let mut sums = Parity::zero();
-    let shortage = open_columns(table, log, archives, known, stripe, &mut sums);
+    let shortage = open_columns(table, log, archives, reads, stripe, &mut sums);
     match broken(shortage, &sums, data_columns, parity_columns) {
         Breaking::Nothing => {}
         Breaking::One { column } => note(table, log, broke(stripe, column)),
@@ -115,7 +117,7 @@ fn open_columns<A: Archive>(
     table: &mut GroupTable,
     log: &mut Vec<Entry>,
     archives: &mut Archives<A>,
-    known: &Known,
+    reads: &mut StripeReads,
     stripe: u32,
     sums: &mut Parity,
 ) -> Shortage
@@ -129,41 +131,47 @@ fn open_columns<A: Archive>(
     let data_columns = table.data_columns();
     let parity_columns = table.parity();
     let mut shortage = Shortage::Nothing;
-    let mut into = Block::zero();
+    read_stripe(table, archives, stripe, reads);
     for column in 0..data_columns + parity_columns {
-        let part = open_slot(table, log, archives, known, stripe, column, &mut into);
+        let place = column as usize;
+        let reading = &reads.readings[place];
+        let part = open_slot(table, log, reading, reads.digests[place], stripe, column);
         shortage = add_part(shortage, column, part);
-        add_block(sums, part, &into, column, data_columns, parity_columns);
+        add_block(
+            sums,
+            part,
+            &reading.block,
+            column,
+            data_columns,
+            parity_columns,
+        );
     }
     shortage
 }
 
-/// Reads the block of a slot that is Live, and notes Gone where it gave none of its digest.
-fn open_slot<A: Archive>(
+/// Notes Gone of a slot that is Live and whose read gave no block of its digest. `digest` is that of the block that it gave.
+fn open_slot(
     table: &mut GroupTable,
     log: &mut Vec<Entry>,
-    archives: &mut Archives<A>,
-    known: &Known,
+    reading: &Reading,
+    digest: Digest,
     stripe: u32,
     column: u8,
-    into: &mut Block,
 ) -> Part
     requires range { InRange table.old stripe column }
     requires room { vec_len log.old < vec_capacity log.old }
-    requires archives { Contains (plain A.account.meaning archives.old).numbers (serving_at table.old stripe column) }
-    ensures opens { OpensSlot (IsTrue A.account.tells) stripe column table.old table.new log.old.items log.new.items result into.new (plain A.account.meaning archives.old) (plain A.account.meaning archives.new) }
+    requires digest { IsTrue (is_held reading.now.answer) → digest ≡ digest_of reading.now.block }
+    ensures opens { (tells : Bool) (old new : Shelves) → ReadsSlot (IsTrue tells) stripe column table.old reading.now old new → OpensSlot (IsTrue tells) stripe column table.old table.new log.old.items log.new.items result reading.now.block old new }
     ensures capacity { vec_capacity log.old ≤ vec_capacity log.new }
 {
-    let digest = match table.slot(stripe, column) {
+    let wanted = match table.slot(stripe, column) {
         SlotState::Void => return Part::Empty,
         SlotState::Lost(digest) => return Part::Missing(digest),
         SlotState::Broken(_) => return Part::Broken,
         SlotState::Live(digest) => digest,
     };
-    let number = table.archive_of(stripe, column);
-    let found = archives.read_sound(number, stripe, digest, known, into);
-    if let Found::Sound = found {
-        block_law(into);
+    if is_sound(reading, digest, wanted) {
+        block_law(&reading.block);
         return Part::Present;
     }
     let entry = Entry::Gone {
@@ -172,7 +180,15 @@ fn open_slot<A: Archive>(
         column,
     };
     note(table, log, entry);
-    Part::Missing(digest)
+    Part::Missing(wanted)
+}
+
+/// Whether a read gave a block of the digest that is wanted. `digest` is that of the block that it gave.
+fn is_sound(reading: &Reading, digest: Digest, wanted: Digest) -> bool
+    requires digest { IsTrue (is_held reading.now.answer) → digest ≡ digest_of reading.now.block }
+    ensures { IsTrue result ↔ IsTrue (is_held reading.now.answer) × (digest_of reading.now.block ≡ wanted) }
+{
+    reading.is_held() && digest == wanted
 }
 
 /// One part more.
