@@ -76,6 +76,8 @@ mod archives;
 mod beginning;
 mod copying;
 mod counting;
+#[cfg(test)]
+mod fault_tests;
 mod filling;
 mod finding;
 mod group;

@@ -186,7 +186,7 @@ pub(crate) fn skip(stripe: u32) -> Entry {
 }
 
 /// The byte that a block repeats, if it does.
-fn repeated(block: &Block) -> Option<u8> {
+pub(crate) fn repeated(block: &Block) -> Option<u8> {
     let bytes = block.bytes();
     let first = bytes[0];
     if bytes.iter().all(|byte| *byte == first) {
@@ -441,7 +441,7 @@ pub(crate) fn slots(alloc: Global, table: &GroupTable) -> Result<Vec<SlotState>,
 }
 
 /// The letter of each slot.
-fn letters(alloc: Global, slots: &[SlotState]) -> Result<String, AllocError> {
+pub(crate) fn letters(alloc: Global, slots: &[SlotState]) -> Result<String, AllocError> {
     let mut letters = String::new(alloc);
     for slot in slots {
         letters.push(match slot {
