@@ -54,7 +54,7 @@ pub fn time_sessions<R: Clock + Wait + Print + Eprint>(
     let desk = session.end(alloc)?;
     let given = STORE.times(count).bytes(files.len());
     report.calls(rt, "store", &timed, given, count, beside, desk.image())?;
-    let given = by_opening(desk.live());
+    let given = by_opening(desk.stripes());
     let digested = given.bytes(desk.text().len());
     let (mut session, timed) = open_desk(rt, alloc, desk, &mut sums, &given)?;
     let fetched = fetch_files(rt, alloc, &mut session, &mut sums, &files)?;

@@ -38,11 +38,11 @@ pub const FETCH: Given = Given {
     records: 0,
 };
 
-/// By an opening: each block that is Live, and for each of the five groups the block of zeros.
-pub fn by_opening(live: u32) -> Given {
+/// By an opening: the four blocks of each stripe that has one, side by side, and for each of the five groups the block of zeros.
+pub fn by_opening(stripes: u32) -> Given {
     Given {
-        blocks: live.saturating_add(5),
-        fours: 0,
+        blocks: 5,
+        fours: stripes,
         contents: 0,
         objects: 0,
         records: 0,

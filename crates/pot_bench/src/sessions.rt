@@ -47,9 +47,8 @@ pub struct Desk {
     image: Vec<u8>,
     /// The archives of each group, column by column.
     archives: Vec<Vec<Shelf<LossyArchive>>>,
-    /// How many blocks that session put, and how many of them were the first of their stripe.
-    puts: u32,
-    firsts: u32,
+    /// Into how many stripes that session put blocks.
+    stripes: u32,
 }
 
 impl Desk {
@@ -78,9 +77,9 @@ impl Desk {
         &self.image
     }
 
-    /// How many slots are Live, where all were put by its session.
-    pub fn live(&self) -> u32 {
-        self.puts.saturating_add(self.firsts)
+    /// How many stripes have blocks, where all were put by its session.
+    pub fn stripes(&self) -> u32 {
+        self.stripes
     }
 
     /// The same desk, with an archive without blocks in the place of the first of all.
@@ -100,8 +99,7 @@ impl Desk {
         let Desk {
             image,
             archives,
-            puts: _,
-            firsts: _,
+            stripes: _,
         } = self;
         let Ok(
             Image {
@@ -320,8 +318,7 @@ impl Session {
 struct Left {
     image: Image,
     archives: Vec<Vec<Shelf<LossyArchive>>>,
-    puts: u32,
-    firsts: u32,
+    stripes: u32,
 }
 
 impl Left {
@@ -337,12 +334,11 @@ impl Left {
                 index_log: Vec::new(alloc),
             },
             archives: Vec::new(alloc),
-            puts: 0,
-            firsts: 0,
+            stripes: 0,
         }
     }
 
-    /// Ends a group, and counts its puts.
+    /// Ends a group, and counts the stripes that it began.
     fn end_group(&mut self, group: Group<LossyArchive>) -> Result<(), AllocError> {
         let Ended {
             table,
@@ -358,13 +354,10 @@ impl Left {
         Ok(())
     }
 
-    /// Counts an entry that is a put.
+    /// Counts an entry that is the put of a stripe's first block.
     fn count(&mut self, entry: &Entry) {
-        if let Entry::Put { column, .. } = entry {
-            self.puts = self.puts.saturating_add(1);
-            if *column == 0 {
-                self.firsts = self.firsts.saturating_add(1);
-            }
+        if let Entry::Put { column: 0, .. } = entry {
+            self.stripes = self.stripes.saturating_add(1);
         }
     }
 
@@ -373,8 +366,7 @@ impl Left {
         let Left {
             image,
             archives,
-            puts,
-            firsts,
+            stripes,
         } = self;
         if !image.is_countable() {
             return Err(AllocError);
@@ -383,8 +375,7 @@ impl Left {
             Ok(image) => Ok(Desk {
                 image,
                 archives,
-                puts,
-                firsts,
+                stripes,
             }),
             Err(_) => Err(AllocError),
         }
