@@ -4,7 +4,9 @@ ghost use Rattle.std.specs.Prelude.{◌≡◌, ◌<◌};
 
 use pot_bytes::{Block, Geometry, Place, Rack};
 use pot_doubles::LossyArchive;
-use pot_group::{Ended, Group, Looked, Mend, MoveFault, MoveStep, ShelfRefused, StartRefused};
+use pot_group::{
+    Ended, Group, Looked, Mend, MoveFault, MoveStep, PutFault, ShelfRefused, StartRefused,
+};
 use pot_machine::GroupTable;
 use pot_outside::Shelf;
 use pot_pads::PadStream;
@@ -87,16 +89,19 @@ impl Trial {
         }
     }
 
-    /// Puts a block, of which the group knows what is expected. It fails where the group is full, and for want of memory.
-    fn put(&mut self, put: &SealedPut) -> Result<(), AllocError> {
+    /// Puts a block, of which the group knows what is expected.
+    fn put(&mut self, put: &SealedPut) -> Result<Place, PutFault> {
         self.group.expect(&put.block, &put.parity);
-        match self.group.put(1, put.block.block()) {
-            Ok(place) => {
-                self.expected.note(place, put);
-                Ok(())
-            }
-            Err(_) => Err(AllocError),
-        }
+        self.group.put(1, put.block.block())
+    }
+
+    /// Puts a block, and notes where it stands. It fails where the group is full.
+    fn put_next(&mut self, put: &SealedPut) -> Result<(), AllocError> {
+        let Ok(place) = self.put(put) else {
+            return Err(AllocError);
+        };
+        self.expected.note(place, put);
+        Ok(())
     }
 
     /// Fills the group with the blocks of a row, over and over, two at a time.
@@ -114,12 +119,12 @@ impl Trial {
         match pair {
             [first, second] => {
                 let (first, second) = self.expected.seal_two((0, 0), first, second);
-                self.put(&first)?;
-                self.put(&second)
+                self.put_next(&first)?;
+                self.put_next(&second)
             }
             [block] => {
                 let put = self.expected.seal(0, block);
-                self.put(&put)
+                self.put_next(&put)
             }
             _ => Ok(()),
         }

@@ -171,7 +171,10 @@ fn calls_of_a_job(rt: HostRuntime) -> Result<(), Fail> {
     assert_eq!(rt; listed.len(), 0);
     assert!(rt; vault.find(&rt, alloc, &mut passes, 2, &name).is_err());
     let block = Sealed::new(&Block::zero());
-    assert_eq!(rt; vault.put(&rt, &mut passes, 0, 1, &block, &block), Ok(PLACE));
+    assert_eq!(rt;
+        vault.put(&rt, &mut passes, 0, 1, &block, &block),
+        Ok(PLACE)
+    );
     assert_eq!(rt;
         vault.next(&rt, &mut passes, 0, 0, 0, Kind::Live),
         Some(PLACE)
