@@ -85,7 +85,7 @@ fn fetch_with_one_gone<R: Clock + Wait>(
 ) -> io::Result<Fetched>
     ensures { IfOk result (λ f. IsTrue f.same ↔ f.bytes.items ≡ files.now) }
 {
-    let mut session = desk.with_one_gone(alloc).open(alloc)?;
+    let mut session = desk.with_one_gone(alloc)?.open(alloc)?;
     let mut sums = Vec::new(alloc);
     let fetched = fetch_files(rt, alloc, &mut session, &mut sums, files)?;
     session.end(alloc)?;

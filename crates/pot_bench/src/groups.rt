@@ -2,8 +2,8 @@
 //! that moves.
 ghost use Rattle.std.specs.Prelude.{◌≡◌, ◌<◌};
 
+use crate::plain::{PlainArchive, shelf};
 use pot_bytes::{Block, Geometry, Place, Rack};
-use pot_doubles::LossyArchive;
 use pot_group::{
     Ended, Group, Looked, Mend, MoveFault, MoveStep, PutFault, ShelfRefused, StartRefused,
 };
@@ -31,10 +31,10 @@ const RACK: Rack = Rack {
 pub const TURNS: u32 = 48;
 
 /// The archive that replaces the home of column 0.
-const REPLACING: u32 = 4;
+pub const REPLACING: u32 = 4;
 
 /// The archive that column 1 moves to.
-const TARGET: u32 = 5;
+pub const TARGET: u32 = 5;
 
 /// The calls in which a slot is rebuilt: its relay begins, goes over three columns and ends, and then the slot is whole.
 const CALLS: u32 = 6;
@@ -42,21 +42,11 @@ const CALLS: u32 = 6;
 /// A group of three data columns and one parity column over archives in memory.
 #[derive(Drop)]
 pub struct Trial {
-    group: Group<LossyArchive>,
+    group: Group<PlainArchive>,
     expected: Expected,
     ghost data_columns: { group.table.data_columns ≡ 3 },
     ghost parity: { group.table.parity ≡ 1 },
     ghost stripes: { group.table.stripes ≡ 1024 },
-}
-
-/// An archive without blocks that never fails.
-pub fn shelf(alloc: Global, number: u32) -> Shelf<LossyArchive>
-    ensures { result.number ≡ number }
-{
-    Shelf {
-        number,
-        archive: LossyArchive::new(alloc, Vec::new(alloc), Vec::new(alloc)),
-    }
 }
 
 impl Trial {
@@ -70,10 +60,10 @@ impl Trial {
             return Err(AllocError);
         };
         let shelves = vec![in alloc;
-            shelf(alloc, 0),
-            shelf(alloc, 1),
-            shelf(alloc, 2),
-            shelf(alloc, 3),
+            shelf(alloc, 0)?,
+            shelf(alloc, 1)?,
+            shelf(alloc, 2)?,
+            shelf(alloc, 3)?,
         ]?;
         match Group::start(alloc, 0, table, shelves) {
             Ok(group) => Ok(Trial {
@@ -158,9 +148,9 @@ impl Trial {
         Ok(())
     }
 
-    /// An archive without blocks replaces the home of column 0, whose slots are then Lost.
-    pub fn replace(&mut self, alloc: Global) -> Result<(), AllocError> {
-        match self.group.swap(1, 0, shelf(alloc, REPLACING)) {
+    /// An archive replaces the home of column 0, whose slots are then Lost.
+    pub fn replace(&mut self, shelf: Shelf<PlainArchive>) -> Result<(), AllocError> {
+        match self.group.swap(1, 0, shelf) {
             Ok(_) => Ok(()),
             Err(ShelfRefused { shelf: _, cause: _ }) => Err(AllocError),
         }
@@ -209,9 +199,9 @@ impl Trial {
         self.group.mend(1, place, blind)
     }
 
-    /// Column 1 begins to move to an archive without blocks.
-    pub fn leave_home(&mut self, alloc: Global) -> Result<(), AllocError> {
-        match self.group.move_begin(1, 1, shelf(alloc, TARGET)) {
+    /// Column 1 begins to move to an archive.
+    pub fn leave_home(&mut self, shelf: Shelf<PlainArchive>) -> Result<(), AllocError> {
+        match self.group.move_begin(1, 1, shelf) {
             Ok(()) => Ok(()),
             Err(ShelfRefused { shelf: _, cause: _ }) => Err(AllocError),
         }
@@ -267,7 +257,7 @@ pub struct Blocks {
 
 impl Blocks {
     /// Adds the blocks that an archive holds.
-    fn add(&mut self, shelf: &Shelf<LossyArchive>) -> Result<(), AllocError> {
+    fn add(&mut self, shelf: &Shelf<PlainArchive>) -> Result<(), AllocError> {
         match shelf.number {
             REPLACING => add_blocks(&shelf.archive, &mut self.mended),
             TARGET => add_blocks(&shelf.archive, &mut self.moved),
@@ -284,7 +274,7 @@ fn draw_blind(pads: &mut PadStream) -> Block {
 }
 
 /// Adds the blocks that an archive holds.
-fn add_blocks(archive: &LossyArchive, bytes: &mut Vec<u8>) -> Result<(), AllocError> {
+fn add_blocks(archive: &PlainArchive, bytes: &mut Vec<u8>) -> Result<(), AllocError> {
     for stripe in 0..RACK.stripes {
         if let Some(block) = archive.block(stripe) {
             bytes.extend_from_slice(block.bytes())?;

@@ -17,6 +17,7 @@ mod given;
 mod groups;
 mod kernels;
 mod pieces;
+mod plain;
 mod report;
 mod rows;
 mod sessions;

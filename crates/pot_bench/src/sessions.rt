@@ -4,7 +4,7 @@ ghost use Rattle.std.specs.List.{flat_map};
 ghost use Rattle.std.proofs.Props.{props};
 ghost use Rattle.std.specs.Vec.{vec_capacity};
 ghost use Rattle.pot_bytes.specs.Rack.{IsRack};
-ghost use Rattle.pot_doubles.specs.Archives.{meaning_in};
+ghost use Rattle.pot_bench.specs.Plain.{meaning_in};
 ghost use Rattle.pot_group.specs.Beginning.{homes_of};
 ghost use Rattle.pot_group.specs.Group.{view_of};
 ghost use Rattle.pot_rows.specs.Ends.{HasAllParts};
@@ -12,10 +12,9 @@ ghost use Rattle.pot_shared.specs.Catalogs.{IsIndexReady};
 ghost use Rattle.pot_shared.specs.Ready.{AreReady, IsTableOf};
 ghost use Rattle.pot_shared.specs.Sharing.{HasAllButKept, IsGroupOf};
 
-use crate::groups::shelf;
+use crate::plain::{PlainArchive, shelf};
 use crate::rows::SEED;
 use pot_bytes::{Geometry, Name, Rack};
-use pot_doubles::LossyArchive;
 use pot_group::{Ended, Group, StartRefused};
 use pot_image::{Image, read_image, write_image};
 use pot_index::{Index, IndexEnded};
@@ -46,7 +45,7 @@ const RACK: Rack = Rack {
 pub struct Desk {
     image: Vec<u8>,
     /// The archives of each group, column by column.
-    archives: Vec<Vec<Shelf<LossyArchive>>>,
+    archives: Vec<Vec<Shelf<PlainArchive>>>,
     /// Into how many stripes that session put blocks.
     stripes: u32,
 }
@@ -83,14 +82,14 @@ impl Desk {
     }
 
     /// The same desk, with an archive without blocks in the place of the first of all.
-    pub fn with_one_gone(self, alloc: Global) -> Desk {
+    pub fn with_one_gone(self, alloc: Global) -> Result<Desk, AllocError> {
         let mut desk = self;
         for group in desk.archives.iter_mut().take(1) {
             for place in group.iter_mut().take(1) {
-                *place = shelf(alloc, place.number);
+                *place = shelf(alloc, place.number)?;
             }
         }
-        desk
+        Ok(desk)
     }
 
     /// What a session does before its first command: it reads the image, starts each group over its archives, which reads every
@@ -133,16 +132,16 @@ impl Desk {
 }
 
 /// Archives without blocks for the columns of a table.
-fn homes(alloc: Global, table: &GroupTable) -> Result<Vec<Shelf<LossyArchive>>, AllocError> {
+fn homes(alloc: Global, table: &GroupTable) -> Result<Vec<Shelf<PlainArchive>>, AllocError> {
     let mut shelves = Vec::new(alloc);
     for column in table.columns() {
-        shelves.push(shelf(alloc, column.home))?;
+        shelves.push(shelf(alloc, column.home)?)?;
     }
     Ok(shelves)
 }
 
 /// Whether the column stays, and its home is this archive.
-fn is_home(column: &Column, shelf: &Shelf<LossyArchive>) -> bool
+fn is_home(column: &Column, shelf: &Shelf<PlainArchive>) -> bool
     ensures { IsTrue result → homes_of column.now ≡ shelf.now.number ∷ [] }
 {
     match column.moving {
@@ -152,7 +151,7 @@ fn is_home(column: &Column, shelf: &Shelf<LossyArchive>) -> bool
 }
 
 /// Whether the columns stay, and their homes are these archives, in order.
-fn are_homes(columns: &[Column], shelves: &[Shelf<LossyArchive>]) -> bool
+fn are_homes(columns: &[Column], shelves: &[Shelf<PlainArchive>]) -> bool
     ensures { IsTrue result → map (λ s. s.number) shelves.now ≡ flat_map homes_of columns.now }
 {
     match columns {
@@ -181,8 +180,8 @@ fn start_group(
     rack: &Rack,
     number: u8,
     table: GroupTable,
-    shelves: Vec<Shelf<LossyArchive>>,
-) -> Result<Member<LossyArchive>, AllocError>
+    shelves: Vec<Shelf<PlainArchive>>,
+) -> Result<Member<PlainArchive>, AllocError>
     requires parity { rack.now.parity ≡ 1 }
     ensures { IfOk result (λ m. IsGroupOf rack.now number (view_of meaning_in m.group)) }
 {
@@ -205,8 +204,8 @@ fn start_groups(
     alloc: Global,
     rack: &Rack,
     tables: Vec<GroupTable>,
-    archives: Vec<Vec<Shelf<LossyArchive>>>,
-) -> Result<Vec<Member<LossyArchive>>, AllocError>
+    archives: Vec<Vec<Shelf<PlainArchive>>>,
+) -> Result<Vec<Member<PlainArchive>>, AllocError>
     requires parity { rack.now.parity ≡ 1 }
     ensures count { IfOk result (λ v. length v.items ≡ rack.now.groups) }
     ensures groups { IfOk result (λ v. (n : ℕ) (m : _) → slice_get v.items n ≡ Some m → IsGroupOf rack.now n (view_of meaning_in m.group)) }
@@ -230,8 +229,8 @@ fn start_groups(
 #[derive(Drop)]
 pub struct Session {
     number: u32,
-    vault: Vault<LossyArchive>,
-    passes: Passes<LossyArchive>,
+    vault: Vault<PlainArchive>,
+    passes: Passes<PlainArchive>,
     ghost rack: { IsRack vault.rack },
     ghost parity: { vault.rack.parity ≡ 1 },
     ghost count: { length vault.groups ≡ vault.rack.groups },
@@ -317,7 +316,7 @@ impl Session {
 #[derive(Drop)]
 struct Left {
     image: Image,
-    archives: Vec<Vec<Shelf<LossyArchive>>>,
+    archives: Vec<Vec<Shelf<PlainArchive>>>,
     stripes: u32,
 }
 
@@ -339,7 +338,7 @@ impl Left {
     }
 
     /// Ends a group, and counts the stripes that it began.
-    fn end_group(&mut self, group: Group<LossyArchive>) -> Result<(), AllocError> {
+    fn end_group(&mut self, group: Group<PlainArchive>) -> Result<(), AllocError> {
         let Ended {
             table,
             log,

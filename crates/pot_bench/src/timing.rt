@@ -1,10 +1,10 @@
 //! How long puts, looks, relays and moves in groups take, and the digests alone that they make.
 //!
 //! For each group the six loops run one after the other, so that a change in the speed of the machine comes to all of
-//! them alike. A relay's time has the drawing of its blind in it. The archives in memory keep each sum that they hear and each
-//! block that was ever written, and that is in the times too.
+//! them alike. A relay's time has the drawing of its blind in it.
 
-use crate::groups::{Blocks, TURNS, Trial};
+use crate::groups::{Blocks, REPLACING, TARGET, TURNS, Trial};
+use crate::plain::shelf;
 use crate::report::Report;
 use crate::rows::SEED;
 use pot_bytes::{Block, digest_of};
@@ -99,11 +99,11 @@ impl Trials {
         trial: &mut Trial,
     ) -> io::Result<()> {
         let mut pads = PadStream::new(&SEED, 0, 5);
-        trial.replace(alloc)?;
+        trial.replace(shelf(alloc, REPLACING)?)?;
         let begun = Instant::now(clock)?;
         trial.mend(&mut pads)?;
         self.mends.seconds += begun.elapsed(clock)?.as_secs_f64();
-        trial.leave_home(alloc)?;
+        trial.leave_home(shelf(alloc, TARGET)?)?;
         let begun = Instant::now(clock)?;
         trial.move_home()?;
         self.moves.seconds += begun.elapsed(clock)?.as_secs_f64();

@@ -1,6 +1,6 @@
 use Rattle.std.proofs.Common.{◌≡◌, ℕ, length}
 use Rattle.std.specs.Prelude.{Some, slice_get}
-use Rattle.pot_doubles.specs.Archives.{meaning_in}
+use Rattle.pot_bench.specs.Plain.{meaning_in}
 use Rattle.pot_group.specs.Group.{view_of}
 use Rattle.pot_shared.specs.Sharing.{IsGroupOf}
 use Rattle.pot_bench.proofs.sessions.start_groups.Given as goal

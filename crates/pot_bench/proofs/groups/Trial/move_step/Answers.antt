@@ -1,4 +1,4 @@
-use Rattle.pot_doubles.specs.Archives.{meaning_in}
+use Rattle.pot_bench.specs.Plain.{meaning_in}
 use Rattle.pot_bench.proofs.Sizes.{HasSizes}
 use Rattle.pot_bench.proofs.Sizes as sizes
 use Rattle.pot_bench.proofs.groups.Trial.move_step.Goals as goal
