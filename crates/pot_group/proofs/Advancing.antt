@@ -27,7 +27,7 @@ use Rattle.pot_group.specs.declared.relaying.AdvanceFault.{AdvanceFault}
 use Rattle.pot_group.specs.declared.relaying.AdvanceFault.TheVariants as failed
 use Rattle.pot_group.specs.Shelves.{Shelved, Keeps, Folds, LosesFrom, NoneLost, WritesInto, plain, put_at}
 use Rattle.pot_group.specs.Group.{GroupView, GroupParts, IsSettled, noted, view_of, with_archives, state_of}
-use Rattle.pot_group.specs.Relaying.{Acts, Advances, AdvanceMeans, AtEnd, EndsWell, HopsOver, Moves, OnWay, acted}
+use Rattle.pot_group.specs.Relaying.{Acts, Advances, AtEnd, EndsWell, HopsOver, Moves, OnWay, acted}
 use Rattle.pot_group.proofs.AdvanceSteps.{at_next, absent_exit, dead_exit, failed_exit, fault_legal, gave_up, odd_legal, odd_step, over_exit, some_differs, well_step}
 use Rattle.pot_steps.specs.Mending.{LosesNothing}
 use Rattle.pot_steps.proofs.Acting.{Lessens}
@@ -208,16 +208,6 @@ module _ (told : Type 0) (g : GroupView) (job : ℕ) (f : Flight) (settled : IsS
     }
 
 -- AN ADVANCE
-
-pub advance_means : {A : Type 0} (told : Type 0) (meaning : A → Meaning) (job s : ℕ) (r : Result Advanced AdvanceFault) (old new : GroupParts A) → length old.log < log_bound
-    → Advances told job s r (view_of meaning old) (view_of meaning new) → AdvanceMeans meaning job s r old new
-advance_means told meaning job s (Ok advanced.Hopped) old new room a = (room, a.moves)
-advance_means told meaning job s (Ok advanced.Mended) old new room a = (room, a.moves)
-advance_means told meaning job s (Ok advanced.Ended) old new room a = (room, a.moves)
-advance_means told meaning job s (Err (failed.Odd wanted found)) old new room a = (room, a.moves)
-advance_means told meaning job s (Err (failed.Faulted column)) old new room a = (room, a.moves)
-advance_means told meaning job s (Err failed.LogFull) old new room a = absurd a.moves
-advance_means told meaning job s (Err failed.Idle) old new room a = absurd a.moves
 
 -- no relay stands where there is no flight
 pub idle_none : (told : Type 0) (g : GroupView) (s : ℕ) → IsSettled told g → flight_in g.flights s ≡ None → relay_at g.table s ≡ None

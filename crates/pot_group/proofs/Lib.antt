@@ -31,3 +31,4 @@ pub mod MovingCalls
 pub mod Stepping
 pub mod Used
 pub mod Keeping
+pub mod Rows

@@ -16,8 +16,9 @@ use Rattle.pot_group.specs.declared.answers.PutFault.{PutFault}
 use Rattle.pot_group.specs.declared.answers.PutFault.TheVariants as fault
 use Rattle.pot_group.specs.declared.putting.Stop.TheVariants as stop
 use Rattle.pot_group.specs.Shelves.{Stays, LosesFrom, put_at}
-use Rattle.pot_group.specs.Group.{GroupView, Logs, FailedAt, PutLogs, state_of, put_as, FitsSlot, FitsParity, FitsGone}
+use Rattle.pot_group.specs.Group.{GroupView, Logs, FailedAt, state_of, put_as, FitsSlot, FitsParity, FitsGone}
 use Rattle.pot_group.specs.Putting.{PassesAll, Finds, HasOld, PutsAll, PutsNone, BlockMeans, IsKept}
+use Rattle.pot_group.proofs.Rows.{PutMade}
 use Rattle.pot_group.proofs.Passing.{logs_then, same_serving, missing_on, missing_here, fits_gone}
 use Rattle.pot_group.proofs.ShelfLemmas.{put_at-here, put_at-other, rose_on}
 
@@ -75,8 +76,8 @@ module _ (told : Type 0) (job : ℕ) (p q block : List ℕ) (old mid : GroupView
   all_passed : Logs (skips job f.passed) old mid
   all_passed = logs_end (skips job f.passed) old f.now mid f.passes.logs f.means.0
 
-  pub full_logs : PutLogs job block (Err fault.Full) old mid
-  full_logs = (behind, (f.passed, all_passed, f.passes.gones))
+  pub full_made : PutMade job block (Err fault.Full) old mid
+  full_made = (skips job f.passed, all_passed, (f.passed, refl, f.passes.gones, behind))
 
   pub full_step : length mid.log ≤ log_bound → told → PutStep job block (put_as (Err fault.Full)) (state_of old) (state_of mid)
   full_step room t = record {
@@ -93,8 +94,8 @@ module _ (job : ℕ) (block : List ℕ) (old : GroupView) (full : length old.log
   nothing_logged : Logs [] old old
   nothing_logged = record { number = refl; first = refl; log = sym (append-nil old.log); flights = refl; replay = refl }
 
-  pub at_once_logs : PutLogs job block (Err fault.LogFull) old old
-  at_once_logs = (full, ([], 0, None, nothing_logged, All-nil (λ x. FitsGone old.table x.stripe x.gone), tt), inl full)
+  pub at_once_made : PutMade job block (Err fault.LogFull) old old
+  at_once_made = ([], nothing_logged, ([], 0, None, refl, All-nil (λ x. FitsGone old.table x.stripe x.gone), tt, full, inl full))
 
   pub at_once_step : PutStep job block (put_as (Err fault.LogFull)) (state_of old) (state_of old)
   at_once_step = record {
@@ -122,11 +123,20 @@ module _ (told : Type 0) (job : ℕ) (p q block : List ℕ) (old mid : GroupView
   still_left : mid.table.cursor.stripe < mid.table.stripes
   still_left = gone_stays job f.now.table.cursor.stripe f.means.0 f.now.table mid.table f.means.2.replay f.means.4
 
-  pub log_full_logs : PutLogs job block (Err fault.LogFull) old mid
-  log_full_logs = (
-    f.means.3,
-    (f.passed, f.now.table.cursor.stripe, f.means.0, as_far, f.passes.gones, fits_gone told job f.passed old f.now mid f.passes f.now.table.cursor.stripe f.means.0 (omega arith) f.means.1),
-    inr still_left,
+  pub log_full_made : PutMade job block (Err fault.LogFull) old mid
+  log_full_made = (
+    skips job f.passed ++ gone_entries job f.now.table.cursor.stripe f.means.0,
+    as_far,
+    (
+      f.passed,
+      f.now.table.cursor.stripe,
+      f.means.0,
+      refl,
+      f.passes.gones,
+      fits_gone told job f.passed old f.now mid f.passes f.now.table.cursor.stripe f.means.0 (omega arith) f.means.1,
+      f.means.3,
+      inr still_left,
+    ),
   )
 
   pub log_full_step : told → PutStep job block (put_as (Err fault.LogFull)) (state_of old) (state_of mid)
@@ -154,8 +164,12 @@ module _ (told : Type 0) (job : ℕ) (p q block : List ℕ) (old mid : GroupView
       subst (λ n. Rose (old.shelves.faults n) (mid.shelves.faults n)) (same_serving f.now.table old.table f.passes.columns f.now.table.cursor.stripe column)
       (rose_on (old.shelves.faults n) (f.now.shelves.faults n) (mid.shelves.faults n) (f.passes.stays.keeps.later n) f.means.1)
 
-  pub faulted_logs : PutLogs job block (Err (fault.Faulted column)) old mid
-  faulted_logs = (f.passed, f.now.table.cursor.stripe, failed_here, inl (fault_logged, inr (omega (arith, f.means.3, f.passes.data_columns))), f.passes.gones)
+  pub faulted_made : PutMade job block (Err (fault.Faulted column)) old mid
+  faulted_made = (
+    skips job f.passed ++ entry.Fault job f.now.table.cursor.stripe column ∷ [],
+    fault_logged,
+    (f.passed, f.now.table.cursor.stripe, inl (refl, inr (omega (arith, f.means.3, f.passes.data_columns))), failed_here, f.passes.gones),
+  )
 
   pub faulted_step : length mid.log ≤ log_bound → told → PutStep job block (put_as (Err (fault.Faulted column))) (state_of old) (state_of mid)
   faulted_step room t = inr (record {
@@ -262,22 +276,38 @@ module _ (told : Type 0) (job : ℕ) (p q block : List ℕ) (old mid new : Group
   in_old kept kept2 (inl e) = inl e
   in_old kept kept2 (inr e) = inr (sym same_parity ∙ e.0, e.1)
 
-  pub here_logs : 1 ≤ old.table.parity → (result : Result Place PutFault) → BlockMeans told job block p q result mid new → PutLogs job block result old new
-  here_logs some (Ok place) m =
-      (m.0 ∙ f.means.0.number ∙ f.passes.logs.number, (f.passed, p, q, fits_here some place.stripe m.1, put_logged place.stripe place.column true true m.3.logs, f.passes.gones))
-  here_logs some (Err (fault.Faulted column)) (inl m) =
-      (f.passed, mid.table.cursor.stripe, failed mid.table.cursor.stripe column m.0.fails, inl (all_logged (entry.Fault job mid.table.cursor.stripe column) m.0.logs, inl (m.1 ∙ sym (ap (λ u. u.cursor.column) m.0.logs.replay.1))), f.passes.gones)
-  here_logs some (Err (fault.Faulted column)) (inr (kept, kept2, puts, which, is)) =
+  pub here_made : 1 ≤ old.table.parity → (result : Result Place PutFault) → BlockMeans told job block p q result mid new → PutMade job block result old new
+  here_made some (Ok place) m = (
+    skips job f.passed ++ put_entry old.table.parity job place.stripe place.column block p q true true ∷ [],
+    put_logged place.stripe place.column true true m.3.logs,
+    (m.0 ∙ f.means.0.number ∙ f.passes.logs.number, (f.passed, p, q, refl, fits_here some place.stripe m.1, f.passes.gones)),
+  )
+  here_made some (Err (fault.Faulted column)) (inl m) = (
+    skips job f.passed ++ entry.Fault job mid.table.cursor.stripe column ∷ [],
+    all_logged (entry.Fault job mid.table.cursor.stripe column) m.0.logs,
+    (
+      f.passed,
+      mid.table.cursor.stripe,
+      inl (refl, inl (m.1 ∙ sym (ap (λ u. u.cursor.column) m.0.logs.replay.1))),
+      failed mid.table.cursor.stripe column m.0.fails,
+      f.passes.gones,
+    ),
+  )
+  here_made some (Err (fault.Faulted column)) (inr (kept, kept2, puts, which, is)) =
       let s : ℕ = mid.table.cursor.stripe in
       let c : ℕ = mid.table.cursor.column in (
-        f.passed,
-        s,
-        subst (λ k. FailedAt old new s k) (sym is) (fails_at s c kept kept2 puts which),
-        inr (c, p, q, kept, kept2, is ∙ ap (λ n. unkept n kept) same_columns, in_old kept kept2 (which_failed s c kept kept2 puts which), fits_here some s refl, put_logged s c kept kept2 puts.logs),
-        f.passes.gones,
+        skips job f.passed ++ put_entry old.table.parity job s c block p q kept kept2 ∷ [],
+        put_logged s c kept kept2 puts.logs,
+        (
+          f.passed,
+          s,
+          inr (c, p, q, kept, kept2, is ∙ ap (λ n. unkept n kept) same_columns, in_old kept kept2 (which_failed s c kept kept2 puts which), refl, fits_here some s refl),
+          subst (λ k. FailedAt old new s k) (sym is) (fails_at s c kept kept2 puts which),
+          f.passes.gones,
+        ),
       )
-  here_logs some (Err fault.Full) m = absurd m
-  here_logs some (Err fault.LogFull) m = absurd m
+  here_made some (Err fault.Full) m = absurd m
+  here_made some (Err fault.LogFull) m = absurd m
 
   passes_here : told → PassesTo job f.passed (state_of old) mid.table mid.shelves.held
   passes_here t = passes_to told job f.passed old f.now mid f.passes f.stays mid.table f.means.0.replay t

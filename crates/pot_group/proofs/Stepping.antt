@@ -25,7 +25,7 @@ use Rattle.pot_group.specs.Shelves.{Finds, LosesFrom, Shelved, Shelves, Stays, W
 use Rattle.pot_group.specs.Group.{GroupParts, GroupView, IsSettled, noted, state_of, view_of, with_archives}
 use Rattle.pot_group.specs.Relaying.{Acts, acted}
 use Rattle.pot_steps.specs.MoveSteps.{MoveStep as IsMoveStep}
-use Rattle.pot_group.specs.Moving.{CopiesInto, FailedBy, MoveMeans, MoveWrites, MovesOn, OnMove, Steps, move_as}
+use Rattle.pot_group.specs.Moving.{CopiesInto, FailedBy, MoveWrites, MovesOn, OnMove, Steps, move_as}
 use Rattle.pot_group.proofs.BeginSteps.{logged_in}
 use Rattle.pot_group.proofs.MoveExits.{beside, copied_settled, copies, move_end_settled, passed_settled, uncopied_settled}
 use Rattle.pot_group.proofs.ShelfLemmas.{into_after, keeps_refl, keeps_then, loses_from_then, loses_refl}
@@ -327,17 +327,6 @@ module _ {A : Type 0} (told : Type 0) (meaning : A → Meaning) (old : GroupPart
 
       same : (d : Digest) → Live d ≡ Live digest → d ≡ digest
       same d q = cc
-
--- A MOVE'S STEP
-
-pub move_means : {A : Type 0} (told : Type 0) (meaning : A → Meaning) (job c : ℕ) (r : Result MoveStep MoveFault) (old new : GroupParts A) → length old.log < log_bound
-    → Steps told job c r (view_of meaning old) (view_of meaning new) → MoveMeans meaning job c r old new
-move_means told meaning job c (Ok moved.Copied) old new room s = (room, s.moves)
-move_means told meaning job c (Ok moved.Passed) old new room s = (room, s.moves)
-move_means told meaning job c (Ok moved.Ended) old new room s = (room, s.moves)
-move_means told meaning job c (Err (failed.Faulted d)) old new room s = (room, s.moves)
-move_means told meaning job c (Err failed.LogFull) old new room s = absurd s.moves
-move_means told meaning job c (Err failed.Idle) old new room s = absurd s.moves
 
 -- a slot that is not Live is not sound
 pub dead_slot : (x : SlotState) → ((d : Digest) → x ≡ Live d → ⊥) → is_live x ≡ false

@@ -2,7 +2,7 @@
 use Rattle.std.specs.Prelude.{◌≡◌, ◌⊎◌, ◌≤◌, ◌<◌, ◌+◌, ◌++◌, ℕ, Bool, true, false, IsTrue, List, [], ◌∷◌, Option, Result, Ok, Err, Contains, length, IfSome, All}
 use Rattle.pot_bytes.specs.declared.rack.Place.{Place}
 use Rattle.pot_outside.specs.Counts.{Rose}
-use Rattle.pot_outside.specs.Archives.{Meaning}
+use Rattle.pot_outside.specs.Archives.{Account, Meaning}
 use Rattle.pot_bytes.specs.Sums.{zero_block}
 use Rattle.pot_machine.specs.declared.slot.SlotState.{SlotState}
 use Rattle.pot_machine.specs.declared.slot.SlotState.TheVariants.{Void, Live}
@@ -47,6 +47,10 @@ pub record GroupParts (A : Type 0) : Type 0 where
 -- and as plain data
 abbrev pub view_of : {A : Type 0} → (A → Meaning) → GroupParts A → GroupView
 view_of meaning g = record { number = g.number; first = g.first; table = g.table; log = g.log; flights = g.flights; shelves = plain meaning g.archives }
+
+-- what is said of a group before and after a call, by the account of its archives: whether they tell, and what each means
+abbrev pub OnGroup : {A : Type 0} → Account A → (Type 0 → GroupView → GroupView → Type 0) → GroupParts A → GroupParts A → Type 0
+OnGroup account R old new = R (IsTrue account.tells) (view_of account.meaning old) (view_of account.meaning new)
 
 -- an entry is logged, and does in the table what it says
 abbrev pub noted : {A : Type 0} → GroupParts A → Entry → GroupParts A
@@ -155,32 +159,3 @@ FitsGone t s gone = IfSome gone (λ c. (t.data_columns ≤ c) × TakesBlocks t s
 -- and of each stripe that it passes
 abbrev pub FitsPassed : Table → List Passed → Type 0
 FitsPassed t passed = All (λ x. FitsGone t x.stripe x.gone) passed
-
--- a Fault after the stripes passed, at the cursor's column or at a parity column
-abbrev pub PutNothing : ℕ → List Passed → ℕ → ℕ → GroupView → GroupView → Type 0
-PutNothing job passed s column old new =
-    Logs (skips job passed ++ entry.Fault job s column ∷ []) old new × ((column ≡ new.table.cursor.column) ⊎ (old.table.data_columns ≤ column))
-
--- What a put logs, whether or not archives tell: for each stripe passed Skip, or Gone of its parity slot and Skip, and then
--- the entry of its answer. LogFull comes at once, or while the cursor has a stripe that is still to be tried. Faulted names the
--- cursor's column or a parity column, whose archive failed.
-abbrev pub PutLogs : ℕ → List ℕ → Result Place PutFault → GroupView → GroupView → Type 0
-PutLogs job block (Ok place) old new =
-    (place.group ≡ old.number)
-    × ((passed : List Passed) × (p : List ℕ) × (q : List ℕ) × FitsParity old.table place.stripe p q
-    × Logs (skips job passed ++ put_entry old.table.parity job place.stripe place.column block p q true true ∷ []) old new
-    × FitsPassed old.table passed)
-PutLogs job block (Err fault.LogFull) old new =
-    (length new.log ≡ log_bound)
-    × ((passed : List Passed) × (s : ℕ) × (gone : Option ℕ) × Logs (skips job passed ++ gone_entries job s gone) old new
-    × FitsPassed old.table passed × FitsGone old.table s gone)
-    × ((length old.log ≡ log_bound) ⊎ (new.table.cursor.stripe < new.table.stripes))
-PutLogs job block (Err fault.Full) old new =
-    (new.table.cursor.stripe ≡ new.table.stripes) × ((passed : List Passed) × Logs (skips job passed) old new × FitsPassed old.table passed)
-PutLogs job block (Err (fault.Faulted column)) old new =
-    (passed : List Passed) × (s : ℕ) × FailedAt old new s column
-    × (PutNothing job passed s column old new
-    ⊎ ((c : ℕ) × (p : List ℕ) × (q : List ℕ) × (kept : Bool) × (kept2 : Bool) × (column ≡ step.unkept old.table.data_columns kept)
-    × ((kept ≡ false) ⊎ ((old.table.parity ≡ 2) × (kept2 ≡ false))) × FitsParity old.table s p q
-    × Logs (skips job passed ++ put_entry old.table.parity job s c block p q kept kept2 ∷ []) old new))
-    × FitsPassed old.table passed

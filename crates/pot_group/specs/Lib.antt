@@ -12,3 +12,4 @@ pub mod Finding
 pub mod Relaying
 pub mod Moving
 pub mod Uses
+pub mod Calls

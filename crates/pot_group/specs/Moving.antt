@@ -86,12 +86,6 @@ MovesOn job c (Err (failed.Faulted column)) old new =
 MovesOn job c (Err failed.LogFull) old new = ⊥
 MovesOn job c (Err failed.Idle) old new = ⊥
 
--- what an answer of a move's step says: nothing changes at LogFull and at Idle
-abbrev pub MoveMeans : {A : Type 0} → (A → Meaning) → ℕ → ℕ → Result MoveStep MoveFault → GroupParts A → GroupParts A → Type 0
-MoveMeans meaning job c (Err failed.LogFull) old new = (length old.log ≡ 262144) × (new ≡ old)
-MoveMeans meaning job c (Err failed.Idle) old new = (length old.log < 262144) × ((column_at old.table c).moving ≡ None) × (new ≡ old)
-MoveMeans meaning job c answer old new = (length old.log < 262144) × MovesOn job c answer (view_of meaning old) (view_of meaning new)
-
 -- the slot's own block, which is held, goes to the target, or its write fails
 abbrev pub CopiesInto : ℕ → Result (Unit {0}) Failed → GroupView → GroupView → Type 0
 CopiesInto c result old new =

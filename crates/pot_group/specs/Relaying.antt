@@ -130,12 +130,6 @@ Moves job s (Err (failed.Faulted column)) old new =
 Moves job s (Err failed.LogFull) old new = ⊥
 Moves job s (Err failed.Idle) old new = ⊥
 
--- what an answer of an advance says: nothing changes at LogFull and at Idle
-abbrev pub AdvanceMeans : {A : Type 0} → (A → Meaning) → ℕ → ℕ → Result Advanced AdvanceFault → GroupParts A → GroupParts A → Type 0
-AdvanceMeans meaning job s (Err failed.LogFull) old new = (length old.log ≡ 262144) × (new ≡ old)
-AdvanceMeans meaning job s (Err failed.Idle) old new = (length old.log < 262144) × (relay_at old.table s ≡ None) × (new ≡ old)
-AdvanceMeans meaning job s answer old new = (length old.log < 262144) × Moves job s answer (view_of meaning old) (view_of meaning new)
-
 -- What an advance writes, said of archives that tell. Mended: the partial, into the target's slot. Faulted: nothing on the way, and
 -- behind the last column what a failed write of the partial may leave in that slot. Else nothing. Blocks may be lost besides.
 abbrev pub AdvanceWrites : ℕ → Result Advanced AdvanceFault → GroupView → GroupView → Type 0
@@ -190,14 +184,6 @@ pub record Drives (job s c : ℕ) (answer : Mend) (old new : GroupView) : Type 0
   pub is : answer ≡ answered own result
   pub moves : Moves job stripe result old new
 
--- What an answer of a mend says, whether or not archives tell.
-abbrev pub MendMeans : {A : Type 0} → (A → Meaning) → ℕ → ℕ → ℕ → List ℕ → Mend → GroupParts A → GroupParts A → Type 0
-MendMeans meaning job s c blind mend.Whole old new = BeginMeans job s c blind (Err fault.Whole) old new
-MendMeans meaning job s c blind mend.Began old new = BeginMeans job s c blind (Ok (tt)) old new
-MendMeans meaning job s c blind (mend.TwoGone first second) old new = BeginMeans job s c blind (Err (fault.TwoGone first second)) old new
-MendMeans meaning job s c blind mend.LogFull old new = BeginMeans job s c blind (Err fault.LogFull) old new
-MendMeans meaning job s c blind answer old new = (length old.log < 262144) × Drives job s c answer (view_of meaning old) (view_of meaning new)
-
 -- What a mend writes, said of archives that tell: what the advance that it makes writes, and where it makes none, nothing.
 abbrev pub MendWrites : ℕ → ℕ → ℕ → Mend → GroupView → GroupView → Type 0
 MendWrites job s c mend.Whole old new = LosesFrom old.shelves.held old.shelves new.shelves
@@ -206,10 +192,3 @@ MendWrites job s c (mend.TwoGone first second) old new = LosesFrom old.shelves.h
 MendWrites job s c mend.LogFull old new = LosesFrom old.shelves.held old.shelves new.shelves
 MendWrites job s c answer old new =
     (n : ℕ) × (result : Result Advanced AdvanceFault) × step.MovesRelay old.table s c n × Moves job n result old new × AdvanceWrites n result old new
-
-pub record Mends {A : Type 0} (told : Type 0) (meaning : A → Meaning) (job s c : ℕ) (blind : List ℕ) (answer : Mend) (old new : GroupParts A) : Type 0 where
-  pub means : MendMeans meaning job s c blind answer old new
-  pub keeps : Keeps (view_of meaning old).shelves (view_of meaning new).shelves
-  pub steps : told → step.MendStep job s c blind (mend_as answer) (state_of (view_of meaning old)) (state_of (view_of meaning new))
-  pub lossless : told → NoneLost (view_of meaning old).shelves (view_of meaning new).shelves → LosesNothing (state_of (view_of meaning old)) (state_of (view_of meaning new))
-  pub writes : told → MendWrites job s c answer (view_of meaning old) (view_of meaning new)

@@ -40,11 +40,11 @@ impl<A: Archive> Group<A> {
     ghost use Rattle.pot_machine.specs.Table.{column_at, slot_at};
     ghost use Rattle.pot_steps.specs.Stripe.{IsSound, Sound};
     ghost use Rattle.pot_steps.specs.Holdings.{stripe_of};
-    ghost use Rattle.pot_steps.specs.MoveSteps.{MoveStep as IsMoveStep};
-    ghost use Rattle.pot_group.specs.Shelves.{plain, Keeps};
-    ghost use Rattle.pot_group.specs.Group.{view_of, state_of};
+    ghost use Rattle.pot_group.specs.Shelves.{plain};
+    ghost use Rattle.pot_group.specs.Group.{OnGroup};
     ghost use Rattle.pot_group.specs.Relaying.{acted};
-    ghost use Rattle.pot_group.specs.Moving.{move_as, MoveMeans, MoveWrites, Steps};
+    ghost use Rattle.pot_group.specs.Moving.{Steps};
+    ghost use Rattle.pot_group.specs.Calls.{Makes, MoveStepCall};
 
     /// Moves a column by one stripe, or ends its move. It writes to no other slot than that of the target at this stripe.
     ///
@@ -54,10 +54,7 @@ impl<A: Archive> Group<A> {
     pub fn move_step(&mut self, job: u32, column: u8) -> Result<MoveStep, MoveFault>
         requires job { 0 < job }
         requires column { column < width self.old.table }
-        ensures means { MoveMeans A.account.meaning job column result self.old self.new }
-        ensures keeps { Keeps (view_of A.account.meaning self.old).shelves (view_of A.account.meaning self.new).shelves }
-        ensures step { IsTrue A.account.tells → IsMoveStep job column (move_as result) (state_of (view_of A.account.meaning self.old)) (state_of (view_of A.account.meaning self.new)) }
-        ensures writes { IsTrue A.account.tells → MoveWrites column result (view_of A.account.meaning self.old) (view_of A.account.meaning self.new) }
+        ensures moves { Makes A.account (λ told. MoveStepCall told job column result) self.old self.new }
     {
         if self.log.len() >= LOG_BOUND {
             return Err(MoveFault::LogFull);
@@ -74,7 +71,7 @@ impl<A: Archive> Group<A> {
         requires column { column < width self.old.table }
         requires moves { (column_at self.old.table column).moving ≡ Some moving }
         requires room { length self.old.log < 262144 }
-        ensures { Steps (IsTrue A.account.tells) job column result (view_of A.account.meaning self.old) (view_of A.account.meaning self.new) }
+        ensures { OnGroup A.account (λ told. Steps told job column result) self.old self.new }
     {
         let _settled = self.logged();
         if moving.upto >= self.table.stripes() {
@@ -101,7 +98,7 @@ impl<A: Archive> Group<A> {
         requires stripe { moving.upto < self.old.table.stripes }
         requires live { slot_at self.old.table moving.upto column ≡ Live digest }
         requires room { length self.old.log < 262144 }
-        ensures { Steps (IsTrue A.account.tells) job column result (view_of A.account.meaning self.old) (view_of A.account.meaning self.new) }
+        ensures { OnGroup A.account (λ told. Steps told job column result) self.old self.new }
     {
         let _settled = self.logged();
         let mut block = Block::zero();
@@ -136,7 +133,7 @@ impl<A: Archive> Group<A> {
         requires live { IsTrue (is_live (slot_at self.old.table moving.upto column)) }
         requires sound { IsTrue A.account.tells → IsSound (stripe_of self.old.table (plain A.account.meaning self.old.archives).held moving.upto) column block.now }
         requires room { length self.old.log < 262144 }
-        ensures { Steps (IsTrue A.account.tells) job column result (view_of A.account.meaning self.old) (view_of A.account.meaning self.new) }
+        ensures { OnGroup A.account (λ told. Steps told job column result) self.old self.new }
     {
         match self.archives.write(moving.to, moving.upto, block) {
             Ok(()) => {

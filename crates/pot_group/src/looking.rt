@@ -10,10 +10,9 @@ use pot_machine::{Entry, SlotState};
 use pot_outside::Archive;
 
 impl<A: Archive> Group<A> {
-    ghost use Rattle.pot_steps.specs.GroupStep.{LookStep, look_entries};
-    ghost use Rattle.pot_group.specs.Group.{view_of, state_of, with_archives, Logs, LookCause, looked_as};
+    ghost use Rattle.pot_group.specs.Group.{OnGroup, with_archives};
+    ghost use Rattle.pot_group.specs.Calls.{Makes, LookCall};
     ghost use Rattle.pot_group.specs.Looking.{Looks};
-    ghost use Rattle.pot_group.specs.Shelves.{Stays};
 
     /// Reads the block of a slot, and logs what it came to.
     ///
@@ -24,11 +23,7 @@ impl<A: Archive> Group<A> {
         requires job { 0 < job }
         requires stripe { place.stripe < self.old.table.stripes }
         requires column { place.column < width self.old.table }
-        ensures full { (result ≡ Looked.LogFull) ↔ (length self.old.log ≡ 262144) }
-        ensures logs { Logs (look_entries job place.stripe place.column (looked_as result into.new)) (view_of A.account.meaning self.old) (view_of A.account.meaning self.new) }
-        ensures step { IsTrue A.account.tells → LookStep job place.stripe place.column (looked_as result into.new) (state_of (view_of A.account.meaning self.old)) (state_of (view_of A.account.meaning self.new)) }
-        ensures stays { Stays (IsTrue A.account.tells) (view_of A.account.meaning self.old).shelves (view_of A.account.meaning self.new).shelves }
-        ensures cause { LookCause result (view_of A.account.meaning self.old) (view_of A.account.meaning self.new) place.stripe place.column into.new }
+        ensures looks { Makes A.account (λ told. LookCall told job place into.new result) self.old self.new }
     {
         if self.log.len() >= LOG_BOUND {
             return Looked::LogFull;
@@ -70,7 +65,7 @@ impl<A: Archive> Group<A> {
     fn look_slot(&mut self, stripe: u32, column: u8, into: &mut Block) -> Found
         requires stripe { stripe < self.old.table.stripes }
         requires column { column < width self.old.table }
-        ensures looks { Looks (IsTrue A.account.tells) stripe column into.new result (view_of A.account.meaning self.old) (view_of A.account.meaning self.new) }
+        ensures looks { OnGroup A.account (λ told. Looks told stripe column into.new result) self.old self.new }
         ensures same { self.new ≡ with_archives self.old self.new.archives }
     {
         match self.table.slot(stripe, column) {

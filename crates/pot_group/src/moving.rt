@@ -33,7 +33,8 @@ impl<A: Archive> Group<A> {
     ghost use Rattle.pot_machine.specs.Machine.{Legal};
     ghost use Rattle.pot_group.specs.Shelves.{plain, Brings};
     ghost use Rattle.pot_group.specs.Group.{with_archives, view_of};
-    ghost use Rattle.pot_group.specs.Moving.{Comes, MoveUse, RefusesMove, RefusesSwap};
+    ghost use Rattle.pot_group.specs.Moving.{MoveUse};
+    ghost use Rattle.pot_group.specs.Calls.{Makes, MoveBeginCall, SwapCall};
     ghost use Rattle.pot_group.specs.Relaying.{acted};
 
     /// A column begins to move to an archive that comes.
@@ -48,8 +49,7 @@ impl<A: Archive> Group<A> {
     ) -> Result<(), ShelfRefused<A>>
         requires job { 0 < job }
         requires column { column < width self.old.table }
-        ensures begun { IfOk result (λ u. Comes (IsTrue A.account.tells) A.account.meaning (MoveBegin job column shelf.number) shelf (view_of A.account.meaning self.old) (view_of A.account.meaning self.new)) }
-        ensures refused { IfErr result (λ r. (r.shelf ≡ shelf) × (self.new ≡ self.old) × RefusesMove (view_of A.account.meaning self.old) column shelf.number r.cause) }
+        ensures moves { Makes A.account (λ told. MoveBeginCall told A.account.meaning job column shelf result) self.old self.new }
     {
         if self.log.len() >= LOG_BOUND {
             return Err(ShelfRefused {
@@ -82,8 +82,7 @@ impl<A: Archive> Group<A> {
     pub fn swap(&mut self, job: u32, column: u8, shelf: Shelf<A>) -> Result<u32, ShelfRefused<A>>
         requires job { 0 < job }
         requires column { column < width self.old.table }
-        ensures swapped { IfOk result (λ n. (n ≡ live_in self.old.table column) × Comes (IsTrue A.account.tells) A.account.meaning (Swapped job column shelf.number) shelf (view_of A.account.meaning self.old) (view_of A.account.meaning self.new)) }
-        ensures refused { IfErr result (λ r. (r.shelf ≡ shelf) × (self.new ≡ self.old) × RefusesSwap (view_of A.account.meaning self.old) shelf.number r.cause) }
+        ensures swaps { Makes A.account (λ told. SwapCall told A.account.meaning job column shelf result) self.old self.new }
     {
         if self.log.len() >= LOG_BOUND {
             return Err(ShelfRefused {

@@ -69,14 +69,14 @@ impl Parity {
 }
 
 impl<A: Archive> Group<A> {
-    ghost use Rattle.pot_group.specs.Group.{view_of, with_archives};
+    ghost use Rattle.pot_group.specs.Group.{OnGroup, with_archives};
     ghost use Rattle.pot_group.specs.Putting.{ReadsOld, ReadsSecond, ReadsParity};
 
     /// Reads the old parity blocks of a stripe, in order, up to the first that it does not get.
     pub(crate) fn read_parity(&mut self, stripe: u32, old: &mut Parity) -> Checked
         requires stripe { stripe < self.old.table.stripes }
         ensures same { self.new ≡ with_archives self.old self.new.archives }
-        ensures reads { ReadsParity (IsTrue A.account.tells) stripe old.new.first old.new.second result (view_of A.account.meaning self.old) (view_of A.account.meaning self.new) }
+        ensures reads { OnGroup A.account (λ told. ReadsParity told stripe old.new.first old.new.second result) self.old self.new }
     {
         let column = self.table.data_columns();
         match self.read_old(stripe, column, &mut old.first) {
@@ -90,7 +90,7 @@ impl<A: Archive> Group<A> {
     fn read_second(&mut self, stripe: u32, old: &mut Block) -> Checked
         requires stripe { stripe < self.old.table.stripes }
         ensures same { self.new ≡ with_archives self.old self.new.archives }
-        ensures reads { ReadsSecond (IsTrue A.account.tells) stripe old.new result (view_of A.account.meaning self.old) (view_of A.account.meaning self.new) }
+        ensures reads { OnGroup A.account (λ told. ReadsSecond told stripe old.new result) self.old self.new }
     {
         if self.table.parity() == 1 {
             return Checked::Sound;
@@ -108,7 +108,7 @@ impl<A: Archive> Group<A> {
         requires stripe { stripe < self.old.table.stripes }
         requires column { column < width self.old.table }
         ensures same { self.new ≡ with_archives self.old self.new.archives }
-        ensures reads { ReadsOld (IsTrue A.account.tells) stripe column old.new result (view_of A.account.meaning self.old) (view_of A.account.meaning self.new) }
+        ensures reads { OnGroup A.account (λ told. ReadsOld told stripe column old.new result) self.old self.new }
     {
         match self.table.slot(stripe, column) {
             SlotState::Void => {

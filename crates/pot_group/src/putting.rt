@@ -31,9 +31,9 @@ impl<A: Archive> Group<A> {
     ghost use Rattle.pot_machine.specs.Rules.{IsTable};
     ghost use Rattle.pot_steps.specs.Stripe.{Sound};
     ghost use Rattle.pot_steps.specs.Holdings.{stripe_of};
-    ghost use Rattle.pot_steps.specs.GroupStep.{PutStep};
-    ghost use Rattle.pot_group.specs.Group.{view_of, state_of, put_as, PutLogs};
-    ghost use Rattle.pot_group.specs.Shelves.{plain, Keeps};
+    ghost use Rattle.pot_group.specs.Group.{OnGroup};
+    ghost use Rattle.pot_group.specs.Calls.{Makes, PutCall};
+    ghost use Rattle.pot_group.specs.Shelves.{plain};
     ghost use Rattle.pot_group.specs.Putting.{Passes, Finds, HasOld, BlockMeans};
 
     /// Puts a block at the cursor, and changes each parity block by it: P to P XOR the block, and Q, where there is one, to Q XOR
@@ -48,10 +48,7 @@ impl<A: Archive> Group<A> {
     /// first whose block was not written.
     pub fn put(&mut self, job: u32, block: &Block) -> Result<Place, PutFault>
         requires job { 0 < job }
-        ensures full { length self.old.log ≡ 262144 → (result ≡ Err PutFault.LogFull) × (self.new ≡ self.old) }
-        ensures logs { PutLogs job block.now result (view_of A.account.meaning self.old) (view_of A.account.meaning self.new) }
-        ensures keeps { Keeps (view_of A.account.meaning self.old).shelves (view_of A.account.meaning self.new).shelves }
-        ensures step { IsTrue A.account.tells → PutStep job block.now (put_as result) (state_of (view_of A.account.meaning self.old)) (state_of (view_of A.account.meaning self.new)) }
+        ensures puts { Makes A.account (λ told. PutCall told job block.now result) self.old self.new }
     {
         if self.log.len() >= LOG_BOUND {
             return Err(PutFault::LogFull);
@@ -69,7 +66,7 @@ impl<A: Archive> Group<A> {
 
     /// Passes stripes until one takes a block, and reads its old parity blocks.
     fn find_stripe(&mut self, job: u32, parity: &mut Parity) -> Stop
-        ensures { Finds (IsTrue A.account.tells) job parity.new.first parity.new.second result (view_of A.account.meaning self.old) (view_of A.account.meaning self.new) }
+        ensures { OnGroup A.account (λ told. Finds told job parity.new.first parity.new.second result) self.old self.new }
     {
         loop {
             if let Some(stop) = self.pass(job, parity) {
@@ -80,7 +77,7 @@ impl<A: Archive> Group<A> {
 
     /// Passes the cursor's stripe where it takes no block. Where it takes one, reads its old parity blocks.
     fn pass(&mut self, job: u32, parity: &mut Parity) -> Option<Stop>
-        ensures { Passes (IsTrue A.account.tells) job parity.new.first parity.new.second result (view_of A.account.meaning self.old) (view_of A.account.meaning self.new) }
+        ensures { OnGroup A.account (λ told. Passes told job parity.new.first parity.new.second result) self.old self.new }
     {
         let Cursor { stripe, column: _ } = self.table.cursor();
         if stripe >= self.table.stripes() {
@@ -119,7 +116,7 @@ impl<A: Archive> Group<A> {
         requires void { slot_at self.old.table stripe column ≢ Void }
         requires gone { IsTrue A.account.tells → Sound (stripe_of self.old.table (plain A.account.meaning self.old.archives).held stripe) column → ⊥ }
         requires least { IsTrue A.account.tells → column ≡ self.old.table.data_columns + 1 → Sound (stripe_of self.old.table (plain A.account.meaning self.old.archives).held stripe) self.old.table.data_columns }
-        ensures passes { Passes (IsTrue A.account.tells) job [] [] result (view_of A.account.meaning self.old) (view_of A.account.meaning self.new) }
+        ensures passes { OnGroup A.account (λ told. Passes told job [] [] result) self.old self.new }
         ensures left { (result ≡ None) ⊎ (result ≡ Some Stop.LogFull) }
     {
         self.note(Entry::Gone {
@@ -140,7 +137,7 @@ impl<A: Archive> Group<A> {
         requires takes { TakesBlocks self.old.table self.old.table.cursor.stripe }
         requires room { length self.old.log < 262144 }
         requires old { HasOld (IsTrue A.account.tells) self.old.table (plain A.account.meaning self.old.archives).held self.old.table.cursor.stripe old.now.first old.now.second }
-        ensures { BlockMeans (IsTrue A.account.tells) job block.now old.now.first old.now.second result (view_of A.account.meaning self.old) (view_of A.account.meaning self.new) }
+        ensures { OnGroup A.account (λ told. BlockMeans told job block.now old.now.first old.now.second result) self.old self.new }
     {
         let cursor = self.table.cursor();
         let Cursor { stripe, column } = cursor;

@@ -79,8 +79,7 @@ impl<A: Archive> Group<A> {
     ghost use Rattle.pot_machine.specs.Slot.{is_live};
     ghost use Rattle.pot_steps.specs.Flight.{weight_in};
     ghost use Rattle.pot_steps.specs.Flights.{flight_in};
-    ghost use Rattle.pot_group.specs.Shelves.{plain, Folds, Keeps, NoneLost};
-    ghost use Rattle.pot_steps.specs.Mending.{LosesNothing};
+    ghost use Rattle.pot_group.specs.Shelves.{plain, Folds};
     ghost use Rattle.pot_group.specs.Group.{with_archives};
     ghost use Rattle.std.specs.Prelude.{None, []};
     ghost use Rattle.pot_machine.specs.declared.entry.Entry.TheVariants.{GaveUp};
@@ -89,10 +88,11 @@ impl<A: Archive> Group<A> {
     ghost use Rattle.pot_steps.specs.Flight.{partial_of};
     ghost use Rattle.pot_steps.specs.Holdings.{stripe_of};
     ghost use Rattle.std.specs.Prelude.{Err, IsErr};
-    ghost use Rattle.pot_steps.specs.RelaySteps.{AdvanceStep, BeginStep, MendStep, no_relay};
+    ghost use Rattle.pot_steps.specs.RelaySteps.{no_relay};
     ghost use Rattle.std.specs.Prelude.{slice_index_or};
-    ghost use Rattle.pot_group.specs.Group.{view_of, state_of, CoversOne, IsSettled};
-    ghost use Rattle.pot_group.specs.Relaying.{acted, advance_as, begin_as, mend_as, AdvanceMeans, AdvanceWrites, Advances, BeginMeans, HopsOver, EndsWell, MendMeans, MendWrites};
+    ghost use Rattle.pot_group.specs.Group.{OnGroup, view_of, CoversOne, IsSettled};
+    ghost use Rattle.pot_group.specs.Relaying.{acted, Advances, BeginMeans, HopsOver, EndsWell};
+    ghost use Rattle.pot_group.specs.Calls.{Makes, AdvanceCall, BeginCall, MendCall};
 
     /// Begins to rebuild a slot that is Lost or Broken, with a random block.
     ///
@@ -102,8 +102,7 @@ impl<A: Archive> Group<A> {
         requires job { 0 < job }
         requires stripe { place.stripe < self.old.table.stripes }
         requires column { place.column < width self.old.table }
-        ensures means { BeginMeans job place.stripe place.column blind.now result self.old self.new }
-        ensures step { IsTrue A.account.tells → BeginStep job place.stripe place.column blind.now (begin_as result) (state_of (view_of A.account.meaning self.old)) (state_of (view_of A.account.meaning self.new)) }
+        ensures begins { Makes A.account (λ told. BeginCall told job place blind.now result) self.old self.new }
     {
         block_law(blind);
         let _settled = self.logged();
@@ -199,11 +198,7 @@ impl<A: Archive> Group<A> {
     pub fn advance(&mut self, job: u32, stripe: u32) -> Result<Advanced, AdvanceFault>
         requires job { 0 < job }
         requires stripe { stripe < self.old.table.stripes }
-        ensures means { AdvanceMeans A.account.meaning job stripe result self.old self.new }
-        ensures keeps { Keeps (view_of A.account.meaning self.old).shelves (view_of A.account.meaning self.new).shelves }
-        ensures step { IsTrue A.account.tells → AdvanceStep job stripe (advance_as result) (state_of (view_of A.account.meaning self.old)) (state_of (view_of A.account.meaning self.new)) }
-        ensures lossless { IsTrue A.account.tells → NoneLost (view_of A.account.meaning self.old).shelves (view_of A.account.meaning self.new).shelves → LosesNothing (state_of (view_of A.account.meaning self.old)) (state_of (view_of A.account.meaning self.new)) }
-        ensures writes { IsTrue A.account.tells → AdvanceWrites stripe result (view_of A.account.meaning self.old) (view_of A.account.meaning self.new) }
+        ensures advances { Makes A.account (λ told. AdvanceCall told job stripe result) self.old self.new }
     {
         if self.log.len() >= LOG_BOUND {
             return Err(AdvanceFault::LogFull);
@@ -224,7 +219,7 @@ impl<A: Archive> Group<A> {
         requires next { next_column self.old.table flight.relay ≡ Some column }
         requires within { flight.relay.stripe < self.old.table.stripes }
         requires room { length self.old.log < 262144 }
-        ensures { Advances (IsTrue A.account.tells) job flight.relay.stripe result (view_of A.account.meaning self.old) (view_of A.account.meaning self.new) }
+        ensures { OnGroup A.account (λ told. Advances told job flight.relay.stripe result) self.old self.new }
     {
         let stripe = flight.relay.stripe;
         let _settled = self.logged();
@@ -260,11 +255,7 @@ impl<A: Archive> Group<A> {
         requires job { 0 < job }
         requires stripe { place.stripe < self.old.table.stripes }
         requires column { place.column < width self.old.table }
-        ensures means { MendMeans A.account.meaning job place.stripe place.column blind.now result self.old self.new }
-        ensures keeps { Keeps (view_of A.account.meaning self.old).shelves (view_of A.account.meaning self.new).shelves }
-        ensures step { IsTrue A.account.tells → MendStep job place.stripe place.column blind.now (mend_as result) (state_of (view_of A.account.meaning self.old)) (state_of (view_of A.account.meaning self.new)) }
-        ensures lossless { IsTrue A.account.tells → NoneLost (view_of A.account.meaning self.old).shelves (view_of A.account.meaning self.new).shelves → LosesNothing (state_of (view_of A.account.meaning self.old)) (state_of (view_of A.account.meaning self.new)) }
-        ensures writes { IsTrue A.account.tells → MendWrites job place.stripe place.column result (view_of A.account.meaning self.old) (view_of A.account.meaning self.new) }
+        ensures mends { Makes A.account (λ told. MendCall told job place blind.now result) self.old self.new }
     {
         let _settled = self.logged();
         match self.begin(job, place, blind) {
@@ -310,7 +301,7 @@ impl<A: Archive> Group<A> {
         requires here { flight_in self.old.flights flight.relay.stripe ≡ Some flight }
         requires next { next_column self.old.table flight.relay ≡ None }
         requires room { length self.old.log < 262144 }
-        ensures { Advances (IsTrue A.account.tells) job flight.relay.stripe result (view_of A.account.meaning self.old) (view_of A.account.meaning self.new) }
+        ensures { OnGroup A.account (λ told. Advances told job flight.relay.stripe result) self.old self.new }
     {
         match finish(&mut self.table, &flight, job) {
             Finished::Ready(block) => self.write_back(job, flight, &block),
@@ -392,7 +383,7 @@ impl<A: Archive> Group<A> {
         requires partial { block.now ≡ partial_of flight }
         requires digest { digest_in (slot_at self.old.table flight.relay.stripe flight.relay.target) ≡ Some (digest_of block.now) }
         requires room { length self.old.log < 262144 }
-        ensures { EndsWell (IsTrue A.account.tells) job block.now flight result (view_of A.account.meaning self.old) (view_of A.account.meaning self.new) }
+        ensures { OnGroup A.account (λ told. EndsWell told job block.now flight result) self.old self.new }
     {
         let stripe = flight.relay.stripe;
         let column = flight.relay.target;

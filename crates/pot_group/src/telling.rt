@@ -13,12 +13,8 @@ use pot_outside::Archive;
 pub struct LogFull;
 
 impl<A: Archive> Group<A> {
-    ghost use Rattle.std.specs.Prelude.{IsErr};
-    ghost use Rattle.pot_machine.specs.declared.entry.Entry.TheVariants.{Counted};
-    ghost use Rattle.pot_steps.specs.GroupStep.{CountStep};
-    ghost use Rattle.pot_group.specs.Counting.{IsCounted};
     ghost use Rattle.pot_group.specs.Finding.{is_of, IsPlace};
-    ghost use Rattle.pot_group.specs.Group.{noted, view_of, state_of};
+    ghost use Rattle.pot_group.specs.Calls.{Makes, CountCall};
 
     /// Counts the slots of the group by state, tells its cursor, and logs that it did.
     ///
@@ -26,10 +22,7 @@ impl<A: Archive> Group<A> {
     /// `LogFull` exactly where the log has 262,144 entries; nothing changes then.
     pub fn count(&mut self, job: u32) -> Result<Counts, LogFull>
         requires job { 0 < job }
-        ensures full { IsErr result ↔ (length self.old.log ≡ 262144) }
-        ensures refused { IsErr result → self.new ≡ self.old }
-        ensures counts { IfOk result (λ counts. IsCounted self.old.table counts × (self.new ≡ noted self.old (Counted job))) }
-        ensures step { IsTrue A.account.tells → IfOk result (λ counts. CountStep job (state_of (view_of A.account.meaning self.old)) (state_of (view_of A.account.meaning self.new))) }
+        ensures counts { Makes A.account (λ told. CountCall told job result) self.old self.new }
     {
         if self.log.len() >= LOG_BOUND {
             return Err(LogFull);

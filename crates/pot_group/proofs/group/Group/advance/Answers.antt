@@ -1,14 +1,12 @@
-use Rattle.std.proofs.Common.{◌<◌, IsTrue, length, refl, subst, sym, ◌∙◌, rules}
+use Rattle.std.proofs.Common.{◌≡◌, ◌<◌, ◌≤◌, IsTrue, [], append-nil, length, refl, subst, sym, ◌∙◌, arith, rules}
 use Rattle.pot_group.specs.Relaying.{Advances}
 use Rattle.pot_group.specs.Group.{GroupParts, view_of}
 use Rattle.pot_group.proofs.AdvanceSteps.{idle_step, found_over}
-use Rattle.pot_group.proofs.Advancing.{advance_means, idle_none}
+use Rattle.pot_group.proofs.Advancing.{idle_none}
+use Rattle.pot_group.proofs.Rows.{advance_made, grows_same}
 use Rattle.pot_group.proofs.Lossless.{lossless_same}
-use Rattle.pot_group.proofs.ShelfLemmas.{loses_refl}
+use Rattle.pot_group.proofs.ShelfLemmas.{keeps_refl, loses_refl}
 use Rattle.pot_group.proofs.group.Group.advance.Goals as goal
-
-pub returns-in_default-clause-step : goal.returns-in_default-clause-step
-returns-in_default-clause-step g c = λ t. idle_step (IsTrue g.A.Archive.account.tells) (view_of g.A.Archive.account.meaning c.args.self.now) c.args.job c.args.stripe c.logged-settled.ensures.settled (sym c.flight.ensures ∙ c.in_default.is)
 
 pub next_column-requires : goal.next_column-requires
 next_column-requires g c =
@@ -24,47 +22,66 @@ go_on-requires-clause-within g c = subst (λ n. n < c.args.self.now.table.stripe
 pub finish_flight-requires-clause-here : goal.finish_flight-requires-clause-here
 finish_flight-requires-clause-here g c = (found_over c.args.self.now.flights c.args.stripe c.flight.result c.in-Some.flight c.flight.ensures c.in-Some.is).1
 
-pub returns-in_default-clause-means : goal.returns-in_default-clause-means
-returns-in_default-clause-means g c =
-    let room : length c.args.self.now.log < 262144 = search rules in
-    (room, idle_none (IsTrue g.A.Archive.account.tells) (view_of g.A.Archive.account.meaning c.args.self.now) c.args.stripe c.logged-settled.ensures.settled (sym c.flight.ensures ∙ c.in_default.is), refl)
+pub returns-then-len-ge-LOG_BOUND : goal.returns-then-len-ge-LOG_BOUND
+returns-then-len-ge-LOG_BOUND g c =
+    let old = view_of g.A.Archive.account.meaning c.args.self.now in
+    let full : length old.log ≡ 262144 = subst (λ (w : GroupParts _). length w.log ≡ 262144) c.self.view_is (omega (arith, c.self.invariant.0.bound)) in
+    record {
+      advances = (
+        [],
+        grows_same old old refl,
+        record {
+          tells = (refl, refl, full);
+          keeps = keeps_refl old.shelves;
+          step = λ t. record {
+            full = full;
+            logs = record { log = sym (append-nil old.log); room = omega (arith, full); flights = refl; heard = (λ n. refl) };
+            table = refl;
+            held = λ n k. refl;
+          };
+          lossless = λ t none. lossless_same old;
+          writes = λ t. loses_refl old.shelves;
+        },
+      );
+    }
+
+pub returns-in_default : goal.returns-in_default
+returns-in_default g c =
+    let old = view_of g.A.Archive.account.meaning c.args.self.now in
+    let room : length old.log < 262144 = search rules in
+    let idle = idle_none (IsTrue g.A.Archive.account.tells) old c.args.stripe c.logged-settled.ensures.settled (sym c.flight.ensures ∙ c.in_default.is) in
+    record {
+      advances = (
+        [],
+        grows_same old old refl,
+        record {
+          tells = (refl, refl, room, idle);
+          keeps = keeps_refl old.shelves;
+          step = λ t. idle_step (IsTrue g.A.Archive.account.tells) old c.args.job c.args.stripe c.logged-settled.ensures.settled (sym c.flight.ensures ∙ c.in_default.is);
+          lossless = λ t none. lossless_same old;
+          writes = λ t. loses_refl old.shelves;
+        },
+      );
+    }
 
 pub returns-in-Some-next_column : goal.returns-in-Some-next_column
 returns-in-Some-next_column g c =
-    let room : length c.args.self.now.log < 262144 = search rules in
-    let a : Advances (IsTrue g.A.Archive.account.tells) c.args.job c.args.stripe c.go_on.result (view_of g.A.Archive.account.meaning c.args.self.now) (view_of g.A.Archive.account.meaning c.go_on.new.self) =
-    subst (λ n. Advances (IsTrue g.A.Archive.account.tells) c.args.job n c.go_on.result (view_of g.A.Archive.account.meaning c.args.self.now) (view_of g.A.Archive.account.meaning c.go_on.new.self))
-    (found_over c.args.self.now.flights c.args.stripe c.flight.result c.in-Some.flight c.flight.ensures c.in-Some.is).0 c.go_on.ensures in
+    let told = IsTrue g.A.Archive.account.tells in
+    let old = view_of g.A.Archive.account.meaning c.args.self.now in
+    let new = view_of g.A.Archive.account.meaning c.go_on.new.self in
+    let room : length old.log < 262144 = search rules in
     record {
-      means = advance_means (IsTrue g.A.Archive.account.tells) g.A.Archive.account.meaning c.args.job c.args.stripe c.go_on.result c.args.self.now c.go_on.new.self room a;
-      keeps = a.keeps;
-      step = a.steps;
-      lossless = a.lossless;
-      writes = a.writes;
+      advances = advance_made told c.args.job c.args.stripe old new c.go_on.result room
+          (subst (λ n. Advances told c.args.job n c.go_on.result old new) (found_over c.args.self.now.flights c.args.stripe c.flight.result c.in-Some.flight c.flight.ensures c.in-Some.is).0 c.go_on.ensures);
     }
 
 pub returns-in-None : goal.returns-in-None
 returns-in-None g c =
-    let room : length c.args.self.now.log < 262144 = search rules in
-    let a : Advances (IsTrue g.A.Archive.account.tells) c.args.job c.args.stripe c.finish_flight.result (view_of g.A.Archive.account.meaning c.args.self.now) (view_of g.A.Archive.account.meaning c.finish_flight.new.self) =
-    subst (λ n. Advances (IsTrue g.A.Archive.account.tells) c.args.job n c.finish_flight.result (view_of g.A.Archive.account.meaning c.args.self.now) (view_of g.A.Archive.account.meaning c.finish_flight.new.self))
-    (found_over c.args.self.now.flights c.args.stripe c.flight.result c.in-Some.flight c.flight.ensures c.in-Some.is).0 c.finish_flight.ensures in
+    let told = IsTrue g.A.Archive.account.tells in
+    let old = view_of g.A.Archive.account.meaning c.args.self.now in
+    let new = view_of g.A.Archive.account.meaning c.finish_flight.new.self in
+    let room : length old.log < 262144 = search rules in
     record {
-      means = advance_means (IsTrue g.A.Archive.account.tells) g.A.Archive.account.meaning c.args.job c.args.stripe c.finish_flight.result c.args.self.now c.finish_flight.new.self room a;
-      keeps = a.keeps;
-      step = a.steps;
-      lossless = a.lossless;
-      writes = a.writes;
+      advances = advance_made told c.args.job c.args.stripe old new c.finish_flight.result room
+          (subst (λ n. Advances told c.args.job n c.finish_flight.result old new) (found_over c.args.self.now.flights c.args.stripe c.flight.result c.in-Some.flight c.flight.ensures c.in-Some.is).0 c.finish_flight.ensures);
     }
-
-pub returns-in_default-clause-lossless : goal.returns-in_default-clause-lossless
-returns-in_default-clause-lossless g c = λ t none. lossless_same (view_of g.A.Archive.account.meaning c.args.self.now)
-
-pub returns-then-len-ge-LOG_BOUND-clause-lossless : goal.returns-then-len-ge-LOG_BOUND-clause-lossless
-returns-then-len-ge-LOG_BOUND-clause-lossless g c = λ t none. lossless_same (view_of g.A.Archive.account.meaning c.args.self.now)
-
-pub returns-in_default-clause-writes : goal.returns-in_default-clause-writes
-returns-in_default-clause-writes g c = λ t. loses_refl (view_of g.A.Archive.account.meaning c.args.self.now).shelves
-
-pub returns-then-len-ge-LOG_BOUND-clause-writes : goal.returns-then-len-ge-LOG_BOUND-clause-writes
-returns-then-len-ge-LOG_BOUND-clause-writes g c = λ t. loses_refl (view_of g.A.Archive.account.meaning c.args.self.now).shelves
