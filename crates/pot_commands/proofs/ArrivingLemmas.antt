@@ -44,7 +44,7 @@ use Rattle.pot_shared.specs.declared.member.Logged.{Logged}
 use Rattle.pot_shared.specs.Calls.{CallAt, CallTurn}
 use Rattle.pot_shared.specs.Catalogs.{IndexPasses, IsIndexReady}
 use Rattle.pot_shared.specs.Members.{all_logged, entries_of, logged_at, mark_at, origin_of}
-use Rattle.pot_shared.specs.MoveCalls.{ComesBy, HandedBack, SwapCall}
+use Rattle.pot_group.specs.Calls.{ComesBy, HandedBack, SwapCall}
 use Rattle.pot_shared.specs.Ready.{AreReady, GroupPass, GroupPasses}
 use Rattle.pot_store.specs.Works.{Known, known, of_job, gained, JobWorked, JobAlone, IsSettingOf, section_of}
 use Rattle.pot_store.proofs.WorkLemmas.{all_none, all_one, drop_all, row_stays, index_idle, group_work, group_own, group_else, work_more, alone_parts, own_more, index_own_more, same_number}

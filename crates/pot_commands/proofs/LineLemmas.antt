@@ -19,7 +19,8 @@ use Rattle.pot_replies.specs.Listings.{Counts, counts_of, StatusLine, Group, Gro
 use Rattle.pot_shared.specs.declared.member.Logged.{Logged}
 use Rattle.pot_shared.specs.Members.{all_logged, entries_of}
 use Rattle.pot_shared.specs.Ready.{GroupPass, GroupPasses}
-use Rattle.pot_shared.specs.Calls.{CallTurn, CallAt, CountCall}
+use Rattle.pot_group.specs.Calls.{CountCall}
+use Rattle.pot_shared.specs.Calls.{CallTurn, CallAt}
 use Rattle.pot_store.specs.Works.{of_job}
 use Rattle.pot_store.proofs.WorkLemmas.{all_none, all_cons, all_one, own_entries}
 use Rattle.pot_commands.specs.Rows.{reply_of_line}

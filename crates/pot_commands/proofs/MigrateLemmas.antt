@@ -37,7 +37,7 @@ use Rattle.pot_replies.specs.Moves.{HasHome, IsUsed, NoHome, GoesElsewhere, IsTa
 use Rattle.pot_shared.specs.Calls.{CallAt}
 use Rattle.pot_shared.specs.Catalogs.{IndexPasses, IsIndexReady}
 use Rattle.pot_shared.specs.Members.{entries_of}
-use Rattle.pot_shared.specs.MoveCalls.{MoveBeginCall}
+use Rattle.pot_group.specs.Calls.{MoveBeginCall}
 use Rattle.pot_shared.specs.Ready.{AreReady, GroupPasses}
 use Rattle.pot_store.specs.Works.{Known, known, of_job, gained, JobWorked, JobAlone, IsSettingOf, section_of}
 use Rattle.pot_store.proofs.WorkLemmas.{all_none, all_one, alone_parts, drop_all, index_idle, row_stays, same_number, work_more}

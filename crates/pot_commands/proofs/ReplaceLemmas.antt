@@ -23,7 +23,7 @@ use Rattle.pot_replies.specs.Sections.{Section, mine, IsSilent, IsOfJobs, replay
 use Rattle.pot_replies.specs.Moves.{HasHome, IsUsed, NoHome, IsReplaced}
 use Rattle.pot_shared.specs.Calls.{CallAt}
 use Rattle.pot_shared.specs.Catalogs.{IndexPasses, IsIndexReady}
-use Rattle.pot_shared.specs.MoveCalls.{ComesBy, HandedBack, SwapCall}
+use Rattle.pot_group.specs.Calls.{ComesBy, HandedBack, SwapCall}
 use Rattle.pot_shared.specs.Ready.{AreReady, GroupPasses}
 use Rattle.pot_store.specs.Works.{Known, known, JobWorked, JobAlone, IsSettingOf, section_of}
 use Rattle.pot_store.proofs.WorkLemmas.{all_none, all_one, same_number}

@@ -33,7 +33,7 @@ use Rattle.pot_shared.specs.Members.{all_logged, entries_of, logged_at, origin_o
 use Rattle.pot_shared.specs.Ready.{AreReady, GroupPass, GroupPasses}
 use Rattle.pot_shared.specs.Calls.{CallAt}
 use Rattle.pot_shared.specs.Catalogs.{IndexPasses}
-use Rattle.pot_shared.specs.MoveCalls.{MoveStepCall, MoveTells}
+use Rattle.pot_group.specs.Calls.{MoveStepCall, MoveTells}
 use Rattle.pot_shared.proofs.MemberLemmas.{entries_all}
 use Rattle.pot_store.specs.Works.{of_job, gained, known, section_of, IsSettingOf}
 use Rattle.pot_store.proofs.WorkLemmas.{all_none, all_one, drop_all, group_else, group_own, group_work, own_more, row_stays}

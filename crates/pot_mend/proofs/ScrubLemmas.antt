@@ -21,7 +21,8 @@ use Rattle.pot_rows.proofs.WorkLemmas.{row_work_in_parts}
 use Rattle.pot_shared.specs.Members.{entries_of}
 use Rattle.pot_shared.specs.Ready.{GroupPasses, AreReady}
 use Rattle.pot_shared.specs.Catalogs.{IndexPasses}
-use Rattle.pot_shared.specs.Calls.{CallAt, LookCall, NextCall}
+use Rattle.pot_group.specs.Calls.{LookCall}
+use Rattle.pot_shared.specs.Calls.{CallAt, NextCall}
 use Rattle.pot_replies.specs.Jobs.{own, is_of, is_look, is_seen, is_gone, place_in, EachIs, Ascend, Precedes}
 use Rattle.pot_replies.specs.Sections.{Section, mine}
 use Rattle.pot_replies.specs.Settings.{Setting}

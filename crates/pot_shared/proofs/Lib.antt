@@ -1,7 +1,5 @@
 pub mod MemberLemmas
 pub mod CallLemmas
-pub mod MendLemmas
-pub mod MoveLemmas
 pub mod UseLemmas
 pub mod PlaceLemmas
 pub mod CatalogLemmas

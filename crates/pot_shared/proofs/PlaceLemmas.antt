@@ -24,7 +24,8 @@ use Rattle.pot_rows.proofs.RowLemmas.{at_set}
 use Rattle.pot_shared.specs.Members.{all_logged, kept_log, logged_at}
 use Rattle.pot_shared.specs.Ready.{GroupPass, GroupPasses}
 use Rattle.pot_shared.specs.Calls.{CallAt, CallTurn}
-use Rattle.pot_shared.specs.MendCalls.{GoesOn, MendCall, MendTurns, MendsPlace, RelayEntries, begins, begun, blind_at, drawn}
+use Rattle.pot_group.specs.Calls.{MendCall, RelayEntries}
+use Rattle.pot_shared.specs.MendCalls.{GoesOn, MendTurns, MendsPlace, begins, begun, blind_at, drawn}
 use Rattle.pot_shared.proofs.CallLemmas.{set_twice}
 
 zero_front : (n : ℕ) → n ≡ 0 + n

@@ -2,7 +2,6 @@ pub mod Members
 pub mod Ready
 pub mod Calls
 pub mod MendCalls
-pub mod MoveCalls
 pub mod UseCalls
 pub mod Seen
 pub mod Catalogs

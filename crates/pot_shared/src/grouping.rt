@@ -10,7 +10,8 @@ use std::sync::Wait;
 
 impl<A: Archive> Vault<A> {
     ghost use Rattle.pot_shared.specs.Ready.{AreReady, HasSlot};
-    ghost use Rattle.pot_shared.specs.Calls.{CallAt, PutCall, LookCall, CountCall, NextCall};
+    ghost use Rattle.pot_group.specs.Calls.{PutCall, LookCall, CountCall};
+    ghost use Rattle.pot_shared.specs.Calls.{CallAt, NextCall};
 
     /// Puts a block into a group, in one turn of it, as `Group::put`. The group takes over the block's digest, and that of `parity`
     /// where this is the parity block that it writes: another one changes no answer.

@@ -22,7 +22,8 @@ fn draw_blind(pads: &mut PadStream) -> Block
 impl<A: Archive> Vault<A> {
     ghost use Rattle.pot_shared.specs.Ready.{AreReady, HasSlot};
     ghost use Rattle.pot_shared.specs.Calls.{CallAt};
-    ghost use Rattle.pot_shared.specs.MendCalls.{MendCall, MendsPlace};
+    ghost use Rattle.pot_group.specs.Calls.{MendCall};
+    ghost use Rattle.pot_shared.specs.MendCalls.{MendsPlace};
 
     /// Goes one step towards the mending of a slot, in one turn of its group, as `Group::mend`.
     pub fn mend_step<R: Wait>(

@@ -9,7 +9,7 @@ use std::sync::Wait;
 impl<A: Archive> Vault<A> {
     ghost use Rattle.pot_shared.specs.Ready.{AreReady};
     ghost use Rattle.pot_shared.specs.Calls.{CallAt};
-    ghost use Rattle.pot_shared.specs.MoveCalls.{MoveBeginCall, MoveStepCall, SwapCall};
+    ghost use Rattle.pot_group.specs.Calls.{MoveBeginCall, MoveStepCall, SwapCall};
 
     /// A column begins to move to an archive that comes, in one turn of its group, as `Group::move_begin`.
     ///

@@ -23,7 +23,8 @@ use Rattle.pot_replies.specs.Sections.{replayed}
 use Rattle.pot_replies.specs.Stores.{Puts, in_group, IsUnkept}
 use Rattle.pot_shared.specs.Members.{entries_of, origin_of}
 use Rattle.pot_shared.specs.Ready.{GroupPass, GroupPasses, AreReady, IsTableOf}
-use Rattle.pot_shared.specs.Calls.{CallAt, PutCall, PutEntries}
+use Rattle.pot_group.specs.Calls.{PutCall, PutEntries}
+use Rattle.pot_shared.specs.Calls.{CallAt}
 use Rattle.pot_shared.proofs.CallLemmas.{is_table}
 use Rattle.pot_store.specs.Works.{of_job, gained}
 use Rattle.pot_store.specs.Puts.{ArePut, EndsFull, EndsLogFull, EndsPut, PutsEnd}

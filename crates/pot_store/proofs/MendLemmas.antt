@@ -22,7 +22,8 @@ use Rattle.pot_replies.specs.Jobs.{is_of, is_seen_at}
 use Rattle.pot_shared.specs.Members.{entries_of, origin_of}
 use Rattle.pot_shared.specs.Ready.{AreReady, GroupPass, GroupPasses}
 use Rattle.pot_shared.specs.Calls.{CallAt, CallTurn}
-use Rattle.pot_shared.specs.MendCalls.{GoesOn, MendCall, MendTurns, MendsPlace, begins, blind_at}
+use Rattle.pot_group.specs.Calls.{MendCall}
+use Rattle.pot_shared.specs.MendCalls.{GoesOn, MendTurns, MendsPlace, begins, blind_at}
 use Rattle.pot_shared.proofs.CallLemmas.{ready_again, set_twice}
 use Rattle.pot_store.specs.Adds.{Adds, IsFirst}
 use Rattle.pot_store.specs.Works.{gained}

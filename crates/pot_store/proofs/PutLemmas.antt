@@ -13,7 +13,7 @@ use Rattle.pot_group.specs.declared.answers.PutFault.TheVariants as fault
 use Rattle.pot_worked.specs.Laws.{AllOf}
 use Rattle.pot_replies.specs.Jobs.{is_of}
 use Rattle.pot_replies.specs.Stores.{Placed, Puts, IsKeptPut, in_group}
-use Rattle.pot_shared.specs.Calls.{PutEntries}
+use Rattle.pot_group.specs.Calls.{PutEntries}
 use Rattle.pot_rows.proofs.Lists.{take_next as next}
 use Rattle.pot_store.proofs.WorkLemmas.{all_none, all_cons, all_one, all_append}
 

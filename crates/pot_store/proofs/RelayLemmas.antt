@@ -21,7 +21,8 @@ use Rattle.pot_group.specs.Relaying.{Owns, answered}
 use Rattle.pot_replies.specs.Jobs.{is_look_at, is_of, is_seen_at, is_stuck_at}
 use Rattle.pot_shared.specs.Ready.{GroupPass}
 use Rattle.pot_shared.specs.Calls.{CallTurn}
-use Rattle.pot_shared.specs.MendCalls.{GoesOn, MendCall, RelayEntries}
+use Rattle.pot_group.specs.Calls.{MendCall, RelayEntries}
+use Rattle.pot_shared.specs.MendCalls.{GoesOn}
 use Rattle.pot_store.specs.Visits.{Came, EndsSecond, IsSecond, MayVisit, begun_from, begun_next, is_begin_at, is_oddly_at, was_seen}
 
 -- ENTRIES AFTER WHICH A MEND GOES ON

@@ -28,7 +28,8 @@ use Rattle.pot_replies.specs.Stores.{Placed, Puts, place_of, in_group}
 use Rattle.pot_shared.specs.Members.{entries_of, all_logged}
 use Rattle.pot_shared.specs.Ready.{GroupPass, GroupPasses, AreReady, IsTableOf}
 use Rattle.pot_shared.specs.Seen.{IsKeptPut, SeesPut}
-use Rattle.pot_shared.specs.Calls.{CallAt, PutCall}
+use Rattle.pot_group.specs.Calls.{PutCall}
+use Rattle.pot_shared.specs.Calls.{CallAt}
 use Rattle.pot_shared.proofs.MemberLemmas.{entries_all}
 use Rattle.pot_shared.proofs.CallLemmas.{is_origin, is_table}
 use Rattle.pot_shared.proofs.CatalogLemmas.{sees_more}

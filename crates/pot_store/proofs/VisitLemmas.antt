@@ -28,7 +28,8 @@ use Rattle.pot_replies.specs.Sections.{replayed}
 use Rattle.pot_shared.specs.declared.member.Logged.{Logged}
 use Rattle.pot_shared.specs.Members.{all_logged, entries_of, origin_of}
 use Rattle.pot_shared.specs.Ready.{GroupPass, GroupPasses}
-use Rattle.pot_shared.specs.Calls.{CallAt, LookCall}
+use Rattle.pot_group.specs.Calls.{LookCall}
+use Rattle.pot_shared.specs.Calls.{CallAt}
 use Rattle.pot_shared.proofs.MemberLemmas.{entries_all}
 use Rattle.pot_store.specs.Adds.{Adds}
 use Rattle.pot_store.specs.Works.{gained, of_job}

@@ -1,7 +1,7 @@
 use Rattle.std.proofs.Common.{IsTrue}
 use Rattle.pot_group.specs.Group.{view_of}
-use Rattle.pot_shared.specs.Calls.{CountCall}
-use Rattle.pot_shared.proofs.CallLemmas.{grown, same_origin, called, ready_again, count_means}
+use Rattle.pot_group.specs.Calls.{CountCall}
+use Rattle.pot_shared.proofs.CallLemmas.{grown, same_origin, called, ready_again}
 use Rattle.pot_shared.proofs.vault.Vault.count.Goals as goal
 
 pub leave-requires-clause-grown : goal.leave-requires-clause-grown
@@ -9,22 +9,18 @@ leave-requires-clause-grown g c =
     let told = IsTrue g.A.Archive.account.tells in
     let old = view_of g.A.Archive.account.meaning c.enter-member.result.group in
     let new = view_of g.A.Archive.account.meaning c.count-answer.new.self in
-    let means = count_means g.A.Archive.account.meaning told c.args.job c.enter-member.result.group c.count-answer.new.self c.count-answer.result
-    c.count-answer.ensures.full.0 c.count-answer.ensures.refused c.count-answer.ensures.counts c.count-answer.ensures.step in
     grown c.args.self.now.groups c.args.passes.now.groups c.enter-member.new.passes c.args.group c.requires.ready.of c.requires.group old c.enter-member.ensures.took
-    new means.0 means.1 c.enter-member.ensures.origin
+    new (CountCall told c.args.job c.count-answer.result) c.count-answer.ensures.counts c.logged-before.ensures.arrived c.enter-member.ensures.origin
 
 pub returns-clause-call : goal.returns-clause-call
 returns-clause-call g c =
     let told = IsTrue g.A.Archive.account.tells in
     let old = view_of g.A.Archive.account.meaning c.enter-member.result.group in
     let new = view_of g.A.Archive.account.meaning c.count-answer.new.self in
-    let means = count_means g.A.Archive.account.meaning told c.args.job c.enter-member.result.group c.count-answer.new.self c.count-answer.result
-    c.count-answer.ensures.full.0 c.count-answer.ensures.refused c.count-answer.ensures.counts c.count-answer.ensures.step in
     called c.args.self.now.groups c.args.passes.now.groups c.enter-member.new.passes c.args.group c.requires.ready.of c.requires.group old c.enter-member.ensures.took
-    new means.0 means.1 c.enter-member.ensures.origin
-    told (CountCall told c.args.job c.count-answer.result) c.leave.new.passes c.leave.ensures.left c.enter-member.ensures.begins
-    c.logged-before.ensures.settled c.logged-before.ensures.first c.logged-after.ensures.settled means.2
+    new (CountCall told c.args.job c.count-answer.result) c.count-answer.ensures.counts c.logged-before.ensures.arrived c.enter-member.ensures.origin
+    told c.leave.new.passes c.leave.ensures.left c.enter-member.ensures.begins
+    c.logged-before.ensures.settled c.logged-before.ensures.first c.logged-after.ensures.settled
 
 pub returns-clause-ready : goal.returns-clause-ready
 returns-clause-ready g c =

@@ -1,7 +1,7 @@
 use Rattle.std.proofs.Common.{IsTrue}
 use Rattle.pot_group.specs.Group.{view_of}
-use Rattle.pot_shared.specs.Calls.{LookCall}
-use Rattle.pot_shared.proofs.CallLemmas.{grown, same_origin, called, ready_again, look_means}
+use Rattle.pot_group.specs.Calls.{LookCall}
+use Rattle.pot_shared.proofs.CallLemmas.{grown, same_origin, called, ready_again}
 use Rattle.pot_shared.proofs.vault.Vault.look.Goals as goal
 
 pub leave-requires-clause-grown : goal.leave-requires-clause-grown
@@ -9,32 +9,26 @@ leave-requires-clause-grown g c =
     let told = IsTrue g.A.Archive.account.tells in
     let old = view_of g.A.Archive.account.meaning c.enter-member.result.group in
     let new = view_of g.A.Archive.account.meaning c.look-answer.new.self in
-    let means = look_means told c.args.job c.args.place c.look-answer.new.into c.look-answer.result old new c.look-answer.ensures.logs c.look-answer.ensures.full c.look-answer.ensures.cause
-    c.look-answer.ensures.stays c.look-answer.ensures.step in
     grown c.args.self.now.groups c.args.passes.now.groups c.enter-member.new.passes c.args.place.group c.requires.ready.of c.requires.place.0 old c.enter-member.ensures.took
-    new means.0 means.1 c.enter-member.ensures.origin
+    new (LookCall told c.args.job c.args.place c.look-answer.new.into c.look-answer.result) c.look-answer.ensures.looks c.logged-before.ensures.arrived c.enter-member.ensures.origin
 
 pub leave-requires-clause-origin : goal.leave-requires-clause-origin
 leave-requires-clause-origin g c =
     let told = IsTrue g.A.Archive.account.tells in
     let old = view_of g.A.Archive.account.meaning c.enter-member.result.group in
     let new = view_of g.A.Archive.account.meaning c.look-answer.new.self in
-    let means = look_means told c.args.job c.args.place c.look-answer.new.into c.look-answer.result old new c.look-answer.ensures.logs c.look-answer.ensures.full c.look-answer.ensures.cause
-    c.look-answer.ensures.stays c.look-answer.ensures.step in
     same_origin c.args.self.now.groups c.args.passes.now.groups c.enter-member.new.passes c.args.place.group c.requires.ready.of c.requires.place.0 old c.enter-member.ensures.took
-    new means.0 means.1 c.enter-member.ensures.origin
+    new (LookCall told c.args.job c.args.place c.look-answer.new.into c.look-answer.result) c.look-answer.ensures.looks c.logged-before.ensures.arrived c.enter-member.ensures.origin
 
 pub returns-clause-call : goal.returns-clause-call
 returns-clause-call g c =
     let told = IsTrue g.A.Archive.account.tells in
     let old = view_of g.A.Archive.account.meaning c.enter-member.result.group in
     let new = view_of g.A.Archive.account.meaning c.look-answer.new.self in
-    let means = look_means told c.args.job c.args.place c.look-answer.new.into c.look-answer.result old new c.look-answer.ensures.logs c.look-answer.ensures.full c.look-answer.ensures.cause
-    c.look-answer.ensures.stays c.look-answer.ensures.step in
     called c.args.self.now.groups c.args.passes.now.groups c.enter-member.new.passes c.args.place.group c.requires.ready.of c.requires.place.0 old c.enter-member.ensures.took
-    new means.0 means.1 c.enter-member.ensures.origin
-    told (LookCall told c.args.job c.args.place c.look-answer.new.into c.look-answer.result) c.leave.new.passes c.leave.ensures.left c.enter-member.ensures.begins
-    c.logged-before.ensures.settled c.logged-before.ensures.first c.logged-after.ensures.settled means.2
+    new (LookCall told c.args.job c.args.place c.look-answer.new.into c.look-answer.result) c.look-answer.ensures.looks c.logged-before.ensures.arrived c.enter-member.ensures.origin
+    told c.leave.new.passes c.leave.ensures.left c.enter-member.ensures.begins
+    c.logged-before.ensures.settled c.logged-before.ensures.first c.logged-after.ensures.settled
 
 pub returns-clause-ready : goal.returns-clause-ready
 returns-clause-ready g c =

@@ -1,8 +1,7 @@
 use Rattle.std.proofs.Common.{IsTrue}
 use Rattle.pot_group.specs.Group.{view_of}
-use Rattle.pot_shared.specs.MoveCalls.{MoveStepCall}
-use Rattle.pot_shared.proofs.CallLemmas.{grown, same_origin, called, ready_again}
-use Rattle.pot_shared.proofs.MoveLemmas.{is_column, move_means}
+use Rattle.pot_group.specs.Calls.{MoveStepCall}
+use Rattle.pot_shared.proofs.CallLemmas.{is_column, grown, same_origin, called, ready_again}
 use Rattle.pot_shared.proofs.vault.Vault.move_step.Goals as goal
 
 pub move_step-answer-requires-clause-column : goal.move_step-answer-requires-clause-column
@@ -15,32 +14,26 @@ leave-requires-clause-grown g c =
     let told = IsTrue g.A.Archive.account.tells in
     let old = view_of g.A.Archive.account.meaning c.enter-member.result.group in
     let new = view_of g.A.Archive.account.meaning c.move_step-answer.new.self in
-    let means = move_means g.A.Archive.account.meaning told c.args.job c.args.column c.enter-member.result.group c.move_step-answer.new.self c.move_step-answer.ensures.keeps c.move_step-answer.result
-    c.move_step-answer.ensures.means c.move_step-answer.ensures.step c.move_step-answer.ensures.writes in
     grown c.args.self.now.groups c.args.passes.now.groups c.enter-member.new.passes c.args.group c.requires.ready.of c.requires.group old c.enter-member.ensures.took
-    new means.0 means.1 c.enter-member.ensures.origin
+    new (MoveStepCall told c.args.job c.args.column c.move_step-answer.result) c.move_step-answer.ensures.moves c.logged-before.ensures.arrived c.enter-member.ensures.origin
 
 pub leave-requires-clause-origin : goal.leave-requires-clause-origin
 leave-requires-clause-origin g c =
     let told = IsTrue g.A.Archive.account.tells in
     let old = view_of g.A.Archive.account.meaning c.enter-member.result.group in
     let new = view_of g.A.Archive.account.meaning c.move_step-answer.new.self in
-    let means = move_means g.A.Archive.account.meaning told c.args.job c.args.column c.enter-member.result.group c.move_step-answer.new.self c.move_step-answer.ensures.keeps c.move_step-answer.result
-    c.move_step-answer.ensures.means c.move_step-answer.ensures.step c.move_step-answer.ensures.writes in
     same_origin c.args.self.now.groups c.args.passes.now.groups c.enter-member.new.passes c.args.group c.requires.ready.of c.requires.group old c.enter-member.ensures.took
-    new means.0 means.1 c.enter-member.ensures.origin
+    new (MoveStepCall told c.args.job c.args.column c.move_step-answer.result) c.move_step-answer.ensures.moves c.logged-before.ensures.arrived c.enter-member.ensures.origin
 
 pub returns-clause-call : goal.returns-clause-call
 returns-clause-call g c =
     let told = IsTrue g.A.Archive.account.tells in
     let old = view_of g.A.Archive.account.meaning c.enter-member.result.group in
     let new = view_of g.A.Archive.account.meaning c.move_step-answer.new.self in
-    let means = move_means g.A.Archive.account.meaning told c.args.job c.args.column c.enter-member.result.group c.move_step-answer.new.self c.move_step-answer.ensures.keeps c.move_step-answer.result
-    c.move_step-answer.ensures.means c.move_step-answer.ensures.step c.move_step-answer.ensures.writes in
     called c.args.self.now.groups c.args.passes.now.groups c.enter-member.new.passes c.args.group c.requires.ready.of c.requires.group old c.enter-member.ensures.took
-    new means.0 means.1 c.enter-member.ensures.origin
-    told (MoveStepCall told c.args.job c.args.column c.move_step-answer.result) c.leave.new.passes c.leave.ensures.left c.enter-member.ensures.begins
-    c.logged-before.ensures.settled c.logged-before.ensures.first c.logged-after.ensures.settled means.2
+    new (MoveStepCall told c.args.job c.args.column c.move_step-answer.result) c.move_step-answer.ensures.moves c.logged-before.ensures.arrived c.enter-member.ensures.origin
+    told c.leave.new.passes c.leave.ensures.left c.enter-member.ensures.begins
+    c.logged-before.ensures.settled c.logged-before.ensures.first c.logged-after.ensures.settled
 
 pub returns-clause-ready : goal.returns-clause-ready
 returns-clause-ready g c =

@@ -1,7 +1,7 @@
-use Rattle.std.proofs.Common.{IsTrue, ap}
+use Rattle.std.proofs.Common.{IsTrue}
 use Rattle.pot_group.specs.Group.{view_of}
-use Rattle.pot_shared.specs.Calls.{PutCall}
-use Rattle.pot_shared.proofs.CallLemmas.{grown, same_origin, called, ready_again, put_means}
+use Rattle.pot_group.specs.Calls.{PutCall}
+use Rattle.pot_shared.proofs.CallLemmas.{grown, same_origin, called, ready_again}
 use Rattle.pot_shared.proofs.vault.Vault.put.Goals as goal
 
 pub leave-requires-clause-grown : goal.leave-requires-clause-grown
@@ -9,32 +9,26 @@ leave-requires-clause-grown g c =
     let told = IsTrue g.A.Archive.account.tells in
     let old = view_of g.A.Archive.account.meaning c.enter-member.result.group in
     let new = view_of g.A.Archive.account.meaning c.put-answer.new.self in
-    let means = put_means told c.args.job c.args.block.now.block c.put-answer.result old new (rw (c.expect.ensures, c.block.ensures) at c.put-answer.ensures.logs)
-    (λ l. (let f = (rw c.expect.ensures at c.put-answer.ensures.full) l in (f.0, ap (view_of g.A.Archive.account.meaning) f.1))) (rw c.expect.ensures at c.put-answer.ensures.keeps) (rw (c.expect.ensures, c.block.ensures) at c.put-answer.ensures.step) in
     grown c.args.self.now.groups c.args.passes.now.groups c.enter-member.new.passes c.args.group c.requires.ready.of c.requires.group old c.enter-member.ensures.took
-    new means.0 means.1 c.enter-member.ensures.origin
+    new (PutCall told c.args.job c.args.block.now.block c.put-answer.result) (rw (c.expect.ensures, c.block.ensures) at c.put-answer.ensures.puts) c.logged-before.ensures.arrived c.enter-member.ensures.origin
 
 pub leave-requires-clause-origin : goal.leave-requires-clause-origin
 leave-requires-clause-origin g c =
     let told = IsTrue g.A.Archive.account.tells in
     let old = view_of g.A.Archive.account.meaning c.enter-member.result.group in
     let new = view_of g.A.Archive.account.meaning c.put-answer.new.self in
-    let means = put_means told c.args.job c.args.block.now.block c.put-answer.result old new (rw (c.expect.ensures, c.block.ensures) at c.put-answer.ensures.logs)
-    (λ l. (let f = (rw c.expect.ensures at c.put-answer.ensures.full) l in (f.0, ap (view_of g.A.Archive.account.meaning) f.1))) (rw c.expect.ensures at c.put-answer.ensures.keeps) (rw (c.expect.ensures, c.block.ensures) at c.put-answer.ensures.step) in
     same_origin c.args.self.now.groups c.args.passes.now.groups c.enter-member.new.passes c.args.group c.requires.ready.of c.requires.group old c.enter-member.ensures.took
-    new means.0 means.1 c.enter-member.ensures.origin
+    new (PutCall told c.args.job c.args.block.now.block c.put-answer.result) (rw (c.expect.ensures, c.block.ensures) at c.put-answer.ensures.puts) c.logged-before.ensures.arrived c.enter-member.ensures.origin
 
 pub returns-clause-call : goal.returns-clause-call
 returns-clause-call g c =
     let told = IsTrue g.A.Archive.account.tells in
     let old = view_of g.A.Archive.account.meaning c.enter-member.result.group in
     let new = view_of g.A.Archive.account.meaning c.put-answer.new.self in
-    let means = put_means told c.args.job c.args.block.now.block c.put-answer.result old new (rw (c.expect.ensures, c.block.ensures) at c.put-answer.ensures.logs)
-    (λ l. (let f = (rw c.expect.ensures at c.put-answer.ensures.full) l in (f.0, ap (view_of g.A.Archive.account.meaning) f.1))) (rw c.expect.ensures at c.put-answer.ensures.keeps) (rw (c.expect.ensures, c.block.ensures) at c.put-answer.ensures.step) in
     called c.args.self.now.groups c.args.passes.now.groups c.enter-member.new.passes c.args.group c.requires.ready.of c.requires.group old c.enter-member.ensures.took
-    new means.0 means.1 c.enter-member.ensures.origin
-    told (PutCall told c.args.job c.args.block.now.block c.put-answer.result) c.leave.new.passes c.leave.ensures.left c.enter-member.ensures.begins
-    c.logged-before.ensures.settled c.logged-before.ensures.first c.logged-after.ensures.settled means.2
+    new (PutCall told c.args.job c.args.block.now.block c.put-answer.result) (rw (c.expect.ensures, c.block.ensures) at c.put-answer.ensures.puts) c.logged-before.ensures.arrived c.enter-member.ensures.origin
+    told c.leave.new.passes c.leave.ensures.left c.enter-member.ensures.begins
+    c.logged-before.ensures.settled c.logged-before.ensures.first c.logged-after.ensures.settled
 
 pub returns-clause-ready : goal.returns-clause-ready
 returns-clause-ready g c =

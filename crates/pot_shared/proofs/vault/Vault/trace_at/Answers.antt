@@ -1,23 +1,24 @@
 use Rattle.std.proofs.Common.{IsTrue, [], refl}
 use Rattle.pot_group.specs.Group.{view_of}
 use Rattle.pot_shared.specs.UseCalls.{TraceCall}
-use Rattle.pot_shared.proofs.CallLemmas.{grown, called, grows_same, ready_again}
+use Rattle.pot_group.proofs.Rows.{grows_same}
+use Rattle.pot_shared.proofs.CallLemmas.{grown, called, ready_again}
 use Rattle.pot_shared.proofs.vault.Vault.trace_at.Goals as goal
 
 pub leave-requires-clause-grown : goal.leave-requires-clause-grown
 leave-requires-clause-grown g c =
     let met = view_of g.A.Archive.account.meaning c.enter-member.result.group in
     grown c.args.self.now.groups c.args.passes.now.groups c.enter-member.new.passes c.args.at c.requires.ready.of c.requires.group met c.enter-member.ensures.took
-    met [] (grows_same met met refl) c.enter-member.ensures.origin
+    met (TraceCall c.args.from c.args.to c.trace-answer.result) ([], grows_same met met refl, (refl, refl, c.trace-answer.ensures)) c.logged-before.ensures.arrived c.enter-member.ensures.origin
 
 pub returns-clause-call : goal.returns-clause-call
 returns-clause-call g c =
     let told = IsTrue g.A.Archive.account.tells in
     let met = view_of g.A.Archive.account.meaning c.enter-member.result.group in
     called c.args.self.now.groups c.args.passes.now.groups c.enter-member.new.passes c.args.at c.requires.ready.of c.requires.group met c.enter-member.ensures.took
-    met [] (grows_same met met refl) c.enter-member.ensures.origin
-    told (TraceCall c.args.from c.args.to c.trace-answer.result) c.leave.new.passes c.leave.ensures.left c.enter-member.ensures.begins
-    c.logged-before.ensures.settled c.logged-before.ensures.first c.logged-before.ensures.settled (refl, refl, c.trace-answer.ensures)
+    met (TraceCall c.args.from c.args.to c.trace-answer.result) ([], grows_same met met refl, (refl, refl, c.trace-answer.ensures)) c.logged-before.ensures.arrived c.enter-member.ensures.origin
+    told c.leave.new.passes c.leave.ensures.left c.enter-member.ensures.begins
+    c.logged-before.ensures.settled c.logged-before.ensures.first c.logged-before.ensures.settled
 
 pub returns-clause-ready : goal.returns-clause-ready
 returns-clause-ready g c =
