@@ -1,15 +1,13 @@
 -- A group keeps its sizes.
-use Rattle.std.proofs.Common.{◌≡◌, inl, inr, ℕ, List, [], ◌∷◌, Option, None, Some, IsSomeAnd, Result, Ok, Err, IfOk, IfErr, sym, subst, ◌∙◌}
-use Rattle.pot_bytes.specs.declared.rack.Place.{Place}
+use Rattle.std.proofs.Common.{◌≡◌, ℕ, List, [], ◌∷◌, Option, None, Some, IsSomeAnd, Result, Ok, Err, sym, subst, ◌∙◌}
 use Rattle.pot_outside.specs.Archives.{Meaning}
+use Rattle.pot_outside.specs.declared.archive.Shelf.{Shelf}
 use Rattle.pot_machine.specs.declared.entry.Entry.{Entry}
 use Rattle.pot_machine.specs.declared.entry.Entry.TheVariants as entry
 use Rattle.pot_machine.specs.Table.{Table, column_at, next_column}
 use Rattle.pot_machine.specs.Machine.{Replays, after}
 use Rattle.pot_machine.proofs.LeftAlone.{sizes_stay}
 use Rattle.pot_steps.specs.Flights.{flight_in}
-use Rattle.pot_group.specs.declared.answers.PutFault.{PutFault}
-use Rattle.pot_group.specs.declared.answers.PutFault.TheVariants as fault
 use Rattle.pot_group.specs.declared.copying.MoveFault.{MoveFault}
 use Rattle.pot_group.specs.declared.copying.MoveFault.TheVariants as stopped
 use Rattle.pot_group.specs.declared.copying.MoveStep.{MoveStep}
@@ -20,9 +18,10 @@ use Rattle.pot_group.specs.declared.relaying.Advanced.{Advanced}
 use Rattle.pot_group.specs.declared.relaying.Advanced.TheVariants as advanced
 use Rattle.pot_group.specs.declared.relaying.Mend.{Mend}
 use Rattle.pot_group.specs.declared.relaying.Mend.TheVariants as mend
-use Rattle.pot_group.specs.Group.{GroupParts, GroupView, PutLogs}
-use Rattle.pot_group.specs.Moving.{MoveMeans}
-use Rattle.pot_group.specs.Relaying.{Acts, MendMeans, Moves}
+use Rattle.pot_group.specs.declared.moving.ShelfRefused.{ShelfRefused}
+use Rattle.pot_group.specs.Group.{GroupView}
+use Rattle.pot_group.specs.Relaying.{Acts, Moves}
+use Rattle.pot_group.specs.Calls.{MendTells, MoveBeginCall, MoveTells, SwapCall}
 
 -- three data columns, one parity column and 1,024 stripes
 abbrev pub HasSizes : Table → Type 0
@@ -36,16 +35,6 @@ entered t e h =
 pub replayed : (t u : Table) (log : List Entry) → Replays t log u → HasSizes t → HasSizes u
 replayed t u [] r h = subst HasSizes (sym r) h
 replayed t u (e ∷ log) r h = replayed (after t e) u log r.1 (entered t e h)
-
-pub put : (job : ℕ) (block : List ℕ) (result : Result Place PutFault) (old new : GroupView)
-    → PutLogs job block result old new → HasSizes old.table → HasSizes new.table
-put job block (Ok place) old new p h = replayed old.table new.table _ p.1.4.replay h
-put job block (Err fault.LogFull) old new p h = replayed old.table new.table _ p.1.3.replay h
-put job block (Err fault.Full) old new p h = replayed old.table new.table _ p.1.1.replay h
-put job block (Err (fault.Faulted column)) old new p h = elim p.3 [
-  | inl logs ↦ replayed old.table new.table _ logs.0.replay h
-  | inr kept ↦ replayed old.table new.table _ kept.8.replay h
-]
 
 -- ONE ENTRY
 
@@ -67,27 +56,30 @@ moves job s (Err (failed.Faulted column)) old new m h = acted _ [] old new m.1 h
 moves job s (Err failed.LogFull) old new m h = absurd m
 moves job s (Err failed.Idle) old new m h = absurd m
 
-pub mended : {A : Type 0} (meaning : A → Meaning) (job s c : ℕ) (blind : List ℕ) (answer : Mend) (old new : GroupParts A)
-    → MendMeans meaning job s c blind answer old new → HasSizes old.table → HasSizes new.table
-mended meaning job s c blind mend.Whole old new m h = subst (λ (g : GroupParts _). HasSizes g.table) (sym m.1) h
-mended meaning job s c blind mend.LogFull old new m h = subst (λ (g : GroupParts _). HasSizes g.table) (sym m.0) h
-mended meaning job s c blind mend.Began old new m h = subst (λ (g : GroupParts _). HasSizes g.table) (sym m.2) (entered old.table (entry.Begin job s c) h)
-mended meaning job s c blind (mend.TwoGone first second) old new m h = subst (λ (g : GroupParts _). HasSizes g.table) (sym m.3) (entered old.table (entry.Stuck job s c second) h)
-mended meaning job s c blind mend.Went old new m h = moves job m.1.stripe m.1.result _ _ m.1.moves h
-mended meaning job s c blind (mend.Odd wanted found) old new m h = moves job m.1.stripe m.1.result _ _ m.1.moves h
-mended meaning job s c blind (mend.Faulted column) old new m h = moves job m.1.stripe m.1.result _ _ m.1.moves h
+pub mended : (job s c : ℕ) (blind : List ℕ) (answer : Mend) (old new : GroupView) (entries : List Entry) → MendTells job s c blind answer old new entries → HasSizes old.table → HasSizes new.table
+mended job s c blind mend.Whole old new es m h = subst (λ (g : GroupView). HasSizes g.table) (sym m.1) h
+mended job s c blind mend.LogFull old new es m h = subst (λ (g : GroupView). HasSizes g.table) (sym m.1) h
+mended job s c blind mend.Began old new es m h = acted (entry.Begin job s c) blind old new m.2 h
+mended job s c blind (mend.TwoGone first second) old new es m h = acted (entry.Stuck job s c second) [] old new m.3 h
+mended job s c blind mend.Went old new es (room, (d, is)) h = moves job d.stripe d.result old new d.moves h
+mended job s c blind (mend.Odd wanted found) old new es (room, (d, is)) h = moves job d.stripe d.result old new d.moves h
+mended job s c blind (mend.Faulted column) old new es (room, (d, is)) h = moves job d.stripe d.result old new d.moves h
 
-pub moved_on : {A : Type 0} (meaning : A → Meaning) (job c : ℕ) (answer : Result MoveStep MoveFault) (old new : GroupParts A)
-    → MoveMeans meaning job c answer old new → HasSizes old.table → HasSizes new.table
-moved_on meaning job c (Ok moved.Copied) old new m h = on_some (column_at old.table c).moving _ _ (λ x p. acted _ [] _ _ p.2 h) m.1
-moved_on meaning job c (Ok moved.Passed) old new m h = on_some (column_at old.table c).moving _ _ (λ x p. acted _ [] _ _ p.1 h) m.1
-moved_on meaning job c (Ok moved.Ended) old new m h = on_some (column_at old.table c).moving _ _ (λ x p. acted _ [] _ _ p.1 h) m.1
-moved_on meaning job c (Err (stopped.Faulted column)) old new m h = on_some (column_at old.table c).moving _ _ (λ x p. acted _ [] _ _ p.3 h) m.1.1
-moved_on meaning job c (Err stopped.LogFull) old new m h = subst (λ (g : GroupParts _). HasSizes g.table) (sym m.1) h
-moved_on meaning job c (Err stopped.Idle) old new m h = subst (λ (g : GroupParts _). HasSizes g.table) (sym m.2) h
+pub moved_on : (job c : ℕ) (answer : Result MoveStep MoveFault) (old new : GroupView) (entries : List Entry) → MoveTells job c answer old new entries → HasSizes old.table → HasSizes new.table
+moved_on job c (Ok moved.Copied) old new es m h = on_some (column_at old.table c).moving _ _ (λ x p. acted _ [] _ _ p.2 h) m.1
+moved_on job c (Ok moved.Passed) old new es m h = on_some (column_at old.table c).moving _ _ (λ x p. acted _ [] _ _ p.1 h) m.1
+moved_on job c (Ok moved.Ended) old new es m h = on_some (column_at old.table c).moving _ _ (λ x p. acted _ [] _ _ p.1 h) m.1
+moved_on job c (Err (stopped.Faulted column)) old new es m h = on_some (column_at old.table c).moving _ _ (λ x p. acted _ [] _ _ p.3 h) m.1.1
+moved_on job c (Err stopped.LogFull) old new es m h = subst (λ (g : GroupView). HasSizes g.table) (sym m.1) h
+moved_on job c (Err stopped.Idle) old new es m h = subst (λ (g : GroupView). HasSizes g.table) (sym m.1) h
 
 -- an archive came, or was handed back
-pub brought : {X R : Type 0} (result : Result X R) (P : X → Type 0) (Q : R → Type 0) (t : Table)
-    → ((x : X) → P x → HasSizes t) → ((r : R) → Q r → HasSizes t) → IfOk result P → IfErr result Q → HasSizes t
-brought (Ok x) P Q t f g p q = f x p
-brought (Err r) P Q t f g p q = g r q
+pub begun : {A : Type 0} (told : Type 0) (meaning : A → Meaning) (job c : ℕ) (shelf : Shelf A) (result : Result (Unit {0}) (ShelfRefused A)) (old new : GroupView) (entries : List Entry)
+    → MoveBeginCall told meaning job c shelf result old new entries → HasSizes old.table → HasSizes new.table
+begun told meaning job c shelf (Ok u) old new es m h = acted _ [] old new m.comes.acts h
+begun told meaning job c shelf (Err r) old new es m h = subst (λ (g : GroupView). HasSizes g.table) (sym m.0.same) h
+
+pub swapped : {A : Type 0} (told : Type 0) (meaning : A → Meaning) (job c : ℕ) (shelf : Shelf A) (result : Result ℕ (ShelfRefused A)) (old new : GroupView) (entries : List Entry)
+    → SwapCall told meaning job c shelf result old new entries → HasSizes old.table → HasSizes new.table
+swapped told meaning job c shelf (Ok n) old new es m h = acted _ [] old new m.0.comes.acts h
+swapped told meaning job c shelf (Err r) old new es m h = subst (λ (g : GroupView). HasSizes g.table) (sym m.0.same) h

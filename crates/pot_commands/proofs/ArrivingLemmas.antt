@@ -44,6 +44,7 @@ use Rattle.pot_shared.specs.declared.member.Logged.{Logged}
 use Rattle.pot_shared.specs.Calls.{CallAt, CallTurn}
 use Rattle.pot_shared.specs.Catalogs.{IndexPasses, IsIndexReady}
 use Rattle.pot_shared.specs.Members.{all_logged, entries_of, logged_at, mark_at, origin_of}
+use Rattle.pot_shared.proofs.MemberLemmas.{marks_by}
 use Rattle.pot_group.specs.Calls.{ComesBy, HandedBack, SwapCall}
 use Rattle.pot_shared.specs.Ready.{AreReady, GroupPass, GroupPasses}
 use Rattle.pot_store.specs.Works.{Known, known, of_job, gained, JobWorked, JobAlone, IsSettingOf, section_of}
@@ -380,7 +381,7 @@ module _ (rack : Rack) (names turn : List TurnName) (job : ℕ) (row0 row1 : Gro
           let one : logged_at call.turn.new.shelves e ≡ l = only_of (logged_at call.turn.new.shelves e) l there in
           let number : to ≡ n = only to n (subst (λ ns. Contains ns n) brings (subst (λ (x : Logged). Contains (arrival x.entry) n) (sym one) arr)) in
           subst (λ k. l.taken ≡ Some (marks_of (meant k))) number
-          (ap (λ (x : Logged). x.taken) (sym one) ∙ (comes.taken ∙ ap (λ m. Some m) (its_marks meant tells is)))))
+          (ap (λ (x : Logged). x.taken) (sym one) ∙ (marks_by call.turn.new.shelves e to (subst (λ ns. Contains ns to) (sym brings) (zero, omega arith, refl)) ∙ ap (λ m. Some m) (its_marks meant tells is)))))
           (λ (ne : g ≢ group). absurd (none_contained n (subst (λ ns. Contains ns n) (gains_there sole g ne) (arrival_in (added (view_at row0 g) (view_at row2 g)) l n has arr))))
           (same_number g group)
 

@@ -4,16 +4,13 @@ use Rattle.std.specs.Prelude.{Ok, Err, Result, ◌==◌, ◌↔◌, find, if◌t
 use Rattle.std.proofs.lemmas.Bool.Decides.{nat_tests}
 use Rattle.pot_bytes.specs.declared.digest.Digest.{Digest}
 use Rattle.pot_bytes.specs.declared.rack.Place.{Place}
-use Rattle.pot_outside.specs.Archives.{Meaning}
 use Rattle.pot_machine.specs.declared.entry.Entry.{Entry}
 use Rattle.pot_machine.specs.declared.entry.Entry.TheVariants as entry
 use Rattle.pot_machine.specs.declared.relay.Relay.{Relay}
-use Rattle.pot_machine.specs.Slot.{digest_in, is_live, is_unsound}
+use Rattle.pot_machine.specs.Slot.{is_unsound}
 use Rattle.pot_machine.specs.Table.{Table, width, slot_at, relay_at, relay_in, next_column}
 use Rattle.pot_machine.specs.Rules.{IsStanding}
 use Rattle.pot_steps.specs.declared.flight.Flight.{Flight}
-use Rattle.pot_steps.specs.Flight.{unfolded, weight_in}
-use Rattle.pot_steps.specs.Stripe.{digest_of}
 use Rattle.pot_steps.specs.Flights.{flight_in}
 use Rattle.pot_steps.proofs.FlightLists.{relay_of, relay_of_flight}
 use Rattle.pot_group.specs.declared.relaying.Advanced.{Advanced}
@@ -21,14 +18,13 @@ use Rattle.pot_group.specs.declared.relaying.Advanced.TheVariants as advanced
 use Rattle.pot_group.specs.declared.relaying.AdvanceFault.{AdvanceFault}
 use Rattle.pot_group.specs.declared.relaying.AdvanceFault.TheVariants as failed
 use Rattle.pot_group.specs.declared.relaying.BeginFault.TheVariants as fault
-use Rattle.pot_group.specs.Shelves.{Keeps}
-use Rattle.pot_group.specs.Group.{GroupParts, GroupView, IsSettled, view_of}
-use Rattle.pot_group.specs.Relaying.{Acts, AdvanceMeans, BeginMeans, Moves, Owns}
+use Rattle.pot_group.specs.Group.{GroupView, IsSettled}
+use Rattle.pot_group.specs.Relaying.{Owns}
+use Rattle.pot_group.specs.Calls.{AdvanceCall, AdvanceTells, BeginCall, Grows, Made, RelayEntries}
 use Rattle.pot_group.proofs.BeginSteps.{crowded}
 use Rattle.pot_rows.specs.Rows.{view_at}
 use Rattle.pot_shared.specs.Ready.{GroupPasses}
 use Rattle.pot_shared.specs.Calls.{CallAt}
-use Rattle.pot_shared.proofs.MemberLemmas.{GrowsBy, keeps_grow}
 use Rattle.pot_replies.specs.Jobs.{is_of}
 use Rattle.pot_worked.specs.Laws.{AllOf}
 use Rattle.pot_store.proofs.WorkLemmas.{all_none, all_one}
@@ -90,37 +86,13 @@ at_end : (o : Option Flight) (Q : Flight → Type 0) → IsSomeAnd o Q → (f : 
 at_end None Q h = absurd h
 at_end (Some f) Q h = (f, refl, h)
 
-module _ {A : Type 0} (told : Type 0) (meaning : A → Meaning) (job s c : ℕ) (old new : GroupParts A) where
-  abbrev o : GroupView
-  o = view_of meaning old
-
-  abbrev w : GroupView
-  w = view_of meaning new
-
-  in_acts : (answer : Step) (e : Entry) (given : List ℕ) → StepEntries job s c answer (e ∷ []) → StepCause s c answer o → Acts e given o w → Keeps o.shelves w.shelves → StepsIn job s c answer o w
-  in_acts answer e given says cause acts keeps = record {
-    entries = e ∷ [];
-    says = says;
-    cause = cause;
-    number = acts.number;
-    first = acts.first;
-    log = acts.log;
-    keeps = keeps;
-  }
-
-  in_same : (answer : Step) → w ≡ o → StepEntries job s c answer [] → StepCause s c answer o → Keeps o.shelves w.shelves → StepsIn job s c answer o w
-  in_same answer same says cause keeps = record {
-    entries = [];
-    says = says;
-    cause = cause;
-    number = ap (λ (g : GroupView). g.number) same;
-    first = ap (λ (g : GroupView). g.first) same;
-    log = ap (λ (g : GroupView). g.log) same ∙ sym (append-nil o.log);
-    keeps = keeps;
-  }
+-- what a call of the group made is the step's
+module _ (told : Type 0) (job s c : ℕ) (old new : GroupView) (entries : List Entry) (grows : Grows old new entries) where
+  pub in_row : (answer : Step) → StepEntries job s c answer entries → StepCause s c answer old → StepsIn job s c answer old new
+  in_row answer says cause = record { entries = entries; says = says; cause = cause; grows = grows }
 
   -- the step of a relay that stands
-  module _ (settled : IsSettled told o) (n : ℕ) (keeps : Keeps o.shelves w.shelves) where
+  module _ (settled : IsSettled told old) (n : ℕ) where
     own_target : (f : Flight) → flight_in old.flights n ≡ Some f → Owns old.table n s c → (n ≡ s) × (f.relay.target ≡ c)
     own_target f is owns =
         let at : relay_at old.table n ≡ Some f.relay = relay_of_flight old.table old.flights n settled.relays ∙ ap relay_of is in
@@ -131,55 +103,57 @@ module _ {A : Type 0} (told : Type 0) (meaning : A → Meaning) (job s c : ℕ) 
         let at : relay_at old.table n ≡ Some f.relay = relay_of_flight old.table old.flights n settled.relays ∙ ap relay_of is in
         subst (λ x. IsSomeAnd x (λ r. (n ≡ s) × (r.target ≡ c))) (sym at) (e, t)
 
-    odd_in : (own : Bool) → IsTrue own ↔ Owns old.table n s c → (wanted found : Digest) → Moves job n (Err (failed.Odd wanted found)) o w
-        → StepsIn job s c (if own then step.Left else step.Passed) o w
+    odd_in : (own : Bool) → IsTrue own ↔ Owns old.table n s c → (wanted found : Digest) → RelayEntries job n (Err (failed.Odd wanted found)) old entries
+        → StepsIn job s c (if own then step.Left else step.Passed) old new
     odd_in true owns wanted found m =
         let (f, is, q) = at_end (flight_in old.flights n) _ m in
         let at = own_target f is (owns.0 refl) in
-        in_acts step.Left (entry.Oddly job n f.relay.target found) [] (inr (found, ap (λ k. entry.Oddly job k f.relay.target found ∷ []) at.0 ∙ ap (λ k. entry.Oddly job s k found ∷ []) at.1)) tt q.1.3 keeps
+        in_row step.Left (inr (found, q.1 ∙ (ap (λ k. entry.Oddly job k f.relay.target found ∷ []) at.0 ∙ ap (λ k. entry.Oddly job s k found ∷ []) at.1))) tt
     odd_in false owns wanted found m =
         let (f, is, q) = at_end (flight_in old.flights n) _ m in
-        in_acts step.Passed (entry.Oddly job n f.relay.target found) [] (n, f.relay.target, found, refl, λ e t. no (owns.1 (target_own f is e t))) tt q.1.3 keeps
+        in_row step.Passed (n, f.relay.target, found, q.1, λ e t. no (owns.1 (target_own f is e t))) tt
       where
         no : IsTrue false → ⊥
         no e = cc
 
-    pub advanced_in : (own : Bool) → IsTrue own ↔ Owns old.table n s c → (r : Result Advanced AdvanceFault) → (r ≡ Err failed.Idle → ⊥) → AdvanceMeans meaning job n r old new
-        → StepsIn job s c (stepped_as own r) o w
-    advanced_in own owns (Ok advanced.Hopped) not_idle m = (let (f, k, q) = on_way (flight_in old.flights n) (λ f. next_column old.table f.relay) (λ f k. (sum : List ℕ) × IsTrue (is_live (slot_at old.table n k))
-        × (digest_in (slot_at old.table n k) ≡ Some (digest_of (unfolded (weight_in old.table.data_columns f.relay k) f.sum sum))) × Acts (entry.Hop job n k) sum o w) m.1 in
-        in_acts step.Went (entry.Hop job n k) q.0 (inl (n, k, refl)) tt q.3 keeps)
+    pub advanced_in : (own : Bool) → IsTrue own ↔ Owns old.table n s c → (r : Result Advanced AdvanceFault) → (r ≡ Err failed.Idle → ⊥) → AdvanceTells job n r old new entries
+        → StepsIn job s c (stepped_as own r) old new
+    advanced_in own owns (Ok advanced.Hopped) not_idle m =
+        (let (f, k, is) = on_way (flight_in old.flights n) (λ f. next_column old.table f.relay) (λ f k. entries ≡ entry.Hop job n k ∷ []) m.2 in in_row step.Went (inl (n, k, is)) tt)
     advanced_in own owns (Ok advanced.Ended) not_idle m =
-        (let (f, k, q) = on_way (flight_in old.flights n) (λ f. next_column old.table f.relay) (λ f k. Acts (entry.GaveUp job n f.relay.target k) [] o w) m.1 in in_acts step.Went (entry.GaveUp job n f.relay.target k) [] (inr (n, f.relay.target, k, refl)) tt q keeps)
-    advanced_in own owns (Ok advanced.Mended) not_idle m =
-        (let (f, is, q) = at_end (flight_in old.flights n) _ m.1 in in_acts step.Mended (entry.Mended job n f.relay.target) [] (n, f.relay.target, refl) tt q.1.1 keeps)
-    advanced_in own owns (Err (failed.Odd wanted found)) not_idle m = odd_in own owns wanted found m.1
-    advanced_in own owns (Err (failed.Faulted column)) not_idle m = in_acts (step.Faulted column) (entry.Fault job n column) [] (n, refl) tt m.1.1 keeps
-    advanced_in own owns (Err failed.LogFull) not_idle m = in_same step.LogFull (ap (view_of meaning) m.1) refl m.0 keeps
+        (let (f, k, is) = on_way (flight_in old.flights n) (λ f. next_column old.table f.relay) (λ f k. entries ≡ entry.GaveUp job n f.relay.target k ∷ []) m.2 in
+        in_row step.Went (inr (n, f.relay.target, k, is)) tt)
+    advanced_in own owns (Ok advanced.Mended) not_idle m = (let (f, is, q) = at_end (flight_in old.flights n) _ m.2 in in_row step.Mended (n, f.relay.target, q.1) tt)
+    advanced_in own owns (Err (failed.Odd wanted found)) not_idle m = odd_in own owns wanted found m.2
+    advanced_in own owns (Err (failed.Faulted column)) not_idle m = in_row (step.Faulted column) (n, m.2) tt
+    advanced_in own owns (Err failed.LogFull) not_idle m = in_row step.LogFull m.0 m.2
     advanced_in own owns (Err failed.Idle) not_idle m = absurd (not_idle refl)
 
 -- the relay of the stripe stands in the way
-pub standing_in : {A : Type 0} (told : Type 0) (meaning : A → Meaning) (job s c : ℕ) (blind : List ℕ) (old mid new : GroupParts A) (k : ℕ) (r : Result Advanced AdvanceFault)
-    → IsSettled told (view_of meaning old) → BeginMeans job s c blind (Err (fault.Standing k)) old mid → AdvanceMeans meaning job s r mid new
-    → Keeps (view_of meaning mid).shelves (view_of meaning new).shelves → StepsIn job s c (stepped_as (k == c) r) (view_of meaning old) (view_of meaning new)
-standing_in {A} told meaning job s c blind old mid new k r settled m means keeps =
-    let moves : AdvanceMeans meaning job s r old new = subst (λ (g : GroupParts A). AdvanceMeans meaning job s r g new) m.1 means in
-    let keeps' : Keeps (view_of meaning old).shelves (view_of meaning new).shelves = subst (λ (g : GroupParts A). Keeps (view_of meaning g).shelves (view_of meaning new).shelves) m.1 keeps in
-    advanced_in told meaning job s c old new settled s keeps' (k == c) (owns_where old.table s k c m.3) r (not_idle r moves) moves
+pub standing_in : (told : Type 0) (job : ℕ) (place : Place) (blind : List ℕ) (old mid new : GroupView) (k : ℕ) (r : Result Advanced AdvanceFault) → IsSettled told old
+    → Made (BeginCall told job place blind (Err (fault.Standing k))) old mid → Made (AdvanceCall told job place.stripe r) mid new
+    → StepsIn job place.stripe place.column (stepped_as (k == place.column) r) old new
+standing_in told job place blind old mid new k r settled (begun, same, row) made =
+    let m = row.tells in
+    let (entries, grows, advance) = subst (λ (g : GroupView). Made (AdvanceCall told job place.stripe r) g new) m.1 made in
+    advanced_in told job place.stripe place.column old new entries grows settled place.stripe (k == place.column) (owns_where old.table place.stripe k place.column m.4) r
+    (not_idle r entries advance.tells m.4) advance.tells
   where
     stands_some : (o : Option Relay) (P : Relay → Type 0) → IsSomeAnd o P → o ≢ None
     stands_some (Some x) P h e = cc
     stands_some None P h e = h
 
-    not_idle : (a : Result Advanced AdvanceFault) → AdvanceMeans meaning job s a old new → a ≡ Err failed.Idle → ⊥
-    not_idle a am e = (let q = subst (λ x. AdvanceMeans meaning job s x old new) e am in stands_some (relay_at old.table s) (λ x. x.target ≡ k) m.3 q.1)
+    not_idle : (a : Result Advanced AdvanceFault) (es : List Entry) → AdvanceTells job place.stripe a old new es → IsSomeAnd (relay_at old.table place.stripe) (λ x. x.target ≡ k)
+        → a ≡ Err failed.Idle → ⊥
+    not_idle a es am at e = (let q = subst (λ x. AdvanceTells job place.stripe x old new es) e am in stands_some (relay_at old.table place.stripe) (λ x. x.target ≡ k) at q.3)
 
 -- 16 relays stand
-pub crowded_relays : {A : Type 0} (told : Type 0) (meaning : A → Meaning) (job s c : ℕ) (blind : List ℕ) (old mid : GroupParts A) → IsSettled told (view_of meaning old)
-    → s < old.table.stripes → c < width old.table → BeginMeans job s c blind (Err fault.Crowded) old mid → HasRelay mid.table
-crowded_relays {A} told meaning job s c blind old mid settled within column m =
-    subst (λ (g : GroupParts A). HasRelay g.table) (sym m.1)
-    (has_relay old.table (crowded old.table s c settled.table within column m.2 m.3 m.4 job m.5) settled.table.relays.standing)
+pub crowded_relays : (told : Type 0) (job : ℕ) (place : Place) (blind : List ℕ) (old mid : GroupView) → IsSettled told old → place.stripe < old.table.stripes → place.column < width old.table
+    → Made (BeginCall told job place blind (Err fault.Crowded)) old mid → HasRelay mid.table
+crowded_relays told job place blind old mid settled within column (begun, grows, row) =
+    let m = row.tells in
+    subst (λ (g : GroupView). HasRelay g.table) (sym m.1)
+    (has_relay old.table (crowded old.table place.stripe place.column settled.table within column m.3 m.4 m.5 job m.6) settled.table.relays.standing)
 
 -- AS THE PASSES SEE IT
 
@@ -199,8 +173,8 @@ steps_all job s c step.LogFull entries e = subst (λ es. AllOf (is_of job) es) (
 abbrev pub StepCall : ℕ → ℕ → ℕ → Step → GroupView → GroupView → List Entry → Type 0
 StepCall job s c answer old new entries = (x : StepsIn job s c answer old new) × (entries ≡ x.entries)
 
-pub step_grows : (job s c : ℕ) (answer : Step) (old new : GroupView) (x : StepsIn job s c answer old new) → GrowsBy old new x.entries
-step_grows job s c answer old new x = keeps_grow old new x.entries x.number x.first x.log x.keeps
+pub step_made : (job s c : ℕ) (answer : Step) (old new : GroupView) → StepsIn job s c answer old new → Made (StepCall job s c answer) old new
+step_made job s c answer old new x = (x.entries, x.grows, (x, refl))
 
 module _ (told : Type 0) (job : ℕ) (p : Place) (answer : Step) (v w : GroupPasses) (within : p.group < length v.views) (ready : (g : ℕ) → (view_at v g).holds ≡ false)
     (call : CallAt told (StepCall job p.stripe p.column answer) p.group v w) where

@@ -1,5 +1,5 @@
 -- One step towards the mending of a slot.
-use Rattle.std.specs.Prelude.{◌≡◌, ◌≢◌, ◌<◌, ◌≤◌, ◌⊎◌, ℕ, Bool, false, List, [], ◌∷◌, ◌++◌, None, Result, Ok, Err, length, if◌then◌else◌}
+use Rattle.std.specs.Prelude.{◌≡◌, ◌≢◌, ◌<◌, ◌≤◌, ◌⊎◌, ℕ, Bool, false, List, [], ◌∷◌, None, Result, Ok, Err, length, if◌then◌else◌}
 use Rattle.pot_bytes.specs.declared.digest.Digest.{Digest}
 use Rattle.pot_bytes.specs.declared.rack.Place.{Place}
 use Rattle.pot_machine.specs.declared.entry.Entry.{Entry}
@@ -11,8 +11,8 @@ use Rattle.pot_group.specs.declared.relaying.Advanced.{Advanced}
 use Rattle.pot_group.specs.declared.relaying.Advanced.TheVariants as advanced
 use Rattle.pot_group.specs.declared.relaying.AdvanceFault.{AdvanceFault}
 use Rattle.pot_group.specs.declared.relaying.AdvanceFault.TheVariants as failed
-use Rattle.pot_group.specs.Shelves.{Keeps}
 use Rattle.pot_group.specs.Group.{GroupView}
+use Rattle.pot_group.specs.Calls.{Grows}
 use Rattle.pot_rows.specs.Rows.{view_at}
 use Rattle.pot_shared.specs.Ready.{GroupPasses}
 use Rattle.pot_mend.specs.declared.stepping.Step.{Step}
@@ -53,15 +53,12 @@ StepCause s c step.Whole old = is_unsound (slot_at old.table s c) ≡ false
 StepCause s c step.LogFull old = length old.log ≡ log_bound
 StepCause s c _ old = Unit {0}
 
--- The log gained these entries, and no archive came.
+-- The log gained these entries.
 pub record StepsIn (job s c : ℕ) (answer : Step) (old new : GroupView) : Type 0 where
   pub entries : List Entry
   pub says : StepEntries job s c answer entries
   pub cause : StepCause s c answer old
-  pub number : new.number ≡ old.number
-  pub first : new.first ≡ old.first
-  pub log : new.log ≡ old.log ++ entries
-  pub keeps : Keeps old.shelves new.shelves
+  pub grows : Grows old new entries
 
 -- AS THE PASSES SEE IT
 

@@ -11,7 +11,8 @@ use Rattle.pot_group.specs.Arrivals.{arrival, arrivals}
 use Rattle.pot_group.specs.Group.{GroupView}
 use Rattle.pot_group.specs.Shelves.{Shelves}
 use Rattle.pot_shared.specs.declared.member.Logged.{Logged}
-use Rattle.pot_shared.specs.Members.{all_logged, entries_of, logged_at, mark_at, taken_by}
+use Rattle.pot_shared.specs.Members.{all_logged, entries_of, logged_at, mark_at}
+use Rattle.pot_shared.proofs.MemberLemmas.{marks_by}
 use Rattle.pot_commands.specs.Holding.{times, AreApart}
 use Rattle.pot_commands.specs.Taking.{AreMarkedBy, came_in, marks_of}
 use Rattle.pot_commands.proofs.TakingLemmas.{arrival_in, none_contained, times-append, times_here, times_there}
@@ -105,15 +106,6 @@ logged_in : (s : Shelves) (es : List Entry) (e : Entry) → Contains es e → Co
 logged_in s [] e has = absurd (none_contained e has)
 logged_in s (x ∷ es) e (zero, lt, at) = (0, omega arith, ap (logged_at s) at)
 logged_in s (x ∷ es) e (suc k, lt, at) = (let r = logged_in s es e (k, omega (arith, lt), at) in (suc r.0, (let l = r.1 in omega (arith, l)), r.2))
-
-only : (x n : ℕ) → Contains (x ∷ []) n → x ≡ n
-only x n (zero, l, e) = e
-only x n (suc k, l, e) = absurd (omega (arith, l))
-
-marks_by : (s : Shelves) (e : Entry) (n : ℕ) → Contains (arrival e) n → taken_by s e ≡ Some (mark_at s n)
-marks_by s (entry.MoveBegin job c to) n has = ap (λ k. Some (mark_at s k)) (only to n has)
-marks_by s (entry.Swapped job c to) n has = ap (λ k. Some (mark_at s k)) (only to n has)
-marks_by s _ n has = absurd (none_contained n has)
 
 -- an archive that came behind an opening that brought none
 pub came_marked : (meant : ℕ → Meaning) (s : Shelves) (log : List Entry) (first gain : List Logged) → all_logged s log ≡ first ++ gain → arrivals (entries_of first) ≡ [] → AreMarkedBy meant gain

@@ -23,7 +23,7 @@ use Rattle.pot_replies.specs.Sections.{replayed}
 use Rattle.pot_replies.specs.Stores.{Puts, in_group, IsUnkept}
 use Rattle.pot_shared.specs.Members.{entries_of, origin_of}
 use Rattle.pot_shared.specs.Ready.{GroupPass, GroupPasses, AreReady, IsTableOf}
-use Rattle.pot_group.specs.Calls.{PutCall, PutEntries}
+use Rattle.pot_group.specs.Calls.{PutCall, PutTells}
 use Rattle.pot_shared.specs.Calls.{CallAt}
 use Rattle.pot_shared.proofs.CallLemmas.{is_table}
 use Rattle.pot_store.specs.Works.{of_job, gained}
@@ -123,25 +123,24 @@ ends_put : (rack : Rack) (names : List TurnName) (told : Type 0) (job : ℕ) (v 
     → AreReady rack names v → group < length names → rack.parity ≡ 1 → (call : CallAt told (PutCall told job block (Err cause)) group v w)
     → EndsPut rack call.turn.old.first job block cause call.turn.entries (view_at w group)
 ends_put rack names told job v w group block fault.Full ready lt one call =
-    let m = call.turn.call.entries_are in
-    (m.0, m.1, ends_full rack names told job v w group block fault.Full ready lt one call refl call.turn.call.logs.0 m.0 m.1)
+    let m = call.turn.call.tells in
+    (m.0, m.1, ends_full rack names told job v w group block fault.Full ready lt one call refl m.3 m.0 m.1)
 ends_put rack names told job v w group block fault.LogFull ready lt one call =
-    let m = call.turn.call.entries_are in
-    let logs = call.turn.call.logs in
-    (m.0, m.1, m.2, m.3, ends_log_full rack names told job v w group block fault.LogFull ready lt one call logs.0 logs.2 m.0 m.1 m.2 m.3)
-ends_put rack names told job v w group block (fault.Faulted column) ready lt one call = faulted call.turn.call.entries_are
+    let m = call.turn.call.tells in
+    (m.0, m.1, m.2, m.3, ends_log_full rack names told job v w group block fault.LogFull ready lt one call m.6 m.7 m.0 m.1 m.2 m.3)
+ends_put rack names told job v w group block (fault.Faulted column) ready lt one call = faulted call.turn.call.tells
   where
-    faulted : PutEntries job block (Err (fault.Faulted column)) call.turn.old call.turn.entries → EndsPut rack call.turn.old.first job block (fault.Faulted column) call.turn.entries (view_at w group)
-    faulted (passed, s, inl is) = (passed, entry.Fault job s column, is, inl (s, refl))
-    faulted (passed, s, inr (c, p, q, kept, kept2, column_is, fails, is)) =
-        (passed, _, is, inr (unkept_put rack names told job v w group block (fault.Faulted column) ready lt one call s c column p q kept kept2 column_is fails))
+    faulted : PutTells job block (Err (fault.Faulted column)) call.turn.old call.turn.new call.turn.entries → EndsPut rack call.turn.old.first job block (fault.Faulted column) call.turn.entries (view_at w group)
+    faulted (passed, s, inl (is, at), fails, gones) = (passed, entry.Fault job s column, is, inl (s, refl))
+    faulted (passed, s, inr (c, p, q, kept, kept2, column_is, unkept, is, fits), fails, gones) =
+        (passed, _, is, inr (unkept_put rack names told job v w group block (fault.Faulted column) ready lt one call s c column p q kept kept2 column_is unkept))
 
 pub refused_work : (rack : Rack) (names : List TurnName) (told : Type 0) (job : ℕ) (u v w : GroupPasses) (group : ℕ) (block : List ℕ) (cause : PutFault)
     → AreReady rack names v → group < length names → rack.parity ≡ 1 → CallAt told (PutCall told job block (Err cause)) group v w → RowWorked (of_job job) u v → RowWorked (of_job job) u w
 refused_work rack names told job u v w group block cause ready lt one call worked =
     let R = PutCall told job block (Err cause) in
     let in_views = within rack names told job v w group block cause ready lt one call in
-    let all = all_put job block (Err cause) call.turn.old call.turn.entries (one_parity rack names told job v w group block cause ready lt one call) call.turn.call.entries_are in
+    let all = all_put job block (Err cause) call.turn.old call.turn.new call.turn.entries (one_parity rack names told job v w group block cause ready lt one call) call.turn.call.tells in
     row_work_in_parts (of_job job) u v w worked (group_work told job R group v w in_views call all ready.idle)
 
 pub puts_end : (rack : Rack) (names : List TurnName) (told : Type 0) (job : ℕ) (u v w : GroupPasses) (group : ℕ) (block : List ℕ) (cause : PutFault)
@@ -151,7 +150,7 @@ pub puts_end : (rack : Rack) (names : List TurnName) (told : Type 0) (job : ℕ)
 puts_end rack names told job u v w group block cause ready lt one call blocks places sofar is at_group named alone =
     let R = PutCall told job block (Err cause) in
     let in_views = within rack names told job v w group block cause ready lt one call in
-    let all = all_put job block (Err cause) call.turn.old call.turn.entries (one_parity rack names told job v w group block cause ready lt one call) call.turn.call.entries_are in
+    let all = all_put job block (Err cause) call.turn.old call.turn.new call.turn.entries (one_parity rack names told job v w group block cause ready lt one call) call.turn.call.tells in
     let work = group_work told job R group v w in_views call all ready.idle in
     let parts = row_alone_in_parts (of_job job) u v w sofar.worked work alone in
     let puts = sofar.puts parts.0 in

@@ -13,7 +13,7 @@ use Rattle.pot_group.specs.declared.answers.PutFault.TheVariants as fault
 use Rattle.pot_worked.specs.Laws.{AllOf}
 use Rattle.pot_replies.specs.Jobs.{is_of}
 use Rattle.pot_replies.specs.Stores.{Placed, Puts, IsKeptPut, in_group}
-use Rattle.pot_group.specs.Calls.{PutEntries}
+use Rattle.pot_group.specs.Calls.{PutTells}
 use Rattle.pot_rows.proofs.Lists.{take_next as next}
 use Rattle.pot_store.proofs.WorkLemmas.{all_none, all_cons, all_one, all_append}
 
@@ -35,16 +35,16 @@ last_of job passed e is = all_append (is_of job) (skips job passed) (e ∷ []) (
 put_of : (parity job s c : ℕ) (block p q : List ℕ) (kept kept2 : Bool) → parity ≡ 1 → is_of job (put_entry parity job s c block p q kept kept2) ≡ true
 put_of parity job s c block p q kept kept2 one = subst (λ n. is_of job (put_entry n job s c block p q kept kept2) ≡ true) (sym one) (eq-eqb job job refl)
 
-pub all_put : (job : ℕ) (block : List ℕ) (result : Result Place PutFault) (old : GroupView) (entries : List Entry) → old.table.parity ≡ 1
-    → PutEntries job block result old entries → AllOf (is_of job) entries
-all_put job block (Ok place) old entries one (same, (passed, p, q, is)) =
+pub all_put : (job : ℕ) (block : List ℕ) (result : Result Place PutFault) (old new : GroupView) (entries : List Entry) → old.table.parity ≡ 1
+    → PutTells job block result old new entries → AllOf (is_of job) entries
+all_put job block (Ok place) old new entries one (same, (passed, p, q, is, fits, gones)) =
     subst (λ es. AllOf (is_of job) es) (sym is) (last_of job passed _ (put_of old.table.parity job place.stripe place.column block p q true true one))
-all_put job block (Err fault.LogFull) old entries one (passed, s, gone, is) =
+all_put job block (Err fault.LogFull) old new entries one (passed, s, gone, is, fits, here, full, next) =
     subst (λ es. AllOf (is_of job) es) (sym is) (all_append (is_of job) (skips job passed) (gone_entries job s gone) (skips_of job passed) (gone_of job s gone))
-all_put job block (Err fault.Full) old entries one (passed, is) = subst (λ es. AllOf (is_of job) es) (sym is) (skips_of job passed)
-all_put job block (Err (fault.Faulted column)) old entries one (passed, s, inl is) =
+all_put job block (Err fault.Full) old new entries one (passed, is, fits, behind) = subst (λ es. AllOf (is_of job) es) (sym is) (skips_of job passed)
+all_put job block (Err (fault.Faulted column)) old new entries one (passed, s, inl (is, at), fails, gones) =
     subst (λ es. AllOf (is_of job) es) (sym is) (last_of job passed (entry.Fault job s column) (eq-eqb job job refl))
-all_put job block (Err (fault.Faulted column)) old entries one (passed, s, inr (c, p, q, kept, kept2, column_is, fails, is)) =
+all_put job block (Err (fault.Faulted column)) old new entries one (passed, s, inr (c, p, q, kept, kept2, column_is, unkept, is, fits), fails, gones) =
     subst (λ es. AllOf (is_of job) es) (sym is) (last_of job passed _ (put_of old.table.parity job s c block p q kept kept2 one))
 
 -- LISTS

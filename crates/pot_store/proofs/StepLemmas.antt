@@ -101,10 +101,10 @@ module _ (rack : Rack) (names : List TurnName) (told : Type 0) (job : ℕ) (v w 
   one_parity = its_table.1 ∙ one
 
   pub its_group : place.group ≡ group
-  its_group = call.turn.call.entries_are.0 ∙ (is_origin rack group (view_at v group).origin call.turn.old call.turn.origin (ready.origins group lt)).0
+  its_group = call.turn.call.tells.0 ∙ (is_origin rack group (view_at v group).origin call.turn.old call.turn.origin (ready.origins group lt)).0
 
   pub made : (passed : List Passed) × (p : List ℕ) × (q : List ℕ) × (call.turn.entries ≡ skips job passed ++ put_entry call.turn.old.table.parity job place.stripe place.column block p q true true ∷ [])
-  made = call.turn.call.entries_are.1
+  made = (let m = call.turn.call.tells.1 in (m.0, m.1, m.2, m.3))
 
   abbrev the_put : Entry
   the_put = put_entry call.turn.old.table.parity job place.stripe place.column block made.1 made.2 true true
@@ -174,13 +174,13 @@ module _ (rack : Rack) (names : List TurnName) (told : Type 0) (job : ℕ) (v w 
   it = record { group = group; stripe = place.stripe; column = place.column; digest = digest_of block }
 
   pub work : RowWorked (of_job job) v w
-  work = group_work told job (PutCall told job block (Ok place)) group v w within call (all_put job block (Ok place) call.turn.old call.turn.entries one_parity call.turn.call.entries_are) ready.idle
+  work = group_work told job (PutCall told job block (Ok place)) group v w within call (all_put job block (Ok place) call.turn.old call.turn.new call.turn.entries one_parity call.turn.call.tells) ready.idle
 
   own_here : RowAlone (of_job job) v w → own job (gained v w group) ≡ call.turn.entries
-  own_here alone = group_own told job (PutCall told job block (Ok place)) group v w within call (all_put job block (Ok place) call.turn.old call.turn.entries one_parity call.turn.call.entries_are) alone
+  own_here alone = group_own told job (PutCall told job block (Ok place)) group v w within call (all_put job block (Ok place) call.turn.old call.turn.new call.turn.entries one_parity call.turn.call.tells) alone
 
   own_else : RowAlone (of_job job) v w → (h : ℕ) → group ≢ h → own job (gained v w h) ≡ []
-  own_else alone = group_else told job (PutCall told job block (Ok place)) group v w within call (all_put job block (Ok place) call.turn.old call.turn.entries one_parity call.turn.call.entries_are) alone
+  own_else alone = group_else told job (PutCall told job block (Ok place)) group v w within call (all_put job block (Ok place) call.turn.old call.turn.new call.turn.entries one_parity call.turn.call.tells) alone
 
   pub is_place : place ≡ place_of it
   is_place = ap (λ g. record { group = g; column = place.column; stripe = place.stripe }) its_group
