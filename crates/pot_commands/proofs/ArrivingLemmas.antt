@@ -17,6 +17,8 @@ use Rattle.pot_machine.specs.Rules.{IsTable}
 use Rattle.pot_machine.proofs.Kept.{after_keeps}
 use Rattle.pot_machine.specs.Slot.{is_live}
 use Rattle.pot_machine.specs.Table.{Table, width, column_at, slot_at, holder_of, count, no_column}
+use Rattle.pot_machine.specs.Logs.{job_of, is_of, own, replayed}
+use Rattle.pot_machine.proofs.Logs.{replays_is}
 use Rattle.pot_index.specs.Entries as index
 use Rattle.pot_group.specs.declared.moving.ShelfCause.{ShelfCause}
 use Rattle.pot_group.specs.declared.moving.ShelfCause.TheVariants as cause
@@ -35,9 +37,8 @@ use Rattle.pot_rows.specs.Works.{RowWorked}
 use Rattle.pot_rows.proofs.RowLemmas.{at_set}
 use Rattle.pot_script.specs.declared.reply.Reply.{Reply}
 use Rattle.pot_script.specs.declared.reply.Reply.TheVariants as replies
-use Rattle.pot_replies.specs.Jobs.{own, is_of, job_of}
 use Rattle.pot_replies.specs.Settings.{Setting}
-use Rattle.pot_replies.specs.Sections.{Section, mine, IsSilent, IsOfJobs, replayed}
+use Rattle.pot_replies.specs.Sections.{Section, mine, IsSilent, IsOfJobs}
 use Rattle.pot_replies.specs.Moves.{HasHome, IsUsed, NoHome, IsReplaced}
 use Rattle.pot_shared.specs.declared.member.GroupOrigin.{GroupOrigin}
 use Rattle.pot_shared.specs.declared.member.Logged.{Logged}
@@ -63,7 +64,7 @@ use Rattle.pot_commands.specs.Rows.{IsReplaceReply}
 use Rattle.pot_commands.specs.Taking.{Lending, lending, Took, Come, HasUse, AreUsed, AreMarkedBy, came_in, marks_of}
 use Rattle.pot_commands.proofs.Brought.{its_setting, is_its}
 use Rattle.pot_commands.proofs.Going.{sole_parts, sole_alone, work_all_went}
-use Rattle.pot_commands.proofs.Logs.{entries_all, entries_append, replays_to, turn_added}
+use Rattle.pot_commands.proofs.Logs.{entries_all, entries_append, turn_added}
 use Rattle.pot_commands.proofs.TakingLemmas.{arrival_in, came_one, come_none, none_contained, takes_back, takes_none, takes_one, took_none, used_more, use_more}
 use Rattle.pot_commands.proofs.Whose.{its_jobs, own_all}
 
@@ -318,7 +319,7 @@ module _ (rack : Rack) (names turn : List TurnName) (job : ℕ) (row0 row1 : Gro
           pub met_table : replayed (s.first group) (seen_in row0 group) ≡ call.turn.old.table
           met_table =
               ap (λ t. replayed t (seen_in row0 group)) its_first
-              ∙ (ap (replayed call.turn.old.first) (sym met_log) ∙ replays_to call.turn.old.first call.turn.old.table call.turn.old.log call.turn.settled_old.replay)
+              ∙ (ap (replayed call.turn.old.first) (sym met_log) ∙ replays_is call.turn.old.first call.turn.old.log call.turn.old.table call.turn.settled_old.replay)
 
     -- IF NOBODY ELSE LOGGED ANYTHING
     module _ (sole : AllSole k0 k2) where
@@ -350,7 +351,7 @@ module _ (rack : Rack) (names turn : List TurnName) (job : ℕ) (row0 row1 : Gro
     pub table_now : replayed call.turn.old.first (entries_of (view_at row2 group).seen) ≡ call.turn.new.table
     table_now =
         ap (replayed call.turn.old.first) log_now
-        ∙ (ap (λ t. replayed t call.turn.new.log) (sym call.turn.first) ∙ replays_to call.turn.new.first call.turn.new.table call.turn.new.log call.turn.settled.replay)
+        ∙ (ap (λ t. replayed t call.turn.new.log) (sym call.turn.first) ∙ replays_is call.turn.new.first call.turn.new.log call.turn.new.table call.turn.settled.replay)
 
     -- IT CAME
     module _ {A : Type 0} (meaning : A → Meaning) (e : Entry) (shelf : Shelf A) (brings : arrival e ≡ shelf.number ∷ []) (comes : ComesBy told meaning e shelf call.turn.old call.turn.new call.turn.entries) where

@@ -4,6 +4,7 @@ use Rattle.std.specs.Prelude.{true, Option, Some, None, IfSome, Result, Ok, Err,
 use Rattle.std.specs.Global.{Global}
 use Rattle.pot_bytes.specs.declared.rack.Rack.{Rack}
 use Rattle.pot_machine.specs.Table.{Table}
+use Rattle.pot_machine.specs.Logs.{own}
 use Rattle.pot_steps.specs.Stripe.{digest_of}
 use Rattle.pot_group.specs.Arrivals.{arrivals}
 use Rattle.pot_pads.specs.Pads.{pads_of}
@@ -11,7 +12,6 @@ use Rattle.pot_index.specs.declared.record.Record.{Record}
 use Rattle.pot_rows.specs.Rows.{view_at}
 use Rattle.pot_script.specs.declared.command.Command.{Command}
 use Rattle.pot_script.specs.declared.reply.Reply.{Reply}
-use Rattle.pot_replies.specs.Jobs.{own}
 use Rattle.pot_replies.specs.Settings.{Setting}
 use Rattle.pot_shared.specs.declared.member.GroupOrigin.{GroupOrigin}
 use Rattle.pot_shared.specs.declared.catalog.CatalogOrigin.{CatalogOrigin}

@@ -4,6 +4,8 @@ use Rattle.std.specs.Prelude.{Result, Ok, Err}
 use Rattle.pot_machine.specs.declared.entry.Entry.{Entry}
 use Rattle.pot_machine.specs.declared.entry.Entry.TheVariants.{Counted}
 use Rattle.pot_machine.specs.Table.{Table}
+use Rattle.pot_machine.specs.Logs.{is_of, own, replayed}
+use Rattle.pot_machine.proofs.Logs.{replays_is}
 use Rattle.pot_group.specs.declared.counting.Counts as of_group
 use Rattle.pot_group.specs.declared.telling.LogFull.{LogFull}
 use Rattle.pot_group.specs.Counting.{IsCounted}
@@ -12,9 +14,8 @@ use Rattle.pot_worked.specs.Worked.{added, Alone}
 use Rattle.pot_worked.specs.Laws.{AllOf}
 use Rattle.pot_worked.proofs.WorkedLemmas.{own_in_turn}
 use Rattle.pot_script.specs.declared.reply.Reply.{Reply}
-use Rattle.pot_replies.specs.Jobs.{own, is_of}
 use Rattle.pot_replies.specs.Settings.{Setting}
-use Rattle.pot_replies.specs.Sections.{Section, replayed}
+use Rattle.pot_replies.specs.Sections.{Section}
 use Rattle.pot_replies.specs.Listings.{Counts, counts_of, StatusLine, Group, GroupFull, IsStatusLine}
 use Rattle.pot_shared.specs.declared.member.Logged.{Logged}
 use Rattle.pot_shared.specs.Members.{all_logged, entries_of}
@@ -25,7 +26,7 @@ use Rattle.pot_store.specs.Works.{of_job}
 use Rattle.pot_store.proofs.WorkLemmas.{all_none, all_cons, all_one, own_entries}
 use Rattle.pot_commands.specs.Rows.{reply_of_line}
 use Rattle.pot_commands.specs.Counting.{CountsTable, CountsLine}
-use Rattle.pot_commands.proofs.Logs.{replays_to, turn_added, entries_append, entries_all}
+use Rattle.pot_commands.proofs.Logs.{turn_added, entries_append, entries_all}
 
 -- what a count of a group gives is the counts of its table
 abbrev pub plain_counts : of_group.Counts → Counts
@@ -122,7 +123,7 @@ module _ (told : Type 0) (job : ℕ) (line : StatusLine) (v w : GroupPass) (turn
   turn_leads : (first : Table) → first ≡ turn.old.first → replayed first (entries_of v.seen ++ entries_of turn.others) ≡ turn.old.table
   turn_leads first same =
       ap (λ t. replayed t (entries_of v.seen ++ entries_of turn.others)) same
-      ∙ (ap (replayed turn.old.first) (sym met_log) ∙ replays_to turn.old.first turn.old.table turn.old.log turn.settled_old.replay)
+      ∙ (ap (replayed turn.old.first) (sym met_log) ∙ replays_is turn.old.first turn.old.log turn.old.table turn.settled_old.replay)
 
 -- the line of a group, where the job was alone there
 pub line_stands : (told : Type 0) (job g : ℕ) (s : Setting) (it : Section) (v w : GroupPass) (line : StatusLine) → (turn : CallTurn told (CountsTable job line) v w)

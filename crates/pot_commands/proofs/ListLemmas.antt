@@ -18,7 +18,7 @@ use Rattle.pot_worked.specs.Worked.{added}
 use Rattle.pot_worked.specs.Laws.{AllOf}
 use Rattle.pot_rows.specs.Rows.{view_at}
 use Rattle.pot_rows.proofs.RowLemmas.{at_set}
-use Rattle.pot_replies.specs.Jobs.{own}
+use Rattle.pot_machine.specs.Logs.{own}
 use Rattle.pot_replies.specs.Settings.{Setting}
 use Rattle.pot_replies.specs.Sections.{Section, mine, IsSilent, NoneInGroups, names_after}
 use Rattle.pot_replies.specs.Listings.{IsIndexFull, IsListed}

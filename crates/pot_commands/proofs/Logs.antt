@@ -3,8 +3,6 @@ use Rattle.std.proofs.Common.{◌≡◌, List, [], ◌∷◌, ◌++◌, refl, ap
 use Rattle.std.proofs.lemmas.List.{append_cancel_left, map-append}
 use Rattle.pot_bytes.specs.declared.rack.Rack.{Rack}
 use Rattle.pot_machine.specs.declared.entry.Entry.{Entry}
-use Rattle.pot_machine.specs.Table.{Table}
-use Rattle.pot_machine.specs.Machine.{after, Replays}
 use Rattle.pot_index.specs.declared.entry.Logged as plainly
 use Rattle.pot_index.specs.Index.{Names}
 use Rattle.pot_index.specs.Index as index_of
@@ -14,12 +12,7 @@ use Rattle.pot_worked.proofs.WorkedLemmas.{behind}
 use Rattle.pot_shared.specs.declared.member.Logged.{Logged}
 use Rattle.pot_group.specs.Shelves.{Shelves}
 use Rattle.pot_shared.specs.Members.{all_logged, entries_of}
-use Rattle.pot_replies.specs.Sections.{replayed, names_after}
-
--- a log that replays leads where it replays to
-pub replays_to : (t u : Table) (log : List Entry) → Replays t log u → replayed t log ≡ u
-replays_to t u [] r = sym r
-replays_to t u (e ∷ log) r = replays_to (after t e) u log r.1
+use Rattle.pot_replies.specs.Sections.{names_after}
 
 pub names_to : (rack : Rack) (n m : Names) (log : List plainly.Logged) → index_of.Replays rack n log m → names_after n log ≡ m
 names_to rack n m [] r = sym r

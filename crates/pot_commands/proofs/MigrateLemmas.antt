@@ -15,6 +15,7 @@ use Rattle.pot_machine.specs.declared.entry.Entry.{Entry}
 use Rattle.pot_machine.specs.declared.entry.Entry.TheVariants as entry
 use Rattle.pot_machine.specs.Machine.{after}
 use Rattle.pot_machine.specs.Table.{Table, column_at}
+use Rattle.pot_machine.specs.Logs.{job_of, is_of, own, replayed}
 use Rattle.pot_machine.proofs.Columns.{column_same}
 use Rattle.pot_group.specs.declared.moving.ShelfCause.{ShelfCause}
 use Rattle.pot_group.specs.declared.moving.ShelfCause.TheVariants as cause
@@ -30,9 +31,9 @@ use Rattle.pot_rows.specs.Rows.{view_at}
 use Rattle.pot_rows.specs.Works.{RowAlone, RowWorked}
 use Rattle.pot_script.specs.declared.reply.Reply.{Reply}
 use Rattle.pot_script.specs.declared.reply.Reply.TheVariants as replies
-use Rattle.pot_replies.specs.Jobs.{own, is_of, job_of, is_move_begin, is_move_of, EachIs}
+use Rattle.pot_replies.specs.Jobs.{is_move_begin, is_move_of, EachIs}
 use Rattle.pot_replies.specs.Settings.{Setting}
-use Rattle.pot_replies.specs.Sections.{Section, Halves, replayed, JobsAscend, mine, work_of, checked, IsSilent, IsOfJobs}
+use Rattle.pot_replies.specs.Sections.{Section, Halves, JobsAscend, mine, work_of, checked, IsSilent, IsOfJobs}
 use Rattle.pot_replies.specs.Moves.{HasHome, IsUsed, NoHome, GoesElsewhere, IsTakenTo, MayBegin, MayGoOn, Begins, moving_at}
 use Rattle.pot_shared.specs.Calls.{CallAt}
 use Rattle.pot_shared.specs.Catalogs.{IndexPasses, IsIndexReady}

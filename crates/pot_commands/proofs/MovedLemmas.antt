@@ -7,6 +7,7 @@ use Rattle.pot_index.specs.Entries as index
 use Rattle.pot_machine.specs.declared.entry.Entry.{Entry}
 use Rattle.pot_machine.specs.declared.entry.Entry.TheVariants as entry
 use Rattle.pot_machine.specs.Table.{column_at}
+use Rattle.pot_machine.specs.Logs.{job_of, is_of, own, replayed}
 use Rattle.pot_group.specs.Arrivals.{arrivals}
 use Rattle.pot_turn.specs.declared.name.TurnName.{TurnName}
 use Rattle.pot_worked.specs.Worked.{added}
@@ -15,9 +16,9 @@ use Rattle.pot_rows.specs.Rows.{view_at}
 use Rattle.pot_rows.specs.Works.{RowAlone, RowWorked}
 use Rattle.pot_script.specs.declared.reply.Reply.{Reply}
 use Rattle.pot_script.specs.declared.reply.Reply.TheVariants as replies
-use Rattle.pot_replies.specs.Jobs.{own, is_of, job_of, is_move_begin, is_move_of, EachIs}
+use Rattle.pot_replies.specs.Jobs.{is_move_begin, is_move_of, EachIs}
 use Rattle.pot_replies.specs.Settings.{Setting}
-use Rattle.pot_replies.specs.Sections.{Section, Halves, JobsAscend, replayed, mine, work_of, IsSilent, IsOfJobs}
+use Rattle.pot_replies.specs.Sections.{Section, Halves, JobsAscend, mine, work_of, IsSilent, IsOfJobs}
 use Rattle.pot_replies.specs.Moves.{MayBegin, MayGoOn, Begins, moving_at}
 use Rattle.pot_shared.specs.Catalogs.{IndexPasses, IsIndexReady}
 use Rattle.pot_shared.specs.Members.{entries_of}

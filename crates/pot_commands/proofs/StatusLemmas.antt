@@ -13,7 +13,7 @@ use Rattle.pot_rows.proofs.RowLemmas.{at_set, at_other}
 use Rattle.pot_rows.proofs.WorkLemmas.{row_work_in_parts}
 use Rattle.pot_index.specs.Entries as index
 use Rattle.pot_script.specs.declared.reply.Reply.{Reply}
-use Rattle.pot_replies.specs.Jobs.{own, is_of}
+use Rattle.pot_machine.specs.Logs.{is_of, own}
 use Rattle.pot_replies.specs.Settings.{Setting}
 use Rattle.pot_replies.specs.Listings.{StatusLine}
 use Rattle.pot_shared.specs.declared.member.GroupOrigin.{GroupOrigin}

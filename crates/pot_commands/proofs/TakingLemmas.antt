@@ -7,13 +7,13 @@ use Rattle.pot_outside.specs.Archives.{Meaning, IsMeant}
 use Rattle.pot_outside.specs.declared.archive.Marks.{Marks}
 use Rattle.pot_machine.specs.declared.entry.Entry.{Entry}
 use Rattle.pot_machine.specs.Table.{holder_of}
+use Rattle.pot_machine.specs.Logs.{replayed}
 use Rattle.pot_group.specs.Arrivals.{arrival, arrivals}
 use Rattle.pot_group.proofs.Arriving.{arrivals-append}
 use Rattle.pot_worked.specs.Worked.{added}
 use Rattle.pot_worked.proofs.SoleLemmas.{gain_in_parts}
 use Rattle.pot_rows.specs.Rows.{view_at}
 use Rattle.pot_rows.specs.Works.{RowWorked}
-use Rattle.pot_replies.specs.Sections.{replayed}
 use Rattle.pot_shared.specs.declared.member.Logged.{Logged}
 use Rattle.pot_shared.specs.declared.member.GroupOrigin.{GroupOrigin}
 use Rattle.pot_shared.specs.Members.{entries_of}

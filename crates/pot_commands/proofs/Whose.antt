@@ -3,6 +3,7 @@ use Rattle.std.proofs.Common.{◌≡◌, ◌==◌, ℕ, suc, true, List, [], ◌
 use Rattle.std.specs.Prelude.{filter}
 use mathlib.Core.Path.{fun_ext}
 use Rattle.pot_machine.specs.declared.entry.Entry.{Entry}
+use Rattle.pot_machine.specs.Logs.{job_of, is_of, own}
 use Rattle.pot_index.specs.declared.entry.Logged as of_index
 use Rattle.pot_index.specs.Entries as index
 use Rattle.pot_worked.specs.Worked.{added}
@@ -12,7 +13,7 @@ use Rattle.pot_rows.specs.Rows.{view_at}
 use Rattle.pot_script.specs.declared.command.Command.{Command}
 use Rattle.pot_script.specs.declared.command.Command.TheVariants as commands
 use Rattle.pot_script.specs.declared.reply.Reply.{Reply}
-use Rattle.pot_replies.specs.Jobs.{own, job_of, is_of, is_move_begin}
+use Rattle.pot_replies.specs.Jobs.{is_move_begin}
 use Rattle.pot_replies.specs.Settings.{Setting}
 use Rattle.pot_replies.specs.Sections.{Section, IsAmong, IsOfJobs, Halves, work_of}
 use Rattle.pot_shared.specs.declared.member.Logged.{Logged}

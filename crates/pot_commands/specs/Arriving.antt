@@ -1,11 +1,11 @@
 -- An archive that was taken for a command, and handed back.
 use Rattle.std.specs.Prelude.{◌≡◌, ◌⊎◌, ◌++◌, ℕ, List, [], ◌∷◌, IsSome, Result, Ok, Err}
 use Rattle.pot_machine.specs.declared.entry.Entry.TheVariants.{MoveBegin}
+use Rattle.pot_machine.specs.Logs.{own}
 use Rattle.pot_group.specs.declared.moving.ShelfCause.{ShelfCause}
 use Rattle.pot_group.specs.declared.moving.ShelfCause.TheVariants as cause
 use Rattle.pot_script.specs.declared.reply.Reply.{Reply}
 use Rattle.pot_script.specs.declared.reply.Reply.TheVariants as replies
-use Rattle.pot_replies.specs.Jobs.{own}
 use Rattle.pot_replies.specs.Settings.{Setting}
 use Rattle.pot_replies.specs.Sections.{Section, mine, IsOfJobs, IsOnlyIn, IsSilent}
 use Rattle.pot_replies.specs.Moves.{MayBegin, MayGoOn, moving_at}

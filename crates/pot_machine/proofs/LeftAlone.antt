@@ -107,7 +107,7 @@ losses_other (suc m) t c n k lc lk ne =
     let w : width (with_losses m t c) ≡ width t = width-with_losses m t c in
     slot_other (with_losses m t c) m c n k (lost_of (slot_at (with_losses m t c) m c)) (omega arith) (omega arith) (λ e. ne e.1) ∙ losses_other m t c n k lc lk ne
 
-put_column : (t : Table) (s c : ℕ) → IsTable t → TakesPut t s c → c < t.data_columns
+pub put_column : (t : Table) (s c : ℕ) → IsTable t → TakesPut t s c → c < t.data_columns
 put_column t s c h l = let q : c ≡ t.cursor.column = l.1 in let b : t.cursor.column < t.data_columns = h.cursor.column in omega arith
 
 pub slots_stay : SlotsStay

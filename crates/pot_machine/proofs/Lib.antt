@@ -10,3 +10,4 @@ pub mod Kept
 pub mod Logs
 pub mod Empty
 pub mod LeftAlone
+pub mod Filled

@@ -1,12 +1,16 @@
--- Logs that grow.
+-- Logs that grow, where they lead, and the entries of one job in them.
 use Rattle.std.proofs.Common.{◌≡◌, ◌⊎◌, ◌↔◌, inl, inr, ◌<◌, ◌≤◌, ◌+◌, ℕ, zero, suc, Bool, true, false, IsTrue, List, [], ◌∷◌, ◌++◌, length, get_or, take, Some, None, slice_get, refl, sym, ap, ◌∙◌, subst, arith, add-one}
 use Rattle.std.proofs.Math.Seq.{take-suc}
 use Rattle.std.proofs.lemmas.Option.{slice_get_past, get_or_from_slice_get}
+use Rattle.std.proofs.lemmas.List.Elements.{filter-append}
 use Rattle.pot_machine.specs.declared.entry.Entry.{Entry}
 use Rattle.pot_machine.specs.Table.{Table}
 use Rattle.pot_machine.specs.Machine.{Legal, after, Replays, Replayed}
-use Rattle.pot_machine.specs.Laws.{ReplayedOnce, LogsGoOn, LogsLeadOnce}
+use Rattle.pot_machine.specs.Rules.{IsTable}
+use Rattle.pot_machine.specs.Logs.{is_of, own, replayed, AreLegal}
+use Rattle.pot_machine.specs.Laws.{ReplayedOnce, LogsGoOn, LogsLeadOnce, LogsComeTo, LogsComeOn, OwnInBoth}
 use Rattle.pot_machine.proofs.Cases.{not_both}
+use Rattle.pot_machine.proofs.Kept.{after_keeps}
 
 -- a log goes on by an entry that is legal at its end
 pub replays_more : (t : Table) (log : List Entry) (u : Table) (e : Entry) → Replays t log u → Legal u e → Replays t (log ++ e ∷ []) (after u e)
@@ -84,3 +88,55 @@ logs_go_on t u log e r l = replays_more t log u e r l
 
 pub logs_lead_once : LogsLeadOnce
 logs_lead_once t u v log r s = replays_once t log u v r s
+
+-- WHERE A LOG LEADS
+
+pub replays_is : (t : Table) (log : List Entry) (u : Table) → Replays t log u → replayed t log ≡ u
+replays_is t [] u r = sym r
+replays_is t (e ∷ log) u r = replays_is (after t e) log u r.1
+
+pub replayed_append : LogsComeOn
+replayed_append t [] y = refl
+replayed_append t (e ∷ x) y = replayed_append (after t e) x y
+
+-- a log in two parts
+pub front_replays : (t : Table) (x y : List Entry) (u : Table) → Replays t (x ++ y) u → Replays t x (replayed t x)
+front_replays t [] y u r = refl
+front_replays t (e ∷ x) y u r = (r.0, front_replays (after t e) x y u r.1)
+
+pub back_replays : (t : Table) (x y : List Entry) (u : Table) → Replays t (x ++ y) u → Replays (replayed t x) y u
+back_replays t [] y u r = r
+back_replays t (e ∷ x) y u r = back_replays (after t e) x y u r.1
+
+-- an entry of a log was legal in the table that those before it come to
+pub legal_at : (t : Table) (x y : List Entry) (e : Entry) (u : Table) → Replays t (x ++ e ∷ y) u → Legal (replayed t x) e
+legal_at t [] y e u r = r.0
+legal_at t (a ∷ x) y e u r = legal_at (after t a) x y e u r.1
+
+-- and that table keeps the rules
+pub table_at : (t : Table) (x y : List Entry) (u : Table) → IsTable t → Replays t (x ++ y) u → IsTable (replayed t x)
+table_at t [] y u is r = is
+table_at t (a ∷ x) y u is r = table_at (after t a) x y u (after_keeps t a is r.0) r.1
+
+-- entries that are legal in turn lead where they come to
+legal_replays : (t : Table) (log : List Entry) → AreLegal t log → Replays t log (replayed t log)
+legal_replays t [] legal = refl
+legal_replays t (e ∷ log) legal = (legal [] log e refl, legal_replays (after t e) log (λ x y f is. legal (e ∷ x) y f (ap (λ l. e ∷ l) is)))
+
+pub logs_come_to : LogsComeTo
+logs_come_to t u log = (
+  λ r. (λ x y e is. legal_at t x y e u (subst (λ l. Replays t l u) is r), sym (replays_is t log u r)),
+  λ h. subst (λ v. Replays t log v) (sym h.1) (legal_replays t log h.0),
+)
+
+-- THE ENTRIES OF ONE JOB
+
+pub own_append : OwnInBoth
+own_append job x y = filter-append (is_of job) x y
+
+pub own_cons : (job : ℕ) (e : Entry) (es : List Entry) → is_of job e ≡ true → own job (e ∷ es) ≡ e ∷ own job es
+own_cons job e es is = rw is refl
+
+-- in the midst of a log
+pub own_with : (job : ℕ) (e : Entry) (x y : List Entry) → is_of job e ≡ true → own job (x ++ e ∷ y) ≡ own job x ++ e ∷ own job y
+own_with job e x y is = own_append job x (e ∷ y) ∙ ap (λ l. own job x ++ l) (own_cons job e y is)

@@ -1,11 +1,13 @@
 -- What each entry leaves alone, and how logs go on.
-use Rattle.std.specs.Prelude.{◌≡◌, ◌⊎◌, ◌↔◌, ◌<◌, ◌≤◌, ℕ, Bool, false, IsTrue, List, [], ◌∷◌, ◌++◌}
+use Rattle.std.specs.Prelude.{◌≡◌, ◌⊎◌, ◌↔◌, ◌<◌, ◌≤◌, ℕ, Bool, false, IsTrue, List, [], ◌∷◌, ◌++◌, Contains}
+use Rattle.pot_bytes.specs.declared.digest.Digest.{Digest}
 use Rattle.pot_machine.specs.declared.entry.Entry.{Entry}
 use Rattle.pot_machine.specs.declared.entry.Entry.TheVariants.{Put, Skip, Gone, Broke, Begin, Hop, Mended, GaveUp, Oddly, MoveBegin, Moved, MoveEnd, Swapped, Put2}
 use Rattle.pot_machine.specs.Slot.{is_void, is_live, digest_in}
 use Rattle.pot_machine.specs.Table.{Table, width, slot_at, column_at, relay_at}
 use Rattle.pot_machine.specs.Machine.{Legal, after, Replays, Replayed}
 use Rattle.pot_machine.specs.Rules.{IsTable}
+use Rattle.pot_machine.specs.Logs.{own, replayed, AreLegal, Fills, IsFilledWith}
 
 -- the entry puts a block into the stripe
 abbrev pub PutsInto : Entry → ℕ → Type 0
@@ -123,3 +125,27 @@ abbrev pub ReplayedOnce : Type 0
 ReplayedOnce =
     (t u v : Table) (entries : List Entry) (whole all : Bool) → Replayed t u entries whole
     → Replayed t v entries all → (u ≡ v) × (whole ≡ all)
+
+-- a log leads to a table exactly where each entry is legal in its turn and this is the table that the log comes to
+abbrev pub LogsComeTo : Type 0
+LogsComeTo = (t u : Table) (log : List Entry) → Replays t log u ↔ (AreLegal t log × (u ≡ replayed t log))
+
+-- what two logs come to one after the other
+abbrev pub LogsComeOn : Type 0
+LogsComeOn = (t : Table) (x y : List Entry) → replayed t (x ++ y) ≡ replayed (replayed t x) y
+
+-- a job's own entries of two logs one after the other are its own of each
+abbrev pub OwnInBoth : Type 0
+OwnInBoth = (job : ℕ) (x y : List Entry) → own job (x ++ y) ≡ own job x ++ own job y
+
+-- a data slot has a digest exactly where it had it at first, or a put of the log filled it with that
+abbrev pub DigestsByPuts : Type 0
+DigestsByPuts =
+    (t u : Table) (log : List Entry) (s c : ℕ) (d : Digest) → IsTable t → Replays t log u → c < t.data_columns
+    → IsFilledWith d (slot_at u s c) ↔ (IsFilledWith d (slot_at t s c) ⊎ ((e : Entry) × Contains log e × Fills s c d e))
+
+-- so a slot that a put of a log filled is Live, Lost or Broken with that digest in each table that the log comes to from then on
+abbrev pub PutsStay : Type 0
+PutsStay =
+    (t u : Table) (log : List Entry) (s c : ℕ) (d : Digest) (e : Entry) → IsTable t → Replays t log u → Contains log e → Fills s c d e
+    → IsFilledWith d (slot_at u s c)

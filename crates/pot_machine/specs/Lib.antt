@@ -4,4 +4,5 @@ pub mod Table
 pub mod Machine
 pub mod Rules
 pub mod Making
+pub mod Logs
 pub mod Laws

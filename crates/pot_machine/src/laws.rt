@@ -1,7 +1,8 @@
 //! What is proved of the machine as a whole.
 ghost use Rattle.pot_machine.specs.Laws.{SizesStay, SlotsStay, DigestsStay, DataStays, LiveByPut, CursorStays, ColumnsStay, RelaysStay, ParityVoid, RulesStay, LogsGoOn, LogsWentOn, LogsLeadOnce, ReplayedOnce};
+ghost use Rattle.pot_machine.specs.Laws.{LogsComeTo, LogsComeOn, OwnInBoth, DigestsByPuts, PutsStay};
 
-/// What each entry leaves alone, and how logs go on. It does nothing.
+/// What each entry leaves alone, how logs go on and where they lead, and what a put fills. It does nothing.
 pub fn machine_laws()
     ensures sizes { SizesStay }
     ensures slots { SlotsStay }
@@ -17,4 +18,9 @@ pub fn machine_laws()
     ensures went_on { LogsWentOn }
     ensures once { LogsLeadOnce }
     ensures replayed_once { ReplayedOnce }
+    ensures come_to { LogsComeTo }
+    ensures come_on { LogsComeOn }
+    ensures own { OwnInBoth }
+    ensures by_puts { DigestsByPuts }
+    ensures puts { PutsStay }
 {}

@@ -28,6 +28,8 @@
 //! 9. A data slot leaves Void once, by a put, and its digest then never changes. The digest of a parity slot changes only
 //!    by a put into its stripe (`machine_laws`).
 //! 10. A slot becomes Live only by a put into its stripe, or as the target of a relay that ends (`machine_laws`).
+//! 11. A log leads to a table exactly where each entry is legal in its turn and the log comes to that table. A data slot
+//!     then has a digest exactly where it had it before, or a put of the log filled it with that (`machine_laws`).
 //!
 //! What becomes of a slot, whose digest stays but where it says otherwise:
 //!

@@ -10,6 +10,8 @@ use Rattle.pot_machine.specs.declared.entry.Entry.{Entry}
 use Rattle.pot_machine.specs.Column.{names}
 use Rattle.pot_machine.specs.Table.{Table, width, column_at, holder_of}
 use Rattle.pot_machine.specs.Rules.{IsTable}
+use Rattle.pot_machine.specs.Logs.{own, replayed}
+use Rattle.pot_machine.proofs.Logs.{replays_is}
 use Rattle.pot_group.specs.declared.uses.HomeAt.{HomeAt}
 use Rattle.pot_group.specs.declared.uses.Role.{Role}
 use Rattle.pot_group.specs.declared.uses.Role.TheVariants as role
@@ -25,8 +27,6 @@ use Rattle.pot_rows.specs.Rows.{view_at}
 use Rattle.pot_rows.specs.Works.{RowAlone, RowWorked}
 use Rattle.pot_rows.proofs.RowLemmas.{below_or_past}
 use Rattle.pot_rows.proofs.TieLemmas.{knows_same}
-use Rattle.pot_replies.specs.Jobs.{own}
-use Rattle.pot_replies.specs.Sections.{replayed}
 use Rattle.pot_replies.specs.Settings.{Setting}
 use Rattle.pot_replies.specs.Moves.{HasHome, IsUsed, NoHome, moving_at}
 use Rattle.pot_shared.specs.declared.member.GroupOrigin.{GroupOrigin}
@@ -37,7 +37,6 @@ use Rattle.pot_shared.specs.Catalogs.{IndexPasses}
 use Rattle.pot_shared.specs.UseCalls.{TraceCall, TracesAll, first_home}
 use Rattle.pot_shared.proofs.MemberLemmas.{entries_all}
 use Rattle.pot_store.specs.Works.{of_job, gained, known, IsSettingOf}
-use Rattle.pot_store.proofs.TurnLemmas.{replays_is}
 use Rattle.pot_store.proofs.WorkLemmas.{all_none, own_entries}
 use Rattle.pot_mend.specs.Moves.{IsAsked, MigrateChecked, ReplaceChecked, seen_in}
 use Rattle.pot_mend.specs.declared.checking.UseFault.TheVariants as used

@@ -11,6 +11,7 @@ use Rattle.pot_machine.specs.Column.{names, names_moved}
 use Rattle.pot_machine.specs.Table.{Table, width, column_at, holder_of}
 use Rattle.pot_machine.specs.Machine.{Legal, Replays, after, moved_on, moved_home, with_loss, with_losses}
 use Rattle.pot_machine.specs.Rules.{IsTable}
+use Rattle.pot_machine.specs.Logs.{replayed}
 use Rattle.pot_machine.proofs.Cases.{not_both, same_or}
 use Rattle.pot_machine.proofs.Columns.{column_other, column_same}
 use Rattle.pot_machine.proofs.Kept.{after_keeps}
@@ -18,18 +19,9 @@ use Rattle.pot_machine.proofs.LeftAlone.{sizes_stay}
 use Rattle.pot_machine.proofs.Searches.{least_none, least_some}
 use Rattle.pot_machine.proofs.Sizes.{width-with_losses}
 use Rattle.pot_group.specs.Causes.{archives_of, brought, brought_by, target_of}
-use Rattle.pot_replies.specs.Sections.{replayed}
 use Rattle.pot_mend.specs.Moves.{EndsMove}
 
--- LOGS IN TWO PARTS
-
-pub front_replays : (t : Table) (x y : List Entry) (u : Table) → Replays t (x ++ y) u → Replays t x (replayed t x)
-front_replays t [] y u r = refl
-front_replays t (e ∷ x) y u r = (r.0, front_replays (after t e) x y u r.1)
-
-pub back_replays : (t : Table) (x y : List Entry) (u : Table) → Replays t (x ++ y) u → Replays (replayed t x) y u
-back_replays t [] y u r = r
-back_replays t (e ∷ x) y u r = back_replays (after t e) x y u r.1
+-- THE WIDTH OF A TABLE
 
 pub same_width : (t : Table) (log : List Entry) → width (replayed t log) ≡ width t
 same_width t [] = refl

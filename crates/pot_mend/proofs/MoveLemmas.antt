@@ -10,7 +10,9 @@ use Rattle.pot_machine.specs.declared.entry.Entry.TheVariants.{Fault, Moved, Mov
 use Rattle.pot_machine.specs.Table.{column_at}
 use Rattle.pot_machine.specs.Machine.{Replays}
 use Rattle.pot_machine.specs.Rules.{IsTable}
+use Rattle.pot_machine.specs.Logs.{is_of, own, replayed}
 use Rattle.pot_machine.proofs.LeftAlone.{rules_stay}
+use Rattle.pot_machine.proofs.Logs.{back_replays, front_replays}
 use Rattle.pot_steps.specs.GroupStep.{log_bound}
 use Rattle.pot_group.specs.declared.copying.MoveStep.{MoveStep}
 use Rattle.pot_group.specs.declared.copying.MoveStep.TheVariants as moved
@@ -25,8 +27,8 @@ use Rattle.pot_rows.specs.Works.{RowAlone, RowWorked}
 use Rattle.pot_rows.proofs.RowLemmas.{at_set}
 use Rattle.pot_rows.proofs.WorkLemmas.{row_alone_in_parts, row_work_in_parts}
 use Rattle.pot_index.specs.Entries as index
-use Rattle.pot_replies.specs.Jobs.{own, is_of, is_copied, is_move_of, EachIs}
-use Rattle.pot_replies.specs.Sections.{Section, IsOnlyIn, mine, replayed}
+use Rattle.pot_replies.specs.Jobs.{is_copied, is_move_of, EachIs}
+use Rattle.pot_replies.specs.Sections.{Section, IsOnlyIn, mine}
 use Rattle.pot_replies.specs.Settings.{Setting}
 use Rattle.pot_shared.specs.declared.member.GroupOrigin.{GroupOrigin}
 use Rattle.pot_shared.specs.Members.{all_logged, entries_of, logged_at, origin_of}
@@ -40,7 +42,7 @@ use Rattle.pot_store.proofs.WorkLemmas.{all_none, all_one, drop_all, group_else,
 use Rattle.pot_mend.specs.Moves.{IsMoved, IsMoveFault, IsMoveLogFull, MoveRow, seen_in}
 use Rattle.pot_mend.specs.declared.fault.MendFault.{MendFault}
 use Rattle.pot_mend.specs.declared.fault.MendFault.TheVariants as fault
-use Rattle.pot_mend.proofs.HadLemmas.{back_replays, front_replays, move_ended}
+use Rattle.pot_mend.proofs.HadLemmas.{move_ended}
 use Rattle.pot_mend.proofs.CheckLemmas.{from_some}
 
 -- ENTRIES

@@ -10,16 +10,17 @@ use Rattle.pot_machine.specs.declared.entry.Entry.TheVariants.{MoveBegin, MoveEn
 use Rattle.pot_machine.specs.Table.{Table, column_at}
 use Rattle.pot_machine.specs.Machine.{Replays, after}
 use Rattle.pot_machine.specs.Rules.{IsTable}
+use Rattle.pot_machine.specs.Logs.{job_of, is_of, replayed}
 use Rattle.pot_machine.proofs.Columns.{column_same}
 use Rattle.pot_machine.proofs.Kept.{after_keeps}
 use Rattle.pot_machine.proofs.LeftAlone.{rules_stay}
-use Rattle.pot_replies.specs.Jobs.{job_of, is_move_begin, is_of, EachIs}
-use Rattle.pot_replies.specs.Sections.{JobsAscend, Section, replayed}
+use Rattle.pot_machine.proofs.Logs.{replays_is, back_replays, front_replays}
+use Rattle.pot_replies.specs.Jobs.{is_move_begin, EachIs}
+use Rattle.pot_replies.specs.Sections.{JobsAscend, Section}
 use Rattle.pot_replies.specs.Settings.{Setting}
 use Rattle.pot_replies.specs.Moves.{BeganElsewhere, Begins, IsMigrated, IsMigrateFault, IsStepLogFull, moving_at}
-use Rattle.pot_store.proofs.TurnLemmas.{replays_is}
 use Rattle.pot_mend.specs.Moves.{IsMoved, IsMoveFault, IsMoveLogFull}
-use Rattle.pot_mend.proofs.HadLemmas.{back_replays, front_replays, move_ended}
+use Rattle.pot_mend.proofs.HadLemmas.{move_ended}
 use Rattle.pot_mend.proofs.MoveLemmas.{kept_in}
 
 -- THE ROWS

@@ -1,12 +1,13 @@
 -- The repair of a group, place after place, and what its answers say of the section.
-use Rattle.std.proofs.Common.{◌≡◌, ◌<◌, ◌≤◌, inl, inr, ⊎_elim, ℕ, ◌+◌, true, List, [], ◌∷◌, ◌++◌, length, refl, ap, sym, ◌∙◌, subst, arith, append-nil, eq-eqb}
+use Rattle.std.proofs.Common.{◌≡◌, ◌<◌, ◌≤◌, inl, inr, ⊎_elim, ℕ, ◌+◌, List, [], ◌∷◌, ◌++◌, length, refl, ap, sym, ◌∙◌, subst, arith, append-nil, eq-eqb}
 use Rattle.std.specs.Prelude.{Contains, filter, Some, None, Ok, Err}
-use Rattle.std.proofs.lemmas.List.Elements.{filter-append}
 use Rattle.pot_bytes.specs.declared.rack.Place.{Place}
 use Rattle.pot_bytes.specs.declared.rack.Rack.{Rack}
 use Rattle.pot_machine.specs.declared.entry.Entry.{Entry}
 use Rattle.pot_machine.specs.declared.entry.Entry.TheVariants as entry
 use Rattle.pot_machine.specs.Slot.{is_unsound}
+use Rattle.pot_machine.specs.Logs.{own}
+use Rattle.pot_machine.proofs.Logs.{own_with}
 use Rattle.pot_pads.specs.Pads.{Pads}
 use Rattle.pot_group.specs.declared.finding.Kind.TheVariants as kind
 use Rattle.pot_turn.specs.declared.name.TurnName.{TurnName}
@@ -18,7 +19,7 @@ use Rattle.pot_shared.specs.Members.{entries_of}
 use Rattle.pot_shared.specs.Ready.{GroupPasses, AreReady}
 use Rattle.pot_shared.specs.Calls.{CallAt, NextCall}
 use Rattle.pot_shared.specs.MendCalls.{drawn}
-use Rattle.pot_replies.specs.Jobs.{own, is_of, is_mended, is_left, is_stuck_at, Precedes}
+use Rattle.pot_replies.specs.Jobs.{is_mended, is_left, is_stuck_at, Precedes}
 use Rattle.pot_replies.specs.Sections.{Section}
 use Rattle.pot_replies.specs.Settings.{Setting}
 use Rattle.pot_replies.specs.Fetches.{Mends}
@@ -118,15 +119,6 @@ module _ (job g s c mended left draws : ℕ) (u v w : GroupPasses) (sofar : Repa
           (x, y, parts, λ in_stripes in_columns. next.2 n k ((subst (λ m. n < m) (sym next.0) in_stripes, subst (λ m. k < m) (sym next.1) in_columns), at))
 
 -- WHAT THE LISTS SAY
-
-own_cons : (job : ℕ) (e : Entry) (es : List Entry) → is_of job e ≡ true → own job (e ∷ es) ≡ e ∷ own job es
-own_cons job e es is = rw is refl
-
-own_append : (job : ℕ) (xs ys : List Entry) → own job (xs ++ ys) ≡ own job xs ++ own job ys
-own_append job xs ys = filter-append (is_of job) xs ys
-
-own_with : (job : ℕ) (e : Entry) (xs ys : List Entry) → is_of job e ≡ true → own job (xs ++ e ∷ ys) ≡ own job xs ++ e ∷ own job ys
-own_with job e xs ys is = own_append job xs (e ∷ ys) ∙ ap (λ l. own job xs ++ l) (own_cons job e ys is)
 
 mends_are : (job : ℕ) (added es : List Entry) → own job added ≡ es → ((n k : ℕ) → length (filter (is_stuck_at n k) es) ≤ 1) → NoneAgain job es → Mends job added
 mends_are job added es are one_stuck none_again = record {

@@ -8,6 +8,7 @@ use Rattle.pot_bytes.specs.declared.rack.Rack.{Rack}
 use Rattle.pot_machine.specs.declared.entry.Entry.{Entry}
 use Rattle.pot_machine.specs.declared.entry.Entry.TheVariants as entry
 use Rattle.pot_machine.specs.Slot.{is_live}
+use Rattle.pot_machine.specs.Logs.{is_of, own}
 use Rattle.pot_steps.specs.GroupStep.{log_bound, look_entries}
 use Rattle.pot_group.specs.declared.answers.Looked.{Looked}
 use Rattle.pot_group.specs.declared.answers.Looked.TheVariants as looked
@@ -23,7 +24,7 @@ use Rattle.pot_shared.specs.Ready.{GroupPasses, AreReady}
 use Rattle.pot_shared.specs.Catalogs.{IndexPasses}
 use Rattle.pot_group.specs.Calls.{LookCall}
 use Rattle.pot_shared.specs.Calls.{CallAt, NextCall}
-use Rattle.pot_replies.specs.Jobs.{own, is_of, is_look, is_seen, is_gone, place_in, EachIs, Ascend, Precedes}
+use Rattle.pot_replies.specs.Jobs.{is_look, is_seen, is_gone, place_in, EachIs, Ascend, Precedes}
 use Rattle.pot_replies.specs.Sections.{Section, mine}
 use Rattle.pot_replies.specs.Settings.{Setting}
 use Rattle.pot_replies.specs.Scrubs.{AreLooks, IsScrubbed, IsScrubFault, IsScrubLogFull}

@@ -8,6 +8,8 @@ use Rattle.pot_index.specs.Entries as index
 use Rattle.pot_machine.specs.declared.entry.Entry.{Entry}
 use Rattle.pot_machine.specs.declared.slot.SlotState.{SlotState}
 use Rattle.pot_machine.specs.Table.{width, slot_at}
+use Rattle.pot_machine.specs.Logs.{replayed}
+use Rattle.pot_machine.proofs.Logs.{replayed_append}
 use Rattle.pot_steps.specs.GroupStep.{log_bound}
 use Rattle.pot_worked.specs.Worked.{added}
 use Rattle.pot_rows.specs.Rows.{view_at}
@@ -15,13 +17,13 @@ use Rattle.pot_rows.specs.Works.{RowAlone}
 use Rattle.pot_shared.specs.Members.{entries_of}
 use Rattle.pot_shared.specs.Catalogs.{IndexPasses}
 use Rattle.pot_shared.specs.Ready.{GroupPasses}
-use Rattle.pot_replies.specs.Sections.{Section, mine, replayed, AlwaysAt, IsOnlyIn, Moment}
+use Rattle.pot_replies.specs.Sections.{Section, mine, AlwaysAt, IsOnlyIn, Moment}
 use Rattle.pot_replies.specs.Settings.{Setting}
 use Rattle.pot_replies.specs.Scrubs.{WasAt}
 use Rattle.pot_store.specs.Works.{of_job, known, section_of, IsSettingOf}
 use Rattle.pot_store.proofs.WorkLemmas.{drop_all}
 use Rattle.pot_store.specs.Adds.{Adds, FailsOnce, FindsNext, IsFirst}
-use Rattle.pot_store.proofs.AddLemmas.{replayed_append, seen_parts}
+use Rattle.pot_store.proofs.AddLemmas.{seen_parts}
 
 module _ (st : Setting) (job g : ℕ) (rack : Rack) (u w : GroupPasses) (ui wi : IndexPasses) (same : wi ≡ ui) (within : g < length u.names)
     (alone : RowAlone (of_job job) u w) (set : IsSettingOf st rack (known u ui)) where

@@ -10,6 +10,7 @@ use Rattle.pot_machine.specs.declared.relay.Relay.{Relay}
 use Rattle.pot_machine.specs.Slot.{is_unsound}
 use Rattle.pot_machine.specs.Table.{Table, width, slot_at, relay_at, relay_in, next_column}
 use Rattle.pot_machine.specs.Rules.{IsStanding}
+use Rattle.pot_machine.specs.Logs.{is_of}
 use Rattle.pot_steps.specs.declared.flight.Flight.{Flight}
 use Rattle.pot_steps.specs.Flights.{flight_in}
 use Rattle.pot_steps.proofs.FlightLists.{relay_of, relay_of_flight}
@@ -25,7 +26,6 @@ use Rattle.pot_group.proofs.BeginSteps.{crowded}
 use Rattle.pot_rows.specs.Rows.{view_at}
 use Rattle.pot_shared.specs.Ready.{GroupPasses}
 use Rattle.pot_shared.specs.Calls.{CallAt}
-use Rattle.pot_replies.specs.Jobs.{is_of}
 use Rattle.pot_worked.specs.Laws.{AllOf}
 use Rattle.pot_store.proofs.WorkLemmas.{all_none, all_one}
 use Rattle.pot_mend.specs.declared.stepping.Step.{Step}

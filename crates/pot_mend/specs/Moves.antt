@@ -2,10 +2,11 @@
 use Rattle.std.specs.Prelude.{◌≡◌, ◌⊎◌, ℕ, Bool, true, false, List, [], ◌∷◌, ◌++◌, IsSome, Result, Ok, Err, length, filter, Contains}
 use Rattle.pot_machine.specs.declared.entry.Entry.{Entry}
 use Rattle.pot_machine.specs.declared.entry.Entry.TheVariants.{Fault, MoveEnd, Swapped}
+use Rattle.pot_machine.specs.Logs.{own}
 use Rattle.pot_steps.specs.GroupStep.{log_bound}
 use Rattle.pot_rows.specs.Rows.{view_at}
 use Rattle.pot_rows.specs.Works.{RowAlone, RowWorked}
-use Rattle.pot_replies.specs.Jobs.{own, is_copied, is_move_of, EachIs}
+use Rattle.pot_replies.specs.Jobs.{is_copied, is_move_of, EachIs}
 use Rattle.pot_replies.specs.Sections.{Section, mine, Moment, IsOnlyIn}
 use Rattle.pot_replies.specs.Settings.{Setting}
 use Rattle.pot_replies.specs.Moves.{HasHome, IsUsed, NoHome, GoesElsewhere, IsTakenTo, MayBegin, MayGoOn, moving_at}

@@ -5,13 +5,14 @@ use Rattle.pot_bytes.specs.declared.rack.Place.{Place}
 use Rattle.pot_machine.specs.declared.entry.Entry.{Entry}
 use Rattle.pot_machine.specs.declared.entry.Entry.TheVariants as entry
 use Rattle.pot_machine.specs.Slot.{is_unsound}
+use Rattle.pot_machine.specs.Logs.{own}
 use Rattle.pot_steps.specs.GroupStep.{log_bound}
 use Rattle.pot_pads.specs.Pads.{Pads}
 use Rattle.pot_rows.specs.Rows.{view_at}
 use Rattle.pot_rows.specs.Works.{RowAlone, RowWorked}
 use Rattle.pot_shared.specs.Ready.{GroupPasses}
 use Rattle.pot_shared.specs.MendCalls.{drawn}
-use Rattle.pot_replies.specs.Jobs.{own, is_relay, is_mended, is_left, is_stuck_at, EachIs, Precedes}
+use Rattle.pot_replies.specs.Jobs.{is_relay, is_mended, is_left, is_stuck_at, EachIs, Precedes}
 use Rattle.pot_replies.specs.Settings.{Setting}
 use Rattle.pot_replies.specs.Sections.{Section}
 use Rattle.pot_replies.specs.Scrubs.{IsRepaired, IsRepairFault, IsRepairLogFull}

@@ -4,8 +4,8 @@ use Rattle.std.proofs.lemmas.List.Elements.{filter-append}
 use Rattle.pot_bytes.specs.declared.rack.Place.{Place}
 use Rattle.pot_machine.specs.declared.entry.Entry.{Entry}
 use Rattle.pot_machine.specs.declared.entry.Entry.TheVariants.{Gone, Fault}
+use Rattle.pot_machine.specs.Logs.{is_of, own}
 use Rattle.pot_index.specs.declared.record.Record.{Record}
-use Rattle.pot_replies.specs.Jobs.{own, is_of}
 use Rattle.pot_replies.specs.Sections.{Section, Mine, mine}
 use Rattle.pot_replies.specs.Settings.{Setting}
 use Rattle.pot_replies.specs.Fetches.{FirstShort, IsUnseen, HopelessIf, IsHopeless, FailsAt, place_at}

@@ -5,13 +5,14 @@ use Rattle.pot_bytes.specs.declared.rack.Geometry.{Geometry}
 use Rattle.pot_machine.specs.declared.entry.Entry.{Entry}
 use Rattle.pot_machine.specs.declared.entry.Entry.TheVariants.{Fault}
 use Rattle.pot_machine.specs.Table.{Table, relay_at}
+use Rattle.pot_machine.specs.Logs.{replayed}
 use Rattle.pot_index.specs.declared.entry.IndexEntry.TheVariants.{Renew, Often}
 use Rattle.pot_index.specs.declared.entry.Logged.{Logged}
 use Rattle.pot_index.specs.declared.record.Record.{Record}
 use Rattle.pot_index.specs.Entries.{plain, bringing}
 use Rattle.pot_index.specs.Records.{mark_of}
 use Rattle.pot_steps.specs.GroupStep.{skips, gone_entries}
-use Rattle.pot_replies.specs.Sections.{Section, Mine, NoneInGroups, Widens, replayed}
+use Rattle.pot_replies.specs.Sections.{Section, Mine, NoneInGroups, Widens}
 use Rattle.pot_replies.specs.Settings.{Setting}
 use Rattle.pot_replies.specs.Stores.{Placed}
 use Rattle.pot_replies.specs.Renewals.{Fetched, AllPut, RenewStops, IsPutFault}

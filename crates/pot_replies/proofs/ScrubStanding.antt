@@ -7,8 +7,9 @@ use Rattle.pot_machine.specs.declared.entry.Entry.TheVariants.{Seen, Gone, Stuck
 use Rattle.pot_machine.specs.declared.slot.SlotState.{SlotState}
 use Rattle.pot_machine.specs.Slot.{is_live, is_unsound}
 use Rattle.pot_machine.specs.Table.{slot_at}
-use Rattle.pot_replies.specs.Jobs.{own, is_seen, is_gone, is_mended, is_left, is_relay, is_move_of, is_copied, place_in, EachIs, Ascend}
-use Rattle.pot_replies.specs.Sections.{Section, Mine, mine, Widens, IsOnlyIn, AlwaysAt, replayed}
+use Rattle.pot_machine.specs.Logs.{own, replayed}
+use Rattle.pot_replies.specs.Jobs.{is_seen, is_gone, is_mended, is_left, is_relay, is_move_of, is_copied, place_in, EachIs, Ascend}
+use Rattle.pot_replies.specs.Sections.{Section, Mine, mine, Widens, IsOnlyIn, AlwaysAt}
 use Rattle.pot_replies.specs.Settings.{Setting}
 use Rattle.pot_replies.specs.Scrubs.{AreLooks, AreRelays, WasAt}
 use Rattle.pot_replies.specs.Laws.{ScrubbedStands, ScrubLogFullStands, RepairedStands, RepairFaultStands, RepairLogFullStands, MigratedStands, StepLogFullStands}

@@ -4,7 +4,7 @@ use Rattle.std.specs.Prelude.{filter, take}
 use Rattle.std.proofs.lemmas.Option.{same_Some}
 use Rattle.std.proofs.lemmas.List.Elements.{filter-append}
 use Rattle.pot_index.specs.Entries as index
-use Rattle.pot_replies.specs.Jobs.{job_of, own}
+use Rattle.pot_machine.specs.Logs.{job_of, own}
 use Rattle.pot_replies.specs.Sections.{Section, Halves, IsAmong, IsOfJobs, Follows}
 use Rattle.pot_replies.specs.Sessions.{Step, jobs_in, jobs_of, AreSections, Answered, Answers}
 use Rattle.pot_replies.specs.SessionLaws.{OwnInSections, RepliedNone, RepliedMore}

@@ -10,13 +10,14 @@ use Rattle.pot_machine.specs.declared.entry.Entry.TheVariants.{Seen, Gone, Begin
 use Rattle.pot_machine.specs.declared.slot.SlotState.TheVariants.{Live}
 use Rattle.pot_machine.specs.Slot.{is_live}
 use Rattle.pot_machine.specs.Table.{Table, slot_at}
+use Rattle.pot_machine.specs.Logs.{is_of, own, replayed}
 use Rattle.pot_index.specs.declared.entry.Logged.{Logged}
 use Rattle.pot_index.specs.declared.entry.IndexEntry.TheVariants.{Find}
 use Rattle.pot_index.specs.declared.record.Record.{Record}
 use Rattle.pot_index.specs.Entries as index
 use Rattle.pot_index.specs.Index.{names_read, IsRecordOf}
-use Rattle.pot_replies.specs.Jobs.{own, is_of, is_stuck_at}
-use Rattle.pot_replies.specs.Sections.{Section, Mine, mine, Moment, IndexMoment, Widens, replayed, names_after}
+use Rattle.pot_replies.specs.Jobs.{is_stuck_at}
+use Rattle.pot_replies.specs.Sections.{Section, Mine, mine, Moment, IndexMoment, Widens, names_after}
 use Rattle.pot_replies.specs.Settings.{Setting}
 use Rattle.pot_replies.specs.Fetches.{FoundThen, AreReads, Mends, FetchEntries, SeenAs, LastIs, GoneAgain, HopelessIf, IsHopeless}
 

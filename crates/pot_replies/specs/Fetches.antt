@@ -7,6 +7,7 @@ use Rattle.pot_machine.specs.declared.entry.Entry.TheVariants.{Seen, Gone, Fault
 use Rattle.pot_machine.specs.declared.slot.SlotState.TheVariants.{Live}
 use Rattle.pot_machine.specs.Slot.{is_live}
 use Rattle.pot_machine.specs.Table.{Table, slot_at, count}
+use Rattle.pot_machine.specs.Logs.{own, replayed}
 use Rattle.pot_steps.specs.Stripe.{digest_of}
 use Rattle.pot_steps.specs.GroupStep.{log_bound}
 use Rattle.pot_object.specs.Pieces.{pieces_of}
@@ -15,8 +16,8 @@ use Rattle.pot_index.specs.declared.entry.Logged.{Logged}
 use Rattle.pot_index.specs.declared.record.Record.{Record}
 use Rattle.pot_index.specs.Entries.{plain}
 use Rattle.pot_index.specs.Index.{names_read, IsRecordOf}
-use Rattle.pot_replies.specs.Jobs.{own, is_seen_at, is_look_at, is_stuck_at, ends_relay}
-use Rattle.pot_replies.specs.Sections.{Section, Mine, mine, Moment, NoneInGroups, replayed, names_after}
+use Rattle.pot_replies.specs.Jobs.{is_seen_at, is_look_at, is_stuck_at, ends_relay}
+use Rattle.pot_replies.specs.Sections.{Section, Mine, mine, Moment, NoneInGroups, names_after}
 use Rattle.pot_replies.specs.Settings.{Setting}
 use Rattle.pot_replies.specs.Joined.{AreJoined}
 

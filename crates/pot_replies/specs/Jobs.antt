@@ -1,36 +1,7 @@
--- Whose entry it is, and of what kind, in the log of a group.
-use Rattle.std.specs.Prelude.{◌≡◌, ◌<◌, ◌⊎◌, ℕ, ◌==◌, ◌&&◌, Bool, true, false, List, [], ◌∷◌, filter, Contains}
+-- Of what kind an entry in the log of a group is.
+use Rattle.std.specs.Prelude.{◌≡◌, ◌<◌, ◌⊎◌, ℕ, ◌==◌, ◌&&◌, Bool, true, false, List, [], ◌∷◌, Contains}
 use Rattle.pot_machine.specs.declared.entry.Entry.{Entry}
-use Rattle.pot_machine.specs.declared.entry.Entry.TheVariants.{Put, Skip, Seen, Gone, Broke, Fault, Begin, Hop, Mended, GaveUp, Oddly, Stuck, MoveBegin, Moved, MoveEnd, Swapped, Counted, Put2}
-
-abbrev pub job_of : Entry → ℕ
-job_of (Put job s c d p k) = job
-job_of (Skip job s) = job
-job_of (Seen job s c) = job
-job_of (Gone job s c) = job
-job_of (Broke job s c) = job
-job_of (Fault job s c) = job
-job_of (Begin job s c) = job
-job_of (Hop job s c) = job
-job_of (Mended job s c) = job
-job_of (GaveUp job s c o) = job
-job_of (Oddly job s c f) = job
-job_of (Stuck job s c o) = job
-job_of (MoveBegin job c to) = job
-job_of (Moved job s c k) = job
-job_of (MoveEnd job c) = job
-job_of (Swapped job c to) = job
-job_of (Counted job) = job
-job_of (Put2 job s c d p q k k2) = job
-
-abbrev pub is_of : ℕ → Entry → Bool
-is_of job e = job_of e == job
-
--- the job's own entries, in order
-abbrev pub own : ℕ → List Entry → List Entry
-own job log = filter (is_of job) log
-
--- KINDS OF ENTRIES
+use Rattle.pot_machine.specs.declared.entry.Entry.TheVariants.{Seen, Gone, Begin, Hop, Mended, GaveUp, Oddly, Stuck, MoveBegin, Moved, MoveEnd}
 
 abbrev pub is_seen : Entry → Bool
 is_seen (Seen job s c) = true

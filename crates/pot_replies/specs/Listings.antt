@@ -4,6 +4,7 @@ use Rattle.pot_machine.specs.declared.entry.Entry.{Entry}
 use Rattle.pot_machine.specs.declared.entry.Entry.TheVariants.{Counted}
 use Rattle.pot_machine.specs.Slot.{is_live, is_lost, is_broken}
 use Rattle.pot_machine.specs.Table.{Table}
+use Rattle.pot_machine.specs.Logs.{own, replayed}
 use Rattle.pot_steps.specs.GroupStep.{log_bound}
 use Rattle.pot_object.specs.Pieces.{longest}
 use Rattle.pot_index.specs.declared.entry.IndexEntry.TheVariants.{Listed}
@@ -13,8 +14,7 @@ use Rattle.pot_index.specs.Entries.{plain}
 use Rattle.pot_index.specs.Index.{names_read}
 use Rattle.pot_index.specs.Index as bounds
 use Rattle.pot_index.specs.Calls.{listed_of}
-use Rattle.pot_replies.specs.Jobs.{own}
-use Rattle.pot_replies.specs.Sections.{Section, mine, Moment, IndexMoment, NoneInGroups, IsSilent, replayed, names_after}
+use Rattle.pot_replies.specs.Sections.{Section, mine, Moment, IndexMoment, NoneInGroups, IsSilent, names_after}
 use Rattle.pot_replies.specs.Settings.{Setting}
 
 -- `logfull index`: the job logged nothing, and at the moment the index log had no room for `n` more entries beside those that

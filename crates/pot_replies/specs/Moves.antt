@@ -6,9 +6,10 @@ use Rattle.pot_machine.specs.declared.entry.Entry.TheVariants.{Fault, MoveBegin,
 use Rattle.pot_machine.specs.declared.column.Moving.{Moving}
 use Rattle.pot_machine.specs.Slot.{is_live}
 use Rattle.pot_machine.specs.Table.{width, column_at, slot_at, holder_of, count}
+use Rattle.pot_machine.specs.Logs.{own, replayed}
 use Rattle.pot_steps.specs.GroupStep.{log_bound}
-use Rattle.pot_replies.specs.Jobs.{own, is_copied, is_move_of, EachIs}
-use Rattle.pot_replies.specs.Sections.{Section, Mine, mine, Moment, IsSilent, IsOnlyIn, replayed, checked}
+use Rattle.pot_replies.specs.Jobs.{is_copied, is_move_of, EachIs}
+use Rattle.pot_replies.specs.Sections.{Section, Mine, mine, Moment, IsSilent, IsOnlyIn, checked}
 use Rattle.pot_replies.specs.Settings.{Setting}
 
 -- WHO HAS AN ARCHIVE, over these logs

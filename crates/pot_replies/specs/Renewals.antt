@@ -6,6 +6,7 @@ use Rattle.pot_bytes.specs.declared.rack.Geometry.{Geometry}
 use Rattle.pot_machine.specs.declared.entry.Entry.{Entry}
 use Rattle.pot_machine.specs.declared.entry.Entry.TheVariants.{Fault}
 use Rattle.pot_machine.specs.Table.{Table, relay_at}
+use Rattle.pot_machine.specs.Logs.{replayed}
 use Rattle.pot_steps.specs.Stripe.{digest_of}
 use Rattle.pot_steps.specs.GroupStep.{Passed, skips, gone_entries, log_bound}
 use Rattle.pot_object.specs.Pieces.{pieces_of}
@@ -17,7 +18,7 @@ use Rattle.pot_index.specs.Fits.{group_of}
 use Rattle.pot_index.specs.Index.{names_read}
 use Rattle.pot_index.specs.Index as bounds
 use Rattle.pot_index.specs.Records.{mark_of}
-use Rattle.pot_replies.specs.Sections.{Section, mine, Moment, IndexMoment, NoneInGroups, replayed, names_after}
+use Rattle.pot_replies.specs.Sections.{Section, mine, Moment, IndexMoment, NoneInGroups, names_after}
 use Rattle.pot_replies.specs.Settings.{Setting}
 use Rattle.pot_replies.specs.Stores.{Placed, place_of, in_group, AreSpread, Puts, IsUnkept}
 use Rattle.pot_replies.specs.Fetches.{FoundThen, Found, AreReads, Mends, SeesAll}

@@ -6,9 +6,10 @@ use Rattle.pot_machine.specs.declared.entry.Entry.TheVariants.{Seen, Gone, Fault
 use Rattle.pot_machine.specs.Slot.{is_live, is_unsound}
 use Rattle.pot_machine.specs.declared.slot.SlotState.{SlotState}
 use Rattle.pot_machine.specs.Table.{width, slot_at}
+use Rattle.pot_machine.specs.Logs.{own, replayed}
 use Rattle.pot_steps.specs.GroupStep.{log_bound}
-use Rattle.pot_replies.specs.Jobs.{own, is_seen, is_gone, is_look, is_relay, is_mended, is_left, place_in, EachIs, Ascend}
-use Rattle.pot_replies.specs.Sections.{Section, Mine, mine, Moment, IsOnlyIn, AlwaysAt, replayed}
+use Rattle.pot_replies.specs.Jobs.{is_seen, is_gone, is_look, is_relay, is_mended, is_left, place_in, EachIs, Ascend}
+use Rattle.pot_replies.specs.Sections.{Section, Mine, mine, Moment, IsOnlyIn, AlwaysAt}
 use Rattle.pot_replies.specs.Settings.{Setting}
 use Rattle.pot_replies.specs.Fetches.{Mends}
 

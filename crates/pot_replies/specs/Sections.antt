@@ -4,13 +4,13 @@ use Rattle.std.specs.Prelude.{◌≡◌, ◌≢◌, ◌<◌, ◌≤◌, ℕ, ◌
 use Rattle.pot_machine.specs.declared.entry.Entry.{Entry}
 use Rattle.pot_machine.specs.declared.slot.SlotState.{SlotState}
 use Rattle.pot_machine.specs.Table.{Table, slot_at}
-use Rattle.pot_machine.specs.Machine.{after}
+use Rattle.pot_machine.specs.Logs.{job_of, own, replayed}
 use Rattle.pot_index.specs.declared.entry.Logged.{Logged}
 use Rattle.pot_index.specs.Entries.{job_in}
 use Rattle.pot_index.specs.Entries as index
 use Rattle.pot_index.specs.Index.{Names}
 use Rattle.pot_index.specs.Index as index_of
-use Rattle.pot_replies.specs.Jobs.{job_of, own, is_move_begin, EachIs}
+use Rattle.pot_replies.specs.Jobs.{is_move_begin, EachIs}
 
 -- the logs before a command, by group and of the index, and what it added to each
 pub record Section : Type 0 where
@@ -29,11 +29,7 @@ pub record Mine : Type 0 where
 abbrev pub mine : ℕ → Section → Mine
 mine job w = record { before = w.before; own = λ g. own job (w.added g); index_before = w.index_before; index = index.own job w.index_added }
 
--- the table that a log leads to, and the names that a log of the index leads to
-abbrev pub replayed : Table → List Entry → Table
-replayed t [] = t
-replayed t (e ∷ log) = replayed (after t e) log
-
+-- the names that a log of the index leads to
 abbrev pub names_after : Names → List Logged → Names
 names_after n [] = n
 names_after n (x ∷ log) = names_after (index_of.after n x) log

@@ -1,7 +1,7 @@
 -- Laws of a session's sections and replies.
 use Rattle.std.specs.Prelude.{◌≡◌, ℕ, ◌+◌, List, [], ◌∷◌, ◌++◌, Some, take, slice_get}
 use Rattle.pot_index.specs.Entries as index
-use Rattle.pot_replies.specs.Jobs.{own}
+use Rattle.pot_machine.specs.Logs.{own}
 use Rattle.pot_replies.specs.Sections.{Section, Halves, IsAmong, IsOfJobs, Follows, IsEmpty}
 use Rattle.pot_replies.specs.Sessions.{Step, jobs_in, jobs_of, AreSections, Answered, Replied}
 

@@ -1,7 +1,7 @@
 -- A session: what the opening logged, and then a section for each step of the script, as far as it came.
 use Rattle.std.specs.Prelude.{◌≡◌, ℕ, suc, ◌+◌, List, [], ◌∷◌, ◌++◌, length}
 use Rattle.pot_machine.specs.declared.entry.Entry.{Entry}
-use Rattle.pot_replies.specs.Jobs.{job_of}
+use Rattle.pot_machine.specs.Logs.{job_of}
 use Rattle.pot_replies.specs.Sections.{Section, Halves, IsOfJobs, Follows, IsEmpty}
 
 -- one line, or the lines of a batch

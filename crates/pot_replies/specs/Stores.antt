@@ -5,6 +5,7 @@ use Rattle.pot_bytes.specs.declared.rack.Geometry.{Geometry}
 use Rattle.pot_bytes.specs.declared.rack.Place.{Place}
 use Rattle.pot_machine.specs.declared.entry.Entry.{Entry}
 use Rattle.pot_machine.specs.declared.entry.Entry.TheVariants.{Put, Put2, Fault}
+use Rattle.pot_machine.specs.Logs.{replayed}
 use Rattle.pot_steps.specs.Stripe.{digest_of}
 use Rattle.pot_steps.specs.GroupStep.{Passed, skips, gone_entries, log_bound}
 use Rattle.pot_object.specs.Pieces.{longest, pieces_of}
@@ -13,7 +14,7 @@ use Rattle.pot_index.specs.declared.entry.IndexEntry.TheVariants.{Reserve, Taken
 use Rattle.pot_index.specs.Entries.{plain, bringing}
 use Rattle.pot_index.specs.Fits.{group_of}
 use Rattle.pot_index.specs.Records.{mark_of}
-use Rattle.pot_replies.specs.Sections.{Section, Mine, mine, Moment, IsSilent, NoneInGroups, replayed}
+use Rattle.pot_replies.specs.Sections.{Section, Mine, mine, Moment, IsSilent, NoneInGroups}
 use Rattle.pot_replies.specs.Settings.{Setting}
 
 -- a block that was put, by its digest, and where it stands

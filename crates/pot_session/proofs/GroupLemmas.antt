@@ -14,12 +14,12 @@ use Rattle.pot_outside.specs.declared.archive.Shelf.{Shelf}
 use Rattle.pot_machine.specs.declared.entry.Entry.{Entry}
 use Rattle.pot_machine.specs.declared.entry.Entry.TheVariants.{Gone, Broke}
 use Rattle.pot_machine.specs.Table.{Table, width}
+use Rattle.pot_machine.specs.Logs.{job_of}
 use Rattle.pot_group.specs.Arrivals.{arrivals, HasArrived}
 use Rattle.pot_group.specs.Beginning.{Begins, archives_in}
 use Rattle.pot_group.specs.Group.{GroupView, GroupParts, view_of}
 use Rattle.pot_group.specs.Shelves.{numbers_of, shelf_of, given, plain}
 use Rattle.pot_group.proofs.CauseLemmas.{OfOpening, opening_entries}
-use Rattle.pot_replies.specs.Jobs.{job_of}
 use Rattle.pot_shared.specs.Members.{mark_at}
 use Rattle.pot_commands.specs.Taking.{marks_of}
 use Rattle.pot_session.specs.Groups.{IsStarted, IsEnded, AreStarted, AreMarked, AreEnded, had_by}

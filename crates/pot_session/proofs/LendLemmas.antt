@@ -7,11 +7,11 @@ use Rattle.pot_outside.specs.Archives.{Meaning}
 use Rattle.pot_machine.specs.declared.entry.Entry.{Entry}
 use Rattle.pot_machine.specs.Rules.{IsTable}
 use Rattle.pot_machine.specs.Table.{Table, holder_of}
+use Rattle.pot_machine.specs.Logs.{replayed}
 use Rattle.pot_group.specs.Beginning.{archives_in}
 use Rattle.pot_image.specs.Images.{Contents}
 use Rattle.pot_image.specs.Rules.{FitsTable, FitsTogether}
 use Rattle.pot_image.specs.Tables as image
-use Rattle.pot_replies.specs.Sections.{replayed}
 use Rattle.pot_rows.specs.Rows.{view_at}
 use Rattle.pot_turn.specs.Views.{spent_view}
 use Rattle.pot_worked.specs.Worked.{added}

@@ -19,7 +19,8 @@ use Rattle.pot_machine.specs.Rules.{IsTable, IsStanding}
 use Rattle.pot_machine.specs.Making.{empty_table}
 use Rattle.pot_machine.specs.Table.{Table, width, slot_at, column_at, no_column, relay_at, next_column}
 use Rattle.pot_machine.specs.Machine.{Legal, Replays, after}
-use Rattle.pot_machine.proofs.LeftAlone.{rules_stay}
+use Rattle.pot_machine.specs.Logs.{is_of, own, replayed}
+use Rattle.pot_machine.proofs.Logs.{legal_at, table_at}
 use Rattle.pot_steps.proofs.Acting.{find_all}
 use Rattle.pot_steps.proofs.OpenPlaces.{relay_over}
 use Rattle.pot_group.specs.Arrivals.{arrivals}
@@ -29,8 +30,8 @@ use Rattle.pot_index.specs.declared.record.Record.{Record}
 use Rattle.pot_index.specs.Fits.{FitsRack}
 use Rattle.pot_image.specs.Images.{Contents}
 use Rattle.pot_image.specs.Rules.{FitsTable, FitsTogether}
-use Rattle.pot_replies.specs.Jobs.{EachIs, own, is_of}
-use Rattle.pot_replies.specs.Sections.{Section, replayed}
+use Rattle.pot_replies.specs.Jobs.{EachIs}
+use Rattle.pot_replies.specs.Sections.{Section}
 use Rattle.pot_replies.specs.Fetches.{IsLost, IsHopeless, LastIs, place_at}
 use Rattle.pot_store.specs.Visits.{place_in}
 use Rattle.pot_store.proofs.FitLemmas.{current_fits, fits_place, fragment_within, point_within}
@@ -122,15 +123,6 @@ split : {X : Type 0} (before x y rest : List X) (e : X) → (before ++ (x ++ e �
 split before x y rest e =
     append_assoc before (x ++ e ∷ y) rest
     ∙ (ap (λ l. before ++ l) (append_assoc x (e ∷ y) rest) ∙ sym (append_assoc before x (e ∷ (y ++ rest))))
-
--- an entry of a log was legal in the table that those before it lead to
-legal_at : (t : Table) (x y : List Entry) (e : Entry) (u : Table) → Replays t (x ++ e ∷ y) u → Legal (replayed t x) e
-legal_at t [] y e u r = r.0
-legal_at t (a ∷ x) y e u r = legal_at (after t a) x y e u r.1
-
-table_at : (t : Table) (x y : List Entry) (u : Table) → IsTable t → Replays t (x ++ y) u → IsTable (replayed t x)
-table_at t [] y u is r = is
-table_at t (a ∷ x) y u is r = table_at (after t a) x y u (rules_stay t (after t a) (a ∷ []) is (r.0, refl)) r.1
 
 -- a slot that is Lost or Broken is not Live
 unsound_not_live : (x : SlotState) → IsTrue (is_unsound x) → is_live x ≡ false

@@ -8,13 +8,14 @@ use Rattle.pot_machine.specs.declared.entry.Entry.{Entry}
 use Rattle.pot_machine.specs.declared.entry.Entry.TheVariants.{Gone, Stuck, Oddly}
 use Rattle.pot_machine.specs.Slot.{is_live}
 use Rattle.pot_machine.specs.Table.{Table, slot_at}
+use Rattle.pot_machine.specs.Logs.{own, replayed}
 use Rattle.pot_group.specs.Beginning.{archives_in}
 use Rattle.pot_index.specs.declared.record.Record.{Record}
 use Rattle.pot_index.specs.Fits.{FitsRack}
 use Rattle.pot_image.specs.Images.{Contents}
 use Rattle.pot_image.specs.Rules.{FitsTogether}
-use Rattle.pot_replies.specs.Jobs.{EachIs, own}
-use Rattle.pot_replies.specs.Sections.{Section, mine, replayed}
+use Rattle.pot_replies.specs.Jobs.{EachIs}
+use Rattle.pot_replies.specs.Sections.{Section, mine}
 use Rattle.pot_replies.specs.Settings.{Setting}
 use Rattle.pot_replies.specs.Fetches.{IsLost, IsUnseen, place_at, seen_of}
 use Rattle.pot_commands.specs.Ends.{brings_none}

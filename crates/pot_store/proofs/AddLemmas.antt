@@ -1,12 +1,13 @@
 -- Calls of a job on one group, one after another.
-use Rattle.std.proofs.Common.{◌≡◌, ◌<◌, ◌≤◌, ℕ, ◌+◌, List, [], ◌∷◌, ◌++◌, length, refl, ap, sym, ◌∙◌, subst, arith, append_assoc, length-append}
+use Rattle.std.proofs.Common.{◌≡◌, ◌<◌, ◌≤◌, ℕ, ◌+◌, List, [], ◌++◌, length, ap, sym, ◌∙◌, subst, arith, append_assoc, length-append}
 use Rattle.std.specs.Prelude.{Option, Some, IfSome}
 use Rattle.std.proofs.lemmas.List.{map-append, length-map}
 use Rattle.pot_bytes.specs.declared.rack.Place.{Place}
 use Rattle.pot_bytes.specs.declared.rack.Rack.{Rack}
 use Rattle.pot_machine.specs.declared.entry.Entry.{Entry}
 use Rattle.pot_machine.specs.Table.{Table, width}
-use Rattle.pot_machine.specs.Machine.{after}
+use Rattle.pot_machine.specs.Logs.{is_of, own, replayed}
+use Rattle.pot_machine.proofs.Logs.{replays_is}
 use Rattle.pot_steps.specs.GroupStep.{log_bound}
 use Rattle.pot_group.specs.declared.finding.Kind.{Kind}
 use Rattle.pot_group.specs.Finding.{IsPlace, is_of as kind_of}
@@ -19,8 +20,6 @@ use Rattle.pot_rows.specs.Rows.{view_at}
 use Rattle.pot_rows.specs.Works.{AllIdle, RowWorked}
 use Rattle.pot_rows.proofs.RowLemmas.{at_set}
 use Rattle.pot_rows.proofs.WorkLemmas.{row_work_in_parts, row_alone_in_parts}
-use Rattle.pot_replies.specs.Jobs.{own, is_of}
-use Rattle.pot_replies.specs.Sections.{replayed}
 use Rattle.pot_shared.specs.declared.member.Logged.{Logged}
 use Rattle.pot_shared.specs.declared.member.GroupOrigin.{GroupOrigin}
 use Rattle.pot_shared.specs.Members.{entries_of, all_logged, logged_at, origin_of}
@@ -29,15 +28,10 @@ use Rattle.pot_shared.specs.Calls.{CallAt, NextCall}
 use Rattle.pot_shared.proofs.CallLemmas.{is_origin, is_table}
 use Rattle.pot_shared.proofs.MemberLemmas.{entries_all}
 use Rattle.pot_store.specs.Works.{of_job, gained}
-use Rattle.pot_store.proofs.TurnLemmas.{replays_is}
 use Rattle.pot_store.proofs.WorkLemmas.{all_none, drop_all, group_work, group_own, group_else, own_more, row_stays}
 use Rattle.pot_store.specs.Adds.{Adds, FindsNext, IsFromOn, IsNextOf, Once}
 
--- WHAT A LOG LEADS TO
-
-pub replayed_append : (t : Table) (x y : List Entry) → replayed t (x ++ y) ≡ replayed (replayed t x) y
-replayed_append t [] y = refl
-replayed_append t (e ∷ x) y = replayed_append (after t e) x y
+-- WHAT A GROUP READ
 
 -- the pass knows what its group read
 pub is_first : (o : Option GroupOrigin) (first : Table) (g : GroupOrigin) → Some g ≡ o → IfSome o (λ x. first ≡ x.first) → first ≡ g.first

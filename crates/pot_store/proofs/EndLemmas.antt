@@ -4,10 +4,10 @@ use Rattle.std.specs.Prelude.{Option, Some, None, Err, slice_get}
 use Rattle.std.proofs.lemmas.List.{length-map, length-append, append_cancel_left}
 use Rattle.pot_bytes.specs.declared.rack.Rack.{Rack}
 use Rattle.pot_bytes.specs.declared.rack.Place.{Place}
-use Rattle.pot_machine.specs.declared.entry.Entry.{Entry}
 use Rattle.pot_machine.specs.declared.entry.Entry.TheVariants as entry
 use Rattle.pot_machine.specs.Table.{Table}
-use Rattle.pot_machine.specs.Machine.{Replays, after}
+use Rattle.pot_machine.specs.Logs.{own, replayed}
+use Rattle.pot_machine.proofs.Logs.{replays_is}
 use Rattle.pot_steps.specs.Stripe.{digest_of}
 use Rattle.pot_steps.specs.GroupStep.{Passed, skips, gone_entries, put_entry, unkept, log_bound}
 use Rattle.pot_group.specs.Group.{GroupView}
@@ -18,8 +18,6 @@ use Rattle.pot_turn.specs.declared.name.TurnName.{TurnName}
 use Rattle.pot_rows.specs.Rows.{view_at}
 use Rattle.pot_rows.specs.Works.{RowWorked, RowAlone}
 use Rattle.pot_rows.proofs.WorkLemmas.{row_work_in_parts, row_alone_in_parts}
-use Rattle.pot_replies.specs.Jobs.{own}
-use Rattle.pot_replies.specs.Sections.{replayed}
 use Rattle.pot_replies.specs.Stores.{Puts, in_group, IsUnkept}
 use Rattle.pot_shared.specs.Members.{entries_of, origin_of}
 use Rattle.pot_shared.specs.Ready.{GroupPass, GroupPasses, AreReady, IsTableOf}
@@ -31,11 +29,6 @@ use Rattle.pot_store.specs.Puts.{ArePut, EndsFull, EndsLogFull, EndsPut, PutsEnd
 use Rattle.pot_store.proofs.WorkLemmas.{group_work, group_own, group_else, own_more}
 use Rattle.pot_store.proofs.PutLemmas.{all_put}
 use Rattle.pot_store.proofs.StepLemmas.{called_here, left_log}
-
--- a log leads to the table that it replays to
-pub replays_to : (t : Table) (log : List Entry) (u : Table) → Replays t log u → replayed t log ≡ u
-replays_to t [] u is = sym is
-replays_to t (e ∷ log) u is = replays_to (after t e) log u is.1
 
 -- a log that was not full has room while nothing was logged
 room_at : (passed : List Passed) (before now : ℕ) → before ≤ log_bound → (before ≡ log_bound → ⊥) → (passed ≡ [] → now ≡ before) → (now < log_bound) ⊎ (passed ≢ [])
@@ -81,7 +74,7 @@ module _ (rack : Rack) (names : List TurnName) (told : Type 0) (job : ℕ) (v w 
   -- the table that the log seen leads to
   leads : replayed call.turn.old.first (entries_of (view_at w group).seen) ≡ call.turn.new.table
   leads = ap (λ x. replayed x (entries_of (view_at w group).seen)) (sym call.turn.first) ∙ (ap (replayed call.turn.new.first) seen_log
-      ∙ replays_to call.turn.new.first call.turn.new.log call.turn.new.table call.turn.settled.replay)
+      ∙ replays_is call.turn.new.first call.turn.new.log call.turn.new.table call.turn.settled.replay)
 
   its_stripes : call.turn.new.table.stripes ≡ call.turn.old.first.stripes
   its_stripes = call.turn.settled.sizes.2 ∙ ap (λ (x : Table). x.stripes) call.turn.first

@@ -6,8 +6,10 @@ use Rattle.pot_bytes.specs.declared.digest.Digest.{Digest}
 use Rattle.pot_bytes.specs.declared.rack.Place.{Place}
 use Rattle.pot_machine.specs.declared.entry.Entry.{Entry}
 use Rattle.pot_machine.specs.declared.entry.Entry.TheVariants as entry
+use Rattle.pot_machine.specs.Logs.{is_of, own}
+use Rattle.pot_machine.proofs.Logs.{own_append, own_cons}
 use Rattle.pot_index.specs.declared.record.Record.{Record}
-use Rattle.pot_replies.specs.Jobs.{own, is_of, is_look_at, is_stuck_at}
+use Rattle.pot_replies.specs.Jobs.{is_look_at, is_stuck_at}
 use Rattle.pot_replies.specs.Fetches.{no_place, IsOfPlace, MayFetch, LooksTwice, Mends, AreReads}
 use Rattle.pot_store.specs.Visits.{Visit, MayVisit, IsVisit, is_begin_at, is_oddly_at, begun_next, begun_from, place_in, logged_at, logged_from}
 use Rattle.pot_store.proofs.LookLemmas.{nat_same, in_group, in_other, same_place, both, hit, is_elsewhere, Apart, AreVisits, first_visit, rest_visits}
@@ -269,12 +271,6 @@ begun_anew j s c f x t y z =
     omega (arith, all, three)
 
 -- THE RULES OF A JOB THAT MENDS
-
-own_append : (job : ℕ) (x y : List Entry) → own job (x ++ y) ≡ own job x ++ own job y
-own_append job x y = filter-append (is_of job) x y
-
-pub own_cons : (job : ℕ) (e : Entry) (es : List Entry) → is_of job e ≡ true → own job (e ∷ es) ≡ e ∷ own job es
-own_cons job e es is = rw is refl
 
 module _ (job : ℕ) (places : List Place) (n : ℕ) (vs : List Visit) (apart : Apart places n) (fits : length vs ≤ n) (are : AreVisits job places 0 vs) where
   none_again : (g : ℕ) (added : List Entry) → own job added ≡ logged_from places g 0 vs → (s c : ℕ) (f : Digest) (x t y z : List Entry)

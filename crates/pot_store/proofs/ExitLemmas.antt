@@ -18,7 +18,7 @@ use Rattle.pot_turn.specs.declared.name.TurnName.{TurnName}
 use Rattle.pot_worked.specs.Laws.{AllOf}
 use Rattle.pot_rows.specs.Works.{RowWorked, RowAlone}
 use Rattle.pot_rows.proofs.WorkLemmas.{row_work_in_parts, row_alone_in_parts}
-use Rattle.pot_replies.specs.Jobs.{own}
+use Rattle.pot_machine.specs.Logs.{own}
 use Rattle.pot_replies.specs.Settings.{Setting}
 use Rattle.pot_replies.specs.Stores.{Puts, in_group, place_of}
 use Rattle.pot_shared.specs.declared.catalog.Strange.{Strange}

@@ -11,6 +11,8 @@ use Rattle.pot_machine.specs.declared.entry.Entry.{Entry}
 use Rattle.pot_machine.specs.declared.entry.Entry.TheVariants as entry
 use Rattle.pot_machine.specs.Slot.{is_live, is_void}
 use Rattle.pot_machine.specs.Table.{slot_at}
+use Rattle.pot_machine.specs.Logs.{own, replayed}
+use Rattle.pot_machine.proofs.Logs.{replays_is}
 use Rattle.pot_steps.specs.Stripe.{digest_of}
 use Rattle.pot_shard.specs.FileBlocks.{file_blocks}
 use Rattle.pot_index.specs.declared.entry.IndexEntry.TheVariants.{Find, Publish}
@@ -25,8 +27,7 @@ use Rattle.pot_worked.specs.Worked.{added}
 use Rattle.pot_rows.specs.Rows.{view_at}
 use Rattle.pot_rows.specs.Works.{RowWorked, RowAlone}
 use Rattle.pot_rows.proofs.WorkLemmas.{row_work_in_parts, row_alone_in_parts}
-use Rattle.pot_replies.specs.Jobs.{own}
-use Rattle.pot_replies.specs.Sections.{Section, replayed}
+use Rattle.pot_replies.specs.Sections.{Section}
 use Rattle.pot_replies.specs.Settings.{Setting}
 use Rattle.pot_replies.specs.Fetches.{Found, SeenAs, IsLost, IsFetchFault}
 use Rattle.pot_shared.specs.Members.{entries_of}
@@ -46,7 +47,6 @@ use Rattle.pot_store.proofs.ReadLemmas.{both_gained, read_back, seen_parts}
 use Rattle.pot_store.proofs.EntryLemmas.{one_contained, has_place}
 use Rattle.pot_store.proofs.StoredLemmas.{from_blocks, same_file}
 use Rattle.pot_store.proofs.RecordLemmas.{is_digest}
-use Rattle.pot_store.proofs.TurnLemmas.{replays_is}
 use Rattle.pot_store.proofs.FilledLemmas.{filled_of}
 use Rattle.pot_store.proofs.GoneLemmas.{GoneTwice, has_origin, live_is}
 use Rattle.pot_store.proofs.FitLemmas.{there_is, has_slot, many_places}

@@ -1,18 +1,16 @@
 -- The places of a record that was found are filled, from the search on.
-use Rattle.std.proofs.Common.{◌≡◌, ◌<◌, ⊎_elim, ℕ, zero, suc, false, List, [], ◌∷◌, ◌++◌, length, refl, ap, sym, ◌∙◌, subst, arith}
+use Rattle.std.proofs.Common.{◌≡◌, ◌<◌, ⊎_elim, ℕ, zero, suc, false, List, [], ◌∷◌, ◌++◌, length, ap, sym, ◌∙◌, subst, arith}
 use Rattle.std.specs.Prelude.{Some, Ok, IfSome, Contains, slice_index_or}
 use Rattle.std.proofs.lemmas.List.Elements.{Contains-append_left}
 use Rattle.pot_bytes.specs.declared.digest.Digest.{Digest}
 use Rattle.pot_bytes.specs.declared.rack.Place.{Place}
 use Rattle.pot_bytes.specs.declared.rack.Rack.{Rack}
 use Rattle.pot_machine.specs.declared.entry.Entry.{Entry}
-use Rattle.pot_machine.specs.declared.slot.SlotState.{SlotState}
-use Rattle.pot_machine.specs.declared.slot.SlotState.TheVariants.{Void, Live, Lost, Broken}
-use Rattle.pot_machine.specs.Machine.{Replays, after}
+use Rattle.pot_machine.specs.Machine.{Replays}
 use Rattle.pot_machine.specs.Rules.{IsTable}
-use Rattle.pot_machine.specs.Slot.{digest_in, is_void}
+use Rattle.pot_machine.specs.Slot.{is_void}
 use Rattle.pot_machine.specs.Table.{Table, slot_at}
-use Rattle.pot_machine.proofs.LeftAlone.{data_stays, rules_stay, sizes_stay}
+use Rattle.pot_machine.proofs.Filled.{filled_stays, not_void}
 use Rattle.pot_steps.specs.Stripe.{digest_of}
 use Rattle.pot_shard.specs.FileBlocks.{file_blocks}
 use Rattle.pot_index.specs.declared.record.Record.{Record}
@@ -32,30 +30,6 @@ use Rattle.pot_store.specs.Visits.{place_in}
 use Rattle.pot_store.proofs.DigestLemmas.{put_stays}
 use Rattle.pot_store.proofs.FitLemmas.{fits_place, has_slot, there_is}
 use Rattle.pot_store.proofs.SearchLemmas.{found_fits, met_read}
-
--- A SLOT THAT IS FILLED
-
--- a slot has a digest just where it is not Void
-has_digest : (x : SlotState) → is_void x ≡ false → (d : Digest) × (digest_in x ≡ Some d)
-has_digest Void some = absurd (cc some)
-has_digest (Live d) some = (d, refl)
-has_digest (Lost d) some = (d, refl)
-has_digest (Broken d) some = (d, refl)
-
-not_void : (x : SlotState) (d : Digest) → digest_in x ≡ Some d → is_void x ≡ false
-not_void Void d is = absurd (cc is)
-not_void (Live e) d is = refl
-not_void (Lost e) d is = refl
-not_void (Broken e) d is = refl
-
--- a data slot stays filled
-filled_stays : (t : Table) (log : List Entry) (u : Table) (s c : ℕ) → IsTable t → Replays t log u → c < t.data_columns → is_void (slot_at t s c) ≡ false → is_void (slot_at u s c) ≡ false
-filled_stays t [] u s c is same lt some = ap (λ x. is_void (slot_at x s c)) same ∙ some
-filled_stays t (e ∷ log) u s c is (legal, rest) lt some =
-    let size = (sizes_stay t e).0 in
-    let d = has_digest (slot_at t s c) some in
-    filled_stays (after t e) log u s c (rules_stay t (after t e) (e ∷ []) is (legal, refl)) rest (omega (arith, lt, size))
-    (not_void (slot_at (after t e) s c) d.0 (data_stays t e s c is legal lt some ∙ d.1))
 
 -- an element by its place in a list
 contained : (places : List Place) (p : Place) (has : Contains places p) → place_in places has.0 ≡ p

@@ -9,12 +9,12 @@ use Rattle.pot_machine.specs.declared.slot.SlotState.TheVariants.{Void, Live, Lo
 use Rattle.pot_machine.specs.Rules.{IsTable}
 use Rattle.pot_machine.specs.Slot.{is_live, is_unsound, is_void}
 use Rattle.pot_machine.specs.Table.{Table, slot_at}
-use Rattle.pot_replies.specs.Jobs.{own, is_of, is_look_at}
-use Rattle.pot_replies.specs.Sections.{replayed}
+use Rattle.pot_machine.specs.Logs.{is_of, own, replayed}
+use Rattle.pot_machine.proofs.Logs.{own_cons}
+use Rattle.pot_replies.specs.Jobs.{is_look_at}
 use Rattle.pot_replies.specs.Fetches.{LooksTwice, LastIs, GoneAgain}
 use Rattle.pot_shared.specs.declared.member.GroupOrigin.{GroupOrigin}
 use Rattle.pot_store.proofs.LookLemmas.{hit}
-use Rattle.pot_store.proofs.EntryLemmas.{own_cons}
 use Rattle.pot_store.proofs.ReadLemmas.{parted}
 
 -- a second Gone, the slot having been Live at some point between the two

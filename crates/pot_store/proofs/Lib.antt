@@ -12,7 +12,6 @@ pub mod PlanLemmas
 pub mod LookLemmas
 pub mod EntryLemmas
 pub mod DigestLemmas
-pub mod TurnLemmas
 pub mod AddLemmas
 pub mod VisitLemmas
 pub mod RelayLemmas

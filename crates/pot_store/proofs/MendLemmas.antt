@@ -9,6 +9,7 @@ use Rattle.pot_machine.specs.declared.entry.Entry.TheVariants as entry
 use Rattle.pot_machine.specs.Machine.{Replays}
 use Rattle.pot_machine.specs.Rules.{IsTable}
 use Rattle.pot_machine.specs.Table.{Table}
+use Rattle.pot_machine.specs.Logs.{is_of}
 use Rattle.pot_steps.specs.GroupStep.{log_bound}
 use Rattle.pot_group.specs.declared.relaying.Mend.{Mend}
 use Rattle.pot_group.specs.declared.relaying.Mend.TheVariants as mend
@@ -18,7 +19,7 @@ use Rattle.pot_turn.specs.declared.name.TurnName.{TurnName}
 use Rattle.pot_worked.specs.Laws.{AllOf}
 use Rattle.pot_rows.specs.Rows.{view_at, with_view}
 use Rattle.pot_rows.proofs.RowLemmas.{at_set}
-use Rattle.pot_replies.specs.Jobs.{is_of, is_seen_at}
+use Rattle.pot_replies.specs.Jobs.{is_seen_at}
 use Rattle.pot_shared.specs.Members.{entries_of, origin_of}
 use Rattle.pot_shared.specs.Ready.{AreReady, GroupPass, GroupPasses}
 use Rattle.pot_shared.specs.Calls.{CallAt, CallTurn}

@@ -10,14 +10,13 @@ use Rattle.pot_machine.specs.declared.entry.Entry.TheVariants as entry
 use Rattle.pot_machine.specs.declared.slot.SlotState.TheVariants.{Live}
 use Rattle.pot_machine.specs.Machine.{Replays}
 use Rattle.pot_machine.specs.Table.{slot_at}
+use Rattle.pot_machine.specs.Logs.{is_of, own, replayed}
 use Rattle.pot_steps.specs.Stripe.{digest_of}
 use Rattle.pot_worked.specs.Worked.{added}
 use Rattle.pot_worked.proofs.WorkedLemmas.{both_added}
 use Rattle.pot_rows.specs.Rows.{view_at}
 use Rattle.pot_rows.specs.Works.{RowWorked, RowAlone, AllIdle}
 use Rattle.pot_rows.proofs.WorkLemmas.{row_work_in_parts, row_alone_in_parts}
-use Rattle.pot_replies.specs.Jobs.{own, is_of}
-use Rattle.pot_replies.specs.Sections.{replayed}
 use Rattle.pot_shared.specs.Members.{entries_of}
 use Rattle.pot_shared.specs.Ready.{GroupPasses}
 use Rattle.pot_store.specs.Works.{of_job, gained}

@@ -7,6 +7,7 @@ use Rattle.pot_bytes.specs.declared.rack.Place.{Place}
 use Rattle.pot_machine.specs.declared.entry.Entry.{Entry}
 use Rattle.pot_machine.specs.declared.entry.Entry.TheVariants as entry
 use Rattle.pot_machine.specs.Table.{next_column}
+use Rattle.pot_machine.specs.Logs.{is_of}
 use Rattle.pot_steps.specs.declared.flight.Flight.{Flight}
 use Rattle.pot_steps.specs.Flights.{flight_in}
 use Rattle.pot_steps.proofs.FlightLists.{relay_of, relay_of_flight}
@@ -18,7 +19,7 @@ use Rattle.pot_group.specs.declared.relaying.Mend.{Mend}
 use Rattle.pot_group.specs.declared.relaying.Mend.TheVariants as mend
 use Rattle.pot_group.specs.Group.{GroupView, IsSettled}
 use Rattle.pot_group.specs.Relaying.{Owns, answered}
-use Rattle.pot_replies.specs.Jobs.{is_look_at, is_of, is_seen_at, is_stuck_at}
+use Rattle.pot_replies.specs.Jobs.{is_look_at, is_seen_at, is_stuck_at}
 use Rattle.pot_shared.specs.Ready.{GroupPass}
 use Rattle.pot_shared.specs.Calls.{CallTurn}
 use Rattle.pot_group.specs.Calls.{MendCall, RelayEntries}

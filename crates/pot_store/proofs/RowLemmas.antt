@@ -5,12 +5,13 @@ use Rattle.pot_bytes.specs.declared.digest.Digest.{Digest}
 use Rattle.pot_bytes.specs.declared.rack.Place.{Place}
 use Rattle.pot_bytes.specs.declared.rack.Rack.{Rack}
 use Rattle.pot_machine.specs.Table.{count}
+use Rattle.pot_machine.specs.Logs.{own}
 use Rattle.pot_steps.proofs.AheadLemmas.{count_same}
 use Rattle.pot_steps.specs.Stripe.{digest_of}
 use Rattle.pot_object.specs.Pieces.{pieces_of}
 use Rattle.pot_index.specs.declared.record.Record.{Record}
 use Rattle.pot_index.specs.Fits.{FitsRack}
-use Rattle.pot_replies.specs.Jobs.{own, is_seen_at}
+use Rattle.pot_replies.specs.Jobs.{is_seen_at}
 use Rattle.pot_replies.specs.Sections.{Section, mine}
 use Rattle.pot_replies.specs.Settings.{Setting}
 use Rattle.pot_replies.specs.Fetches.{Found, FetchEntries, IsFile, IsOdd, SeenAs, place_at, has_seen, seen_of}

@@ -21,7 +21,7 @@ use Rattle.pot_worked.proofs.WorkedLemmas.{behind}
 use Rattle.pot_rows.specs.Rows.{view_at}
 use Rattle.pot_rows.specs.Works.{RowWorked, RowAlone}
 use Rattle.pot_rows.proofs.RowLemmas.{at_set}
-use Rattle.pot_replies.specs.Jobs.{own}
+use Rattle.pot_machine.specs.Logs.{own}
 use Rattle.pot_replies.specs.Sections.{Section, mine, names_after}
 use Rattle.pot_replies.specs.Settings.{Setting}
 use Rattle.pot_replies.specs.Listings.{IsIndexFull}

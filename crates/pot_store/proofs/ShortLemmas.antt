@@ -7,12 +7,12 @@ use Rattle.pot_bytes.specs.declared.rack.Place.{Place}
 use Rattle.pot_bytes.specs.declared.rack.Rack.{Rack}
 use Rattle.pot_machine.specs.declared.entry.Entry.{Entry}
 use Rattle.pot_machine.specs.declared.entry.Entry.TheVariants as entry
+use Rattle.pot_machine.specs.Logs.{own}
 use Rattle.pot_steps.proofs.AheadLemmas.{count_same}
 use Rattle.pot_object.specs.Pieces.{pieces_of}
 use Rattle.pot_index.specs.declared.record.Record.{Record}
 use Rattle.pot_index.specs.Fits.{FitsRack}
 use Rattle.pot_rows.specs.Rows.{view_at}
-use Rattle.pot_replies.specs.Jobs.{own}
 use Rattle.pot_replies.specs.Sections.{Section, mine}
 use Rattle.pot_replies.specs.Settings.{Setting}
 use Rattle.pot_replies.specs.Fetches.{Found, FetchEntries, IsLost, IsFetchFault, IsFetchLogFull, FirstShort, HopelessIf, IsHopeless, FailsAt, LooksTwice, place_at, has_seen}

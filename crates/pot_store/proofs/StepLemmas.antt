@@ -12,6 +12,7 @@ use Rattle.pot_machine.specs.declared.entry.Entry.TheVariants as entry
 use Rattle.pot_machine.specs.Table.{Table}
 use Rattle.pot_machine.specs.Machine.{Legal, Replays, after}
 use Rattle.pot_machine.specs.Rules.{IsTable}
+use Rattle.pot_machine.specs.Logs.{own}
 use Rattle.pot_machine.proofs.LeftAlone.{sizes_stay, rules_stay, logs_went_on}
 use Rattle.pot_steps.specs.Stripe.{digest_of}
 use Rattle.pot_steps.specs.GroupStep.{Passed, skips, put_entry}
@@ -23,7 +24,6 @@ use Rattle.pot_rows.specs.Rows.{view_at}
 use Rattle.pot_rows.specs.Works.{RowWorked, RowAlone, AllIdle}
 use Rattle.pot_rows.proofs.RowLemmas.{at_set, at_other}
 use Rattle.pot_rows.proofs.WorkLemmas.{row_work_in_parts, row_alone_in_parts}
-use Rattle.pot_replies.specs.Jobs.{own}
 use Rattle.pot_replies.specs.Stores.{Placed, Puts, place_of, in_group}
 use Rattle.pot_shared.specs.Members.{entries_of, all_logged}
 use Rattle.pot_shared.specs.Ready.{GroupPass, GroupPasses, AreReady, IsTableOf}

@@ -9,6 +9,7 @@ use Rattle.pot_bytes.specs.declared.rack.Rack.{Rack}
 use Rattle.pot_machine.specs.declared.entry.Entry.{Entry}
 use Rattle.pot_machine.specs.declared.entry.Entry.TheVariants as machine
 use Rattle.pot_machine.specs.Table.{Table}
+use Rattle.pot_machine.specs.Logs.{own, replayed}
 use Rattle.pot_object.specs.Pieces.{longest, pieces_of}
 use Rattle.pot_pads.specs.Pads.{Pads}
 use Rattle.pot_steps.specs.Stripe.{digest_of}
@@ -32,9 +33,8 @@ use Rattle.pot_worked.specs.Laws.{AllOf}
 use Rattle.pot_rows.specs.Rows.{view_at}
 use Rattle.pot_rows.specs.Works.{AllIdle, RowWorked, RowAlone}
 use Rattle.pot_rows.proofs.WorkLemmas.{row_work_in_parts, row_alone_in_parts}
-use Rattle.pot_replies.specs.Jobs.{own}
 use Rattle.pot_replies.specs.Settings.{Setting}
-use Rattle.pot_replies.specs.Sections.{mine, IsSilent, Moment, names_after, replayed}
+use Rattle.pot_replies.specs.Sections.{mine, IsSilent, Moment, names_after}
 use Rattle.pot_replies.specs.Stores.{Placed, Puts, IsStored, IsStoreFault, IsFull, IsStoreLogFull, IsUnkept, Stops, in_group, place_of}
 use Rattle.pot_shared.specs.declared.member.GroupOrigin.{GroupOrigin}
 use Rattle.pot_shared.specs.Members.{entries_of}

@@ -11,6 +11,8 @@ use Rattle.pot_machine.specs.declared.entry.Entry.TheVariants as entry
 use Rattle.pot_machine.specs.declared.slot.SlotState.TheVariants.{Live}
 use Rattle.pot_machine.specs.Slot.{digest_in}
 use Rattle.pot_machine.specs.Table.{slot_at}
+use Rattle.pot_machine.specs.Logs.{is_of, replayed}
+use Rattle.pot_machine.proofs.Logs.{replays_is}
 use Rattle.pot_steps.specs.GroupStep.{log_bound, look_entries}
 use Rattle.pot_steps.specs.Stripe.{digest_of}
 use Rattle.pot_group.specs.declared.answers.Looked.{Looked}
@@ -23,8 +25,6 @@ use Rattle.pot_rows.specs.Rows.{view_at}
 use Rattle.pot_rows.specs.Works.{AllIdle, RowWorked}
 use Rattle.pot_rows.proofs.RowLemmas.{at_set}
 use Rattle.pot_replies.specs.Fetches.{SeenAs}
-use Rattle.pot_replies.specs.Jobs.{is_of}
-use Rattle.pot_replies.specs.Sections.{replayed}
 use Rattle.pot_shared.specs.declared.member.Logged.{Logged}
 use Rattle.pot_shared.specs.Members.{all_logged, entries_of, origin_of}
 use Rattle.pot_shared.specs.Ready.{GroupPass, GroupPasses}
@@ -37,7 +37,6 @@ use Rattle.pot_store.specs.Visits.{Came, HasPut, IsFullLog, IsReadAt, IsVisit, L
 use Rattle.pot_store.specs.Visits as came
 use Rattle.pot_store.proofs.WorkLemmas.{all_none, all_one}
 use Rattle.pot_store.proofs.DigestLemmas.{put_stays}
-use Rattle.pot_store.proofs.TurnLemmas.{replays_is}
 use Rattle.pot_store.proofs.AddLemmas.{adds_call, left_long, seen_parts}
 
 -- ONE LOCKED CALL

@@ -5,6 +5,7 @@ use Rattle.std.proofs.lemmas.List.{map-append}
 use Rattle.std.proofs.lemmas.Option.{same_Some}
 use Rattle.pot_bytes.specs.declared.rack.Rack.{Rack}
 use Rattle.pot_machine.specs.declared.entry.Entry.{Entry}
+use Rattle.pot_machine.specs.Logs.{is_of, own}
 use Rattle.pot_group.specs.Shelves.{Shelves}
 use Rattle.pot_group.specs.Group.{GroupView}
 use Rattle.pot_index.specs.Entries as index
@@ -18,7 +19,6 @@ use Rattle.pot_rows.specs.Works.{AllIdle, RowWorked, RowAlone, TurnAt}
 use Rattle.pot_rows.proofs.RowLemmas.{at_past, below_or_past}
 use Rattle.pot_rows.proofs.TieLemmas.{knows_same}
 use Rattle.pot_rows.proofs.WorkLemmas.{turn_is_work, own_in_turn_at, row_work_in_parts, row_alone_in_parts}
-use Rattle.pot_replies.specs.Jobs.{own, is_of}
 use Rattle.pot_shared.specs.declared.member.Logged.{Logged}
 use Rattle.pot_shared.specs.Members.{logged_at, all_logged, entries_of}
 use Rattle.pot_shared.specs.Ready.{GroupPasses, AreReady}

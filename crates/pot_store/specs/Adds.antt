@@ -4,13 +4,12 @@ use Rattle.pot_bytes.specs.declared.rack.Place.{Place}
 use Rattle.pot_machine.specs.declared.entry.Entry.{Entry}
 use Rattle.pot_machine.specs.declared.slot.SlotState.{SlotState}
 use Rattle.pot_machine.specs.Table.{Table, width, slot_at}
+use Rattle.pot_machine.specs.Logs.{own, replayed}
 use Rattle.pot_group.specs.Finding.{IsPlace}
 use Rattle.pot_rows.specs.Rows.{view_at}
 use Rattle.pot_rows.specs.Works.{RowWorked, RowAlone}
 use Rattle.pot_shared.specs.Members.{entries_of}
 use Rattle.pot_shared.specs.Ready.{GroupPasses}
-use Rattle.pot_replies.specs.Jobs.{own}
-use Rattle.pot_replies.specs.Sections.{replayed}
 use Rattle.pot_store.specs.Works.{of_job, gained}
 
 -- The job logged these entries in a group and none in any other, where nobody else logged an entry of it. What the pass has seen

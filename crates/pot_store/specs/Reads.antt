@@ -4,6 +4,7 @@ use Rattle.std.specs.Global.{Global}
 use Rattle.std.specs.List.{flat_map, range_with_len}
 use Rattle.pot_bytes.specs.declared.rack.Place.{Place}
 use Rattle.pot_machine.specs.Table.{count}
+use Rattle.pot_machine.specs.Logs.{own}
 use Rattle.pot_steps.specs.Stripe.{digest_of}
 use Rattle.pot_object.specs.Pieces.{content_size, pieces_of}
 use Rattle.pot_split.specs.Threshold.{IsJoin}
@@ -12,7 +13,6 @@ use Rattle.pot_shard.specs.Fetches.{cut_to}
 use Rattle.pot_index.specs.declared.record.Record.{Record}
 use Rattle.pot_rows.specs.Works.{RowWorked, RowAlone}
 use Rattle.pot_shared.specs.Ready.{GroupPasses}
-use Rattle.pot_replies.specs.Jobs.{own}
 use Rattle.pot_replies.specs.Joined.{points_read, shares_read}
 use Rattle.pot_store.specs.declared.fetching.FetchFault.{FetchFault}
 use Rattle.pot_store.specs.declared.fetching.FetchFault.TheVariants as fault

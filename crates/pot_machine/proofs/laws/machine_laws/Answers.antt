@@ -1,5 +1,6 @@
 use Rattle.pot_machine.proofs.LeftAlone.{sizes_stay, slots_stay, digests_stay, data_stays, live_by_put, cursor_stays, columns_stay, relays_stay, parity_void, rules_stay, logs_went_on}
-use Rattle.pot_machine.proofs.Logs.{logs_go_on, logs_lead_once, replayed_once}
+use Rattle.pot_machine.proofs.Logs.{logs_go_on, logs_lead_once, replayed_once, logs_come_to, replayed_append, own_append}
+use Rattle.pot_machine.proofs.Filled.{digests_by_puts, puts_stay}
 use Rattle.pot_machine.proofs.laws.machine_laws.Goals as goal
 
 pub returns : goal.returns
@@ -18,4 +19,9 @@ returns c = record {
   went_on = logs_went_on;
   once = logs_lead_once;
   replayed_once = replayed_once;
+  come_to = logs_come_to;
+  come_on = replayed_append;
+  own = own_append;
+  by_puts = digests_by_puts;
+  puts = puts_stay;
 }
