@@ -8,7 +8,7 @@ use Rattle.pot_machine.specs.Machine.{after}
 use Rattle.pot_steps.specs.Stripe.{digest_of}
 use Rattle.pot_steps.specs.GroupStep.{LookStep, log_bound}
 use Rattle.pot_steps.specs.GroupStep as step
-use Rattle.pot_group.specs.declared.archives.Found.TheVariants as found
+use Rattle.pot_group.specs.declared.reads.Found.TheVariants as found
 use Rattle.pot_group.specs.Looking.{Looks}
 use Rattle.pot_group.specs.Group.{GroupView, state_of}
 

@@ -21,12 +21,12 @@ use Rattle.pot_machine.specs.declared.entry.Entry.{Entry}
 use Rattle.pot_machine.specs.declared.entry.Entry.TheVariants.{Begin, Stuck}
 use Rattle.pot_steps.specs.Mending.{LosesNothing}
 use Rattle.pot_steps.proofs.Acting.{Lessens}
-use Rattle.pot_group.specs.Shelves.{Shelved, Keeps, LosesFrom, NoneLost, plain}
+use Rattle.pot_shelves.specs.Shelves.{Shelved, Keeps, LosesFrom, NoneLost, plain}
 use Rattle.pot_group.specs.Group.{GroupParts, IsSettled, view_of, state_of}
 use Rattle.pot_group.specs.Relaying.{AdvanceMeans, AdvanceWrites, BeginMeans, Drives, Mends, Moves, Owns, acted, advance_as, answered}
 use Rattle.pot_group.proofs.BeginSteps.{crowded}
 use Rattle.pot_group.proofs.Lossless.{lossless_less, lossless_same}
-use Rattle.pot_group.proofs.ShelfLemmas.{keeps_refl, loses_refl}
+use Rattle.pot_shelves.proofs.ShelfLemmas.{keeps_refl, loses_refl}
 
 stands_some : (o : Option Relay) (P : Relay → Type 0) → IsSomeAnd o P → o ≢ None
 stands_some (Some r) P h e = cc

@@ -2,12 +2,12 @@
 ghost use Rattle.std.specs.Prelude.{◌≡◌, ◌<◌, IsTrue, Some, false, length, []};
 ghost use Rattle.pot_machine.specs.Table.{width};
 
-use crate::archives::Found;
 use crate::group::{Group, LOG_BOUND};
-use crate::noting::note;
+use crate::reads::Found;
 use pot_bytes::{Block, Digest};
 use pot_machine::{Entry, Moving, SlotState};
 use pot_outside::{Archive, Failed};
+use pot_shelves::note;
 use pot_steps::{move_end, move_one};
 
 /// What a step of a move came to.
@@ -41,7 +41,7 @@ impl<A: Archive> Group<A> {
     ghost use Rattle.pot_steps.specs.Stripe.{IsSound, Sound};
     ghost use Rattle.pot_steps.specs.Holdings.{stripe_of};
     ghost use Rattle.pot_steps.specs.MoveSteps.{MoveStep as IsMoveStep};
-    ghost use Rattle.pot_group.specs.Shelves.{plain, Keeps};
+    ghost use Rattle.pot_shelves.specs.Shelves.{plain, Keeps};
     ghost use Rattle.pot_group.specs.Group.{view_of, state_of};
     ghost use Rattle.pot_group.specs.Relaying.{acted};
     ghost use Rattle.pot_group.specs.Moving.{move_as, MoveMeans, MoveWrites, Steps};

@@ -3,8 +3,8 @@ ghost use Rattle.std.specs.Prelude.{◌≡◌, ◌<◌, ◌↔◌, IsTrue, lengt
 ghost use Rattle.pot_machine.specs.Table.{width};
 
 use crate::answers::Looked;
-use crate::archives::Found;
 use crate::group::{Group, LOG_BOUND};
+use crate::reads::Found;
 use pot_bytes::{Block, Place};
 use pot_machine::{Entry, SlotState};
 use pot_outside::Archive;
@@ -13,7 +13,7 @@ impl<A: Archive> Group<A> {
     ghost use Rattle.pot_steps.specs.GroupStep.{LookStep, look_entries};
     ghost use Rattle.pot_group.specs.Group.{view_of, state_of, with_archives, Logs, LookCause, looked_as};
     ghost use Rattle.pot_group.specs.Looking.{Looks};
-    ghost use Rattle.pot_group.specs.Shelves.{Stays};
+    ghost use Rattle.pot_shelves.specs.Shelves.{Stays};
 
     /// Reads the block of a slot, and logs what it came to.
     ///

@@ -21,7 +21,7 @@ use Rattle.pot_group.specs.declared.relaying.Advanced.TheVariants as advanced
 use Rattle.pot_group.specs.declared.relaying.AdvanceFault.{AdvanceFault}
 use Rattle.pot_group.specs.declared.relaying.AdvanceFault.TheVariants as failed
 use Rattle.pot_group.specs.declared.relaying.BeginFault.TheVariants as fault
-use Rattle.pot_group.specs.Shelves.{Keeps}
+use Rattle.pot_shelves.specs.Shelves.{Keeps}
 use Rattle.pot_group.specs.Group.{GroupParts, GroupView, IsSettled, view_of}
 use Rattle.pot_group.specs.Relaying.{Acts, AdvanceMeans, BeginMeans, Moves, Owns}
 use Rattle.pot_group.proofs.BeginSteps.{crowded}

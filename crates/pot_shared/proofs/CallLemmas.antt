@@ -11,7 +11,7 @@ use Rattle.pot_group.specs.declared.answers.Looked.{Looked}
 use Rattle.pot_group.specs.declared.answers.Looked.TheVariants as looked
 use Rattle.pot_group.specs.declared.answers.PutFault.{PutFault}
 use Rattle.pot_group.specs.declared.answers.PutFault.TheVariants as fault
-use Rattle.pot_group.specs.Shelves.{Shelves, Keeps, Stays}
+use Rattle.pot_shelves.specs.Shelves.{Shelves, Keeps, Stays}
 use Rattle.pot_group.specs.Group.{GroupView, GroupParts, IsSettled, Logs, LookCause, PutLogs, looked_as, put_as, view_of, state_of, noted}
 use Rattle.pot_group.specs.declared.counting.Counts.{Counts}
 use Rattle.pot_group.specs.declared.telling.LogFull.{LogFull}

@@ -15,7 +15,7 @@ use Rattle.pot_group.specs.declared.copying.MoveFault.{MoveFault}
 use Rattle.pot_group.specs.declared.copying.MoveFault.TheVariants as failed
 use Rattle.pot_group.specs.declared.moving.ShelfRefused.{ShelfRefused}
 use Rattle.pot_group.specs.Arrivals.{HasArrived}
-use Rattle.pot_group.specs.Shelves.{Keeps}
+use Rattle.pot_shelves.specs.Shelves.{Keeps}
 use Rattle.pot_group.specs.Group.{GroupView, GroupParts, IsSettled, view_of, state_of}
 use Rattle.pot_group.specs.Moving.{Comes, MoveMeans, MoveWrites, MovesOn, RefusesMove, RefusesSwap, live_in, move_as}
 use Rattle.pot_shared.specs.Members.{mark_at, origin_of, taken_by}

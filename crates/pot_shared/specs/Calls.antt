@@ -14,7 +14,7 @@ use Rattle.pot_group.specs.declared.finding.Kind.{Kind}
 use Rattle.pot_group.specs.declared.telling.LogFull.{LogFull}
 use Rattle.pot_group.specs.Counting.{IsCounted}
 use Rattle.pot_group.specs.Finding.{IsPlace, is_of}
-use Rattle.pot_group.specs.Shelves.{Keeps, Stays}
+use Rattle.pot_shelves.specs.Shelves.{Keeps, Stays}
 use Rattle.pot_group.specs.Group.{GroupView, IsSettled, state_of, put_as, looked_as, PutLogs, LookCause}
 use Rattle.pot_worked.specs.Worked.{IsTurn}
 use Rattle.pot_rows.specs.Rows.{view_at, with_view}

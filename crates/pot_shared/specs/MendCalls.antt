@@ -14,7 +14,7 @@ use Rattle.pot_group.specs.declared.relaying.AdvanceFault.{AdvanceFault}
 use Rattle.pot_group.specs.declared.relaying.AdvanceFault.TheVariants as failed
 use Rattle.pot_group.specs.declared.relaying.Mend.{Mend}
 use Rattle.pot_group.specs.declared.relaying.Mend.TheVariants as mend
-use Rattle.pot_group.specs.Shelves.{Keeps, NoneLost}
+use Rattle.pot_shelves.specs.Shelves.{Keeps, NoneLost}
 use Rattle.pot_group.specs.Group.{GroupView, state_of}
 use Rattle.pot_group.specs.Relaying.{Acts, AtEnd, Drives, MendWrites, OnWay, mend_as}
 use Rattle.pot_pads.specs.Pads.{Pads, moved, next_bytes}

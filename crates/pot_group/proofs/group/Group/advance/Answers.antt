@@ -4,7 +4,7 @@ use Rattle.pot_group.specs.Group.{GroupParts, view_of}
 use Rattle.pot_group.proofs.AdvanceSteps.{idle_step, found_over}
 use Rattle.pot_group.proofs.Advancing.{advance_means, idle_none}
 use Rattle.pot_group.proofs.Lossless.{lossless_same}
-use Rattle.pot_group.proofs.ShelfLemmas.{loses_refl}
+use Rattle.pot_shelves.proofs.ShelfLemmas.{loses_refl}
 use Rattle.pot_group.proofs.group.Group.advance.Goals as goal
 
 pub returns-in_default-clause-step : goal.returns-in_default-clause-step

@@ -3,8 +3,8 @@ use Rattle.pot_machine.specs.declared.entry.Entry.TheVariants as entry
 use Rattle.pot_steps.specs.GroupStep.{LookStep}
 use Rattle.pot_steps.specs.GroupStep as step
 use Rattle.pot_group.specs.Group.{GroupParts, view_of, state_of, noted}
-use Rattle.pot_group.specs.Shelves.{Stays}
-use Rattle.pot_group.proofs.ShelfLemmas.{stays_refl}
+use Rattle.pot_shelves.specs.Shelves.{Stays}
+use Rattle.pot_shelves.proofs.ShelfLemmas.{stays_refl}
 use Rattle.pot_group.proofs.LookSteps.{seen_step, gone_step, faulted_step}
 use Rattle.pot_group.proofs.group.Group.look.Goals as goal
 
