@@ -1,9 +1,8 @@
 //! The opening of a table: it is not trusted, and the block of every Live slot is read. The slots of a stripe are read
 //! first, then their blocks are digested side by side, and only then is it noted which are missing.
-ghost use Rattle.std.specs.Prelude.{◌≡◌, ◌<◌, ◌≤◌, ◌+◌, ◌↔◌, [], ℕ, Bool, IsTrue, length, vec_len, vec_capacity};
+ghost use Rattle.std.specs.Prelude.{◌≡◌, ◌<◌, ◌≤◌, ◌+◌, ◌↔◌, [], Bool, IsTrue, length, vec_len, vec_capacity};
 ghost use Rattle.pot_machine.specs.Table.{width};
 ghost use Rattle.pot_machine.specs.Machine.{InRange};
-ghost use Rattle.pot_bytes.specs.Lists.{IsBlock};
 ghost use Rattle.pot_steps.specs.Stripe.{digest_of};
 ghost use Rattle.pot_shelves.specs.Shelves.{Shelves, plain, OnShelves};
 ghost use Rattle.pot_shelves.specs.Opening.{HasArchives, is_held, ReadsSlot, OpensSlot, OpensColumns, OpensStripe};
