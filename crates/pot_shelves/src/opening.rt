@@ -54,8 +54,8 @@ pub(crate) enum Shortage {
 }
 
 /// Opens every stripe of a table over its archives, in ascending order: what is missing or does not fit its stripe is
-/// logged by job 0, as the crate's page tells. The archives are all homes and targets of the table, and the log begins
-/// empty, with room for 262,144 entries; no more memory is taken.
+/// logged by job 0, as the crate's page tells. Each home and each target of the table is one of the archives, and the
+/// log begins empty, with room for 262,144 entries; no more memory is taken.
 pub fn open_all<A: Archive>(
     table: &mut GroupTable,
     log: &mut Vec<Entry>,
