@@ -10,7 +10,7 @@ use Rattle.pot_turn.specs.declared.view.View.{View}
 use Rattle.pot_worked.specs.Worked.{added, IsTurn}
 use Rattle.pot_worked.proofs.WorkedLemmas.{behind}
 use Rattle.pot_shared.specs.declared.member.Logged.{Logged}
-use Rattle.pot_group.specs.Shelves.{Shelves}
+use Rattle.pot_shelves.specs.Shelves.{Shelves}
 use Rattle.pot_shared.specs.Members.{all_logged, entries_of}
 use Rattle.pot_replies.specs.Sections.{names_after}
 

@@ -18,11 +18,11 @@ use Rattle.pot_steps.specs.GroupStep.{GroupState, log_bound}
 use Rattle.pot_steps.specs.RelaySteps.{Logged, AdvanceStep, Hopped, Ended, Faulted, Idle, HearsSum, Hears, ComesTo}
 use Rattle.pot_steps.proofs.CallLemmas.{stands, next_within}
 use Rattle.pot_steps.proofs.FlightLists.{relay_of, relay_of_flight, over_stripe}
-use Rattle.pot_group.specs.Shelves.{Shelves, LosesFrom, Folds}
+use Rattle.pot_shelves.specs.Shelves.{Shelves, LosesFrom, Folds}
 use Rattle.pot_outside.specs.declared.archive.Held.{Held as IsHeld}
-use Rattle.pot_group.specs.Shelves.{Shelved, plain}
+use Rattle.pot_shelves.specs.Shelves.{Shelved, plain}
 use Rattle.pot_group.specs.Group.{view_of, noted, with_archives}
-use Rattle.pot_group.proofs.ShelfLemmas.{loses_refl}
+use Rattle.pot_shelves.proofs.ShelfLemmas.{loses_refl}
 use Rattle.pot_group.specs.declared.relaying.Advanced.{Advanced}
 use Rattle.pot_group.specs.Relaying.{acted, advance_as, HopsOver}
 use Rattle.pot_group.specs.declared.relaying.Advanced.TheVariants as advanced
@@ -35,7 +35,7 @@ use Rattle.pot_steps.specs.Flight.{partial_of}
 use Rattle.pot_steps.specs.Flights.{IsFlying, FliesOver, WritesBack, without_flight}
 use Rattle.pot_steps.specs.RelaySteps.{Odd}
 use Rattle.pot_steps.proofs.CallLemmas.{legal_oddly, odd_broken}
-use Rattle.pot_group.specs.Shelves.{Writes, put_at}
+use Rattle.pot_shelves.specs.Shelves.{Writes, put_at}
 use Rattle.pot_group.specs.declared.relaying.AdvanceFault.{AdvanceFault}
 use Rattle.pot_group.specs.declared.relaying.AdvanceFault.TheVariants as failed
 use Rattle.pot_group.specs.Relaying.{EndsWell}

@@ -25,7 +25,7 @@ use Rattle.pot_group.specs.declared.relaying.Advanced.{Advanced}
 use Rattle.pot_group.specs.declared.relaying.Advanced.TheVariants as advanced
 use Rattle.pot_group.specs.declared.relaying.AdvanceFault.{AdvanceFault}
 use Rattle.pot_group.specs.declared.relaying.AdvanceFault.TheVariants as failed
-use Rattle.pot_group.specs.Shelves.{Shelved, Keeps, Folds, LosesFrom, NoneLost, WritesInto, plain, put_at}
+use Rattle.pot_shelves.specs.Shelves.{Shelved, Keeps, Folds, LosesFrom, NoneLost, WritesInto, plain, put_at}
 use Rattle.pot_group.specs.Group.{GroupView, GroupParts, IsSettled, noted, view_of, with_archives, state_of}
 use Rattle.pot_group.specs.Relaying.{Acts, Advances, AtEnd, EndsWell, HopsOver, Moves, OnWay, acted}
 use Rattle.pot_group.proofs.AdvanceSteps.{at_next, absent_exit, dead_exit, failed_exit, fault_legal, gave_up, odd_legal, odd_step, over_exit, some_differs, well_step}
@@ -33,7 +33,7 @@ use Rattle.pot_steps.specs.Mending.{LosesNothing}
 use Rattle.pot_steps.proofs.Acting.{Lessens}
 use Rattle.pot_group.proofs.Lossless.{lossless_less, lossless_mended}
 use Rattle.pot_group.proofs.RelayExits.{untouched}
-use Rattle.pot_group.proofs.ShelfLemmas.{keeps_refl, loses_refl}
+use Rattle.pot_shelves.proofs.ShelfLemmas.{keeps_refl, loses_refl}
 
 -- A CALL OF THE CODE
 

@@ -15,8 +15,8 @@ use Rattle.pot_steps.specs.Flights.{flown}
 use Rattle.pot_steps.specs.Calls.{HopMeans}
 use Rattle.pot_steps.specs.declared.flight.Flight.{Flight}
 use Rattle.pot_steps.specs.declared.rebuilding.Hopped.TheVariants as hopped
-use Rattle.pot_group.specs.Shelves.{Shelved, plain, numbers_of}
-use Rattle.pot_group.specs.Opening.{Opens}
+use Rattle.pot_shelves.specs.Shelves.{Shelved, plain, numbers_of}
+use Rattle.pot_shelves.specs.Opening.{Opens}
 use Rattle.pot_group.specs.Beginning.{archives_in}
 use Rattle.pot_group.specs.Group.{GroupView, IsQuiet}
 use Rattle.pot_group.specs.Arrivals.{arrival, arrivals, HasArrived}

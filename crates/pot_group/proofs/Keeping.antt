@@ -6,10 +6,10 @@ use Rattle.pot_group.specs.declared.answers.PutFault.{PutFault}
 use Rattle.pot_group.specs.declared.answers.PutFault.TheVariants as fault
 use Rattle.pot_group.specs.declared.putting.Stop.{Stop}
 use Rattle.pot_group.specs.declared.putting.Stop.TheVariants as stop
-use Rattle.pot_group.specs.Shelves.{Keeps}
+use Rattle.pot_shelves.specs.Shelves.{Keeps}
 use Rattle.pot_group.specs.Group.{GroupView}
 use Rattle.pot_group.specs.Putting.{Finds, BlockMeans}
-use Rattle.pot_group.proofs.ShelfLemmas.{keeps_then}
+use Rattle.pot_shelves.proofs.ShelfLemmas.{keeps_then}
 
 pub block_keeps : (told : Type 0) (job : ℕ) (block p q : List ℕ) (result : Result Place PutFault) (old new : GroupView)
     → BlockMeans told job block p q result old new → Keeps old.shelves new.shelves

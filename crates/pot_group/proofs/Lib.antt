@@ -1,13 +1,5 @@
-pub mod ShelfLemmas
-pub mod TouchLemmas
 pub mod CauseLemmas
 pub mod Counted
-pub mod OpeningStripe
-pub mod OpeningFills
-pub mod OpeningLogs
-pub mod OpeningColumns
-pub mod SlotReads
-pub mod OpeningAll
 pub mod Settled
 pub mod Reading
 pub mod PutWrites

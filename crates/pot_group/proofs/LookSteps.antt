@@ -10,13 +10,13 @@ use Rattle.pot_steps.specs.Stripe.{digest_of}
 use Rattle.pot_steps.specs.GroupStep.{Logs as LogsStep, LookMeans, log_bound, look_entries}
 use Rattle.pot_group.specs.declared.answers.Looked.{Looked}
 use Rattle.pot_group.specs.declared.answers.Looked.TheVariants as looked
-use Rattle.pot_group.specs.declared.archives.Found.TheVariants as found
+use Rattle.pot_group.specs.declared.reads.Found.TheVariants as found
 use Rattle.pot_group.specs.Looking.{Looks}
-use Rattle.pot_group.specs.Shelves.{Stays}
+use Rattle.pot_shelves.specs.Shelves.{Stays}
 use Rattle.pot_group.specs.Group.{GroupView, Logs, LookCause, looked_as, state_of}
 use Rattle.pot_group.specs.Calls.{LookCall, Made}
 use Rattle.pot_group.proofs.Rows.{grows_keeps, grows_same}
-use Rattle.pot_group.proofs.ShelfLemmas.{stays_refl}
+use Rattle.pot_shelves.proofs.ShelfLemmas.{stays_refl}
 
 -- the log has room for one more
 room_for : (g : GroupView) (e : Entry) → length g.log < log_bound → length (g.log ++ e ∷ []) ≤ log_bound

@@ -12,9 +12,9 @@ use Rattle.pot_steps.specs.Losses.{KeepsHeld}
 use Rattle.pot_steps.specs.Mending.{LosesNothing}
 use Rattle.pot_steps.proofs.Acting.{Lessens, slots_less}
 use Rattle.pot_steps.proofs.Changes.{live_before}
-use Rattle.pot_group.specs.Shelves.{LosesFrom, NoneLost, put_at}
+use Rattle.pot_shelves.specs.Shelves.{LosesFrom, NoneLost, put_at}
 use Rattle.pot_group.specs.Group.{GroupView, state_of}
-use Rattle.pot_group.proofs.ShelfLemmas.{put_at-here}
+use Rattle.pot_shelves.proofs.ShelfLemmas.{put_at-here}
 
 no : false ≡ true → ⊥
 no e = cc

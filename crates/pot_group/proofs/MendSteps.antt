@@ -22,13 +22,13 @@ use Rattle.pot_machine.specs.Machine.{after}
 use Rattle.pot_machine.specs.declared.entry.Entry.TheVariants.{Begin, Stuck}
 use Rattle.pot_steps.specs.Mending.{LosesNothing}
 use Rattle.pot_steps.proofs.Acting.{Lessens}
-use Rattle.pot_group.specs.Shelves.{Keeps, LosesFrom, NoneLost}
+use Rattle.pot_shelves.specs.Shelves.{Keeps, LosesFrom, NoneLost}
 use Rattle.pot_group.specs.Group.{GroupView, IsSettled, state_of}
 use Rattle.pot_group.specs.Relaying.{Drives, Moves, Owns, answered}
 use Rattle.pot_group.specs.Calls.{AdvanceCall, BeginCall, Made, MendCall, RelayEntries}
 use Rattle.pot_group.proofs.BeginSteps.{crowded}
 use Rattle.pot_group.proofs.Lossless.{lossless_less, lossless_same}
-use Rattle.pot_group.proofs.ShelfLemmas.{keeps_refl, loses_refl}
+use Rattle.pot_shelves.proofs.ShelfLemmas.{keeps_refl, loses_refl}
 
 stands_some : (o : Option Relay) (P : Relay → Type 0) → IsSomeAnd o P → o ≢ None
 stands_some (Some r) P h e = cc

@@ -15,12 +15,12 @@ use Rattle.pot_steps.specs.Stripe.{Sound, IsSound}
 use Rattle.pot_steps.specs.Holdings.{stripe_of}
 use Rattle.pot_steps.specs.GroupStep.{log_bound}
 use Rattle.pot_steps.specs.Flights.{Acts, Copies, flights_after}
-use Rattle.pot_group.specs.Shelves.{Shelves, LosesFrom, Writes, put_at}
+use Rattle.pot_shelves.specs.Shelves.{Shelves, LosesFrom, Writes, put_at}
 use Rattle.pot_group.specs.Causes.{Covers, HasLost, Misses, archives_of, faults_in, fault_of, risen}
 use Rattle.pot_group.specs.Group.{GroupView, IsSettled}
 use Rattle.pot_group.proofs.CauseLemmas.{archives_of-snoc, covers-one, covers-stays}
 use Rattle.pot_group.proofs.ColumnExits.{archives-more, move_begins, moves_copied, moves_passed, move_ends, swaps}
-use Rattle.pot_group.proofs.ShelfLemmas.{keeps_refl, loses_refl, put_at-here, put_at-other}
+use Rattle.pot_shelves.proofs.ShelfLemmas.{keeps_refl, loses_refl, put_at-here, put_at-other}
 use Rattle.pot_group.proofs.Settled.{LeavesColumns, settled_act, same_columns, one_fault, gone_lost, no_fault}
 
 -- what is covered by some archives is covered by more

@@ -9,7 +9,7 @@ use Rattle.pot_machine.specs.Table.{Table, width, column_at, holder_of}
 use Rattle.pot_machine.specs.Column.{names}
 use Rattle.pot_machine.specs.Machine.{Legal, after}
 use Rattle.pot_steps.specs.GroupStep.{log_bound}
-use Rattle.pot_group.specs.Shelves.{Shelved, plain, Brings}
+use Rattle.pot_shelves.specs.Shelves.{Shelved, plain, Brings}
 use Rattle.pot_group.specs.Group.{GroupView, GroupParts, IsSettled, view_of, with_archives}
 use Rattle.pot_group.specs.Relaying.{acted}
 use Rattle.pot_group.specs.Moving.{Comes, MoveUse}

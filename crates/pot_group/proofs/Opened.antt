@@ -18,12 +18,12 @@ use Rattle.pot_machine.proofs.LeftAlone.{rules_stay}
 use Rattle.pot_steps.specs.GroupStep.{StartStep, log_bound}
 use Rattle.pot_steps.proofs.Opening.{start_makes}
 use Rattle.pot_steps.proofs.Losses.{start_makes_live}
-use Rattle.pot_group.specs.Shelves.{Shelves, Shelved, IsTaken, plain}
+use Rattle.pot_shelves.specs.Shelves.{Shelves, Shelved, IsTaken, plain}
 use Rattle.pot_group.specs.Causes.{HasLost, risen, target_of, archives_of}
-use Rattle.pot_group.specs.Opening.{HasArchives, Opens}
+use Rattle.pot_shelves.specs.Opening.{HasArchives, Opens}
 use Rattle.pot_group.specs.Group.{GroupParts, GroupView, IsSettled, LostSince, state_of, view_of}
 use Rattle.pot_group.specs.Beginning.{Begins, homes_of, archives_in, unopened}
-use Rattle.pot_group.proofs.ShelfLemmas.{lost_rose}
+use Rattle.pot_shelves.proofs.ShelfLemmas.{lost_rose}
 use Rattle.pot_group.proofs.CauseLemmas.{OfOpening, opening_entries, faults_in-opening, WhereMissed-opening, archives_of-opening}
 
 -- THE ARCHIVES OF A TABLE

@@ -9,14 +9,14 @@ use Rattle.pot_steps.specs.Stripe.{IsOld, Sound}
 use Rattle.pot_steps.specs.Holdings.{Holdings, stripe_of}
 use Rattle.pot_steps.specs.Entries.{held_at}
 use Rattle.pot_steps.proofs.Entries.{is_void_at}
-use Rattle.pot_group.specs.declared.archives.Found.{Found}
-use Rattle.pot_group.specs.declared.archives.Found.TheVariants as found
+use Rattle.pot_group.specs.declared.reads.Found.{Found}
+use Rattle.pot_group.specs.declared.reads.Found.TheVariants as found
 use Rattle.pot_group.specs.declared.parities.Checked.{Checked}
 use Rattle.pot_group.specs.declared.parities.Checked.TheVariants as checked
-use Rattle.pot_group.specs.Shelves.{Shelves}
+use Rattle.pot_shelves.specs.Shelves.{Shelves}
 use Rattle.pot_group.specs.Group.{GroupView, FitsSlot}
 use Rattle.pot_group.specs.Putting.{ReadsOld, ReadsSecond, ReadsParity, OldFinds}
-use Rattle.pot_group.proofs.ShelfLemmas.{stays_then, rose_on}
+use Rattle.pot_shelves.proofs.ShelfLemmas.{stays_then, rose_on}
 
 -- a parity slot is Void where another is
 void_too : (t : Table) (s c k : ℕ) → IsTable t → s < t.stripes → t.data_columns ≤ c → c < width t → t.data_columns ≤ k → k < width t → slot_at t s c ≡ Void → slot_at t s k ≡ Void

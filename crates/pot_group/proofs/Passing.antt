@@ -20,10 +20,10 @@ use Rattle.pot_steps.specs.Holdings.{stripe_of}
 use Rattle.pot_steps.specs.GroupStep.{Passed, IsMissing, skips, gone_entries, log_bound}
 use Rattle.pot_group.specs.declared.putting.Stop.{Stop}
 use Rattle.pot_group.specs.declared.putting.Stop.TheVariants as stop
-use Rattle.pot_group.specs.Shelves.{Shelves, Stays, LosesFrom}
+use Rattle.pot_shelves.specs.Shelves.{Shelves, Stays, LosesFrom}
 use Rattle.pot_group.specs.Group.{GroupView, Logs, FitsGone, state_of}
 use Rattle.pot_group.specs.Putting.{FoundGone, IsLeast, Passes, PassesAll, Finds}
-use Rattle.pot_group.proofs.ShelfLemmas.{stays_refl, stays_then}
+use Rattle.pot_shelves.proofs.ShelfLemmas.{stays_refl, stays_then}
 
 -- an entry is logged, and does in the table what it says
 abbrev pub entered : GroupView → Entry → GroupView

@@ -15,12 +15,12 @@ use Rattle.pot_steps.specs.GroupStep.{Logs as StepLogs, Loses, Passed, PassesTo,
 use Rattle.pot_group.specs.declared.answers.PutFault.{PutFault}
 use Rattle.pot_group.specs.declared.answers.PutFault.TheVariants as fault
 use Rattle.pot_group.specs.declared.putting.Stop.TheVariants as stop
-use Rattle.pot_group.specs.Shelves.{Stays, LosesFrom, put_at}
+use Rattle.pot_shelves.specs.Shelves.{Stays, LosesFrom, put_at}
 use Rattle.pot_group.specs.Group.{GroupView, Logs, FailedAt, state_of, put_as, FitsSlot, FitsParity, FitsGone}
 use Rattle.pot_group.specs.Putting.{PassesAll, Finds, HasOld, PutsAll, PutsNone, BlockMeans, IsKept}
 use Rattle.pot_group.proofs.Rows.{PutMade}
 use Rattle.pot_group.proofs.Passing.{logs_then, same_serving, missing_on, missing_here, fits_gone}
-use Rattle.pot_group.proofs.ShelfLemmas.{put_at-here, put_at-other, rose_on}
+use Rattle.pot_shelves.proofs.ShelfLemmas.{put_at-here, put_at-other, rose_on}
 
 -- LOGS ONE AFTER ANOTHER
 

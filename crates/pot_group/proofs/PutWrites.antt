@@ -11,9 +11,9 @@ use Rattle.pot_machine.proofs.Cases.{same_or}
 use Rattle.pot_machine.proofs.Columns.{serving_apart}
 use Rattle.pot_steps.specs.Holdings.{Holdings}
 use Rattle.pot_steps.specs.Entries.{held_at}
-use Rattle.pot_group.specs.Shelves.{Shelves, LosesFrom, IsWritten, Writes, put_at}
+use Rattle.pot_shelves.specs.Shelves.{Shelves, LosesFrom, IsWritten, Writes, put_at}
 use Rattle.pot_group.specs.Putting.{IsKept, PutsAt, WritesAll}
-use Rattle.pot_group.proofs.ShelfLemmas.{keeps_then, loses_refl, write_then, put_at-here, put_at-other, rose_on, rose_more}
+use Rattle.pot_shelves.proofs.ShelfLemmas.{keeps_then, loses_refl, write_then, put_at-here, put_at-other, rose_on, rose_more}
 
 -- what a write leaves
 kept_of : (r : Result (Unit {0}) Failed) (held : Contents) (slot : ℕ) (block : List ℕ) (left : Option (List ℕ)) → IsWritten r held slot block left → IsKept (is_ok r) (held slot) block left

@@ -4,9 +4,10 @@ use Rattle.std.specs.Prelude.{Contains}
 use Rattle.pot_bytes.specs.declared.digest.Digest.{Digest}
 use Rattle.pot_machine.specs.Table.{width, column_at, serving_at}
 use Rattle.pot_machine.proofs.Columns.{names_serving}
-use Rattle.pot_group.specs.declared.archives.Found.{Found}
-use Rattle.pot_group.specs.declared.archives.Found.TheVariants.{Sound, Missing, NotRead}
-use Rattle.pot_group.specs.Shelves.{Shelves, Keeps, Finds}
+use Rattle.pot_group.specs.declared.reads.Found.{Found}
+use Rattle.pot_group.specs.declared.reads.Found.TheVariants.{Sound, Missing, NotRead}
+use Rattle.pot_shelves.specs.Shelves.{Shelves, Keeps}
+use Rattle.pot_group.specs.Reads.{Finds}
 use Rattle.pot_group.specs.Causes.{archives_of, faults_in}
 use Rattle.pot_group.specs.Group.{GroupView, IsSettled, CoversOne, CoversIfNotRead}
 use Rattle.pot_outside.specs.Counts.{Rose}

@@ -38,12 +38,12 @@ use Rattle.std.proofs.lemmas.List.{length-map}
 use Rattle.std.proofs.Math.Seq.{take-append_seam}
 use Rattle.std.specs.Prelude.{take, drop}
 use Rattle.pot_steps.proofs.FlightLists.{over_stripe, relay_of, relay_of_flight}
-use Rattle.pot_group.specs.Shelves.{Shelves, Keeps, LosesFrom, Folds, Writes, put_at}
+use Rattle.pot_shelves.specs.Shelves.{Shelves, Keeps, LosesFrom, Folds, Writes, put_at}
 use Rattle.pot_group.specs.Causes.{Covers, HasLost, Misses, archives_of, faults_in, fault_of, brought}
 use Rattle.pot_group.specs.Group.{GroupView, IsSettled, state_of}
 use Rattle.pot_steps.specs.Losses.{KeepsHeld}
 use Rattle.pot_group.proofs.CauseLemmas.{archives_of-snoc, covers-stays}
-use Rattle.pot_group.proofs.ShelfLemmas.{keeps_refl, loses_refl, put_at-here, put_at-other}
+use Rattle.pot_shelves.proofs.ShelfLemmas.{keeps_refl, loses_refl, put_at-here, put_at-other}
 use Rattle.pot_group.proofs.Settled.{settled_act, settled_loses, same_columns, gone_lost, no_fault, one_fault}
 use Rattle.pot_group.proofs.Reading.{covers_rise, served}
 use Rattle.pot_machine.specs.Rules.{IsStanding}

@@ -24,12 +24,12 @@ use Rattle.pot_group.specs.declared.copying.MoveStep.{MoveStep}
 use Rattle.pot_group.specs.declared.copying.MoveStep.TheVariants as moved
 use Rattle.pot_group.specs.declared.copying.MoveFault.{MoveFault}
 use Rattle.pot_group.specs.declared.copying.MoveFault.TheVariants as stopped
-use Rattle.pot_group.specs.Shelves.{Brings, Keeps}
+use Rattle.pot_shelves.specs.Shelves.{Brings, Keeps}
 use Rattle.pot_group.specs.Group.{GroupParts, GroupView, Logs, put_as, state_of, view_of}
 use Rattle.pot_group.specs.Relaying.{Acts, Advances, AtEnd, BeginMeans, Moves, OnWay, begin_as}
 use Rattle.pot_group.specs.Moving.{Comes, MovesOn, Steps}
 use Rattle.pot_group.specs.Calls.{AdvanceCall, BeginCall, BeginTells, ComesBy, Grows, Made, MoveEntries, MoveStepCall, PutCall, PutTells, RelayEntries}
-use Rattle.pot_group.proofs.ShelfLemmas.{keeps_refl}
+use Rattle.pot_shelves.proofs.ShelfLemmas.{keeps_refl}
 
 -- HOW A GROUP GROWS
 

@@ -25,10 +25,10 @@ use Rattle.pot_steps.proofs.Acting.{act_keeps, loss_keeps_all}
 use Rattle.pot_steps.proofs.ActingLive.{act_keeps_live}
 use Rattle.pot_steps.proofs.FlightLists.{flights_go_on}
 use Rattle.pot_steps.proofs.Losses.{losses_keep_live}
-use Rattle.pot_group.specs.Shelves.{Shelves, Keeps, Stays, LosesFrom}
+use Rattle.pot_shelves.specs.Shelves.{Shelves, Keeps, Stays, LosesFrom}
 use Rattle.pot_group.specs.Causes.{Covers, HasLost, Misses, WhereMissed, archives_of, faults_in, fault_of, brought}
 use Rattle.pot_group.specs.Group.{GroupView, IsSettled, IsQuiet, LostSince}
-use Rattle.pot_group.proofs.ShelfLemmas.{keeps_refl, loses_refl, lost_rose, rose_on, rose_more}
+use Rattle.pot_shelves.proofs.ShelfLemmas.{keeps_refl, loses_refl, lost_rose, rose_on, rose_more}
 use Rattle.pot_group.proofs.CauseLemmas.{faults_in-snoc, archives_of-snoc, WhereMissed-snoc, WhereMissed-mono, covers-stays, has_lost-mono}
 
 -- what an entry of these calls leaves as it was

@@ -16,19 +16,20 @@ use Rattle.pot_steps.specs.Stripe.{Sound, IsSound}
 use Rattle.pot_steps.specs.Holdings.{stripe_of}
 use Rattle.pot_steps.specs.GroupStep.{log_bound}
 use Rattle.pot_steps.specs.RelaySteps.{Logged}
-use Rattle.pot_group.specs.declared.archives.Found.TheVariants as found
+use Rattle.pot_group.specs.declared.reads.Found.TheVariants as found
 use Rattle.pot_group.specs.declared.copying.MoveStep.{MoveStep}
 use Rattle.pot_group.specs.declared.copying.MoveStep.TheVariants as moved
 use Rattle.pot_group.specs.declared.copying.MoveFault.{MoveFault}
 use Rattle.pot_group.specs.declared.copying.MoveFault.TheVariants as failed
-use Rattle.pot_group.specs.Shelves.{Finds, LosesFrom, Shelved, Shelves, Stays, Writes, WritesInto, plain, put_at}
+use Rattle.pot_shelves.specs.Shelves.{LosesFrom, Shelved, Shelves, Stays, Writes, WritesInto, plain, put_at}
+use Rattle.pot_group.specs.Reads.{Finds}
 use Rattle.pot_group.specs.Group.{GroupParts, GroupView, IsSettled, noted, state_of, view_of, with_archives}
 use Rattle.pot_group.specs.Relaying.{Acts, acted}
 use Rattle.pot_steps.specs.MoveSteps.{MoveStep as IsMoveStep}
 use Rattle.pot_group.specs.Moving.{CopiesInto, FailedBy, MoveWrites, MovesOn, OnMove, Steps, move_as}
 use Rattle.pot_group.proofs.BeginSteps.{logged_in}
 use Rattle.pot_group.proofs.MoveExits.{beside, copied_settled, copies, move_end_settled, passed_settled, uncopied_settled}
-use Rattle.pot_group.proofs.ShelfLemmas.{into_after, keeps_refl, keeps_then, loses_from_then, loses_refl}
+use Rattle.pot_shelves.proofs.ShelfLemmas.{into_after, keeps_refl, keeps_then, loses_from_then, loses_refl}
 
 some_of : {A : Type 0} (o : Option A) (a : A) (P : A → Type 0) → IsSomeAnd o P → o ≡ Some a → P a
 some_of o a P h e = subst (λ o. IsSomeAnd o P) e h

@@ -23,13 +23,13 @@ use Rattle.pot_steps.specs.Holdings.{Holdings}
 use Rattle.pot_steps.specs.Entries.{Writes as WritesAt, held_at}
 use Rattle.pot_steps.specs.GroupStep.{log_bound, put_entry}
 use Rattle.pot_steps.proofs.Entries.{is_void_at}
-use Rattle.pot_group.specs.Shelves.{Shelves, Writes, put_at}
+use Rattle.pot_shelves.specs.Shelves.{Shelves, Writes, put_at}
 use Rattle.pot_group.specs.Arrivals.{arrival}
 use Rattle.pot_group.specs.Causes.{Covers, archives_of, faults_in}
 use Rattle.pot_group.specs.Group.{GroupView, IsSettled, FailedAt, CoversOne}
 use Rattle.pot_group.specs.Putting.{HasOld, IsKept, PutsAt, WritesAll, PutsAll, PutsNone, BlockMeans, made_entry, answered}
 use Rattle.pot_group.specs.declared.answers.PutFault.TheVariants as fault
-use Rattle.pot_group.proofs.ShelfLemmas.{put_at-other}
+use Rattle.pot_shelves.proofs.ShelfLemmas.{put_at-other}
 use Rattle.pot_group.proofs.CauseLemmas.{covers-stays}
 use Rattle.pot_group.proofs.Reading.{covers_rise}
 use Rattle.pot_group.proofs.Settled.{settled_entry, one_fault, no_fault}

@@ -6,9 +6,9 @@ use Rattle.pot_outside.specs.declared.archive.Shelf.{Shelf}
 use Rattle.pot_machine.specs.declared.column.Column.{Column}
 use Rattle.pot_machine.specs.Table.{Table}
 use Rattle.pot_steps.specs.GroupStep.{StartStep}
-use Rattle.pot_group.specs.Shelves.{Shelved, IsTaken, plain}
+use Rattle.pot_shelves.specs.Shelves.{Shelved, IsTaken, plain}
 use Rattle.pot_group.specs.Causes.{target_of}
-use Rattle.pot_group.specs.Opening.{Opens}
+use Rattle.pot_shelves.specs.Opening.{Opens}
 use Rattle.pot_group.specs.Group.{GroupParts, view_of, state_of}
 
 -- the archives of a column: its home, and then the target of its move

@@ -7,7 +7,7 @@ use Rattle.pot_machine.specs.declared.entry.Entry.TheVariants.{Put, Gone, Fault,
 use Rattle.pot_machine.specs.Slot.{is_live}
 use Rattle.pot_machine.specs.Table.{Table, width, slot_at, column_at}
 use Rattle.pot_machine.specs.Machine.{after}
-use Rattle.pot_group.specs.Shelves.{Shelves}
+use Rattle.pot_shelves.specs.Shelves.{Shelves}
 
 -- FAULTS
 

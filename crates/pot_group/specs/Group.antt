@@ -23,8 +23,8 @@ use Rattle.pot_group.specs.declared.answers.Looked.{Looked}
 use Rattle.pot_group.specs.declared.answers.Looked.TheVariants as looked
 use Rattle.pot_group.specs.declared.answers.PutFault.{PutFault}
 use Rattle.pot_group.specs.declared.answers.PutFault.TheVariants as fault
-use Rattle.pot_group.specs.Shelves.{Shelves, Shelved, plain}
-use Rattle.pot_group.specs.declared.archives.Found.{Found}
+use Rattle.pot_shelves.specs.Shelves.{Shelves, Shelved, plain}
+use Rattle.pot_group.specs.declared.reads.Found.{Found}
 use Rattle.pot_group.specs.Causes.{CauseLaw, Covers, archives_of, faults_in}
 
 pub record GroupView : Type 0 where

@@ -1,7 +1,5 @@
-pub mod Shelves
+pub mod Reads
 pub mod Causes
-pub mod Opening
-pub mod Filling
 pub mod Group
 pub mod Arrivals
 pub mod Beginning

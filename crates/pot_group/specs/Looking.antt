@@ -5,9 +5,9 @@ use Rattle.pot_machine.specs.Slot.{is_live}
 use Rattle.pot_machine.specs.Table.{slot_at, serving_at}
 use Rattle.pot_steps.specs.Stripe.{Sound, digest_of}
 use Rattle.pot_steps.specs.Holdings.{stripe_of}
-use Rattle.pot_group.specs.declared.archives.Found.{Found}
-use Rattle.pot_group.specs.declared.archives.Found.TheVariants as found
-use Rattle.pot_group.specs.Shelves.{Stays}
+use Rattle.pot_group.specs.declared.reads.Found.{Found}
+use Rattle.pot_group.specs.declared.reads.Found.TheVariants as found
+use Rattle.pot_shelves.specs.Shelves.{Stays}
 use Rattle.pot_group.specs.Group.{GroupView, FailedAt, CoversOne}
 
 -- Sound: the slot is Live, and this is its block. Missing: it is not Live, or its archive has no block of its digest. NotRead: it

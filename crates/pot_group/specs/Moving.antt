@@ -18,7 +18,7 @@ use Rattle.pot_group.specs.declared.copying.MoveFault.{MoveFault}
 use Rattle.pot_group.specs.declared.copying.MoveFault.TheVariants as failed
 use Rattle.pot_group.specs.declared.moving.ShelfCause.{ShelfCause}
 use Rattle.pot_group.specs.declared.moving.ShelfCause.TheVariants as cause
-use Rattle.pot_group.specs.Shelves.{Brings, Keeps, LosesFrom, WritesInto}
+use Rattle.pot_shelves.specs.Shelves.{Brings, Keeps, LosesFrom, WritesInto}
 use Rattle.pot_group.specs.Group.{GroupParts, GroupView, state_of, view_of}
 use Rattle.pot_group.specs.Relaying.{Acts}
 

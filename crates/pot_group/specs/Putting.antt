@@ -17,8 +17,8 @@ use Rattle.pot_steps.specs.Stripe.{Sound, IsOld, digest_of}
 use Rattle.pot_steps.specs.Holdings.{Holdings, stripe_of}
 use Rattle.pot_steps.specs.Entries.{held_at}
 use Rattle.pot_steps.specs.GroupStep.{Passed, IsMissing, skips, gone_entries, put_entry, log_bound, IsLeft, unkept}
-use Rattle.pot_group.specs.declared.archives.Found.{Found}
-use Rattle.pot_group.specs.declared.archives.Found.TheVariants as found
+use Rattle.pot_group.specs.declared.reads.Found.{Found}
+use Rattle.pot_group.specs.declared.reads.Found.TheVariants as found
 use Rattle.pot_group.specs.declared.parities.Kept.{Kept}
 use Rattle.pot_group.specs.declared.parities.Checked.{Checked}
 use Rattle.pot_group.specs.declared.parities.Checked.TheVariants as checked
@@ -26,7 +26,7 @@ use Rattle.pot_group.specs.declared.answers.PutFault.{PutFault}
 use Rattle.pot_group.specs.declared.answers.PutFault.TheVariants as fault
 use Rattle.pot_group.specs.declared.putting.Stop.{Stop}
 use Rattle.pot_group.specs.declared.putting.Stop.TheVariants as stop
-use Rattle.pot_group.specs.Shelves.{Shelves, Stays, Keeps, LosesFrom, Writes, put_at}
+use Rattle.pot_shelves.specs.Shelves.{Shelves, Stays, Keeps, LosesFrom, Writes, put_at}
 use Rattle.pot_group.specs.Group.{GroupView, Logs, FailedAt, CoversOne, FitsSlot, FitsParity, FitsPassed, state_of}
 
 -- THE OLD PARITY BLOCKS

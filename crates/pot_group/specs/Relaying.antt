@@ -17,7 +17,7 @@ use Rattle.pot_group.specs.declared.relaying.Advanced.{Advanced}
 use Rattle.pot_group.specs.declared.relaying.Advanced.TheVariants as advanced
 use Rattle.pot_outside.specs.declared.faults.Failed.{Failed}
 use Rattle.pot_machine.specs.Table.{serving_at}
-use Rattle.pot_group.specs.Shelves.{Keeps, LosesFrom, NoneLost, Writes, WritesInto}
+use Rattle.pot_shelves.specs.Shelves.{Keeps, LosesFrom, NoneLost, Writes, WritesInto}
 use Rattle.pot_group.specs.declared.relaying.AdvanceFault.{AdvanceFault}
 use Rattle.pot_group.specs.declared.relaying.AdvanceFault.TheVariants as failed
 use Rattle.pot_group.specs.declared.relaying.BeginFault.{BeginFault}

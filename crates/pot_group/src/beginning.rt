@@ -1,12 +1,11 @@
 //! How a group begins.
 ghost use Rattle.std.specs.Prelude.{◌≡◌, ◌≤◌, [], IsTrue, IfOk, IfErr, map, vec_capacity};
 
-use crate::archives::Archives;
 use crate::group::{Group, LOG_BOUND};
 use crate::known::Known;
-use crate::opening::open_all;
 use pot_machine::{Entry, GroupTable};
 use pot_outside::{Archive, Shelf};
+use pot_shelves::{Archives, open_all};
 use pot_steps::Flight;
 use std::alloc::Global;
 
@@ -18,8 +17,8 @@ pub struct StartRefused<A> {
 
 impl<A: Archive> Group<A> {
     ghost use Rattle.pot_machine.specs.Making.{table_of};
-    ghost use Rattle.pot_group.specs.Shelves.{plain, IsTaken};
-    ghost use Rattle.pot_group.specs.Opening.{HasArchives};
+    ghost use Rattle.pot_shelves.specs.Shelves.{plain, IsTaken};
+    ghost use Rattle.pot_shelves.specs.Opening.{HasArchives};
     ghost use Rattle.pot_group.specs.Beginning.{Begins, archives_in};
 
     /// The group of this number over a table and its archives, opened: the block of every Live slot is read, and what is

@@ -2,12 +2,12 @@
 ghost use Rattle.std.specs.Prelude.{◌≡◌, ◌<◌, IsTrue, Some, false, length, []};
 ghost use Rattle.pot_machine.specs.Table.{width};
 
-use crate::archives::Found;
 use crate::group::{Group, LOG_BOUND};
-use crate::noting::note;
+use crate::reads::Found;
 use pot_bytes::{Block, Digest};
 use pot_machine::{Entry, Moving, SlotState};
 use pot_outside::{Archive, Failed};
+use pot_shelves::note;
 use pot_steps::{move_end, move_one};
 
 /// What a step of a move came to.
@@ -40,7 +40,7 @@ impl<A: Archive> Group<A> {
     ghost use Rattle.pot_machine.specs.Table.{column_at, slot_at};
     ghost use Rattle.pot_steps.specs.Stripe.{IsSound, Sound};
     ghost use Rattle.pot_steps.specs.Holdings.{stripe_of};
-    ghost use Rattle.pot_group.specs.Shelves.{plain};
+    ghost use Rattle.pot_shelves.specs.Shelves.{plain};
     ghost use Rattle.pot_group.specs.Group.{OnGroup};
     ghost use Rattle.pot_group.specs.Relaying.{acted};
     ghost use Rattle.pot_group.specs.Moving.{Steps};

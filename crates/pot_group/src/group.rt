@@ -2,13 +2,13 @@
 ghost use Rattle.std.specs.Prelude.{◌≡◌, ◌<◌, ◌≤◌, ◌++◌, [], ◌∷◌, List, IsTrue, length};
 ghost use Rattle.pot_machine.specs.Table.{width};
 
-use crate::archives::{Archives, Found};
 use crate::known::Known;
-use crate::noting::note;
+use crate::reads::{Found, read_sound};
 use pot_bytes::{Block, Digest};
 use pot_machine::{Entry, GroupTable};
 use pot_outside::{Archive, Shelf};
 use pot_sealed::Sealed;
+use pot_shelves::{Archives, note};
 use pot_steps::Flight;
 use std::marker::Model;
 
@@ -42,7 +42,7 @@ impl<A: Archive> Model for Group<A> {
     ghost use Rattle.std.specs.Prelude.{◌≤◌, IsTrue};
     ghost use Rattle.std.specs.Vec.{vec_capacity};
     ghost use Rattle.pot_group.specs.Group.{GroupParts, view_of, IsSettled};
-    ghost use Rattle.pot_group.specs.Shelves.{numbers_of};
+    ghost use Rattle.pot_shelves.specs.Shelves.{numbers_of};
     ghost use Rattle.pot_group.specs.Arrivals.{HasArrived};
 
     ghost Value = { GroupParts A };
@@ -56,9 +56,10 @@ impl<A: Archive> Group<A> {
     ghost use Rattle.pot_machine.specs.Table.{serving_at};
     ghost use Rattle.pot_machine.specs.Machine.{Legal, Replays};
     ghost use Rattle.pot_machine.specs.Rules.{IsTable};
-    ghost use Rattle.pot_group.specs.Shelves.{plain, Finds};
+    ghost use Rattle.pot_shelves.specs.Shelves.{plain};
+    ghost use Rattle.pot_group.specs.Reads.{Finds};
     ghost use Rattle.pot_group.specs.Group.{view_of, noted, with_archives, IsQuiet, IsSettled, CoversIfNotRead};
-    ghost use Rattle.pot_group.specs.Shelves.{numbers_of};
+    ghost use Rattle.pot_shelves.specs.Shelves.{numbers_of};
     ghost use Rattle.pot_group.specs.Arrivals.{HasArrived};
 
     /// Reads the block of a slot that is to have this digest.
@@ -75,8 +76,14 @@ impl<A: Archive> Group<A> {
         ensures covers { CoversIfNotRead result (view_of A.account.meaning self.new) column }
     {
         let number = self.table.archive_of(stripe, column);
-        self.archives
-            .read_sound(number, stripe, digest, &self.known, into)
+        read_sound(
+            &mut self.archives,
+            number,
+            stripe,
+            digest,
+            &self.known,
+            into,
+        )
     }
 
     /// Logs an entry that says nothing untrue and puts no block.

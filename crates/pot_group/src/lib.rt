@@ -17,7 +17,7 @@
 //!
 //! Invariants of every `Group`, kept by its type (`IsSettled`); `end` hands them out as `settled`:
 //! 1. The log replays from the table that was read to the table now (`replay`; an entry is logged where it is applied, by `note`
-//!    or beside a pure step of `pot_steps`).
+//!    of `pot_shelves` or beside a pure step of `pot_steps`).
 //! 2. The table keeps the rules of `pot_machine` (`table`), and its numbers of columns and of
 //!    stripes stay (`sizes`).
 //! 3. There is a flight for each relay, in the same order (`relays`; `start` asks for no relay), and the law of each flight
@@ -25,7 +25,7 @@
 //! 4. The log has at most 262,144 entries (`bound`; each call that logs looks first, and `start` takes all that memory).
 //! 5. Each home and each target of a column is an archive of the group (`shelves`; `start` asks for it), and one that this
 //!    column has had (`serves`). An archive that was retired stays, and serves no slot.
-//! 6. No count of faults or losses is below its mark, which `Archives::take` and `Archives::bring` note when the archive comes
+//! 6. No count of faults or losses is below its mark, which the `Archives` of `pot_shelves` note when the archive comes
 //!    (`faults`, `losses`).
 //! 7. The law of every stripe: where no slot is Broken and a relay stands or no more slots are Lost than there are parity columns,
 //!    there is a filling, which gives each slot a block of its digest, the one held where the slot is sound, and adds up to zeros
@@ -40,15 +40,7 @@
 //!
 //! `flying`, 7, 8 and the losses of 6 and 9 are said of archives that tell what they hold, and all else always.
 //!
-//! What `start` makes of a stripe, after a Gone for each Live slot that gave no block of its digest:
-//!
-//! | slots that are neither Void nor gave their block | the blocks that were read | Broke |
-//! |---|---|---|
-//! | none | add up to zeros in each equation | |
-//! | none | do not | each parity slot |
-//! | no more than there are parity columns, and none is Broken | give each of them a block of its digest, by all equations | |
-//! | the same | do not | each of them |
-//! | more, or one that is Broken | any | |
+//! `start` opens the table by `open_all` of `pot_shelves`, whose page tells what it makes of a stripe.
 //!
 //! What the other calls log. LogFull comes first, with no entry, where the log is full:
 //!
@@ -72,13 +64,11 @@
 #![tactic(auto)]
 
 mod answers;
-mod archives;
 mod beginning;
 mod copying;
 mod counting;
 #[cfg(test)]
 mod fault_tests;
-mod filling;
 mod finding;
 mod group;
 mod known;
@@ -86,18 +76,16 @@ mod looking;
 #[cfg(test)]
 mod move_tests;
 mod moving;
-mod noting;
-mod opening;
 mod parities;
 #[cfg(test)]
 mod parity_tests;
 mod putting;
+mod reads;
 #[cfg(test)]
 mod relay_tests;
 mod relaying;
 #[cfg(test)]
 mod scene;
-mod slots;
 mod telling;
 #[cfg(test)]
 mod tests;

@@ -3,8 +3,8 @@ ghost use Rattle.std.specs.Prelude.{◌≡◌, ◌<◌, ◌↔◌, IsTrue, lengt
 ghost use Rattle.pot_machine.specs.Table.{width};
 
 use crate::answers::Looked;
-use crate::archives::Found;
 use crate::group::{Group, LOG_BOUND};
+use crate::reads::Found;
 use pot_bytes::{Block, Place};
 use pot_machine::{Entry, SlotState};
 use pot_outside::Archive;

@@ -4,9 +4,9 @@ ghost use Rattle.pot_machine.specs.Table.{width};
 ghost use Rattle.pot_group.specs.Moving.{live_in};
 
 use crate::group::{Group, LOG_BOUND};
-use crate::noting::note;
 use pot_machine::{Entry, GroupTable};
 use pot_outside::{Archive, Shelf};
+use pot_shelves::note;
 use pot_steps::move_begin;
 
 /// Why an archive was not taken.
@@ -31,7 +31,7 @@ impl<A: Archive> Group<A> {
     ghost use Rattle.std.specs.Prelude.{[]};
     ghost use Rattle.pot_machine.specs.declared.entry.Entry.TheVariants.{MoveBegin, Swapped};
     ghost use Rattle.pot_machine.specs.Machine.{Legal};
-    ghost use Rattle.pot_group.specs.Shelves.{plain, Brings};
+    ghost use Rattle.pot_shelves.specs.Shelves.{plain, Brings};
     ghost use Rattle.pot_group.specs.Group.{with_archives, view_of};
     ghost use Rattle.pot_group.specs.Moving.{MoveUse};
     ghost use Rattle.pot_group.specs.Calls.{Makes, MoveBeginCall, SwapCall};

@@ -1,28 +1,20 @@
 //! The parity blocks of a stripe: their old blocks are read, and their new ones are made and written.
 ghost use Rattle.std.specs.Prelude.{◌≡◌, ◌<◌, ◌≤◌, ℕ, IsTrue, Contains};
-ghost use Rattle.pot_bytes.specs.Sums.{xor, zero_block};
+ghost use Rattle.pot_bytes.specs.Sums.{xor};
 ghost use Rattle.pot_bytes.specs.Weighted.{scaled};
 ghost use Rattle.pot_gf.specs.Field.{power};
 ghost use Rattle.pot_machine.specs.Table.{width, serving_at};
-ghost use Rattle.pot_group.specs.Shelves.{plain, numbers_of};
+ghost use Rattle.pot_shelves.specs.Shelves.{plain, numbers_of};
 ghost use Rattle.pot_group.specs.Putting.{WritesPut, made_entry};
 
-use crate::archives::{Archives, Found};
 use crate::group::Group;
 use crate::known::Known;
+use crate::reads::Found;
 use pot_bytes::{Block, fold_weighted};
 use pot_machine::{Cursor, Entry, GroupTable, SlotState};
 use pot_outside::{Archive, Failed};
+use pot_shelves::{Archives, Parity};
 use pot_steps::power_of_three;
-
-/// The parity blocks of a stripe. Where there is one parity column the second counts for nothing.
-#[derive(Clone, Copy)]
-pub(crate) struct Parity {
-    /// That of P.
-    pub(crate) first: Block,
-    /// That of Q.
-    pub(crate) second: Block,
-}
 
 /// Which parity blocks were written. Where there is one parity column the second counts as written.
 #[derive(Clone, Copy)]
@@ -40,32 +32,6 @@ pub(crate) enum Checked {
     Missing { column: u8 },
     /// The archive of this parity column failed.
     NotRead { column: u8 },
-}
-
-impl Parity {
-    /// Blocks of zeros.
-    pub(crate) fn zero() -> Parity
-        ensures first { result.first ≡ zero_block }
-        ensures second { result.second ≡ zero_block }
-    {
-        Parity {
-            first: Block::zero(),
-            second: Block::zero(),
-        }
-    }
-
-    /// The parity blocks after a put of a block at a data column of a stripe with so many parity columns.
-    pub(crate) fn with(&self, block: &Block, column: u8, parity_columns: u8) -> Parity
-        ensures first { result.first ≡ xor self.now.first block.now }
-        ensures second { parity_columns ≡ 2 → result.second ≡ xor self.now.second (scaled (power 3 column) block.now) }
-    {
-        let mut new = *self;
-        new.first.xor(block);
-        if parity_columns == 2 {
-            fold_weighted(&mut new.second, power_of_three(column), block);
-        }
-        new
-    }
 }
 
 impl<A: Archive> Group<A> {
@@ -120,6 +86,19 @@ impl<A: Archive> Group<A> {
             SlotState::Broken(_) => Found::Missing,
         }
     }
+}
+
+/// The parity blocks after a put of a block at a data column of a stripe with so many parity columns.
+pub(crate) fn after_put(old: &Parity, block: &Block, column: u8, parity_columns: u8) -> Parity
+    ensures first { result.first ≡ xor old.now.first block.now }
+    ensures second { parity_columns ≡ 2 → result.second ≡ xor old.now.second (scaled (power 3 column) block.now) }
+{
+    let mut new = *old;
+    new.first.xor(block);
+    if parity_columns == 2 {
+        fold_weighted(&mut new.second, power_of_three(column), block);
+    }
+    new
 }
 
 /// Writes a block at the cursor, and then the new parity blocks of its stripe, the second one even where the first failed.

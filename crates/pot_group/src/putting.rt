@@ -4,11 +4,11 @@ ghost use Rattle.pot_group.specs.Putting.{answered};
 
 use crate::answers::PutFault;
 use crate::group::{Group, LOG_BOUND};
-use crate::noting::note;
-use crate::parities::{Checked, Kept, Parity, put_entry, write_put};
+use crate::parities::{Checked, Kept, after_put, put_entry, write_put};
 use pot_bytes::{Block, Place, block_law};
 use pot_machine::{Cursor, Entry};
 use pot_outside::Archive;
+use pot_shelves::{Parity, note};
 
 /// Why a put stops at a stripe.
 #[derive(Clone, Copy, PartialEq, Eq, Debug)]
@@ -33,7 +33,7 @@ impl<A: Archive> Group<A> {
     ghost use Rattle.pot_steps.specs.Holdings.{stripe_of};
     ghost use Rattle.pot_group.specs.Group.{OnGroup};
     ghost use Rattle.pot_group.specs.Calls.{Makes, PutCall};
-    ghost use Rattle.pot_group.specs.Shelves.{plain};
+    ghost use Rattle.pot_shelves.specs.Shelves.{plain};
     ghost use Rattle.pot_group.specs.Putting.{Passes, Finds, HasOld, BlockMeans};
 
     /// Puts a block at the cursor, and changes each parity block by it: P to P XOR the block, and Q, where there is one, to Q XOR
@@ -143,7 +143,7 @@ impl<A: Archive> Group<A> {
         let Cursor { stripe, column } = cursor;
         let last = self.table.data_columns();
         let parity_columns = self.table.parity();
-        let parity = old.with(block, column, parity_columns);
+        let parity = after_put(old, block, column, parity_columns);
         block_law(block);
         match write_put(&mut self.archives, &self.table, block, &parity) {
             None => {

@@ -4,10 +4,10 @@ ghost use Rattle.pot_group.specs.Relaying.{answered, flown_to};
 ghost use Rattle.pot_machine.specs.Table.{width};
 
 use crate::group::{Group, LOG_BOUND};
-use crate::noting::note;
 use pot_bytes::{Block, Digest, Place, block_law};
 use pot_machine::{Entry, Relay};
 use pot_outside::{Archive, Failed, Held};
+use pot_shelves::note;
 use pot_steps::{Finished, Flight, Hopped, begin, finish, give_up, hop, mended, weight_of};
 
 /// What an advance of a relay came to.
@@ -79,7 +79,7 @@ impl<A: Archive> Group<A> {
     ghost use Rattle.pot_machine.specs.Slot.{is_live};
     ghost use Rattle.pot_steps.specs.Flight.{weight_in};
     ghost use Rattle.pot_steps.specs.Flights.{flight_in};
-    ghost use Rattle.pot_group.specs.Shelves.{plain, Folds};
+    ghost use Rattle.pot_shelves.specs.Shelves.{plain, Folds};
     ghost use Rattle.pot_group.specs.Group.{with_archives};
     ghost use Rattle.std.specs.Prelude.{None, []};
     ghost use Rattle.pot_machine.specs.declared.entry.Entry.TheVariants.{GaveUp};

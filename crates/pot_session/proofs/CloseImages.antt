@@ -14,7 +14,7 @@ use Rattle.pot_machine.specs.declared.entry.Entry.{Entry}
 use Rattle.pot_machine.specs.Table.{Table}
 use Rattle.pot_index.specs.Records.{record_bytes}
 use Rattle.pot_group.specs.Group.{GroupView}
-use Rattle.pot_group.specs.Shelves.{Shelves}
+use Rattle.pot_shelves.specs.Shelves.{Shelves}
 use Rattle.pot_image.specs.Images.{Contents, magic}
 use Rattle.pot_image.specs.Spelling.{table_bytes, head_bytes, counted_bytes, entry_bytes, index_entry_bytes, field_bytes, text_bytes, image_bytes}
 use Rattle.pot_session.specs.declared.stop.Stop.{Stop}

@@ -16,7 +16,7 @@ use Rattle.pot_index.specs.Index.{IndexView, IsIndex, names_read, Replays}
 use Rattle.pot_group.specs.Arrivals.{arrivals}
 use Rattle.pot_group.specs.Beginning.{archives_in}
 use Rattle.pot_group.specs.Group.{GroupView, GroupParts, view_of}
-use Rattle.pot_group.specs.Shelves.{numbers_of, shelf_of, given, plain}
+use Rattle.pot_shelves.specs.Shelves.{numbers_of, shelf_of, given, plain}
 use Rattle.pot_turn.specs.declared.name.TurnName.{TurnName}
 use Rattle.pot_worked.specs.Worked.{added}
 use Rattle.pot_rows.specs.Rows.{view_at}

@@ -18,7 +18,7 @@ use Rattle.pot_machine.specs.Logs.{job_of}
 use Rattle.pot_group.specs.Arrivals.{arrivals, HasArrived}
 use Rattle.pot_group.specs.Beginning.{Begins, archives_in}
 use Rattle.pot_group.specs.Group.{GroupView, GroupParts, view_of}
-use Rattle.pot_group.specs.Shelves.{numbers_of, shelf_of, given, plain}
+use Rattle.pot_shelves.specs.Shelves.{numbers_of, shelf_of, given, plain}
 use Rattle.pot_group.proofs.CauseLemmas.{OfOpening, opening_entries}
 use Rattle.pot_shared.specs.Members.{mark_at}
 use Rattle.pot_commands.specs.Taking.{marks_of}

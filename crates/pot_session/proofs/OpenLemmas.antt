@@ -12,7 +12,7 @@ use Rattle.pot_image.specs.Rules.{FitsTable}
 use Rattle.pot_group.specs.Arrivals.{arrivals}
 use Rattle.pot_group.specs.Beginning.{archives_in}
 use Rattle.pot_group.specs.Group.{GroupView}
-use Rattle.pot_group.specs.Shelves.{Shelves}
+use Rattle.pot_shelves.specs.Shelves.{Shelves}
 use Rattle.pot_turn.specs.declared.name.TurnName.{TurnName}
 use Rattle.pot_turn.specs.Views.{first_view, spent_view}
 use Rattle.pot_rows.specs.Rows.{AreOf, view_at}

@@ -5,7 +5,7 @@ use Rattle.std.specs.List.{remove, AllByRecursion, IsDistinct}
 use Rattle.std.proofs.lemmas.List.{take_more, take-append-drop, length-take-le, length-map, map-append}
 use Rattle.std.proofs.lemmas.Bool.Decides.{eqb_tells}
 use Rattle.pot_outside.specs.declared.archive.Shelf.{Shelf}
-use Rattle.pot_group.specs.Shelves.{numbers_of}
+use Rattle.pot_shelves.specs.Shelves.{numbers_of}
 use Rattle.pot_commands.specs.Holding.{times, AreApart, AreOut}
 use Rattle.pot_commands.proofs.TakingLemmas.{times-append}
 

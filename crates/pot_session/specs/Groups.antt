@@ -7,7 +7,7 @@ use Rattle.pot_index.specs.declared.record.Record.{Record}
 use Rattle.pot_group.specs.Beginning.{archives_in}
 use Rattle.pot_group.specs.Arrivals.{arrivals, HasArrived}
 use Rattle.pot_group.specs.Group.{GroupView, IsSettled}
-use Rattle.pot_group.specs.Shelves.{Shelves}
+use Rattle.pot_shelves.specs.Shelves.{Shelves}
 use Rattle.pot_turn.specs.Views.{first_view, cut_view}
 use Rattle.pot_rows.specs.Rows.{view_at}
 use Rattle.pot_replies.specs.Sessions.{ByNobody}

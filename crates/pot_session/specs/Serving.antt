@@ -11,7 +11,7 @@ use Rattle.pot_machine.specs.Table.{Table}
 use Rattle.pot_machine.specs.Making.{empty_table}
 use Rattle.pot_steps.specs.Stripe.{digest_of}
 use Rattle.pot_group.specs.Group.{GroupView, IsSettled}
-use Rattle.pot_group.specs.Shelves.{Shelves}
+use Rattle.pot_shelves.specs.Shelves.{Shelves}
 use Rattle.pot_index.specs.declared.record.Record.{Record}
 use Rattle.pot_index.specs.declared.entry.IndexEntry.{IndexEntry}
 use Rattle.pot_index.specs.declared.entry.Logged.{Logged}

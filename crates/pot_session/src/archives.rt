@@ -3,7 +3,7 @@
 ghost use Rattle.std.specs.Prelude.{◌≡◌, ◌⊎◌, ◌<◌, ◌≤◌, ◌++◌, ℕ, [], IsTrue, IfOk, OnOk, OnErr, IsErr, IsErrOf, false, length, vec_capacity, map, flat_map};
 ghost use Rattle.pot_outside.specs.Counts.{Caused};
 ghost use Rattle.pot_group.specs.Beginning.{archives_in, homes_of};
-ghost use Rattle.pot_group.specs.Shelves.{numbers_of};
+ghost use Rattle.pot_shelves.specs.Shelves.{numbers_of};
 ghost use Rattle.pot_commands.specs.Holding.{AreApart, AreMeant, AreOut, Untouched};
 
 use pot_machine::{Column, GroupTable};

@@ -5,7 +5,7 @@ ghost use Rattle.pot_outside.specs.Counts.{Caused};
 ghost use Rattle.pot_outside.specs.Archives.{Meaning};
 ghost use Rattle.pot_image.specs.Images.{Contents};
 ghost use Rattle.pot_image.specs.Spelling.{image_bytes};
-ghost use Rattle.pot_group.specs.Shelves.{numbers_of};
+ghost use Rattle.pot_shelves.specs.Shelves.{numbers_of};
 ghost use Rattle.pot_rows.specs.Ends.{HasAllParts};
 ghost use Rattle.pot_rows.specs.Rows.{view_at};
 ghost use Rattle.pot_shared.specs.Ready.{AreReady};

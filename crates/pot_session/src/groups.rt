@@ -4,7 +4,7 @@ ghost use Rattle.std.specs.Prelude.{◌≡◌, ◌<◌, ◌≤◌, ◌+◌, ◌+
 ghost use Rattle.pot_outside.specs.Archives.{Meaning};
 ghost use Rattle.pot_group.specs.Beginning.{archives_in};
 ghost use Rattle.pot_group.specs.Group.{view_of};
-ghost use Rattle.pot_group.specs.Shelves.{numbers_of};
+ghost use Rattle.pot_shelves.specs.Shelves.{numbers_of};
 ghost use Rattle.pot_session.specs.Groups.{IsStarted, IsEnded, AreMarked, AreEnded, had_by};
 ghost use Rattle.pot_commands.specs.Holding.{AreMeant, AreSame};
 

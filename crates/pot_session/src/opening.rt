@@ -8,7 +8,7 @@ ghost use Rattle.pot_image.specs.Rules.{FitsTable};
 ghost use Rattle.pot_index.specs.Index.{AreRead};
 ghost use Rattle.pot_group.specs.Beginning.{archives_in};
 ghost use Rattle.pot_group.specs.Group.{view_of};
-ghost use Rattle.pot_group.specs.Shelves.{numbers_of};
+ghost use Rattle.pot_shelves.specs.Shelves.{numbers_of};
 ghost use Rattle.pot_turn.specs.Views.{first_view};
 ghost use Rattle.pot_rows.specs.Ends.{HasAllParts};
 ghost use Rattle.pot_shared.specs.Ready.{AreReady};

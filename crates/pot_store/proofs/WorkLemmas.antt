@@ -6,7 +6,7 @@ use Rattle.std.proofs.lemmas.Option.{same_Some}
 use Rattle.pot_bytes.specs.declared.rack.Rack.{Rack}
 use Rattle.pot_machine.specs.declared.entry.Entry.{Entry}
 use Rattle.pot_machine.specs.Logs.{is_of, own}
-use Rattle.pot_group.specs.Shelves.{Shelves}
+use Rattle.pot_shelves.specs.Shelves.{Shelves}
 use Rattle.pot_group.specs.Group.{GroupView}
 use Rattle.pot_index.specs.Entries as index
 use Rattle.pot_index.specs.Index.{IndexView}

@@ -1,6 +1,6 @@
 use Rattle.std.proofs.Common.{IsTrue, sym, subst, arith, ◌∙◌}
 use Rattle.std.specs.Prelude.{Contains}
-use Rattle.pot_group.specs.Shelves.{plain}
+use Rattle.pot_shelves.specs.Shelves.{plain}
 use Rattle.pot_group.proofs.PutWrites.{wide_column, wide_first, wide_second, served_at, one_exit, two_exit}
 use Rattle.pot_group.proofs.parities.write_put.Goals as goal
 

@@ -1,7 +1,7 @@
 use Rattle.std.proofs.Common.{◌≡◌, ◌≤◌, ℕ, IsTrue}
 use Rattle.std.specs.Prelude.{Contains, IsErr, vec_len, vec_capacity}
 use Rattle.pot_outside.specs.Counts.{Caused}
-use Rattle.pot_group.specs.Shelves.{numbers_of}
+use Rattle.pot_shelves.specs.Shelves.{numbers_of}
 use Rattle.pot_commands.specs.Holding.{times, AreOut, Untouched}
 use Rattle.pot_outside.specs.declared.archive.Shelf.{Shelf}
 use Rattle.pot_session.proofs.MeantLemmas.{HeldOrGiven}

@@ -1,6 +1,6 @@
 use Rattle.std.proofs.Common.{◌≡◌, ◌≤◌, IsTrue, take}
 use Rattle.std.specs.Prelude.{vec_capacity}
-use Rattle.pot_group.specs.Shelves.{numbers_of}
+use Rattle.pot_shelves.specs.Shelves.{numbers_of}
 use Rattle.pot_commands.specs.Holding.{AreMeant, AreOut, Untouched}
 use Rattle.pot_session.proofs.archives.take_all.Given as goal
 

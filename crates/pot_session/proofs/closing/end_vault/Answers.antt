@@ -1,7 +1,7 @@
 use Rattle.std.proofs.Common.{◌++◌, IsTrue, map, length, ap, ◌∙◌, arith}
 use Rattle.std.specs.Prelude.{flat_map}
 use Rattle.pot_group.specs.Group.{view_of}
-use Rattle.pot_group.specs.Shelves.{numbers_of}
+use Rattle.pot_shelves.specs.Shelves.{numbers_of}
 use Rattle.pot_commands.specs.Holding.{times}
 use Rattle.pot_session.specs.Groups.{had_by}
 use Rattle.pot_session.proofs.EndLemmas.{few_records, few_entries, closed_few, closed_had, closed_long, closed_groups, closed_leaves, all_few}

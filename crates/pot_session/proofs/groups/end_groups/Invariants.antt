@@ -1,7 +1,7 @@
 use Rattle.std.proofs.Common.{◌≡◌, IsTrue, map}
 use Rattle.std.specs.Prelude.{vec_len, vec_capacity}
 use Rattle.pot_group.specs.Group.{view_of}
-use Rattle.pot_group.specs.Shelves.{numbers_of}
+use Rattle.pot_shelves.specs.Shelves.{numbers_of}
 use Rattle.pot_session.proofs.GroupLemmas.{EndedSofar}
 use Rattle.pot_session.proofs.groups.end_groups.Given as goal
 

@@ -3,7 +3,7 @@ use Rattle.std.specs.Prelude.{IfOk, flat_map}
 use Rattle.std.proofs.lemmas.List.{length-map}
 use Rattle.pot_outside.specs.declared.archive.Shelf.{Shelf}
 use Rattle.pot_group.specs.Group.{view_of}
-use Rattle.pot_group.specs.Shelves.{numbers_of}
+use Rattle.pot_shelves.specs.Shelves.{numbers_of}
 use Rattle.pot_session.specs.Groups.{had_by, tables_read}
 use Rattle.pot_commands.specs.Holding.{times}
 use Rattle.pot_session.proofs.GroupLemmas.{had_all}

@@ -1,6 +1,6 @@
 use Rattle.std.proofs.Common.{◌++◌, length, sym, ap, ◌∙◌, arith}
 use Rattle.pot_group.specs.Group.{view_of}
-use Rattle.pot_group.specs.Shelves.{numbers_of}
+use Rattle.pot_shelves.specs.Shelves.{numbers_of}
 use Rattle.pot_session.proofs.OpenLemmas.{first_passes, first_read, same_had, taken_at}
 use Rattle.pot_session.proofs.opening.share.Goals as goal
 

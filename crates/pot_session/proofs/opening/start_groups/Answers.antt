@@ -4,7 +4,7 @@ use Rattle.pot_outside.specs.declared.archive.Shelf.{Shelf}
 use Rattle.std.specs.Prelude.{Contains, flat_map, slice_get}
 use Rattle.pot_group.specs.Beginning.{archives_in}
 use Rattle.pot_group.specs.Group.{view_of}
-use Rattle.pot_group.specs.Shelves.{numbers_of}
+use Rattle.pot_shelves.specs.Shelves.{numbers_of}
 use Rattle.pot_session.specs.Groups.{IsStarted, AreMarked, AreAllMarked}
 use Rattle.pot_session.proofs.Lists.{first_is, some_left, each_more, drop_contains}
 use Rattle.pot_session.proofs.OutLemmas.{is_zero}

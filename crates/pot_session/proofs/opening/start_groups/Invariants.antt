@@ -2,7 +2,7 @@ use Rattle.std.proofs.Common.{◌≡◌, ◌≤◌, ℕ, IsTrue, length}
 use Rattle.std.specs.Prelude.{vec_len, vec_capacity}
 use Rattle.pot_outside.specs.Archives.{Meaning}
 use Rattle.pot_group.specs.Group.{view_of}
-use Rattle.pot_group.specs.Shelves.{numbers_of}
+use Rattle.pot_shelves.specs.Shelves.{numbers_of}
 use Rattle.pot_session.specs.Groups.{AreAllMarked}
 use Rattle.pot_commands.specs.Holding.{AreMeant}
 use Rattle.pot_session.proofs.GroupLemmas.{StartedSofar}

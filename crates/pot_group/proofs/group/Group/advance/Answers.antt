@@ -5,7 +5,7 @@ use Rattle.pot_group.proofs.AdvanceSteps.{idle_step, found_over}
 use Rattle.pot_group.proofs.Advancing.{idle_none}
 use Rattle.pot_group.proofs.Rows.{advance_made, grows_same}
 use Rattle.pot_group.proofs.Lossless.{lossless_same}
-use Rattle.pot_group.proofs.ShelfLemmas.{keeps_refl, loses_refl}
+use Rattle.pot_shelves.proofs.ShelfLemmas.{keeps_refl, loses_refl}
 use Rattle.pot_group.proofs.group.Group.advance.Goals as goal
 
 pub next_column-requires : goal.next_column-requires

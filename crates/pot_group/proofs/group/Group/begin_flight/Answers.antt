@@ -1,7 +1,7 @@
 use Rattle.std.proofs.Common.{◌<◌, IsTrue, length, subst, sym, arith, refl}
 use Rattle.pot_machine.specs.declared.entry.Entry.TheVariants.{Begin}
 use Rattle.pot_machine.specs.Machine.{Legal}
-use Rattle.pot_group.specs.Shelves.{numbers_of}
+use Rattle.pot_shelves.specs.Shelves.{numbers_of}
 use Rattle.pot_group.specs.Group.{GroupParts, view_of}
 use Rattle.pot_group.proofs.RelayExits.{begin_exit}
 use Rattle.pot_group.proofs.Arriving.{none_arrived}

@@ -1,7 +1,7 @@
 use Rattle.std.proofs.Common.{◌<◌, IsTrue, length, subst, sym, arith, ap, refl}
 use Rattle.pot_machine.specs.declared.entry.Entry.TheVariants.{MoveEnd}
 use Rattle.pot_machine.specs.Machine.{Legal}
-use Rattle.pot_group.specs.Shelves.{numbers_of}
+use Rattle.pot_shelves.specs.Shelves.{numbers_of}
 use Rattle.pot_group.specs.Group.{GroupParts, view_of}
 use Rattle.pot_group.specs.Arrivals.{arrival}
 use Rattle.pot_group.proofs.Stepping.{ended_exit}

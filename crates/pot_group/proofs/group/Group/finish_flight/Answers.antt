@@ -3,7 +3,7 @@ use Rattle.std.specs.Prelude.{◌==◌, Err}
 use Rattle.std.proofs.lemmas.Fn.{filter_same}
 use Rattle.pot_machine.specs.Table.{Table, next_column}
 use Rattle.pot_steps.specs.Stripe.{digest_of}
-use Rattle.pot_group.specs.Shelves.{numbers_of}
+use Rattle.pot_shelves.specs.Shelves.{numbers_of}
 use Rattle.pot_group.specs.Relaying.{Advances, EndsWell}
 use Rattle.pot_group.specs.declared.relaying.AdvanceFault.TheVariants as failed
 use Rattle.pot_steps.specs.declared.flight.Flight.{Flight}

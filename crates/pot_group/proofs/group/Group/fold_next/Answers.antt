@@ -3,7 +3,7 @@ use Rattle.std.specs.Prelude.{Contains}
 use Rattle.pot_machine.specs.Table.{next_column}
 use Rattle.pot_steps.specs.Flight.{IsRelay, weight_in}
 use Rattle.pot_steps.specs.Flights.{flight_in}
-use Rattle.pot_group.specs.Shelves.{plain}
+use Rattle.pot_shelves.specs.Shelves.{plain}
 use Rattle.pot_group.specs.Group.{GroupParts, view_of}
 use Rattle.pot_group.proofs.Reading.{served, covers_rise}
 use Rattle.pot_group.proofs.RelayExits.{next_facts_of}

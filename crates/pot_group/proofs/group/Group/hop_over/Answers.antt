@@ -10,7 +10,7 @@ use Rattle.pot_machine.specs.Table.{slot_at, serving_at, next_column}
 use Rattle.pot_steps.specs.Flight.{weight_in}
 use Rattle.pot_steps.specs.declared.flight.Flight.{Flight}
 use Rattle.pot_steps.specs.Flights.{flight_in}
-use Rattle.pot_group.specs.Shelves.{plain, numbers_of}
+use Rattle.pot_shelves.specs.Shelves.{plain, numbers_of}
 use Rattle.pot_group.specs.Group.{GroupParts, view_of}
 use Rattle.pot_group.proofs.RelayExits.{stands_in_table, folded_exit, ended_exit, ended_means, written_all}
 use Rattle.pot_group.specs.Relaying.{flown_to}

@@ -6,7 +6,7 @@ use Rattle.pot_steps.specs.Stripe.{Sound}
 use Rattle.pot_steps.specs.Holdings.{stripe_of}
 use Rattle.pot_steps.specs.declared.flight.Flight.{Flight}
 use Rattle.pot_steps.specs.Flights.{flight_in}
-use Rattle.pot_group.specs.Shelves.{plain, numbers_of}
+use Rattle.pot_shelves.specs.Shelves.{plain, numbers_of}
 use Rattle.pot_group.specs.Group.{GroupParts, view_of}
 use Rattle.pot_group.proofs.RelayExits.{stands_in_table, left_exit, left_means, is_some_next}
 use Rattle.pot_group.proofs.Arriving.{none_arrived, left_brings}

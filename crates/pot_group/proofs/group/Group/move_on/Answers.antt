@@ -2,7 +2,7 @@ use Rattle.std.proofs.Common.{◌≡◌, ◌≤◌, ◌<◌, IsTrue, false, subs
 use Rattle.pot_machine.specs.declared.slot.SlotState.{SlotState}
 use Rattle.pot_machine.specs.Slot.{is_live}
 use Rattle.pot_machine.specs.Table.{slot_at}
-use Rattle.pot_group.specs.Shelves.{plain}
+use Rattle.pot_shelves.specs.Shelves.{plain}
 use Rattle.pot_group.specs.Group.{GroupParts}
 use Rattle.pot_group.proofs.AdvanceSteps.{dead_unsound}
 use Rattle.pot_group.proofs.Stepping.{dead_slot, ended_steps, passed_steps}

@@ -1,6 +1,6 @@
 use Rattle.std.proofs.Common.{◌<◌, IsTrue, length, subst, sym, arith, refl}
 use Rattle.pot_machine.specs.Machine.{Legal}
-use Rattle.pot_group.specs.Shelves.{numbers_of}
+use Rattle.pot_shelves.specs.Shelves.{numbers_of}
 use Rattle.pot_group.specs.Group.{GroupParts, view_of, IsQuiet}
 use Rattle.pot_group.proofs.Settled.{settled_quiet}
 use Rattle.pot_group.proofs.Arriving.{none_arrived, quiet_brings}

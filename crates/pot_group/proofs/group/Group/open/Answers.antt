@@ -1,7 +1,7 @@
 use Rattle.std.proofs.Common.{IsTrue, List, subst, sym}
 use Rattle.pot_steps.specs.declared.flight.Flight.{Flight}
 use Rattle.pot_machine.specs.Table.{Table}
-use Rattle.pot_group.specs.Shelves.{numbers_of}
+use Rattle.pot_shelves.specs.Shelves.{numbers_of}
 use Rattle.pot_group.specs.Group.{IsSettled, view_of}
 use Rattle.pot_group.specs.Beginning.{Begins}
 use Rattle.pot_group.specs.Arrivals.{HasArrived}

@@ -1,6 +1,6 @@
 use Rattle.std.proofs.Common.{IsTrue, [], subst}
 use Rattle.pot_group.specs.Group.{view_of}
-use Rattle.pot_group.specs.Shelves.{plain}
+use Rattle.pot_shelves.specs.Shelves.{plain}
 use Rattle.pot_group.specs.Putting.{Passes}
 use Rattle.pot_group.proofs.Passing.{left_passes}
 use Rattle.pot_group.proofs.group.Group.pass.Goals as goal

@@ -2,7 +2,7 @@ use Rattle.std.proofs.Common.{◌≡◌, ◌<◌, IsTrue, Some, length, subst, s
 use Rattle.pot_machine.specs.Table.{width, column_at}
 use Rattle.pot_steps.specs.Stripe.{Sound}
 use Rattle.pot_steps.specs.Holdings.{stripe_of}
-use Rattle.pot_group.specs.Shelves.{plain, numbers_of}
+use Rattle.pot_shelves.specs.Shelves.{plain, numbers_of}
 use Rattle.pot_group.specs.Group.{GroupParts, view_of}
 use Rattle.pot_group.proofs.Stepping.{pass_exit}
 use Rattle.pot_group.proofs.Arriving.{none_arrived, moved_brings}

@@ -3,7 +3,7 @@ use Rattle.pot_group.specs.Group.{GroupParts, view_of}
 use Rattle.pot_group.proofs.Placed.{at_once_made, at_once_step, full_made, full_step, log_full_made, log_full_step, faulted_made, faulted_step, here_made, here_step}
 use Rattle.pot_group.proofs.Keeping.{find_keeps, here_keeps}
 use Rattle.pot_group.proofs.Rows.{put_made}
-use Rattle.pot_group.proofs.ShelfLemmas.{keeps_refl}
+use Rattle.pot_shelves.proofs.ShelfLemmas.{keeps_refl}
 use Rattle.pot_group.proofs.group.Group.put.Goals as goal
 
 pub returns-then-len-ge-LOG_BOUND : goal.returns-then-len-ge-LOG_BOUND

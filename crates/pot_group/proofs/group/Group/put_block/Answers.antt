@@ -1,5 +1,5 @@
 use Rattle.std.proofs.Common.{IsTrue, Err, refl, subst, sym, arith}
-use Rattle.pot_group.specs.Shelves.{plain, numbers_of}
+use Rattle.pot_shelves.specs.Shelves.{plain, numbers_of}
 use Rattle.pot_group.specs.Group.{GroupParts, view_of}
 use Rattle.pot_group.specs.Putting.{BlockMeans, answered}
 use Rattle.pot_group.proofs.Reading.{served}
@@ -37,14 +37,14 @@ invariant_of-self-in-Some g c =
     (c.requires.cursor, c.requires.takes, c.requires.room, c.requires.old) in
     let x = all_exit (IsTrue g.A.Archive.account.tells) (view_of g.A.Archive.account.meaning v) c.args.job c.args.block.now c.args.old.now.first c.args.old.now.second c.cursor-cursor.result
     (plain g.A.Archive.account.meaning c.write_put.new.archives) c.note-in-Some.new.table c.note-in-Some.new.log.items c.self.invariant.0 can c.cursor-cursor.ensures.value
-    c.with-parity.result.first c.with-parity.result.second c.in-Some.kept.first c.in-Some.kept.second (record { group = a.number; column = c.cursor-cursor.result.column; stripe = c.cursor-cursor.result.stripe }) c.data_columns-last.result c.parity-parity_columns.result
-    c.block_law.ensures c.with-parity.ensures.first c.with-parity.ensures.second c.in-Some.ensures refl c.data_columns-last.ensures.value c.parity-parity_columns.ensures.value
+    c.after_put-parity.result.first c.after_put-parity.result.second c.in-Some.kept.first c.in-Some.kept.second (record { group = a.number; column = c.cursor-cursor.result.column; stripe = c.cursor-cursor.result.stripe }) c.data_columns-last.result c.parity-parity_columns.result
+    c.block_law.ensures c.after_put-parity.ensures.first c.after_put-parity.ensures.second c.in-Some.ensures refl c.data_columns-last.ensures.value c.parity-parity_columns.ensures.value
     (rw c.put_entry-entry.ensures at c.note-in-Some.ensures.table) (rw c.put_entry-entry.ensures at c.note-in-Some.ensures.log) in (
       x.0,
       omega (arith, c.self.invariant.1, c.note-in-Some.ensures.capacity),
       c.self.invariant.2,
       none_arrived a.first a.log.items c.note-in-Some.new.log.items c.put_entry-entry.result (numbers_of a.archives.shelves) (numbers_of c.write_put.new.archives.shelves) c.self.invariant.3 c.note-in-Some.ensures.log
-          (put_brings c.put_entry-entry.result c.parity-parity_columns.result c.args.job c.cursor-cursor.result.stripe c.cursor-cursor.result.column c.args.block.now c.with-parity.result.first c.with-parity.result.second c.in-Some.kept.first c.in-Some.kept.second c.put_entry-entry.ensures)
+          (put_brings c.put_entry-entry.result c.parity-parity_columns.result c.args.job c.cursor-cursor.result.stripe c.cursor-cursor.result.column c.args.block.now c.after_put-parity.result.first c.after_put-parity.result.second c.in-Some.kept.first c.in-Some.kept.second c.put_entry-entry.ensures)
           c.in-Some.ensures.keeps.numbers,
     )
 
@@ -69,8 +69,8 @@ returns-in-Some g c =
     (c.requires.cursor, c.requires.takes, c.requires.room, c.requires.old) in
     let x = all_exit (IsTrue g.A.Archive.account.tells) (view_of g.A.Archive.account.meaning v) c.args.job c.args.block.now c.args.old.now.first c.args.old.now.second c.cursor-cursor.result
     (plain g.A.Archive.account.meaning c.write_put.new.archives) c.note-in-Some.new.table c.note-in-Some.new.log.items c.self.invariant.0 can c.cursor-cursor.ensures.value
-    c.with-parity.result.first c.with-parity.result.second c.in-Some.kept.first c.in-Some.kept.second (record { group = a.number; column = c.cursor-cursor.result.column; stripe = c.cursor-cursor.result.stripe }) c.data_columns-last.result c.parity-parity_columns.result
-    c.block_law.ensures c.with-parity.ensures.first c.with-parity.ensures.second c.in-Some.ensures refl c.data_columns-last.ensures.value c.parity-parity_columns.ensures.value
+    c.after_put-parity.result.first c.after_put-parity.result.second c.in-Some.kept.first c.in-Some.kept.second (record { group = a.number; column = c.cursor-cursor.result.column; stripe = c.cursor-cursor.result.stripe }) c.data_columns-last.result c.parity-parity_columns.result
+    c.block_law.ensures c.after_put-parity.ensures.first c.after_put-parity.ensures.second c.in-Some.ensures refl c.data_columns-last.ensures.value c.parity-parity_columns.ensures.value
     (rw c.put_entry-entry.ensures at c.note-in-Some.ensures.table) (rw c.put_entry-entry.ensures at c.note-in-Some.ensures.log) in
     subst (λ r. BlockMeans (IsTrue g.A.Archive.account.tells) c.args.job c.args.block.now c.args.old.now.first c.args.old.now.second r
     (view_of g.A.Archive.account.meaning c.args.self.now)

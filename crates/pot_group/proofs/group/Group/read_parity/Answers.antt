@@ -1,9 +1,9 @@
 use Rattle.std.proofs.Common.{IsTrue, subst, ap, ◌∙◌}
 use Rattle.pot_machine.specs.Rules.{IsTable}
 use Rattle.pot_group.specs.Group.{GroupParts, view_of}
-use Rattle.pot_group.specs.Shelves.{plain}
+use Rattle.pot_shelves.specs.Shelves.{plain}
 use Rattle.pot_group.specs.Putting.{ReadsOld, ReadsSecond}
-use Rattle.pot_group.specs.declared.archives.Found.TheVariants.{Sound}
+use Rattle.pot_group.specs.declared.reads.Found.TheVariants.{Sound}
 use Rattle.pot_group.proofs.ParityReads.{both_read}
 use Rattle.pot_group.proofs.group.Group.read_parity.Goals as goal
 

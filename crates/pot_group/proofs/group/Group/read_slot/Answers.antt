@@ -1,7 +1,8 @@
 use Rattle.std.proofs.Common.{◌<◌, IsTrue, subst, sym, ◌∙◌}
 use Rattle.std.specs.Prelude.{Contains}
 use Rattle.pot_machine.specs.Table.{width}
-use Rattle.pot_group.specs.Shelves.{plain, Finds}
+use Rattle.pot_shelves.specs.Shelves.{plain}
+use Rattle.pot_group.specs.Reads.{Finds}
 use Rattle.pot_group.specs.Group.{GroupParts, view_of}
 use Rattle.pot_group.proofs.Reading.{served, read_covers}
 use Rattle.pot_group.proofs.Settled.{settled_stays}
@@ -20,7 +21,7 @@ invariant_of-self g c =
     let a = c.self.inside in
     let v : GroupParts _ = record { number = a.number; first = a.first; table = a.table; log = a.log.items; flights = a.flights.items; archives = a.archives } in (
       settled_stays (IsTrue g.A.Archive.account.tells) (view_of g.A.Archive.account.meaning v)
-          (plain g.A.Archive.account.meaning c.read_sound.new.self) c.self.invariant.0 c.read_sound.ensures.stays,
+          (plain g.A.Archive.account.meaning c.read_sound.new.archives) c.self.invariant.0 c.read_sound.ensures.stays,
       c.self.invariant.1,
       c.self.invariant.2,
       c.read_sound.ensures.stays.keeps.numbers ∙ c.self.invariant.3,
@@ -31,6 +32,6 @@ returns-clause-covers g c =
     let a = c.self.inside in
     let v : GroupParts _ = record { number = a.number; first = a.first; table = a.table; log = a.log.items; flights = a.flights.items; archives = a.archives } in
     read_covers (IsTrue g.A.Archive.account.tells) (view_of g.A.Archive.account.meaning v)
-    (plain g.A.Archive.account.meaning c.read_sound.new.self) c.args.stripe c.args.column c.args.digest c.read_sound.new.into c.read_sound.result
+    (plain g.A.Archive.account.meaning c.read_sound.new.archives) c.args.stripe c.args.column c.args.digest c.read_sound.new.into c.read_sound.result
     c.self.invariant.0 (subst (λ (w : GroupParts _). c.args.column < width w.table) (sym c.self.view_is) c.requires)
-    (subst (λ n. Finds (IsTrue g.A.Archive.account.tells) n c.args.stripe c.args.digest c.read_sound.new.into c.read_sound.result (plain g.A.Archive.account.meaning a.archives) (plain g.A.Archive.account.meaning c.read_sound.new.self)) c.archive_of-number.ensures c.read_sound.ensures)
+    (subst (λ n. Finds (IsTrue g.A.Archive.account.tells) n c.args.stripe c.args.digest c.read_sound.new.into c.read_sound.result (plain g.A.Archive.account.meaning a.archives) (plain g.A.Archive.account.meaning c.read_sound.new.archives)) c.archive_of-number.ensures c.read_sound.ensures)

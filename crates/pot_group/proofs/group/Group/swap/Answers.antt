@@ -1,6 +1,6 @@
 use Rattle.std.proofs.Common.{◌≡◌, ◌<◌, IsTrue, true, false, length, refl, subst, sym, ap, ◌∙◌, rules}
 use Rattle.std.specs.Prelude.{Contains}
-use Rattle.pot_group.specs.Shelves.{numbers_of}
+use Rattle.pot_shelves.specs.Shelves.{numbers_of}
 use Rattle.pot_machine.specs.declared.entry.Entry.TheVariants.{Swapped}
 use Rattle.pot_group.specs.Group.{GroupParts, view_of, with_archives}
 use Rattle.pot_group.specs.Moving.{live_in}

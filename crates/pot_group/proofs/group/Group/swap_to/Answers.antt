@@ -1,6 +1,6 @@
 use Rattle.std.proofs.Common.{◌<◌, IsTrue, [], ◌∷◌, length, refl, subst, sym, arith}
 use Rattle.std.specs.Prelude.{Contains}
-use Rattle.pot_group.specs.Shelves.{Shelved, plain, numbers_of}
+use Rattle.pot_shelves.specs.Shelves.{Shelved, plain, numbers_of}
 use Rattle.pot_group.specs.Group.{GroupParts, IsSettled, view_of, with_archives}
 use Rattle.pot_group.specs.Arrivals.{HasArrived}
 use Rattle.pot_machine.specs.declared.entry.Entry.TheVariants.{Swapped}

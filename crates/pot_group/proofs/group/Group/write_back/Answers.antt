@@ -6,7 +6,7 @@ use Rattle.pot_machine.specs.Table.{slot_at, next_column}
 use Rattle.pot_steps.specs.Stripe.{digest_of}
 use Rattle.pot_steps.specs.declared.flight.Flight.{Flight}
 use Rattle.pot_steps.specs.Flights.{flight_in}
-use Rattle.pot_group.specs.Shelves.{plain, Writes, numbers_of}
+use Rattle.pot_shelves.specs.Shelves.{plain, Writes, numbers_of}
 use Rattle.pot_group.specs.Group.{GroupParts, view_of}
 use Rattle.pot_group.specs.Relaying.{EndsWell}
 use Rattle.pot_group.specs.declared.relaying.Advanced.TheVariants as advanced

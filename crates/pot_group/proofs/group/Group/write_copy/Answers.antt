@@ -6,7 +6,7 @@ use Rattle.pot_steps.specs.Stripe.{IsSound}
 use Rattle.pot_steps.specs.Holdings.{stripe_of}
 use Rattle.pot_group.specs.declared.copying.MoveStep.TheVariants as moved
 use Rattle.pot_group.specs.declared.copying.MoveFault.TheVariants as failed
-use Rattle.pot_group.specs.Shelves.{plain, numbers_of}
+use Rattle.pot_shelves.specs.Shelves.{plain, numbers_of}
 use Rattle.pot_group.specs.Group.{GroupParts, view_of}
 use Rattle.pot_group.specs.Moving.{Steps}
 use Rattle.pot_group.proofs.MoveExits.{target_there}

@@ -1,0 +1,9 @@
+pub mod ShelfLemmas
+pub mod TouchLemmas
+pub mod Bringing
+pub mod OpeningStripe
+pub mod OpeningFills
+pub mod OpeningLogs
+pub mod OpeningColumns
+pub mod SlotReads
+pub mod OpeningAll

@@ -1,0 +1,105 @@
+-- Archives by their numbers: what calls of them come to one after another.
+use Rattle.std.proofs.Common.{◌≡◌, ◌≢◌, ◌≤◌, ◌-◌, ◌^◌, ◌==◌, ◌⊎◌, inl, inr, ℕ, Bool, true, false, List, Option, Some, None, Result, Ok, Err, refl, sym, ◌∙◌, arith}
+use Rattle.std.specs.Prelude.{cond}
+use Rattle.std.proofs.lemmas.Bool.Decides.{eqb_tells, leb_tells}
+use Rattle.pot_outside.specs.declared.faults.Failed.{Failed}
+use Rattle.pot_outside.specs.Archives.{OnlyLoses, MayLeave, at_slot}
+use Rattle.pot_outside.specs.Counts.{Rose}
+use Rattle.pot_outside.proofs.LossLemmas.{at_slot-here, at_slot-else, loses_nothing, loses_more, loses_under}
+use Rattle.pot_steps.specs.Holdings.{Holdings}
+use Rattle.pot_shelves.specs.Shelves.{Shelves, Keeps, LosesFrom, Stays, WritesInto, IsWritten, put_at}
+
+-- ONE CALL AFTER ANOTHER
+
+pub keeps_refl : (s : Shelves) → Keeps s s
+keeps_refl s = record { numbers = refl; faults_taken = (λ n. refl); losses_taken = (λ n. refl); later = (λ n. omega arith) }
+
+pub keeps_then : (a b c : Shelves) → Keeps a b → Keeps b c → Keeps a c
+keeps_then a b c o p = record {
+  numbers = p.numbers ∙ o.numbers;
+  faults_taken = (λ n. p.faults_taken n ∙ o.faults_taken n);
+  losses_taken = (λ n. p.losses_taken n ∙ o.losses_taken n);
+  later = (λ n. omega (arith, o.later n, p.later n));
+}
+
+pub loses_refl : (s : Shelves) → LosesFrom s.held s s
+loses_refl s = λ n. loses_nothing (s.held n) (s.losses n)
+
+pub loses_from_then : (h : Holdings) (a b c : Shelves) → LosesFrom h a b → LosesFrom b.held b c → LosesFrom h a c
+loses_from_then h a b c o p = λ n. loses_more (h n) (b.held n) (c.held n) (a.losses n) (b.losses n) (c.losses n) (o n) (p n)
+
+pub stays_refl : (told : Type 0) (s : Shelves) → Stays told s s
+stays_refl told s = record { keeps = keeps_refl s; loses = (λ t. loses_refl s); heard = (λ t n. refl) }
+
+pub stays_then : (told : Type 0) (a b c : Shelves) → Stays told a b → Stays told b c → Stays told a c
+stays_then told a b c o p = record {
+  keeps = keeps_then a b c o.keeps p.keeps;
+  loses = (λ t. loses_from_then a.held a b c (o.loses t) (p.loses t));
+  heard = (λ t n. p.heard t n ∙ o.heard t n);
+}
+
+-- A SLOT OF AN ARCHIVE CHANGED
+
+-- losses before a slot is changed are losses after it
+put_under : (h : Holdings) (a b : Shelves) (n slot : ℕ) (left : Option (List ℕ)) (k : ℕ) (here : Bool)
+    → OnlyLoses (h k) (b.held k) (a.losses k) (b.losses k)
+    → OnlyLoses (cond here (at_slot (h k) slot left) (h k)) (cond here (at_slot (b.held k) slot left) (b.held k)) (a.losses k) (b.losses k)
+put_under h a b n slot left k true o = loses_under (h k) (b.held k) (a.losses k) (b.losses k) slot left o
+put_under h a b n slot left k false o = o
+
+pub loses_put : (h : Holdings) (a b c : Shelves) (n slot : ℕ) (left : Option (List ℕ)) → LosesFrom h a b
+    → LosesFrom (put_at b.held n slot left) b c → LosesFrom (put_at h n slot left) a c
+loses_put h a b c n slot left o p = λ k.
+    loses_more (put_at h n slot left k) (put_at b.held n slot left k) (c.held k) (a.losses k) (b.losses k) (c.losses k)
+    (put_under h a b n slot left k (k == n) (o k)) (p k)
+
+-- a write after losses is that write and these losses
+written_after : (before now : ℕ → Option (List ℕ)) (slot : ℕ) (block : List ℕ) (r : Result (Unit {0}) Failed) (left : Option (List ℕ)) → ((b : List ℕ) → now slot ≡ Some b → before slot ≡ Some b)
+    → IsWritten r now slot block left → IsWritten r before slot block left
+written_after before now slot block (Ok u) left keeps w = w
+written_after before now slot block (Err e) left keeps (inr w) = inr w
+written_after before now slot block (Err e) left keeps (inl w) = there (now slot) w keeps
+  where
+    there : (was : Option (List ℕ)) → left ≡ was → ((b : List ℕ) → was ≡ Some b → before slot ≡ Some b) → MayLeave before slot block left
+    there None w keeps = inr (inr w)
+    there (Some b) w keeps = inl (w ∙ sym (keeps b refl))
+
+-- a write after other changes and losses
+pub write_then : (h : Holdings) (a b c : Shelves) (n slot : ℕ) (block : List ℕ) (r : Result (Unit {0}) Failed) → LosesFrom h a b → WritesInto n slot block r b c
+    → (left : Option (List ℕ)) × IsWritten r (h n) slot block left × LosesFrom (put_at h n slot left) a c
+write_then h a b c n slot block r l w = (w.0, written_after (h n) (b.held n) slot block r w.0 (λ x e. (l n).keeps slot x e) w.1, loses_put h a b c n slot w.0 l w.2)
+
+pub into_after : (a b c : Shelves) (n slot : ℕ) (block : List ℕ) (r : Result (Unit {0}) Failed) → LosesFrom a.held a b → WritesInto n slot block r b c → WritesInto n slot block r a c
+into_after a b c n slot block r l w = write_then a.held a b c n slot block r l w
+
+pub put_at-here : (h : Holdings) (n slot : ℕ) (x : Option (List ℕ)) → put_at h n slot x n slot ≡ x
+put_at-here h n slot x = elim (eqb_tells n n) [ inl e ↦ rw e.0 (at_slot-here (h n) slot x) | inr e ↦ absurd (e.1 refl) ]
+
+pub put_at-other : (h : Holdings) (n slot : ℕ) (x : Option (List ℕ)) (k m : ℕ) → (k ≢ n) ⊎ (m ≢ slot) → put_at h n slot x k m ≡ h k m
+put_at-other h n slot x k m differs = elim (eqb_tells k n) [ inl e ↦ rw e.0 (at differs e.1) | inr e ↦ rw e.0 refl ]
+  where
+    at : (k ≢ n) ⊎ (m ≢ slot) → k ≡ n → at_slot (h k) slot x m ≡ h k m
+    at (inl d) e = absurd (d e)
+    at (inr d) e = at_slot-else (h k) slot x m d
+
+-- LOSSES AND RISES
+
+-- a block that was to be held is held, or the count of losses rose
+pub lost_rose : (h : Holdings) (old new : Shelves) (k m : ℕ) (b : List ℕ) → LosesFrom h old new → h k m ≡ Some b
+    → (new.held k m ≡ Some b) ⊎ Rose (old.losses k) (new.losses k)
+lost_rose h old new k m b l e =
+    elim (eqb_tells (new.losses k) (old.losses k)) [
+      | inl t ↦ elim (leb_tells (2 ^ 64 - 1) (new.losses k)) [
+        | inl s ↦ inr (inr s.1)
+        | inr s ↦ inl ((l k).same m t.1 s.1 ∙ e)
+      ]
+      | inr t ↦ inr (inl (omega (arith, (l k).later, t.1)))
+    ]
+
+pub rose_on : (a b c : ℕ) → a ≤ b → Rose b c → Rose a c
+rose_on a b c l (inl r) = inl (omega arith)
+rose_on a b c l (inr r) = inr r
+
+pub rose_more : (a b c : ℕ) → Rose a b → b ≤ c → Rose a c
+rose_more a b c (inl r) l = inl (omega arith)
+rose_more a b c (inr r) l = inr (omega arith)

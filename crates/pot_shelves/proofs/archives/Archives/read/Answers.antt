@@ -1,0 +1,13 @@
+use Rattle.std.proofs.Common.{IsTrue, subst}
+use Rattle.pot_shelves.specs.Shelves.{Shelved, plain, Answers}
+use Rattle.pot_shelves.proofs.TouchLemmas.{answers}
+use Rattle.pot_shelves.proofs.archives.Archives.read.Goals as goal
+
+pub returns : goal.returns
+returns g c =
+    subst
+    (λ (v : Shelved g.row.A.Denot). Answers (IsTrue g.A.Archive.account.tells) c.args.number c.args.slot c.read.new.into c.read.result
+    (plain g.A.Archive.account.meaning v)
+    (plain g.A.Archive.account.meaning (record { shelves = c.read.new.shelves.items; marks = c.self.inside.marks.items })))
+    c.self.view_is
+    (answers (IsTrue g.A.Archive.account.tells) g.A.Archive.account.meaning c.self.inside.marks.items c.args.number c.args.slot c.read.new.into c.read.result c.self.inside.shelves.items c.read.new.shelves.items c.read.ensures)

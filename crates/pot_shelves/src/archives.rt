@@ -1,0 +1,201 @@
+//! Archives by their numbers.
+ghost use Rattle.std.specs.Prelude.{◌≡◌, ◌<◌, ◌==◌, ◌↔◌, IsTrue, IfOk, IfErr, Contains, length, map};
+ghost use Rattle.std.specs.List.{position};
+ghost use Rattle.pot_steps.specs.Stripe.{digest_of};
+ghost use Rattle.pot_outside.specs.Archives.{Reads, Writes as WritesOne, Folds as FoldsOne};
+ghost use Rattle.pot_shelves.specs.Shelves.{plain, numbers_of, OnShelves, OnShelf};
+ghost use Rattle.pot_shelves.specs.Shelves.{IsTaken, Answers, Writes, Folds, Brings};
+
+use pot_bytes::{Block, Digest, digest_of};
+use pot_outside::{Archive, Failed, Held, Marks, Shelf};
+use std::alloc::{AllocError, Global};
+use std::marker::Model;
+
+/// Archives with their numbers and their marks at the time when they were taken. Contracts see them as `plain` data by
+/// number.
+#[derive(Drop)]
+pub struct Archives<A: Archive> {
+    shelves: Vec<Shelf<A>>,
+    /// Of each shelf, in the same order.
+    marks: Vec<Marks>,
+}
+
+impl<A: Archive> Model for Archives<A> {
+    ghost use Rattle.pot_shelves.specs.Shelves.{Shelved};
+    ghost use Rattle.std.specs.Prelude.{◌≡◌, length};
+
+    ghost Value = { Shelved A };
+
+    ghost view = { λ a. record { shelves = a.shelves.items; marks = a.marks.items } };
+
+    ghost invariant = { λ a. length a.shelves.items ≡ length a.marks.items };
+}
+
+impl<A: Archive> Archives<A> {
+    /// Takes archives, with their marks now. Where two have one number, each call reaches the first.
+    ///
+    /// # Errors
+    /// The archives come back as they were, for want of memory alone.
+    pub fn take(alloc: Global, shelves: Vec<Shelf<A>>) -> Result<Archives<A>, Vec<Shelf<A>>>
+        ensures shown { IfOk result (λ s. s.shelves ≡ shelves.items) }
+        ensures taken { IfOk result (λ s. IsTaken (IsTrue A.account.tells) (plain A.account.meaning s)) }
+        ensures refused { IfErr result (λ s. s ≡ shelves) }
+    {
+        match marks_of(alloc, &shelves) {
+            Ok(marks) => Ok(Archives { shelves, marks }),
+            Err(AllocError) => Err(shelves),
+        }
+    }
+
+    /// The archives, in the order in which they were taken and brought.
+    pub fn hand_out(self) -> Vec<Shelf<A>>
+        ensures { result.items ≡ self.shelves }
+    {
+        let Archives { shelves, marks: _ } = self;
+        shelves
+    }
+
+    /// Reads the block of a slot of the archive of this number into `into`, where the slot has one.
+    ///
+    /// # Errors
+    /// `Failed` only where the archive's count of faults rose.
+    pub fn read(&mut self, number: u32, slot: u32, into: &mut Block) -> Result<Held, Failed>
+        requires { Contains (plain A.account.meaning self.old).numbers number }
+        ensures { OnShelves A.account (λ told. Answers told number slot into.new result) self.old self.new }
+    {
+        read(&mut self.shelves, number, slot, into)
+    }
+
+    /// Whether an archive has this number.
+    pub fn has(&self, number: u32) -> bool
+        ensures { IsTrue result ↔ Contains (numbers_of self.now.shelves) number }
+    {
+        place_of(&self.shelves, number).is_some()
+    }
+
+    /// Adds an archive of a number that none has, with its marks now.
+    ///
+    /// # Errors
+    /// The archive comes back, and nothing changed, for want of memory alone.
+    pub fn bring(&mut self, shelf: Shelf<A>) -> Result<(), Shelf<A>>
+        requires fresh { Contains (numbers_of self.old.shelves) shelf.number → ⊥ }
+        ensures brought { IfOk result (λ u. OnShelves A.account
+            (λ told. Brings told shelf.number (A.account.meaning shelf.archive)) self.old self.new) }
+        ensures refused { IfErr result (λ s. (s ≡ shelf) × (self.new ≡ self.old)) }
+    {
+        if self.shelves.reserve(1).is_err() {
+            return Err(shelf);
+        }
+        if self.marks.reserve(1).is_err() {
+            return Err(shelf);
+        }
+        let marks = shelf.archive.marks();
+        self.marks.push_reserved(marks);
+        self.shelves.push_reserved(shelf);
+        Ok(())
+    }
+
+    /// Folds the block of a slot of the archive of this number, times a weight, into a sum, which that archive hears as
+    /// it was before.
+    ///
+    /// # Errors
+    /// `Failed` only where the archive's count of faults rose; the sum is then as it was.
+    pub fn fold(
+        &mut self,
+        number: u32,
+        slot: u32,
+        weight: u8,
+        sum: &mut Block,
+    ) -> Result<Held, Failed>
+        requires weight { 0 < weight }
+        requires number { Contains (plain A.account.meaning self.old).numbers number }
+        ensures { OnShelves A.account (λ told. Folds told number slot weight sum.old sum.new result) self.old self.new }
+    {
+        fold(&mut self.shelves, number, slot, weight, sum)
+    }
+
+    /// Writes a block into a slot of the archive of this number.
+    ///
+    /// # Errors
+    /// `Failed` only where the archive's count of faults rose; the slot then has the old block, the new one or none.
+    pub fn write(&mut self, number: u32, slot: u32, block: &Block) -> Result<(), Failed>
+        requires { Contains (plain A.account.meaning self.old).numbers number }
+        ensures { OnShelves A.account (λ told. Writes told number slot block.now result) self.old self.new }
+    {
+        write(&mut self.shelves, number, slot, block)
+    }
+}
+
+/// The marks of archives now, in the same order.
+fn marks_of<A: Archive>(alloc: Global, shelves: &[Shelf<A>]) -> Result<Vec<Marks>, AllocError>
+    ensures faults { IfOk result (λ v. map (λ m. m.faults) v.items
+        ≡ map (λ s. (A.account.meaning s.archive).faults) shelves.now) }
+    ensures losses { IfOk result (λ v. IsTrue A.account.tells → map (λ m. m.losses) v.items
+        ≡ map (λ s. (A.account.meaning s.archive).losses) shelves.now) }
+{
+    let mut marks = Vec::with_capacity(alloc, shelves.len())?;
+    for shelf in shelves {
+        marks.push_reserved(shelf.archive.marks());
+    }
+    Ok(marks)
+}
+
+/// Reads a slot of the archive of this number.
+fn read<A: Archive>(
+    shelves: &mut Vec<Shelf<A>>,
+    number: u32,
+    slot: u32,
+    into: &mut Block,
+) -> Result<Held, Failed>
+    requires { Contains (numbers_of shelves.old.items) number }
+    ensures { OnShelf A.account number (λ told. Reads told slot into.new result) shelves.old.items shelves.new.items }
+{
+    let place = place_of(shelves, number).unwrap();
+    shelves[place].archive.read(slot, into)
+}
+
+/// Folds a slot of the archive of this number.
+fn fold<A: Archive>(
+    shelves: &mut Vec<Shelf<A>>,
+    number: u32,
+    slot: u32,
+    weight: u8,
+    sum: &mut Block,
+) -> Result<Held, Failed>
+    requires weight { 0 < weight }
+    requires number { Contains (numbers_of shelves.old.items) number }
+    ensures { OnShelf A.account number (λ told. FoldsOne told slot weight sum.old sum.new result)
+        shelves.old.items shelves.new.items }
+{
+    let place = place_of(shelves, number).unwrap();
+    shelves[place].archive.fold(slot, weight, sum)
+}
+
+/// Writes a slot of the archive of this number.
+fn write<A: Archive>(
+    shelves: &mut Vec<Shelf<A>>,
+    number: u32,
+    slot: u32,
+    block: &Block,
+) -> Result<(), Failed>
+    requires { Contains (numbers_of shelves.old.items) number }
+    ensures { OnShelf A.account number (λ told. WritesOne told slot block.now result)
+        shelves.old.items shelves.new.items }
+{
+    let place = place_of(shelves, number).unwrap();
+    shelves[place].archive.write(slot, block)
+}
+
+/// The place of the first archive of this number.
+fn place_of<A>(shelves: &[Shelf<A>], number: u32) -> Option<usize>
+    ensures { result ≡ position (λ s. s.number == number) shelves.now }
+{
+    shelves.iter().position(|shelf| shelf.number == number)
+}
+
+/// Whether a block has this digest.
+pub(crate) fn has_digest(block: &Block, digest: Digest) -> bool
+    ensures { IsTrue result ↔ digest_of block.now ≡ digest }
+{
+    digest_of(block.bytes()) == digest
+}
