@@ -62,6 +62,6 @@ pub record LosesOne (old new : LossyArchive) (slot : ℕ) : Type 0 where
   pub calls : archive_calls new ≡ archive_calls old
 
 -- after the losses listed for its call a write puts the block into its slot, or fails and writes nothing
-abbrev pub Writes : LossyArchive → LossyArchive → ℕ → List ℕ → Result (Unit {0}) Failed → Type 0
-Writes old new slot block (Ok u) = (k : ℕ) → held_in new k ≡ at_slot (held_after_losses old) slot (Some block) k
-Writes old new slot block (Err e) = (k : ℕ) → held_in new k ≡ held_after_losses old k
+abbrev pub WritesAfterLosses : LossyArchive → LossyArchive → ℕ → List ℕ → Result (Unit {0}) Failed → Type 0
+WritesAfterLosses old new slot block (Ok u) = (k : ℕ) → held_in new k ≡ at_slot (held_after_losses old) slot (Some block) k
+WritesAfterLosses old new slot block (Err e) = (k : ℕ) → held_in new k ≡ held_after_losses old k

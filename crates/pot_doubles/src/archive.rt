@@ -101,9 +101,10 @@ impl LossyArchive {
 
 impl Archive for LossyArchive {
     ghost use Rattle.std.specs.Prelude.{◌≡◌, ◌<◌, true, IsTrue};
-    ghost use Rattle.pot_outside.specs.Archives.{Meaning, Reads, Folds, Writes as WritesBlock};
+    ghost use Rattle.pot_outside.specs.Archives.{Meaning, Reads, Folds, Writes};
     ghost use Rattle.pot_doubles.specs.Calls.{Counted};
-    ghost use Rattle.pot_doubles.specs.Archives.{meaning_in, archive_calls, lost_by, losses_of, LosesListed, Writes, lost_after_losses};
+    ghost use Rattle.pot_doubles.specs.Archives.{meaning_in, archive_calls, lost_by, losses_of, LosesListed};
+    ghost use Rattle.pot_doubles.specs.Archives.{WritesAfterLosses, lost_after_losses};
 
     ghost account = { record { tells = true; meaning = meaning_in } };
 
@@ -146,8 +147,8 @@ impl Archive for LossyArchive {
     }
 
     fn write(&mut self, slot: u32, block: &Block) -> Result<(), Failed>
-        ensures writes { WritesBlock (IsTrue true) slot block.now result (meaning_in self.old) (meaning_in self.new) }
-        ensures wrote { Writes self.old self.new slot block.now result }
+        ensures writes { Writes (IsTrue true) slot block.now result (meaning_in self.old) (meaning_in self.new) }
+        ensures wrote { WritesAfterLosses self.old self.new slot block.now result }
         ensures lost { lost_by self.new ≡ lost_after_losses self.old }
         ensures listed { losses_of self.new ≡ losses_of self.old }
         ensures counted { Counted (archive_calls self.old) (archive_calls self.new) result }

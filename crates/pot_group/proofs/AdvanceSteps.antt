@@ -18,7 +18,7 @@ use Rattle.pot_steps.specs.GroupStep.{GroupState, log_bound}
 use Rattle.pot_steps.specs.RelaySteps.{Logged, AdvanceStep, Hopped, Ended, Faulted, Idle, HearsSum, Hears, ComesTo}
 use Rattle.pot_steps.proofs.CallLemmas.{stands, next_within}
 use Rattle.pot_steps.proofs.FlightLists.{relay_of, relay_of_flight, over_stripe}
-use Rattle.pot_shelves.specs.Shelves.{Shelves, LosesFrom, Folds}
+use Rattle.pot_shelves.specs.Shelves.{Shelves, LosesByCount, FoldsAt}
 use Rattle.pot_outside.specs.declared.archive.Held.{Held as IsHeld}
 use Rattle.pot_shelves.specs.Shelves.{Shelved, plain}
 use Rattle.pot_group.specs.Group.{view_of, noted, with_archives}
@@ -35,7 +35,7 @@ use Rattle.pot_steps.specs.Flight.{partial_of}
 use Rattle.pot_steps.specs.Flights.{IsFlying, FliesOver, WritesBack, without_flight}
 use Rattle.pot_steps.specs.RelaySteps.{Odd}
 use Rattle.pot_steps.proofs.CallLemmas.{legal_oddly, odd_broken}
-use Rattle.pot_shelves.specs.Shelves.{Writes, put_at}
+use Rattle.pot_shelves.specs.Shelves.{WritesAt, put_at}
 use Rattle.pot_group.specs.declared.relaying.AdvanceFault.{AdvanceFault}
 use Rattle.pot_group.specs.declared.relaying.AdvanceFault.TheVariants as failed
 use Rattle.pot_group.specs.Relaying.{EndsWell}
@@ -43,7 +43,7 @@ use Rattle.pot_group.proofs.RelayExits.{hop_step, missing, quiet_act, writes_bac
 
 module _ (told : Type 0) (g : GroupView) (now : Shelves) (job : ℕ) (f : Flight) (c : ℕ) (settled : IsSettled told g) (room : length g.log < log_bound)
     (here : flight_in g.flights f.relay.stripe ≡ Some f) (next : next_column g.table f.relay ≡ Some c) (within : f.relay.stripe < g.table.stripes)
-    (loses : told → LosesFrom g.shelves.held g.shelves now) where
+    (loses : told → LosesByCount g.shelves.held g.shelves now) where
   at : relay_at g.table f.relay.stripe ≡ Some f.relay
   at = relay_of_flight g.table g.flights f.relay.stripe settled.relays ∙ ap relay_of here
 
@@ -142,7 +142,7 @@ module _ {A : Type 0} (told : Type 0) (meaning : A → Meaning) (old : GroupPart
     mid = with_archives old b
 
     abbrev Folded : Result IsHeld Failed → Type 0
-    Folded r = Folds told (serving_at old.table f.relay.stripe c) f.relay.stripe (weight_in old.table.data_columns f.relay c) f.sum sum r (plain meaning old.archives) (plain meaning b)
+    Folded r = FoldsAt told (serving_at old.table f.relay.stripe c) f.relay.stripe (weight_in old.table.data_columns f.relay c) f.sum sum r (plain meaning old.archives) (plain meaning b)
 
     pub absent_exit : (new : GroupParts A) → Left (with_archives old b) new → Folded (Ok Absent) → told → AdvanceStep job f.relay.stripe Ended (state_of (view old)) (state_of (view new))
     absent_exit new left folds t = subst (λ (w : GroupParts A). AdvanceStep job f.relay.stripe Ended (state_of (view old)) (state_of (view w))) (sym (at_next _ (next_column old.table f.relay) c next left))
@@ -243,8 +243,8 @@ module _ (told : Type 0) (g : GroupView) (job : ℕ) (f : Flight) (settled : IsS
         lost = (λ n q b e. e);
         acts = subst (λ o. IsSomeAnd o (λ x. WritesBack g.table g.shelves.held (put_at g.shelves.held (serving_at g.table f.relay.stripe f.relay.target) f.relay.stripe (Some (partial_of f))) x f.relay.stripe f.relay.target)) (sym here)
             (writes_back told g new.shelves job f.relay.stripe f.relay.target f settled room here m.0.legal (digest ∙ ap (λ b. Some (digest_of b)) is)
-            (subst (λ b. Writes told (serving_at g.table f.relay.stripe f.relay.target) f.relay.stripe b (Ok (tt)) g.shelves new.shelves) is m.1) t);
-        loses = (λ n q b e. (subst (λ left. LosesFrom (put_at g.shelves.held (serving_at g.table f.relay.stripe f.relay.target) f.relay.stripe left) g.shelves new.shelves) ((m.1.wrote t).1 ∙ ap Some is) (m.1.wrote t).2 n).keeps q b e);
+            (subst (λ b. WritesAt told (serving_at g.table f.relay.stripe f.relay.target) f.relay.stripe b (Ok (tt)) g.shelves new.shelves) is m.1) t);
+        loses = (λ n q b e. (subst (λ left. LosesByCount (put_at g.shelves.held (serving_at g.table f.relay.stripe f.relay.target) f.relay.stripe left) g.shelves new.shelves) ((m.1.wrote t).1 ∙ ap Some is) (m.1.wrote t).2 n).keeps q b e);
       },
       m.1.heard t,
     )

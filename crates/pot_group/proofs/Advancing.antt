@@ -25,7 +25,7 @@ use Rattle.pot_group.specs.declared.relaying.Advanced.{Advanced}
 use Rattle.pot_group.specs.declared.relaying.Advanced.TheVariants as advanced
 use Rattle.pot_group.specs.declared.relaying.AdvanceFault.{AdvanceFault}
 use Rattle.pot_group.specs.declared.relaying.AdvanceFault.TheVariants as failed
-use Rattle.pot_shelves.specs.Shelves.{Shelved, Keeps, Folds, LosesFrom, NoneLost, WritesInto, plain, put_at}
+use Rattle.pot_shelves.specs.Shelves.{Shelved, Keeps, FoldsAt, LosesByCount, NoneLost, WritesInto, plain, put_at}
 use Rattle.pot_group.specs.Group.{GroupView, GroupParts, IsSettled, noted, view_of, with_archives, state_of}
 use Rattle.pot_group.specs.Relaying.{Acts, Advances, AtEnd, EndsWell, HopsOver, Moves, OnWay, acted}
 use Rattle.pot_group.proofs.AdvanceSteps.{at_next, absent_exit, dead_exit, failed_exit, fault_legal, gave_up, odd_legal, odd_step, over_exit, some_differs, well_step}
@@ -59,11 +59,11 @@ module _ {A : Type 0} (told : Type 0) (meaning : A → Meaning) (old : GroupPart
 
   -- nothing was written
   lost_only : (b : Shelved A) (e : Entry) (given : List ℕ) (new : GroupParts A) → new ≡ acted (with_archives old b) e given
-      → (told → LosesFrom (plain meaning old.archives).held (plain meaning old.archives) (plain meaning b)) → told → LosesFrom (view_of meaning old).shelves.held (view_of meaning old).shelves (view_of meaning new).shelves
-  lost_only b e given new is loses t = subst (λ (w : GroupParts A). LosesFrom (view_of meaning old).shelves.held (view_of meaning old).shelves (view_of meaning w).shelves) (sym is) (loses t)
+      → (told → LosesByCount (plain meaning old.archives).held (plain meaning old.archives) (plain meaning b)) → told → LosesByCount (view_of meaning old).shelves.held (view_of meaning old).shelves (view_of meaning new).shelves
+  lost_only b e given new is loses t = subst (λ (w : GroupParts A). LosesByCount (view_of meaning old).shelves.held (view_of meaning old).shelves (view_of meaning w).shelves) (sym is) (loses t)
 
   lossless_at : (b : Shelved A) (e : Entry) (given : List ℕ) (new : GroupParts A) → new ≡ acted (with_archives old b) e given → Lessens e
-      → (told → LosesFrom (plain meaning old.archives).held (plain meaning old.archives) (plain meaning b)) → told
+      → (told → LosesByCount (plain meaning old.archives).held (plain meaning old.archives) (plain meaning b)) → told
       → NoneLost (view_of meaning old).shelves (view_of meaning new).shelves → LosesNothing (state_of (view_of meaning old)) (state_of (view_of meaning new))
   lossless_at b e given new is less loses t none = lossless_less (view_of meaning old) (view_of meaning new) (view_of meaning old).shelves.held
       (lost_only b e given new is loses t) none (λ n k x ln lk live q. q) e less (ap (λ (w : GroupParts A). w.table) is)
@@ -83,7 +83,7 @@ module _ {A : Type 0} (told : Type 0) (meaning : A → Meaning) (old : GroupPart
 
   module _ (b : Shelved A) (sum : List ℕ) (live : IsTrue (is_live (slot_at old.table f.relay.stripe c))) where
     abbrev pub Folded : Result IsHeld Failed → Type 0
-    Folded r = Folds told (serving_at old.table f.relay.stripe c) f.relay.stripe (weight_in old.table.data_columns f.relay c) f.sum sum r (plain meaning old.archives) (plain meaning b)
+    Folded r = FoldsAt told (serving_at old.table f.relay.stripe c) f.relay.stripe (weight_in old.table.data_columns f.relay c) f.sum sum r (plain meaning old.archives) (plain meaning b)
 
     pub absent_advances : (new : GroupParts A) → IsSomeAnd (next_column old.table f.relay) (λ c. new ≡ acted (with_archives old b) (GaveUp job f.relay.stripe f.relay.target c) []) → Folded (Ok Absent)
         → Advances told job f.relay.stripe (Ok advanced.Ended) (view_of meaning old) (view_of meaning new)
@@ -139,7 +139,7 @@ module _ {A : Type 0} (told : Type 0) (meaning : A → Meaning) (old : GroupPart
       keeps = keeps_at b (Fault job f.relay.stripe c) [] new is folds.keeps;
       steps = failed_exit told meaning old job f c settled room here next within b sum live new e is folds;
       lossless = lossless_at b (Fault job f.relay.stripe c) [] new is tt folds.loses;
-      writes = λ t. inl (on_way (λ f2 k. LosesFrom (view_of meaning old).shelves.held (view_of meaning old).shelves (view_of meaning new).shelves) (lost_only b (Fault job f.relay.stripe c) [] new is folds.loses t));
+      writes = λ t. inl (on_way (λ f2 k. LosesByCount (view_of meaning old).shelves.held (view_of meaning old).shelves (view_of meaning new).shelves) (lost_only b (Fault job f.relay.stripe c) [] new is folds.loses t));
     }
 
 -- A RELAY THAT WENT OVER ALL ITS COLUMNS
@@ -186,7 +186,7 @@ module _ (told : Type 0) (g : GroupView) (job : ℕ) (f : Flight) (settled : IsS
       keeps = m.1.keeps;
       steps = well_step told g job f settled room here next block is digest new (Ok advanced.Mended) m;
       lossless = λ t none. lossless_mended g new (put_at g.shelves.held (serving_at g.table f.relay.stripe f.relay.target) f.relay.stripe (Some block))
-          (subst (λ left. LosesFrom (put_at g.shelves.held (serving_at g.table f.relay.stripe f.relay.target) f.relay.stripe left) g.shelves new.shelves) ((m.1.wrote t).1) (m.1.wrote t).2) none
+          (subst (λ left. LosesByCount (put_at g.shelves.held (serving_at g.table f.relay.stripe f.relay.target) f.relay.stripe left) g.shelves new.shelves) ((m.1.wrote t).1) (m.1.wrote t).2) none
           (λ n k x ln lk live h. untouched told g new.shelves job f block settled room here next (Some block) n k lk live ∙ h)
           job f.relay.stripe f.relay.target block m.0.legal.0.1 (λ n q. refl) m.0.table;
       writes = λ t. at_end (λ f2. WritesInto (serving_at g.table f.relay.stripe f2.relay.target) f.relay.stripe (partial_of f2) (Ok (tt)) g.shelves new.shelves)

@@ -8,7 +8,7 @@ use Rattle.pot_group.specs.declared.putting.Stop.{Stop}
 use Rattle.pot_group.specs.declared.putting.Stop.TheVariants as stop
 use Rattle.pot_shelves.specs.Shelves.{Keeps}
 use Rattle.pot_group.specs.Group.{GroupView}
-use Rattle.pot_group.specs.Putting.{Finds, BlockMeans}
+use Rattle.pot_group.specs.Putting.{FindsStripe, BlockMeans}
 use Rattle.pot_shelves.proofs.ShelfLemmas.{keeps_then}
 
 pub block_keeps : (told : Type 0) (job : ℕ) (block p q : List ℕ) (result : Result Place PutFault) (old new : GroupView)
@@ -19,10 +19,10 @@ block_keeps told job block p q (Err (fault.Faulted column)) old new (inr m) = m.
 block_keeps told job block p q (Err fault.Full) old new m = absurd m
 block_keeps told job block p q (Err fault.LogFull) old new m = absurd m
 
-pub find_keeps : (told : Type 0) (job : ℕ) (p q : List ℕ) (s : Stop) (old new : GroupView) → Finds told job p q s old new → Keeps old.shelves new.shelves
+pub find_keeps : (told : Type 0) (job : ℕ) (p q : List ℕ) (s : Stop) (old new : GroupView) → FindsStripe told job p q s old new → Keeps old.shelves new.shelves
 find_keeps told job p q s old new f = keeps_then old.shelves f.now.shelves new.shelves f.passes.stays.keeps f.stays.keeps
 
-pub here_keeps : (told : Type 0) (job : ℕ) (p q block : List ℕ) (old mid new : GroupView) → Finds told job p q stop.Here old mid
+pub here_keeps : (told : Type 0) (job : ℕ) (p q block : List ℕ) (old mid new : GroupView) → FindsStripe told job p q stop.Here old mid
     → (result : Result Place PutFault) → BlockMeans told job block p q result mid new → Keeps old.shelves new.shelves
 here_keeps told job p q block old mid new f result m =
     keeps_then old.shelves mid.shelves new.shelves (find_keeps told job p q stop.Here old mid f) (block_keeps told job block p q result mid new m)

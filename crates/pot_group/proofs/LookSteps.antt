@@ -7,7 +7,7 @@ use Rattle.pot_machine.specs.Slot.{is_live}
 use Rattle.pot_machine.specs.Table.{width, serving_at}
 use Rattle.pot_machine.specs.Machine.{Legal, Replays, after}
 use Rattle.pot_steps.specs.Stripe.{digest_of}
-use Rattle.pot_steps.specs.GroupStep.{Logs as LogsStep, LookMeans, log_bound, look_entries}
+use Rattle.pot_steps.specs.GroupStep.{LogsInStep, LookMeans, log_bound, look_entries}
 use Rattle.pot_group.specs.declared.answers.Looked.{Looked}
 use Rattle.pot_group.specs.declared.answers.Looked.TheVariants as looked
 use Rattle.pot_group.specs.declared.reads.Found.TheVariants as found
@@ -46,7 +46,7 @@ module _ (told : Type 0) (g mid : GroupView) (job : ℕ) (place : Place) (into :
       cause = cause;
       stays = stays;
       step = λ t. record {
-        logs = subst (λ es. LogsStep es (state_of g) (state_of (after_look e))) says (record { log = refl; room = room_for g e room; flights = refl; heard = stays.heard t });
+        logs = subst (λ es. LogsInStep es (state_of g) (state_of (after_look e))) says (record { log = refl; room = room_for g e room; flights = refl; heard = stays.heard t });
         replay = subst (λ es. Replays g.table es (after g.table e)) says (legal, refl);
         loses = (λ n m b h. (stays.loses t n).keeps m b h);
         means = means t;

@@ -12,7 +12,7 @@ use Rattle.pot_steps.specs.Losses.{KeepsHeld}
 use Rattle.pot_steps.specs.Mending.{LosesNothing}
 use Rattle.pot_steps.proofs.Acting.{Lessens, slots_less}
 use Rattle.pot_steps.proofs.Changes.{live_before}
-use Rattle.pot_shelves.specs.Shelves.{LosesFrom, NoneLost, put_at}
+use Rattle.pot_shelves.specs.Shelves.{LosesByCount, NoneLost, put_at}
 use Rattle.pot_group.specs.Group.{GroupView, state_of}
 use Rattle.pot_shelves.proofs.ShelfLemmas.{put_at-here}
 
@@ -24,7 +24,7 @@ pub lossless_same : (g : GroupView) → LosesNothing (state_of g) (state_of g)
 lossless_same g = record { kept = (λ n c b ln lc live e. e); written = (λ n c ln lc dead live q. no (sym dead ∙ live)) }
 
 -- `h` is what the archives were to hold after the call, before any loss.
-module _ (g new : GroupView) (h : Holdings) (loses : LosesFrom h g.shelves new.shelves) (none : NoneLost g.shelves new.shelves) (kept : KeepsHeld g.table g.shelves.held h) where
+module _ (g new : GroupView) (h : Holdings) (loses : LosesByCount h g.shelves new.shelves) (none : NoneLost g.shelves new.shelves) (kept : KeepsHeld g.table g.shelves.held h) where
   held_now : (number slot : ℕ) → new.shelves.held number slot ≡ h number slot
   held_now number slot = (loses number).same slot (none number).0 (none number).1
 

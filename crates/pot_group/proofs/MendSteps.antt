@@ -22,7 +22,7 @@ use Rattle.pot_machine.specs.Machine.{after}
 use Rattle.pot_machine.specs.declared.entry.Entry.TheVariants.{Begin, Stuck}
 use Rattle.pot_steps.specs.Mending.{LosesNothing}
 use Rattle.pot_steps.proofs.Acting.{Lessens}
-use Rattle.pot_shelves.specs.Shelves.{Keeps, LosesFrom, NoneLost}
+use Rattle.pot_shelves.specs.Shelves.{Keeps, LosesByCount, NoneLost}
 use Rattle.pot_group.specs.Group.{GroupView, IsSettled, state_of}
 use Rattle.pot_group.specs.Relaying.{Drives, Moves, Owns, answered}
 use Rattle.pot_group.specs.Calls.{AdvanceCall, BeginCall, Made, MendCall, RelayEntries}
@@ -77,8 +77,8 @@ module _ (told : Type 0) (job : ℕ) (place : Place) (blind : List ℕ) where
     keeps_same : new.shelves ≡ old.shelves → Keeps old.shelves new.shelves
     keeps_same e = subst (λ s. Keeps old.shelves s) (sym e) (keeps_refl old.shelves)
 
-    loses_same : new.shelves ≡ old.shelves → LosesFrom old.shelves.held old.shelves new.shelves
-    loses_same e = subst (λ s. LosesFrom old.shelves.held old.shelves s) (sym e) (loses_refl old.shelves)
+    loses_same : new.shelves ≡ old.shelves → LosesByCount old.shelves.held old.shelves new.shelves
+    loses_same e = subst (λ s. LosesByCount old.shelves.held old.shelves s) (sym e) (loses_refl old.shelves)
 
     lossless_one : (e : Entry) → Lessens e → new.table ≡ after old.table e → new.shelves ≡ old.shelves → NoneLost old.shelves new.shelves
         → LosesNothing (state_of old) (state_of new)

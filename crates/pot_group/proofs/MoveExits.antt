@@ -15,7 +15,7 @@ use Rattle.pot_steps.specs.Stripe.{Sound, IsSound}
 use Rattle.pot_steps.specs.Holdings.{stripe_of}
 use Rattle.pot_steps.specs.GroupStep.{log_bound}
 use Rattle.pot_steps.specs.Flights.{Acts, Copies, flights_after}
-use Rattle.pot_shelves.specs.Shelves.{Shelves, LosesFrom, Writes, put_at}
+use Rattle.pot_shelves.specs.Shelves.{Shelves, LosesByCount, WritesAt, put_at}
 use Rattle.pot_group.specs.Causes.{Covers, HasLost, Misses, archives_of, faults_in, fault_of, risen}
 use Rattle.pot_group.specs.Group.{GroupView, IsSettled}
 use Rattle.pot_group.proofs.CauseLemmas.{archives_of-snoc, covers-one, covers-stays}
@@ -118,7 +118,7 @@ module _ (told : Type 0) (g : GroupView) (s c : ℕ) (m : Moving) (settled : IsS
   ])
 
   -- The write to the target failed.
-  module _ (now : Shelves) (job : ℕ) (block : List ℕ) (room : length g.log < log_bound) (stripe : s < g.table.stripes) (e : Failed) (w : Writes told m.to s block (Err e) g.shelves now) where
+  module _ (now : Shelves) (job : ℕ) (block : List ℕ) (room : length g.log < log_bound) (stripe : s < g.table.stripes) (e : Failed) (w : WritesAt told m.to s block (Err e) g.shelves now) where
     pub uncopied_settled : IsSettled told (record g { table = after g.table (Fault job s c); log = g.log ++ Fault job s c ∷ []; shelves = now })
     uncopied_settled = settled_act told g (Fault job s c) [] now (λ t. put_at g.shelves.held m.to s (w.wrote t).0) settled (stripe, column) room w.keeps
         (same_columns told g (Fault job s c) now settled w.keeps refl (λ k. refl)) (λ t. (w.wrote t).2)
@@ -133,7 +133,7 @@ module _ (told : Type 0) (g : GroupView) (s c : ℕ) (m : Moving) (settled : IsS
 
   -- The block that the home held was written to the target.
   module _ (now : Shelves) (job : ℕ) (block : List ℕ) (room : length g.log < log_bound)
-      (legal : Legal g.table (Moved job s c true)) (sound : told → IsSound (stripe_of g.table g.shelves.held s) c block) (w : Writes told m.to s block (Ok (tt)) g.shelves now) where
+      (legal : Legal g.table (Moved job s c true)) (sound : told → IsSound (stripe_of g.table g.shelves.held s) c block) (w : WritesAt told m.to s block (Ok (tt)) g.shelves now) where
     served_now : serving_at (after g.table (Moved job s c true)) s c ≡ m.to
     served_now = ap (λ x. serving x s) (column_same g.table c _ settled.table.size.columns column) ∙ ap (λ x. serving (moved_on x) s) in_column ∙ past_position m (column_at g.table c).home s position
 
@@ -147,7 +147,7 @@ module _ (told : Type 0) (g : GroupView) (s c : ℕ) (m : Moving) (settled : IsS
 
     pub copied_settled : IsSettled told (record g { table = after g.table (Moved job s c true); log = g.log ++ Moved job s c true ∷ []; shelves = now })
     copied_settled = settled_act told g (Moved job s c true) [] now (λ t. put_at g.shelves.held m.to s (Some block)) settled legal room w.keeps columns
-        (λ t. subst (λ left. LosesFrom (put_at g.shelves.held m.to s left) g.shelves now) ((w.wrote t).1) (w.wrote t).2) copies
+        (λ t. subst (λ left. LosesByCount (put_at g.shelves.held m.to s left) g.shelves now) ((w.wrote t).1) (w.wrote t).2) copies
         (λ t none n k b ln lk live h. beside (Some block) n k lk ∙ h)
         (λ k lk. covers-more told g (Moved job s c true) now k columns _ (archives-more g.first g.log k (Moved job s c true))
         (covers-stays g.shelves now (archives_of g.first g.log k) (faults_in g.first.data_columns k g.log) w.keeps.later w.keeps.faults_taken (settled.causes.faults k lk)))

@@ -13,7 +13,7 @@ use Rattle.pot_shelves.specs.Shelves.{Shelved, plain, Brings}
 use Rattle.pot_group.specs.Group.{GroupView, GroupParts, IsSettled, view_of, with_archives}
 use Rattle.pot_group.specs.Relaying.{acted}
 use Rattle.pot_group.specs.Moving.{Comes, MoveUse}
-use Rattle.pot_steps.specs.Entries.{OnlyLoses}
+use Rattle.pot_steps.specs.Entries.{LosesAtLive}
 use Rattle.pot_steps.specs.Flights.{Acts}
 use Rattle.pot_steps.specs.Holdings.{Holdings}
 use Rattle.pot_group.proofs.BeginSteps.{none_least}
@@ -58,7 +58,7 @@ swap_legal told meaning old mid job c to settled column fresh e =
 module _ {A : Type 0} (told : Type 0) (meaning : A → Meaning) (old mid new : GroupParts A) (shelf : Shelf A) (settled : IsSettled told (view_of meaning old)) (room : length old.log < log_bound)
     (fresh : Contains (plain meaning old.archives).numbers shelf.number → ⊥) (em : mid ≡ with_archives old mid.archives)
     (brings : Brings told shelf.number (meaning shelf.archive) (plain meaning old.archives) (plain meaning mid.archives)) where
-  came_by : (e : Entry) → Legal old.table e → ((h h' : Holdings) → OnlyLoses old.table h h' → Acts old.table old.flights [] e h h')
+  came_by : (e : Entry) → Legal old.table e → ((h h' : Holdings) → LosesAtLive old.table h h' → Acts old.table old.flights [] e h h')
       → Comes told meaning e shelf (view_of meaning old) (view_of meaning (acted (with_archives old mid.archives) e []))
   came_by e legal acts = record {
     room = room;

@@ -20,9 +20,9 @@ use Rattle.pot_steps.specs.Holdings.{stripe_of}
 use Rattle.pot_steps.specs.GroupStep.{Passed, IsMissing, skips, gone_entries, log_bound}
 use Rattle.pot_group.specs.declared.putting.Stop.{Stop}
 use Rattle.pot_group.specs.declared.putting.Stop.TheVariants as stop
-use Rattle.pot_shelves.specs.Shelves.{Shelves, Stays, LosesFrom}
+use Rattle.pot_shelves.specs.Shelves.{Shelves, Stays, LosesByCount}
 use Rattle.pot_group.specs.Group.{GroupView, Logs, FitsGone, state_of}
-use Rattle.pot_group.specs.Putting.{FoundGone, IsLeast, Passes, PassesAll, Finds}
+use Rattle.pot_group.specs.Putting.{FoundGone, IsLeast, Passes, PassesAll, FindsStripe}
 use Rattle.pot_shelves.proofs.ShelfLemmas.{stays_refl, stays_then}
 
 -- an entry is logged, and does in the table what it says
@@ -110,7 +110,7 @@ logs_from : (entries : List Entry) (old : GroupView) (s : Shelves) (new : GroupV
 logs_from entries old s new l = record { number = l.number; first = l.first; log = l.log; flights = l.flights; replay = l.replay }
 
 -- what was sound after a loss was sound before it
-pub sound_before : (t : Table) (a b : Shelves) (n k : ℕ) → LosesFrom a.held a b → Sound (stripe_of t b.held n) k → Sound (stripe_of t a.held n) k
+pub sound_before : (t : Table) (a b : Shelves) (n k : ℕ) → LosesByCount a.held a b → Sound (stripe_of t b.held n) k → Sound (stripe_of t a.held n) k
 sound_before t a b n k l x = (x.0, record { digest = x.1.digest; live = x.1.live; held = (l (serving_at t n k)).keeps n x.0 x.1.held; right = x.1.right })
 
 -- what was found gone after a read
@@ -188,7 +188,7 @@ passed_one : (told : Type 0) (job : ℕ) (p q : List ℕ) (now new : GroupView) 
 passed_one told job p q now new x = crossed now.table new.table job now.table.cursor.stripe x.means.0 x.means.2.replay
 
 -- what is missing is missing under later losses
-pub missing_on : (old : GroupView) (now new : Shelves) (s : ℕ) (gone : Option ℕ) → LosesFrom now.held now new
+pub missing_on : (old : GroupView) (now new : Shelves) (s : ℕ) (gone : Option ℕ) → LosesByCount now.held now new
     → IfSome gone (λ c. IsMissing (state_of old) now.held s c) → IfSome gone (λ c. IsMissing (state_of old) new.held s c)
 missing_on old now new s None l m = tt
 missing_on old now new s (Some c) l m = record {
@@ -308,5 +308,5 @@ fewer_left told job p q now new one =
 
 -- the put stops at the next stripe
 pub finds_at : (told : Type 0) (job : ℕ) (passed : List Passed) (p q : List ℕ) (s : Stop) (old now new : GroupView) → PassesAll told job passed old now
-    → Passes told job p q (Some s) now new → Finds told job p q s old new
+    → Passes told job p q (Some s) now new → FindsStripe told job p q s old new
 finds_at told job passed p q s old now new all one = record { passed = passed; now = now; passes = all; stays = one.stays; means = one.means }

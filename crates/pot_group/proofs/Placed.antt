@@ -5,19 +5,20 @@ use Rattle.std.proofs.lemmas.List.Elements.{All-weaker, All-nil}
 use Rattle.pot_bytes.specs.declared.rack.Place.{Place}
 use Rattle.pot_bytes.specs.Sums.{xor}
 use Rattle.pot_bytes.specs.Weighted.{scaled}
+use Rattle.pot_outside.specs.Failing.{MayLeave}
 use Rattle.pot_gf.specs.Field.{power}
 use Rattle.pot_outside.specs.Counts.{Rose}
 use Rattle.pot_machine.specs.declared.entry.Entry.{Entry}
 use Rattle.pot_machine.specs.declared.entry.Entry.TheVariants as entry
 use Rattle.pot_machine.specs.Table.{Table, width, serving_at, slot_at}
 use Rattle.pot_machine.specs.Machine.{TakesBlocks, Replays}
-use Rattle.pot_steps.specs.GroupStep.{Logs as StepLogs, Loses, Passed, PassesTo, PutsBlock, PutStep, PutFailed, IsMissing, IsLeft, log_bound, skips, gone_entries, put_entry, unkept}
+use Rattle.pot_steps.specs.GroupStep.{LogsInStep, LosesBlocks, Passed, PassesTo, PutsBlock, PutStep, PutFailed, IsMissing, log_bound, skips, gone_entries, put_entry, unkept}
 use Rattle.pot_group.specs.declared.answers.PutFault.{PutFault}
 use Rattle.pot_group.specs.declared.answers.PutFault.TheVariants as fault
 use Rattle.pot_group.specs.declared.putting.Stop.TheVariants as stop
-use Rattle.pot_shelves.specs.Shelves.{Stays, LosesFrom, put_at}
+use Rattle.pot_shelves.specs.Shelves.{Stays, LosesByCount, put_at}
 use Rattle.pot_group.specs.Group.{GroupView, Logs, FailedAt, state_of, put_as, FitsSlot, FitsParity, FitsGone}
-use Rattle.pot_group.specs.Putting.{PassesAll, Finds, HasOld, PutsAll, PutsNone, BlockMeans, IsKept}
+use Rattle.pot_group.specs.Putting.{PassesAll, FindsStripe, HasOld, PutsAll, PutsNone, BlockMeans, IsKept}
 use Rattle.pot_group.proofs.Rows.{PutMade}
 use Rattle.pot_group.proofs.Passing.{logs_then, same_serving, missing_on, missing_here, fits_gone}
 use Rattle.pot_shelves.proofs.ShelfLemmas.{put_at-here, put_at-other, rose_on}
@@ -38,7 +39,7 @@ module _ (told : Type 0) (job : ℕ) (passed : List Passed) (old now mid : Group
   since : (n : ℕ) → old.shelves.faults n ≤ mid.shelves.faults n
   since n = omega (arith, passes.stays.keeps.later n, stays.keeps.later n)
 
-  only_lost : told → Loses old.shelves.held mid.shelves.held
+  only_lost : told → LosesBlocks old.shelves.held mid.shelves.held
   only_lost t n m b e = (passes.stays.loses t n).keeps m b ((stays.loses t n).keeps m b e)
 
   same_heard : told → (n : ℕ) → mid.shelves.heard n ≡ old.shelves.heard n
@@ -58,7 +59,7 @@ module _ (told : Type 0) (job : ℕ) (passed : List Passed) (old now mid : Group
   }
 
   logged : told → (entries : List Entry) (new : GroupView) → Logs entries old new → length new.log ≤ log_bound → ((n : ℕ) → new.shelves.heard n ≡ mid.shelves.heard n)
-      → StepLogs entries (state_of old) (state_of new)
+      → LogsInStep entries (state_of old) (state_of new)
   logged t entries new l room heard = record { log = l.log; room = room; flights = l.flights; heard = (λ n. heard n ∙ same_heard t n) }
 
   -- an archive that failed after it failed in the whole call
@@ -69,7 +70,7 @@ module _ (told : Type 0) (job : ℕ) (passed : List Passed) (old now mid : Group
 
 -- NO STRIPE IS LEFT
 
-module _ (told : Type 0) (job : ℕ) (p q block : List ℕ) (old mid : GroupView) (f : Finds told job p q stop.Full old mid) where
+module _ (told : Type 0) (job : ℕ) (p q block : List ℕ) (old mid : GroupView) (f : FindsStripe told job p q stop.Full old mid) where
   behind : mid.table.cursor.stripe ≡ mid.table.stripes
   behind = subst (λ t. t.cursor.stripe ≡ t.stripes) (sym f.means.0.replay) f.means.1
 
@@ -116,7 +117,7 @@ gone_stays job s None t u r l = subst (λ v. v.cursor.stripe < v.stripes) (sym r
 gone_stays job s (Some c) t u r l = subst (λ v. v.cursor.stripe < v.stripes) (sym r.1) l
 
 -- after some entries
-module _ (told : Type 0) (job : ℕ) (p q block : List ℕ) (old mid : GroupView) (f : Finds told job p q stop.LogFull old mid) where
+module _ (told : Type 0) (job : ℕ) (p q block : List ℕ) (old mid : GroupView) (f : FindsStripe told job p q stop.LogFull old mid) where
   as_far : Logs (skips job f.passed ++ gone_entries job f.now.table.cursor.stripe f.means.0) old mid
   as_far = logs_then (skips job f.passed) (gone_entries job f.now.table.cursor.stripe f.means.0) old f.now mid f.passes.logs f.means.2
 
@@ -154,7 +155,7 @@ module _ (told : Type 0) (job : ℕ) (p q block : List ℕ) (old mid : GroupView
 
 -- A PARITY COLUMN FAILED
 
-module _ (told : Type 0) (job : ℕ) (p q block : List ℕ) (old mid : GroupView) (column : ℕ) (f : Finds told job p q (stop.Faulted column) old mid) where
+module _ (told : Type 0) (job : ℕ) (p q block : List ℕ) (old mid : GroupView) (column : ℕ) (f : FindsStripe told job p q (stop.Faulted column) old mid) where
   fault_logged : Logs (skips job f.passed ++ entry.Fault job f.now.table.cursor.stripe column ∷ []) old mid
   fault_logged = logs_then (skips job f.passed) (entry.Fault job f.now.table.cursor.stripe column ∷ []) old f.now mid f.passes.logs f.means.0
 
@@ -193,7 +194,7 @@ new_block : (kept : Bool) (was left : Option (List ℕ)) (new : List ℕ) → Is
 new_block true was left new k e = k
 new_block false was left new k e = absurd (cc)
 
-left_block : (kept : Bool) (was left : Option (List ℕ)) (new : List ℕ) → IsKept kept was new left → kept ≡ false → IsLeft was new left
+left_block : (kept : Bool) (was left : Option (List ℕ)) (new : List ℕ) → IsKept kept was new left → kept ≡ false → MayLeave was new left
 left_block true was left new k e = absurd (cc)
 left_block false was left new k e = k
 
@@ -221,7 +222,7 @@ puts_block told job s c block p q kept kept2 mid new puts t old =
       loses = (λ n m b e. (w.2 n).keeps m b e);
     }
 
-module _ (told : Type 0) (job : ℕ) (p q block : List ℕ) (old mid new : GroupView) (f : Finds told job p q stop.Here old mid) where
+module _ (told : Type 0) (job : ℕ) (p q block : List ℕ) (old mid new : GroupView) (f : FindsStripe told job p q stop.Here old mid) where
   same_parity : mid.table.parity ≡ old.table.parity
   same_parity = ap (λ t. t.parity) f.means.0.replay ∙ f.passes.parity
 
@@ -313,11 +314,11 @@ module _ (told : Type 0) (job : ℕ) (p q block : List ℕ) (old mid new : Group
   passes_here t = passes_to told job f.passed old f.now mid f.passes f.stays mid.table f.means.0.replay t
 
   logged_here : told → (entries : List Entry) → Logs entries old new → length new.log ≤ log_bound → ((n : ℕ) → new.shelves.heard n ≡ mid.shelves.heard n)
-      → StepLogs entries (state_of old) (state_of new)
+      → LogsInStep entries (state_of old) (state_of new)
   logged_here t entries l room heard = logged told job f.passed old f.now mid f.passes f.stays t entries new l room heard
 
   -- the entry of the put
-  put_here : told → (s c : ℕ) (kept kept2 : Bool) → PutsAll told job s c block p q kept kept2 mid new → StepLogs (skips job f.passed ++ put_entry mid.table.parity job s c block p q kept kept2 ∷ []) (state_of old) (state_of new)
+  put_here : told → (s c : ℕ) (kept kept2 : Bool) → PutsAll told job s c block p q kept kept2 mid new → LogsInStep (skips job f.passed ++ put_entry mid.table.parity job s c block p q kept kept2 ∷ []) (state_of old) (state_of new)
   put_here t s c kept kept2 puts =
       let e : Entry = put_entry mid.table.parity job s c block p q kept kept2 in
       logged_here t (skips job f.passed ++ e ∷ []) (all_logged e puts.logs) (has_room e puts.logs) (puts.writes.heard t)
@@ -328,7 +329,7 @@ module _ (told : Type 0) (job : ℕ) (p q block : List ℕ) (old mid new : Group
   none_step column puts e t =
       let s : ℕ = mid.table.cursor.stripe in
       let n : ℕ = serving_at mid.table s column in
-      let holds : (left : Option (List ℕ)) × IsLeft (mid.shelves.held n s) block left × LosesFrom (put_at mid.shelves.held n s left) mid.shelves new.shelves = puts.holds t in
+      let holds : (left : Option (List ℕ)) × MayLeave (mid.shelves.held n s) block left × LosesByCount (put_at mid.shelves.held n s left) mid.shelves new.shelves = puts.holds t in
       record {
         passed = f.passed;
         at = mid.table;
@@ -342,7 +343,7 @@ module _ (told : Type 0) (job : ℕ) (p q block : List ℕ) (old mid new : Group
         written = put_at mid.shelves.held n s holds.0;
         left = inr (
           e,
-          subst (λ x. IsLeft (mid.shelves.held n s) block x) (sym (put_at-here mid.shelves.held n s holds.0)) holds.1,
+          subst (λ x. MayLeave (mid.shelves.held n s) block x) (sym (put_at-here mid.shelves.held n s holds.0)) holds.1,
           λ k m d. put_at-other mid.shelves.held n s holds.0 k m (elim d [ inl x ↦ inr x | inr x ↦ inl (λ q. x (sym q)) ]),
         );
         loses = (λ k m b h. (holds.2 k).keeps m b h);

@@ -11,7 +11,7 @@ use Rattle.pot_machine.proofs.Cases.{same_or}
 use Rattle.pot_machine.proofs.Columns.{serving_apart}
 use Rattle.pot_steps.specs.Holdings.{Holdings}
 use Rattle.pot_steps.specs.Entries.{held_at}
-use Rattle.pot_shelves.specs.Shelves.{Shelves, LosesFrom, IsWritten, Writes, put_at}
+use Rattle.pot_shelves.specs.Shelves.{Shelves, LosesByCount, IsWritten, WritesAt, put_at}
 use Rattle.pot_group.specs.Putting.{IsKept, PutsAt, WritesAll}
 use Rattle.pot_shelves.proofs.ShelfLemmas.{keeps_then, loses_refl, write_then, put_at-here, put_at-other, rose_on, rose_more}
 
@@ -115,15 +115,15 @@ module _ (t : Table) (rules : IsTable t) (s : ℕ) where
   -- ONE WRITE AFTER ANOTHER
 
   module _ (told : Type 0) (c : ℕ) (low : c < t.data_columns) (block p : List ℕ) (a b d : Shelves) (u : Unit {0}) (r : Result (Unit {0}) Failed)
-      (data_write : Writes told (serving_at t s c) s block (Ok u) a b) (first_write : Writes told (serving_at t s t.data_columns) s p r b d) where
+      (data_write : WritesAt told (serving_at t s c) s block (Ok u) a b) (first_write : WritesAt told (serving_at t s t.data_columns) s p r b d) where
     -- what the write of P left, and what was lost from there on
     abbrev FirstLeft : Type 0
-    FirstLeft = (left : Option (List ℕ)) × IsKept (is_ok r) (held_at t a.held s t.data_columns) p left × LosesFrom (set_at (set_at a.held c (Some block)) t.data_columns left) a d
+    FirstLeft = (left : Option (List ℕ)) × IsKept (is_ok r) (held_at t a.held s t.data_columns) p left × LosesByCount (set_at (set_at a.held c (Some block)) t.data_columns left) a d
 
     first_left : told → FirstLeft
     first_left z =
         let x = write_then a.held a a b (serving_at t s c) s block (Ok u) (loses_refl a) (data_write.wrote z) in
-        let l : LosesFrom (set_at a.held c (Some block)) a b = subst (λ o. LosesFrom (set_at a.held c o) a b) x.1 x.2 in
+        let l : LosesByCount (set_at a.held c (Some block)) a b = subst (λ o. LosesByCount (set_at a.held c o) a b) x.1 x.2 in
         let y = write_then (set_at a.held c (Some block)) a b d (serving_at t s t.data_columns) s p r l (first_write.wrote z) in (
           y.0,
           subst (λ o. IsKept (is_ok r) o p y.0) (still a.held c low block p None t.data_columns (omega arith) (omega (arith, rules.size.parity.0)))
@@ -145,7 +145,7 @@ module _ (t : Table) (rules : IsTable t) (s : ℕ) where
       second = (λ e. absurd (cc));
     }
 
-    pub writes_two : (q : List ℕ) (f : Shelves) (r2 : Result (Unit {0}) Failed) → t.parity ≡ 2 → Writes told (serving_at t s (t.data_columns + 1)) s q r2 d f
+    pub writes_two : (q : List ℕ) (f : Shelves) (r2 : Result (Unit {0}) Failed) → t.parity ≡ 2 → WritesAt told (serving_at t s (t.data_columns + 1)) s q r2 d f
         → WritesAll told t s c block p q (is_ok r) (is_ok r2) a f
     writes_two q f r2 two w = record {
       keeps = keeps_then a d f (keeps_then a b d data_write.keeps first_write.keeps) w.keeps;
@@ -190,21 +190,21 @@ served_at numbers t x c n is served lc e = subst (λ n. Contains numbers n) (sym
 
 module _ (told : Type 0) (t : Table) (block p q : List ℕ) (x : Cursor) (home last first_home : ℕ) (a b d : Shelves) (u : Unit {0}) (r : Result (Unit {0}) Failed) (rules : IsTable t)
     (is : x ≡ t.cursor) (is_last : last ≡ t.data_columns) (at : home ≡ serving_at t x.stripe x.column) (first_at : first_home ≡ serving_at t x.stripe last)
-    (data_write : Writes told home x.stripe block (Ok u) a b) (first_write : Writes told first_home x.stripe p r b d) where
-  data_here : Writes told (serving_at t t.cursor.stripe t.cursor.column) t.cursor.stripe block (Ok u) a b
-  data_here = subst (λ (k : Cursor). Writes told (serving_at t k.stripe k.column) k.stripe block (Ok u) a b) is (subst (λ n. Writes told n x.stripe block (Ok u) a b) at data_write)
+    (data_write : WritesAt told home x.stripe block (Ok u) a b) (first_write : WritesAt told first_home x.stripe p r b d) where
+  data_here : WritesAt told (serving_at t t.cursor.stripe t.cursor.column) t.cursor.stripe block (Ok u) a b
+  data_here = subst (λ (k : Cursor). WritesAt told (serving_at t k.stripe k.column) k.stripe block (Ok u) a b) is (subst (λ n. WritesAt told n x.stripe block (Ok u) a b) at data_write)
 
-  first_here : Writes told (serving_at t t.cursor.stripe t.data_columns) t.cursor.stripe p r b d
+  first_here : WritesAt told (serving_at t t.cursor.stripe t.data_columns) t.cursor.stripe p r b d
   first_here =
-      subst (λ (k : Cursor). Writes told (serving_at t k.stripe t.data_columns) k.stripe p r b d) is
-      (subst (λ n. Writes told n x.stripe p r b d) (first_at ∙ ap (serving_at t x.stripe) is_last) first_write)
+      subst (λ (k : Cursor). WritesAt told (serving_at t k.stripe t.data_columns) k.stripe p r b d) is
+      (subst (λ n. WritesAt told n x.stripe p r b d) (first_at ∙ ap (serving_at t x.stripe) is_last) first_write)
 
   pub one_exit : (kept : Bool) → t.parity ≡ 1 → kept ≡ is_ok r → WritesAll told t t.cursor.stripe t.cursor.column block p q kept true a d
   one_exit kept one e = rw e (writes_one t rules t.cursor.stripe told t.cursor.column rules.cursor.column block p a b d u r data_here first_here q one)
 
   pub two_exit : (columns second_home : ℕ) (f : Shelves) (r2 : Result (Unit {0}) Failed) (kept kept2 : Bool) → columns ≡ t.parity → columns ≢ 1 → kept ≡ is_ok r → kept2 ≡ is_ok r2
-      → second_home ≡ serving_at t x.stripe (last + 1) → Writes told second_home x.stripe q r2 d f → WritesAll told t t.cursor.stripe t.cursor.column block p q kept kept2 a f
+      → second_home ≡ serving_at t x.stripe (last + 1) → WritesAt told second_home x.stripe q r2 d f → WritesAll told t t.cursor.stripe t.cursor.column block p q kept kept2 a f
   two_exit columns second_home f r2 kept kept2 is_columns two e e2 second_at w =
       rw (e, e2) (writes_two t rules t.cursor.stripe told t.cursor.column rules.cursor.column block p a b d u r data_here first_here q f r2 (omega (arith, is_columns, two, rules.size.parity.0, rules.size.parity.1))
-      (subst (λ (k : Cursor). Writes told (serving_at t k.stripe (t.data_columns + 1)) k.stripe q r2 d f) is
-      (subst (λ n. Writes told n x.stripe q r2 d f) (second_at ∙ ap (λ n. serving_at t x.stripe (n + 1)) is_last) w)))
+      (subst (λ (k : Cursor). WritesAt told (serving_at t k.stripe (t.data_columns + 1)) k.stripe q r2 d f) is
+      (subst (λ n. WritesAt told n x.stripe q r2 d f) (second_at ∙ ap (λ n. serving_at t x.stripe (n + 1)) is_last) w)))

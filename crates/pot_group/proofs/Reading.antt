@@ -7,7 +7,7 @@ use Rattle.pot_machine.proofs.Columns.{names_serving}
 use Rattle.pot_group.specs.declared.reads.Found.{Found}
 use Rattle.pot_group.specs.declared.reads.Found.TheVariants.{Sound, Missing, NotRead}
 use Rattle.pot_shelves.specs.Shelves.{Shelves, Keeps}
-use Rattle.pot_group.specs.Reads.{Finds}
+use Rattle.pot_group.specs.Reads.{ReadsByDigest}
 use Rattle.pot_group.specs.Causes.{archives_of, faults_in}
 use Rattle.pot_group.specs.Group.{GroupView, IsSettled, CoversOne, CoversIfNotRead}
 use Rattle.pot_outside.specs.Counts.{Rose}
@@ -26,7 +26,7 @@ covers_rise told g now s c settled lc keeps rose =
     (settled.causes.faults c (omega (arith, lc, settled.sizes.0, settled.sizes.1))) (serving_in told g settled s c lc) (settled.faults (serving_at g.table s c)) rose
 
 pub read_covers : (told : Type 0) (g : GroupView) (now : Shelves) (s c : ℕ) (digest : Digest) (into : List ℕ) (found : Found) → IsSettled told g → c < width g.table
-    → Finds told (serving_at g.table s c) s digest into found g.shelves now → CoversIfNotRead found (record g { shelves = now }) c
+    → ReadsByDigest told (serving_at g.table s c) s digest into found g.shelves now → CoversIfNotRead found (record g { shelves = now }) c
 read_covers told g now s c digest into Sound settled lc f = tt
 read_covers told g now s c digest into Missing settled lc f = tt
 read_covers told g now s c digest into NotRead settled lc f = covers_rise told g now s c settled lc f.stays.keeps f.means

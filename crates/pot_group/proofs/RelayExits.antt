@@ -38,7 +38,7 @@ use Rattle.std.proofs.lemmas.List.{length-map}
 use Rattle.std.proofs.Math.Seq.{take-append_seam}
 use Rattle.std.specs.Prelude.{take, drop}
 use Rattle.pot_steps.proofs.FlightLists.{over_stripe, relay_of, relay_of_flight}
-use Rattle.pot_shelves.specs.Shelves.{Shelves, Keeps, LosesFrom, Folds, Writes, put_at}
+use Rattle.pot_shelves.specs.Shelves.{Shelves, Keeps, LosesByCount, FoldsAt, WritesAt, put_at}
 use Rattle.pot_group.specs.Causes.{Covers, HasLost, Misses, archives_of, faults_in, fault_of, brought}
 use Rattle.pot_group.specs.Group.{GroupView, IsSettled, state_of}
 use Rattle.pot_steps.specs.Losses.{KeepsHeld}
@@ -112,7 +112,7 @@ module _ (told : Type 0) (g : GroupView) (now : Shelves) (job s c : ℕ) (f : Fl
   abbrev folded : GroupView
   folded = record g { shelves = now }
 
-  module _ (keeps : Keeps g.shelves now) (loses : told → LosesFrom g.shelves.held g.shelves now)
+  module _ (keeps : Keeps g.shelves now) (loses : told → LosesByCount g.shelves.held g.shelves now)
       (tells : told → FoldTells (now.held (serving_at g.table s c)) s (weight_in g.table.data_columns f.relay c) f.sum sum (Ok Held)) where
     pub fold_settled : IsSettled told (record g { shelves = now })
     fold_settled = settled_loses told g now settled keeps loses
@@ -186,7 +186,7 @@ module _ (told : Type 0) (g : GroupView) (now : Shelves) (job s c : ℕ) (f : Fl
           (λ t k lk m. subst (λ x. HasLost now (archives_of g.first g.log x)) m.0 (gone_lost told (record g { shelves = now }) fold_settled t s c within column m.1 (missing t)))
       -- the slot had no block of its digest
 
-  module _ (folds : Folds told (serving_at g.table s c) s (weight_in g.table.data_columns f.relay c) f.sum sum (Ok Absent) g.shelves now) where
+  module _ (folds : FoldsAt told (serving_at g.table s c) s (weight_in g.table.data_columns f.relay c) f.sum sum (Ok Absent) g.shelves now) where
     absent_settled : IsSettled told (record g { shelves = now })
     absent_settled = settled_loses told g now settled folds.keeps folds.loses
 
@@ -208,15 +208,15 @@ module _ (told : Type 0) (g : GroupView) (now : Shelves) (job s c : ℕ) (f : Fl
 -- The partial was written into the target's slot.
 module _ (told : Type 0) (g : GroupView) (now : Shelves) (job s c : ℕ) (f : Flight) (settled : IsSettled told g) (room : length g.log < log_bound)
     (here : flight_in g.flights s ≡ Some f) (legal : Legal g.table (Mended job s c)) (digest : digest_in (slot_at g.table s c) ≡ Some (digest_of (partial_of f)))
-    (w : Writes told (serving_at g.table s c) s (partial_of f) (Ok (tt)) g.shelves now) where
+    (w : WritesAt told (serving_at g.table s c) s (partial_of f) (Ok (tt)) g.shelves now) where
   column_in : c < width g.table
   column_in = legal.0.1
 
   abbrev ideal : told → Holdings
   ideal t = put_at g.shelves.held (serving_at g.table s c) s (Some (partial_of f))
 
-  loses : (t : told) → LosesFrom (ideal t) g.shelves now
-  loses t = subst (λ left. LosesFrom (put_at g.shelves.held (serving_at g.table s c) s left) g.shelves now) ((w.wrote t).1) (w.wrote t).2
+  loses : (t : told) → LosesByCount (ideal t) g.shelves now
+  loses t = subst (λ left. LosesByCount (put_at g.shelves.held (serving_at g.table s c) s left) g.shelves now) ((w.wrote t).1) (w.wrote t).2
 
   beside : (n k : ℕ) → k < width g.table → (n ≢ s) ⊎ (k ≢ c) → put_at g.shelves.held (serving_at g.table s c) s (Some (partial_of f)) (serving_at g.table n k) n ≡ g.shelves.held (serving_at g.table n k) n
   beside n k lk apart = put_at-other g.shelves.held (serving_at g.table s c) s (Some (partial_of f)) (serving_at g.table n k) n (elim (same_or n s) [
@@ -405,7 +405,7 @@ module _ (told : Type 0) (g : GroupView) (now : Shelves) (job : ℕ) (f : Flight
   dead = not_live (slot_at g.table f.relay.stripe f.relay.target) at_place.unsound
 
   pub mended_exit : (block ≡ partial_of f) → digest_in (slot_at g.table f.relay.stripe f.relay.target) ≡ Some (digest_of block)
-      → Writes told (serving_at g.table f.relay.stripe f.relay.target) f.relay.stripe block (Ok (tt)) g.shelves now → (e : Entry) (t : Table) (log : List Entry) (fs : List Flight)
+      → WritesAt told (serving_at g.table f.relay.stripe f.relay.target) f.relay.stripe block (Ok (tt)) g.shelves now → (e : Entry) (t : Table) (log : List Entry) (fs : List Flight)
       → e ≡ Mended job f.relay.stripe f.relay.target → t ≡ after g.table e → log ≡ g.log ++ e ∷ [] → fs ≡ without_flight g.flights f.relay.stripe
       → IsSettled told (record g { table = t; log = log; flights = fs; shelves = now })
   mended_exit is digest w e t log fs ee et el ef =
@@ -413,7 +413,7 @@ module _ (told : Type 0) (g : GroupView) (now : Shelves) (job : ℕ) (f : Flight
       (subst (λ log. IsSettled told (record g { table = after g.table (Mended job f.relay.stripe f.relay.target); log = log; flights = fs; shelves = now })) (sym (el ∙ ap (λ e. g.log ++ e ∷ []) ee))
       (subst (λ fs. IsSettled told (record g { table = after g.table (Mended job f.relay.stripe f.relay.target); log = g.log ++ Mended job f.relay.stripe f.relay.target ∷ []; flights = fs; shelves = now })) (sym ef)
       (mended_settled told g now job f.relay.stripe f.relay.target f settled room here mended_legal (digest ∙ ap (λ b. Some (digest_of b)) is)
-      (subst (λ b. Writes told (serving_at g.table f.relay.stripe f.relay.target) f.relay.stripe b (Ok (tt)) g.shelves now) is w) dead)))
+      (subst (λ b. WritesAt told (serving_at g.table f.relay.stripe f.relay.target) f.relay.stripe b (Ok (tt)) g.shelves now) is w) dead)))
 
   pub untouched : (left : Option (List ℕ)) (n k : ℕ) → k < width g.table → IsTrue (is_live (slot_at g.table n k)) → put_at g.shelves.held (serving_at g.table f.relay.stripe f.relay.target) f.relay.stripe left (serving_at g.table n k) n ≡ g.shelves.held (serving_at g.table n k) n
   untouched left n k lk live = put_at-other g.shelves.held (serving_at g.table f.relay.stripe f.relay.target) f.relay.stripe left (serving_at g.table n k) n (elim (same_or n f.relay.stripe) [
@@ -428,7 +428,7 @@ module _ (told : Type 0) (g : GroupView) (now : Shelves) (job : ℕ) (f : Flight
       clash e = cc
 
   -- the write failed
-  pub fault_exit : (e : Failed) → Writes told (serving_at g.table f.relay.stripe f.relay.target) f.relay.stripe block (Err e) g.shelves now → (t : Table) (log : List Entry)
+  pub fault_exit : (e : Failed) → WritesAt told (serving_at g.table f.relay.stripe f.relay.target) f.relay.stripe block (Err e) g.shelves now → (t : Table) (log : List Entry)
       → t ≡ after g.table (Fault job f.relay.stripe f.relay.target) → log ≡ g.log ++ Fault job f.relay.stripe f.relay.target ∷ []
       → IsSettled told (record g { table = t; log = log; shelves = now })
   fault_exit e w t log et el =

@@ -25,7 +25,7 @@ use Rattle.pot_steps.proofs.Acting.{act_keeps, loss_keeps_all}
 use Rattle.pot_steps.proofs.ActingLive.{act_keeps_live}
 use Rattle.pot_steps.proofs.FlightLists.{flights_go_on}
 use Rattle.pot_steps.proofs.Losses.{losses_keep_live}
-use Rattle.pot_shelves.specs.Shelves.{Shelves, Keeps, Stays, LosesFrom}
+use Rattle.pot_shelves.specs.Shelves.{Shelves, Keeps, Stays, LosesByCount}
 use Rattle.pot_group.specs.Causes.{Covers, HasLost, Misses, WhereMissed, archives_of, faults_in, fault_of, brought}
 use Rattle.pot_group.specs.Group.{GroupView, IsSettled, IsQuiet, LostSince}
 use Rattle.pot_shelves.proofs.ShelfLemmas.{keeps_refl, loses_refl, lost_rose, rose_on, rose_more}
@@ -41,11 +41,11 @@ pub record LeavesShape (t : Table) (e : Entry) : Type 0 where
   pub none_brought : (c : ℕ) → brought c e ≡ []
 
 -- a count of losses that rose before has risen after
-lost_since : (told : Type 0) (g : GroupView) (s : Shelves) → Keeps g.shelves s → (h : Holdings) → LosesFrom h g.shelves s → (n : ℕ) → LostSince g.shelves n → LostSince s n
+lost_since : (told : Type 0) (g : GroupView) (s : Shelves) → Keeps g.shelves s → (h : Holdings) → LosesByCount h g.shelves s → (n : ℕ) → LostSince g.shelves n → LostSince s n
 lost_since told g s k h o n r = subst (λ x. Rose x (s.losses n)) (sym (k.losses_taken n)) (rose_more (g.shelves.losses_taken n) (g.shelves.losses n) (s.losses n) r (o n).later)
 
 -- One entry, or none, with losses after it. `h` is what the archives were to hold after it.
-module _ (told : Type 0) (g : GroupView) (s : Shelves) (h : told → Holdings) (settled : IsSettled told g) (keeps : Keeps g.shelves s) (loses : (t : told) → LosesFrom (h t) g.shelves s) where
+module _ (told : Type 0) (g : GroupView) (s : Shelves) (h : told → Holdings) (settled : IsSettled told g) (keeps : Keeps g.shelves s) (loses : (t : told) → LosesByCount (h t) g.shelves s) where
   -- the marks of the taking are no greater than the counts
   marked_faults : (n : ℕ) → s.faults_taken n ≤ s.faults n
   marked_faults n = omega (arith, settled.faults n, keeps.faults_taken n, keeps.later n)
@@ -75,7 +75,7 @@ pub stands_in : (told : Type 0) (g : GroupView) → IsSettled told g → told �
 stands_in told g settled t = record { table = settled.table; relays = settled.relays; holds = settled.holds t; flying = settled.flying t }
 
 -- archives that only lose blocks, whatever they hear
-pub settled_loses : (told : Type 0) (g : GroupView) (s : Shelves) → IsSettled told g → Keeps g.shelves s → (told → LosesFrom g.shelves.held g.shelves s) → IsSettled told (record g { shelves = s })
+pub settled_loses : (told : Type 0) (g : GroupView) (s : Shelves) → IsSettled told g → Keeps g.shelves s → (told → LosesByCount g.shelves.held g.shelves s) → IsSettled told (record g { shelves = s })
 settled_loses told g s settled keeps loses = record {
   replay = settled.replay;
   table = settled.table;
@@ -111,7 +111,7 @@ pub record LeavesColumns (told : Type 0) (g : GroupView) (e : Entry) (s : Shelve
 
 -- One entry, with what the archives are to hold then, and the block that is handed in with it.
 pub settled_act : (told : Type 0) (g : GroupView) (e : Entry) (given : List ℕ) (s : Shelves) (h : told → Holdings) → IsSettled told g → Legal g.table e → length g.log < log_bound
-    → Keeps g.shelves s → LeavesColumns told g e s → ((t : told) → LosesFrom (h t) g.shelves s) → ((t : told) → Acts g.table g.flights given e g.shelves.held (h t))
+    → Keeps g.shelves s → LeavesColumns told g e s → ((t : told) → LosesByCount (h t) g.shelves s) → ((t : told) → Acts g.table g.flights given e g.shelves.held (h t))
     → ((t : told) → ((n : ℕ) → PutsInto e n → ⊥) → KeepsHeld g.table g.shelves.held (h t))
     → ((c : ℕ) → c < width g.first → Covers s (archives_of g.first (g.log ++ e ∷ []) c) (faults_in g.first.data_columns c g.log + fault_of g.first.data_columns c e))
     → (told → (c : ℕ) → c < width g.first → Misses g.table e c → HasLost s (archives_of g.first (g.log ++ e ∷ []) c))
@@ -168,7 +168,7 @@ same_columns told g e s settled keeps same none = record {
 
 -- an entry, with what the archives are to hold then
 pub settled_entry : (told : Type 0) (g : GroupView) (e : Entry) (s : Shelves) (h : told → Holdings) → IsSettled told g → LeavesShape g.table e → Legal g.table e → length g.log < log_bound
-    → Keeps g.shelves s → ((t : told) → LosesFrom (h t) g.shelves s) → ((t : told) → Acts g.table g.flights [] e g.shelves.held (h t))
+    → Keeps g.shelves s → ((t : told) → LosesByCount (h t) g.shelves s) → ((t : told) → Acts g.table g.flights [] e g.shelves.held (h t))
     → ((t : told) → ((n : ℕ) → PutsInto e n → ⊥) → KeepsHeld g.table g.shelves.held (h t))
     → ((c : ℕ) → c < width g.first → Covers s (archives_of g.first g.log c) (faults_in g.first.data_columns c g.log + fault_of g.first.data_columns c e))
     → (told → (c : ℕ) → c < width g.first → Misses g.table e c → HasLost s (archives_of g.first g.log c))

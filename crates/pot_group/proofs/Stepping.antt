@@ -21,8 +21,8 @@ use Rattle.pot_group.specs.declared.copying.MoveStep.{MoveStep}
 use Rattle.pot_group.specs.declared.copying.MoveStep.TheVariants as moved
 use Rattle.pot_group.specs.declared.copying.MoveFault.{MoveFault}
 use Rattle.pot_group.specs.declared.copying.MoveFault.TheVariants as failed
-use Rattle.pot_shelves.specs.Shelves.{LosesFrom, Shelved, Shelves, Stays, Writes, WritesInto, plain, put_at}
-use Rattle.pot_group.specs.Reads.{Finds}
+use Rattle.pot_shelves.specs.Shelves.{LosesByCount, Shelved, Shelves, Stays, WritesAt, WritesInto, plain, put_at}
+use Rattle.pot_group.specs.Reads.{ReadsByDigest}
 use Rattle.pot_group.specs.Group.{GroupParts, GroupView, IsSettled, noted, state_of, view_of, with_archives}
 use Rattle.pot_group.specs.Relaying.{Acts, acted}
 use Rattle.pot_steps.specs.MoveSteps.{MoveStep as IsMoveStep}
@@ -83,7 +83,7 @@ module _ (told : Type 0) (g : GroupView) (job c : ℕ) (m : Moving) (settled : I
 
   -- the write to the target was made
   module _ (lt : m.upto < g.table.stripes) (live : IsTrue (is_live (slot_at g.table m.upto c))) (now : Shelves) (block : List ℕ) where
-    module _ (sound : told → IsSound (stripe_of g.table g.shelves.held m.upto) c block) (w : Writes told m.to m.upto block (Ok (tt)) g.shelves now)
+    module _ (sound : told → IsSound (stripe_of g.table g.shelves.held m.upto) c block) (w : WritesAt told m.to m.upto block (Ok (tt)) g.shelves now)
         (e : Entry) (t : Table) (log : List Entry) (ee : IsSomeAnd (column_at g.table c).moving (λ n. e ≡ Moved job n.upto c true)) (et : t ≡ after g.table e) (el : log ≡ g.log ++ e ∷ []) where
       is : e ≡ Moved job m.upto c true
       is = one_entry true e ee
@@ -111,7 +111,7 @@ module _ (told : Type 0) (g : GroupView) (job c : ℕ) (m : Moving) (settled : I
             now = put_at g.shelves.held m.to m.upto (Some block);
             lost = (λ n q b e. e);
             acts = copies told g m.upto c m settled column moving refl now job block room (copy_legal lt live) sound w k;
-            loses = (λ n q b e. (subst (λ left. LosesFrom (put_at g.shelves.held m.to m.upto left) g.shelves now) ((w.wrote k).1) (w.wrote k).2 n).keeps q b e);
+            loses = (λ n q b e. (subst (λ left. LosesByCount (put_at g.shelves.held m.to m.upto left) g.shelves now) ((w.wrote k).1) (w.wrote k).2 n).keeps q b e);
           },
           w.heard k,
         );
@@ -119,7 +119,7 @@ module _ (told : Type 0) (g : GroupView) (job c : ℕ) (m : Moving) (settled : I
       }
 
     -- or failed
-    module _ (e : Failed) (w : Writes told m.to m.upto block (Err e) g.shelves now) (t : Table) (log : List Entry) (et : t ≡ after g.table (Fault job m.upto c)) (el : log ≡ g.log ++ Fault job m.upto c ∷ []) where
+    module _ (e : Failed) (w : WritesAt told m.to m.upto block (Err e) g.shelves now) (t : Table) (log : List Entry) (et : t ≡ after g.table (Fault job m.upto c)) (el : log ≡ g.log ++ Fault job m.upto c ∷ []) where
       pub uncopied_exit : IsSettled told (record g { table = t; log = log; shelves = now })
       uncopied_exit =
           subst (λ t. IsSettled told (record g { table = t; log = log; shelves = now })) (sym et)
@@ -192,7 +192,7 @@ module _ {A : Type 0} (told : Type 0) (meaning : A → Meaning) (old : GroupPart
 
   -- the read failed
   pub unread_steps : (b : Shelved A) (digest : Digest) (into : List ℕ) (new : GroupParts A) → m.upto < old.table.stripes → slot_at old.table m.upto c ≡ Live digest
-      → Finds told (serving_at old.table m.upto c) m.upto digest into found.NotRead (plain meaning old.archives) (plain meaning b) → new ≡ noted (with_archives old b) (Fault job m.upto c)
+      → ReadsByDigest told (serving_at old.table m.upto c) m.upto digest into found.NotRead (plain meaning old.archives) (plain meaning b) → new ≡ noted (with_archives old b) (Fault job m.upto c)
       → Steps told job c (Err (failed.Faulted c)) (view_of meaning old) (view_of meaning new)
   unread_steps b digest into new lt live finds e = subst (λ (w : GroupParts A). Steps told job c (Err (failed.Faulted c)) (view_of meaning old) (view_of meaning w)) (sym e) (record {
     moves = (
@@ -275,7 +275,7 @@ module _ {A : Type 0} (told : Type 0) (meaning : A → Meaning) (old : GroupPart
       into_after (plain meaning old.archives) (plain meaning b) (view_of meaning new).shelves n.to n.upto y.0 r (stays.loses t) y.2,
     )) x
 
-    lost_back : told → LosesFrom (plain meaning b).held (plain meaning b) (view_of meaning new).shelves → LosesFrom (plain meaning old.archives).held (plain meaning old.archives) (view_of meaning new).shelves
+    lost_back : told → LosesByCount (plain meaning b).held (plain meaning b) (view_of meaning new).shelves → LosesByCount (plain meaning old.archives).held (plain meaning old.archives) (view_of meaning new).shelves
     lost_back t l = loses_from_then (plain meaning old.archives).held (plain meaning old.archives) (plain meaning b) (view_of meaning new).shelves (stays.loses t) l
 
     writes_back : (r : Result MoveStep MoveFault) → told → MoveWrites c r (view_of meaning (with_archives old b)) (view_of meaning new) → MoveWrites c r (view_of meaning old) (view_of meaning new)
@@ -297,7 +297,7 @@ module _ {A : Type 0} (told : Type 0) (meaning : A → Meaning) (old : GroupPart
 
   -- the slot has no block of its digest
   pub passed_read : (b : Shelved A) (digest : Digest) (into : List ℕ) (new : GroupParts A) → m.upto < old.table.stripes → slot_at old.table m.upto c ≡ Live digest
-      → Finds told (serving_at old.table m.upto c) m.upto digest into found.Missing (plain meaning old.archives) (plain meaning b) → new ≡ acted (with_archives old b) (Moved job m.upto c false) []
+      → ReadsByDigest told (serving_at old.table m.upto c) m.upto digest into found.Missing (plain meaning old.archives) (plain meaning b) → new ≡ acted (with_archives old b) (Moved job m.upto c false) []
       → Steps told job c (Ok moved.Passed) (view_of meaning old) (view_of meaning new)
   passed_read b digest into new lt live finds e = subst (λ (w : GroupParts A). Steps told job c (Ok moved.Passed) (view_of meaning old) (view_of meaning w)) (sym e) (record {
     moves = on_move told (view_of meaning old) job c m settled room column moving (λ n. (n.upto < old.table.stripes) × Acts (Moved job n.upto c false) [] (view_of meaning old) (view_of meaning (acted (with_archives old b) (Moved job m.upto c false) [])))

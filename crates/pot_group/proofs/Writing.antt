@@ -20,10 +20,10 @@ use Rattle.pot_machine.proofs.Cases.{same_or}
 use Rattle.pot_machine.proofs.Columns.{serving_apart}
 use Rattle.pot_steps.specs.Stripe.{digest_of}
 use Rattle.pot_steps.specs.Holdings.{Holdings}
-use Rattle.pot_steps.specs.Entries.{Writes as WritesAt, held_at}
+use Rattle.pot_steps.specs.Entries.{WritesStripe, held_at}
 use Rattle.pot_steps.specs.GroupStep.{log_bound, put_entry}
 use Rattle.pot_steps.proofs.Entries.{is_void_at}
-use Rattle.pot_shelves.specs.Shelves.{Shelves, Writes, put_at}
+use Rattle.pot_shelves.specs.Shelves.{Shelves, WritesAt, put_at}
 use Rattle.pot_group.specs.Arrivals.{arrival}
 use Rattle.pot_group.specs.Causes.{Covers, archives_of, faults_in}
 use Rattle.pot_group.specs.Group.{GroupView, IsSettled, FailedAt, CoversOne}
@@ -76,7 +76,7 @@ module _ (told : Type 0) (g : GroupView) (job s c : ℕ) (block : List ℕ) (set
   fault_legal : Legal g.table (Fault job s c)
   fault_legal = (cursor.1, data_wide)
 
-  module _ (now : Shelves) (e : Failed) (w : Writes told (serving_at g.table s c) s block (Err e) g.shelves now) where
+  module _ (now : Shelves) (e : Failed) (w : WritesAt told (serving_at g.table s c) s block (Err e) g.shelves now) where
     rose : FailedAt g (entered_with g (Fault job s c) now) s c
     rose = w.cause refl
 
@@ -118,7 +118,7 @@ module _ (told : Type 0) (g : GroupView) (job s c : ℕ) (block : List ℕ) (set
     first_new : (t : told) → kept ≡ true → held_at g.table (ideal t) s g.table.data_columns ≡ Some (xor p block)
     first_new t e = new_if kept _ _ new_p (puts t).first e ∙ ap Some is_p
 
-    writes_one : (t : told) → g.table.parity ≡ 1 → WritesAt g.table g.shelves.held (ideal t) s c block p p kept kept
+    writes_one : (t : told) → g.table.parity ≡ 1 → WritesStripe g.table g.shelves.held (ideal t) s c block p p kept kept
     writes_one t one = record {
       is_block = is_block;
       old_p = old.first t;
@@ -129,7 +129,7 @@ module _ (told : Type 0) (g : GroupView) (job s c : ℕ) (block : List ℕ) (set
       others = (puts t).others;
     }
 
-    writes_two : (t : told) → g.table.parity ≡ 2 → WritesAt g.table g.shelves.held (ideal t) s c block p q kept kept2
+    writes_two : (t : told) → g.table.parity ≡ 2 → WritesStripe g.table g.shelves.held (ideal t) s c block p q kept kept2
     writes_two t two = record {
       is_block = is_block;
       old_p = old.first t;
@@ -288,7 +288,7 @@ abbrev pub logged : GroupView → Table → List Entry → Shelves → GroupView
 logged g u log now = record g { table = u; log = log; shelves = now }
 
 module _ (told : Type 0) (g : GroupView) (job : ℕ) (block p q : List ℕ) (x : Cursor) (now : Shelves) (u : Table) (log : List Entry) (settled : IsSettled told g) (can : CanPut told p q g) (is : x ≡ g.table.cursor) where
-  pub none_exit : (e : Failed) × Writes told (serving_at g.table g.table.cursor.stripe g.table.cursor.column) g.table.cursor.stripe block (Err e) g.shelves now
+  pub none_exit : (e : Failed) × WritesAt told (serving_at g.table g.table.cursor.stripe g.table.cursor.column) g.table.cursor.stripe block (Err e) g.shelves now
       → u ≡ g.table → log ≡ g.log ++ Fault job x.stripe x.column ∷ []
       → IsSettled told (logged g u log now) × BlockMeans told job block p q (Err (fault.Faulted x.column)) g (logged g u log now)
   none_exit w is_u is_log =

@@ -18,7 +18,7 @@ use Rattle.pot_group.specs.declared.copying.MoveFault.{MoveFault}
 use Rattle.pot_group.specs.declared.copying.MoveFault.TheVariants as failed
 use Rattle.pot_group.specs.declared.moving.ShelfCause.{ShelfCause}
 use Rattle.pot_group.specs.declared.moving.ShelfCause.TheVariants as cause
-use Rattle.pot_shelves.specs.Shelves.{Brings, Keeps, LosesFrom, WritesInto}
+use Rattle.pot_shelves.specs.Shelves.{Brings, Keeps, LosesByCount, WritesInto}
 use Rattle.pot_group.specs.Group.{GroupParts, GroupView, state_of, view_of}
 use Rattle.pot_group.specs.Relaying.{Acts}
 
@@ -95,8 +95,8 @@ CopiesInto c result old new =
 -- failed write of that block may leave there. Else nothing. Blocks may be lost besides.
 abbrev pub MoveWrites : ℕ → Result MoveStep MoveFault → GroupView → GroupView → Type 0
 MoveWrites c (Ok moved.Copied) old new = CopiesInto c (Ok (tt)) old new
-MoveWrites c (Err (failed.Faulted column)) old new = LosesFrom old.shelves.held old.shelves new.shelves ⊎ ((e : Failed) × CopiesInto c (Err e) old new)
-MoveWrites c answer old new = LosesFrom old.shelves.held old.shelves new.shelves
+MoveWrites c (Err (failed.Faulted column)) old new = LosesByCount old.shelves.held old.shelves new.shelves ⊎ ((e : Failed) × CopiesInto c (Err e) old new)
+MoveWrites c answer old new = LosesByCount old.shelves.held old.shelves new.shelves
 
 -- A step of a column that moves: what it does, that the archives stay with their marks, and, where they tell, the step of a group and
 -- what was written.

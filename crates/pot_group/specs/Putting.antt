@@ -2,6 +2,7 @@
 use Rattle.std.specs.Prelude.{◌≡◌, ◌≢◌, ◌⊎◌, ◌≤◌, ◌<◌, ◌+◌, ◌++◌, ℕ, nat_eq, Bool, true, false, List, [], ◌∷◌, Option, Some, None, IfSome, Result, Ok, Err, All, length, IsTrue, if◌then◌else◌}
 use Rattle.pot_bytes.specs.declared.rack.Place.{Place}
 use Rattle.pot_bytes.specs.Lists.{IsBlock}
+use Rattle.pot_outside.specs.Failing.{MayLeave}
 use Rattle.pot_bytes.specs.Sums.{xor}
 use Rattle.pot_bytes.specs.Weighted.{scaled}
 use Rattle.pot_gf.specs.Field.{power}
@@ -16,7 +17,7 @@ use Rattle.pot_machine.specs.Machine.{AtCursor, TakesBlocks}
 use Rattle.pot_steps.specs.Stripe.{Sound, IsOld, digest_of}
 use Rattle.pot_steps.specs.Holdings.{Holdings, stripe_of}
 use Rattle.pot_steps.specs.Entries.{held_at}
-use Rattle.pot_steps.specs.GroupStep.{Passed, IsMissing, skips, gone_entries, put_entry, log_bound, IsLeft, unkept}
+use Rattle.pot_steps.specs.GroupStep.{Passed, IsMissing, skips, gone_entries, put_entry, log_bound, unkept}
 use Rattle.pot_group.specs.declared.reads.Found.{Found}
 use Rattle.pot_group.specs.declared.reads.Found.TheVariants as found
 use Rattle.pot_group.specs.declared.parities.Kept.{Kept}
@@ -26,7 +27,7 @@ use Rattle.pot_group.specs.declared.answers.PutFault.{PutFault}
 use Rattle.pot_group.specs.declared.answers.PutFault.TheVariants as fault
 use Rattle.pot_group.specs.declared.putting.Stop.{Stop}
 use Rattle.pot_group.specs.declared.putting.Stop.TheVariants as stop
-use Rattle.pot_shelves.specs.Shelves.{Shelves, Stays, Keeps, LosesFrom, Writes, put_at}
+use Rattle.pot_shelves.specs.Shelves.{Shelves, Stays, Keeps, LosesByCount, WritesAt, put_at}
 use Rattle.pot_group.specs.Group.{GroupView, Logs, FailedAt, CoversOne, FitsSlot, FitsParity, FitsPassed, state_of}
 
 -- THE OLD PARITY BLOCKS
@@ -133,7 +134,7 @@ pub record PassesAll (told : Type 0) (job : ℕ) (passed : List Passed) (old now
   pub stripes : now.table.stripes ≡ old.table.stripes
 
 -- the stripes that a put passes, and why it stops at the next
-pub record Finds (told : Type 0) (job : ℕ) (p q : List ℕ) (s : Stop) (old new : GroupView) : Type 0 where
+pub record FindsStripe (told : Type 0) (job : ℕ) (p q : List ℕ) (s : Stop) (old new : GroupView) : Type 0 where
   pub passed : List Passed
   pub now : GroupView
   pub passes : PassesAll told job passed old now
@@ -145,7 +146,7 @@ pub record Finds (told : Type 0) (job : ℕ) (p q : List ℕ) (s : Stop) (old ne
 -- what a write that went well leaves, and what one that failed may leave
 abbrev pub IsKept : Bool → Option (List ℕ) → List ℕ → Option (List ℕ) → Type 0
 IsKept true was block left = left ≡ Some block
-IsKept false was block left = IsLeft was block left
+IsKept false was block left = MayLeave was block left
 
 -- What is held once a block was written at a place and the parity blocks `p` and `q` of its stripe were, or what failed writes
 -- left of them. Nothing else changes.
@@ -160,14 +161,14 @@ pub record PutsAt (t : Table) (h written : Holdings) (s c : ℕ) (block p q : Li
 pub record WritesAll (told : Type 0) (t : Table) (s c : ℕ) (block p q : List ℕ) (kept kept2 : Bool) (old new : Shelves) : Type 0 where
   pub keeps : Keeps old new
   pub heard : told → (number : ℕ) → new.heard number ≡ old.heard number
-  pub wrote : told → (written : Holdings) × PutsAt t old.held written s c block p q kept kept2 × LosesFrom written old new
+  pub wrote : told → (written : Holdings) × PutsAt t old.held written s c block p q kept kept2 × LosesByCount written old new
   pub first : kept ≡ false → Rose (old.faults (serving_at t s t.data_columns)) (new.faults (serving_at t s t.data_columns))
   pub second : kept2 ≡ false → (t.parity ≡ 2) × Rose (old.faults (serving_at t s (t.data_columns + 1))) (new.faults (serving_at t s (t.data_columns + 1)))
 
 -- the writes of a put at the cursor, with the new parity blocks
 abbrev pub WritesPut : Type 0 → Table → List ℕ → List ℕ → List ℕ → Option Kept → Shelves → Shelves → Type 0
 WritesPut told t block p q None old new =
-    (e : Failed) × Writes told (serving_at t t.cursor.stripe t.cursor.column) t.cursor.stripe block (Err e) old new
+    (e : Failed) × WritesAt told (serving_at t t.cursor.stripe t.cursor.column) t.cursor.stripe block (Err e) old new
 WritesPut told t block p q (Some kept) old new = WritesAll told t t.cursor.stripe t.cursor.column block p q kept.first kept.second old new
 
 -- the entry of a put, by its new parity blocks
@@ -191,8 +192,8 @@ pub record PutsAll (told : Type 0) (job s c : ℕ) (block p q : List ℕ) (kept 
 -- the data block was not written
 pub record PutsNone (told : Type 0) (job s c : ℕ) (block : List ℕ) (old new : GroupView) : Type 0 where
   pub logs : Logs (entry.Fault job s c ∷ []) old new
-  pub holds : told → (left : Option (List ℕ)) × IsLeft (old.shelves.held (serving_at old.table s c) s) block left
-      × LosesFrom (put_at old.shelves.held (serving_at old.table s c) s left) old.shelves new.shelves
+  pub holds : told → (left : Option (List ℕ)) × MayLeave (old.shelves.held (serving_at old.table s c) s) block left
+      × LosesByCount (put_at old.shelves.held (serving_at old.table s c) s left) old.shelves new.shelves
   pub keeps : Keeps old.shelves new.shelves
   pub heard : told → (number : ℕ) → new.shelves.heard number ≡ old.shelves.heard number
   pub fails : FailedAt old new s c

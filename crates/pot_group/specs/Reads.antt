@@ -14,7 +14,7 @@ FoundMeans told number slot digest into Missing old new = told → (b : List ℕ
 FoundMeans told number slot digest into NotRead old new = Rose (old.faults number) (new.faults number)
 
 -- An archive was read. The others hold what they held.
-pub record Finds (told : Type 0) (number slot : ℕ) (digest : Digest) (into : List ℕ) (found : Found) (old new : Shelves) : Type 0 where
+pub record ReadsByDigest (told : Type 0) (number slot : ℕ) (digest : Digest) (into : List ℕ) (found : Found) (old new : Shelves) : Type 0 where
   pub stays : Stays told old new
   pub means : FoundMeans told number slot digest into found old new
   pub others : told → (n m : ℕ) → n ≢ number → new.held n m ≡ old.held n m

@@ -17,7 +17,7 @@ use Rattle.pot_group.specs.declared.relaying.Advanced.{Advanced}
 use Rattle.pot_group.specs.declared.relaying.Advanced.TheVariants as advanced
 use Rattle.pot_outside.specs.declared.faults.Failed.{Failed}
 use Rattle.pot_machine.specs.Table.{serving_at}
-use Rattle.pot_shelves.specs.Shelves.{Keeps, LosesFrom, NoneLost, Writes, WritesInto}
+use Rattle.pot_shelves.specs.Shelves.{Keeps, LosesByCount, NoneLost, WritesAt, WritesInto}
 use Rattle.pot_group.specs.declared.relaying.AdvanceFault.{AdvanceFault}
 use Rattle.pot_group.specs.declared.relaying.AdvanceFault.TheVariants as failed
 use Rattle.pot_group.specs.declared.relaying.BeginFault.{BeginFault}
@@ -91,12 +91,12 @@ advance_as (Err (failed.Odd wanted found)) = step.Odd wanted found
 abbrev pub EndsWell : Type 0 → ℕ → List ℕ → Flight → Result Advanced AdvanceFault → GroupView → GroupView → Type 0
 EndsWell told job block f (Ok advanced.Mended) old new =
     Acts (entry.Mended job f.relay.stripe f.relay.target) [] old new
-    × Writes told (serving_at old.table f.relay.stripe f.relay.target) f.relay.stripe block (Ok (tt)) old.shelves new.shelves
+    × WritesAt told (serving_at old.table f.relay.stripe f.relay.target) f.relay.stripe block (Ok (tt)) old.shelves new.shelves
 EndsWell told job block f (Ok advanced.Hopped) old new = ⊥
 EndsWell told job block f (Ok advanced.Ended) old new = ⊥
 EndsWell told job block f (Err (failed.Faulted column)) old new =
     (column ≡ f.relay.target) × Acts (entry.Fault job f.relay.stripe column) [] old new
-    × ((e : Failed) × Writes told (serving_at old.table f.relay.stripe f.relay.target) f.relay.stripe block (Err e) old.shelves new.shelves)
+    × ((e : Failed) × WritesAt told (serving_at old.table f.relay.stripe f.relay.target) f.relay.stripe block (Err e) old.shelves new.shelves)
 EndsWell told job block f (Err failed.LogFull) old new = ⊥
 EndsWell told job block f (Err failed.Idle) old new = ⊥
 EndsWell told job block f (Err (failed.Odd wanted found)) old new = ⊥
@@ -136,9 +136,9 @@ abbrev pub AdvanceWrites : ℕ → Result Advanced AdvanceFault → GroupView �
 AdvanceWrites s (Ok advanced.Mended) old new =
     AtEnd old s (λ f. WritesInto (serving_at old.table s f.relay.target) s (partial_of f) (Ok (tt)) old.shelves new.shelves)
 AdvanceWrites s (Err (failed.Faulted column)) old new =
-    OnWay old s (λ f c. LosesFrom old.shelves.held old.shelves new.shelves)
+    OnWay old s (λ f c. LosesByCount old.shelves.held old.shelves new.shelves)
     ⊎ AtEnd old s (λ f. (e : Failed) × WritesInto (serving_at old.table s f.relay.target) s (partial_of f) (Err e) old.shelves new.shelves)
-AdvanceWrites s answer old new = LosesFrom old.shelves.held old.shelves new.shelves
+AdvanceWrites s answer old new = LosesByCount old.shelves.held old.shelves new.shelves
 
 -- A step of the stripe's relay: what it does, that the archives stay with their marks, and, where they tell, the step of a group,
 -- that no block is lost where no count of losses rose, and what was written.
@@ -186,9 +186,9 @@ pub record Drives (job s c : ℕ) (answer : Mend) (old new : GroupView) : Type 0
 
 -- What a mend writes, said of archives that tell: what the advance that it makes writes, and where it makes none, nothing.
 abbrev pub MendWrites : ℕ → ℕ → ℕ → Mend → GroupView → GroupView → Type 0
-MendWrites job s c mend.Whole old new = LosesFrom old.shelves.held old.shelves new.shelves
-MendWrites job s c mend.Began old new = LosesFrom old.shelves.held old.shelves new.shelves
-MendWrites job s c (mend.TwoGone first second) old new = LosesFrom old.shelves.held old.shelves new.shelves
-MendWrites job s c mend.LogFull old new = LosesFrom old.shelves.held old.shelves new.shelves
+MendWrites job s c mend.Whole old new = LosesByCount old.shelves.held old.shelves new.shelves
+MendWrites job s c mend.Began old new = LosesByCount old.shelves.held old.shelves new.shelves
+MendWrites job s c (mend.TwoGone first second) old new = LosesByCount old.shelves.held old.shelves new.shelves
+MendWrites job s c mend.LogFull old new = LosesByCount old.shelves.held old.shelves new.shelves
 MendWrites job s c answer old new =
     (n : ℕ) × (result : Result Advanced AdvanceFault) × step.MovesRelay old.table s c n × Moves job n result old new × AdvanceWrites n result old new

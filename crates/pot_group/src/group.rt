@@ -57,7 +57,7 @@ impl<A: Archive> Group<A> {
     ghost use Rattle.pot_machine.specs.Machine.{Legal, Replays};
     ghost use Rattle.pot_machine.specs.Rules.{IsTable};
     ghost use Rattle.pot_shelves.specs.Shelves.{plain};
-    ghost use Rattle.pot_group.specs.Reads.{Finds};
+    ghost use Rattle.pot_group.specs.Reads.{ReadsByDigest};
     ghost use Rattle.pot_group.specs.Group.{view_of, noted, with_archives, IsQuiet, IsSettled, CoversIfNotRead};
     ghost use Rattle.pot_shelves.specs.Shelves.{numbers_of};
     ghost use Rattle.pot_group.specs.Arrivals.{HasArrived};
@@ -72,7 +72,8 @@ impl<A: Archive> Group<A> {
     ) -> Found
         requires { column < width self.old.table }
         ensures same { self.new ≡ with_archives self.old self.new.archives }
-        ensures finds { Finds (IsTrue A.account.tells) (serving_at self.old.table stripe column) stripe digest into.new result (plain A.account.meaning self.old.archives) (plain A.account.meaning self.new.archives) }
+        ensures finds { ReadsByDigest (IsTrue A.account.tells) (serving_at self.old.table stripe column) stripe digest
+            into.new result (plain A.account.meaning self.old.archives) (plain A.account.meaning self.new.archives) }
         ensures covers { CoversIfNotRead result (view_of A.account.meaning self.new) column }
     {
         let number = self.table.archive_of(stripe, column);

@@ -34,7 +34,7 @@ impl<A: Archive> Group<A> {
     ghost use Rattle.pot_group.specs.Group.{OnGroup};
     ghost use Rattle.pot_group.specs.Calls.{Makes, PutCall};
     ghost use Rattle.pot_shelves.specs.Shelves.{plain};
-    ghost use Rattle.pot_group.specs.Putting.{Passes, Finds, HasOld, BlockMeans};
+    ghost use Rattle.pot_group.specs.Putting.{Passes, FindsStripe, HasOld, BlockMeans};
 
     /// Puts a block at the cursor, and changes each parity block by it: P to P XOR the block, and Q, where there is one, to Q XOR
     /// 3^column times the block.
@@ -66,7 +66,8 @@ impl<A: Archive> Group<A> {
 
     /// Passes stripes until one takes a block, and reads its old parity blocks.
     fn find_stripe(&mut self, job: u32, parity: &mut Parity) -> Stop
-        ensures { OnGroup A.account (λ told. Finds told job parity.new.first parity.new.second result) self.old self.new }
+        ensures { OnGroup A.account (λ told. FindsStripe told job parity.new.first parity.new.second result) self.old
+            self.new }
     {
         loop {
             if let Some(stop) = self.pass(job, parity) {

@@ -2,7 +2,7 @@
 ghost use Rattle.std.specs.Prelude.{◌≡◌, ◌↔◌, IsTrue, Contains};
 ghost use Rattle.pot_steps.specs.Stripe.{digest_of};
 ghost use Rattle.pot_shelves.specs.Shelves.{plain, OnShelves};
-ghost use Rattle.pot_group.specs.Reads.{Finds};
+ghost use Rattle.pot_group.specs.Reads.{ReadsByDigest};
 
 use crate::known::Known;
 use pot_bytes::{Block, Digest};
@@ -30,7 +30,8 @@ pub(crate) fn read_sound<A: Archive>(
     into: &mut Block,
 ) -> Found
     requires { Contains (plain A.account.meaning archives.old).numbers number }
-    ensures { OnShelves A.account (λ told. Finds told number slot digest into.new result) archives.old archives.new }
+    ensures { OnShelves A.account (λ told. ReadsByDigest told number slot digest into.new result) archives.old
+        archives.new }
 {
     match archives.read(number, slot, into) {
         Ok(Held::Held) => {

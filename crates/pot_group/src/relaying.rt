@@ -79,7 +79,7 @@ impl<A: Archive> Group<A> {
     ghost use Rattle.pot_machine.specs.Slot.{is_live};
     ghost use Rattle.pot_steps.specs.Flight.{weight_in};
     ghost use Rattle.pot_steps.specs.Flights.{flight_in};
-    ghost use Rattle.pot_shelves.specs.Shelves.{plain, Folds};
+    ghost use Rattle.pot_shelves.specs.Shelves.{plain, FoldsAt};
     ghost use Rattle.pot_group.specs.Group.{with_archives};
     ghost use Rattle.std.specs.Prelude.{None, []};
     ghost use Rattle.pot_machine.specs.declared.entry.Entry.TheVariants.{GaveUp};
@@ -324,7 +324,9 @@ impl<A: Archive> Group<A> {
         requires next { next_column self.old.table flight.now.relay ≡ Some column }
         ensures same { self.new ≡ with_archives self.old self.new.archives }
         ensures covers { IsErr result → CoversOne (view_of A.account.meaning self.new) column }
-        ensures folds { Folds (IsTrue A.account.tells) (serving_at self.old.table flight.now.relay.stripe column) flight.now.relay.stripe (weight_in self.old.table.data_columns flight.now.relay column) sum.old sum.new result (plain A.account.meaning self.old.archives) (plain A.account.meaning self.new.archives) }
+        ensures folds { FoldsAt (IsTrue A.account.tells) (serving_at self.old.table flight.now.relay.stripe column)
+            flight.now.relay.stripe (weight_in self.old.table.data_columns flight.now.relay column) sum.old sum.new
+            result (plain A.account.meaning self.old.archives) (plain A.account.meaning self.new.archives) }
     {
         let stripe = flight.relay.stripe;
         let _rules = self.table.cursor();

@@ -3,7 +3,7 @@ use Rattle.std.proofs.Common.{append-nil, ◌-◌, ◌≡◌, ◌⊎◌, inl, in
 use Rattle.std.proofs.lemmas.List.{take-append-drop, length-take-le}
 use Rattle.std.proofs.lemmas.Bool.{le-leb, leb-true}
 use Rattle.std.proofs.Math.Seq.{take-append_seam, drop-append_seam}
-use Rattle.pot_image.specs.Fields.{Field, Grammar, done, wants, IsField, Reads, Breaks, joined, IsOf, LeavesAt}
+use Rattle.pot_image.specs.Fields.{Field, Grammar, done, wants, IsField, ReadsFields, Breaks, joined, IsOf, LeavesAt}
 use Rattle.pot_image.specs.Reading.{◌>>=◌, stands, reading}
 
 -- what follows a result that is Ok
@@ -62,14 +62,14 @@ pub one_value : {A : Type 0} (a b : A) (s t : List ℕ) (r : Result (A × List �
 one_value a b s t r u v = (let e = ok_is (a, s) (b, t) _ _ refl refl (sym u ∙ v) in (ap (λ x. x.0) e, ap (λ x. x.1) e))
 
 pub reads_are : {A : Type 0} (g : Grammar A) (bytes rest : List ℕ) (a : A) → reading g bytes ≡ Ok (a, rest)
-    → (xs : List (List ℕ)) × (bytes ≡ joined xs ++ rest) × Reads g xs a
+    → (xs : List (List ℕ)) × (bytes ≡ joined xs ++ rest) × ReadsFields g xs a
 unfolding reading
 reads_are (done b) bytes rest a e = (let same = one_value b a bytes rest _ refl e in ([], same.1, same.0))
 reads_are {A} (wants f next) bytes rest a e = (let again = reads_are (next (take f.size bytes)) (drop f.size bytes) rest a in by_test (test (stands f bytes)) again)
   where
     by_test : ((stands f bytes ≡ true) ⊎ (stands f bytes ≡ false))
-        → (reading (next (take f.size bytes)) (drop f.size bytes) ≡ Ok (a, rest) → (xs : List (List ℕ)) × (drop f.size bytes ≡ joined xs ++ rest) × Reads (next (take f.size bytes)) xs a)
-        → (xs : List (List ℕ)) × (bytes ≡ joined xs ++ rest) × Reads (wants f next) xs a
+        → (reading (next (take f.size bytes)) (drop f.size bytes) ≡ Ok (a, rest) → (xs : List (List ℕ)) × (drop f.size bytes ≡ joined xs ++ rest) × ReadsFields (next (take f.size bytes)) xs a)
+        → (xs : List (List ℕ)) × (bytes ≡ joined xs ++ rest) × ReadsFields (wants f next) xs a
     by_test (inl met) again =
         let read : reading (next (take f.size bytes)) (drop f.size bytes) ≡ Ok (a, rest) = ap (λ b. cond b (reading (next (take f.size bytes)) (drop f.size bytes)) (Err (length bytes))) (sym met) ∙ e in
         let r = again read in
@@ -92,7 +92,7 @@ reads_on f next x rest is =
     let met : stands f (x ++ rest) ≡ true = ap₂ (λ a b. a && b) (le-leb _ _ long) (ap f.holds front ∙ is.1) in
     ap (λ b. cond b (reading (next (take f.size (x ++ rest))) (drop f.size (x ++ rest))) (Err (length (x ++ rest)))) met ∙ ap₂ (λ y r. reading (next y) r) front back
 
-pub is_read : {A : Type 0} (g : Grammar A) (xs : List (List ℕ)) (rest : List ℕ) (a : A) → Reads g xs a → reading g (joined xs ++ rest) ≡ Ok (a, rest)
+pub is_read : {A : Type 0} (g : Grammar A) (xs : List (List ℕ)) (rest : List ℕ) (a : A) → ReadsFields g xs a → reading g (joined xs ++ rest) ≡ Ok (a, rest)
 unfolding reading
 is_read (done b) [] rest a h = ap (λ z. Ok (z, rest)) h
 is_read (done b) (x ∷ xs) rest a h = absurd h
@@ -162,7 +162,7 @@ pub leaves_at : {A : Type 0} (g : Grammar A) (bytes : List ℕ) (n place : ℕ) 
 leaves_at g bytes n place e c = (let r = breaks_are g bytes n e in
     record { fields = r.0; rest = r.1; spelled = r.2; breaks = r.3; counted = (let h : length bytes ≡ length (joined r.0) + length r.1 = ap length r.2 ∙ length-append (joined r.0) r.1 in omega (arith, h, c, r.4)) })
 
-done_breaks : {A : Type 0} (g : Grammar A) (xs : List (List ℕ)) (a : A) (rest : List ℕ) → Reads g xs a → 0 < length rest → Breaks g xs rest
+done_breaks : {A : Type 0} (g : Grammar A) (xs : List (List ℕ)) (a : A) (rest : List ℕ) → ReadsFields g xs a → 0 < length rest → Breaks g xs rest
 done_breaks (done b) [] a rest h l = l
 done_breaks (done b) (x ∷ xs) a rest h l = absurd h
 done_breaks (wants f next) [] a rest h l = absurd h

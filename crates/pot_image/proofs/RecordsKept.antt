@@ -22,7 +22,7 @@ use Rattle.pot_index.specs.declared.record.Record.{Record}
 use Rattle.pot_index.specs.Fits.{FitsSplit, FitsRack}
 use Rattle.pot_index.specs.Index.{Ascends}
 use Rattle.pot_image.specs.declared.format.Format.{Format}
-use Rattle.pot_image.specs.Fields.{Reads, done, wants}
+use Rattle.pot_image.specs.Fields.{ReadsFields, done, wants}
 use Rattle.pot_image.specs.Reading.{◌>>=◌, several, reading}
 use Rattle.pot_image.specs.Numbers.{natural, text, any, at_most, between, digest}
 use Rattle.pot_image.specs.Records.{name, is_name, is_above, splits, record_behind, records}
@@ -38,7 +38,7 @@ text_kept : (size : ℕ) (rule : List ℕ → Bool) (bytes rest x : List ℕ) �
 unfolding text
 text_kept size rule bytes rest x e = (let r = reads_are (text size rule) bytes rest x e in of_fields r.0 r.2)
   where
-    of_fields : (xs : List (List ℕ)) → Reads (wants (record { size = size; holds = rule }) done) xs x → (length x ≡ size) × (rule x ≡ true)
+    of_fields : (xs : List (List ℕ)) → ReadsFields (wants (record { size = size; holds = rule }) done) xs x → (length x ≡ size) × (rule x ≡ true)
     of_fields [] h = absurd h
     of_fields (y ∷ []) h = subst (λ z. (length z ≡ size) × (rule z ≡ true)) h.1 h.0
     of_fields (y ∷ z ∷ xs) h = absurd h.1
@@ -47,7 +47,7 @@ pub digest_kept : (bytes rest : List ℕ) (d : Digest) → reading digest bytes 
 unfolding digest
 digest_kept bytes rest d e = (let r = reads_are digest bytes rest d e in of_fields r.0 r.2)
   where
-    of_fields : (xs : List (List ℕ)) → Reads (wants (record { size = 32; holds = any }) (λ x. done (record { bytes = x }))) xs d → IsDigest d
+    of_fields : (xs : List (List ℕ)) → ReadsFields (wants (record { size = 32; holds = any }) (λ x. done (record { bytes = x }))) xs d → IsDigest d
     of_fields [] h = absurd h
     of_fields (y ∷ []) h = subst IsDigest h.1 h.0.0
     of_fields (y ∷ z ∷ xs) h = absurd h.1

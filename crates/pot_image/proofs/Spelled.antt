@@ -9,7 +9,7 @@ use Rattle.byteorder.specs.Numbers.{big_from-cons}
 use Rattle.pot_bytes.specs.Lists.{AreBytes}
 use Rattle.pot_bytes.proofs.ListLemmas.{AreBytes-take, AreBytes-drop}
 use Rattle.pot_object.proofs.NumberLemmas.{big_bytes_4, big_bytes_8}
-use Rattle.pot_image.specs.Fields.{Field, Grammar, done, wants, IsField, Reads, joined}
+use Rattle.pot_image.specs.Fields.{Field, Grammar, done, wants, IsField, ReadsFields, joined}
 use Rattle.pot_image.specs.Reading.{◌>>=◌, over, several, reading}
 use Rattle.pot_image.specs.Numbers.{natural, text, any, zeros, flag, digest}
 use Rattle.pot_image.specs.Spelling.{flag_bytes, counted_bytes}
@@ -68,7 +68,7 @@ leaf : {A : Type 0} (f : Field) (view : List ℕ → A) (bytes rest : List ℕ) 
     → (x : List ℕ) × (bytes ≡ x ++ rest) × IsField f x × (view x ≡ a)
 leaf {A} f view bytes rest a e = (let r = reads_are (wants f (λ x. done (view x))) bytes rest a e in by_fields r.0 r.1 r.2)
   where
-    by_fields : (xs : List (List ℕ)) → bytes ≡ joined xs ++ rest → Reads (wants f (λ x. done (view x))) xs a → (x : List ℕ) × (bytes ≡ x ++ rest) × IsField f x × (view x ≡ a)
+    by_fields : (xs : List (List ℕ)) → bytes ≡ joined xs ++ rest → ReadsFields (wants f (λ x. done (view x))) xs a → (x : List ℕ) × (bytes ≡ x ++ rest) × IsField f x × (view x ≡ a)
     by_fields [] q h = absurd h
     by_fields (x ∷ []) q h = (x, q ∙ ap (λ z. z ++ rest) (append-nil x), h.0, h.1)
     by_fields (x ∷ y ∷ xs) q h = absurd h.1

@@ -20,11 +20,11 @@ abbrev pub NoField : Field → List ℕ → Type 0
 NoField f bytes = (front back : List ℕ) → bytes ≡ front ++ back → IsField f front → ⊥
 
 -- these fields are those that the grammar wants in turn, and it is done with this value behind the last
-abbrev pub Reads : {A : Type 0} → Grammar A → List (List ℕ) → A → Type 0
-Reads (done b) [] a = b ≡ a
-Reads (done b) (x ∷ xs) a = ⊥
-Reads (wants f next) [] a = ⊥
-Reads (wants f next) (x ∷ xs) a = IsField f x × Reads (next x) xs a
+abbrev pub ReadsFields : {A : Type 0} → Grammar A → List (List ℕ) → A → Type 0
+ReadsFields (done b) [] a = b ≡ a
+ReadsFields (done b) (x ∷ xs) a = ⊥
+ReadsFields (wants f next) [] a = ⊥
+ReadsFields (wants f next) (x ∷ xs) a = IsField f x × ReadsFields (next x) xs a
 
 -- These fields are those that the grammar wants in turn. Behind the last it wants another, which does not stand at the front
 -- of the rest, or it is done, and bytes are left.
@@ -42,7 +42,7 @@ joined (x ∷ xs) = x ++ joined xs
 pub record IsOf {A : Type 0} (g : Grammar A) (bytes : List ℕ) (value : A) : Type 0 where
   pub fields : List (List ℕ)
   pub spelled : bytes ≡ joined fields
-  pub reads : Reads g fields value
+  pub reads : ReadsFields g fields value
 
 -- The bytes leave the grammar at this place: it is that of the first field that breaks its rule or does not end, or the end
 -- of the last one where bytes are left.

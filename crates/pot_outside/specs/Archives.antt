@@ -1,6 +1,7 @@
 -- What a call of an archive does to its blocks, and what a room means by a number.
 use Rattle.std.specs.Prelude.{◌≡◌, ◌≤◌, ◌-◌, ◌^◌, ◌==◌, ◌⊎◌, ◌++◌, ℕ, Bool, List, [], ◌∷◌, Option, Some, None, Result, Ok, Err, Contains, length, slice_index, ◌<◌, if◌then◌else◌, IsErr}
 use Rattle.pot_bytes.specs.Lists.{IsBlock}
+use Rattle.pot_outside.specs.Failing.{MayLeave}
 use Rattle.pot_bytes.specs.Sums.{xor}
 use Rattle.pot_bytes.specs.Weighted.{scaled}
 use Rattle.pot_outside.specs.declared.archive.Held.{Held as IsHeld}
@@ -47,15 +48,11 @@ abbrev pub HearsFold : List (ℕ × List ℕ) → List (ℕ × List ℕ) → ℕ
 HearsFold old new slot sum (Ok h) = new ≡ old ++ (slot, sum) ∷ []
 HearsFold old new slot sum (Err e) = (new ≡ old) ⊎ (new ≡ old ++ (slot, sum) ∷ [])
 
--- what a failed write may leave in its slot: the old block, the new one or none
-abbrev pub MayLeave : Contents → ℕ → List ℕ → Option (List ℕ) → Type 0
-MayLeave old slot block left = (left ≡ old slot) ⊎ ((left ≡ Some block) ⊎ (left ≡ None))
-
 -- a write puts the block into its slot, or fails and leaves what it may; then blocks may be lost
 abbrev pub WriteTells : Contents → Contents → ℕ → ℕ → ℕ → List ℕ → Result (Unit {0}) Failed → Type 0
 WriteTells old new before now slot block (Ok u) = OnlyLoses (at_slot old slot (Some block)) new before now
 WriteTells old new before now slot block (Err e) =
-    (left : Option (List ℕ)) × MayLeave old slot block left × OnlyLoses (at_slot old slot left) new before now
+    (left : Option (List ℕ)) × MayLeave (old slot) block left × OnlyLoses (at_slot old slot left) new before now
 
 -- a write adds its block to the blocks that were ever held, and one that fails may add none
 abbrev pub Remembers : List (List ℕ) → List (List ℕ) → List ℕ → Result (Unit {0}) Failed → Type 0

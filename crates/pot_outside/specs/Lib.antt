@@ -1,3 +1,4 @@
 pub mod Archives
 pub mod Counts
 pub mod Streams
+pub mod Failing

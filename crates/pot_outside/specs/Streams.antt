@@ -1,5 +1,6 @@
 -- What a call of a source or a sink does to its bytes, and a call of a desk to its image.
-use Rattle.std.specs.Prelude.{◌≡◌, ◌<◌, ◌≤◌, ◌++◌, ◌⊎◌, ℕ, List, [], length, take, Option, Some, None, Result, Ok, Err}
+use Rattle.std.specs.Prelude.{◌≡◌, ◌<◌, ◌≤◌, ◌++◌, ℕ, List, [], length, take, Option, Some, Result, Ok, Err}
+use Rattle.pot_outside.specs.Failing.{MayLeave}
 use Rattle.pot_outside.specs.declared.faults.Failed.{Failed}
 
 -- `Ok(count)`: the first `count` bytes of the buffer are the next `count` bytes. None into a buffer with
@@ -24,11 +25,7 @@ abbrev pub TakesSome : List ℕ → Result ℕ Failed → Type 0
 TakesSome from (Ok count) = 0 < length from → 0 < count
 TakesSome from (Err e) = Unit {0}
 
--- what a failed replacing may leave: the old image, the new one or none
-abbrev pub IsLeft : Option (List ℕ) → List ℕ → Option (List ℕ) → Type 0
-IsLeft before image after = (after ≡ before) ⊎ ((after ≡ Some image) ⊎ (after ≡ None))
-
 -- what the replacing of a desk's image does
 abbrev pub Replaces : Option (List ℕ) → Option (List ℕ) → List ℕ → Result (Unit {0}) Failed → Type 0
 Replaces before after image (Ok u) = after ≡ Some image
-Replaces before after image (Err e) = IsLeft before image after
+Replaces before after image (Err e) = MayLeave before image after

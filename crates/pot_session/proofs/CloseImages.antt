@@ -6,10 +6,10 @@ use Rattle.std.proofs.lemmas.Option.{same_Some}
 use Rattle.byteorder.specs.Endian.{big_bytes}
 use Rattle.pot_bytes.specs.Digests.{digest_bytes}
 use Rattle.pot_bytes.specs.declared.rack.Rack.{Rack}
+use Rattle.pot_outside.specs.Failing.{MayLeave}
 use Rattle.pot_outside.specs.Archives.{Meaning}
 use Rattle.pot_outside.specs.declared.archive.Shelf.{Shelf}
 use Rattle.pot_outside.specs.declared.faults.Failed.{Failed}
-use Rattle.pot_outside.specs.Streams.{IsLeft}
 use Rattle.pot_machine.specs.declared.entry.Entry.{Entry}
 use Rattle.pot_machine.specs.Table.{Table}
 use Rattle.pot_index.specs.Records.{record_bytes}
@@ -108,8 +108,8 @@ holds_after : (first last left : Contents) (holds : Option (List ℕ)) (given : 
     → Keeps (Some (image_bytes first)) holds (image_bytes last) kept → HoldsAfter first left holds (first_failure given kept)
 holds_after first last left holds given kept e k = by_both given kept k
   where
-    at_bytes : IsLeft (Some (image_bytes first)) (image_bytes last) holds → IsLeft (Some (image_bytes first)) (image_bytes left) holds
-    at_bytes l = subst (λ b. IsLeft (Some (image_bytes first)) b holds) (sym e) l
+    at_bytes : MayLeave (Some (image_bytes first)) (image_bytes last) holds → MayLeave (Some (image_bytes first)) (image_bytes left) holds
+    at_bytes l = subst (λ b. MayLeave (Some (image_bytes first)) b holds) (sym e) l
 
     by_both : (given : Result (Unit {0}) Failed) (kept : Result (Unit {0}) Stop) → Keeps (Some (image_bytes first)) holds (image_bytes last) kept → HoldsAfter first left holds (first_failure given kept)
     by_both (Ok u) (Ok v) k = k ∙ ap (λ b. Some b) (sym e)

@@ -12,7 +12,7 @@ use Rattle.pot_session.specs.declared.status.Status.TheVariants as status
 use Rattle.pot_session.specs.declared.stop.Stop.{Stop}
 use Rattle.pot_session.specs.declared.stop.Stop.TheVariants as stop
 use Rattle.pot_session.specs.Listing.{has_partial}
-use Rattle.pot_session.specs.Recovering.{Adds, AreHeldIn, Finds, Gathers, IsHeldIn, IsRecovery, ListAnswers, Recovers, WasRead}
+use Rattle.pot_session.specs.Recovering.{Adds, AreHeldIn, FindsObjects, Gathers, IsHeldIn, IsRecovery, ListAnswers, Recovers, WasRead}
 use Rattle.pot_session.specs.Stops.{status_of}
 use Rattle.pot_session.specs.Telling.{told_status}
 
@@ -126,7 +126,7 @@ told_is true = tt
 told_is false = tt
 
 module _ (r : Recover) (room_told : Type 0) (meant means : ℕ → Meaning) where
-  stop_is : (s : Stop) → Finds r room_told meant means (Err s) → IsRecoverStatus (status_of s)
+  stop_is : (s : Stop) → FindsObjects r room_told meant means (Err s) → IsRecoverStatus (status_of s)
   stop_is stop.TooWide h = tt
   stop_is stop.RoomFault h = tt
   stop_is stop.NoMemory h = tt
@@ -143,7 +143,7 @@ module _ (r : Recover) (room_told : Type 0) (meant means : ℕ → Meaning) wher
   stop_is stop.Exists h = absurd h
 
   module _ (sink_told : Type 0) (before after : List ℕ) (answer : Status) where
-    answered : (found : Result (List (List ℕ)) Stop) → Finds r room_told meant means found → ListAnswers sink_told before after found answer → IsRecoverStatus answer
+    answered : (found : Result (List (List ℕ)) Stop) → FindsObjects r room_told meant means found → ListAnswers sink_told before after found answer → IsRecoverStatus answer
     answered (Ok objects) f (inl a) = subst IsRecoverStatus (sym a.0) (told_is (has_partial objects))
     answered (Ok objects) f (inr (inl e, w)) = subst IsRecoverStatus (sym e) tt
     answered (Ok objects) f (inr (inr e, w)) = subst IsRecoverStatus (sym e) tt

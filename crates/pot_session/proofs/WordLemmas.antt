@@ -9,7 +9,7 @@ use Rattle.pot_session.specs.declared.stop.Stop.TheVariants as stop
 use Rattle.pot_session.specs.declared.telling.Telling.{Telling}
 use Rattle.pot_session.specs.Drills.{Drilled, Drills}
 use Rattle.pot_session.specs.Stops.{status_of}
-use Rattle.pot_session.specs.Telling.{Answers, told_status}
+use Rattle.pot_session.specs.Telling.{WordAnswers, told_status}
 
 -- what `drill` may answer
 abbrev IsDrillStatus : Status → Type 0
@@ -24,7 +24,7 @@ IsDrillStatus _ = ⊥
 -- an answer has a property that the statuses of the text or of the stop have, and those that a sink and memory give
 answered : (P : Status → Type 0) (told : Type 0) (before after : List ℕ) (made : Result Telling Stop) (answer : Status)
     → P status.Good → P status.Refusals → P status.SinkFault → P status.NoMemory → ((s : Stop) → made ≡ Err s → P (status_of s))
-    → Answers told before after made answer → P answer
+    → WordAnswers told before after made answer → P answer
 answered P told before after (Ok t) answer good refusals sink memory stops (inl h) = subst P (sym h.0) (by t.refused)
   where
     by : (b : Bool) → P (told_status b)

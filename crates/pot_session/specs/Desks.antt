@@ -1,6 +1,6 @@
 -- What a session reads from its desk and writes there.
 use Rattle.std.specs.Prelude.{◌≡◌, ◌≢◌, ◌<◌, ◌+◌, ◌-◌, ◌^◌, ℕ, List, [], Option, Some, None, Result, Ok, Err, replicate}
-use Rattle.pot_outside.specs.Streams.{IsLeft}
+use Rattle.pot_outside.specs.Failing.{MayLeave}
 use Rattle.pot_image.specs.declared.image.Image.{Image}
 use Rattle.pot_image.specs.declared.fault.ImageFault.TheVariants as faults
 use Rattle.pot_image.specs.Images.{Contents, AnswersImage}
@@ -79,6 +79,6 @@ IsKeepStop _ = ⊥
 -- The desk holds these bytes now. Where it failed it holds them, what it held before or nothing, and for want of memory what it held before.
 abbrev pub Keeps : Option (List ℕ) → Option (List ℕ) → List ℕ → Result (Unit {0}) Stop → Type 0
 Keeps before after bytes (Ok u) = after ≡ Some bytes
-Keeps before after bytes (Err stop.DeskFault) = IsLeft before bytes after
+Keeps before after bytes (Err stop.DeskFault) = MayLeave before bytes after
 Keeps before after bytes (Err stop.NoMemory) = after ≡ before
 Keeps before after bytes (Err _) = ⊥

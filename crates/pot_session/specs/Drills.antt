@@ -16,7 +16,7 @@ use Rattle.pot_session.specs.declared.stop.Stop.{Stop}
 use Rattle.pot_session.specs.declared.stop.Stop.TheVariants as stop
 use Rattle.pot_session.specs.declared.telling.Telling.{Telling}
 use Rattle.pot_session.specs.Streams.{ReadsAtMost}
-use Rattle.pot_session.specs.Telling.{Answers}
+use Rattle.pot_session.specs.Telling.{WordAnswers}
 
 -- the split of a drill is within the limits, and its hidden fragment and its seen points are of it
 pub record IsDrill (d : Drill) : Type 0 where
@@ -83,4 +83,4 @@ pub record Drills (d : Drill) (drawn : List ℕ) (source_told : Type 0) (input r
   pub is : Drilled d (unwrap_or d.seed drawn) source_told input made
   pub read : source_told → ReadsAtMost read_most input rest
   pub whole : source_told → OnOk made (rest ≡ [])
-  pub answers : Answers sink_told before after made answer
+  pub answers : WordAnswers sink_told before after made answer

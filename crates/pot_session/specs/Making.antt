@@ -2,8 +2,8 @@
 use Rattle.std.specs.Prelude.{◌≡◌, ◌⊎◌, ◌++◌, ℕ, List, [], Option, Some, None, Result, Ok, Err, IfErr, IsSome, codes, take, map, replicate}
 use Rattle.std.specs.List.{range_with_len}
 use Rattle.pot_bytes.specs.declared.rack.Rack.{Rack}
+use Rattle.pot_outside.specs.Failing.{MayLeave}
 use Rattle.pot_machine.specs.Making.{empty_table}
-use Rattle.pot_outside.specs.Streams.{IsLeft}
 use Rattle.pot_image.specs.Images.{Contents}
 use Rattle.pot_image.specs.Spelling.{image_bytes}
 use Rattle.pot_session.specs.declared.status.Status.{Status}
@@ -27,7 +27,7 @@ empty_contents rack = record {
 abbrev pub Makes : Rack → Option (List ℕ) → Option (List ℕ) → Result (Unit {0}) Stop → Type 0
 Makes rack before after (Ok u) = (before ≡ None) × (after ≡ Some (image_bytes (empty_contents rack)))
 Makes rack before after (Err stop.Exists) = IsSome before × (after ≡ before)
-Makes rack before after (Err stop.DeskFault) = IsLeft before (image_bytes (empty_contents rack)) after
+Makes rack before after (Err stop.DeskFault) = MayLeave before (image_bytes (empty_contents rack)) after
 Makes rack before after (Err stop.NoMemory) = after ≡ before
 Makes rack before after (Err _) = ⊥
 

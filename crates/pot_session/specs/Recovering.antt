@@ -58,15 +58,15 @@ pub record AreHeldIn (archives stripes : ℕ) (meant means : ℕ → Meaning) (b
 
 -- The blocks that were read give these objects; or they are too wide; or an archive or the room failed, or memory ran out. `told` is whether the
 -- archives tell their blocks.
-abbrev pub Finds : Recover → Type 0 → (ℕ → Meaning) → (ℕ → Meaning) → Result (List (List ℕ)) Stop → Type 0
-Finds r told meant means (Ok objects) =
+abbrev pub FindsObjects : Recover → Type 0 → (ℕ → Meaning) → (ℕ → Meaning) → Result (List (List ℕ)) Stop → Type 0
+FindsObjects r told meant means (Ok objects) =
     (blocks : List (List ℕ)) × (told → AreHeldIn r.archives r.stripes meant means blocks) × AreRecovered blocks r.blur objects × IsWithin blocks r.blur
-Finds r told meant means (Err stop.TooWide) =
+FindsObjects r told meant means (Err stop.TooWide) =
     (blocks : List (List ℕ)) × (told → AreHeldIn r.archives r.stripes meant means blocks)
     × ((chains : ℕ) × (choices : ℕ) × IsTooWide blocks r.blur (Wide chains choices))
-Finds r told meant means (Err stop.RoomFault) = Unit {0}
-Finds r told meant means (Err stop.NoMemory) = Unit {0}
-Finds r told meant means (Err _) = ⊥
+FindsObjects r told meant means (Err stop.RoomFault) = Unit {0}
+FindsObjects r told meant means (Err stop.NoMemory) = Unit {0}
+FindsObjects r told meant means (Err _) = ⊥
 
 -- what is written and answered: the listing, or why there is none
 abbrev pub ListAnswers : Type 0 → List ℕ → List ℕ → Result (List (List ℕ)) Stop → Status → Type 0
@@ -76,6 +76,6 @@ ListAnswers told before after (Err s) answer = Refuses told before after s answe
 -- What `recover` comes to. Other archives are not touched.
 pub record Recovers (r : Recover) (room_told : Type 0) (meant means : ℕ → Meaning) (sink_told : Type 0) (before after : List ℕ) (answer : Status) : Type 0 where
   pub found : Result (List (List ℕ)) Stop
-  pub is : Finds r room_told meant means found
+  pub is : FindsObjects r room_told meant means found
   pub answers : ListAnswers sink_told before after found answer
   pub others : (n : ℕ) → r.archives ≤ n → means n ≡ meant n

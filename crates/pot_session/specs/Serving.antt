@@ -1,10 +1,10 @@
 -- What a session leaves: the replies of its commands, and the image of its close with the logs by which they have them.
 use Rattle.std.specs.Prelude.{◌≡◌, ◌⊎◌, ◌<◌, ◌≤◌, ◌^◌, ◌++◌, All, Contains, ℕ, true, List, [], Option, Some, Result, Ok, Err, if◌then◌else◌, length, map, slice_get, slice_index_or}
-use Rattle.pot_outside.specs.Streams.{IsLeft}
 use Rattle.pot_outside.specs.Archives.{Meaning}
 use Rattle.pot_outside.specs.declared.archive.Shelf.{Shelf}
 use Rattle.pot_outside.specs.declared.faults.Failed.{Failed}
 use Rattle.pot_bytes.specs.declared.rack.Rack.{Rack}
+use Rattle.pot_outside.specs.Failing.{MayLeave}
 use Rattle.pot_pads.specs.Pads.{pads_of}
 use Rattle.pot_machine.specs.declared.entry.Entry.{Entry}
 use Rattle.pot_machine.specs.Table.{Table}
@@ -127,7 +127,7 @@ pub record IsBegun (first : Contents) (session : ℕ) (rack : Rack) (tables : Li
 -- what a desk that held the first image holds after a close that leaves the last one, by the close's answer
 abbrev pub HoldsAfter : Contents → Contents → Option (List ℕ) → Result (Unit {0}) Stop → Type 0
 HoldsAfter first last holds (Ok u) = holds ≡ Some (image_bytes last)
-HoldsAfter first last holds (Err s) = IsLeft (Some (image_bytes first)) (image_bytes last) holds
+HoldsAfter first last holds (Err s) = MayLeave (Some (image_bytes first)) (image_bytes last) holds
 
 -- What a vault leaves whose passes knew and know this: nobody else logged anything meanwhile, and its logs are what the passes saw.
 pub record LeavesLogs (old new : Known) (rack : Rack) (logs : List (List Entry)) (log : List IndexEntry) (written : List Record) : Type 0 where

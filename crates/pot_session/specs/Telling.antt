@@ -17,6 +17,6 @@ Tells told before after t answer =
     ⊎ ((answer ≡ status.SinkFault) × (told → (count : ℕ) × (after ≡ before ++ take count t.text.items)))
 
 -- what is written and answered, by what a word comes to
-abbrev pub Answers : Type 0 → List ℕ → List ℕ → Result Telling Stop → Status → Type 0
-Answers told before after (Ok t) answer = Tells told before after t answer
-Answers told before after (Err s) answer = Refuses told before after s answer
+abbrev pub WordAnswers : Type 0 → List ℕ → List ℕ → Result Telling Stop → Status → Type 0
+WordAnswers told before after (Ok t) answer = Tells told before after t answer
+WordAnswers told before after (Err s) answer = Refuses told before after s answer

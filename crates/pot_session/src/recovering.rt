@@ -2,7 +2,7 @@
 
 ghost use Rattle.std.specs.Prelude.{◌≡◌, ◌≢◌, ◌≤◌, ◌+◌, ◌*◌, ℕ, IsTrue, IfOk, OnOk, IfErr, IsErr, IsErrOf, IsOk, ◌⊎◌, false, length};
 ghost use Rattle.pot_outside.specs.Counts.{Caused};
-ghost use Rattle.pot_session.specs.Recovering.{Adds, AreHeldIn, Finds, Gathers, IsRecovery, Recovers};
+ghost use Rattle.pot_session.specs.Recovering.{Adds, AreHeldIn, FindsObjects, Gathers, IsRecovery, Recovers};
 
 use crate::listing::list_objects;
 use crate::refusing::refuse;
@@ -136,7 +136,7 @@ fn read_archives<R: Room>(
 fn find_objects<R: Room>(alloc: Global, task: &Recover, room: &mut R) -> Result<Recovered, Stop>
     requires task { IsRecovery task.now }
     requires home { (n : ℕ) → R.out room.old n ≡ false }
-    ensures finds { Finds task.now (IsTrue R.A.account.tells) (R.means room.old) (R.means room.new) result }
+    ensures finds { FindsObjects task.now (IsTrue R.A.account.tells) (R.means room.old) (R.means room.new) result }
     ensures home { (n : ℕ) → R.out room.new n ≡ false }
     ensures others { (n : ℕ) → task.now.archives ≤ n → R.means room.new n ≡ R.means room.old n }
     ensures cause { Caused (R.faults room.old) (R.faults room.new) (IsErrOf result Stop.RoomFault) }

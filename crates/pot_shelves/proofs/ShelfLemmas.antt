@@ -2,12 +2,13 @@
 use Rattle.std.proofs.Common.{◌≡◌, ◌≢◌, ◌≤◌, ◌-◌, ◌^◌, ◌==◌, ◌⊎◌, inl, inr, ℕ, Bool, true, false, List, Option, Some, None, Result, Ok, Err, refl, sym, ◌∙◌, arith}
 use Rattle.std.specs.Prelude.{cond}
 use Rattle.std.proofs.lemmas.Bool.Decides.{eqb_tells, leb_tells}
+use Rattle.pot_outside.specs.Failing.{MayLeave}
 use Rattle.pot_outside.specs.declared.faults.Failed.{Failed}
-use Rattle.pot_outside.specs.Archives.{OnlyLoses, MayLeave, at_slot}
+use Rattle.pot_outside.specs.Archives.{OnlyLoses, at_slot}
 use Rattle.pot_outside.specs.Counts.{Rose}
 use Rattle.pot_outside.proofs.LossLemmas.{at_slot-here, at_slot-else, loses_nothing, loses_more, loses_under}
 use Rattle.pot_steps.specs.Holdings.{Holdings}
-use Rattle.pot_shelves.specs.Shelves.{Shelves, Keeps, LosesFrom, Stays, WritesInto, IsWritten, put_at}
+use Rattle.pot_shelves.specs.Shelves.{Shelves, Keeps, LosesByCount, Stays, WritesInto, IsWritten, put_at}
 
 -- ONE CALL AFTER ANOTHER
 
@@ -22,10 +23,10 @@ keeps_then a b c o p = record {
   later = (λ n. omega (arith, o.later n, p.later n));
 }
 
-pub loses_refl : (s : Shelves) → LosesFrom s.held s s
+pub loses_refl : (s : Shelves) → LosesByCount s.held s s
 loses_refl s = λ n. loses_nothing (s.held n) (s.losses n)
 
-pub loses_from_then : (h : Holdings) (a b c : Shelves) → LosesFrom h a b → LosesFrom b.held b c → LosesFrom h a c
+pub loses_from_then : (h : Holdings) (a b c : Shelves) → LosesByCount h a b → LosesByCount b.held b c → LosesByCount h a c
 loses_from_then h a b c o p = λ n. loses_more (h n) (b.held n) (c.held n) (a.losses n) (b.losses n) (c.losses n) (o n) (p n)
 
 pub stays_refl : (told : Type 0) (s : Shelves) → Stays told s s
@@ -47,8 +48,8 @@ put_under : (h : Holdings) (a b : Shelves) (n slot : ℕ) (left : Option (List �
 put_under h a b n slot left k true o = loses_under (h k) (b.held k) (a.losses k) (b.losses k) slot left o
 put_under h a b n slot left k false o = o
 
-pub loses_put : (h : Holdings) (a b c : Shelves) (n slot : ℕ) (left : Option (List ℕ)) → LosesFrom h a b
-    → LosesFrom (put_at b.held n slot left) b c → LosesFrom (put_at h n slot left) a c
+pub loses_put : (h : Holdings) (a b c : Shelves) (n slot : ℕ) (left : Option (List ℕ)) → LosesByCount h a b
+    → LosesByCount (put_at b.held n slot left) b c → LosesByCount (put_at h n slot left) a c
 loses_put h a b c n slot left o p = λ k.
     loses_more (put_at h n slot left k) (put_at b.held n slot left k) (c.held k) (a.losses k) (b.losses k) (c.losses k)
     (put_under h a b n slot left k (k == n) (o k)) (p k)
@@ -60,16 +61,16 @@ written_after before now slot block (Ok u) left keeps w = w
 written_after before now slot block (Err e) left keeps (inr w) = inr w
 written_after before now slot block (Err e) left keeps (inl w) = there (now slot) w keeps
   where
-    there : (was : Option (List ℕ)) → left ≡ was → ((b : List ℕ) → was ≡ Some b → before slot ≡ Some b) → MayLeave before slot block left
+    there : (was : Option (List ℕ)) → left ≡ was → ((b : List ℕ) → was ≡ Some b → before slot ≡ Some b) → MayLeave (before slot) block left
     there None w keeps = inr (inr w)
     there (Some b) w keeps = inl (w ∙ sym (keeps b refl))
 
 -- a write after other changes and losses
-pub write_then : (h : Holdings) (a b c : Shelves) (n slot : ℕ) (block : List ℕ) (r : Result (Unit {0}) Failed) → LosesFrom h a b → WritesInto n slot block r b c
-    → (left : Option (List ℕ)) × IsWritten r (h n) slot block left × LosesFrom (put_at h n slot left) a c
+pub write_then : (h : Holdings) (a b c : Shelves) (n slot : ℕ) (block : List ℕ) (r : Result (Unit {0}) Failed) → LosesByCount h a b → WritesInto n slot block r b c
+    → (left : Option (List ℕ)) × IsWritten r (h n) slot block left × LosesByCount (put_at h n slot left) a c
 write_then h a b c n slot block r l w = (w.0, written_after (h n) (b.held n) slot block r w.0 (λ x e. (l n).keeps slot x e) w.1, loses_put h a b c n slot w.0 l w.2)
 
-pub into_after : (a b c : Shelves) (n slot : ℕ) (block : List ℕ) (r : Result (Unit {0}) Failed) → LosesFrom a.held a b → WritesInto n slot block r b c → WritesInto n slot block r a c
+pub into_after : (a b c : Shelves) (n slot : ℕ) (block : List ℕ) (r : Result (Unit {0}) Failed) → LosesByCount a.held a b → WritesInto n slot block r b c → WritesInto n slot block r a c
 into_after a b c n slot block r l w = write_then a.held a b c n slot block r l w
 
 pub put_at-here : (h : Holdings) (n slot : ℕ) (x : Option (List ℕ)) → put_at h n slot x n slot ≡ x
@@ -85,7 +86,7 @@ put_at-other h n slot x k m differs = elim (eqb_tells k n) [ inl e ↦ rw e.0 (a
 -- LOSSES AND RISES
 
 -- a block that was to be held is held, or the count of losses rose
-pub lost_rose : (h : Holdings) (old new : Shelves) (k m : ℕ) (b : List ℕ) → LosesFrom h old new → h k m ≡ Some b
+pub lost_rose : (h : Holdings) (old new : Shelves) (k m : ℕ) (b : List ℕ) → LosesByCount h old new → h k m ≡ Some b
     → (new.held k m ≡ Some b) ⊎ Rose (old.losses k) (new.losses k)
 lost_rose h old new k m b l e =
     elim (eqb_tells (new.losses k) (old.losses k)) [

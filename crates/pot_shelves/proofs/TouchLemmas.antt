@@ -14,7 +14,8 @@ use Rattle.std.proofs.lemmas.Option.{slice_get-get_or}
 use Rattle.std.proofs.lemmas.Slice.Eq.{bytes_eq-Decides}
 use Rattle.pot_bytes.specs.declared.digest.Digest.{Digest}
 use Rattle.pot_bytes.specs.Digests.{digest_bytes}
-use Rattle.pot_outside.specs.Archives.{Meaning, OnlyLoses, ReadTells, FoldTells, HearsFold, MayLeave, at_slot, Reads, Writes as WritesOne, Folds as FoldsOne}
+use Rattle.pot_outside.specs.Failing.{MayLeave}
+use Rattle.pot_outside.specs.Archives.{Meaning, OnlyLoses, ReadTells, FoldTells, HearsFold, at_slot, Reads, Writes, Folds}
 use Rattle.pot_outside.specs.Counts.{Rose}
 use Rattle.pot_outside.specs.declared.archive.Marks.{Marks}
 use Rattle.pot_outside.specs.declared.archive.Shelf.{Shelf}
@@ -22,7 +23,7 @@ use Rattle.pot_outside.specs.declared.archive.Held.{Held as IsHeld}
 use Rattle.pot_outside.specs.declared.faults.Failed.{Failed}
 use Rattle.pot_outside.proofs.LossLemmas.{loses_nothing}
 use Rattle.pot_steps.specs.Stripe.{digest_of}
-use Rattle.pot_shelves.specs.Shelves.{Shelves, numbers_of, shelf_of, given, mark_of, plain, put_at, Touches, Calls, Keeps, LosesFrom, IsTaken, IsWritten, Writes, Folds, Stays, Answers}
+use Rattle.pot_shelves.specs.Shelves.{Shelves, numbers_of, shelf_of, given, mark_of, plain, put_at, Touches, Calls, Keeps, LosesByCount, IsTaken, IsWritten, WritesAt, FoldsAt, Stays, ReadsAt}
 
 -- what `==` of digests says of a block
 pub digest_tells : (block now bytes : List ℕ) (d : Digest) (r : Bool) → now ≡ block → bytes ≡ digest_bytes now
@@ -161,7 +162,7 @@ module _ {A : Type 0} (told : Type 0) (meaning : A → Meaning) (marks : List Ma
   -- a slot of the archive that was called has this, and then blocks are lost
   puts : (number slot : ℕ) (left : Option (List ℕ)) (R : A → A → Type 0) (old new : List (Shelf A)) (t : Touches number R old new)
       → OnlyLoses (at_slot ((meaning t.shelf.archive).held) slot left) ((meaning t.after).held) ((meaning t.shelf.archive).losses) ((meaning t.after).losses)
-      → LosesFrom (put_at (data_of old).held number slot left) (data_of old) (data_of new)
+      → LosesByCount (put_at (data_of old).held number slot left) (data_of old) (data_of new)
   puts number slot left R old new t l = by_number number R old new t
       (λ k o w. OnlyLoses (cond (k == number) (at_slot (λ m. given (λ x. (meaning x).held m) None o) slot left) (λ m. given (λ x. (meaning x).held m) None o))
       (λ m. given (λ x. (meaning x).held m) None w) (given (λ x. (meaning x).losses) 0 o) (given (λ x. (meaning x).losses) 0 w))
@@ -170,20 +171,20 @@ module _ {A : Type 0} (told : Type 0) (meaning : A → Meaning) (marks : List Ma
 
   -- what a write leaves in its slot before any loss
   leaves : (number slot : ℕ) (block : List ℕ) (result : Result (Unit {0}) Failed) (old new : List (Shelf A))
-      (t : Touches number (Calls meaning (WritesOne told slot block result)) old new) → told
+      (t : Touches number (Calls meaning (Writes told slot block result)) old new) → told
       → (left : Option (List ℕ)) × IsWritten result ((data_of old).held number) slot block left
-      × LosesFrom (put_at (data_of old).held number slot left) (data_of old) (data_of new)
+      × LosesByCount (put_at (data_of old).held number slot left) (data_of old) (data_of new)
   leaves number slot block (Ok u) old new t z = (Some block, refl, puts number slot (Some block) _ old new t (t.by.tells z))
   leaves number slot block (Err e) old new t z =
       let tells = t.by.tells z in (
         tells.0,
-        subst (λ (o : Option (Shelf A)). MayLeave (λ m. given (λ x. (meaning x).held m) None o) slot block tells.0) (sym t.was) tells.1,
+        subst (λ (o : Option (Shelf A)). MayLeave (given (λ x. (meaning x).held slot) None o) block tells.0) (sym t.was) tells.1,
         puts number slot tells.0 _ old new t tells.2,
       )
 
   pub writes : (number slot : ℕ) (block : List ℕ) (result : Result (Unit {0}) Failed) (old new : List (Shelf A))
-      → Touches number (Calls meaning (WritesOne told slot block result)) old new
-      → Writes told number slot block result (data_of old) (data_of new)
+      → Touches number (Calls meaning (Writes told slot block result)) old new
+      → WritesAt told number slot block result (data_of old) (data_of new)
   writes number slot block result old new t = record {
     keeps = keeps number _ old new t t.by.cause.later;
     wrote = leaves number slot block result old new t;
@@ -193,8 +194,8 @@ module _ {A : Type 0} (told : Type 0) (meaning : A → Meaning) (marks : List Ma
 
   -- a fold
   pub folds : (number slot weight : ℕ) (before sum : List ℕ) (result : Result IsHeld Failed) (old new : List (Shelf A))
-      → Touches number (Calls meaning (FoldsOne told slot weight before sum result)) old new
-      → Folds told number slot weight before sum result (data_of old) (data_of new)
+      → Touches number (Calls meaning (Folds told slot weight before sum result)) old new
+      → FoldsAt told number slot weight before sum result (data_of old) (data_of new)
   folds number slot weight before sum result old new t = record {
     keeps = keeps number _ old new t t.by.cause.later;
     loses = (λ z. by_number number _ old new t
@@ -228,7 +229,7 @@ module _ {A : Type 0} (told : Type 0) (meaning : A → Meaning) (marks : List Ma
   reads_there number slot into result old new t z = subst (λ (w : Option (Shelf A)). ReadTells (λ m. given (λ x. (meaning x).held m) None w) slot into result) (sym t.now) (t.by.tells z)
 
   pub answers : (number slot : ℕ) (into : List ℕ) (result : Result IsHeld Failed) (old new : List (Shelf A))
-      → Touches number (Calls meaning (Reads told slot into result)) old new → Answers told number slot into result (data_of old) (data_of new)
+      → Touches number (Calls meaning (Reads told slot into result)) old new → ReadsAt told number slot into result (data_of old) (data_of new)
   answers number slot into result old new t = record {
     stays = stays number slot into result old new t;
     tells = reads_there number slot into result old new t;

@@ -1,10 +1,11 @@
 -- Archives as plain data, by their numbers, and what a call of one of them does.
 use Rattle.std.specs.Prelude.{◌≡◌, ◌≢◌, ◌≤◌, ◌<◌, ◌-◌, ◌^◌, ◌==◌, ◌++◌, ℕ, List, [], ◌∷◌, Option, Some, None, Result, Ok, Err, IsErr, IsTrue, if◌then◌else◌, find, map}
+use Rattle.pot_outside.specs.Failing.{MayLeave}
 use Rattle.pot_outside.specs.declared.archive.Marks.{Marks}
 use Rattle.pot_outside.specs.declared.archive.Shelf.{Shelf}
 use Rattle.pot_outside.specs.declared.faults.Failed.{Failed}
 use Rattle.pot_outside.specs.declared.archive.Held.{Held as IsHeld}
-use Rattle.pot_outside.specs.Archives.{Account, Meaning, OnlyLoses, ReadTells, FoldTells, LeavesSum, HearsFold, MayLeave, at_slot}
+use Rattle.pot_outside.specs.Archives.{Account, Meaning, OnlyLoses, ReadTells, FoldTells, LeavesSum, HearsFold, at_slot}
 use Rattle.pot_outside.specs.Counts.{Rose}
 use Rattle.pot_steps.specs.Holdings.{Holdings}
 
@@ -94,8 +95,8 @@ pub record Keeps (old new : Shelves) : Type 0 where
   pub later : (number : ℕ) → old.faults number ≤ new.faults number
 
 -- from what the archives were to hold to what they hold: blocks were lost, and nothing else
-abbrev pub LosesFrom : Holdings → Shelves → Shelves → Type 0
-LosesFrom h old new = (number : ℕ) → OnlyLoses (h number) (new.held number) (old.losses number) (new.losses number)
+abbrev pub LosesByCount : Holdings → Shelves → Shelves → Type 0
+LosesByCount h old new = (number : ℕ) → OnlyLoses (h number) (new.held number) (old.losses number) (new.losses number)
 
 -- no count of losses rose in a call, and none stands at its last value
 abbrev pub NoneLost : Shelves → Shelves → Type 0
@@ -104,20 +105,20 @@ NoneLost old new = (number : ℕ) → (new.losses number ≡ old.losses number) 
 -- Nothing changes but by losses. `told` is whether the archives tell what they hold.
 pub record Stays (told : Type 0) (old new : Shelves) : Type 0 where
   pub keeps : Keeps old new
-  pub loses : told → LosesFrom old.held old new
+  pub loses : told → LosesByCount old.held old new
   pub heard : told → (number : ℕ) → new.heard number ≡ old.heard number
 
 -- One archive was asked for the block of a slot. The others hold what they held.
-pub record Answers (told : Type 0) (number slot : ℕ) (into : List ℕ) (result : Result IsHeld Failed) (old new : Shelves) : Type 0 where
+pub record ReadsAt (told : Type 0) (number slot : ℕ) (into : List ℕ) (result : Result IsHeld Failed) (old new : Shelves) : Type 0 where
   pub stays : Stays told old new
   pub tells : told → ReadTells (new.held number) slot into result
   pub others : told → (n m : ℕ) → n ≢ number → new.held n m ≡ old.held n m
   pub cause : IsErr result → Rose (old.faults number) (new.faults number)
 
 -- A block of a slot of an archive is folded into a sum. That archive alone hears.
-pub record Folds (told : Type 0) (number slot weight : ℕ) (before sum : List ℕ) (result : Result IsHeld Failed) (old new : Shelves) : Type 0 where
+pub record FoldsAt (told : Type 0) (number slot weight : ℕ) (before sum : List ℕ) (result : Result IsHeld Failed) (old new : Shelves) : Type 0 where
   pub keeps : Keeps old new
-  pub loses : told → LosesFrom old.held old new
+  pub loses : told → LosesByCount old.held old new
   pub tells : told → FoldTells (new.held number) slot weight before sum result
   pub leaves : LeavesSum before sum result
   pub hears : told → HearsFold (old.heard number) (new.heard number) slot before result
@@ -146,15 +147,15 @@ put_at h number slot block k = if k == number then at_slot (h k) slot block else
 -- what a write leaves in its slot before any loss: the block, and where it failed the old block, the new one or none
 abbrev pub IsWritten : Result (Unit {0}) Failed → (ℕ → Option (List ℕ)) → ℕ → List ℕ → Option (List ℕ) → Type 0
 IsWritten (Ok u) held slot block left = left ≡ Some block
-IsWritten (Err e) held slot block left = MayLeave held slot block left
+IsWritten (Err e) held slot block left = MayLeave (held slot) block left
 
 -- A block goes into this slot of an archive, or its write fails and leaves there what it may. Nothing else changes but by losses.
 abbrev pub WritesInto : ℕ → ℕ → List ℕ → Result (Unit {0}) Failed → Shelves → Shelves → Type 0
 WritesInto number slot block result old new =
-    (left : Option (List ℕ)) × IsWritten result (old.held number) slot block left × LosesFrom (put_at old.held number slot left) old new
+    (left : Option (List ℕ)) × IsWritten result (old.held number) slot block left × LosesByCount (put_at old.held number slot left) old new
 
 -- A block is written into a slot of an archive.
-pub record Writes (told : Type 0) (number slot : ℕ) (block : List ℕ) (result : Result (Unit {0}) Failed) (old new : Shelves) : Type 0 where
+pub record WritesAt (told : Type 0) (number slot : ℕ) (block : List ℕ) (result : Result (Unit {0}) Failed) (old new : Shelves) : Type 0 where
   pub keeps : Keeps old new
   pub wrote : told → WritesInto number slot block result old new
   pub heard : told → (n : ℕ) → new.heard n ≡ old.heard n

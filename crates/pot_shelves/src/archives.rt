@@ -2,9 +2,9 @@
 ghost use Rattle.std.specs.Prelude.{◌≡◌, ◌<◌, ◌==◌, ◌↔◌, IsTrue, IfOk, IfErr, Contains, length, map};
 ghost use Rattle.std.specs.List.{position};
 ghost use Rattle.pot_steps.specs.Stripe.{digest_of};
-ghost use Rattle.pot_outside.specs.Archives.{Reads, Writes as WritesOne, Folds as FoldsOne};
+ghost use Rattle.pot_outside.specs.Archives.{Reads, Writes, Folds};
 ghost use Rattle.pot_shelves.specs.Shelves.{plain, numbers_of, OnShelves, OnShelf};
-ghost use Rattle.pot_shelves.specs.Shelves.{IsTaken, Answers, Writes, Folds, Brings};
+ghost use Rattle.pot_shelves.specs.Shelves.{IsTaken, ReadsAt, WritesAt, FoldsAt, Brings};
 
 use pot_bytes::{Block, Digest, digest_of};
 use pot_outside::{Archive, Failed, Held, Marks, Shelf};
@@ -61,7 +61,7 @@ impl<A: Archive> Archives<A> {
     /// `Failed` only where the archive's count of faults rose.
     pub fn read(&mut self, number: u32, slot: u32, into: &mut Block) -> Result<Held, Failed>
         requires { Contains (plain A.account.meaning self.old).numbers number }
-        ensures { OnShelves A.account (λ told. Answers told number slot into.new result) self.old self.new }
+        ensures { OnShelves A.account (λ told. ReadsAt told number slot into.new result) self.old self.new }
     {
         read(&mut self.shelves, number, slot, into)
     }
@@ -109,7 +109,8 @@ impl<A: Archive> Archives<A> {
     ) -> Result<Held, Failed>
         requires weight { 0 < weight }
         requires number { Contains (plain A.account.meaning self.old).numbers number }
-        ensures { OnShelves A.account (λ told. Folds told number slot weight sum.old sum.new result) self.old self.new }
+        ensures { OnShelves A.account (λ told. FoldsAt told number slot weight sum.old sum.new result) self.old self.new
+            }
     {
         fold(&mut self.shelves, number, slot, weight, sum)
     }
@@ -120,7 +121,7 @@ impl<A: Archive> Archives<A> {
     /// `Failed` only where the archive's count of faults rose; the slot then has the old block, the new one or none.
     pub fn write(&mut self, number: u32, slot: u32, block: &Block) -> Result<(), Failed>
         requires { Contains (plain A.account.meaning self.old).numbers number }
-        ensures { OnShelves A.account (λ told. Writes told number slot block.now result) self.old self.new }
+        ensures { OnShelves A.account (λ told. WritesAt told number slot block.now result) self.old self.new }
     {
         write(&mut self.shelves, number, slot, block)
     }
@@ -164,7 +165,7 @@ fn fold<A: Archive>(
 ) -> Result<Held, Failed>
     requires weight { 0 < weight }
     requires number { Contains (numbers_of shelves.old.items) number }
-    ensures { OnShelf A.account number (λ told. FoldsOne told slot weight sum.old sum.new result)
+    ensures { OnShelf A.account number (λ told. Folds told slot weight sum.old sum.new result)
         shelves.old.items shelves.new.items }
 {
     let place = place_of(shelves, number).unwrap();
@@ -179,7 +180,7 @@ fn write<A: Archive>(
     block: &Block,
 ) -> Result<(), Failed>
     requires { Contains (numbers_of shelves.old.items) number }
-    ensures { OnShelf A.account number (λ told. WritesOne told slot block.now result)
+    ensures { OnShelf A.account number (λ told. Writes told slot block.now result)
         shelves.old.items shelves.new.items }
 {
     let place = place_of(shelves, number).unwrap();

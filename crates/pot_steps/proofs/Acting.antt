@@ -36,7 +36,7 @@ use Rattle.pot_steps.specs.declared.flight.Flight.{Flight}
 use Rattle.pot_steps.specs.Flight.{FlightLaw, IsRelay, weight, weight_in, left_out, partial_of}
 use Rattle.pot_steps.specs.Flight as flight
 use Rattle.pot_steps.specs.Holdings.{Holdings, HoldsUp, stripe_of}
-use Rattle.pot_steps.specs.Entries.{held_at, OnlyLoses}
+use Rattle.pot_steps.specs.Entries.{held_at, LosesAtLive}
 use Rattle.pot_steps.specs.Flights.{Acts, ActKeeps, LossKeepsAll, AreFlights, FliesOver, IsFlying, Stands, FoldsIn, WritesBack, Copies, begun, flight_in, flights_after, flown}
 use Rattle.pot_steps.proofs.BlockLemmas.{IsBlock-xor, IsBlock-scaled}
 use Rattle.pot_steps.proofs.Changes.{LostOrSame, worse_after, live_before}
@@ -232,7 +232,7 @@ serving_same t _ n k h l ln lk less live = refl
 
 -- WHAT IS HELD AT LIVE SLOTS
 
-loses_by : (t : Table) (e : Entry) (flights : List Flight) (given : List ℕ) (h h' : Holdings) → Lessens e → Acts t flights given e h h' → OnlyLoses t h h'
+loses_by : (t : Table) (e : Entry) (flights : List Flight) (given : List ℕ) (h h' : Holdings) → Lessens e → Acts t flights given e h h' → LosesAtLive t h h'
 loses_by t (Put job s c digest parity_digest kept) flights given h h' less acts = absurd less
 loses_by t (Put2 job s c digest parity_digest second_digest kept kept2) flights given h h' less acts = absurd less
 loses_by t (Broke job s c) flights given h h' less acts = absurd less
@@ -339,7 +339,7 @@ begin_unbroken t h s c takes two k d lk e = elim (same_or k c) [
   | inr ne ↦ begin_beside t s c takes k d lk ne e
 ]
 
-good_begin : (t : Table) (job s c : ℕ) (flights : List Flight) (given : List ℕ) (h h' : Holdings) (n : ℕ) → TakesRelay t s c → IsBlock given → OnlyLoses t h h' → Stands t h flights → n < t.stripes
+good_begin : (t : Table) (job s c : ℕ) (flights : List Flight) (given : List ℕ) (h h' : Holdings) (n : ℕ) → TakesRelay t s c → IsBlock given → LosesAtLive t h h' → Stands t h flights → n < t.stripes
     → Good t.data_columns t.parity (stripe_of t h' n) (flight_in (flights ++ begun t s c given ∷ []) n)
 good_begin t job s c flights given h h' n takes block loses x ln = elim (same_or n s) [
   | inl q ↦ subst (λ n. Good t.data_columns t.parity (stripe_of t h' n) (flight_in (flights ++ begun t s c given ∷ []) n)) (sym q)

@@ -19,7 +19,7 @@ use Rattle.pot_machine.proofs.Kept.{put_other, put_data, put_parity, put2_other,
 use Rattle.pot_steps.specs.Stripe.{Stripe, IsOld, IsNew, Puts, digest_of}
 use Rattle.pot_steps.specs.Law.{StripeLaw, Worse, AllLive}
 use Rattle.pot_steps.specs.Holdings.{Holdings, HoldsUp, stripe_of}
-use Rattle.pot_steps.specs.Entries.{held_at, OnlyLoses, Writes, EntryKeeps, EntryKeepsFlight, LossesKeep}
+use Rattle.pot_steps.specs.Entries.{held_at, LosesAtLive, WritesStripe, EntryKeeps, EntryKeepsFlight, LossesKeep}
 use Rattle.pot_steps.proofs.Steps.{worse_keeps, worse_keeps_flight}
 use Rattle.pot_steps.proofs.PutLaw.{put_keeps_law}
 use Rattle.pot_steps.proofs.Changes.{worse_from}
@@ -30,14 +30,14 @@ use Rattle.pot_machine.proofs.Cases.{same_or}
 worse_stripe : (t : Table) (s s' : Stripe) (relay : Option Relay) → Worse t.data_columns t.parity s s' → StripeLaw t.data_columns t.parity s relay → StripeLaw t.data_columns t.parity s' relay
 worse_stripe t s s' relay w law = worse_keeps t.data_columns t.parity s s' relay relay w (λ e. e) law
 
-stays : (t : Table) (h h' : Holdings) (n : ℕ) → n < t.stripes → OnlyLoses t h h' → Worse t.data_columns t.parity (stripe_of t h n) (stripe_of t h' n)
+stays : (t : Table) (h h' : Holdings) (n : ℕ) → n < t.stripes → LosesAtLive t h h' → Worse t.data_columns t.parity (stripe_of t h n) (stripe_of t h' n)
 stays t h h' n lt loses = worse_from t.data_columns t.parity (stripe_of t h n) (stripe_of t h' n)
     (λ k lk. inl refl) (λ k b lk void held. loses n k b lt lk void held)
 
 pub losses_keep : LossesKeep
 losses_keep t h h' loses up n lt = worse_stripe t (stripe_of t h n) (stripe_of t h' n) (relay_at t n) (stays t h h' n lt loses) (up n lt)
 
-gone : (t : Table) (h h' : Holdings) (s c n : ℕ) → n < t.stripes → OnlyLoses t h h' → Worse t.data_columns t.parity (stripe_of t h n) (stripe_of (with_loss t s c) h' n)
+gone : (t : Table) (h h' : Holdings) (s c n : ℕ) → n < t.stripes → LosesAtLive t h h' → Worse t.data_columns t.parity (stripe_of t h n) (stripe_of (with_loss t s c) h' n)
 gone t h h' s c n lt loses = worse_from t.data_columns t.parity (stripe_of t h n) (stripe_of (with_loss t s c) h' n)
     (λ k lk. elim (slot_after t s c (lost_of (slot_at t s c)) n k) [ inl e ↦ inl e | inr e ↦ inr (e.0 ∙ sym (ap lost_of e.1)) ])
     (λ k b lk void held. loses n k b lt lk void held)
@@ -51,7 +51,7 @@ broken (Live d) h = (d, refl)
 broken (Lost d) h = (d, refl)
 broken (Broken d) h = (d, refl)
 
-broke : (t : Table) (h h' : Holdings) (s c n : ℕ) → IsTable t → s < t.stripes → c < width t → TakesBroke t s c → n < t.stripes → OnlyLoses t h h' → HoldsUp t h
+broke : (t : Table) (h h' : Holdings) (s c n : ℕ) → IsTable t → s < t.stripes → c < width t → TakesBroke t s c → n < t.stripes → LosesAtLive t h h' → HoldsUp t h
     → StripeLaw t.data_columns t.parity (stripe_of (with_slot t s c (broken_of (slot_at t s c))) h' n) (relay_at t n)
 broke t h h' s c n table ls lc takes lt loses up = elim (same_or n s) [
   | inl e ↦ subst (λ n. StripeLaw t.data_columns t.parity (stripe_of (with_slot t s c (broken_of (slot_at t s c))) h' n) (relay_at t n)) (sym e)
@@ -91,7 +91,7 @@ is_void_at (Lost d) e = absurd (cc)
 is_void_at (Broken d) e = absurd (cc)
 
 module _ (t : Table) (h h' : Holdings) (s c : ℕ) (digest parity_digest : Digest) (block p q : List ℕ) (kept kept2 : Bool) (table : IsTable t) (takes : TakesPut t s c)
-    (is_block : digest ≡ digest_of block) (is_parity : parity_digest ≡ digest_of (xor p block)) (w : Writes t h h' s c block p q kept kept2) where
+    (is_block : digest ≡ digest_of block) (is_parity : parity_digest ≡ digest_of (xor p block)) (w : WritesStripe t h h' s c block p q kept kept2) where
   pub column : c < t.data_columns
   column = let e : c ≡ t.cursor.column = takes.1 in let b : t.cursor.column < t.data_columns = table.cursor.column in omega arith
 

@@ -17,19 +17,19 @@ use Rattle.pot_steps.specs.Stripe.{digest_of}
 use Rattle.pot_steps.specs.declared.flight.Flight.{Flight}
 use Rattle.pot_steps.specs.Flights.{Acts, Stands, flights_after}
 use Rattle.pot_steps.specs.Holdings.{Holdings}
-use Rattle.pot_steps.specs.Entries.{OnlyLoses, Writes}
-use Rattle.pot_steps.specs.GroupStep.{GroupState, Loses, Passed, PassesTo, PutsBlock, PutFailed, PutStepKeeps, LookStepKeeps, FullStepKeeps, CountStepKeeps, Settled, Placed, NotPut, Full, NoRoom, Seen, Gone, Faulted, LogFull, skips, gone_entries, put_entry}
+use Rattle.pot_steps.specs.Entries.{LosesAtLive, WritesStripe}
+use Rattle.pot_steps.specs.GroupStep.{GroupState, LosesBlocks, Passed, PassesTo, PutsBlock, PutFailed, PutStepKeeps, LookStepKeeps, FullStepKeeps, CountStepKeeps, Settled, Placed, NotPut, Full, NoRoom, Seen, Gone, Faulted, LogFull, skips, gone_entries, put_entry}
 use Rattle.pot_steps.proofs.Acting.{act_keeps, loss_keeps_all}
 use Rattle.pot_steps.proofs.Entries.{is_void_at}
 use Rattle.pot_machine.proofs.Cases.{same_or}
 
-loses_only : (t : Table) (h h' : Holdings) → Loses h h' → OnlyLoses t h h'
+loses_only : (t : Table) (h h' : Holdings) → LosesBlocks h h' → LosesAtLive t h h'
 loses_only t h h' l s c b ls lc void e = l (serving_at t s c) s b e
 
-same : (h : Holdings) → Loses h h
+same : (h : Holdings) → LosesBlocks h h
 same h number slot b e = e
 
-stands_loses : (t : Table) (h h' : Holdings) (fs : List Flight) → Loses h h' → Stands t h fs → Stands t h' fs
+stands_loses : (t : Table) (h h' : Holdings) (fs : List Flight) → LosesBlocks h h' → Stands t h fs → Stands t h' fs
 stands_loses t h h' fs l x = loss_keeps_all t fs h h' (loses_only t h h' l) x
 
 stands_entry : (t : Table) (e : Entry) (h h' : Holdings) (fs : List Flight) → Legal t e → Acts t fs [] e h h' → Stands t h fs → Stands (after t e) h' (flights_after t e [] fs)
@@ -67,7 +67,7 @@ puts_stand job s c block p q kept kept2 at now new fs puts x =
     (stands_loses (after at (put_entry at.parity job s c block p q kept kept2)) puts.written new.held fs puts.loses
     (enters (one_or_two at.parity x.table.size.parity.0 x.table.size.parity.1)))
   where
-    single : at.parity ≡ 1 → Writes at now puts.written s c block p p kept kept
+    single : at.parity ≡ 1 → WritesStripe at now puts.written s c block p p kept kept
     single one = record {
       is_block = puts.writes.is_block;
       old_p = puts.writes.old_p;
@@ -92,7 +92,7 @@ puts_stand job s c block p q kept kept2 at now new fs puts x =
         (subst (λ n. Legal at (if nat_eq n 1 then one else two)) e puts.legal) (block, p, q, refl, refl, refl, puts.writes) x)
 
 -- one entry that leaves the flights
-one_entry : (e : Entry) (old new : GroupState) → new.flights ≡ old.flights → Replays old.table (e ∷ []) new.table → Loses old.held new.held → Acts old.table old.flights [] e old.held old.held
+one_entry : (e : Entry) (old new : GroupState) → new.flights ≡ old.flights → Replays old.table (e ∷ []) new.table → LosesBlocks old.held new.held → Acts old.table old.flights [] e old.held old.held
     → flights_after old.table e [] old.flights ≡ old.flights → Settled old → Settled new
 one_entry e old new same replay loses acts stay x =
     settled new old.flights same (stands_loses new.table old.held new.held old.flights loses (stands_at (after old.table e) new.table old.held old.flights replay.1

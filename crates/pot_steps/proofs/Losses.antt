@@ -15,7 +15,7 @@ use Rattle.pot_machine.proofs.Places.{slot_after}
 use Rattle.pot_machine.proofs.Kept.{put_other, put_data, put_parity, put2_other, put2_second}
 use Rattle.pot_steps.specs.Stripe.{Sound, digest_of}
 use Rattle.pot_steps.specs.Holdings.{Holdings, LiveLaw, stripe_of}
-use Rattle.pot_steps.specs.Entries.{held_at, Writes}
+use Rattle.pot_steps.specs.Entries.{held_at, WritesStripe}
 use Rattle.pot_steps.specs.GroupStep.{as_read}
 use Rattle.pot_steps.specs.Losses.{KeepsHeld, LossesKeepLive, EntryKeepsLive, StartMakesLive}
 use Rattle.pot_steps.proofs.Entries.{column}
@@ -98,7 +98,7 @@ live_same : (a b : Digest) → Live a ≡ Live b → a ≡ b
 live_same a b e = cc
 
 module _ (t : Table) (h h' : Holdings) (rose : ℕ → Type 0) (s c : ℕ) (digest parity_digest : Digest) (block p q : List ℕ) (kept kept2 : Bool) (table : IsTable t) (takes : TakesPut t s c)
-    (is_block : digest ≡ digest_of block) (is_parity : parity_digest ≡ digest_of (xor p block)) (w : Writes t h h' s c block p q kept kept2) (law : LiveLaw t h rose) where
+    (is_block : digest ≡ digest_of block) (is_parity : parity_digest ≡ digest_of (xor p block)) (w : WritesStripe t h h' s c block p q kept kept2) (law : LiveLaw t h rose) where
   below : c < t.data_columns
   below = column t h h' s c digest parity_digest block p q kept kept2 table takes is_block is_parity w
 

@@ -4,19 +4,19 @@ use Rattle.pot_machine.specs.Table.{Table, serving_at}
 use Rattle.pot_machine.specs.Machine.{after}
 use Rattle.pot_steps.specs.declared.flight.Flight.{Flight}
 use Rattle.pot_steps.specs.Holdings.{Holdings}
-use Rattle.pot_steps.specs.Entries.{OnlyLoses}
+use Rattle.pot_steps.specs.Entries.{LosesAtLive}
 use Rattle.pot_steps.specs.Flights.{Stands, flights_after}
-use Rattle.pot_steps.specs.GroupStep.{GroupState, Loses, FullStep, Settled}
+use Rattle.pot_steps.specs.GroupStep.{GroupState, LosesBlocks, FullStep, Settled}
 use Rattle.pot_steps.specs.RelaySteps.{LoggedKeeps, Unchanged, BeginStepKeeps, AdvanceStepKeeps, MendStepKeeps, GoesBy, MendAnswer}
 use Rattle.pot_steps.specs.RelaySteps.{Begun, NoRoom, Whole, Standing, TwoGone, Crowded, Hopped, Mended, Ended, Odd, Faulted, Idle, LogFull, Began, Went, NoNeed, Stuck, MendOdd, MendFaulted, MendFull}
 use Rattle.pot_steps.specs.MoveSteps.{BringStepKeeps, MoveStepKeeps, Copied, Passed, MoveEnded, MoveFaulted, MoveIdle, MoveFull}
 use Rattle.pot_steps.proofs.Acting.{act_keeps, loss_keeps_all}
 
-loses_only : (t : Table) (h h' : Holdings) → Loses h h' → OnlyLoses t h h'
+loses_only : (t : Table) (h h' : Holdings) → LosesBlocks h h' → LosesAtLive t h h'
 loses_only t h h' l s c b ls lc void e = l (serving_at t s c) s b e
 
 -- the same table and flights
-stands_at : (t u : Table) (h h' : Holdings) (fs gs : List Flight) → u ≡ t → gs ≡ fs → Loses h h' → Stands t h fs → Stands u h' gs
+stands_at : (t u : Table) (h h' : Holdings) (fs gs : List Flight) → u ≡ t → gs ≡ fs → LosesBlocks h h' → Stands t h fs → Stands u h' gs
 stands_at t u h h' fs gs e f l x = subst (λ u. Stands u h' gs) (sym e) (subst (λ gs. Stands t h' gs) (sym f) (loss_keeps_all t fs h h' (loses_only t h h' l) x))
 
 pub logged_keeps : LoggedKeeps

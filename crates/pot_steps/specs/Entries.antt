@@ -20,14 +20,14 @@ abbrev pub held_at : Table → Holdings → ℕ → ℕ → Option (List ℕ)
 held_at t h s c = h (serving_at t s c) s
 
 -- What is held at a Live place was held there before. At any other place anything may have come, as where a write failed.
-abbrev pub OnlyLoses : Table → Holdings → Holdings → Type 0
-OnlyLoses t h h' =
+abbrev pub LosesAtLive : Table → Holdings → Holdings → Type 0
+LosesAtLive t h h' =
     (s c : ℕ) (b : List ℕ) → s < t.stripes → c < width t → IsTrue (is_live (slot_at t s c))
     → held_at t h' s c ≡ Some b → held_at t h s c ≡ Some b
 
 -- A put writes the block at the data place, and the new blocks of P and Q where these are kept. A parity place whose write
 -- failed may hold anything.
-pub record Writes (t : Table) (h h' : Holdings) (s c : ℕ) (block p q : List ℕ) (kept kept2 : Bool) : Type 0 where
+pub record WritesStripe (t : Table) (h h' : Holdings) (s c : ℕ) (block p q : List ℕ) (kept kept2 : Bool) : Type 0 where
   pub is_block : IsBlock block
   pub old_p : IsOld (stripe_of t h s) t.data_columns p
   pub old_q : t.parity ≡ 2 → IsOld (stripe_of t h s) (t.data_columns + 1) q
@@ -39,16 +39,16 @@ pub record Writes (t : Table) (h h' : Holdings) (s c : ℕ) (block p q : List �
 -- The contents before and after an entry. The digests of a Put are those of the blocks that it writes.
 abbrev pub Enters : Table → Entry → Holdings → Holdings → Type 0
 Enters t (Put job s c digest parity_digest kept) h h' =
-    (block : List ℕ) × (p : List ℕ) × (digest ≡ digest_of block) × (parity_digest ≡ digest_of (xor p block)) × Writes t h h' s c block p p kept kept
+    (block : List ℕ) × (p : List ℕ) × (digest ≡ digest_of block) × (parity_digest ≡ digest_of (xor p block)) × WritesStripe t h h' s c block p p kept kept
 Enters t (Put2 job s c digest parity_digest second_digest kept kept2) h h' =
     (block : List ℕ) × (p : List ℕ) × (q : List ℕ) × (digest ≡ digest_of block) × (parity_digest ≡ digest_of (xor p block))
-    × (second_digest ≡ digest_of (xor q (scaled (power 3 c) block))) × Writes t h h' s c block p q kept kept2
-Enters t (Skip job s) h h' = OnlyLoses t h h'
-Enters t (Seen job s c) h h' = OnlyLoses t h h'
-Enters t (Gone job s c) h h' = OnlyLoses t h h'
-Enters t (Broke job s c) h h' = OnlyLoses t h h'
-Enters t (Fault job s c) h h' = OnlyLoses t h h'
-Enters t (Counted job) h h' = OnlyLoses t h h'
+    × (second_digest ≡ digest_of (xor q (scaled (power 3 c) block))) × WritesStripe t h h' s c block p q kept kept2
+Enters t (Skip job s) h h' = LosesAtLive t h h'
+Enters t (Seen job s c) h h' = LosesAtLive t h h'
+Enters t (Gone job s c) h h' = LosesAtLive t h h'
+Enters t (Broke job s c) h h' = LosesAtLive t h h'
+Enters t (Fault job s c) h h' = LosesAtLive t h h'
+Enters t (Counted job) h h' = LosesAtLive t h h'
 Enters t _ h h' = ⊥
 
 -- an entry of a put, a look, an opening or a count keeps the law of every stripe
@@ -57,7 +57,7 @@ EntryKeeps = (t : Table) (e : Entry) (h h' : Holdings) → IsTable t → Legal t
 
 -- and so does any loss
 abbrev pub LossesKeep : Type 0
-LossesKeep = (t : Table) (h h' : Holdings) → OnlyLoses t h h' → HoldsUp t h → HoldsUp t h'
+LossesKeep = (t : Table) (h h' : Holdings) → LosesAtLive t h h' → HoldsUp t h → HoldsUp t h'
 
 -- it keeps the flight of a relay that stands, but for a Broke in its stripe, which the opening alone logs, before any relay
 abbrev pub EntryKeepsFlight : Type 0

@@ -63,7 +63,7 @@ IsPartial data_columns parity s r blocks partial =
     (k : ℕ) → slice_index partial k ≡ sum_where (data_columns + parity) (folded data_columns s.slots r) (weight_in data_columns r) blocks k
 
 -- a block for each folded column, of its slot's digest, and the one held where the slot is sound
-pub record Folds (data_columns parity : ℕ) (s : Stripe) (r : Relay) (blocks : ℕ → List ℕ) : Type 0 where
+pub record FoldsBlocks (data_columns parity : ℕ) (s : Stripe) (r : Relay) (blocks : ℕ → List ℕ) : Type 0 where
   pub block : (c : ℕ) → c < data_columns + parity → folded data_columns s.slots r c ≡ true → IsBlock (blocks c)
   pub digest : (c : ℕ) (d : Digest) → c < data_columns + parity → folded data_columns s.slots r c ≡ true → digest_in (s.slots c) ≡ Some d → digest_of (blocks c) ≡ d
   pub held : (c : ℕ) (b : List ℕ) → c < data_columns + parity → folded data_columns s.slots r c ≡ true → IsSound s c b → blocks c ≡ b
@@ -71,7 +71,7 @@ pub record Folds (data_columns parity : ℕ) (s : Stripe) (r : Relay) (blocks : 
 -- The law of a flight: there are such blocks whose sum is the partial, and where no slot is Broken, those of one filling.
 pub record FlightLaw (data_columns parity : ℕ) (s : Stripe) (r : Relay) (partial : List ℕ) : Type 0 where
   pub is_block : IsBlock partial
-  pub some : (blocks : ℕ → List ℕ) × Folds data_columns parity s r blocks × IsPartial data_columns parity s r blocks partial
+  pub some : (blocks : ℕ → List ℕ) × FoldsBlocks data_columns parity s r blocks × IsPartial data_columns parity s r blocks partial
   pub filled : NoneBroken data_columns parity s → (blocks : ℕ → List ℕ) × Filling data_columns parity s blocks × IsPartial data_columns parity s r blocks partial
 
 abbrev pub partial_of : Flight → List ℕ

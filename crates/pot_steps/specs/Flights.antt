@@ -17,7 +17,7 @@ use Rattle.pot_steps.specs.Stripe.{Stripe, IsSound, NoneBroken, digest_of}
 use Rattle.pot_steps.specs.declared.flight.Flight.{Flight}
 use Rattle.pot_steps.specs.Flight.{FlightLaw, partial_of, weight_in}
 use Rattle.pot_steps.specs.Holdings.{Holdings, HoldsUp, stripe_of}
-use Rattle.pot_steps.specs.Entries.{OnlyLoses, Enters, held_at}
+use Rattle.pot_steps.specs.Entries.{LosesAtLive, Enters, held_at}
 
 -- the flight over a stripe
 abbrev pub flight_in : List Flight → ℕ → Option Flight
@@ -68,18 +68,18 @@ pub record Copies (t u : Table) (h h' : Holdings) (s c : ℕ) : Type 0 where
 
 -- What an entry says of the archives' contents before and after it, and of the block that is handed in with it.
 abbrev pub Acts : Table → List Flight → List ℕ → Entry → Holdings → Holdings → Type 0
-Acts t flights given (Broke job s c) h h' = (relay_at t s ≡ None) × OnlyLoses t h h'
-Acts t flights given (Begin job s c) h h' = IsBlock given × OnlyLoses t h h'
-Acts t flights given (Hop job s c) h h' = IsSomeAnd (flight_in flights s) (λ f. FoldsIn t h f c given) × OnlyLoses t h h'
+Acts t flights given (Broke job s c) h h' = (relay_at t s ≡ None) × LosesAtLive t h h'
+Acts t flights given (Begin job s c) h h' = IsBlock given × LosesAtLive t h h'
+Acts t flights given (Hop job s c) h h' = IsSomeAnd (flight_in flights s) (λ f. FoldsIn t h f c given) × LosesAtLive t h h'
 Acts t flights given (Mended job s c) h h' = IsSomeAnd (flight_in flights s) (λ f. WritesBack t h h' f s c)
-Acts t flights given (GaveUp job s c other) h h' = OnlyLoses t h h'
-Acts t flights given (Oddly job s c found) h h' = OnlyLoses t h h'
-Acts t flights given (Stuck job s c other) h h' = OnlyLoses t h h'
-Acts t flights given (MoveBegin job c to) h h' = OnlyLoses t h h'
+Acts t flights given (GaveUp job s c other) h h' = LosesAtLive t h h'
+Acts t flights given (Oddly job s c found) h h' = LosesAtLive t h h'
+Acts t flights given (Stuck job s c other) h h' = LosesAtLive t h h'
+Acts t flights given (MoveBegin job c to) h h' = LosesAtLive t h h'
 Acts t flights given (Moved job s c true) h h' = Copies t (after t (Moved job s c true)) h h' s c
-Acts t flights given (Moved job s c false) h h' = OnlyLoses t h h'
-Acts t flights given (MoveEnd job c) h h' = OnlyLoses t h h'
-Acts t flights given (Swapped job c to) h h' = OnlyLoses t h h'
+Acts t flights given (Moved job s c false) h h' = LosesAtLive t h h'
+Acts t flights given (MoveEnd job c) h h' = LosesAtLive t h h'
+Acts t flights given (Swapped job c to) h h' = LosesAtLive t h h'
 Acts t flights given e h h' = Enters t e h h'
 
 -- WHAT IS KEPT
@@ -118,4 +118,4 @@ ActKeeps =
 
 -- and so does any loss
 abbrev pub LossKeepsAll : Type 0
-LossKeepsAll = (t : Table) (flights : List Flight) (h h' : Holdings) → OnlyLoses t h h' → Stands t h flights → Stands t h' flights
+LossKeepsAll = (t : Table) (flights : List Flight) (h h' : Holdings) → LosesAtLive t h h' → Stands t h flights → Stands t h' flights

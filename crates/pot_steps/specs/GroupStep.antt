@@ -3,6 +3,7 @@
 use Rattle.std.specs.Prelude.{nat_eq, ◌≡◌, ◌≢◌, ◌⊎◌, ◌↔◌, ◌≤◌, ◌<◌, ℕ, zero, suc, ◌+◌, List, [], ◌∷◌, ◌++◌, Option, Some, None, IfSome, Bool, true, false, IsTrue, All, length, if◌then◌else◌}
 use Rattle.pot_bytes.specs.Sums.{xor}
 use Rattle.pot_bytes.specs.Weighted.{scaled}
+use Rattle.pot_outside.specs.Failing.{MayLeave}
 use Rattle.pot_gf.specs.Field.{power}
 use Rattle.pot_machine.specs.declared.slot.SlotState.TheVariants.{Void}
 use Rattle.pot_machine.specs.declared.entry.Entry.{Entry}
@@ -15,7 +16,7 @@ use Rattle.pot_steps.specs.Stripe.{Stripe, Sound, IsSound, NoneBroken, HasFillin
 use Rattle.pot_steps.specs.Law.{FindsUnsound, FewUnsound}
 use Rattle.pot_steps.specs.declared.flight.Flight.{Flight}
 use Rattle.pot_steps.specs.Holdings.{Holdings, stripe_of}
-use Rattle.pot_steps.specs.Entries.{Writes, held_at}
+use Rattle.pot_steps.specs.Entries.{WritesStripe, held_at}
 use Rattle.pot_steps.specs.Flights.{Stands}
 
 -- A group. `held` has the blocks, and `heard` the sums, that each archive holds and has heard, by its number. A sum stands
@@ -32,11 +33,11 @@ abbrev pub log_bound : ℕ
 log_bound = 262144
 
 -- blocks were lost, and nothing else
-abbrev pub Loses : Holdings → Holdings → Type 0
-Loses h h' = (number slot : ℕ) (b : List ℕ) → h' number slot ≡ Some b → h number slot ≡ Some b
+abbrev pub LosesBlocks : Holdings → Holdings → Type 0
+LosesBlocks h h' = (number slot : ℕ) (b : List ℕ) → h' number slot ≡ Some b → h number slot ≡ Some b
 
 -- the log grows by these entries, for which it has room, and flights and heard sums stay
-pub record Logs (entries : List Entry) (old new : GroupState) : Type 0 where
+pub record LogsInStep (entries : List Entry) (old new : GroupState) : Type 0 where
   pub log : new.log ≡ old.log ++ entries
   pub room : length new.log ≤ log_bound
   pub flights : new.flights ≡ old.flights
@@ -45,7 +46,7 @@ pub record Logs (entries : List Entry) (old new : GroupState) : Type 0 where
 -- the answer LogFull, before all others: the log has no room, and nothing changes
 pub record FullStep (old new : GroupState) : Type 0 where
   pub full : length old.log ≡ log_bound
-  pub logs : Logs [] old new
+  pub logs : LogsInStep [] old new
   pub table : new.table ≡ old.table
   pub held : (number slot : ℕ) → new.held number slot ≡ old.held number slot
 
@@ -72,17 +73,17 @@ LookMeans old new s c Faulted = IsTrue (is_live (slot_at old.table s c))
 LookMeans old new s c LogFull = length old.log ≡ log_bound
 
 pub record LookStep (job s c : ℕ) (answer : Looked) (old new : GroupState) : Type 0 where
-  pub logs : Logs (look_entries job s c answer) old new
+  pub logs : LogsInStep (look_entries job s c answer) old new
   pub replay : Replays old.table (look_entries job s c answer) new.table
-  pub loses : Loses old.held new.held
+  pub loses : LosesBlocks old.held new.held
   pub means : LookMeans old new s c answer
 
 -- A COUNT
 
 pub record CountStep (job : ℕ) (old new : GroupState) : Type 0 where
-  pub logs : Logs (entry.Counted job ∷ []) old new
+  pub logs : LogsInStep (entry.Counted job ∷ []) old new
   pub replay : Replays old.table (entry.Counted job ∷ []) new.table
-  pub loses : Loses old.held new.held
+  pub loses : LosesBlocks old.held new.held
 
 -- A PUT
 
@@ -119,23 +120,19 @@ pub record IsMissing (old : GroupState) (now : Holdings) (s c : ℕ) : Type 0 wh
 pub record PassesTo (job : ℕ) (passed : List Passed) (old : GroupState) (at : Table) (now : Holdings) : Type 0 where
   pub missing : All (λ x. IfSome x.gone (λ c. IsMissing old now x.stripe c)) passed
   pub replay : Replays old.table (skips job passed) at
-  pub loses : Loses old.held now
-
--- what a failed write may leave: what was held, the block or nothing
-abbrev pub IsLeft : Option (List ℕ) → List ℕ → Option (List ℕ) → Type 0
-IsLeft old block left = (left ≡ old) ⊎ ((left ≡ Some block) ⊎ (left ≡ None))
+  pub loses : LosesBlocks old.held now
 
 -- The writes of a put and its entry. Nothing else changes but by losses.
 pub record PutsBlock (job s c : ℕ) (block p q : List ℕ) (kept kept2 : Bool) (at : Table) (now : Holdings) (new : GroupState) : Type 0 where
   pub legal : Legal at (put_entry at.parity job s c block p q kept kept2)
   pub table : new.table ≡ after at (put_entry at.parity job s c block p q kept kept2)
   pub written : Holdings
-  pub writes : Writes at now written s c block p q kept kept2
-  pub left_p : kept ≡ false → IsLeft (held_at at now s at.data_columns) (xor p block) (held_at at written s at.data_columns)
+  pub writes : WritesStripe at now written s c block p q kept kept2
+  pub left_p : kept ≡ false → MayLeave (held_at at now s at.data_columns) (xor p block) (held_at at written s at.data_columns)
   pub left_q : at.parity ≡ 2 → kept2 ≡ false
-      → IsLeft (held_at at now s (at.data_columns + 1)) (xor q (scaled (power 3 c) block)) (held_at at written s (at.data_columns + 1))
+      → MayLeave (held_at at now s (at.data_columns + 1)) (xor q (scaled (power 3 c) block)) (held_at at written s (at.data_columns + 1))
   pub elsewhere : (number slot : ℕ) → (slot ≢ s) ⊎ ((k : ℕ) → k < width at → serving_at at s k ≢ number) → written number slot ≡ now number slot
-  pub loses : Loses written new.held
+  pub loses : LosesBlocks written new.held
 
 -- the answer Ok: the block stands at this place, and each parity block was written
 pub record PutPlaced (job s c : ℕ) (block : List ℕ) (old new : GroupState) : Type 0 where
@@ -146,7 +143,7 @@ pub record PutPlaced (job s c : ℕ) (block : List ℕ) (old new : GroupState) :
   pub q : List ℕ
   pub passes : PassesTo job passed old at now
   pub puts : PutsBlock job s c block p q true true at now new
-  pub logs : Logs (skips job passed ++ put_entry at.parity job s c block p q true true ∷ []) old new
+  pub logs : LogsInStep (skips job passed ++ put_entry at.parity job s c block p q true true ∷ []) old new
 
 -- the least parity column whose block was not written
 abbrev pub unkept : ℕ → Bool → ℕ
@@ -165,7 +162,7 @@ pub record PutUnkept (job column : ℕ) (block : List ℕ) (old new : GroupState
   pub kept2 : Bool
   pub passes : PassesTo job passed old at now
   pub puts : PutsBlock job s c block p q kept kept2 at now new
-  pub logs : Logs (skips job passed ++ put_entry at.parity job s c block p q kept kept2 ∷ []) old new
+  pub logs : LogsInStep (skips job passed ++ put_entry at.parity job s c block p q kept kept2 ∷ []) old new
   pub fails : (kept ≡ false) ⊎ ((at.parity ≡ 2) × (kept2 ≡ false))
   pub names : column ≡ unkept old.table.data_columns kept
 
@@ -180,18 +177,18 @@ pub record PutFailed (job column : ℕ) (block : List ℕ) (old new : GroupState
   pub place : (column ≡ at.cursor.column) ⊎ ((at.data_columns ≤ column) × (slot_at at at.cursor.stripe column ≢ Void))
   pub legal : Legal at (entry.Fault job at.cursor.stripe column)
   pub table : new.table ≡ at
-  pub logs : Logs (skips job passed ++ entry.Fault job at.cursor.stripe column ∷ []) old new
+  pub logs : LogsInStep (skips job passed ++ entry.Fault job at.cursor.stripe column ∷ []) old new
   pub written : Holdings
-  pub left : (written ≡ now) ⊎ ((column ≡ at.cursor.column) × IsLeft (held_at at now at.cursor.stripe column) block (held_at at written at.cursor.stripe column)
+  pub left : (written ≡ now) ⊎ ((column ≡ at.cursor.column) × MayLeave (held_at at now at.cursor.stripe column) block (held_at at written at.cursor.stripe column)
       × ((number slot : ℕ) → (slot ≢ at.cursor.stripe) ⊎ (serving_at at at.cursor.stripe column ≢ number) → written number slot ≡ now number slot))
-  pub loses : Loses written new.held
+  pub loses : LosesBlocks written new.held
 
 -- the answer Full: the stripes were passed, and the cursor is behind the last one
 pub record PutFull (job : ℕ) (old new : GroupState) : Type 0 where
   pub passed : List Passed
   pub passes : PassesTo job passed old new.table new.held
   pub behind : new.table.cursor.stripe ≡ new.table.stripes
-  pub logs : Logs (skips job passed) old new
+  pub logs : LogsInStep (skips job passed) old new
 
 -- The answer LogFull: the entries end where the log has no room, which may be between a Gone and its Skip. The log was full
 -- at once, or there is a next entry, since the cursor is not behind the last stripe.
@@ -202,7 +199,7 @@ pub record PutLogFull (job : ℕ) (old new : GroupState) : Type 0 where
   pub missing : IfSome gone (λ c. IsMissing old new.held at.cursor.stripe c)
   pub passes : PassesTo job passed old at new.held
   pub replay : Replays at (gone_entries job at.cursor.stripe gone) new.table
-  pub logs : Logs (skips job passed ++ gone_entries job at.cursor.stripe gone) old new
+  pub logs : LogsInStep (skips job passed ++ gone_entries job at.cursor.stripe gone) old new
   pub full : length new.log ≡ log_bound
   pub next : (length old.log ≡ log_bound) ⊎ (new.table.cursor.stripe < new.table.stripes)
 
@@ -268,9 +265,9 @@ pub record StartStep (old new : GroupState) : Type 0 where
   pub finds : (s : ℕ) → s < old.table.stripes → FindsGone (width old.table) (as_read old.table read s) (gone s)
   pub breaks : (s : ℕ) → s < old.table.stripes
       → Breaks old.table.data_columns old.table.parity (as_read old.table read s) (broke s) ⊎ Spared old.table.data_columns old.table.parity (as_read old.table read s) (broke s)
-  pub logs : Logs (opening (width old.table) old.table.stripes gone broke) old new
+  pub logs : LogsInStep (opening (width old.table) old.table.stripes gone broke) old new
   pub replay : Replays old.table (opening (width old.table) old.table.stripes gone broke) new.table
-  pub loses : Loses old.held new.held
+  pub loses : LosesBlocks old.held new.held
 
 -- WHAT THE STEPS KEEP
 

@@ -5,7 +5,7 @@ use Rattle.pot_machine.specs.declared.relay.Relay.{Relay}
 use Rattle.pot_bytes.specs.Lists.{IsBlock}
 use Rattle.pot_steps.specs.Stripe.{Stripe}
 use Rattle.pot_steps.specs.declared.flight.Flight.{Flight}
-use Rattle.pot_steps.specs.Flight.{Folds, IsPartial, folded}
+use Rattle.pot_steps.specs.Flight.{FoldsBlocks, IsPartial, folded}
 use Rattle.pot_steps.specs.Flights.{IsFlying}
 
 -- a relay that began with this blind and went over these blocks hands this sum to its next column
@@ -41,4 +41,4 @@ ListenerFits =
 abbrev pub FlightHands : Type 0
 FlightHands =
     (data_columns parity : ℕ) (s : Stripe) (f : Flight) → IsFlying data_columns parity s f
-    → (blocks : ℕ → List ℕ) × Folds data_columns parity s f.relay blocks × Hands data_columns parity s f.relay blocks f.blind f.sum
+    → (blocks : ℕ → List ℕ) × FoldsBlocks data_columns parity s f.relay blocks × Hands data_columns parity s f.relay blocks f.blind f.sum

@@ -13,7 +13,7 @@ use Rattle.pot_steps.specs.Stripe.{Sound, digest_of}
 use Rattle.pot_steps.specs.Flight.{partial_of}
 use Rattle.pot_steps.specs.Holdings.{Holdings, stripe_of}
 use Rattle.pot_steps.specs.Flights.{Acts, flight_in, flights_after}
-use Rattle.pot_steps.specs.GroupStep.{GroupState, Loses, FullStep, Settled, log_bound}
+use Rattle.pot_steps.specs.GroupStep.{GroupState, LosesBlocks, FullStep, Settled, log_bound}
 
 -- One entry is logged, with the block that is handed in with it. Blocks may be lost before it does something and after.
 pub record Logged (e : Entry) (given : List ℕ) (old new : GroupState) : Type 0 where
@@ -24,9 +24,9 @@ pub record Logged (e : Entry) (given : List ℕ) (old new : GroupState) : Type 0
   pub flights : new.flights ≡ flights_after old.table e given old.flights
   pub before : Holdings
   pub now : Holdings
-  pub lost : Loses old.held before
+  pub lost : LosesBlocks old.held before
   pub acts : Acts old.table old.flights given e before now
-  pub loses : Loses now new.held
+  pub loses : LosesBlocks now new.held
 
 -- one entry keeps every law
 abbrev pub LoggedKeeps : Type 0

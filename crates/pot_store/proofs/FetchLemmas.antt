@@ -40,7 +40,7 @@ use Rattle.pot_store.specs.declared.fetching.FetchFault.TheVariants as fault
 use Rattle.pot_store.specs.Works.{of_job, gained, known, section_of, JobWorked, JobAlone, IsSettingOf}
 use Rattle.pot_store.specs.Visits.{Seen, Lost, Visit, IsReadAt, EndsGone, visit_at, came_at, place_in, logged_from, seen_in}
 use Rattle.pot_store.specs.Stored.{blocks_in, IsStoredAs, IsReadOf, FetchGives}
-use Rattle.pot_store.specs.Reads.{IsMade, Reads, AreHad, IsStopped, IsFileIn, EndsFetch}
+use Rattle.pot_store.specs.Reads.{IsMade, AreMade, AreHad, IsStopped, IsFileIn, EndsFetch}
 use Rattle.pot_store.specs.Fetches.{AreFilled, FetchRow}
 use Rattle.pot_store.proofs.WorkLemmas.{known_work, known_none, own_more}
 use Rattle.pot_store.proofs.ReadLemmas.{both_gained, read_back, seen_parts}
@@ -60,7 +60,7 @@ use Rattle.pot_store.proofs.SearchLemmas.{search_work, search_own, search_gain, 
 
 module _ (job : ℕ) (name : List ℕ) (rack : Rack) (names turn : List TurnName) (u v w : GroupPasses) (ui wi : IndexPasses) (kept : Record)
     (ready : AreReady rack names u) (count : length names ≡ rack.groups) (index_ready : IsIndexReady rack names turn ui) (knows : RowKnowsMore u v)
-    (call : IndexCall (FindsRecord job name (Ok kept) v) ui wi) (visits : List Visit) (reads : Reads job kept.places 0 visits v w) where
+    (call : IndexCall (FindsRecord job name (Ok kept) v) ui wi) (visits : List Visit) (reads : AreMade job kept.places 0 visits v w) where
   tied : RowWorked (of_job job) u v
   tied = known_work job rack names u v ready knows
 

@@ -10,7 +10,7 @@ use Rattle.pot_rows.specs.Works.{AllIdle}
 use Rattle.pot_shared.specs.Ready.{GroupPasses}
 use Rattle.pot_store.specs.declared.fetching.FetchFault.{FetchFault}
 use Rattle.pot_store.specs.Visits.{Visit}
-use Rattle.pot_store.specs.Reads.{Reads, AreHad, IsStopped, FragmentRead, PieceRead, FileRead, fragments_in, object_at}
+use Rattle.pot_store.specs.Reads.{AreMade, AreHad, IsStopped, FragmentRead, PieceRead, FileRead, fragments_in, object_at}
 use Rattle.pot_store.proofs.ReadLemmas.{no_reads, reads_then}
 use Rattle.pot_store.proofs.GatherLemmas.{had_none, had_then, stopped_then, stopped_first, fragments_more, objects_more}
 
@@ -18,7 +18,7 @@ use Rattle.pot_store.proofs.GatherLemmas.{had_none, had_then, stopped_then, stop
 pub record PieceSofar (job : ℕ) (kept : Record) (i j : ℕ) (bytes : List ℕ) (u w : GroupPasses) : Type 0 where
   pub visits : List Visit
   pub contents : List (List ℕ)
-  pub reads : Reads job kept.places (i * kept.geometry.fragments * kept.geometry.shards) visits u w
+  pub reads : AreMade job kept.places (i * kept.geometry.fragments * kept.geometry.shards) visits u w
   pub had : AreHad kept j visits contents
   pub are : bytes ≡ fragments_in contents j
 
@@ -41,8 +41,8 @@ module _ (job : ℕ) (kept : Record) (i j : ℕ) (bytes : List ℕ) (u v w : Gro
   from_is : (i * k + j) * n ≡ i * k * n + length sofar.visits
   from_is = let l = sofar.had.visited in omega (arith, l)
 
-  then_reads : (vs : List Visit) → Reads job kept.places ((i * k + j) * n) vs v w → Reads job kept.places (i * k * n) (sofar.visits ++ vs) u w
-  then_reads vs reads = reads_then job u v w sofar.reads.worked reads.worked kept.places (i * k * n) sofar.visits vs sofar.reads (subst (λ m. Reads job kept.places m vs v w) from_is reads)
+  then_reads : (vs : List Visit) → AreMade job kept.places ((i * k + j) * n) vs v w → AreMade job kept.places (i * k * n) (sofar.visits ++ vs) u w
+  then_reads vs reads = reads_then job u v w sofar.reads.worked reads.worked kept.places (i * k * n) sofar.visits vs sofar.reads (subst (λ m. AreMade job kept.places m vs v w) from_is reads)
 
   pub piece_step : (new : List ℕ) → FragmentRead job kept i j bytes new (Ok tt) v w → PieceSofar job kept i (j + 1) new u w
   piece_step new read =
@@ -85,7 +85,7 @@ whole_rows size m bytes some long =
 pub record FileSofar (job : ℕ) (kept : Record) (i : ℕ) (bytes : List ℕ) (u w : GroupPasses) : Type 0 where
   pub visits : List Visit
   pub contents : List (List ℕ)
-  pub reads : Reads job kept.places 0 visits u w
+  pub reads : AreMade job kept.places 0 visits u w
   pub had : AreHad kept (i * kept.geometry.fragments) visits contents
   pub are : bytes ≡ flat_map (λ p. drop 64 (object_at kept.geometry.fragments contents p)) (range_with_len 0 i)
 
@@ -102,8 +102,8 @@ module _ (job : ℕ) (kept : Record) (i : ℕ) (bytes : List ℕ) (u v w : Group
   file_from : i * kept.geometry.fragments * kept.geometry.shards ≡ 0 + length sofar.visits
   file_from = let l = sofar.had.visited in omega (arith, l)
 
-  file_reads : (vs : List Visit) → Reads job kept.places (i * kept.geometry.fragments * kept.geometry.shards) vs v w → Reads job kept.places 0 (sofar.visits ++ vs) u w
-  file_reads vs reads = reads_then job u v w sofar.reads.worked reads.worked kept.places 0 sofar.visits vs sofar.reads (subst (λ m. Reads job kept.places m vs v w) file_from reads)
+  file_reads : (vs : List Visit) → AreMade job kept.places (i * kept.geometry.fragments * kept.geometry.shards) vs v w → AreMade job kept.places 0 (sofar.visits ++ vs) u w
+  file_reads vs reads = reads_then job u v w sofar.reads.worked reads.worked kept.places 0 sofar.visits vs sofar.reads (subst (λ m. AreMade job kept.places m vs v w) file_from reads)
 
   pub file_step : (object : List ℕ) → PieceRead job kept i object (Ok tt) v w → FileSofar job kept (i + 1) (bytes ++ drop 64 object) u w
   file_step object read =

@@ -21,7 +21,7 @@ use Rattle.pot_store.specs.declared.shares.Shares.{Shares}
 use Rattle.pot_store.specs.declared.visiting.Point.TheVariants as point
 use Rattle.pot_store.specs.Visits.{Came, Unknown, Seen, Gone, Lost, Failed, Barred, was_seen, block_in, Visit, unvisited, MayVisit, LooksOnce, MendsOn, EndsVisit, EndsSecond, EndsInVain, EndsGone, look_logs, visit_at, came_at, place_in, seen_in}
 use Rattle.pot_store.specs.Points.{came_in, AreUnknown, IsSet, AreGathered}
-use Rattle.pot_store.specs.Reads.{Reads, PointRead, AreTried, PointsTried, PointsBarred, PointsRead, IsShort, IsMissing, IsRefused, FragmentRead}
+use Rattle.pot_store.specs.Reads.{AreMade, PointRead, AreTried, PointsTried, PointsBarred, PointsRead, IsShort, IsMissing, IsRefused, FragmentRead}
 use Rattle.pot_store.proofs.LookLemmas.{nat_same, hit, visit_none, visit_set, visit_other, set_long}
 use Rattle.pot_store.proofs.FitLemmas.{GroupsDiffer}
 use Rattle.pot_store.proofs.ReadLemmas.{GoesOn, no_reads, reads_set}
@@ -143,7 +143,7 @@ many_seen n points visits same = ap (λ (f : ℕ → Came). count n (λ y. was_s
 pub record LookSofar (job : ℕ) (places : List Place) (from n need x : ℕ) (points : Points) (u w : GroupPasses) : Type 0 where
   pub visits : List Visit
   pub long : length visits ≡ n
-  pub reads : Reads job places from visits u w
+  pub reads : AreMade job places from visits u w
   pub same : (y : ℕ) → came_in points y ≡ came_at visits y
   pub looked : (y : ℕ) → y < x → came_at visits y ≢ Unknown
   pub rest : (y : ℕ) → x ≤ y → visit_at visits y ≡ unvisited
@@ -163,8 +163,8 @@ looks_begin job places from n need points u idle none = record {
 module _ (job : ℕ) (places : List Place) (from n need x : ℕ) (points new : Points) (p : Place) (u v w : GroupPasses) (differ : GroupsDiffer places from n) (lt : x < n)
     (at : p ≡ place_in places (from + x)) where
   -- one visit goes on
-  next_reads : (visits : List Visit) → length visits ≡ n → Reads job places from visits u v → (visit : Visit) → GoesOn job p (visit_at visits x).entries visit v w
-      → Reads job places from (slice_set visits x visit) u w
+  next_reads : (visits : List Visit) → length visits ≡ n → AreMade job places from visits u v → (visit : Visit) → GoesOn job p (visit_at visits x).entries visit v w
+      → AreMade job places from (slice_set visits x visit) u w
   next_reads visits long reads visit on =
       reads_set job u v w places from visits x visit (omega (arith, lt, long)) (λ y more less. differ x y more (omega (arith, less, long))) reads
       (subst (λ q. GoesOn job q (visit_at visits x).entries visit v w) at on)
@@ -179,7 +179,7 @@ module _ (job : ℕ) (places : List Place) (from n need x : ℕ) (points new : P
     abbrev looked_at : Came → Visit
     looked_at came = record { entries = look_logs job p came; came = came }
 
-    look_reads : (came : Came) → LooksOnce job p came v w → Reads job places from (slice_set sofar.visits x (looked_at came)) u w
+    look_reads : (came : Came) → LooksOnce job p came v w → AreMade job places from (slice_set sofar.visits x (looked_at came)) u w
     look_reads came is =
         let none : [] ≡ (visit_at sofar.visits x).entries = ap (λ (z : Visit). z.entries) (sym (sofar.rest x (omega arith))) in
         next_reads sofar.visits sofar.long sofar.reads (looked_at came) (subst (λ es. GoesOn job p es (looked_at came) v w) none (look_goes job p came v w is))
@@ -308,7 +308,7 @@ module _ (job : ℕ) (places : List Place) (from n need x : ℕ) (points : Point
     abbrev mended : (came : Came) → MendsOn job p came v w → Visit
     mended came is = record { entries = it ∷ is.entries; came = came }
 
-    mend_reads : (came : Came) (is : MendsOn job p came v w) → Reads job places from (slice_set vs x (mended came is)) u w
+    mend_reads : (came : Came) (is : MendsOn job p came v w) → AreMade job places from (slice_set vs x (mended came is)) u w
     mend_reads came is =
         next_reads job places from n need x points new p u v w differ lt at vs sofar.long sofar.reads (mended came is)
         (subst (λ es. GoesOn job p es (mended came is) v w) (sym was_gone) (mend_goes job p came v w is))

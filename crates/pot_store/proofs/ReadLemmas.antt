@@ -22,7 +22,7 @@ use Rattle.pot_shared.specs.Ready.{GroupPasses}
 use Rattle.pot_store.specs.Works.{of_job, gained}
 use Rattle.pot_store.specs.Adds.{Adds}
 use Rattle.pot_store.specs.Visits.{Came, Lost, Visit, unvisited, IsVisit, IsReadAt, HasPut, ReadsBlock, SoundThenGone, EndsGone, visit_at, place_in, logged_from}
-use Rattle.pot_store.specs.Reads.{IsMade, Reads}
+use Rattle.pot_store.specs.Reads.{IsMade, AreMade}
 use Rattle.pot_store.proofs.WorkLemmas.{drop_all, own_more, row_stays}
 use Rattle.pot_store.proofs.GatherLemmas.{below_or_not}
 use Rattle.pot_store.proofs.LookLemmas.{nat_same, visit_front, visit_back, visit_none, visit_set, visit_other, set_long, logged-append, logged_none, logged_last, logged_set, logged_set_else}
@@ -164,7 +164,7 @@ module _ (job : ℕ) (u v w : GroupPasses) (first : RowWorked (of_job job) u v) 
   }
 
   -- visits to the blocks behind
-  pub reads_then : (places : List Place) (from : ℕ) (vs ws : List Visit) → Reads job places from vs u v → Reads job places (from + length vs) ws v w → Reads job places from (vs ++ ws) u w
+  pub reads_then : (places : List Place) (from : ℕ) (vs ws : List Visit) → AreMade job places from vs u v → AreMade job places (from + length vs) ws v w → AreMade job places from (vs ++ ws) u w
   reads_then places from vs ws one two = record {
     worked = row_work_in_parts (of_job job) u v w first next;
     own = λ alone g. (let parts = row_alone_in_parts (of_job job) u v w first next alone in
@@ -186,7 +186,7 @@ module _ (job : ℕ) (u v w : GroupPasses) (first : RowWorked (of_job job) u v) 
 -- one visit among others goes on, the later ones standing in other groups
 module _ (job : ℕ) (u v w : GroupPasses) (places : List Place) (from : ℕ) (vs : List Visit) (x : ℕ) (new : Visit) (lt : x < length vs)
     (later : (y : ℕ) → x < y → y < length vs → (place_in places (from + y)).group ≢ (place_in places (from + x)).group)
-    (reads : Reads job places from vs u v) (on : GoesOn job (place_in places (from + x)) (visit_at vs x).entries new v w) where
+    (reads : AreMade job places from vs u v) (on : GoesOn job (place_in places (from + x)) (visit_at vs x).entries new v w) where
   abbrev p : Place
   p = place_in places (from + x)
 
@@ -226,7 +226,7 @@ module _ (job : ℕ) (u v w : GroupPasses) (places : List Place) (from : ℕ) (v
         (λ y so. (at.0, at.1 ++ y, ap (λ l. l ++ y) at.2 ∙ append_assoc at.0 (gone ∷ at.1) y)) it.1;
   }
 
-  pub reads_set : Reads job places from (slice_set vs x new) u w
+  pub reads_set : AreMade job places from (slice_set vs x new) u w
   reads_set = record {
     worked = row_work_in_parts (of_job job) u v w reads.worked on.adds.worked;
     own = own_set;
@@ -258,7 +258,7 @@ unmade job p u = record {
   again = λ alone lost ends. absurd (cc lost);
 }
 
-pub no_reads : (job : ℕ) (places : List Place) (from n : ℕ) (u : GroupPasses) → AllIdle u → Reads job places from (replicate n unvisited) u u
+pub no_reads : (job : ℕ) (places : List Place) (from n : ℕ) (u : GroupPasses) → AllIdle u → AreMade job places from (replicate n unvisited) u u
 no_reads job places from n u idle = record {
   worked = row_stays (of_job job) u idle;
   own = λ alone g. ap (λ ls. own job (entries_of ls)) (drop_all (view_at u g).seen) ∙ sym (logged_none places g from n);

@@ -30,7 +30,7 @@ pub record IsMade (job : ℕ) (p : Place) (v : Visit) (old new : GroupPasses) : 
   pub again : RowAlone (of_job job) old new → IsGoneAgain job p v old new
 
 -- Visits of the job to the blocks from a number on.
-pub record Reads (job : ℕ) (places : List Place) (from : ℕ) (visits : List Visit) (old new : GroupPasses) : Type 0 where
+pub record AreMade (job : ℕ) (places : List Place) (from : ℕ) (visits : List Visit) (old new : GroupPasses) : Type 0 where
   pub worked : RowWorked (of_job job) old new
   pub own : RowAlone (of_job job) old new → (g : ℕ) → own job (gained old new g) ≡ logged_from places g from visits
   pub each : (x : ℕ) → x < length visits → IsMade job (place_in places (from + x)) (visit_at visits x) old new
@@ -61,7 +61,7 @@ AreTried n need x visits =
 -- these visits were made, and this is known of the points
 pub record PointsTried (job : ℕ) (places : List Place) (from n need x : ℕ) (points : Points) (v w : GroupPasses) : Type 0 where
   pub visits : List Visit
-  pub reads : Reads job places from visits v w
+  pub reads : AreMade job places from visits v w
   pub long : length visits ≡ n
   pub same : (y : ℕ) → came_in points y ≡ came_at visits y
   pub tried : AreTried n need x visits
@@ -77,7 +77,7 @@ pub record IsBarred (places : List Place) (from n need : ℕ) (visits : List Vis
 
 pub record PointsBarred (job : ℕ) (places : List Place) (from n need group : ℕ) (v w : GroupPasses) : Type 0 where
   pub visits : List Visit
-  pub reads : Reads job places from visits v w
+  pub reads : AreMade job places from visits v w
   pub long : length visits ≡ n
   pub barred : IsBarred places from n need visits group w
 
@@ -162,7 +162,7 @@ EndsFragment kept i j visits old new (Err e) w = IsRefused kept i j visits e w
 
 pub record FragmentRead (job : ℕ) (kept : Record) (i j : ℕ) (old new : List ℕ) (result : Result (Unit {0}) FetchFault) (v w : GroupPasses) : Type 0 where
   pub visits : List Visit
-  pub reads : Reads job kept.places ((i * kept.geometry.fragments + j) * kept.geometry.shards) visits v w
+  pub reads : AreMade job kept.places ((i * kept.geometry.fragments + j) * kept.geometry.shards) visits v w
   pub long : length visits ≡ kept.geometry.shards
   pub ends : EndsFragment kept i j visits old new result w
 
@@ -175,7 +175,7 @@ EndsPiece kept i visits object (Err e) w = IsStopped kept (i * kept.geometry.fra
 
 pub record PieceRead (job : ℕ) (kept : Record) (i : ℕ) (object : List ℕ) (result : Result (Unit {0}) FetchFault) (v w : GroupPasses) : Type 0 where
   pub visits : List Visit
-  pub reads : Reads job kept.places (i * kept.geometry.fragments * kept.geometry.shards) visits v w
+  pub reads : AreMade job kept.places (i * kept.geometry.fragments * kept.geometry.shards) visits v w
   pub ends : EndsPiece kept i visits object result w
 
 -- the object of piece i, from the contents of all fragments before and in it
@@ -194,7 +194,7 @@ EndsFile kept visits bytes (Err e) w = IsStopped kept 0 visits e w
 
 pub record FileRead (job : ℕ) (kept : Record) (bytes : List ℕ) (result : Result (Unit {0}) FetchFault) (v w : GroupPasses) : Type 0 where
   pub visits : List Visit
-  pub reads : Reads job kept.places 0 visits v w
+  pub reads : AreMade job kept.places 0 visits v w
   pub ends : EndsFile kept visits bytes result w
 
 -- the file of a record: the bytes have its digest, or another one, or there was no memory before the first look
@@ -208,5 +208,5 @@ EndsFetch kept visits (Err e) w = IsStopped kept 0 visits e w
 
 pub record RecordRead (job : ℕ) (kept : Record) (result : Result (Vec ℕ Global) FetchFault) (v w : GroupPasses) : Type 0 where
   pub visits : List Visit
-  pub reads : Reads job kept.places 0 visits v w
+  pub reads : AreMade job kept.places 0 visits v w
   pub ends : EndsFetch kept visits result w

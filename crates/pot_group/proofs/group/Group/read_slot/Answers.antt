@@ -2,7 +2,7 @@ use Rattle.std.proofs.Common.{◌<◌, IsTrue, subst, sym, ◌∙◌}
 use Rattle.std.specs.Prelude.{Contains}
 use Rattle.pot_machine.specs.Table.{width}
 use Rattle.pot_shelves.specs.Shelves.{plain}
-use Rattle.pot_group.specs.Reads.{Finds}
+use Rattle.pot_group.specs.Reads.{ReadsByDigest}
 use Rattle.pot_group.specs.Group.{GroupParts, view_of}
 use Rattle.pot_group.proofs.Reading.{served, read_covers}
 use Rattle.pot_group.proofs.Settled.{settled_stays}
@@ -34,4 +34,4 @@ returns-clause-covers g c =
     read_covers (IsTrue g.A.Archive.account.tells) (view_of g.A.Archive.account.meaning v)
     (plain g.A.Archive.account.meaning c.read_sound.new.archives) c.args.stripe c.args.column c.args.digest c.read_sound.new.into c.read_sound.result
     c.self.invariant.0 (subst (λ (w : GroupParts _). c.args.column < width w.table) (sym c.self.view_is) c.requires)
-    (subst (λ n. Finds (IsTrue g.A.Archive.account.tells) n c.args.stripe c.args.digest c.read_sound.new.into c.read_sound.result (plain g.A.Archive.account.meaning a.archives) (plain g.A.Archive.account.meaning c.read_sound.new.archives)) c.archive_of-number.ensures c.read_sound.ensures)
+    (subst (λ n. ReadsByDigest (IsTrue g.A.Archive.account.tells) n c.args.stripe c.args.digest c.read_sound.new.into c.read_sound.result (plain g.A.Archive.account.meaning a.archives) (plain g.A.Archive.account.meaning c.read_sound.new.archives)) c.archive_of-number.ensures c.read_sound.ensures)

@@ -6,7 +6,7 @@ use Rattle.pot_machine.specs.Table.{slot_at, next_column}
 use Rattle.pot_steps.specs.Stripe.{digest_of}
 use Rattle.pot_steps.specs.declared.flight.Flight.{Flight}
 use Rattle.pot_steps.specs.Flights.{flight_in}
-use Rattle.pot_shelves.specs.Shelves.{plain, Writes, numbers_of}
+use Rattle.pot_shelves.specs.Shelves.{plain, WritesAt, numbers_of}
 use Rattle.pot_group.specs.Group.{GroupParts, view_of}
 use Rattle.pot_group.specs.Relaying.{EndsWell}
 use Rattle.pot_group.specs.declared.relaying.Advanced.TheVariants as advanced
@@ -52,7 +52,7 @@ invariant_of-self g c =
           (subst (λ (w : GroupParts _). next_column w.table c.args.flight.relay ≡ None) (sym c.self.view_is) c.requires.next)
           c.requires.partial
           (subst (λ (w : GroupParts _). digest_in (slot_at w.table c.args.flight.relay.stripe c.args.flight.relay.target) ≡ Some (digest_of c.args.block.now)) (sym c.self.view_is) c.requires.digest)
-          (subst (λ n. Writes (IsTrue g.A.Archive.account.tells) n c.args.flight.relay.stripe c.args.block.now (Ok (tt)) (plain g.A.Archive.account.meaning a.archives) (plain g.A.Archive.account.meaning c.write.new.self)) c.archive_of-number.ensures c.in-Ok.ensures)
+          (subst (λ n. WritesAt (IsTrue g.A.Archive.account.tells) n c.args.flight.relay.stripe c.args.block.now (Ok (tt)) (plain g.A.Archive.account.meaning a.archives) (plain g.A.Archive.account.meaning c.write.new.self)) c.archive_of-number.ensures c.in-Ok.ensures)
           c.mended-entry.result c.mended-entry.new.table c.push_reserved.new.self.items c.retain.new.self.items c.mended-entry.ensures.entry c.mended-entry.ensures.table c.push_reserved.ensures.items
           (filter_same _ (λ (f : Flight). not (f.relay.stripe == c.args.flight.relay.stripe)) _ (λ x b q h. search (rules, tests)) _ _ c.retain.ensures.filtered),
       omega (arith, c.self.invariant.1, c.push_reserved.ensures.capacity),
@@ -77,7 +77,7 @@ invariant_of-self-in-Err g c =
           (subst (λ (w : GroupParts _). length w.log < 262144) (sym c.self.view_is) c.requires.room)
           (subst (λ (w : GroupParts _). flight_in w.flights c.args.flight.relay.stripe ≡ Some c.args.flight) (sym c.self.view_is) c.requires.here)
           (subst (λ (w : GroupParts _). next_column w.table c.args.flight.relay ≡ None) (sym c.self.view_is) c.requires.next)
-          c.in-Err.field-0 (subst (λ n. Writes (IsTrue g.A.Archive.account.tells) n c.args.flight.relay.stripe c.args.block.now (Err c.in-Err.field-0) (plain g.A.Archive.account.meaning a.archives) (plain g.A.Archive.account.meaning c.write.new.self)) c.archive_of-number.ensures c.in-Err.ensures) c.note.new.table c.note.new.log.items c.note.ensures.table c.note.ensures.log,
+          c.in-Err.field-0 (subst (λ n. WritesAt (IsTrue g.A.Archive.account.tells) n c.args.flight.relay.stripe c.args.block.now (Err c.in-Err.field-0) (plain g.A.Archive.account.meaning a.archives) (plain g.A.Archive.account.meaning c.write.new.self)) c.archive_of-number.ensures c.in-Err.ensures) c.note.new.table c.note.new.log.items c.note.ensures.table c.note.ensures.log,
       omega (arith, c.self.invariant.1, c.note.ensures.capacity),
       c.self.invariant.2,
       none_arrived a.first a.log.items c.note.new.log.items _ (numbers_of a.archives.shelves) (numbers_of c.write.new.self.shelves) c.self.invariant.3 c.note.ensures.log refl c.write.ensures.keeps.numbers,
@@ -100,7 +100,7 @@ returns-in-Ok g c =
         log = rw c.mended-entry.ensures.entry at c.push_reserved.ensures.items;
         flights = (filter_same _ (λ (f : Flight). not (f.relay.stripe == c.args.flight.relay.stripe)) _ (λ x b q h. search (rules, tests)) _ _ c.retain.ensures.filtered);
       },
-      (subst (λ n. Writes (IsTrue g.A.Archive.account.tells) n c.args.flight.relay.stripe c.args.block.now (Ok (tt)) (plain g.A.Archive.account.meaning a.archives) (plain g.A.Archive.account.meaning c.write.new.self)) c.archive_of-number.ensures c.in-Ok.ensures),
+      (subst (λ n. WritesAt (IsTrue g.A.Archive.account.tells) n c.args.flight.relay.stripe c.args.block.now (Ok (tt)) (plain g.A.Archive.account.meaning a.archives) (plain g.A.Archive.account.meaning c.write.new.self)) c.archive_of-number.ensures c.in-Ok.ensures),
     )
 
 pub returns-in-Err : goal.returns-in-Err
@@ -121,5 +121,5 @@ returns-in-Err g c =
         log = c.note.ensures.log;
         flights = refl;
       },
-      (c.in-Err.field-0, (subst (λ n. Writes (IsTrue g.A.Archive.account.tells) n c.args.flight.relay.stripe c.args.block.now (Err c.in-Err.field-0) (plain g.A.Archive.account.meaning a.archives) (plain g.A.Archive.account.meaning c.write.new.self)) c.archive_of-number.ensures c.in-Err.ensures)),
+      (c.in-Err.field-0, (subst (λ n. WritesAt (IsTrue g.A.Archive.account.tells) n c.args.flight.relay.stripe c.args.block.now (Err c.in-Err.field-0) (plain g.A.Archive.account.meaning a.archives) (plain g.A.Archive.account.meaning c.write.new.self)) c.archive_of-number.ensures c.in-Err.ensures)),
     )

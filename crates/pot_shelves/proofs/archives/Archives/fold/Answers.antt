@@ -1,12 +1,12 @@
 use Rattle.std.proofs.Common.{IsTrue, subst}
-use Rattle.pot_shelves.specs.Shelves.{Shelved, plain, Folds}
+use Rattle.pot_shelves.specs.Shelves.{Shelved, plain, FoldsAt}
 use Rattle.pot_shelves.proofs.TouchLemmas.{folds}
 use Rattle.pot_shelves.proofs.archives.Archives.fold.Goals as goal
 
 pub returns : goal.returns
 returns g c =
     subst
-    (λ (v : Shelved g.row.A.Denot). Folds (IsTrue g.A.Archive.account.tells) c.args.number c.args.slot c.args.weight c.args.sum.now c.fold.new.sum c.fold.result
+    (λ (v : Shelved g.row.A.Denot). FoldsAt (IsTrue g.A.Archive.account.tells) c.args.number c.args.slot c.args.weight c.args.sum.now c.fold.new.sum c.fold.result
     (plain g.A.Archive.account.meaning v)
     (plain g.A.Archive.account.meaning (record { shelves = c.fold.new.shelves.items; marks = c.self.inside.marks.items })))
     c.self.view_is

@@ -1,12 +1,12 @@
 use Rattle.std.proofs.Common.{IsTrue, subst}
-use Rattle.pot_shelves.specs.Shelves.{Shelved, plain, Writes}
+use Rattle.pot_shelves.specs.Shelves.{Shelved, plain, WritesAt}
 use Rattle.pot_shelves.proofs.TouchLemmas.{writes}
 use Rattle.pot_shelves.proofs.archives.Archives.write.Goals as goal
 
 pub returns : goal.returns
 returns g c =
     subst
-    (λ (v : Shelved g.row.A.Denot). Writes (IsTrue g.A.Archive.account.tells) c.args.number c.args.slot c.args.block.now c.write.result
+    (λ (v : Shelved g.row.A.Denot). WritesAt (IsTrue g.A.Archive.account.tells) c.args.number c.args.slot c.args.block.now c.write.result
     (plain g.A.Archive.account.meaning v)
     (plain g.A.Archive.account.meaning (record { shelves = c.write.new.shelves.items; marks = c.self.inside.marks.items })))
     c.self.view_is
