@@ -13,7 +13,7 @@ use Rattle.pot_machine.specs.Column.{names}
 use Rattle.pot_machine.specs.Table.{Table, width, slot_at, column_at, serving_at}
 use Rattle.pot_machine.specs.Machine.{Replays, TakesBlocks, after}
 use Rattle.pot_machine.specs.Rules.{IsTable}
-use Rattle.pot_steps.specs.Stripe.{Sound, digest_of}
+use Rattle.pot_steps.specs.Stripe.{Stripe, Sound, digest_of}
 use Rattle.pot_steps.specs.declared.flight.Flight.{Flight}
 use Rattle.pot_steps.specs.Flights.{AreFlights, FlightsHold}
 use Rattle.pot_steps.specs.Holdings.{HoldsUp, LiveLaw, stripe_of}
@@ -51,6 +51,10 @@ view_of meaning g = record { number = g.number; first = g.first; table = g.table
 -- what is said of a group before and after a call, by the account of its archives: whether they tell, and what each means
 abbrev pub OnGroup : {A : Type 0} → Account A → (Type 0 → GroupView → GroupView → Type 0) → GroupParts A → GroupParts A → Type 0
 OnGroup account R old new = R (IsTrue account.tells) (view_of account.meaning old) (view_of account.meaning new)
+
+-- a stripe of a group: the slots of its table, and what its archives hold there
+abbrev pub stripe_in : {A : Type 0} → Account A → GroupParts A → ℕ → Stripe
+stripe_in account g s = stripe_of g.table (plain account.meaning g.archives).held s
 
 -- an entry is logged, and does in the table what it says
 abbrev pub noted : {A : Type 0} → GroupParts A → Entry → GroupParts A

@@ -35,7 +35,7 @@ impl<A: Archive> Group<A> {
     ) -> Result<Group<A>, StartRefused<A>>
         requires relays { table.relays ≡ [] }
         requires shelves { map (λ s. s.number) shelves.items ≡ archives_in table }
-        ensures begins { IfOk result (λ g. Begins (IsTrue A.account.tells) A.account.meaning number table shelves.items g) }
+        ensures begins { IfOk result (Begins (IsTrue A.account.tells) A.account.meaning number table shelves.items) }
         ensures refused { IfErr result (λ r. (r.table ≡ table) × (r.shelves ≡ shelves)) }
     {
         let Ok(log) = Vec::with_capacity(alloc, LOG_BOUND) else {

@@ -39,9 +39,7 @@ impl<A: Archive> Group<A> {
     ghost use Rattle.pot_machine.specs.Slot.{is_live};
     ghost use Rattle.pot_machine.specs.Table.{column_at, slot_at};
     ghost use Rattle.pot_steps.specs.Stripe.{IsSound, Sound};
-    ghost use Rattle.pot_steps.specs.Holdings.{stripe_of};
-    ghost use Rattle.pot_shelves.specs.Shelves.{plain};
-    ghost use Rattle.pot_group.specs.Group.{OnGroup};
+    ghost use Rattle.pot_group.specs.Group.{OnGroup, stripe_in};
     ghost use Rattle.pot_group.specs.Relaying.{acted};
     ghost use Rattle.pot_group.specs.Moving.{Steps};
     ghost use Rattle.pot_group.specs.Calls.{Makes, MoveStepCall};
@@ -131,7 +129,7 @@ impl<A: Archive> Group<A> {
         requires moves { (column_at self.old.table column).moving ≡ Some moving }
         requires stripe { moving.upto < self.old.table.stripes }
         requires live { IsTrue (is_live (slot_at self.old.table moving.upto column)) }
-        requires sound { IsTrue A.account.tells → IsSound (stripe_of self.old.table (plain A.account.meaning self.old.archives).held moving.upto) column block.now }
+        requires sound { IsTrue A.account.tells → IsSound (stripe_in A.account self.old moving.upto) column block.now }
         requires room { length self.old.log < 262144 }
         ensures { OnGroup A.account (λ told. Steps told job column result) self.old self.new }
     {
@@ -161,7 +159,7 @@ impl<A: Archive> Group<A> {
         requires column { column < width self.old.table }
         requires moves { (column_at self.old.table column).moving ≡ Some moving }
         requires stripe { moving.upto < self.old.table.stripes }
-        requires missing { IsTrue A.account.tells → Sound (stripe_of self.old.table (plain A.account.meaning self.old.archives).held moving.upto) column → ⊥ }
+        requires missing { IsTrue A.account.tells → Sound (stripe_in A.account self.old moving.upto) column → ⊥ }
         requires room { length self.old.log < 262144 }
         ensures { self.new ≡ acted self.old (Moved job moving.upto column false) [] }
     {

@@ -47,16 +47,33 @@ impl<A: Archive> Model for Group<A> {
 
     ghost Value = { GroupParts A };
 
-    ghost view = { λ g. record { number = g.number; first = g.first; table = g.table; log = g.log.items; flights = g.flights.items; archives = g.archives } };
+    ghost view = { λ g. record {
+      number = g.number;
+      first = g.first;
+      table = g.table;
+      log = g.log.items;
+      flights = g.flights.items;
+      archives = g.archives;
+    } };
 
-    ghost invariant = { λ g. IsSettled (IsTrue A.account.tells) (view_of A.account.meaning (record { number = g.number; first = g.first; table = g.table; log = g.log.items; flights = g.flights.items; archives = g.archives })) × (262144 ≤ vec_capacity g.log) × (16 ≤ vec_capacity g.flights) × HasArrived g.first g.log.items (numbers_of g.archives.shelves) };
+    ghost invariant = { λ g. IsSettled (IsTrue A.account.tells) (view_of A.account.meaning
+        (record {
+          number = g.number;
+          first = g.first;
+          table = g.table;
+          log = g.log.items;
+          flights = g.flights.items;
+          archives = g.archives;
+        }))
+        × (262144 ≤ vec_capacity g.log) × (16 ≤ vec_capacity g.flights)
+        × HasArrived g.first g.log.items (numbers_of g.archives.shelves) };
 }
 
 impl<A: Archive> Group<A> {
     ghost use Rattle.pot_machine.specs.Table.{serving_at};
     ghost use Rattle.pot_machine.specs.Machine.{Legal, Replays};
     ghost use Rattle.pot_machine.specs.Rules.{IsTable};
-    ghost use Rattle.pot_shelves.specs.Shelves.{plain};
+    ghost use Rattle.pot_shelves.specs.Shelves.{OnShelves};
     ghost use Rattle.pot_group.specs.Reads.{ReadsByDigest};
     ghost use Rattle.pot_group.specs.Group.{view_of, noted, with_archives, IsQuiet, IsSettled, CoversIfNotRead};
     ghost use Rattle.pot_shelves.specs.Shelves.{numbers_of};
@@ -72,8 +89,9 @@ impl<A: Archive> Group<A> {
     ) -> Found
         requires { column < width self.old.table }
         ensures same { self.new ≡ with_archives self.old self.new.archives }
-        ensures finds { ReadsByDigest (IsTrue A.account.tells) (serving_at self.old.table stripe column) stripe digest
-            into.new result (plain A.account.meaning self.old.archives) (plain A.account.meaning self.new.archives) }
+        ensures finds { OnShelves A.account
+            (λ told. ReadsByDigest told (serving_at self.old.table stripe column) stripe digest into.new result)
+            self.old.archives self.new.archives }
         ensures covers { CoversIfNotRead result (view_of A.account.meaning self.new) column }
     {
         let number = self.table.archive_of(stripe, column);

@@ -31,7 +31,7 @@ impl<A: Archive> Group<A> {
     ghost use Rattle.std.specs.Prelude.{[]};
     ghost use Rattle.pot_machine.specs.declared.entry.Entry.TheVariants.{MoveBegin, Swapped};
     ghost use Rattle.pot_machine.specs.Machine.{Legal};
-    ghost use Rattle.pot_shelves.specs.Shelves.{plain, Brings};
+    ghost use Rattle.pot_shelves.specs.Shelves.{plain, Brings, OnShelves};
     ghost use Rattle.pot_group.specs.Group.{with_archives, view_of};
     ghost use Rattle.pot_group.specs.Moving.{MoveUse};
     ghost use Rattle.pot_group.specs.Calls.{Makes, MoveBeginCall, SwapCall};
@@ -49,7 +49,8 @@ impl<A: Archive> Group<A> {
     ) -> Result<(), ShelfRefused<A>>
         requires job { 0 < job }
         requires column { column < width self.old.table }
-        ensures moves { Makes A.account (λ told. MoveBeginCall told A.account.meaning job column shelf result) self.old self.new }
+        ensures moves { Makes A.account
+            (λ told. MoveBeginCall told A.account.meaning job column shelf result) self.old self.new }
     {
         if self.log.len() >= LOG_BOUND {
             return Err(ShelfRefused {
@@ -82,7 +83,8 @@ impl<A: Archive> Group<A> {
     pub fn swap(&mut self, job: u32, column: u8, shelf: Shelf<A>) -> Result<u32, ShelfRefused<A>>
         requires job { 0 < job }
         requires column { column < width self.old.table }
-        ensures swaps { Makes A.account (λ told. SwapCall told A.account.meaning job column shelf result) self.old self.new }
+        ensures swaps { Makes A.account
+            (λ told. SwapCall told A.account.meaning job column shelf result) self.old self.new }
     {
         if self.log.len() >= LOG_BOUND {
             return Err(ShelfRefused {
@@ -128,7 +130,10 @@ impl<A: Archive> Group<A> {
         requires fresh { Contains (plain A.account.meaning self.old.archives).numbers shelf.number → ⊥ }
         requires legal { Legal self.old.table (MoveBegin job column shelf.number) }
         requires room { length self.old.log < 262144 }
-        ensures came { IfOk result (λ u. (self.new ≡ acted (with_archives self.old self.new.archives) (MoveBegin job column shelf.number) []) × Brings (IsTrue A.account.tells) shelf.number (A.account.meaning shelf.archive) (plain A.account.meaning self.old.archives) (plain A.account.meaning self.new.archives)) }
+        ensures came { IfOk result (λ u.
+            (self.new ≡ acted (with_archives self.old self.new.archives) (MoveBegin job column shelf.number) [])
+            × OnShelves A.account (λ told. Brings told shelf.number (A.account.meaning shelf.archive))
+            self.old.archives self.new.archives) }
         ensures refused { IfErr result (λ s. (s ≡ shelf) × (self.new ≡ self.old)) }
     {
         let to = shelf.number;
@@ -147,7 +152,10 @@ impl<A: Archive> Group<A> {
         requires fresh { Contains (plain A.account.meaning self.old.archives).numbers shelf.number → ⊥ }
         requires legal { Legal self.old.table (Swapped job column shelf.number) }
         requires room { length self.old.log < 262144 }
-        ensures came { IfOk result (λ u. (self.new ≡ acted (with_archives self.old self.new.archives) (Swapped job column shelf.number) []) × Brings (IsTrue A.account.tells) shelf.number (A.account.meaning shelf.archive) (plain A.account.meaning self.old.archives) (plain A.account.meaning self.new.archives)) }
+        ensures came { IfOk result (λ u.
+            (self.new ≡ acted (with_archives self.old self.new.archives) (Swapped job column shelf.number) [])
+            × OnShelves A.account (λ told. Brings told shelf.number (A.account.meaning shelf.archive))
+            self.old.archives self.new.archives) }
         ensures refused { IfErr result (λ s. (s ≡ shelf) × (self.new ≡ self.old)) }
     {
         let to = shelf.number;

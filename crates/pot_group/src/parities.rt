@@ -4,7 +4,7 @@ ghost use Rattle.pot_bytes.specs.Sums.{xor};
 ghost use Rattle.pot_bytes.specs.Weighted.{scaled};
 ghost use Rattle.pot_gf.specs.Field.{power};
 ghost use Rattle.pot_machine.specs.Table.{width, serving_at};
-ghost use Rattle.pot_shelves.specs.Shelves.{plain, numbers_of};
+ghost use Rattle.pot_shelves.specs.Shelves.{plain, numbers_of, OnShelves};
 ghost use Rattle.pot_group.specs.Putting.{WritesPut, made_entry};
 
 use crate::group::Group;
@@ -42,7 +42,8 @@ impl<A: Archive> Group<A> {
     pub(crate) fn read_parity(&mut self, stripe: u32, old: &mut Parity) -> Checked
         requires stripe { stripe < self.old.table.stripes }
         ensures same { self.new ≡ with_archives self.old self.new.archives }
-        ensures reads { OnGroup A.account (λ told. ReadsParity told stripe old.new.first old.new.second result) self.old self.new }
+        ensures reads { OnGroup A.account
+            (λ told. ReadsParity told stripe old.new.first old.new.second result) self.old self.new }
     {
         let column = self.table.data_columns();
         match self.read_old(stripe, column, &mut old.first) {
@@ -109,8 +110,11 @@ pub(crate) fn write_put<A: Archive>(
     block: &Block,
     parity: &Parity,
 ) -> Option<Kept>
-    requires served { (c : ℕ) → c < width table.now → Contains (plain A.account.meaning archives.old).numbers (serving_at table.now table.now.cursor.stripe c) }
-    ensures { WritesPut (IsTrue A.account.tells) table.now block.now parity.now.first parity.now.second result (plain A.account.meaning archives.old) (plain A.account.meaning archives.new) }
+    requires served { (c : ℕ) → c < width table.now
+        → Contains (plain A.account.meaning archives.old).numbers (serving_at table.now table.now.cursor.stripe c) }
+    ensures { OnShelves A.account
+        (λ told. WritesPut told table.now block.now parity.now.first parity.now.second result)
+        archives.old archives.new }
 {
     let Cursor { stripe, column } = table.cursor();
     let home = table.archive_of(stripe, column);
@@ -142,7 +146,8 @@ pub(crate) fn put_entry(
     parity: &Parity,
     kept: Kept,
 ) -> Entry
-    ensures { result ≡ made_entry parity_columns job cursor.stripe cursor.column block.now parity.now.first parity.now.second kept.first kept.second }
+    ensures { result ≡ made_entry parity_columns job cursor.stripe cursor.column block.now
+        parity.now.first parity.now.second kept.first kept.second }
 {
     let Cursor { stripe, column } = cursor;
     let digest = known.meet(block);

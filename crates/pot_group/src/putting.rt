@@ -30,8 +30,7 @@ impl<A: Archive> Group<A> {
     ghost use Rattle.pot_machine.specs.Machine.{AtCursor, TakesBlocks};
     ghost use Rattle.pot_machine.specs.Rules.{IsTable};
     ghost use Rattle.pot_steps.specs.Stripe.{Sound};
-    ghost use Rattle.pot_steps.specs.Holdings.{stripe_of};
-    ghost use Rattle.pot_group.specs.Group.{OnGroup};
+    ghost use Rattle.pot_group.specs.Group.{OnGroup, stripe_in};
     ghost use Rattle.pot_group.specs.Calls.{Makes, PutCall};
     ghost use Rattle.pot_shelves.specs.Shelves.{plain};
     ghost use Rattle.pot_group.specs.Putting.{Passes, FindsStripe, HasOld, BlockMeans};
@@ -66,8 +65,8 @@ impl<A: Archive> Group<A> {
 
     /// Passes stripes until one takes a block, and reads its old parity blocks.
     fn find_stripe(&mut self, job: u32, parity: &mut Parity) -> Stop
-        ensures { OnGroup A.account (λ told. FindsStripe told job parity.new.first parity.new.second result) self.old
-            self.new }
+        ensures { OnGroup A.account
+            (λ told. FindsStripe told job parity.new.first parity.new.second result) self.old self.new }
     {
         loop {
             if let Some(stop) = self.pass(job, parity) {
@@ -78,7 +77,8 @@ impl<A: Archive> Group<A> {
 
     /// Passes the cursor's stripe where it takes no block. Where it takes one, reads its old parity blocks.
     fn pass(&mut self, job: u32, parity: &mut Parity) -> Option<Stop>
-        ensures { OnGroup A.account (λ told. Passes told job parity.new.first parity.new.second result) self.old self.new }
+        ensures { OnGroup A.account
+            (λ told. Passes told job parity.new.first parity.new.second result) self.old self.new }
     {
         let Cursor { stripe, column: _ } = self.table.cursor();
         if stripe >= self.table.stripes() {
@@ -115,8 +115,9 @@ impl<A: Archive> Group<A> {
         requires parity { self.old.table.data_columns ≤ column }
         requires column { column < width self.old.table }
         requires void { slot_at self.old.table stripe column ≢ Void }
-        requires gone { IsTrue A.account.tells → Sound (stripe_of self.old.table (plain A.account.meaning self.old.archives).held stripe) column → ⊥ }
-        requires least { IsTrue A.account.tells → column ≡ self.old.table.data_columns + 1 → Sound (stripe_of self.old.table (plain A.account.meaning self.old.archives).held stripe) self.old.table.data_columns }
+        requires gone { IsTrue A.account.tells → Sound (stripe_in A.account self.old stripe) column → ⊥ }
+        requires least { IsTrue A.account.tells → column ≡ self.old.table.data_columns + 1
+            → Sound (stripe_in A.account self.old stripe) self.old.table.data_columns }
         ensures passes { OnGroup A.account (λ told. Passes told job [] [] result) self.old self.new }
         ensures left { (result ≡ None) ⊎ (result ≡ Some Stop.LogFull) }
     {
@@ -137,8 +138,10 @@ impl<A: Archive> Group<A> {
         requires cursor { AtCursor self.old.table self.old.table.cursor.stripe }
         requires takes { TakesBlocks self.old.table self.old.table.cursor.stripe }
         requires room { length self.old.log < 262144 }
-        requires old { HasOld (IsTrue A.account.tells) self.old.table (plain A.account.meaning self.old.archives).held self.old.table.cursor.stripe old.now.first old.now.second }
-        ensures { OnGroup A.account (λ told. BlockMeans told job block.now old.now.first old.now.second result) self.old self.new }
+        requires old { HasOld (IsTrue A.account.tells) self.old.table (plain A.account.meaning self.old.archives).held
+            self.old.table.cursor.stripe old.now.first old.now.second }
+        ensures { OnGroup A.account
+            (λ told. BlockMeans told job block.now old.now.first old.now.second result) self.old self.new }
     {
         let cursor = self.table.cursor();
         let Cursor { stripe, column } = cursor;

@@ -30,8 +30,8 @@ pub(crate) fn read_sound<A: Archive>(
     into: &mut Block,
 ) -> Found
     requires { Contains (plain A.account.meaning archives.old).numbers number }
-    ensures { OnShelves A.account (λ told. ReadsByDigest told number slot digest into.new result) archives.old
-        archives.new }
+    ensures { OnShelves A.account
+        (λ told. ReadsByDigest told number slot digest into.new result) archives.old archives.new }
 {
     match archives.read(number, slot, into) {
         Ok(Held::Held) => {

@@ -79,18 +79,17 @@ impl<A: Archive> Group<A> {
     ghost use Rattle.pot_machine.specs.Slot.{is_live};
     ghost use Rattle.pot_steps.specs.Flight.{weight_in};
     ghost use Rattle.pot_steps.specs.Flights.{flight_in};
-    ghost use Rattle.pot_shelves.specs.Shelves.{plain, FoldsAt};
+    ghost use Rattle.pot_shelves.specs.Shelves.{plain, FoldsAt, OnShelves};
     ghost use Rattle.pot_group.specs.Group.{with_archives};
     ghost use Rattle.std.specs.Prelude.{None, []};
     ghost use Rattle.pot_machine.specs.declared.entry.Entry.TheVariants.{GaveUp};
     ghost use Rattle.pot_machine.specs.Slot.{digest_in};
     ghost use Rattle.pot_steps.specs.Stripe.{Sound, digest_of};
     ghost use Rattle.pot_steps.specs.Flight.{partial_of};
-    ghost use Rattle.pot_steps.specs.Holdings.{stripe_of};
     ghost use Rattle.std.specs.Prelude.{Err, IsErr};
     ghost use Rattle.pot_steps.specs.RelaySteps.{no_relay};
     ghost use Rattle.std.specs.Prelude.{slice_index_or};
-    ghost use Rattle.pot_group.specs.Group.{OnGroup, view_of, CoversOne, IsSettled};
+    ghost use Rattle.pot_group.specs.Group.{OnGroup, stripe_in, view_of, CoversOne, IsSettled};
     ghost use Rattle.pot_group.specs.Relaying.{acted, Advances, BeginMeans, HopsOver, EndsWell};
     ghost use Rattle.pot_group.specs.Calls.{Makes, AdvanceCall, BeginCall, MendCall};
 
@@ -277,7 +276,8 @@ impl<A: Archive> Group<A> {
 
     /// The stripe of the first relay of all.
     fn first_stripe(&self) -> u32
-        ensures value { length self.now.table.relays ≡ 16 → result ≡ (slice_index_or self.now.table.relays 0 no_relay).stripe }
+        ensures value { length self.now.table.relays ≡ 16
+            → result ≡ (slice_index_or self.now.table.relays 0 no_relay).stripe }
         ensures within { length self.now.table.relays ≡ 16 → result < self.now.table.stripes }
     {
         match self.table.relays().first() {
@@ -324,9 +324,10 @@ impl<A: Archive> Group<A> {
         requires next { next_column self.old.table flight.now.relay ≡ Some column }
         ensures same { self.new ≡ with_archives self.old self.new.archives }
         ensures covers { IsErr result → CoversOne (view_of A.account.meaning self.new) column }
-        ensures folds { FoldsAt (IsTrue A.account.tells) (serving_at self.old.table flight.now.relay.stripe column)
-            flight.now.relay.stripe (weight_in self.old.table.data_columns flight.now.relay column) sum.old sum.new
-            result (plain A.account.meaning self.old.archives) (plain A.account.meaning self.new.archives) }
+        ensures folds { OnShelves A.account
+            (λ told. FoldsAt told (serving_at self.old.table flight.now.relay.stripe column) flight.now.relay.stripe
+            (weight_in self.old.table.data_columns flight.now.relay column) sum.old sum.new result)
+            self.old.archives self.new.archives }
     {
         let stripe = flight.relay.stripe;
         let _rules = self.table.cursor();
@@ -338,7 +339,12 @@ impl<A: Archive> Group<A> {
     /// Takes note of a fold over a flight's next column, whose slot is Live. `sum` is the sum after the fold.
     fn hop_over(&mut self, job: u32, flight: Flight, sum: &Block) -> Advanced
         requires here { flight_in self.old.flights flight.relay.stripe ≡ Some flight }
-        requires next { IsSomeAnd (next_column self.old.table flight.relay) (λ c. IsTrue (is_live (slot_at self.old.table flight.relay.stripe c)) × (IsTrue A.account.tells → FoldTells ((plain A.account.meaning self.old.archives).held (serving_at self.old.table flight.relay.stripe c)) flight.relay.stripe (weight_in self.old.table.data_columns flight.relay c) flight.sum sum.now (Ok Held.Held))) }
+        requires next { IsSomeAnd (next_column self.old.table flight.relay) (λ c.
+            IsTrue (is_live (slot_at self.old.table flight.relay.stripe c))
+            × (IsTrue A.account.tells → FoldTells
+            ((plain A.account.meaning self.old.archives).held (serving_at self.old.table flight.relay.stripe c))
+            flight.relay.stripe (weight_in self.old.table.data_columns flight.relay c) flight.sum sum.now
+            (Ok Held.Held))) }
         requires within { flight.relay.stripe < self.old.table.stripes }
         requires room { length self.old.log < 262144 }
         ensures { HopsOver job sum.now result flight self.old self.new }
@@ -362,10 +368,12 @@ impl<A: Archive> Group<A> {
     /// Ends a flight whose next column has no block of its slot's digest.
     fn leave_flight(&mut self, job: u32, flight: Flight)
         requires here { flight_in self.old.flights flight.relay.stripe ≡ Some flight }
-        requires next { IsSomeAnd (next_column self.old.table flight.relay) (λ c. IsTrue A.account.tells → Sound (stripe_of self.old.table (plain A.account.meaning self.old.archives).held flight.relay.stripe) c → ⊥) }
+        requires next { IsSomeAnd (next_column self.old.table flight.relay) (λ c.
+            IsTrue A.account.tells → Sound (stripe_in A.account self.old flight.relay.stripe) c → ⊥) }
         requires within { flight.relay.stripe < self.old.table.stripes }
         requires room { length self.old.log < 262144 }
-        ensures { IsSomeAnd (next_column self.old.table flight.relay) (λ c. self.new ≡ acted self.old (GaveUp job flight.relay.stripe flight.relay.target c) []) }
+        ensures { IsSomeAnd (next_column self.old.table flight.relay) (λ c.
+            self.new ≡ acted self.old (GaveUp job flight.relay.stripe flight.relay.target c) []) }
     {
         let stripe = flight.relay.stripe;
         let entry = give_up(&mut self.table, flight, job);
@@ -383,7 +391,8 @@ impl<A: Archive> Group<A> {
         requires here { flight_in self.old.flights flight.relay.stripe ≡ Some flight }
         requires next { next_column self.old.table flight.relay ≡ None }
         requires partial { block.now ≡ partial_of flight }
-        requires digest { digest_in (slot_at self.old.table flight.relay.stripe flight.relay.target) ≡ Some (digest_of block.now) }
+        requires digest { digest_in (slot_at self.old.table flight.relay.stripe flight.relay.target)
+            ≡ Some (digest_of block.now) }
         requires room { length self.old.log < 262144 }
         ensures { OnGroup A.account (λ told. EndsWell told job block.now flight result) self.old self.new }
     {

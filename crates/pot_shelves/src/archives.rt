@@ -109,8 +109,8 @@ impl<A: Archive> Archives<A> {
     ) -> Result<Held, Failed>
         requires weight { 0 < weight }
         requires number { Contains (plain A.account.meaning self.old).numbers number }
-        ensures { OnShelves A.account (λ told. FoldsAt told number slot weight sum.old sum.new result) self.old self.new
-            }
+        ensures { OnShelves A.account
+            (λ told. FoldsAt told number slot weight sum.old sum.new result) self.old self.new }
     {
         fold(&mut self.shelves, number, slot, weight, sum)
     }

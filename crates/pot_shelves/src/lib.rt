@@ -18,7 +18,7 @@
 //! 2. Their numbers and their order stay, and so do the marks; `bring` adds an archive at the end, and `hand_out` gives
 //!    all back in that order (`Keeps`). Of archives with one number the first counts.
 //! 3. No count of faults falls, and a call fails only where that of its archive rose (`Keeps`, `cause`).
-//! 4. The other archives hold what they held, but for losses, and hear nothing (`Stays`, `others`, `Folds`, `Writes`).
+//! 4. The other archives hold what they held, but for losses, and hear nothing (`Stays`, `others`, `FoldsAt`, `WritesAt`).
 //!
 //! What an opening keeps, stripe by stripe:
 //! 1. The log leads from the table that was read to the table now (`replay`; entries are logged by `note`), and only
