@@ -142,7 +142,7 @@ module _ {A : Type 0} (told : Type 0) (meaning : A → Meaning) (old : GroupPart
     mid = with_archives old b
 
     abbrev Folded : Result IsHeld Failed → Type 0
-    Folded r = FoldsAt told (serving_at old.table f.relay.stripe c) f.relay.stripe (weight_in old.table.data_columns f.relay c) f.sum sum r (plain meaning old.archives) (plain meaning b)
+    Folded r = FoldsAt told (serving_at old.table f.relay.stripe c) f.relay.stripe (weight_in old.table.data_columns f.relay c) f.sum sum r (plain meaning old.shelves) (plain meaning b)
 
     pub absent_exit : (new : GroupParts A) → Left (with_archives old b) new → Folded (Ok Absent) → told → AdvanceStep job f.relay.stripe Ended (state_of (view old)) (state_of (view new))
     absent_exit new left folds t = subst (λ (w : GroupParts A). AdvanceStep job f.relay.stripe Ended (state_of (view old)) (state_of (view w))) (sym (at_next _ (next_column old.table f.relay) c next left))

@@ -54,16 +54,16 @@ module _ {A : Type 0} (told : Type 0) (meaning : A → Meaning) (old : GroupPart
   ends b new e = on_way (λ f2 k. Acts (GaveUp job f.relay.stripe f2.relay.target k) [] (view_of meaning old) (view_of meaning new))
       (subst (λ (w : GroupParts A). Acts (GaveUp job f.relay.stripe f.relay.target c) [] (view_of meaning old) (view_of meaning w)) (sym e) (acts b (GaveUp job f.relay.stripe f.relay.target c) [] left))
 
-  keeps_at : (b : Shelved A) (e : Entry) (given : List ℕ) (new : GroupParts A) → new ≡ acted (with_archives old b) e given → Keeps (plain meaning old.archives) (plain meaning b) → Keeps (view_of meaning old).shelves (view_of meaning new).shelves
+  keeps_at : (b : Shelved A) (e : Entry) (given : List ℕ) (new : GroupParts A) → new ≡ acted (with_archives old b) e given → Keeps (plain meaning old.shelves) (plain meaning b) → Keeps (view_of meaning old).shelves (view_of meaning new).shelves
   keeps_at b e given new is k = subst (λ (w : GroupParts A). Keeps (view_of meaning old).shelves (view_of meaning w).shelves) (sym is) k
 
   -- nothing was written
   lost_only : (b : Shelved A) (e : Entry) (given : List ℕ) (new : GroupParts A) → new ≡ acted (with_archives old b) e given
-      → (told → LosesByCount (plain meaning old.archives).held (plain meaning old.archives) (plain meaning b)) → told → LosesByCount (view_of meaning old).shelves.held (view_of meaning old).shelves (view_of meaning new).shelves
+      → (told → LosesByCount (plain meaning old.shelves).held (plain meaning old.shelves) (plain meaning b)) → told → LosesByCount (view_of meaning old).shelves.held (view_of meaning old).shelves (view_of meaning new).shelves
   lost_only b e given new is loses t = subst (λ (w : GroupParts A). LosesByCount (view_of meaning old).shelves.held (view_of meaning old).shelves (view_of meaning w).shelves) (sym is) (loses t)
 
   lossless_at : (b : Shelved A) (e : Entry) (given : List ℕ) (new : GroupParts A) → new ≡ acted (with_archives old b) e given → Lessens e
-      → (told → LosesByCount (plain meaning old.archives).held (plain meaning old.archives) (plain meaning b)) → told
+      → (told → LosesByCount (plain meaning old.shelves).held (plain meaning old.shelves) (plain meaning b)) → told
       → NoneLost (view_of meaning old).shelves (view_of meaning new).shelves → LosesNothing (state_of (view_of meaning old)) (state_of (view_of meaning new))
   lossless_at b e given new is less loses t none = lossless_less (view_of meaning old) (view_of meaning new) (view_of meaning old).shelves.held
       (lost_only b e given new is loses t) none (λ n k x ln lk live q. q) e less (ap (λ (w : GroupParts A). w.table) is)
@@ -74,16 +74,16 @@ module _ {A : Type 0} (told : Type 0) (meaning : A → Meaning) (old : GroupPart
   dead_advances new gone dead =
       let e : new ≡ acted old (GaveUp job f.relay.stripe f.relay.target c) [] = at_next (λ c. new ≡ acted old (GaveUp job f.relay.stripe f.relay.target c) []) (next_column old.table f.relay) c next gone in
       record {
-        moves = ends old.archives new e;
-        keeps = keeps_at old.archives (GaveUp job f.relay.stripe f.relay.target c) [] new e (keeps_refl (plain meaning old.archives));
+        moves = ends old.shelves new e;
+        keeps = keeps_at old.shelves (GaveUp job f.relay.stripe f.relay.target c) [] new e (keeps_refl (plain meaning old.shelves));
         steps = dead_exit told meaning old job f c settled room here next within new gone dead;
-        lossless = lossless_at old.archives (GaveUp job f.relay.stripe f.relay.target c) [] new e tt (λ t. loses_refl (plain meaning old.archives));
-        writes = lost_only old.archives (GaveUp job f.relay.stripe f.relay.target c) [] new e (λ t. loses_refl (plain meaning old.archives));
+        lossless = lossless_at old.shelves (GaveUp job f.relay.stripe f.relay.target c) [] new e tt (λ t. loses_refl (plain meaning old.shelves));
+        writes = lost_only old.shelves (GaveUp job f.relay.stripe f.relay.target c) [] new e (λ t. loses_refl (plain meaning old.shelves));
       }
 
   module _ (b : Shelved A) (sum : List ℕ) (live : IsTrue (is_live (slot_at old.table f.relay.stripe c))) where
     abbrev pub Folded : Result IsHeld Failed → Type 0
-    Folded r = FoldsAt told (serving_at old.table f.relay.stripe c) f.relay.stripe (weight_in old.table.data_columns f.relay c) f.sum sum r (plain meaning old.archives) (plain meaning b)
+    Folded r = FoldsAt told (serving_at old.table f.relay.stripe c) f.relay.stripe (weight_in old.table.data_columns f.relay c) f.sum sum r (plain meaning old.shelves) (plain meaning b)
 
     pub absent_advances : (new : GroupParts A) → IsSomeAnd (next_column old.table f.relay) (λ c. new ≡ acted (with_archives old b) (GaveUp job f.relay.stripe f.relay.target c) []) → Folded (Ok Absent)
         → Advances told job f.relay.stripe (Ok advanced.Ended) (view_of meaning old) (view_of meaning new)
@@ -131,7 +131,7 @@ module _ {A : Type 0} (told : Type 0) (meaning : A → Meaning) (old : GroupPart
     pub failed_advances : (new : GroupParts A) (e : Failed) → new ≡ noted (with_archives old b) (Fault job f.relay.stripe c) → Folded (Err e) → Advances told job f.relay.stripe (Err (failed.Faulted c)) (view_of meaning old) (view_of meaning new)
     failed_advances new e is folds = record {
       moves = (
-        subst (λ (w : GroupParts A). Rose ((plain meaning old.archives).faults (serving_at old.table f.relay.stripe c)) ((plain meaning w.archives).faults (serving_at old.table f.relay.stripe c))) (sym is) (folds.cause refl),
+        subst (λ (w : GroupParts A). Rose ((plain meaning old.shelves).faults (serving_at old.table f.relay.stripe c)) ((plain meaning w.shelves).faults (serving_at old.table f.relay.stripe c))) (sym is) (folds.cause refl),
         subst (λ (w : GroupParts A). Acts (Fault job f.relay.stripe c) [] (view_of meaning old) (view_of meaning w)) (sym is)
             (acts b (Fault job f.relay.stripe c) [] (fault_legal told (view_of meaning old) (view_of meaning old).shelves job f c settled room here next within (λ t. loses_refl (view_of meaning old).shelves))),
         inl (on_way (λ f2 k. (k ≡ c) × IsTrue (is_live (slot_at old.table f.relay.stripe k))) (refl, live)),

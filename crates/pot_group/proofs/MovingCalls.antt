@@ -45,21 +45,21 @@ unheld told g number settled fresh = none_least (width g.table) (λ k. names (co
     by k lk true e = absurd (fresh (settled.shelves k number lk e))
 
 pub begin_legal : {A : Type 0} (told : Type 0) (meaning : A → Meaning) (old mid : GroupParts A) (job c to : ℕ) → IsSettled told (view_of meaning old) → c < width old.table
-    → MoveUse (view_of meaning old) c to None → mid ≡ with_archives old mid.archives → Legal mid.table (MoveBegin job c to)
+    → MoveUse (view_of meaning old) c to None → mid ≡ with_archives old mid.shelves → Legal mid.table (MoveBegin job c to)
 begin_legal told meaning old mid job c to settled column free e =
     subst (λ (w : GroupParts _). Legal w.table (MoveBegin job c to)) (sym e) ((column, unheld told (view_of meaning old) to settled free.1), free.0)
 
 pub swap_legal : {A : Type 0} (told : Type 0) (meaning : A → Meaning) (old mid : GroupParts A) (job c to : ℕ) → IsSettled told (view_of meaning old) → c < width old.table
-    → (Contains (plain meaning old.archives).numbers to → ⊥) → mid ≡ with_archives old mid.archives → Legal mid.table (Swapped job c to)
+    → (Contains (plain meaning old.shelves).numbers to → ⊥) → mid ≡ with_archives old mid.shelves → Legal mid.table (Swapped job c to)
 swap_legal told meaning old mid job c to settled column fresh e =
     subst (λ (w : GroupParts _). Legal w.table (Swapped job c to)) (sym e) (column, unheld told (view_of meaning old) to settled fresh)
 
 -- An archive has come, and an entry is logged that leaves what is held at Live places.
 module _ {A : Type 0} (told : Type 0) (meaning : A → Meaning) (old mid new : GroupParts A) (shelf : Shelf A) (settled : IsSettled told (view_of meaning old)) (room : length old.log < log_bound)
-    (fresh : Contains (plain meaning old.archives).numbers shelf.number → ⊥) (em : mid ≡ with_archives old mid.archives)
-    (brings : Brings told shelf.number (meaning shelf.archive) (plain meaning old.archives) (plain meaning mid.archives)) where
+    (fresh : Contains (plain meaning old.shelves).numbers shelf.number → ⊥) (em : mid ≡ with_archives old mid.shelves)
+    (brings : Brings told shelf.number (meaning shelf.archive) (plain meaning old.shelves) (plain meaning mid.shelves)) where
   came_by : (e : Entry) → Legal old.table e → ((h h' : Holdings) → LosesAtLive old.table h h' → Acts old.table old.flights [] e h h')
-      → Comes told meaning e shelf (view_of meaning old) (view_of meaning (acted (with_archives old mid.archives) e []))
+      → Comes told meaning e shelf (view_of meaning old) (view_of meaning (acted (with_archives old mid.shelves) e []))
   came_by e legal acts = record {
     room = room;
     fresh = fresh;
@@ -73,10 +73,10 @@ module _ {A : Type 0} (told : Type 0) (meaning : A → Meaning) (old mid new : G
         table = refl;
         flights = refl;
         before = (view_of meaning old).shelves.held;
-        now = (plain meaning mid.archives).held;
+        now = (plain meaning mid.shelves).held;
         lost = (λ n m b q. q);
-        acts = acts (view_of meaning old).shelves.held (plain meaning mid.archives).held
-            (λ n k b ln lk live q. sym (held_same told (view_of meaning old) shelf.number (meaning shelf.archive) (plain meaning mid.archives) settled fresh brings n k lk) ∙ q);
+        acts = acts (view_of meaning old).shelves.held (plain meaning mid.shelves).held
+            (λ n k b ln lk live q. sym (held_same told (view_of meaning old) shelf.number (meaning shelf.archive) (plain meaning mid.shelves) settled fresh brings n k lk) ∙ q);
         loses = (λ n m b q. q);
       };
       brings = record { blocks = brings.blocks; sums = brings.sums; others = brings.same_held; silent = brings.same_heard };

@@ -89,7 +89,7 @@ module _ {A : Type 0} (told : Type 0) (meaning : A → Meaning) (number : ℕ) (
   now = plain meaning b
 
   abbrev group : GroupParts A
-  group = record { number = number; first = t; table = u; log = log; flights = []; archives = b }
+  group = record { number = number; first = t; table = u; log = log; flights = []; shelves = b }
 
   abbrev view : GroupParts A → GroupView
   view g = view_of meaning g

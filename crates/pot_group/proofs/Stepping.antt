@@ -167,7 +167,7 @@ module _ {A : Type 0} (told : Type 0) (meaning : A → Meaning) (old : GroupPart
   pub ended_steps : (new : GroupParts A) → old.table.stripes ≤ m.upto → new ≡ acted old (MoveEnd job c) [] → Steps told job c (Ok moved.Ended) (view_of meaning old) (view_of meaning new)
   ended_steps new le e = subst (λ (w : GroupParts A). Steps told job c (Ok moved.Ended) (view_of meaning old) (view_of meaning w)) (sym e) (record {
     moves = on_move told (view_of meaning old) job c m settled room column moving (λ n. (n.upto ≡ old.table.stripes) × Acts (MoveEnd job c) [] (view_of meaning old) (view_of meaning (acted old (MoveEnd job c) [])))
-        (some_of (column_at old.table c).moving m (λ n. n.upto ≡ old.table.stripes) (legal.1) moving, acts old.archives (MoveEnd job c) legal);
+        (some_of (column_at old.table c).moving m (λ n. n.upto ≡ old.table.stripes) (legal.1) moving, acts old.shelves (MoveEnd job c) legal);
     keeps = keeps_refl (view_of meaning old).shelves;
     steps = λ t. (logged_in told (view_of meaning old) settled room (MoveEnd job c) [] legal (λ n k b ln lk l e. e), (λ n. refl));
     writes = λ t. loses_refl (view_of meaning old).shelves;
@@ -181,7 +181,7 @@ module _ {A : Type 0} (told : Type 0) (meaning : A → Meaning) (old : GroupPart
       → Steps told job c (Ok moved.Passed) (view_of meaning old) (view_of meaning new)
   passed_steps new lt missing e = subst (λ (w : GroupParts A). Steps told job c (Ok moved.Passed) (view_of meaning old) (view_of meaning w)) (sym e) (record {
     moves = on_move told (view_of meaning old) job c m settled room column moving (λ n. (n.upto < old.table.stripes) × Acts (Moved job n.upto c false) [] (view_of meaning old) (view_of meaning (acted old (Moved job m.upto c false) [])))
-        (lt, acts old.archives (Moved job m.upto c false) legal);
+        (lt, acts old.shelves (Moved job m.upto c false) legal);
     keeps = keeps_refl (view_of meaning old).shelves;
     steps = λ t. (m.upto, logged_in told (view_of meaning old) settled room (Moved job m.upto c false) [] legal (λ n k b ln lk l e. e), (λ n. refl), missing t);
     writes = λ t. loses_refl (view_of meaning old).shelves;
@@ -192,7 +192,7 @@ module _ {A : Type 0} (told : Type 0) (meaning : A → Meaning) (old : GroupPart
 
   -- the read failed
   pub unread_steps : (b : Shelved A) (digest : Digest) (into : List ℕ) (new : GroupParts A) → m.upto < old.table.stripes → slot_at old.table m.upto c ≡ Live digest
-      → ReadsByDigest told (serving_at old.table m.upto c) m.upto digest into found.NotRead (plain meaning old.archives) (plain meaning b) → new ≡ noted (with_archives old b) (Fault job m.upto c)
+      → ReadsByDigest told (serving_at old.table m.upto c) m.upto digest into found.NotRead (plain meaning old.shelves) (plain meaning b) → new ≡ noted (with_archives old b) (Fault job m.upto c)
       → Steps told job c (Err (failed.Faulted c)) (view_of meaning old) (view_of meaning new)
   unread_steps b digest into new lt live finds e = subst (λ (w : GroupParts A). Steps told job c (Err (failed.Faulted c)) (view_of meaning old) (view_of meaning w)) (sym e) (record {
     moves = (
@@ -224,7 +224,7 @@ module _ {A : Type 0} (told : Type 0) (meaning : A → Meaning) (old : GroupPart
   })
 
   -- A step after a read that did not fail.
-  module _ (b : Shelved A) (new : GroupParts A) (stays : Stays told (plain meaning old.archives) (plain meaning b)) where
+  module _ (b : Shelved A) (new : GroupParts A) (stays : Stays told (plain meaning old.shelves) (plain meaning b)) where
     acts_back : (e : Entry) → Acts e [] (view_of meaning (with_archives old b)) (view_of meaning new) → Acts e [] (view_of meaning old) (view_of meaning new)
     acts_back e a = record { number = a.number; first = a.first; legal = a.legal; table = a.table; log = a.log; flights = a.flights }
 
@@ -272,11 +272,11 @@ module _ {A : Type 0} (told : Type 0) (meaning : A → Meaning) (old : GroupPart
     into_back r t x = some_map (column_at old.table c).moving (λ n y. (
       y.0,
       record { digest = y.1.digest; live = y.1.live; held = (stays.loses t (serving_at old.table n.upto c)).keeps n.upto y.0 y.1.held; right = y.1.right },
-      into_after (plain meaning old.archives) (plain meaning b) (view_of meaning new).shelves n.to n.upto y.0 r (stays.loses t) y.2,
+      into_after (plain meaning old.shelves) (plain meaning b) (view_of meaning new).shelves n.to n.upto y.0 r (stays.loses t) y.2,
     )) x
 
-    lost_back : told → LosesByCount (plain meaning b).held (plain meaning b) (view_of meaning new).shelves → LosesByCount (plain meaning old.archives).held (plain meaning old.archives) (view_of meaning new).shelves
-    lost_back t l = loses_from_then (plain meaning old.archives).held (plain meaning old.archives) (plain meaning b) (view_of meaning new).shelves (stays.loses t) l
+    lost_back : told → LosesByCount (plain meaning b).held (plain meaning b) (view_of meaning new).shelves → LosesByCount (plain meaning old.shelves).held (plain meaning old.shelves) (view_of meaning new).shelves
+    lost_back t l = loses_from_then (plain meaning old.shelves).held (plain meaning old.shelves) (plain meaning b) (view_of meaning new).shelves (stays.loses t) l
 
     writes_back : (r : Result MoveStep MoveFault) → told → MoveWrites c r (view_of meaning (with_archives old b)) (view_of meaning new) → MoveWrites c r (view_of meaning old) (view_of meaning new)
     writes_back (Ok moved.Copied) t x = into_back (Ok (tt)) t x
@@ -290,14 +290,14 @@ module _ {A : Type 0} (told : Type 0) (meaning : A → Meaning) (old : GroupPart
     pub after_read : (r : Result MoveStep MoveFault) → Steps told job c r (view_of meaning (with_archives old b)) (view_of meaning new) → Steps told job c r (view_of meaning old) (view_of meaning new)
     after_read r s = record {
       moves = back r s.moves;
-      keeps = keeps_then (plain meaning old.archives) (plain meaning b) (view_of meaning new).shelves stays.keeps s.keeps;
+      keeps = keeps_then (plain meaning old.shelves) (plain meaning b) (view_of meaning new).shelves stays.keeps s.keeps;
       steps = λ t. steps_back r s.moves t (s.steps t);
       writes = λ t. writes_back r t (s.writes t);
     }
 
   -- the slot has no block of its digest
   pub passed_read : (b : Shelved A) (digest : Digest) (into : List ℕ) (new : GroupParts A) → m.upto < old.table.stripes → slot_at old.table m.upto c ≡ Live digest
-      → ReadsByDigest told (serving_at old.table m.upto c) m.upto digest into found.Missing (plain meaning old.archives) (plain meaning b) → new ≡ acted (with_archives old b) (Moved job m.upto c false) []
+      → ReadsByDigest told (serving_at old.table m.upto c) m.upto digest into found.Missing (plain meaning old.shelves) (plain meaning b) → new ≡ acted (with_archives old b) (Moved job m.upto c false) []
       → Steps told job c (Ok moved.Passed) (view_of meaning old) (view_of meaning new)
   passed_read b digest into new lt live finds e = subst (λ (w : GroupParts A). Steps told job c (Ok moved.Passed) (view_of meaning old) (view_of meaning w)) (sym e) (record {
     moves = on_move told (view_of meaning old) job c m settled room column moving (λ n. (n.upto < old.table.stripes) × Acts (Moved job n.upto c false) [] (view_of meaning old) (view_of meaning (acted (with_archives old b) (Moved job m.upto c false) [])))

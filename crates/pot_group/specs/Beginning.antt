@@ -21,7 +21,7 @@ archives_in t = flat_map homes_of t.columns
 
 -- a group before its opening
 abbrev pub unopened : {A : Type 0} → ℕ → Table → Shelved A → GroupParts A
-unopened number t a = record { number = number; first = t; table = t; log = []; flights = []; archives = a }
+unopened number t a = record { number = number; first = t; table = t; log = []; flights = []; shelves = a }
 
 -- A group begins with a table and archives, whose marks are taken then, and every stripe is opened. Where the archives tell
 -- what they hold, that is the opening as a step of a group.
@@ -31,5 +31,5 @@ pub record Begins {A : Type 0} (told : Type 0) (meaning : A → Meaning) (number
   pub marks : IsTaken told (plain meaning taken)
   pub is_number : g.number ≡ number
   pub first : g.first ≡ t
-  pub opens : Opens told t.stripes t g.table g.log (plain meaning taken) (plain meaning g.archives)
+  pub opens : Opens told t.stripes t g.table g.log (plain meaning taken) (plain meaning g.shelves)
   pub step : told → StartStep (state_of (view_of meaning (unopened number t taken))) (state_of (view_of meaning g))

@@ -27,26 +27,25 @@ use Rattle.pot_shelves.specs.Shelves.{Shelves, Shelved, plain}
 use Rattle.pot_group.specs.declared.reads.Found.{Found}
 use Rattle.pot_group.specs.Causes.{CauseLaw, Covers, archives_of, faults_in}
 
-pub record GroupView : Type 0 where
+-- A group, whatever its archives are seen as: its number, the table that it began with, its table and its log now, a flight for each relay.
+pub record GroupOf (Seen : Type 0) : Type 0 where
   pub number : ℕ
   pub first : Table
   pub table : Table
   pub log : List Entry
   pub flights : List Flight
-  pub shelves : Shelves
+  pub shelves : Seen
 
--- a group with its archives
-pub record GroupParts (A : Type 0) : Type 0 where
-  pub number : ℕ
-  pub first : Table
-  pub table : Table
-  pub log : List Entry
-  pub flights : List Flight
-  pub archives : Shelved A
+-- with its archives
+abbrev pub GroupParts : Type 0 → Type 0
+GroupParts A = GroupOf (Shelved A)
 
 -- and as plain data
+abbrev pub GroupView : Type 0
+GroupView = GroupOf Shelves
+
 abbrev pub view_of : {A : Type 0} → (A → Meaning) → GroupParts A → GroupView
-view_of meaning g = record { number = g.number; first = g.first; table = g.table; log = g.log; flights = g.flights; shelves = plain meaning g.archives }
+view_of meaning g = record { number = g.number; first = g.first; table = g.table; log = g.log; flights = g.flights; shelves = plain meaning g.shelves }
 
 -- what is said of a group before and after a call, by the account of its archives: whether they tell, and what each means
 abbrev pub OnGroup : {A : Type 0} → Account A → (Type 0 → GroupView → GroupView → Type 0) → GroupParts A → GroupParts A → Type 0
@@ -54,14 +53,14 @@ OnGroup account R old new = R (IsTrue account.tells) (view_of account.meaning ol
 
 -- a stripe of a group: the slots of its table, and what its archives hold there
 abbrev pub stripe_in : {A : Type 0} → Account A → GroupParts A → ℕ → Stripe
-stripe_in account g s = stripe_of g.table (plain account.meaning g.archives).held s
+stripe_in account g s = stripe_of g.table (plain account.meaning g.shelves).held s
 
 -- an entry is logged, and does in the table what it says
 abbrev pub noted : {A : Type 0} → GroupParts A → Entry → GroupParts A
 noted g e = record g { table = after g.table e; log = g.log ++ e ∷ [] }
 
 abbrev pub with_archives : {A : Type 0} → GroupParts A → Shelved A → GroupParts A
-with_archives g a = record g { archives = a }
+with_archives g a = record g { shelves = a }
 
 -- as the steps of a group speak of it
 abbrev pub state_of : GroupView → GroupState

@@ -53,7 +53,7 @@ impl<A: Archive> Model for Group<A> {
       table = g.table;
       log = g.log.items;
       flights = g.flights.items;
-      archives = g.archives;
+      shelves = g.archives;
     } };
 
     ghost invariant = { λ g. IsSettled (IsTrue A.account.tells) (view_of A.account.meaning
@@ -63,7 +63,7 @@ impl<A: Archive> Model for Group<A> {
           table = g.table;
           log = g.log.items;
           flights = g.flights.items;
-          archives = g.archives;
+          shelves = g.archives;
         }))
         × (262144 ≤ vec_capacity g.log) × (16 ≤ vec_capacity g.flights)
         × HasArrived g.first g.log.items (numbers_of g.archives.shelves) };
@@ -88,10 +88,10 @@ impl<A: Archive> Group<A> {
         into: &mut Block,
     ) -> Found
         requires { column < width self.old.table }
-        ensures same { self.new ≡ with_archives self.old self.new.archives }
+        ensures same { self.new ≡ with_archives self.old self.new.shelves }
         ensures finds { OnShelves A.account
             (λ told. ReadsByDigest told (serving_at self.old.table stripe column) stripe digest into.new result)
-            self.old.archives self.new.archives }
+            self.old.shelves self.new.shelves }
         ensures covers { CoversIfNotRead result (view_of A.account.meaning self.new) column }
     {
         let number = self.table.archive_of(stripe, column);
@@ -129,7 +129,7 @@ impl<A: Archive> Group<A> {
         ensures bound { result ≤ 262144 }
         ensures settled { IsSettled (IsTrue A.account.tells) (view_of A.account.meaning self.now) }
         ensures first { IsTable self.now.first }
-        ensures arrived { HasArrived self.now.first self.now.log (numbers_of self.now.archives.shelves) }
+        ensures arrived { HasArrived self.now.first self.now.log (numbers_of self.now.shelves.shelves) }
     {
         let _rules = self.first.cursor();
         self.log.len() as u64
@@ -139,9 +139,9 @@ impl<A: Archive> Group<A> {
     pub fn end(self) -> Ended<A>
         ensures table { result.table ≡ self.table }
         ensures log { result.log.items ≡ self.log }
-        ensures shelves { result.shelves.items ≡ self.archives.shelves }
+        ensures shelves { result.shelves.items ≡ self.shelves.shelves }
         ensures settled { IsSettled (IsTrue A.account.tells) (view_of A.account.meaning self) }
-        ensures arrived { HasArrived self.first self.log (numbers_of self.archives.shelves) }
+        ensures arrived { HasArrived self.first self.log (numbers_of self.shelves.shelves) }
     {
         let Group {
             number: _,

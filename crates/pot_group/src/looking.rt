@@ -66,7 +66,7 @@ impl<A: Archive> Group<A> {
         requires stripe { stripe < self.old.table.stripes }
         requires column { column < width self.old.table }
         ensures looks { OnGroup A.account (λ told. Looks told stripe column into.new result) self.old self.new }
-        ensures same { self.new ≡ with_archives self.old self.new.archives }
+        ensures same { self.new ≡ with_archives self.old self.new.shelves }
     {
         match self.table.slot(stripe, column) {
             SlotState::Live(digest) => self.read_slot(stripe, column, digest, into),

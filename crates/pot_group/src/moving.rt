@@ -127,13 +127,13 @@ impl<A: Archive> Group<A> {
 
     /// An archive comes, and a column begins to move to it. Where memory is short the archive comes back.
     pub(crate) fn go_to(&mut self, job: u32, column: u8, shelf: Shelf<A>) -> Result<(), Shelf<A>>
-        requires fresh { Contains (plain A.account.meaning self.old.archives).numbers shelf.number → ⊥ }
+        requires fresh { Contains (plain A.account.meaning self.old.shelves).numbers shelf.number → ⊥ }
         requires legal { Legal self.old.table (MoveBegin job column shelf.number) }
         requires room { length self.old.log < 262144 }
         ensures came { IfOk result (λ u.
-            (self.new ≡ acted (with_archives self.old self.new.archives) (MoveBegin job column shelf.number) [])
+            (self.new ≡ acted (with_archives self.old self.new.shelves) (MoveBegin job column shelf.number) [])
             × OnShelves A.account (λ told. Brings told shelf.number (A.account.meaning shelf.archive))
-            self.old.archives self.new.archives) }
+            self.old.shelves self.new.shelves) }
         ensures refused { IfErr result (λ s. (s ≡ shelf) × (self.new ≡ self.old)) }
     {
         let to = shelf.number;
@@ -149,13 +149,13 @@ impl<A: Archive> Group<A> {
 
     /// An archive comes, and is the home of a column. Where memory is short the archive comes back.
     fn swap_to(&mut self, job: u32, column: u8, shelf: Shelf<A>) -> Result<(), Shelf<A>>
-        requires fresh { Contains (plain A.account.meaning self.old.archives).numbers shelf.number → ⊥ }
+        requires fresh { Contains (plain A.account.meaning self.old.shelves).numbers shelf.number → ⊥ }
         requires legal { Legal self.old.table (Swapped job column shelf.number) }
         requires room { length self.old.log < 262144 }
         ensures came { IfOk result (λ u.
-            (self.new ≡ acted (with_archives self.old self.new.archives) (Swapped job column shelf.number) [])
+            (self.new ≡ acted (with_archives self.old self.new.shelves) (Swapped job column shelf.number) [])
             × OnShelves A.account (λ told. Brings told shelf.number (A.account.meaning shelf.archive))
-            self.old.archives self.new.archives) }
+            self.old.shelves self.new.shelves) }
         ensures refused { IfErr result (λ s. (s ≡ shelf) × (self.new ≡ self.old)) }
     {
         let to = shelf.number;

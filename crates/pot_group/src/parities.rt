@@ -41,7 +41,7 @@ impl<A: Archive> Group<A> {
     /// Reads the old parity blocks of a stripe, in order, up to the first that it does not get.
     pub(crate) fn read_parity(&mut self, stripe: u32, old: &mut Parity) -> Checked
         requires stripe { stripe < self.old.table.stripes }
-        ensures same { self.new ≡ with_archives self.old self.new.archives }
+        ensures same { self.new ≡ with_archives self.old self.new.shelves }
         ensures reads { OnGroup A.account
             (λ told. ReadsParity told stripe old.new.first old.new.second result) self.old self.new }
     {
@@ -56,7 +56,7 @@ impl<A: Archive> Group<A> {
     /// Reads the old block of Q, where there is one.
     fn read_second(&mut self, stripe: u32, old: &mut Block) -> Checked
         requires stripe { stripe < self.old.table.stripes }
-        ensures same { self.new ≡ with_archives self.old self.new.archives }
+        ensures same { self.new ≡ with_archives self.old self.new.shelves }
         ensures reads { OnGroup A.account (λ told. ReadsSecond told stripe old.new result) self.old self.new }
     {
         if self.table.parity() == 1 {
@@ -74,7 +74,7 @@ impl<A: Archive> Group<A> {
     fn read_old(&mut self, stripe: u32, column: u8, old: &mut Block) -> Found
         requires stripe { stripe < self.old.table.stripes }
         requires column { column < width self.old.table }
-        ensures same { self.new ≡ with_archives self.old self.new.archives }
+        ensures same { self.new ≡ with_archives self.old self.new.shelves }
         ensures reads { OnGroup A.account (λ told. ReadsOld told stripe column old.new result) self.old self.new }
     {
         match self.table.slot(stripe, column) {

@@ -138,7 +138,7 @@ impl<A: Archive> Group<A> {
         requires cursor { AtCursor self.old.table self.old.table.cursor.stripe }
         requires takes { TakesBlocks self.old.table self.old.table.cursor.stripe }
         requires room { length self.old.log < 262144 }
-        requires old { HasOld (IsTrue A.account.tells) self.old.table (plain A.account.meaning self.old.archives).held
+        requires old { HasOld (IsTrue A.account.tells) self.old.table (plain A.account.meaning self.old.shelves).held
             self.old.table.cursor.stripe old.now.first old.now.second }
         ensures { OnGroup A.account
             (λ told. BlockMeans told job block.now old.now.first old.now.second result) self.old self.new }

@@ -322,12 +322,12 @@ impl<A: Archive> Group<A> {
     fn fold_next(&mut self, flight: &Flight, column: u8, sum: &mut Block) -> Result<Held, Failed>
         requires here { flight_in self.old.flights flight.now.relay.stripe ≡ Some flight.now }
         requires next { next_column self.old.table flight.now.relay ≡ Some column }
-        ensures same { self.new ≡ with_archives self.old self.new.archives }
+        ensures same { self.new ≡ with_archives self.old self.new.shelves }
         ensures covers { IsErr result → CoversOne (view_of A.account.meaning self.new) column }
         ensures folds { OnShelves A.account
             (λ told. FoldsAt told (serving_at self.old.table flight.now.relay.stripe column) flight.now.relay.stripe
             (weight_in self.old.table.data_columns flight.now.relay column) sum.old sum.new result)
-            self.old.archives self.new.archives }
+            self.old.shelves self.new.shelves }
     {
         let stripe = flight.relay.stripe;
         let _rules = self.table.cursor();
@@ -342,7 +342,7 @@ impl<A: Archive> Group<A> {
         requires next { IsSomeAnd (next_column self.old.table flight.relay) (λ c.
             IsTrue (is_live (slot_at self.old.table flight.relay.stripe c))
             × (IsTrue A.account.tells → FoldTells
-            ((plain A.account.meaning self.old.archives).held (serving_at self.old.table flight.relay.stripe c))
+            ((plain A.account.meaning self.old.shelves).held (serving_at self.old.table flight.relay.stripe c))
             flight.relay.stripe (weight_in self.old.table.data_columns flight.relay c) flight.sum sum.now
             (Ok Held.Held))) }
         requires within { flight.relay.stripe < self.old.table.stripes }

@@ -113,15 +113,15 @@ module _ {A M : Type 0} (told : Type 0) (meaning : A → Meaning) (parts : M →
     (ready : AreReady rack names groups) (index_ready : IsIndexReady rack names turn passes) (old : Known) (s : AreServed old (known groups passes))
     (e : Ends (λ m. kept_log (view_of meaning (parts m))) (λ m. origin_of (view_of meaning (parts m))) rack names groups (view_at passes 0) ms ended) (all : AreEnded told (λ m. view_of meaning (parts m)) ms)
     (meant : ℕ → Meaning) (taken : told → AreTakenAt meant old.groups)
-    (marks : told → AllSole old (known groups passes) → (g : ℕ) → g < length old.groups.names → AreMarkedBy meant (added (view_at old.groups g) (view_at groups g))) (hand : List (Shelf A)) (is_hand : hand ≡ flat_map (λ m. (parts m).archives.shelves) ms) where
+    (marks : told → AllSole old (known groups passes) → (g : ℕ) → g < length old.groups.names → AreMarkedBy meant (added (view_at old.groups g) (view_at groups g))) (hand : List (Shelf A)) (is_hand : hand ≡ flat_map (λ m. (parts m).shelves.shelves) ms) where
   -- the marks of its archives are those that the first passes know, and those with which they came
   marked : (n : ℕ) (m : M) → slice_get ms n ≡ Some m → told → HasMarks meant (view_of meaning (parts m))
   marked n m q t k has = ⊎_elim
       (λ (h : Contains (archives_in (parts m).first) k).
-      same_at (mark_at (plain meaning (parts m).archives)) (λ x. marks_of (meant x)) (archives_in (parts m).first) k
+      same_at (mark_at (plain meaning (parts m).shelves)) (λ x. marks_of (meant x)) (archives_in (parts m).first) k
       (taken t n (origin_of (view_of meaning (parts m))) (sym (s.stays.groups.origin n) ∙ (sym (ap (λ (v : GroupPass). v.origin) (e.joined n).both) ∙ sym (e.closed.each n m q).named))) h)
       (λ (h : Contains (arrivals (parts m).log) k).
-      came_marked meant (plain meaning (parts m).archives) (parts m).log (view_at old.groups n).seen (added (view_at old.groups n) (view_at groups n))
+      came_marked meant (plain meaning (parts m).shelves) (parts m).log (view_at old.groups n).seen (added (view_at old.groups n) (view_at groups n))
       (closed_kept (λ x. view_of meaning (parts x)) rack names turn groups passes ms ended ready index_ready old s e n m q)
       (opened_none (λ x. view_of meaning (parts x)) rack names turn groups passes ms ended ready index_ready old s e n m q)
       (marks t (sole_all (λ x. view_of meaning (parts x)) rack names turn groups passes ms ended ready index_ready old s e) n
@@ -129,10 +129,10 @@ module _ {A M : Type 0} (told : Type 0) (meaning : A → Meaning) (parts : M →
       (Contains-append_cases (archives_in (parts m).first) (arrivals (parts m).log) k has)
 
   -- its archives are in the hand
-  handed : (n : ℕ) (m : M) → slice_get ms n ≡ Some m → (k : ℕ) → Contains (had_by (view_of meaning (parts m))) k → IsInHand meaning hand (plain meaning (parts m).archives) k
+  handed : (n : ℕ) (m : M) → slice_get ms n ≡ Some m → (k : ℕ) → Contains (had_by (view_of meaning (parts m))) k → IsInHand meaning hand (plain meaning (parts m).shelves) k
   handed n m q k has = (
     found.0,
-    subst (λ ss. Contains ss found.0) (sym is_hand) (flat_contains (λ x. (parts x).archives.shelves) ms n m found.0 q found.3),
+    subst (λ ss. Contains ss found.0) (sym is_hand) (flat_contains (λ x. (parts x).shelves.shelves) ms n m found.0 q found.3),
     found.2,
     record {
       blocks = λ slot. ap (λ o. given (λ x. (meaning x).held slot) None o) found.1;
@@ -142,11 +142,11 @@ module _ {A M : Type 0} (told : Type 0) (meaning : A → Meaning) (parts : M →
     },
   )
     where
-      numbers : numbers_of (parts m).archives.shelves ≡ had_by (view_of meaning (parts m))
+      numbers : numbers_of (parts m).shelves.shelves ≡ had_by (view_of meaning (parts m))
       numbers = (all n m q).arrived
 
-      found : (x : Shelf A) × (shelf_of (parts m).archives.shelves k ≡ Some x) × (x.number ≡ k) × Contains (parts m).archives.shelves x
-      found = find_shelf (parts m).archives.shelves k (subst (λ ns. Contains ns k) (sym numbers) has)
+      found : (x : Shelf A) × (shelf_of (parts m).shelves.shelves k ≡ Some x) × (x.number ≡ k) × Contains (parts m).shelves.shelves x
+      found = find_shelf (parts m).shelves.shelves k (subst (λ ns. Contains ns k) (sym numbers) has)
 
   pub closed_groups : (logs : List (List Entry)) (tables : List Table) → logs ≡ map (λ m. (parts m).log) ms → tables ≡ map (λ m. (parts m).table) ms
       → LeaveGroups told meant (IsInHand meaning hand) (tables_read groups) logs (map still tables)

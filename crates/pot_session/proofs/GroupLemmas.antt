@@ -40,7 +40,7 @@ by_nobody log [] y e all q = of_opening e (All-head OfOpening e y (subst (λ l. 
 by_nobody log (f ∷ x) y e all q = by_nobody (x ++ e ∷ y) x y e (All-tail OfOpening f (x ++ e ∷ y) (subst (λ l. All OfOpening l) q all)) refl
 
 pub started_of : {A : Type 0} (told : Type 0) (meaning : A → Meaning) (number : ℕ) (t : Table) (handed : List (Shelf A)) (g : GroupParts A) → Begins told meaning number t handed g
-    → numbers_of handed ≡ archives_in t → HasArrived g.first g.log (numbers_of g.archives.shelves) → IsStarted number t (view_of meaning g)
+    → numbers_of handed ≡ archives_in t → HasArrived g.first g.log (numbers_of g.shelves.shelves) → IsStarted number t (view_of meaning g)
 started_of told meaning number t handed g b e arrived = record {
   is_number = b.is_number;
   first = b.first;
@@ -72,17 +72,17 @@ marked_of {A} told meaning meant number t handed g tells b e are n has = same
     is : IsMeant (meant n) (meaning found.0.archive)
     is = subst (λ k. IsMeant (meant k) (meaning found.0.archive)) found.2 (are found.0 (subst (λ ss. Contains ss found.0) b.shelves found.3))
 
-    faulted : (plain meaning g.archives).faults_taken n ≡ (meant n).faults
+    faulted : (plain meaning g.shelves).faults_taken n ≡ (meant n).faults
     faulted = b.opens.stays.keeps.faults_taken n ∙ (b.marks.faults n ∙ (ap (λ o. given (λ x. (meaning x).faults) 0 o) found.1 ∙ is.faulted))
 
-    lost : (plain meaning g.archives).losses_taken n ≡ (meant n).losses
+    lost : (plain meaning g.shelves).losses_taken n ≡ (meant n).losses
     lost = b.opens.stays.keeps.losses_taken n ∙ (b.marks.losses tells n ∙ (ap (λ o. given (λ x. (meaning x).losses) 0 o) found.1 ∙ is.lost))
 
     marks : ℕ → ℕ → Marks
     marks f l = record { faults = f; losses = l }
 
-    same : mark_at (plain meaning g.archives) n ≡ marks_of (meant n)
-    same = ap (λ f. marks f ((plain meaning g.archives).losses_taken n)) faulted ∙ ap (λ l. marks (meant n).faults l) lost
+    same : mark_at (plain meaning g.shelves) n ≡ marks_of (meant n)
+    same = ap (λ f. marks f ((plain meaning g.shelves).losses_taken n)) faulted ∙ ap (λ l. marks (meant n).faults l) lost
 
 -- the archives of a group that was started are those of its table
 pub had_started : (number : ℕ) (t : Table) (g : GroupView) → IsStarted number t g → had_by g ≡ archives_in t

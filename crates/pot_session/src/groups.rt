@@ -142,7 +142,7 @@ pub fn end_groups<A: Archive>(members: Vec<Member<A>>, remains: &mut Remains<A>)
     ensures tables { remains.new.tables.items ≡ remains.old.tables.items ++ map (λ m. m.group.table) members.items }
     ensures logs { map (λ v. v.items) remains.new.logs.items ≡ map (λ v. v.items) remains.old.logs.items ++ map (λ m. m.group.log) members.items }
     ensures hand { numbers_of remains.new.hand.items ≡ numbers_of remains.old.hand.items ++ flat_map (λ m. had_by (view_of A.account.meaning m.group)) members.items }
-    ensures shelves { remains.new.hand.items ≡ remains.old.hand.items ++ flat_map (λ m. m.group.archives.shelves) members.items }
+    ensures shelves { remains.new.hand.items ≡ remains.old.hand.items ++ flat_map (λ m. m.group.shelves.shelves) members.items }
     ensures ended { AreEnded (IsTrue A.account.tells) (λ m. view_of A.account.meaning m.group) members.items }
 {
     let mut members = members;
@@ -161,7 +161,7 @@ fn end_group<A: Archive>(group: Group<A>, remains: &mut Remains<A>)
     ensures tables { remains.new.tables.items ≡ remains.old.tables.items ++ group.table ∷ [] }
     ensures logs { map (λ v. v.items) remains.new.logs.items ≡ map (λ v. v.items) remains.old.logs.items ++ group.log ∷ [] }
     ensures hand { numbers_of remains.new.hand.items ≡ numbers_of remains.old.hand.items ++ had_by (view_of A.account.meaning group) }
-    ensures shelves { remains.new.hand.items ≡ remains.old.hand.items ++ group.archives.shelves }
+    ensures shelves { remains.new.hand.items ≡ remains.old.hand.items ++ group.shelves.shelves }
     ensures spaces { (vec_capacity remains.new.tables ≡ vec_capacity remains.old.tables) × (vec_capacity remains.new.logs ≡ vec_capacity remains.old.logs) × (vec_capacity remains.new.hand ≡ vec_capacity remains.old.hand) }
     ensures ended { IsEnded (IsTrue A.account.tells) (view_of A.account.meaning group) }
 {

@@ -30,7 +30,7 @@ returns-clause-hand g c old numbers served have n =
 pub returns-clause-groups : goal.returns-clause-groups
 returns-clause-groups g c old meant served taken marks =
     closed_groups (IsTrue g.A.Archive.account.tells) g.A.Archive.account.meaning (λ m. m.group) _ _ _ _ c.args.passes.index _ _ c.requires.ready c.requires.index old served c.close-members.ensures c.end_groups.ensures.ended meant taken marks _
-    (c.end_groups.ensures.shelves ∙ ap (λ l. l ++ flat_map (λ m. m.group.archives.shelves) c.close-members.result.members.items) c.requires.fresh.2) _ _
+    (c.end_groups.ensures.shelves ∙ ap (λ l. l ++ flat_map (λ m. m.group.shelves.shelves) c.close-members.result.members.items) c.requires.fresh.2) _ _
     (c.end_groups.ensures.logs ∙ ap (λ l. map (λ v. v.items) l ++ map (λ m. m.group.log) c.close-members.result.members.items) c.requires.fresh.1) (c.end_groups.ensures.tables ∙ ap (λ l. l ++ map (λ m. m.group.table) c.close-members.result.members.items) c.requires.fresh.0)
 
 pub returns-clause-logs : goal.returns-clause-logs

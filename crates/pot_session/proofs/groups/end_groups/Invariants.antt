@@ -7,7 +7,7 @@ use Rattle.pot_session.proofs.groups.end_groups.Given as goal
 
 abbrev pub invariant-loop-members : goal.invariant-loop-members
 invariant-loop-members g l = record {
-  ended : EndedSofar (IsTrue g.A.Archive.account.tells) (λ m. view_of g.A.Archive.account.meaning m.group) (λ m. m.group.archives.shelves) l.initial.members.items l.members.items l.initial.remains.tables.items l.remains.tables.items
+  ended : EndedSofar (IsTrue g.A.Archive.account.tells) (λ m. view_of g.A.Archive.account.meaning m.group) (λ m. m.group.shelves.shelves) l.initial.members.items l.members.items l.initial.remains.tables.items l.remains.tables.items
       (map (λ v. v.items) l.initial.remains.logs.items) (map (λ v. v.items) l.remains.logs.items) (numbers_of l.initial.remains.hand.items) (numbers_of l.remains.hand.items)
       l.initial.remains.hand.items l.remains.hand.items;
   tables : vec_capacity l.remains.tables ≡ vec_capacity l.initial.remains.tables;

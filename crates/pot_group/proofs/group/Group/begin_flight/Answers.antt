@@ -10,7 +10,7 @@ use Rattle.pot_group.proofs.group.Group.begin_flight.Goals as goal
 pub invariant_of-self : goal.invariant_of-self
 invariant_of-self g c =
     let a = c.self.inside in
-    let v : GroupParts _ = record { number = a.number; first = a.first; table = a.table; log = a.log.items; flights = a.flights.items; archives = a.archives } in (
+    let v : GroupParts _ = record { number = a.number; first = a.first; table = a.table; log = a.log.items; flights = a.flights.items; shelves = a.archives } in (
       begin_exit (IsTrue g.A.Archive.account.tells) (view_of g.A.Archive.account.meaning v) c.args.job c.args.place.stripe c.args.place.column c.args.blind.now
           c.begin-flight.new.table c.push_reserved.new.self.items c.push_reserved-2.new.self.items c.self.invariant.0
           (subst (λ (w : GroupParts _). Legal w.table (Begin c.args.job c.args.place.stripe c.args.place.column)) (sym c.self.view_is) c.requires.legal)

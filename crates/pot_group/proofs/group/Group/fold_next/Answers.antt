@@ -13,7 +13,7 @@ use Rattle.pot_group.proofs.group.Group.fold_next.Goals as goal
 pub weight_of-weight-requires-clause-relay : goal.weight_of-weight-requires-clause-relay
 weight_of-weight-requires-clause-relay g c =
     let a = c.self.inside in
-    let v : GroupParts _ = record { number = a.number; first = a.first; table = a.table; log = a.log.items; flights = a.flights.items; archives = a.archives } in
+    let v : GroupParts _ = record { number = a.number; first = a.first; table = a.table; log = a.log.items; flights = a.flights.items; shelves = a.archives } in
     subst (λ w. IsRelay w 2 c.args.flight.now.relay) (sym c.data_columns.ensures.value)
     (next_facts_of (IsTrue g.A.Archive.account.tells) (view_of g.A.Archive.account.meaning v) c.args.flight.now c.args.column c.self.invariant.0
     (subst (λ (w : GroupParts _). flight_in w.flights c.args.flight.now.relay.stripe ≡ Some c.args.flight.now) (sym c.self.view_is) c.requires.here)
@@ -22,7 +22,7 @@ weight_of-weight-requires-clause-relay g c =
 pub archive_of-number-requires : goal.archive_of-number-requires
 archive_of-number-requires g c =
     let a = c.self.inside in
-    let v : GroupParts _ = record { number = a.number; first = a.first; table = a.table; log = a.log.items; flights = a.flights.items; archives = a.archives } in
+    let v : GroupParts _ = record { number = a.number; first = a.first; table = a.table; log = a.log.items; flights = a.flights.items; shelves = a.archives } in
     (next_facts_of (IsTrue g.A.Archive.account.tells) (view_of g.A.Archive.account.meaning v) c.args.flight.now c.args.column c.self.invariant.0
     (subst (λ (w : GroupParts _). flight_in w.flights c.args.flight.now.relay.stripe ≡ Some c.args.flight.now) (sym c.self.view_is) c.requires.here)
     (subst (λ (w : GroupParts _). next_column w.table c.args.flight.now.relay ≡ Some c.args.column) (sym c.self.view_is) c.requires.next)).1
@@ -30,7 +30,7 @@ archive_of-number-requires g c =
 pub fold-requires-clause-weight : goal.fold-requires-clause-weight
 fold-requires-clause-weight g c =
     let a = c.self.inside in
-    let v : GroupParts _ = record { number = a.number; first = a.first; table = a.table; log = a.log.items; flights = a.flights.items; archives = a.archives } in
+    let v : GroupParts _ = record { number = a.number; first = a.first; table = a.table; log = a.log.items; flights = a.flights.items; shelves = a.archives } in
     subst (λ n. 0 < n) (sym (c.weight_of-weight.ensures ∙ ap (λ w. weight_in w c.args.flight.now.relay c.args.column) c.data_columns.ensures.value))
     (next_facts_of (IsTrue g.A.Archive.account.tells) (view_of g.A.Archive.account.meaning v) c.args.flight.now c.args.column c.self.invariant.0
     (subst (λ (w : GroupParts _). flight_in w.flights c.args.flight.now.relay.stripe ≡ Some c.args.flight.now) (sym c.self.view_is) c.requires.here)
@@ -39,7 +39,7 @@ fold-requires-clause-weight g c =
 pub fold-requires-clause-number : goal.fold-requires-clause-number
 fold-requires-clause-number g c =
     let a = c.self.inside in
-    let v : GroupParts _ = record { number = a.number; first = a.first; table = a.table; log = a.log.items; flights = a.flights.items; archives = a.archives } in
+    let v : GroupParts _ = record { number = a.number; first = a.first; table = a.table; log = a.log.items; flights = a.flights.items; shelves = a.archives } in
     subst (λ n. Contains (plain g.A.Archive.account.meaning a.archives).numbers n) (sym c.archive_of-number.ensures)
     (served (IsTrue g.A.Archive.account.tells) (view_of g.A.Archive.account.meaning v) c.self.invariant.0 c.args.flight.now.relay.stripe c.args.column
     (next_facts_of (IsTrue g.A.Archive.account.tells) (view_of g.A.Archive.account.meaning v) c.args.flight.now c.args.column c.self.invariant.0
@@ -49,7 +49,7 @@ fold-requires-clause-number g c =
 pub invariant_of-self : goal.invariant_of-self
 invariant_of-self g c =
     let a = c.self.inside in
-    let v : GroupParts _ = record { number = a.number; first = a.first; table = a.table; log = a.log.items; flights = a.flights.items; archives = a.archives } in (
+    let v : GroupParts _ = record { number = a.number; first = a.first; table = a.table; log = a.log.items; flights = a.flights.items; shelves = a.archives } in (
       settled_loses (IsTrue g.A.Archive.account.tells) (view_of g.A.Archive.account.meaning v)
           (plain g.A.Archive.account.meaning c.fold.new.self) c.self.invariant.0 c.fold.ensures.keeps c.fold.ensures.loses,
       c.self.invariant.1,
@@ -60,7 +60,7 @@ invariant_of-self g c =
 pub returns-clause-covers : goal.returns-clause-covers
 returns-clause-covers g c = λ failed.
     let a = c.self.inside in
-    let v : GroupParts _ = record { number = a.number; first = a.first; table = a.table; log = a.log.items; flights = a.flights.items; archives = a.archives } in
+    let v : GroupParts _ = record { number = a.number; first = a.first; table = a.table; log = a.log.items; flights = a.flights.items; shelves = a.archives } in
     covers_rise (IsTrue g.A.Archive.account.tells) (view_of g.A.Archive.account.meaning v)
     (plain g.A.Archive.account.meaning c.fold.new.self) c.args.flight.now.relay.stripe c.args.column c.self.invariant.0
     (next_facts_of (IsTrue g.A.Archive.account.tells) (view_of g.A.Archive.account.meaning v) c.args.flight.now c.args.column c.self.invariant.0

@@ -11,13 +11,13 @@ returns-then-not-is_live g c = dead_advances (IsTrue g.A.Archive.account.tells) 
 
 pub note-requires-clause-legal : goal.note-requires-clause-legal
 note-requires-clause-legal g c = subst (λ (w : GroupParts _). Legal w.table (Fault c.args.job c.args.flight.relay.stripe c.args.column)) (sym c.fold_next.ensures.same)
-    (fault_may (IsTrue g.A.Archive.account.tells) g.A.Archive.account.meaning c.args.self.now c.args.job c.args.flight c.args.column c.logged-settled.ensures.settled c.requires.room c.requires.here c.requires.next c.requires.within c.fold_next.new.self.archives c.fold_next.new.sum (sym c.if-not-is_live.ensures))
+    (fault_may (IsTrue g.A.Archive.account.tells) g.A.Archive.account.meaning c.args.self.now c.args.job c.args.flight c.args.column c.logged-settled.ensures.settled c.requires.room c.requires.here c.requires.next c.requires.within c.fold_next.new.self.shelves c.fold_next.new.sum (sym c.if-not-is_live.ensures))
 
 pub returns-in-Ok-Held : goal.returns-in-Ok-Held
-returns-in-Ok-Held g c = over_advances (IsTrue g.A.Archive.account.tells) g.A.Archive.account.meaning c.args.self.now c.args.job c.args.flight c.args.column c.logged-settled.ensures.settled c.requires.room c.requires.here c.requires.next c.requires.within c.fold_next.new.self.archives c.fold_next.new.sum (sym c.if-not-is_live.ensures) c.hop_over.result c.hop_over.new.self (rw c.fold_next.ensures.same at c.hop_over.ensures) (rw c.in-Ok-Held.field-0-is at c.in-Ok-Held.ensures.folds)
+returns-in-Ok-Held g c = over_advances (IsTrue g.A.Archive.account.tells) g.A.Archive.account.meaning c.args.self.now c.args.job c.args.flight c.args.column c.logged-settled.ensures.settled c.requires.room c.requires.here c.requires.next c.requires.within c.fold_next.new.self.shelves c.fold_next.new.sum (sym c.if-not-is_live.ensures) c.hop_over.result c.hop_over.new.self (rw c.fold_next.ensures.same at c.hop_over.ensures) (rw c.in-Ok-Held.field-0-is at c.in-Ok-Held.ensures.folds)
 
 pub returns-in-Ok-Absent : goal.returns-in-Ok-Absent
-returns-in-Ok-Absent g c = absent_advances (IsTrue g.A.Archive.account.tells) g.A.Archive.account.meaning c.args.self.now c.args.job c.args.flight c.args.column c.logged-settled.ensures.settled c.requires.room c.requires.here c.requires.next c.requires.within c.fold_next.new.self.archives c.fold_next.new.sum (sym c.if-not-is_live.ensures) c.leave_flight-in-Ok-Absent.new.self (rw c.fold_next.ensures.same at c.leave_flight-in-Ok-Absent.ensures) (rw c.in-Ok-Absent.field-0-is at c.in-Ok-Absent.ensures.folds)
+returns-in-Ok-Absent g c = absent_advances (IsTrue g.A.Archive.account.tells) g.A.Archive.account.meaning c.args.self.now c.args.job c.args.flight c.args.column c.logged-settled.ensures.settled c.requires.room c.requires.here c.requires.next c.requires.within c.fold_next.new.self.shelves c.fold_next.new.sum (sym c.if-not-is_live.ensures) c.leave_flight-in-Ok-Absent.new.self (rw c.fold_next.ensures.same at c.leave_flight-in-Ok-Absent.ensures) (rw c.in-Ok-Absent.field-0-is at c.in-Ok-Absent.ensures.folds)
 
 pub returns-in-Err : goal.returns-in-Err
-returns-in-Err g c = failed_advances (IsTrue g.A.Archive.account.tells) g.A.Archive.account.meaning c.args.self.now c.args.job c.args.flight c.args.column c.logged-settled.ensures.settled c.requires.room c.requires.here c.requires.next c.requires.within c.fold_next.new.self.archives c.fold_next.new.sum (sym c.if-not-is_live.ensures) c.note.new.self c.in-Err.field-0 (rw c.fold_next.ensures.same at c.note.ensures) c.in-Err.ensures.folds
+returns-in-Err g c = failed_advances (IsTrue g.A.Archive.account.tells) g.A.Archive.account.meaning c.args.self.now c.args.job c.args.flight c.args.column c.logged-settled.ensures.settled c.requires.room c.requires.here c.requires.next c.requires.within c.fold_next.new.self.shelves c.fold_next.new.sum (sym c.if-not-is_live.ensures) c.note.new.self c.in-Err.field-0 (rw c.fold_next.ensures.same at c.note.ensures) c.in-Err.ensures.folds

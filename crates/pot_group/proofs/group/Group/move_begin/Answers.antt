@@ -15,6 +15,6 @@ returns g c =
     let room : length c.args.self.now.log < 262144 = search rules in
     record {
       moves = comes_made g.A.Archive.account.meaning told c.args.shelf (view_of g.A.Archive.account.meaning c.args.self.now) (view_of g.A.Archive.account.meaning c.go_to.new.self) (MoveBegin c.args.job c.args.column c.args.shelf.number)
-          (begun_comes told g.A.Archive.account.meaning c.args.self.now (with_archives c.args.self.now c.go_to.new.self.archives) c.go_to.new.self c.args.shelf c.logged-settled.ensures.settled room c.in_default.ensures.1
+          (begun_comes told g.A.Archive.account.meaning c.args.self.now (with_archives c.args.self.now c.go_to.new.self.shelves) c.go_to.new.self c.args.shelf c.logged-settled.ensures.settled room c.in_default.ensures.1
           refl c.in_default-go_to.ensures.came.1 c.args.job c.args.column c.requires.column c.in_default.ensures.0 c.in_default-go_to.ensures.came.0);
     }

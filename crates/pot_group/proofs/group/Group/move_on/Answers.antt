@@ -17,5 +17,5 @@ returns-in_default g c =
     let same : c.slot.result ≡ slot_at c.args.self.now.table c.args.moving.upto c.args.column = c.slot.ensures ∙ ap (λ (w : GroupParts _). slot_at w.table c.args.moving.upto c.args.column) c.self.view_is in
     passed_steps (IsTrue g.A.Archive.account.tells) g.A.Archive.account.meaning c.args.self.now c.args.job c.args.column c.args.moving c.logged-settled.ensures.settled c.requires.room c.requires.column c.requires.moves c.pass_slot.new.self
     (subst (λ (w : GroupParts _). c.args.moving.upto < w.table.stripes) c.self.view_is (subst (λ n. c.args.moving.upto < n) c.stripes.ensures.value c.if-moving-stripes.false))
-    (λ t. dead_unsound (plain g.A.Archive.account.meaning c.args.self.now.archives).held c.args.self.now.table c.args.moving.upto c.args.column
+    (λ t. dead_unsound (plain g.A.Archive.account.meaning c.args.self.now.shelves).held c.args.self.now.table c.args.moving.upto c.args.column
     (subst (λ (x : SlotState). is_live x ≡ false) same (dead_slot c.slot.result c.in_default.not-Live))) c.pass_slot.ensures

@@ -11,13 +11,13 @@ use Rattle.pot_group.proofs.group.Group.pass_slot.Goals as goal
 pub invariant_of-self : goal.invariant_of-self
 invariant_of-self g c =
     let a = c.self.inside in
-    let v : GroupParts _ = record { number = a.number; first = a.first; table = a.table; log = a.log.items; flights = a.flights.items; archives = a.archives } in (
+    let v : GroupParts _ = record { number = a.number; first = a.first; table = a.table; log = a.log.items; flights = a.flights.items; shelves = a.archives } in (
       pass_exit (IsTrue g.A.Archive.account.tells) (view_of g.A.Archive.account.meaning v) c.args.job c.args.column c.args.moving c.self.invariant.0
           (subst (λ (w : GroupParts _). length w.log < 262144) (sym c.self.view_is) c.requires.room)
           (subst (λ (w : GroupParts _). c.args.column < width w.table) (sym c.self.view_is) c.requires.column)
           (subst (λ (w : GroupParts _). (column_at w.table c.args.column).moving ≡ Some c.args.moving) (sym c.self.view_is) c.requires.moves)
           (subst (λ (w : GroupParts _). c.args.moving.upto < w.table.stripes) (sym c.self.view_is) c.requires.stripe)
-          (subst (λ (w : GroupParts _). IsTrue g.A.Archive.account.tells → Sound (stripe_of w.table (plain g.A.Archive.account.meaning w.archives).held c.args.moving.upto) c.args.column → ⊥) (sym c.self.view_is) c.requires.missing)
+          (subst (λ (w : GroupParts _). IsTrue g.A.Archive.account.tells → Sound (stripe_of w.table (plain g.A.Archive.account.meaning w.shelves).held c.args.moving.upto) c.args.column → ⊥) (sym c.self.view_is) c.requires.missing)
           c.move_one-entry.result c.move_one-entry.new.table c.push_reserved.new.self.items c.move_one-entry.ensures.entry c.move_one-entry.ensures.table c.push_reserved.ensures.items,
       omega (arith, c.self.invariant.1, c.push_reserved.ensures.capacity),
       c.self.invariant.2,

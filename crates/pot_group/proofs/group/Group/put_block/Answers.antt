@@ -11,13 +11,13 @@ use Rattle.pot_group.proofs.group.Group.put_block.Goals as goal
 pub write_put-requires : goal.write_put-requires
 write_put-requires g c =
     let a = c.self.inside in
-    let v : GroupParts _ = record { number = a.number; first = a.first; table = a.table; log = a.log.items; flights = a.flights.items; archives = a.archives } in
+    let v : GroupParts _ = record { number = a.number; first = a.first; table = a.table; log = a.log.items; flights = a.flights.items; shelves = a.archives } in
     record { served = (λ k lk. served (IsTrue g.A.Archive.account.tells) (view_of g.A.Archive.account.meaning v) c.self.invariant.0 a.table.cursor.stripe k lk) }
 
 pub invariant_of-self : goal.invariant_of-self
 invariant_of-self g c =
     let a = c.self.inside in
-    let v : GroupParts _ = record { number = a.number; first = a.first; table = a.table; log = a.log.items; flights = a.flights.items; archives = a.archives } in
+    let v : GroupParts _ = record { number = a.number; first = a.first; table = a.table; log = a.log.items; flights = a.flights.items; shelves = a.archives } in
     let can = subst (λ (w : GroupParts _). CanPut (IsTrue g.A.Archive.account.tells) c.args.old.now.first c.args.old.now.second (view_of g.A.Archive.account.meaning w)) (sym c.self.view_is)
     (c.requires.cursor, c.requires.takes, c.requires.room, c.requires.old) in
     let x = none_exit (IsTrue g.A.Archive.account.tells) (view_of g.A.Archive.account.meaning v) c.args.job c.args.block.now c.args.old.now.first c.args.old.now.second c.cursor-cursor.result
@@ -32,7 +32,7 @@ invariant_of-self g c =
 pub invariant_of-self-in-Some : goal.invariant_of-self-in-Some
 invariant_of-self-in-Some g c =
     let a = c.self.inside in
-    let v : GroupParts _ = record { number = a.number; first = a.first; table = a.table; log = a.log.items; flights = a.flights.items; archives = a.archives } in
+    let v : GroupParts _ = record { number = a.number; first = a.first; table = a.table; log = a.log.items; flights = a.flights.items; shelves = a.archives } in
     let can = subst (λ (w : GroupParts _). CanPut (IsTrue g.A.Archive.account.tells) c.args.old.now.first c.args.old.now.second (view_of g.A.Archive.account.meaning w)) (sym c.self.view_is)
     (c.requires.cursor, c.requires.takes, c.requires.room, c.requires.old) in
     let x = all_exit (IsTrue g.A.Archive.account.tells) (view_of g.A.Archive.account.meaning v) c.args.job c.args.block.now c.args.old.now.first c.args.old.now.second c.cursor-cursor.result
@@ -51,7 +51,7 @@ invariant_of-self-in-Some g c =
 pub returns-in-None : goal.returns-in-None
 returns-in-None g c =
     let a = c.self.inside in
-    let v : GroupParts _ = record { number = a.number; first = a.first; table = a.table; log = a.log.items; flights = a.flights.items; archives = a.archives } in
+    let v : GroupParts _ = record { number = a.number; first = a.first; table = a.table; log = a.log.items; flights = a.flights.items; shelves = a.archives } in
     let can = subst (λ (w : GroupParts _). CanPut (IsTrue g.A.Archive.account.tells) c.args.old.now.first c.args.old.now.second (view_of g.A.Archive.account.meaning w)) (sym c.self.view_is)
     (c.requires.cursor, c.requires.takes, c.requires.room, c.requires.old) in
     let x = none_exit (IsTrue g.A.Archive.account.tells) (view_of g.A.Archive.account.meaning v) c.args.job c.args.block.now c.args.old.now.first c.args.old.now.second c.cursor-cursor.result
@@ -64,7 +64,7 @@ returns-in-None g c =
 pub returns-in-Some : goal.returns-in-Some
 returns-in-Some g c =
     let a = c.self.inside in
-    let v : GroupParts _ = record { number = a.number; first = a.first; table = a.table; log = a.log.items; flights = a.flights.items; archives = a.archives } in
+    let v : GroupParts _ = record { number = a.number; first = a.first; table = a.table; log = a.log.items; flights = a.flights.items; shelves = a.archives } in
     let can = subst (λ (w : GroupParts _). CanPut (IsTrue g.A.Archive.account.tells) c.args.old.now.first c.args.old.now.second (view_of g.A.Archive.account.meaning w)) (sym c.self.view_is)
     (c.requires.cursor, c.requires.takes, c.requires.room, c.requires.old) in
     let x = all_exit (IsTrue g.A.Archive.account.tells) (view_of g.A.Archive.account.meaning v) c.args.job c.args.block.now c.args.old.now.first c.args.old.now.second c.cursor-cursor.result

@@ -10,7 +10,7 @@ use Rattle.pot_group.proofs.group.Group.read_parity.Goals as goal
 pub returns-in-Sound-clause-reads : goal.returns-in-Sound-clause-reads
 returns-in-Sound-clause-reads g c =
     both_read (IsTrue g.A.Archive.account.tells) c.args.stripe c.data_columns-column.result c.read_old.new.old c.read_second.new.old
-    (view_of g.A.Archive.account.meaning c.args.self.now) (plain g.A.Archive.account.meaning c.read_old.new.self.archives) (view_of g.A.Archive.account.meaning c.read_second.new.self)
+    (view_of g.A.Archive.account.meaning c.args.self.now) (plain g.A.Archive.account.meaning c.read_old.new.self.shelves) (view_of g.A.Archive.account.meaning c.read_second.new.self)
     (subst (λ (v : GroupParts _). IsTable v.table) c.self.view_is c.data_columns-column.ensures.rules) c.requires.stripe
     (c.data_columns-column.ensures.value ∙ ap (λ (v : GroupParts _). v.table.data_columns) c.self.view_is)
     (subst (λ v. ReadsOld (IsTrue g.A.Archive.account.tells) c.args.stripe c.data_columns-column.result c.read_old.new.old Sound (view_of g.A.Archive.account.meaning c.args.self.now) (view_of g.A.Archive.account.meaning v)) c.in-Sound.ensures.same c.in-Sound.ensures.reads)

@@ -19,7 +19,7 @@ use Rattle.pot_group.proofs.group.Group.write_back.Goals as goal
 pub archive_of-number-requires : goal.archive_of-number-requires
 archive_of-number-requires g c =
     let a = c.self.inside in
-    let v : GroupParts _ = record { number = a.number; first = a.first; table = a.table; log = a.log.items; flights = a.flights.items; archives = a.archives } in
+    let v : GroupParts _ = record { number = a.number; first = a.first; table = a.table; log = a.log.items; flights = a.flights.items; shelves = a.archives } in
     target_wide (IsTrue g.A.Archive.account.tells) (view_of g.A.Archive.account.meaning v) (view_of g.A.Archive.account.meaning v).shelves c.args.job c.args.flight c.args.block.now c.self.invariant.0
     (subst (λ (w : GroupParts _). length w.log < 262144) (sym c.self.view_is) c.requires.room)
     (subst (λ (w : GroupParts _). flight_in w.flights c.args.flight.relay.stripe ≡ Some c.args.flight) (sym c.self.view_is) c.requires.here)
@@ -28,7 +28,7 @@ archive_of-number-requires g c =
 pub write-requires : goal.write-requires
 write-requires g c =
     let a = c.self.inside in
-    let v : GroupParts _ = record { number = a.number; first = a.first; table = a.table; log = a.log.items; flights = a.flights.items; archives = a.archives } in
+    let v : GroupParts _ = record { number = a.number; first = a.first; table = a.table; log = a.log.items; flights = a.flights.items; shelves = a.archives } in
     subst (λ n. Contains (plain g.A.Archive.account.meaning a.archives).numbers n) (sym c.archive_of-number.ensures)
     (target_served (IsTrue g.A.Archive.account.tells) (view_of g.A.Archive.account.meaning v) c.args.flight c.self.invariant.0
     (subst (λ (w : GroupParts _). flight_in w.flights c.args.flight.relay.stripe ≡ Some c.args.flight) (sym c.self.view_is) c.requires.here))
@@ -36,7 +36,7 @@ write-requires g c =
 pub mended-entry-requires : goal.mended-entry-requires
 mended-entry-requires g c =
     let a = c.self.inside in
-    let v : GroupParts _ = record { number = a.number; first = a.first; table = a.table; log = a.log.items; flights = a.flights.items; archives = a.archives } in
+    let v : GroupParts _ = record { number = a.number; first = a.first; table = a.table; log = a.log.items; flights = a.flights.items; shelves = a.archives } in
     mended_legal (IsTrue g.A.Archive.account.tells) (view_of g.A.Archive.account.meaning v) (plain g.A.Archive.account.meaning c.write.new.self) c.args.job c.args.flight c.args.block.now c.self.invariant.0
     (subst (λ (w : GroupParts _). length w.log < 262144) (sym c.self.view_is) c.requires.room)
     (subst (λ (w : GroupParts _). flight_in w.flights c.args.flight.relay.stripe ≡ Some c.args.flight) (sym c.self.view_is) c.requires.here)
@@ -45,7 +45,7 @@ mended-entry-requires g c =
 pub invariant_of-self : goal.invariant_of-self
 invariant_of-self g c =
     let a = c.self.inside in
-    let v : GroupParts _ = record { number = a.number; first = a.first; table = a.table; log = a.log.items; flights = a.flights.items; archives = a.archives } in (
+    let v : GroupParts _ = record { number = a.number; first = a.first; table = a.table; log = a.log.items; flights = a.flights.items; shelves = a.archives } in (
       mended_exit (IsTrue g.A.Archive.account.tells) (view_of g.A.Archive.account.meaning v) (plain g.A.Archive.account.meaning c.write.new.self) c.args.job c.args.flight c.args.block.now c.self.invariant.0
           (subst (λ (w : GroupParts _). length w.log < 262144) (sym c.self.view_is) c.requires.room)
           (subst (λ (w : GroupParts _). flight_in w.flights c.args.flight.relay.stripe ≡ Some c.args.flight) (sym c.self.view_is) c.requires.here)
@@ -63,7 +63,7 @@ invariant_of-self g c =
 pub note-requires-clause-legal : goal.note-requires-clause-legal
 note-requires-clause-legal g c =
     let a = c.self.inside in
-    let v : GroupParts _ = record { number = a.number; first = a.first; table = a.table; log = a.log.items; flights = a.flights.items; archives = a.archives } in
+    let v : GroupParts _ = record { number = a.number; first = a.first; table = a.table; log = a.log.items; flights = a.flights.items; shelves = a.archives } in
     fault_legal (IsTrue g.A.Archive.account.tells) (view_of g.A.Archive.account.meaning v) (plain g.A.Archive.account.meaning c.write.new.self) c.args.job c.args.flight c.args.block.now c.self.invariant.0
     (subst (λ (w : GroupParts _). length w.log < 262144) (sym c.self.view_is) c.requires.room)
     (subst (λ (w : GroupParts _). flight_in w.flights c.args.flight.relay.stripe ≡ Some c.args.flight) (sym c.self.view_is) c.requires.here)
@@ -72,7 +72,7 @@ note-requires-clause-legal g c =
 pub invariant_of-self-in-Err : goal.invariant_of-self-in-Err
 invariant_of-self-in-Err g c =
     let a = c.self.inside in
-    let v : GroupParts _ = record { number = a.number; first = a.first; table = a.table; log = a.log.items; flights = a.flights.items; archives = a.archives } in (
+    let v : GroupParts _ = record { number = a.number; first = a.first; table = a.table; log = a.log.items; flights = a.flights.items; shelves = a.archives } in (
       fault_exit (IsTrue g.A.Archive.account.tells) (view_of g.A.Archive.account.meaning v) (plain g.A.Archive.account.meaning c.write.new.self) c.args.job c.args.flight c.args.block.now c.self.invariant.0
           (subst (λ (w : GroupParts _). length w.log < 262144) (sym c.self.view_is) c.requires.room)
           (subst (λ (w : GroupParts _). flight_in w.flights c.args.flight.relay.stripe ≡ Some c.args.flight) (sym c.self.view_is) c.requires.here)
@@ -86,7 +86,7 @@ invariant_of-self-in-Err g c =
 pub returns-in-Ok : goal.returns-in-Ok
 returns-in-Ok g c =
     let a = c.self.inside in
-    let v : GroupParts _ = record { number = a.number; first = a.first; table = a.table; log = a.log.items; flights = a.flights.items; archives = a.archives } in
+    let v : GroupParts _ = record { number = a.number; first = a.first; table = a.table; log = a.log.items; flights = a.flights.items; shelves = a.archives } in
     subst (λ (w : GroupParts _). EndsWell (IsTrue g.A.Archive.account.tells) c.args.job c.args.block.now c.args.flight (Ok advanced.Mended) (view_of g.A.Archive.account.meaning w)
     (record { number = a.number; first = a.first; table = c.mended-entry.new.table; log = c.push_reserved.new.self.items; flights = c.retain.new.self.items; shelves = (plain g.A.Archive.account.meaning c.write.new.self) })) c.self.view_is (
       record {
@@ -106,7 +106,7 @@ returns-in-Ok g c =
 pub returns-in-Err : goal.returns-in-Err
 returns-in-Err g c =
     let a = c.self.inside in
-    let v : GroupParts _ = record { number = a.number; first = a.first; table = a.table; log = a.log.items; flights = a.flights.items; archives = a.archives } in
+    let v : GroupParts _ = record { number = a.number; first = a.first; table = a.table; log = a.log.items; flights = a.flights.items; shelves = a.archives } in
     subst (λ (w : GroupParts _). EndsWell (IsTrue g.A.Archive.account.tells) c.args.job c.args.block.now c.args.flight (Err (failed.Faulted c.args.flight.relay.target)) (view_of g.A.Archive.account.meaning w)
     (record { number = a.number; first = a.first; table = c.note.new.table; log = c.note.new.log.items; flights = a.flights.items; shelves = (plain g.A.Archive.account.meaning c.write.new.self) })) c.self.view_is (
       refl,
