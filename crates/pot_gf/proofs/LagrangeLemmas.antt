@@ -82,26 +82,26 @@ product_zero x b (suc j) (a ∷ points) lt e ne = elim (tested a x) [
 ]
 
 -- (a + x) times a polynomial
-rooted : ℕ → List ℕ → List ℕ
+pub rooted : ℕ → List ℕ → List ℕ
 rooted a p = added (scaled a p) (0 ∷ p)
 
-value-rooted : (a : ℕ) (p : List ℕ) (y : ℕ) → value (rooted a p) y ≡ byte_product (bit_xor a y) (value p y)
+pub value-rooted : (a : ℕ) (p : List ℕ) (y : ℕ) → value (rooted a p) y ≡ byte_product (bit_xor a y) (value p y)
 unfolding rooted
 value-rooted a p y =
     value-added (scaled a p) (0 ∷ p) y
     ∙ ap₂ bit_xor (value-scaled a p y) (value-cons 0 p y ∙ ap (λ z. bit_xor z (byte_product y (value p y))) (byte_product-zero_left 1) ∙ xor_zero_l (byte_product y (value p y)))
     ∙ sym (byte_product-xor_left a y (value p y))
 
-get_or-rooted : (a : ℕ) (p : List ℕ) (t : ℕ) → get_or (rooted a p) t 0 ≡ bit_xor (byte_product a (get_or p t 0)) (get_or (0 ∷ p) t 0)
+pub get_or-rooted : (a : ℕ) (p : List ℕ) (t : ℕ) → get_or (rooted a p) t 0 ≡ bit_xor (byte_product a (get_or p t 0)) (get_or (0 ∷ p) t 0)
 unfolding rooted
 get_or-rooted a p t = get_or-added (scaled a p) (0 ∷ p) t ∙ ap (λ z. bit_xor z (get_or (0 ∷ p) t 0)) (get_or-scaled a p t)
 
-rooted-degree : (a : ℕ) (p : List ℕ) (n : ℕ) → IsBelowDegree n p → IsBelowDegree (suc n) (rooted a p)
+pub rooted-degree : (a : ℕ) (p : List ℕ) (n : ℕ) → IsBelowDegree n p → IsBelowDegree (suc n) (rooted a p)
 rooted-degree a p n h zero le = absurd (omega arith)
 rooted-degree a p n h (suc t) le =
     get_or-rooted a p (suc t) ∙ ap₂ bit_xor (ap (byte_product a) (h (suc t) (omega arith)) ∙ byte_product-zero_right a) (h t (omega arith)) ∙ xor_self 0
 
-rooted-bytes : (a : ℕ) (p : List ℕ) → AreBytes p → AreBytes (rooted a p)
+pub rooted-bytes : (a : ℕ) (p : List ℕ) → AreBytes p → AreBytes (rooted a p)
 rooted-bytes a p h t = rw get_or-rooted (xor_of_8 (byte_product a (get_or p t 0)) (get_or (0 ∷ p) t 0) (byte_product-below a (get_or p t 0)) (shifted t))
   where
     shifted : (t : ℕ) → get_or (0 ∷ p) t 0 < 256

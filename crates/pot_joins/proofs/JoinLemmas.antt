@@ -1,21 +1,19 @@
 -- What m samples fix, and polynomials turned by a point.
 use Rattle.std.proofs.Common.{◌≡◌, ◌≢◌, ◌↔◌, inl, inr, ℕ, zero, suc, ◌<◌, ◌≤◌, bit_xor, List, [], ◌∷◌, length, take, get_or, nat_eq, refl, sym, ap, ap₂, ◌∙◌, subst, arith, lit<}
 use Rattle.std.specs.List.{IsDistinct}
-use Rattle.std.specs.Int.Bits.{xor_zero_l, xor_zero_r, xor_self}
+use Rattle.std.specs.Int.Bits.{xor_zero_r, xor_self}
 use Rattle.std.proofs.lemmas.Nat.{xor_comm, xor_of_8}
 use Rattle.std.proofs.lemmas.Bool.{cases_lt, ne_eqb}
 use Rattle.std.proofs.lemmas.Map.Keys.{IsDistinct-from_apart}
 use Rattle.std.proofs.lemmas.List.{length-take-le, get_or-take}
-use Rattle.pot_bytes.specs.Weighted.{scaled}
 use Rattle.pot_bytes.specs.Product.{byte_product}
-use Rattle.pot_bytes.proofs.ProductLemmas.{byte_product-xor_left, byte_product-zero_left, byte_product-zero_right, byte_product-below}
-use Rattle.pot_bytes.proofs.WeightedLemmas.{get_or-scaled}
+use Rattle.pot_bytes.proofs.ProductLemmas.{byte_product-zero_right}
 use Rattle.pot_bytes.specs.Lists.{AreBytes}
 use Rattle.pot_gf.specs.Polynomials.{value, IsBelowDegree, PassesThrough}
-use Rattle.pot_gf.proofs.Values.{value-nil, value-cons, value-scaled, value-added, value-at_zero, added, get_or-added}
+use Rattle.pot_gf.proofs.Values.{value-nil, value-cons, value-added, value-at_zero, added, get_or-added}
 use Rattle.pot_gf.proofs.Built.{distinct_apart}
 use Rattle.pot_joins.specs.Joins.{IsOnOne, IsJoinAt, AreSamples, JoinLaws}
-use Rattle.pot_gf.proofs.LagrangeLemmas.{exists_law}
+use Rattle.pot_gf.proofs.LagrangeLemmas.{exists_law, rooted, value-rooted, get_or-rooted, rooted-degree, rooted-bytes}
 
 pub through : (points values : List ℕ) → AreSamples points values
     → (p : List ℕ) × AreBytes p × IsBelowDegree (length points) p × PassesThrough points values p
@@ -98,33 +96,6 @@ closes m points values joined s few join byte = (to, from)
           ],
           sym (value-at_zero p r.1) ∙ sym (join 0 p r.1 r.2 r.3) ∙ sym first,
         )
-
--- (a + x) times a polynomial
-rooted : ℕ → List ℕ → List ℕ
-rooted a p = added (scaled a p) (0 ∷ p)
-
-value-rooted : (a : ℕ) (p : List ℕ) (y : ℕ) → value (rooted a p) y ≡ byte_product (bit_xor a y) (value p y)
-unfolding rooted
-value-rooted a p y =
-    value-added (scaled a p) (0 ∷ p) y
-    ∙ ap₂ bit_xor (value-scaled a p y) (value-cons 0 p y ∙ ap (λ z. bit_xor z (byte_product y (value p y))) (byte_product-zero_left 1) ∙ xor_zero_l (byte_product y (value p y)))
-    ∙ sym (byte_product-xor_left a y (value p y))
-
-get_or-rooted : (a : ℕ) (p : List ℕ) (t : ℕ) → get_or (rooted a p) t 0 ≡ bit_xor (byte_product a (get_or p t 0)) (get_or (0 ∷ p) t 0)
-unfolding rooted
-get_or-rooted a p t = get_or-added (scaled a p) (0 ∷ p) t ∙ ap (λ z. bit_xor z (get_or (0 ∷ p) t 0)) (get_or-scaled a p t)
-
-rooted-degree : (a : ℕ) (p : List ℕ) (n : ℕ) → IsBelowDegree n p → IsBelowDegree (suc n) (rooted a p)
-rooted-degree a p n h zero le = absurd (omega arith)
-rooted-degree a p n h (suc t) le =
-    get_or-rooted a p (suc t) ∙ ap₂ bit_xor (ap (byte_product a) (h (suc t) (omega arith)) ∙ byte_product-zero_right a) (h t (omega arith)) ∙ xor_self 0
-
-rooted-bytes : (a : ℕ) (p : List ℕ) → AreBytes p → AreBytes (rooted a p)
-rooted-bytes a p h t = rw get_or-rooted (xor_of_8 (byte_product a (get_or p t 0)) (get_or (0 ∷ p) t 0) (byte_product-below a (get_or p t 0)) (shifted t))
-  where
-    shifted : (t : ℕ) → get_or (0 ∷ p) t 0 < 256
-    shifted zero = lit< tt
-    shifted (suc t) = h t
 
 -- p at x + y, as a polynomial in x: c + (x + y) p' turns to c + (y + x) times p' turned
 turned_by : ℕ → List ℕ → List ℕ
