@@ -5,7 +5,7 @@ ghost use Rattle.std.proofs.Props.{props};
 ghost use Rattle.std.specs.Vec.{vec_capacity};
 ghost use Rattle.pot_bytes.specs.Rack.{IsRack};
 ghost use Rattle.pot_bench.specs.Plain.{meaning_in};
-ghost use Rattle.pot_group.specs.Beginning.{homes_of};
+ghost use Rattle.pot_machine.specs.Column.{homes_of};
 ghost use Rattle.pot_group.specs.Group.{view_of};
 ghost use Rattle.pot_rows.specs.Ends.{HasAllParts};
 ghost use Rattle.pot_shared.specs.Catalogs.{IsIndexReady};

@@ -24,8 +24,10 @@ use Rattle.pot_group.specs.declared.moving.ShelfCause.{ShelfCause}
 use Rattle.pot_group.specs.declared.moving.ShelfCause.TheVariants as cause
 use Rattle.pot_group.specs.declared.moving.ShelfRefused.{ShelfRefused}
 use Rattle.pot_group.specs.Arrivals.{arrival, arrivals, HasArrived}
-use Rattle.pot_group.specs.Beginning.{archives_in, homes_of}
-use Rattle.pot_group.specs.Causes.{archives_of, brought, brought_by, target_of}
+use Rattle.pot_machine.specs.Table.{archives_in}
+use Rattle.pot_machine.specs.Column.{homes_of}
+use Rattle.pot_machine.specs.Column.{target_of}
+use Rattle.pot_group.specs.Causes.{archives_of, brought, brought_by}
 use Rattle.pot_group.specs.Group.{GroupView}
 use Rattle.pot_group.specs.Moving.{RefusesSwap, live_in}
 use Rattle.pot_turn.specs.declared.name.TurnName.{TurnName}

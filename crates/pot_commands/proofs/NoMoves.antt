@@ -17,7 +17,8 @@ use Rattle.pot_script.specs.declared.reply.Reply.TheVariants as replies
 use Rattle.pot_replies.specs.Jobs.{is_move_begin, is_look, is_relay, EachIs}
 use Rattle.pot_replies.specs.Settings.{Setting}
 use Rattle.pot_replies.specs.Sections.{Section, Mine, mine, IsOfJobs}
-use Rattle.pot_replies.specs.Stores.{Placed, in_group, IsKeptPut, Puts, IsUnkept, Stops}
+use Rattle.pot_machine.specs.Logs.{IsKeptPut}
+use Rattle.pot_replies.specs.Stores.{Placed, in_group, Puts, IsUnkept, Stops}
 use Rattle.pot_replies.specs.Listings.{StatusLine, Group, GroupFull, IsStatusLine}
 use Rattle.pot_replies.specs.Fetches.{MayFetch, FetchEntries}
 use Rattle.pot_store.specs.Fetches.{IsUnfinished}
@@ -69,7 +70,7 @@ no_skip : (job : ℕ) (passed : List Passed) → filter brings (skips job passed
 no_skip job [] = refl
 no_skip job (x ∷ xs) = none_both (gone_entries job x.stripe x.gone) _ (no_gone job x.stripe x.gone) (no_skip job xs)
 
-no_kept : (job : ℕ) (x : Placed) (e : Entry) → IsKeptPut job x e → brings e ≡ false
+no_kept : (job : ℕ) (x : Placed) (e : Entry) → IsKeptPut job x.stripe x.column x.digest e → brings e ≡ false
 no_kept job x e (inl (p, is)) = ap brings is
 no_kept job x e (inr (p, q, is)) = ap brings is
 

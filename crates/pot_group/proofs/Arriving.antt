@@ -17,7 +17,7 @@ use Rattle.pot_steps.specs.declared.flight.Flight.{Flight}
 use Rattle.pot_steps.specs.declared.rebuilding.Hopped.TheVariants as hopped
 use Rattle.pot_shelves.specs.Shelves.{Shelved, plain, numbers_of}
 use Rattle.pot_shelves.specs.Opening.{Opens}
-use Rattle.pot_group.specs.Beginning.{archives_in}
+use Rattle.pot_machine.specs.Table.{archives_in}
 use Rattle.pot_group.specs.Group.{GroupView, IsQuiet}
 use Rattle.pot_group.specs.Arrivals.{arrival, arrivals, HasArrived}
 use Rattle.pot_group.proofs.CauseLemmas.{OfOpening, opening_entries}

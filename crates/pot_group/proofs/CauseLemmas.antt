@@ -9,7 +9,8 @@ use Rattle.pot_machine.specs.Table.{Table, column_at}
 use Rattle.pot_machine.specs.Machine.{Replays, after}
 use Rattle.pot_steps.specs.GroupStep.{entries_where, opening}
 use Rattle.pot_shelves.specs.Shelves.{Shelves}
-use Rattle.pot_group.specs.Causes.{fault_of, faults_in, target_of, brought, brought_by, archives_of, risen, Covers, Misses, WhereMissed, HasLost}
+use Rattle.pot_machine.specs.Column.{target_of}
+use Rattle.pot_group.specs.Causes.{fault_of, faults_in, brought, brought_by, archives_of, risen, Covers, Misses, WhereMissed, HasLost}
 
 -- LOGS THAT GROW BY ONE ENTRY
 

@@ -14,7 +14,8 @@ use Rattle.pot_machine.proofs.Columns.{column_same}
 use Rattle.pot_machine.proofs.LeftAlone.{columns_stay}
 use Rattle.pot_machine.proofs.Sizes.{width-with_losses}
 use Rattle.pot_shelves.specs.Shelves.{Shelves, Keeps}
-use Rattle.pot_group.specs.Causes.{archives_of, brought, brought_by, target_of}
+use Rattle.pot_machine.specs.Column.{target_of}
+use Rattle.pot_group.specs.Causes.{archives_of, brought, brought_by}
 use Rattle.pot_group.specs.Group.{GroupView, IsSettled}
 use Rattle.pot_group.proofs.Settled.{LeavesColumns}
 use Rattle.pot_group.proofs.Brought.{Contains-front}

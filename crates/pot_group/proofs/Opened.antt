@@ -19,10 +19,13 @@ use Rattle.pot_steps.specs.GroupStep.{StartStep, log_bound}
 use Rattle.pot_steps.proofs.Opening.{start_makes}
 use Rattle.pot_steps.proofs.Losses.{start_makes_live}
 use Rattle.pot_shelves.specs.Shelves.{Shelves, Shelved, IsTaken, plain}
-use Rattle.pot_group.specs.Causes.{HasLost, risen, target_of, archives_of}
+use Rattle.pot_machine.specs.Column.{target_of}
+use Rattle.pot_group.specs.Causes.{HasLost, risen, archives_of}
 use Rattle.pot_shelves.specs.Opening.{HasArchives, Opens}
 use Rattle.pot_group.specs.Group.{GroupParts, GroupView, IsSettled, LostSince, state_of, view_of}
-use Rattle.pot_group.specs.Beginning.{Begins, homes_of, archives_in, unopened}
+use Rattle.pot_machine.specs.Column.{homes_of}
+use Rattle.pot_machine.specs.Table.{archives_in}
+use Rattle.pot_group.specs.Beginning.{Begins, unopened}
 use Rattle.pot_shelves.proofs.ShelfLemmas.{lost_rose}
 use Rattle.pot_group.proofs.CauseLemmas.{OfOpening, opening_entries, faults_in-opening, WhereMissed-opening, archives_of-opening}
 

@@ -12,7 +12,8 @@ use Rattle.pot_machine.specs.Rules.{IsTable}
 use Rattle.pot_machine.proofs.LeftAlone.{sizes_stay}
 use Rattle.pot_machine.proofs.Searches.{least_none, least_some}
 use Rattle.pot_group.specs.declared.uses.Role.TheVariants as role
-use Rattle.pot_group.specs.Causes.{brought, brought_by, target_of}
+use Rattle.pot_machine.specs.Column.{target_of}
+use Rattle.pot_group.specs.Causes.{brought, brought_by}
 use Rattle.pot_group.specs.Group.{GroupView}
 use Rattle.pot_group.specs.Uses.{IsHomeAt, IsRole, IsUse, brings, brought_to, home_of, role_in, target_in}
 use Rattle.pot_group.proofs.Brought.{Contains-front}

@@ -1,23 +1,12 @@
 -- How a group begins, and what it hands out.
-use Rattle.std.specs.Prelude.{◌≡◌, ℕ, List, [], ◌∷◌}
-use Rattle.std.specs.List.{flat_map}
+use Rattle.std.specs.Prelude.{◌≡◌, ℕ, List, []}
 use Rattle.pot_outside.specs.Archives.{Meaning}
 use Rattle.pot_outside.specs.declared.archive.Shelf.{Shelf}
-use Rattle.pot_machine.specs.declared.column.Column.{Column}
 use Rattle.pot_machine.specs.Table.{Table}
 use Rattle.pot_steps.specs.GroupStep.{StartStep}
 use Rattle.pot_shelves.specs.Shelves.{Shelved, IsTaken, plain}
-use Rattle.pot_group.specs.Causes.{target_of}
 use Rattle.pot_shelves.specs.Opening.{Opens}
 use Rattle.pot_group.specs.Group.{GroupParts, view_of, state_of}
-
--- the archives of a column: its home, and then the target of its move
-abbrev pub homes_of : Column → List ℕ
-homes_of c = c.home ∷ target_of c.moving
-
--- the archives of a table, column by column
-abbrev pub archives_in : Table → List ℕ
-archives_in t = flat_map homes_of t.columns
 
 -- a group before its opening
 abbrev pub unopened : {A : Type 0} → ℕ → Table → Shelved A → GroupParts A

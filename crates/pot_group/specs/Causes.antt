@@ -5,6 +5,7 @@ use Rattle.pot_machine.specs.declared.column.Moving.{Moving}
 use Rattle.pot_machine.specs.declared.entry.Entry.{Entry}
 use Rattle.pot_machine.specs.declared.entry.Entry.TheVariants.{Put, Gone, Fault, GaveUp, MoveBegin, Moved, Swapped, Put2}
 use Rattle.pot_machine.specs.Slot.{is_live}
+use Rattle.pot_machine.specs.Column.{target_of}
 use Rattle.pot_machine.specs.Table.{Table, width, slot_at, column_at}
 use Rattle.pot_machine.specs.Machine.{after}
 use Rattle.pot_shelves.specs.Shelves.{Shelves}
@@ -22,10 +23,6 @@ fault_of data_columns c _ = 0
 abbrev pub faults_in : ℕ → ℕ → List Entry → ℕ
 faults_in data_columns c [] = 0
 faults_in data_columns c (e ∷ log) = fault_of data_columns c e + faults_in data_columns c log
-
-abbrev pub target_of : Option Moving → List ℕ
-target_of None = []
-target_of (Some m) = m.to ∷ []
 
 -- the archive that an entry brings to a column
 abbrev pub brought : ℕ → Entry → List ℕ

@@ -19,7 +19,8 @@ impl<A: Archive> Group<A> {
     ghost use Rattle.pot_machine.specs.Making.{table_of};
     ghost use Rattle.pot_shelves.specs.Shelves.{plain, IsTaken};
     ghost use Rattle.pot_shelves.specs.Opening.{HasArchives};
-    ghost use Rattle.pot_group.specs.Beginning.{Begins, archives_in};
+    ghost use Rattle.pot_machine.specs.Table.{archives_in};
+    ghost use Rattle.pot_group.specs.Beginning.{Begins};
 
     /// The group of this number over a table and its archives, opened: the block of every Live slot is read, and what is
     /// missing or does not fit its stripe is logged by job 0. The archives are, column by column, the home and then the

@@ -3,7 +3,7 @@
 ghost use Rattle.std.specs.Prelude.{◌≡◌, ◌<◌, ◌∷◌, [], IsTrue, map};
 ghost use Rattle.pot_machine.specs.Table.{width};
 ghost use Rattle.std.specs.List.{flat_map};
-ghost use Rattle.pot_group.specs.Beginning.{homes_of};
+ghost use Rattle.pot_machine.specs.Column.{homes_of};
 
 use crate::*;
 use pot_bytes::{Block, Digest, Geometry, Place, Rack, digest_of};

@@ -13,7 +13,8 @@ use Rattle.pot_machine.specs.Rules.{HasColumns}
 use Rattle.pot_image.specs.Fields.{done}
 use Rattle.pot_image.specs.Reading.{◌>>=◌, reading}
 use Rattle.pot_image.specs.Numbers.{natural, at_most, zeros, flag}
-use Rattle.pot_image.specs.Tables.{numbers_of, is_free, moving, resting, column, column_behind, columns}
+use Rattle.pot_machine.specs.Column.{homes_of}
+use Rattle.pot_image.specs.Tables.{is_free, moving, resting, column, column_behind, columns}
 use Rattle.pot_image.proofs.Once.{test, both_true}
 use Rattle.pot_image.proofs.Steps.{holds_of, unequal}
 use Rattle.pot_image.proofs.Inverse.{parts, done_is, read_chosen, read_other, several_keep}
@@ -68,7 +69,7 @@ free_apart (x ∷ xs) taken n h e =
 
 -- THE NUMBERS OF COLUMNS
 
-names_stand : (home number : ℕ) (o : Option Moving) → names_moved o home number ≡ true → stands number (numbers_of (record { home = home; moving = o })) ≡ true
+names_stand : (home number : ℕ) (o : Option Moving) → names_moved o home number ≡ true → stands number (homes_of (record { home = home; moving = o })) ≡ true
 names_stand home number None e = by_test (home == number) e
   where
     by_test : (b : Bool) → b ≡ true → b || false ≡ true
@@ -81,28 +82,28 @@ names_stand home number (Some m) e = by_tests (home == number) (m.to == number) 
     by_tests false true h = refl
     by_tests false false h = h
 
-named : (c : Column) (number : ℕ) → names c number ≡ true → stands number (numbers_of c) ≡ true
+named : (c : Column) (number : ℕ) → names c number ≡ true → stands number (homes_of c) ≡ true
 named c number e = names_stand c.home number c.moving e
 
-named_among : (cs : List Column) (k number : ℕ) → k < length cs → names (get_or cs k no_column) number ≡ true → stands number (flat_map numbers_of cs) ≡ true
+named_among : (cs : List Column) (k number : ℕ) → k < length cs → names (get_or cs k no_column) number ≡ true → stands number (flat_map homes_of cs) ≡ true
 named_among [] k number l e = absurd (omega (arith, l))
-named_among (c ∷ cs) zero number l e = stands_left number (numbers_of c) (flat_map numbers_of cs) (named c number e)
-named_among (c ∷ cs) (suc k) number l e = stands_right number (numbers_of c) (flat_map numbers_of cs) (named_among cs k number (omega (arith, l)) e)
+named_among (c ∷ cs) zero number l e = stands_left number (homes_of c) (flat_map homes_of cs) (named c number e)
+named_among (c ∷ cs) (suc k) number l e = stands_right number (homes_of c) (flat_map homes_of cs) (named_among cs k number (omega (arith, l)) e)
 
 pub free_rest : (xs ys taken : List ℕ) → AreFree taken (xs ++ ys) → AreFree taken xs × AreFree (taken ++ xs) ys
 free_rest [] ys taken h = (tt, subst (λ t. AreFree t ys) (sym (append-nil taken)) h)
 free_rest (x ∷ xs) ys taken h = (let r = free_rest xs ys (taken ++ x ∷ []) h.1 in ((h.0, r.0), subst (λ t. AreFree t ys) (append_assoc taken (x ∷ []) xs) r.1))
 
-apart : (x : Column) (cs : List Column) (taken : List ℕ) (number k : ℕ) → AreFree taken (flat_map numbers_of (x ∷ cs)) → k < length cs → names x number ≡ true → names (get_or cs k no_column) number ≡ true → ⊥
+apart : (x : Column) (cs : List Column) (taken : List ℕ) (number k : ℕ) → AreFree taken (flat_map homes_of (x ∷ cs)) → k < length cs → names x number ≡ true → names (get_or cs k no_column) number ≡ true → ⊥
 apart x cs taken number k h l e q =
-    (let r = free_rest (numbers_of x) (flat_map numbers_of cs) taken h in
-    let before = stands_right number taken (numbers_of x) (named x number e) in
-    clash (stands number (flat_map numbers_of cs)) (named_among cs k number l q) (free_apart (flat_map numbers_of cs) (taken ++ numbers_of x) number r.1 before))
+    (let r = free_rest (homes_of x) (flat_map homes_of cs) taken h in
+    let before = stands_right number taken (homes_of x) (named x number e) in
+    clash (stands number (flat_map homes_of cs)) (named_among cs k number l q) (free_apart (flat_map homes_of cs) (taken ++ homes_of x) number r.1 before))
   where
     clash : (b : Bool) → b ≡ true → b ≡ false → ⊥
     clash b t f = cc
 
-distinct : (cs : List Column) (taken : List ℕ) → AreFree taken (flat_map numbers_of cs) → (c k number : ℕ) → c < length cs → k < length cs
+distinct : (cs : List Column) (taken : List ℕ) → AreFree taken (flat_map homes_of cs) → (c k number : ℕ) → c < length cs → k < length cs
     → names (get_or cs c no_column) number ≡ true → names (get_or cs k no_column) number ≡ true → c ≡ k
 distinct [] taken h c k number lc lk e q = absurd (omega (arith, lc))
 distinct (x ∷ cs) taken h zero zero number lc lk e q = refl
@@ -111,15 +112,15 @@ distinct (x ∷ cs) taken h zero (suc k) number lc lk e q =
 distinct (x ∷ cs) taken h (suc c) zero number lc lk e q =
     absurd (apart x cs taken number c h (omega (arith, lc)) q e)
 distinct (x ∷ cs) taken h (suc c) (suc k) number lc lk e q =
-    ap suc (distinct cs (taken ++ numbers_of x) (free_rest (numbers_of x) (flat_map numbers_of cs) taken h).1 c k number (omega (arith, lc)) (omega (arith, lk)) e q)
+    ap suc (distinct cs (taken ++ homes_of x) (free_rest (homes_of x) (flat_map homes_of cs) taken h).1 c k number (omega (arith, lc)) (omega (arith, lk)) e q)
 
 -- each column is free behind what stands before it
-free_at : (cs : List Column) (taken : List ℕ) (c : ℕ) → c < length cs → AreFree taken (flat_map numbers_of cs) → (before : List ℕ) × AreFree before (numbers_of (get_or cs c no_column))
+free_at : (cs : List Column) (taken : List ℕ) (c : ℕ) → c < length cs → AreFree taken (flat_map homes_of cs) → (before : List ℕ) × AreFree before (homes_of (get_or cs c no_column))
 free_at [] taken c l h = absurd (omega (arith, l))
-free_at (x ∷ cs) taken zero l h = (taken, (free_rest (numbers_of x) (flat_map numbers_of cs) taken h).0)
-free_at (x ∷ cs) taken (suc c) l h = free_at cs (taken ++ numbers_of x) c (omega (arith, l)) (free_rest (numbers_of x) (flat_map numbers_of cs) taken h).1
+free_at (x ∷ cs) taken zero l h = (taken, (free_rest (homes_of x) (flat_map homes_of cs) taken h).0)
+free_at (x ∷ cs) taken (suc c) l h = free_at cs (taken ++ homes_of x) c (omega (arith, l)) (free_rest (homes_of x) (flat_map homes_of cs) taken h).1
 
-target_apart : (home : ℕ) (o : Option Moving) (before : List ℕ) → AreFree before (numbers_of (record { home = home; moving = o })) → IfSome o (λ m. m.to ≢ home)
+target_apart : (home : ℕ) (o : Option Moving) (before : List ℕ) → AreFree before (homes_of (record { home = home; moving = o })) → IfSome o (λ m. m.to ≢ home)
 target_apart home None before h = tt
 target_apart home (Some m) before h = λ e. clash (stands m.to (before ++ home ∷ [])) (stands_right m.to before (home ∷ []) (itself m.to home (sym e))) (is_new (before ++ home ∷ []) m.to h.1.0)
   where
@@ -137,7 +138,7 @@ within (Some m) home stripes h k = (h, k)
 abbrev pub IsWithin : ℕ → Column → Type 0
 IsWithin stripes c = IfSome c.moving (λ m. m.upto ≤ stripes)
 
-pub columns_of : (t : Table) (taken : List ℕ) → length t.columns ≡ width t → AreFree taken (flat_map numbers_of t.columns)
+pub columns_of : (t : Table) (taken : List ℕ) → length t.columns ≡ width t → AreFree taken (flat_map homes_of t.columns)
     → ((c : ℕ) → c < length t.columns → IsWithin t.stripes (column_at t c)) → HasColumns t
 columns_of t taken size free moves = record {
   target = λ c l. (let lc : c < length t.columns = omega (arith, size, l) in
@@ -149,7 +150,7 @@ columns_of t taken size free moves = record {
 -- COLUMNS THAT WERE READ
 
 record Kept (stripes : ℕ) (taken : List ℕ) (x : Column) : Type 0 where
-  free : AreFree taken (numbers_of x)
+  free : AreFree taken (homes_of x)
   moves : IsWithin stripes x
 
 kept_as : (stripes : ℕ) (taken : List ℕ) (x y : Column) → x ≡ y → Kept stripes taken x → Kept stripes taken y
@@ -188,20 +189,20 @@ nearer a b = grind arith
 
 pub record AreKept (stripes : ℕ) (taken : List ℕ) (number : ℕ) (cs : List Column) : Type 0 where
   pub count : length cs ≡ number
-  pub free : AreFree taken (flat_map numbers_of cs)
+  pub free : AreFree taken (flat_map homes_of cs)
   pub moves : (c : ℕ) → c < length cs → IsWithin stripes (get_or cs c no_column)
 
 pub columns_kept : (w stripes : ℕ) (taken bytes rest : List ℕ) (cs : List Column) → reading (columns w stripes taken) bytes ≡ Ok (cs, rest) → AreKept stripes taken w cs
 unfolding columns
 columns_kept w stripes taken bytes rest cs e =
     several_keep (AreKept stripes taken) (column_behind stripes taken) w
-    (λ i before x bs rs l p h. one_more i before x p (column_kept stripes (taken ++ flat_map numbers_of before) bs rs x h))
+    (λ i before x bs rs l p h. one_more i before x p (column_kept stripes (taken ++ flat_map homes_of before) bs rs x h))
     w 0 [] cs bytes rest (omega arith) (record { count = refl; free = tt; moves = λ c l. absurd (omega (arith, l)) }) e
   where
-    one_more : (i : ℕ) (before : List Column) (x : Column) → AreKept stripes taken i before → Kept stripes (taken ++ flat_map numbers_of before) x → AreKept stripes taken (i + 1) (before ++ x ∷ [])
+    one_more : (i : ℕ) (before : List Column) (x : Column) → AreKept stripes taken i before → Kept stripes (taken ++ flat_map homes_of before) x → AreKept stripes taken (i + 1) (before ++ x ∷ [])
     one_more i before x p k = record {
       count = (let h : length (before ++ x ∷ []) ≡ length before + 1 = length-append before (x ∷ []) in omega (arith, h, p.count));
-      free = subst (AreFree taken) (ap (λ z. flat_map numbers_of before ++ z) (sym (append-nil (numbers_of x))) ∙ sym (flat_map-append numbers_of before (x ∷ []))) (free_more (flat_map numbers_of before) (numbers_of x) taken p.free k.free);
+      free = subst (AreFree taken) (ap (λ z. flat_map homes_of before ++ z) (sym (append-nil (homes_of x))) ∙ sym (flat_map-append homes_of before (x ∷ []))) (free_more (flat_map homes_of before) (homes_of x) taken p.free k.free);
       moves = λ c l. (let h : length (before ++ x ∷ []) ≡ length before + 1 = length-append before (x ∷ []) in elim (nearer c (length before)) [
         | inl below ↦ subst (IsWithin stripes) (sym (get_or_append_left before (x ∷ []) no_column c below)) (p.moves c below)
         | inr at ↦ (let q : c ≡ length before = omega (arith, l, h, at) in subst (IsWithin stripes) (sym (ap (λ i. get_or (before ++ x ∷ []) i no_column) q ∙ get_or-append_seam before x [] no_column)) k.moves)

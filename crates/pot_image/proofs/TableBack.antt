@@ -20,7 +20,9 @@ use Rattle.pot_machine.proofs.Places.{place_below}
 use Rattle.pot_image.specs.Fields.{done}
 use Rattle.pot_image.specs.Reading.{◌>>=◌, over, several, reading}
 use Rattle.pot_image.specs.Numbers.{natural, at_most, between, zeros, flag, digest}
-use Rattle.pot_image.specs.Tables.{numbers_of, is_free, column, column_behind, columns, allows, state_of, slot, slot_behind, stripe_slots, slots, is_cursor, cursor, table, table_numbers, table_behind, tables}
+use Rattle.pot_machine.specs.Column.{homes_of}
+use Rattle.pot_machine.specs.Table.{archives_in}
+use Rattle.pot_image.specs.Tables.{is_free, column, column_behind, columns, allows, state_of, slot, slot_behind, stripe_slots, slots, is_cursor, cursor, table, table_behind, tables}
 use Rattle.pot_image.specs.Spelling.{cursor_bytes, column_bytes, slot_bytes, table_bytes}
 use Rattle.pot_image.specs.Rules.{HasDigest, HaveDigests, FitsTable, AreTables}
 use Rattle.pot_image.proofs.Once.{both_true}
@@ -36,7 +38,7 @@ use Rattle.pot_image.proofs.ReadBack.{Back, back_done, back_then, back_end, back
 free_small : (taken : List ℕ) (n : ℕ) → is_free taken n ≡ true → n < 256 ^ 4
 free_small taken n e = (let l = leb-true n 511 (both_true (nat_le n 511) _ e).0 in omega (arith, l))
 
-pub column_back : (stripes : ℕ) (taken : List ℕ) (home : ℕ) (o : Option Moving) → stripes ≤ 4096 → AreFree taken (numbers_of (record { home = home; moving = o })) → IfSome o (λ m. m.upto ≤ stripes)
+pub column_back : (stripes : ℕ) (taken : List ℕ) (home : ℕ) (o : Option Moving) → stripes ≤ 4096 → AreFree taken (homes_of (record { home = home; moving = o })) → IfSome o (λ m. m.upto ≤ stripes)
     → Back (column stripes taken) (column_bytes (record { home = home; moving = o })) (record { home = home; moving = o })
 unfolding column
 column_back stripes taken home None l free moves =
@@ -60,12 +62,12 @@ free_behind f [] taken i d l h = absurd (omega (arith, l))
 free_behind f (x ∷ xs) taken zero d l h = subst (λ t. AreFree t (f x)) (sym (append-nil taken)) (free_rest (f x) (flat_map f xs) taken h).0
 free_behind f (x ∷ xs) taken (suc i) d l h = subst (λ t. AreFree t (f (get_or xs i d))) (append_assoc taken (f x) (flat_map f (take i xs))) (free_behind f xs (taken ++ f x) i d (omega (arith, l)) (free_rest (f x) (flat_map f xs) taken h).1)
 
-columns_back : (w stripes : ℕ) (taken : List ℕ) (cs : List Column) → stripes ≤ 4096 → length cs ≡ w → AreFree taken (flat_map numbers_of cs) → ((c : ℕ) → c < w → IsWithin stripes (get_or cs c no_column))
+columns_back : (w stripes : ℕ) (taken : List ℕ) (cs : List Column) → stripes ≤ 4096 → length cs ≡ w → AreFree taken (flat_map homes_of cs) → ((c : ℕ) → c < w → IsWithin stripes (get_or cs c no_column))
     → Back (columns w stripes taken) (flat_map column_bytes cs) cs
 unfolding columns
 columns_back w stripes taken cs l e free moves =
-    (back_several (column_behind stripes taken) column_bytes cs no_column w e (λ i li. column_back stripes (taken ++ flat_map numbers_of (take i cs)) (get_or cs i no_column).home (get_or cs i no_column).moving l
-    (free_behind numbers_of cs taken i no_column (omega (arith, li, e)) free) (moves i li)))
+    (back_several (column_behind stripes taken) column_bytes cs no_column w e (λ i li. column_back stripes (taken ++ flat_map homes_of (take i cs)) (get_or cs i no_column).home (get_or cs i no_column).moving l
+    (free_behind homes_of cs taken i no_column (omega (arith, li, e)) free) (moves i li)))
 
 -- SLOTS
 
@@ -211,7 +213,7 @@ upto_within : (stripes : ℕ) (home : ℕ) (o : Option Moving) → IfSome o (λ 
 upto_within stripes home None h = tt
 upto_within stripes home (Some m) h = h.1
 
-table_back : (rack : Rack) (taken : List ℕ) (t : Table) → IsRack rack → FitsTable rack t → AreFree taken (table_numbers t) → ((i : ℕ) → i < length t.slots → HasDigest (get_or t.slots i Void)) → Back (table rack taken) (table_bytes t) t
+table_back : (rack : Rack) (taken : List ℕ) (t : Table) → IsRack rack → FitsTable rack t → AreFree taken (archives_in t) → ((i : ℕ) → i < length t.slots → HasDigest (get_or t.slots i Void)) → Back (table rack taken) (table_bytes t) t
 unfolding table table_bytes
 table_back rack taken t rules fits free digests =
     (back_as _ (cursor_bytes t.cursor ++ (flat_map column_bytes t.columns ++ flat_map slot_bytes t.slots)) _ t (sym (append_assoc (cursor_bytes t.cursor) (flat_map column_bytes t.columns) (flat_map slot_bytes t.slots)))
@@ -243,4 +245,4 @@ pub tables_back : (rack : Rack) (ts : List Table) → IsRack rack → AreTables 
 unfolding tables
 tables_back rack ts rules are digests =
     (back_several (table_behind rack) table_bytes ts no_table rack.groups are.count (λ i l. (let below : i < length ts = (let n = are.count in omega (arith, l, n)) in
-    table_back rack (flat_map table_numbers (take i ts)) (get_or ts i no_table) rules (are.fits i no_table below) (free_behind table_numbers ts [] i no_table below (free_of_archives (flat_map table_numbers ts) are.archives)) (λ k lk. digests i no_table below k Void lk))))
+    table_back rack (flat_map archives_in (take i ts)) (get_or ts i no_table) rules (are.fits i no_table below) (free_behind archives_in ts [] i no_table below (free_of_archives (flat_map archives_in ts) are.archives)) (λ k lk. digests i no_table below k Void lk))))

@@ -14,7 +14,8 @@ use Rattle.pot_machine.specs.Making.{table_of}
 use Rattle.pot_image.specs.Fields.{done}
 use Rattle.pot_image.specs.Reading.{◌>>=◌, reading}
 use Rattle.pot_image.specs.Numbers.{natural, at_most, between, zeros}
-use Rattle.pot_image.specs.Tables.{cursor, columns, slots, table, table_behind, tables, table_numbers}
+use Rattle.pot_machine.specs.Table.{archives_in}
+use Rattle.pot_image.specs.Tables.{cursor, columns, slots, table, table_behind, tables}
 use Rattle.pot_image.specs.Rules.{FitsTable, AreTables}
 use Rattle.pot_image.proofs.Once.{both_true}
 use Rattle.pot_image.proofs.Steps.{holds_of}
@@ -87,7 +88,7 @@ table_rules rack c cs ss taken fits at kept size all = record {
 
 record Kept (rack : Rack) (taken : List ℕ) (t : Table) : Type 0 where
   fits : FitsTable rack t
-  free : AreFree taken (table_numbers t)
+  free : AreFree taken (archives_in t)
 
 table_kept : (rack : Rack) (taken bytes rest : List ℕ) (t : Table) → IsRack rack → reading (table rack taken) bytes ≡ Ok (t, rest) → Kept rack taken t
 unfolding table
@@ -100,28 +101,28 @@ table_kept rack taken bytes rest t fits e =
     let all = slots_are_allowed a.value rack.columns (rack.columns + rack.parity) rack.stripes b.behind c.behind c.value fits.columns.0 c.first in
     kept_as (table_of rack.stripes a.value b.value c.value rack.parity) same.0 (table_rules rack a.value b.value c.value taken fits (cursor_placed rack bytes a.behind a.value fits a.first) kept all.0 all.1) kept.free)
   where
-    kept_as : (u : Table) → u ≡ t → FitsTable rack u → AreFree taken (table_numbers u) → Kept rack taken t
+    kept_as : (u : Table) → u ≡ t → FitsTable rack u → AreFree taken (archives_in u) → Kept rack taken t
     kept_as u q f free = subst (Kept rack taken) q (record { fits = f; free = free })
 
 record First (rack : Rack) (n : ℕ) (ts : List Table) : Type 0 where
   count : length ts ≡ n
   fits : All (FitsTable rack) ts
-  free : AreFree [] (flat_map table_numbers ts)
+  free : AreFree [] (flat_map archives_in ts)
 
 pub tables_kept : (rack : Rack) (bytes rest : List ℕ) (ts : List Table) → IsRack rack → reading (tables rack) bytes ≡ Ok (ts, rest) → AreTables rack ts
 unfolding tables
 tables_kept rack bytes rest ts fits e =
     (let all = several_keep (First rack) (table_behind rack) rack.groups
-    (λ i before x bs rs l p h. one_more i before x p (table_kept rack (flat_map table_numbers before) bs rs x fits h))
+    (λ i before x bs rs l p h. one_more i before x p (table_kept rack (flat_map archives_in before) bs rs x fits h))
     rack.groups 0 [] ts bytes rest (omega arith) (record { count = refl; fits = λ k d l. absurd (omega (arith, l)); free = tt }) e in
-    record { count = all.count; fits = all.fits; archives = archives_of_free (flat_map table_numbers ts) all.free })
+    record { count = all.count; fits = all.fits; archives = archives_of_free (flat_map archives_in ts) all.free })
   where
-    one_more : (i : ℕ) (before : List Table) (x : Table) → First rack i before → Kept rack (flat_map table_numbers before) x → First rack (i + 1) (before ++ x ∷ [])
+    one_more : (i : ℕ) (before : List Table) (x : Table) → First rack i before → Kept rack (flat_map archives_in before) x → First rack (i + 1) (before ++ x ∷ [])
     one_more i before x p k = record {
       count = (let h : length (before ++ x ∷ []) ≡ length before + 1 = length-append before (x ∷ []) in omega (arith, h, p.count));
       fits = λ j d l. (let h : length (before ++ x ∷ []) ≡ length before + 1 = length-append before (x ∷ []) in elim (nearer j (length before)) [
         | inl below ↦ subst (FitsTable rack) (sym (get_or_append_left before (x ∷ []) d j below)) (p.fits j d below)
         | inr at ↦ (let q : j ≡ length before = omega (arith, l, h, at) in subst (FitsTable rack) (sym (ap (λ i. get_or (before ++ x ∷ []) i d) q ∙ get_or-append_seam before x [] d)) k.fits)
       ]);
-      free = subst (AreFree []) (ap (λ z. flat_map table_numbers before ++ z) (sym (append-nil (table_numbers x))) ∙ sym (flat_map-append table_numbers before (x ∷ []))) (free_more (flat_map table_numbers before) (table_numbers x) [] p.free k.free);
+      free = subst (AreFree []) (ap (λ z. flat_map archives_in before ++ z) (sym (append-nil (archives_in x))) ∙ sym (flat_map-append archives_in before (x ∷ []))) (free_more (flat_map archives_in before) (archives_in x) [] p.free k.free);
     }

@@ -18,7 +18,7 @@ use Rattle.pot_index.specs.declared.entry.IndexEntry.TheVariants.{Reserve, Taken
 use Rattle.pot_index.specs.declared.record.Record.{Record}
 use Rattle.pot_index.specs.Records.{splits_of}
 use Rattle.pot_index.specs.Index.{AreRead}
-use Rattle.pot_image.specs.Tables.{table_numbers}
+use Rattle.pot_machine.specs.Table.{archives_in}
 use Rattle.pot_image.specs.Images.{Contents}
 use Rattle.pot_image.specs.Spelling.{image_bytes}
 
@@ -51,7 +51,7 @@ pub record FitsTable (rack : Rack) (t : Table) : Type 0 where
 pub record AreTables (rack : Rack) (ts : List Table) : Type 0 where
   pub count : length ts ≡ rack.groups
   pub fits : All (FitsTable rack) ts
-  pub archives : AreArchives (flat_map table_numbers ts)
+  pub archives : AreArchives (flat_map archives_in ts)
 
 -- the slot of a place, in the table of its group, is not Void
 pub record IsFilled (ts : List Table) (p : Place) : Type 0 where

@@ -9,20 +9,12 @@ use Rattle.pot_machine.specs.declared.column.Column.{Column}
 use Rattle.pot_machine.specs.declared.column.Moving.{Moving}
 use Rattle.pot_machine.specs.declared.cursor.Cursor.{Cursor}
 use Rattle.pot_machine.specs.Slot.{is_void}
-use Rattle.pot_machine.specs.Table.{Table}
+use Rattle.pot_machine.specs.Column.{homes_of}
+use Rattle.pot_machine.specs.Table.{Table, archives_in}
 use Rattle.pot_machine.specs.Making.{table_of}
 use Rattle.pot_image.specs.Fields.{Grammar, done}
 use Rattle.pot_image.specs.Reading.{◌>>=◌, over, several}
 use Rattle.pot_image.specs.Numbers.{natural, at_most, between, zeros, flag, digest}
-
--- the target of a move, if there is one
-abbrev pub target_of : Option Moving → List ℕ
-target_of None = []
-target_of (Some m) = m.to ∷ []
-
--- the archive numbers that a column names: its home, and then the target of its move
-abbrev pub numbers_of : Column → List ℕ
-numbers_of c = c.home ∷ target_of c.moving
 
 -- an archive number, at most 511, which none of the columns before names
 abbrev pub is_free : List ℕ → ℕ → Bool
@@ -52,7 +44,7 @@ column stripes taken =
 
 -- a column behind others
 abbrev pub column_behind : ℕ → List ℕ → ℕ → List Column → Grammar Column
-column_behind stripes taken c before = column stripes (taken ++ flat_map numbers_of before)
+column_behind stripes taken c before = column stripes (taken ++ flat_map homes_of before)
 
 -- so many columns, one after another
 unfoldable pub columns : ℕ → ℕ → List ℕ → Grammar (List Column)
@@ -110,13 +102,9 @@ table rack taken =
     slots at rack.columns (rack.columns + rack.parity) rack.stripes >>= λ slots.
     done (table_of rack.stripes at columns slots rack.parity)
 
--- the archive numbers that a table's columns name
-abbrev pub table_numbers : Table → List ℕ
-table_numbers t = flat_map numbers_of t.columns
-
 -- the table of a group behind those of others
 abbrev pub table_behind : Rack → ℕ → List Table → Grammar Table
-table_behind rack g before = table rack (flat_map table_numbers before)
+table_behind rack g before = table rack (flat_map archives_in before)
 
 -- the tables of all groups, one after another
 unfoldable pub tables : Rack → Grammar (List Table)

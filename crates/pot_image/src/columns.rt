@@ -3,7 +3,8 @@ ghost use Rattle.std.specs.Prelude.{◌≡◌, ◌++◌, ℕ, List, [], ◌∷�
 ghost use Rattle.pot_image.specs.Following.{Gives};
 ghost use Rattle.pot_image.specs.Reading.{reading};
 ghost use Rattle.pot_image.specs.Numbers.{natural, at_most, zeros};
-ghost use Rattle.pot_image.specs.Tables.{is_free, moving, resting, column, columns, numbers_of};
+ghost use Rattle.pot_machine.specs.Column.{homes_of};
+ghost use Rattle.pot_image.specs.Tables.{is_free, moving, resting, column, columns};
 
 use crate::fault::Fault;
 use crate::fields::{read_flag, read_number, skip_padding};
@@ -55,7 +56,7 @@ fn skip_zero(bytes: &[u8]) -> Result<&[u8], Fault>
 /// What stands for the move of a column that does not move.
 fn read_resting(bytes: &[u8], home: u32) -> Result<(Column, &[u8]), Fault>
     ensures reads { Gives (λ x. (x.0, x.1.now)) result (reading (resting home) bytes.now) }
-    ensures numbers { IfOk result (λ x. numbers_of x.0 ≡ home ∷ []) }
+    ensures numbers { IfOk result (λ x. homes_of x.0 ≡ home ∷ []) }
 {
     let to = skip_zero(bytes)?;
     let upto = skip_zero(to)?;
@@ -70,7 +71,7 @@ fn read_moving<'a>(
     home: u32,
 ) -> Result<(Column, &'a [u8]), Fault>
     ensures reads { Gives (λ x. (x.0, x.1.now)) result (reading (moving stripes taken.old.items home) bytes.now) }
-    ensures taken { (before : List ℕ) → taken.old.items ≡ before ++ home ∷ [] → IfOk result (λ x. taken.new.items ≡ before ++ numbers_of x.0) }
+    ensures taken { (before : List ℕ) → taken.old.items ≡ before ++ home ∷ [] → IfOk result (λ x. taken.new.items ≡ before ++ homes_of x.0) }
 {
     let (to, after_target) = read_archive(bytes, taken)?;
     let (upto, rest) = read_at_most(after_target, stripes)?;
@@ -85,7 +86,7 @@ fn read_column<'a>(
     taken: &mut Vec<u32>,
 ) -> Result<(Column, &'a [u8]), Fault>
     ensures reads { Gives (λ x. (x.0, x.1.now)) result (reading (column stripes taken.old.items) bytes.now) }
-    ensures taken { IfOk result (λ x. taken.new.items ≡ taken.old.items ++ numbers_of x.0) }
+    ensures taken { IfOk result (λ x. taken.new.items ≡ taken.old.items ++ homes_of x.0) }
 {
     let (home, after_home) = read_archive(bytes, taken)?;
     let (moves, after_flag) = read_flag(after_home)?;
@@ -106,7 +107,7 @@ pub(crate) fn read_columns<'a>(
     taken: &mut Vec<u32>,
 ) -> Result<(Vec<Column>, &'a [u8]), Fault>
     ensures reads { Gives (λ x. (x.0.items, x.1.now)) result (reading (columns width stripes taken.old.items) bytes.now) }
-    ensures taken { IfOk result (λ x. taken.new.items ≡ taken.old.items ++ flat_map numbers_of x.0.items) }
+    ensures taken { IfOk result (λ x. taken.new.items ≡ taken.old.items ++ flat_map homes_of x.0.items) }
 {
     let mut columns = Vec::with_capacity(alloc, usize::from(width))?;
     let mut rest = bytes;

@@ -3,7 +3,8 @@ ghost use Rattle.std.specs.Prelude.{◌≡◌, ◌++◌, IfOk, flat_map};
 ghost use Rattle.pot_bytes.specs.Rack.{IsRack};
 ghost use Rattle.pot_image.specs.Following.{Gives};
 ghost use Rattle.pot_image.specs.Reading.{reading};
-ghost use Rattle.pot_image.specs.Tables.{is_cursor, cursor, table, tables, table_numbers};
+ghost use Rattle.pot_machine.specs.Table.{archives_in};
+ghost use Rattle.pot_image.specs.Tables.{is_cursor, cursor, table, tables};
 
 use crate::columns::{read_at_most, read_columns};
 use crate::fault::Fault;
@@ -43,7 +44,7 @@ fn read_table<'a>(
 ) -> Result<(GroupTable, &'a [u8]), Fault>
     requires { IsRack rack.now }
     ensures reads { Gives (λ x. (x.0, x.1.now)) result (reading (table rack.now taken.old.items) bytes.now) }
-    ensures taken { IfOk result (λ x. taken.new.items ≡ taken.old.items ++ table_numbers x.0) }
+    ensures taken { IfOk result (λ x. taken.new.items ≡ taken.old.items ++ archives_in x.0) }
 {
     let width = rack.columns + rack.parity;
     let (cursor, after_cursor) = read_cursor(bytes, rack)?;

@@ -1,5 +1,5 @@
 -- The columns of a group, and the archives that serve them.
-use Rattle.std.specs.Prelude.{ℕ, Bool, ◌||◌, ◌==◌, nat_lt, if◌then◌else◌, Option, Some, None}
+use Rattle.std.specs.Prelude.{ℕ, List, [], ◌∷◌, Bool, ◌||◌, ◌==◌, nat_lt, if◌then◌else◌, Option, Some, None}
 use Rattle.pot_machine.specs.declared.column.Column.{Column}
 use Rattle.pot_machine.specs.declared.column.Moving.{Moving}
 
@@ -18,3 +18,12 @@ serving_moved (Some m) home stripe = if nat_lt stripe m.upto then m.to else home
 
 abbrev pub serving : Column → ℕ → ℕ
 serving c stripe = serving_moved c.moving c.home stripe
+
+-- the target of a move, if there is one
+abbrev pub target_of : Option Moving → List ℕ
+target_of None = []
+target_of (Some m) = m.to ∷ []
+
+-- the archives of a column: its home, and then the target of its move
+abbrev pub homes_of : Column → List ℕ
+homes_of c = c.home ∷ target_of c.moving

@@ -1,5 +1,5 @@
 -- The entries of a log by their jobs, and the table that a log comes to.
-use Rattle.std.specs.Prelude.{◌≡◌, ◌⊎◌, ℕ, ◌==◌, Bool, List, [], ◌∷◌, ◌++◌, filter}
+use Rattle.std.specs.Prelude.{◌≡◌, ◌⊎◌, ℕ, ◌==◌, Bool, true, List, [], ◌∷◌, ◌++◌, filter}
 use Rattle.pot_bytes.specs.declared.digest.Digest.{Digest}
 use Rattle.pot_machine.specs.declared.slot.SlotState.{SlotState}
 use Rattle.pot_machine.specs.declared.slot.SlotState.TheVariants.{Live, Lost, Broken}
@@ -59,3 +59,7 @@ Fills s c d _ = ⊥
 -- the slot is Live, Lost or Broken with this digest
 abbrev pub IsFilledWith : Digest → SlotState → Type 0
 IsFilledWith d x = (x ≡ Live d) ⊎ ((x ≡ Lost d) ⊎ (x ≡ Broken d))
+
+-- a put of a block of this digest that kept its parity blocks
+abbrev pub IsKeptPut : ℕ → ℕ → ℕ → Digest → Entry → Type 0
+IsKeptPut job s c d e = ((p : Digest) × (e ≡ Put job s c d p true)) ⊎ ((p : Digest) × (q : Digest) × (e ≡ Put2 job s c d p q true true))

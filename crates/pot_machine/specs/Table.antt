@@ -1,12 +1,12 @@
 -- The table of a group, and how it is read.
-use Rattle.std.specs.Prelude.{ℕ, zero, suc, ◌+◌, ◌*◌, ◌==◌, ◌&&◌, nat_lt, nat_le, Bool, true, not, Option, Some, None, List, if◌then◌else◌, slice_index_or, find}
+use Rattle.std.specs.Prelude.{ℕ, zero, suc, ◌+◌, ◌*◌, ◌==◌, ◌&&◌, nat_lt, nat_le, Bool, true, not, Option, Some, None, List, if◌then◌else◌, slice_index_or, find, flat_map}
 use Rattle.pot_machine.specs.declared.slot.SlotState.{SlotState}
 use Rattle.pot_machine.specs.declared.slot.SlotState.TheVariants.{Void}
 use Rattle.pot_machine.specs.declared.column.Column.{Column}
 use Rattle.pot_machine.specs.declared.relay.Relay.{Relay}
 use Rattle.pot_machine.specs.declared.cursor.Cursor.{Cursor}
 use Rattle.pot_machine.specs.Slot.{is_void}
-use Rattle.pot_machine.specs.Column.{names, serving}
+use Rattle.pot_machine.specs.Column.{names, serving, homes_of}
 
 -- The data columns stand first, behind them the parity column P, and behind it Q where there are two.
 pub record Table : Type 0 where
@@ -24,6 +24,10 @@ pub record Table : Type 0 where
 
 abbrev pub width : Table → ℕ
 width t = t.data_columns + t.parity
+
+-- the archives of a table, column by column
+abbrev pub archives_in : Table → List ℕ
+archives_in t = flat_map homes_of t.columns
 
 -- where the slots have the slot of this stripe and column
 abbrev pub place_of : Table → ℕ → ℕ → ℕ

@@ -18,7 +18,8 @@ use Rattle.pot_machine.proofs.Kept.{after_keeps}
 use Rattle.pot_machine.proofs.LeftAlone.{sizes_stay}
 use Rattle.pot_machine.proofs.Searches.{least_none, least_some}
 use Rattle.pot_machine.proofs.Sizes.{width-with_losses}
-use Rattle.pot_group.specs.Causes.{archives_of, brought, brought_by, target_of}
+use Rattle.pot_machine.specs.Column.{target_of}
+use Rattle.pot_group.specs.Causes.{archives_of, brought, brought_by}
 use Rattle.pot_mend.specs.Moves.{EndsMove}
 
 -- THE WIDTH OF A TABLE

@@ -3,7 +3,7 @@ ghost use Rattle.std.specs.Prelude.{◌≡◌, ◌<◌, ◌+◌, ◌≤◌, ◌�
 ghost use Rattle.std.specs.List.{flat_map};
 ghost use Rattle.pot_bytes.specs.Rack.{IsRack};
 ghost use Rattle.pot_doubles.specs.Archives.{meaning_in};
-ghost use Rattle.pot_group.specs.Beginning.{homes_of};
+ghost use Rattle.pot_machine.specs.Column.{homes_of};
 ghost use Rattle.pot_group.specs.Group.{view_of};
 ghost use Rattle.pot_shared.specs.Ready.{AreReady};
 ghost use Rattle.pot_shared.specs.Sharing.{IsGroupOf};

@@ -5,7 +5,7 @@ use Rattle.pot_bytes.specs.declared.rack.Geometry.{Geometry}
 use Rattle.pot_bytes.specs.declared.rack.Place.{Place}
 use Rattle.pot_machine.specs.declared.entry.Entry.{Entry}
 use Rattle.pot_machine.specs.declared.entry.Entry.TheVariants.{Put, Put2, Fault}
-use Rattle.pot_machine.specs.Logs.{replayed}
+use Rattle.pot_machine.specs.Logs.{replayed, IsKeptPut}
 use Rattle.pot_steps.specs.Stripe.{digest_of}
 use Rattle.pot_steps.specs.GroupStep.{Passed, skips, gone_entries, log_bound}
 use Rattle.pot_object.specs.Pieces.{longest, pieces_of}
@@ -34,17 +34,11 @@ in_group g placed = filter (λ x. x.group == g) placed
 abbrev pub AreSpread : Setting → Geometry → List Placed → Type 0
 AreSpread s geometry placed = (b : ℕ) (x : Placed) → slice_get placed b ≡ Some x → x.group ≡ group_of s.rack geometry b
 
--- a put of this block that kept its parity blocks
-abbrev pub IsKeptPut : ℕ → Placed → Entry → Type 0
-IsKeptPut job x e =
-    ((p : Digest) × (e ≡ Put job x.stripe x.column x.digest p true))
-    ⊎ ((p : Digest) × (q : Digest) × (e ≡ Put2 job x.stripe x.column x.digest p q true true))
-
 -- These entries put these blocks, one after another, and nothing else: for each the stripes passed, and the put.
 abbrev pub Puts : ℕ → List Placed → List Entry → Type 0
 Puts job [] entries = entries ≡ []
 Puts job (x ∷ xs) entries =
-    (passed : List Passed) × (e : Entry) × (rest : List Entry) × IsKeptPut job x e × (entries ≡ (skips job passed ++ e ∷ []) ++ rest) × Puts job xs rest
+    (passed : List Passed) × (e : Entry) × (rest : List Entry) × IsKeptPut job x.stripe x.column x.digest e × (entries ≡ (skips job passed ++ e ∷ []) ++ rest) × Puts job xs rest
 
 -- a put of a block of this digest that did not keep its parity blocks; the column is that of the first one not kept
 abbrev pub IsUnkept : ℕ → ℕ → Digest → ℕ → Entry → Type 0

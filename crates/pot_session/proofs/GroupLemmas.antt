@@ -16,7 +16,8 @@ use Rattle.pot_machine.specs.declared.entry.Entry.TheVariants.{Gone, Broke}
 use Rattle.pot_machine.specs.Table.{Table, width}
 use Rattle.pot_machine.specs.Logs.{job_of}
 use Rattle.pot_group.specs.Arrivals.{arrivals, HasArrived}
-use Rattle.pot_group.specs.Beginning.{Begins, archives_in}
+use Rattle.pot_machine.specs.Table.{archives_in}
+use Rattle.pot_group.specs.Beginning.{Begins}
 use Rattle.pot_group.specs.Group.{GroupView, GroupParts, view_of}
 use Rattle.pot_shelves.specs.Shelves.{numbers_of, shelf_of, given, plain}
 use Rattle.pot_group.proofs.CauseLemmas.{OfOpening, opening_entries}

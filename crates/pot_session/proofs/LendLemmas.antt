@@ -8,10 +8,9 @@ use Rattle.pot_machine.specs.declared.entry.Entry.{Entry}
 use Rattle.pot_machine.specs.Rules.{IsTable}
 use Rattle.pot_machine.specs.Table.{Table, holder_of}
 use Rattle.pot_machine.specs.Logs.{replayed}
-use Rattle.pot_group.specs.Beginning.{archives_in}
+use Rattle.pot_machine.specs.Table.{archives_in}
 use Rattle.pot_image.specs.Images.{Contents}
 use Rattle.pot_image.specs.Rules.{FitsTable, FitsTogether}
-use Rattle.pot_image.specs.Tables as image
 use Rattle.pot_rows.specs.Rows.{view_at}
 use Rattle.pot_turn.specs.Views.{spent_view}
 use Rattle.pot_worked.specs.Worked.{added}
@@ -26,7 +25,6 @@ use Rattle.pot_commands.specs.Taking.{Lending, Takes, Come, AreMarkedBy, AreUsed
 use Rattle.pot_commands.proofs.ArrivingLemmas.{arrived_used}
 use Rattle.pot_commands.proofs.TakingLemmas.{arrival_in, bit, came_within, none_contained, times-append, times_there}
 use Rattle.pot_session.specs.Groups.{AreFirstPasses, AreLow, HaveCome, table_read, tables_read}
-use Rattle.pot_session.proofs.ArchiveLemmas.{same_numbers}
 use Rattle.pot_session.proofs.ComingLemmas.{times_contains}
 use Rattle.pot_session.proofs.Lists.{all_contained}
 
@@ -38,7 +36,7 @@ low_of (x ∷ xs) all n lt =
     (let h = All-head (λ k. k ≤ 511) x xs all in let r = low_of xs (All-tail (λ k. k ≤ 511) x xs all) n lt in let t = times_there x n (λ e. (let z = e in omega (arith, h, lt, z))) in omega (arith, r, t))
 
 pub image_low : (v : Contents) → FitsTogether v → AreLow (flat_map archives_in v.tables)
-image_low v f = subst AreLow (same_numbers v.tables) (low_of (flat_map image.table_numbers v.tables) f.tables.archives.within)
+image_low v f = low_of (flat_map archives_in v.tables) f.tables.archives.within
 
 -- IN USE AT FIRST
 

@@ -24,8 +24,10 @@ use Rattle.pot_machine.proofs.Logs.{legal_at, table_at}
 use Rattle.pot_steps.proofs.Acting.{find_all}
 use Rattle.pot_steps.proofs.OpenPlaces.{relay_over}
 use Rattle.pot_group.specs.Arrivals.{arrivals}
-use Rattle.pot_group.specs.Beginning.{archives_in, homes_of}
-use Rattle.pot_group.specs.Causes.{Misses, WhereMissed, HasLost, archives_of, brought, brought_by, target_of}
+use Rattle.pot_machine.specs.Table.{archives_in}
+use Rattle.pot_machine.specs.Column.{homes_of}
+use Rattle.pot_machine.specs.Column.{target_of}
+use Rattle.pot_group.specs.Causes.{Misses, WhereMissed, HasLost, archives_of, brought, brought_by}
 use Rattle.pot_index.specs.declared.record.Record.{Record}
 use Rattle.pot_index.specs.Fits.{FitsRack}
 use Rattle.pot_image.specs.Images.{Contents}

@@ -10,7 +10,7 @@ use Rattle.pot_machine.specs.declared.entry.Entry.{Entry}
 use Rattle.pot_machine.specs.Table.{Table}
 use Rattle.pot_image.specs.Rules.{FitsTable}
 use Rattle.pot_group.specs.Arrivals.{arrivals}
-use Rattle.pot_group.specs.Beginning.{archives_in}
+use Rattle.pot_machine.specs.Table.{archives_in}
 use Rattle.pot_group.specs.Group.{GroupView}
 use Rattle.pot_shelves.specs.Shelves.{Shelves}
 use Rattle.pot_turn.specs.declared.name.TurnName.{TurnName}

@@ -4,7 +4,7 @@ use Rattle.pot_outside.specs.Archives.{Meaning}
 use Rattle.pot_bytes.specs.declared.rack.Rack.{Rack}
 use Rattle.pot_machine.specs.Table.{Table}
 use Rattle.pot_index.specs.declared.record.Record.{Record}
-use Rattle.pot_group.specs.Beginning.{archives_in}
+use Rattle.pot_machine.specs.Table.{archives_in}
 use Rattle.pot_group.specs.Arrivals.{arrivals, HasArrived}
 use Rattle.pot_group.specs.Group.{GroupView, IsSettled}
 use Rattle.pot_shelves.specs.Shelves.{Shelves}

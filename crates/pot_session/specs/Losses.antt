@@ -9,7 +9,7 @@ use Rattle.pot_machine.specs.declared.entry.Entry.TheVariants.{Gone, Stuck, Oddl
 use Rattle.pot_machine.specs.Slot.{is_live}
 use Rattle.pot_machine.specs.Table.{Table, slot_at}
 use Rattle.pot_machine.specs.Logs.{own, replayed}
-use Rattle.pot_group.specs.Beginning.{archives_in}
+use Rattle.pot_machine.specs.Table.{archives_in}
 use Rattle.pot_index.specs.declared.record.Record.{Record}
 use Rattle.pot_index.specs.Fits.{FitsRack}
 use Rattle.pot_image.specs.Images.{Contents}

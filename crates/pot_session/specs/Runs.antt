@@ -10,7 +10,7 @@ use Rattle.pot_words.specs.declared.drill.Drill.{Drill}
 use Rattle.pot_words.specs.declared.recover.Recover.{Recover}
 use Rattle.pot_words.specs.declared.run.Run.{Run}
 use Rattle.pot_words.specs.declared.task.Task.TheVariants as task
-use Rattle.pot_group.specs.Beginning.{archives_in}
+use Rattle.pot_machine.specs.Table.{archives_in}
 use Rattle.pot_image.specs.declared.image.Image.{Image}
 use Rattle.pot_image.specs.Images.{contents}
 use Rattle.pot_image.specs.Spelling.{image_bytes}

@@ -2,7 +2,8 @@
 
 ghost use Rattle.std.specs.Prelude.{◌≡◌, ◌⊎◌, ◌<◌, ◌≤◌, ◌++◌, ℕ, [], IsTrue, IfOk, OnOk, OnErr, IsErr, IsErrOf, false, length, vec_capacity, map, flat_map};
 ghost use Rattle.pot_outside.specs.Counts.{Caused};
-ghost use Rattle.pot_group.specs.Beginning.{archives_in, homes_of};
+ghost use Rattle.pot_machine.specs.Table.{archives_in};
+ghost use Rattle.pot_machine.specs.Column.{homes_of};
 ghost use Rattle.pot_shelves.specs.Shelves.{numbers_of};
 ghost use Rattle.pot_commands.specs.Holding.{AreApart, AreMeant, AreOut, Untouched};
 

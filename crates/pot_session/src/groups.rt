@@ -2,7 +2,7 @@
 
 ghost use Rattle.std.specs.Prelude.{◌≡◌, ◌<◌, ◌≤◌, ◌+◌, ◌++◌, ℕ, [], ◌∷◌, IsTrue, IfOk, OnOk, OnErr, length, vec_capacity, map, flat_map, take, drop};
 ghost use Rattle.pot_outside.specs.Archives.{Meaning};
-ghost use Rattle.pot_group.specs.Beginning.{archives_in};
+ghost use Rattle.pot_machine.specs.Table.{archives_in};
 ghost use Rattle.pot_group.specs.Group.{view_of};
 ghost use Rattle.pot_shelves.specs.Shelves.{numbers_of};
 ghost use Rattle.pot_session.specs.Groups.{IsStarted, IsEnded, AreMarked, AreEnded, had_by};

@@ -6,7 +6,7 @@ ghost use Rattle.pot_outside.specs.Archives.{Meaning};
 ghost use Rattle.pot_machine.specs.Table.{Table};
 ghost use Rattle.pot_image.specs.Rules.{FitsTable};
 ghost use Rattle.pot_index.specs.Index.{AreRead};
-ghost use Rattle.pot_group.specs.Beginning.{archives_in};
+ghost use Rattle.pot_machine.specs.Table.{archives_in};
 ghost use Rattle.pot_group.specs.Group.{view_of};
 ghost use Rattle.pot_shelves.specs.Shelves.{numbers_of};
 ghost use Rattle.pot_turn.specs.Views.{first_view};

@@ -6,7 +6,7 @@ ghost use Rattle.pot_outside.specs.Counts.{Caused};
 ghost use Rattle.pot_image.specs.Images.{contents};
 ghost use Rattle.pot_image.specs.Spelling.{image_bytes};
 ghost use Rattle.pot_image.specs.Rules.{FitsTogether};
-ghost use Rattle.pot_group.specs.Beginning.{archives_in};
+ghost use Rattle.pot_machine.specs.Table.{archives_in};
 ghost use Rattle.pot_shelves.specs.Shelves.{numbers_of};
 ghost use Rattle.pot_rows.specs.Ends.{HasAllParts};
 ghost use Rattle.pot_shared.specs.Ready.{AreReady};

@@ -1,10 +1,10 @@
 -- Which puts passes have seen.
-use Rattle.std.specs.Prelude.{◌≡◌, ◌<◌, ◌⊎◌, ℕ, true, List, [], Some, Contains, length, slice_get, slice_index_or}
+use Rattle.std.specs.Prelude.{◌≡◌, ◌<◌, ℕ, List, [], Some, Contains, length, slice_get, slice_index_or}
 use Rattle.pot_bytes.specs.Digests.{digest_bytes}
 use Rattle.pot_bytes.specs.declared.digest.Digest.{Digest}
 use Rattle.pot_bytes.specs.declared.rack.Place.{Place}
 use Rattle.pot_machine.specs.declared.entry.Entry.{Entry}
-use Rattle.pot_machine.specs.declared.entry.Entry.TheVariants.{Put, Put2}
+use Rattle.pot_machine.specs.Logs.{IsKeptPut}
 use Rattle.pot_steps.specs.Stripe.{digest_of}
 use Rattle.pot_index.specs.declared.record.Record.{Record}
 use Rattle.pot_shard.specs.FileBlocks.{file_blocks}
@@ -13,10 +13,6 @@ use Rattle.pot_rows.specs.Rows.{view_at}
 use Rattle.pot_worked.specs.Worked.{KnowsMore}
 use Rattle.pot_shared.specs.Members.{entries_of}
 use Rattle.pot_shared.specs.Ready.{GroupPasses}
-
--- a Put of a block of this digest that kept its parity blocks
-abbrev pub IsKeptPut : ℕ → ℕ → ℕ → Digest → Entry → Type 0
-IsKeptPut job s c d e = ((p : Digest) × (e ≡ Put job s c d p true)) ⊎ ((p : Digest) × (q : Digest) × (e ≡ Put2 job s c d p q true true))
 
 -- such a Put at this place stands in the log that the pass of its group has seen
 abbrev pub SeesPut : GroupPasses → Place → Digest → Type 0

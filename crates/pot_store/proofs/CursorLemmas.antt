@@ -9,7 +9,7 @@ use Rattle.pot_machine.specs.Table.{Table}
 use Rattle.pot_machine.specs.Machine.{Legal, Replays, after, past}
 use Rattle.pot_machine.specs.Laws.{MovesCursor}
 use Rattle.pot_machine.proofs.LeftAlone.{cursor_stays}
-use Rattle.pot_shared.specs.Seen.{IsKeptPut}
+use Rattle.pot_machine.specs.Logs.{IsKeptPut}
 
 -- a place lies before the cursor
 abbrev pub IsBefore : ℕ → ℕ → Cursor → Type 0

@@ -21,7 +21,8 @@ use Rattle.pot_replies.specs.Settings.{Setting}
 use Rattle.pot_shared.specs.declared.member.GroupOrigin.{GroupOrigin}
 use Rattle.pot_shared.specs.Members.{entries_of}
 use Rattle.pot_shared.specs.Ready.{GroupPasses, AreReady, IsOrigin}
-use Rattle.pot_shared.specs.Seen.{IsKeptPut, RowKnowsMore}
+use Rattle.pot_machine.specs.Logs.{IsKeptPut}
+use Rattle.pot_shared.specs.Seen.{RowKnowsMore}
 use Rattle.pot_shared.specs.Catalogs.{IndexPasses, IsIndexReady}
 use Rattle.pot_shared.specs.IndexCalls.{IndexCall, FindsRecord}
 use Rattle.pot_store.specs.Works.{known, IsSettingOf}

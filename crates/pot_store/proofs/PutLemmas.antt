@@ -12,7 +12,8 @@ use Rattle.pot_group.specs.Group.{GroupView}
 use Rattle.pot_group.specs.declared.answers.PutFault.{PutFault}
 use Rattle.pot_group.specs.declared.answers.PutFault.TheVariants as fault
 use Rattle.pot_worked.specs.Laws.{AllOf}
-use Rattle.pot_replies.specs.Stores.{Placed, Puts, IsKeptPut, in_group}
+use Rattle.pot_machine.specs.Logs.{IsKeptPut}
+use Rattle.pot_replies.specs.Stores.{Placed, Puts, in_group}
 use Rattle.pot_group.specs.Calls.{PutTells}
 use Rattle.pot_rows.proofs.Lists.{take_next as next}
 use Rattle.pot_store.proofs.WorkLemmas.{all_none, all_cons, all_one, all_append}
@@ -68,7 +69,7 @@ snoc_get (z ∷ xs) x (suc b) y is = ⊎_elim (λ (old : slice_get xs b ≡ Some
 
 -- PUTS
 
-pub puts_more : (job : ℕ) (xs : List Placed) (es : List Entry) (x : Placed) (passed : List Passed) (e : Entry) → IsKeptPut job x e → Puts job xs es
+pub puts_more : (job : ℕ) (xs : List Placed) (es : List Entry) (x : Placed) (passed : List Passed) (e : Entry) → IsKeptPut job x.stripe x.column x.digest e → Puts job xs es
     → Puts job (xs ++ x ∷ []) (es ++ (skips job passed ++ e ∷ []))
 puts_more job [] es x passed e kept is =
     (passed, e, [], kept, ap (λ w. w ++ (skips job passed ++ e ∷ [])) is ∙ sym (append-nil (skips job passed ++ e ∷ [])), refl)

@@ -27,7 +27,8 @@ use Rattle.pot_rows.proofs.WorkLemmas.{row_work_in_parts, row_alone_in_parts}
 use Rattle.pot_replies.specs.Stores.{Placed, Puts, place_of, in_group}
 use Rattle.pot_shared.specs.Members.{entries_of, all_logged}
 use Rattle.pot_shared.specs.Ready.{GroupPass, GroupPasses, AreReady, IsTableOf}
-use Rattle.pot_shared.specs.Seen.{IsKeptPut, SeesPut}
+use Rattle.pot_machine.specs.Logs.{IsKeptPut}
+use Rattle.pot_shared.specs.Seen.{SeesPut}
 use Rattle.pot_group.specs.Calls.{PutCall}
 use Rattle.pot_shared.specs.Calls.{CallAt}
 use Rattle.pot_shared.proofs.MemberLemmas.{entries_all}

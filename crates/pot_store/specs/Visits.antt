@@ -14,7 +14,7 @@ use Rattle.pot_rows.specs.Rows.{view_at}
 use Rattle.pot_shared.specs.declared.member.GroupOrigin.{GroupOrigin}
 use Rattle.pot_shared.specs.Members.{entries_of}
 use Rattle.pot_shared.specs.Ready.{GroupPasses}
-use Rattle.pot_shared.specs.Seen.{IsKeptPut}
+use Rattle.pot_machine.specs.Logs.{IsKeptPut}
 use Rattle.pot_replies.specs.Fetches.{no_place, LastIs, LooksTwice, SeenAs}
 use Rattle.pot_replies.specs.Joined.{Read}
 use Rattle.pot_replies.specs.Jobs.{is_look_at, is_seen_at, is_stuck_at}

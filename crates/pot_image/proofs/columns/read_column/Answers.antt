@@ -4,7 +4,7 @@ use Rattle.pot_image.proofs.Steps.{fails_then, fails_on, exits, gives_as, gives_
 use Rattle.std.proofs.Common.{IfOk}
 use Rattle.pot_machine.specs.declared.column.Column.{Column}
 use Rattle.pot_image.specs.declared.fault.Fault.{Fault}
-use Rattle.pot_image.specs.Tables.{numbers_of}
+use Rattle.pot_machine.specs.Column.{homes_of}
 use Rattle.pot_image.specs.Tables.{column, moving}
 use Rattle.pot_image.proofs.columns.read_column.Goals as goal
 
@@ -30,7 +30,7 @@ unfolding column
 returns-else-moves-clause-reads c = gives_on _ _ _ _ _ _ _ c.in_ok-home.ensures.reads (gives_on _ _ _ _ _ _ _ c.in_ok-moves.ensures (gives_on _ _ _ _ _ _ _ c.in_ok-padding.ensures (
     gives_as _ _ _ _ (not_chosen _ _ _ _ c.if-moves.false) c.read_resting.ensures.reads)))
 
-resting_taken : {Y : Type 0} (r : Result (Column × Y) Fault) (new taken : List ℕ) (home : ℕ) → new ≡ taken ++ home ∷ [] → IfOk r (λ x. numbers_of x.0 ≡ home ∷ []) → IfOk r (λ x. new ≡ taken ++ numbers_of x.0)
+resting_taken : {Y : Type 0} (r : Result (Column × Y) Fault) (new taken : List ℕ) (home : ℕ) → new ≡ taken ++ home ∷ [] → IfOk r (λ x. homes_of x.0 ≡ home ∷ []) → IfOk r (λ x. new ≡ taken ++ homes_of x.0)
 resting_taken (Ok x) new taken home e h = e ∙ ap (λ xs. taken ++ xs) (sym h)
 resting_taken (Err f) new taken home e h = tt
 

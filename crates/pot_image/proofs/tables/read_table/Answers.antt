@@ -1,7 +1,8 @@
 use Rattle.std.proofs.Common.{ap, sym, ◌∙◌, ◌++◌}
 use Rattle.pot_image.proofs.Once.{ok_then}
 use Rattle.pot_image.proofs.Steps.{fails_then, fails_on, exits, done_as}
-use Rattle.pot_image.specs.Tables.{table, table_numbers}
+use Rattle.pot_machine.specs.Table.{archives_in}
+use Rattle.pot_image.specs.Tables.{table}
 use Rattle.pot_image.proofs.SlotRules.{slots_are_allowed}
 use Rattle.pot_image.proofs.ColumnRules.{columns_kept}
 use Rattle.pot_image.proofs.TableRules.{cursor_placed, table_rules}
@@ -24,7 +25,7 @@ unfolding table
 returns-clause-reads c = ok_then _ _ _ _ _ _ c.in_ok-cursor.ensures (ok_then _ _ _ _ _ _ c.in_ok-columns.ensures.reads (ok_then _ _ _ _ _ _ c.in_ok-slots.ensures.reads (done_as _ _ _ (sym c.in_ok-table.ensures))))
 
 pub returns-clause-taken : goal.returns-clause-taken
-returns-clause-taken c = c.in_ok-columns.ensures.taken ∙ ap (λ t. c.args.taken.now.items ++ table_numbers t) (sym c.in_ok-table.ensures)
+returns-clause-taken c = c.in_ok-columns.ensures.taken ∙ ap (λ t. c.args.taken.now.items ++ archives_in t) (sym c.in_ok-table.ensures)
 
 pub from_parts-requires : goal.from_parts-requires
 from_parts-requires c = (let placed = cursor_placed c.args.rack.now c.args.bytes.now c.in_ok-cursor.after_cursor.now c.in_ok-cursor.cursor c.requires c.in_ok-cursor.ensures in

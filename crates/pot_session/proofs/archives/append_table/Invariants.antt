@@ -1,6 +1,6 @@
 use Rattle.std.proofs.Common.{◌≡◌, ◌++◌, take}
 use Rattle.std.specs.Prelude.{flat_map}
-use Rattle.pot_group.specs.Beginning.{homes_of}
+use Rattle.pot_machine.specs.Column.{homes_of}
 use Rattle.pot_session.proofs.archives.append_table.Given as goal
 
 abbrev pub invariant-loop-column : goal.invariant-loop-column

@@ -2,7 +2,7 @@ use Rattle.std.proofs.Common.{◌≡◌, ◌++◌, take, drop, length, sym, ap, 
 use Rattle.std.proofs.lemmas.List.{take-map}
 use Rattle.std.specs.Prelude.{Contains}
 use Rattle.pot_outside.specs.declared.archive.Shelf.{Shelf}
-use Rattle.pot_group.specs.Beginning.{archives_in}
+use Rattle.pot_machine.specs.Table.{archives_in}
 use Rattle.pot_shelves.specs.Shelves.{numbers_of}
 use Rattle.pot_commands.specs.Holding.{AreSame}
 use Rattle.pot_session.proofs.GroupLemmas.{started_of, marked_of, same_parts, long_parts}

@@ -2,7 +2,7 @@ use Rattle.std.proofs.Common.{◌≡◌, ◌<◌, ◌∷◌, [], length, refl, s
 use Rattle.std.proofs.lemmas.List.{nil_from_length, length-map, drop-map}
 use Rattle.pot_outside.specs.declared.archive.Shelf.{Shelf}
 use Rattle.std.specs.Prelude.{Contains, flat_map, slice_get}
-use Rattle.pot_group.specs.Beginning.{archives_in}
+use Rattle.pot_machine.specs.Table.{archives_in}
 use Rattle.pot_group.specs.Group.{view_of}
 use Rattle.pot_shelves.specs.Shelves.{numbers_of}
 use Rattle.pot_session.specs.Groups.{IsStarted, AreMarked, AreAllMarked}

@@ -1,7 +1,7 @@
 use Rattle.std.proofs.Common.{sym, subst}
 use Rattle.pot_image.specs.Images.{contents}
 use Rattle.std.specs.Prelude.{flat_map}
-use Rattle.pot_group.specs.Beginning.{archives_in}
+use Rattle.pot_machine.specs.Table.{archives_in}
 use Rattle.pot_commands.specs.Holding.{AreApart}
 use Rattle.pot_session.specs.Groups.{AreLow}
 use Rattle.pot_session.proofs.ArchiveLemmas.{image_apart}

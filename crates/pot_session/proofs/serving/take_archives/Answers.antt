@@ -2,7 +2,7 @@ use Rattle.std.proofs.Common.{ap, length, ◌∙◌, arith}
 use Rattle.std.specs.Prelude.{flat_map}
 use Rattle.std.proofs.lemmas.List.{length-map}
 use Rattle.pot_outside.specs.declared.archive.Shelf.{Shelf}
-use Rattle.pot_group.specs.Beginning.{archives_in}
+use Rattle.pot_machine.specs.Table.{archives_in}
 use Rattle.pot_session.proofs.ComingLemmas.{few_archives}
 use Rattle.pot_session.proofs.serving.take_archives.Goals as goal
 
