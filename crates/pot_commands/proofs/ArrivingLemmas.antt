@@ -15,59 +15,47 @@ use Rattle.pot_machine.specs.declared.entry.Entry.TheVariants as entry
 use Rattle.pot_machine.specs.Machine.{Legal, Replays, after}
 use Rattle.pot_machine.specs.Rules.{IsTable}
 use Rattle.pot_machine.proofs.Kept.{after_keeps}
-use Rattle.pot_machine.specs.Slot.{is_live}
-use Rattle.pot_machine.specs.Table.{Table, width, column_at, slot_at, holder_of, count, no_column}
+use Rattle.pot_machine.specs.Table.{Table, width, column_at, holder_of, count, no_column, archives_in}
 use Rattle.pot_machine.specs.Logs.{job_of, is_of, own, replayed}
 use Rattle.pot_machine.proofs.Logs.{replays_is}
 use Rattle.pot_index.specs.Entries as index
-use Rattle.pot_group.specs.declared.moving.ShelfCause.{ShelfCause}
 use Rattle.pot_group.specs.declared.moving.ShelfCause.TheVariants as cause
-use Rattle.pot_group.specs.declared.moving.ShelfRefused.{ShelfRefused}
 use Rattle.pot_group.specs.Arrivals.{arrival, arrivals, HasArrived}
-use Rattle.pot_machine.specs.Table.{archives_in}
 use Rattle.pot_machine.specs.Column.{homes_of}
-use Rattle.pot_machine.specs.Column.{target_of}
-use Rattle.pot_group.specs.Causes.{archives_of, brought, brought_by}
+use Rattle.pot_group.specs.Causes.{brought_by}
 use Rattle.pot_group.specs.Group.{GroupView}
-use Rattle.pot_group.specs.Moving.{RefusesSwap, live_in}
 use Rattle.pot_turn.specs.declared.name.TurnName.{TurnName}
 use Rattle.pot_worked.specs.Laws.{AllOf}
 use Rattle.pot_worked.specs.Worked.{added}
-use Rattle.pot_worked.proofs.SoleLemmas.{gain_in_parts, work_went}
+use Rattle.pot_worked.proofs.SoleLemmas.{gain_in_parts}
 use Rattle.pot_rows.specs.Rows.{view_at}
 use Rattle.pot_rows.specs.Works.{RowWorked}
 use Rattle.pot_rows.proofs.RowLemmas.{at_set}
-use Rattle.pot_script.specs.declared.reply.Reply.{Reply}
 use Rattle.pot_script.specs.declared.reply.Reply.TheVariants as replies
 use Rattle.pot_replies.specs.Settings.{Setting}
 use Rattle.pot_replies.specs.Sections.{Section, mine, IsSilent, IsOfJobs}
-use Rattle.pot_replies.specs.Moves.{HasHome, IsUsed, NoHome, IsReplaced}
+use Rattle.pot_replies.specs.Moves.{IsUsed}
 use Rattle.pot_shared.specs.declared.member.GroupOrigin.{GroupOrigin}
 use Rattle.pot_shared.specs.declared.member.Logged.{Logged}
-use Rattle.pot_shared.specs.Calls.{CallAt, CallTurn}
+use Rattle.pot_shared.specs.Calls.{CallAt}
 use Rattle.pot_shared.specs.Catalogs.{IndexPasses, IsIndexReady}
 use Rattle.pot_shared.specs.Members.{all_logged, entries_of, logged_at, mark_at, origin_of}
 use Rattle.pot_shared.proofs.MemberLemmas.{marks_by}
-use Rattle.pot_group.specs.Calls.{ComesBy, HandedBack, SwapCall}
+use Rattle.pot_group.specs.Calls.{ComesBy}
 use Rattle.pot_shared.specs.Ready.{AreReady, GroupPass, GroupPasses}
 use Rattle.pot_store.specs.Works.{Known, known, of_job, gained, JobWorked, JobAlone, IsSettingOf, section_of}
-use Rattle.pot_store.proofs.WorkLemmas.{all_none, all_one, drop_all, row_stays, index_idle, group_work, group_own, group_else, work_more, alone_parts, own_more, index_own_more, same_number}
-use Rattle.pot_mend.specs.Moves.{IsAsked, ReplaceChecked, seen_in}
-use Rattle.pot_mend.specs.declared.checking.MoveAt.{MoveAt}
-use Rattle.pot_mend.specs.declared.checking.UseFault.{UseFault}
+use Rattle.pot_store.proofs.WorkLemmas.{drop_all, row_stays, index_idle, group_work, group_own, group_else, work_more, alone_parts, own_more, same_number}
+use Rattle.pot_mend.specs.Moves.{IsAsked, seen_in}
 use Rattle.pot_mend.specs.declared.checking.UseFault.TheVariants as used
 use Rattle.pot_mend.proofs.HadLemmas.{IsUsedIn, brought_here, brought_named, had_used, named_held, same_width}
-use Rattle.pot_commands.specs.declared.arriving.Unanswered.{Unanswered}
 use Rattle.pot_commands.specs.declared.arriving.Unanswered.TheVariants as unanswered
-use Rattle.pot_commands.specs.Arriving.{HandsBack, use_reply}
 use Rattle.pot_commands.specs.Ends.{AllSole}
 use Rattle.pot_commands.specs.Holding.{times}
-use Rattle.pot_commands.specs.Rows.{IsReplaceReply}
-use Rattle.pot_commands.specs.Taking.{Lending, lending, Took, Come, HasUse, AreUsed, AreMarkedBy, came_in, marks_of}
+use Rattle.pot_commands.specs.Taking.{Lending, Took, HasUse, AreUsed, AreMarkedBy, came_in, marks_of}
 use Rattle.pot_commands.proofs.Brought.{its_setting, is_its}
-use Rattle.pot_commands.proofs.Going.{sole_parts, sole_alone, work_all_went}
+use Rattle.pot_commands.proofs.Going.{sole_alone, work_all_went}
 use Rattle.pot_commands.proofs.Logs.{entries_all, entries_append, turn_added}
-use Rattle.pot_commands.proofs.TakingLemmas.{arrival_in, came_one, come_none, none_contained, takes_back, takes_none, takes_one, took_none, used_more, use_more}
+use Rattle.pot_commands.proofs.TakingLemmas.{arrival_in, came_one, come_none, none_contained, takes_back, takes_one, took_none, used_more, use_more}
 use Rattle.pot_commands.proofs.Whose.{its_jobs, own_all}
 
 -- LISTS

@@ -13,55 +13,44 @@ use Rattle.pot_machine.specs.declared.column.Column.{Column}
 use Rattle.pot_machine.specs.declared.column.Moving.{Moving}
 use Rattle.pot_machine.specs.declared.entry.Entry.{Entry}
 use Rattle.pot_machine.specs.declared.entry.Entry.TheVariants as entry
-use Rattle.pot_machine.specs.Machine.{after}
 use Rattle.pot_machine.specs.Table.{Table, column_at}
-use Rattle.pot_machine.specs.Logs.{job_of, is_of, own, replayed}
+use Rattle.pot_machine.specs.Logs.{job_of, is_of, replayed}
 use Rattle.pot_machine.proofs.Columns.{column_same}
 use Rattle.pot_group.specs.declared.moving.ShelfCause.{ShelfCause}
 use Rattle.pot_group.specs.declared.moving.ShelfCause.TheVariants as cause
 use Rattle.pot_group.specs.declared.moving.ShelfRefused.{ShelfRefused}
-use Rattle.pot_group.specs.Arrivals.{arrivals}
 use Rattle.pot_group.specs.Group.{GroupView}
 use Rattle.pot_group.specs.Moving.{RefusesMove}
 use Rattle.pot_turn.specs.declared.name.TurnName.{TurnName}
 use Rattle.pot_worked.specs.Worked.{added}
 use Rattle.pot_worked.specs.Laws.{AllOf}
-use Rattle.pot_worked.proofs.SoleLemmas.{gain_in_parts}
 use Rattle.pot_rows.specs.Rows.{view_at}
-use Rattle.pot_rows.specs.Works.{RowAlone, RowWorked}
 use Rattle.pot_script.specs.declared.reply.Reply.{Reply}
 use Rattle.pot_script.specs.declared.reply.Reply.TheVariants as replies
-use Rattle.pot_replies.specs.Jobs.{is_move_begin, is_move_of, EachIs}
 use Rattle.pot_replies.specs.Settings.{Setting}
-use Rattle.pot_replies.specs.Sections.{Section, Halves, JobsAscend, mine, work_of, checked, IsSilent, IsOfJobs}
-use Rattle.pot_replies.specs.Moves.{HasHome, IsUsed, NoHome, GoesElsewhere, IsTakenTo, MayBegin, MayGoOn, Begins, moving_at}
+use Rattle.pot_replies.specs.Sections.{Section, mine, checked, IsSilent, IsOfJobs}
+use Rattle.pot_replies.specs.Moves.{IsUsed, NoHome, GoesElsewhere, IsTakenTo, MayBegin, MayGoOn, moving_at}
 use Rattle.pot_shared.specs.Calls.{CallAt}
 use Rattle.pot_shared.specs.Catalogs.{IndexPasses, IsIndexReady}
 use Rattle.pot_shared.specs.Members.{entries_of}
 use Rattle.pot_group.specs.Calls.{MoveBeginCall}
 use Rattle.pot_shared.specs.Ready.{AreReady, GroupPasses}
-use Rattle.pot_store.specs.Works.{Known, known, of_job, gained, JobWorked, JobAlone, IsSettingOf, section_of}
-use Rattle.pot_store.proofs.WorkLemmas.{all_none, all_one, alone_parts, drop_all, index_idle, row_stays, same_number, work_more}
+use Rattle.pot_store.specs.Works.{Known, known, gained, JobWorked, JobAlone, IsSettingOf, section_of}
+use Rattle.pot_store.proofs.WorkLemmas.{all_none, all_one}
 use Rattle.pot_mend.specs.declared.checking.MoveAt.{MoveAt}
-use Rattle.pot_mend.specs.Moves.{IsAsked, MayMove, MigrateChecked, MoveRow, EndsMove, seen_in}
+use Rattle.pot_mend.specs.Moves.{IsAsked, MayMove, MigrateChecked, seen_in}
 use Rattle.pot_mend.specs.declared.checking.UseFault.{UseFault}
 use Rattle.pot_mend.specs.declared.checking.UseFault.TheVariants as used
-use Rattle.pot_mend.specs.declared.fault.MendFault.{MendFault}
 use Rattle.pot_mend.specs.declared.fault.MendFault.TheVariants as fault
 use Rattle.pot_commands.specs.declared.arriving.Unanswered.{Unanswered}
 use Rattle.pot_commands.specs.declared.arriving.Unanswered.TheVariants as unanswered
 use Rattle.pot_commands.specs.declared.moving.Unbegun.{Unbegun}
 use Rattle.pot_commands.specs.declared.moving.Unbegun.TheVariants as unbegun
-use Rattle.pot_commands.specs.Arriving.{HandsBack, HasBegun, Unbegins, move_reply, unbegun_of, use_reply}
-use Rattle.pot_commands.specs.Ends.{AllSole, AllWent}
+use Rattle.pot_commands.specs.Arriving.{HandsBack, HasBegun, Unbegins, unbegun_of, use_reply}
 use Rattle.pot_commands.specs.Rows.{IsMigrateReply}
 use Rattle.pot_commands.specs.Taking.{Lending, Took, AreUsed}
 use Rattle.pot_commands.proofs.ArrivingLemmas.{back_silent, back_took, back_used, came_took, came_used, checked_silent, group_used, its_first, logs_met, met_log, met_logs, met_table, of_jobs, only_here, own_each, own_here, table_now, whole_work}
-use Rattle.pot_commands.proofs.Brought.{its_setting, is_its}
-use Rattle.pot_commands.proofs.Going.{sole_alone, sole_parts, work_all_went}
 use Rattle.pot_commands.proofs.Logs.{entries_append}
-use Rattle.pot_commands.proofs.NoMoves.{brings, no_arrivals, no_begin, none_of_each, none_both}
-use Rattle.pot_commands.proofs.Whose.{its_jobs, own_all}
 
 -- LOGS AT A CHECK
 

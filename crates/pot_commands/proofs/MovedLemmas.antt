@@ -6,8 +6,7 @@ use Rattle.pot_bytes.specs.declared.rack.Rack.{Rack}
 use Rattle.pot_index.specs.Entries as index
 use Rattle.pot_machine.specs.declared.entry.Entry.{Entry}
 use Rattle.pot_machine.specs.declared.entry.Entry.TheVariants as entry
-use Rattle.pot_machine.specs.Table.{column_at}
-use Rattle.pot_machine.specs.Logs.{job_of, is_of, own, replayed}
+use Rattle.pot_machine.specs.Logs.{job_of, is_of, own}
 use Rattle.pot_group.specs.Arrivals.{arrivals}
 use Rattle.pot_turn.specs.declared.name.TurnName.{TurnName}
 use Rattle.pot_worked.specs.Worked.{added}
@@ -28,18 +27,18 @@ use Rattle.pot_store.proofs.WorkLemmas.{alone_parts, drop_all, index_idle, row_s
 use Rattle.pot_mend.specs.Moves.{EndsMove, MoveRow, seen_in}
 use Rattle.pot_mend.specs.declared.fault.MendFault.{MendFault}
 use Rattle.pot_mend.specs.declared.fault.MendFault.TheVariants as fault
-use Rattle.pot_commands.specs.Arriving.{HasBegun, Unbegins, move_reply}
+use Rattle.pot_commands.specs.Arriving.{HasBegun, move_reply}
 use Rattle.pot_commands.specs.declared.moving.Unbegun.TheVariants as unbegun
 use Rattle.pot_commands.specs.Ends.{AllSole}
 use Rattle.pot_commands.specs.Rows.{IsMigrateReply}
 use Rattle.pot_commands.specs.Taking.{Lending, Took, AreUsed}
 use Rattle.pot_commands.proofs.ArrivingLemmas.{front_jobs, of_jobs, own_each}
 use Rattle.pot_commands.proofs.Brought.{its_setting, is_its}
-use Rattle.pot_commands.proofs.Going.{setting_of_stays, sole_alone, sole_parts, work_all_went}
+use Rattle.pot_commands.proofs.Going.{setting_of_stays, sole_alone, work_all_went}
 use Rattle.pot_commands.proofs.Logs.{entries_append}
 use Rattle.pot_commands.proofs.MigrateLemmas.{none_before}
 use Rattle.pot_commands.proofs.NoMoves.{brings, no_arrivals, no_begin, none_of_each, none_both}
-use Rattle.pot_commands.proofs.TakingLemmas.{come_none, took_more, took_none, took_wider, use_more}
+use Rattle.pot_commands.proofs.TakingLemmas.{took_more, took_none, took_wider, use_more}
 use Rattle.pot_commands.proofs.Whose.{its_jobs, own_all}
 
 -- STEPS OF A MOVE

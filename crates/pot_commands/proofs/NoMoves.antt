@@ -5,7 +5,7 @@ use Rattle.std.proofs.lemmas.List.Elements.{filter-append}
 use Rattle.pot_bytes.specs.declared.digest.Digest.{Digest}
 use Rattle.pot_machine.specs.declared.entry.Entry.{Entry}
 use Rattle.pot_machine.specs.declared.entry.Entry.TheVariants.{Fault, MoveBegin, Swapped}
-use Rattle.pot_machine.specs.Logs.{own}
+use Rattle.pot_machine.specs.Logs.{own, IsKeptPut}
 use Rattle.pot_steps.specs.GroupStep.{Passed, skips, gone_entries}
 use Rattle.pot_group.specs.Arrivals.{arrivals}
 use Rattle.pot_index.specs.declared.record.Record.{Record}
@@ -17,7 +17,6 @@ use Rattle.pot_script.specs.declared.reply.Reply.TheVariants as replies
 use Rattle.pot_replies.specs.Jobs.{is_move_begin, is_look, is_relay, EachIs}
 use Rattle.pot_replies.specs.Settings.{Setting}
 use Rattle.pot_replies.specs.Sections.{Section, Mine, mine, IsOfJobs}
-use Rattle.pot_machine.specs.Logs.{IsKeptPut}
 use Rattle.pot_replies.specs.Stores.{Placed, in_group, Puts, IsUnkept, Stops}
 use Rattle.pot_replies.specs.Listings.{StatusLine, Group, GroupFull, IsStatusLine}
 use Rattle.pot_replies.specs.Fetches.{MayFetch, FetchEntries}

@@ -8,7 +8,7 @@ use Rattle.pot_machine.specs.declared.entry.Entry.{Entry}
 use Rattle.pot_machine.specs.declared.entry.Entry.TheVariants as entry
 use Rattle.pot_machine.specs.Slot.{is_live}
 use Rattle.pot_machine.specs.Table.{Table, slot_at, count}
-use Rattle.pot_machine.specs.Logs.{is_of, own, replayed}
+use Rattle.pot_machine.specs.Logs.{is_of, replayed}
 use Rattle.pot_group.specs.declared.moving.ShelfCause.{ShelfCause}
 use Rattle.pot_group.specs.declared.moving.ShelfCause.TheVariants as cause
 use Rattle.pot_group.specs.declared.moving.ShelfRefused.{ShelfRefused}
@@ -19,16 +19,15 @@ use Rattle.pot_worked.specs.Laws.{AllOf}
 use Rattle.pot_script.specs.declared.reply.Reply.{Reply}
 use Rattle.pot_script.specs.declared.reply.Reply.TheVariants as replies
 use Rattle.pot_replies.specs.Settings.{Setting}
-use Rattle.pot_replies.specs.Sections.{Section, mine, IsSilent, IsOfJobs}
-use Rattle.pot_replies.specs.Moves.{HasHome, IsUsed, NoHome, IsReplaced}
+use Rattle.pot_replies.specs.Sections.{mine, IsSilent, IsOfJobs}
+use Rattle.pot_replies.specs.Moves.{HasHome, IsUsed, NoHome}
 use Rattle.pot_shared.specs.Calls.{CallAt}
 use Rattle.pot_shared.specs.Catalogs.{IndexPasses, IsIndexReady}
-use Rattle.pot_group.specs.Calls.{ComesBy, HandedBack, SwapCall}
+use Rattle.pot_group.specs.Calls.{SwapCall}
 use Rattle.pot_shared.specs.Ready.{AreReady, GroupPasses}
 use Rattle.pot_store.specs.Works.{Known, known, JobWorked, JobAlone, IsSettingOf, section_of}
 use Rattle.pot_store.proofs.WorkLemmas.{all_none, all_one, same_number}
 use Rattle.pot_mend.specs.Moves.{IsAsked, ReplaceChecked, seen_in}
-use Rattle.pot_mend.specs.declared.checking.MoveAt.{MoveAt}
 use Rattle.pot_mend.specs.declared.checking.UseFault.{UseFault}
 use Rattle.pot_mend.specs.declared.checking.UseFault.TheVariants as used
 use Rattle.pot_commands.specs.declared.arriving.Unanswered.{Unanswered}
@@ -36,7 +35,7 @@ use Rattle.pot_commands.specs.declared.arriving.Unanswered.TheVariants as unansw
 use Rattle.pot_commands.specs.Arriving.{HandsBack, use_reply}
 use Rattle.pot_commands.specs.Rows.{IsReplaceReply}
 use Rattle.pot_commands.specs.Taking.{Lending, Took, AreUsed}
-use Rattle.pot_commands.proofs.ArrivingLemmas.{back_silent, back_took, back_used, came_took, came_used, checked_silent, checked_work, group_used, logs_met, met_log, met_logs, met_table, its_first, of_jobs, only_here, own_here, whole_work}
+use Rattle.pot_commands.proofs.ArrivingLemmas.{back_silent, back_took, back_used, came_took, came_used, checked_silent, group_used, logs_met, met_log, met_logs, met_table, its_first, of_jobs, only_here, own_here, whole_work}
 
 -- THE ROOM
 

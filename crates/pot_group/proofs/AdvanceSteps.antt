@@ -5,40 +5,31 @@ use Rattle.pot_outside.specs.Archives.{HearsFold, Meaning}
 use Rattle.pot_outside.specs.declared.archive.Held.TheVariants.{Held, Absent}
 use Rattle.pot_outside.specs.declared.faults.Failed.{Failed}
 use Rattle.pot_machine.specs.declared.entry.Entry.{Entry}
-use Rattle.pot_machine.specs.declared.entry.Entry.TheVariants.{Hop, GaveUp, Fault}
+use Rattle.pot_machine.specs.declared.entry.Entry.TheVariants.{Hop, GaveUp, Fault, Oddly, Mended}
 use Rattle.pot_machine.specs.Slot.{is_live, digest_in}
 use Rattle.pot_machine.specs.Table.{Table, slot_at, serving_at, relay_at, next_column}
 use Rattle.pot_machine.specs.Machine.{Legal, after}
 use Rattle.pot_steps.specs.declared.flight.Flight.{Flight}
 use Rattle.pot_steps.specs.Stripe.{Sound, digest_of}
-use Rattle.pot_steps.specs.Flight.{unfolded, weight_in}
-use Rattle.pot_steps.specs.Flights.{Acts, flight_in, flights_after}
+use Rattle.pot_steps.specs.Flight.{unfolded, weight_in, partial_of}
+use Rattle.pot_steps.specs.Flights.{Acts, flight_in, flights_after, IsFlying, FliesOver, WritesBack, without_flight}
 use Rattle.pot_steps.specs.Holdings.{stripe_of}
 use Rattle.pot_steps.specs.GroupStep.{GroupState, log_bound}
-use Rattle.pot_steps.specs.RelaySteps.{Logged, AdvanceStep, Hopped, Ended, Faulted, Idle, HearsSum, Hears, ComesTo}
-use Rattle.pot_steps.proofs.CallLemmas.{stands, next_within}
+use Rattle.pot_steps.specs.RelaySteps.{Logged, AdvanceStep, Hopped, Ended, Faulted, Idle, HearsSum, Hears, ComesTo, Odd}
+use Rattle.pot_steps.proofs.CallLemmas.{stands, next_within, legal_oddly, odd_broken}
 use Rattle.pot_steps.proofs.FlightLists.{relay_of, relay_of_flight, over_stripe}
-use Rattle.pot_shelves.specs.Shelves.{Shelves, LosesByCount, FoldsAt}
+use Rattle.pot_shelves.specs.Shelves.{Shelves, LosesByCount, FoldsAt, Shelved, plain, WritesAt, put_at}
 use Rattle.pot_outside.specs.declared.archive.Held.{Held as IsHeld}
-use Rattle.pot_shelves.specs.Shelves.{Shelved, plain}
-use Rattle.pot_group.specs.Group.{view_of, noted, with_archives}
+use Rattle.pot_group.specs.Group.{view_of, noted, with_archives, GroupView, GroupParts, IsSettled, state_of}
 use Rattle.pot_shelves.proofs.ShelfLemmas.{loses_refl}
 use Rattle.pot_group.specs.declared.relaying.Advanced.{Advanced}
-use Rattle.pot_group.specs.Relaying.{acted, advance_as, HopsOver}
+use Rattle.pot_group.specs.Relaying.{acted, advance_as, HopsOver, EndsWell}
 use Rattle.pot_group.specs.declared.relaying.Advanced.TheVariants as advanced
-use Rattle.pot_group.specs.Group.{GroupView, GroupParts, IsSettled, state_of}
 use Rattle.pot_bytes.specs.declared.digest.Digest.{Digest}
-use Rattle.pot_machine.specs.declared.entry.Entry.TheVariants.{Oddly, Mended}
 use Rattle.pot_steps.specs.Calls.{FinishMeans}
 use Rattle.pot_steps.specs.declared.rebuilding.Finished.TheVariants as finished
-use Rattle.pot_steps.specs.Flight.{partial_of}
-use Rattle.pot_steps.specs.Flights.{IsFlying, FliesOver, WritesBack, without_flight}
-use Rattle.pot_steps.specs.RelaySteps.{Odd}
-use Rattle.pot_steps.proofs.CallLemmas.{legal_oddly, odd_broken}
-use Rattle.pot_shelves.specs.Shelves.{WritesAt, put_at}
 use Rattle.pot_group.specs.declared.relaying.AdvanceFault.{AdvanceFault}
 use Rattle.pot_group.specs.declared.relaying.AdvanceFault.TheVariants as failed
-use Rattle.pot_group.specs.Relaying.{EndsWell}
 use Rattle.pot_group.proofs.RelayExits.{hop_step, missing, quiet_act, writes_back, untouched}
 
 module _ (told : Type 0) (g : GroupView) (now : Shelves) (job : ℕ) (f : Flight) (c : ℕ) (settled : IsSettled told g) (room : length g.log < log_bound)

@@ -6,7 +6,7 @@ use Rattle.pot_machine.specs.declared.column.Moving.{Moving}
 use Rattle.pot_machine.specs.declared.entry.Entry.{Entry}
 use Rattle.pot_machine.specs.declared.entry.Entry.TheVariants.{Skip, Seen, Gone, Broke, Fault, Stuck, Counted, Hop, GaveUp, Moved}
 use Rattle.pot_machine.specs.Slot.{digest_in}
-use Rattle.pot_machine.specs.Table.{Table, width, slot_at, next_column}
+use Rattle.pot_machine.specs.Table.{Table, width, slot_at, next_column, archives_in}
 use Rattle.pot_machine.specs.Machine.{after}
 use Rattle.pot_outside.specs.Archives.{Meaning}
 use Rattle.pot_steps.specs.Stripe.{digest_of}
@@ -17,7 +17,6 @@ use Rattle.pot_steps.specs.declared.flight.Flight.{Flight}
 use Rattle.pot_steps.specs.declared.rebuilding.Hopped.TheVariants as hopped
 use Rattle.pot_shelves.specs.Shelves.{Shelved, plain, numbers_of}
 use Rattle.pot_shelves.specs.Opening.{Opens}
-use Rattle.pot_machine.specs.Table.{archives_in}
 use Rattle.pot_group.specs.Group.{GroupView, IsQuiet}
 use Rattle.pot_group.specs.Arrivals.{arrival, arrivals, HasArrived}
 use Rattle.pot_group.proofs.CauseLemmas.{OfOpening, opening_entries}

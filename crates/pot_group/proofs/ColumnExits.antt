@@ -6,7 +6,7 @@ use Rattle.pot_machine.specs.declared.column.Column.{Column}
 use Rattle.pot_machine.specs.declared.column.Moving.{Moving}
 use Rattle.pot_machine.specs.declared.entry.Entry.{Entry}
 use Rattle.pot_machine.specs.declared.entry.Entry.TheVariants.{MoveBegin, Moved, MoveEnd, Swapped}
-use Rattle.pot_machine.specs.Column.{names, names_moved}
+use Rattle.pot_machine.specs.Column.{names, names_moved, target_of}
 use Rattle.pot_machine.specs.Table.{Table, width, column_at}
 use Rattle.pot_machine.specs.Machine.{Legal, after, with_loss, with_losses, moved_on, moved_home}
 use Rattle.pot_machine.specs.Laws.{ChangesColumn}
@@ -14,7 +14,6 @@ use Rattle.pot_machine.proofs.Columns.{column_same}
 use Rattle.pot_machine.proofs.LeftAlone.{columns_stay}
 use Rattle.pot_machine.proofs.Sizes.{width-with_losses}
 use Rattle.pot_shelves.specs.Shelves.{Shelves, Keeps}
-use Rattle.pot_machine.specs.Column.{target_of}
 use Rattle.pot_group.specs.Causes.{archives_of, brought, brought_by}
 use Rattle.pot_group.specs.Group.{GroupView, IsSettled}
 use Rattle.pot_group.proofs.Settled.{LeavesColumns}

@@ -25,7 +25,7 @@ use Rattle.pot_steps.proofs.Acting.{Lessens}
 use Rattle.pot_shelves.specs.Shelves.{Keeps, LosesByCount, NoneLost}
 use Rattle.pot_group.specs.Group.{GroupView, IsSettled, state_of}
 use Rattle.pot_group.specs.Relaying.{Drives, Moves, Owns, answered}
-use Rattle.pot_group.specs.Calls.{AdvanceCall, BeginCall, Made, MendCall, RelayEntries}
+use Rattle.pot_group.specs.Calls.{AdvanceCall, BeginCall, Made, MendCall}
 use Rattle.pot_group.proofs.BeginSteps.{crowded}
 use Rattle.pot_group.proofs.Lossless.{lossless_less, lossless_same}
 use Rattle.pot_shelves.proofs.ShelfLemmas.{keeps_refl, loses_refl}

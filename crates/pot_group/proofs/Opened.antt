@@ -10,8 +10,8 @@ use Rattle.pot_machine.specs.declared.column.Column.{Column}
 use Rattle.pot_machine.specs.declared.column.Moving.{Moving}
 use Rattle.pot_machine.specs.declared.entry.Entry.{Entry}
 use Rattle.pot_machine.specs.declared.entry.Entry.TheVariants.{Gone, Broke}
-use Rattle.pot_machine.specs.Column.{names, names_moved, serving}
-use Rattle.pot_machine.specs.Table.{Table, width, column_at, serving_at, no_column}
+use Rattle.pot_machine.specs.Column.{names, names_moved, serving, target_of, homes_of}
+use Rattle.pot_machine.specs.Table.{Table, width, column_at, serving_at, no_column, archives_in}
 use Rattle.pot_machine.specs.Machine.{Replays, after}
 use Rattle.pot_machine.specs.Rules.{IsTable}
 use Rattle.pot_machine.proofs.LeftAlone.{rules_stay}
@@ -19,12 +19,9 @@ use Rattle.pot_steps.specs.GroupStep.{StartStep, log_bound}
 use Rattle.pot_steps.proofs.Opening.{start_makes}
 use Rattle.pot_steps.proofs.Losses.{start_makes_live}
 use Rattle.pot_shelves.specs.Shelves.{Shelves, Shelved, IsTaken, plain}
-use Rattle.pot_machine.specs.Column.{target_of}
 use Rattle.pot_group.specs.Causes.{HasLost, risen, archives_of}
 use Rattle.pot_shelves.specs.Opening.{HasArchives, Opens}
 use Rattle.pot_group.specs.Group.{GroupParts, GroupView, IsSettled, LostSince, state_of, view_of}
-use Rattle.pot_machine.specs.Column.{homes_of}
-use Rattle.pot_machine.specs.Table.{archives_in}
 use Rattle.pot_group.specs.Beginning.{Begins, unopened}
 use Rattle.pot_shelves.proofs.ShelfLemmas.{lost_rose}
 use Rattle.pot_group.proofs.CauseLemmas.{OfOpening, opening_entries, faults_in-opening, WhereMissed-opening, archives_of-opening}

@@ -1,6 +1,6 @@
 -- The exits of a begin and of an advance, over plain data.
 use Rattle.std.proofs.Common.{◌≡◌, ◌≢◌, ◌⊎◌, inl, inr, ℕ, ◌+◌, ◌<◌, ◌++◌, List, [], ◌∷◌, Option, Some, None, IsSomeAnd, true, false, IsTrue, length, length-append, map, refl, sym, ap, ap₂, ◌∙◌, subst, arith}
-use Rattle.std.specs.Prelude.{Contains, Ok, Err, nat_eq, if◌then◌else◌}
+use Rattle.std.specs.Prelude.{Contains, Ok, Err, nat_eq, if◌then◌else◌, ◌==◌, IsSome, take, drop}
 use Rattle.pot_bytes.specs.declared.digest.Digest.{Digest}
 use Rattle.pot_bytes.specs.Sums.{xor}
 use Rattle.pot_bytes.specs.Weighted.{scaled}
@@ -20,14 +20,12 @@ use Rattle.pot_steps.specs.declared.flight.Flight.{Flight}
 use Rattle.pot_bytes.specs.Lists.{IsBlock}
 use Rattle.pot_steps.specs.Stripe.{Sound, IsSound, digest_of}
 use Rattle.pot_steps.specs.Flight.{partial_of, unfolded, weight_in, left_out, IsRelay}
-use Rattle.std.specs.Prelude.{◌==◌}
 use Rattle.std.proofs.lemmas.Bool.Decides.{nat_tests}
 use Rattle.pot_steps.specs.Calls.{HopMeans, StandsIn}
 use Rattle.pot_steps.specs.declared.rebuilding.Hopped.TheVariants as hopped
-use Rattle.std.specs.Prelude.{IsSome}
 use Rattle.pot_group.specs.Relaying.{acted, flown_to, HopsOver}
 use Rattle.pot_group.specs.declared.relaying.Advanced.TheVariants as advanced
-use Rattle.pot_group.specs.Group.{GroupParts}
+use Rattle.pot_group.specs.Group.{GroupParts, GroupView, IsSettled, state_of}
 use Rattle.pot_steps.specs.Flights.{without_flight, Acts, FoldsIn, WritesBack, IsFlying, FliesOver, flight_in, flights_after, flown}
 use Rattle.pot_steps.specs.Holdings.{Holdings, stripe_of}
 use Rattle.pot_steps.specs.GroupStep.{log_bound}
@@ -36,11 +34,9 @@ use Rattle.pot_steps.proofs.Acting.{weight-below}
 use Rattle.pot_steps.proofs.CallLemmas.{unfolds, next_positive, next_within, stands, two_relay}
 use Rattle.std.proofs.lemmas.List.{length-map}
 use Rattle.std.proofs.Math.Seq.{take-append_seam}
-use Rattle.std.specs.Prelude.{take, drop}
 use Rattle.pot_steps.proofs.FlightLists.{over_stripe, relay_of, relay_of_flight}
 use Rattle.pot_shelves.specs.Shelves.{Shelves, Keeps, LosesByCount, FoldsAt, WritesAt, put_at}
 use Rattle.pot_group.specs.Causes.{Covers, HasLost, Misses, archives_of, faults_in, fault_of, brought}
-use Rattle.pot_group.specs.Group.{GroupView, IsSettled, state_of}
 use Rattle.pot_steps.specs.Losses.{KeepsHeld}
 use Rattle.pot_group.proofs.CauseLemmas.{archives_of-snoc, covers-stays}
 use Rattle.pot_shelves.proofs.ShelfLemmas.{keeps_refl, loses_refl, put_at-here, put_at-other}

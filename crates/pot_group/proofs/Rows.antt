@@ -7,11 +7,11 @@ use Rattle.pot_outside.specs.declared.archive.Shelf.{Shelf}
 use Rattle.pot_machine.specs.declared.column.Moving.{Moving}
 use Rattle.pot_machine.specs.declared.entry.Entry.{Entry}
 use Rattle.pot_machine.specs.declared.entry.Entry.TheVariants as entry
-use Rattle.pot_machine.specs.Table.{column_at, next_column, relay_at}
+use Rattle.pot_machine.specs.Table.{column_at, next_column}
 use Rattle.pot_steps.specs.declared.flight.Flight.{Flight}
 use Rattle.pot_steps.specs.Flights.{flight_in}
 use Rattle.pot_steps.specs.GroupStep.{PutStep, log_bound}
-use Rattle.pot_steps.specs.RelaySteps.{AdvanceStep, BeginStep}
+use Rattle.pot_steps.specs.RelaySteps.{BeginStep}
 use Rattle.pot_group.specs.declared.answers.PutFault.{PutFault}
 use Rattle.pot_group.specs.declared.answers.PutFault.TheVariants as fault
 use Rattle.pot_group.specs.declared.relaying.Advanced.{Advanced}
@@ -26,7 +26,7 @@ use Rattle.pot_group.specs.declared.copying.MoveFault.{MoveFault}
 use Rattle.pot_group.specs.declared.copying.MoveFault.TheVariants as stopped
 use Rattle.pot_shelves.specs.Shelves.{Brings, Keeps}
 use Rattle.pot_group.specs.Group.{GroupParts, GroupView, Logs, put_as, state_of, view_of}
-use Rattle.pot_group.specs.Relaying.{Acts, Advances, AtEnd, BeginMeans, Moves, OnWay, begin_as}
+use Rattle.pot_group.specs.Relaying.{Acts, Advances, BeginMeans, Moves, begin_as}
 use Rattle.pot_group.specs.Moving.{Comes, MovesOn, Steps}
 use Rattle.pot_group.specs.Calls.{AdvanceCall, BeginCall, BeginTells, ComesBy, Grows, Made, MoveEntries, MoveStepCall, PutCall, PutTells, RelayEntries}
 use Rattle.pot_shelves.proofs.ShelfLemmas.{keeps_refl}

@@ -5,14 +5,13 @@ use Rattle.std.proofs.lemmas.Bool.Decides.{nat_tests}
 use Rattle.pot_machine.specs.declared.column.Moving.{Moving}
 use Rattle.pot_machine.specs.declared.entry.Entry.{Entry}
 use Rattle.pot_machine.specs.declared.entry.Entry.TheVariants.{MoveBegin, Swapped}
-use Rattle.pot_machine.specs.Column.{names, names_moved}
+use Rattle.pot_machine.specs.Column.{names, names_moved, target_of}
 use Rattle.pot_machine.specs.Table.{Table, width, column_at, holder_of}
 use Rattle.pot_machine.specs.Machine.{Legal, Replays, after}
 use Rattle.pot_machine.specs.Rules.{IsTable}
 use Rattle.pot_machine.proofs.LeftAlone.{sizes_stay}
 use Rattle.pot_machine.proofs.Searches.{least_none, least_some}
 use Rattle.pot_group.specs.declared.uses.Role.TheVariants as role
-use Rattle.pot_machine.specs.Column.{target_of}
 use Rattle.pot_group.specs.Causes.{brought, brought_by}
 use Rattle.pot_group.specs.Group.{GroupView}
 use Rattle.pot_group.specs.Uses.{IsHomeAt, IsRole, IsUse, brings, brought_to, home_of, role_in, target_in}

@@ -2,8 +2,7 @@
 use Rattle.std.specs.Prelude.{◌≡◌, ◌++◌, ℕ, List, [], ◌∷◌}
 use Rattle.pot_machine.specs.declared.entry.Entry.{Entry}
 use Rattle.pot_machine.specs.declared.entry.Entry.TheVariants.{MoveBegin, Swapped}
-use Rattle.pot_machine.specs.Table.{Table}
-use Rattle.pot_machine.specs.Table.{archives_in}
+use Rattle.pot_machine.specs.Table.{Table, archives_in}
 
 -- the archive that an entry brings to the group
 abbrev pub arrival : Entry → List ℕ

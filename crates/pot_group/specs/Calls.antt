@@ -33,7 +33,7 @@ use Rattle.pot_group.specs.declared.copying.MoveFault.TheVariants as stopped
 use Rattle.pot_group.specs.declared.moving.ShelfRefused.{ShelfRefused}
 use Rattle.pot_group.specs.Counting.{IsCounted}
 use Rattle.pot_shelves.specs.Shelves.{Keeps, NoneLost, Stays}
-use Rattle.pot_group.specs.Group.{GroupParts, GroupView, OnGroup, Logs, FailedAt, FitsGone, FitsParity, FitsPassed, LookCause, looked_as, put_as, state_of, view_of}
+use Rattle.pot_group.specs.Group.{GroupParts, GroupView, OnGroup, Logs, FailedAt, FitsGone, FitsParity, FitsPassed, LookCause, looked_as, put_as, state_of}
 use Rattle.pot_group.specs.Arrivals.{HasArrived}
 use Rattle.pot_group.specs.Relaying.{Acts, AdvanceWrites, AtEnd, Drives, MendWrites, Moves, OnWay, advance_as, begin_as, mend_as}
 use Rattle.pot_group.specs.Moving.{Comes, MovesOn, MoveWrites, OnMove, RefusesMove, RefusesSwap, live_in, move_as}

@@ -1,7 +1,6 @@
 -- The cause law of a group: how many faults its log may name of a column, and when it may say that a block is missing.
 use Rattle.std.specs.Prelude.{◌≡◌, ◌≢◌, ◌⊎◌, ◌≤◌, ◌<◌, ◌-◌, ◌+◌, ◌^◌, ◌&&◌, ◌++◌, ℕ, nat_eq, not, false, IsTrue, List, [], ◌∷◌, Option, Some, None, Contains, if◌then◌else◌}
 use Rattle.pot_outside.specs.Counts.{Rose}
-use Rattle.pot_machine.specs.declared.column.Moving.{Moving}
 use Rattle.pot_machine.specs.declared.entry.Entry.{Entry}
 use Rattle.pot_machine.specs.declared.entry.Entry.TheVariants.{Put, Gone, Fault, GaveUp, MoveBegin, Moved, Swapped, Put2}
 use Rattle.pot_machine.specs.Slot.{is_live}

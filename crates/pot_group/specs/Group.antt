@@ -17,7 +17,7 @@ use Rattle.pot_steps.specs.Stripe.{Stripe, Sound, digest_of}
 use Rattle.pot_steps.specs.declared.flight.Flight.{Flight}
 use Rattle.pot_steps.specs.Flights.{AreFlights, FlightsHold}
 use Rattle.pot_steps.specs.Holdings.{HoldsUp, LiveLaw, stripe_of}
-use Rattle.pot_steps.specs.GroupStep.{GroupState, Passed, log_bound, look_entries, skips, gone_entries, put_entry}
+use Rattle.pot_steps.specs.GroupStep.{GroupState, Passed, log_bound}
 use Rattle.pot_steps.specs.GroupStep as step
 use Rattle.pot_group.specs.declared.answers.Looked.{Looked}
 use Rattle.pot_group.specs.declared.answers.Looked.TheVariants as looked

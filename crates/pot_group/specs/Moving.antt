@@ -19,7 +19,7 @@ use Rattle.pot_group.specs.declared.copying.MoveFault.TheVariants as failed
 use Rattle.pot_group.specs.declared.moving.ShelfCause.{ShelfCause}
 use Rattle.pot_group.specs.declared.moving.ShelfCause.TheVariants as cause
 use Rattle.pot_shelves.specs.Shelves.{Brings, Keeps, LosesByCount, WritesInto}
-use Rattle.pot_group.specs.Group.{GroupParts, GroupView, state_of, view_of}
+use Rattle.pot_group.specs.Group.{GroupView, state_of}
 use Rattle.pot_group.specs.Relaying.{Acts}
 
 -- AN ARCHIVE COMES

@@ -2,21 +2,18 @@
 use Rattle.std.specs.Prelude.{◌≡◌, ◌≢◌, ◌⊎◌, ℕ, ◌<◌, ◌++◌, ◌↔◌, List, [], ◌∷◌, Option, Some, None, IsSomeAnd, IsTrue, Bool, false, Result, Ok, Err, length, ◌==◌, if◌then◌else◌}
 use Rattle.pot_machine.specs.declared.entry.Entry.{Entry}
 use Rattle.pot_machine.specs.declared.entry.Entry.TheVariants as entry
-use Rattle.pot_machine.specs.Slot.{is_live, is_unsound}
-use Rattle.pot_machine.specs.Table.{Table, slot_at, relay_at}
+use Rattle.pot_machine.specs.Slot.{is_live, is_unsound, digest_in}
+use Rattle.pot_machine.specs.Table.{Table, slot_at, relay_at, next_column, serving_at}
 use Rattle.pot_machine.specs.Machine.{Legal, after, stuck_by}
 use Rattle.pot_steps.specs.Flights.{flight_in, flights_after}
 use Rattle.pot_steps.specs.RelaySteps as step
 use Rattle.pot_steps.specs.Mending.{LosesNothing}
-use Rattle.pot_machine.specs.Slot.{digest_in}
-use Rattle.pot_machine.specs.Table.{next_column}
 use Rattle.pot_steps.specs.declared.flight.Flight.{Flight}
 use Rattle.pot_steps.specs.Stripe.{digest_of}
 use Rattle.pot_steps.specs.Flight.{partial_of, unfolded, weight_in}
 use Rattle.pot_group.specs.declared.relaying.Advanced.{Advanced}
 use Rattle.pot_group.specs.declared.relaying.Advanced.TheVariants as advanced
 use Rattle.pot_outside.specs.declared.faults.Failed.{Failed}
-use Rattle.pot_machine.specs.Table.{serving_at}
 use Rattle.pot_shelves.specs.Shelves.{Keeps, LosesByCount, NoneLost, WritesAt, WritesInto}
 use Rattle.pot_group.specs.declared.relaying.AdvanceFault.{AdvanceFault}
 use Rattle.pot_group.specs.declared.relaying.AdvanceFault.TheVariants as failed
@@ -24,8 +21,7 @@ use Rattle.pot_group.specs.declared.relaying.BeginFault.{BeginFault}
 use Rattle.pot_group.specs.declared.relaying.BeginFault.TheVariants as fault
 use Rattle.pot_group.specs.declared.relaying.Mend.{Mend}
 use Rattle.pot_group.specs.declared.relaying.Mend.TheVariants as mend
-use Rattle.pot_outside.specs.Archives.{Meaning}
-use Rattle.pot_group.specs.Group.{GroupParts, GroupView, FailedAt, noted, state_of, view_of}
+use Rattle.pot_group.specs.Group.{GroupParts, GroupView, FailedAt, noted, state_of}
 
 -- an entry is logged, and does in the table and to the flights what it says
 abbrev pub acted : {A : Type 0} → GroupParts A → Entry → List ℕ → GroupParts A

@@ -7,7 +7,7 @@ use Rattle.pot_machine.specs.declared.column.Column.{Column}
 use Rattle.pot_machine.specs.declared.column.Moving.{Moving}
 use Rattle.pot_machine.specs.declared.entry.Entry.{Entry}
 use Rattle.pot_machine.specs.declared.entry.Entry.TheVariants.{MoveBegin, Moved, MoveEnd, Swapped}
-use Rattle.pot_machine.specs.Column.{names, names_moved}
+use Rattle.pot_machine.specs.Column.{names, names_moved, target_of}
 use Rattle.pot_machine.specs.Table.{Table, width, column_at, holder_of}
 use Rattle.pot_machine.specs.Machine.{Legal, Replays, after, moved_on, moved_home, with_loss, with_losses}
 use Rattle.pot_machine.specs.Rules.{IsTable}
@@ -18,7 +18,6 @@ use Rattle.pot_machine.proofs.Kept.{after_keeps}
 use Rattle.pot_machine.proofs.LeftAlone.{sizes_stay}
 use Rattle.pot_machine.proofs.Searches.{least_none, least_some}
 use Rattle.pot_machine.proofs.Sizes.{width-with_losses}
-use Rattle.pot_machine.specs.Column.{target_of}
 use Rattle.pot_group.specs.Causes.{archives_of, brought, brought_by}
 use Rattle.pot_mend.specs.Moves.{EndsMove}
 

@@ -8,7 +8,6 @@ use Rattle.pot_outside.specs.Archives.{Meaning}
 use Rattle.pot_machine.specs.declared.entry.Entry.{Entry}
 use Rattle.pot_machine.specs.declared.entry.Entry.TheVariants as entry
 use Rattle.pot_group.specs.Arrivals.{arrival, arrivals}
-use Rattle.pot_group.specs.Group.{GroupView}
 use Rattle.pot_shelves.specs.Shelves.{Shelves}
 use Rattle.pot_shared.specs.declared.member.Logged.{Logged}
 use Rattle.pot_shared.specs.Members.{all_logged, entries_of, logged_at, mark_at}

@@ -13,10 +13,9 @@ use Rattle.pot_outside.specs.declared.archive.Marks.{Marks}
 use Rattle.pot_outside.specs.declared.archive.Shelf.{Shelf}
 use Rattle.pot_machine.specs.declared.entry.Entry.{Entry}
 use Rattle.pot_machine.specs.declared.entry.Entry.TheVariants.{Gone, Broke}
-use Rattle.pot_machine.specs.Table.{Table, width}
+use Rattle.pot_machine.specs.Table.{Table, width, archives_in}
 use Rattle.pot_machine.specs.Logs.{job_of}
 use Rattle.pot_group.specs.Arrivals.{arrivals, HasArrived}
-use Rattle.pot_machine.specs.Table.{archives_in}
 use Rattle.pot_group.specs.Beginning.{Begins}
 use Rattle.pot_group.specs.Group.{GroupView, GroupParts, view_of}
 use Rattle.pot_shelves.specs.Shelves.{numbers_of, shelf_of, given, plain}

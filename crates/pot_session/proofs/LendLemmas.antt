@@ -2,13 +2,11 @@
 use Rattle.std.proofs.Common.{◌≡◌, ◌≢◌, ◌<◌, ◌≤◌, ◌+◌, ◌++◌, ⊎_elim, ℕ, zero, suc, Bool, true, false, cond, List, [], ◌∷◌, length, refl, sym, ap, subst, ◌∙◌, arith, append-nil}
 use Rattle.std.specs.Prelude.{Option, Some, None, All, Contains, IsSome, IsSomeAnd, slice_index_or, flat_map}
 use Rattle.std.proofs.lemmas.List.Elements.{All-head, All-tail, Contains-append_cases, Contains-append_left, Contains-append_right}
-use Rattle.pot_bytes.specs.declared.rack.Rack.{Rack}
 use Rattle.pot_outside.specs.Archives.{Meaning}
 use Rattle.pot_machine.specs.declared.entry.Entry.{Entry}
 use Rattle.pot_machine.specs.Rules.{IsTable}
-use Rattle.pot_machine.specs.Table.{Table, holder_of}
+use Rattle.pot_machine.specs.Table.{Table, holder_of, archives_in}
 use Rattle.pot_machine.specs.Logs.{replayed}
-use Rattle.pot_machine.specs.Table.{archives_in}
 use Rattle.pot_image.specs.Images.{Contents}
 use Rattle.pot_image.specs.Rules.{FitsTable, FitsTogether}
 use Rattle.pot_rows.specs.Rows.{view_at}
@@ -20,8 +18,8 @@ use Rattle.pot_shared.specs.Ready.{GroupPass, GroupPasses}
 use Rattle.pot_shared.specs.Catalogs.{IndexPasses}
 use Rattle.pot_store.specs.Works.{Known, gained}
 use Rattle.pot_commands.specs.Ends.{AllSole}
-use Rattle.pot_commands.specs.Holding.{times, AreApart, AreOut, Untouched}
-use Rattle.pot_commands.specs.Taking.{Lending, Takes, Come, AreMarkedBy, AreUsed, HasUse, marks_of}
+use Rattle.pot_commands.specs.Holding.{times, AreOut, Untouched}
+use Rattle.pot_commands.specs.Taking.{Lending, Takes, Come, AreMarkedBy, AreUsed, marks_of}
 use Rattle.pot_commands.proofs.ArrivingLemmas.{arrived_used}
 use Rattle.pot_commands.proofs.TakingLemmas.{arrival_in, bit, came_within, none_contained, times-append, times_there}
 use Rattle.pot_session.specs.Groups.{AreFirstPasses, AreLow, HaveCome, table_read, tables_read}

@@ -17,16 +17,14 @@ use Rattle.pot_machine.specs.declared.slot.SlotState.TheVariants.{Void, Live, Lo
 use Rattle.pot_machine.specs.Slot.{is_live, is_unsound}
 use Rattle.pot_machine.specs.Rules.{IsTable, IsStanding}
 use Rattle.pot_machine.specs.Making.{empty_table}
-use Rattle.pot_machine.specs.Table.{Table, width, slot_at, column_at, no_column, relay_at, next_column}
+use Rattle.pot_machine.specs.Table.{Table, width, slot_at, column_at, no_column, relay_at, next_column, archives_in}
 use Rattle.pot_machine.specs.Machine.{Legal, Replays, after}
 use Rattle.pot_machine.specs.Logs.{is_of, own, replayed}
 use Rattle.pot_machine.proofs.Logs.{legal_at, table_at}
 use Rattle.pot_steps.proofs.Acting.{find_all}
 use Rattle.pot_steps.proofs.OpenPlaces.{relay_over}
 use Rattle.pot_group.specs.Arrivals.{arrivals}
-use Rattle.pot_machine.specs.Table.{archives_in}
-use Rattle.pot_machine.specs.Column.{homes_of}
-use Rattle.pot_machine.specs.Column.{target_of}
+use Rattle.pot_machine.specs.Column.{homes_of, target_of}
 use Rattle.pot_group.specs.Causes.{Misses, WhereMissed, HasLost, archives_of, brought, brought_by}
 use Rattle.pot_index.specs.declared.record.Record.{Record}
 use Rattle.pot_index.specs.Fits.{FitsRack}

@@ -7,10 +7,9 @@ use Rattle.pot_rows.proofs.RowLemmas.{at_past, below_or_past}
 use Rattle.pot_shared.specs.declared.member.GroupOrigin.{GroupOrigin}
 use Rattle.pot_bytes.specs.declared.rack.Rack.{Rack}
 use Rattle.pot_machine.specs.declared.entry.Entry.{Entry}
-use Rattle.pot_machine.specs.Table.{Table}
+use Rattle.pot_machine.specs.Table.{Table, archives_in}
 use Rattle.pot_image.specs.Rules.{FitsTable}
 use Rattle.pot_group.specs.Arrivals.{arrivals}
-use Rattle.pot_machine.specs.Table.{archives_in}
 use Rattle.pot_group.specs.Group.{GroupView}
 use Rattle.pot_shelves.specs.Shelves.{Shelves}
 use Rattle.pot_turn.specs.declared.name.TurnName.{TurnName}

@@ -2,9 +2,8 @@
 use Rattle.std.specs.Prelude.{◌≡◌, ◌<◌, ◌+◌, ◌++◌, ℕ, List, [], ◌∷◌, Option, Some, None, Contains, length, map, slice_get, flat_map}
 use Rattle.pot_outside.specs.Archives.{Meaning}
 use Rattle.pot_bytes.specs.declared.rack.Rack.{Rack}
-use Rattle.pot_machine.specs.Table.{Table}
+use Rattle.pot_machine.specs.Table.{Table, archives_in}
 use Rattle.pot_index.specs.declared.record.Record.{Record}
-use Rattle.pot_machine.specs.Table.{archives_in}
 use Rattle.pot_group.specs.Arrivals.{arrivals, HasArrived}
 use Rattle.pot_group.specs.Group.{GroupView, IsSettled}
 use Rattle.pot_shelves.specs.Shelves.{Shelves}

@@ -7,9 +7,8 @@ use Rattle.pot_outside.specs.Counts.{Rose}
 use Rattle.pot_machine.specs.declared.entry.Entry.{Entry}
 use Rattle.pot_machine.specs.declared.entry.Entry.TheVariants.{Gone, Stuck, Oddly}
 use Rattle.pot_machine.specs.Slot.{is_live}
-use Rattle.pot_machine.specs.Table.{Table, slot_at}
+use Rattle.pot_machine.specs.Table.{Table, slot_at, archives_in}
 use Rattle.pot_machine.specs.Logs.{own, replayed}
-use Rattle.pot_machine.specs.Table.{archives_in}
 use Rattle.pot_index.specs.declared.record.Record.{Record}
 use Rattle.pot_index.specs.Fits.{FitsRack}
 use Rattle.pot_image.specs.Images.{Contents}

@@ -4,7 +4,6 @@ use Rattle.std.specs.Prelude.{All, Option, None, Some, IsSomeAnd, Result, Ok, Er
 use Rattle.std.proofs.lemmas.List.{length-map, set-get_or}
 use Rattle.std.proofs.lemmas.List.Elements.{All-append, All-nil}
 use Rattle.pot_bytes.specs.declared.rack.Place.{Place}
-use Rattle.pot_bytes.specs.declared.rack.Rack.{Rack}
 use Rattle.pot_machine.specs.declared.entry.Entry.{Entry}
 use Rattle.pot_machine.specs.declared.entry.Entry.TheVariants as entry
 use Rattle.pot_machine.specs.Table.{next_column}
@@ -21,7 +20,7 @@ use Rattle.pot_pads.specs.Pads.{Pads, moved, next_bytes}
 use Rattle.pot_turn.specs.declared.name.TurnName.{TurnName}
 use Rattle.pot_rows.specs.Rows.{AreOf, view_at, with_view}
 use Rattle.pot_rows.proofs.RowLemmas.{at_set}
-use Rattle.pot_shared.specs.Members.{all_logged, kept_log, logged_at}
+use Rattle.pot_shared.specs.Members.{all_logged, logged_at}
 use Rattle.pot_shared.specs.Ready.{GroupPass, GroupPasses}
 use Rattle.pot_shared.specs.Calls.{CallAt, CallTurn}
 use Rattle.pot_group.specs.Calls.{MendCall, RelayEntries}

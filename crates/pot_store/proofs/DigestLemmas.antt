@@ -7,9 +7,8 @@ use Rattle.pot_machine.specs.Slot.{digest_in}
 use Rattle.pot_machine.specs.Table.{Table, slot_at}
 use Rattle.pot_machine.specs.Machine.{Replays}
 use Rattle.pot_machine.specs.Rules.{IsTable}
-use Rattle.pot_machine.specs.Logs.{Fills}
+use Rattle.pot_machine.specs.Logs.{Fills, IsKeptPut}
 use Rattle.pot_machine.proofs.Filled.{put_digest}
-use Rattle.pot_machine.specs.Logs.{IsKeptPut}
 
 kept_fills : (job s c : ℕ) (d : Digest) (e : Entry) → IsKeptPut job s c d e → Fills s c d e
 kept_fills job s c d e (inl (p, is)) = subst (Fills s c d) (sym is) (refl, refl, refl)

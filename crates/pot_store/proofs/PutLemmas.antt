@@ -6,13 +6,12 @@ use Rattle.std.proofs.lemmas.Option.{same_Some}
 use Rattle.pot_bytes.specs.declared.rack.Place.{Place}
 use Rattle.pot_machine.specs.declared.entry.Entry.{Entry}
 use Rattle.pot_machine.specs.declared.entry.Entry.TheVariants as entry
-use Rattle.pot_machine.specs.Logs.{is_of}
+use Rattle.pot_machine.specs.Logs.{is_of, IsKeptPut}
 use Rattle.pot_steps.specs.GroupStep.{Passed, skips, gone_entries, put_entry}
 use Rattle.pot_group.specs.Group.{GroupView}
 use Rattle.pot_group.specs.declared.answers.PutFault.{PutFault}
 use Rattle.pot_group.specs.declared.answers.PutFault.TheVariants as fault
 use Rattle.pot_worked.specs.Laws.{AllOf}
-use Rattle.pot_machine.specs.Logs.{IsKeptPut}
 use Rattle.pot_replies.specs.Stores.{Placed, Puts, in_group}
 use Rattle.pot_group.specs.Calls.{PutTells}
 use Rattle.pot_rows.proofs.Lists.{take_next as next}

@@ -10,9 +10,9 @@ use Rattle.pot_index.specs.declared.fault.FindFault.TheVariants as find
 use Rattle.pot_index.specs.declared.record.Record.{Record}
 use Rattle.pot_index.specs.Calls.{Finds}
 use Rattle.pot_index.specs.Entries as index
-use Rattle.pot_index.specs.Entries.{plain, bringing}
+use Rattle.pot_index.specs.Entries.{plain}
 use Rattle.pot_index.specs.Fits.{FitsRack}
-use Rattle.pot_index.specs.Index.{IndexView, Names, Replays, names_read, IsRecordOf}
+use Rattle.pot_index.specs.Index.{IndexView, Names, Replays, names_read}
 use Rattle.pot_index.specs.Index as index_of
 use Rattle.pot_turn.specs.declared.name.TurnName.{TurnName}
 use Rattle.pot_worked.specs.Worked.{added}

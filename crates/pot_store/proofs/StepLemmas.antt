@@ -12,7 +12,7 @@ use Rattle.pot_machine.specs.declared.entry.Entry.TheVariants as entry
 use Rattle.pot_machine.specs.Table.{Table}
 use Rattle.pot_machine.specs.Machine.{Legal, Replays, after}
 use Rattle.pot_machine.specs.Rules.{IsTable}
-use Rattle.pot_machine.specs.Logs.{own}
+use Rattle.pot_machine.specs.Logs.{own, IsKeptPut}
 use Rattle.pot_machine.proofs.LeftAlone.{sizes_stay, rules_stay, logs_went_on}
 use Rattle.pot_steps.specs.Stripe.{digest_of}
 use Rattle.pot_steps.specs.GroupStep.{Passed, skips, put_entry}
@@ -27,7 +27,6 @@ use Rattle.pot_rows.proofs.WorkLemmas.{row_work_in_parts, row_alone_in_parts}
 use Rattle.pot_replies.specs.Stores.{Placed, Puts, place_of, in_group}
 use Rattle.pot_shared.specs.Members.{entries_of, all_logged}
 use Rattle.pot_shared.specs.Ready.{GroupPass, GroupPasses, AreReady, IsTableOf}
-use Rattle.pot_machine.specs.Logs.{IsKeptPut}
 use Rattle.pot_shared.specs.Seen.{SeesPut}
 use Rattle.pot_group.specs.Calls.{PutCall}
 use Rattle.pot_shared.specs.Calls.{CallAt}

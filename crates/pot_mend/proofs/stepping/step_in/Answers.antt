@@ -1,6 +1,6 @@
 use Rattle.std.proofs.Common.{◌<◌, inl, IsTrue, Err, ap, sym, subst, refl}
 use Rattle.pot_group.specs.declared.relaying.BeginFault.{BeginFault}
-use Rattle.pot_group.specs.Group.{GroupView, view_of}
+use Rattle.pot_group.specs.Group.{view_of}
 use Rattle.pot_group.specs.Calls.{BeginCall, Made}
 use Rattle.pot_mend.specs.declared.stepping.Step.{Step}
 use Rattle.pot_mend.specs.Stepping.{StepsIn}

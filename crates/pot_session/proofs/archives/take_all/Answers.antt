@@ -5,9 +5,8 @@ use Rattle.pot_shelves.specs.Shelves.{numbers_of}
 use Rattle.std.specs.Prelude.{Contains}
 use Rattle.pot_outside.specs.Archives.{IsMeant}
 use Rattle.pot_commands.specs.Holding.{times, AreMeant, AreOut}
-use Rattle.pot_session.proofs.Counts.{rose_before, rose_after}
+use Rattle.pot_session.proofs.Counts.{rose_before, rose_after, err_again}
 use Rattle.pot_session.proofs.OutLemmas.{none_out, is_home, out_more, out_same, apart_before, apart_from, apart_next, none_before, times-next, numbers-snoc, numbers-length}
-use Rattle.pot_session.proofs.Counts.{err_again}
 use Rattle.pot_session.proofs.MeantLemmas.{meant_more, none_contained}
 use Rattle.pot_session.proofs.archives.take_all.Goals as goal
 

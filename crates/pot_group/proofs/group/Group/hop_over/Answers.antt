@@ -1,8 +1,7 @@
-use Rattle.std.proofs.Common.{◌≡◌, ◌<◌, IsTrue, IsSomeAnd, Some, length, map, refl, subst, sym, ap, ◌∙◌, arith}
+use Rattle.std.proofs.Common.{◌≡◌, ◌<◌, IsTrue, IsSomeAnd, Some, length, map, refl, subst, sym, ap, ◌∙◌, arith, rules, tests, not}
 use Rattle.std.specs.Prelude.{Ok, ◌==◌}
 use Rattle.std.proofs.lemmas.List.{length-map}
 use Rattle.std.proofs.lemmas.Fn.{filter_same}
-use Rattle.std.proofs.Common.{rules, tests, not}
 use Rattle.pot_outside.specs.Archives.{FoldTells}
 use Rattle.pot_outside.specs.declared.archive.Held.TheVariants.{Held}
 use Rattle.pot_machine.specs.Slot.{is_live}

@@ -1,7 +1,7 @@
 use Rattle.std.proofs.Common.{IsTrue}
 use Rattle.pot_group.specs.Group.{view_of}
 use Rattle.pot_group.specs.Calls.{CountCall}
-use Rattle.pot_shared.proofs.CallLemmas.{grown, same_origin, called, ready_again}
+use Rattle.pot_shared.proofs.CallLemmas.{grown, called, ready_again}
 use Rattle.pot_shared.proofs.vault.Vault.count.Goals as goal
 
 pub leave-requires-clause-grown : goal.leave-requires-clause-grown
