@@ -16,6 +16,8 @@ mod drawing;
 #[cfg(test)]
 mod drawing_tests;
 mod expecting;
+#[cfg(test)]
+mod expecting_tests;
 mod fetching;
 mod fragments;
 mod points;
