@@ -40,7 +40,7 @@ use Rattle.pot_shared.specs.declared.member.Logged.{Logged}
 use Rattle.pot_shared.specs.Calls.{CallAt}
 use Rattle.pot_shared.specs.Catalogs.{IndexPasses, IsIndexReady}
 use Rattle.pot_shared.specs.Members.{all_logged, entries_of, logged_at, mark_at, origin_of}
-use Rattle.pot_shared.proofs.MemberLemmas.{marks_by}
+use Rattle.pot_shared.proofs.MemberLemmas.{marks_by, entries_all}
 use Rattle.pot_group.specs.Calls.{ComesBy}
 use Rattle.pot_shared.specs.Ready.{AreReady, GroupPass, GroupPasses}
 use Rattle.pot_store.specs.Works.{Known, known, of_job, gained, JobWorked, JobAlone, IsSettingOf, section_of}
@@ -48,13 +48,14 @@ use Rattle.pot_store.proofs.WorkLemmas.{drop_all, row_stays, index_idle, group_w
 use Rattle.pot_mend.specs.Moves.{IsAsked, seen_in}
 use Rattle.pot_mend.specs.declared.checking.UseFault.TheVariants as used
 use Rattle.pot_mend.proofs.HadLemmas.{IsUsedIn, brought_here, brought_named, had_used, named_held, same_width}
+use Rattle.pot_mend.proofs.MoveLemmas.{in_one}
 use Rattle.pot_commands.specs.declared.arriving.Unanswered.TheVariants as unanswered
 use Rattle.pot_commands.specs.Ends.{AllSole}
 use Rattle.pot_commands.specs.Holding.{times}
 use Rattle.pot_commands.specs.Taking.{Lending, Took, HasUse, AreUsed, AreMarkedBy, came_in, marks_of}
 use Rattle.pot_commands.proofs.Brought.{its_setting, is_its}
 use Rattle.pot_commands.proofs.Going.{sole_alone, work_all_went}
-use Rattle.pot_commands.proofs.Logs.{entries_all, entries_append, turn_added}
+use Rattle.pot_commands.proofs.Logs.{entries_append, turn_added}
 use Rattle.pot_commands.proofs.TakingLemmas.{arrival_in, came_one, come_none, none_contained, takes_back, takes_one, took_none, used_more, use_more}
 use Rattle.pot_commands.proofs.Whose.{its_jobs, own_all}
 
@@ -94,12 +95,8 @@ first_column (x ∷ cs) n has = ⊎_elim
     (λ (h : Contains (flat_map homes_of cs) n). (let r = first_column cs n h in (suc r.0, (let l = r.1 in omega (arith, l)), r.2)))
     (Contains-append_cases (homes_of x) (flat_map homes_of cs) n has)
 
-only_of : {X : Type 0} (x y : X) → Contains (x ∷ []) y → x ≡ y
-only_of x y (zero, l, e) = e
-only_of x y (suc k, l, e) = absurd (omega (arith, l))
-
 only : (x n : ℕ) → Contains (x ∷ []) n → x ≡ n
-only x n has = only_of x n has
+only x n has = in_one x n has
 
 -- an archive that an entry brings is the home or the target of a column then
 pub entry_held : (t : Table) (e : Entry) (n : ℕ) → IsTable t → Legal t e → Contains (arrival e) n → IsSome (holder_of (after t e) n)
@@ -369,7 +366,7 @@ module _ (rack : Rack) (names turn : List TurnName) (job : ℕ) (row0 row1 : Gro
           (λ (same_group : g ≡ group).
           (let there : Contains (all_logged call.turn.new.shelves (e ∷ [])) l =
           subst (λ es. Contains (all_logged call.turn.new.shelves es) l) comes.entries_are (subst (λ ls. Contains ls l) (marked_here sole) (subst (λ h. Contains (added (view_at row0 h) (view_at row2 h)) l) same_group has)) in
-          let one : logged_at call.turn.new.shelves e ≡ l = only_of (logged_at call.turn.new.shelves e) l there in
+          let one : logged_at call.turn.new.shelves e ≡ l = in_one (logged_at call.turn.new.shelves e) l there in
           let number : to ≡ n = only to n (subst (λ ns. Contains ns n) brings (subst (λ (x : Logged). Contains (arrival x.entry) n) (sym one) arr)) in
           subst (λ k. l.taken ≡ Some (marks_of (meant k))) number
           (ap (λ (x : Logged). x.taken) (sym one) ∙ (marks_by call.turn.new.shelves e to (subst (λ ns. Contains ns to) (sym brings) (zero, omega arith, refl)) ∙ ap (λ m. Some m) (its_marks meant tells is)))))

@@ -2,7 +2,6 @@
 use Rattle.std.proofs.Common.{◌≡◌, List, [], ◌∷◌, ◌++◌, refl, ap, sym, ◌∙◌, append_assoc}
 use Rattle.std.proofs.lemmas.List.{append_cancel_left, map-append}
 use Rattle.pot_bytes.specs.declared.rack.Rack.{Rack}
-use Rattle.pot_machine.specs.declared.entry.Entry.{Entry}
 use Rattle.pot_index.specs.declared.entry.Logged as plainly
 use Rattle.pot_index.specs.Index.{Names}
 use Rattle.pot_index.specs.Index as index_of
@@ -10,8 +9,7 @@ use Rattle.pot_turn.specs.declared.view.View.{View}
 use Rattle.pot_worked.specs.Worked.{added, IsTurn}
 use Rattle.pot_worked.proofs.WorkedLemmas.{behind}
 use Rattle.pot_shared.specs.declared.member.Logged.{Logged}
-use Rattle.pot_shelves.specs.Shelves.{Shelves}
-use Rattle.pot_shared.specs.Members.{all_logged, entries_of}
+use Rattle.pot_shared.specs.Members.{entries_of}
 use Rattle.pot_replies.specs.Sections.{names_after}
 
 pub names_to : (rack : Rack) (n m : Names) (log : List plainly.Logged) → index_of.Replays rack n log m → names_after n log ≡ m
@@ -30,7 +28,3 @@ same_end front xs ys whole one two = append_cancel_left front xs ys (sym one ∙
 pub entries_append : (xs ys : List Logged) → entries_of (xs ++ ys) ≡ entries_of xs ++ entries_of ys
 entries_append xs ys = map-append (λ (l : Logged). l.entry) xs ys
 
--- the entries of a log of entries with marks
-pub entries_all : (s : Shelves) (entries : List Entry) → entries_of (all_logged s entries) ≡ entries
-entries_all s [] = refl
-entries_all s (e ∷ es) = ap (λ w. e ∷ w) (entries_all s es)

@@ -18,6 +18,7 @@ use Rattle.pot_group.specs.Causes.{archives_of, brought, brought_by}
 use Rattle.pot_group.specs.Group.{GroupView, IsSettled}
 use Rattle.pot_group.proofs.Settled.{LeavesColumns}
 use Rattle.pot_group.proofs.Brought.{Contains-front}
+use Rattle.pot_group.proofs.CauseLemmas.{brought_by-snoc}
 
 same_or : (a b : ℕ) → (a ≡ b) ⊎ (a ≢ b)
 same_or a b = grind arith
@@ -26,12 +27,8 @@ pub Contains-back : (xs ys : List ℕ) (n : ℕ) → Contains ys n → Contains 
 Contains-back [] ys n h = h
 Contains-back (x ∷ xs) ys n h = (let r : Contains (xs ++ ys) n = Contains-back xs ys n h in (suc r.0, omega (arith, r.1), r.2))
 
-brought-more : (c : ℕ) (log : List Entry) (e : Entry) → brought_by c (log ++ e ∷ []) ≡ brought_by c log ++ brought c e
-brought-more c [] e = append-nil (brought c e)
-brought-more c (x ∷ log) e = ap (λ l. brought c x ++ l) (brought-more c log e) ∙ sym (append_assoc (brought c x) (brought_by c log) (brought c e))
-
 pub archives-more : (first : Table) (log : List Entry) (c : ℕ) (e : Entry) → archives_of first (log ++ e ∷ []) c ≡ archives_of first log c ++ brought c e
-archives-more first log c e = ap (λ l. (column_at first c).home ∷ l) (ap (λ l. target_of (column_at first c).moving ++ l) (brought-more c log e) ∙ sym (append_assoc (target_of (column_at first c).moving) (brought_by c log) (brought c e)))
+archives-more first log c e = ap (λ l. (column_at first c).home ∷ l) (ap (λ l. target_of (column_at first c).moving ++ l) (brought_by-snoc c log e) ∙ sym (append_assoc (target_of (column_at first c).moving) (brought_by c log) (brought c e)))
 
 -- a column whose archives were its own before, or came with the entry
 module _ (told : Type 0) (g : GroupView) (e : Entry) (s : Shelves) (settled : IsSettled told g) (keeps : Keeps g.shelves s)
@@ -66,11 +63,11 @@ home_named : (o : Option Moving) (home n : ℕ) → (home == n) ≡ true → IsT
 home_named None home n h = h
 home_named (Some m) home n h = left_true (home == n) (m.to == n) h
 
-on_names : (o : Option Moving) (home n : ℕ) → IsTrue (names (moved_on (record { home = home; moving = o })) n) → IsTrue (names_moved o home n)
+pub on_names : (o : Option Moving) (home n : ℕ) → IsTrue (names (moved_on (record { home = home; moving = o })) n) → IsTrue (names_moved o home n)
 on_names None home n h = h
 on_names (Some m) home n h = h
 
-home_names : (o : Option Moving) (home n : ℕ) → IsTrue (names (moved_home (record { home = home; moving = o })) n) → IsTrue (names_moved o home n)
+pub home_names : (o : Option Moving) (home n : ℕ) → IsTrue (names (moved_home (record { home = home; moving = o })) n) → IsTrue (names_moved o home n)
 home_names None home n h = h
 home_names (Some m) home n h = right_true (home == n) (m.to == n) h
 

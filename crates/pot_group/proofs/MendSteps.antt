@@ -30,7 +30,7 @@ use Rattle.pot_group.proofs.BeginSteps.{crowded}
 use Rattle.pot_group.proofs.Lossless.{lossless_less, lossless_same}
 use Rattle.pot_shelves.proofs.ShelfLemmas.{keeps_refl, loses_refl}
 
-stands_some : (o : Option Relay) (P : Relay → Type 0) → IsSomeAnd o P → o ≢ None
+pub stands_some : (o : Option Relay) (P : Relay → Type 0) → IsSomeAnd o P → o ≢ None
 stands_some (Some r) P h e = cc
 stands_some None P h e = h
 
@@ -40,7 +40,7 @@ is_same a b e = grind (arith, nat_tests)
 same_is : (a b : ℕ) → a ≡ b → IsTrue (a == b)
 same_is a b e = grind (arith, nat_tests)
 
-owns_where : (t : Table) (s k c : ℕ) → IsSomeAnd (relay_at t s) (λ r. r.target ≡ k) → IsTrue (k == c) ↔ Owns t s s c
+pub owns_where : (t : Table) (s k c : ℕ) → IsSomeAnd (relay_at t s) (λ r. r.target ≡ k) → IsTrue (k == c) ↔ Owns t s s c
 owns_where t s k c h = (λ e. there (relay_at t s) h (is_same k c e), λ o. same_is k c (back (relay_at t s) h o))
   where
     there : (o : Option Relay) → IsSomeAnd o (λ r. r.target ≡ k) → k ≡ c → IsSomeAnd o (λ r. (s ≡ s) × (r.target ≡ c))

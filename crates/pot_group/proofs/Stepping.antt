@@ -26,13 +26,11 @@ use Rattle.pot_group.specs.Reads.{ReadsByDigest}
 use Rattle.pot_group.specs.Group.{GroupParts, GroupView, IsSettled, noted, state_of, view_of, with_archives}
 use Rattle.pot_group.specs.Relaying.{Acts, acted}
 use Rattle.pot_steps.specs.MoveSteps.{MoveStep as IsMoveStep}
+use Rattle.pot_steps.proofs.MendingSteps.{some_of}
 use Rattle.pot_group.specs.Moving.{CopiesInto, FailedBy, MoveWrites, MovesOn, OnMove, Steps, move_as}
 use Rattle.pot_group.proofs.BeginSteps.{logged_in}
 use Rattle.pot_group.proofs.MoveExits.{beside, copied_settled, copies, move_end_settled, passed_settled, uncopied_settled}
 use Rattle.pot_shelves.proofs.ShelfLemmas.{into_after, keeps_refl, keeps_then, loses_from_then, loses_refl}
-
-some_of : {A : Type 0} (o : Option A) (a : A) (P : A → Type 0) → IsSomeAnd o P → o ≡ Some a → P a
-some_of o a P h e = subst (λ o. IsSomeAnd o P) e h
 
 some_map : {A : Type 0} {P Q : A → Type 0} (o : Option A) → ((a : A) → P a → Q a) → IsSomeAnd o P → IsSomeAnd o Q
 some_map None f h = h

@@ -11,9 +11,8 @@ use Rattle.pot_outside.specs.declared.faults.Failed.{Failed}
 use Rattle.pot_machine.specs.declared.cursor.Cursor.{Cursor}
 use Rattle.pot_machine.specs.declared.entry.Entry.{Entry}
 use Rattle.pot_machine.specs.declared.entry.Entry.TheVariants.{Put, Put2, Fault}
-use Rattle.pot_machine.specs.declared.slot.SlotState.{SlotState}
-use Rattle.pot_machine.specs.declared.slot.SlotState.TheVariants.{Void, Live, Lost, Broken}
-use Rattle.pot_machine.specs.Slot.{is_void, is_live}
+use Rattle.pot_machine.specs.declared.slot.SlotState.TheVariants.{Void}
+use Rattle.pot_machine.specs.Slot.{is_void}
 use Rattle.pot_machine.specs.Table.{Table, width, slot_at, serving_at}
 use Rattle.pot_machine.specs.Machine.{AtCursor, TakesBlocks, Legal, after}
 use Rattle.pot_machine.proofs.Cases.{same_or}
@@ -23,6 +22,7 @@ use Rattle.pot_steps.specs.Holdings.{Holdings}
 use Rattle.pot_steps.specs.Entries.{WritesStripe, held_at}
 use Rattle.pot_steps.specs.GroupStep.{log_bound, put_entry}
 use Rattle.pot_steps.proofs.Entries.{is_void_at}
+use Rattle.pot_steps.proofs.Group.{live_void}
 use Rattle.pot_shelves.specs.Shelves.{Shelves, WritesAt, put_at}
 use Rattle.pot_group.specs.Arrivals.{arrival}
 use Rattle.pot_group.specs.Causes.{Covers, archives_of, faults_in}
@@ -36,12 +36,6 @@ use Rattle.pot_group.proofs.Settled.{settled_entry, one_fault, no_fault}
 
 le_self : (c : ℕ) → nat_le c c ≡ true
 le_self c = grind (arith, nat_tests)
-
-live_void : (x : SlotState) → IsTrue (is_live x) → x ≢ Void
-live_void Void l e = absurd (cc)
-live_void (Live d) l e = absurd (cc)
-live_void (Lost d) l e = absurd (cc)
-live_void (Broken d) l e = absurd (cc)
 
 -- the group with this entry logged, and with what its archives are then
 abbrev pub entered_with : GroupView → Entry → Shelves → GroupView

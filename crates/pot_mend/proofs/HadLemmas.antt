@@ -19,6 +19,7 @@ use Rattle.pot_machine.proofs.LeftAlone.{sizes_stay}
 use Rattle.pot_machine.proofs.Searches.{least_none, least_some}
 use Rattle.pot_machine.proofs.Sizes.{width-with_losses}
 use Rattle.pot_group.specs.Causes.{archives_of, brought, brought_by}
+use Rattle.pot_group.proofs.ColumnExits.{home_names, on_names}
 use Rattle.pot_mend.specs.Moves.{EndsMove}
 
 -- THE WIDTH OF A TABLE
@@ -116,14 +117,6 @@ brought_there c k to n h = by (nat_eq c k) refl h
     by true e h = (is_same c k e, in_one to n h)
     by false e h = absurd (in_none n h)
 
-moved_on_named : (o : Option Moving) (home n : ℕ) → IsTrue (names (moved_on (record { home = home; moving = o })) n) → IsTrue (names_moved o home n)
-moved_on_named None home n h = h
-moved_on_named (Some m) home n h = h
-
-moved_home_named : (o : Option Moving) (home n : ℕ) → IsTrue (names (moved_home (record { home = home; moving = o })) n) → IsTrue (names_moved o home n)
-moved_home_named None home n h = h
-moved_home_named (Some m) home n h = right_true (home == n) (m.to == n) h
-
 module _ (t : Table) (c n : ℕ) (sized : length t.columns ≡ width t) where
   -- a column changed: what it names now it named before, or the entry brought it
   one_changed : (k : ℕ) (u : Table) (x : Column) (B : Type 0) → (c ≡ k → column_at u k ≡ x) → (c ≢ k → column_at u c ≡ column_at t c)
@@ -147,15 +140,15 @@ module _ (t : Table) (c n : ℕ) (sized : length t.columns ≡ width t) where
   named_after (Moved job s k true) legal h =
       one_changed k (after t (Moved job s k true)) (moved_on (column_at t k)) (Contains [] n)
       (λ e. column_same t k (moved_on (column_at t k)) sized legal.0.0) (λ ne. column_other t k c (moved_on (column_at t k)) ne)
-      (λ e named. inl (moved_on_named (column_at t k).moving (column_at t k).home n named)) h
+      (λ e named. inl (on_names (column_at t k).moving (column_at t k).home n named)) h
   named_after (Moved job s k false) legal h =
       one_changed k (after t (Moved job s k false)) (moved_on (column_at t k)) (Contains [] n)
       (λ e. column_same (with_loss t s k) k (moved_on (column_at t k)) sized legal.0.0) (λ ne. column_other (with_loss t s k) k c (moved_on (column_at t k)) ne)
-      (λ e named. inl (moved_on_named (column_at t k).moving (column_at t k).home n named)) h
+      (λ e named. inl (on_names (column_at t k).moving (column_at t k).home n named)) h
   named_after (MoveEnd job k) legal h =
       one_changed k (after t (MoveEnd job k)) (moved_home (column_at t k)) (Contains [] n)
       (λ e. column_same t k (moved_home (column_at t k)) sized legal.0) (λ ne. column_other t k c (moved_home (column_at t k)) ne)
-      (λ e named. inl (moved_home_named (column_at t k).moving (column_at t k).home n named)) h
+      (λ e named. inl (home_names (column_at t k).moving (column_at t k).home n named)) h
   named_after (Swapped job k to) legal h =
       one_changed k (after t (Swapped job k to)) (record { home = to; moving = None }) (Contains (brought c (Swapped job k to)) n)
       (λ e. swapped_is t k to sized legal.0) (λ ne. swapped_other t k c to ne)

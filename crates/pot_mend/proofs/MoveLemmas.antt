@@ -55,7 +55,7 @@ is_step c _ = false
 in_none : {X : Type 0} (x : X) → Contains [] x → ⊥
 in_none x h = (let l : h.0 < 0 = h.1 in omega arith)
 
-in_one : {X : Type 0} (x y : X) → Contains (x ∷ []) y → x ≡ y
+pub in_one : {X : Type 0} (x y : X) → Contains (x ∷ []) y → x ≡ y
 in_one x y (zero, l, e) = e
 in_one x y (suc k, l, e) = absurd (omega (arith, l))
 

@@ -36,6 +36,7 @@ use Rattle.pot_store.proofs.AddLemmas.{adds_none, adds_then, next_adds, next_fin
 use Rattle.pot_mend.proofs.SectionLemmas.{found_was, last_full, not_always, only_in}
 use Rattle.pot_mend.proofs.RepairLemmas.{none_again_more, repairs_wider}
 use Rattle.pot_mend.proofs.PlaceLemmas.{drawn_more}
+use Rattle.pot_mend.proofs.ScrubLemmas.{none_before}
 
 -- PLACE AFTER PLACE
 
@@ -48,10 +49,6 @@ pub record Repairing (job g s c : ℕ) (r : Repaired) (pads after : Pads) (old n
 
 none_in : (e : Entry) → Contains [] e → ⊥
 none_in e has = (let lt = has.1 in absurd (omega (arith, lt)))
-
-none_before : (n k : ℕ) → Precedes (n, k) (0, 0) → ⊥
-none_before n k (inl a) = absurd (omega (arith, a))
-none_before n k (inr a) = (let x = a.1 in absurd (omega (arith, x)))
 
 empty_end : {E : Type 0} (xs ys : List E) (e : E) → [] ≡ xs ++ e ∷ ys → ⊥
 empty_end [] ys e is = cc is

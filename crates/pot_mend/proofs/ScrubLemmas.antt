@@ -132,7 +132,7 @@ pub record ScrubSofar (job g s c seen gone : ℕ) (old now : GroupPasses) : Type
   pub both : seen + gone ≡ length entries
   pub done : (n k : ℕ) → Precedes (n, k) (s, c) → IsDone entries job n k g old now
 
-none_before : (n k : ℕ) → Precedes (n, k) (0, 0) → ⊥
+pub none_before : (n k : ℕ) → Precedes (n, k) (0, 0) → ⊥
 none_before n k (inl a) = absurd (omega (arith, a))
 none_before n k (inr a) = (let x = a.1 in absurd (omega (arith, x)))
 

@@ -23,6 +23,7 @@ use Rattle.pot_group.specs.Group.{GroupView, IsSettled}
 use Rattle.pot_group.specs.Relaying.{Owns}
 use Rattle.pot_group.specs.Calls.{AdvanceCall, AdvanceTells, BeginCall, Grows, Made, RelayEntries}
 use Rattle.pot_group.proofs.BeginSteps.{crowded}
+use Rattle.pot_group.proofs.MendSteps.{owns_where, stands_some}
 use Rattle.pot_rows.specs.Rows.{view_at}
 use Rattle.pot_shared.specs.Ready.{GroupPasses}
 use Rattle.pot_shared.specs.Calls.{CallAt}
@@ -32,22 +33,9 @@ use Rattle.pot_mend.specs.declared.stepping.Step.{Step}
 use Rattle.pot_mend.specs.declared.stepping.Step.TheVariants as step
 use Rattle.pot_mend.specs.Stepping.{HasRelay, StepCause, StepEntries, StepWhy, StepsAt, StepsIn, stepped_as}
 use Rattle.pot_store.proofs.AddLemmas.{adds_call, left_bound, left_long, met_once}
+use Rattle.pot_store.proofs.RelayLemmas.{on_way, at_end}
 
 -- WHICH RELAY
-
-is_same : (a b : ℕ) → IsTrue (a == b) → a ≡ b
-is_same a b e = grind (arith, nat_tests)
-
-same_is : (a b : ℕ) → a ≡ b → IsTrue (a == b)
-same_is a b e = grind (arith, nat_tests)
-
--- the relay of the stripe rebuilds this column, and so its own slot just where that is the one asked for
-pub owns_where : (t : Table) (s k c : ℕ) → IsSomeAnd (relay_at t s) (λ r. r.target ≡ k) → IsTrue (k == c) ↔ Owns t s s c
-owns_where t s k c h = (λ e. there (relay_at t s) h (is_same k c e), λ o. same_is k c (back (relay_at t s) h o))
-  where
-    there : (o : Option Relay) → IsSomeAnd o (λ r. r.target ≡ k) → k ≡ c → IsSomeAnd o (λ r. (s ≡ s) × (r.target ≡ c))
-    there (Some r) h e = (refl, h ∙ e)
-    there None h e = absurd h
 
     back : (o : Option Relay) → IsSomeAnd o (λ r. r.target ≡ k) → IsSomeAnd o (λ r. (s ≡ s) × (r.target ≡ c)) → k ≡ c
     back (Some r) h w = sym h ∙ w.1
@@ -73,18 +61,6 @@ has_relay t long standing = at t.relays refl
     )
 
 -- IN THE GROUP
-
-on_way : (o : Option Flight) (next : Flight → Option ℕ) (P : Flight → ℕ → Type 0) → IsSomeAnd o (λ f. IsSomeAnd (next f) (P f)) → (f : Flight) × (c : ℕ) × P f c
-on_way None next P h = absurd h
-on_way (Some f) next P h = at (next f) h
-  where
-    at : (o : Option ℕ) → IsSomeAnd o (P f) → (g : Flight) × (c : ℕ) × P g c
-    at None q = absurd q
-    at (Some c) q = (f, c, q)
-
-at_end : (o : Option Flight) (Q : Flight → Type 0) → IsSomeAnd o Q → (f : Flight) × (o ≡ Some f) × Q f
-at_end None Q h = absurd h
-at_end (Some f) Q h = (f, refl, h)
 
 -- what a call of the group made is the step's
 module _ (told : Type 0) (job s c : ℕ) (old new : GroupView) (entries : List Entry) (grows : Grows old new entries) where
@@ -139,10 +115,6 @@ standing_in told job place blind old mid new k r settled (begun, same, row) made
     advanced_in told job place.stripe place.column old new entries grows settled place.stripe (k == place.column) (owns_where old.table place.stripe k place.column m.4) r
     (not_idle r entries advance.tells m.4) advance.tells
   where
-    stands_some : (o : Option Relay) (P : Relay → Type 0) → IsSomeAnd o P → o ≢ None
-    stands_some (Some x) P h e = cc
-    stands_some None P h e = h
-
     not_idle : (a : Result Advanced AdvanceFault) (es : List Entry) → AdvanceTells job place.stripe a old new es → IsSomeAnd (relay_at old.table place.stripe) (λ x. x.target ≡ k)
         → a ≡ Err failed.Idle → ⊥
     not_idle a es am at e = (let q = subst (λ x. AdvanceTells job place.stripe x old new es) e am in stands_some (relay_at old.table place.stripe) (λ x. x.target ≡ k) at q.3)

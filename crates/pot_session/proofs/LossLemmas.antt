@@ -12,8 +12,6 @@ use Rattle.pot_outside.specs.Counts.{Rose}
 use Rattle.pot_machine.specs.declared.entry.Entry.{Entry}
 use Rattle.pot_machine.specs.declared.entry.Entry.TheVariants as entry
 use Rattle.pot_machine.specs.declared.relay.Relay.{Relay}
-use Rattle.pot_machine.specs.declared.slot.SlotState.{SlotState}
-use Rattle.pot_machine.specs.declared.slot.SlotState.TheVariants.{Void, Live, Lost, Broken}
 use Rattle.pot_machine.specs.Slot.{is_live, is_unsound}
 use Rattle.pot_machine.specs.Rules.{IsTable, IsStanding}
 use Rattle.pot_machine.specs.Making.{empty_table}
@@ -23,6 +21,7 @@ use Rattle.pot_machine.specs.Logs.{is_of, own, replayed}
 use Rattle.pot_machine.proofs.Logs.{legal_at, table_at}
 use Rattle.pot_steps.proofs.Acting.{find_all}
 use Rattle.pot_steps.proofs.OpenPlaces.{relay_over}
+use Rattle.pot_steps.proofs.MendingRuns.{unsound_dead}
 use Rattle.pot_group.specs.Arrivals.{arrivals}
 use Rattle.pot_machine.specs.Column.{homes_of, target_of}
 use Rattle.pot_group.specs.Causes.{Misses, WhereMissed, HasLost, archives_of, brought, brought_by}
@@ -124,13 +123,6 @@ split before x y rest e =
     append_assoc before (x ++ e ∷ y) rest
     ∙ (ap (λ l. before ++ l) (append_assoc x (e ∷ y) rest) ∙ sym (append_assoc before x (e ∷ (y ++ rest))))
 
--- a slot that is Lost or Broken is not Live
-unsound_not_live : (x : SlotState) → IsTrue (is_unsound x) → is_live x ≡ false
-unsound_not_live Void u = refl
-unsound_not_live (Live d) u = absurd (cc)
-unsound_not_live (Lost d) u = refl
-unsound_not_live (Broken d) u = refl
-
 -- the target of a relay that stands is one
 target_unsound : (t : Table) (s c : ℕ) (next : Option ℕ) (o : Option Relay) → IsTable t → relay_at t s ≡ o → IsSomeAnd o (λ r. (r.target ≡ c) × (next_column t r ≡ next)) → IsTrue (is_unsound (slot_at t s c))
 target_unsound t s c next None table e h = absurd h
@@ -203,10 +195,10 @@ module _ (told : Type 0) (seed : List ℕ) (first last : Contents) (meant means 
       by table legal (inl gone) = gone_at g p.stripe p.column job t log x y is_table is_log (parts ∙ ap (λ z. x ++ z ∷ y) gone) lt some
       by table legal (inr (inl (o, stuck))) =
           let here : Legal (replayed t x) (entry.Stuck job p.stripe p.column o) = subst (λ z. Legal (replayed t x) z) stuck legal in
-          unsound_not_live (slot_at (replayed t x) p.stripe p.column) here.1
+          unsound_dead (slot_at (replayed t x) p.stripe p.column) here.1
       by table legal (inr (inr (f, oddly))) =
           let here : Legal (replayed t x) (entry.Oddly job p.stripe p.column f) = subst (λ z. Legal (replayed t x) z) oddly legal in
-          unsound_not_live (slot_at (replayed t x) p.stripe p.column) (target_unsound (replayed t x) p.stripe p.column None (relay_at (replayed t x) p.stripe) table refl here.1)
+          unsound_dead (slot_at (replayed t x) p.stripe p.column) (target_unsound (replayed t x) p.stripe p.column None (relay_at (replayed t x) p.stripe) table refl here.1)
 
   module _ (job : ℕ) (name : List ℕ) (piece fragment have need : ℕ) (w : Section) (begin : BeginWith w last.group_logs) (some : 0 < job)
       (lost : IsLost (setting_of seed first) job name piece fragment have need w) (room : FitsRack first.rack lost.kept) where

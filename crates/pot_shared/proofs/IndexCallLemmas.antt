@@ -17,11 +17,7 @@ use Rattle.pot_shared.specs.declared.catalog.Strange.{Strange}
 use Rattle.pot_shared.specs.Catalogs.{CatalogView, IndexPass, IndexPasses, IsIndexReady, IsIndexOf, origin_of}
 use Rattle.pot_shared.specs.IndexCalls.{IndexCall, HasReserved, Abandons, PublishesRecord}
 use Rattle.pot_shared.proofs.CatalogLemmas.{IsSmall, small_log, small_rack, small_read}
-
-set_twice : {X : Type 0} (xs : List X) (i : ℕ) (x y : X) → set (set xs i x) i y ≡ set xs i y
-set_twice [] i x y = refl
-set_twice (z ∷ xs) zero x y = refl
-set_twice (z ∷ xs) (suc i) x y = ap (λ w. z ∷ w) (set_twice xs i x y)
+use Rattle.pot_shared.proofs.CallLemmas.{set_twice}
 
 -- the log went on, and nothing else that the origin has changed
 pub record GoesOn (s t : IndexView) : Type 0 where

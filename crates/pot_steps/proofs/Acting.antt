@@ -33,7 +33,7 @@ use Rattle.pot_bytes.specs.Lists.{IsBlock}
 use Rattle.pot_steps.specs.Stripe.{Stripe, IsSound, NoneBroken, digest_of}
 use Rattle.pot_steps.specs.Law.{StripeLaw, Worse, Repairs, lost_count}
 use Rattle.pot_steps.specs.declared.flight.Flight.{Flight}
-use Rattle.pot_steps.specs.Flight.{FlightLaw, IsRelay, weight, weight_in, left_out, partial_of}
+use Rattle.pot_steps.specs.Flight.{FlightLaw, weight, weight_in, left_out, partial_of}
 use Rattle.pot_steps.specs.Flight as flight
 use Rattle.pot_steps.specs.Holdings.{Holdings, HoldsUp, stripe_of}
 use Rattle.pot_steps.specs.Entries.{held_at, LosesAtLive}
@@ -141,7 +141,7 @@ slots_less t _ n k l = inl refl
 
 -- LIVE SLOTS AND THE ARCHIVES THAT SERVE THEM
 
-lost_live : (x : SlotState) → IsTrue (is_live (lost_of x)) → ⊥
+pub lost_live : (x : SlotState) → IsTrue (is_live (lost_of x)) → ⊥
 lost_live Void e = absurd (cc)
 lost_live (Live d) e = absurd (cc)
 lost_live (Lost d) e = absurd (cc)

@@ -2,10 +2,10 @@
 use Rattle.std.proofs.Common.{◌≡◌, ◌≢◌, ◌⊎◌, inl, inr, ℕ, ◌<◌, List, Option, Some, None, IsSomeAnd, true, false, IsTrue, refl, sym, ap, ◌∙◌, subst, arith}
 use Rattle.pot_bytes.specs.declared.digest.Digest.{Digest}
 use Rattle.pot_machine.specs.declared.slot.SlotState.{SlotState}
-use Rattle.pot_machine.specs.declared.slot.SlotState.TheVariants.{Void, Live, Lost, Broken}
+use Rattle.pot_machine.specs.declared.slot.SlotState.TheVariants.{Live}
 use Rattle.pot_machine.specs.declared.entry.Entry.{Entry}
 use Rattle.pot_machine.specs.declared.entry.Entry.TheVariants.{Put, Skip, Seen, Gone, Broke, Fault, Begin, Hop, Mended, GaveUp, Oddly, Stuck, MoveBegin, Moved, MoveEnd, Swapped, Counted, Put2}
-use Rattle.pot_machine.specs.Slot.{is_live, lost_of, live_of}
+use Rattle.pot_machine.specs.Slot.{is_live, live_of}
 use Rattle.pot_machine.specs.Table.{Table, width, slot_at, serving_at}
 use Rattle.pot_machine.specs.Machine.{Legal, after}
 use Rattle.pot_machine.specs.Rules.{IsTable}
@@ -19,20 +19,14 @@ use Rattle.pot_steps.specs.Holdings.{Holdings, LiveLaw, stripe_of}
 use Rattle.pot_steps.specs.Entries.{held_at}
 use Rattle.pot_steps.specs.Flights.{Acts, WritesBack, Copies, flight_in}
 use Rattle.pot_steps.specs.Losses.{KeepsHeld, ActKeepsLive}
-use Rattle.pot_steps.proofs.Acting.{Lessens, slots_less, serving_same, moved_other, live_of_digest}
+use Rattle.pot_steps.proofs.Acting.{Lessens, slots_less, serving_same, moved_other, live_of_digest, lost_live}
 use Rattle.pot_steps.proofs.Changes.{LostOrSame, live_before}
 use Rattle.pot_steps.proofs.Losses.{entry_keeps_live}
-
-lost_dead : (x : SlotState) → IsTrue (is_live (lost_of x)) → ⊥
-lost_dead Void e = absurd (cc)
-lost_dead (Live d) e = absurd (cc)
-lost_dead (Lost d) e = absurd (cc)
-lost_dead (Broken d) e = absurd (cc)
 
 -- a slot that is Live afterwards was Live with the same digest
 same_live : (x y : SlotState) (d : Digest) → LostOrSame x y → IsTrue (is_live y) → x ≡ Live d → y ≡ Live d
 same_live x y d (inl e) l h = e ∙ h
-same_live x y d (inr e) l h = absurd (lost_dead x (sym (ap is_live e) ∙ l))
+same_live x y d (inr e) l h = absurd (lost_live x (sym (ap is_live e) ∙ l))
 
 -- one place that stays as it was
 module _ (t u : Table) (h h' : Holdings) (rose : ℕ → Type 0) (n k : ℕ) (slot : LostOrSame (slot_at t n k) (slot_at u n k)) (serves : serving_at u n k ≡ serving_at t n k)

@@ -17,14 +17,12 @@ use Rattle.pot_steps.specs.Stripe.{digest_of}
 use Rattle.pot_steps.specs.declared.flight.Flight.{Flight}
 use Rattle.pot_steps.specs.Flights.{Acts, Stands, flights_after}
 use Rattle.pot_steps.specs.Holdings.{Holdings}
-use Rattle.pot_steps.specs.Entries.{LosesAtLive, WritesStripe}
+use Rattle.pot_steps.specs.Entries.{WritesStripe}
 use Rattle.pot_steps.specs.GroupStep.{GroupState, LosesBlocks, Passed, PassesTo, PutsBlock, PutFailed, PutStepKeeps, LookStepKeeps, FullStepKeeps, CountStepKeeps, Settled, Placed, NotPut, Full, NoRoom, Seen, Gone, Faulted, LogFull, skips, gone_entries, put_entry}
 use Rattle.pot_steps.proofs.Acting.{act_keeps, loss_keeps_all}
 use Rattle.pot_steps.proofs.Entries.{is_void_at}
+use Rattle.pot_steps.proofs.StepsKeep.{loses_only}
 use Rattle.pot_machine.proofs.Cases.{same_or}
-
-loses_only : (t : Table) (h h' : Holdings) → LosesBlocks h h' → LosesAtLive t h h'
-loses_only t h h' l s c b ls lc void e = l (serving_at t s c) s b e
 
 same : (h : Holdings) → LosesBlocks h h
 same h number slot b e = e
@@ -120,7 +118,7 @@ cursor_void t h l =
     reached : (a : ℕ) → nat_le a a ≡ true
     reached a = grind (arith, nat_tests)
 
-live_void : (x : SlotState) → IsTrue (is_live x) → x ≢ Void
+pub live_void : (x : SlotState) → IsTrue (is_live x) → x ≢ Void
 live_void Void l e = absurd (cc)
 live_void (Live d) l e = absurd (cc)
 live_void (Lost d) l e = absurd (cc)

@@ -33,7 +33,7 @@ use Rattle.pot_steps.proofs.StepsKeep.{mend_step_keeps}
 
 -- A PLACE THAT WAS MENDED
 
-unsound_dead : (x : SlotState) → IsTrue (is_unsound x) → is_live x ≡ false
+pub unsound_dead : (x : SlotState) → IsTrue (is_unsound x) → is_live x ≡ false
 unsound_dead Void u = refl
 unsound_dead (Live d) u = absurd (cc)
 unsound_dead (Lost d) u = refl

@@ -7,12 +7,11 @@ use Rattle.pot_steps.specs.Holdings.{Holdings}
 use Rattle.pot_steps.specs.Entries.{LosesAtLive}
 use Rattle.pot_steps.specs.Flights.{Stands, flights_after}
 use Rattle.pot_steps.specs.GroupStep.{GroupState, LosesBlocks, FullStep, Settled}
-use Rattle.pot_steps.specs.RelaySteps.{LoggedKeeps, Unchanged, BeginStepKeeps, AdvanceStepKeeps, MendStepKeeps, GoesBy, MendAnswer}
-use Rattle.pot_steps.specs.RelaySteps.{Begun, NoRoom, Whole, Standing, TwoGone, Crowded, Hopped, Mended, Ended, Odd, Faulted, Idle, LogFull, Began, Went, NoNeed, Stuck, MendOdd, MendFaulted, MendFull}
+use Rattle.pot_steps.specs.RelaySteps.{LoggedKeeps, Unchanged, BeginStepKeeps, AdvanceStepKeeps, MendStepKeeps, GoesBy, MendAnswer, Begun, NoRoom, Whole, Standing, TwoGone, Crowded, Hopped, Mended, Ended, Odd, Faulted, Idle, LogFull, Began, Went, NoNeed, Stuck, MendOdd, MendFaulted, MendFull}
 use Rattle.pot_steps.specs.MoveSteps.{BringStepKeeps, MoveStepKeeps, Copied, Passed, MoveEnded, MoveFaulted, MoveIdle, MoveFull}
 use Rattle.pot_steps.proofs.Acting.{act_keeps, loss_keeps_all}
 
-loses_only : (t : Table) (h h' : Holdings) → LosesBlocks h h' → LosesAtLive t h h'
+pub loses_only : (t : Table) (h h' : Holdings) → LosesBlocks h h' → LosesAtLive t h h'
 loses_only t h h' l s c b ls lc void e = l (serving_at t s c) s b e
 
 -- the same table and flights

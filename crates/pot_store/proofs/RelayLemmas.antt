@@ -119,7 +119,7 @@ elsewhere a b s c other = at (a == s) refl (b == c) refl
     at true e false f = rw (e, f) refl
     at false e y f = rw e refl
 
-on_way : (o : Option Flight) (next : Flight → Option ℕ) (P : Flight → ℕ → Type 0) → IsSomeAnd o (λ f. IsSomeAnd (next f) (P f)) → (f : Flight) × (c : ℕ) × P f c
+pub on_way : (o : Option Flight) (next : Flight → Option ℕ) (P : Flight → ℕ → Type 0) → IsSomeAnd o (λ f. IsSomeAnd (next f) (P f)) → (f : Flight) × (c : ℕ) × P f c
 on_way None next P h = absurd h
 on_way (Some f) next P h = at (next f) h
   where
@@ -127,7 +127,7 @@ on_way (Some f) next P h = at (next f) h
     at None q = absurd q
     at (Some c) q = (f, c, q)
 
-at_end : (o : Option Flight) (Q : Flight → Type 0) → IsSomeAnd o Q → (f : Flight) × (o ≡ Some f) × Q f
+pub at_end : (o : Option Flight) (Q : Flight → Type 0) → IsSomeAnd o Q → (f : Flight) × (o ≡ Some f) × Q f
 at_end None Q h = absurd h
 at_end (Some f) Q h = (f, refl, h)
 
