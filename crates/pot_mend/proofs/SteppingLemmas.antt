@@ -37,10 +37,6 @@ use Rattle.pot_store.proofs.RelayLemmas.{on_way, at_end}
 
 -- WHICH RELAY
 
-    back : (o : Option Relay) → IsSomeAnd o (λ r. r.target ≡ k) → IsSomeAnd o (λ r. (s ≡ s) × (r.target ≡ c)) → k ≡ c
-    back (Some r) h w = sym h ∙ w.1
-    back None h w = absurd h
-
 -- a table with relays has one in a stripe
 first_stands : (rs : List Relay) (r : Relay) → relay_in (r ∷ rs) r.stripe ≢ None
 first_stands rs r e = some (r.stripe == r.stripe) (eq-eqb r.stripe r.stripe refl) (find (λ q. q.stripe == r.stripe) rs) e
