@@ -1,6 +1,6 @@
 //! Columns that move to other archives, and archives that are replaced.
 use crate::scene::{
-    Answer, BLIND, Call, EMPTY, Ending, JOB, Scene, fault, gone, place, put, see, see_heard,
+    Answer, BLIND, Call, EMPTY, Ending, JOB, Scene, fault, gone, place, put, see, see_heard, seen,
 };
 use crate::*;
 use pot_doubles::Loss;
@@ -24,6 +24,10 @@ fn stepped(step: MoveStep) -> Answer {
     Answer::MoveStep(Ok(step))
 }
 
+fn saw(byte: u8) -> Answer {
+    Answer::Look(Looked::Seen, Some(byte))
+}
+
 fn used(column: u8, role: Role) -> Answer {
     Answer::UseOf(Some(Use {
         group: 5,
@@ -31,6 +35,10 @@ fn used(column: u8, role: Role) -> Answer {
         role,
     }))
 }
+
+const MOVING: Answer = Answer::MoveBegin(Ok(()));
+
+const IDLE: Answer = Answer::MoveStep(Err(MoveFault::Idle));
 
 const GONE: Answer = Answer::Look(Looked::Gone, None);
 
@@ -55,6 +63,30 @@ fn moved(stripe: u32, column: u8, copied: bool) -> Entry {
     }
 }
 
+fn begun(stripe: u32, column: u8) -> Entry {
+    Entry::Begin {
+        job: JOB,
+        stripe,
+        column,
+    }
+}
+
+fn hop(stripe: u32, column: u8) -> Entry {
+    Entry::Hop {
+        job: JOB,
+        stripe,
+        column,
+    }
+}
+
+fn mended(stripe: u32, column: u8) -> Entry {
+    Entry::Mended {
+        job: JOB,
+        stripe,
+        column,
+    }
+}
+
 fn ended(column: u8) -> Entry {
     Entry::MoveEnd { job: JOB, column }
 }
@@ -76,18 +108,18 @@ fn move_from_an_archive_that_loses_all(rt: HostRuntime) -> Result<(), Fail> {
         (Call::Put(B), placed(0, 1)),
         (Call::Put(A), placed(1, 0)),
         (Call::Put(C), placed(1, 1)),
-        (Call::MoveBegin(0, 9, &[]), Answer::MoveBegin(Ok(()))),
+        (Call::MoveBegin(0, 9, &[]), MOVING),
         (Call::UseOf(9), used(0, Role::Target)),
         (Call::MoveStep(0), stepped(MoveStep::Copied)),
         (Call::MoveStep(0), stepped(MoveStep::Passed)),
         (Call::MoveStep(0), stepped(MoveStep::Passed)),
         (Call::MoveStep(0), stepped(MoveStep::Passed)),
         (Call::MoveStep(0), stepped(MoveStep::Ended)),
-        (Call::MoveStep(0), Answer::MoveStep(Err(MoveFault::Idle))),
+        (Call::MoveStep(0), IDLE),
         (Call::UseOf(0), used(0, Role::Retired)),
         (Call::UseOf(9), used(0, Role::Home)),
         (Call::UseOf(8), Answer::UseOf(None)),
-        (Call::Look(0, 0), Answer::Look(Looked::Seen, Some(A))),
+        (Call::Look(0, 0), saw(A)),
         (Call::Mend(1, 0), BEGAN),
         (Call::Mend(1, 0), WENT),
         (Call::Mend(1, 0), WENT),
@@ -105,31 +137,11 @@ fn move_from_an_archive_that_loses_all(rt: HostRuntime) -> Result<(), Fail> {
         moved(2, 0, false),
         moved(3, 0, false),
         ended(0),
-        Entry::Seen {
-            job: JOB,
-            stripe: 0,
-            column: 0,
-        },
-        Entry::Begin {
-            job: JOB,
-            stripe: 1,
-            column: 0,
-        },
-        Entry::Hop {
-            job: JOB,
-            stripe: 1,
-            column: 1,
-        },
-        Entry::Hop {
-            job: JOB,
-            stripe: 1,
-            column: 2,
-        },
-        Entry::Mended {
-            job: JOB,
-            stripe: 1,
-            column: 0,
-        },
+        seen(0, 0),
+        begun(1, 0),
+        hop(1, 1),
+        hop(1, 2),
+        mended(1, 0),
     ];
     let ending = Ending {
         log: &log,
@@ -157,7 +169,7 @@ fn move_with_a_relay_in_its_stripe(rt: HostRuntime) -> Result<(), Fail> {
         (Call::Put(B), placed(0, 1)),
         (Call::Look(0, 0), GONE),
         (Call::Mend(0, 0), BEGAN),
-        (Call::MoveBegin(1, 9, &[0]), Answer::MoveBegin(Ok(()))),
+        (Call::MoveBegin(1, 9, &[0]), MOVING),
         (Call::MoveStep(1), failed),
         (Call::MoveStep(1), failed),
         (Call::MoveStep(1), stepped(MoveStep::Copied)),
@@ -166,40 +178,23 @@ fn move_with_a_relay_in_its_stripe(rt: HostRuntime) -> Result<(), Fail> {
         (Call::Mend(0, 0), WENT),
         (Call::MoveStep(1), stepped(MoveStep::Ended)),
         (Call::Mend(0, 0), WENT),
-        (Call::Look(0, 0), Answer::Look(Looked::Seen, Some(A))),
+        (Call::Look(0, 0), saw(A)),
     ];
-    let hop = |column| Entry::Hop {
-        job: JOB,
-        stripe: 0,
-        column,
-    };
     let log = [
         put(0, 0, A, A, true),
         put(0, 1, B, AB, true),
         gone(JOB, 0, 0),
-        Entry::Begin {
-            job: JOB,
-            stripe: 0,
-            column: 0,
-        },
+        begun(0, 0),
         moves(1, 9),
         fault(0, 1),
         fault(0, 1),
         moved(0, 1, true),
-        hop(1),
+        hop(0, 1),
         moved(1, 1, false),
-        hop(3),
+        hop(0, 3),
         ended(1),
-        Entry::Mended {
-            job: JOB,
-            stripe: 0,
-            column: 0,
-        },
-        Entry::Seen {
-            job: JOB,
-            stripe: 0,
-            column: 0,
-        },
+        mended(0, 0),
+        seen(0, 0),
     ];
     let ending = Ending {
         log: &log,
@@ -220,7 +215,7 @@ fn archives_that_come(rt: HostRuntime) -> Result<(), Fail> {
         (Call::Put(A), placed(0, 0)),
         (Call::Put(B), placed(0, 1)),
         (Call::MoveBegin(1, 2, &[]), taken(2)),
-        (Call::MoveBegin(1, 9, &[]), Answer::MoveBegin(Ok(()))),
+        (Call::MoveBegin(1, 9, &[]), MOVING),
         (Call::MoveBegin(1, 8, &[]), taken(1)),
         (Call::MoveStep(1), stepped(MoveStep::Copied)),
         (
@@ -232,18 +227,13 @@ fn archives_that_come(rt: HostRuntime) -> Result<(), Fail> {
         (Call::UseOf(1), used(1, Role::Retired)),
         (Call::UseOf(9), used(1, Role::Retired)),
         (Call::UseOf(8), used(1, Role::Home)),
-        (Call::MoveStep(1), Answer::MoveStep(Err(MoveFault::Idle))),
+        (Call::MoveStep(1), IDLE),
         (Call::Mend(0, 1), BEGAN),
         (Call::Mend(0, 1), WENT),
         (Call::Mend(0, 1), WENT),
         (Call::Mend(0, 1), WENT),
-        (Call::Look(0, 1), Answer::Look(Looked::Seen, Some(B))),
+        (Call::Look(0, 1), saw(B)),
     ];
-    let hop = |column| Entry::Hop {
-        job: JOB,
-        stripe: 0,
-        column,
-    };
     let log = [
         put(0, 0, A, A, true),
         put(0, 1, B, AB, true),
@@ -254,23 +244,11 @@ fn archives_that_come(rt: HostRuntime) -> Result<(), Fail> {
             column: 1,
             to: 8,
         },
-        Entry::Begin {
-            job: JOB,
-            stripe: 0,
-            column: 1,
-        },
-        hop(0),
-        hop(3),
-        Entry::Mended {
-            job: JOB,
-            stripe: 0,
-            column: 1,
-        },
-        Entry::Seen {
-            job: JOB,
-            stripe: 0,
-            column: 1,
-        },
+        begun(0, 1),
+        hop(0, 0),
+        hop(0, 3),
+        mended(0, 1),
+        seen(0, 1),
     ];
     let ending = Ending {
         log: &log,
