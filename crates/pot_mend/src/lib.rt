@@ -18,6 +18,8 @@ mod fault;
 mod move_tests;
 mod moving;
 mod repairing;
+#[cfg(test)]
+mod scene;
 mod scrubbing;
 mod stepping;
 #[cfg(test)]
