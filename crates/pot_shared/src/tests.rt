@@ -123,28 +123,34 @@ const PLACE: Place = Place {
 };
 
 /// A rack of one group with one data column and one parity column.
-fn rack() -> Rack {
+fn rack() -> Result<Rack, Fail>
+    ensures fits { IfOk result IsRack }
+    ensures one { IfOk result (λ r. r.groups ≡ 1) }
+    ensures parity { IfOk result (λ r. r.parity ≡ 1) }
+{
     let geometry = Geometry {
         fragments: 2,
         need: 1,
         shards: 1,
         blur: 0,
     };
-    Rack {
+    let rack = Rack {
         groups: 1,
         columns: 1,
         parity: 1,
         stripes: 2,
         geometry,
+    };
+    if rack.fits() {
+        Ok(rack)
+    } else {
+        Err(Fail::from("the rack does not fit"))
     }
 }
 
 #[test]
 fn begins_and_ends(rt: HostRuntime) -> Result<(), Fail> {
-    let rack = rack();
-    if !rack.fits() || rack.groups != 1 || rack.parity != 1 {
-        return Err(Fail::from("the rack does not fit"));
-    }
+    let rack = rack()?;
     let (vault, passes) = vault(rt.alloc(), &rack, &[])?;
     let Closed { members, index } = vault.close(passes);
     assert_eq!(rt; members.len(), 1);
@@ -154,10 +160,7 @@ fn begins_and_ends(rt: HostRuntime) -> Result<(), Fail> {
 
 #[test]
 fn calls_of_a_job(rt: HostRuntime) -> Result<(), Fail> {
-    let rack = rack();
-    if !rack.fits() || rack.groups != 1 || rack.parity != 1 {
-        return Err(Fail::from("the rack does not fit"));
-    }
+    let rack = rack()?;
     let alloc = rt.alloc();
     let (vault, mut passes) = vault(alloc, &rack, &[])?;
     let Some(name) = Name::read(b"a") else {
@@ -193,10 +196,7 @@ fn calls_of_a_job(rt: HostRuntime) -> Result<(), Fail> {
 
 #[test]
 fn passes_shared_out(rt: HostRuntime) -> Result<(), Fail> {
-    let rack = rack();
-    if !rack.fits() || rack.groups != 1 || rack.parity != 1 {
-        return Err(Fail::from("the rack does not fit"));
-    }
+    let rack = rack()?;
     let alloc = rt.alloc();
     let (vault, mut passes) = vault(alloc, &rack, &[])?;
     let Ok(mut given) = vault.split(alloc, &mut passes, 4) else {
@@ -343,10 +343,7 @@ fn trace<R: Wait>(
 /// Archive 0 loses its block at its second call, which is the first look's read.
 #[test]
 fn a_place_is_mended(rt: HostRuntime) -> Result<(), Fail> {
-    let rack = rack();
-    if !rack.fits() || rack.groups != 1 || rack.parity != 1 {
-        return Err(Fail::from("the rack does not fit"));
-    }
+    let rack = rack()?;
     let (vault, mut passes) = filled(&rt, rt.alloc(), &rack, &[Loss { call: 1, slot: 0 }])?;
     assert_eq!(rt; look(&rt, &vault, &mut passes).0, Looked::Gone);
     assert_eq!(rt; mend(&rt, &vault, &mut passes), Mend::Whole);
@@ -356,10 +353,7 @@ fn a_place_is_mended(rt: HostRuntime) -> Result<(), Fail> {
 
 #[test]
 fn a_column_moves(rt: HostRuntime) -> Result<(), Fail> {
-    let rack = rack();
-    if !rack.fits() || rack.groups != 1 || rack.parity != 1 {
-        return Err(Fail::from("the rack does not fit"));
-    }
+    let rack = rack()?;
     let (vault, mut passes) = filled(&rt, rt.alloc(), &rack, &[])?;
     assert!(rt; begin_move(&rt, rt.alloc(), &vault, &mut passes, 7)?);
     assert_eq!(rt; go_on(&rt, &vault, &mut passes), Ok(MoveStep::Copied));
@@ -371,10 +365,7 @@ fn a_column_moves(rt: HostRuntime) -> Result<(), Fail> {
 
 #[test]
 fn an_archive_is_replaced(rt: HostRuntime) -> Result<(), Fail> {
-    let rack = rack();
-    if !rack.fits() || rack.groups != 1 || rack.parity != 1 {
-        return Err(Fail::from("the rack does not fit"));
-    }
+    let rack = rack()?;
     let (vault, mut passes) = filled(&rt, rt.alloc(), &rack, &[])?;
     assert_eq!(rt; replace(&rt, rt.alloc(), &vault, &mut passes, 9)?, Some(1));
     assert_eq!(rt; role(&rt, &vault, &mut passes, 0), Some(Role::Retired));
