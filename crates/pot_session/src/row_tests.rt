@@ -257,6 +257,15 @@ struct Story<'a> {
     sessions: &'a [Session<'a>],
 }
 
+/// One file is stored over six archives.
+const STORED_OVER_SIX: Session = Session {
+    script: &[(b"store a 5\nhello\nquit\n", 0)],
+    status: 0,
+    text: &[(b"stored a 1 6\n", 0)],
+    image: (1215, 0x0a1a_63fa_2a03_f244),
+    blocks: (12384, 0x9807_42f7_562f_6d3d),
+};
+
 const STORIES: [Story; 8] = [
     // A file of which two blocks get lost: its fetch mends the one that it needs.
     Story {
@@ -303,13 +312,7 @@ const STORIES: [Story; 8] = [
             (1, Loss { call: 2, slot: 0 }),
         ],
         sessions: &[
-            Session {
-                script: &[(b"store a 5\nhello\nquit\n", 0)],
-                status: 0,
-                text: &[(b"stored a 1 6\n", 0)],
-                image: (1215, 0x0a1a_63fa_2a03_f244),
-                blocks: (12384, 0x9807_42f7_562f_6d3d),
-            },
+            STORED_OVER_SIX,
             Session {
                 script: &[(b"fetch a\nrepair 0\nscrub 0\nstatus\nquit\n", 0)],
                 status: 1,
@@ -368,13 +371,7 @@ const STORIES: [Story; 8] = [
             (1, Loss { call: 4, slot: 0 }),
         ],
         sessions: &[
-            Session {
-                script: &[(b"store a 5\nhello\nquit\n", 0)],
-                status: 0,
-                text: &[(b"stored a 1 6\n", 0)],
-                image: (1215, 0x0a1a_63fa_2a03_f244),
-                blocks: (12384, 0x9807_42f7_562f_6d3d),
-            },
+            STORED_OVER_SIX,
             Session {
                 script: &[(b"fetch a\nstatus\nquit\n", 0)],
                 status: 1,
@@ -525,60 +522,58 @@ fn sessions_that_follow_one_another(rt: HostRuntime) -> Result<(), Fail> {
 #[test]
 fn repairs_and_scrubs_a_group(rt: HostRuntime) -> Result<(), Fail> {
     let alloc = rt.alloc();
-    let table: [(u32, u32, &[(u32, Loss)], &[(&[u8], u8)], &[u8]); 3] = [
+    let table: [(u32, u32, &[(u32, Loss)], Sessions); 3] = [
         (
             1,
             2,
             &[(0, Loss { call: 2, slot: 0 })],
-            &[(b"store a 5\nhello\nfetch a\nfetch a\nstatus\nquit\n", 1)],
-            b"ready\nstored a 1 6\nfault 0 1\nfile a 5\nhello\n\
-            group 0 live 4 lost 0 broken 0 cursor 2 0\n\
-            group 1 live 4 lost 0 broken 0 cursor 2 0\n\
-            group 2 live 4 lost 0 broken 0 cursor 2 0\n",
+            (
+                &[(b"store a 5\nhello\nfetch a\nfetch a\nstatus\nquit\n", 1)],
+                b"ready\nstored a 1 6\nfault 0 1\nfile a 5\nhello\n\
+                group 0 live 4 lost 0 broken 0 cursor 2 0\n\
+                group 1 live 4 lost 0 broken 0 cursor 2 0\n\
+                group 2 live 4 lost 0 broken 0 cursor 2 0\n",
+            ),
         ),
         (
             1,
             1,
             &[],
-            &[(
-                b"store a 5\nhello\nstatus\nstore a 5\nhello\nrepair 0\nscrub 0\nfetch a\nquit\n",
-                1,
-            )],
-            b"ready\nfault 0 1\n\
-            group 0 live 3 lost 1 broken 0 cursor 2 0\n\
-            group 1 live 4 lost 0 broken 0 cursor 2 0\n\
-            group 2 live 4 lost 0 broken 0 cursor 2 0\n\
-            stored a 1 6\nrepaired 0 1 0\nscrubbed 0 8 0\nfile a 5\nhello\n",
+            (
+                &[(
+                    b"store a 5\nhello\nstatus\nstore a 5\nhello\nrepair 0\nscrub 0\nfetch a\nquit\n",
+                    1,
+                )],
+                b"ready\nfault 0 1\n\
+                group 0 live 3 lost 1 broken 0 cursor 2 0\n\
+                group 1 live 4 lost 0 broken 0 cursor 2 0\n\
+                group 2 live 4 lost 0 broken 0 cursor 2 0\n\
+                stored a 1 6\nrepaired 0 1 0\nscrubbed 0 8 0\nfile a 5\nhello\n",
+            ),
         ),
         (
             0,
             2,
             &[],
-            &[
-                (b"store a 5\nhello\nquit\n", 0),
-                (b"status\nrepair 0\nscrub 0\nfetch a\nquit\n", 0),
-            ],
-            b"ready\nstored a 1 6\n\
-            group 0 live 3 lost 1 broken 0 cursor 2 0\n\
-            group 1 live 4 lost 0 broken 0 cursor 2 0\n\
-            group 2 live 4 lost 0 broken 0 cursor 2 0\n\
-            repaired 0 1 0\nscrubbed 0 4 0\nfile a 5\nhello\n",
+            (
+                &[
+                    (b"store a 5\nhello\nquit\n", 0),
+                    (b"status\nrepair 0\nscrub 0\nfetch a\nquit\n", 0),
+                ],
+                b"ready\nstored a 1 6\n\
+                group 0 live 3 lost 1 broken 0 cursor 2 0\n\
+                group 1 live 4 lost 0 broken 0 cursor 2 0\n\
+                group 2 live 4 lost 0 broken 0 cursor 2 0\n\
+                repaired 0 1 0\nscrubbed 0 4 0\nfile a 5\nhello\n",
+            ),
         ),
     ];
-    for (archive, call, losses, sessions, text) in &table {
+    for (archive, call, losses, sessions) in &table {
         let trouble = Trouble {
             object: Object::Archive(*archive),
             call: *call,
         };
-        let mut outside = Outside::new(alloc, None, losses, trouble)?;
-        assert_eq!(rt; outside.call(&rt, alloc, SIX, b"", NO_TROUBLE)?, 0);
-        for (script, status) in *sessions {
-            assert_eq!(rt;
-                outside.call(&rt, alloc, "run", script, NO_TROUBLE)?,
-                *status
-            );
-        }
-        assert_eq!(rt; outside.sink.written(), *text);
+        let _outside = hold_all(&rt, alloc, losses, sessions, trouble)?;
     }
     Ok(())
 }
@@ -642,15 +637,16 @@ const ARRIVALS: [(Sessions, (usize, u64)); 3] = [
 /// The length and the mark of no bytes.
 const NOTHING_HEARD: (usize, u64) = (0, 0xe3b0_c442_98fc_1c14);
 
-/// Makes a new archive, holds these sessions over it, while a call fails, and gives back what is outside.
+/// Makes a new archive, holds these sessions over it, while blocks are lost and a call fails, and gives back what is outside.
 fn hold_all<X: Wait + Abort>(
     rt: &X,
     alloc: Global,
+    losses: &[(u32, Loss)],
     sessions: &Sessions,
     trouble: Trouble,
 ) -> Result<Outside, Fail> {
     let (scripts, text) = *sessions;
-    let mut outside = Outside::new(alloc, None, &[], trouble)?;
+    let mut outside = Outside::new(alloc, None, losses, trouble)?;
     assert_eq!(rt; outside.call(rt, alloc, SIX, b"", NO_TROUBLE)?, 0);
     for (script, status) in scripts {
         assert_eq!(rt;
@@ -666,7 +662,7 @@ fn hold_all<X: Wait + Abort>(
 fn archives_that_come(rt: HostRuntime) -> Result<(), Fail> {
     let alloc = rt.alloc();
     for (sessions, wanted) in &ARRIVALS {
-        let outside = hold_all(&rt, alloc, sessions, NO_TROUBLE)?;
+        let outside = hold_all(&rt, alloc, &[], sessions, NO_TROUBLE)?;
         let heard = outside.heard(alloc)?;
         assert_eq!(rt; (heard.len(), mark_of(&heard)), *wanted);
     }
@@ -729,7 +725,7 @@ fn archives_that_do_not_come(rt: HostRuntime) -> Result<(), Fail> {
             object: *object,
             call: *call,
         };
-        let _outside = hold_all(&rt, rt.alloc(), sessions, trouble)?;
+        let _outside = hold_all(&rt, rt.alloc(), &[], sessions, trouble)?;
     }
     Ok(())
 }
