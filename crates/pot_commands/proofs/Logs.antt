@@ -27,4 +27,3 @@ same_end front xs ys whole one two = append_cancel_left front xs ys (sym one ∙
 
 pub entries_append : (xs ys : List Logged) → entries_of (xs ++ ys) ≡ entries_of xs ++ entries_of ys
 entries_append xs ys = map-append (λ (l : Logged). l.entry) xs ys
-
