@@ -1,15 +1,12 @@
 -- What a job leaves of the parts of passes.
 use Rattle.std.proofs.Common.{Bool, List, length, ap, sym, ◌∙◌, arith}
 use Rattle.pot_turn.specs.declared.name.TurnName.{TurnName}
-use Rattle.pot_rows.specs.Rows.{PassRow, AreOf, HasMoreParts}
+use Rattle.pot_rows.specs.Rows.{PassRow, AreOf}
 use Rattle.pot_rows.specs.Ends.{HasAllParts}
 use Rattle.pot_rows.specs.Works.{RowWorked}
 use Rattle.pot_shared.specs.declared.member.Logged.{Logged}
 use Rattle.pot_shared.specs.Ready.{GroupPasses}
 use Rattle.pot_shared.specs.Sharing.{HasAllButKept}
-
-pub more_parts : (row : GroupPasses) → HasAllButKept row → HasMoreParts 1 row
-more_parts row h at l = (let p = h at l in omega (arith, p))
 
 pub still_but_kept : (is_of : Logged → Bool) (names : List TurnName) (old new : GroupPasses) → AreOf names old → AreOf names new → RowWorked is_of old new
     → HasAllButKept old → HasAllButKept new

@@ -1,35 +1,25 @@
 -- A linear map is known by what it makes of single bits. Finite tests of these are computed.
-use Rattle.std.proofs.Common.{◌≡◌, ℕ, zero, suc, ◌*◌, ◌/◌, ◌%◌, ◌^◌, ◌<◌, bit_xor, Bool, true, false, ◌&&◌, nat_eq, nat_lt, refl, sym, ap, ◌∙◌, arith, inl, inr, ◌⊎◌, subst}
+use Rattle.std.proofs.Common.{◌≡◌, ℕ, zero, suc, ◌*◌, ◌/◌, ◌%◌, ◌^◌, ◌<◌, bit_xor, Bool, true, ◌&&◌, nat_lt, sym, ap, ◌∙◌, arith, inl, inr, ◌⊎◌, subst}
 use native.Mathlib.Nat.{zero-mul, one-mul, div-lt_iff_lt-mul, pow-succ'}
 use Rattle.std.specs.Int.Bits.{xor_self}
 use Rattle.std.proofs.lemmas.Nat.{xor_lt, pow_pos}
 use Rattle.std.proofs.lemmas.Bool.Decides.{nat_tests}
 use lib.Bits.{xor_shifted}
+use Rattle.std.proofs.lemmas.Bool.{and_parts}
 
 -- the test holds of every number below `n`
 unfoldable pub every : ℕ → (ℕ → Bool) → Bool
 every zero p = true
 every (suc n) p = p n && every n p
 
-and_left : (a b : Bool) → a && b ≡ true → a ≡ true
-and_left true b h = refl
-and_left false b h = h
-
-and_right : (a b : Bool) → a && b ≡ true → b ≡ true
-and_right true b h = h
-and_right false b h = absurd (cc)
+pub last_or : (k n : ℕ) → k < suc n → (k ≡ n) ⊎ (k < n)
+last_or k n lt = grind arith
 
 pub every_at : (n : ℕ) (p : ℕ → Bool) (k : ℕ) → every n p ≡ true → k < n → p k ≡ true
 unfolding every
 every_at zero p k h lt = absurd (omega arith)
 every_at (suc n) p k h lt =
-    elim (last_or k n lt) [ inl e ↦ ap p e ∙ and_left (p n) (every n p) h | inr l ↦ every_at n p k (and_right (p n) (every n p) h) l ]
-  where
-    last_or : (k n : ℕ) → k < suc n → (k ≡ n) ⊎ (k < n)
-    last_or k n lt = grind arith
-
-pub same : (a b : ℕ) → nat_eq a b ≡ true → a ≡ b
-same a b h = grind (arith, nat_tests)
+    elim (last_or k n lt) [ inl e ↦ ap p e ∙ (and_parts (p n) (every n p) h).0 | inr l ↦ every_at n p k (and_parts (p n) (every n p) h).1 l ]
 
 pub less : (a b : ℕ) → nat_lt a b ≡ true → a < b
 less a b h = grind (arith, nat_tests)

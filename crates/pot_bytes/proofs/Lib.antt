@@ -1,5 +1,6 @@
 pub mod DigestLemmas
 pub mod Basis
+pub mod Elements
 pub mod ListLemmas
 pub mod NameLemmas
 pub mod ProductLemmas

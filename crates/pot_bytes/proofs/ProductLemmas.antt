@@ -5,8 +5,9 @@ use Rattle.std.specs.Int.Bits.{xor_assoc, xor_self, xor_zero_r, xor_zero_l}
 use Rattle.std.proofs.lemmas.Nat.{xor_comm, xor_shr, xor_mod, xor_block}
 use Rattle.std.proofs.lemmas.Bool.Decides.{nat_tests}
 use lib.Bits.{xor_shifted}
-use Rattle.pot_bytes.proofs.Basis.{every, every_at, same, less, IsLinear, linear_zero, from_basis, below_from_basis}
+use Rattle.pot_bytes.proofs.Basis.{every, every_at, less, IsLinear, linear_zero, from_basis, below_from_basis}
 use Rattle.std.specs.Prelude.{if◌then◌else◌}
+use Rattle.std.proofs.lemmas.Bool.{eqb-true}
 use Rattle.pot_bytes.specs.Totals.{total}
 use Rattle.pot_bytes.specs.Product.{coefficient, polynomial_product, modulus, remainder, byte_product, ProductLaws}
 use Rattle.pot_bytes.proofs.TotalLemmas.{xor_cancel, interchange, total_same, total_xor}
@@ -103,7 +104,7 @@ byte_product-zero_right a = linear_zero (byte_product a) (linear_right a)
 pub byte_product-zero_left : (a : ℕ) → byte_product 0 a ≡ 0
 byte_product-zero_left a = linear_zero (λ x. byte_product x a) (linear_left a)
 
-byte : (a : ℕ) → a % 256 < 2 ^ 8
+pub byte : (a : ℕ) → a % 256 < 2 ^ 8
 byte a = omega arith
 
 below_table : every 8 (λ i. every 8 (λ j. nat_lt (byte_product (2 ^ i) (2 ^ j)) 256)) ≡ true
@@ -131,11 +132,11 @@ itself = record { keeps = λ x y. refl }
 
 pub byte_product-one_left : (a : ℕ) → a < 256 → byte_product 1 a ≡ a
 byte_product-one_left a h =
-    from_basis 8 (byte_product 1) (λ x. x) (linear_right 1) itself (λ i hi. same _ _ (every_at 8 (λ i. nat_eq (byte_product 1 (2 ^ i)) (2 ^ i)) i one_table hi)) a h
+    from_basis 8 (byte_product 1) (λ x. x) (linear_right 1) itself (λ i hi. eqb-true _ _ (every_at 8 (λ i. nat_eq (byte_product 1 (2 ^ i)) (2 ^ i)) i one_table hi)) a h
 
 pub byte_product-one_right : (a : ℕ) → a < 256 → byte_product a 1 ≡ a
 byte_product-one_right a h =
-    from_basis 8 (λ x. byte_product x 1) (λ x. x) (linear_left 1) itself (λ i hi. same _ _ (every_at 8 (λ i. nat_eq (byte_product (2 ^ i) 1) (2 ^ i)) i one_table_right hi)) a h
+    from_basis 8 (λ x. byte_product x 1) (λ x. x) (linear_left 1) itself (λ i hi. eqb-true _ _ (every_at 8 (λ i. nat_eq (byte_product (2 ^ i) 1) (2 ^ i)) i one_table_right hi)) a h
 
 times_two-xor : (a b : ℕ) → bit_xor a b * 2 ≡ bit_xor (a * 2) (b * 2)
 times_two-xor a b =
@@ -169,7 +170,7 @@ pub byte_product-two : (a : ℕ) → a < 256 → bit_xor (a * 2 % 256) (a / 128 
 unfolding doubled
 byte_product-two a h =
     ap (λ z. bit_xor (a * 2 % 256) (z * 27)) (let e : a / 128 ≡ a / 128 % 2 = omega arith in e)
-    ∙ from_basis 8 doubled (λ x. byte_product x 2) linear_doubled (linear_left 2) (λ i hi. same _ _ (every_at 8 (λ i. nat_eq (doubled (2 ^ i)) (byte_product (2 ^ i) 2)) i doubled_table hi)) a h
+    ∙ from_basis 8 doubled (λ x. byte_product x 2) linear_doubled (linear_left 2) (λ i hi. eqb-true _ _ (every_at 8 (λ i. nat_eq (doubled (2 ^ i)) (byte_product (2 ^ i) 2)) i doubled_table hi)) a h
 
 shift_table : every 8 (λ i. every 7 (λ j. nat_eq (byte_product (2 ^ i) (2 ^ j * 2)) (byte_product (byte_product (2 ^ i) 2) (2 ^ j)))) ≡ true
 unfolding every total coefficient polynomial_product remainder byte_product
@@ -183,7 +184,7 @@ shift_over a b ha hb =
     (λ i hi. from_basis 7 (λ y. byte_product (2 ^ i) (y * 2)) (byte_product (byte_product (2 ^ i) 2))
     (record { keeps = λ x y. ap (byte_product (2 ^ i)) (times_two-xor x y) ∙ byte_product-xor_right (2 ^ i) (x * 2) (y * 2) })
     (linear_right (byte_product (2 ^ i) 2))
-    (λ j hj. same _ _ (every_at 7 (λ j. nat_eq (byte_product (2 ^ i) (2 ^ j * 2)) (byte_product (byte_product (2 ^ i) 2) (2 ^ j))) j
+    (λ j hj. eqb-true _ _ (every_at 7 (λ j. nat_eq (byte_product (2 ^ i) (2 ^ j * 2)) (byte_product (byte_product (2 ^ i) 2) (2 ^ j))) j
     (every_at 8 (λ i. every 7 (λ j. nat_eq (byte_product (2 ^ i) (2 ^ j * 2)) (byte_product (byte_product (2 ^ i) 2) (2 ^ j)))) i shift_table hi) hj)) b hb) a ha
 
 by_bit : (a r : ℕ) → a < 256 → r < 2 → byte_product a r ≡ r * a
@@ -207,7 +208,7 @@ bytes_commute : (a b : ℕ) → a < 2 ^ 8 → b < 2 ^ 8 → byte_product a b ≡
 bytes_commute a b ha hb =
     from_basis 8 (λ x. byte_product x b) (byte_product b) (linear_left b) (linear_right b)
     (λ i hi. from_basis 8 (byte_product (2 ^ i)) (λ y. byte_product y (2 ^ i)) (linear_right (2 ^ i)) (linear_left (2 ^ i))
-    (λ j hj. same _ _ (every_at 8 (λ j. nat_eq (byte_product (2 ^ i) (2 ^ j)) (byte_product (2 ^ j) (2 ^ i))) j
+    (λ j hj. eqb-true _ _ (every_at 8 (λ j. nat_eq (byte_product (2 ^ i) (2 ^ j)) (byte_product (2 ^ j) (2 ^ i))) j
     (every_at 8 (λ i. every 8 (λ j. nat_eq (byte_product (2 ^ i) (2 ^ j)) (byte_product (2 ^ j) (2 ^ i)))) i commuting hi) hj)) b hb) a ha
 
 pub byte_product-comm : (a b : ℕ) → byte_product a b ≡ byte_product b a

@@ -1,8 +1,9 @@
 -- Laws of sums by XOR.
-use Rattle.std.proofs.Common.{◌+◌, ◌≢◌, ◌⊎◌, inl, inr, ◌≤◌, ◌≡◌, ℕ, zero, suc, ◌^◌, ◌<◌, bit_xor, refl, sym, ap, ◌∙◌, arith}
+use Rattle.std.proofs.Common.{◌+◌, ◌≢◌, inl, inr, ◌≤◌, ◌≡◌, ℕ, zero, suc, ◌^◌, ◌<◌, bit_xor, refl, sym, ap, ◌∙◌, arith}
 use Rattle.std.specs.Int.Bits.{xor_assoc, xor_self, xor_zero_r, xor_zero_l}
 use Rattle.std.proofs.lemmas.Nat.{xor_comm, xor_lt}
 use Rattle.pot_bytes.specs.Totals.{total}
+use Rattle.pot_bytes.proofs.Basis.{last_or}
 
 -- four terms, the middle two changed over
 pub interchange : (p q r s : ℕ) → bit_xor (bit_xor p q) (bit_xor r s) ≡ bit_xor (bit_xor p r) (bit_xor q s)
@@ -59,9 +60,6 @@ total_more n zero f h = ap (λ z. total z f) (let e : 0 + n ≡ n = omega arith 
 total_more n (suc more) f h =
     ap (λ z. total z f) (let e : suc more + n ≡ suc (more + n) = omega arith in e)
     ∙ ap (bit_xor (total (more + n) f)) (h (more + n) (omega arith)) ∙ xor_zero_r (total (more + n) f) ∙ total_more n more f h
-
-last_or : (k n : ℕ) → k < suc n → (k ≡ n) ⊎ (k < n)
-last_or k n lt = grind arith
 
 -- all but one are zero
 pub total_one : (n : ℕ) (f : ℕ → ℕ) (c : ℕ) → c < n → ((k : ℕ) → k < n → k ≢ c → f k ≡ 0) → total n f ≡ f c

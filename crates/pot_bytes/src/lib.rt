@@ -28,7 +28,7 @@ pub use name::Name;
 pub use numbers::{read_be32, read_be64};
 pub use parts::digest_of_two;
 pub use product::{gf_times, product_laws};
-pub use rack::{Geometry, Place, Rack};
+pub use rack::{Geometry, LOG_BOUND, Place, Rack};
 pub use strings::Bytes;
 pub use weighted::{add_weighted, fold_weighted, stripe_sum, weighted_laws};
 

@@ -2,6 +2,9 @@
 ghost use Rattle.std.specs.Prelude.{◌↔◌, IsTrue};
 ghost use Rattle.pot_bytes.specs.Rack.{FitsIn, IsRack};
 
+/// The most entries that the log of a group, or of the index, has in one session.
+pub const LOG_BOUND: usize = 262_144;
+
 /// How a file is split.
 #[derive(Clone, Copy, Debug, PartialEq, Eq)]
 pub struct Geometry {

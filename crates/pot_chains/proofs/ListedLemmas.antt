@@ -240,9 +240,3 @@ range_listed n = record {
   each = λ p. (λ h. let w = (in_range 0 n p).0 h in omega (arith, w.1), λ less. (in_range 0 n p).1 (omega arith, omega (arith, less)));
   once = once_range 0 n;
 }
-
--- what stands inside does not depend on the default
-pub get_or-default : {X : Type 0} (xs : List X) (i : ℕ) (d e : X) → i < length xs → get_or xs i d ≡ get_or xs i e
-get_or-default [] i d e h = absurd (omega arith)
-get_or-default (x ∷ xs) zero d e h = refl
-get_or-default (x ∷ xs) (suc i) d e h = get_or-default xs i d e (omega arith)

@@ -3,11 +3,11 @@ use Rattle.std.proofs.Common.{◌≡◌, inl, inr, ℕ, zero, suc, ◌+◌, ◌*
 use Rattle.std.proofs.Math.Nat.{div-lt_iff_lt-mul, mul-le-mul_right}
 use Rattle.std.proofs.lemmas.Nat.{mod-mul-add, div-mul-add}
 use Rattle.std.specs.List.{flat_map}
-use Rattle.std.proofs.lemmas.List.{length-map}
+use Rattle.std.proofs.lemmas.List.{length-map, get_or_default}
 use Rattle.pot_chains.specs.Listed.{IsIn, IsOnce, IsListed}
 use Rattle.pot_chains.specs.Paths.{AreAll}
 use Rattle.pot_chains.specs.Picks.{IsPick, how_many, picks, pick_at, PickLaws}
-use Rattle.pot_chains.proofs.ListedLemmas.{contains_from_in, get_or-default, in_get_or, listed_flat_map, listed_map, listed_same}
+use Rattle.pot_chains.proofs.ListedLemmas.{contains_from_in, in_get_or, listed_flat_map, listed_map, listed_same}
 
 more : (m n : ℕ) → n + m * n ≡ suc m * n
 more m n = grind arith
@@ -84,7 +84,7 @@ numbered d (xs ∷ lists) (c ∷ cs) h =
       t,
       omega (arith, room, e, one, at.1),
       ap (λ k. get_or xs k d ∷ pick_at d lists (t / n)) (mod-mul-add rest.0 n at.0 at.1)
-          ∙ (ap (λ x. x ∷ pick_at d lists (t / n)) (get_or-default xs at.0 d c at.1 ∙ at.2)
+          ∙ (ap (λ x. x ∷ pick_at d lists (t / n)) (get_or_default xs at.0 d c at.1 ∙ at.2)
           ∙ (ap (λ k. c ∷ pick_at d lists k) (div-mul-add rest.0 n at.0 at.1) ∙ ap (λ l. c ∷ l) rest.2)),
     )
 

@@ -1,11 +1,11 @@
 -- One command, and what it gives.
 use Rattle.std.proofs.Common.{◌≡◌, inl, ℕ, List, [], ◌∷◌, refl, ap, sym, ◌∙◌, subst}
 use Rattle.std.specs.Prelude.{map}
+use Rattle.std.proofs.lemmas.List.{drop-length}
 use Rattle.pot_bytes.specs.declared.rack.Rack.{Rack}
 use Rattle.pot_index.specs.Entries as index
 use Rattle.pot_pads.specs.Pads.{Pads, pads_of}
 use Rattle.pot_turn.specs.declared.name.TurnName.{TurnName}
-use Rattle.pot_rows.specs.Rows.{view_at}
 use Rattle.pot_script.specs.declared.command.Command.{Command}
 use Rattle.pot_script.specs.declared.command.Command.TheVariants as commands
 use Rattle.pot_steps.specs.Stripe.{digest_of}
@@ -13,13 +13,12 @@ use Rattle.pot_replies.specs.Settings.{Setting}
 use Rattle.pot_replies.specs.Sections.{Section, mine, IsSilent}
 use Rattle.pot_shared.specs.Ready.{GroupPasses, AreReady}
 use Rattle.pot_shared.specs.Catalogs.{IndexPasses, IsIndexReady}
-use Rattle.pot_store.specs.Works.{of_job, Known, known, JobWorked, section_of}
+use Rattle.pot_store.specs.Works.{of_job, Known, known, JobWorked}
 use Rattle.pot_store.specs.Stores.{DrawsFrom, drawn_blocks}
-use Rattle.pot_store.proofs.WorkLemmas.{drop_all, row_stays, index_idle}
+use Rattle.pot_store.proofs.WorkLemmas.{row_stays, index_idle}
 use Rattle.pot_script.specs.declared.reply.Reply.{Reply}
 use Rattle.pot_commands.specs.Rows.{AreReplies, IsSessionSetting, IsIdle, IsPlain, IsSingle, IsWorked}
 use Rattle.pot_commands.specs.Taking.{asks}
-use Rattle.pot_commands.proofs.ListLemmas.{none_gained}
 
 -- passes that did nothing worked for any job
 pub stayed_worked : (rack : Rack) (names turn : List TurnName) (job : ℕ) (row : GroupPasses) (i : IndexPasses) → AreReady rack names row → IsIndexReady rack names turn i
@@ -28,10 +27,6 @@ stayed_worked rack names turn job row i ready index_ready = record {
   groups = row_stays (of_job job) row ready.idle;
   index = row_stays (index.is_of job) i (index_idle rack names turn i index_ready);
 }
-
--- and logged nothing
-pub stayed_silent : (job : ℕ) (k : Known) → IsSilent (mine job (section_of k k))
-stayed_silent job k = ((λ g. none_gained job k.groups g), ap (λ ls. index.own job ls) (drop_all (view_at k.index 0).seen))
 
 pub idle_silent : (s : Setting) (job : ℕ) (c : Command) (w : Section) → IsSilent (mine job w) → IsIdle s job c w
 idle_silent s job (commands.Fetch name) w h = inl h

@@ -1,11 +1,13 @@
 -- An archive that was asked for: whether it may come, that it came, and that it was handed back.
 use Rattle.std.proofs.Common.{◌≡◌, ◌≢◌, ◌<◌, ◌≤◌, ◌⊎◌, ⊎_elim, inl, inr, ℕ, zero, suc, Bool, true, false, List, [], ◌∷◌, ◌++◌, length, refl, sym, ap, subst, ◌∙◌, arith, append-nil, append_assoc, eq-eqb, length-append}
 use Rattle.std.specs.Prelude.{Option, Some, None, IsSome, IsSomeAnd, IfSome, Contains, Result, Ok, Err, MatchResult, flat_map, slice_index_or}
-use Rattle.std.proofs.lemmas.List.{nil_from_length}
+use Rattle.std.proofs.lemmas.List.{nil_from_length, drop-length}
 use Rattle.std.proofs.lemmas.Option.{same_Some}
 use Rattle.std.proofs.lemmas.List.Elements.{Contains-append_cases, Contains-append_left, Contains-append_right}
 use mathlib.Core.Path.{fun_ext}
+use Rattle.std.proofs.lemmas.Bool.{cases_eq}
 use Rattle.pot_bytes.specs.declared.rack.Rack.{Rack}
+use Rattle.pot_bytes.proofs.Elements.{none_contained, one_contained}
 use Rattle.pot_outside.specs.Archives.{Meaning, IsMeant}
 use Rattle.pot_outside.specs.declared.archive.Marks.{Marks}
 use Rattle.pot_outside.specs.declared.archive.Shelf.{Shelf}
@@ -40,23 +42,22 @@ use Rattle.pot_shared.specs.declared.member.Logged.{Logged}
 use Rattle.pot_shared.specs.Calls.{CallAt}
 use Rattle.pot_shared.specs.Catalogs.{IndexPasses, IsIndexReady}
 use Rattle.pot_shared.specs.Members.{all_logged, entries_of, logged_at, mark_at, origin_of}
-use Rattle.pot_shared.proofs.MemberLemmas.{marks_by, entries_all}
+use Rattle.pot_shared.proofs.MemberLemmas.{marks_by, entries_all, entries_append}
 use Rattle.pot_group.specs.Calls.{ComesBy}
 use Rattle.pot_shared.specs.Ready.{AreReady, GroupPass, GroupPasses}
 use Rattle.pot_store.specs.Works.{Known, known, of_job, gained, JobWorked, JobAlone, IsSettingOf, section_of}
-use Rattle.pot_store.proofs.WorkLemmas.{drop_all, row_stays, index_idle, group_work, group_own, group_else, work_more, alone_parts, own_more, same_number}
+use Rattle.pot_store.proofs.WorkLemmas.{row_stays, index_idle, group_work, group_own, group_else, work_more, alone_parts, own_more}
 use Rattle.pot_mend.specs.Moves.{IsAsked, seen_in}
 use Rattle.pot_mend.specs.declared.checking.UseFault.TheVariants as used
 use Rattle.pot_mend.proofs.HadLemmas.{IsUsedIn, brought_here, brought_named, had_used, named_held, same_width}
-use Rattle.pot_mend.proofs.MoveLemmas.{in_one}
 use Rattle.pot_commands.specs.declared.arriving.Unanswered.TheVariants as unanswered
 use Rattle.pot_commands.specs.Ends.{AllSole}
 use Rattle.pot_commands.specs.Holding.{times}
 use Rattle.pot_commands.specs.Taking.{Lending, Took, HasUse, AreUsed, AreMarkedBy, came_in, marks_of}
 use Rattle.pot_commands.proofs.Brought.{its_setting, is_its}
 use Rattle.pot_commands.proofs.Going.{sole_alone, work_all_went}
-use Rattle.pot_commands.proofs.Logs.{entries_append, turn_added}
-use Rattle.pot_commands.proofs.TakingLemmas.{arrival_in, came_one, come_none, none_contained, takes_back, takes_one, took_none, used_more, use_more}
+use Rattle.pot_commands.proofs.Logs.{turn_added}
+use Rattle.pot_commands.proofs.TakingLemmas.{arrival_in, came_one, come_none, takes_back, takes_one, took_none, used_more, use_more}
 use Rattle.pot_commands.proofs.Whose.{its_jobs, own_all}
 
 -- LISTS
@@ -95,19 +96,16 @@ first_column (x ∷ cs) n has = ⊎_elim
     (λ (h : Contains (flat_map homes_of cs) n). (let r = first_column cs n h in (suc r.0, (let l = r.1 in omega (arith, l)), r.2)))
     (Contains-append_cases (homes_of x) (flat_map homes_of cs) n has)
 
-only : (x n : ℕ) → Contains (x ∷ []) n → x ≡ n
-only x n has = in_one x n has
-
 -- an archive that an entry brings is the home or the target of a column then
 pub entry_held : (t : Table) (e : Entry) (n : ℕ) → IsTable t → Legal t e → Contains (arrival e) n → IsSome (holder_of (after t e) n)
 entry_held t (entry.MoveBegin job k to) n is legal has =
     named_held (after t (entry.MoveBegin job k to)) k n
     (let w : width (after t (entry.MoveBegin job k to)) ≡ width t = same_width t (entry.MoveBegin job k to ∷ []) in let l = legal.0.0 in omega (arith, w, l))
-    (brought_named t k n is.size.columns (entry.MoveBegin job k to) legal (brought_here k k to n refl (only to n has)))
+    (brought_named t k n is.size.columns (entry.MoveBegin job k to) legal (brought_here k k to n refl (one_contained to n has)))
 entry_held t (entry.Swapped job k to) n is legal has =
     named_held (after t (entry.Swapped job k to)) k n
     (let w : width (after t (entry.Swapped job k to)) ≡ width t = same_width t (entry.Swapped job k to ∷ []) in let l = legal.0 in omega (arith, w, l))
-    (brought_named t k n is.size.columns (entry.Swapped job k to) legal (brought_here k k to n refl (only to n has)))
+    (brought_named t k n is.size.columns (entry.Swapped job k to) legal (brought_here k k to n refl (one_contained to n has)))
 entry_held t _ n is legal has = absurd (none_contained n has)
 
 brought_used : (t : Table) (log : List Entry) (u : Table) (n : ℕ) → IsTable t → Replays t log u → Contains (arrivals log) n → IsUsedIn t log n
@@ -157,7 +155,7 @@ module _ (rack : Rack) (names turn : List TurnName) (job : ℕ) (row0 row1 : Gro
   checked_work = record { groups = asked.worked job; index = index_worked }
 
   index_silent : index.own job (added (view_at i 0) (view_at i1 0)) ≡ []
-  index_silent = ap (λ x. index.own job (added (view_at i 0) (view_at x 0))) same ∙ ap (λ ls. index.own job ls) (drop_all (view_at i 0).seen)
+  index_silent = ap (λ x. index.own job (added (view_at i 0) (view_at x 0))) same ∙ ap (λ ls. index.own job ls) (drop-length (view_at i 0).seen)
 
   pub checked_silent : JobAlone job k0 k1 → IsSilent (mine job (section_of k0 k1))
   checked_silent alone = ((λ g. asked.silent job alone.groups g), index_silent)
@@ -226,7 +224,7 @@ module _ (rack : Rack) (names turn : List TurnName) (job : ℕ) (row0 row1 : Gro
     whole_work = work_more job k0 k1 k2 checked_work call_work
 
     whole_index : index.own job (added (view_at i 0) (view_at i2 0)) ≡ []
-    whole_index = ap (λ x. index.own job (added (view_at i 0) (view_at x 0))) (same2 ∙ same) ∙ ap (λ ls. index.own job ls) (drop_all (view_at i 0).seen)
+    whole_index = ap (λ x. index.own job (added (view_at i 0) (view_at x 0))) (same2 ∙ same) ∙ ap (λ ls. index.own job ls) (drop-length (view_at i 0).seen)
 
     -- WHERE THE JOB WAS ALONE
     module _ (alone : JobAlone job k0 k2) where
@@ -247,7 +245,7 @@ module _ (rack : Rack) (names turn : List TurnName) (job : ℕ) (row0 row1 : Gro
 
       pub none_here : call.turn.entries ≡ [] → IsSilent (mine job (section_of k0 k2))
       none_here none = (
-        λ g. ⊎_elim (λ (e : g ≡ group). subst (λ x. own job (gained row0 row2 x) ≡ []) (sym e) (own_here ∙ none)) (λ (ne : g ≢ group). own_there g ne) (same_number g group),
+        λ g. ⊎_elim (λ (e : g ≡ group). subst (λ x. own job (gained row0 row2 x) ≡ []) (sym e) (own_here ∙ none)) (λ (ne : g ≢ group). own_there g ne) (cases_eq g group),
         whole_index,
       )
 
@@ -366,12 +364,12 @@ module _ (rack : Rack) (names turn : List TurnName) (job : ℕ) (row0 row1 : Gro
           (λ (same_group : g ≡ group).
           (let there : Contains (all_logged call.turn.new.shelves (e ∷ [])) l =
           subst (λ es. Contains (all_logged call.turn.new.shelves es) l) comes.entries_are (subst (λ ls. Contains ls l) (marked_here sole) (subst (λ h. Contains (added (view_at row0 h) (view_at row2 h)) l) same_group has)) in
-          let one : logged_at call.turn.new.shelves e ≡ l = in_one (logged_at call.turn.new.shelves e) l there in
-          let number : to ≡ n = only to n (subst (λ ns. Contains ns n) brings (subst (λ (x : Logged). Contains (arrival x.entry) n) (sym one) arr)) in
+          let one : logged_at call.turn.new.shelves e ≡ l = one_contained (logged_at call.turn.new.shelves e) l there in
+          let number : to ≡ n = one_contained to n (subst (λ ns. Contains ns n) brings (subst (λ (x : Logged). Contains (arrival x.entry) n) (sym one) arr)) in
           subst (λ k. l.taken ≡ Some (marks_of (meant k))) number
           (ap (λ (x : Logged). x.taken) (sym one) ∙ (marks_by call.turn.new.shelves e to (subst (λ ns. Contains ns to) (sym brings) (zero, omega arith, refl)) ∙ ap (λ m. Some m) (its_marks meant tells is)))))
           (λ (ne : g ≢ group). absurd (none_contained n (subst (λ ns. Contains ns n) (gains_there sole g ne) (arrival_in (added (view_at row0 g) (view_at row2 g)) l n has arr))))
-          (same_number g group)
+          (cases_eq g group)
 
       pub came_took : (well : Type 0) (r r' : Lending) → r.out to ≡ false → ((n : ℕ) → n ≢ to → (r'.means n ≡ r.means n) × (r'.out n ≡ r.out n)) → r'.out to ≡ true
           → (told → IsMeant (r.means to) (meaning shelf.archive)) → Took told well (to ∷ []) r r' k0 k2
@@ -399,7 +397,7 @@ module _ (rack : Rack) (names turn : List TurnName) (job : ℕ) (row0 row1 : Gro
       came_used out now others used n is = ⊎_elim
           (λ (e : n ≡ to). subst (λ k. HasUse row2 k) (sym e) now_use)
           (λ (ne : n ≢ to). use_more job row0 row2 whole_work.groups (ready2.of.0 ∙ sym ready.of.0) n (used n (sym (others n ne) ∙ is)))
-          (same_number n to)
+          (cases_eq n to)
 
     -- IT WAS HANDED BACK
     module _ (none : call.turn.entries ≡ []) where

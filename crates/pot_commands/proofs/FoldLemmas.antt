@@ -1,6 +1,6 @@
 -- One command more.
 use Rattle.std.proofs.Common.{◌≡◌, ◌+◌, ℕ, suc, List, [], ◌∷◌, ◌++◌, length, refl, ap, sym, subst, arith}
-use Rattle.std.proofs.lemmas.List.{map-append}
+use Rattle.std.proofs.lemmas.List.{map-append, drop-length}
 use Rattle.pot_bytes.specs.declared.rack.Rack.{Rack}
 use Rattle.pot_rows.specs.Rows.{view_at}
 use Rattle.pot_script.specs.declared.command.Command.{Command}
@@ -10,7 +10,6 @@ use Rattle.pot_replies.specs.Sessions.{One, jobs_of, Replied}
 use Rattle.pot_replies.proofs.SessionLemmas.{replied_none, replied_more}
 use Rattle.pot_shared.specs.Members.{entries_of}
 use Rattle.pot_store.specs.Works.{Known, JobWorked, section_of}
-use Rattle.pot_store.proofs.WorkLemmas.{drop_all}
 use Rattle.pot_commands.specs.Rows.{Row}
 use Rattle.pot_commands.specs.Ones.{Gives, Leaves}
 use Rattle.pot_commands.specs.Ends.{steps_of, AllWent, AllStay, AreReplied, AreLeft, AreNext}
@@ -27,8 +26,8 @@ jobs_length (c ∷ cs) = let n = jobs_length cs in omega (arith, n)
 module _ (rack : Rack) (seed : List ℕ) (session : ℕ) where
   pub none_replied : (known : Known) → AreReplied rack seed session [] [] known known
   none_replied known sole s setting = replied_none (Row s) 1 (section_of known known) (
-    (λ g. ap entries_of (drop_all (view_at known.groups g).seen)),
-    drop_all (view_at known.index 0).seen,
+    (λ g. ap entries_of (drop-length (view_at known.groups g).seen)),
+    drop-length (view_at known.index 0).seen,
   )
 
   module _ (cs : List Command) (rs : List Reply) (c : Command) (old mid new : Known) (went : AllWent old mid) (stays : AllStay old mid)

@@ -22,12 +22,12 @@ use Rattle.pot_shared.specs.Members.{all_logged, entries_of}
 use Rattle.pot_shared.specs.Ready.{GroupPass, GroupPasses}
 use Rattle.pot_group.specs.Calls.{CountCall}
 use Rattle.pot_shared.specs.Calls.{CallTurn, CallAt}
-use Rattle.pot_shared.proofs.MemberLemmas.{entries_all}
+use Rattle.pot_shared.proofs.MemberLemmas.{entries_all, entries_append}
 use Rattle.pot_store.specs.Works.{of_job}
 use Rattle.pot_store.proofs.WorkLemmas.{all_none, all_cons, all_one, own_entries}
 use Rattle.pot_commands.specs.Rows.{reply_of_line}
 use Rattle.pot_commands.specs.Counting.{CountsTable, CountsLine}
-use Rattle.pot_commands.proofs.Logs.{turn_added, entries_append}
+use Rattle.pot_commands.proofs.Logs.{turn_added}
 
 -- what a count of a group gives is the counts of its table
 abbrev pub plain_counts : of_group.Counts → Counts

@@ -2,7 +2,9 @@
 use Rattle.std.proofs.Common.{◌≡◌, ◌<◌, ◌+◌, ℕ, List, [], ◌∷◌, ◌++◌, length, refl, ap, sym, ◌∙◌, subst, arith, append-nil, eq-eqb}
 use Rattle.std.specs.Prelude.{Vec, Result, Ok, Err, IfSome, map}
 use Rattle.std.specs.Global.{Global}
+use Rattle.std.proofs.lemmas.List.{drop-length}
 use Rattle.pot_bytes.specs.declared.rack.Rack.{Rack}
+use Rattle.pot_bytes.specs.Rack.{log_bound}
 use Rattle.pot_index.specs.declared.entry.IndexEntry.TheVariants as entry
 use Rattle.pot_index.specs.declared.entry.Logged.{Logged}
 use Rattle.pot_index.specs.declared.fault.ListFault.{ListFault}
@@ -28,7 +30,7 @@ use Rattle.pot_shared.specs.Ready.{GroupPasses, AreReady}
 use Rattle.pot_shared.specs.Catalogs.{IndexPasses, IsIndexReady}
 use Rattle.pot_shared.specs.IndexCalls.{IndexCall, ListsAll}
 use Rattle.pot_store.specs.Works.{of_job, gained, known, JobWorked, JobAlone, IsSettingOf, section_of}
-use Rattle.pot_store.proofs.WorkLemmas.{all_none, all_one, drop_all, row_stays, index_work, index_own}
+use Rattle.pot_store.proofs.WorkLemmas.{all_none, all_one, row_stays, index_work, index_own}
 use Rattle.pot_commands.proofs.Logs.{names_to, turn_added, same_end}
 
 -- what a call logs by its answer
@@ -54,7 +56,7 @@ NamesSay s job (Err list_fault.NoMemory) w = IsSilent (mine job w)
 
 -- a row of passes that stayed gained nothing
 pub none_gained : (job : ℕ) (row : GroupPasses) (g : ℕ) → own job (gained row row g) ≡ []
-none_gained job row g = ap (λ ls. own job (entries_of ls)) (drop_all (view_at row g).seen)
+none_gained job row g = ap (λ ls. own job (entries_of ls)) (drop-length (view_at row g).seen)
 
 module _ (rack : Rack) (names turn : List TurnName) (job : ℕ) (row : GroupPasses) (v w : IndexPasses) (ready : IsIndexReady rack names turn v)
     (result : Result (Vec Listed Global) ListFault) (call : IndexCall (ListsAll job result) v w) where
@@ -113,7 +115,7 @@ module _ (rack : Rack) (names turn : List TurnName) (job : ℕ) (row : GroupPass
       silent = (no_groups, mine_is);
       log = met;
       moment = record { sofar = call.turn.others; later = []; parts = its_added ∙ ap (λ es. call.turn.others ++ es) log; last = refl; is = refl };
-      full = subst (λ n. index_of.log_bound < (length met + length n.reserved) + 1) (sym leads) (subst (λ ls. index_of.log_bound < (length ls + length call.turn.old.now.reserved) + 1) call.turn.met l.0);
+      full = subst (λ n. log_bound < (length met + length n.reserved) + 1) (sym leads) (subst (λ ls. log_bound < (length ls + length call.turn.old.now.reserved) + 1) call.turn.met l.0);
     }
     says (Err list_fault.NoMemory) l log mine_is = (no_groups, mine_is)
 

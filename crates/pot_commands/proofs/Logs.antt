@@ -1,6 +1,6 @@
 -- Logs in parts, and where they lead.
 use Rattle.std.proofs.Common.{◌≡◌, List, [], ◌∷◌, ◌++◌, refl, ap, sym, ◌∙◌, append_assoc}
-use Rattle.std.proofs.lemmas.List.{append_cancel_left, map-append}
+use Rattle.std.proofs.lemmas.List.{append_cancel_left}
 use Rattle.pot_bytes.specs.declared.rack.Rack.{Rack}
 use Rattle.pot_index.specs.declared.entry.Logged as plainly
 use Rattle.pot_index.specs.Index.{Names}
@@ -9,7 +9,6 @@ use Rattle.pot_turn.specs.declared.view.View.{View}
 use Rattle.pot_worked.specs.Worked.{added, IsTurn}
 use Rattle.pot_worked.proofs.WorkedLemmas.{behind}
 use Rattle.pot_shared.specs.declared.member.Logged.{Logged}
-use Rattle.pot_shared.specs.Members.{entries_of}
 use Rattle.pot_replies.specs.Sections.{names_after}
 
 pub names_to : (rack : Rack) (n m : Names) (log : List plainly.Logged) → index_of.Replays rack n log m → names_after n log ≡ m
@@ -24,6 +23,3 @@ turn_added {E} {O} others entries v w turn =
 -- an entry at the end
 pub same_end : {X : Type 0} (front xs ys whole : List X) → whole ≡ front ++ xs → whole ≡ front ++ ys → xs ≡ ys
 same_end front xs ys whole one two = append_cancel_left front xs ys (sym one ∙ two)
-
-pub entries_append : (xs ys : List Logged) → entries_of (xs ++ ys) ≡ entries_of xs ++ entries_of ys
-entries_append xs ys = map-append (λ (l : Logged). l.entry) xs ys

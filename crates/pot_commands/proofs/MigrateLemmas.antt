@@ -35,6 +35,7 @@ use Rattle.pot_shared.specs.Catalogs.{IndexPasses, IsIndexReady}
 use Rattle.pot_shared.specs.Members.{entries_of}
 use Rattle.pot_group.specs.Calls.{MoveBeginCall}
 use Rattle.pot_shared.specs.Ready.{AreReady, GroupPasses}
+use Rattle.pot_shared.proofs.MemberLemmas.{entries_append}
 use Rattle.pot_store.specs.Works.{Known, known, gained, JobWorked, JobAlone, IsSettingOf, section_of}
 use Rattle.pot_store.proofs.WorkLemmas.{all_none, all_one}
 use Rattle.pot_mend.specs.declared.checking.MoveAt.{MoveAt}
@@ -50,7 +51,6 @@ use Rattle.pot_commands.specs.Arriving.{HandsBack, HasBegun, Unbegins, unbegun_o
 use Rattle.pot_commands.specs.Rows.{IsMigrateReply}
 use Rattle.pot_commands.specs.Taking.{Lending, Took, AreUsed}
 use Rattle.pot_commands.proofs.ArrivingLemmas.{back_silent, back_took, back_used, came_took, came_used, checked_silent, group_used, its_first, logs_met, met_log, met_logs, met_table, of_jobs, only_here, own_each, own_here, table_now, whole_work}
-use Rattle.pot_commands.proofs.Logs.{entries_append}
 
 -- LOGS AT A CHECK
 

@@ -2,6 +2,8 @@
 use Rattle.std.proofs.Common.{◌≡◌, ◌≢◌, ◌<◌, ◌⊎◌, ⊎_elim, inl, inr, ℕ, zero, suc, Bool, true, false, List, [], ◌∷◌, ◌++◌, length, refl, sym, ap, subst, ◌∙◌, arith, append-nil, append_assoc}
 use Rattle.std.specs.Prelude.{nat_lt, Contains, IsSome, Result, Ok, Err, filter}
 use mathlib.Core.Path.{fun_ext}
+use Rattle.std.proofs.lemmas.Bool.{cases_eq}
+use Rattle.std.proofs.lemmas.List.{drop-length}
 use Rattle.pot_bytes.specs.declared.rack.Rack.{Rack}
 use Rattle.pot_index.specs.Entries as index
 use Rattle.pot_machine.specs.declared.entry.Entry.{Entry}
@@ -22,8 +24,9 @@ use Rattle.pot_replies.specs.Moves.{MayBegin, MayGoOn, Begins, moving_at}
 use Rattle.pot_shared.specs.Catalogs.{IndexPasses, IsIndexReady}
 use Rattle.pot_shared.specs.Members.{entries_of}
 use Rattle.pot_shared.specs.Ready.{AreReady, GroupPasses}
+use Rattle.pot_shared.proofs.MemberLemmas.{entries_append}
 use Rattle.pot_store.specs.Works.{Known, known, of_job, gained, JobWorked, JobAlone, IsSettingOf, section_of}
-use Rattle.pot_store.proofs.WorkLemmas.{alone_parts, drop_all, index_idle, row_stays, same_number, work_more}
+use Rattle.pot_store.proofs.WorkLemmas.{alone_parts, index_idle, row_stays, work_more}
 use Rattle.pot_mend.specs.Moves.{EndsMove, MoveRow, seen_in}
 use Rattle.pot_mend.specs.declared.fault.MendFault.{MendFault}
 use Rattle.pot_mend.specs.declared.fault.MendFault.TheVariants as fault
@@ -35,7 +38,6 @@ use Rattle.pot_commands.specs.Taking.{Lending, Took, AreUsed}
 use Rattle.pot_commands.proofs.ArrivingLemmas.{front_jobs, of_jobs, own_each}
 use Rattle.pot_commands.proofs.Brought.{its_setting, is_its}
 use Rattle.pot_commands.proofs.Going.{setting_of_stays, sole_alone, work_all_went}
-use Rattle.pot_commands.proofs.Logs.{entries_append}
 use Rattle.pot_commands.proofs.MigrateLemmas.{none_before}
 use Rattle.pot_commands.proofs.NoMoves.{brings, no_arrivals, no_begin, none_of_each, none_both}
 use Rattle.pot_commands.proofs.TakingLemmas.{took_more, took_none, took_wider, use_more}
@@ -67,7 +69,7 @@ pub moved_brings : (s : Setting) (job g c : ℕ) (result : Result ℕ MendFault)
 moved_brings s job g c result w row h = ⊎_elim
     (λ (e : h ≡ g). subst (λ k. filter brings (own job (w.added k)) ≡ []) (sym e) (here_brings s job g c result w row))
     (λ (ne : h ≢ g). ap (filter brings) (there_silent s job g c result w row h ne))
-    (same_number h g)
+    (cases_eq h g)
 
 -- where all that was logged is of the move, its end is a MoveEnd
 ends_by : (c : ℕ) (es : List Entry) → EachIs (is_move_of c) es → EndsMove c es → (by : ℕ) × Contains es (entry.MoveEnd by c)
@@ -198,7 +200,7 @@ module _ (rack : Rack) (names turn : List TurnName) (job from to g c : ℕ) (row
       front_section : IsOfJobs job 1 (section_of k0 k1)
       front_section = record {
         groups = λ h x y e at. its.groups h x (y ++ gained row1 row2 h) e (gain h ∙ (ap (λ l. l ++ gained row1 row2 h) at ∙ append_assoc x (e ∷ y) (gained row1 row2 h)));
-        index = λ x y e at. absurd (let z = sym (ap (λ v. added (view_at i 0) (view_at v 0)) same ∙ drop_all (view_at i 0).seen) ∙ at in none_in x y e z);
+        index = λ x y e at. absurd (let z = sym (ap (λ v. added (view_at i 0) (view_at v 0)) same ∙ drop-length (view_at i 0).seen) ∙ at in none_in x y e z);
       }
         where
           none_in : {X : Type 0} (x y : List X) (e : X) → [] ≡ x ++ e ∷ y → ⊥
@@ -221,7 +223,7 @@ module _ (rack : Rack) (names turn : List TurnName) (job from to g c : ℕ) (row
           (λ (b : MayGoOn s (seen_in row0) from to g c × (own job (gained row0 row1 g) ≡ [])). inl (sym (own_front g) ∙ b.1))
           here.begins))
           (λ (ne : h ≢ g). inl (sym (own_front h) ∙ here.only.0 h ne))
-          (same_number h g)
+          (cases_eq h g)
 
       abbrev halves : Halves (section_of k0 k2)
       halves = record {

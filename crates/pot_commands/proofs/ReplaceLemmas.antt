@@ -1,6 +1,7 @@
 -- A `replace`, by how it ends.
 use Rattle.std.proofs.Common.{◌≡◌, ◌≢◌, ◌<◌, ⊎_elim, ℕ, Bool, true, false, List, [], ◌∷◌, ◌++◌, length, refl, sym, ap, subst, ◌∙◌, arith, eq-eqb}
 use Rattle.std.specs.Prelude.{Contains, Result, Ok, Err, MatchResult, OnErr, IsTrue}
+use Rattle.std.proofs.lemmas.Bool.{cases_eq}
 use Rattle.pot_bytes.specs.declared.rack.Rack.{Rack}
 use Rattle.pot_outside.specs.Archives.{Meaning, IsMeant}
 use Rattle.pot_outside.specs.declared.archive.Shelf.{Shelf}
@@ -26,7 +27,7 @@ use Rattle.pot_shared.specs.Catalogs.{IndexPasses, IsIndexReady}
 use Rattle.pot_group.specs.Calls.{SwapCall}
 use Rattle.pot_shared.specs.Ready.{AreReady, GroupPasses}
 use Rattle.pot_store.specs.Works.{Known, known, JobWorked, JobAlone, IsSettingOf, section_of}
-use Rattle.pot_store.proofs.WorkLemmas.{all_none, all_one, same_number}
+use Rattle.pot_store.proofs.WorkLemmas.{all_none, all_one}
 use Rattle.pot_mend.specs.Moves.{IsAsked, ReplaceChecked, seen_in}
 use Rattle.pot_mend.specs.declared.checking.UseFault.{UseFault}
 use Rattle.pot_mend.specs.declared.checking.UseFault.TheVariants as used
@@ -44,13 +45,13 @@ pub same_out : (out now : ℕ → Bool) (to : ℕ) → out to ≡ false → now 
 same_out out now to was is others n = ⊎_elim
     (λ (e : n ≡ to). subst (λ k. now k ≡ out k) (sym e) (is ∙ sym was))
     (λ (ne : n ≢ to). others n ne)
-    (same_number n to)
+    (cases_eq n to)
 
 pub same_means : (means now : ℕ → Meaning) (to : ℕ) → now to ≡ means to → ((n : ℕ) → n ≢ to → now n ≡ means n) → (n : ℕ) → now n ≡ means n
 same_means means now to is others n = ⊎_elim
     (λ (e : n ≡ to). subst (λ k. now k ≡ means k) (sym e) is)
     (λ (ne : n ≢ to). others n ne)
-    (same_number n to)
+    (cases_eq n to)
 
 module _ (rack : Rack) (names turn : List TurnName) (job from to : ℕ) (row0 row1 : GroupPasses) (i i1 : IndexPasses) (ready : AreReady rack names row0) (ready1 : AreReady rack names row1)
     (iready : IsIndexReady rack names turn i) (same : i1 ≡ i) (asked : IsAsked row0 row1) where

@@ -2,7 +2,7 @@
 use Rattle.std.proofs.Common.{◌≡◌, ◌≢◌, ◌<◌, ◌≤◌, ◌+◌, ◌⊎◌, ⊎_elim, inl, inr, ℕ, zero, suc, List, [], ◌∷◌, ◌++◌, length, refl, ap, sym, ◌∙◌, subst, arith}
 use Rattle.std.specs.Prelude.{Some, IfSome, slice_get}
 use Rattle.std.proofs.lemmas.Option.{same_Some, slice_get_within}
-use Rattle.std.proofs.lemmas.List.{length-append}
+use Rattle.std.proofs.lemmas.List.{length-append, drop-length}
 use Rattle.pot_bytes.specs.declared.rack.Rack.{Rack}
 use Rattle.pot_turn.specs.declared.name.TurnName.{TurnName}
 use Rattle.pot_worked.specs.Worked.{added}
@@ -22,7 +22,7 @@ use Rattle.pot_shared.specs.Ready.{GroupPasses, AreReady}
 use Rattle.pot_shared.specs.Catalogs.{IndexPasses, IsIndexReady}
 use Rattle.pot_shared.specs.Calls.{CallTurn}
 use Rattle.pot_store.specs.Works.{of_job, known, JobWorked, JobAlone, IsSettingOf, section_of}
-use Rattle.pot_store.proofs.WorkLemmas.{drop_all, row_stays, group_work, index_idle}
+use Rattle.pot_store.proofs.WorkLemmas.{row_stays, group_work, index_idle}
 use Rattle.pot_commands.specs.Rows.{reply_of_line, replies_from, AreStatusReplies}
 use Rattle.pot_commands.specs.Counting.{CountsTable, CountsLine}
 use Rattle.pot_commands.proofs.ListLemmas.{none_gained}
@@ -117,7 +117,7 @@ counted_says told rack names job n rs old new row so all long same alone s setti
   lines = so.lines;
   are = so.are;
   status = record {
-    index = ap (λ ls. index.own job ls) (drop_all (view_at row 0).seen);
+    index = ap (λ ls. index.own job ls) (drop-length (view_at row 0).seen);
     count = so.count ∙ (all ∙ ap (λ r. r.groups) (sym setting.rack_is));
     each = λ g line is.
         let lt : g < length so.lines = slice_get_within so.lines g line is in

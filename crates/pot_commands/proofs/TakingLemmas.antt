@@ -3,6 +3,7 @@ use Rattle.std.proofs.Common.{◌≡◌, ◌≢◌, ◌<◌, ◌≤◌, ◌+◌,
 use Rattle.std.specs.Prelude.{Option, Some, None, IsSomeAnd, IsSome, Contains}
 use Rattle.std.proofs.lemmas.Bool.Decides.{eqb_tells}
 use Rattle.std.proofs.lemmas.List.Elements.{Contains-append_cases, Contains-append_left, Contains-append_right}
+use Rattle.pot_bytes.proofs.Elements.{none_contained}
 use Rattle.pot_outside.specs.Archives.{Meaning, IsMeant}
 use Rattle.pot_outside.specs.declared.archive.Marks.{Marks}
 use Rattle.pot_machine.specs.declared.entry.Entry.{Entry}
@@ -18,12 +19,12 @@ use Rattle.pot_shared.specs.declared.member.Logged.{Logged}
 use Rattle.pot_shared.specs.declared.member.GroupOrigin.{GroupOrigin}
 use Rattle.pot_shared.specs.Members.{entries_of}
 use Rattle.pot_shared.specs.Ready.{GroupPasses}
+use Rattle.pot_shared.proofs.MemberLemmas.{entries_append}
 use Rattle.pot_store.specs.Works.{Known, of_job, gained}
 use Rattle.pot_commands.specs.Ends.{AllSole, AllWent}
 use Rattle.pot_commands.specs.Holding.{times}
 use Rattle.pot_commands.specs.Taking.{Lending, Takes, Come, Took, HasUse, AreUsed, AreMarkedBy, came_in, marks_of}
 use Rattle.pot_commands.proofs.Going.{sole_parts, known_follows}
-use Rattle.pot_commands.proofs.Logs.{entries_append}
 
 -- NUMBERS
 
@@ -38,20 +39,17 @@ home_bit : (b : Bool) → bit b ≡ 0 → b ≡ false
 home_bit true e = absurd (omega (arith, e))
 home_bit false e = refl
 
-yes_or_no : (m n : ℕ) → ((eqb m n ≡ true) × (m ≡ n)) ⊎ ((eqb m n ≡ false) × (m ≢ n))
-yes_or_no m n = eqb_tells m n
-
 pub times_here : (n : ℕ) → times n (n ∷ []) ≡ 1
 times_here n = ⊎_elim
     (λ (h : (eqb n n ≡ true) × (n ≡ n)). (let e = ap bit h.0 in omega (arith, e)))
     (λ (h : (eqb n n ≡ false) × (n ≢ n)). absurd (h.1 refl))
-    (yes_or_no n n)
+    (eqb_tells n n)
 
 pub times_there : (k n : ℕ) → k ≢ n → times n (k ∷ []) ≡ 0
 times_there k n ne = ⊎_elim
     (λ (h : (eqb k n ≡ true) × (k ≡ n)). absurd (ne h.1))
     (λ (h : (eqb k n ≡ false) × (k ≢ n)). (let e = ap bit h.0 in omega (arith, e)))
-    (yes_or_no k n)
+    (eqb_tells k n)
 
 pub contains_times : (xs : List ℕ) (n : ℕ) → Contains xs n → 1 ≤ times n xs
 contains_times [] n (k, lt, at) = absurd (omega (arith, lt))
@@ -114,13 +112,13 @@ module _ (told well : Type 0) where
           (λ (h : (eqb k n ≡ true) × (k ≡ n)).
           (let e = ap bit (subst (λ m. r.out m ≡ false) h.1 home) in let f = ap bit (subst (λ m. r'.out m ≡ true) h.1 out) in let g = ap bit h.0 in omega (arith, e, f, g)))
           (λ (h : (eqb k n ≡ false) × (k ≢ n)). (let e = ap bit (others n (λ same. h.1 (sym same))).1 in let g = ap bit h.0 in omega (arith, e, g)))
-          (yes_or_no k n);
+          (eqb_tells k n);
       among = λ n. omega arith;
       others = λ n z. (others n (other n z)).0;
       still = λ t w n o. ⊎_elim
           (λ (h : (eqb k n ≡ true) × (k ≡ n)). (let f : true ≡ false = sym (subst (λ m. r'.out m ≡ true) h.1 out) ∙ o in absurd (cc)))
           (λ (h : (eqb k n ≡ false) × (k ≢ n)). rest_still n (λ same. h.1 (sym same)))
-          (yes_or_no k n);
+          (eqb_tells k n);
     }
 
     -- it was not taken, or it was given back
@@ -130,13 +128,13 @@ module _ (told well : Type 0) where
           (λ (h : (eqb k n ≡ true) × (k ≡ n)).
           (let e = ap bit (subst (λ m. r.out m ≡ false) h.1 home) in let f = ap bit (subst (λ m. r'.out m ≡ false) h.1 out) in omega (arith, e, f)))
           (λ (h : (eqb k n ≡ false) × (k ≢ n)). (let e = ap bit (others n (λ same. h.1 (sym same))).1 in omega (arith, e)))
-          (yes_or_no k n);
+          (eqb_tells k n);
       among = λ n. omega arith;
       others = λ n z. (others n (other n z)).0;
       still = λ t w n o. ⊎_elim
           (λ (h : (eqb k n ≡ true) × (k ≡ n)). subst (λ m. IsMeant (r.means m) (r'.means m)) h.1 (still t w))
           (λ (h : (eqb k n ≡ false) × (k ≢ n)). rest_still n (λ same. h.1 (sym same)))
-          (yes_or_no k n);
+          (eqb_tells k n);
     }
 
   -- one command more
@@ -189,7 +187,7 @@ came_one (suc k) f g lt none = ⊎_elim
     ap (λ l. l ++ arrivals (f k)) (came_past k f g (let e = h.1 in omega (arith, e)) none) ∙ ap (λ i. arrivals (f i)) h.1)
     (λ (h : (eqb k g ≡ false) × (k ≢ g)).
     ap (λ l. came_in k f ++ l) (none k h.1) ∙ (append-nil (came_in k f) ∙ came_one k f g (let ne = h.1 in below ne lt) none))
-    (yes_or_no k g)
+    (eqb_tells k g)
   where
     below : k ≢ g → g < suc k → g < k
     below ne l = grind (arith, ne, l)
@@ -201,7 +199,7 @@ came_within (suc k) f g n lt has =
     (λ (h : (eqb k g ≡ true) × (k ≡ g)).
     (let c = contains_times (arrivals (f k)) n (subst (λ i. Contains (arrivals (f i)) n) (sym h.1) has) in omega (arith, a, c)))
     (λ (h : (eqb k g ≡ false) × (k ≢ g)). (let r = came_within k f g n (below h.1 lt) has in omega (arith, a, r)))
-    (yes_or_no k g)
+    (eqb_tells k g)
   where
     below : k ≢ g → g < suc k → g < k
     below ne l = grind (arith, ne, l)
@@ -211,9 +209,6 @@ pub arrival_in : (ls : List Logged) (l : Logged) (n : ℕ) → Contains ls l →
 arrival_in [] l n (k, lt, at) has = absurd (omega (arith, lt))
 arrival_in (x ∷ ls) l n (zero, lt, at) has = Contains-append_left (arrival x.entry) (arrivals (entries_of ls)) n (subst (λ (y : Logged). Contains (arrival y.entry) n) (sym at) has)
 arrival_in (x ∷ ls) l n (suc k, lt, at) has = Contains-append_right (arrival x.entry) (arrivals (entries_of ls)) n (arrival_in ls l n (k, omega (arith, lt), at) has)
-
-pub none_contained : {X : Type 0} (y : X) → Contains [] y → ⊥
-none_contained y (k, m, q) = omega (arith, m)
 
 -- no archive came
 pub come_none : (told : Type 0) (meant : ℕ → Meaning) (old new : Known) → (AllSole old new → (g : ℕ) → arrivals (gained old.groups new.groups g) ≡ []) → Come told meant [] old new

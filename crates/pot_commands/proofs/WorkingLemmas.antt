@@ -3,7 +3,7 @@ use Rattle.std.proofs.Common.{◌≡◌, ◌<◌, ◌+◌, ◌++◌, ℕ, zero, 
 use Rattle.std.specs.Prelude.{◌||◌, Ok, Err}
 use Rattle.std.specs.List.{AllByRecursion}
 use Rattle.std.proofs.lemmas.Grind.{flat_map-append}
-use Rattle.std.proofs.lemmas.List.{length-take-le, take-append-drop}
+use Rattle.std.proofs.lemmas.List.{length-take-le, take-append-drop, drop-length}
 use Rattle.pot_bytes.specs.declared.rack.Rack.{Rack}
 use Rattle.pot_turn.specs.declared.name.TurnName.{TurnName}
 use Rattle.pot_rows.specs.Rows.{HasMoreParts}
@@ -13,7 +13,6 @@ use Rattle.pot_script.specs.Replies.{reply_text, is_refusal}
 use Rattle.pot_group.specs.Arrivals.{arrivals}
 use Rattle.pot_rows.specs.Rows.{view_at}
 use Rattle.pot_shared.specs.Members.{entries_of}
-use Rattle.pot_store.proofs.WorkLemmas.{drop_all}
 use Rattle.pot_shared.specs.Ready.{GroupPasses, AreReady}
 use Rattle.pot_shared.specs.Catalogs.{IndexPasses, IsIndexReady}
 use Rattle.pot_store.specs.Works.{Known, known, JobWorked}
@@ -92,7 +91,7 @@ pub begins_working : (told tells : Type 0) (rack : Rack) (seed : List ℕ) (sess
 begins_working told tells rack seed session before cs lent names turn row i ready index_ready filled = record {
   went = work_all_went 1 (known row i) (known row i) (stayed_worked rack names turn 1 row i ready index_ready);
   stays = stays_same (known row i);
-  took = took_none tells (Unit {0}) [] lent lent (known row i) (known row i) (λ n. refl) (λ n. refl) (λ sole g. ap (λ ls. arrivals (entries_of ls)) (drop_all (view_at row g).seen));
+  took = took_none tells (Unit {0}) [] lent lent (known row i) (known row i) (λ n. refl) (λ n. refl) (λ sole g. ap (λ ls. arrivals (entries_of ls)) (drop-length (view_at row g).seen));
   filled = filled;
   replies = [];
   replied = none_replied rack seed session (known row i);

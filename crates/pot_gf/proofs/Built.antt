@@ -1,5 +1,5 @@
 -- How `vanish` and `interpolate` build their polynomials, point by point.
-use Rattle.std.proofs.Common.{◌≡◌, ◌≢◌, ◌⊎◌, inl, inr, ℕ, zero, suc, ◌-◌, ◌<◌, ◌≤◌, bit_xor, List, [], ◌∷◌, length, get_or, replicate, nat_eq, refl, sym, ap, ap₂, ◌∙◌, arith, lit<, subst}
+use Rattle.std.proofs.Common.{◌≡◌, ◌≢◌, inl, inr, ℕ, zero, suc, ◌-◌, ◌<◌, ◌≤◌, bit_xor, List, [], ◌∷◌, length, get_or, replicate, nat_eq, refl, sym, ap, ap₂, ◌∙◌, arith, lit<, subst, pos_of_ne-zero}
 use Rattle.std.specs.List.{IsDistinct}
 use Rattle.std.specs.Int.Bits.{xor_self, xor_zero_r}
 use Rattle.std.proofs.lemmas.Nat.{xor_of_8}
@@ -8,6 +8,7 @@ use Rattle.pot_bytes.specs.Lists.{AreBytes}
 use Rattle.pot_bytes.specs.Product.{byte_product}
 use Rattle.pot_bytes.proofs.TotalLemmas.{from_zero}
 use Rattle.pot_bytes.proofs.ProductLemmas.{byte_product-zero_left, byte_product-zero_right, byte_product-one_left, byte_product-one_right, byte_product-comm}
+use Rattle.pot_bytes.proofs.Basis.{last_or}
 use Rattle.pot_gf.specs.Polynomials.{value, IsBelowDegree, IsTimesLine, Meets}
 use Rattle.pot_gf.proofs.FieldLemmas.{byte_product-cancel}
 use Rattle.pot_gf.proofs.Values.{value-cons, value-zero, value-below}
@@ -27,9 +28,6 @@ value-constant c n x lt =
 pub below-constant : (c n : ℕ) → IsBelowDegree 1 (c ∷ replicate n 0)
 below-constant c n zero le = absurd (omega arith)
 below-constant c n (suc t) le = zeros-below n t
-
-last_or : (k n : ℕ) → k < suc n → (k ≡ n) ⊎ (k < n)
-last_or k n lt = grind arith
 
 -- 1 at 0, and 0 at the first `n` points
 pub record IsVanishing (points : List ℕ) (n : ℕ) (p : List ℕ) : Type 0 where
@@ -71,9 +69,6 @@ node_none points = record {
   degree = below-constant 1 15;
 }
 
-some : (n : ℕ) → n ≢ 0 → 0 < n
-some n h = grind arith
-
 pub node_more : (points : List ℕ) (n : ℕ) (node next : List ℕ) → AreBytes points → IsNode points n node → IsTimesLine (get_or points n 0) 1 node next → IsNode points (suc n) next
 node_more points n node next b v l = record {
   zeros = λ j lt. elim (last_or j n lt) [
@@ -84,11 +79,11 @@ node_more points n node next b v l = record {
         ∙ ap (byte_product (bit_xor (get_or points n 0) (byte_product 1 (get_or points j 0)))) (v.zeros j m)
         ∙ byte_product-zero_right (bit_xor (get_or points n 0) (byte_product 1 (get_or points j 0)))
   ];
-  others = λ x lt h. some (value next x) (λ z.
+  others = λ x lt h. pos_of_ne-zero (λ z.
       let before : 0 < value node x = v.others x lt (λ j m. h j (omega arith)) in
       let factor : bit_xor (get_or points n 0) x < 256 = xor_of_8 (get_or points n 0) x (b n) lt in
       let none : value node x ≡ 0 = byte_product-cancel (bit_xor (get_or points n 0) x) (value node x)
-      (some (bit_xor (get_or points n 0) x) (λ e. h n (omega arith) (from_zero (get_or points n 0) x e))) factor (value-below node x)
+      (pos_of_ne-zero (λ e. h n (omega arith) (from_zero (get_or points n 0) x e))) factor (value-below node x)
       (ap (λ z. byte_product (bit_xor (get_or points n 0) z) (value node x)) (sym (byte_product-one_left x lt)) ∙ sym (l.values x) ∙ z) in
       omega arith);
   degree = λ t le. l.degree (suc n) v.degree t (omega arith);

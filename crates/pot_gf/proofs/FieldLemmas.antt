@@ -1,14 +1,12 @@
 -- The laws of the field. Those on two or three elements are computed for single bits, and hold of all by linearity; the
 -- inverses are computed for each of the 255 elements.
 use Rattle.std.proofs.Common.{◌≡◌, ◌⊎◌, inl, inr, ℕ, zero, suc, ◌+◌, ◌%◌, ◌^◌, ◌<◌, true, nat_eq, refl, sym, ap, ap₂, ◌∙◌, arith}
+use Rattle.std.proofs.lemmas.Bool.{eqb-true}
 use Rattle.pot_bytes.specs.Totals.{total}
 use Rattle.pot_bytes.specs.Product.{coefficient, polynomial_product, remainder, byte_product}
-use Rattle.pot_bytes.proofs.Basis.{every, every_at, same, from_basis}
-use Rattle.pot_bytes.proofs.ProductLemmas.{byte_product-xor_left, byte_product-xor_right, byte_product-bytes, byte_product-comm, byte_product-below, byte_product-zero_left, byte_product-zero_right, byte_product-one_left, byte_product-one_right, linear_left, linear_right}
+use Rattle.pot_bytes.proofs.Basis.{every, every_at, from_basis}
+use Rattle.pot_bytes.proofs.ProductLemmas.{byte_product-xor_left, byte_product-xor_right, byte_product-bytes, byte_product-comm, byte_product-below, byte_product-zero_left, byte_product-zero_right, byte_product-one_left, byte_product-one_right, linear_left, linear_right, byte}
 use Rattle.pot_gf.specs.Field.{power, inverse, FieldLaws}
-
-byte : (a : ℕ) → a % 256 < 2 ^ 8
-byte a = omega arith
 
 associating : every 8 (λ i. every 8 (λ j. every 8 (λ k. nat_eq (byte_product (byte_product (2 ^ i) (2 ^ j)) (2 ^ k)) (byte_product (2 ^ i) (byte_product (2 ^ j) (2 ^ k)))))) ≡ true
 unfolding every total coefficient polynomial_product remainder byte_product
@@ -25,7 +23,7 @@ bytes_associate a b c ha hb hc =
     (λ j hj. from_basis 8 (byte_product (byte_product (2 ^ i) (2 ^ j))) (λ x. byte_product (2 ^ i) (byte_product (2 ^ j) x))
     (linear_right (byte_product (2 ^ i) (2 ^ j)))
     (record { keeps = λ x y. ap (byte_product (2 ^ i)) (byte_product-xor_right (2 ^ j) x y) ∙ byte_product-xor_right (2 ^ i) (byte_product (2 ^ j) x) (byte_product (2 ^ j) y) })
-    (λ k hk. same _ _ (every_at 8 (λ k. nat_eq (byte_product (byte_product (2 ^ i) (2 ^ j)) (2 ^ k)) (byte_product (2 ^ i) (byte_product (2 ^ j) (2 ^ k)))) k
+    (λ k hk. eqb-true _ _ (every_at 8 (λ k. nat_eq (byte_product (byte_product (2 ^ i) (2 ^ j)) (2 ^ k)) (byte_product (2 ^ i) (byte_product (2 ^ j) (2 ^ k)))) k
     (every_at 8 (λ j. every 8 (λ k. nat_eq (byte_product (byte_product (2 ^ i) (2 ^ j)) (2 ^ k)) (byte_product (2 ^ i) (byte_product (2 ^ j) (2 ^ k))))) j
     (every_at 8 (λ i. every 8 (λ j. every 8 (λ k. nat_eq (byte_product (byte_product (2 ^ i) (2 ^ j)) (2 ^ k)) (byte_product (2 ^ i) (byte_product (2 ^ j) (2 ^ k)))))) i associating hi) hj) hk)) c hc) b hb) a ha
 
@@ -86,7 +84,7 @@ pub byte_product-inverse : (a : ℕ) → 0 < a → a < 256 → byte_product a (i
 byte_product-inverse zero h k = absurd (omega arith)
 byte_product-inverse (suc a) h k =
     ap (byte_product (suc a)) (sym (chain-inverse (suc a) k))
-    ∙ same _ _ (every_at 255 (λ a. nat_eq (byte_product (suc a) (chain 7 (suc a) 1)) 1) a inverting (omega arith))
+    ∙ eqb-true _ _ (every_at 255 (λ a. nat_eq (byte_product (suc a) (chain 7 (suc a) 1)) 1) a inverting (omega arith))
 
 -- a factor that is not 0 goes away
 pub byte_product-cancel : (a b : ℕ) → 0 < a → a < 256 → b < 256 → byte_product a b ≡ 0 → b ≡ 0

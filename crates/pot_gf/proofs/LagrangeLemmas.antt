@@ -1,12 +1,12 @@
 -- The value at 0 of a polynomial of degree below m, from its values at m points.
-use Rattle.std.proofs.Common.{drop, drop-cons, map, ◌≡◌, ◌≢◌, ◌⊎◌, inl, inr, ℕ, zero, suc, ◌<◌, ◌≤◌, bit_xor, List, [], ◌∷◌, length, get_or, Bool, true, false, nat_eq, refl, sym, ap, ap₂, ◌∙◌, arith, lit<, subst}
+use Rattle.std.proofs.Common.{drop, drop-cons, map, ◌≡◌, ◌≢◌, ◌⊎◌, inl, inr, ℕ, zero, suc, ◌<◌, ◌≤◌, bit_xor, List, [], ◌∷◌, length, get_or, Bool, nat_eq, refl, sym, ap, ap₂, ◌∙◌, arith, lit<, subst, pos_of_ne-zero}
 use Rattle.std.specs.Prelude.{if◌then◌else◌}
 use Rattle.std.specs.List.{IsDistinct}
 use Rattle.std.proofs.Math.ListN.{drop_of_length-le}
 use Rattle.std.proofs.lemmas.List.{get_or-map}
 use Rattle.std.specs.Int.Bits.{xor_self, xor_zero_l, xor_zero_r}
 use Rattle.std.proofs.lemmas.Nat.{xor_of_8}
-use Rattle.std.proofs.lemmas.Bool.Decides.{nat_tests}
+use Rattle.std.proofs.lemmas.Bool.Decides.{eqb_tells}
 use Rattle.pot_bytes.specs.Lists.{AreBytes}
 use Rattle.pot_bytes.specs.Product.{byte_product}
 use Rattle.pot_bytes.specs.Totals.{total}
@@ -22,35 +22,29 @@ use Rattle.pot_gf.proofs.Values.{added, get_or-added, value-added, value-nil, va
 use Rattle.pot_gf.proofs.Built.{distinct_apart}
 use Rattle.pot_gf.proofs.Zeros.{unique_law}
 
-tested : (a x : ℕ) → ((nat_eq a x ≡ true) × (a ≡ x)) ⊎ ((nat_eq a x ≡ false) × (a ≢ x))
-tested a x = grind (arith, nat_tests)
-
-some : (n : ℕ) → n ≢ 0 → 0 < n
-some n h = grind arith
-
 -- the point itself is left out, and each other one is a factor
 pub product_but-itself : (x a : ℕ) (f : ℕ → ℕ) (points : List ℕ) → a ≡ x → product_but x f (a ∷ points) ≡ product_but x f points
-product_but-itself x a f points e = elim (tested a x) [
+product_but-itself x a f points e = elim (eqb_tells a x) [
   | inl is ↦ ap (λ (b : Bool). if b then product_but x f points else byte_product (f a) (product_but x f points)) is.0
   | inr ne ↦ absurd (ne.1 e)
 ]
 
 pub product_but-other : (x a : ℕ) (f : ℕ → ℕ) (points : List ℕ) → a ≢ x → product_but x f (a ∷ points) ≡ byte_product (f a) (product_but x f points)
-product_but-other x a f points ne = elim (tested a x) [
+product_but-other x a f points ne = elim (eqb_tells a x) [
   | inl is ↦ absurd (ne is.1)
   | inr is ↦ ap (λ (b : Bool). if b then product_but x f points else byte_product (f a) (product_but x f points)) is.0
 ]
 
 pub product_but-below : (x : ℕ) (f : ℕ → ℕ) (points : List ℕ) → product_but x f points < 256
 product_but-below x f [] = lit< tt
-product_but-below x f (a ∷ points) = elim (tested a x) [
+product_but-below x f (a ∷ points) = elim (eqb_tells a x) [
   | inl is ↦ subst (λ z. z < 256) (sym (product_but-itself x a f points is.1)) (product_but-below x f points)
   | inr is ↦ subst (λ z. z < 256) (sym (product_but-other x a f points is.1)) (byte_product-below (f a) (product_but x f points))
 ]
 
 pub product_but-same : (x : ℕ) (f g : ℕ → ℕ) (points : List ℕ) → ((a : ℕ) → f a ≡ g a) → product_but x f points ≡ product_but x g points
 product_but-same x f g [] h = refl
-product_but-same x f g (a ∷ points) h = elim (tested a x) [
+product_but-same x f g (a ∷ points) h = elim (eqb_tells a x) [
   | inl is ↦ product_but-itself x a f points is.1 ∙ product_but-same x f g points h ∙ sym (product_but-itself x a g points is.1)
   | inr is ↦ product_but-other x a f points is.1 ∙ ap₂ byte_product (h a) (product_but-same x f g points h) ∙ sym (product_but-other x a g points is.1)
 ]
@@ -58,15 +52,15 @@ product_but-same x f g (a ∷ points) h = elim (tested a x) [
 -- the differences from the other points are not 0, nor is their product
 pub differences_some : (x : ℕ) (points : List ℕ) → x < 256 → AreBytes points → 0 < product_but x (λ a. bit_xor a x) points
 differences_some x [] lt b = lit< tt
-differences_some x (a ∷ points) lt b = elim (tested a x) [
+differences_some x (a ∷ points) lt b = elim (eqb_tells a x) [
   | inl is ↦ subst (λ z. 0 < z) (sym (product_but-itself x a (λ a. bit_xor a x) points is.1)) (differences_some x points lt (λ k. b (suc k)))
   | inr is ↦ subst (λ z. 0 < z) (sym (product_but-other x a (λ a. bit_xor a x) points is.1))
-      (nonzero (bit_xor a x) (product_but x (λ a. bit_xor a x) points) (some (bit_xor a x) (λ e. is.1 (from_zero a x e))) (xor_of_8 a x (b 0) lt)
+      (nonzero (bit_xor a x) (product_but x (λ a. bit_xor a x) points) (pos_of_ne-zero (λ e. is.1 (from_zero a x e))) (xor_of_8 a x (b 0) lt)
       (product_but-below x (λ a. bit_xor a x) points) (differences_some x points lt (λ k. b (suc k))))
 ]
   where
     nonzero : (u v : ℕ) → 0 < u → u < 256 → v < 256 → 0 < v → 0 < byte_product u v
-    nonzero u v pu hu hv pv = some (byte_product u v) (λ e. let z : v ≡ 0 = byte_product-cancel u v pu hu hv e in omega arith)
+    nonzero u v pu hu hv pv = pos_of_ne-zero (λ e. let z : v ≡ 0 = byte_product-cancel u v pu hu hv e in omega arith)
 
 -- a factor that is 0
 product_zero : (x b j : ℕ) (points : List ℕ) → j < length points → get_or points j 0 ≡ b → b ≢ x → product_but x (λ a. bit_xor a b) points ≡ 0
@@ -75,7 +69,7 @@ product_zero x b zero (a ∷ points) lt e ne =
     product_but-other x a (λ a. bit_xor a b) points (λ is. ne (sym e ∙ is))
     ∙ ap (λ z. byte_product (bit_xor z b) (product_but x (λ a. bit_xor a b) points)) e
     ∙ ap (λ z. byte_product z (product_but x (λ a. bit_xor a b) points)) (xor_self b) ∙ byte_product-zero_left (product_but x (λ a. bit_xor a b) points)
-product_zero x b (suc j) (a ∷ points) lt e ne = elim (tested a x) [
+product_zero x b (suc j) (a ∷ points) lt e ne = elim (eqb_tells a x) [
   | inl is ↦ product_but-itself x a (λ a. bit_xor a b) points is.1 ∙ product_zero x b j points (omega arith) e ne
   | inr is ↦ product_but-other x a (λ a. bit_xor a b) points is.1
       ∙ ap (byte_product (bit_xor a b)) (product_zero x b j points (omega arith) e ne) ∙ byte_product-zero_right (bit_xor a b)
@@ -115,14 +109,14 @@ node x (a ∷ points) = if nat_eq a x then node x points else rooted a (node x p
 
 node-itself : (x a : ℕ) (points : List ℕ) → a ≡ x → node x (a ∷ points) ≡ node x points
 unfolding node
-node-itself x a points e = elim (tested a x) [
+node-itself x a points e = elim (eqb_tells a x) [
   | inl is ↦ ap (λ (b : Bool). if b then node x points else rooted a (node x points)) is.0
   | inr ne ↦ absurd (ne.1 e)
 ]
 
 node-other : (x a : ℕ) (points : List ℕ) → a ≢ x → node x (a ∷ points) ≡ rooted a (node x points)
 unfolding node
-node-other x a points ne = elim (tested a x) [
+node-other x a points ne = elim (eqb_tells a x) [
   | inl is ↦ absurd (ne is.1)
   | inr is ↦ ap (λ (b : Bool). if b then node x points else rooted a (node x points)) is.0
 ]
@@ -131,7 +125,7 @@ value-node : (x : ℕ) (points : List ℕ) (y : ℕ) → value (node x points) y
 unfolding node
 value-node x [] y =
     value-cons 1 [] y ∙ ap₂ bit_xor (byte_product-one_right 1 (lit< tt)) (ap (byte_product y) (value-nil y) ∙ byte_product-zero_right y) ∙ xor_zero_r 1
-value-node x (a ∷ points) y = elim (tested a x) [
+value-node x (a ∷ points) y = elim (eqb_tells a x) [
   | inl is ↦ ap (λ p. value p y) (node-itself x a points is.1) ∙ value-node x points y ∙ sym (product_but-itself x a (λ a. bit_xor a y) points is.1)
   | inr is ↦ ap (λ p. value p y) (node-other x a points is.1) ∙ value-rooted a (node x points) y
       ∙ ap (byte_product (bit_xor a y)) (value-node x points y) ∙ sym (product_but-other x a (λ a. bit_xor a y) points is.1)
@@ -141,7 +135,7 @@ node-degree : (x : ℕ) (points : List ℕ) → IsBelowDegree (suc (length point
 unfolding node
 node-degree x [] zero le = absurd (omega arith)
 node-degree x [] (suc t) le = refl
-node-degree x (a ∷ points) t le = elim (tested a x) [
+node-degree x (a ∷ points) t le = elim (eqb_tells a x) [
   | inl is ↦ ap (λ p. get_or p t 0) (node-itself x a points is.1) ∙ node-degree x points t (omega arith)
   | inr is ↦ ap (λ p. get_or p t 0) (node-other x a points is.1) ∙ rooted-degree a (node x points) (suc (length points)) (node-degree x points) t le
 ]
@@ -151,7 +145,7 @@ node-degree_at : (x j : ℕ) (points : List ℕ) → j < length points → get_o
 node-degree_at x j [] lt e t le = absurd (omega arith)
 node-degree_at x zero (a ∷ points) lt e t le =
     ap (λ p. get_or p t 0) (node-itself x a points e) ∙ node-degree x points t le
-node-degree_at x (suc j) (a ∷ points) lt e t le = elim (tested a x) [
+node-degree_at x (suc j) (a ∷ points) lt e t le = elim (eqb_tells a x) [
   | inl is ↦ ap (λ p. get_or p t 0) (node-itself x a points is.1) ∙ node-degree x points t le
   | inr is ↦ ap (λ p. get_or p t 0) (node-other x a points is.1) ∙ rooted-degree a (node x points) (length points) (node-degree_at x j points (omega arith) e) t le
 ]
@@ -160,7 +154,7 @@ node-bytes : (x : ℕ) (points : List ℕ) → AreBytes (node x points)
 unfolding node
 node-bytes x [] zero = lit< tt
 node-bytes x [] (suc t) = lit< tt
-node-bytes x (a ∷ points) t = elim (tested a x) [
+node-bytes x (a ∷ points) t = elim (eqb_tells a x) [
   | inl is ↦ subst (λ p. get_or p t 0 < 256) (sym (node-itself x a points is.1)) (node-bytes x points t)
   | inr is ↦ subst (λ p. get_or p t 0 < 256) (sym (node-other x a points is.1)) (rooted-bytes a (node x points) (node-bytes x points) t)
 ]

@@ -14,7 +14,7 @@ use Rattle.pot_steps.specs.Stripe.{Sound, digest_of}
 use Rattle.pot_steps.specs.Flight.{unfolded, weight_in, partial_of}
 use Rattle.pot_steps.specs.Flights.{Acts, flight_in, flights_after, IsFlying, FliesOver, WritesBack, without_flight}
 use Rattle.pot_steps.specs.Holdings.{stripe_of}
-use Rattle.pot_steps.specs.GroupStep.{GroupState, log_bound}
+use Rattle.pot_steps.specs.GroupStep.{GroupState}
 use Rattle.pot_steps.specs.RelaySteps.{Logged, AdvanceStep, Hopped, Ended, Faulted, Idle, HearsSum, Hears, ComesTo, Odd}
 use Rattle.pot_steps.proofs.CallLemmas.{stands, next_within, legal_oddly, odd_broken}
 use Rattle.pot_steps.proofs.FlightLists.{relay_of, relay_of_flight, over_stripe}
@@ -26,6 +26,7 @@ use Rattle.pot_group.specs.declared.relaying.Advanced.{Advanced}
 use Rattle.pot_group.specs.Relaying.{acted, advance_as, HopsOver, EndsWell}
 use Rattle.pot_group.specs.declared.relaying.Advanced.TheVariants as advanced
 use Rattle.pot_bytes.specs.declared.digest.Digest.{Digest}
+use Rattle.pot_bytes.specs.Rack.{log_bound}
 use Rattle.pot_steps.specs.Calls.{FinishMeans}
 use Rattle.pot_steps.specs.declared.rebuilding.Finished.TheVariants as finished
 use Rattle.pot_group.specs.declared.relaying.AdvanceFault.{AdvanceFault}

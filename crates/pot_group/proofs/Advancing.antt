@@ -2,6 +2,7 @@
 use Rattle.std.proofs.Common.{◌≡◌, ◌≢◌, inl, inr, ℕ, ◌<◌, ◌++◌, List, [], ◌∷◌, Some, None, IsSomeAnd, false, IsTrue, length, refl, sym, ap, ◌∙◌, subst}
 use Rattle.std.specs.Prelude.{Ok, Err, Result}
 use Rattle.pot_bytes.specs.declared.digest.Digest.{Digest}
+use Rattle.pot_bytes.specs.Rack.{log_bound}
 use Rattle.pot_outside.specs.Archives.{Meaning}
 use Rattle.pot_outside.specs.Counts.{Rose}
 use Rattle.pot_outside.specs.declared.archive.Held.{Held as IsHeld}
@@ -16,7 +17,6 @@ use Rattle.pot_steps.specs.declared.flight.Flight.{Flight}
 use Rattle.pot_steps.specs.Stripe.{digest_of}
 use Rattle.pot_steps.specs.Flight.{partial_of, unfolded, weight_in}
 use Rattle.pot_steps.specs.Flights.{flight_in, without_flight}
-use Rattle.pot_steps.specs.GroupStep.{log_bound}
 use Rattle.pot_steps.specs.Calls.{FinishMeans}
 use Rattle.pot_steps.specs.declared.rebuilding.Finished.TheVariants as finished
 use Rattle.pot_steps.proofs.CallLemmas.{legal_hop}

@@ -8,15 +8,15 @@ use Rattle.pot_machine.specs.declared.slot.SlotState.TheVariants.{Void, Live, Lo
 use Rattle.pot_machine.specs.declared.entry.Entry.{Entry}
 use Rattle.pot_machine.specs.declared.entry.Entry.TheVariants.{Begin, Stuck}
 use Rattle.pot_machine.specs.Slot.{is_unsound, is_lost, is_broken}
-use Rattle.pot_machine.specs.Table.{Table, width, slot_at, relay_at, first, first_beside, count_beside, least}
+use Rattle.pot_machine.specs.Table.{Table, width, slot_at, relay_at, first, first_beside, count_beside}
 use Rattle.pot_machine.specs.Rules.{IsTable}
 use Rattle.pot_machine.specs.Machine.{Legal, after, stuck_by, IsRebuilt}
-use Rattle.pot_machine.proofs.Searches.{least_none, none_counted}
+use Rattle.pot_machine.proofs.Searches.{least_none, none_counted, count_none, none_least}
 use Rattle.pot_steps.proofs.Steps.{count-le}
-use Rattle.pot_steps.proofs.PutLaw.{count-zero}
 use Rattle.pot_bytes.specs.Lists.{IsBlock}
+use Rattle.pot_bytes.specs.Rack.{log_bound}
 use Rattle.pot_steps.specs.Flights.{Acts, flights_after}
-use Rattle.pot_steps.specs.GroupStep.{GroupState, log_bound}
+use Rattle.pot_steps.specs.GroupStep.{GroupState}
 use Rattle.pot_steps.specs.RelaySteps.{Logged, BeginStep, Unchanged}
 use Rattle.pot_group.specs.declared.relaying.BeginFault.{BeginFault}
 use Rattle.pot_group.specs.declared.relaying.BeginFault.TheVariants as fault
@@ -56,9 +56,6 @@ unbroken_beside : (b : Bool) (x : SlotState) → is_broken x ≡ false → (b &&
 unbroken_beside false x e = refl
 unbroken_beside true x e = e
 
-pub none_least : (n : ℕ) (f : ℕ → Bool) → ((c : ℕ) → c < n → f c ≡ false) → least n f ≡ None
-none_least n f h = none_counted n f (count-zero n f h)
-
 module _ (t : Table) (s c : ℕ) (is : IsTable t) (within : s < t.stripes) (column : c < width t) (unsound : IsTrue (is_unsound (slot_at t s c))) (idle : relay_at t s ≡ None) (unstuck : stuck_by t s c ≡ None) where
   ways : (((t.parity == 2) ≡ false) ⊎ (first t s is_broken ≡ None)) × ((nat_le t.parity (count_beside t s c is_unsound) ≡ false) ⊎ (first_beside t s c is_unsound ≡ None))
   ways = either_none (t.parity == 2) (nat_le t.parity (count_beside t s c is_unsound)) (first t s is_broken) (first_beside t s c is_unsound) unstuck
@@ -69,7 +66,7 @@ module _ (t : Table) (s c : ℕ) (is : IsTable t) (within : s < t.stripes) (colu
   few : ((nat_le t.parity (count_beside t s c is_unsound) ≡ false) ⊎ (first_beside t s c is_unsound ≡ None)) → count_beside t s c is_unsound < t.parity
   few (inl e) = few_of t.parity (count_beside t s c is_unsound) e
   few (inr e) =
-      let z : count_beside t s c is_unsound ≡ 0 = count-zero (width t) (λ k. not (k == c) && is_unsound (slot_at t s k)) (least_none (width t) (λ k. not (k == c) && is_unsound (slot_at t s k)) e) in
+      let z : count_beside t s c is_unsound ≡ 0 = count_none (width t) (λ k. not (k == c) && is_unsound (slot_at t s k)) (least_none (width t) (λ k. not (k == c) && is_unsound (slot_at t s k)) e) in
       let one : 1 ≤ t.parity = is.size.parity.0 in
       omega arith
 

@@ -1,6 +1,8 @@
 -- An archive that comes to a group.
-use Rattle.std.proofs.Common.{◌≡◌, ◌≢◌, ◌⊎◌, inl, inr, ℕ, zero, suc, ◌+◌, ◌-◌, ◌^◌, ◌<◌, ◌≤◌, ◌++◌, List, [], ◌∷◌, refl, sym, ap, ap₂, ◌∙◌, subst, arith}
+use Rattle.std.proofs.Common.{◌≡◌, ◌≢◌, inl, inr, ℕ, ◌+◌, ◌-◌, ◌^◌, ◌<◌, ◌≤◌, List, [], ◌∷◌, refl, sym, ap, ap₂, ◌∙◌, subst, arith}
 use Rattle.std.specs.Prelude.{Contains}
+use Rattle.std.proofs.lemmas.Bool.{cases_eq}
+use Rattle.pot_bytes.proofs.Elements.{contains_front}
 use Rattle.pot_outside.specs.Archives.{Meaning}
 use Rattle.pot_outside.specs.Counts.{Rose}
 use Rattle.pot_machine.specs.Table.{width, serving_at}
@@ -14,15 +16,7 @@ use Rattle.pot_group.proofs.CauseLemmas.{WhereMissed-mono}
 use Rattle.pot_group.proofs.Reading.{served}
 use Rattle.pot_group.proofs.Settled.{stands_in}
 
-same_or : (a b : ℕ) → (a ≡ b) ⊎ (a ≢ b)
-same_or a b = grind arith
-
 -- WHAT A GROUP KEEPS
-
-pub Contains-front : (xs ys : List ℕ) (n : ℕ) → Contains xs n → Contains (xs ++ ys) n
-Contains-front [] ys n h = absurd (omega (arith, h.1))
-Contains-front (x ∷ xs) ys n (zero, l, e) = (zero, omega arith, e)
-Contains-front (x ∷ xs) ys n (suc k, l, e) = (let h : Contains (xs ++ ys) n = Contains-front xs ys n (k, omega (arith, l), e) in (suc h.0, omega (arith, h.1), h.2))
 
 module _ (told : Type 0) (g : GroupView) (number : ℕ) (meant : Meaning) (s : Shelves) (settled : IsSettled told g) (fresh : Contains g.shelves.numbers number → ⊥) (b : Brings told number meant g.shelves s) where
   -- no slot is served by it
@@ -34,14 +28,14 @@ module _ (told : Type 0) (g : GroupView) (number : ℕ) (meant : Meaning) (s : S
   no_rise x y ex ey (inr l) = omega arith
 
   rose_on : (n : ℕ) → LostSince g.shelves n → LostSince s n
-  rose_on n r = elim (same_or n number) [
+  rose_on n r = elim (cases_eq n number) [
     | inl e ↦ absurd (no_rise (g.shelves.losses_taken number) (g.shelves.losses number) b.absent.3 b.absent.2 (subst (λ m. LostSince g.shelves m) e r))
     | inr ne ↦ subst (λ x. Rose x (s.losses n)) (sym (b.same_losses n ne).1) (subst (λ y. Rose (g.shelves.losses_taken n) y) (sym (b.same_losses n ne).0) r)
   ]
 
   same_risen : (ns : List ℕ) → risen s ns ≡ risen g.shelves ns
   same_risen [] = refl
-  same_risen (n ∷ ns) = ap₂ (λ x y. x + y) (elim (same_or n number) [
+  same_risen (n ∷ ns) = ap₂ (λ x y. x + y) (elim (cases_eq n number) [
     | inl e ↦ subst (λ m. s.faults m - s.faults_taken m ≡ g.shelves.faults m - g.shelves.faults_taken m) (sym e) (nothing (s.faults number) (s.faults_taken number) (g.shelves.faults number) (g.shelves.faults_taken number) b.marked b.absent.0)
     | inr ne ↦ ap₂ (λ x y. x - y) (b.same_faults n ne).0 (b.same_faults n ne).1
   ]) (same_risen ns)
@@ -50,7 +44,7 @@ module _ (told : Type 0) (g : GroupView) (number : ℕ) (meant : Meaning) (s : S
       nothing x y u v e z = omega arith
 
   covers_on : (ns : List ℕ) (k : ℕ) → Covers g.shelves ns k → Covers s ns k
-  covers_on ns k (inl top) = elim (same_or top.0 number) [
+  covers_on ns k (inl top) = elim (cases_eq top.0 number) [
     | inl e ↦ absurd (let z : g.shelves.faults top.0 ≡ 0 = ap g.shelves.faults e ∙ b.absent.0 in omega (arith, top.2))
     | inr ne ↦ inl (top.0, top.1, subst (λ x. 2 ^ 64 - 1 ≤ x) (sym (b.same_faults top.0 ne).0) top.2)
   ]
@@ -68,14 +62,14 @@ module _ (told : Type 0) (g : GroupView) (number : ℕ) (meant : Meaning) (s : S
     table = settled.table;
     relays = settled.relays;
     bound = settled.bound;
-    shelves = (λ c n lc e. subst (λ ns. Contains ns n) (sym b.numbers) (Contains-front g.shelves.numbers (number ∷ []) n (settled.shelves c n lc e)));
+    shelves = (λ c n lc e. subst (λ ns. Contains ns n) (sym b.numbers) (contains_front g.shelves.numbers (number ∷ []) n (settled.shelves c n lc e)));
     serves = settled.serves;
     sizes = settled.sizes;
-    faults = (λ n. elim (same_or n number) [
+    faults = (λ n. elim (cases_eq n number) [
       | inl e ↦ subst (λ m. s.faults_taken m ≤ s.faults m) (sym e) (subst (λ x. x ≤ s.faults number) (sym b.marked) (omega arith))
       | inr ne ↦ omega (arith, settled.faults n, (b.same_faults n ne).0, (b.same_faults n ne).1)
     ]);
-    losses = (λ t n. elim (same_or n number) [
+    losses = (λ t n. elim (cases_eq n number) [
       | inl e ↦ subst (λ m. s.losses_taken m ≤ s.losses m) (sym e) (subst (λ x. x ≤ s.losses number) (sym (b.marked_losses t)) (omega arith))
       | inr ne ↦ omega (arith, settled.losses t n, (b.same_losses n ne).0, (b.same_losses n ne).1)
     ]);

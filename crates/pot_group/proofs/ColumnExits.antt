@@ -1,31 +1,25 @@
 -- What the entries that change a column leave of the columns and their archives.
-use Rattle.std.proofs.Common.{◌≡◌, ◌≢◌, ◌⊎◌, inl, inr, ℕ, zero, suc, ◌<◌, ◌++◌, ◌==◌, ◌||◌, List, [], ◌∷◌, Option, Some, None, Bool, true, false, IsTrue, length, refl, sym, ap, ◌∙◌, subst, arith, append_assoc, append-nil}
+use Rattle.std.proofs.Common.{◌≡◌, ◌⊎◌, inl, inr, ℕ, zero, suc, ◌<◌, ◌++◌, ◌==◌, List, [], ◌∷◌, Option, Some, None, true, false, IsTrue, length, refl, sym, ap, ◌∙◌, subst, arith, append_assoc, append-nil}
 use Rattle.std.specs.Prelude.{Contains, nat_eq, if◌then◌else◌}
 use Rattle.std.proofs.lemmas.Bool.Decides.{nat_tests}
+use Rattle.std.proofs.lemmas.Bool.{cases_eq, eqb-true, or_cases, or_left, or_right}
+use Rattle.pot_bytes.proofs.Elements.{contains_front, contains_back}
 use Rattle.pot_machine.specs.declared.column.Column.{Column}
 use Rattle.pot_machine.specs.declared.column.Moving.{Moving}
 use Rattle.pot_machine.specs.declared.entry.Entry.{Entry}
 use Rattle.pot_machine.specs.declared.entry.Entry.TheVariants.{MoveBegin, Moved, MoveEnd, Swapped}
 use Rattle.pot_machine.specs.Column.{names, names_moved, target_of}
 use Rattle.pot_machine.specs.Table.{Table, width, column_at}
-use Rattle.pot_machine.specs.Machine.{Legal, after, with_loss, with_losses, moved_on, moved_home}
+use Rattle.pot_machine.specs.Machine.{Legal, after, with_loss, with_losses, moved_on}
 use Rattle.pot_machine.specs.Laws.{ChangesColumn}
-use Rattle.pot_machine.proofs.Columns.{column_same}
+use Rattle.pot_machine.proofs.Columns.{column_same, moved_home_names}
 use Rattle.pot_machine.proofs.LeftAlone.{columns_stay}
 use Rattle.pot_machine.proofs.Sizes.{width-with_losses}
 use Rattle.pot_shelves.specs.Shelves.{Shelves, Keeps}
 use Rattle.pot_group.specs.Causes.{archives_of, brought, brought_by}
 use Rattle.pot_group.specs.Group.{GroupView, IsSettled}
 use Rattle.pot_group.proofs.Settled.{LeavesColumns}
-use Rattle.pot_group.proofs.Brought.{Contains-front}
 use Rattle.pot_group.proofs.CauseLemmas.{brought_by-snoc}
-
-same_or : (a b : ℕ) → (a ≡ b) ⊎ (a ≢ b)
-same_or a b = grind arith
-
-pub Contains-back : (xs ys : List ℕ) (n : ℕ) → Contains ys n → Contains (xs ++ ys) n
-Contains-back [] ys n h = h
-Contains-back (x ∷ xs) ys n h = (let r : Contains (xs ++ ys) n = Contains-back xs ys n h in (suc r.0, omega (arith, r.1), r.2))
 
 pub archives-more : (first : Table) (log : List Entry) (c : ℕ) (e : Entry) → archives_of first (log ++ e ∷ []) c ≡ archives_of first log c ++ brought c e
 archives-more first log c e = ap (λ l. (column_at first c).home ∷ l) (ap (λ l. target_of (column_at first c).moving ++ l) (brought_by-snoc c log e) ∙ sym (append_assoc (target_of (column_at first c).moving) (brought_by c log) (brought c e)))
@@ -38,38 +32,19 @@ module _ (told : Type 0) (g : GroupView) (e : Entry) (s : Shelves) (settled : Is
   leaves_columns = record {
     shelves = (λ c n lc q. subst (λ ns. Contains ns n) (sym keeps.numbers) (elim (own c n lc q) [ inl h ↦ settled.shelves c n lc h | inr h ↦ h.0 ]));
     serves = (λ c n lc q. subst (λ ns. Contains ns n) (sym (archives-more g.first g.log c e)) (elim (own c n lc q) [
-      | inl h ↦ Contains-front (archives_of g.first g.log c) (brought c e) n (settled.serves c n lc h)
-      | inr h ↦ Contains-back (archives_of g.first g.log c) (brought c e) n h.1
+      | inl h ↦ contains_front (archives_of g.first g.log c) (brought c e) n (settled.serves c n lc h)
+      | inr h ↦ contains_back (archives_of g.first g.log c) (brought c e) n h.1
     ]));
-    archives = (λ c n h. subst (λ ns. Contains ns n) (sym (archives-more g.first g.log c e)) (Contains-front (archives_of g.first g.log c) (brought c e) n h));
+    archives = (λ c n h. subst (λ ns. Contains ns n) (sym (archives-more g.first g.log c e)) (contains_front (archives_of g.first g.log c) (brought c e) n h));
   }
-
-either : (a b : Bool) → a || b ≡ true → (a ≡ true) ⊎ (b ≡ true)
-either true b h = inl refl
-either false b h = inr h
-
-left_true : (a b : Bool) → a ≡ true → a || b ≡ true
-left_true true b h = refl
-left_true false b h = absurd (cc)
-
-right_true : (a b : Bool) → b ≡ true → a || b ≡ true
-right_true true b h = refl
-right_true false b h = h
-
-same_number : (a b : ℕ) → (a == b) ≡ true → a ≡ b
-same_number a b h = grind (arith, nat_tests)
 
 home_named : (o : Option Moving) (home n : ℕ) → (home == n) ≡ true → IsTrue (names_moved o home n)
 home_named None home n h = h
-home_named (Some m) home n h = left_true (home == n) (m.to == n) h
+home_named (Some m) home n h = or_left (home == n) (m.to == n) h
 
 pub on_names : (o : Option Moving) (home n : ℕ) → IsTrue (names (moved_on (record { home = home; moving = o })) n) → IsTrue (names_moved o home n)
 on_names None home n h = h
 on_names (Some m) home n h = h
-
-pub home_names : (o : Option Moving) (home n : ℕ) → IsTrue (names (moved_home (record { home = home; moving = o })) n) → IsTrue (names_moved o home n)
-home_names None home n h = h
-home_names (Some m) home n h = right_true (home == n) (m.to == n) h
 
 comes : (c to n : ℕ) → to ≡ n → Contains (if nat_eq c c then to ∷ [] else []) n
 comes c to n e = subst (λ l. Contains l n) (sym (itself c (to ∷ []))) (0, omega arith, e)
@@ -85,7 +60,7 @@ module _ (told : Type 0) (g : GroupView) (s : Shelves) (settled : IsSettled told
   by_column : (e : Entry) (x : Column) → ((k : ℕ) → ChangesColumn e k → k ≡ c) → column_at (after g.table e) c ≡ x
       → ((n : ℕ) → IsTrue (names x n) → IsTrue (names (column_at g.table c) n) ⊎ (Contains g.shelves.numbers n × Contains (brought c e) n))
       → (k n : ℕ) → k < width g.table → IsTrue (names (column_at (after g.table e) k) n) → IsTrue (names (column_at g.table k) n) ⊎ (Contains g.shelves.numbers n × Contains (brought k e) n)
-  by_column e x alone at own k n lk q = elim (same_or k c) [
+  by_column e x alone at own k n lk q = elim (cases_eq k c) [
     | inl p ↦ subst (λ k. IsTrue (names (column_at g.table k) n) ⊎ (Contains g.shelves.numbers n × Contains (brought k e) n)) (sym p)
         (own n (subst (λ y. IsTrue (names y n)) (ap (column_at (after g.table e)) p ∙ at) q))
     | inr ne ↦ inl (subst (λ y. IsTrue (names y n)) (columns_stay g.table e k (λ w. ne (alone k w))) q)
@@ -93,9 +68,9 @@ module _ (told : Type 0) (g : GroupView) (s : Shelves) (settled : IsSettled told
 
   pub move_begins : (to : ℕ) → Legal g.table (MoveBegin job c to) → Contains g.shelves.numbers to → LeavesColumns told g (MoveBegin job c to) s
   move_begins to legal has = leaves_columns told g (MoveBegin job c to) s settled keeps
-      (by_column (MoveBegin job c to) _ (λ k w. w) (column_same g.table c _ settled.table.size.columns legal.0.0) (λ n h. elim (either ((column_at g.table c).home == n) (to == n) h) [
+      (by_column (MoveBegin job c to) _ (λ k w. w) (column_same g.table c _ settled.table.size.columns legal.0.0) (λ n h. elim (or_cases ((column_at g.table c).home == n) (to == n) h) [
         | inl e ↦ inl (home_named (column_at g.table c).moving (column_at g.table c).home n e)
-        | inr e ↦ inr (subst (λ m. Contains g.shelves.numbers m) (same_number to n e) has, comes c to n (same_number to n e))
+        | inr e ↦ inr (subst (λ m. Contains g.shelves.numbers m) (eqb-true to n e) has, comes c to n (eqb-true to n e))
       ]))
 
   pub moves_copied : (n : ℕ) → Legal g.table (Moved job n c true) → LeavesColumns told g (Moved job n c true) s
@@ -108,7 +83,7 @@ module _ (told : Type 0) (g : GroupView) (s : Shelves) (settled : IsSettled told
 
   pub move_ends : Legal g.table (MoveEnd job c) → LeavesColumns told g (MoveEnd job c) s
   move_ends legal = leaves_columns told g (MoveEnd job c) s settled keeps
-      (by_column (MoveEnd job c) _ (λ k w. w) (column_same g.table c _ settled.table.size.columns legal.0) (λ m h. inl (home_names (column_at g.table c).moving (column_at g.table c).home m h)))
+      (by_column (MoveEnd job c) _ (λ k w. w) (column_same g.table c _ settled.table.size.columns legal.0) (λ m h. inl (moved_home_names (column_at g.table c).moving (column_at g.table c).home m h)))
 
   columns-losses : (n : ℕ) (t : Table) (c : ℕ) → (with_losses n t c).columns ≡ t.columns
   columns-losses zero t c = refl
@@ -117,7 +92,7 @@ module _ (told : Type 0) (g : GroupView) (s : Shelves) (settled : IsSettled told
   pub swaps : (to : ℕ) → Legal g.table (Swapped job c to) → Contains g.shelves.numbers to → LeavesColumns told g (Swapped job c to) s
   swaps to legal has = leaves_columns told g (Swapped job c to) s settled keeps
       (by_column (Swapped job c to) _ (λ k w. w) (column_same (with_losses g.table.stripes g.table c) c _ sized wide)
-      (λ n h. inr (subst (λ m. Contains g.shelves.numbers m) (same_number to n h) has, comes c to n (same_number to n h))))
+      (λ n h. inr (subst (λ m. Contains g.shelves.numbers m) (eqb-true to n h) has, comes c to n (eqb-true to n h))))
     where
       w : width (with_losses g.table.stripes g.table c) ≡ width g.table
       w = width-with_losses g.table.stripes g.table c

@@ -1,13 +1,14 @@
 -- A look as a step of a group.
 use Rattle.std.proofs.Common.{◌≡◌, ◌<◌, ◌≤◌, ◌++◌, ◌+◌, ℕ, arith, length-append, append-nil, List, [], ◌∷◌, refl, ap, sym, subst, length}
 use Rattle.pot_bytes.specs.declared.rack.Place.{Place}
+use Rattle.pot_bytes.specs.Rack.{log_bound}
 use Rattle.pot_machine.specs.declared.entry.Entry.{Entry}
 use Rattle.pot_machine.specs.declared.entry.Entry.TheVariants as entry
 use Rattle.pot_machine.specs.Slot.{is_live}
 use Rattle.pot_machine.specs.Table.{width, serving_at}
 use Rattle.pot_machine.specs.Machine.{Legal, Replays, after}
 use Rattle.pot_steps.specs.Stripe.{digest_of}
-use Rattle.pot_steps.specs.GroupStep.{LogsInStep, LookMeans, log_bound, look_entries}
+use Rattle.pot_steps.specs.GroupStep.{LogsInStep, LookMeans, look_entries}
 use Rattle.pot_group.specs.declared.answers.Looked.{Looked}
 use Rattle.pot_group.specs.declared.answers.Looked.TheVariants as looked
 use Rattle.pot_group.specs.declared.reads.Found.TheVariants as found

@@ -3,11 +3,12 @@ use Rattle.std.proofs.Common.{◌≡◌, ◌≢◌, inl, inr, ℕ, ◌<◌, List
 use Rattle.std.specs.Prelude.{Ok, Err, Result, ◌==◌, ◌↔◌, slice_index_or, find, if◌then◌else◌}
 use Rattle.pot_bytes.specs.declared.rack.Place.{Place}
 use Rattle.std.proofs.lemmas.Bool.Decides.{nat_tests}
+use Rattle.std.proofs.lemmas.Bool.{eqb-true, eq-eqb}
 use Rattle.pot_bytes.specs.declared.digest.Digest.{Digest}
+use Rattle.pot_bytes.specs.Rack.{log_bound}
 use Rattle.pot_machine.specs.declared.relay.Relay.{Relay}
 use Rattle.pot_machine.specs.Slot.{is_unsound}
 use Rattle.pot_machine.specs.Table.{Table, width, slot_at, relay_at, relay_in}
-use Rattle.pot_steps.specs.GroupStep.{log_bound}
 use Rattle.pot_steps.specs.RelaySteps.{MovesRelay, no_relay}
 use Rattle.pot_group.specs.declared.relaying.Advanced.{Advanced}
 use Rattle.pot_group.specs.declared.relaying.Advanced.TheVariants as advanced
@@ -34,14 +35,8 @@ pub stands_some : (o : Option Relay) (P : Relay → Type 0) → IsSomeAnd o P �
 stands_some (Some r) P h e = cc
 stands_some None P h e = h
 
-is_same : (a b : ℕ) → IsTrue (a == b) → a ≡ b
-is_same a b e = grind (arith, nat_tests)
-
-same_is : (a b : ℕ) → a ≡ b → IsTrue (a == b)
-same_is a b e = grind (arith, nat_tests)
-
 pub owns_where : (t : Table) (s k c : ℕ) → IsSomeAnd (relay_at t s) (λ r. r.target ≡ k) → IsTrue (k == c) ↔ Owns t s s c
-owns_where t s k c h = (λ e. there (relay_at t s) h (is_same k c e), λ o. same_is k c (back (relay_at t s) h o))
+owns_where t s k c h = (λ e. there (relay_at t s) h (eqb-true k c e), λ o. eq-eqb k c (back (relay_at t s) h o))
   where
     there : (o : Option Relay) → IsSomeAnd o (λ r. r.target ≡ k) → k ≡ c → IsSomeAnd o (λ r. (s ≡ s) × (r.target ≡ c))
     there (Some r) h e = (refl, h ∙ e)

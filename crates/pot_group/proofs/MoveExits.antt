@@ -3,17 +3,17 @@ use Rattle.std.proofs.Common.{◌≡◌, ◌≢◌, inl, inr, ℕ, ◌+◌, ◌<
 use Rattle.std.specs.Prelude.{Contains, Ok, Err, nat_eq}
 use Rattle.pot_outside.specs.declared.faults.Failed.{Failed}
 use Rattle.std.proofs.lemmas.Bool.Decides.{nat_tests}
+use Rattle.std.proofs.lemmas.Bool.{cases_eq}
+use Rattle.pot_bytes.specs.Rack.{log_bound}
 use Rattle.pot_machine.specs.declared.column.Moving.{Moving}
 use Rattle.pot_machine.specs.declared.entry.Entry.{Entry}
 use Rattle.pot_machine.specs.declared.entry.Entry.TheVariants.{Fault, MoveBegin, Moved, MoveEnd, Swapped}
 use Rattle.pot_machine.specs.Column.{names, names_moved, serving, serving_moved}
 use Rattle.pot_machine.specs.Table.{width, column_at, serving_at}
 use Rattle.pot_machine.specs.Machine.{Legal, after, moved_on}
-use Rattle.pot_machine.proofs.Cases.{same_or}
 use Rattle.pot_machine.proofs.Columns.{column_same, names_serving}
 use Rattle.pot_steps.specs.Stripe.{Sound, IsSound}
 use Rattle.pot_steps.specs.Holdings.{stripe_of}
-use Rattle.pot_steps.specs.GroupStep.{log_bound}
 use Rattle.pot_steps.specs.Flights.{Acts, Copies, flights_after}
 use Rattle.pot_shelves.specs.Shelves.{Shelves, LosesByCount, WritesAt, put_at}
 use Rattle.pot_group.specs.Causes.{Covers, HasLost, Misses, archives_of, faults_in, fault_of, risen}
@@ -105,14 +105,14 @@ module _ (told : Type 0) (g : GroupView) (s c : ℕ) (m : Moving) (settled : IsS
 
   -- the target serves no slot of this stripe yet
   away : (k : ℕ) → k < width g.table → serving_at g.table s k ≢ m.to
-  away k lk e = elim (same_or k c) [
+  away k lk e = elim (cases_eq k c) [
     | inl q ↦ (let t : (m.to ≢ (column_at g.table c).home) × (m.upto ≤ g.table.stripes) = subst (λ o. IfSome o (λ m. (m.to ≢ (column_at g.table c).home) × (m.upto ≤ g.table.stripes))) moving (settled.table.columns.target c column) in
         t.0 (sym e ∙ ap (λ j. serving_at g.table s j) q ∙ ap (λ o. serving_moved o (column_at g.table c).home s) moving ∙ at_position m (column_at g.table c).home s position))
     | inr ne ↦ ne (settled.table.columns.distinct k c m.to lk column (subst (λ n. IsTrue (names (column_at g.table k) n)) e (names_serving (column_at g.table k) s)) target_named)
   ]
 
   pub beside : (left : Option (List ℕ)) (n k : ℕ) → k < width g.table → put_at g.shelves.held m.to s left (serving_at g.table n k) n ≡ g.shelves.held (serving_at g.table n k) n
-  beside left n k lk = put_at-other g.shelves.held m.to s left (serving_at g.table n k) n (elim (same_or n s) [
+  beside left n k lk = put_at-other g.shelves.held m.to s left (serving_at g.table n k) n (elim (cases_eq n s) [
     | inl e ↦ inl (λ q. away k lk (ap (λ n. serving_at g.table n k) (sym e) ∙ q))
     | inr ne ↦ inr ne
   ])

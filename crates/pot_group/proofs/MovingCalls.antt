@@ -1,6 +1,7 @@
 -- What the calls of a move leave.
 use Rattle.std.proofs.Common.{◌≡◌, ℕ, suc, ◌+◌, ◌<◌, ◌++◌, List, [], ◌∷◌, None, Bool, true, false, length, length-append, refl, sym, ap, ◌∙◌, subst, arith}
 use Rattle.std.specs.Prelude.{Contains}
+use Rattle.pot_bytes.specs.Rack.{log_bound}
 use Rattle.pot_outside.specs.Archives.{Meaning}
 use Rattle.pot_outside.specs.declared.archive.Shelf.{Shelf}
 use Rattle.pot_machine.specs.declared.entry.Entry.{Entry}
@@ -8,7 +9,7 @@ use Rattle.pot_machine.specs.declared.entry.Entry.TheVariants.{MoveBegin, Swappe
 use Rattle.pot_machine.specs.Table.{Table, width, column_at, holder_of}
 use Rattle.pot_machine.specs.Column.{names}
 use Rattle.pot_machine.specs.Machine.{Legal, after}
-use Rattle.pot_steps.specs.GroupStep.{log_bound}
+use Rattle.pot_machine.proofs.Searches.{none_least}
 use Rattle.pot_shelves.specs.Shelves.{Shelved, plain, Brings}
 use Rattle.pot_group.specs.Group.{GroupView, GroupParts, IsSettled, view_of, with_archives}
 use Rattle.pot_group.specs.Relaying.{acted}
@@ -16,7 +17,6 @@ use Rattle.pot_group.specs.Moving.{Comes, MoveUse}
 use Rattle.pot_steps.specs.Entries.{LosesAtLive}
 use Rattle.pot_steps.specs.Flights.{Acts}
 use Rattle.pot_steps.specs.Holdings.{Holdings}
-use Rattle.pot_group.proofs.BeginSteps.{none_least}
 use Rattle.pot_group.proofs.Brought.{held_same}
 use Rattle.pot_group.proofs.MoveExits.{move_begin_settled, swap_settled}
 

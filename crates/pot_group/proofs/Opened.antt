@@ -4,6 +4,7 @@ use Rattle.std.specs.Prelude.{slice_index_or, ◌||◌}
 use Rattle.std.specs.List.{flat_map}
 use Rattle.std.proofs.lemmas.Bool.Decides.{eqb_tells}
 use Rattle.std.proofs.lemmas.List.Elements.{Contains-append_left, Contains-append_right, All-head, All-tail}
+use Rattle.pot_bytes.specs.Rack.{log_bound}
 use Rattle.pot_outside.specs.Archives.{Meaning}
 use Rattle.pot_outside.specs.Counts.{Rose}
 use Rattle.pot_machine.specs.declared.column.Column.{Column}
@@ -15,7 +16,7 @@ use Rattle.pot_machine.specs.Table.{Table, width, column_at, serving_at, no_colu
 use Rattle.pot_machine.specs.Machine.{Replays, after}
 use Rattle.pot_machine.specs.Rules.{IsTable}
 use Rattle.pot_machine.proofs.LeftAlone.{rules_stay}
-use Rattle.pot_steps.specs.GroupStep.{StartStep, log_bound}
+use Rattle.pot_steps.specs.GroupStep.{StartStep}
 use Rattle.pot_steps.proofs.Opening.{start_makes}
 use Rattle.pot_steps.proofs.Losses.{start_makes_live}
 use Rattle.pot_shelves.specs.Shelves.{Shelves, Shelved, IsTaken, plain}

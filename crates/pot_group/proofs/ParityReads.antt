@@ -1,5 +1,6 @@
 -- What reads of the old parity blocks of a stripe come to, over plain data.
 use Rattle.std.proofs.Common.{◌≡◌, ◌≢◌, inl, inr, ℕ, ◌+◌, ◌<◌, ◌≤◌, List, sym, ap, ◌∙◌, subst, arith}
+use Rattle.pot_doubles.proofs.CallLemmas.{rose_later}
 use Rattle.pot_machine.specs.declared.slot.SlotState.TheVariants.{Void}
 use Rattle.pot_machine.specs.Slot.{is_void}
 use Rattle.pot_machine.specs.Table.{Table, width, slot_at, serving_at}
@@ -16,7 +17,7 @@ use Rattle.pot_group.specs.declared.parities.Checked.TheVariants as checked
 use Rattle.pot_shelves.specs.Shelves.{Shelves}
 use Rattle.pot_group.specs.Group.{GroupView, FitsSlot}
 use Rattle.pot_group.specs.Putting.{ReadsOld, ReadsSecond, ReadsParity, OldFinds}
-use Rattle.pot_shelves.proofs.ShelfLemmas.{stays_then, rose_on}
+use Rattle.pot_shelves.proofs.ShelfLemmas.{stays_then}
 
 -- a parity slot is Void where another is
 void_too : (t : Table) (s c k : ℕ) → IsTable t → s < t.stripes → t.data_columns ≤ c → c < width t → t.data_columns ≤ k → k < width t → slot_at t s c ≡ Void → slot_at t s k ≡ Void
@@ -92,5 +93,5 @@ module _ (told : Type 0) (s column : ℕ) (p q : List ℕ) (old : GroupView) (m 
       let n : ℕ = serving_at old.table s c in
       record {
         stays = stays_then told old.shelves m new.shelves x.stays y.stays;
-        finds = (w.0, w.1, (rose_on (old.shelves.faults n) (m.faults n) (new.shelves.faults n) (x.stays.keeps.later n) y.finds.2.0, y.finds.2.1, y.finds.2.2));
+        finds = (w.0, w.1, (rose_later (old.shelves.faults n) (m.faults n) (new.shelves.faults n) (x.stays.keeps.later n) y.finds.2.0, y.finds.2.1, y.finds.2.2));
       }

@@ -2,7 +2,8 @@
 use Rattle.std.proofs.Common.{◌≡◌, ◌≢◌, ◌⊎◌, inl, inr, ℕ, ◌+◌, ◌-◌, ◌<◌, ◌≤◌, ◌++◌, List, [], ◌∷◌, Option, Some, None, true, false, length, refl, sym, ap, ◌∙◌, subst, arith, append_assoc, append-nil}
 use Rattle.std.specs.Prelude.{Bool, IsTrue, IfSome, IsSome, slice_index_or}
 use Rattle.std.proofs.lemmas.List.Elements.{All-nil, All-push, All-weaker}
-use Rattle.pot_machine.proofs.Cases.{not_both}
+use Rattle.std.proofs.lemmas.Bool.{both_ways}
+use Rattle.pot_bytes.specs.Rack.{log_bound}
 use Rattle.pot_machine.specs.declared.slot.SlotState.{SlotState}
 use Rattle.pot_machine.specs.declared.slot.SlotState.TheVariants.{Void, Live, Lost, Broken}
 use Rattle.pot_machine.specs.declared.entry.Entry.{Entry}
@@ -17,7 +18,7 @@ use Rattle.pot_machine.proofs.Places.{slot_same, slot_other}
 use Rattle.pot_machine.proofs.Logs.{replays_append}
 use Rattle.pot_steps.specs.Stripe.{Sound}
 use Rattle.pot_steps.specs.Holdings.{stripe_of}
-use Rattle.pot_steps.specs.GroupStep.{Passed, IsMissing, skips, gone_entries, log_bound}
+use Rattle.pot_steps.specs.GroupStep.{Passed, IsMissing, skips, gone_entries}
 use Rattle.pot_group.specs.declared.putting.Stop.{Stop}
 use Rattle.pot_group.specs.declared.putting.Stop.TheVariants as stop
 use Rattle.pot_shelves.specs.Shelves.{Shelves, Stays, LosesByCount}
@@ -42,7 +43,7 @@ some_least : (n : ℕ) (test : ℕ → Bool) (k : ℕ) → k < n → test k ≡ 
 some_least n test k lt e = step (least n test) refl
   where
     step : (o : Option ℕ) → least n test ≡ o → IsSome o
-    step None q = absurd (not_both e (least_none n test q k lt))
+    step None q = absurd (both_ways _ (least_none n test q k lt) e)
     step (Some j) q = refl
 
 -- a slot that is neither Void nor Lost nor Broken is Live

@@ -5,23 +5,25 @@ use Rattle.std.proofs.lemmas.List.Elements.{All-weaker, All-nil}
 use Rattle.pot_bytes.specs.declared.rack.Place.{Place}
 use Rattle.pot_bytes.specs.Sums.{xor}
 use Rattle.pot_bytes.specs.Weighted.{scaled}
+use Rattle.pot_bytes.specs.Rack.{log_bound}
 use Rattle.pot_outside.specs.Failing.{MayLeave}
 use Rattle.pot_gf.specs.Field.{power}
 use Rattle.pot_outside.specs.Counts.{Rose}
+use Rattle.pot_doubles.proofs.CallLemmas.{rose_later}
 use Rattle.pot_machine.specs.declared.entry.Entry.{Entry}
 use Rattle.pot_machine.specs.declared.entry.Entry.TheVariants as entry
 use Rattle.pot_machine.specs.Table.{Table, width, serving_at, slot_at}
 use Rattle.pot_machine.specs.Machine.{TakesBlocks, Replays}
-use Rattle.pot_steps.specs.GroupStep.{LogsInStep, LosesBlocks, Passed, PassesTo, PutsBlock, PutStep, PutFailed, IsMissing, log_bound, skips, gone_entries, put_entry, unkept}
+use Rattle.pot_steps.specs.GroupStep.{LogsInStep, LosesBlocks, Passed, PassesTo, PutsBlock, PutStep, PutFailed, IsMissing, skips, gone_entries, put_entry, unkept}
 use Rattle.pot_group.specs.declared.answers.PutFault.{PutFault}
 use Rattle.pot_group.specs.declared.answers.PutFault.TheVariants as fault
 use Rattle.pot_group.specs.declared.putting.Stop.TheVariants as stop
 use Rattle.pot_shelves.specs.Shelves.{Stays, LosesByCount, put_at}
 use Rattle.pot_group.specs.Group.{GroupView, Logs, FailedAt, state_of, put_as, FitsSlot, FitsParity, FitsGone}
-use Rattle.pot_group.specs.Putting.{PassesAll, FindsStripe, HasOld, PutsAll, PutsNone, BlockMeans, IsKept}
+use Rattle.pot_group.specs.Putting.{PassesAll, FindsStripe, HasOld, PutsAll, PutsNone, BlockMeans}
 use Rattle.pot_group.proofs.Rows.{PutMade}
 use Rattle.pot_group.proofs.Passing.{logs_then, same_serving, missing_on, missing_here, fits_gone}
-use Rattle.pot_shelves.proofs.ShelfLemmas.{put_at-here, put_at-other, rose_on}
+use Rattle.pot_shelves.proofs.ShelfLemmas.{put_at-here, put_at-other, left_new, left_any}
 
 -- LOGS ONE AFTER ANOTHER
 
@@ -66,7 +68,7 @@ module _ (told : Type 0) (job : ℕ) (passed : List Passed) (old now mid : Group
   failed_since : (new : GroupView) (s c : ℕ) → mid.table ≡ now.table → FailedAt mid new s c → FailedAt old new s c
   failed_since new s c e f =
       subst (λ n. Rose (old.shelves.faults n) (new.shelves.faults n)) (same_serving mid.table old.table (ap (λ t. t.columns) e ∙ passes.columns) s c)
-      (rose_on (old.shelves.faults (serving_at mid.table s c)) (mid.shelves.faults (serving_at mid.table s c)) (new.shelves.faults (serving_at mid.table s c)) (since (serving_at mid.table s c)) f)
+      (rose_later (old.shelves.faults (serving_at mid.table s c)) (mid.shelves.faults (serving_at mid.table s c)) (new.shelves.faults (serving_at mid.table s c)) (since (serving_at mid.table s c)) f)
 
 -- NO STRIPE IS LEFT
 
@@ -163,7 +165,7 @@ module _ (told : Type 0) (job : ℕ) (p q block : List ℕ) (old mid : GroupView
   failed_here =
       let n : ℕ = serving_at f.now.table f.now.table.cursor.stripe column in
       subst (λ n. Rose (old.shelves.faults n) (mid.shelves.faults n)) (same_serving f.now.table old.table f.passes.columns f.now.table.cursor.stripe column)
-      (rose_on (old.shelves.faults n) (f.now.shelves.faults n) (mid.shelves.faults n) (f.passes.stays.keeps.later n) f.means.1)
+      (rose_later (old.shelves.faults n) (f.now.shelves.faults n) (mid.shelves.faults n) (f.passes.stays.keeps.later n) f.means.1)
 
   pub faulted_made : PutMade job block (Err (fault.Faulted column)) old mid
   faulted_made = (
@@ -190,14 +192,6 @@ module _ (told : Type 0) (job : ℕ) (p q block : List ℕ) (old mid : GroupView
 
 -- THE STRIPE TAKES THE BLOCK
 
-new_block : (kept : Bool) (was left : Option (List ℕ)) (new : List ℕ) → IsKept kept was new left → kept ≡ true → left ≡ Some new
-new_block true was left new k e = k
-new_block false was left new k e = absurd (cc)
-
-left_block : (kept : Bool) (was left : Option (List ℕ)) (new : List ℕ) → IsKept kept was new left → kept ≡ false → MayLeave was new left
-left_block true was left new k e = absurd (cc)
-left_block false was left new k e = k
-
 -- the writes of a put and its entry
 puts_block : (told : Type 0) (job s c : ℕ) (block p q : List ℕ) (kept kept2 : Bool) (mid new : GroupView) → PutsAll told job s c block p q kept kept2 mid new → told
     → HasOld told mid.table mid.shelves.held s p q → PutsBlock job s c block p q kept kept2 mid.table mid.shelves.held (state_of new)
@@ -212,12 +206,12 @@ puts_block told job s c block p q kept kept2 mid new puts t old =
         old_p = old.first t;
         old_q = old.second t;
         data_block = w.1.data_block;
-        new_p = new_block kept _ _ (xor p block) w.1.first;
-        new_q = (λ two. new_block kept2 _ _ (xor q (scaled (power 3 c) block)) (w.1.second two));
+        new_p = left_new kept _ _ (xor p block) w.1.first;
+        new_q = (λ two. left_new kept2 _ _ (xor q (scaled (power 3 c) block)) (w.1.second two));
         others = w.1.others;
       };
-      left_p = left_block kept _ _ (xor p block) w.1.first;
-      left_q = (λ two. left_block kept2 _ _ (xor q (scaled (power 3 c) block)) (w.1.second two));
+      left_p = left_any kept _ _ (xor p block) w.1.first;
+      left_q = (λ two. left_any kept2 _ _ (xor q (scaled (power 3 c) block)) (w.1.second two));
       elsewhere = w.1.elsewhere;
       loses = (λ n m b e. (w.2 n).keeps m b e);
     }

@@ -1,24 +1,19 @@
 -- The writes of a put, one after another, over the archives as plain data.
 use Rattle.std.proofs.Common.{◌≡◌, ◌≢◌, ◌⊎◌, inl, inr, ℕ, ◌+◌, ◌<◌, ◌≤◌, List, Option, Some, None, Bool, true, false, refl, sym, ap, ◌∙◌, subst, arith}
 use Rattle.std.specs.Prelude.{Result, Ok, Err, is_ok, IsErr, Contains}
+use Rattle.std.proofs.lemmas.Bool.{cases_eq}
 use Rattle.pot_outside.specs.declared.faults.Failed.{Failed}
-use Rattle.pot_outside.specs.Archives.{Contents}
 use Rattle.pot_outside.specs.Counts.{Rose}
+use Rattle.pot_doubles.proofs.CallLemmas.{rose_later}
 use Rattle.pot_machine.specs.declared.cursor.Cursor.{Cursor}
 use Rattle.pot_machine.specs.Table.{Table, width, serving_at}
 use Rattle.pot_machine.specs.Rules.{IsTable}
-use Rattle.pot_machine.proofs.Cases.{same_or}
 use Rattle.pot_machine.proofs.Columns.{serving_apart}
 use Rattle.pot_steps.specs.Holdings.{Holdings}
 use Rattle.pot_steps.specs.Entries.{held_at}
-use Rattle.pot_shelves.specs.Shelves.{Shelves, LosesByCount, IsWritten, WritesAt, put_at}
-use Rattle.pot_group.specs.Putting.{IsKept, PutsAt, WritesAll}
-use Rattle.pot_shelves.proofs.ShelfLemmas.{keeps_then, loses_refl, write_then, put_at-here, put_at-other, rose_on, rose_more}
-
--- what a write leaves
-kept_of : (r : Result (Unit {0}) Failed) (held : Contents) (slot : ℕ) (block : List ℕ) (left : Option (List ℕ)) → IsWritten r held slot block left → IsKept (is_ok r) (held slot) block left
-kept_of (Ok u) held slot block left w = w
-kept_of (Err e) held slot block left w = w
+use Rattle.pot_shelves.specs.Shelves.{Shelves, LosesByCount, WriteLeaves, WritesAt, put_at}
+use Rattle.pot_group.specs.Putting.{PutsAt, WritesAll}
+use Rattle.pot_shelves.proofs.ShelfLemmas.{keeps_then, loses_refl, write_then, put_at-here, put_at-other, rose_more}
 
 failed_of : (r : Result (Unit {0}) Failed) → is_ok r ≡ false → IsErr r
 failed_of (Ok u) e = absurd (cc)
@@ -32,7 +27,7 @@ module _ (t : Table) (rules : IsTable t) (s : ℕ) where
 
   place_differs : (c n k : ℕ) → c < width t → k < width t → (n ≢ s) ⊎ (k ≢ c) → (serving_at t n k ≢ serving_at t s c) ⊎ (n ≢ s)
   place_differs c n k lc lk (inl d) = inr d
-  place_differs c n k lc lk (inr d) = elim (same_or n s) [
+  place_differs c n k lc lk (inr d) = elim (cases_eq n s) [
     | inl e ↦ inl (λ g. serving_apart t s k c rules.columns lk lc d (ap (λ m. serving_at t m k) (sym e) ∙ g))
     | inr ne ↦ inr ne
   ]
@@ -85,10 +80,10 @@ module _ (t : Table) (rules : IsTable t) (s : ℕ) where
     elsewhere number slot d = set-elsewhere with_block t.data_columns left number slot last_wide d ∙ set-elsewhere h c (Some block) number slot wide d
 
     -- one parity column
-    pub puts_one : (q : List ℕ) (kept kept2 : Bool) → t.parity ≡ 1 → IsKept kept (held_at t h s t.data_columns) p left → PutsAt t h with_first s c block p q kept kept2
+    pub puts_one : (q : List ℕ) (kept kept2 : Bool) → t.parity ≡ 1 → WriteLeaves kept (held_at t h s t.data_columns) p left → PutsAt t h with_first s c block p q kept kept2
     puts_one q kept kept2 one is = record {
       data_block = block_there;
-      first = subst (λ x. IsKept kept (held_at t h s t.data_columns) p x) (sym first_there) is;
+      first = subst (λ x. WriteLeaves kept (held_at t h s t.data_columns) p x) (sym first_there) is;
       second = (λ two. absurd (omega (arith, one, two)));
       others = (λ n k ln lk d. others n k lk d);
       elsewhere = elsewhere;
@@ -102,12 +97,12 @@ module _ (t : Table) (rules : IsTable t) (s : ℕ) where
       abbrev with_second : Holdings
       with_second = set_at with_first (t.data_columns + 1) left2
 
-      pub puts_two : (kept kept2 : Bool) → IsKept kept (held_at t h s t.data_columns) p left → IsKept kept2 (held_at t h s (t.data_columns + 1)) q left2 → PutsAt t h with_second s c block p q kept kept2
+      pub puts_two : (kept kept2 : Bool) → WriteLeaves kept (held_at t h s t.data_columns) p left → WriteLeaves kept2 (held_at t h s (t.data_columns + 1)) q left2 → PutsAt t h with_second s c block p q kept kept2
       puts_two kept kept2 is is2 = record {
         data_block = set-other with_first (t.data_columns + 1) left2 s c second_wide wide (inr (λ e. absurd (omega (arith, low, e)))) ∙ block_there;
-        first = subst (λ x. IsKept kept (held_at t h s t.data_columns) p x)
+        first = subst (λ x. WriteLeaves kept (held_at t h s t.data_columns) p x)
             (sym (set-other with_first (t.data_columns + 1) left2 s t.data_columns second_wide last_wide (inr (λ e. absurd (omega (arith, e)))) ∙ first_there)) is;
-        second = (λ _. subst (λ x. IsKept kept2 (held_at t h s (t.data_columns + 1)) q x) (sym (set-here with_first (t.data_columns + 1) left2)) is2);
+        second = (λ _. subst (λ x. WriteLeaves kept2 (held_at t h s (t.data_columns + 1)) q x) (sym (set-here with_first (t.data_columns + 1) left2)) is2);
         others = (λ n k ln lk d. set-other with_first (t.data_columns + 1) left2 n k second_wide lk (beside n k (t.data_columns + 1) (omega arith) d) ∙ others n k lk d);
         elsewhere = (λ number slot d. set-elsewhere with_first (t.data_columns + 1) left2 number slot second_wide d ∙ elsewhere number slot d);
       }
@@ -118,7 +113,7 @@ module _ (t : Table) (rules : IsTable t) (s : ℕ) where
       (data_write : WritesAt told (serving_at t s c) s block (Ok u) a b) (first_write : WritesAt told (serving_at t s t.data_columns) s p r b d) where
     -- what the write of P left, and what was lost from there on
     abbrev FirstLeft : Type 0
-    FirstLeft = (left : Option (List ℕ)) × IsKept (is_ok r) (held_at t a.held s t.data_columns) p left × LosesByCount (set_at (set_at a.held c (Some block)) t.data_columns left) a d
+    FirstLeft = (left : Option (List ℕ)) × WriteLeaves (is_ok r) (held_at t a.held s t.data_columns) p left × LosesByCount (set_at (set_at a.held c (Some block)) t.data_columns left) a d
 
     first_left : told → FirstLeft
     first_left z =
@@ -126,15 +121,15 @@ module _ (t : Table) (rules : IsTable t) (s : ℕ) where
         let l : LosesByCount (set_at a.held c (Some block)) a b = subst (λ o. LosesByCount (set_at a.held c o) a b) x.1 x.2 in
         let y = write_then (set_at a.held c (Some block)) a b d (serving_at t s t.data_columns) s p r l (first_write.wrote z) in (
           y.0,
-          subst (λ o. IsKept (is_ok r) o p y.0) (still a.held c low block p None t.data_columns (omega arith) (omega (arith, rules.size.parity.0)))
-              (kept_of r (set_at a.held c (Some block) (serving_at t s t.data_columns)) s p y.0 y.1),
+          subst (λ o. WriteLeaves (is_ok r) o p y.0) (still a.held c low block p None t.data_columns (omega arith) (omega (arith, rules.size.parity.0)))
+              y.1,
           y.2,
         )
 
     first_fails : is_ok r ≡ false → Rose (a.faults (serving_at t s t.data_columns)) (d.faults (serving_at t s t.data_columns))
     first_fails e =
         let n : ℕ = serving_at t s t.data_columns in
-        rose_on (a.faults n) (b.faults n) (d.faults n) (data_write.keeps.later n) (first_write.cause (failed_of r e))
+        rose_later (a.faults n) (b.faults n) (d.faults n) (data_write.keeps.later n) (first_write.cause (failed_of r e))
 
     pub writes_one : (q : List ℕ) → t.parity ≡ 1 → WritesAll told t s c block p q (is_ok r) true a d
     writes_one q one = record {
@@ -156,14 +151,14 @@ module _ (t : Table) (rules : IsTable t) (s : ℕ) where
           let y = write_then h a d f (serving_at t s (t.data_columns + 1)) s q r2 x.2 (w.wrote z) in (
             _,
             puts_two a.held c low block p x.0 q y.0 two (is_ok r) (is_ok r2) x.1
-                (subst (λ o. IsKept (is_ok r2) o q y.0) (second_still x.0 two) (kept_of r2 (h (serving_at t s (t.data_columns + 1))) s q y.0 y.1)),
+                (subst (λ o. WriteLeaves (is_ok r2) o q y.0) (second_still x.0 two) y.1),
             y.2,
           ));
       first = (λ e. (let n : ℕ = serving_at t s t.data_columns in rose_more (a.faults n) (d.faults n) (f.faults n) (first_fails e) (w.keeps.later n)));
       second = (λ e. (
         two,
         (let n : ℕ = serving_at t s (t.data_columns + 1) in
-            rose_on (a.faults n) (d.faults n) (f.faults n) ((keeps_then a b d data_write.keeps first_write.keeps).later n) (w.cause (failed_of r2 e))),
+            rose_later (a.faults n) (d.faults n) (f.faults n) ((keeps_then a b d data_write.keeps first_write.keeps).later n) (w.cause (failed_of r2 e))),
       ));
     }
       where

@@ -14,7 +14,6 @@ use Rattle.pot_machine.specs.declared.entry.Entry.TheVariants.{Begin, Hop, Mende
 use Rattle.pot_machine.specs.Slot.{is_live, is_unsound, digest_in}
 use Rattle.pot_machine.specs.Table.{Table, width, slot_at, serving_at, relay_at, next_column}
 use Rattle.pot_machine.specs.Machine.{Legal, after}
-use Rattle.pot_machine.proofs.Cases.{same_or}
 use Rattle.pot_machine.proofs.Columns.{serving_apart}
 use Rattle.pot_steps.specs.declared.flight.Flight.{Flight}
 use Rattle.pot_bytes.specs.Lists.{IsBlock}
@@ -28,12 +27,14 @@ use Rattle.pot_group.specs.declared.relaying.Advanced.TheVariants as advanced
 use Rattle.pot_group.specs.Group.{GroupParts, GroupView, IsSettled, state_of}
 use Rattle.pot_steps.specs.Flights.{without_flight, Acts, FoldsIn, WritesBack, IsFlying, FliesOver, flight_in, flights_after, flown}
 use Rattle.pot_steps.specs.Holdings.{Holdings, stripe_of}
-use Rattle.pot_steps.specs.GroupStep.{log_bound}
 use Rattle.pot_steps.specs.RelaySteps.{AdvanceStep, Hopped, Hears}
 use Rattle.pot_steps.proofs.Acting.{weight-below}
 use Rattle.pot_steps.proofs.CallLemmas.{unfolds, next_positive, next_within, stands, two_relay}
 use Rattle.std.proofs.lemmas.List.{length-map}
 use Rattle.std.proofs.Math.Seq.{take-append_seam}
+use Rattle.std.proofs.lemmas.Bool.{cases_eq}
+use Rattle.std.proofs.lemmas.Option.{same_Some}
+use Rattle.pot_bytes.specs.Rack.{log_bound}
 use Rattle.pot_steps.proofs.FlightLists.{over_stripe, relay_of, relay_of_flight}
 use Rattle.pot_shelves.specs.Shelves.{Shelves, Keeps, LosesByCount, FoldsAt, WritesAt, put_at}
 use Rattle.pot_group.specs.Causes.{Covers, HasLost, Misses, archives_of, faults_in, fault_of, brought}
@@ -80,9 +81,6 @@ live_digest Void d l e = absurd (cc)
 live_digest (Live a) d l e = ap Live (cc)
 live_digest (Lost a) d l e = absurd (cc)
 live_digest (Broken a) d l e = absurd (cc)
-
-some_block : (a b : List ℕ) → Some a ≡ Some b → a ≡ b
-some_block a b e = cc
 
 module _ (told : Type 0) (g : GroupView) (now : Shelves) (job s c : ℕ) (f : Flight) (sum : List ℕ) (settled : IsSettled told g) (room : length g.log < log_bound)
     (here : flight_in g.flights s ≡ Some f) (next : next_column g.table f.relay ≡ Some c) (within : s < g.table.stripes) where
@@ -169,7 +167,7 @@ module _ (told : Type 0) (g : GroupView) (now : Shelves) (job s c : ℕ) (f : Fl
     -- it is not: the relay ends
     module _ (live : IsTrue (is_live (slot_at g.table s c))) (digest : digest_in (slot_at g.table s c) ≢ Some (digest_of (unfolded (weight_in g.table.data_columns f.relay c) f.sum sum))) where
       pub missing : told → Sound (stripe_of g.table now.held s) c → ⊥
-      missing t x = digest (ap digest_in x.1.live ∙ ap Some (sym x.1.right ∙ ap digest_of (some_block x.0 (block t).0 (sym x.1.held ∙ (block t).1) ∙ sym (unfolds_to t))))
+      missing t x = digest (ap digest_in x.1.live ∙ ap Some (sym x.1.right ∙ ap digest_of (same_Some x.0 (block t).0 (sym x.1.held ∙ (block t).1) ∙ sym (unfolds_to t))))
 
       gave_up_legal : Legal g.table (GaveUp job s f.relay.target c)
       gave_up_legal = ((within, stands_target), subst (λ o. IsSomeAnd o (λ r. (r.target ≡ f.relay.target) × (next_column g.table r ≡ Some c))) (sym relay) (refl, next))
@@ -215,7 +213,7 @@ module _ (told : Type 0) (g : GroupView) (now : Shelves) (job s c : ℕ) (f : Fl
   loses t = subst (λ left. LosesByCount (put_at g.shelves.held (serving_at g.table s c) s left) g.shelves now) ((w.wrote t).1) (w.wrote t).2
 
   beside : (n k : ℕ) → k < width g.table → (n ≢ s) ⊎ (k ≢ c) → put_at g.shelves.held (serving_at g.table s c) s (Some (partial_of f)) (serving_at g.table n k) n ≡ g.shelves.held (serving_at g.table n k) n
-  beside n k lk apart = put_at-other g.shelves.held (serving_at g.table s c) s (Some (partial_of f)) (serving_at g.table n k) n (elim (same_or n s) [
+  beside n k lk apart = put_at-other g.shelves.held (serving_at g.table s c) s (Some (partial_of f)) (serving_at g.table n k) n (elim (cases_eq n s) [
     | inl e ↦ elim apart [
       | inl ne ↦ absurd (ne e)
       | inr ne ↦ inl (subst (λ n. serving_at g.table n k ≢ serving_at g.table s c) (sym e) (serving_apart g.table s k c settled.table.columns lk column_in ne))
@@ -236,8 +234,8 @@ module _ (told : Type 0) (g : GroupView) (now : Shelves) (job s c : ℕ) (f : Fl
   -- the target is not Live, so the write covers no Live slot
   module _ (dead : is_live (slot_at g.table s c) ≡ false) where
     keeps_live : (t : told) → KeepsHeld g.table g.shelves.held (ideal t)
-    keeps_live t n k b ln lk live h = elim (same_or n s) [
-      | inl e ↦ elim (same_or k c) [
+    keeps_live t n k b ln lk live h = elim (cases_eq n s) [
+      | inl e ↦ elim (cases_eq k c) [
         | inl q ↦ absurd (no (sym (ap₂ (λ n k. is_live (slot_at g.table n k)) e q ∙ dead) ∙ live))
         | inr ne ↦ beside n k lk (inr ne) ∙ h
       ]
@@ -412,8 +410,8 @@ module _ (told : Type 0) (g : GroupView) (now : Shelves) (job : ℕ) (f : Flight
       (subst (λ b. WritesAt told (serving_at g.table f.relay.stripe f.relay.target) f.relay.stripe b (Ok (tt)) g.shelves now) is w) dead)))
 
   pub untouched : (left : Option (List ℕ)) (n k : ℕ) → k < width g.table → IsTrue (is_live (slot_at g.table n k)) → put_at g.shelves.held (serving_at g.table f.relay.stripe f.relay.target) f.relay.stripe left (serving_at g.table n k) n ≡ g.shelves.held (serving_at g.table n k) n
-  untouched left n k lk live = put_at-other g.shelves.held (serving_at g.table f.relay.stripe f.relay.target) f.relay.stripe left (serving_at g.table n k) n (elim (same_or n f.relay.stripe) [
-    | inl e ↦ elim (same_or k f.relay.target) [
+  untouched left n k lk live = put_at-other g.shelves.held (serving_at g.table f.relay.stripe f.relay.target) f.relay.stripe left (serving_at g.table n k) n (elim (cases_eq n f.relay.stripe) [
+    | inl e ↦ elim (cases_eq k f.relay.target) [
       | inl q ↦ absurd (clash (sym (ap₂ (λ n k. is_live (slot_at g.table n k)) e q ∙ dead) ∙ live))
       | inr ne ↦ inl (subst (λ n. serving_at g.table n k ≢ serving_at g.table f.relay.stripe f.relay.target) (sym e) (serving_apart g.table f.relay.stripe k f.relay.target settled.table.columns lk at_place.target ne))
     ]

@@ -2,6 +2,7 @@
 use Rattle.std.proofs.Common.{◌≡◌, ◌≢◌, ◌<◌, ◌++◌, ℕ, List, [], ◌∷◌, length, refl, ap, sym, subst, append-nil}
 use Rattle.std.specs.Prelude.{Option, None, Some, IsSomeAnd, Result, Ok, Err, Contains}
 use Rattle.pot_bytes.specs.declared.rack.Place.{Place}
+use Rattle.pot_bytes.specs.Rack.{log_bound}
 use Rattle.pot_outside.specs.Archives.{Meaning}
 use Rattle.pot_outside.specs.declared.archive.Shelf.{Shelf}
 use Rattle.pot_machine.specs.declared.column.Moving.{Moving}
@@ -10,7 +11,7 @@ use Rattle.pot_machine.specs.declared.entry.Entry.TheVariants as entry
 use Rattle.pot_machine.specs.Table.{column_at, next_column}
 use Rattle.pot_steps.specs.declared.flight.Flight.{Flight}
 use Rattle.pot_steps.specs.Flights.{flight_in}
-use Rattle.pot_steps.specs.GroupStep.{PutStep, log_bound}
+use Rattle.pot_steps.specs.GroupStep.{PutStep}
 use Rattle.pot_steps.specs.RelaySteps.{BeginStep}
 use Rattle.pot_group.specs.declared.answers.PutFault.{PutFault}
 use Rattle.pot_group.specs.declared.answers.PutFault.TheVariants as fault

@@ -2,7 +2,9 @@
 use Rattle.std.proofs.Common.{◌≡◌, ◌⊎◌, inl, inr, ℕ, ◌+◌, ◌<◌, ◌≤◌, ◌++◌, List, [], ◌∷◌, Some, true, false, IsTrue, length, refl, sym, ap, ◌∙◌, subst, arith, length-append}
 use Rattle.std.specs.Prelude.{Contains, nat_eq, slice_index_or, if◌then◌else◌}
 use Rattle.std.proofs.lemmas.Bool.Decides.{nat_tests}
+use Rattle.pot_bytes.specs.Rack.{log_bound}
 use Rattle.pot_outside.specs.Counts.{Rose}
+use Rattle.pot_doubles.proofs.CallLemmas.{rose_later}
 use Rattle.pot_machine.specs.declared.entry.Entry.{Entry}
 use Rattle.pot_machine.specs.declared.entry.Entry.TheVariants.{Skip, Seen, Gone, Fault, Stuck, Counted}
 use Rattle.pot_machine.specs.Column.{names}
@@ -19,7 +21,6 @@ use Rattle.pot_steps.specs.Holdings.{Holdings, LiveLaw, stripe_of}
 use Rattle.pot_steps.specs.declared.flight.Flight.{Flight}
 use Rattle.pot_steps.specs.Flights.{Acts, AreFlights, Stands, flights_after}
 use Rattle.pot_steps.specs.Losses.{KeepsHeld}
-use Rattle.pot_steps.specs.GroupStep.{log_bound}
 use Rattle.pot_steps.proofs.Acting.{act_keeps, loss_keeps_all}
 use Rattle.pot_steps.proofs.ActingLive.{act_keeps_live}
 use Rattle.pot_steps.proofs.FlightLists.{flights_go_on}
@@ -27,7 +28,7 @@ use Rattle.pot_steps.proofs.Losses.{losses_keep_live}
 use Rattle.pot_shelves.specs.Shelves.{Shelves, Keeps, Stays, LosesByCount}
 use Rattle.pot_group.specs.Causes.{Covers, HasLost, Misses, WhereMissed, archives_of, faults_in, fault_of, brought}
 use Rattle.pot_group.specs.Group.{GroupView, IsSettled, IsQuiet, LostSince}
-use Rattle.pot_shelves.proofs.ShelfLemmas.{keeps_refl, loses_refl, lost_rose, rose_on, rose_more}
+use Rattle.pot_shelves.proofs.ShelfLemmas.{keeps_refl, loses_refl, lost_rose, rose_more}
 use Rattle.pot_group.proofs.CauseLemmas.{faults_in-snoc, archives_of-snoc, WhereMissed-snoc, WhereMissed-mono, covers-stays, has_lost-mono}
 
 -- what an entry of these calls leaves as it was
@@ -59,7 +60,7 @@ module _ (told : Type 0) (g : GroupView) (s : Shelves) (h : told → Holdings) (
   lost_now : (t : told) (n m : ℕ) (b : List ℕ) → h t n m ≡ Some b → (s.held n m ≡ Some b) ⊎ LostSince s n
   lost_now t n m b e = elim (lost_rose (h t) g.shelves s n m b (loses t) e) [
     | inl r ↦ inl r
-    | inr r ↦ inr (subst (λ x. Rose x (s.losses n)) (sym (keeps.losses_taken n)) (rose_on (g.shelves.losses_taken n) (g.shelves.losses n) (s.losses n) (settled.losses t n) r))
+    | inr r ↦ inr (subst (λ x. Rose x (s.losses n)) (sym (keeps.losses_taken n)) (rose_later (g.shelves.losses_taken n) (g.shelves.losses n) (s.losses n) (settled.losses t n) r))
   ]
 
   -- the laws over the contents, for the table `u` that they hold of before the losses

@@ -2,6 +2,7 @@
 use Rattle.std.proofs.Common.{◌≡◌, ◌≢◌, ◌⊎◌, inl, inr, ℕ, ◌+◌, ◌<◌, ◌≤◌, ◌++◌, List, [], ◌∷◌, Option, Some, None, IfSome, IsSomeAnd, true, false, IsTrue, length, length-append, refl, sym, ap, ◌∙◌, subst, arith}
 use Rattle.std.specs.Prelude.{Ok, Err, Result}
 use Rattle.pot_bytes.specs.declared.digest.Digest.{Digest}
+use Rattle.pot_bytes.specs.Rack.{log_bound}
 use Rattle.pot_outside.specs.Archives.{Meaning}
 use Rattle.pot_outside.specs.declared.faults.Failed.{Failed}
 use Rattle.pot_machine.specs.declared.column.Moving.{Moving}
@@ -14,7 +15,6 @@ use Rattle.pot_machine.specs.Table.{Table, width, slot_at, column_at, serving_at
 use Rattle.pot_machine.specs.Machine.{Legal, after}
 use Rattle.pot_steps.specs.Stripe.{Sound, IsSound}
 use Rattle.pot_steps.specs.Holdings.{stripe_of}
-use Rattle.pot_steps.specs.GroupStep.{log_bound}
 use Rattle.pot_steps.specs.RelaySteps.{Logged}
 use Rattle.pot_group.specs.declared.reads.Found.TheVariants as found
 use Rattle.pot_group.specs.declared.copying.MoveStep.{MoveStep}

@@ -2,6 +2,9 @@
 use Rattle.std.proofs.Common.{◌≡◌, ◌≢◌, ◌⊎◌, inl, inr, ℕ, zero, suc, ◌<◌, ◌++◌, ◌==◌, ◌||◌, Bool, true, false, IsTrue, IsSomeAnd, List, [], ◌∷◌, Option, Some, None, length, cond, refl, sym, ap, ◌∙◌, subst, arith}
 use Rattle.std.specs.Prelude.{Contains, find, nat_eq, if◌then◌else◌}
 use Rattle.std.proofs.lemmas.Bool.Decides.{nat_tests}
+use Rattle.std.proofs.lemmas.Bool.{eqb-true, eq-eqb}
+use Rattle.std.proofs.lemmas.Option.{same_Some}
+use Rattle.pot_bytes.proofs.Elements.{none_contained, one_contained, contains_front, contains_back}
 use Rattle.pot_machine.specs.declared.column.Moving.{Moving}
 use Rattle.pot_machine.specs.declared.entry.Entry.{Entry}
 use Rattle.pot_machine.specs.declared.entry.Entry.TheVariants.{MoveBegin, Swapped}
@@ -11,12 +14,11 @@ use Rattle.pot_machine.specs.Machine.{Legal, Replays, after}
 use Rattle.pot_machine.specs.Rules.{IsTable}
 use Rattle.pot_machine.proofs.LeftAlone.{sizes_stay}
 use Rattle.pot_machine.proofs.Searches.{least_none, least_some}
+use Rattle.pot_machine.proofs.Columns.{named_in, in_named}
 use Rattle.pot_group.specs.declared.uses.Role.TheVariants as role
 use Rattle.pot_group.specs.Causes.{brought, brought_by}
 use Rattle.pot_group.specs.Group.{GroupView}
 use Rattle.pot_group.specs.Uses.{IsHomeAt, IsRole, IsUse, brings, brought_to, home_of, role_in, target_in}
-use Rattle.pot_group.proofs.Brought.{Contains-front}
-use Rattle.pot_group.proofs.ColumnExits.{Contains-back}
 
 -- NUMBERS IN LISTS
 
@@ -28,28 +30,15 @@ in_either (x ∷ xs) ys n (suc k, l, e) = elim (in_either xs ys n (k, omega (ari
   | inr h ↦ inr h
 ]
 
-in_none : (n : ℕ) → Contains [] n → ⊥
-in_none n h = (let l : h.0 < 0 = h.1 in omega arith)
-
-in_one : (x n : ℕ) → Contains (x ∷ []) n → x ≡ n
-in_one x n (zero, l, e) = e
-in_one x n (suc k, l, e) = absurd (omega (arith, l))
-
-same_is : (a b : ℕ) → a ≡ b → (a == b) ≡ true
-same_is a b e = grind (arith, nat_tests)
-
-is_same : (a b : ℕ) → (a == b) ≡ true → a ≡ b
-is_same a b e = grind (arith, nat_tests)
-
 -- THE LOG
 
 -- what an entry that brings the archive brings it to
 brings_there : (e : Entry) (n : ℕ) → brings n e ≡ true → (c : ℕ) × (brought_to (Some e) ≡ Some c) × Contains (brought c e) n
-brings_there (MoveBegin job c to) n h = (c, refl, subst (λ l. Contains l n) (sym (itself c (to ∷ []))) (0, omega arith, is_same to n h))
+brings_there (MoveBegin job c to) n h = (c, refl, subst (λ l. Contains l n) (sym (itself c (to ∷ []))) (0, omega arith, eqb-true to n h))
   where
     itself : (c : ℕ) (xs : List ℕ) → (if nat_eq c c then xs else []) ≡ xs
     itself c xs = grind (arith, nat_tests)
-brings_there (Swapped job c to) n h = (c, refl, subst (λ l. Contains l n) (sym (itself c (to ∷ []))) (0, omega arith, is_same to n h))
+brings_there (Swapped job c to) n h = (c, refl, subst (λ l. Contains l n) (sym (itself c (to ∷ []))) (0, omega arith, eqb-true to n h))
   where
     itself : (c : ℕ) (xs : List ℕ) → (if nat_eq c c then xs else []) ≡ xs
     itself c xs = grind (arith, nat_tests)
@@ -59,17 +48,14 @@ there_brings : (e : Entry) (c n : ℕ) → Contains (brought c e) n → brings n
 there_brings (MoveBegin job k to) c n h = by (nat_eq c k) h
   where
     by : (b : Bool) → Contains (if b then to ∷ [] else []) n → (to == n) ≡ true
-    by true h = same_is to n (in_one to n h)
-    by false h = absurd (in_none n h)
+    by true h = eq-eqb to n (one_contained to n h)
+    by false h = absurd (none_contained n h)
 there_brings (Swapped job k to) c n h = by (nat_eq c k) h
   where
     by : (b : Bool) → Contains (if b then to ∷ [] else []) n → (to == n) ≡ true
-    by true h = same_is to n (in_one to n h)
-    by false h = absurd (in_none n h)
-there_brings _ c n h = absurd (in_none n h)
-
-some_is : {A : Type 0} (a b : A) → Some a ≡ Some b → a ≡ b
-some_is a b e = cc
+    by true h = eq-eqb to n (one_contained to n h)
+    by false h = absurd (none_contained n h)
+there_brings _ c n h = absurd (none_contained n h)
 
 pub some_none : {n : ℕ} → Some n ≡ None → ⊥
 some_none e = cc
@@ -81,11 +67,11 @@ brought_some (x ∷ log) n c e = by (brought_some log n c) (brings n x) refl e
     by : (brought_to (find (brings n) log) ≡ Some c → Contains (brought_by c log) n) → (b : Bool) → brings n x ≡ b → brought_to (cond b (Some x) (find (brings n) log)) ≡ Some c → Contains (brought c x ++ brought_by c log) n
     by rest true h q =
         let t : (k : ℕ) × (brought_to (Some x) ≡ Some k) × Contains (brought k x) n = brings_there x n h in
-        Contains-front (brought c x) (brought_by c log) n (subst (λ k. Contains (brought k x) n) (some_is t.0 c (sym t.1 ∙ q)) t.2)
-    by rest false h q = Contains-back (brought c x) (brought_by c log) n (rest q)
+        contains_front (brought c x) (brought_by c log) n (subst (λ k. Contains (brought k x) n) (same_Some t.0 c (sym t.1 ∙ q)) t.2)
+    by rest false h q = contains_back (brought c x) (brought_by c log) n (rest q)
 
 pub brought_none : (log : List Entry) (n : ℕ) → brought_to (find (brings n) log) ≡ None → (c : ℕ) → Contains (brought_by c log) n → ⊥
-brought_none [] n e c h = in_none n h
+brought_none [] n e c h = none_contained n h
 brought_none (x ∷ log) n e c h = by (brought_none log n) (brings n x) refl e
   where
     apart : true ≡ false → ⊥
@@ -103,28 +89,6 @@ brought_none (x ∷ log) n e c h = by (brought_none log n) (brings n x) refl e
 
 -- THE COLUMNS OF A TABLE
 
-named_in : (o : Option Moving) (home n : ℕ) → IsTrue (names_moved o home n) → Contains (home ∷ target_of o) n
-named_in None home n h = (0, omega arith, is_same home n h)
-named_in (Some m) home n h = by (home == n) (m.to == n) refl refl h
-  where
-    by : (a b : Bool) → (home == n) ≡ a → (m.to == n) ≡ b → IsTrue (a || b) → Contains (home ∷ (m.to ∷ [])) n
-    by true b p q h = (0, omega arith, is_same home n p)
-    by false true p q h = (1, omega arith, is_same m.to n q)
-    by false false p q h = absurd (cc)
-
-in_named : (o : Option Moving) (home n : ℕ) → Contains (home ∷ target_of o) n → IsTrue (names_moved o home n)
-in_named None home n h = same_is home n (in_one home n h)
-in_named (Some m) home n (zero, l, e) = left (home == n) (m.to == n) (same_is home n e)
-  where
-    left : (a b : Bool) → a ≡ true → IsTrue (a || b)
-    left true b h = refl
-    left false b h = absurd (cc)
-in_named (Some m) home n (suc k, l, e) = right (home == n) (m.to == n) (same_is m.to n (in_one m.to n (k, omega (arith, l), e)))
-  where
-    right : (a b : Bool) → b ≡ true → IsTrue (a || b)
-    right true b h = refl
-    right false b h = h
-
 -- a home or a target
 pub role_is : (g : GroupView) (number c : ℕ) → holder_of g.table number ≡ Some c → IsRole g number c (role_in (column_at g.table c) number)
 role_is g number c some =
@@ -140,21 +104,21 @@ role_is g number c some =
 
     target : (o : Option Moving) (home : ℕ) → (home == number) ≡ false → IsTrue (names_moved o home number) → IsSomeAnd o (λ m. m.to ≡ number)
     target None home f h = absurd (no (sym h ∙ f))
-    target (Some m) home f h = is_same m.to number (after (home == number) (m.to == number) f h)
+    target (Some m) home f h = eqb-true m.to number (after (home == number) (m.to == number) f h)
 
     step : c < width g.table → IsTrue (names (column_at g.table c) number) → (b : Bool) → ((column_at g.table c).home == number) ≡ b → IsRole g number c (if b then role.Home else role.Target)
-    step lt h true r = (lt, is_same (column_at g.table c).home number r)
+    step lt h true r = (lt, eqb-true (column_at g.table c).home number r)
     step lt h false r = (lt, target (column_at g.table c).moving (column_at g.table c).home r h)
 
 -- a number that no column names now, and that one had
 pub retired_first : (g : GroupView) (number c : ℕ) → holder_of g.table number ≡ None → holder_of g.first number ≡ Some c → IsRole g number c role.Retired
 retired_first g number c none some =
     let f : (c < width g.first) × (names (column_at g.first c) number ≡ true) × ((j : ℕ) → j < c → names (column_at g.first j) number ≡ false) = least_some (width g.first) (λ k. names (column_at g.first k) number) c some in
-    (none, f.0, Contains-front ((column_at g.first c).home ∷ target_of (column_at g.first c).moving) (brought_by c g.log) number (named_in (column_at g.first c).moving (column_at g.first c).home number f.1))
+    (none, f.0, contains_front ((column_at g.first c).home ∷ target_of (column_at g.first c).moving) (brought_by c g.log) number (named_in (column_at g.first c).moving (column_at g.first c).home number f.1))
 
 -- an entry of a log brings an archive to a column of the table
 brought_within : (t u : Table) (log : List Entry) (c n : ℕ) → Replays t log u → Contains (brought_by c log) n → c < width t
-brought_within t u [] c n r h = absurd (in_none n h)
+brought_within t u [] c n r h = absurd (none_contained n h)
 brought_within t u (e ∷ log) c n r h = elim (in_either (brought c e) (brought_by c log) n h) [
   | inl l ↦ here e r.0 l
   | inr l ↦
@@ -168,17 +132,17 @@ brought_within t u (e ∷ log) c n r h = elim (in_either (brought c e) (brought_
 
     by : (k to : ℕ) → k < width t → (b : Bool) → nat_eq c k ≡ b → Contains (if b then to ∷ [] else []) n → c < width t
     by k to lt true e h = subst (λ m. m < width t) (sym (is c k e)) lt
-    by k to lt false e h = absurd (in_none n h)
+    by k to lt false e h = absurd (none_contained n h)
 
     here : (e : Entry) → Legal t e → Contains (brought c e) n → c < width t
     here (MoveBegin job k to) legal l = by k to legal.0.0 (nat_eq c k) refl l
     here (Swapped job k to) legal l = by k to legal.0 (nat_eq c k) refl l
-    here _ legal l = absurd (in_none n l)
+    here _ legal l = absurd (none_contained n l)
 
 pub retired_later : (g : GroupView) (number c : ℕ) → Replays g.first g.log g.table → holder_of g.table number ≡ None → brought_to (find (brings number) g.log) ≡ Some c → IsRole g number c role.Retired
 retired_later g number c replay none some =
     let b : Contains (brought_by c g.log) number = brought_some g.log number c some in
-    (none, brought_within g.first g.table g.log c number replay b, Contains-back ((column_at g.first c).home ∷ target_of (column_at g.first c).moving) (brought_by c g.log) number b)
+    (none, brought_within g.first g.table g.log c number replay b, contains_back ((column_at g.first c).home ∷ target_of (column_at g.first c).moving) (brought_by c g.log) number b)
 
 pub no_use : (g : GroupView) (number : ℕ) → holder_of g.table number ≡ None → holder_of g.first number ≡ None → brought_to (find (brings number) g.log) ≡ None → IsUse g number None
 no_use g number now first log = (
@@ -213,7 +177,7 @@ home_is g number c table some = step ((column_at g.table c).home == number) refl
     apart a b h = grind (arith, nat_tests)
 
     step : (b : Bool) → ((column_at g.table c).home == number) ≡ b → IsHomeAt g number (if b then Some (record { group = g.number; column = c; moving = target_in (column_at g.table c).moving }) else None)
-    step true h = (refl, (least_some (width g.table) (λ k. names (column_at g.table k) number) c some).0, is_same (column_at g.table c).home number h, refl)
+    step true h = (refl, (least_some (width g.table) (λ k. names (column_at g.table k) number) c some).0, eqb-true (column_at g.table c).home number h, refl)
     step false h = no_home g.table number c table some (apart (column_at g.table c).home number h)
 
 -- the holder is a column of the table

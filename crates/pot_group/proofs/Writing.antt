@@ -1,11 +1,13 @@
 -- The writes of a put and its entry keep what a group keeps.
-use Rattle.std.proofs.Common.{◌≡◌, ◌≢◌, ◌⊎◌, inl, inr, ℕ, ◌+◌, ◌<◌, ◌≤◌, ◌++◌, List, [], ◌∷◌, Option, Some, Bool, true, false, IsTrue, Err, length, refl, sym, ap, ◌∙◌, subst, arith}
+use Rattle.std.proofs.Common.{◌≡◌, ◌≢◌, inl, inr, ℕ, ◌+◌, ◌<◌, ◌++◌, List, [], ◌∷◌, Option, Some, Bool, true, false, IsTrue, Err, length, refl, sym, ap, ◌∙◌, subst, arith}
 use Rattle.std.specs.Prelude.{nat_eq, nat_le, not, ◌&&◌, if◌then◌else◌}
 use Rattle.std.proofs.lemmas.Bool.Decides.{nat_tests}
+use Rattle.std.proofs.lemmas.Bool.{cases_eq}
 use Rattle.pot_bytes.specs.declared.rack.Place.{Place}
 use Rattle.pot_bytes.specs.Lists.{IsBlock}
 use Rattle.pot_bytes.specs.Sums.{xor}
 use Rattle.pot_bytes.specs.Weighted.{scaled}
+use Rattle.pot_bytes.specs.Rack.{log_bound}
 use Rattle.pot_gf.specs.Field.{power}
 use Rattle.pot_outside.specs.declared.faults.Failed.{Failed}
 use Rattle.pot_machine.specs.declared.cursor.Cursor.{Cursor}
@@ -15,21 +17,21 @@ use Rattle.pot_machine.specs.declared.slot.SlotState.TheVariants.{Void}
 use Rattle.pot_machine.specs.Slot.{is_void}
 use Rattle.pot_machine.specs.Table.{Table, width, slot_at, serving_at}
 use Rattle.pot_machine.specs.Machine.{AtCursor, TakesBlocks, Legal, after}
-use Rattle.pot_machine.proofs.Cases.{same_or}
 use Rattle.pot_machine.proofs.Columns.{serving_apart}
 use Rattle.pot_steps.specs.Stripe.{digest_of}
 use Rattle.pot_steps.specs.Holdings.{Holdings}
 use Rattle.pot_steps.specs.Entries.{WritesStripe, held_at}
-use Rattle.pot_steps.specs.GroupStep.{log_bound, put_entry}
+use Rattle.pot_steps.specs.GroupStep.{put_entry}
 use Rattle.pot_steps.proofs.Entries.{is_void_at}
 use Rattle.pot_steps.proofs.Group.{live_void}
-use Rattle.pot_shelves.specs.Shelves.{Shelves, WritesAt, put_at}
+use Rattle.pot_steps.proofs.AheadLemmas.{one_or_two}
+use Rattle.pot_shelves.specs.Shelves.{Shelves, WritesAt, put_at, WriteLeaves}
 use Rattle.pot_group.specs.Arrivals.{arrival}
 use Rattle.pot_group.specs.Causes.{Covers, archives_of, faults_in}
 use Rattle.pot_group.specs.Group.{GroupView, IsSettled, FailedAt, CoversOne}
-use Rattle.pot_group.specs.Putting.{HasOld, IsKept, PutsAt, WritesAll, PutsAll, PutsNone, BlockMeans, made_entry, answered}
+use Rattle.pot_group.specs.Putting.{HasOld, PutsAt, WritesAll, PutsAll, PutsNone, BlockMeans, made_entry, answered}
 use Rattle.pot_group.specs.declared.answers.PutFault.TheVariants as fault
-use Rattle.pot_shelves.proofs.ShelfLemmas.{put_at-other}
+use Rattle.pot_shelves.proofs.ShelfLemmas.{put_at-other, left_new}
 use Rattle.pot_group.proofs.CauseLemmas.{covers-stays}
 use Rattle.pot_group.proofs.Reading.{covers_rise}
 use Rattle.pot_group.proofs.Settled.{settled_entry, one_fault, no_fault}
@@ -40,10 +42,6 @@ le_self c = grind (arith, nat_tests)
 -- the group with this entry logged, and with what its archives are then
 abbrev pub entered_with : GroupView → Entry → Shelves → GroupView
 entered_with g e now = record g { table = after g.table e; log = g.log ++ e ∷ []; shelves = now }
-
--- one parity column or two
-one_or_two : (n : ℕ) → 1 ≤ n → n ≤ 2 → (n ≡ 1) ⊎ (n ≡ 2)
-one_or_two n a b = grind arith
 
 module _ (told : Type 0) (g : GroupView) (job s c : ℕ) (block : List ℕ) (settled : IsSettled told g) (cursor : AtCursor g.table s)
     (column : c ≡ g.table.cursor.column) (takes : TakesBlocks g.table s) (room : length g.log < log_bound) where
@@ -61,7 +59,7 @@ module _ (told : Type 0) (g : GroupView) (job s c : ℕ) (block : List ℕ) (set
 
   -- a write at the Void place changes no other
   untouched : (left : Option (List ℕ)) (n k : ℕ) → k < width g.table → slot_at g.table n k ≢ Void → put_at g.shelves.held (serving_at g.table s c) s left (serving_at g.table n k) n ≡ g.shelves.held (serving_at g.table n k) n
-  untouched left n k lk nv = put_at-other g.shelves.held (serving_at g.table s c) s left (serving_at g.table n k) n (elim (same_or n s) [
+  untouched left n k lk nv = put_at-other g.shelves.held (serving_at g.table s c) s left (serving_at g.table n k) n (elim (cases_eq n s) [
     | inl e ↦ inl (subst (λ n. serving_at g.table n k ≢ serving_at g.table s c) (sym e)
         (serving_apart g.table s k c settled.table.columns lk data_wide (λ q. nv (subst (λ n. slot_at g.table n k ≡ Void) (sym e) (subst (λ k. slot_at g.table s k ≡ Void) (sym q) void)))))
     | inr e ↦ inr e
@@ -105,12 +103,8 @@ module _ (told : Type 0) (g : GroupView) (job s c : ℕ) (block : List ℕ) (set
     puts : (t : told) → PutsAt g.table g.shelves.held (ideal t) s c block new_p new_q kept kept2
     puts t = (w.wrote t).1
 
-    new_if : (kept : Bool) (was left : Option (List ℕ)) (new : List ℕ) → IsKept kept was new left → kept ≡ true → left ≡ Some new
-    new_if true was left new k e = k
-    new_if false was left new k e = absurd (cc)
-
     first_new : (t : told) → kept ≡ true → held_at g.table (ideal t) s g.table.data_columns ≡ Some (xor p block)
-    first_new t e = new_if kept _ _ new_p (puts t).first e ∙ ap Some is_p
+    first_new t e = left_new kept _ _ new_p (puts t).first e ∙ ap Some is_p
 
     writes_one : (t : told) → g.table.parity ≡ 1 → WritesStripe g.table g.shelves.held (ideal t) s c block p p kept kept
     writes_one t one = record {
@@ -130,7 +124,7 @@ module _ (told : Type 0) (g : GroupView) (job s c : ℕ) (block : List ℕ) (set
       old_q = old.second t;
       data_block = (puts t).data_block;
       new_p = first_new t;
-      new_q = (λ _ e. new_if kept2 _ _ new_q ((puts t).second two) e ∙ ap Some (is_q two));
+      new_q = (λ _ e. left_new kept2 _ _ new_q ((puts t).second two) e ∙ ap Some (is_q two));
       others = (puts t).others;
     }
 
@@ -236,8 +230,8 @@ module _ (told : Type 0) (g : GroupView) (job s c : ℕ) (block : List ℕ) (set
         ideal t,
         record {
           data_block = (puts t).data_block;
-          first = subst (λ x. IsKept kept (held_at g.table g.shelves.held s g.table.data_columns) x (held_at g.table (ideal t) s g.table.data_columns)) is_p (puts t).first;
-          second = (λ two. subst (λ x. IsKept kept2 (held_at g.table g.shelves.held s (g.table.data_columns + 1)) x (held_at g.table (ideal t) s (g.table.data_columns + 1))) (is_q two) ((puts t).second two));
+          first = subst (λ x. WriteLeaves kept (held_at g.table g.shelves.held s g.table.data_columns) x (held_at g.table (ideal t) s g.table.data_columns)) is_p (puts t).first;
+          second = (λ two. subst (λ x. WriteLeaves kept2 (held_at g.table g.shelves.held s (g.table.data_columns + 1)) x (held_at g.table (ideal t) s (g.table.data_columns + 1))) (is_q two) ((puts t).second two));
           others = (puts t).others;
           elsewhere = (puts t).elsewhere;
         },

@@ -1,6 +1,7 @@
 -- What each call of a group does, a row a call: what it logged, what its answer says, and, of archives that tell what they hold, its step.
 use Rattle.std.specs.Prelude.{◌≡◌, ◌≢◌, ◌↔◌, ◌⊎◌, ◌≤◌, ◌<◌, ◌+◌, ◌++◌, ℕ, Bool, true, false, IsTrue, IsSomeAnd, List, [], ◌∷◌, Option, Some, None, Result, Ok, Err, Contains, length}
 use Rattle.pot_bytes.specs.declared.rack.Place.{Place}
+use Rattle.pot_bytes.specs.Rack.{log_bound}
 use Rattle.pot_outside.specs.Archives.{Account, Meaning}
 use Rattle.pot_outside.specs.declared.archive.Shelf.{Shelf}
 use Rattle.pot_machine.specs.declared.entry.Entry.{Entry}
@@ -8,7 +9,7 @@ use Rattle.pot_machine.specs.declared.entry.Entry.TheVariants as entry
 use Rattle.pot_machine.specs.Slot.{is_unsound}
 use Rattle.pot_machine.specs.Table.{slot_at, column_at, relay_at}
 use Rattle.pot_machine.specs.Machine.{Legal, stuck_by}
-use Rattle.pot_steps.specs.GroupStep.{PutStep, LookStep, CountStep, Passed, skips, gone_entries, put_entry, look_entries, log_bound, unkept}
+use Rattle.pot_steps.specs.GroupStep.{PutStep, LookStep, CountStep, Passed, skips, gone_entries, put_entry, look_entries, unkept}
 use Rattle.pot_steps.specs.Mending.{LosesNothing}
 use Rattle.pot_steps.specs.MoveSteps as move
 use Rattle.pot_steps.specs.RelaySteps.{AdvanceStep, BeginStep, MendStep}

@@ -4,6 +4,7 @@ use Rattle.pot_bytes.specs.declared.rack.Place.{Place}
 use Rattle.pot_outside.specs.Counts.{Rose}
 use Rattle.pot_outside.specs.Archives.{Account, Meaning}
 use Rattle.pot_bytes.specs.Sums.{zero_block}
+use Rattle.pot_bytes.specs.Rack.{log_bound}
 use Rattle.pot_machine.specs.declared.slot.SlotState.{SlotState}
 use Rattle.pot_machine.specs.declared.slot.SlotState.TheVariants.{Void, Live}
 use Rattle.pot_machine.specs.declared.entry.Entry.{Entry}
@@ -17,7 +18,7 @@ use Rattle.pot_steps.specs.Stripe.{Stripe, Sound, digest_of}
 use Rattle.pot_steps.specs.declared.flight.Flight.{Flight}
 use Rattle.pot_steps.specs.Flights.{AreFlights, FlightsHold}
 use Rattle.pot_steps.specs.Holdings.{HoldsUp, LiveLaw, stripe_of}
-use Rattle.pot_steps.specs.GroupStep.{GroupState, Passed, log_bound}
+use Rattle.pot_steps.specs.GroupStep.{GroupState, Passed}
 use Rattle.pot_steps.specs.GroupStep as step
 use Rattle.pot_group.specs.declared.answers.Looked.{Looked}
 use Rattle.pot_group.specs.declared.answers.Looked.TheVariants as looked

@@ -1,5 +1,6 @@
 -- What moves and swaps do to a group, whether or not archives tell.
 use Rattle.std.specs.Prelude.{◌≡◌, ◌⊎◌, ◌<◌, ℕ, List, [], Option, Some, None, Result, Ok, Err, Contains, IsSome, IsSomeAnd, IsTrue, true, false, length}
+use Rattle.pot_bytes.specs.Rack.{log_bound}
 use Rattle.pot_outside.specs.Archives.{Meaning}
 use Rattle.pot_outside.specs.Counts.{Rose}
 use Rattle.pot_outside.specs.declared.faults.Failed.{Failed}
@@ -33,20 +34,20 @@ MoveUse g c number None = ((column_at g.table c).moving ≡ None) × (Contains g
 
 -- why an archive that a column was to move to is handed back
 abbrev pub RefusesMove : GroupView → ℕ → ℕ → ShelfCause → Type 0
-RefusesMove g c number cause.LogFull = length g.log ≡ 262144
-RefusesMove g c number (cause.InUse n) = (length g.log < 262144) × MoveUse g c number (Some n)
-RefusesMove g c number cause.NoMemory = (length g.log < 262144) × MoveUse g c number None
+RefusesMove g c number cause.LogFull = length g.log ≡ log_bound
+RefusesMove g c number (cause.InUse n) = (length g.log < log_bound) × MoveUse g c number (Some n)
+RefusesMove g c number cause.NoMemory = (length g.log < log_bound) × MoveUse g c number None
 
 -- and one that was to replace a home. An archive that was retired keeps its number
 abbrev pub RefusesSwap : GroupView → ℕ → ShelfCause → Type 0
-RefusesSwap g number cause.LogFull = length g.log ≡ 262144
-RefusesSwap g number (cause.InUse n) = (length g.log < 262144) × Contains g.shelves.numbers number × (n ≡ number)
-RefusesSwap g number cause.NoMemory = (length g.log < 262144) × (Contains g.shelves.numbers number → ⊥)
+RefusesSwap g number cause.LogFull = length g.log ≡ log_bound
+RefusesSwap g number (cause.InUse n) = (length g.log < log_bound) × Contains g.shelves.numbers number × (n ≡ number)
+RefusesSwap g number cause.NoMemory = (length g.log < log_bound) × (Contains g.shelves.numbers number → ⊥)
 
 -- An archive comes under a number that none has had, with its marks then, and its entry is logged. Where archives tell, that is a
 -- step of the group.
 pub record Comes {A : Type 0} (told : Type 0) (meaning : A → Meaning) (e : Entry) (shelf : Shelf A) (old new : GroupView) : Type 0 where
-  pub room : length old.log < 262144
+  pub room : length old.log < log_bound
   pub fresh : Contains old.shelves.numbers shelf.number → ⊥
   pub acts : Acts e [] old new
   pub brings : Brings told shelf.number (meaning shelf.archive) old.shelves new.shelves

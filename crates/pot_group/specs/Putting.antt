@@ -5,6 +5,7 @@ use Rattle.pot_bytes.specs.Lists.{IsBlock}
 use Rattle.pot_outside.specs.Failing.{MayLeave}
 use Rattle.pot_bytes.specs.Sums.{xor}
 use Rattle.pot_bytes.specs.Weighted.{scaled}
+use Rattle.pot_bytes.specs.Rack.{log_bound}
 use Rattle.pot_gf.specs.Field.{power}
 use Rattle.pot_outside.specs.Counts.{Rose}
 use Rattle.pot_outside.specs.declared.faults.Failed.{Failed}
@@ -17,7 +18,7 @@ use Rattle.pot_machine.specs.Machine.{AtCursor, TakesBlocks}
 use Rattle.pot_steps.specs.Stripe.{Sound, IsOld, digest_of}
 use Rattle.pot_steps.specs.Holdings.{Holdings, stripe_of}
 use Rattle.pot_steps.specs.Entries.{held_at}
-use Rattle.pot_steps.specs.GroupStep.{Passed, IsMissing, skips, gone_entries, put_entry, log_bound, unkept}
+use Rattle.pot_steps.specs.GroupStep.{Passed, IsMissing, skips, gone_entries, put_entry, unkept}
 use Rattle.pot_group.specs.declared.reads.Found.{Found}
 use Rattle.pot_group.specs.declared.reads.Found.TheVariants as found
 use Rattle.pot_group.specs.declared.parities.Kept.{Kept}
@@ -27,7 +28,7 @@ use Rattle.pot_group.specs.declared.answers.PutFault.{PutFault}
 use Rattle.pot_group.specs.declared.answers.PutFault.TheVariants as fault
 use Rattle.pot_group.specs.declared.putting.Stop.{Stop}
 use Rattle.pot_group.specs.declared.putting.Stop.TheVariants as stop
-use Rattle.pot_shelves.specs.Shelves.{Shelves, Stays, Keeps, LosesByCount, WritesAt, put_at}
+use Rattle.pot_shelves.specs.Shelves.{Shelves, Stays, Keeps, LosesByCount, WritesAt, put_at, WriteLeaves}
 use Rattle.pot_group.specs.Group.{GroupView, Logs, FailedAt, CoversOne, FitsSlot, FitsParity, FitsPassed, state_of}
 
 -- THE OLD PARITY BLOCKS
@@ -143,17 +144,12 @@ pub record FindsStripe (told : Type 0) (job : ℕ) (p q : List ℕ) (s : Stop) (
 
 -- THE WRITES
 
--- what a write that went well leaves, and what one that failed may leave
-abbrev pub IsKept : Bool → Option (List ℕ) → List ℕ → Option (List ℕ) → Type 0
-IsKept true was block left = left ≡ Some block
-IsKept false was block left = MayLeave was block left
-
 -- What is held once a block was written at a place and the parity blocks `p` and `q` of its stripe were, or what failed writes
 -- left of them. Nothing else changes.
 pub record PutsAt (t : Table) (h written : Holdings) (s c : ℕ) (block p q : List ℕ) (kept kept2 : Bool) : Type 0 where
   pub data_block : held_at t written s c ≡ Some block
-  pub first : IsKept kept (held_at t h s t.data_columns) p (held_at t written s t.data_columns)
-  pub second : t.parity ≡ 2 → IsKept kept2 (held_at t h s (t.data_columns + 1)) q (held_at t written s (t.data_columns + 1))
+  pub first : WriteLeaves kept (held_at t h s t.data_columns) p (held_at t written s t.data_columns)
+  pub second : t.parity ≡ 2 → WriteLeaves kept2 (held_at t h s (t.data_columns + 1)) q (held_at t written s (t.data_columns + 1))
   pub others : (n k : ℕ) → n < t.stripes → k < width t → (n ≢ s) ⊎ ((k < t.data_columns) × (k ≢ c)) → held_at t written n k ≡ held_at t h n k
   pub elsewhere : (number slot : ℕ) → (slot ≢ s) ⊎ ((k : ℕ) → k < width t → serving_at t s k ≢ number) → written number slot ≡ h number slot
 

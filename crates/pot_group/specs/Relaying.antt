@@ -1,5 +1,6 @@
 -- What a relay does to a group: its beginning, its hops and its ends.
 use Rattle.std.specs.Prelude.{◌≡◌, ◌≢◌, ◌⊎◌, ℕ, ◌<◌, ◌++◌, ◌↔◌, List, [], ◌∷◌, Option, Some, None, IsSomeAnd, IsTrue, Bool, false, Result, Ok, Err, length, ◌==◌, if◌then◌else◌}
+use Rattle.pot_bytes.specs.Rack.{log_bound}
 use Rattle.pot_machine.specs.declared.entry.Entry.{Entry}
 use Rattle.pot_machine.specs.declared.entry.Entry.TheVariants as entry
 use Rattle.pot_machine.specs.Slot.{is_live, is_unsound, digest_in}
@@ -38,15 +39,15 @@ begin_as (Err fault.Crowded) = step.Crowded
 
 -- What a begin does to a group, whether or not archives tell.
 abbrev pub BeginMeans : {A : Type 0} → ℕ → ℕ → ℕ → List ℕ → Result (Unit {0}) BeginFault → GroupParts A → GroupParts A → Type 0
-BeginMeans job s c blind (Ok u) old new = (length old.log < 262144) × Legal old.table (entry.Begin job s c) × (new ≡ acted old (entry.Begin job s c) blind)
-BeginMeans job s c blind (Err fault.LogFull) old new = (new ≡ old) × (length old.log ≡ 262144)
-BeginMeans job s c blind (Err fault.Whole) old new = (length old.log < 262144) × (new ≡ old) × (is_unsound (slot_at old.table s c) ≡ false)
+BeginMeans job s c blind (Ok u) old new = (length old.log < log_bound) × Legal old.table (entry.Begin job s c) × (new ≡ acted old (entry.Begin job s c) blind)
+BeginMeans job s c blind (Err fault.LogFull) old new = (new ≡ old) × (length old.log ≡ log_bound)
+BeginMeans job s c blind (Err fault.Whole) old new = (length old.log < log_bound) × (new ≡ old) × (is_unsound (slot_at old.table s c) ≡ false)
 BeginMeans job s c blind (Err (fault.Standing column)) old new =
-    (length old.log < 262144) × (new ≡ old) × IsTrue (is_unsound (slot_at old.table s c)) × IsSomeAnd (relay_at old.table s) (λ r. r.target ≡ column)
+    (length old.log < log_bound) × (new ≡ old) × IsTrue (is_unsound (slot_at old.table s c)) × IsSomeAnd (relay_at old.table s) (λ r. r.target ≡ column)
 BeginMeans job s c blind (Err (fault.TwoGone first second)) old new =
-    (length old.log < 262144) × (first ≡ c) × Legal old.table (entry.Stuck job s c second) × (new ≡ noted old (entry.Stuck job s c second))
+    (length old.log < log_bound) × (first ≡ c) × Legal old.table (entry.Stuck job s c second) × (new ≡ noted old (entry.Stuck job s c second))
 BeginMeans job s c blind (Err fault.Crowded) old new =
-    (length old.log < 262144) × (new ≡ old) × IsTrue (is_unsound (slot_at old.table s c)) × (relay_at old.table s ≡ None) × (stuck_by old.table s c ≡ None) × (Legal old.table (entry.Begin job s c) → ⊥)
+    (length old.log < log_bound) × (new ≡ old) × IsTrue (is_unsound (slot_at old.table s c)) × (relay_at old.table s ≡ None) × (stuck_by old.table s c ≡ None) × (Legal old.table (entry.Begin job s c) → ⊥)
 
 -- a flight over this stripe comes to a column and has this sum
 abbrev pub flown_to : ℕ → Option ℕ → List ℕ → Flight → Flight

@@ -1,8 +1,10 @@
 //! How a group begins.
 ghost use Rattle.std.specs.Prelude.{◌≡◌, ◌≤◌, [], IsTrue, IfOk, IfErr, map, vec_capacity};
+ghost use Rattle.pot_bytes.specs.Rack.{log_bound};
 
-use crate::group::{Group, LOG_BOUND};
+use crate::group::Group;
 use crate::known::Known;
+use pot_bytes::LOG_BOUND;
 use pot_machine::{Entry, GroupTable};
 use pot_outside::{Archive, Shelf};
 use pot_shelves::{Archives, open_all};
@@ -66,7 +68,7 @@ impl<A: Archive> Group<A> {
         requires first { first ≡ table }
         requires relays { table.relays ≡ [] }
         requires log { log.items ≡ [] }
-        requires room { 262144 ≤ vec_capacity log }
+        requires room { log_bound ≤ vec_capacity log }
         requires none { flights.items ≡ [] }
         requires places { 16 ≤ vec_capacity flights }
         requires taken { IsTaken (IsTrue A.account.tells) (plain A.account.meaning archives) }

@@ -1,10 +1,11 @@
 //! One stripe after another of a column that moves.
 ghost use Rattle.std.specs.Prelude.{◌≡◌, ◌<◌, IsTrue, Some, false, length, []};
+ghost use Rattle.pot_bytes.specs.Rack.{log_bound};
 ghost use Rattle.pot_machine.specs.Table.{width};
 
-use crate::group::{Group, LOG_BOUND};
+use crate::group::Group;
 use crate::reads::Found;
-use pot_bytes::{Block, Digest};
+use pot_bytes::{Block, Digest, LOG_BOUND};
 use pot_machine::{Entry, Moving, SlotState};
 use pot_outside::{Archive, Failed};
 use pot_shelves::note;
@@ -68,7 +69,7 @@ impl<A: Archive> Group<A> {
     fn move_on(&mut self, job: u32, column: u8, moving: Moving) -> Result<MoveStep, MoveFault>
         requires column { column < width self.old.table }
         requires moves { (column_at self.old.table column).moving ≡ Some moving }
-        requires room { length self.old.log < 262144 }
+        requires room { length self.old.log < log_bound }
         ensures { OnGroup A.account (λ told. Steps told job column result) self.old self.new }
     {
         let _settled = self.logged();
@@ -95,7 +96,7 @@ impl<A: Archive> Group<A> {
         requires moves { (column_at self.old.table column).moving ≡ Some moving }
         requires stripe { moving.upto < self.old.table.stripes }
         requires live { slot_at self.old.table moving.upto column ≡ Live digest }
-        requires room { length self.old.log < 262144 }
+        requires room { length self.old.log < log_bound }
         ensures { OnGroup A.account (λ told. Steps told job column result) self.old self.new }
     {
         let _settled = self.logged();
@@ -130,7 +131,7 @@ impl<A: Archive> Group<A> {
         requires stripe { moving.upto < self.old.table.stripes }
         requires live { IsTrue (is_live (slot_at self.old.table moving.upto column)) }
         requires sound { IsTrue A.account.tells → IsSound (stripe_in A.account self.old moving.upto) column block.now }
-        requires room { length self.old.log < 262144 }
+        requires room { length self.old.log < log_bound }
         ensures { OnGroup A.account (λ told. Steps told job column result) self.old self.new }
     {
         match self.archives.write(moving.to, moving.upto, block) {
@@ -160,7 +161,7 @@ impl<A: Archive> Group<A> {
         requires moves { (column_at self.old.table column).moving ≡ Some moving }
         requires stripe { moving.upto < self.old.table.stripes }
         requires missing { IsTrue A.account.tells → Sound (stripe_in A.account self.old moving.upto) column → ⊥ }
-        requires room { length self.old.log < 262144 }
+        requires room { length self.old.log < log_bound }
         ensures { self.new ≡ acted self.old (Moved job moving.upto column false) [] }
     {
         let entry = move_one(&mut self.table, job, column, false);
@@ -170,7 +171,7 @@ impl<A: Archive> Group<A> {
     /// The move ends.
     fn end_move(&mut self, job: u32, column: u8)
         requires legal { Legal self.old.table (MoveEnd job column) }
-        requires room { length self.old.log < 262144 }
+        requires room { length self.old.log < log_bound }
         ensures { self.new ≡ acted self.old (MoveEnd job column) [] }
     {
         let entry = move_end(&mut self.table, job, column);

@@ -1,5 +1,6 @@
 //! A group of archives under parity.
 ghost use Rattle.std.specs.Prelude.{◌≡◌, ◌<◌, ◌≤◌, ◌++◌, [], ◌∷◌, List, IsTrue, length};
+ghost use Rattle.pot_bytes.specs.Rack.{log_bound};
 ghost use Rattle.pot_machine.specs.Table.{width};
 
 use crate::known::Known;
@@ -11,9 +12,6 @@ use pot_sealed::Sealed;
 use pot_shelves::{Archives, note};
 use pot_steps::Flight;
 use std::marker::Model;
-
-/// The most entries that a log has.
-pub(crate) const LOG_BOUND: usize = 262144;
 
 /// What a group was, handed out at its end.
 pub struct Ended<A> {
@@ -65,7 +63,7 @@ impl<A: Archive> Model for Group<A> {
           flights = g.flights.items;
           shelves = g.archives;
         }))
-        × (262144 ≤ vec_capacity g.log) × (16 ≤ vec_capacity g.flights)
+        × (log_bound ≤ vec_capacity g.log) × (16 ≤ vec_capacity g.flights)
         × HasArrived g.first g.log.items (numbers_of g.archives.shelves) };
 }
 
@@ -108,7 +106,7 @@ impl<A: Archive> Group<A> {
     /// Logs an entry that says nothing untrue and puts no block.
     pub(crate) fn note(&mut self, entry: Entry)
         requires legal { Legal self.old.table entry }
-        requires room { length self.old.log < 262144 }
+        requires room { length self.old.log < log_bound }
         requires quiet { IsQuiet (IsTrue A.account.tells) (view_of A.account.meaning self.old) entry }
         ensures { self.new ≡ noted self.old entry }
     {
@@ -126,7 +124,7 @@ impl<A: Archive> Group<A> {
     /// The number of entries in its log.
     pub fn logged(&self) -> u64
         ensures value { result ≡ length self.now.log }
-        ensures bound { result ≤ 262144 }
+        ensures bound { result ≤ log_bound }
         ensures settled { IsSettled (IsTrue A.account.tells) (view_of A.account.meaning self.now) }
         ensures first { IsTable self.now.first }
         ensures arrived { HasArrived self.now.first self.now.log (numbers_of self.now.shelves.shelves) }

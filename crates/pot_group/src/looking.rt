@@ -3,9 +3,9 @@ ghost use Rattle.std.specs.Prelude.{◌≡◌, ◌<◌, ◌↔◌, IsTrue, lengt
 ghost use Rattle.pot_machine.specs.Table.{width};
 
 use crate::answers::Looked;
-use crate::group::{Group, LOG_BOUND};
+use crate::group::Group;
 use crate::reads::Found;
-use pot_bytes::{Block, Place};
+use pot_bytes::{Block, LOG_BOUND, Place};
 use pot_machine::{Entry, SlotState};
 use pot_outside::Archive;
 

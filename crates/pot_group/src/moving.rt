@@ -1,9 +1,11 @@
 //! Archives that come to a group: the target of a move, and one that replaces a home.
 ghost use Rattle.std.specs.Prelude.{◌≡◌, ◌<◌, ◌↔◌, IsTrue, IfOk, IfErr, Contains, length};
+ghost use Rattle.pot_bytes.specs.Rack.{log_bound};
 ghost use Rattle.pot_machine.specs.Table.{width};
 ghost use Rattle.pot_group.specs.Moving.{live_in};
 
-use crate::group::{Group, LOG_BOUND};
+use crate::group::Group;
+use pot_bytes::LOG_BOUND;
 use pot_machine::{Entry, GroupTable};
 use pot_outside::{Archive, Shelf};
 use pot_shelves::note;
@@ -129,7 +131,7 @@ impl<A: Archive> Group<A> {
     pub(crate) fn go_to(&mut self, job: u32, column: u8, shelf: Shelf<A>) -> Result<(), Shelf<A>>
         requires fresh { Contains (plain A.account.meaning self.old.shelves).numbers shelf.number → ⊥ }
         requires legal { Legal self.old.table (MoveBegin job column shelf.number) }
-        requires room { length self.old.log < 262144 }
+        requires room { length self.old.log < log_bound }
         ensures came { IfOk result (λ u.
             (self.new ≡ acted (with_archives self.old self.new.shelves) (MoveBegin job column shelf.number) [])
             × OnShelves A.account (λ told. Brings told shelf.number (A.account.meaning shelf.archive))
@@ -151,7 +153,7 @@ impl<A: Archive> Group<A> {
     fn swap_to(&mut self, job: u32, column: u8, shelf: Shelf<A>) -> Result<(), Shelf<A>>
         requires fresh { Contains (plain A.account.meaning self.old.shelves).numbers shelf.number → ⊥ }
         requires legal { Legal self.old.table (Swapped job column shelf.number) }
-        requires room { length self.old.log < 262144 }
+        requires room { length self.old.log < log_bound }
         ensures came { IfOk result (λ u.
             (self.new ≡ acted (with_archives self.old self.new.shelves) (Swapped job column shelf.number) [])
             × OnShelves A.account (λ told. Brings told shelf.number (A.account.meaning shelf.archive))

@@ -1,11 +1,12 @@
 //! A put of one block at the cursor of a group.
 ghost use Rattle.std.specs.Prelude.{◌≡◌, ◌<◌, ◌≤◌, IsTrue, Err, length};
+ghost use Rattle.pot_bytes.specs.Rack.{log_bound};
 ghost use Rattle.pot_group.specs.Putting.{answered};
 
 use crate::answers::PutFault;
-use crate::group::{Group, LOG_BOUND};
+use crate::group::Group;
 use crate::parities::{Checked, Kept, after_put, put_entry, write_put};
-use pot_bytes::{Block, Place, block_law};
+use pot_bytes::{Block, LOG_BOUND, Place, block_law};
 use pot_machine::{Cursor, Entry};
 use pot_outside::Archive;
 use pot_shelves::{Parity, note};
@@ -110,7 +111,7 @@ impl<A: Archive> Group<A> {
     fn leave(&mut self, job: u32, stripe: u32, column: u8) -> Option<Stop>
         requires rules { IsTable self.old.table }
         requires cursor { AtCursor self.old.table stripe }
-        requires room { length self.old.log < 262144 }
+        requires room { length self.old.log < log_bound }
         requires takes { TakesBlocks self.old.table stripe }
         requires parity { self.old.table.data_columns ≤ column }
         requires column { column < width self.old.table }
@@ -137,7 +138,7 @@ impl<A: Archive> Group<A> {
     fn put_block(&mut self, job: u32, block: &Block, old: &Parity) -> Result<Place, PutFault>
         requires cursor { AtCursor self.old.table self.old.table.cursor.stripe }
         requires takes { TakesBlocks self.old.table self.old.table.cursor.stripe }
-        requires room { length self.old.log < 262144 }
+        requires room { length self.old.log < log_bound }
         requires old { HasOld (IsTrue A.account.tells) self.old.table (plain A.account.meaning self.old.shelves).held
             self.old.table.cursor.stripe old.now.first old.now.second }
         ensures { OnGroup A.account

@@ -1,10 +1,11 @@
 //! The relays of a group.
 ghost use Rattle.std.specs.Prelude.{◌≡◌, ◌<◌, ◌↔◌, IsTrue, length, map};
+ghost use Rattle.pot_bytes.specs.Rack.{log_bound};
 ghost use Rattle.pot_group.specs.Relaying.{answered, flown_to};
 ghost use Rattle.pot_machine.specs.Table.{width};
 
-use crate::group::{Group, LOG_BOUND};
-use pot_bytes::{Block, Digest, Place, block_law};
+use crate::group::Group;
+use pot_bytes::{Block, Digest, LOG_BOUND, Place, block_law};
 use pot_machine::{Entry, Relay};
 use pot_outside::{Archive, Failed, Held};
 use pot_shelves::note;
@@ -167,7 +168,7 @@ impl<A: Archive> Group<A> {
     /// Begins a flight where a relay may begin.
     fn begin_flight(&mut self, job: u32, place: Place, blind: &Block)
         requires legal { Legal self.old.table (Begin job place.stripe place.column) }
-        requires room { length self.old.log < 262144 }
+        requires room { length self.old.log < log_bound }
         ensures { self.new ≡ acted self.old (Begin job place.stripe place.column) blind.now }
     {
         block_law(blind);
@@ -217,7 +218,7 @@ impl<A: Archive> Group<A> {
         requires here { flight_in self.old.flights flight.relay.stripe ≡ Some flight }
         requires next { next_column self.old.table flight.relay ≡ Some column }
         requires within { flight.relay.stripe < self.old.table.stripes }
-        requires room { length self.old.log < 262144 }
+        requires room { length self.old.log < log_bound }
         ensures { OnGroup A.account (λ told. Advances told job flight.relay.stripe result) self.old self.new }
     {
         let stripe = flight.relay.stripe;
@@ -300,7 +301,7 @@ impl<A: Archive> Group<A> {
     fn finish_flight(&mut self, job: u32, flight: Flight) -> Result<Advanced, AdvanceFault>
         requires here { flight_in self.old.flights flight.relay.stripe ≡ Some flight }
         requires next { next_column self.old.table flight.relay ≡ None }
-        requires room { length self.old.log < 262144 }
+        requires room { length self.old.log < log_bound }
         ensures { OnGroup A.account (λ told. Advances told job flight.relay.stripe result) self.old self.new }
     {
         match finish(&mut self.table, &flight, job) {
@@ -346,7 +347,7 @@ impl<A: Archive> Group<A> {
             flight.relay.stripe (weight_in self.old.table.data_columns flight.relay c) flight.sum sum.now
             (Ok Held.Held))) }
         requires within { flight.relay.stripe < self.old.table.stripes }
-        requires room { length self.old.log < 262144 }
+        requires room { length self.old.log < log_bound }
         ensures { HopsOver job sum.now result flight self.old self.new }
     {
         let mut flight = flight;
@@ -371,7 +372,7 @@ impl<A: Archive> Group<A> {
         requires next { IsSomeAnd (next_column self.old.table flight.relay) (λ c.
             IsTrue A.account.tells → Sound (stripe_in A.account self.old flight.relay.stripe) c → ⊥) }
         requires within { flight.relay.stripe < self.old.table.stripes }
-        requires room { length self.old.log < 262144 }
+        requires room { length self.old.log < log_bound }
         ensures { IsSomeAnd (next_column self.old.table flight.relay) (λ c.
             self.new ≡ acted self.old (GaveUp job flight.relay.stripe flight.relay.target c) []) }
     {
@@ -393,7 +394,7 @@ impl<A: Archive> Group<A> {
         requires partial { block.now ≡ partial_of flight }
         requires digest { digest_in (slot_at self.old.table flight.relay.stripe flight.relay.target)
             ≡ Some (digest_of block.now) }
-        requires room { length self.old.log < 262144 }
+        requires room { length self.old.log < log_bound }
         ensures { OnGroup A.account (λ told. EndsWell told job block.now flight result) self.old self.new }
     {
         let stripe = flight.relay.stripe;

@@ -3,8 +3,8 @@ ghost use Rattle.std.specs.Prelude.{◌≡◌, ◌<◌, ◌↔◌, IsTrue, IfOk,
 
 use crate::counting::{Counts, counts_of};
 use crate::finding::{Kind, next_place};
-use crate::group::{Group, LOG_BOUND};
-use pot_bytes::Place;
+use crate::group::Group;
+use pot_bytes::{LOG_BOUND, Place};
 use pot_machine::Entry;
 use pot_outside::Archive;
 

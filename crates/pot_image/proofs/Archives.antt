@@ -4,9 +4,8 @@ use Rattle.std.specs.List.{AllByRecursion, IsDistinct}
 use Rattle.std.proofs.lemmas.List.Elements.{All-nil, All-cons, All-head, All-tail}
 use Rattle.std.proofs.lemmas.List.Folds.{list_any-append}
 use Rattle.std.proofs.lemmas.Map.Keys.{IsDistinct-head, IsDistinct-tail}
-use Rattle.std.proofs.lemmas.Bool.{eqb-true, leb-true, le-leb}
+use Rattle.std.proofs.lemmas.Bool.{eqb-true, leb-true, le-leb, and_parts, cases_Bool}
 use Rattle.pot_image.specs.Rules.{AreArchives}
-use Rattle.pot_image.proofs.Once.{test, both_true}
 use Rattle.pot_image.proofs.ColumnRules.{AreFree, stands, stands_right, free_apart}
 
 -- FREE NUMBERS ARE DISTINCT
@@ -16,7 +15,7 @@ none_is n [] e = tt
 none_is n (m ∷ ns) e = by_head (m == n) (stands n ns) refl e (λ h. none_is n ns h)
   where
     flipped : nat_eq m n ≡ false → nat_eq n m ≡ false
-    flipped h = by_test (test (nat_eq n m))
+    flipped h = by_test (cases_Bool (nat_eq n m))
       where
         by_test : ((nat_eq n m ≡ true) ⊎ (nat_eq n m ≡ false)) → nat_eq n m ≡ false
         by_test (inr q) = q
@@ -37,7 +36,7 @@ free_distinct (n ∷ ns) taken h =
 
 free_within : (ns taken : List ℕ) → AreFree taken ns → All (λ n. n ≤ 511) ns
 free_within [] taken h = All-nil (λ n. n ≤ 511)
-free_within (n ∷ ns) taken h = All-cons (λ m. m ≤ 511) n ns (leb-true n 511 (both_true (nat_le n 511) (not (stands n taken)) h.0).0) (free_within ns (taken ++ n ∷ []) h.1)
+free_within (n ∷ ns) taken h = All-cons (λ m. m ≤ 511) n ns (leb-true n 511 (and_parts (nat_le n 511) (not (stands n taken)) h.0).0) (free_within ns (taken ++ n ∷ []) h.1)
 
 pub archives_of_free : (ns : List ℕ) → AreFree [] ns → AreArchives ns
 archives_of_free ns h = record { within = free_within ns [] h; distinct = free_distinct ns [] h }
@@ -49,7 +48,7 @@ stands_none n [] h = refl
 stands_none n (m ∷ ns) h = ap₂ (λ a b. a || b) (other h.0) (stands_none n ns h.1)
   where
     other : nat_eq n m ≡ false → nat_eq m n ≡ false
-    other e = by_test (test (nat_eq m n))
+    other e = by_test (cases_Bool (nat_eq m n))
       where
         by_test : ((nat_eq m n ≡ true) ⊎ (nat_eq m n ≡ false)) → nat_eq m n ≡ false
         by_test (inr q) = q
@@ -65,8 +64,8 @@ AreNew taken ns = (n : ℕ) → stands n taken ≡ true → stands n ns ≡ fals
 distinct_free : (ns taken : List ℕ) → All (λ n. n ≤ 511) ns → IsDistinct nat_eq ns → AreNew taken ns → AreFree taken ns
 distinct_free [] taken small apart new = tt
 distinct_free (n ∷ ns) taken small apart new = (
-  ap₂ (λ a b. a && not b) (le-leb n 511 (All-head (λ m. m ≤ 511) n ns small)) (not_taken (test (stands n taken))),
-  distinct_free ns (taken ++ n ∷ []) (All-tail (λ m. m ≤ 511) n ns small) (IsDistinct-tail nat_eq n ns apart) (λ m e. still_new m (test (stands m taken)) e),
+  ap₂ (λ a b. a && not b) (le-leb n 511 (All-head (λ m. m ≤ 511) n ns small)) (not_taken (cases_Bool (stands n taken))),
+  distinct_free ns (taken ++ n ∷ []) (All-tail (λ m. m ≤ 511) n ns small) (IsDistinct-tail nat_eq n ns apart) (λ m e. still_new m (cases_Bool (stands m taken)) e),
 )
   where
     clash : (b : Bool) → b ≡ true → b ≡ false → ⊥
@@ -86,7 +85,7 @@ distinct_free (n ∷ ns) taken small apart new = (
 
     still_new : (m : ℕ) → ((stands m taken ≡ true) ⊎ (stands m taken ≡ false)) → stands m (taken ++ n ∷ []) ≡ true → stands m ns ≡ false
     still_new m (inl before) e = second_of (n == m) (stands m ns) (new m before)
-    still_new m (inr none) e = by_number (test (n == m))
+    still_new m (inr none) e = by_number (cases_Bool (n == m))
       where
         by_number : ((n == m ≡ true) ⊎ (n == m ≡ false)) → stands m ns ≡ false
         by_number (inl q) = ap (λ k. stands k ns) (sym (eqb-true n m q)) ∙ stands_none n ns (IsDistinct-head nat_eq n ns apart)

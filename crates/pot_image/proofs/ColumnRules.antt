@@ -4,7 +4,7 @@ use Rattle.std.specs.List.{list_any}
 use Rattle.std.proofs.Math.Seq.{get_or-append_seam}
 use Rattle.std.proofs.lemmas.List.{get_or_append_left}
 use Rattle.std.proofs.lemmas.Grind.{flat_map-append}
-use Rattle.std.proofs.lemmas.Bool.{leb-true}
+use Rattle.std.proofs.lemmas.Bool.{leb-true, ne_eqb, and_parts, cases_lt, cases_Bool}
 use Rattle.pot_machine.specs.declared.column.Column.{Column}
 use Rattle.pot_machine.specs.declared.column.Moving.{Moving}
 use Rattle.pot_machine.specs.Column.{names, names_moved}
@@ -15,8 +15,7 @@ use Rattle.pot_image.specs.Reading.{◌>>=◌, reading}
 use Rattle.pot_image.specs.Numbers.{natural, at_most, zeros, flag}
 use Rattle.pot_machine.specs.Column.{homes_of}
 use Rattle.pot_image.specs.Tables.{is_free, moving, resting, column, column_behind, columns}
-use Rattle.pot_image.proofs.Once.{test, both_true}
-use Rattle.pot_image.proofs.Steps.{holds_of, unequal}
+use Rattle.pot_image.proofs.Steps.{holds_of}
 use Rattle.pot_image.proofs.Inverse.{parts, done_is, read_chosen, read_other, several_keep}
 
 -- NUMBERS THAT STAND NOWHERE BEFORE
@@ -51,7 +50,7 @@ stands_right n (x ∷ xs) ys e = (let again = stands_right n xs ys e in by_head 
     by_head false h = h
 
 is_new : (taken : List ℕ) (n : ℕ) → is_free taken n ≡ true → stands n taken ≡ false
-is_new taken n e = (let b = both_true (nat_le n 511) (not (stands n taken)) e in by_test (stands n taken) b.1)
+is_new taken n e = (let b = and_parts (nat_le n 511) (not (stands n taken)) e in by_test (stands n taken) b.1)
   where
     by_test : (b : Bool) → not b ≡ true → b ≡ false
     by_test false h = refl
@@ -62,7 +61,7 @@ pub free_apart : (xs taken : List ℕ) (n : ℕ) → AreFree taken xs → stands
 free_apart [] taken n h e = refl
 free_apart (x ∷ xs) taken n h e =
     (let rest = free_apart xs (taken ++ x ∷ []) n h.1 (stands_left n taken (x ∷ []) e) in
-    ap₂ (λ a b. a || b) (unequal x n (λ q. clash (stands n taken) e (ap (λ m. stands m taken) (sym q) ∙ is_new taken x h.0))) rest)
+    ap₂ (λ a b. a || b) (ne_eqb x n (λ q. clash (stands n taken) e (ap (λ m. stands m taken) (sym q) ∙ is_new taken x h.0))) rest)
   where
     clash : (b : Bool) → b ≡ true → b ≡ false → ⊥
     clash b t f = cc
@@ -162,7 +161,7 @@ column_kept stripes taken bytes rest x e =
     (let r = parts (natural 4 (is_free taken)) (λ home. flag >>= λ moves. zeros 3 >>= λ padding. (if moves then moving stripes (taken ++ home ∷ []) home else resting home)) bytes x rest e in
     let s = parts flag (λ moves. zeros 3 >>= λ padding. (if moves then moving stripes (taken ++ r.value ∷ []) r.value else resting r.value)) r.behind x rest r.second in
     let u = parts (zeros 3) (λ padding. (if s.value then moving stripes (taken ++ r.value ∷ []) r.value else resting r.value)) s.behind x rest s.second in
-    by_flag r.value s.value u.behind (holds_of 4 (is_free taken) bytes r.behind r.value r.first) u.second (test s.value))
+    by_flag r.value s.value u.behind (holds_of 4 (is_free taken) bytes r.behind r.value r.first) u.second (cases_Bool s.value))
   where
     moved : (home : ℕ) (bs : List ℕ) → is_free taken home ≡ true → reading (moving stripes (taken ++ home ∷ []) home) bs ≡ Ok (x, rest) → Kept stripes taken x
     moved home bs f h =
@@ -184,9 +183,6 @@ column_kept stripes taken bytes rest x e =
     by_flag home moves bs f h (inl m) = moved home bs f (read_chosen _ _ _ _ _ m h)
     by_flag home moves bs f h (inr m) = rested home bs f (read_other _ _ _ _ _ m h)
 
-nearer : (a b : ℕ) → (a < b) ⊎ (b ≤ a)
-nearer a b = grind arith
-
 pub record AreKept (stripes : ℕ) (taken : List ℕ) (number : ℕ) (cs : List Column) : Type 0 where
   pub count : length cs ≡ number
   pub free : AreFree taken (flat_map homes_of cs)
@@ -203,7 +199,7 @@ columns_kept w stripes taken bytes rest cs e =
     one_more i before x p k = record {
       count = (let h : length (before ++ x ∷ []) ≡ length before + 1 = length-append before (x ∷ []) in omega (arith, h, p.count));
       free = subst (AreFree taken) (ap (λ z. flat_map homes_of before ++ z) (sym (append-nil (homes_of x))) ∙ sym (flat_map-append homes_of before (x ∷ []))) (free_more (flat_map homes_of before) (homes_of x) taken p.free k.free);
-      moves = λ c l. (let h : length (before ++ x ∷ []) ≡ length before + 1 = length-append before (x ∷ []) in elim (nearer c (length before)) [
+      moves = λ c l. (let h : length (before ++ x ∷ []) ≡ length before + 1 = length-append before (x ∷ []) in elim (cases_lt c (length before)) [
         | inl below ↦ subst (IsWithin stripes) (sym (get_or_append_left before (x ∷ []) no_column c below)) (p.moves c below)
         | inr at ↦ (let q : c ≡ length before = omega (arith, l, h, at) in subst (IsWithin stripes) (sym (ap (λ i. get_or (before ++ x ∷ []) i no_column) q ∙ get_or-append_seam before x [] no_column)) k.moves)
       ]);

@@ -1,6 +1,6 @@
 -- The head of an image is read back.
-use Rattle.std.proofs.Common.{◌≡◌, ℕ, ◌<◌, ◌≤◌, ◌^◌, ◌&&◌, ◌==◌, nat_le, [], ◌∷◌, ◌++◌, Bool, true, ap₂, refl, arith}
-use Rattle.std.proofs.lemmas.Bool.{le-leb}
+use Rattle.std.proofs.Common.{◌≡◌, ℕ, ◌<◌, ◌≤◌, ◌^◌, ◌&&◌, ◌==◌, nat_le, [], ◌∷◌, ◌++◌, true, refl, arith}
+use Rattle.std.proofs.lemmas.Bool.{le-leb, and_from}
 use Rattle.byteorder.specs.Endian.{big_bytes}
 use Rattle.pot_bytes.specs.declared.rack.Geometry.{Geometry}
 use Rattle.pot_bytes.specs.declared.rack.Rack.{Rack}
@@ -12,18 +12,15 @@ use Rattle.pot_image.specs.Heads.{geometry, parity, head}
 use Rattle.pot_image.specs.Spelling.{head_bytes}
 use Rattle.pot_image.proofs.ReadBack.{Back, back_then, back_end, back_as, back_number, back_byte}
 
-pub both : (a b : Bool) → a ≡ true → b ≡ true → a && b ≡ true
-both a b e h = ap₂ (λ x y. x && y) e h
-
 pub is_between : (least most n : ℕ) → least ≤ n → n ≤ most → between least most n ≡ true
-is_between least most n l m = both (nat_le least n) (nat_le n most) (le-leb _ _ l) (le-leb _ _ m)
+is_between least most n l m = and_from (nat_le least n) (nat_le n most) (le-leb _ _ l) (le-leb _ _ m)
 
 pub geometry_back : (groups : ℕ) (g : Geometry) → IsGeometry g → g.shards ≤ groups → Back (geometry groups) (geometry_bytes g) g
 unfolding geometry
 geometry_back groups g is few =
     (back_then (natural 1 (between 2 8)) _ (g.fragments ∷ []) (g.need ∷ g.shards ∷ g.blur ∷ []) g.fragments g (back_byte (between 2 8) g.fragments (is_between 2 8 _ is.fragments.0 is.fragments.1))
     (back_then (natural 1 (between 1 255)) _ (g.need ∷ []) (g.shards ∷ g.blur ∷ []) g.need g (back_byte (between 1 255) g.need (is_between 1 255 _ is.need.0 (let n = is.need.1 in let s = is.shards in omega (arith, n, s))))
-    (back_then (natural 1 (λ n. between g.need 16 n && nat_le n groups)) _ (g.shards ∷ []) (g.blur ∷ []) g.shards g (back_byte (λ n. between g.need 16 n && nat_le n groups) g.shards (both _ _ (is_between g.need 16 _ is.need.1 is.shards) (le-leb _ _ few)))
+    (back_then (natural 1 (λ n. between g.need 16 n && nat_le n groups)) _ (g.shards ∷ []) (g.blur ∷ []) g.shards g (back_byte (λ n. between g.need 16 n && nat_le n groups) g.shards (and_from _ _ (is_between g.need 16 _ is.need.1 is.shards) (le-leb _ _ few)))
     (back_end (natural 1 (between 0 63)) (λ blur. record { fragments = g.fragments; need = g.need; shards = g.shards; blur = blur }) (g.blur ∷ []) g.blur (back_byte (between 0 63) g.blur (is_between 0 63 _ (omega arith) is.blur))))))
 
 pub parity_back : (p : ℕ) → 1 ≤ p → p ≤ 2 → Back (parity Second) (p ∷ 0 ∷ []) p

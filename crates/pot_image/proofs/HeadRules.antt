@@ -1,6 +1,6 @@
 -- The head that was read keeps the limits of a rack.
 use Rattle.std.proofs.Common.{◌≡◌, ◌≤◌, ℕ, ◌&&◌, nat_le, List, Ok, subst, arith}
-use Rattle.std.proofs.lemmas.Bool.{leb-true}
+use Rattle.std.proofs.lemmas.Bool.{leb-true, and_parts}
 use Rattle.pot_bytes.specs.declared.rack.Geometry.{Geometry}
 use Rattle.pot_bytes.specs.Rack.{IsGeometry, IsRack}
 use Rattle.pot_image.specs.declared.format.Format.{Format}
@@ -10,7 +10,6 @@ use Rattle.pot_image.specs.Fields.{done}
 use Rattle.pot_image.specs.Reading.{◌>>=◌, reading}
 use Rattle.pot_image.specs.Numbers.{natural, any, between, zeros}
 use Rattle.pot_image.specs.Heads.{geometry, parity, head}
-use Rattle.pot_image.proofs.Once.{both_true}
 use Rattle.pot_image.proofs.Steps.{holds_of, between_of}
 use Rattle.pot_image.proofs.Inverse.{parts, done_is}
 
@@ -26,8 +25,8 @@ geometry_kept groups bytes rest g e =
     let c = parts (natural 1 (λ n. between b.value 16 n && nat_le n groups)) (λ shards. natural 1 (between 0 63) >>= λ blur. done (record { fragments = a.value; need = b.value; shards = shards; blur = blur })) b.behind g rest b.second in
     let d = parts (natural 1 (between 0 63)) (λ blur. done (record { fragments = a.value; need = b.value; shards = c.value; blur = blur })) c.behind g rest c.second in
     let same = done_is (record { fragments = a.value; need = b.value; shards = c.value; blur = d.value }) g d.behind rest d.second in
-    let rules = both_true (between b.value 16 c.value) (nat_le c.value groups) (holds_of 1 (λ n. between b.value 16 n && nat_le n groups) b.behind c.behind c.value c.first) in
-    let range = both_true (nat_le b.value c.value) (nat_le c.value 16) rules.0 in
+    let rules = and_parts (between b.value 16 c.value) (nat_le c.value groups) (holds_of 1 (λ n. between b.value 16 n && nat_le n groups) b.behind c.behind c.value c.first) in
+    let range = and_parts (nat_le b.value c.value) (nat_le c.value 16) rules.0 in
     subst (Fits groups) same.0 (record {
       limits = record {
         fragments = between_of 1 2 8 bytes a.behind a.value a.first;

@@ -1,7 +1,7 @@
 -- The logs of an image are read back.
 use Rattle.std.proofs.Common.{◌≡◌, ℕ, ◌+◌, ◌-◌, ◌<◌, ◌≤◌, ◌&&◌, All, List, [], ◌∷◌, ◌++◌, Bool, true, length, get_or, flat_map, ap, sym, ◌∙◌, refl, arith, append_assoc}
 use Rattle.std.proofs.lemmas.List.Sums.{list_all-from_AllPass}
-use Rattle.std.proofs.lemmas.Bool.{le-leb}
+use Rattle.std.proofs.lemmas.Bool.{le-leb, and_from}
 use Rattle.byteorder.specs.Endian.{big_bytes}
 use Rattle.pot_bytes.specs.declared.rack.Rack.{Rack}
 use Rattle.pot_bytes.specs.Rack.{IsRack}
@@ -19,14 +19,14 @@ use Rattle.pot_image.specs.Records.{is_name, name}
 use Rattle.pot_image.specs.Logs.{stripe, column, archive, entry_of, kinds, entry, entry_behind, group_log, group_log_behind, group_logs, behind_name, index_entry_of, index_kinds, index_entry, index_entry_behind, index_log}
 use Rattle.pot_image.specs.Spelling.{flag_bytes, lead_bytes, place_bytes, entry_bytes, index_entry_bytes, counted_bytes}
 use Rattle.pot_image.specs.Rules.{IsJob, IsAt, FitsEntry, FitsIndexEntry, IsLog}
-use Rattle.pot_image.proofs.HeadBack.{both, is_between}
+use Rattle.pot_image.proofs.HeadBack.{is_between}
 use Rattle.pot_image.proofs.ReadBack.{Back, back_done, back_then, back_end, back_as, back_number, back_byte, back_text, back_flag, back_digest, back_several}
 
 pub name_back : (rule : List ℕ → Bool) (x : List ℕ) → IsName x → rule x ≡ true → Back (name rule) (name_bytes x) x
 unfolding name
 name_back rule x is e =
     (back_then (natural 1 (between 1 64)) _ (length x ∷ []) x (length x) x (back_byte (between 1 64) (length x) (is_between 1 64 (length x) is.some is.few))
-    (back_text (length x) (λ y. is_name y && rule y) x refl (both _ _ (list_all-from_AllPass is_name_byte x is.each) e)))
+    (back_text (length x) (λ y. is_name y && rule y) x refl (and_from _ _ (list_all-from_AllPass is_name_byte x is.each) e)))
 
 -- ENTRIES OF A GROUP'S LOG
 

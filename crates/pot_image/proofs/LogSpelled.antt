@@ -1,6 +1,6 @@
 -- Logs that were read are spelled by their values.
 use Rattle.std.proofs.Common.{◌≡◌, ◌≢◌, ◌≤◌, ◌<◌, eq-eqb, ℕ, ◌+◌, ◌-◌, ◌==◌, nat_le, Bool, true, false, if◌then◌else◌, List, [], ◌∷◌, ◌++◌, flat_map, sym, subst, refl, arith}
-use Rattle.std.proofs.lemmas.Bool.{eqb-true, leb-true, leb-false}
+use Rattle.std.proofs.lemmas.Bool.{eqb-true, leb-true, leb-false, and_parts}
 use Rattle.byteorder.specs.Endian.{big_bytes}
 use Rattle.pot_bytes.specs.declared.rack.Rack.{Rack}
 use Rattle.pot_machine.specs.declared.entry.Entry.{Entry}
@@ -15,7 +15,6 @@ use Rattle.pot_index.specs.Records.{name_bytes}
 use Rattle.pot_image.specs.Numbers.{any, at_most, between}
 use Rattle.pot_image.specs.Logs.{stripe, column, of_two_columns, of_archive, of_put, of_two_puts, placed, entry_of, kinds, entry, entry_behind, group_log, group_log_behind, group_logs, behind_name, index_entry_of, index_kinds, index_entry, index_entry_behind, index_log}
 use Rattle.pot_image.specs.Spelling.{lead_bytes, place_bytes, entry_bytes, index_entry_bytes, counted_bytes}
-use Rattle.pot_image.proofs.Once.{both_true}
 use Rattle.pot_image.proofs.RecordSpelled.{name_spelled}
 use Rattle.pot_image.proofs.Spelled.{Spelled, Behind, NoMore, spelled, behind_done, behind_then, spelled_byte, spelled_4, spelled_flag, spelled_digest, behind_several, spelled_counted}
 
@@ -32,7 +31,7 @@ behind_test front true g h write here other = here refl
 behind_test front false g h write here other = other refl
 
 limits : (most kind : ℕ) → between 1 most kind ≡ true → (1 ≤ kind) × (kind ≤ most)
-limits most kind e = (let both = both_true (nat_le 1 kind) (nat_le kind most) e in (leb-true 1 kind both.0, leb-true kind most both.1))
+limits most kind e = (let both = and_parts (nat_le 1 kind) (nat_le kind most) e in (leb-true 1 kind both.0, leb-true kind most both.1))
 
 -- ENTRIES OF A GROUP'S LOG
 

@@ -3,7 +3,7 @@ use Rattle.std.proofs.Common.{zero, suc, replicate, ◌≡◌, ◌⊎◌, inl, i
 use Rattle.std.specs.List.{list_any}
 use Rattle.std.proofs.lemmas.List.{get_or-set_same, get_or-set_other}
 use Rattle.std.proofs.lemmas.List.Folds.{list_any-append}
-use Rattle.std.proofs.lemmas.Bool.{eqb-true}
+use Rattle.std.proofs.lemmas.Bool.{eqb-true, ne_eqb, and_parts, cases_Bool}
 use Rattle.pot_bytes.specs.declared.rack.Geometry.{Geometry}
 use Rattle.pot_bytes.specs.declared.rack.Place.{Place}
 use Rattle.pot_bytes.specs.declared.rack.Rack.{Rack}
@@ -12,8 +12,6 @@ use Rattle.pot_image.specs.declared.records.RecordSplits.{RecordSplits}
 use Rattle.pot_machine.proofs.Places.{place_same, place_below}
 use Rattle.pot_image.specs.Records.{is_at, is_apart}
 use Rattle.pot_image.specs.Marks.{spot, AreStamps, HaveMarks}
-use Rattle.pot_image.proofs.Once.{test, both_true}
-use Rattle.pot_image.proofs.Steps.{unequal}
 
 -- two places have one stamp only where they are the same
 same_spot : (rack : Rack) (g c s h d r : ℕ) → c < rack.columns → d < rack.columns → s < rack.stripes → r < rack.stripes → spot rack g c s ≡ spot rack h d r → (g ≡ h) × (c ≡ d) × (s ≡ r)
@@ -27,8 +25,8 @@ spot_below rack g c s lg lc ls = place_below rack.columns (rack.groups * rack.st
 
 pub at_same : (g c s : ℕ) (p : Place) → is_at g c s p ≡ true → (p.group ≡ g) × (p.column ≡ c) × (p.stripe ≡ s)
 at_same g c s p e =
-    let a = both_true (p.group == g) ((p.column == c) && (p.stripe == s)) e in
-    let b = both_true (p.column == c) (p.stripe == s) a.1 in
+    let a = and_parts (p.group == g) ((p.column == c) && (p.stripe == s)) e in
+    let b = and_parts (p.column == c) (p.stripe == s) a.1 in
     (eqb-true _ _ a.0, eqb-true _ _ b.0, eqb-true _ _ b.1)
 
 same_at : (g c s : ℕ) (p : Place) → p.group ≡ g → p.column ≡ c → p.stripe ≡ s → is_at g c s p ≡ true
@@ -49,7 +47,7 @@ module _ (rack : Rack) (stamps : List ℕ) (last : ℕ) (p : Place) (lg : p.grou
   new = set stamps (spot rack p.group p.column p.stripe) last
 
   cases : (i k : ℕ) → (i ≡ k) ⊎ ((i ≡ k → ⊥))
-  cases i k = by_test (test (i == k))
+  cases i k = by_test (cases_Bool (i == k))
     where
       by_test : ((i == k ≡ true) ⊎ (i == k ≡ false)) → (i ≡ k) ⊎ ((i ≡ k → ⊥))
       by_test (inl e) = inl (eqb-true _ _ e)
@@ -71,7 +69,7 @@ module _ (rack : Rack) (stamps : List ℕ) (last : ℕ) (p : Place) (lg : p.grou
   pub marked : (before : List Place) → HaveMarks rack stamps last before → HaveMarks rack new last (before ++ p ∷ [])
   marked before h = record {
     all = stamped h.all;
-    marks = λ g c s kg kc ks. elim (test (is_at g c s p)) [
+    marks = λ g c s kg kc ks. elim (cases_Bool (is_at g c s p)) [
       | inl yes_at ↦ (let same = at_same g c s p yes_at in
           let e : spot rack p.group p.column p.stripe ≡ spot rack g c s = ap₂ (λ x y. (x * rack.stripes + y) * rack.columns + p.column) same.0 same.2 ∙ ap (λ y. (g * rack.stripes + s) * rack.columns + y) same.1 in
           let l : spot rack p.group p.column p.stripe < length stamps = (let b = spot_below rack p.group p.column p.stripe lg lc ls in let n = h.all.count in omega (arith, b, n)) in
@@ -98,7 +96,7 @@ module _ (rack : Rack) (stamps : List ℕ) (last : ℕ) (p : Place) (lg : p.grou
 pub unmarked : (rack : Rack) (stamps : List ℕ) (last now : ℕ) → AreStamps rack stamps last → last < now → HaveMarks rack stamps now []
 unmarked rack stamps last now a l = record {
   all = record { count = a.count; low = λ i. (let low = a.low i in omega (arith, l, low)) };
-  marks = λ g c s lg lc ls. (let low = a.low (spot rack g c s) in ap not (unequal _ _ (λ e. omega (arith, e, low, l))));
+  marks = λ g c s lg lc ls. (let low = a.low (spot rack g c s) in ap not (ne_eqb _ _ (λ e. omega (arith, e, low, l))));
 }
 
 -- none is above a higher one

@@ -3,12 +3,11 @@ use Rattle.std.proofs.Common.{◌≡◌, ◌⊎◌, inl, inr, ◌≤◌, ◌<◌
 use Rattle.std.specs.List.{list_all}
 use Rattle.std.proofs.lemmas.List.{length-take-le}
 use Rattle.std.proofs.lemmas.List.Sums.{AllPass-from_list_all, list_all-from_AllPass}
-use Rattle.std.proofs.lemmas.Bool.{le-leb}
+use Rattle.std.proofs.lemmas.Bool.{le-leb, cases_Bool}
 use Rattle.std.proofs.lemmas.Bool.Decides.{nat_tests}
 use Rattle.pot_bytes.specs.Names.{IsName, is_name_byte}
 use Rattle.pot_image.specs.Reading.{reading}
 use Rattle.pot_image.specs.Numbers.{text}
-use Rattle.pot_image.proofs.Once.{test}
 
 -- so many bytes whose test comes out so
 text_by : (count : ℕ) (bytes : List ℕ) (rule : List ℕ → Bool) (b : Bool) → count ≤ length bytes → rule (take count bytes) ≡ b
@@ -18,7 +17,7 @@ text_by count bytes rule b l e = ap (λ v. cond {A = Result (List ℕ × List �
 
 pub no_name : (count size : ℕ) (bytes field : List ℕ) → size ≡ count → 1 ≤ count → count ≤ 64 → size ≤ length bytes → field ≡ take size bytes → (IsName field → ⊥)
     → reading (text count (list_all is_name_byte)) bytes ≡ Err (length bytes)
-no_name count size bytes field e some few l f none = text_by count bytes (list_all is_name_byte) false (omega (arith, e, l)) (by_test (test (list_all is_name_byte (take count bytes))))
+no_name count size bytes field e some few l f none = text_by count bytes (list_all is_name_byte) false (omega (arith, e, l)) (by_test (cases_Bool (list_all is_name_byte (take count bytes))))
   where
     by_test : ((list_all is_name_byte (take count bytes) ≡ true) ⊎ (list_all is_name_byte (take count bytes) ≡ false)) → list_all is_name_byte (take count bytes) ≡ false
     by_test (inr h) = h

@@ -1,7 +1,7 @@
 -- Bytes are read in one way, and reading from the front finds it.
 use Rattle.std.proofs.Common.{append-nil, ◌-◌, ◌≡◌, ◌⊎◌, inl, inr, ℕ, ◌+◌, ◌<◌, ◌≤◌, ◌++◌, List, [], ◌∷◌, Bool, true, false, ◌&&◌, nat_le, cond, Result, Ok, Err, length, take, drop, refl, sym, ap, ap₂, ◌∙◌, arith, append_assoc, length-append}
 use Rattle.std.proofs.lemmas.List.{take-append-drop, length-take-le}
-use Rattle.std.proofs.lemmas.Bool.{le-leb, leb-true}
+use Rattle.std.proofs.lemmas.Bool.{le-leb, leb-true, and_parts, true≢false, cases_Bool}
 use Rattle.std.proofs.Math.Seq.{take-append_seam, drop-append_seam}
 use Rattle.pot_image.specs.Fields.{Field, Grammar, done, wants, IsField, ReadsFields, Breaks, joined, IsOf, LeavesAt}
 use Rattle.pot_image.specs.Reading.{◌>>=◌, stands, reading}
@@ -38,17 +38,6 @@ err_then g next bytes n e = reading_then g next bytes ∙ ap (λ o. and_then o (
 
 -- EACH READING IS OF FIELDS
 
-pub test : (b : Bool) → (b ≡ true) ⊎ (b ≡ false)
-test true = inl refl
-test false = inr refl
-
-true_false : true ≡ false → ⊥
-true_false h = cc
-
-pub both_true : (a b : Bool) → a && b ≡ true → (a ≡ true) × (b ≡ true)
-both_true true b e = (refl, e)
-both_true false b e = (e, absurd ((cc)))
-
 pub ok_is : {X : Type 0} (p q : X) (a b : Result X ℕ) → a ≡ Ok p → b ≡ Ok q → a ≡ b → p ≡ q
 ok_is p q a b u v e = cc
 
@@ -65,7 +54,7 @@ pub reads_are : {A : Type 0} (g : Grammar A) (bytes rest : List ℕ) (a : A) →
     → (xs : List (List ℕ)) × (bytes ≡ joined xs ++ rest) × ReadsFields g xs a
 unfolding reading
 reads_are (done b) bytes rest a e = (let same = one_value b a bytes rest _ refl e in ([], same.1, same.0))
-reads_are {A} (wants f next) bytes rest a e = (let again = reads_are (next (take f.size bytes)) (drop f.size bytes) rest a in by_test (test (stands f bytes)) again)
+reads_are {A} (wants f next) bytes rest a e = (let again = reads_are (next (take f.size bytes)) (drop f.size bytes) rest a in by_test (cases_Bool (stands f bytes)) again)
   where
     by_test : ((stands f bytes ≡ true) ⊎ (stands f bytes ≡ false))
         → (reading (next (take f.size bytes)) (drop f.size bytes) ≡ Ok (a, rest) → (xs : List (List ℕ)) × (drop f.size bytes ≡ joined xs ++ rest) × ReadsFields (next (take f.size bytes)) xs a)
@@ -73,7 +62,7 @@ reads_are {A} (wants f next) bytes rest a e = (let again = reads_are (next (take
     by_test (inl met) again =
         let read : reading (next (take f.size bytes)) (drop f.size bytes) ≡ Ok (a, rest) = ap (λ b. cond b (reading (next (take f.size bytes)) (drop f.size bytes)) (Err (length bytes))) (sym met) ∙ e in
         let r = again read in
-        let is = both_true (nat_le f.size (length bytes)) (f.holds (take f.size bytes)) met in
+        let is = and_parts (nat_le f.size (length bytes)) (f.holds (take f.size bytes)) met in
         let long : f.size ≤ length bytes = leb-true _ _ is.0 in (
           take f.size bytes ∷ r.0,
           sym (take-append-drop f.size bytes) ∙ ap (λ z. take f.size bytes ++ z) r.1 ∙ sym (append_assoc (take f.size bytes) (joined r.0) rest),
@@ -103,7 +92,7 @@ pub breaks_are : {A : Type 0} (g : Grammar A) (bytes : List ℕ) (n : ℕ) → r
     → (xs : List (List ℕ)) × (rest : List ℕ) × (bytes ≡ joined xs ++ rest) × Breaks g xs rest × (n ≡ length rest)
 unfolding reading
 breaks_are {A} (done b) bytes n e = absurd (not_both (b, bytes) n _ refl e)
-breaks_are {A} (wants f next) bytes n e = (let again = breaks_are (next (take f.size bytes)) (drop f.size bytes) n in by_test (test (stands f bytes)) again)
+breaks_are {A} (wants f next) bytes n e = (let again = breaks_are (next (take f.size bytes)) (drop f.size bytes) n in by_test (cases_Bool (stands f bytes)) again)
   where
     by_test : ((stands f bytes ≡ true) ⊎ (stands f bytes ≡ false))
         → (reading (next (take f.size bytes)) (drop f.size bytes) ≡ Err n → (xs : List (List ℕ)) × (rest : List ℕ) × (drop f.size bytes ≡ joined xs ++ rest) × Breaks (next (take f.size bytes)) xs rest × (n ≡ length rest))
@@ -111,7 +100,7 @@ breaks_are {A} (wants f next) bytes n e = (let again = breaks_are (next (take f.
     by_test (inl met) again =
         let read : reading (next (take f.size bytes)) (drop f.size bytes) ≡ Err n = ap (λ b. cond b (reading (next (take f.size bytes)) (drop f.size bytes)) (Err (length bytes))) (sym met) ∙ e in
         let r = again read in
-        let is = both_true (nat_le f.size (length bytes)) (f.holds (take f.size bytes)) met in
+        let is = and_parts (nat_le f.size (length bytes)) (f.holds (take f.size bytes)) met in
         let long : f.size ≤ length bytes = leb-true _ _ is.0 in (
           take f.size bytes ∷ r.0,
           r.1,
@@ -128,19 +117,19 @@ breaks_are {A} (wants f next) bytes n e = (let again = breaks_are (next (take f.
             let first : take f.size bytes ≡ front = ap₂ (λ m z. take m z) (sym is.0) q ∙ take-append_seam front back in
             let long : f.size ≤ length bytes = (let h = ap length q ∙ length-append front back in omega (arith, is.0)) in
             let met : stands f bytes ≡ true = ap₂ (λ a b. a && b) (le-leb _ _ long) (ap f.holds first ∙ is.1) in
-            true_false (sym met ∙ unmet)
+            true≢false (sym met ∙ unmet)
 
 pub breaks_read : {A : Type 0} (g : Grammar A) (xs : List (List ℕ)) (rest : List ℕ) → Breaks g xs rest
     → (reading g (joined xs ++ rest) ≡ Err (length rest)) ⊎ ((a : A) × (reading g (joined xs ++ rest) ≡ Ok (a, rest)) × (0 < length rest))
 unfolding reading
 breaks_read (done b) [] rest h = inr (b, refl, h)
 breaks_read (done b) (x ∷ xs) rest h = absurd h
-breaks_read (wants f next) [] rest h = (inl (stops (test (stands f rest))))
+breaks_read (wants f next) [] rest h = (inl (stops (cases_Bool (stands f rest))))
   where
     stops : ((stands f rest ≡ true) ⊎ (stands f rest ≡ false)) → cond (stands f rest) (reading (next (take f.size rest)) (drop f.size rest)) (Err (length rest)) ≡ Err (length rest)
     stops (inr unmet) = ap (λ b. cond b (reading (next (take f.size rest)) (drop f.size rest)) (Err (length rest))) unmet
     stops (inl met) =
-        let is = both_true (nat_le f.size (length rest)) (f.holds (take f.size rest)) met in
+        let is = and_parts (nat_le f.size (length rest)) (f.holds (take f.size rest)) met in
         absurd (h (take f.size rest) (drop f.size rest) (sym (take-append-drop f.size rest)) (length-take-le f.size rest (leb-true _ _ is.0), is.1))
 breaks_read {A} (wants f next) (x ∷ xs) rest h =
     (let e : reading (wants f next) ((x ++ joined xs) ++ rest) ≡ reading (next x) (joined xs ++ rest) = ap (reading (wants f next)) (append_assoc x (joined xs) rest) ∙ reads_on f next x (joined xs ++ rest) h.0 in

@@ -20,14 +20,8 @@ group_short e x bytes f q h = short 1 (between e e) (λ m. m == x) bytes f h (λ
     at : (m : ℕ) → m ≡ x → between e e m ≡ true
     at m k = (let l : e ≤ m = omega (arith, k, q) in let r : m ≤ e = omega (arith, k, q) in ap₂ (λ a b. a && b) (le-leb e m l) (le-leb m e r))
 
-pub first_false : (a b : Bool) → a ≡ false → a && b ≡ false
-first_false a b e = ap (λ x. x && b) e
-
 pub second_false : (a b : Bool) → a ≡ true → b ≡ false → a && b ≡ false
 second_false a b e f = ap₂ (λ x y. x && y) e f
-
-pub both_are : (a b : Bool) → a ≡ true → b ≡ true → a && b ≡ true
-both_are a b e f = ap₂ (λ x y. x && y) e f
 
 pub as_total : (m a b c d : ℕ) → a ≡ c → b ≡ d → m * a * b ≡ m * c * d
 as_total m a b c d e f = ap₂ (λ x y. m * x * y) e f

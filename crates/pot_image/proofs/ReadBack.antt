@@ -1,5 +1,6 @@
 -- What was written is read back: parts, one after another, and numbers within their sizes.
 use Rattle.std.proofs.Common.{◌≡◌, ℕ, zero, suc, ◌+◌, ◌<◌, ◌≤◌, ◌^◌, ◌==◌, List, [], ◌∷◌, ◌++◌, Bool, true, false, nat_le, length, get_or, take, drop, flat_map, Result, Ok, ap, ap₂, sym, subst, ◌∙◌, refl, arith, append_assoc, append-nil, take-suc, drop-cons, take_all}
+use Rattle.std.proofs.lemmas.List.{drop-length}
 use Rattle.byteorder.specs.Endian.{big_bytes, big_number}
 use Rattle.byteorder.specs.Numbers.{big_number-reads_back, length-bytes_high_first}
 use Rattle.pot_bytes.specs.declared.digest.Digest.{Digest}
@@ -87,10 +88,6 @@ back_on {A} each f xs from d m l h (suc n) i e rest =
     ap (reading (several i (suc n) each (take (from + i) xs))) ahead
     ∙ ok_then (each i (take (from + i) xs)) (λ x. several (i + 1) n each (take (from + i) xs ++ x ∷ [])) _ _ (get_or xs (from + i) d) _ ((h i (omega (arith, e))).read _) (ap (λ b. reading (several (i + 1) n each b) (flat_map f (drop (from + (i + 1)) xs) ++ rest)) behind ∙ again))
 
-pub drop_all : {X : Type 0} (xs : List X) → drop (length xs) xs ≡ []
-drop_all [] = refl
-drop_all (x ∷ xs) = drop_all xs
-
 -- all of a list
 pub back_several : {A : Type 0} (each : ℕ → List A → Grammar A) (f : A → List ℕ) (xs : List A) (d : A) (n : ℕ) → length xs ≡ n
     → ((i : ℕ) → i < n → Back (each i (take i xs)) (f (get_or xs i d)) (get_or xs i d)) → Back (several 0 n each []) (flat_map f xs) xs
@@ -106,7 +103,7 @@ back_several {A} each f xs d n e h = record { read = λ rest. by_rest rest }
     by_rest rest =
         let all = back_on each f xs 0 d n (omega (arith, e)) from_front n 0 (omega arith) rest in
         let whole : 0 + n ≡ length xs = omega (arith, e) in
-        all ∙ ap₂ (λ a b. at a b) (take_all (0 + n) xs (omega (arith, e))) (ap (λ k. flat_map f (drop k xs) ++ rest) whole ∙ ap (λ z. flat_map f z ++ rest) (drop_all xs))
+        all ∙ ap₂ (λ a b. at a b) (take_all (0 + n) xs (omega (arith, e))) (ap (λ k. flat_map f (drop k xs) ++ rest) whole ∙ ap (λ z. flat_map f z ++ rest) (drop-length xs))
 
 -- values in a row of states
 pub back_over : {A : Type 0} (each : ℕ → A → Grammar A) (state : ℕ → A) (ahead : ℕ → List ℕ) (m : ℕ) (rest : List ℕ)

@@ -7,12 +7,12 @@ use Rattle.std.proofs.lemmas.List.{get_or-take, get_or_append_left}
 use Rattle.std.proofs.Math.Seq.{get_or-append_seam}
 use Rattle.std.proofs.lemmas.Grind.{flat_map-append}
 use Rattle.std.proofs.lemmas.Option.{slice_get-get_or}
-use Rattle.std.proofs.lemmas.Bool.{le-leb}
+use Rattle.std.proofs.lemmas.Bool.{le-leb, and_from, cases_Bool}
 use Rattle.byteorder.specs.Endian.{big_bytes}
 use Rattle.pot_bytes.specs.declared.rack.Geometry.{Geometry}
 use Rattle.pot_bytes.specs.declared.rack.Place.{Place}
 use Rattle.pot_bytes.specs.declared.rack.Rack.{Rack}
-use Rattle.pot_bytes.specs.Rack.{IsRack}
+use Rattle.pot_bytes.specs.Rack.{IsRack, no_place}
 use Rattle.pot_object.specs.Pieces.{longest, pieces_of}
 use Rattle.pot_machine.specs.Table.{Table}
 use Rattle.pot_index.specs.declared.record.Record.{Record}
@@ -28,15 +28,11 @@ use Rattle.pot_image.specs.Heads.{geometry}
 use Rattle.pot_image.specs.Records.{name, is_above, is_filled, is_at, is_apart, place, places, split, split_behind, splits, record_behind, records}
 use Rattle.pot_image.specs.Spelling.{counted_bytes}
 use Rattle.pot_image.specs.Rules.{IsFilled, IsRecordOver, AreRecords}
-use Rattle.pot_image.proofs.Once.{test}
 use Rattle.pot_image.proofs.Filled.{all_pass}
 use Rattle.pot_image.proofs.MarkRules.{at_same}
-use Rattle.pot_image.proofs.HeadBack.{both, is_between, geometry_back}
+use Rattle.pot_image.proofs.HeadBack.{is_between, geometry_back}
 use Rattle.pot_image.proofs.LogBack.{name_back}
 use Rattle.pot_image.proofs.ReadBack.{Back, back_then, back_end, back_as, back_number, back_byte, back_digest, back_several}
-
-no_place : Place
-no_place = record { group = 0; column = 0; stripe = 0 }
 
 -- PLACES
 
@@ -56,7 +52,7 @@ place_apart : (ps : List Place) (i : ℕ) → i < length ps → ((a b : ℕ) (p 
 place_apart ps i l distinct = ap not (none_at (take i ps) (get_or ps i no_place).group (get_or ps i no_place).column (get_or ps i no_place).stripe other)
   where
     other : (j : ℕ) → j < length (take i ps) → is_at (get_or ps i no_place).group (get_or ps i no_place).column (get_or ps i no_place).stripe (get_or (take i ps) j no_place) ≡ false
-    other j lj = by_test (test (is_at (get_or ps i no_place).group (get_or ps i no_place).column (get_or ps i no_place).stripe (get_or (take i ps) j no_place)))
+    other j lj = by_test (cases_Bool (is_at (get_or ps i no_place).group (get_or ps i no_place).column (get_or ps i no_place).stripe (get_or (take i ps) j no_place)))
       where
         before : j < i
         before = (let n = length-take-le i ps (omega (arith, l)) in omega (arith, n, lj))
@@ -77,7 +73,7 @@ place_back rack ts g b before p rules fits filled apart =
     back_then (natural 1 (λ n. n == group_of rack g b)) _ (p.group ∷ []) (p.column ∷ big_bytes 4 p.stripe) p.group p (back_byte (λ n. n == group_of rack g b) p.group (eq-eqb _ _ fits.group))
     (back_then (natural 1 (between 0 (rack.columns - 1))) _ (p.column ∷ []) (big_bytes 4 p.stripe) p.column p (back_byte (between 0 (rack.columns - 1)) p.column (is_between 0 (rack.columns - 1) p.column (omega arith) (omega (arith, lc))))
     (back_end (natural 4 (λ s. at_most (rack.stripes - 1) s && (is_filled ts p.group p.column s && is_apart before p.group p.column s))) (λ s. record { group = p.group; column = p.column; stripe = s }) (big_bytes 4 p.stripe) p.stripe
-    (back_number 4 (λ s. at_most (rack.stripes - 1) s && (is_filled ts p.group p.column s && is_apart before p.group p.column s)) p.stripe (omega (arith, few, ls)) (both _ _ (le-leb _ _ (omega (arith, ls))) (both _ _ filled apart))))))
+    (back_number 4 (λ s. at_most (rack.stripes - 1) s && (is_filled ts p.group p.column s && is_apart before p.group p.column s)) p.stripe (omega (arith, few, ls)) (and_from _ _ (le-leb _ _ (omega (arith, ls))) (and_from _ _ filled apart))))))
 
 places_back : (rack : Rack) (ts : List Table) (pieces : ℕ) (s : Split) → IsRack rack → FitsSplit rack pieces s → All (λ p. is_filled ts p.group p.column p.stripe ≡ true) s.places
     → Back (places rack ts pieces s.geometry) (flat_map place_bytes s.places) s.places

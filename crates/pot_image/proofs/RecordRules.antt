@@ -3,7 +3,7 @@ use Rattle.std.proofs.Common.{◌≡◌, ◌⊎◌, inl, inr, ℕ, zero, suc, �
 use Rattle.std.specs.List.{list_any}
 use Rattle.std.proofs.lemmas.List.Elements.{All-nil, All-push}
 use Rattle.std.proofs.lemmas.Map.Keys.{any_passes_from_place}
-use Rattle.std.proofs.lemmas.Bool.{eqb-true, leb-true}
+use Rattle.std.proofs.lemmas.Bool.{eqb-true, leb-true, and_parts}
 use Rattle.pot_bytes.specs.declared.rack.Geometry.{Geometry}
 use Rattle.pot_bytes.specs.declared.rack.Place.{Place}
 use Rattle.pot_bytes.specs.declared.rack.Rack.{Rack}
@@ -20,7 +20,6 @@ use Rattle.pot_image.specs.Numbers.{natural, at_most, between}
 use Rattle.pot_image.specs.Heads.{geometry}
 use Rattle.pot_image.specs.Records.{is_filled, is_at, is_apart, place, places, split, split_behind, splits}
 use Rattle.pot_image.specs.Rules.{IsFilled}
-use Rattle.pot_image.proofs.Once.{both_true}
 use Rattle.pot_image.proofs.Steps.{holds_of, between_of}
 use Rattle.pot_image.proofs.Inverse.{parts, done_is, several_keep}
 use Rattle.pot_image.proofs.HeadRules.{geometry_kept}
@@ -53,8 +52,8 @@ place_kept rack ts g b before bytes rest p rules e =
     let y = parts (natural 1 (between 0 (rack.columns - 1))) (λ column. natural 4 (λ s. at_most (rack.stripes - 1) s && (is_filled ts x.value column s && is_apart before x.value column s)) >>= λ stripe. done (record { group = x.value; column = column; stripe = stripe })) x.behind p rest x.second in
     let z = parts (natural 4 (λ s. at_most (rack.stripes - 1) s && (is_filled ts x.value y.value s && is_apart before x.value y.value s))) (λ stripe. done (record { group = x.value; column = y.value; stripe = stripe })) y.behind p rest y.second in
     let same = done_is (record { group = x.value; column = y.value; stripe = z.value }) p z.behind rest z.second in
-    let rule = both_true (at_most (rack.stripes - 1) z.value) (is_filled ts x.value y.value z.value && is_apart before x.value y.value z.value) (holds_of 4 (λ s. at_most (rack.stripes - 1) s && (is_filled ts x.value y.value s && is_apart before x.value y.value s)) y.behind z.behind z.value z.first) in
-    let free = both_true (is_filled ts x.value y.value z.value) (is_apart before x.value y.value z.value) rule.1 in
+    let rule = and_parts (at_most (rack.stripes - 1) z.value) (is_filled ts x.value y.value z.value && is_apart before x.value y.value z.value) (holds_of 4 (λ s. at_most (rack.stripes - 1) s && (is_filled ts x.value y.value s && is_apart before x.value y.value s)) y.behind z.behind z.value z.first) in
+    let free = and_parts (is_filled ts x.value y.value z.value) (is_apart before x.value y.value z.value) rule.1 in
     subst (KeptPlace rack ts g b before) same.0 (record {
       fits = record {
         group = eqb-true x.value (group_of rack g b) (holds_of 1 (λ n. n == group_of rack g b) bytes x.behind x.value x.first);

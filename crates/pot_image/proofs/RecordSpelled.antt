@@ -1,6 +1,6 @@
 -- Records that were read are spelled by their values, and by the format.
 use Rattle.std.proofs.Common.{◌≡◌, ℕ, ◌-◌, ◌*◌, ◌==◌, ◌≤◌, ◌&&◌, nat_le, Bool, List, [], ◌∷◌, ◌++◌, length, flat_map, ap, sym, ◌∙◌, refl, arith, append_assoc, append-nil, length-append}
-use Rattle.std.proofs.lemmas.Bool.{leb-true}
+use Rattle.std.proofs.lemmas.Bool.{leb-true, and_parts}
 use Rattle.std.proofs.lemmas.Grind.{flat_map-append}
 use Rattle.byteorder.specs.Endian.{big_bytes}
 use Rattle.pot_bytes.specs.declared.digest.Digest.{Digest}
@@ -18,7 +18,6 @@ use Rattle.pot_image.specs.declared.format.Format.TheVariants.{First, Second}
 use Rattle.pot_image.specs.Numbers.{at_most, between}
 use Rattle.pot_image.specs.Spelling.{counted_bytes}
 use Rattle.pot_image.specs.Records.{is_name, name, is_above, is_filled, is_apart, place, places, split, split_behind, splits, record_behind, records}
-use Rattle.pot_image.proofs.Once.{both_true}
 use Rattle.pot_image.proofs.HeadSpelled.{geometry_spelled}
 use Rattle.pot_image.proofs.Spelled.{Spelled, NoMore, spelled, behind_done, behind_then, behind_last, spelled_byte, spelled_4, spelled_8, spelled_text, spelled_digest, spelled_several, spelled_counted}
 
@@ -60,7 +59,7 @@ splits_spelled Second rack ts pieces = spelled _ _
     behind_then _ _ _ _ _ _ (spelled_several (split_behind rack ts pieces) split_bytes (n - 1) (λ i before. split_spelled rack ts pieces)) (λ older l.
     behind_then _ _ _ _ _ _ (split_spelled rack ts pieces) (λ current a.
     behind_done _ _ _ (
-    let some : 1 ≤ n = leb-true _ _ (both_true (nat_le 1 n) (nat_le n 16) is).0 in
+    let some : 1 ≤ n = leb-true _ _ (and_parts (nat_le 1 n) (nat_le n 16) is).0 in
     let number : n ≡ length (older ++ current ∷ []) = (let m = length-append older (current ∷ []) in omega (arith, some, l, m)) in
     let last : flat_map split_bytes older ++ split_bytes current ≡ flat_map split_bytes (older ++ current ∷ []) = sym (flat_map-append split_bytes older (current ∷ []) ∙ ap (λ z. flat_map split_bytes older ++ z) (append-nil (split_bytes current))) in
     ap (λ z. n ∷ z) last ∙ ap (λ k. k ∷ flat_map split_bytes (older ++ current ∷ [])) number)))))

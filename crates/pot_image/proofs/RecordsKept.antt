@@ -11,7 +11,7 @@ use Rattle.std.proofs.lemmas.List.Elements.{All-nil, All-push, All-weaker}
 use Rattle.std.proofs.lemmas.List.Sums.{AllPass-from_list_all}
 use Rattle.std.proofs.lemmas.Map.Keys.{sorted_from_all_adjacent}
 use Rattle.std.proofs.lemmas.Option.{slice_get-get_or}
-use Rattle.std.proofs.lemmas.Bool.{leb-true}
+use Rattle.std.proofs.lemmas.Bool.{leb-true, and_parts}
 use Rattle.pot_bytes.specs.Names.{IsName, is_name_byte}
 use Rattle.pot_bytes.specs.declared.digest.Digest.{Digest}
 use Rattle.pot_bytes.specs.declared.rack.Rack.{Rack}
@@ -27,7 +27,7 @@ use Rattle.pot_image.specs.Reading.{◌>>=◌, several, reading}
 use Rattle.pot_image.specs.Numbers.{natural, text, any, at_most, between, digest}
 use Rattle.pot_image.specs.Records.{name, is_name, is_above, splits, record_behind, records}
 use Rattle.pot_image.specs.Rules.{IsDigest, IsFilled, IsRecordOver, AreRecords}
-use Rattle.pot_image.proofs.Once.{both_true, reads_are}
+use Rattle.pot_image.proofs.Once.{reads_are}
 use Rattle.pot_image.proofs.Steps.{holds_of, between_of}
 use Rattle.pot_image.proofs.Inverse.{parts, done_is, several_keep}
 use Rattle.pot_image.proofs.RecordRules.{KeptSplit, splits_kept, one_longer}
@@ -58,7 +58,7 @@ name_kept rule bytes rest x e =
     (let a = parts (natural 1 (between 1 64)) (λ n. text n (λ x. is_name x && rule x)) bytes x rest e in
     let range = between_of 1 1 64 bytes a.behind a.value a.first in
     let t = text_kept a.value (λ x. is_name x && rule x) a.behind rest x a.second in
-    let rules = both_true (is_name x) (rule x) t.1 in
+    let rules = and_parts (is_name x) (rule x) t.1 in
     (record { some = omega (arith, t.0, range.0); few = omega (arith, t.0, range.1); each = AllPass-from_list_all is_name_byte x rules.0 }, rules.1))
 
 -- ONE RECORD

@@ -2,7 +2,7 @@
 use Rattle.std.proofs.Common.{◌≡◌, ◌⊎◌, inl, inr, ◌<◌, ◌≤◌, ℕ, zero, suc, ◌+◌, ◌-◌, ◌*◌, ◌==◌, ◌&&◌, ◌||◌, nat_le, nat_lt, Bool, true, false, not, cond, if◌then◌else◌, IsTrue, List, [], ◌∷◌, ◌++◌, length, get_or, Ok, ap, ap₂, eq-eqb, sym, ◌∙◌, refl, arith, length-append}
 use Rattle.std.proofs.Math.Seq.{get_or-append_seam}
 use Rattle.std.proofs.lemmas.List.{get_or_append_left}
-use Rattle.std.proofs.lemmas.Bool.{le-leb, leb-true, lt-ltb, le-ltb}
+use Rattle.std.proofs.lemmas.Bool.{le-leb, leb-true, lt-ltb, le-ltb, ne_eqb, and_parts, cases_Bool}
 use Rattle.std.proofs.lemmas.Bool.Decides.{nat_tests}
 use Rattle.pot_bytes.specs.declared.digest.Digest.{Digest}
 use Rattle.pot_machine.specs.declared.slot.SlotState.{SlotState}
@@ -16,8 +16,7 @@ use Rattle.pot_image.specs.Fields.{done}
 use Rattle.pot_image.specs.Reading.{◌>>=◌, reading}
 use Rattle.pot_image.specs.Numbers.{natural, between, digest}
 use Rattle.pot_image.specs.Tables.{allows, state_of, slot, slot_behind, stripe_slots, slots}
-use Rattle.pot_image.proofs.Once.{test, both_true}
-use Rattle.pot_image.proofs.Steps.{holds_of, unequal}
+use Rattle.pot_image.proofs.Steps.{holds_of}
 use Rattle.pot_image.proofs.Inverse.{parts, done_is, read_chosen, read_other, several_keep, over_keep}
 
 -- ONE SLOT
@@ -34,8 +33,8 @@ pub slot_is_allowed : (allowed : Bool → Bool) (bytes rest : List ℕ) (x : Slo
 unfolding slot
 slot_is_allowed allowed bytes rest x e =
     (let r = parts (natural 1 (λ n. between 0 3 n && allowed (n == 0))) (λ state. if state == 0 then done Void else digest >>= λ d. done (state_of state d)) bytes x rest e in
-    let rule = both_true (between 0 3 r.value) (allowed (r.value == 0)) (holds_of 1 (λ n. between 0 3 n && allowed (n == 0)) bytes r.behind r.value r.first) in
-    ap allowed (void r.value r.behind r.second (test (r.value == 0))) ∙ rule.1)
+    let rule = and_parts (between 0 3 r.value) (allowed (r.value == 0)) (holds_of 1 (λ n. between 0 3 n && allowed (n == 0)) bytes r.behind r.value r.first) in
+    ap allowed (void r.value r.behind r.second (cases_Bool (r.value == 0))) ∙ rule.1)
   where
     void : (n : ℕ) (behind : List ℕ) → reading (if n == 0 then done Void else digest >>= λ d. done (state_of n d)) behind ≡ Ok (x, rest) → ((n == 0 ≡ true) ⊎ (n == 0 ≡ false)) → is_void x ≡ (n == 0)
     void n behind h (inl z) = sym (ap is_void (done_is Void x behind rest (read_chosen _ _ _ _ _ z h)).0) ∙ sym z
@@ -186,10 +185,10 @@ module _ (t : Table) (size : length t.slots ≡ t.stripes * width t) (all : AreA
       lt_leb l = grind (arith, nat_tests)
 
       other : s < t.cursor.stripe → s == t.cursor.stripe ≡ false
-      other l = unequal s t.cursor.stripe (λ e. omega (arith, e, l))
+      other l = ne_eqb s t.cursor.stripe (λ e. omega (arith, e, l))
 
       positive : (n : ℕ) → n + 1 == 0 ≡ false
-      positive n = unequal (n + 1) 0 (λ e. omega (arith, e))
+      positive n = ne_eqb (n + 1) 0 (λ e. omega (arith, e))
 
       previous : get_or t.slots (s * width t + (c + 1) - 1) Void ≡ slot_at t s c
       previous = (let e : s * width t + (c + 1) - 1 ≡ s * width t + c = omega arith in ap (λ p. get_or t.slots p Void) e)

@@ -1,8 +1,8 @@
 -- How what a reader answers follows from what the readers of its parts answer.
-use Rattle.std.proofs.Common.{length-append, ◌≡◌, ℕ, List, length, take, drop, Bool, true, false, cond, ◌&&◌, nat_le, suc, arith, ◌+◌, ◌-◌, ◌<◌, ◌≤◌, if◌then◌else◌, Result, Ok, Err, IsErrAnd, ap, ap₂, ◌==◌, append_assoc, append-nil, flat_map, ◌++◌, [], ◌∷◌, ◌∙◌, sym, subst, refl}
+use Rattle.std.proofs.Common.{length-append, ◌≡◌, ℕ, List, length, take, drop, Bool, true, false, cond, ◌&&◌, nat_le, suc, arith, ◌+◌, ◌-◌, ◌<◌, ◌≤◌, if◌then◌else◌, Result, Ok, Err, IsErrAnd, ap, ap₂, append_assoc, append-nil, flat_map, ◌++◌, [], ◌∷◌, ◌∙◌, sym, subst, refl}
 use Rattle.byteorder.specs.Endian.{big_number}
 use Rattle.std.proofs.lemmas.Grind.{flat_map-append}
-use Rattle.std.proofs.lemmas.Bool.{eqb-true, leb-true}
+use Rattle.std.proofs.lemmas.Bool.{leb-true, and_parts, and_from, false≢true, and_right}
 use Rattle.pot_image.specs.declared.fault.Fault.{Fault}
 use Rattle.pot_image.specs.declared.fault.Fault.TheVariants.{Form, Memory}
 use Rattle.pot_image.specs.Fields.{Grammar, done}
@@ -10,9 +10,6 @@ use Rattle.pot_image.specs.Reading.{◌>>=◌, over, several, reading}
 use Rattle.pot_image.specs.Numbers.{natural, text, any, between}
 use Rattle.pot_image.specs.Following.{Fails, Gives}
 use Rattle.pot_image.proofs.Once.{ok_then, err_then, done_reads, ok_is, not_both}
-
-true_is_not : false ≡ true → ⊥
-true_is_not e = cc
 
 -- the first part fails
 pub fails_then : {A B : Type 0} (g : Grammar A) (next : A → Grammar B) (bytes : List ℕ) (e : Fault) → Fails e (reading g bytes) → Fails e (reading (g >>= next) bytes)
@@ -62,7 +59,7 @@ unmet_number false rule n left rest k = refl
 
 short_number : (fits base rule : Bool) (n left some : ℕ) (rest : List ℕ) → number_read (fits && base) n rest left ≡ Err some → (rule ≡ true → base ≡ true) → number_read (fits && rule) n rest left ≡ Err some
 short_number true true rule n left some rest e k = absurd (not_both (n, rest) some _ refl e)
-short_number true false true n left some rest e k = absurd (true_is_not (k refl))
+short_number true false true n left some rest e k = absurd (false≢true (k refl))
 short_number true false false n left some rest e k = e
 short_number false base rule n left some rest e k = e
 
@@ -101,36 +98,21 @@ holds_of size rule bytes rest n e = (held (nat_le size (length bytes)) (rule (bi
     held true false k h = absurd (not_both (n, rest) (length bytes) _ h refl)
     held false keeps k h = absurd (not_both (n, rest) (length bytes) _ h refl)
 
-both_hold : (a b : Bool) → a && b ≡ true → (a ≡ true) × (b ≡ true)
-both_hold true b e = (refl, e)
-both_hold false b e = absurd ((cc))
-
 pub between_of : (size least most : ℕ) (bytes rest : List ℕ) (n : ℕ) → reading (natural size (between least most)) bytes ≡ Ok (n, rest) → (least ≤ n) × (n ≤ most)
 between_of size least most bytes rest n e =
-    let rules = both_hold (nat_le least n) (nat_le n most) (holds_of size (between least most) bytes rest n e) in
+    let rules = and_parts (nat_le least n) (nat_le n most) (holds_of size (between least most) bytes rest n e) in
     (leb-true _ _ rules.0, leb-true _ _ rules.1)
 
 -- THE SAME WHERE ONE RULE STANDS BESIDE ANOTHER
 
-both : (a b : Bool) → a ≡ true → b ≡ true → a && b ≡ true
-both a b e h = ap₂ (λ x y. x && y) e h
-
-not_second : (a b : Bool) → b ≡ false → a && b ≡ false
-not_second true b e = e
-not_second false b e = refl
-
-first_of_both : (a b : Bool) → a && b ≡ true → a ≡ true
-first_of_both true b e = refl
-first_of_both false b e = e
-
 pub narrowed : (size : ℕ) (base rule : ℕ → Bool) (bytes rest : List ℕ) (n : ℕ) → reading (natural size base) bytes ≡ Ok (n, rest) → rule n ≡ true → reading (natural size (λ m. base m && rule m)) bytes ≡ Ok (n, rest)
-narrowed size base rule bytes rest n e k = kept size base (λ m. base m && rule m) bytes rest n e (both (base n) (rule n) (holds_of size base bytes rest n e) k)
+narrowed size base rule bytes rest n e k = kept size base (λ m. base m && rule m) bytes rest n e (and_from (base n) (rule n) (holds_of size base bytes rest n e) k)
 
 pub barred : (size : ℕ) (base rule : ℕ → Bool) (bytes rest : List ℕ) (n : ℕ) → reading (natural size base) bytes ≡ Ok (n, rest) → rule n ≡ false → reading (natural size (λ m. base m && rule m)) bytes ≡ Err (length bytes)
-barred size base rule bytes rest n e k = refused size base (λ m. base m && rule m) bytes rest n e (not_second (base n) (rule n) k)
+barred size base rule bytes rest n e k = refused size base (λ m. base m && rule m) bytes rest n e (and_right (base n) (rule n) k)
 
 pub cut_short : (size : ℕ) (base rule : ℕ → Bool) (bytes : List ℕ) (e : Fault) → Fails e (reading (natural size base) bytes) → Fails e (reading (natural size (λ m. base m && rule m)) bytes)
-cut_short size base rule bytes e h = short size base (λ m. base m && rule m) bytes e h (λ m k. first_of_both (base m) (rule m) k)
+cut_short size base rule bytes e h = short size base (λ m. base m && rule m) bytes e h (λ m k. (and_parts (base m) (rule m) k).0)
 
 -- THE SAME FOR BYTES THAT KEEP A RULE
 
@@ -256,13 +238,6 @@ done_as {A} a b bytes e = done_reads a bytes ∙ ap (λ z. read_as z) e
   where
     read_as : A → Result (A × List ℕ) ℕ
     read_as z = Ok (z, bytes)
-
-pub unequal : (a b : ℕ) → (a ≡ b → ⊥) → a == b ≡ false
-unequal a b h = by_test (a == b) refl
-  where
-    by_test : (t : Bool) → a == b ≡ t → a == b ≡ false
-    by_test false e = e
-    by_test true e = absurd (h (eqb-true a b e))
 
 pub counted_more : {A : Type 0} (before after : List A) (x : A) (m n : ℕ) → after ≡ before ++ x ∷ [] → length before ≡ m + n → length after ≡ m + (n + 1)
 counted_more before after x m n q e = (let h : length after ≡ length before + 1 = ap length q ∙ length-append before (x ∷ []) in omega (arith, h, e))

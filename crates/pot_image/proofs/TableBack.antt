@@ -1,7 +1,7 @@
 -- The tables of an image are read back.
 use Rattle.std.proofs.Common.{◌≡◌, ◌≢◌, ◌⊎◌, inl, inr, All, IfSome, Option, Some, None, ℕ, zero, suc, ◌+◌, ◌-◌, ◌*◌, ◌<◌, ◌≤◌, ◌^◌, ◌==◌, ◌&&◌, ◌||◌, nat_le, nat_lt, List, [], ◌∷◌, ◌++◌, Bool, true, false, Result, Ok, length, get_or, take, drop, flat_map, ap, ap₂, sym, subst, ◌∙◌, refl, arith, append_assoc, append-nil, take_all, eq-eqb}
-use Rattle.std.proofs.lemmas.List.{get_or-take}
-use Rattle.std.proofs.lemmas.Bool.{le-leb, leb-true, lt-ltb, le-ltb}
+use Rattle.std.proofs.lemmas.List.{get_or-take, drop-length}
+use Rattle.std.proofs.lemmas.Bool.{le-leb, leb-true, lt-ltb, le-ltb, ne_eqb, and_parts, and_from}
 use Rattle.std.proofs.lemmas.Bool.Decides.{nat_tests}
 use Rattle.byteorder.specs.Endian.{big_bytes}
 use Rattle.pot_bytes.specs.declared.rack.Rack.{Rack}
@@ -25,18 +25,16 @@ use Rattle.pot_machine.specs.Table.{archives_in}
 use Rattle.pot_image.specs.Tables.{is_free, column, column_behind, columns, allows, state_of, slot, slot_behind, stripe_slots, slots, is_cursor, cursor, table, table_behind, tables}
 use Rattle.pot_image.specs.Spelling.{cursor_bytes, column_bytes, slot_bytes, table_bytes}
 use Rattle.pot_image.specs.Rules.{HasDigest, HaveDigests, FitsTable, AreTables}
-use Rattle.pot_image.proofs.Once.{both_true}
-use Rattle.pot_image.proofs.Steps.{unequal}
 use Rattle.pot_image.proofs.ColumnRules.{AreFree, free_rest, IsWithin}
 use Rattle.pot_image.proofs.Archives.{free_of_archives}
 use Rattle.pot_image.proofs.SlotRules.{looks_back, allowed_by}
-use Rattle.pot_image.proofs.HeadBack.{both, is_between}
-use Rattle.pot_image.proofs.ReadBack.{Back, back_done, back_then, back_end, back_as, back_number, back_byte, back_flag, back_digest, back_on, back_several, back_over, drop_all}
+use Rattle.pot_image.proofs.HeadBack.{is_between}
+use Rattle.pot_image.proofs.ReadBack.{Back, back_done, back_then, back_end, back_as, back_number, back_byte, back_flag, back_digest, back_on, back_several, back_over}
 
 -- COLUMNS
 
 free_small : (taken : List ℕ) (n : ℕ) → is_free taken n ≡ true → n < 256 ^ 4
-free_small taken n e = (let l = leb-true n 511 (both_true (nat_le n 511) _ e).0 in omega (arith, l))
+free_small taken n e = (let l = leb-true n 511 (and_parts (nat_le n 511) _ e).0 in omega (arith, l))
 
 pub column_back : (stripes : ℕ) (taken : List ℕ) (home : ℕ) (o : Option Moving) → stripes ≤ 4096 → AreFree taken (homes_of (record { home = home; moving = o })) → IfSome o (λ m. m.upto ≤ stripes)
     → Back (column stripes taken) (column_bytes (record { home = home; moving = o })) (record { home = home; moving = o })
@@ -111,7 +109,7 @@ module _ (cursor : Cursor) (data_columns w z : ℕ) (xs : List SlotState) (some 
       let last : length xs ≤ z * w = omega (arith, size) in
       ap (λ k. reading (over 0 z (stripe_slots cursor data_columns w) (take k xs)) (flat_map slot_bytes (drop k xs) ++ rest)) none
       ∙ back_over (stripe_slots cursor data_columns w) (λ s. take (s * w) xs) (λ s. flat_map slot_bytes (drop (s * w) xs)) z rest (λ s ls. row s ls rest) z 0 (omega arith)
-      ∙ ap₂ (λ a b. at a b) (take_all (z * w) xs last) (ap (λ k. flat_map slot_bytes (drop k xs) ++ rest) whole ∙ ap (λ y. flat_map slot_bytes y ++ rest) (drop_all xs)))
+      ∙ ap₂ (λ a b. at a b) (take_all (z * w) xs last) (ap (λ k. flat_map slot_bytes (drop k xs) ++ rest) whole ∙ ap (λ y. flat_map slot_bytes y ++ rest) (drop-length xs)))
     where
       at : List SlotState → List ℕ → Result (List SlotState × List ℕ) ℕ
       at a b = Ok (a, b)
@@ -174,7 +172,7 @@ module _ (t : Table) (is : IsTable t) where
       | inl data_column ↦ elim (cases s t.cursor.stripe) [
         | inr at ↦ (let e : s ≡ t.cursor.stripe = omega (arith, at, early) in here_allowed (nat_lt t.cursor.stripe s) (nat_le t.data_columns c) (s == t.cursor.stripe) (nat_le t.cursor.column c) (c == 0) (is_void (get_or t.slots (s * width t) Void)) (is_void (get_or t.slots (s * width t + c - 1) Void)) (is_void (slot_at t s c)) (le-ltb _ _ early) (above c data_column) (eq-eqb _ _ e)
             (ap (λ r. is_void (slot_at t r c)) e ∙ is.voids.cursor c (omega (arith, ls, e)) data_column))
-        | inl before ↦ early_allowed (nat_lt t.cursor.stripe s) (nat_le t.data_columns c) (s == t.cursor.stripe) (nat_le t.cursor.column c) (c == 0) (is_void (get_or t.slots (s * width t) Void)) (is_void (get_or t.slots (s * width t + c - 1) Void)) (is_void (slot_at t s c)) (le-ltb _ _ early) (above c data_column) (unequal s t.cursor.stripe (λ e. omega (arith, e, before)))
+        | inl before ↦ early_allowed (nat_lt t.cursor.stripe s) (nat_le t.data_columns c) (s == t.cursor.stripe) (nat_le t.cursor.column c) (c == 0) (is_void (get_or t.slots (s * width t) Void)) (is_void (get_or t.slots (s * width t + c - 1) Void)) (is_void (slot_at t s c)) (le-ltb _ _ early) (above c data_column) (ne_eqb s t.cursor.stripe (λ e. omega (arith, e, before)))
             (λ n v. (let l = positive c n in is.voids.first s (c - 1) c ls (omega arith) data_column (ap is_void (sym (previous s c l)) ∙ v)))
       ]
     ]
@@ -186,7 +184,7 @@ cursor_back : (rack : Rack) (c : Cursor) → rack.stripes ≤ 4096 → c.stripe 
 unfolding cursor
 cursor_back rack c small ls lc behind =
     (back_then (natural 4 (at_most rack.stripes)) _ (big_bytes 4 c.stripe) (c.column ∷ 0 ∷ 0 ∷ 0 ∷ []) c.stripe c (back_number 4 (at_most rack.stripes) c.stripe (omega (arith, small, ls)) (le-leb _ _ ls))
-    (back_then (natural 1 (λ n. between 0 (rack.columns - 1) n && is_cursor rack c.stripe n)) _ (c.column ∷ []) (0 ∷ 0 ∷ 0 ∷ []) c.column c (back_byte _ c.column (both _ _ (is_between 0 (rack.columns - 1) c.column (omega arith) (omega (arith, lc))) at))
+    (back_then (natural 1 (λ n. between 0 (rack.columns - 1) n && is_cursor rack c.stripe n)) _ (c.column ∷ []) (0 ∷ 0 ∷ 0 ∷ []) c.column c (back_byte _ c.column (and_from _ _ (is_between 0 (rack.columns - 1) c.column (omega arith) (omega (arith, lc))) at))
     (back_end (zeros 3) (λ padding. record { stripe = c.stripe; column = c.column }) (0 ∷ 0 ∷ 0 ∷ []) 0 (back_number 3 (λ n. n == 0) 0 (omega arith) refl))))
   where
     cases : (a b : ℕ) → (a < b) ⊎ (b ≤ a)

@@ -1,9 +1,9 @@
 -- A table that was read keeps the rules of a table.
-use Rattle.std.proofs.Common.{◌⊎◌, inl, inr, All, get_or, length-append, append-nil, ◌≡◌, ◌<◌, ◌≤◌, ℕ, ◌+◌, ◌-◌, ◌*◌, ◌==◌, ◌&&◌, ◌||◌, nat_lt, nat_le, Bool, true, false, List, [], ◌∷◌, ◌++◌, length, flat_map, Ok, ap, sym, ◌∙◌, refl, subst, arith}
+use Rattle.std.proofs.Common.{inl, inr, All, get_or, length-append, append-nil, ◌≡◌, ◌<◌, ◌≤◌, ℕ, ◌+◌, ◌-◌, ◌*◌, ◌==◌, ◌&&◌, ◌||◌, nat_lt, nat_le, Bool, true, false, List, [], ◌∷◌, ◌++◌, length, flat_map, Ok, ap, sym, ◌∙◌, refl, subst, arith}
 use Rattle.std.proofs.Math.Seq.{get_or-append_seam}
 use Rattle.std.proofs.lemmas.List.{get_or_append_left}
 use Rattle.std.proofs.lemmas.Grind.{flat_map-append}
-use Rattle.std.proofs.lemmas.Bool.{leb-true, ltb-true, eqb-true}
+use Rattle.std.proofs.lemmas.Bool.{leb-true, ltb-true, eqb-true, and_parts, cases_lt}
 use Rattle.pot_bytes.specs.declared.rack.Rack.{Rack}
 use Rattle.pot_bytes.specs.Rack.{IsRack}
 use Rattle.pot_machine.specs.declared.column.Column.{Column}
@@ -17,15 +17,11 @@ use Rattle.pot_image.specs.Numbers.{natural, at_most, between, zeros}
 use Rattle.pot_machine.specs.Table.{archives_in}
 use Rattle.pot_image.specs.Tables.{cursor, columns, slots, table, table_behind, tables}
 use Rattle.pot_image.specs.Rules.{FitsTable, AreTables}
-use Rattle.pot_image.proofs.Once.{both_true}
 use Rattle.pot_image.proofs.Steps.{holds_of}
 use Rattle.pot_image.proofs.Inverse.{parts, done_is, several_keep}
 use Rattle.pot_image.proofs.SlotRules.{AreAllowed, slots_are_allowed, voids_of}
 use Rattle.pot_image.proofs.ColumnRules.{AreFree, AreKept, columns_kept, columns_of, free_more}
 use Rattle.pot_image.proofs.Archives.{archives_of_free}
-
-nearer : (a b : ℕ) → (a < b) ⊎ (b ≤ a)
-nearer a b = grind arith
 
 -- the cursor is at a data column of a stripe, or at column 0 behind the last stripe
 pub record IsPlaced (rack : Rack) (c : Cursor) : Type 0 where
@@ -41,8 +37,8 @@ cursor_placed rack bytes rest c fits e =
     let u = parts (zeros 3) (λ padding. done (record { stripe = r.value; column = s.value })) s.behind c rest s.second in
     let same = done_is (record { stripe = r.value; column = s.value }) c u.behind rest u.second in
     let stripe : r.value ≤ rack.stripes = leb-true _ _ (holds_of 4 (at_most rack.stripes) bytes r.behind r.value r.first) in
-    let rule = both_true (between 0 (rack.columns - 1) s.value) (nat_lt r.value rack.stripes || (s.value == 0)) (holds_of 1 (λ c. between 0 (rack.columns - 1) c && (nat_lt r.value rack.stripes || (c == 0))) r.behind s.behind s.value s.first) in
-    let low : s.value ≤ rack.columns - 1 = leb-true s.value (rack.columns - 1) (both_true (nat_le 0 s.value) (nat_le s.value (rack.columns - 1)) rule.0).1 in
+    let rule = and_parts (between 0 (rack.columns - 1) s.value) (nat_lt r.value rack.stripes || (s.value == 0)) (holds_of 1 (λ c. between 0 (rack.columns - 1) c && (nat_lt r.value rack.stripes || (c == 0))) r.behind s.behind s.value s.first) in
+    let low : s.value ≤ rack.columns - 1 = leb-true s.value (rack.columns - 1) (and_parts (nat_le 0 s.value) (nat_le s.value (rack.columns - 1)) rule.0).1 in
     subst (IsPlaced rack) same.0 (record { stripe = stripe; column = omega (arith, low, fits.columns.0); behind = λ q. at_end r.value s.value q rule.1 }))
   where
     at_end : (a b : ℕ) → a ≡ rack.stripes → nat_lt a rack.stripes || (b == 0) ≡ true → b ≡ 0
@@ -120,7 +116,7 @@ tables_kept rack bytes rest ts fits e =
     one_more : (i : ℕ) (before : List Table) (x : Table) → First rack i before → Kept rack (flat_map archives_in before) x → First rack (i + 1) (before ++ x ∷ [])
     one_more i before x p k = record {
       count = (let h : length (before ++ x ∷ []) ≡ length before + 1 = length-append before (x ∷ []) in omega (arith, h, p.count));
-      fits = λ j d l. (let h : length (before ++ x ∷ []) ≡ length before + 1 = length-append before (x ∷ []) in elim (nearer j (length before)) [
+      fits = λ j d l. (let h : length (before ++ x ∷ []) ≡ length before + 1 = length-append before (x ∷ []) in elim (cases_lt j (length before)) [
         | inl below ↦ subst (FitsTable rack) (sym (get_or_append_left before (x ∷ []) d j below)) (p.fits j d below)
         | inr at ↦ (let q : j ≡ length before = omega (arith, l, h, at) in subst (FitsTable rack) (sym (ap (λ i. get_or (before ++ x ∷ []) i d) q ∙ get_or-append_seam before x [] d)) k.fits)
       ]);

@@ -1,6 +1,6 @@
 -- Tables that were read are spelled by their values.
 use Rattle.std.proofs.Common.{◌≡◌, ℕ, zero, suc, ◌+◌, ◌-◌, ◌==◌, ◌&&◌, Bool, true, false, if◌then◌else◌, List, [], ◌∷◌, ◌++◌, nat_le, replicate, flat_map, refl, arith}
-use Rattle.std.proofs.lemmas.Bool.{leb-true}
+use Rattle.std.proofs.lemmas.Bool.{leb-true, and_parts}
 use Rattle.byteorder.specs.Endian.{big_bytes}
 use Rattle.pot_bytes.specs.declared.rack.Rack.{Rack}
 use Rattle.pot_machine.specs.declared.slot.SlotState.TheVariants.{Void}
@@ -10,7 +10,6 @@ use Rattle.pot_image.specs.Reading.{◌>>=◌}
 use Rattle.pot_image.specs.Numbers.{at_most, between, digest}
 use Rattle.pot_image.specs.Tables.{is_free, moving, resting, column, column_behind, columns, state_of, slot, slot_behind, allows, stripe_slots, slots, is_cursor, cursor, table, table_behind, tables}
 use Rattle.pot_image.specs.Spelling.{flag_bytes, cursor_bytes, column_bytes, slot_bytes, table_bytes}
-use Rattle.pot_image.proofs.Once.{both_true}
 use Rattle.pot_image.proofs.Spelled.{Spelled, Behind, NoMore, spelled, behind_done, behind_then, spelled_byte, spelled_4, spelled_zeros, spelled_flag, spelled_digest, behind_several, behind_over}
 
 -- COLUMNS
@@ -51,7 +50,7 @@ slot_spelled : (allowed : Bool → Bool) → Spelled (slot allowed) slot_bytes N
 unfolding slot
 slot_spelled allowed = spelled _ _
     (behind_then [] _ _ _ _ _ (spelled_byte (λ n. between 0 3 n && allowed (n == 0))) (λ state is.
-    state_spelled state (both_true (nat_le 0 state) (nat_le state 3) (both_true (between 0 3 state) (allowed (state == 0)) is).0).1))
+    state_spelled state (and_parts (nat_le 0 state) (nat_le state 3) (and_parts (between 0 3 state) (allowed (state == 0)) is).0).1))
 
 slots_spelled : (at : Cursor) (data_columns width stripes : ℕ) → Spelled (slots at data_columns width stripes) (flat_map slot_bytes) NoMore
 unfolding slots stripe_slots

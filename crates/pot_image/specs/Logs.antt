@@ -2,6 +2,7 @@
 use Rattle.std.specs.Prelude.{ℕ, ◌+◌, ◌-◌, ◌==◌, nat_le, Bool, if◌then◌else◌, List, []}
 use Rattle.pot_bytes.specs.declared.digest.Digest.{Digest}
 use Rattle.pot_bytes.specs.declared.rack.Rack.{Rack}
+use Rattle.pot_bytes.specs.Rack.{log_bound}
 use Rattle.pot_machine.specs.declared.entry.Entry.{Entry}
 use Rattle.pot_machine.specs.declared.entry.Entry.TheVariants.{Put, Skip, Seen, Gone, Broke, Fault, Begin, Hop, Mended, GaveUp, Oddly, Stuck, MoveBegin, Moved, MoveEnd, Swapped, Counted, Put2}
 use Rattle.pot_index.specs.declared.entry.IndexEntry.{IndexEntry}
@@ -102,7 +103,7 @@ entry_behind format rack i before = entry format rack
 -- the number of entries and the entries
 unfoldable pub group_log : Format → Rack → Grammar (List Entry)
 group_log format rack =
-    natural 4 (at_most 262144) >>= λ n.
+    natural 4 (at_most log_bound) >>= λ n.
     several 0 n (entry_behind format rack) []
 
 abbrev pub group_log_behind : Format → Rack → ℕ → List (List Entry) → Grammar (List Entry)
@@ -148,5 +149,5 @@ index_entry_behind format i before = index_entry format
 -- the number of entries and the entries
 unfoldable pub index_log : Format → Grammar (List IndexEntry)
 index_log format =
-    natural 4 (at_most 262144) >>= λ n.
+    natural 4 (at_most log_bound) >>= λ n.
     several 0 n (index_entry_behind format) []

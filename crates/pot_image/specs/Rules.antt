@@ -10,7 +10,7 @@ use Rattle.pot_machine.specs.Slot.{is_void}
 use Rattle.pot_machine.specs.Table.{Table, slot_at}
 use Rattle.pot_machine.specs.Rules.{IsTable}
 use Rattle.pot_bytes.specs.Names.{IsName}
-use Rattle.pot_bytes.specs.Rack.{IsRack}
+use Rattle.pot_bytes.specs.Rack.{IsRack, log_bound}
 use Rattle.pot_machine.specs.declared.entry.Entry.{Entry}
 use Rattle.pot_machine.specs.declared.entry.Entry.TheVariants.{Put, Skip, Seen, Gone, Broke, Fault, Begin, Hop, Mended, GaveUp, Oddly, Stuck, MoveBegin, Moved, MoveEnd, Swapped, Counted, Put2}
 use Rattle.pot_index.specs.declared.entry.IndexEntry.{IndexEntry}
@@ -129,7 +129,7 @@ FitsIndexEntry (Often job x) = IsJob job × IsName x
 
 -- at most 262,144 values that fit
 pub record IsLog {X : Type 0} (Fits : X → Type 0) (xs : List X) : Type 0 where
-  pub count : length xs ≤ 262144
+  pub count : length xs ≤ log_bound
   pub fits : All Fits xs
 
 -- what an image may hold: a session whose number has four bytes, parts that fit together, whole digests, and logs of entries that

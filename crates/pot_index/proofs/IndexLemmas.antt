@@ -1,10 +1,10 @@
 -- What an index keeps, entry by entry.
-use Rattle.std.proofs.Common.{◌∷◌, [], ◌++◌, Some, ◌≡◌, ◌+◌, ◌<◌, ◌≤◌, ℕ, Bool, true, false, List, length, get_or, None, refl, sym, ap, subst, ◌∙◌, inl, arith, All, Option, append_assoc}
+use Rattle.std.proofs.Common.{◌∷◌, [], ◌++◌, Some, ◌≡◌, ◌+◌, ◌<◌, ◌≤◌, ℕ, Bool, List, length, get_or, None, refl, sym, ap, subst, ◌∙◌, inl, arith, All, Option, append_assoc}
 use Rattle.std.specs.Prelude.{HoldsAt, Result, Ok, Err, MatchOption, MatchResult, MatchBool, is_ok, IsErrAnd}
 use Rattle.std.specs.List.{IsDistinct}
 use Rattle.std.proofs.lemmas.List.{length_push}
 use Rattle.std.proofs.lemmas.List.Elements.{All-contains, All-push, All-tail, Contains-get_or}
-use Rattle.pot_bytes.specs.Rack.{IsRack}
+use Rattle.pot_bytes.specs.Rack.{IsRack, log_bound}
 use Rattle.pot_bytes.specs.declared.rack.Rack.{Rack}
 use Rattle.pot_object.specs.Pieces.{pieces_of}
 use Rattle.pot_index.specs.declared.entry.IndexEntry.{IndexEntry}
@@ -17,7 +17,7 @@ use Rattle.pot_index.specs.Ending.{IsHeld, EndsAt}
 use Rattle.pot_index.specs.Entries.{IsReserving, IsQuiet, plain, bringing, entries}
 use Rattle.pot_index.specs.Records.{current_of, splits_of, renewed, mark_of}
 use Rattle.pot_index.specs.Fits.{FitsRack, FitsSplit}
-use Rattle.pot_index.specs.Index.{Names, IndexView, IsIndex, AreRead, AreNames, IsPublished, IsReserved, IsReservedBy, IsRecordOf, IsTaken, IsFree, Legal, LegalEntry, log_bound, owed, started, logged, names_read, without}
+use Rattle.pot_index.specs.Index.{Names, IndexView, IsIndex, AreRead, AreNames, IsPublished, IsReserved, IsReservedBy, IsRecordOf, IsTaken, IsFree, Legal, LegalEntry, owed, started, logged, names_read}
 use Rattle.pot_index.specs.Searches.{StandsAt, BelongsAt}
 use Rattle.pot_index.specs.declared.fault.FindFault.{FindFault}
 use Rattle.pot_index.specs.declared.fault.FindFault.TheVariants as find_fault
@@ -25,10 +25,10 @@ use Rattle.pot_index.specs.declared.fault.RenewFault.{RenewFault}
 use Rattle.pot_index.specs.declared.fault.RenewFault.TheVariants as renew_fault
 use Rattle.pot_index.specs.Calls.{HasRoom, IsFull, Finds, Renews}
 use Rattle.pot_index.proofs.ListLemmas.{quiet_stays}
-use Rattle.pot_index.proofs.NameLemmas.{contains_map, from_map, length-without}
+use Rattle.pot_index.proofs.NameLemmas.{contains_map, from_map}
 use Rattle.pot_index.proofs.LogLaws.{reserved_stays, ended_stays}
 use Rattle.pot_index.proofs.NamesKept.{after_keeps, goes_on}
-use Rattle.pot_index.proofs.RecordLaws.{one_record}
+use Rattle.pot_index.proofs.RecordLaws.{one_record, mine_there}
 use Rattle.pot_index.proofs.RecordLemmas.{stands_published, belongs_unpublished}
 
 pub started_is : (rack : Rack) (rs : List Record) → IsRack rack → AreRead rack rs → IsIndex (started rack rs)
@@ -62,23 +62,19 @@ reserving_is s t job name i is free room =
     subst IsIndex (sym is)
     (logged_is s (plain (Reserve job name)) i free (omega (arith, room, length_push s.log (plain (Reserve job name)), length_push s.now.reserved mine)))
 
--- a reservation that ends leaves room for its entry
-one_less : (n : Names) (job : ℕ) (name : List ℕ) → IsReservedBy n job name → length (without name n.reserved) + 1 ≡ length n.reserved
-one_less n job name mine = length-without name n.reserved (contains_map (λ x. x.name) (record { name = name; job = job }) n.reserved mine)
-
 pub abandoning_is : (s t : IndexView) (job : ℕ) (name : List ℕ) → IsIndex s → t ≡ logged s (plain (Abandon job name)) → IsReservedBy s.now job name → IsIndex t
 abandoning_is s t job name i is mine =
     subst IsIndex (sym is)
-    (logged_is s (plain (Abandon job name)) i mine (omega (arith, i.room, length_push s.log (plain (Abandon job name)), one_less s.now job name mine)))
+    (logged_is s (plain (Abandon job name)) i mine (omega (arith, i.room, length_push s.log (plain (Abandon job name)), mine_there s.now job name mine)))
 
 pub publishing_is : (s t : IndexView) (job : ℕ) (r : Record) → IsIndex s → t ≡ logged s (bringing (Publish job r.name (mark_of r)) r) → IsReservedBy s.now job r.name → FitsRack s.rack r → IsIndex t
 publishing_is s t job r i is mine fits =
     subst IsIndex (sym is)
-    (logged_is s (bringing (Publish job r.name (mark_of r)) r) i (refl, refl, mine, fits) (omega (arith, i.room, length_push s.log (bringing (Publish job r.name (mark_of r)) r), one_less s.now job r.name mine)))
+    (logged_is s (bringing (Publish job r.name (mark_of r)) r) i (refl, refl, mine, fits) (omega (arith, i.room, length_push s.log (bringing (Publish job r.name (mark_of r)) r), mine_there s.now job r.name mine)))
 
 -- a log that owes an entry has room for it
 pub room_for_one : (s : IndexView) (job : ℕ) (name : List ℕ) → IsIndex s → IsReservedBy s.now job name → length s.log < log_bound
-room_for_one s job name i mine = omega (arith, i.room, one_less s.now job name mine)
+room_for_one s job name i mine = omega (arith, i.room, mine_there s.now job name mine)
 
 -- TAKEN NAMES
 
@@ -86,9 +82,6 @@ pub taken_tells : (n : Names) (name : List ℕ) (found : Result ℕ ℕ) (b : Bo
     → MatchBool b (IsTaken n name) (IsFree n name)
 taken_tells n name (Ok at) b none h is = subst (λ t. MatchBool t (IsTaken n name) (IsFree n name)) (sym is) (inl (stands_published n.published name at h))
 taken_tells n name (Err at) b none h is = subst (λ t. MatchBool t (IsTaken n name) (IsFree n name)) (sym is) (belongs_unpublished n.published name at h, none)
-
-pub not_both : (b : Bool) → b ≡ true → b ≡ false → ⊥
-not_both b p q = (cc)
 
 -- RENEWING
 

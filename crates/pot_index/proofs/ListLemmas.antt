@@ -6,6 +6,7 @@ use Rattle.std.proofs.lemmas.List.{length_push, length-map, map_push}
 use Rattle.std.proofs.lemmas.List.Elements.{filter-append}
 use Rattle.std.specs.Global.{Global}
 use Rattle.pot_bytes.specs.declared.rack.Rack.{Rack}
+use Rattle.pot_bytes.specs.Rack.{log_bound}
 use Rattle.pot_index.specs.declared.entry.IndexEntry.{IndexEntry}
 use Rattle.pot_index.specs.declared.entry.IndexEntry.TheVariants.{Taken, Find, Listed, Often}
 use Rattle.pot_index.specs.declared.entry.Logged.{Logged}
@@ -13,7 +14,7 @@ use Rattle.pot_index.specs.declared.record.Record.{Record}
 use Rattle.pot_index.specs.declared.reservation.Reservation.{Reservation}
 use Rattle.pot_index.specs.Entries.{IsQuiet, brings, plain, bringing, with_brought}
 use Rattle.pot_index.specs.Room.{HasAllRoom, values}
-use Rattle.pot_index.specs.Index.{Names, IndexView, after_entry, log_bound, logged}
+use Rattle.pot_index.specs.Index.{Names, IndexView, after_entry, logged}
 
 -- ENTRIES WITH WHAT THEY BROUGHT
 

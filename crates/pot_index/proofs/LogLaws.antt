@@ -2,6 +2,7 @@
 use Rattle.std.proofs.Common.{◌≡◌, ℕ, true, false, List, [], ◌∷◌, ◌++◌, Option, Some, None, sym, ap, subst, inl, inr, ◌⊎◌, ⊎_elim}
 use Rattle.std.specs.Prelude.{Contains, All}
 use Rattle.std.proofs.lemmas.List.Elements.{All-head, All-tail, Contains-append_left, Contains-push, Contains-push_cases}
+use Rattle.std.proofs.lemmas.Bool.{cases_Bool}
 use Rattle.pot_bytes.specs.declared.rack.Rack.{Rack}
 use Rattle.pot_index.specs.declared.entry.IndexEntry.{IndexEntry}
 use Rattle.pot_index.specs.declared.entry.IndexEntry.TheVariants.{Reserve, Taken, Publish, Abandon, Find, Listed, Renew, Often}
@@ -10,7 +11,7 @@ use Rattle.pot_index.specs.declared.record.Record.{Record}
 use Rattle.pot_index.specs.declared.reservation.Reservation.{Reservation}
 use Rattle.pot_index.specs.Entries.{IsReserving, IsEnding, entries}
 use Rattle.pot_index.specs.Index.{Names, IsReservedBy, AreNames, LegalEntry, Replays, after, after_entry, same_name, without}
-use Rattle.pot_index.proofs.NameLemmas.{names_of, true_or_false, same_true, same_false, contains_map, one_reservation, without_keeps, without_from, without_gone}
+use Rattle.pot_index.proofs.NameLemmas.{names_of, same_true, same_false, contains_map, one_reservation, without_keeps, without_from, without_gone}
 use Rattle.pot_index.proofs.NamesKept.{after_keeps}
 
 -- RESERVATIONS
@@ -18,7 +19,7 @@ use Rattle.pot_index.proofs.NamesKept.{after_keeps}
 -- the end of another job's or another name's reservation leaves this one
 still_mine : (rack : Rack) (n : Names) (job j : ℕ) (name m : List ℕ) → AreNames rack n → IsReservedBy n job name → IsReservedBy n j m → ((j ≡ job) × (m ≡ name) → ⊥)
     → Contains (without m n.reserved) (record { name = name; job = job })
-still_mine rack n job j name m a mine other not_mine = by (true_or_false (same_name name m))
+still_mine rack n job j name m a mine other not_mine = by (cases_Bool (same_name name m))
   where
     same_job : name ≡ m → j ≡ job
     same_job e = ap (λ (x : Reservation). x.job) (one_reservation n.reserved (record { name = m; job = j }) (record { name = name; job = job }) a.once other mine (sym e))
@@ -68,10 +69,10 @@ ended_step rack n job name (Abandon j m) (Some r) a legal ending h = absurd lega
 ended_step rack n job name _ _ a legal ending h = absurd ending
 
 -- the tail of a list of entries
-rest_is : (e f : IndexEntry) (es fs : List IndexEntry) → e ∷ es ≡ f ∷ fs → es ≡ fs
+pub rest_is : (e f : IndexEntry) (es fs : List IndexEntry) → e ∷ es ≡ f ∷ fs → es ≡ fs
 rest_is e f es fs h = (cc)
 
-first_is : (e f : IndexEntry) (es fs : List IndexEntry) → e ∷ es ≡ f ∷ fs → e ≡ f
+pub first_is : (e f : IndexEntry) (es fs : List IndexEntry) → e ∷ es ≡ f ∷ fs → e ≡ f
 first_is e f es fs h = (cc)
 
 held_on : (rack : Rack) (n m : Names) (log : List Logged) (job : ℕ) (name : List ℕ) → AreNames rack n → Replays rack n log m → IsReservedBy n job name → All (λ e. IsEnding job name e → ⊥) (entries log) → IsReservedBy m job name

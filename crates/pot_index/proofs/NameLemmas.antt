@@ -8,6 +8,8 @@ use Rattle.std.specs.Cmp.Lexicographic.{bytes_decides}
 use Rattle.std.specs.List.{IsDistinct, list_any, position, position_or_len}
 use Rattle.std.proofs.lemmas.List.Elements.{All-contains, All-from_recursion, recursion_from_All, Contains-get_or}
 use Rattle.std.proofs.lemmas.Map.Keys.{IsDistinct-head, IsDistinct-tail, IsDistinct-cons}
+use Rattle.std.proofs.lemmas.Bool.{or_cases, or_left, or_right}
+use Rattle.pot_bytes.proofs.Elements.{none_contained, contains_later}
 use Rattle.pot_index.specs.declared.reservation.Reservation.{Reservation}
 use Rattle.pot_index.specs.Index.{same_name, without}
 
@@ -20,10 +22,6 @@ at_true false x y h = absurd (cc)
 pub at_false : {X : Type 0} (b : Bool) (x y : X) → b ≡ false → (if b then x else y) ≡ y
 at_false true x y h = absurd (cc)
 at_false false x y h = refl
-
-pub true_or_false : (b : Bool) → (b ≡ true) ⊎ (b ≡ false)
-true_or_false true = inl refl
-true_or_false false = inr refl
 
 pub same_true : (a b : List ℕ) → same_name a b ≡ true → a ≡ b
 same_true a b = (bytes_decides a b).0
@@ -46,18 +44,12 @@ other_names a b h = by (same_name a b) (same_true a b)
 pub contains_here : {X : Type 0} (x : X) (xs : List X) → Contains (x ∷ xs) x
 contains_here x xs = (0, omega arith, refl)
 
-pub contains_later : {X : Type 0} (x y : X) (xs : List X) → Contains xs y → Contains (x ∷ xs) y
-contains_later x y xs (k, lt, is) = (suc k, omega arith, is)
-
 pub contains_cases : {X : Type 0} (x y : X) (xs : List X) → Contains (x ∷ xs) y → (x ≡ y) ⊎ Contains xs y
 contains_cases x y xs (zero, lt, is) = inl is
 contains_cases x y xs (suc k, lt, is) = inr (k, omega arith, is)
 
-pub contains_none : {X : Type 0} (y : X) → Contains [] y → ⊥
-contains_none y (k, lt, is) = omega arith
-
 pub contains_map : {X Y : Type 0} (f : X → Y) (x : X) (xs : List X) → Contains xs x → Contains (map f xs) (f x)
-contains_map f x [] h = absurd (contains_none x h)
+contains_map f x [] h = absurd (none_contained x h)
 contains_map f x (y ∷ xs) h = by (contains_cases y x xs h) (λ later. contains_map f x xs later)
   where
     by : (y ≡ x) ⊎ Contains xs x → (Contains xs x → Contains (map f xs) (f x)) → Contains (f y ∷ map f xs) (f x)
@@ -66,7 +58,7 @@ contains_map f x (y ∷ xs) h = by (contains_cases y x xs h) (λ later. contains
 
 -- what an element of the images is the image of
 pub from_map : {X Y : Type 0} (f : X → Y) (y : Y) (xs : List X) → Contains (map f xs) y → (x : X) × Contains xs x × (f x ≡ y)
-from_map f y [] h = absurd (contains_none y h)
+from_map f y [] h = absurd (none_contained y h)
 from_map f y (x ∷ xs) h = by (contains_cases (f x) y (map f xs) h) (λ later. from_map f y xs later)
   where
     by : (f x ≡ y) ⊎ Contains (map f xs) y → (Contains (map f xs) y → (z : _) × Contains xs z × (f z ≡ y)) → (z : _) × Contains (x ∷ xs) z × (f z ≡ y)
@@ -82,18 +74,6 @@ all_from_members P xs h k d lt = h (get_or xs k d) (Contains-get_or xs k d lt)
 abbrev pub names_of : List Reservation → List (List ℕ)
 names_of xs = map (λ x. x.name) xs
 
-or_cases : (a b : Bool) → (a || b) ≡ true → (a ≡ true) ⊎ (b ≡ true)
-or_cases true b h = inl refl
-or_cases false b h = inr h
-
-or_first : (a b : Bool) → a ≡ true → (a || b) ≡ true
-or_first true b h = refl
-or_first false b h = absurd (cc)
-
-or_second : (a b : Bool) → b ≡ true → (a || b) ≡ true
-or_second true b h = refl
-or_second false b h = h
-
 pub any_contains : (xs : List Reservation) (name : List ℕ) → list_any (λ x. same_name x.name name) xs ≡ true → Contains (names_of xs) name
 any_contains [] name h = absurd (cc)
 any_contains (x ∷ xs) name h = by (or_cases (same_name x.name name) (list_any (λ y. same_name y.name name) xs) h) (λ later. any_contains xs name later)
@@ -103,12 +83,12 @@ any_contains (x ∷ xs) name h = by (or_cases (same_name x.name name) (list_any 
     by (inr later) go = contains_later x.name name (names_of xs) (go later)
 
 pub contains_any : (xs : List Reservation) (name : List ℕ) → Contains (names_of xs) name → list_any (λ x. same_name x.name name) xs ≡ true
-contains_any [] name h = absurd (contains_none name h)
+contains_any [] name h = absurd (none_contained name h)
 contains_any (x ∷ xs) name h = by (contains_cases x.name name (names_of xs) h) (λ later. contains_any xs name later)
   where
     by : (x.name ≡ name) ⊎ Contains (names_of xs) name → (Contains (names_of xs) name → list_any (λ y. same_name y.name name) xs ≡ true) → (same_name x.name name || list_any (λ y. same_name y.name name) xs) ≡ true
-    by (inl e) go = or_first (same_name x.name name) (list_any (λ y. same_name y.name name) xs) (same_back x.name name e)
-    by (inr later) go = or_second (same_name x.name name) (list_any (λ y. same_name y.name name) xs) (go later)
+    by (inl e) go = or_left (same_name x.name name) (list_any (λ y. same_name y.name name) xs) (same_back x.name name e)
+    by (inr later) go = or_right (same_name x.name name) (list_any (λ y. same_name y.name name) xs) (go later)
 
 -- a reservation of another name stays
 pub without_keeps : (name : List ℕ) (xs : List Reservation) (y : Reservation) → Contains xs y → y.name ≢ name → Contains (without name xs) y
@@ -143,7 +123,7 @@ length-without_le name (x ∷ xs) = by (same_name x.name name) (length-without_l
     by false go = omega arith
 
 pub length-without : (name : List ℕ) (xs : List Reservation) → Contains (names_of xs) name → length (without name xs) + 1 ≡ length xs
-length-without name [] h = absurd (contains_none name h)
+length-without name [] h = absurd (none_contained name h)
 length-without name (x ∷ xs) h = by (same_name x.name name) refl (contains_cases x.name name (names_of xs) h) (λ later. length-without name xs later)
   where
     by : (b : Bool) → same_name x.name name ≡ b → (x.name ≡ name) ⊎ Contains (names_of xs) name → (Contains (names_of xs) name → length (without name xs) + 1 ≡ length xs) → length (if b then xs else x ∷ without name xs) + 1 ≡ length (x ∷ xs)
@@ -171,7 +151,7 @@ without_distinct name (x ∷ xs) h = by (same_name x.name name) (without_distinc
 
 -- and the name is gone
 pub without_gone : (name : List ℕ) (xs : List Reservation) → IsDistinct same_name (names_of xs) → Contains (names_of (without name xs)) name → ⊥
-without_gone name [] d h = contains_none name h
+without_gone name [] d h = none_contained name h
 without_gone name (x ∷ xs) d h = by (same_name x.name name) refl h (λ later. without_gone name xs (IsDistinct-tail same_name x.name (names_of xs) d) later)
   where
     apart : All (λ n. same_name x.name n ≡ false) (names_of xs)
@@ -187,7 +167,7 @@ without_gone name (x ∷ xs) d h = by (same_name x.name name) refl h (λ later. 
 
 -- two reservations of one name are one
 pub one_reservation : (xs : List Reservation) (x y : Reservation) → IsDistinct same_name (names_of xs) → Contains xs x → Contains xs y → x.name ≡ y.name → x ≡ y
-one_reservation [] x y d h k e = absurd (contains_none x h)
+one_reservation [] x y d h k e = absurd (none_contained x h)
 one_reservation (z ∷ xs) x y d h k e = by (contains_cases z x xs h) (contains_cases z y xs k) (λ hx ky. one_reservation xs x y (IsDistinct-tail same_name z.name (names_of xs) d) hx ky e)
   where
     apart : (w : Reservation) → Contains xs w → z.name ≢ w.name

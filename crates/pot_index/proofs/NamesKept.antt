@@ -10,6 +10,7 @@ use Rattle.std.proofs.lemmas.List.{map_push}
 use Rattle.std.proofs.lemmas.List.Elements.{All-contains, Contains-push_cases}
 use Rattle.std.proofs.lemmas.Map.Keys.{IsDistinct-push}
 use Rattle.pot_bytes.specs.declared.rack.Rack.{Rack}
+use Rattle.pot_bytes.proofs.Elements.{contains_later}
 use Rattle.pot_index.specs.declared.entry.IndexEntry.{IndexEntry}
 use Rattle.pot_index.specs.declared.entry.IndexEntry.TheVariants.{Reserve, Taken, Publish, Abandon, Find, Listed, Renew, Often}
 use Rattle.pot_index.specs.declared.entry.Logged.{Logged}
@@ -17,7 +18,7 @@ use Rattle.pot_index.specs.declared.record.Record.{Record}
 use Rattle.pot_index.specs.declared.reservation.Reservation.{Reservation}
 use Rattle.pot_index.specs.Fits.{FitsRack}
 use Rattle.pot_index.specs.Index.{Names, IsPublished, IsReservedBy, IsFree, AreNames, Legal, LegalEntry, Replays, after, after_entry, same_name, inserted, replaced, without}
-use Rattle.pot_index.proofs.NameLemmas.{names_of, same_true, contains_map, from_map, contains_here, contains_later, all_from_members, without_from, without_distinct, without_gone}
+use Rattle.pot_index.proofs.NameLemmas.{names_of, same_true, contains_map, from_map, contains_here, all_from_members, without_from, without_distinct, without_gone}
 use Rattle.pot_index.proofs.RecordLemmas.{record_names, inserted_from, inserted_ascends, record_names-replaced, replaced_from}
 
 -- A RESERVED NAME

@@ -1,7 +1,7 @@
 -- What the replay of a log says of published records, and how many names it leaves.
 use Rattle.std.proofs.Common.{◌≡◌, ◌+◌, ◌<◌, ◌≤◌, ℕ, Bool, true, false, List, [], ◌∷◌, ◌++◌, length, get_or, Option, Some, None, refl, sym, ap, subst, ◌∙◌, inl, inr, ◌⊎◌, append-nil, append_assoc, arith}
 use Rattle.std.specs.Prelude.{if◌then◌else◌, Contains, All, filter}
-use Rattle.std.proofs.lemmas.Bool.{cases_lt}
+use Rattle.std.proofs.lemmas.Bool.{cases_lt, cases_Bool}
 use Rattle.std.proofs.lemmas.List.{length_push, length-map, get_or_default}
 use Rattle.std.proofs.lemmas.List.Elements.{All-cons, All-head, All-tail, All-nil}
 use Rattle.pot_bytes.specs.declared.rack.Rack.{Rack}
@@ -16,9 +16,10 @@ use Rattle.pot_index.specs.Records.{splits_of, renewed, current_of}
 use Rattle.pot_index.specs.Index.{Names, IsPublished, IsReservedBy, IsRecordOf, AreNames, Ascends, LegalEntry, Replays, after, after_entry, same_name, inserted, replaced, without}
 use Rattle.pot_index.specs.Laws.{GoesOn}
 use Rattle.pot_index.proofs.SearchLemmas.{less_at}
-use Rattle.pot_index.proofs.NameLemmas.{true_or_false, same_true, same_false, contains_map, from_map, length-without}
+use Rattle.pot_index.proofs.NameLemmas.{same_true, same_false, contains_map, from_map, length-without}
 use Rattle.pot_index.proofs.RecordLemmas.{record_names, differs_from_less, inserted_has, inserted_keeps, length-inserted, record_names-replaced, replaced_keeps, replaced_has}
 use Rattle.pot_index.proofs.NamesKept.{after_keeps, reserved_unpublished}
+use Rattle.pot_index.proofs.LogLaws.{rest_is, first_is}
 
 -- PUBLISHED NAMES
 
@@ -53,12 +54,6 @@ none_publishes rack n m [] name a h there = All-nil (λ e. IsPublishing name e �
 none_publishes rack n m (x ∷ log) name a (legal, rest) there =
     All-cons (λ e. IsPublishing name e → ⊥) x.entry (entries log) (λ is. publishing_needs rack n name x.entry x.brought a legal is there)
     (none_publishes rack (after n x) m log name (after_keeps rack n x a legal) rest (published_step rack n name x.entry x.brought legal there))
-
-rest_is : (e f : IndexEntry) (es fs : List IndexEntry) → e ∷ es ≡ f ∷ fs → es ≡ fs
-rest_is e f es fs h = (cc)
-
-first_is : (e f : IndexEntry) (es fs : List IndexEntry) → e ∷ es ≡ f ∷ fs → e ≡ f
-first_is e f es fs h = (cc)
 
 pub published_once : (rack : Rack) (n m : Names) (log : List Logged) (name : List ℕ) (before : List IndexEntry) (e : IndexEntry) (behind : List IndexEntry)
     → AreNames rack n → Replays rack n log m → entries log ≡ before ++ e ∷ behind → IsPublishing name e
@@ -143,7 +138,7 @@ splits_step rack n r (Publish j m mark) (Some q) a legal h = (r, inserted_keeps 
 splits_step rack n r (Abandon j m) None a legal h = (r, h, goes_same r)
 splits_step rack n r (Find j m found) None a legal h = (r, h, goes_same r)
 splits_step rack n r (Listed j) None a legal h = (r, h, goes_same r)
-splits_step rack n r (Renew j m mark) (Some q) a (marked, fits, (o, old, is)) h = by (true_or_false (same_name r.name q.name))
+splits_step rack n r (Renew j m mark) (Some q) a (marked, fits, (o, old, is)) h = by (cases_Bool (same_name r.name q.name))
   where
     by : (same_name r.name q.name ≡ true) ⊎ (same_name r.name q.name ≡ false) → (p : Record) × Contains (replaced q n.published) p × GoesOn r p
     by (inl same) =
@@ -166,7 +161,7 @@ splits_stay rack n m (x ∷ log) r a (legal, rest) there =
 
 -- COUNTS
 
-mine_there : (n : Names) (job : ℕ) (name : List ℕ) → IsReservedBy n job name → length (without name n.reserved) + 1 ≡ length n.reserved
+pub mine_there : (n : Names) (job : ℕ) (name : List ℕ) → IsReservedBy n job name → length (without name n.reserved) + 1 ≡ length n.reserved
 mine_there n job name mine = length-without name n.reserved (contains_map (λ x. x.name) (record { name = name; job = job }) n.reserved mine)
 
 count_step : (rack : Rack) (n : Names) (e : IndexEntry) (b : Option Record) → LegalEntry rack n e b

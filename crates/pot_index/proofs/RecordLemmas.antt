@@ -11,11 +11,12 @@ use Rattle.std.proofs.lemmas.Cmp.{nat_list_cmp_total, tied_itself}
 use Rattle.std.proofs.lemmas.List.Elements.{All-contains, All-from_recursion, recursion_from_All, Contains-get_or}
 use Rattle.std.proofs.lemmas.List.{length-map}
 use Rattle.std.proofs.lemmas.Map.Keys.{sorted_head, sorted_tail}
+use Rattle.pot_bytes.proofs.Elements.{none_contained, contains_later}
 use Rattle.pot_index.specs.declared.record.Record.{Record}
 use Rattle.pot_index.specs.Index.{Ascends, same_name, inserted, replaced}
 use Rattle.pot_index.specs.Searches.{StandsAt, BelongsAt}
 use Rattle.pot_index.proofs.SearchLemmas.{same_from_equal}
-use Rattle.pot_index.proofs.NameLemmas.{at_true, at_false, same_back, same_true, other_names, contains_here, contains_later, contains_cases, contains_none, contains_map, from_map, all_from_members}
+use Rattle.pot_index.proofs.NameLemmas.{at_true, at_false, same_back, same_true, other_names, contains_here, contains_cases, contains_map, from_map, all_from_members}
 
 abbrev pub record_names : List Record → List (List ℕ)
 record_names rs = map (λ r. r.name) rs
@@ -81,7 +82,7 @@ inserted_has r (x ∷ rs) = by (is_lt (by_name x.name r.name)) (inserted_has r r
     by false go = contains_here r (x ∷ rs)
 
 pub inserted_keeps : (r o : Record) (rs : List Record) → Contains rs o → Contains (inserted r rs) o
-inserted_keeps r o [] h = absurd (contains_none o h)
+inserted_keeps r o [] h = absurd (none_contained o h)
 inserted_keeps r o (x ∷ rs) h = by (is_lt (by_name x.name r.name)) (contains_cases x o rs h) (λ later. inserted_keeps r o rs later)
   where
     by : (b : Bool) → (x ≡ o) ⊎ Contains rs o → (Contains rs o → Contains (inserted r rs) o) → Contains (if b then x ∷ inserted r rs else r ∷ x ∷ rs) o
@@ -98,7 +99,7 @@ length-inserted r (x ∷ rs) = by (is_lt (by_name x.name r.name)) (length-insert
     by false go = omega arith
 
 pub inserted_ascends : (r : Record) (rs : List Record) → Ascends rs → (Contains (record_names rs) r.name → ⊥) → Ascends (inserted r rs)
-inserted_ascends r [] up new = ascends_cons r [] (λ n h. absurd (contains_none n h)) up
+inserted_ascends r [] up new = ascends_cons r [] (λ n h. absurd (none_contained n h)) up
 inserted_ascends r (x ∷ rs) up new =
     by (by_name x.name r.name) refl (inserted_ascends r rs (ascends_tail x rs up) (λ h. new (contains_later x.name r.name (record_names rs) h)))
   where
@@ -148,7 +149,7 @@ record_names-replaced r (x ∷ rs) = by (same_name x.name r.name) refl (record_n
     by false e go = λ i. x.name ∷ go i
 
 pub replaced_from : (r o : Record) (rs : List Record) → Contains (replaced r rs) o → (r ≡ o) ⊎ Contains rs o
-replaced_from r o [] h = absurd (contains_none o h)
+replaced_from r o [] h = absurd (none_contained o h)
 replaced_from r o (x ∷ rs) h = by (same_name x.name r.name) h (λ later. replaced_from r o rs later)
   where
     deeper : (r ≡ o) ⊎ Contains rs o → (r ≡ o) ⊎ Contains (x ∷ rs) o

@@ -1,11 +1,12 @@
 -- What the tests' own functions rest on.
-use Rattle.std.proofs.Common.{◌≡◌, ℕ, List, [], ◌∷◌, ◌++◌, Result, Ok, Err, refl, sym, ap, subst, ◌∙◌, arith, length-append}
+use Rattle.std.proofs.Common.{◌≡◌, ℕ, List, [], ◌∷◌, ◌++◌, Result, Ok, Err, refl, sym, ap, subst, ◌∙◌, arith}
 use Rattle.std.specs.Prelude.{Any, Contains}
 use Rattle.std.specs.List.Sorted.{IsStrictlySortedBy}
-use Rattle.std.proofs.lemmas.List.{map_push, get_or_append_left}
+use Rattle.std.proofs.lemmas.List.{map_push}
 use Rattle.std.proofs.lemmas.List.Elements.{Contains-push}
 use Rattle.std.proofs.lemmas.List.Quantifiers.{Any-push}
 use Rattle.pot_bytes.specs.declared.rack.Rack.{Rack}
+use Rattle.pot_bytes.proofs.Elements.{any_front}
 use Rattle.pot_index.specs.declared.entry.IndexEntry.{IndexEntry}
 use Rattle.pot_index.specs.declared.entry.IndexEntry.TheVariants.{Reserve, Abandon}
 use Rattle.pot_index.specs.declared.entry.Logged.{Logged}
@@ -36,15 +37,12 @@ reserved_here s t job name is =
 pub small_published : (s t : IndexView) (job : ℕ) (name : List ℕ) (r : Record) → t ≡ published_by s job r → r.name ≡ name → r.length ≡ 5 → HasSmall t name
 small_published s t job name r is named long = subst (λ (v : IndexView). HasSmall v name) (sym is) (r, (inserted_has r s.now.published, named), long)
 
-any_more : {X : Type 0} (P : X → Type 0) (xs ys : List X) → Any P xs → Any P (xs ++ ys)
-any_more P xs ys (k, x, lt, is, p) = (k, x, omega (arith, length-append xs ys, lt), get_or_append_left xs ys x k lt ∙ is, p)
-
 pub reserved_before : (s t u : IndexView) (job : ℕ) (name : List ℕ) → t ≡ logged s (plain (Reserve job name)) → u ≡ logged t (plain (Abandon job name)) → Any (IsReserving job name) (entries u.log)
 reserved_before s t u job name is_t is_u =
     subst (λ es. Any (IsReserving job name) es)
     (sym (ap (λ (v : IndexView). entries v.log) is_u ∙ map_push (λ (x : Logged). x.entry) t.log (plain (Abandon job name))
     ∙ ap (λ (es : List IndexEntry). es ++ Abandon job name ∷ []) (ap (λ (v : IndexView). entries v.log) is_t ∙ map_push (λ (x : Logged). x.entry) s.log (plain (Reserve job name)))))
-    (any_more (IsReserving job name) (entries s.log ++ Reserve job name ∷ []) (Abandon job name ∷ []) (Any-push (IsReserving job name) (entries s.log) (Reserve job name) (refl, refl)))
+    (any_front (IsReserving job name) (entries s.log ++ Reserve job name ∷ []) (Abandon job name ∷ []) (Any-push (IsReserving job name) (entries s.log) (Reserve job name) (refl, refl)))
 
 small_renewed : (s t : IndexView) (job : ℕ) (name : List ℕ) (split : Split) (r : Record) → IsIndex s → HasSmall s name → IsRecordOf s.now name r
     → t.now.published ≡ replaced (renewed r split) s.now.published → HasSmall t name

@@ -1,6 +1,7 @@
 -- The calls of an index, each by its answer, between the index before and after it.
 use Rattle.std.specs.Prelude.{◌≡◌, ◌<◌, ◌≤◌, ℕ, ◌+◌, true, false, List, Vec, Result, Ok, Err, length, map}
 use Rattle.std.specs.Global.{Global}
+use Rattle.pot_bytes.specs.Rack.{log_bound}
 use Rattle.pot_index.specs.declared.entry.IndexEntry.TheVariants as entry
 use Rattle.pot_index.specs.declared.fault.FindFault.{FindFault}
 use Rattle.pot_index.specs.declared.fault.FindFault.TheVariants as find_fault
@@ -15,7 +16,7 @@ use Rattle.pot_index.specs.declared.record.Record.{Record}
 use Rattle.pot_index.specs.declared.record.Split.{Split}
 use Rattle.pot_index.specs.Records.{renewed, mark_of}
 use Rattle.pot_index.specs.Entries.{plain, bringing}
-use Rattle.pot_index.specs.Index.{IndexView, IsPublished, IsRecordOf, IsTaken, IsFree, log_bound, owed, logged}
+use Rattle.pot_index.specs.Index.{IndexView, IsPublished, IsRecordOf, IsTaken, IsFree, owed, logged}
 
 -- so many more entries are within the bound of the log, beside one for each reserved name
 abbrev pub HasRoom : ℕ → IndexView → Type 0

@@ -4,7 +4,7 @@ use Rattle.std.specs.Cmp.Lexicographic.{pointwise, slice_cmp}
 use Rattle.std.specs.List.{IsDistinct}
 use Rattle.std.specs.List.Sorted.{IsStrictlySortedBy}
 use Rattle.std.specs.Ordering.{is_lt, nat_cmp}
-use Rattle.pot_bytes.specs.Rack.{IsRack}
+use Rattle.pot_bytes.specs.Rack.{IsRack, log_bound}
 use Rattle.pot_bytes.specs.declared.rack.Rack.{Rack}
 use Rattle.pot_index.specs.declared.entry.IndexEntry.{IndexEntry}
 use Rattle.pot_index.specs.declared.entry.IndexEntry.TheVariants.{Reserve, Taken, Publish, Abandon, Find, Listed, Renew, Often}
@@ -128,10 +128,6 @@ pub record IndexView : Type 0 where
   pub read : List Record
   pub now : Names
   pub log : List Logged
-
--- the number of entries of a log, at most
-abbrev pub log_bound : ℕ
-log_bound = 262144
 
 -- the entries, and one for each reserved name, whose Publish or Abandon is to come
 abbrev pub owed : IndexView → ℕ

@@ -2,11 +2,11 @@
 use Rattle.std.specs.Prelude.{◌≡◌, ◌≤◌, ◌+◌, List, Vec, length, map, filter, vec_capacity}
 use Rattle.std.specs.Global.{Global}
 use Rattle.std.specs.declared.snapshot.Snapshot.{Snapshot}
+use Rattle.pot_bytes.specs.Rack.{log_bound}
 use Rattle.pot_index.specs.declared.entry.IndexEntry.{IndexEntry}
 use Rattle.pot_index.specs.declared.record.Record.{Record}
 use Rattle.pot_index.specs.declared.reservation.Reservation.{Reservation}
 use Rattle.pot_index.specs.Entries.{brings}
-use Rattle.pot_index.specs.Index.{log_bound}
 
 abbrev pub values : List (Snapshot Record) → List Record
 values ss = map (λ s. s.value) ss

@@ -12,10 +12,10 @@ use crate::ended::IndexEnded;
 use crate::entry::IndexEntry;
 use crate::fault::{FindFault, IndexRefused, ListFault, RenewFault, ReserveFault};
 use crate::listed::Listed;
-use crate::lists::{LOG_BOUND, Lists};
+use crate::lists::Lists;
 use crate::record::{Record, Split};
 use crate::splits::MOST_OLDER;
-use pot_bytes::{Name, Rack};
+use pot_bytes::{LOG_BOUND, Name, Rack};
 use std::alloc::Global;
 use std::marker::Model;
 

@@ -2,7 +2,7 @@
 ghost use Rattle.std.specs.Prelude.{◌≡◌, ◌<◌, ◌≤◌, ◌+◌, ◌↔◌, false, IsTrue, IfOk, OnOk, OnErr, Any, MatchBool, MatchOption, MatchResult, HoldsAt, Contains, length, map};
 ghost use Rattle.pot_index.specs.Entries.{IsReserving, IsQuiet, plain, bringing, brings, entries};
 ghost use Rattle.pot_index.specs.Records.{renewed, mark_of};
-ghost use Rattle.pot_index.specs.Index.{IsReserved, IsReservedBy, IsTaken, IsFree, Ascends, log_bound, started, logged, owed};
+ghost use Rattle.pot_index.specs.Index.{IsReserved, IsReservedBy, IsTaken, IsFree, Ascends, started, logged, owed};
 ghost use Rattle.pot_index.specs.Searches.{StandsAt, BelongsAt};
 ghost use Rattle.pot_index.specs.Calls.{listed_of};
 ghost use Rattle.pot_index.specs.Ending.{IsHeld, EndsAt};
@@ -15,13 +15,11 @@ use crate::marks::mark_of;
 use crate::record::{Record, Split};
 use crate::reservation::Reservation;
 use crate::search::{is_reserved, place_of, release};
-use pot_bytes::{Name, NoMemory, Rack};
+use pot_bytes::{LOG_BOUND, Name, NoMemory, Rack};
 use std::alloc::Global;
 use std::marker::Model;
 use std::snapshot::Snapshot;
-
-/// How many entries a log has at most.
-pub(crate) const LOG_BOUND: usize = 262_144;
+use Rattle.pot_bytes.specs.Rack.{log_bound}
 
 /// The records by name, the reserved names, the log, and what clauses alone see: the records that the index began with, and
 /// those that entries brought.

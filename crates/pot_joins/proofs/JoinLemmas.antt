@@ -9,6 +9,7 @@ use Rattle.std.proofs.lemmas.List.{length-take-le, get_or-take}
 use Rattle.pot_bytes.specs.Product.{byte_product}
 use Rattle.pot_bytes.proofs.ProductLemmas.{byte_product-zero_right}
 use Rattle.pot_bytes.specs.Lists.{AreBytes}
+use Rattle.pot_bytes.proofs.ListLemmas.{AreBytes-take}
 use Rattle.pot_gf.specs.Polynomials.{value, IsBelowDegree, PassesThrough}
 use Rattle.pot_gf.proofs.Values.{value-nil, value-cons, value-added, value-at_zero, added, get_or-added}
 use Rattle.pot_gf.proofs.Built.{distinct_apart}
@@ -38,13 +39,6 @@ differ : (points : List ℕ) (i j e : ℕ) → IsDistinct nat_eq points → i < 
 differ points i j e d less within same =
     distinct_apart points i j d less within
     (get_or-default points i 0 e (omega arith) ∙ (same ∙ get_or-default points j e 0 within))
-
--- the front of samples
-bytes_front : (m : ℕ) (xs : List ℕ) → AreBytes xs → AreBytes (take m xs)
-bytes_front zero xs b k = lit< tt
-bytes_front (suc m) [] b k = lit< tt
-bytes_front (suc m) (x ∷ xs) b zero = b 0
-bytes_front (suc m) (x ∷ xs) b (suc k) = bytes_front m xs (λ j. b (suc j)) k
 
 distinct_front : (m : ℕ) (points : List ℕ) → IsDistinct nat_eq points → IsDistinct nat_eq (take m points)
 distinct_front m points d =
@@ -80,8 +74,8 @@ closes m points values joined s few join byte = (to, from)
     from (first, rest) =
         let r = through (take m points) (take m values)
         (record {
-          points_bytes = bytes_front m points s.points_bytes;
-          values_bytes = bytes_front m values s.values_bytes;
+          points_bytes = AreBytes-take m points s.points_bytes;
+          values_bytes = AreBytes-take m values s.values_bytes;
           distinct = distinct_front m points s.distinct;
           paired = length-take-le m values (omega (arith, s.paired)) ∙ sym count;
         }) in

@@ -1,16 +1,17 @@
 -- The rule on homes, targets and positions, kept.
-use Rattle.std.proofs.Common.{◌≡◌, ◌≢◌, ◌<◌, ◌≤◌, ◌⊎◌, inl, inr, ℕ, Bool, true, false, IsTrue, Option, Some, None, IfSome, IsSomeAnd, length, get_or, refl, ap, sym, ◌∙◌, subst, arith, ◌||◌}
-use Rattle.std.specs.Prelude.{◌==◌, nat_lt, if◌then◌else◌}
+use Rattle.std.proofs.Common.{◌≡◌, ◌≢◌, ◌<◌, ◌≤◌, ◌⊎◌, inl, inr, ℕ, Bool, true, false, IsTrue, Option, Some, None, IfSome, IsSomeAnd, length, get_or, refl, ap, sym, ◌∙◌, subst, arith, ◌||◌, zero, suc, ◌∷◌}
+use Rattle.std.specs.Prelude.{◌==◌, nat_lt, if◌then◌else◌, Contains}
 use Rattle.std.proofs.lemmas.Bool.Decides.{nat_tests}
 use Rattle.std.proofs.lemmas.List.{get_or-set_same, get_or-set_other}
+use Rattle.std.proofs.lemmas.Bool.{cases_eq, eqb-true, eqb-false, or_cases, or_left, or_parts, both_ways, eq-eqb, or_right}
+use Rattle.pot_bytes.proofs.Elements.{one_contained}
 use Rattle.pot_machine.specs.declared.column.Column.{Column}
 use Rattle.pot_machine.specs.declared.column.Moving.{Moving}
-use Rattle.pot_machine.specs.Column.{names, names_moved, serving}
+use Rattle.pot_machine.specs.Column.{names, names_moved, serving, target_of}
 use Rattle.pot_machine.specs.Table.{Table, width, column_at, serving_at, no_column, holder_of}
 use Rattle.pot_machine.specs.Machine.{with_column, moved_on, moved_home, TakesArchive, MovesAt}
 use Rattle.pot_machine.specs.Rules.{HasColumns}
 use Rattle.pot_machine.proofs.Searches.{least_none}
-use Rattle.pot_machine.proofs.Cases.{same_or, not_both}
 
 pub column_same : (t : Table) (c : ℕ) (x : Column) → length t.columns ≡ width t → c < width t → column_at (with_column t c x) c ≡ x
 column_same t c x e lt = get_or-set_same t.columns c x no_column (omega arith)
@@ -36,21 +37,21 @@ module _ (t : Table) (c : ℕ) (x : Column) (sized : length t.columns ≡ width 
   alone : (k number : ℕ) → k < width t → k ≢ c → IsTrue (names x number) → IsTrue (names (column_at t k) number) → ⊥
   alone k number lk ne nx nk = elim (own number nx) [
     | inl e ↦ ne (h.distinct k c number lk below nk e)
-    | inr e ↦ not_both nk (least_none (width t) (λ j. names (column_at t j) number) e k lk)
+    | inr e ↦ both_ways _ (least_none (width t) (λ j. names (column_at t j) number) e k lk) nk
   ]
 
   pub columns_with : HasColumns (with_column t c x)
   columns_with = record {
-    target = λ k lt. elim (same_or k c) [
+    target = λ k lt. elim (cases_eq k c) [
       | inl e ↦ subst (λ y. IfSome y.moving (λ m. (m.to ≢ y.home) × (m.upto ≤ t.stripes))) (sym (ap (λ j. column_at (with_column t c x) j) e ∙ column_same t c x sized below)) target
       | inr ne ↦ subst (λ y. IfSome y.moving (λ m. (m.to ≢ y.home) × (m.upto ≤ t.stripes))) (sym (column_other t c k x ne)) (h.target k lt)
     ];
-    distinct = λ j k number lj lk nj nk. elim (same_or j c) [
-      | inl e ↦ elim (same_or k c) [
+    distinct = λ j k number lj lk nj nk. elim (cases_eq j c) [
+      | inl e ↦ elim (cases_eq k c) [
         | inl f ↦ e ∙ sym f
         | inr nf ↦ absurd (alone k number lk nf (now_own j number e nj) (sym (ap (λ y. names y number) (column_other t c k x nf)) ∙ nk))
       ]
-      | inr ne ↦ elim (same_or k c) [
+      | inr ne ↦ elim (cases_eq k c) [
         | inl f ↦ absurd (alone j number lj ne (now_own k number f nk) (sym (ap (λ y. names y number) (column_other t c j x ne)) ∙ nj))
         | inr nf ↦ h.distinct j k number lj lk (sym (ap (λ y. names y number) (column_other t c j x ne)) ∙ nj) (sym (ap (λ y. names y number) (column_other t c k x nf)) ∙ nk)
       ]
@@ -60,35 +61,30 @@ module _ (t : Table) (c : ℕ) (x : Column) (sized : length t.columns ≡ width 
       now_own : (k number : ℕ) → k ≡ c → IsTrue (names (column_at (with_column t c x) k) number) → IsTrue (names x number)
       now_own k number e n = sym (ap (λ y. names y number) (ap (λ j. column_at (with_column t c x) j) e ∙ column_same t c x sized below)) ∙ n
 
-same_number : (a b : ℕ) → (a == b) ≡ true → a ≡ b
-same_number a b h = grind (arith, nat_tests)
-
-other_number : (a b : ℕ) → (a == b) ≡ false → a ≢ b
-other_number a b h = grind (arith, nat_tests)
-
-either : (a b : Bool) → a || b ≡ true → (a ≡ true) ⊎ (b ≡ true)
-either true b h = inl refl
-either false b h = inr h
-
-left_true : (a b : Bool) → a ≡ true → a || b ≡ true
-left_true true b h = refl
-left_true false b h = absurd (cc)
-
-neither : (a b : Bool) → a || b ≡ false → (a ≡ false) × (b ≡ false)
-neither true b h = absurd (cc)
-neither false b h = (refl, h)
-
 itself : (a : ℕ) → (a == a) ≡ true
 itself a = grind (arith, nat_tests)
 
 -- a column names its home
 names_home : (o : Option Moving) (home : ℕ) → names_moved o home home ≡ true
 names_home None home = itself home
-names_home (Some m) home = left_true (home == home) (m.to == home) (itself home)
+names_home (Some m) home = or_left (home == home) (m.to == home) (itself home)
 
 not_named : (o : Option Moving) (home number : ℕ) → names_moved o home number ≡ false → home ≢ number
-not_named None home number h = other_number home number h
-not_named (Some m) home number h = other_number home number (neither (home == number) (m.to == number) h).0
+not_named None home number h = eqb-false home number h
+not_named (Some m) home number h = eqb-false home number (or_parts (home == number) (m.to == number) h).0
+
+-- the archives of a column are those that it names
+pub named_in : (o : Option Moving) (home n : ℕ) → IsTrue (names_moved o home n) → Contains (home ∷ target_of o) n
+named_in None home n h = (0, omega arith, eqb-true home n h)
+named_in (Some m) home n h = elim (or_cases (home == n) (m.to == n) h) [
+  | inl e ↦ (0, omega arith, eqb-true home n e)
+  | inr e ↦ (1, omega arith, eqb-true m.to n e)
+]
+
+pub in_named : (o : Option Moving) (home n : ℕ) → Contains (home ∷ target_of o) n → IsTrue (names_moved o home n)
+in_named None home n h = eq-eqb home n (one_contained home n h)
+in_named (Some m) home n (zero, l, e) = or_left (home == n) (m.to == n) (eq-eqb home n e)
+in_named (Some m) home n (suc k, l, e) = or_right (home == n) (m.to == n) (eq-eqb m.to n (one_contained m.to n (k, omega (arith, l), e)))
 
 -- the four changes of a column
 
@@ -96,14 +92,14 @@ pub move_begins : (t : Table) (c to : ℕ) → length t.columns ≡ width t → 
     → HasColumns (with_column t c (record (column_at t c) { moving = Some (record { to = to; upto = 0 }) }))
 move_begins t c to sized h l = columns_with t c (record (column_at t c) { moving = Some (record { to = to; upto = 0 }) }) sized l.0 h
     ((λ e. not_named (column_at t c).moving (column_at t c).home to (least_none (width t) (λ j. names (column_at t j) to) l.1 c l.0) (sym e)), omega arith)
-    (λ number n. elim (either ((column_at t c).home == number) (to == number) n) [
-      | inl e ↦ inl (subst (λ j. names_moved (column_at t c).moving (column_at t c).home j ≡ true) (same_number (column_at t c).home number e) (names_home (column_at t c).moving (column_at t c).home))
-      | inr e ↦ inr (subst (λ j. holder_of t j ≡ None) (same_number to number e) l.1)
+    (λ number n. elim (or_cases ((column_at t c).home == number) (to == number) n) [
+      | inl e ↦ inl (subst (λ j. names_moved (column_at t c).moving (column_at t c).home j ≡ true) (eqb-true (column_at t c).home number e) (names_home (column_at t c).moving (column_at t c).home))
+      | inr e ↦ inr (subst (λ j. holder_of t j ≡ None) (eqb-true to number e) l.1)
     ])
 
 pub swaps : (t : Table) (c to : ℕ) → length t.columns ≡ width t → HasColumns t → TakesArchive t c to → HasColumns (with_column t c (record { home = to; moving = None }))
 swaps t c to sized h l = columns_with t c (record { home = to; moving = None }) sized l.0 h tt
-    (λ number n. inr (subst (λ j. holder_of t j ≡ None) (same_number to number n) l.1))
+    (λ number n. inr (subst (λ j. holder_of t j ≡ None) (eqb-true to number n) l.1))
 
 -- a column that moves on, or is at home again, names no other archives
 moved_on_target : (o : Option Moving) (home s z : ℕ) → IsSomeAnd o (λ m. m.upto ≡ s) → s < z → IfSome o (λ m. (m.to ≢ home) × (m.upto ≤ z))
@@ -115,13 +111,9 @@ moved_on_names : (o : Option Moving) (home number : ℕ) → names (moved_on (re
 moved_on_names None home number = refl
 moved_on_names (Some m) home number = refl
 
-moved_home_names : (o : Option Moving) (home number : ℕ) → IsTrue (names (moved_home (record { home = home; moving = o })) number) → IsTrue (names_moved o home number)
+pub moved_home_names : (o : Option Moving) (home number : ℕ) → IsTrue (names (moved_home (record { home = home; moving = o })) number) → IsTrue (names_moved o home number)
 moved_home_names None home number h = h
-moved_home_names (Some m) home number h = right_true (home == number) (m.to == number) h
-  where
-    right_true : (a b : Bool) → b ≡ true → a || b ≡ true
-    right_true true b h = refl
-    right_true false b h = h
+moved_home_names (Some m) home number h = or_right (home == number) (m.to == number) h
 
 pub moves_on : (t : Table) (c s : ℕ) → length t.columns ≡ width t → HasColumns t → MovesAt t c s → s < t.stripes → HasColumns (with_column t c (moved_on (column_at t c)))
 moves_on t c s sized h l lt = columns_with t c (moved_on (column_at t c)) sized l.0 h

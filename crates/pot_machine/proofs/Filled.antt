@@ -2,7 +2,9 @@
 use Rattle.std.proofs.Common.{◌≡◌, ◌⊎◌, inl, inr, ⊎_elim, ◌<◌, ◌+◌, ℕ, zero, suc, Bool, false, List, [], ◌∷◌, Some, refl, sym, ap, ◌∙◌, subst, arith}
 use Rattle.std.specs.Prelude.{Contains}
 use Rattle.std.proofs.lemmas.Option.{same_Some}
+use Rattle.std.proofs.lemmas.Bool.{cases_eq}
 use Rattle.pot_bytes.specs.declared.digest.Digest.{Digest}
+use Rattle.pot_bytes.proofs.Elements.{contains_later}
 use Rattle.pot_machine.specs.declared.slot.SlotState.{SlotState}
 use Rattle.pot_machine.specs.declared.slot.SlotState.TheVariants.{Void, Live, Lost, Broken}
 use Rattle.pot_machine.specs.declared.entry.Entry.{Entry}
@@ -13,7 +15,6 @@ use Rattle.pot_machine.specs.Machine.{Legal, Replays, TakesPut, after, with_slot
 use Rattle.pot_machine.specs.Rules.{IsTable}
 use Rattle.pot_machine.specs.Logs.{Fills, IsFilledWith}
 use Rattle.pot_machine.specs.Laws.{DigestsByPuts, PutsStay}
-use Rattle.pot_machine.proofs.Cases.{same_or}
 use Rattle.pot_machine.proofs.Places.{slot_same, slot_other}
 use Rattle.pot_machine.proofs.Kept.{after_keeps}
 use Rattle.pot_machine.proofs.LeftAlone.{data_stays, digests_stay, sizes_stay, slots_stay, put_column}
@@ -100,16 +101,16 @@ put_fills t s c d _ is l fills = absurd fills
 -- a digest that a data slot has behind an entry it had before, or the entry filled the slot with it
 before_or_put : (t : Table) (e : Entry) (s c : ℕ) (d : Digest) → IsTable t → Legal t e → c < t.data_columns → digest_in (slot_at (after t e) s c) ≡ Some d
     → (digest_in (slot_at t s c) ≡ Some d) ⊎ Fills s c d e
-before_or_put t (Put job n k x p kept) s c d is l lt has = elim (same_or s n) [
-  | inl stripe ↦ elim (same_or c k) [
+before_or_put t (Put job n k x p kept) s c d is l lt has = elim (cases_eq s n) [
+  | inl stripe ↦ elim (cases_eq c k) [
     | inl column ↦ inr (stripe, column, same_Some d x (sym has ∙ (put_fills t s c x (Put job n k x p kept) is l (stripe, column, refl)).0))
     | inr ne ↦ inl (sym (ap digest_in (slots_stay t (Put job n k x p kept) s c is l (omega (arith, lt))
         (λ w. ⊎_elim ne (λ high. omega (arith, high, lt)) w.1))) ∙ has)
   ]
   | inr ne ↦ inl (sym (ap digest_in (slots_stay t (Put job n k x p kept) s c is l (omega (arith, lt)) (λ w. ne w.0))) ∙ has)
 ]
-before_or_put t (Put2 job n k x p q kept kept2) s c d is l lt has = elim (same_or s n) [
-  | inl stripe ↦ elim (same_or c k) [
+before_or_put t (Put2 job n k x p q kept kept2) s c d is l lt has = elim (cases_eq s n) [
+  | inl stripe ↦ elim (cases_eq c k) [
     | inl column ↦ inr (stripe, column, same_Some d x (sym has ∙ (put_fills t s c x (Put2 job n k x p q kept kept2) is l (stripe, column, refl)).0))
     | inr ne ↦ inl (sym (ap digest_in (slots_stay t (Put2 job n k x p q kept kept2) s c is l (omega (arith, lt))
         (λ w. ⊎_elim ne (λ high. omega (arith, high, lt)) w.1))) ∙ has)
@@ -118,10 +119,6 @@ before_or_put t (Put2 job n k x p q kept kept2) s c d is l lt has = elim (same_o
 ]
 before_or_put t e s c d is l lt has = inl (sym (digests_stay t e s c is l (omega (arith, lt)) (λ w. w)) ∙ has)
 
--- an entry of the tail
-in_tail : {X : Type 0} (x e : X) (xs : List X) → Contains xs e → Contains (x ∷ xs) e
-in_tail x e xs (k, lt, is) = (suc k, omega (arith, lt), is)
-
 come_by_put : (t : Table) (log : List Entry) (u : Table) (s c : ℕ) (d : Digest) → IsTable t → Replays t log u → c < t.data_columns → digest_in (slot_at u s c) ≡ Some d
     → (digest_in (slot_at t s c) ≡ Some d) ⊎ ((e : Entry) × Contains log e × Fills s c d e)
 come_by_put t [] u s c d is same lt has = inl (sym (ap (λ x. digest_in (slot_at x s c)) same) ∙ has)
@@ -129,7 +126,7 @@ come_by_put t (e ∷ log) u s c d is (legal, rest) lt has =
     let size = (sizes_stay t e).0 in
     elim (come_by_put (after t e) log u s c d (after_keeps t e is legal) rest (omega (arith, lt, size)) has) [
       | inl then ↦ ⊎_elim inl (λ fills. inr (e, (0, omega arith, refl), fills)) (before_or_put t e s c d is legal lt then)
-      | inr put ↦ inr (put.0, in_tail e put.0 log put.1, put.2)
+      | inr put ↦ inr (put.0, contains_later e put.0 log put.1, put.2)
     ]
 
 -- a slot that a put of a log filled has its digest in the end

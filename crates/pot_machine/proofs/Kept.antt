@@ -1,8 +1,9 @@
 -- Each legal entry keeps the rules of a table.
-use Rattle.std.proofs.Common.{◌≡◌, ◌<◌, ◌≤◌, ◌+◌, ◌⊎◌, inl, inr, ℕ, zero, suc, Bool, true, false, not, IsTrue, None, List, [], ◌∷◌, length, map, filter, refl, ap, ◌∙◌, arith, if◌then◌else◌}
+use Rattle.std.proofs.Common.{◌≡◌, ◌<◌, ◌≤◌, ◌+◌, ◌⊎◌, inl, inr, ℕ, zero, suc, Bool, true, false, not, IsTrue, None, List, length, map, refl, ap, ◌∙◌, arith, if◌then◌else◌}
 use Rattle.std.specs.Prelude.{◌==◌}
 use Rattle.std.proofs.lemmas.List.{length-set, length-map, length-append}
 use Rattle.pot_bytes.specs.declared.digest.Digest.{Digest}
+use Rattle.pot_bytes.proofs.Elements.{length-filter_le}
 use Rattle.pot_machine.specs.declared.slot.SlotState.{SlotState}
 use Rattle.pot_machine.specs.declared.slot.SlotState.TheVariants.{Live}
 use Rattle.pot_machine.specs.declared.column.Column.{Column}
@@ -73,17 +74,9 @@ hop_keeps t s c lt h = relays_keep t (with_hop t s c).relays
     (let few : length t.relays ≤ 16 = h.size.relays in let e : length (map (hopped s c) t.relays) ≡ length t.relays = length-map t.relays (hopped s c) in omega arith)
     (relays_hop t s c lt h.relays) h
 
-length_filter : {X : Type 0} (p : X → Bool) (xs : List X) → length (filter p xs) ≤ length xs
-length_filter p [] = omega arith
-length_filter p (x ∷ xs) = step (p x) (length_filter p xs)
-  where
-    step : (b : Bool) → length (filter p xs) ≤ length xs → length (if b then x ∷ filter p xs else filter p xs) ≤ suc (length xs)
-    step true h = omega arith
-    step false h = omega arith
-
 pub end_keeps : (t : Table) (s : ℕ) → IsTable t → IsTable (without_relay t s)
 end_keeps t s h = relays_keep t (without_relay t s).relays
-    (let few : length t.relays ≤ 16 = h.size.relays in let e : length (without_relay t s).relays ≤ length t.relays = length_filter (λ r. not (r.stripe == s)) t.relays in omega arith)
+    (let few : length t.relays ≤ 16 = h.size.relays in let e : length (without_relay t s).relays ≤ length t.relays = length-filter_le (λ r. not (r.stripe == s)) t.relays in omega arith)
     (relays_end t s h.relays) h
 
 -- a slot of a stripe whose relay has ended is written again

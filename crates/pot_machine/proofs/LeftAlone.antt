@@ -2,6 +2,7 @@
 use Rattle.std.proofs.Common.{◌≡◌, ◌≢◌, inl, inr, ◌<◌, ◌≤◌, ◌+◌, ℕ, zero, suc, Bool, true, false, not, IsTrue, Some, List, [], ◌∷◌, ◌++◌, map, filter, cond, get_or, refl, sym, ap, ◌∙◌, subst, arith, nat_le, if◌then◌else◌}
 use Rattle.std.specs.Prelude.{◌==◌}
 use Rattle.std.proofs.lemmas.Bool.Decides.{nat_tests}
+use Rattle.std.proofs.lemmas.Bool.{cases_eq, both_ways}
 use Rattle.pot_machine.specs.declared.slot.SlotState.{SlotState}
 use Rattle.pot_machine.specs.declared.slot.SlotState.TheVariants.{Void, Live, Lost, Broken}
 use Rattle.pot_machine.specs.declared.relay.Relay.{Relay}
@@ -15,7 +16,6 @@ use Rattle.pot_machine.proofs.Sizes.{gave_up_range, data_columns-with_losses, wi
 use Rattle.pot_machine.proofs.Places.{slot_after, slot_other}
 use Rattle.pot_machine.proofs.Columns.{column_other}
 use Rattle.pot_machine.proofs.Kept.{put_other, put2_other, after_keeps}
-use Rattle.pot_machine.proofs.Cases.{same_or, not_both}
 
 parity-with_losses : (n : ℕ) (t : Table) (c : ℕ) → (with_losses n t c).parity ≡ t.parity
 parity-with_losses zero t c = refl
@@ -25,11 +25,11 @@ cursor-with_losses : (n : ℕ) (t : Table) (c : ℕ) → (with_losses n t c).cur
 cursor-with_losses zero t c = refl
 cursor-with_losses (suc n) t c = cursor-with_losses n t c
 
-columns-with_losses : (n : ℕ) (t : Table) (c : ℕ) → (with_losses n t c).columns ≡ t.columns
+pub columns-with_losses : (n : ℕ) (t : Table) (c : ℕ) → (with_losses n t c).columns ≡ t.columns
 columns-with_losses zero t c = refl
 columns-with_losses (suc n) t c = columns-with_losses n t c
 
-relays-with_losses : (n : ℕ) (t : Table) (c : ℕ) → (with_losses n t c).relays ≡ t.relays
+pub relays-with_losses : (n : ℕ) (t : Table) (c : ℕ) → (with_losses n t c).relays ≡ t.relays
 relays-with_losses zero t c = refl
 relays-with_losses (suc n) t c = relays-with_losses n t c
 
@@ -178,10 +178,10 @@ cursor_void t s c n k h l e f =
 
 pub data_stays : DataStays
 data_stays t (Put job s c digest parity_digest kept) n k h l lk some = ap digest_in (slots_stay t (Put job s c digest parity_digest kept) n k h l (omega arith)
-    (λ e. elim e.1 [ inl q ↦ not_both (cursor_void t s c n k h l.1 e.0 q) some | inr q ↦ absurd (omega arith) ]))
+    (λ e. elim e.1 [ inl q ↦ both_ways _ some (cursor_void t s c n k h l.1 e.0 q) | inr q ↦ absurd (omega arith) ]))
 data_stays t (Put2 job s c digest parity_digest second_digest kept kept2) n k h l lk some =
     ap digest_in (slots_stay t (Put2 job s c digest parity_digest second_digest kept kept2) n k h l (omega arith)
-    (λ e. elim e.1 [ inl q ↦ not_both (cursor_void t s c n k h l.1 e.0 q) some | inr q ↦ absurd (omega arith) ]))
+    (λ e. elim e.1 [ inl q ↦ both_ways _ some (cursor_void t s c n k h l.1 e.0 q) | inr q ↦ absurd (omega arith) ]))
 data_stays t (Gone job s c) n k h l lk some = digests_stay t (Gone job s c) n k h l (omega arith) (λ e. e)
 data_stays t (Broke job s c) n k h l lk some = digests_stay t (Broke job s c) n k h l (omega arith) (λ e. e)
 data_stays t (Mended job s c) n k h l lk some = digests_stay t (Mended job s c) n k h l (omega arith) (λ e. e)
@@ -191,7 +191,7 @@ data_stays t (Swapped job c to) n k h l lk some = digests_stay t (Swapped job c 
 data_stays t _ n k h l lk some = refl
 
 -- a loss makes no slot Live
-lost_is_not_live : (x : SlotState) → IsTrue (is_live (lost_of x)) → ⊥
+pub lost_is_not_live : (x : SlotState) → IsTrue (is_live (lost_of x)) → ⊥
 lost_is_not_live Void e = cc
 lost_is_not_live (Live d) e = cc
 lost_is_not_live (Lost d) e = cc
@@ -212,18 +212,18 @@ live_losses zero t c n k e = e
 live_losses (suc m) t c n k e = live_losses m t c n k (live_before (with_losses m t c) m c _ n k (lost_is_not_live (slot_at (with_losses m t c) m c)) e)
 
 pub live_by_put : LiveByPut
-live_by_put t (Put job s c digest parity_digest kept) n k h l lk e = elim (same_or n s) [
+live_by_put t (Put job s c digest parity_digest kept) n k h l lk e = elim (cases_eq n s) [
   | inl q ↦ inr q
   | inr ne ↦ inl (sym (ap is_live (slots_stay t (Put job s c digest parity_digest kept) n k h l lk (λ w. ne w.0))) ∙ e)
 ]
-live_by_put t (Put2 job s c digest parity_digest second_digest kept kept2) n k h l lk e = elim (same_or n s) [
+live_by_put t (Put2 job s c digest parity_digest second_digest kept kept2) n k h l lk e = elim (cases_eq n s) [
   | inl q ↦ inr q
   | inr ne ↦ inl (sym (ap is_live (slots_stay t (Put2 job s c digest parity_digest second_digest kept kept2) n k h l lk (λ w. ne w.0))) ∙ e)
 ]
 live_by_put t (Gone job s c) n k h l lk e = inl (live_before t s c _ n k (lost_is_not_live (slot_at t s c)) e)
 live_by_put t (Broke job s c) n k h l lk e = inl (live_before t s c _ n k (broken_is_not_live (slot_at t s c)) e)
-live_by_put t (Mended job s c) n k h l lk e = elim (same_or n s) [
-  | inl q ↦ elim (same_or k c) [
+live_by_put t (Mended job s c) n k h l lk e = elim (cases_eq n s) [
+  | inl q ↦ elim (cases_eq k c) [
     | inl r ↦ inr (q, r)
     | inr ne ↦ inl (sym (ap is_live (slots_stay t (Mended job s c) n k h l lk (λ w. ne w.1))) ∙ e)
   ]

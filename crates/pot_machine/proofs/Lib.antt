@@ -1,4 +1,3 @@
-pub mod Cases
 pub mod Searches
 pub mod Mapped
 pub mod Sizes

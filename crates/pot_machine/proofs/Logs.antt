@@ -1,15 +1,15 @@
 -- Logs that grow, where they lead, and the entries of one job in them.
-use Rattle.std.proofs.Common.{◌≡◌, ◌⊎◌, ◌↔◌, inl, inr, ◌<◌, ◌≤◌, ◌+◌, ℕ, zero, suc, Bool, true, false, IsTrue, List, [], ◌∷◌, ◌++◌, length, get_or, take, Some, None, slice_get, refl, sym, ap, ◌∙◌, subst, arith, add-one}
+use Rattle.std.proofs.Common.{◌≡◌, ◌↔◌, inl, inr, ◌<◌, ◌≤◌, ◌+◌, ℕ, zero, suc, Bool, true, false, IsTrue, List, [], ◌∷◌, ◌++◌, length, get_or, take, Some, None, slice_get, refl, sym, ap, ◌∙◌, subst, arith, add-one}
 use Rattle.std.proofs.Math.Seq.{take-suc}
 use Rattle.std.proofs.lemmas.Option.{slice_get_past, get_or_from_slice_get}
 use Rattle.std.proofs.lemmas.List.Elements.{filter-append}
+use Rattle.std.proofs.lemmas.Bool.{both_ways, cases_order}
 use Rattle.pot_machine.specs.declared.entry.Entry.{Entry}
 use Rattle.pot_machine.specs.Table.{Table}
 use Rattle.pot_machine.specs.Machine.{Legal, after, Replays, Replayed}
 use Rattle.pot_machine.specs.Rules.{IsTable}
 use Rattle.pot_machine.specs.Logs.{is_of, own, replayed, AreLegal}
 use Rattle.pot_machine.specs.Laws.{ReplayedOnce, LogsGoOn, LogsLeadOnce, LogsComeTo, LogsComeOn, OwnInBoth}
-use Rattle.pot_machine.proofs.Cases.{not_both}
 use Rattle.pot_machine.proofs.Kept.{after_keeps}
 
 -- a log goes on by an entry that is legal at its end
@@ -62,17 +62,14 @@ next_legal t (x ∷ log) zero (suc j) u v lt le r s = (x, refl, subst (λ w. Leg
 next_legal t (x ∷ log) (suc i) zero u v lt le r s = absurd (omega arith)
 next_legal t (x ∷ log) (suc i) (suc j) u v lt le r s = next_legal (after t x) log i j u v (omega arith) (omega arith) r.1 s.1
 
-order : (i j : ℕ) → (i ≡ j) ⊎ ((i < j) ⊎ (j < i))
-order i j = grind arith
-
 same_truth : (a b : Bool) (m n k : ℕ) → m ≡ n → IsTrue a ↔ (m ≡ k) → IsTrue b ↔ (n ≡ k) → a ≡ b
 same_truth true true m n k e p q = refl
-same_truth true false m n k e p q = absurd (not_both (q.1 (sym e ∙ p.0 refl)) refl)
-same_truth false true m n k e p q = absurd (not_both (p.1 (e ∙ q.0 refl)) refl)
+same_truth true false m n k e p q = absurd (both_ways _ refl (q.1 (sym e ∙ p.0 refl)))
+same_truth false true m n k e p q = absurd (both_ways _ refl (p.1 (e ∙ q.0 refl)))
 same_truth false false m n k e p q = refl
 
 pub replayed_once : ReplayedOnce
-replayed_once t u v entries whole all r s = elim (order r.applied s.applied) [
+replayed_once t u v entries whole all r s = elim (cases_order r.applied s.applied) [
   | inl e ↦ (
     replays_once t (take r.applied entries) u v r.replays (subst (λ n. Replays t (take n entries) v) (sym e) s.replays),
     same_truth whole all r.applied s.applied (length entries) e r.all s.all,

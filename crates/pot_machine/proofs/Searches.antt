@@ -1,6 +1,7 @@
 -- The least number that passes a test, and how many do.
-use Rattle.std.proofs.Common.{◌≡◌, ◌≢◌, ◌⊎◌, ℕ, zero, suc, ◌+◌, ◌<◌, ◌≤◌, refl, sym, ap, ◌∙◌, arith, add-one, Option, Some, None, inl, inr, if◌then◌else◌, Bool, true, false, not, ◌&&◌, nat_eq}
+use Rattle.std.proofs.Common.{◌≡◌, ◌≢◌, ◌⊎◌, ℕ, zero, suc, ◌+◌, ◌<◌, ◌≤◌, refl, sym, ap, ap₂, ◌∙◌, arith, add-one, Option, Some, None, inl, inr, if◌then◌else◌, Bool, true, false, not, ◌&&◌, nat_eq}
 use Rattle.std.proofs.lemmas.Bool.Decides.{nat_tests}
+use Rattle.pot_bytes.proofs.Basis.{last_or}
 use Rattle.pot_machine.specs.Table.{least, count, or_else}
 
 or_none : (o : Option ℕ) (b : Bool) (n : ℕ) → or_else o (if b then Some n else None) ≡ None → (o ≡ None) × (b ≡ false)
@@ -26,9 +27,6 @@ least_at n (suc m) test h f lt = elim (last_or n m lt) [
   | inl e ↦ rw (← e, h, f) refl
   | inr l ↦ rw (least_at n m test h f l) refl
 ]
-  where
-    last_or : (k n : ℕ) → k < suc n → (k ≡ n) ⊎ (k < n)
-    last_or k n lt = grind arith
 
 pub least_zero : (test : ℕ → Bool) → least 0 test ≡ None
 unfolding least
@@ -41,9 +39,6 @@ least_none zero test h j lt = absurd (omega arith)
 least_none (suc n) test h j lt =
     let both : (least n test ≡ None) × (test n ≡ false) = or_none (least n test) (test n) n h in
     elim (last_or j n lt) [ inl e ↦ ap test e ∙ both.1 | inr l ↦ least_none n test both.0 j l ]
-  where
-    last_or : (k n : ℕ) → k < suc n → (k ≡ n) ⊎ (k < n)
-    last_or k n lt = grind arith
 
 -- the number passes, and none below does
 pub least_some : (n : ℕ) (test : ℕ → Bool) (k : ℕ) → least n test ≡ Some k → (k < n) × (test k ≡ true) × ((j : ℕ) → j < k → test j ≡ false)
@@ -63,6 +58,11 @@ none_least (suc n) test h = rw (none_least n test (λ j lt. h j (omega arith)), 
 pub count_zero : (test : ℕ → Bool) → count 0 test ≡ 0
 unfolding count
 count_zero test = refl
+
+pub count_none : (n : ℕ) (test : ℕ → Bool) → ((c : ℕ) → c < n → test c ≡ false) → count n test ≡ 0
+unfolding count
+count_none zero test h = refl
+count_none (suc n) test h = ap₂ (λ a b. a + (if b then 1 else 0)) (count_none n test (λ c l. h c (omega arith))) (h n (omega arith))
 
 pub count_hit : (n : ℕ) (test : ℕ → Bool) → test n ≡ true → count (n + 1) test ≡ count n test + 1
 unfolding count

@@ -1,11 +1,11 @@
 -- The rules on Void slots and on the cursor, kept.
 use Rattle.std.proofs.Common.{◌≡◌, ◌≢◌, ◌<◌, ◌≤◌, ◌+◌, ◌⊎◌, inl, inr, ℕ, Bool, true, false, refl, ap, sym, ◌∙◌, subst, arith, nat_lt, nat_le, if◌then◌else◌}
 use Rattle.std.proofs.lemmas.Bool.Decides.{nat_tests}
+use Rattle.std.proofs.lemmas.Bool.{cases_eq}
 use Rattle.pot_machine.specs.Slot.{is_void}
 use Rattle.pot_machine.specs.Table.{Table, width, slot_at}
 use Rattle.pot_machine.specs.Machine.{past, with_cursor}
 use Rattle.pot_machine.specs.Rules.{HasCursor, HasVoids}
-use Rattle.pot_machine.proofs.Cases.{same_or}
 
 -- the same sizes and cursor, and the same slots are Void
 pub record SameVoids (t u : Table) : Type 0 where
@@ -77,7 +77,7 @@ le_step c j k le h = grind (arith, nat_tests)
 
 module _ (t u : Table) (s c : ℕ) (put : IsPut t u s c) (at : s ≡ t.cursor.stripe) (column : c ≡ t.cursor.column) (stripe : s < t.stripes) (below : c < t.data_columns) (voids : HasVoids t) where
   in_stripe : (k : ℕ) → k < t.data_columns → is_void (slot_at u s k) ≡ nat_le (c + 1) k
-  in_stripe k lk = elim (same_or k c) [
+  in_stripe k lk = elim (cases_eq k c) [
     | inl e ↦ ap (λ j. is_void (slot_at u s j)) e ∙ put.written ∙ sym (not_itself c k e)
     | inr ne ↦ ap is_void (put.columns k lk ne) ∙ ap (λ n. is_void (slot_at t n k)) at ∙ voids.cursor k (omega arith) lk ∙ ap (λ n. nat_le n k) (sym column) ∙ below_next c k ne
   ]
@@ -91,12 +91,12 @@ module _ (t u : Table) (s c : ℕ) (put : IsPut t u s c) (at : s ≡ t.cursor.st
       let parity : u.parity ≡ t.parity = put.parity in
       let stripes : u.stripes ≡ t.stripes = put.stripes in
       record {
-        first = λ n j k ln le lk v. elim (same_or n s) [
+        first = λ n j k ln le lk v. elim (cases_eq n s) [
           | inl e ↦ subst (λ n. is_void (slot_at u n k) ≡ true) (sym e)
               (in_stripe k (omega arith) ∙ le_step (c + 1) j k le (sym (in_stripe j (omega arith)) ∙ ap (λ n. is_void (slot_at u n j)) (sym e) ∙ v))
           | inr ne ↦ elsewhere n k (omega arith) ne ∙ voids.first n j k (omega arith) le (omega arith) (sym (elsewhere n j (omega arith) ne) ∙ v)
         ];
-        parity = λ n k ln lw lk. elim (same_or n s) [
+        parity = λ n k ln lw lk. elim (cases_eq n s) [
           | inl e ↦ subst (λ n. is_void (slot_at u n k) ≡ is_void (slot_at u n 0)) (sym e)
               (put.parities k (omega arith) (omega arith) ∙ sym (in_stripe 0 (omega arith) ∙ not_zero c))
           | inr ne ↦ elsewhere n k (omega arith) ne ∙ voids.parity n k (omega arith) (omega arith) (omega arith) ∙ sym (elsewhere n 0 (omega arith) ne)

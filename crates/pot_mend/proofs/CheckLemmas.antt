@@ -4,6 +4,7 @@ use Rattle.std.specs.Prelude.{is_some, IsSome, IsSomeAnd, IfSome, Ok, Err, filte
 use Rattle.std.specs.List.{list_any}
 use Rattle.std.specs.Option.{option_or}
 use Rattle.std.proofs.lemmas.Option.{slice_get_within, same_Some}
+use Rattle.std.proofs.lemmas.Bool.{cases_lt}
 use Rattle.pot_bytes.specs.declared.rack.Rack.{Rack}
 use Rattle.pot_machine.specs.declared.column.Moving.{Moving}
 use Rattle.pot_machine.specs.declared.entry.Entry.{Entry}
@@ -25,7 +26,6 @@ use Rattle.pot_worked.specs.Worked.{added, Alone, Worked}
 use Rattle.pot_worked.proofs.WorkedLemmas.{work_goes_on, own_in_turn, more_is_work, more_has_none}
 use Rattle.pot_rows.specs.Rows.{view_at}
 use Rattle.pot_rows.specs.Works.{RowAlone, RowWorked}
-use Rattle.pot_rows.proofs.RowLemmas.{below_or_past}
 use Rattle.pot_rows.proofs.TieLemmas.{knows_same}
 use Rattle.pot_replies.specs.Settings.{Setting}
 use Rattle.pot_replies.specs.Moves.{HasHome, IsUsed, NoHome, moving_at}
@@ -174,7 +174,7 @@ module _ (told : Type 0) (rack : Rack) (turns : List TurnName) (from to : ℕ) (
       (λ (lt : g < length traces.answers). (let x = there_is traces.answers g lt in its_work g x.0 x.1 job))
       (λ (past : length traces.answers ≤ g). subst (λ v. Worked (of_job job) (view_at old g) v) (sym (traces.asked.rest g past))
       (more_is_work (of_job job) (view_at old g) (view_at old g) (knows_same (view_at old g)) (ready.idle g)))
-      (below_or_past g (length traces.answers))
+      (cases_lt g (length traces.answers))
 
   asked_none : (job : ℕ) → RowAlone (of_job job) old new → (g : ℕ) → own job (gained old new g) ≡ []
   asked_none job alone g = own_entries job (added (view_at old g) (view_at new g)) ∙ ap entries_of (⊎_elim
@@ -186,7 +186,7 @@ module _ (told : Type 0) (rack : Rack) (turns : List TurnName) (from to : ℕ) (
       let same : view_at new g ≡ view_at old g = traces.asked.rest g past in
       subst (λ (v : GroupPass). filter (of_job job) (added (view_at old g) v) ≡ []) (sym same)
       (more_has_none (of_job job) (view_at old g) (view_at old g) (knows_same (view_at old g)) (subst (λ (v : GroupPass). Alone (of_job job) (view_at old g) v) same (alone g))))
-      (below_or_past g (length traces.answers)))
+      (cases_lt g (length traces.answers)))
 
   pub all_asked : IsAsked old new
   all_asked = record { worked = asked_work; silent = asked_none }

@@ -1,5 +1,5 @@
 -- Entries of a list.
-use Rattle.std.proofs.Common.{◌≡◌, ⊎_elim, zero, suc, ◌+◌, Bool, List, [], ◌∷◌, ◌++◌, length, refl, ap, ◌∙◌, arith, length-append}
+use Rattle.std.proofs.Common.{◌≡◌, ⊎_elim, zero, ◌+◌, Bool, List, [], ◌∷◌, ◌++◌, length, refl, ap, ◌∙◌, arith, length-append}
 use Rattle.std.specs.Prelude.{Contains, filter}
 use Rattle.std.proofs.lemmas.List.Elements.{Contains-append_cases, filter-append}
 use Rattle.pot_machine.specs.declared.entry.Entry.{Entry}
@@ -7,10 +7,6 @@ use Rattle.pot_replies.specs.Jobs.{EachIs}
 
 pub one_in : (x : Entry) → Contains (x ∷ []) x
 one_in x = (zero, omega arith, refl)
-
-pub just_it : (x e : Entry) → Contains (x ∷ []) e → x ≡ e
-just_it x e (zero, lt, is) = is
-just_it x e (suc i, lt, is) = absurd (omega (arith, lt))
 
 pub each_more : (test : Entry → Bool) (xs ys : List Entry) → EachIs test xs → EachIs test ys → EachIs test (xs ++ ys)
 each_more test xs ys a b e has = ⊎_elim (λ (front : Contains xs e). a e front) (λ (back : Contains ys e). b e back) (Contains-append_cases xs ys e has)

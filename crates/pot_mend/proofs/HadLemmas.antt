@@ -1,8 +1,9 @@
 -- Which archives a column has had, and how its move ends, along a log.
-use Rattle.std.proofs.Common.{◌≡◌, ◌≢◌, ◌⊎◌, inl, inr, ⊎_elim, ℕ, zero, suc, ◌<◌, ◌++◌, Bool, true, false, IsTrue, List, [], ◌∷◌, Option, Some, None, length, refl, sym, ap, ◌∙◌, subst, arith}
-use Rattle.std.specs.Prelude.{Contains, IsSome, ◌==◌, ◌||◌, nat_eq, if◌then◌else◌}
-use Rattle.std.proofs.lemmas.Bool.Decides.{nat_tests}
+use Rattle.std.proofs.Common.{◌≡◌, ◌≢◌, ◌⊎◌, inl, inr, ⊎_elim, ℕ, suc, ◌<◌, ◌++◌, Bool, true, false, IsTrue, List, [], ◌∷◌, Option, Some, None, length, refl, sym, ap, ◌∙◌, subst, arith}
+use Rattle.std.specs.Prelude.{Contains, IsSome, ◌==◌, nat_eq, if◌then◌else◌}
 use Rattle.std.proofs.lemmas.List.Elements.{Contains-append_left, Contains-append_right, Contains-append_cases}
+use Rattle.std.proofs.lemmas.Bool.{cases_eq, eqb-true, eq-eqb, or_cases, or_left, or_right, both_ways}
+use Rattle.pot_bytes.proofs.Elements.{none_contained, one_contained}
 use Rattle.pot_machine.specs.declared.column.Column.{Column}
 use Rattle.pot_machine.specs.declared.column.Moving.{Moving}
 use Rattle.pot_machine.specs.declared.entry.Entry.{Entry}
@@ -12,14 +13,13 @@ use Rattle.pot_machine.specs.Table.{Table, width, column_at, holder_of}
 use Rattle.pot_machine.specs.Machine.{Legal, Replays, after, moved_on, moved_home, with_loss, with_losses}
 use Rattle.pot_machine.specs.Rules.{IsTable}
 use Rattle.pot_machine.specs.Logs.{replayed}
-use Rattle.pot_machine.proofs.Cases.{not_both, same_or}
-use Rattle.pot_machine.proofs.Columns.{column_other, column_same}
+use Rattle.pot_machine.proofs.Columns.{column_other, column_same, moved_home_names, named_in, in_named}
 use Rattle.pot_machine.proofs.Kept.{after_keeps}
-use Rattle.pot_machine.proofs.LeftAlone.{sizes_stay}
+use Rattle.pot_machine.proofs.LeftAlone.{sizes_stay, columns-with_losses}
 use Rattle.pot_machine.proofs.Searches.{least_none, least_some}
 use Rattle.pot_machine.proofs.Sizes.{width-with_losses}
 use Rattle.pot_group.specs.Causes.{archives_of, brought, brought_by}
-use Rattle.pot_group.proofs.ColumnExits.{home_names, on_names}
+use Rattle.pot_group.proofs.ColumnExits.{on_names}
 use Rattle.pot_mend.specs.Moves.{EndsMove}
 
 -- THE WIDTH OF A TABLE
@@ -33,61 +33,20 @@ same_width t (e ∷ log) =
 
 -- WHAT A COLUMN NAMES
 
-in_none : (n : ℕ) → Contains [] n → ⊥
-in_none n h = (let l : h.0 < 0 = h.1 in omega arith)
-
-in_one : (x n : ℕ) → Contains (x ∷ []) n → x ≡ n
-in_one x n (zero, l, e) = e
-in_one x n (suc k, l, e) = absurd (omega (arith, l))
-
 one_in : (x n : ℕ) → x ≡ n → Contains (x ∷ []) n
 one_in x n e = (0, omega arith, e)
 
-same_is : (a b : ℕ) → a ≡ b → (a == b) ≡ true
-same_is a b e = grind (arith, nat_tests)
-
-is_same : (a b : ℕ) → (a == b) ≡ true → a ≡ b
-is_same a b e = grind (arith, nat_tests)
-
-left_true : (a b : Bool) → a ≡ true → IsTrue (a || b)
-left_true true b h = refl
-left_true false b h = absurd (cc)
-
-right_true : (a b : Bool) → b ≡ true → IsTrue (a || b)
-right_true true b h = refl
-right_true false b h = h
-
-either : (a b : Bool) → IsTrue (a || b) → (a ≡ true) ⊎ (b ≡ true)
-either true b h = inl refl
-either false b h = inr h
-
 -- a home is named
 pub home_named : (o : Option Moving) (home n : ℕ) → home ≡ n → IsTrue (names_moved o home n)
-home_named None home n e = same_is home n e
-home_named (Some m) home n e = left_true (home == n) (m.to == n) (same_is home n e)
+home_named None home n e = eq-eqb home n e
+home_named (Some m) home n e = or_left (home == n) (m.to == n) (eq-eqb home n e)
 
 -- and so is a target
 pub target_named : (o : Option Moving) (home n : ℕ) (m : Moving) → o ≡ Some m → m.to ≡ n → IsTrue (names_moved o home n)
 target_named None home n m is e = absurd (cc is)
-target_named (Some k) home n m is e = (let same : k ≡ m = cc is in right_true (home == n) (k.to == n) (same_is k.to n (ap (λ (j : Moving). j.to) same ∙ e)))
-
-named_in : (o : Option Moving) (home n : ℕ) → IsTrue (names_moved o home n) → Contains (home ∷ target_of o) n
-named_in None home n h = (0, omega arith, is_same home n h)
-named_in (Some m) home n h = ⊎_elim
-    (λ (e : (home == n) ≡ true). (0, omega arith, is_same home n e))
-    (λ (e : (m.to == n) ≡ true). (1, omega arith, is_same m.to n e))
-    (either (home == n) (m.to == n) h)
-
-in_named : (o : Option Moving) (home n : ℕ) → Contains (home ∷ target_of o) n → IsTrue (names_moved o home n)
-in_named None home n h = same_is home n (in_one home n h)
-in_named (Some m) home n (zero, l, e) = left_true (home == n) (m.to == n) (same_is home n e)
-in_named (Some m) home n (suc k, l, e) = right_true (home == n) (m.to == n) (same_is m.to n (in_one m.to n (k, omega (arith, l), e)))
+target_named (Some k) home n m is e = (let same : k ≡ m = cc is in or_right (home == n) (k.to == n) (eq-eqb k.to n (ap (λ (j : Moving). j.to) same ∙ e)))
 
 -- ONE ENTRY
-
-columns-with_losses : (n : ℕ) (t : Table) (c : ℕ) → (with_losses n t c).columns ≡ t.columns
-columns-with_losses zero t c = refl
-columns-with_losses (suc n) t c = columns-with_losses n t c
 
 -- the column that a swap leaves
 swapped_is : (t : Table) (c to : ℕ) → length t.columns ≡ width t → c < width t → column_at (after t (Swapped 0 c to)) c ≡ record { home = to; moving = None }
@@ -104,7 +63,7 @@ swapped_other t c k to ne =
     column_other u c k (record { home = to; moving = None }) ne ∙ ap (λ cs. column_at (record t { columns = cs }) k) (columns-with_losses t.stripes t c)
 
 pub brought_here : (c k to n : ℕ) → c ≡ k → to ≡ n → Contains (if nat_eq c k then to ∷ [] else []) n
-brought_here c k to n same is = subst (λ l. Contains l n) (sym (here (nat_eq c k) (same_is c k same))) (one_in to n is)
+brought_here c k to n same is = subst (λ l. Contains l n) (sym (here (nat_eq c k) (eq-eqb c k same))) (one_in to n is)
   where
     here : (b : Bool) → b ≡ true → (if b then to ∷ [] else []) ≡ to ∷ []
     here true e = refl
@@ -114,8 +73,8 @@ brought_there : (c k to n : ℕ) → Contains (if nat_eq c k then to ∷ [] else
 brought_there c k to n h = by (nat_eq c k) refl h
   where
     by : (b : Bool) → nat_eq c k ≡ b → Contains (if b then to ∷ [] else []) n → (c ≡ k) × (to ≡ n)
-    by true e h = (is_same c k e, in_one to n h)
-    by false e h = absurd (in_none n h)
+    by true e h = (eqb-true c k e, one_contained to n h)
+    by false e h = absurd (none_contained n h)
 
 module _ (t : Table) (c n : ℕ) (sized : length t.columns ≡ width t) where
   -- a column changed: what it names now it named before, or the entry brought it
@@ -125,7 +84,7 @@ module _ (t : Table) (c n : ℕ) (sized : length t.columns ≡ width t) where
       (λ (e : c ≡ k). subst (λ j. IsTrue (names (column_at t j) n) ⊎ B) (sym e)
       (own e (subst (λ y. IsTrue (names y n)) (here e) (subst (λ j. IsTrue (names (column_at u j) n)) e h))))
       (λ (ne : c ≢ k). inl (subst (λ y. IsTrue (names y n)) (there ne) h))
-      (same_or c k)
+      (cases_eq c k)
 
   named_after : (e : Entry) → Legal t e → IsTrue (names (column_at (after t e) c) n) → IsTrue (names (column_at t c) n) ⊎ Contains (brought c e) n
   named_after (MoveBegin job k to) legal h =
@@ -133,9 +92,9 @@ module _ (t : Table) (c n : ℕ) (sized : length t.columns ≡ width t) where
       one_changed k (after t (MoveBegin job k to)) x (Contains (brought c (MoveBegin job k to)) n)
       (λ e. column_same t k x sized legal.0.0) (λ ne. column_other t k c x ne)
       (λ e named. ⊎_elim
-      (λ (is : ((column_at t k).home == n) ≡ true). inl (home_named (column_at t k).moving (column_at t k).home n (is_same (column_at t k).home n is)))
-      (λ (is : (to == n) ≡ true). inr (brought_here c k to n e (is_same to n is)))
-      (either ((column_at t k).home == n) (to == n) named))
+      (λ (is : ((column_at t k).home == n) ≡ true). inl (home_named (column_at t k).moving (column_at t k).home n (eqb-true (column_at t k).home n is)))
+      (λ (is : (to == n) ≡ true). inr (brought_here c k to n e (eqb-true to n is)))
+      (or_cases ((column_at t k).home == n) (to == n) named))
       h
   named_after (Moved job s k true) legal h =
       one_changed k (after t (Moved job s k true)) (moved_on (column_at t k)) (Contains [] n)
@@ -148,11 +107,11 @@ module _ (t : Table) (c n : ℕ) (sized : length t.columns ≡ width t) where
   named_after (MoveEnd job k) legal h =
       one_changed k (after t (MoveEnd job k)) (moved_home (column_at t k)) (Contains [] n)
       (λ e. column_same t k (moved_home (column_at t k)) sized legal.0) (λ ne. column_other t k c (moved_home (column_at t k)) ne)
-      (λ e named. inl (home_names (column_at t k).moving (column_at t k).home n named)) h
+      (λ e named. inl (moved_home_names (column_at t k).moving (column_at t k).home n named)) h
   named_after (Swapped job k to) legal h =
       one_changed k (after t (Swapped job k to)) (record { home = to; moving = None }) (Contains (brought c (Swapped job k to)) n)
       (λ e. swapped_is t k to sized legal.0) (λ ne. swapped_other t k c to ne)
-      (λ e named. inr (brought_here c k to n e (is_same to n named))) h
+      (λ e named. inr (brought_here c k to n e (eqb-true to n named))) h
   named_after _ legal h = inl h
 
   -- what an entry brings to a column is named then
@@ -161,12 +120,12 @@ module _ (t : Table) (c n : ℕ) (sized : length t.columns ≡ width t) where
       let b = brought_there c k to n h in
       let x : Column = record (column_at t k) { moving = Some (record { to = to; upto = 0 }) } in
       subst (λ j. IsTrue (names (column_at (after t (MoveBegin job k to)) j) n)) (sym b.0)
-      (subst (λ y. IsTrue (names y n)) (sym (column_same t k x sized legal.0.0)) (right_true ((column_at t k).home == n) (to == n) (same_is to n b.1)))
+      (subst (λ y. IsTrue (names y n)) (sym (column_same t k x sized legal.0.0)) (or_right ((column_at t k).home == n) (to == n) (eq-eqb to n b.1)))
   brought_named (Swapped job k to) legal h =
       let b = brought_there c k to n h in
       subst (λ j. IsTrue (names (column_at (after t (Swapped job k to)) j) n)) (sym b.0)
-      (subst (λ y. IsTrue (names y n)) (sym (swapped_is t k to sized legal.0)) (same_is to n b.1))
-  brought_named _ legal h = absurd (in_none n h)
+      (subst (λ y. IsTrue (names y n)) (sym (swapped_is t k to sized legal.0)) (eq-eqb to n b.1))
+  brought_named _ legal h = absurd (none_contained n h)
 
 -- WHOLE LOGS
 
@@ -184,7 +143,7 @@ named_had t (e ∷ x) y u c n table r h = ⊎_elim
 -- an archive that was brought is named at a point of the log
 brought_cut : (t : Table) (log : List Entry) (u : Table) (c n : ℕ) → IsTable t → Replays t log u → Contains (brought_by c log) n
     → (x : List Entry) × (y : List Entry) × (log ≡ x ++ y) × IsTrue (names (column_at (replayed t x) c) n)
-brought_cut t [] u c n table r h = absurd (in_none n h)
+brought_cut t [] u c n table r h = absurd (none_contained n h)
 brought_cut t (e ∷ log) u c n table r h = ⊎_elim
     (λ (b : Contains (brought c e) n). (e ∷ [], log, refl, brought_named t c n table.size.columns e r.0 b))
     (λ (b : Contains (brought_by c log) n). (let rest = brought_cut (after t e) log u c n (after_keeps t e table r.0) r.1 b in (e ∷ rest.0, rest.1, ap (λ l. e ∷ l) rest.2, rest.3)))
@@ -196,7 +155,7 @@ named_held t c n lt h = by (holder_of t n) refl
   where
     by : (o : Option ℕ) → holder_of t n ≡ o → IsSome o
     by (Some k) e = refl
-    by None e = absurd (not_both h (least_none (width t) (λ k. names (column_at t k) n) e c lt))
+    by None e = absurd (both_ways _ (least_none (width t) (λ k. names (column_at t k) n) e c lt) h)
 
 held_named : (t : Table) (n : ℕ) → IsSome (holder_of t n) → (c : ℕ) × (c < width t) × IsTrue (names (column_at t c) n)
 held_named t n some = by (holder_of t n) refl some
@@ -257,7 +216,7 @@ module _ (t : Table) (c : ℕ) (sized : length t.columns ≡ width t) where
       (λ (ends : Ending e). inr ends)
       (own same (subst (λ j. IsSome (column_at t j).moving) same moves)))
       (λ (ne : c ≢ k). inl (subst (λ (y : Column). IsSome y.moving) (sym (there ne)) moves))
-      (same_or c k)
+      (cases_eq c k)
 
   -- a column that moves does so still, or the entry ends its move
   still_moves : (e : Entry) → Legal t e → IsSome (column_at t c).moving → IsSome (column_at (after t e) c).moving ⊎ Ending e

@@ -1,9 +1,11 @@
 -- The steps of a move, one after another, as work of a job.
-use Rattle.std.proofs.Common.{◌≡◌, ◌≢◌, inl, ⊎_elim, ℕ, zero, suc, ◌<◌, ◌≤◌, ◌+◌, ◌-◌, ◌++◌, Bool, true, false, List, [], ◌∷◌, Option, Some, None, length, refl, sym, ap, ◌∙◌, subst, arith, append-nil, length-append, eq-eqb}
+use Rattle.std.proofs.Common.{◌≡◌, ◌≢◌, inl, ℕ, zero, suc, ◌<◌, ◌≤◌, ◌+◌, ◌-◌, ◌++◌, Bool, true, false, List, [], ◌∷◌, Option, Some, None, length, refl, sym, ap, ◌∙◌, subst, arith, append-nil, length-append, eq-eqb}
 use Rattle.std.specs.Prelude.{cond, IsSomeAnd, Result, Ok, Err, Contains, filter, ◌==◌}
-use Rattle.std.proofs.lemmas.List.{map-append, length-map}
-use Rattle.std.proofs.lemmas.List.Elements.{Contains-append_right, Contains-append_cases, filter-append}
+use Rattle.std.proofs.lemmas.List.{map-append, length-map, drop-length}
+use Rattle.std.proofs.lemmas.List.Elements.{Contains-append_right, filter-append}
 use Rattle.pot_bytes.specs.declared.rack.Rack.{Rack}
+use Rattle.pot_bytes.proofs.Elements.{none_contained, one_contained}
+use Rattle.pot_bytes.specs.Rack.{log_bound}
 use Rattle.pot_machine.specs.declared.column.Moving.{Moving}
 use Rattle.pot_machine.specs.declared.entry.Entry.{Entry}
 use Rattle.pot_machine.specs.declared.entry.Entry.TheVariants.{Fault, Moved, MoveEnd}
@@ -13,7 +15,6 @@ use Rattle.pot_machine.specs.Rules.{IsTable}
 use Rattle.pot_machine.specs.Logs.{is_of, own, replayed}
 use Rattle.pot_machine.proofs.LeftAlone.{rules_stay}
 use Rattle.pot_machine.proofs.Logs.{back_replays, front_replays}
-use Rattle.pot_steps.specs.GroupStep.{log_bound}
 use Rattle.pot_group.specs.declared.copying.MoveStep.{MoveStep}
 use Rattle.pot_group.specs.declared.copying.MoveStep.TheVariants as moved
 use Rattle.pot_group.specs.declared.copying.MoveFault.{MoveFault}
@@ -38,12 +39,14 @@ use Rattle.pot_shared.specs.Catalogs.{IndexPasses}
 use Rattle.pot_group.specs.Calls.{MoveStepCall, MoveTells}
 use Rattle.pot_shared.proofs.MemberLemmas.{entries_all}
 use Rattle.pot_store.specs.Works.{of_job, gained, known, section_of, IsSettingOf}
-use Rattle.pot_store.proofs.WorkLemmas.{all_none, all_one, drop_all, group_else, group_own, group_work, own_more, row_stays}
+use Rattle.pot_store.proofs.WorkLemmas.{all_none, all_one, group_else, group_own, group_work, own_more, row_stays}
+use Rattle.pot_store.proofs.StoreLemmas.{gained_none}
 use Rattle.pot_mend.specs.Moves.{IsMoved, IsMoveFault, IsMoveLogFull, MoveRow, seen_in}
 use Rattle.pot_mend.specs.declared.fault.MendFault.{MendFault}
 use Rattle.pot_mend.specs.declared.fault.MendFault.TheVariants as fault
 use Rattle.pot_mend.proofs.HadLemmas.{move_ended}
 use Rattle.pot_mend.proofs.CheckLemmas.{from_some}
+use Rattle.pot_mend.proofs.EntryLemmas.{each_more}
 
 -- ENTRIES
 
@@ -52,24 +55,14 @@ abbrev pub is_step : ℕ → Entry → Bool
 is_step c (Moved job s column k) = column == c
 is_step c _ = false
 
-in_none : {X : Type 0} (x : X) → Contains [] x → ⊥
-in_none x h = (let l : h.0 < 0 = h.1 in omega arith)
-
-pub in_one : {X : Type 0} (x y : X) → Contains (x ∷ []) y → x ≡ y
-in_one x y (zero, l, e) = e
-in_one x y (suc k, l, e) = absurd (omega (arith, l))
-
 one_in : {X : Type 0} (x : X) → Contains (x ∷ []) x
 one_in x = (0, omega arith, refl)
 
-each_more : (test : Entry → Bool) (xs ys : List Entry) → EachIs test xs → EachIs test ys → EachIs test (xs ++ ys)
-each_more test xs ys p q e h = ⊎_elim (λ (l : Contains xs e). p e l) (λ (r : Contains ys e). q e r) (Contains-append_cases xs ys e h)
-
 each_none : (test : Entry → Bool) → EachIs test []
-each_none test e h = absurd (in_none e h)
+each_none test e h = absurd (none_contained e h)
 
 each_one : (test : Entry → Bool) (x : Entry) → test x ≡ true → EachIs test (x ∷ [])
-each_one test x is e h = ap test (sym (in_one x e h)) ∙ is
+each_one test x is e h = ap test (sym (one_contained x e h)) ∙ is
 
 step_moves : (c : ℕ) (e : Entry) → is_step c e ≡ true → is_move_of c e ≡ true
 step_moves c (Moved job s k copied) h = h
@@ -131,10 +124,6 @@ pub record IsMoving (job group c copied : ℕ) (old now : GroupPasses) : Type 0 
   pub copied_is : RowAlone (of_job job) old now → copied ≡ length (filter is_copied (own job (gained old now group)))
   pub elsewhere : RowAlone (of_job job) old now → (h : ℕ) → h ≢ group → own job (gained old now h) ≡ []
   pub few : copied ≤ length (view_at now group).seen
-
--- what a pass gained since itself
-gained_none : (row : GroupPasses) (g : ℕ) → gained row row g ≡ []
-gained_none row g = ap entries_of (drop_all (view_at row g).seen)
 
 pub moving_none : (job group c : ℕ) (rack : Rack) (names : List TurnName) (row : GroupPasses) → AreReady rack names row → IsMoving job group c 0 row row
 moving_none job group c rack names row ready = record {
@@ -242,7 +231,7 @@ module _ (told : Type 0) (job group c copied : ℕ) (rack : Rack) (names : List 
     whole = section_of (known old i) (known next j)
 
     only : IsOnlyIn group (mine job whole)
-    only = (own_else alone, subst (λ k. index.own job (added (view_at i 0) (view_at k 0)) ≡ []) (sym same) (ap (index.own job) (drop_all (view_at i 0).seen)))
+    only = (own_else alone, subst (λ k. index.own job (added (view_at i 0) (view_at k 0)) ≡ []) (sym same) (ap (index.own job) (drop-length (view_at i 0).seen)))
 
     fault_ends : (stripe : ℕ) → call.turn.entries ≡ Fault job stripe c ∷ [] → IsMoveFault job group c whole
     fault_ends stripe is = record {

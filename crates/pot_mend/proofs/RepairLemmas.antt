@@ -2,13 +2,15 @@
 use Rattle.std.proofs.Common.{◌≡◌, ◌≢◌, ◌≤◌, ◌⊎◌, inl, inr, ⊎_elim, ℕ, zero, suc, ◌+◌, true, List, [], ◌∷◌, ◌++◌, length, refl, ap, sym, ◌∙◌, subst, arith, append_assoc, length-append, eq-eqb, ne_eqb}
 use Rattle.std.specs.Prelude.{Contains, filter}
 use Rattle.std.proofs.lemmas.List.Elements.{Contains-append_left, Contains-append_right, Contains-append_cases}
+use Rattle.std.proofs.lemmas.Bool.{cases_eq}
 use Rattle.pot_bytes.specs.declared.digest.Digest.{Digest}
+use Rattle.pot_bytes.proofs.Elements.{one_contained}
 use Rattle.pot_machine.specs.declared.entry.Entry.{Entry}
 use Rattle.pot_machine.specs.declared.entry.Entry.TheVariants as entry
 use Rattle.pot_replies.specs.Jobs.{is_relay, is_mended, is_left, is_stuck_at, Precedes}
 use Rattle.pot_mend.specs.Repairs.{is_begin, NotOdd, NoneAgain, AreRepairs, WasLeft}
 use Rattle.pot_mend.proofs.OrderLemmas.{AtOrAfter, not_before, precedes_more}
-use Rattle.pot_mend.proofs.EntryLemmas.{count_one, each_more, just_it}
+use Rattle.pot_mend.proofs.EntryLemmas.{count_one, each_more}
 
 -- LISTS
 
@@ -30,9 +32,6 @@ at_last (x ∷ xs) (u ∷ us) vs e v same = ⊎_elim
 pub in_middle : {E : Type 0} (xs ys : List E) (e : E) → Contains (xs ++ e ∷ ys) e
 in_middle xs ys e = Contains-append_right xs (e ∷ ys) e (zero, omega arith, refl)
 
-same_number : (a b : ℕ) → (a ≡ b) ⊎ (a ≢ b)
-same_number a b = grind arith
-
 -- STUCK ENTRIES
 
 -- an entry is a Stuck, or is one of no place
@@ -53,9 +52,9 @@ none_stuck (x ∷ xs) n k none = at x none (none_stuck xs n k (λ j o has. none 
         (λ (e : a ≡ n). ⊎_elim
         (λ (f : b ≡ k). absurd (none j o (zero, omega arith, ap (λ m. entry.Stuck j m b o) e ∙ ap (λ m. entry.Stuck j n m o) f)))
         (λ (ne : b ≢ k). rw (eq-eqb a n e, ne_eqb b k ne) rest)
-        (same_number b k))
+        (cases_eq b k))
         (λ (ne : a ≢ n). rw (ne_eqb a n ne) rest)
-        (same_number a n)
+        (cases_eq a n)
 
     at : (x : Entry) → ((i q : ℕ) → Contains (x ∷ xs) (entry.Stuck i n k q) → ⊥) → length (filter (is_stuck_at n k) xs) ≡ 0 → length (filter (is_stuck_at n k) (x ∷ xs)) ≡ 0
     at (entry.Stuck j a b o) none rest = stuck j a b o none rest
@@ -67,9 +66,9 @@ one_most j a b o n k = ⊎_elim
     (λ (e : a ≡ n). ⊎_elim
     (λ (f : b ≡ k). inl (sym e, sym f, rw (eq-eqb a n e, eq-eqb b k f) refl))
     (λ (ne : b ≢ k). inr (rw (eq-eqb a n e, ne_eqb b k ne) refl))
-    (same_number b k))
+    (cases_eq b k))
     (λ (ne : a ≢ n). inr (rw (ne_eqb a n ne) refl))
-    (same_number a n)
+    (cases_eq a n)
 
 -- NO RELAY IS BEGUN ANEW
 
@@ -144,15 +143,15 @@ module _ (job : ℕ) (xs : List Entry) (stuck begun stuck' begun' : ℕ × ℕ) 
         → mended' + left' ≤ (mended + left) + 1 → length (filter is_begin xs) + length (filter is_begin (e ∷ [])) ≤ draws'
         → AreRepairs job (xs ++ e ∷ []) stuck' begun' mended' left' draws'
     repairs_more mended' left' draws' mended_is left_is both blinds = record {
-      kinds = each_more is_relay xs (e ∷ []) are.kinds (λ x has. ap is_relay (sym (just_it e x has)) ∙ may.relay);
+      kinds = each_more is_relay xs (e ∷ []) are.kinds (λ x has. ap is_relay (sym (one_contained e x has)) ∙ may.relay);
       one_stuck = one_stuck_more;
       stuck_before = λ j n k o has. ⊎_elim
           (λ (front : Contains xs (entry.Stuck j n k o)). precedes_more (n, k) stuck stuck' (are.stuck_before j n k o front) further)
-          (λ (back : Contains (e ∷ []) (entry.Stuck j n k o)). (may.stuck j n k o (just_it e (entry.Stuck j n k o) back)).0)
+          (λ (back : Contains (e ∷ []) (entry.Stuck j n k o)). (may.stuck j n k o (one_contained e (entry.Stuck j n k o) back)).0)
           (Contains-append_cases xs (e ∷ []) (entry.Stuck j n k o) has);
       begun_before = λ j n k has. ⊎_elim
           (λ (front : Contains xs (entry.Begin j n k)). precedes_more (n, k) begun begun' (are.begun_before j n k front) on)
-          (λ (back : Contains (e ∷ []) (entry.Begin j n k)). (may.begun j n k (just_it e (entry.Begin j n k) back)).0)
+          (λ (back : Contains (e ∷ []) (entry.Begin j n k)). (may.begun j n k (one_contained e (entry.Begin j n k) back)).0)
           (Contains-append_cases xs (e ∷ []) (entry.Begin j n k) has);
       none_again = none_again_more job xs e are.none_again (λ n k is. (may.begun job n k is).1);
       mended_is = (let a = are.mended_is in let b = count_one is_mended xs e in omega (arith, mended_is, a, b));

@@ -1,8 +1,9 @@
 -- What a move was stepped to, with what its line began, is a row of the replies.
-use Rattle.std.proofs.Common.{◌≡◌, inl, inr, ⊎_elim, ℕ, zero, suc, ◌<◌, ◌≤◌, ◌++◌, Bool, true, false, List, [], ◌∷◌, Option, Some, None, refl, sym, ap, ◌∙◌, subst, arith, append_assoc}
+use Rattle.std.proofs.Common.{◌≡◌, inl, inr, ⊎_elim, ℕ, suc, ◌<◌, ◌≤◌, ◌++◌, Bool, true, false, List, [], ◌∷◌, Option, Some, None, refl, sym, ap, ◌∙◌, subst, arith, append_assoc}
 use Rattle.std.specs.Prelude.{cond, nat_lt, Contains, IsSome, filter}
 use Rattle.std.proofs.lemmas.Bool.Decides.{nat_tests}
 use Rattle.std.proofs.lemmas.List.Elements.{Contains-append_right}
+use Rattle.pot_bytes.proofs.Elements.{parted_at}
 use Rattle.pot_machine.specs.declared.column.Column.{Column}
 use Rattle.pot_machine.specs.declared.column.Moving.{Moving}
 use Rattle.pot_machine.specs.declared.entry.Entry.{Entry}
@@ -76,12 +77,6 @@ moves_still t log u c table replay moves kinds = by (column_at u c).moving refl
         (λ (h : (by : ℕ) × (to : ℕ) × Contains log (Swapped by c to)). apart (kinds (Swapped h.0 c h.1) h.2))
         (move_ended t log u c table replay moves e))
 
--- a list cut at an element
-cut_at : (log : List Entry) (e : Entry) → Contains log e → (x : List Entry) × (y : List Entry) × (log ≡ x ++ e ∷ y)
-cut_at [] e h = absurd (omega (arith, h.1))
-cut_at (d ∷ log) e (zero, l, is) = ([], log, ap (λ f. f ∷ log) is)
-cut_at (d ∷ log) e (suc k, l, is) = (let r = cut_at log e (k, omega (arith, l), is) in (d ∷ r.0, r.1, ap (λ es. d ∷ es) r.2))
-
 -- where the jobs ascend, those below one stand in front
 none_below : (job : ℕ) (e : Entry) (es : List Entry) → job ≤ job_of e → JobsAscend (e ∷ es) → filter (λ d. nat_lt (job_of d) job) es ≡ []
 none_below job e [] le order = refl
@@ -132,7 +127,7 @@ module _ (s : Setting) (before begun : ℕ → List Entry) (job from to g c : �
   begins_moves (inl (may, own_is)) =
       let e : Entry = MoveBegin job c to in
       let there : Contains (begun g) e = kept_in (is_of job) (begun g) e (subst (λ es. Contains es e) (sym own_is) (0, omega arith, refl)) in
-      let cut = cut_at (begun g) e there in
+      let cut = parted_at (begun g) e there in
       from_there cut.0 (e ∷ cut.1) cut.2 (λ now more.
       let t : Table = replayed (s.first g) (before g ++ cut.0) in
       let x : Column = record (column_at t c) { moving = Some (record { to = to; upto = 0 }) } in

@@ -5,11 +5,13 @@ use Rattle.std.proofs.lemmas.List.{map-append}
 use Rattle.std.proofs.lemmas.List.Elements.{Contains-append_left, Contains-append_right}
 use Rattle.pot_bytes.specs.declared.rack.Place.{Place}
 use Rattle.pot_bytes.specs.declared.rack.Rack.{Rack}
+use Rattle.pot_bytes.proofs.Elements.{one_contained}
+use Rattle.pot_bytes.specs.Rack.{log_bound}
 use Rattle.pot_machine.specs.declared.entry.Entry.{Entry}
 use Rattle.pot_machine.specs.declared.entry.Entry.TheVariants as entry
 use Rattle.pot_machine.specs.Slot.{is_live}
 use Rattle.pot_machine.specs.Logs.{is_of, own}
-use Rattle.pot_steps.specs.GroupStep.{log_bound, look_entries}
+use Rattle.pot_steps.specs.GroupStep.{look_entries}
 use Rattle.pot_group.specs.declared.answers.Looked.{Looked}
 use Rattle.pot_group.specs.declared.answers.Looked.TheVariants as looked
 use Rattle.pot_group.specs.declared.finding.Kind.TheVariants as kind
@@ -35,7 +37,7 @@ use Rattle.pot_mend.specs.declared.fault.MendFault.TheVariants as fault
 use Rattle.pot_mend.specs.declared.scrubbing.Scrubbed.{Scrubbed}
 use Rattle.pot_store.specs.Adds.{Adds, Fails, FailsOnce, FindsNext, IsFromOn, IsNextOf}
 use Rattle.pot_mend.specs.Scrubs.{logged, IsHere, LooksAt, LooksNext, ScrubsNext, ScrubRow}
-use Rattle.pot_mend.proofs.EntryLemmas.{count_one, each_more, just_it, one_in}
+use Rattle.pot_mend.proofs.EntryLemmas.{count_one, each_more, one_in}
 use Rattle.pot_mend.proofs.OrderLemmas.{AtOrAfter, ascend_front, ascend_later, ascend_more, before_next, before_or_after}
 use Rattle.pot_mend.proofs.SectionLemmas.{found_was, last_full, not_always, only_in}
 use Rattle.pot_store.proofs.AddLemmas.{adds_call, adds_none, adds_then, left_bound, left_long, next_adds, next_finds, next_from, next_group, next_narrow, once_back, once_front}
@@ -191,7 +193,7 @@ module _ (job g s c seen gone : ℕ) (u v w : GroupPasses) (sofar : ScrubSofar j
     scrub_more seen' gone' seen_is gone_is both = record {
       entries = all;
       adds = adds_then job g sofar.entries (e ∷ []) u v w sofar.adds adds;
-      kinds = each_more is_look sofar.entries (e ∷ []) sofar.kinds (λ x has. ap is_look (sym (just_it e x has)) ∙ look);
+      kinds = each_more is_look sofar.entries (e ∷ []) sofar.kinds (λ x has. ap is_look (sym (one_contained e x has)) ∙ look);
       ascends = subst (λ ps. Ascend (ps ++ (p.stripe, p.column + 1) ∷ [])) (sym its_places)
           (ascend_more (map place_in sofar.entries) (p.stripe, p.column) (p.stripe, p.column + 1) behind (inr (refl, omega arith)));
       seen_is = (let a = sofar.seen_is in let b = count_one is_seen sofar.entries e in omega (arith, seen_is, a, b));

@@ -1,16 +1,16 @@
 -- What the calls of a job on one group say of the section of the logs.
 use Rattle.std.proofs.Common.{◌≡◌, ◌<◌, ℕ, Bool, false, List, [], length, refl, ap, sym, ◌∙◌, subst, append-nil}
 use Rattle.std.specs.Prelude.{Some, IsTrue}
-use Rattle.std.proofs.lemmas.List.{length-map}
+use Rattle.std.proofs.lemmas.List.{length-map, drop-length}
 use Rattle.pot_bytes.specs.declared.rack.Place.{Place}
 use Rattle.pot_bytes.specs.declared.rack.Rack.{Rack}
+use Rattle.pot_bytes.specs.Rack.{log_bound}
 use Rattle.pot_index.specs.Entries as index
 use Rattle.pot_machine.specs.declared.entry.Entry.{Entry}
 use Rattle.pot_machine.specs.declared.slot.SlotState.{SlotState}
 use Rattle.pot_machine.specs.Table.{width, slot_at}
 use Rattle.pot_machine.specs.Logs.{replayed}
 use Rattle.pot_machine.proofs.Logs.{replayed_append}
-use Rattle.pot_steps.specs.GroupStep.{log_bound}
 use Rattle.pot_worked.specs.Worked.{added}
 use Rattle.pot_rows.specs.Rows.{view_at}
 use Rattle.pot_rows.specs.Works.{RowAlone}
@@ -21,7 +21,6 @@ use Rattle.pot_replies.specs.Sections.{Section, mine, AlwaysAt, IsOnlyIn, Moment
 use Rattle.pot_replies.specs.Settings.{Setting}
 use Rattle.pot_replies.specs.Scrubs.{WasAt}
 use Rattle.pot_store.specs.Works.{of_job, known, section_of, IsSettingOf}
-use Rattle.pot_store.proofs.WorkLemmas.{drop_all}
 use Rattle.pot_store.specs.Adds.{Adds, FailsOnce, FindsNext, IsFirst}
 use Rattle.pot_store.proofs.AddLemmas.{seen_parts}
 
@@ -31,7 +30,7 @@ module _ (st : Setting) (job g : ℕ) (rack : Rack) (u w : GroupPasses) (ui wi :
   its = section_of (known u ui) (known w wi)
 
   its_index : index.own job its.index_added ≡ []
-  its_index = ap (λ (i : IndexPasses). index.own job (added (view_at ui 0) (view_at i 0))) same ∙ ap (index.own job) (drop_all (view_at ui 0).seen)
+  its_index = ap (λ (i : IndexPasses). index.own job (added (view_at ui 0) (view_at i 0))) same ∙ ap (index.own job) (drop-length (view_at ui 0).seen)
 
   pub only_in : (entries : List Entry) → Adds job g entries u w → IsOnlyIn g (mine job its)
   only_in entries adds = (adds.none_else alone, its_index)

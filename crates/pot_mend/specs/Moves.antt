@@ -1,9 +1,9 @@
 -- What the calls that check and that move a column say of the logs.
 use Rattle.std.specs.Prelude.{◌≡◌, ◌⊎◌, ℕ, Bool, true, false, List, [], ◌∷◌, ◌++◌, IsSome, Result, Ok, Err, length, filter, Contains}
+use Rattle.pot_bytes.specs.Rack.{log_bound}
 use Rattle.pot_machine.specs.declared.entry.Entry.{Entry}
 use Rattle.pot_machine.specs.declared.entry.Entry.TheVariants.{Fault, MoveEnd, Swapped}
 use Rattle.pot_machine.specs.Logs.{own}
-use Rattle.pot_steps.specs.GroupStep.{log_bound}
 use Rattle.pot_rows.specs.Rows.{view_at}
 use Rattle.pot_rows.specs.Works.{RowAlone, RowWorked}
 use Rattle.pot_replies.specs.Jobs.{is_copied, is_move_of, EachIs}

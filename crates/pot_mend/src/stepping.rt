@@ -3,6 +3,7 @@
 //! It is the step of `Vault::mend_step`, and tells besides whether a slot was mended or left, which that does not. Where 16 relays
 //! stand it drives the one of the first stripe.
 ghost use Rattle.std.specs.Prelude.{◌≡◌, ◌<◌, ◌↔◌, ℕ, None, Err, IsTrue, length};
+ghost use Rattle.pot_bytes.specs.Rack.{log_bound};
 ghost use Rattle.pot_machine.specs.Table.{relay_at, width};
 ghost use Rattle.pot_shared.specs.Ready.{AreReady, HasSlot};
 ghost use Rattle.pot_group.specs.declared.relaying.AdvanceFault.TheVariants as failed;
@@ -81,7 +82,7 @@ fn advance_first<A: Archive>(group: &mut Group<A>, job: u32, stripes: u32) -> St
     requires job { 0 < job }
     requires stripes { stripes ≡ group.old.table.stripes }
     requires some { HasRelay group.old.table }
-    requires room { length group.old.log < 262144 }
+    requires room { length group.old.log < log_bound }
     ensures { (s : ℕ) → (c : ℕ) → relay_at group.old.table s ≡ None → StepsIn job s c result (view_of A.account.meaning group.old) (view_of A.account.meaning group.new) }
 {
     for stripe in 0..stripes {

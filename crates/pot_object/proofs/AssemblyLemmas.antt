@@ -6,7 +6,7 @@ use Rattle.pot_object.specs.Pieces.{longest, part_of, pieces_of}
 use Rattle.pot_object.specs.Objects.{head_at, object, object_bytes, part_length, IsHead}
 use Rattle.pot_object.specs.Assembly.{count_of, joined, object_at, objects_from, objects_of, part_at, piece_at, AreObjects, BeginsWhole}
 use Rattle.pot_object.specs.declared.object.ObjectHead.{ObjectHead}
-use Rattle.pot_object.proofs.ReadLemmas.{head_at-object}
+use Rattle.pot_object.proofs.ReadLemmas.{head_at-object, made}
 
 -- a number of an ascending list is as far above a bound as its place
 above : (f : ℕ → ℕ) (n b p : ℕ) → ((k : ℕ) → k + 1 < n → f k < f (k + 1)) → b ≤ f p
@@ -102,10 +102,6 @@ length-object_at objects k long l =
 pub head-object_at : (h : ObjectHead) (objects : List ℕ) → AreObjects h objects → (k : ℕ) → k < count_of objects
     → head_at (object_at objects k) ≡ record h { piece = piece_at objects k }
 head-object_at h objects a k l = head_at-object (record h { piece = piece_at objects k }) (object_at objects k) (a.each k l)
-
--- a head by its fields
-made : List ℕ → ℕ → ℕ → ℕ → ObjectHead
-made id piece pieces n = record { file_id = id; piece = piece; pieces = pieces; length = n }
 
 -- an object of the row that is in its place, by the head and the part that it has
 in_place : (h : ObjectHead) (objects : List ℕ) → AreObjects h objects → (k : ℕ) → k < count_of objects → piece_at objects k ≡ k

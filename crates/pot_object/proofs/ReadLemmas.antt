@@ -15,7 +15,7 @@ use Rattle.pot_object.proofs.ObjectLemmas.{length-head_bytes}
 use Rattle.pot_object.proofs.SealLemmas.{rest-sealed, sealed_again}
 
 -- joined fields, grouped from the right
-spread : (a b c d e : List ℕ) → (((a ++ b) ++ c) ++ d) ++ e ≡ a ++ (b ++ (c ++ (d ++ e)))
+pub spread : (a b c d e : List ℕ) → (((a ++ b) ++ c) ++ d) ++ e ≡ a ++ (b ++ (c ++ (d ++ e)))
 spread a b c d e = simp append_assoc
 
 -- where the second, the third and the fourth field stand
@@ -31,7 +31,7 @@ fourth a b c d la lb lc =
     ap (λ (z : List ℕ). drop 24 (a ++ z)) (sym (append_assoc b c d)) ∙ ap (drop 24) (sym (append_assoc a (b ++ c) d))
     ∙ drop_at (a ++ (b ++ c)) d 24 (omega (arith, length-append {A = ℕ} a (b ++ c), length-append {A = ℕ} b c))
 
-made : List ℕ → ℕ → ℕ → ℕ → ObjectHead
+unfoldable pub made : List ℕ → ℕ → ℕ → ℕ → ObjectHead
 made id piece pieces n = record { file_id = id; piece = piece; pieces = pieces; length = n }
 
 -- the head that was written is read again

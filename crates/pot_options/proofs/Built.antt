@@ -1,6 +1,7 @@
 -- The command once it is built.
-use Rattle.std.proofs.Common.{◌≡◌, ◌∙◌, ℕ, Bool, true, false, not, true≢false, is_some, ◌&&◌, refl, sym, ap, List, [], ◌∷◌, map, codes}
+use Rattle.std.proofs.Common.{◌≡◌, ◌∙◌, ℕ, Bool, true, false, not, is_some, ◌&&◌, refl, ap, List, [], ◌∷◌, map, codes}
 use Rattle.std.specs.List.{list_all, list_any, count_by}
+use Rattle.std.proofs.lemmas.Bool.{and_from}
 use Rattle.clap.specs.Words.{App, Rule, Shape}
 use Rattle.clap.specs.Walk.{Text, is_early_multiple}
 use Rattle.clap.specs.Simple.{built, filled_from, new_shape, is_buildable, is_ready, is_ready_leaf}
@@ -27,10 +28,6 @@ shape names = shape_with (rules names)
 pub built_is : (names : List Text) → built (options_app names) ≡ record { top = shape names; subs = [] }
 built_is names = ap (λ (rs : List Rule). record { top = shape_with rs; subs = [] }) (filled_is names)
 
-and_true : (a b : Bool) → a ≡ true → b ≡ true → (a && b) ≡ true
-and_true true b e f = f
-and_true false b e f = absurd (true≢false (sym e))
-
 all_simple : (names : List Text) → list_all (λ (a : Rule). a.is_simple) (map option_rule names) ≡ true
 all_simple [] = refl
 all_simple (n ∷ ns) = all_simple ns
@@ -51,12 +48,12 @@ abbrev is_fit : App → Bool
 is_fit b = is_ready b.top && list_all is_ready_leaf b.subs
 
 fit : (names : List Text) → is_fit (record { top = shape names; subs = [] }) ≡ true
-fit names = and_true _ _ (and_true _ _ (all_simple_built names) (ap not (none_early (count_by (λ (a : Rule). is_some a.index) (rules names)) names))) refl
+fit names = and_from _ _ (and_from _ _ (all_simple_built names) (ap not (none_early (count_by (λ (a : Rule). is_some a.index) (rules names)) names))) refl
 
 free_built : (names : List Text) → is_free_app (record { top = shape names; subs = [] }) ≡ true
-free_built names = and_true _ _ (all_free names) refl
+free_built names = and_from _ _ (all_free names) refl
 
 pub simple_and_free : (names : List Text) → is_simple_and_free (options_app names) ≡ true
 simple_and_free names =
-    let buildable : is_buildable (options_app names) ≡ true = and_true _ _ (all_simple names) refl in
-    and_true _ _ (and_true _ _ buildable (ap is_fit (built_is names) ∙ fit names)) (ap is_free_app (built_is names) ∙ free_built names)
+    let buildable : is_buildable (options_app names) ≡ true = and_from _ _ (all_simple names) refl in
+    and_from _ _ (and_from _ _ buildable (ap is_fit (built_is names) ∙ fit names)) (ap is_free_app (built_is names) ∙ free_built names)

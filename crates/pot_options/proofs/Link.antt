@@ -1,6 +1,7 @@
 -- Clap's own words of the command against the walk.
-use Rattle.std.proofs.Common.{◌≡◌, inl, inr, append-nil, ◌∙◌, Bool, true, false, not, refl, sym, ap, ap₂, subst, List, [], ◌∷◌, ◌++◌, map, Option, Some, None, bytes_eq, true≢false, ◌||◌, ◌&&◌, fold}
+use Rattle.std.proofs.Common.{◌≡◌, inl, inr, append-nil, ◌∙◌, Bool, true, false, not, refl, sym, ap, ap₂, subst, List, [], ◌∷◌, ◌++◌, map, Option, Some, None, bytes_eq, true≢false, ◌&&◌, fold}
 use Rattle.std.specs.List.{list_any}
+use Rattle.std.proofs.lemmas.Bool.{and_parts, or_from}
 use Rattle.clap.specs.Words.{App, HasMatchesOf, Row, Rule, found_of, kind_of, matches_of, rows_of}
 use Rattle.clap.specs.declared.error.Error.{Error}
 use Rattle.clap.specs.declared.error.kind.ErrorKind.TheVariants.{OutOfMemory}
@@ -83,23 +84,15 @@ not_delimiter : (n t : Text) → IsName n → bytes_eq (dashed n ++ t) (45 ∷ 4
 not_delimiter [] t name = absurd name
 not_delimiter (y ∷ ys) t name = refl
 
-neither : (a b : Bool) → a ≡ false → b ≡ false → (a || b) ≡ false
-neither true b e f = e
-neither false b e f = f
-
 pub spelled_without_delimiter : (names : List Text) → AreNames names → (uses : List (Text × Text)) (words : List Text) (before : List (Text × Text)) → AreSpelled uses words → AreUnhyphened uses → AreNew names before uses
     → has_delimiter words ≡ false
 spelled_without_delimiter names are [] words before spelled unhyphened new = ap has_delimiter spelled
 spelled_without_delimiter names are (u ∷ others) words before (left, rest, inl is) unhyphened new =
     let name = known_name names u.0 are new.0 in
-    ap has_delimiter is ∙ neither _ _ (ap (λ (t : Text). bytes_eq t (45 ∷ 45 ∷ [])) (sym (append-nil (dashed u.0))) ∙ not_delimiter u.0 [] name)
-    (neither _ _ (unhyphened_word u.1 unhyphened.0).0 (spelled_without_delimiter names are others left (before ++ u ∷ []) rest unhyphened.1 new.2))
+    ap has_delimiter is ∙ or_from _ _ (ap (λ (t : Text). bytes_eq t (45 ∷ 45 ∷ [])) (sym (append-nil (dashed u.0))) ∙ not_delimiter u.0 [] name)
+    (or_from _ _ (unhyphened_word u.1 unhyphened.0).0 (spelled_without_delimiter names are others left (before ++ u ∷ []) rest unhyphened.1 new.2))
 spelled_without_delimiter names are (u ∷ others) words before (left, rest, inr is) unhyphened new =
-    ap has_delimiter is ∙ neither _ _ (not_delimiter u.0 (61 ∷ u.1) (known_name names u.0 are new.0)) (spelled_without_delimiter names are others left (before ++ u ∷ []) rest unhyphened.1 new.2)
-
-left_of : (a b : Bool) → (a && b) ≡ true → a ≡ true
-left_of true b e = refl
-left_of false b e = absurd (true≢false (sym e))
+    ap has_delimiter is ∙ or_from _ _ (not_delimiter u.0 (61 ∷ u.1) (known_name names u.0 are new.0)) (spelled_without_delimiter names are others left (before ++ u ∷ []) rest unhyphened.1 new.2)
 
 pub simple_at : (names : List Text) (a : App) → a ≡ options_app names → is_simple_and_free a ≡ true
 simple_at names a is = ap is_simple_and_free is ∙ simple_and_free names
@@ -121,7 +114,7 @@ pub read_of : (names words : List Text) (a : App) (m : ArgMatches) → a ≡ opt
 read_of names words a m is are bares passes matches =
     let free = simple_at names a is in
     let none : fault_of (options_app names) words ≡ [] = ap (λ (b : App). fault_of b words) (sym is) ∙ passes free in
-    let found : rows_of (found_of m) ≡ matches_of (options_app names) words = (matches (left_of _ _ free)).0 ∙ ap (λ (b : App). matches_of b words) is in
+    let found : rows_of (found_of m) ≡ matches_of (options_app names) words = (matches (and_parts _ _ free).0).0 ∙ ap (λ (b : App). matches_of b words) is in
     let r = spelled_from names words bares none in (
       has_own_uses m r.0 (found ∙ r.3),
       (

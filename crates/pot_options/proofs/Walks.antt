@@ -1,5 +1,6 @@
 -- Clap's walk over all the words against the spelling of options.
-use Rattle.std.proofs.Common.{◌≡◌, inl, inr, ◌∙◌, ℕ, Bool, cond, true, false, refl, sym, ap, ap₂, subst, List, [], ◌∷◌, ◌++◌, map, Option, Some, None, append-nil, append_assoc, bytes_eq, true≢false, ◌||◌, fold}
+use Rattle.std.proofs.Common.{◌≡◌, inl, inr, ◌∙◌, ℕ, Bool, cond, true, false, refl, sym, ap, ap₂, subst, List, [], ◌∷◌, ◌++◌, map, Option, Some, None, append-nil, append_assoc, bytes_eq, true≢false, fold}
+use Rattle.std.proofs.lemmas.Bool.{or_parts}
 use Rattle.clap.specs.Words.{Row}
 use Rattle.clap.specs.Walk.{Text, Held, Walk, walked, idle, option, settled_rows, used, arg_by_long, plain, plain_word, after_step, after_flag}
 use Rattle.clap.specs.Lexer.{name_and_value}
@@ -65,10 +66,6 @@ some_fault k a b e none = let bad : k ∷ [] ≡ [] = sym e ∙ none in cc
 first_none : (a b whole : Kinds) → whole ≡ or_else a b → whole ≡ [] → (a ≡ []) × (b ≡ [])
 first_none a b whole is none = both_none a b (sym is ∙ none)
 
-neither : (a b : Bool) → (a || b) ≡ false → (a ≡ false) × (b ≡ false)
-neither true b e = absurd (true≢false e)
-neither false b e = (refl, e)
-
 module _ (names : List Text) where
   forward_nil : Forward names []
   unfolding walk_fault
@@ -117,7 +114,7 @@ module _ (names : List Text) where
 
   asked_cons : (v : Text) (left : List Text) → Forward names left → Asked names (v ∷ left)
   asked_cons v left further done n known bares none =
-      let words_are = neither _ _ bares in
+      let words_are = or_parts _ _ bares in
       let parts = first_none _ _ _ (fault_more names (asked done n) (walked (rules names) [] (asked done n) v) v left refl) none in
       let on = taken done n v known (form_of v) words_are.0 parts.0 in
       let rest = further done (Some (n, v)) known words_are.1 (ap (λ (w : Walk). fault_from names w left) (sym on) ∙ parts.1) in
@@ -202,7 +199,7 @@ module _ (names : List Text) where
 
   forward_cons : (word : Text) (rest : List Text) → Forward names rest → Asked names rest → Forward names (word ∷ rest)
   forward_cons word rest further further_asked done last known bares none =
-      let words_are = neither _ _ bares in
+      let words_are = or_parts _ _ bares in
       let parts = first_none _ _ _ (fault_more names (start done last) (walked (rules names) [] (start done last) word) word rest refl) none in
       let long = only_long done last word (form_of word) words_are.0 parts.0 in
       subst (λ (t : Text). Reads names done last (t ∷ rest)) (sym long.2)

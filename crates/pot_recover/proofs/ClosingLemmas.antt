@@ -4,12 +4,12 @@ use Rattle.std.specs.Prelude.{IsTrue, MatchOption}
 use Rattle.std.specs.Borrow.{Bor}
 use Rattle.pot_pointer.specs.Pointers.{blur}
 use Rattle.std.specs.List.{flat_map, range_with_len, list_any}
-use Rattle.std.proofs.lemmas.List.{length-map}
+use Rattle.std.proofs.lemmas.List.{length-map, get_or_default}
 use Rattle.std.proofs.lemmas.List.FromFn.{length-range_with_len, get_or-range_with_len}
 use Rattle.pot_chains.specs.Listed.{IsIn, IsListed}
 use Rattle.pot_chains.specs.Paths.{AreAll}
 use Rattle.pot_chains.specs.declared.levels.Level.{Level}
-use Rattle.pot_chains.proofs.ListedLemmas.{in_map, get_or-default}
+use Rattle.pot_chains.proofs.ListedLemmas.{in_map}
 use Rattle.pot_joins.specs.Joins.{IsJoinAt}
 use Rattle.pot_shard.specs.declared.shard.Shard.{Shard}
 use Rattle.pot_split.specs.Secrecy.{rows_of}
@@ -179,7 +179,7 @@ pub first_pointed : (held : Shard → Type 0) (bits : ℕ) (chain : List Held) (
     → (p : ℕ) → IsIn new p ↔ IsPointed held (map (shard_of bits) chain) (last_shard (map (shard_of bits) chain)) k p
 first_pointed held bits chain old new k some none empty step p =
     let last = last_is bits chain (get_or chain (length chain - 1) nobody) some
-    (get_or-default chain (length chain - 1) nobody (get_or chain (length chain - 1) nobody) (omega (arith, some))) in
+    (get_or_default chain (length chain - 1) nobody (get_or chain (length chain - 1) nobody) (omega (arith, some))) in
     subst (λ i. IsIn new p ↔ IsPointed held (map (shard_of bits) chain) (last_shard (map (shard_of bits) chain)) i p) (sym none) (
       λ h. elim ((step p).0 h) [
         | inl before ↦ absurd (subst (λ l. IsIn l p) empty before)
@@ -204,7 +204,7 @@ pub ends_is : (g : Group) (chain : List Held) (pointers now : List ℕ) (k blurr
     → IsTrue found ↔ ReturnsTo (IsIn (shards_in g)) (map (shard_of g.bits) chain)
 ends_is g chain pointers now k blurred found w steps is same name value =
     let some = chain_some (shards_in g) g.need (length g.parts.items) g.bits chain w in
-    let first = first_is g.bits chain (get_or chain 0 nobody) some (get_or-default chain 0 nobody (get_or chain 0 nobody) some) in
+    let first = first_is g.bits chain (get_or chain 0 nobody) some (get_or_default chain 0 nobody (get_or chain 0 nobody) some) in
     let at : blurred ≡ blur (get_or (map (shard_of g.bits) chain) 0 no_shard).name g.bits = name ∙ ap (λ x. blur x g.bits) (sym first) in
     let returns = returns_is (shards_in g) g.need (length g.parts.items) g.bits (map (shard_of g.bits) chain) pointers w
     (subst (λ i. (p : ℕ) → IsIn pointers p ↔ IsPointed (IsIn (shards_in g)) (map (shard_of g.bits) chain) (last_shard (map (shard_of g.bits) chain)) i p) steps is) in

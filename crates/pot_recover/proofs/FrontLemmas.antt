@@ -10,17 +10,11 @@ use Rattle.std.proofs.lemmas.Bool.{cases_lt}
 use Rattle.std.proofs.lemmas.Bool.Decides.{nat_tests}
 use Rattle.pot_recover.specs.Fronts.{front_of, has_front, is_below, FrontsRise}
 use Rattle.pot_recover.proofs.DistinctLemmas.{fronts_rise, pairs_in_order}
-use Rattle.pot_recover.proofs.PartLemmas.{partitioned_at_most}
+use Rattle.pot_recover.proofs.PartLemmas.{partitioned_at_most, below_not}
 
 -- in byte order the fronts do not fall
 pub objects_rise : (objects : List (List ℕ)) → IsStrictlySortedBy (slice_cmp nat_cmp) objects → FrontsRise objects
 objects_rise objects h i j d less within = fronts_rise 32 (get_or objects i d) (get_or objects j d) (pairs_in_order objects h i j d less within)
-
--- objects below the front are others
-below_is_other : (o : Ordering) → is_lt o ≡ true → is_eq o ≡ false
-below_is_other Less h = refl
-below_is_other Equal h = absurd (cc)
-below_is_other Greater h = absurd (cc)
 
 equal_is_most : (o : Ordering) → is_eq o ≡ true → is_le o ≡ true
 equal_is_most Less h = absurd (cc)
@@ -71,7 +65,7 @@ module _ (objects : List (List ℕ)) (front : List ℕ) (rise : FrontsRise objec
     (split : IsPartitionPoint (λ o. is_below front o ≡ true) (λ o. is_below front o ≡ false) objects place) where
   none_before : (k : ℕ) → k < place → has_front front (get_or objects k []) ≡ false
   none_before k less =
-      sym (is_eq-slice_cmp (front_of (get_or objects k [])) front) ∙ below_is_other (slice_cmp nat_cmp (front_of (get_or objects k [])) front) (split.0 k [] (omega arith) less)
+      sym (is_eq-slice_cmp (front_of (get_or objects k [])) front) ∙ below_not (slice_cmp nat_cmp (front_of (get_or objects k [])) front) (split.0 k [] (omega arith) less)
 
   pub first_is : place < length objects → has_front front (get_or objects place []) ≡ true → Some place ≡ position (has_front front) objects
   first_is less has = found_at (has_front front) objects place [] less none_before has

@@ -1,14 +1,14 @@
 -- The chains of positions are the chains of shards.
 use Rattle.std.proofs.Common.{◌≡◌, inl, inr, ℕ, zero, suc, ◌+◌, ◌<◌, ◌≤◌, List, [], ◌∷◌, map, length, Some, get_or, refl, sym, ap, ◌∙◌, subst, arith}
 use Rattle.std.specs.Prelude.{slice_get}
-use Rattle.std.proofs.lemmas.List.{length-map}
+use Rattle.std.proofs.lemmas.List.{length-map, get_or_default}
 use Rattle.std.proofs.lemmas.Option.{slice_get_within, slice_get-get_or, get_or_from_slice_get}
 use Rattle.pot_chains.specs.Levels.{IsPathFrom, IsPath, IsPathBelow}
 use Rattle.pot_chains.specs.Listed.{IsIn, IsOnce, IsListed}
 use Rattle.pot_chains.specs.Paths.{AreLinked, AreAll}
 use Rattle.pot_chains.specs.Steps.{IsMeant}
 use Rattle.pot_chains.specs.declared.levels.Level.{Level}
-use Rattle.pot_chains.proofs.ListedLemmas.{listed_map_on, listed_same, contains_from_in, get_or-default, in_get_or}
+use Rattle.pot_chains.proofs.ListedLemmas.{listed_map_on, listed_same, contains_from_in, in_get_or}
 use Rattle.pot_pointer.specs.Pointers.{blur}
 use Rattle.pot_shard.specs.LinkedRings.{IsLinked}
 use Rattle.pot_shard.specs.declared.shard.Shard.{Shard}
@@ -89,7 +89,7 @@ module _ (shards : List Shard) (m n bits : ℕ) where
 
   -- a shard of a part stands there at a position
   placed : (x : ℕ) (part : List Shard) (s : Shard) → IsListed (Part x) part → Part x s → (p : ℕ) × (p < length part) × (get_or part p no_shard ≡ s)
-  placed x part s is h = let r = contains_from_in part s ((is.each s).1 h) in (r.0, r.1, get_or-default part r.0 no_shard s r.1 ∙ r.2)
+  placed x part s is h = let r = contains_from_in part s ((is.each s).1 h) in (r.0, r.1, get_or_default part r.0 no_shard s r.1 ∙ r.2)
 
   -- a linked shard stands at the next point
   next_at : (x : ℕ) (s t : Shard) → x < n → IsAt m n bits x s → IsLinked s t → IsAt m n bits (suc x) t

@@ -1,23 +1,16 @@
 -- What the shares of a chain mean.
-use Rattle.std.proofs.Common.{◌≡◌, inl, inr, ℕ, suc, ◌+◌, ◌*◌, ◌<◌, ◌≤◌, List, [], ◌∷◌, ◌++◌, map, length, take, drop, get_or, nat_eq, subst, zero-mul, refl, sym, ap, ap₂, ◌∙◌, arith, length-append}
+use Rattle.std.proofs.Common.{◌≡◌, inl, inr, ℕ, suc, ◌+◌, ◌*◌, ◌<◌, ◌≤◌, List, [], ◌∷◌, map, length, take, drop, get_or, nat_eq, subst, zero-mul, refl, sym, ap, ap₂, ◌∙◌, arith, length-append}
 use Rattle.std.specs.List.{flat_map, range_with_len, All, IsDistinct}
 use Rattle.pot_split.specs.Secrecy.{rows_of}
 use Rattle.pot_split.specs.Threshold.{column, IsJoin}
-use Rattle.std.proofs.lemmas.List.{take_all, take-append-le, drop-append-le, length-take-le, length-drop, get_or-take, get_or-drop}
+use Rattle.std.proofs.lemmas.List.{length-take-le, length-drop, get_or-take, get_or-drop}
 use Rattle.std.proofs.lemmas.List.FromFn.{length-range_with_len, get_or-range_with_len, take-map-range_with_len}
-use Rattle.std.proofs.Math.ListN.{drop_of_length-le}
 use Rattle.pot_recover.specs.HeldShards.{share_of, piece_of, bytes_held, AreWhole}
 use Rattle.pot_joins.specs.Joins.{IsJoinAt}
 use Rattle.pot_gf.specs.Polynomials.{PassesThrough}
+use Rattle.pot_split.proofs.ThresholdLaws.{rows_of-append}
 use Rattle.pot_recover.proofs.RingLemmas.{range-distinct}
 use Rattle.pot_recover.specs.declared.held.Held.{Held}
-
--- rows that stand one behind another are found again
-rows_of-append : (n size : ℕ) (row bytes : List ℕ) → length row ≡ size → rows_of (suc n) size (row ++ bytes) ≡ row ∷ rows_of n size bytes
-rows_of-append n size row bytes e =
-    ap₂ (λ r b. r ∷ rows_of n size b)
-    (take-append-le size row bytes (omega (arith, e)) ∙ take_all size row (omega (arith, e)))
-    (drop-append-le size row bytes (omega (arith, e)) ∙ ap (λ r. r ++ bytes) (drop_of_length-le row (omega (arith, e))))
 
 length-piece : (start size : ℕ) (h : Held) → length (share_of h) ≡ 992 → start + size ≤ 992 → length (piece_of start size h) ≡ size
 length-piece start size h whole within =

@@ -1,11 +1,11 @@
 -- The rings that are stored are the rings that recovery speaks of.
 use Rattle.std.proofs.Common.{◌≡◌, inl, inr, ℕ, zero, suc, ◌+◌, ◌<◌, ◌≤◌, List, [], ◌∷◌, length, get_or, refl, sym, ap, ◌∙◌, subst, arith}
 use Rattle.std.specs.List.{range_with_len, Contains}
-use Rattle.std.proofs.lemmas.List.{length-map}
+use Rattle.std.proofs.lemmas.List.{length-map, get_or_default}
 use Rattle.std.proofs.lemmas.List.FromFn.{length-range_with_len, get_or-range_with_len}
 use Rattle.pot_chains.specs.Listed.{IsIn}
 use Rattle.pot_chains.specs.Paths.{last_of, AreLinked}
-use Rattle.pot_chains.proofs.ListedLemmas.{contains_from_in, get_or-default}
+use Rattle.pot_chains.proofs.ListedLemmas.{contains_from_in}
 use Rattle.pot_shard.specs.LinkedRings.{IsLinked, IsNext, IsRing as IsStoredRing}
 use Rattle.pot_shard.specs.declared.shard.Shard.{Shard}
 use Rattle.pot_recover.specs.Rings.{IsRing, points_of}
@@ -71,8 +71,8 @@ from_ring n (s ∷ rest) is long = record { points = points; linked = linked }
 
     linked : (a b : Shard) → Contains (s ∷ rest) a → Contains (s ∷ rest) b → IsNext n a.x b.x → IsLinked a b
     linked a b i j next =
-        let at_a : get_or (s ∷ rest) i.0 s ≡ a = get_or-default (s ∷ rest) i.0 s a i.1 ∙ i.2 in
-        let at_b : get_or (s ∷ rest) j.0 s ≡ b = get_or-default (s ∷ rest) j.0 s b j.1 ∙ j.2 in
+        let at_a : get_or (s ∷ rest) i.0 s ≡ a = get_or_default (s ∷ rest) i.0 s a i.1 ∙ i.2 in
+        let at_b : get_or (s ∷ rest) j.0 s ≡ b = get_or_default (s ∷ rest) j.0 s b j.1 ∙ j.2 in
         let place_a : a.x ≡ 1 + i.0 = ap (λ (t : Shard). t.x) (sym at_a) ∙ point_at (s ∷ rest) n i.0 s points (let h = i.1 in omega (arith, h, long)) in
         let place_b : b.x ≡ 1 + j.0 = ap (λ (t : Shard). t.x) (sym at_b) ∙ point_at (s ∷ rest) n j.0 s points (let h = j.1 in omega (arith, h, long)) in
         elim next [

@@ -9,6 +9,7 @@ use Rattle.std.proofs.lemmas.Bool.{cases_lt}
 use Rattle.std.proofs.lemmas.List.{length-map}
 use Rattle.std.proofs.lemmas.List.FromFn.{length-range_with_len}
 use Rattle.std.proofs.lemmas.Map.Lookups.{exact_bytes}
+use Rattle.pot_bytes.proofs.Elements.{length-filter_le}
 use Rattle.pot_chains.specs.Levels.{AreLevels}
 use Rattle.pot_chains.specs.Listed.{IsIn, IsOnce, IsListed}
 use Rattle.pot_chains.specs.declared.levels.Level.{Level}
@@ -112,15 +113,6 @@ pub group_length : (m n : ℕ) (held : List Held) (parts : List (Bor (List Held)
 group_length m n held parts e =
     sym (length-map parts now_of) ∙ (ap length e ∙ (length-map (range_with_len 1 n) (part_of m n held) ∙ length-range_with_len 1 n))
 
--- a part is no longer than the list
-pub length-filter_le : {X : Type 0} (p : X → Bool) (xs : List X) → length (filter p xs) ≤ length xs
-length-filter_le p [] = omega arith
-length-filter_le p (x ∷ xs) = by (p x) (length-filter_le p xs)
-  where
-    by : (b : Bool) → length (filter p xs) ≤ length xs → length (cond b (x ∷ filter p xs) (filter p xs)) ≤ suc (length xs)
-    by true h = omega arith
-    by false h = omega arith
-
 pub part_short : (m n : ℕ) (held : List Held) (parts : List (Bor (List Held))) → map now_of parts ≡ map (part_of m n held) (range_with_len 1 n)
     → length held < 2 ^ 32 → (part : Bor (List Held)) → IsIn parts part → length part.now < 2 ^ 32
 part_short m n held parts e short part there =
@@ -207,11 +199,6 @@ pub parts_front : (shards : List Shard) (m n bits k x : ℕ) (parts : List (List
 parts_front shards m n bits zero x parts h = tt
 parts_front shards m n bits (suc k) x [] h = tt
 parts_front shards m n bits (suc k) x (p ∷ ps) h = (h.0, parts_front shards m n bits k (suc x) ps h.1)
-
-pub take-mapped : {X Y : Type 0} (f : X → Y) (k : ℕ) (xs : List X) → take k (map f xs) ≡ map f (take k xs)
-take-mapped f zero xs = refl
-take-mapped f (suc k) [] = refl
-take-mapped f (suc k) (x ∷ xs) = ap (λ l. f x ∷ l) (take-mapped f k xs)
 
 mapped_twice : {X Y Z : Type 0} (f : X → Y) (g : Y → Z) (xs : List X) → map g (map f xs) ≡ map (λ x. g (f x)) xs
 mapped_twice f g [] = refl

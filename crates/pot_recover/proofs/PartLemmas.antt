@@ -22,7 +22,7 @@ equal_is Less h = absurd (cc)
 equal_is Equal h = refl
 equal_is Greater h = absurd (cc)
 
-below_not : (o : Ordering) → is_lt o ≡ true → is_eq o ≡ false
+pub below_not : (o : Ordering) → is_lt o ≡ true → is_eq o ≡ false
 below_not Less h = refl
 below_not Equal h = absurd (cc)
 below_not Greater h = absurd (cc)

@@ -2,6 +2,7 @@
 use Rattle.std.proofs.Common.{◌≡◌, ◌↔◌, ◌⊎◌, inl, inr, ℕ, zero, suc, ◌+◌, ◌<◌, List, [], ◌∷◌, ◌++◌, map, length, Some, refl, sym, ap, ◌∙◌, subst, take, get_or, add-one}
 use Rattle.std.specs.Prelude.{slice_get}
 use Rattle.std.specs.List.{Contains}
+use Rattle.std.proofs.lemmas.Option.{same_Some}
 use Rattle.pot_pointer.specs.Pointers.{blur, IsCandidate}
 use Rattle.pot_pointer.specs.declared.Named.{Named}
 use Rattle.pot_chains.specs.Listed.{IsIn}
@@ -14,9 +15,6 @@ in_pushed old new q e p = (
   λ h. elim (in_append old (q ∷ []) p (subst (λ l. IsIn l p) e h)) [ inl a ↦ inl a | inr b ↦ elim b [ inl same ↦ inr same | inr none ↦ absurd none ] ],
   λ h. subst (λ l. IsIn l p) (sym e) (elim h [ inl a ↦ in_left old (q ∷ []) p a | inr same ↦ in_right old (q ∷ []) p (inl same) ]),
 )
-
-some_same : {X : Type 0} (a b : X) → Some a ≡ Some b → a ≡ b
-some_same a b e = cc
 
 pub hits_more : (there : List Held) (share : List ℕ) (cands : List Named) (i : ℕ) (d : Named) (shown : Held) (old found new : List ℕ) → i < length cands
     → slice_get there (get_or cands i d).position ≡ Some shown
@@ -37,7 +35,7 @@ hits_more there share cands i d shown old found new inside at before step p =
         | inr hit ↦ elim ((in_take_more i cands d hit.0 inside).0 hit.1) [
           | inl front ↦ (step p).1 (inl ((before p).1 (inr (hit.0, front, hit.2))))
           | inr is ↦
-              let same : shown ≡ hit.2.0 = some_same shown hit.2.0 (sym at ∙ (ap (λ (e : Named). slice_get there e.position) is ∙ hit.2.1)) in
+              let same : shown ≡ hit.2.0 = same_Some shown hit.2.0 (sym at ∙ (ap (λ (e : Named). slice_get there e.position) is ∙ hit.2.1)) in
               (step p).1 (inr (subst (λ (s : Held). (s.share.now ≡ share) × (s.pointer ≡ p)) (sym same) (hit.2.2, hit.2.3)))
         ]
       ],
@@ -45,7 +43,7 @@ hits_more there share cands i d shown old found new inside at before step p =
 
 named_there : (there : List Held) (q : ℕ) (t : Held) → slice_get there q ≡ Some t → slice_get (map name_of there) q ≡ Some t.name
 named_there [] q t e = absurd (cc)
-named_there (s ∷ there) zero t e = ap (λ (x : Held). Some x.name) (some_same s t e)
+named_there (s ∷ there) zero t e = ap (λ (x : Held). Some x.name) (same_Some s t e)
 named_there (s ∷ there) (suc q) t e = named_there there q t e
 
 pub pointers_more : (pointers : List ℕ) (there : List Held) (names : List ℕ) (bits : ℕ) (share : List ℕ) (cands : List Named) (i : ℕ) (found new : List ℕ)
@@ -64,7 +62,7 @@ pointers_more pointers there names bits share cands i found new inside indexed e
             let candidate = (exact hit.0).0 (contains_from_in cands hit.0 hit.1) in
             let t = hit.2.0 in
             let named = named_there there hit.0.position t hit.2.1 in
-            let name : hit.0.name ≡ t.name = some_same hit.0.name t.name (sym candidate.0 ∙ (ap (λ l. slice_get l hit.0.position) indexed ∙ named)) in (
+            let name : hit.0.name ≡ t.name = same_Some hit.0.name t.name (sym candidate.0 ∙ (ap (λ l. slice_get l hit.0.position) indexed ∙ named)) in (
               hit.0.position,
               t,
               hit.2.1,

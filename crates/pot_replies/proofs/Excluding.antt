@@ -2,13 +2,14 @@
 use Rattle.std.proofs.Common.{Bool, true, false, ◌≡◌, ◌⊎◌, inl, inr, ℕ, zero, suc, ◌<◌, List, [], ◌∷◌, ◌++◌, refl, ap, sym, ◌∙◌, subst, arith, ⊎_elim, eq-eqb}
 use Rattle.std.proofs.lemmas.List.Elements.{filter-append}
 use Rattle.pot_bytes.specs.declared.rack.Place.{Place}
+use Rattle.pot_shard.specs.Places.{place_at}
 use Rattle.pot_machine.specs.declared.entry.Entry.{Entry}
 use Rattle.pot_machine.specs.declared.entry.Entry.TheVariants.{Gone, Fault}
 use Rattle.pot_machine.specs.Logs.{is_of, own}
 use Rattle.pot_index.specs.declared.record.Record.{Record}
 use Rattle.pot_replies.specs.Sections.{Section, Mine, mine}
 use Rattle.pot_replies.specs.Settings.{Setting}
-use Rattle.pot_replies.specs.Fetches.{FirstShort, IsUnseen, HopelessIf, IsHopeless, FailsAt, place_at}
+use Rattle.pot_replies.specs.Fetches.{FirstShort, IsUnseen, HopelessIf, IsHopeless, FailsAt}
 use Rattle.pot_replies.specs.Laws.{LostNotFault}
 
 -- of two numbers, one is less, or they are equal
@@ -43,7 +44,7 @@ module _ (kept : Record) (m : Mine) where
       (tell i k)
 
 -- the last entry is the last
-last_same : (xs ys : List Entry) (x y : Entry) → xs ++ x ∷ [] ≡ ys ++ y ∷ [] → x ≡ y
+pub last_same : (xs ys : List Entry) (x y : Entry) → xs ++ x ∷ [] ≡ ys ++ y ∷ [] → x ≡ y
 last_same [] [] x y e = cc e
 last_same [] (b ∷ []) x y e = absurd (cc e)
 last_same [] (b ∷ c ∷ ys) x y e = absurd (cc e)
@@ -75,8 +76,8 @@ lost_not_fault s job name piece fragment have need group column w lost fault sam
     let unseen : IsUnseen lost.kept piece fragment m fault.point =
     subst (λ (k : Record). IsUnseen k piece fragment m fault.point) (sym same)
     (subst (λ i. IsUnseen fault.kept i fragment m fault.point) (sym first.0) (subst (λ j. IsUnseen fault.kept fault.piece j m fault.point) (sym first.1) fault.unseen)) in
-    let hopeless : IsHopeless s job w (place_at fault.kept fault.piece fault.fragment fault.point) =
-    subst (λ j. IsHopeless s job w (place_at fault.kept fault.piece j fault.point)) first.1
-    (subst (λ i. IsHopeless s job w (place_at fault.kept i fragment fault.point)) first.0
-    (subst (λ (k : Record). IsHopeless s job w (place_at k piece fragment fault.point)) same (lost.hopeless fault.point unseen))) in
-    not_both s.mends s job column w (place_at fault.kept fault.piece fault.fragment fault.point) hopeless fault.fails
+    let hopeless : IsHopeless s job w (place_at fault.kept.geometry fault.kept.places fault.piece fault.fragment fault.point) =
+    subst (λ j. IsHopeless s job w (place_at fault.kept.geometry fault.kept.places fault.piece j fault.point)) first.1
+    (subst (λ i. IsHopeless s job w (place_at fault.kept.geometry fault.kept.places i fragment fault.point)) first.0
+    (subst (λ (k : Record). IsHopeless s job w (place_at k.geometry k.places piece fragment fault.point)) same (lost.hopeless fault.point unseen))) in
+    not_both s.mends s job column w (place_at fault.kept.geometry fault.kept.places fault.piece fault.fragment fault.point) hopeless fault.fails

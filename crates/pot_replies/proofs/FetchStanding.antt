@@ -2,9 +2,10 @@
 use Rattle.std.proofs.Common.{◌≡◌, ℕ, inl, inr, ⊎_elim, [], sym, subst}
 use Rattle.std.specs.Prelude.{IsTrue, false}
 use Rattle.pot_bytes.specs.declared.rack.Place.{Place}
+use Rattle.pot_shard.specs.Places.{place_at}
 use Rattle.pot_steps.specs.Stripe.{digest_of}
 use Rattle.pot_replies.specs.Sections.{Mine, mine}
-use Rattle.pot_replies.specs.Fetches.{SeesAll, FirstShort, IsUnseen, FailsAt, IsHopeless, has_seen, place_at}
+use Rattle.pot_replies.specs.Fetches.{SeesAll, FirstShort, IsUnseen, FailsAt, IsHopeless, has_seen}
 use Rattle.pot_replies.specs.Laws.{FileStands, OddStands, LostStands, FetchFaultStands, FetchLogFullStands}
 use Rattle.pot_replies.proofs.Standing.{mine_stays, moment_stands, found_stands, entries_stand, seen_as_stands, hopeless_stands}
 
@@ -27,10 +28,10 @@ odd_stands held s job name wanted got w w' wide is =
       sees = subst (λ (m : Mine). SeesAll m.own is.kept) (sym same) is.sees;
       block = is.block;
       seen = λ i j x in_pieces in_fragments in_shards has.
-          let p : Place = place_at is.kept i j x in
+          let p : Place = place_at is.kept.geometry is.kept.places i j x in
           let it = is.seen i j x in_pieces in_fragments in_shards (subst (λ (m : Mine). IsTrue (has_seen m.own p)) same has) in
           (it.0, it.1, (it.2.0, seen_as_stands job w w' wide (s.first p.group) p.group p.stripe p.column (digest_of it.0) it.2.1));
-      unseen = λ i j x none. is.unseen i j x (subst (λ (m : Mine). has_seen m.own (place_at is.kept i j x) ≡ false) same none);
+      unseen = λ i j x none. is.unseen i j x (subst (λ (m : Mine). has_seen m.own (place_at is.kept.geometry is.kept.places i j x) ≡ false) same none);
       wanted_is = is.wanted_is;
       bytes = is.bytes;
       joined = is.joined;
@@ -46,7 +47,7 @@ lost_stands s job name piece fragment have need w w' wide is =
       entries = entries_stand job w w' wide is.kept is.entries;
       short = subst (λ (m : Mine). FirstShort is.kept piece fragment have m) (sym same) is.short;
       need_is = is.need_is;
-      hopeless = λ x unseen. hopeless_stands job w w' wide s (place_at is.kept piece fragment x) (is.hopeless x (subst (λ (m : Mine). IsUnseen is.kept piece fragment m x) same unseen));
+      hopeless = λ x unseen. hopeless_stands job w w' wide s (place_at is.kept.geometry is.kept.places piece fragment x) (is.hopeless x (subst (λ (m : Mine). IsUnseen is.kept piece fragment m x) same unseen));
     }
 
 pub fetch_fault_stands : FetchFaultStands
@@ -65,12 +66,12 @@ fetch_fault_stands s job name group column w w' wide is =
       point = is.point;
       unseen = subst (λ (m : Mine). IsUnseen is.kept is.piece is.fragment m is.point) (sym same) is.unseen;
       group_is = is.group_is;
-      fails = subst (λ (m : Mine). FailsAt job m (place_at is.kept is.piece is.fragment is.point) column) (sym same) is.fails;
-      least = λ x lt unseen. hopeless_stands job w w' wide s (place_at is.kept is.piece is.fragment x) (is.least x lt (back x unseen));
+      fails = subst (λ (m : Mine). FailsAt job m (place_at is.kept.geometry is.kept.places is.piece is.fragment is.point) column) (sym same) is.fails;
+      least = λ x lt unseen. hopeless_stands job w w' wide s (place_at is.kept.geometry is.kept.places is.piece is.fragment x) (is.least x lt (back x unseen));
       others = λ x unseen. ⊎_elim
-          (λ (h : IsHopeless s job w (place_at is.kept is.piece is.fragment x)). inl (hopeless_stands job w w' wide s (place_at is.kept is.piece is.fragment x) h))
-          (λ (f : (k : ℕ) × FailsAt job (mine job w) (place_at is.kept is.piece is.fragment x) k).
-          inr (f.0, subst (λ (m : Mine). FailsAt job m (place_at is.kept is.piece is.fragment x) f.0) (sym same) f.1))
+          (λ (h : IsHopeless s job w (place_at is.kept.geometry is.kept.places is.piece is.fragment x)). inl (hopeless_stands job w w' wide s (place_at is.kept.geometry is.kept.places is.piece is.fragment x) h))
+          (λ (f : (k : ℕ) × FailsAt job (mine job w) (place_at is.kept.geometry is.kept.places is.piece is.fragment x) k).
+          inr (f.0, subst (λ (m : Mine). FailsAt job m (place_at is.kept.geometry is.kept.places is.piece is.fragment x) f.0) (sym same) f.1))
           (is.others x (back x unseen));
     }
 

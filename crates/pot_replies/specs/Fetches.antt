@@ -1,7 +1,8 @@
 -- The replies to `fetch`, each as the job's own entries give it.
-use Rattle.std.specs.Prelude.{◌≡◌, ◌≢◌, ◌<◌, ◌≤◌, ◌⊎◌, ◌*◌, ◌+◌, ℕ, Bool, true, false, List, [], ◌∷◌, ◌++◌, Option, Some, None, IfSome, length, IsTrue, find, filter, is_some, slice_index_or, Contains}
+use Rattle.std.specs.Prelude.{◌≡◌, ◌≢◌, ◌<◌, ◌≤◌, ◌⊎◌, ◌+◌, ℕ, Bool, true, false, List, [], ◌∷◌, ◌++◌, Option, Some, None, IfSome, length, IsTrue, find, filter, is_some, Contains}
 use Rattle.pot_bytes.specs.declared.digest.Digest.{Digest}
 use Rattle.pot_bytes.specs.declared.rack.Place.{Place}
+use Rattle.pot_bytes.specs.Rack.{log_bound}
 use Rattle.pot_machine.specs.declared.entry.Entry.{Entry}
 use Rattle.pot_machine.specs.declared.entry.Entry.TheVariants.{Seen, Gone, Fault, Begin, Hop, Mended, GaveUp, Oddly, Stuck}
 use Rattle.pot_machine.specs.declared.slot.SlotState.TheVariants.{Live}
@@ -9,8 +10,8 @@ use Rattle.pot_machine.specs.Slot.{is_live}
 use Rattle.pot_machine.specs.Table.{Table, slot_at, count}
 use Rattle.pot_machine.specs.Logs.{own, replayed}
 use Rattle.pot_steps.specs.Stripe.{digest_of}
-use Rattle.pot_steps.specs.GroupStep.{log_bound}
 use Rattle.pot_object.specs.Pieces.{pieces_of}
+use Rattle.pot_shard.specs.Places.{place_at}
 use Rattle.pot_index.specs.declared.entry.IndexEntry.TheVariants.{Find}
 use Rattle.pot_index.specs.declared.entry.Logged.{Logged}
 use Rattle.pot_index.specs.declared.record.Record.{Record}
@@ -40,20 +41,13 @@ Found s job name kept w = FoundThen [] s job name kept w
 
 -- WHAT WAS SEEN
 
-abbrev pub no_place : Place
-no_place = record { group = 0; column = 0; stripe = 0 }
-
--- the place of point x of fragment j of piece i, all from 0
-abbrev pub place_at : Record → ℕ → ℕ → ℕ → Place
-place_at kept i j x = slice_index_or kept.places ((i * kept.geometry.fragments + j) * kept.geometry.shards + x) no_place
-
 -- the block of a place was seen
 abbrev pub has_seen : (ℕ → List Entry) → Place → Bool
 has_seen entries p = is_some (find (is_seen_at p.stripe p.column) (entries p.group))
 
 -- how many points of a fragment were seen
 abbrev pub seen_of : (ℕ → List Entry) → Record → ℕ → ℕ → ℕ
-seen_of entries kept i j = count kept.geometry.shards (λ x. has_seen entries (place_at kept i j x))
+seen_of entries kept i j = count kept.geometry.shards (λ x. has_seen entries (place_at kept.geometry kept.places i j x))
 
 -- of each fragment just as many points were seen as give it back
 abbrev pub SeesAll : (ℕ → List Entry) → Record → Type 0
@@ -131,8 +125,8 @@ pub record IsOdd (held : Option (List (List ℕ))) (s : Setting) (job : ℕ) (na
   pub sees : SeesAll (mine job w).own kept
   pub block : ℕ → ℕ → ℕ → Option (List ℕ)
   pub seen : (i j x : ℕ) → i < pieces_of kept.length → j < kept.geometry.fragments → x < kept.geometry.shards
-      → IsTrue (has_seen (mine job w).own (place_at kept i j x)) → (b : List ℕ) × (block i j x ≡ Some b) × ReadAt held s job w (place_at kept i j x) b
-  pub unseen : (i j x : ℕ) → has_seen (mine job w).own (place_at kept i j x) ≡ false → block i j x ≡ None
+      → IsTrue (has_seen (mine job w).own (place_at kept.geometry kept.places i j x)) → (b : List ℕ) × (block i j x ≡ Some b) × ReadAt held s job w (place_at kept.geometry kept.places i j x) b
+  pub unseen : (i j x : ℕ) → has_seen (mine job w).own (place_at kept.geometry kept.places i j x) ≡ false → block i j x ≡ None
   pub wanted_is : wanted ≡ kept.digest
   pub bytes : List ℕ
   pub joined : AreJoined kept block bytes
@@ -182,7 +176,7 @@ FailsAt job m p column =
 
 -- a point of the fragment that was not seen
 abbrev pub IsUnseen : Record → ℕ → ℕ → Mine → ℕ → Type 0
-IsUnseen kept piece fragment m x = (x < kept.geometry.shards) × (has_seen m.own (place_at kept piece fragment x) ≡ false)
+IsUnseen kept piece fragment m x = (x < kept.geometry.shards) × (has_seen m.own (place_at kept.geometry kept.places piece fragment x) ≡ false)
 
 -- `lost`: of the first fragment with too few points seen no other point can be had
 pub record IsLost (s : Setting) (job : ℕ) (name : List ℕ) (piece fragment have need : ℕ) (w : Section) : Type 0 where
@@ -191,7 +185,7 @@ pub record IsLost (s : Setting) (job : ℕ) (name : List ℕ) (piece fragment ha
   pub entries : FetchEntries kept job w
   pub short : FirstShort kept piece fragment have (mine job w)
   pub need_is : need ≡ kept.geometry.need
-  pub hopeless : (x : ℕ) → IsUnseen kept piece fragment (mine job w) x → IsHopeless s job w (place_at kept piece fragment x)
+  pub hopeless : (x : ℕ) → IsUnseen kept piece fragment (mine job w) x → IsHopeless s job w (place_at kept.geometry kept.places piece fragment x)
 
 -- `fault`: the same, but for points at which an archive failed. The reply names the group of the least of these, and the
 -- column of its last entry.
@@ -205,11 +199,11 @@ pub record IsFetchFault (s : Setting) (job : ℕ) (name : List ℕ) (group colum
   pub short : FirstShort kept piece fragment have (mine job w)
   pub point : ℕ
   pub unseen : IsUnseen kept piece fragment (mine job w) point
-  pub group_is : group ≡ (place_at kept piece fragment point).group
-  pub fails : FailsAt job (mine job w) (place_at kept piece fragment point) column
-  pub least : (x : ℕ) → x < point → IsUnseen kept piece fragment (mine job w) x → IsHopeless s job w (place_at kept piece fragment x)
+  pub group_is : group ≡ (place_at kept.geometry kept.places piece fragment point).group
+  pub fails : FailsAt job (mine job w) (place_at kept.geometry kept.places piece fragment point) column
+  pub least : (x : ℕ) → x < point → IsUnseen kept piece fragment (mine job w) x → IsHopeless s job w (place_at kept.geometry kept.places piece fragment x)
   pub others : (x : ℕ) → IsUnseen kept piece fragment (mine job w) x
-      → IsHopeless s job w (place_at kept piece fragment x) ⊎ ((k : ℕ) × FailsAt job (mine job w) (place_at kept piece fragment x) k)
+      → IsHopeless s job w (place_at kept.geometry kept.places piece fragment x) ⊎ ((k : ℕ) × FailsAt job (mine job w) (place_at kept.geometry kept.places piece fragment x) k)
 
 -- `logfull g`: the call refused was one on a point of the first such fragment, whose group's log was at its bound
 pub record IsFetchLogFull (s : Setting) (job : ℕ) (name : List ℕ) (group : ℕ) (w : Section) : Type 0 where
@@ -222,7 +216,7 @@ pub record IsFetchLogFull (s : Setting) (job : ℕ) (name : List ℕ) (group : �
   pub short : FirstShort kept piece fragment have (mine job w)
   pub point : ℕ
   pub unseen : IsUnseen kept piece fragment (mine job w) point
-  pub group_is : group ≡ (place_at kept piece fragment point).group
+  pub group_is : group ≡ (place_at kept.geometry kept.places piece fragment point).group
   pub log : List Entry
   pub moment : Moment job (w.before group) (w.added group) log
   pub full : length log ≡ log_bound

@@ -1,18 +1,17 @@
 -- The replies that say that the index log is full, and those to `list` and `status`.
 use Rattle.std.specs.Prelude.{◌≡◌, ◌<◌, ◌≤◌, ℕ, ◌+◌, List, [], ◌∷◌, ◌++◌, length, map, count_by, slice_get, Some}
+use Rattle.pot_bytes.specs.Rack.{log_bound}
 use Rattle.pot_machine.specs.declared.entry.Entry.{Entry}
 use Rattle.pot_machine.specs.declared.entry.Entry.TheVariants.{Counted}
 use Rattle.pot_machine.specs.Slot.{is_live, is_lost, is_broken}
 use Rattle.pot_machine.specs.Table.{Table}
 use Rattle.pot_machine.specs.Logs.{own, replayed}
-use Rattle.pot_steps.specs.GroupStep.{log_bound}
 use Rattle.pot_object.specs.Pieces.{longest}
 use Rattle.pot_index.specs.declared.entry.IndexEntry.TheVariants.{Listed}
 use Rattle.pot_index.specs.declared.entry.Logged.{Logged}
 use Rattle.pot_index.specs.declared.listed.Listed as listed
 use Rattle.pot_index.specs.Entries.{plain}
 use Rattle.pot_index.specs.Index.{names_read}
-use Rattle.pot_index.specs.Index as bounds
 use Rattle.pot_index.specs.Calls.{listed_of}
 use Rattle.pot_replies.specs.Sections.{Section, mine, Moment, IndexMoment, NoneInGroups, IsSilent, names_after}
 use Rattle.pot_replies.specs.Settings.{Setting}
@@ -23,7 +22,7 @@ pub record IsIndexFull (s : Setting) (n job : ℕ) (w : Section) : Type 0 where
   pub silent : IsSilent (mine job w)
   pub log : List Logged
   pub moment : IndexMoment job w.index_before w.index_added log
-  pub full : bounds.log_bound < (length log + length (names_after (names_read s.read) log).reserved) + n
+  pub full : log_bound < (length log + length (names_after (names_read s.read) log).reserved) + n
 
 -- the same of a store, whose file is not too long
 abbrev pub IsStoreIndexFull : Setting → ℕ → ℕ → Section → Type 0

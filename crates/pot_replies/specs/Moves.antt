@@ -1,13 +1,13 @@
 -- The replies to `replace` and `migrate`, each as the job's own entries give it. Those to `migrate` are judged on the moves
 -- that the batch began and on its work.
 use Rattle.std.specs.Prelude.{◌≡◌, ◌≢◌, ◌<◌, ◌⊎◌, ℕ, List, [], ◌∷◌, ◌++◌, Option, Some, None, IsSome, length, filter, Contains}
+use Rattle.pot_bytes.specs.Rack.{log_bound}
 use Rattle.pot_machine.specs.declared.entry.Entry.{Entry}
 use Rattle.pot_machine.specs.declared.entry.Entry.TheVariants.{Fault, MoveBegin, MoveEnd, Swapped}
 use Rattle.pot_machine.specs.declared.column.Moving.{Moving}
 use Rattle.pot_machine.specs.Slot.{is_live}
 use Rattle.pot_machine.specs.Table.{width, column_at, slot_at, holder_of, count}
 use Rattle.pot_machine.specs.Logs.{own, replayed}
-use Rattle.pot_steps.specs.GroupStep.{log_bound}
 use Rattle.pot_replies.specs.Jobs.{is_copied, is_move_of, EachIs}
 use Rattle.pot_replies.specs.Sections.{Section, Mine, mine, Moment, IsSilent, IsOnlyIn, checked}
 use Rattle.pot_replies.specs.Settings.{Setting}

@@ -3,12 +3,13 @@
 use Rattle.std.specs.Prelude.{◌≡◌, ◌≢◌, ◌<◌, ◌⊎◌, ℕ, ◌+◌, ◌^◌, List, [], ◌∷◌, ◌++◌, Option, None, length, map}
 use Rattle.pot_bytes.specs.declared.digest.Digest.{Digest}
 use Rattle.pot_bytes.specs.declared.rack.Geometry.{Geometry}
+use Rattle.pot_bytes.specs.Rack.{log_bound}
 use Rattle.pot_machine.specs.declared.entry.Entry.{Entry}
 use Rattle.pot_machine.specs.declared.entry.Entry.TheVariants.{Fault}
 use Rattle.pot_machine.specs.Table.{Table, relay_at}
 use Rattle.pot_machine.specs.Logs.{replayed}
 use Rattle.pot_steps.specs.Stripe.{digest_of}
-use Rattle.pot_steps.specs.GroupStep.{Passed, skips, gone_entries, log_bound}
+use Rattle.pot_steps.specs.GroupStep.{Passed, skips, gone_entries}
 use Rattle.pot_object.specs.Pieces.{pieces_of}
 use Rattle.pot_index.specs.declared.record.Record.{Record}
 use Rattle.pot_index.specs.declared.entry.IndexEntry.TheVariants.{Renew, Often}
@@ -16,7 +17,6 @@ use Rattle.pot_index.specs.declared.entry.Logged.{Logged}
 use Rattle.pot_index.specs.Entries.{plain, bringing}
 use Rattle.pot_index.specs.Fits.{group_of}
 use Rattle.pot_index.specs.Index.{names_read}
-use Rattle.pot_index.specs.Index as bounds
 use Rattle.pot_index.specs.Records.{mark_of}
 use Rattle.pot_replies.specs.Sections.{Section, mine, Moment, IndexMoment, NoneInGroups, names_after}
 use Rattle.pot_replies.specs.Settings.{Setting}
@@ -76,7 +76,7 @@ pub record IsRenewIndexFull (s : Setting) (job : ℕ) (name : List ℕ) (geometr
   pub all : AllPut [] s job name geometry placed w
   pub log : List Logged
   pub moment : IndexMoment job w.index_before w.index_added log
-  pub full : bounds.log_bound < (length log + length (names_after (names_read s.read) log).reserved) + 1
+  pub full : log_bound < (length log + length (names_after (names_read s.read) log).reserved) + 1
 
 -- A renewal ended at its block for group g: the blocks before were put, and its puts in g end by these entries.
 pub record RenewStops (s : Setting) (job : ℕ) (name : List ℕ) (geometry : Geometry) (g : ℕ) (last : List Entry) (w : Section) : Type 0 where

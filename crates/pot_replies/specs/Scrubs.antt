@@ -1,13 +1,13 @@
 -- The replies to `scrub` and `repair`, each as the job's own entries give it.
 use Rattle.std.specs.Prelude.{◌≡◌, ◌<◌, ◌⊎◌, ℕ, Bool, IsTrue, List, [], ◌∷◌, ◌++◌, length, filter, map, Contains}
 use Rattle.pot_bytes.specs.declared.digest.Digest.{Digest}
+use Rattle.pot_bytes.specs.Rack.{log_bound}
 use Rattle.pot_machine.specs.declared.entry.Entry.{Entry}
 use Rattle.pot_machine.specs.declared.entry.Entry.TheVariants.{Seen, Gone, Fault, Stuck, Oddly}
 use Rattle.pot_machine.specs.Slot.{is_live, is_unsound}
 use Rattle.pot_machine.specs.declared.slot.SlotState.{SlotState}
 use Rattle.pot_machine.specs.Table.{width, slot_at}
 use Rattle.pot_machine.specs.Logs.{own, replayed}
-use Rattle.pot_steps.specs.GroupStep.{log_bound}
 use Rattle.pot_replies.specs.Jobs.{is_seen, is_gone, is_look, is_relay, is_mended, is_left, place_in, EachIs, Ascend}
 use Rattle.pot_replies.specs.Sections.{Section, Mine, mine, Moment, IsOnlyIn, AlwaysAt}
 use Rattle.pot_replies.specs.Settings.{Setting}

@@ -2,6 +2,7 @@
 use Rattle.std.proofs.Common.{◌≡◌, ◌≢◌, ℕ, suc, ◌+◌, ◌<◌, ◌≤◌, List, [], ◌∷◌, ◌++◌, length, take, drop, refl, ap, sym, ◌∙◌, subst, arith, ⊎_elim, length-append}
 use Rattle.std.specs.Prelude.{slice_get, Some}
 use Rattle.std.proofs.lemmas.Option.{get_or_from_slice_get}
+use Rattle.std.proofs.lemmas.Bool.{cases_lt}
 use Rattle.pot_turn.specs.declared.view.View.{View}
 use Rattle.pot_turn.specs.declared.name.TurnName.{TurnName}
 use Rattle.pot_turn.specs.Views.{spent_view, cut_view, new_view}
@@ -9,7 +10,7 @@ use Rattle.pot_turn.proofs.LogLemmas.{starts_self}
 use Rattle.pot_rows.specs.Rows.{PassRow, AreOf, view_at, with_view}
 use Rattle.pot_rows.specs.Parts.{SplitSofar, Joined, JoinedAt, RowJoined, JoinSofar}
 use Rattle.pot_rows.proofs.Lists.{drop_next, take_next, get_or_front, get_or_last}
-use Rattle.pot_rows.proofs.RowLemmas.{at_set, at_other, at_past, still_of, below_or_at, below_or_past}
+use Rattle.pot_rows.proofs.RowLemmas.{at_set, at_other, at_past, still_of, below_or_at}
 
 one_more : (n : ℕ) → n + 1 ≡ suc n
 one_more n = omega arith
@@ -93,4 +94,4 @@ module _ {E O : Type 0} (names : List TurnName) (old : PassRow E O) where
         subst (λ k. Joined k (view_at other at) (view_at new at)) (sym op)
         (subst (λ k. Joined spent_view k (view_at new at)) (sym ip)
         (subst (λ k. Joined spent_view spent_view k) (sym (sofar.rest at p ∙ op)) joined_spent)))
-        (below_or_past at n)
+        (cases_lt at n)

@@ -84,8 +84,3 @@ below_or_at zero zero lt = inr refl
 below_or_at zero (suc at) lt = absurd (omega (arith, lt))
 below_or_at (suc n) zero lt = inl (omega arith)
 below_or_at (suc n) (suc at) lt = ⊎_elim (λ (l : at < n). inl (omega (arith, l))) (λ (e : n ≡ at). inr (ap suc e)) (below_or_at n at (omega (arith, lt)))
-
-pub below_or_past : (i n : ℕ) → (i < n) ⊎ (n ≤ i)
-below_or_past i zero = inr (omega arith)
-below_or_past zero (suc n) = inl (omega arith)
-below_or_past (suc i) (suc n) = ⊎_elim (λ (l : i < n). inl (omega (arith, l))) (λ (l : n ≤ i). inr (omega (arith, l))) (below_or_past i n)

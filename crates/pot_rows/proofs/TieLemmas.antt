@@ -1,5 +1,6 @@
 -- Two rows of passes that are tied, turn by turn.
 use Rattle.std.proofs.Common.{◌≡◌, ◌≢◌, ℕ, ◌+◌, ◌<◌, ◌≤◌, List, length, refl, ap, sym, ◌∙◌, subst, arith, ⊎_elim}
+use Rattle.std.proofs.lemmas.Bool.{cases_lt}
 use Rattle.pot_turn.specs.declared.view.View.{View}
 use Rattle.pot_turn.specs.declared.name.TurnName.{TurnName}
 use Rattle.pot_turn.specs.Views.{spent_view}
@@ -7,7 +8,7 @@ use Rattle.pot_turn.proofs.LogLemmas.{starts_self}
 use Rattle.pot_worked.specs.Worked.{KnowsMore}
 use Rattle.pot_rows.specs.Rows.{PassRow, AreOf, view_at}
 use Rattle.pot_rows.specs.Ties.{Tied, TiedAt, RowTied, TiedSofar}
-use Rattle.pot_rows.proofs.RowLemmas.{at_set, at_other, at_past, still_of, below_or_at, below_or_past}
+use Rattle.pot_rows.proofs.RowLemmas.{at_set, at_other, at_past, still_of, below_or_at}
 
 module _ {E O : Type 0} where
   pub knows_same : (v : View E O) → KnowsMore v v
@@ -63,4 +64,4 @@ module _ {E O : Type 0} (names : List TurnName) (mine others : PassRow E O) wher
       let mp = at_past names mine at m past in
       let op = at_past names others at o past in
       tied_along spent_view spent_view spent_view spent_view _ _ _ _ mp op (was.0 ∙ mp) (was.1 ∙ op) (tied_same spent_view))
-      (below_or_past at n)
+      (cases_lt at n)

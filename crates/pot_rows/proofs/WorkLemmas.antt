@@ -1,6 +1,7 @@
 -- What a job did with a row of passes, place by place.
-use Rattle.std.proofs.Common.{◌≡◌, ◌≢◌, ◌⊎◌, inl, inr, ℕ, zero, suc, ◌<◌, List, [], ◌∷◌, length, refl, ap, sym, ◌∙◌, subst, arith, ⊎_elim}
+use Rattle.std.proofs.Common.{◌≡◌, ◌≢◌, ◌⊎◌, ℕ, ◌<◌, List, [], ◌∷◌, length, ap, sym, ◌∙◌, subst, ⊎_elim}
 use Rattle.std.specs.Prelude.{filter}
+use Rattle.std.proofs.lemmas.Bool.{cases_eq}
 use Rattle.pot_turn.specs.declared.view.View.{View}
 use Rattle.pot_worked.specs.Worked.{added, Worked, Alone, IsTurn}
 use Rattle.pot_worked.proofs.WorkedLemmas.{work_goes_on, work_in_parts, alone_in_parts, own_in_turn, more_is_work, more_has_none}
@@ -9,13 +10,6 @@ use Rattle.pot_rows.specs.Rows.{PassRow, view_at}
 use Rattle.pot_rows.specs.Works.{TurnAt, TurnIsWork, OwnInTurnAt, RowWorkInParts, RowAloneInParts, TieIsWork, TieHasNone, RowWorkWent, RowWentInParts, RowSoleInParts, RowSoleAlone, RowSoleAtClose, JoinsAtPlaces}
 use Rattle.pot_rows.proofs.RowLemmas.{at_set, at_other}
 use Rattle.pot_rows.proofs.TieLemmas.{knows_same}
-
--- one number or another
-same_or_other : (a b : ℕ) → (a ≡ b) ⊎ (a ≢ b)
-same_or_other zero zero = inl refl
-same_or_other zero (suc b) = inr (λ e. omega (arith, e))
-same_or_other (suc a) zero = inr (λ e. omega (arith, e))
-same_or_other (suc a) (suc b) = ⊎_elim (λ (e : a ≡ b). inl (ap suc e)) (λ (ne : a ≢ b). inr (λ e. ne (omega (arith, e)))) (same_or_other a b)
 
 module _ {E O : Type 0} (others entries : List E) (old new : PassRow E O) (at : ℕ) (within : at < length old.views) (step : TurnAt others entries old at new) where
   turn_here : view_at new at ≡ step.pass
@@ -33,7 +27,7 @@ turn_is_work is_of others entries old new at within idle step all i = ⊎_elim
     (work_goes_on is_of (view_at old at) (view_at new at) others entries (its_turn others entries old new at within step) all))
     (λ (ne : at ≢ i). subst (λ v. Worked is_of (view_at old i) v) (sym (turn_else others entries old new at within step i ne))
     (more_is_work is_of (view_at old i) (view_at old i) (knows_same (view_at old i)) (idle i)))
-    (same_or_other at i)
+    (cases_eq at i)
 
 pub own_in_turn_at : {E O : Type 0} → OwnInTurnAt E O
 own_in_turn_at {E} {O} is_of others entries old new at within step all alone = (

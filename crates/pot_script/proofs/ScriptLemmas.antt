@@ -109,7 +109,7 @@ pub record IsRead (rack : Rack) (bytes : List ℕ) (commands : List Command) (ba
   pub batch_is : batch ≡ after_commands None commands
   pub room : length commands + length rest ≤ length bytes
 
-text_some : (c : Command) → 1 ≤ length (command_text c)
+pub text_some : (c : Command) → 1 ≤ length (command_text c)
 text_some c =
     omega (arith, length-append {A = ℕ} (command_line c ++ codes "\n") (stated_bytes c), length-append {A = ℕ} (command_line c) (codes "\n"))
 

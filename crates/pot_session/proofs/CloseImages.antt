@@ -1,11 +1,13 @@
 -- The image of a close.
-use Rattle.std.proofs.Common.{◌≡◌, ◌+◌, ◌++◌, inl, inr, ℕ, zero, suc, List, [], ◌∷◌, length, map, refl, sym, ap, subst, ◌∙◌}
+use Rattle.std.proofs.Common.{◌≡◌, ◌+◌, ◌++◌, inl, inr, ℕ, List, [], ◌∷◌, length, map, refl, sym, ap, subst, ◌∙◌}
 use Rattle.std.specs.Prelude.{Option, Some, Result, Ok, Err, IfErr, OnOk, IsErr, IsErrOf, slice_get, flat_map}
 use Rattle.std.proofs.lemmas.List.{length-map}
 use Rattle.std.proofs.lemmas.Option.{same_Some}
+use Rattle.std.proofs.lemmas.Bool.{cases_lt}
 use Rattle.byteorder.specs.Endian.{big_bytes}
 use Rattle.pot_bytes.specs.Digests.{digest_bytes}
 use Rattle.pot_bytes.specs.declared.rack.Rack.{Rack}
+use Rattle.pot_bytes.proofs.Elements.{element_of_map}
 use Rattle.pot_outside.specs.Failing.{MayLeave}
 use Rattle.pot_outside.specs.Archives.{Meaning}
 use Rattle.pot_outside.specs.declared.archive.Shelf.{Shelf}
@@ -21,7 +23,7 @@ use Rattle.pot_session.specs.declared.stop.Stop.{Stop}
 use Rattle.pot_session.specs.declared.stop.Stop.TheVariants as stop
 use Rattle.pot_session.specs.Desks.{Keeps, IsKeepStop}
 use Rattle.pot_rows.specs.Rows.{view_at}
-use Rattle.pot_rows.proofs.RowLemmas.{at_past, below_or_past}
+use Rattle.pot_rows.proofs.RowLemmas.{at_past}
 use Rattle.pot_replies.specs.Sessions.{ByNobody}
 use Rattle.pot_shared.specs.Members.{entries_of}
 use Rattle.pot_shared.specs.Ready.{GroupPass}
@@ -53,11 +55,6 @@ same_image v = ap (λ t. t ++ digest_bytes t) (same_text v)
 
 -- THE TABLES
 
-pub got_map : {X Y : Type 0} (f : X → Y) (xs : List X) (n : ℕ) (y : Y) → slice_get (map f xs) n ≡ Some y → (x : X) × (slice_get xs n ≡ Some x) × (f x ≡ y)
-got_map f [] n y e = absurd (cc)
-got_map f (x ∷ xs) zero y e = (x, refl, same_Some (f x) y e)
-got_map f (x ∷ xs) (suc n) y e = got_map f xs n y e
-
 pub leave_groups : {M : Type 0} (told : Type 0) (meant : ℕ → Meaning) (Has : Shelves → ℕ → Type 0) (see : M → GroupView) (ms : List M)
     → ((n : ℕ) (m : M) → slice_get ms n ≡ Some m → LeavesGroup told meant Has (see m).first (see m).log (still (see m).table))
     → LeaveGroups told meant Has (map (λ m. (see m).first) ms) (map (λ m. (see m).log) ms) (map still (map (λ m. (see m).table) ms))
@@ -65,8 +62,8 @@ leave_groups told meant Has see ms leaves = record {
   count = length-map (map (λ m. (see m).table) ms) still ∙ (length-map ms (λ m. (see m).table) ∙ sym (length-map ms (λ m. (see m).first)));
   count_logs = length-map ms (λ m. (see m).log) ∙ sym (length-map ms (λ m. (see m).first));
   each = λ g t u log et eu el.
-      (let a = got_map (λ m. (see m).first) ms g t et in let b = got_map (λ m. (see m).log) ms g log el in
-      let d = got_map still (map (λ m. (see m).table) ms) g u eu in let f = got_map (λ m. (see m).table) ms g d.0 d.1 in
+      (let a = element_of_map (λ m. (see m).first) ms g t et in let b = element_of_map (λ m. (see m).log) ms g log el in
+      let d = element_of_map still (map (λ m. (see m).table) ms) g u eu in let f = element_of_map (λ m. (see m).table) ms g d.0 d.1 in
       let sb : b.0 ≡ a.0 = same_Some b.0 a.0 (sym b.1 ∙ a.1) in let sf : f.0 ≡ a.0 = same_Some f.0 a.0 (sym f.1 ∙ a.1) in
       let log_is : (see a.0).log ≡ log = ap (λ m. (see m).log) (sym sb) ∙ b.2 in
       let written : still (see a.0).table ≡ u = ap still (ap (λ m. (see m).table) (sym sf) ∙ f.2) ∙ d.2 in
@@ -123,7 +120,7 @@ holds_after first last left holds given kept e k = by_both given kept k
 
 -- what was seen at the start of a session: what the openings logged, which is of no job, and nothing of the index
 opened_by : (old : Known) → AreFirstPasses old.groups old.index → (g : ℕ) → ByNobody (entries_of (view_at old.groups g).seen)
-opened_by old first g = elim (below_or_past g (length old.groups.names)) [
+opened_by old first g = elim (cases_lt g (length old.groups.names)) [
   | inl l ↦ (let p = first.each g l in subst (λ (v : GroupPass). ByNobody (entries_of v.seen)) (sym p.is) p.nobody)
   | inr l ↦ subst (λ (v : GroupPass). ByNobody (entries_of v.seen)) (sym (at_past old.groups.names old.groups g (refl, first.count) l)) of_none
 ]

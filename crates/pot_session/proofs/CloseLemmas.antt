@@ -2,9 +2,10 @@
 use Rattle.std.proofs.Common.{◌≡◌, ◌<◌, ◌≤◌, ◌+◌, ◌++◌, inl, inr, ℕ, zero, suc, List, [], ◌∷◌, length, drop, map, refl, sym, ap, subst, ◌∙◌, arith, append-nil, length-append}
 use Rattle.std.specs.Prelude.{Some, slice_get}
 use Rattle.std.proofs.Math.Seq.{drop-append_seam}
-use Rattle.std.proofs.lemmas.List.{map-append}
 use Rattle.std.proofs.lemmas.Option.{slice_get_within}
+use Rattle.std.proofs.lemmas.Bool.{cases_lt}
 use Rattle.pot_bytes.specs.declared.rack.Rack.{Rack}
+use Rattle.pot_bytes.proofs.Elements.{element_at}
 use Rattle.pot_index.specs.Index.{IndexView}
 use Rattle.pot_group.specs.Arrivals.{arrivals}
 use Rattle.pot_group.proofs.Arriving.{arrivals-append}
@@ -19,17 +20,17 @@ use Rattle.pot_worked.proofs.SoleLemmas.{went_in_parts, sole_in_parts, sole_at_c
 use Rattle.pot_rows.specs.Rows.{view_at}
 use Rattle.pot_rows.specs.Works.{RowSole}
 use Rattle.pot_rows.specs.Parts.{Joined}
-use Rattle.pot_rows.proofs.RowLemmas.{at_past, below_or_past}
+use Rattle.pot_rows.proofs.RowLemmas.{at_past}
 use Rattle.pot_shared.specs.declared.member.Logged.{Logged}
 use Rattle.pot_shared.specs.Members.{kept_log, origin_of, entries_of}
 use Rattle.pot_shared.specs.Ready.{GroupPass, GroupPasses, AreReady}
 use Rattle.pot_shared.specs.Catalogs.{IndexPass, IndexPasses, IsIndexReady, IsKept}
 use Rattle.pot_shared.specs.Sharing.{Ends}
+use Rattle.pot_shared.proofs.MemberLemmas.{entries_all, entries_append}
 use Rattle.pot_store.specs.Works.{Known, known, gained}
 use Rattle.pot_commands.specs.Ends.{AllSole}
 use Rattle.pot_session.specs.Groups.{IsFirstPass, AreServed, table_read, tables_read}
-use Rattle.pot_session.proofs.Lists.{at_place}
-use Rattle.pot_session.proofs.OpenLemmas.{entries_kept, read_of}
+use Rattle.pot_session.proofs.OpenLemmas.{read_of}
 
 first_gained : {E : Type 0} (xs : List E) → ((i : ℕ) (e : E) → slice_get xs i ≡ Some e → ⊥) → xs ≡ []
 first_gained [] h = refl
@@ -75,9 +76,6 @@ module _ {E O : Type 0} where
       let some : 0 < times (length v.seen + i) [] = subst (λ ss. 0 < times (length v.seen + i) ss) none (sole (length v.seen + i) e le at) in
       absurd (omega (arith, some))))
 
-entries-append : (xs ys : List Logged) → entries_of (xs ++ ys) ≡ entries_of xs ++ entries_of ys
-entries-append xs ys = map-append (λ l. l.entry) xs ys
-
 -- THE FIRST TABLES
 
 pub closed_firsts : {M : Type 0} (see : M → GroupView) (rack : Rack) (names : List TurnName) (groups : GroupPasses) (index : IndexPass) (ms : List M) (ended : IndexView) → AreReady rack names groups
@@ -110,7 +108,7 @@ module _ {M : Type 0} (see : M → GroupView) (rack : Rack) (names turn : List T
         let c : length (view_at old.groups n).opened ≡ length (view_at old.groups n).seen = ap (λ (v : GroupPass). length v.opened) first.is ∙ sym (ap (λ (v : GroupPass). length v.seen) first.is) in
         omega (arith, a, b, c));
     fresh = ap (λ (v : GroupPass). stretches_of v) first.is;
-    once = (let m = at_place ms n (let k = members_long in omega (arith, l, k)) in let closed = e.closed.each n m.0 m.1 in
+    once = (let m = element_at ms n (let k = members_long in omega (arith, l, k)) in let closed = e.closed.each n m.0 m.1 in
         subst (λ log. IsOnceEach (view_at e.whole n).opened log (stretches_of (view_at e.whole n))) closed.seen closed.once);
   })
     where
@@ -124,7 +122,7 @@ module _ {M : Type 0} (see : M → GroupView) (rack : Rack) (names turn : List T
       past i x h = (let b = slice_get_within {A = Logged} [] i x h in omega (arith, b))
 
   pub sole_groups : RowSole old.groups groups
-  sole_groups n = elim (below_or_past n (length names)) [
+  sole_groups n = elim (cases_lt n (length names)) [
     | inl l ↦ (sole_in_parts (view_at old.groups n) (view_at groups n) (view_at e.whole n) (s.went.groups n) (last n l).0 (sole_whole n l)).0
     | inr l ↦ sole_past n l
   ]
@@ -169,8 +167,8 @@ module _ {M : Type 0} (see : M → GroupView) (rack : Rack) (names turn : List T
   -- and without them
   pub closed_log : (n : ℕ) (m : M) → slice_get ms n ≡ Some m → (see m).log ≡ entries_of (view_at old.groups n).seen ++ gained old.groups groups n
   closed_log n m q =
-      sym (entries_kept (see m).shelves (see m).log) ∙ (ap entries_of (closed_kept n m q)
-      ∙ entries-append (view_at old.groups n).seen (added (view_at old.groups n) (view_at groups n)))
+      sym (entries_all (see m).shelves (see m).log) ∙ (ap entries_of (closed_kept n m q)
+      ∙ entries_append (view_at old.groups n).seen (added (view_at old.groups n) (view_at groups n)))
 
   -- the openings brought no archive, so those that came are what the passes gained
   pub opened_none : (n : ℕ) (m : M) → slice_get ms n ≡ Some m → arrivals (entries_of (view_at old.groups n).seen) ≡ []

@@ -4,6 +4,7 @@ use Rattle.std.specs.Prelude.{Option, Some, None, All, Contains, IsSomeAnd, IsSo
 use Rattle.std.proofs.lemmas.Bool.Decides.{eqb_tells}
 use Rattle.std.proofs.lemmas.List.Elements.{Contains-append_cases, Contains-append_left, Contains-append_right}
 use Rattle.std.proofs.lemmas.Option.{same_Some}
+use Rattle.pot_bytes.proofs.Elements.{none_contained}
 use Rattle.pot_outside.specs.Archives.{Meaning}
 use Rattle.pot_machine.specs.declared.entry.Entry.{Entry}
 use Rattle.pot_machine.specs.declared.entry.Entry.TheVariants as entry
@@ -14,7 +15,7 @@ use Rattle.pot_shared.specs.Members.{all_logged, entries_of, logged_at, mark_at}
 use Rattle.pot_shared.proofs.MemberLemmas.{marks_by}
 use Rattle.pot_commands.specs.Holding.{times, AreApart}
 use Rattle.pot_commands.specs.Taking.{AreMarkedBy, came_in, marks_of}
-use Rattle.pot_commands.proofs.TakingLemmas.{arrival_in, none_contained, times-append, times_here, times_there}
+use Rattle.pot_commands.proofs.TakingLemmas.{arrival_in, times-append, times_here, times_there}
 use Rattle.pot_session.specs.Groups.{AreLow}
 
 -- HOW MANY

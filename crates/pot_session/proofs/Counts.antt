@@ -2,14 +2,11 @@
 use Rattle.std.specs.Prelude.{IsErrOf, Err}
 use Rattle.std.proofs.Common.{◌≡◌, ap, ◌≤◌, ◌⊎◌, inl, inr, ℕ, arith}
 use Rattle.pot_outside.specs.Counts.{Rose, Caused}
+use Rattle.pot_doubles.proofs.CallLemmas.{rose_later}
 
 pub rose_before : (a b c : ℕ) → b ≤ c → Rose a b → Rose a c
 rose_before a b c le (inl r) = inl (omega arith)
 rose_before a b c le (inr top) = inr (omega arith)
-
-pub rose_after : (a b c : ℕ) → a ≤ b → Rose b c → Rose a c
-rose_after a b c le (inl r) = inl (omega arith)
-rose_after a b c le (inr top) = inr top
 
 -- two calls: an answer that comes from either
 pub caused_both : {P Q R : Type 0} (a b c : ℕ) → Caused a b P → Caused b c Q → (R → P ⊎ Q) → Caused a c R
@@ -20,7 +17,7 @@ caused_both {P} {Q} {R} a b c p q from = record {
   where
     each : P ⊎ Q → Rose a c
     each (inl x) = rose_before a b c q.later (p.rose x)
-    each (inr y) = rose_after a b c p.later (q.rose y)
+    each (inr y) = rose_later a b c p.later (q.rose y)
 
 -- an answer that comes from the first call, or from the second
 pub caused_first : {P Q R : Type 0} (a b c : ℕ) → Caused a b P → Caused b c Q → (R → P) → Caused a c R

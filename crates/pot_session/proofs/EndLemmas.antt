@@ -5,6 +5,7 @@ use Rattle.std.proofs.lemmas.List.{length-map}
 use Rattle.std.proofs.lemmas.List.Elements.{Contains-append_cases}
 use Rattle.std.proofs.lemmas.Option.{slice_get_within}
 use Rattle.pot_bytes.specs.declared.rack.Rack.{Rack}
+use Rattle.pot_bytes.proofs.Elements.{element_of_map}
 use Rattle.pot_outside.specs.Archives.{Meaning}
 use Rattle.pot_outside.specs.declared.archive.Shelf.{Shelf}
 use Rattle.pot_machine.specs.Table.{Table, archives_in}
@@ -16,6 +17,7 @@ use Rattle.pot_index.specs.Index.{IndexView, IsIndex, names_read, Replays}
 use Rattle.pot_group.specs.Arrivals.{arrivals}
 use Rattle.pot_group.specs.Group.{GroupView, GroupParts, view_of}
 use Rattle.pot_shelves.specs.Shelves.{numbers_of, shelf_of, given, plain}
+use Rattle.pot_index.proofs.RecordLaws.{few_published}
 use Rattle.pot_turn.specs.declared.name.TurnName.{TurnName}
 use Rattle.pot_worked.specs.Worked.{added}
 use Rattle.pot_rows.specs.Rows.{view_at}
@@ -34,15 +36,14 @@ use Rattle.pot_session.proofs.Lists.{same_at, flat_contains}
 use Rattle.pot_session.proofs.GroupLemmas.{find_shelf}
 use Rattle.pot_session.proofs.CloseLemmas.{closed_firsts, closed_kept, closed_log, closed_story, its_came, members_of, opened_none, sole_all}
 use Rattle.pot_session.proofs.ComingLemmas.{came_marked, came_of, few_archives}
-use Rattle.pot_session.proofs.CloseImages.{got_map, leave_groups}
-use Rattle.pot_session.proofs.IndexCounts.{published_few}
+use Rattle.pot_session.proofs.CloseImages.{leave_groups}
 
 -- THE INDEX
 
 -- it has no more records than an image may have, and its log no more entries
 pub few_records : (s : IndexView) (records : List Record) → IsIndex s → records ≡ s.now.published → length records < 2 ^ 32
 few_records s records is e =
-    (let n = ap length e in let m = published_few s.rack (names_read s.read) s.now s.log is.replays in let few = is.read.few in let room = is.room in omega (arith, n, m, few, room))
+    (let n = ap length e in let m = few_published s.rack (names_read s.read) s.now s.log is.replays in let few = is.read.few in let room = is.room in omega (arith, n, m, few, room))
 
 pub few_entries : (s : IndexView) (log : List IndexEntry) → IsIndex s → log ≡ entries s.log → length log < 2 ^ 32
 few_entries s log is e = (let n = ap length e in let m = length-map s.log (λ x. x.entry) in let room = is.room in omega (arith, n, m, room))
@@ -101,7 +102,7 @@ module _ {M : Type 0} (see : M → GroupView) (rack : Rack) (names turn : List T
       → LeavesLogs old (known groups passes) rack logs log records
   closed_leaves logs log records eg el er = record {
     sole = sole_all see rack names turn groups passes ms ended ready index_ready old s e;
-    are_logs = λ n l q. (let m = got_map (λ m. (see m).log) ms n l (subst (λ ls. slice_get ls n ≡ Some l) eg q) in
+    are_logs = λ n l q. (let m = element_of_map (λ m. (see m).log) ms n l (subst (λ ls. slice_get ls n ≡ Some l) eg q) in
         sym m.2 ∙ closed_log see rack names turn groups passes ms ended ready index_ready old s e n m.0 m.1);
     records = closed_records log records el er;
   }

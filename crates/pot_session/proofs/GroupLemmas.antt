@@ -8,6 +8,7 @@ use Rattle.pot_bytes.specs.declared.rack.Rack.{Rack}
 use Rattle.pot_image.specs.Rules.{FitsTable}
 use Rattle.std.proofs.lemmas.List.{map-append, length-map, append_cancel_left, take-append-drop}
 use Rattle.std.proofs.lemmas.Bool.Decides.{eqb_tells}
+use Rattle.pot_bytes.proofs.Elements.{none_contained}
 use Rattle.pot_outside.specs.Archives.{Meaning, IsMeant}
 use Rattle.pot_outside.specs.declared.archive.Marks.{Marks}
 use Rattle.pot_outside.specs.declared.archive.Shelf.{Shelf}
@@ -25,7 +26,6 @@ use Rattle.pot_commands.specs.Taking.{marks_of}
 use Rattle.pot_session.specs.Groups.{IsStarted, IsEnded, AreStarted, AreMarked, AreEnded, had_by}
 use Rattle.pot_commands.specs.Holding.{times, AreSame, AreMeant}
 use Rattle.pot_session.proofs.Lists.{each_more, pair_more, same_flat, flat_snoc, flat_parts, grown, all_at}
-use Rattle.pot_session.proofs.MeantLemmas.{none_contained}
 use Rattle.pot_commands.proofs.TakingLemmas.{times-append}
 
 -- A START

@@ -2,6 +2,7 @@
 use Rattle.std.proofs.Common.{◌≡◌, ◌≢◌, ◌<◌, ◌≤◌, ◌+◌, ◌++◌, ⊎_elim, ℕ, zero, suc, Bool, true, false, cond, List, [], ◌∷◌, length, refl, sym, ap, subst, ◌∙◌, arith, append-nil}
 use Rattle.std.specs.Prelude.{Option, Some, None, All, Contains, IsSome, IsSomeAnd, slice_index_or, flat_map}
 use Rattle.std.proofs.lemmas.List.Elements.{All-head, All-tail, Contains-append_cases, Contains-append_left, Contains-append_right}
+use Rattle.pot_bytes.proofs.Elements.{none_contained}
 use Rattle.pot_outside.specs.Archives.{Meaning}
 use Rattle.pot_machine.specs.declared.entry.Entry.{Entry}
 use Rattle.pot_machine.specs.Rules.{IsTable}
@@ -21,7 +22,7 @@ use Rattle.pot_commands.specs.Ends.{AllSole}
 use Rattle.pot_commands.specs.Holding.{times, AreOut, Untouched}
 use Rattle.pot_commands.specs.Taking.{Lending, Takes, Come, AreMarkedBy, AreUsed, marks_of}
 use Rattle.pot_commands.proofs.ArrivingLemmas.{arrived_used}
-use Rattle.pot_commands.proofs.TakingLemmas.{arrival_in, bit, came_within, none_contained, times-append, times_there}
+use Rattle.pot_commands.proofs.TakingLemmas.{arrival_in, bit, came_within, times-append, times_there}
 use Rattle.pot_session.specs.Groups.{AreFirstPasses, AreLow, HaveCome, table_read, tables_read}
 use Rattle.pot_session.proofs.ComingLemmas.{times_contains}
 use Rattle.pot_session.proofs.Lists.{all_contained}

@@ -8,7 +8,6 @@ pub mod DrillLemmas
 pub mod EndLemmas
 pub mod FrontLemmas
 pub mod GroupLemmas
-pub mod IndexCounts
 pub mod ListingLemmas
 pub mod Lists
 pub mod LossLemmas

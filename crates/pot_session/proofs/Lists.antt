@@ -91,12 +91,6 @@ same_maps f (m ∷ ms) [] long e = absurd (omega (arith, long))
 same_maps f (m ∷ ms) (t ∷ ts) long e =
     ap (λ x. x ∷ map f ms) (e 0 m t refl refl) ∙ ap (λ l. t ∷ l) (same_maps f ms ts (omega (arith, long)) (λ n x y ex ey. e (suc n) x y ex ey))
 
--- what stands at a place within a list
-pub at_place : {A : Type 0} (xs : List A) (n : ℕ) → n < length xs → (x : A) × (slice_get xs n ≡ Some x)
-at_place [] n l = absurd (omega (arith, l))
-at_place (x ∷ xs) zero l = (x, refl)
-at_place (x ∷ xs) (suc n) l = at_place xs n (omega (arith, l))
-
 pub all_at_place : {A : Type 0} (P : A → Type 0) (xs : List A) (n : ℕ) (x : A) → All P xs → slice_get xs n ≡ Some x → P x
 all_at_place P [] n x a e = absurd (cc)
 all_at_place P (y ∷ ys) zero x a e = subst P (same_Some y x e) (All-head P y ys a)

@@ -3,12 +3,15 @@ use Rattle.std.proofs.Common.{◌≡◌, ◌<◌, ◌⊎◌, inl, inr, ℕ, zero
 use Rattle.std.specs.Prelude.{◌==◌, Contains, Result, filter, slice_get, slice_index_or}
 use Rattle.std.proofs.lemmas.List.Elements.{Contains-append_left}
 use Rattle.std.proofs.lemmas.Option.{same_Some}
+use Rattle.std.proofs.lemmas.Bool.{false_from_ne_true}
 use Rattle.pot_bytes.specs.declared.digest.Digest.{Digest}
 use Rattle.pot_bytes.specs.declared.rack.Place.{Place}
 use Rattle.pot_bytes.specs.declared.rack.Rack.{Rack}
+use Rattle.pot_bytes.proofs.Elements.{element_at}
 use Rattle.pot_outside.specs.Archives.{Meaning}
 use Rattle.pot_outside.specs.declared.archive.Marks.{Marks}
 use Rattle.pot_outside.specs.Counts.{Rose}
+use Rattle.pot_shard.specs.Places.{place_at}
 use Rattle.pot_machine.specs.declared.entry.Entry.{Entry}
 use Rattle.pot_machine.specs.declared.entry.Entry.TheVariants as entry
 use Rattle.pot_machine.specs.declared.relay.Relay.{Relay}
@@ -31,7 +34,7 @@ use Rattle.pot_image.specs.Images.{Contents}
 use Rattle.pot_image.specs.Rules.{FitsTable, FitsTogether}
 use Rattle.pot_replies.specs.Jobs.{EachIs}
 use Rattle.pot_replies.specs.Sections.{Section}
-use Rattle.pot_replies.specs.Fetches.{IsLost, IsHopeless, LastIs, place_at}
+use Rattle.pot_replies.specs.Fetches.{IsLost, IsHopeless, LastIs}
 use Rattle.pot_store.specs.Visits.{place_in}
 use Rattle.pot_store.proofs.FitLemmas.{current_fits, fits_place, fragment_within, point_within}
 use Rattle.pot_commands.specs.Ends.{brings_none}
@@ -39,7 +42,7 @@ use Rattle.pot_session.specs.Groups.{had_by}
 use Rattle.pot_session.specs.declared.stop.Stop.{Stop}
 use Rattle.pot_session.specs.Serving.{IsBack, IsInRoom, LeavesGroup, LeaveGroups, rooms_by, setting_of}
 use Rattle.pot_session.specs.Losses.{LostNone, BroughtNone, BeginWith, IsInVain, WasNotLive, FewAreLive, LostWhereFew}
-use Rattle.pot_session.proofs.Lists.{at_same, at_place, all_at_place, flat_contains}
+use Rattle.pot_session.proofs.Lists.{at_same, all_at_place, flat_contains}
 
 -- THE LAST OF SOME ELEMENTS
 
@@ -101,7 +104,7 @@ brought_nothing c (e ∷ log) none =
 -- the archives of a column are among those of its table, where none came
 column_archives : (t : Table) (log : List Entry) (c n : ℕ) → c < length t.columns → EachIs brings_none log → Contains (archives_of t log c) n → Contains (archives_in t) n
 column_archives t log c n lt none has =
-    let column = at_place t.columns c lt in
+    let column = element_at t.columns c lt in
     let same : column_at t c ≡ column.0 = at_same t.columns c no_column column.0 column.1 in
     let nothing : archives_of t log c ≡ homes_of (column_at t c) = ap (λ l. (column_at t c).home ∷ (target_of (column_at t c).moving ++ l)) (brought_nothing c log none) ∙ no_more (column_at t c) in
     flat_contains homes_of t.columns c column.0 n column.1 (subst (λ k. Contains (homes_of k) n) same (subst (λ l. Contains l n) nothing has))
@@ -137,10 +140,6 @@ group_within rack kept room b lt =
     let some : 0 < rack.groups = (let g = (current_fits rack kept room).geometry in let a = g.groups in let c = g.limits.need.0 in let d = g.limits.need.1 in omega (arith, a, c, d)) in
     omega (arith, group, some)
 
-not_live : (b : Bool) → (IsTrue b → ⊥) → b ≡ false
-not_live true none = absurd (none refl)
-not_live false none = refl
-
 -- THE LAW
 
 module _ (told : Type 0) (seed : List ℕ) (first last : Contents) (meant means : ℕ → Meaning) (closed : Result (Unit {0}) Stop) (is_told : told) (back : IsBack closed)
@@ -151,7 +150,7 @@ module _ (told : Type 0) (seed : List ℕ) (first last : Contents) (meant means 
       → log ≡ x ++ entry.Gone job s c ∷ y → c < width t → 0 < job → is_live (slot_at (replayed t x) s c) ≡ false
   gone_at g s c job t log x y is_table is_log parts lt some =
       let in_last : g < length last.tables = (let a = groups.count in let b = get_within first.tables g t is_table in omega (arith, a, b)) in
-      let written = at_place last.tables g in_last in
+      let written = element_at last.tables g in_last in
       let left : LeavesGroup told meant (IsInRoom (rooms_by told meant means) (IsBack closed)) t log written.0 = groups.each g t written.0 log is_table written.1 is_log in
       let view = left.view in
       let rules : FitsTable first.rack t = all_at_place (FitsTable first.rack) first.tables g t fits.tables.fits is_table in
@@ -168,7 +167,7 @@ module _ (told : Type 0) (seed : List ℕ) (first last : Contents) (meant means 
       let shows = left.archives h.0 had is_told back in
       kept_all h.0 (flat_contains archives_in first.tables g t h.0 is_table among)
       (subst (λ n. Rose n (means h.0).losses) marks (subst (λ n. Rose (view.shelves.losses_taken h.0) n) shows.losses h.2))) in
-      not_live (is_live (slot_at (replayed t x) s c)) (λ live.
+      false_from_ne_true (is_live (slot_at (replayed t x) s c)) (λ live.
       lost_none (missed_at t x y (entry.Gone job s c) c (HasLost view.shelves (archives_of t log c))
       (subst (λ l. WhereMissed t l c (HasLost view.shelves (archives_of t log c))) parts missed) (λ z. (let e = z in omega (arith, some, e)), refl, live)))
 
@@ -176,7 +175,7 @@ module _ (told : Type 0) (seed : List ℕ) (first last : Contents) (meant means 
   its_log : (g : ℕ) (t : Table) (log : List Entry) → slice_get first.tables g ≡ Some t → slice_get last.group_logs g ≡ Some log → (u : Table) × Replays t log u
   its_log g t log is_table is_log =
       let in_last : g < length last.tables = (let a = groups.count in let b = get_within first.tables g t is_table in omega (arith, a, b)) in
-      let written = at_place last.tables g in_last in
+      let written = element_at last.tables g in_last in
       let left : LeavesGroup told meant (IsInRoom (rooms_by told meant means) (IsBack closed)) t log written.0 = groups.each g t written.0 log is_table written.1 is_log in
       (left.view.table, subst (λ l. Replays t l left.view.table) left.is_log (subst (λ f. Replays f left.view.log left.view.table) left.first left.settled.replay))
 
@@ -220,16 +219,16 @@ module _ (told : Type 0) (seed : List ℕ) (first last : Contents) (meant means 
     last_in_vain p (inr (inr again)) =
         ((again.a ++ entry.Gone job p.stripe p.column ∷ again.between) ++ again.behind, entry.Gone job p.stripe p.column, again.z, again.parts, again.last, inl refl)
 
-    not_live_at : (x : ℕ) → x < kept.geometry.shards → IsHopeless (setting_of seed first) job w (place_at kept piece fragment x)
-        → WasNotLive (setting_of seed first) job w (place_at kept piece fragment x)
+    not_live_at : (x : ℕ) → x < kept.geometry.shards → IsHopeless (setting_of seed first) job w (place_at kept.geometry kept.places piece fragment x)
+        → WasNotLive (setting_of seed first) job w (place_at kept.geometry kept.places piece fragment x)
     not_live_at x lt hopeless =
-        let p : Place = place_at kept piece fragment x in
+        let p : Place = place_at kept.geometry kept.places piece fragment x in
         let b : ℕ = (piece * kept.geometry.fragments + fragment) * kept.geometry.shards + x in
         let within : b < length kept.places = point_within first.rack kept room (piece * kept.geometry.fragments + fragment) x (fragment_within first.rack kept room piece fragment lost.short.in_pieces lost.short.in_fragments) lt in
         let fit = fits_place first.rack kept room b within in
         let g_lt : p.group < first.rack.groups = group_within first.rack kept room b within in
-        let table = at_place first.tables p.group (let n = fits.tables.count in omega (arith, g_lt, n)) in
-        let log = at_place last.group_logs p.group (let n = fits.tables.count in let m = groups.count_logs in omega (arith, g_lt, n, m)) in
+        let table = element_at first.tables p.group (let n = fits.tables.count in omega (arith, g_lt, n)) in
+        let log = element_at last.group_logs p.group (let n = fits.tables.count in let m = groups.count_logs in omega (arith, g_lt, n, m)) in
         let it : LastInVain p = last_in_vain p hopeless in
         let more = begin p.group log.0 log.1 in
         let parts : log.0 ≡ (w.before p.group ++ it.0) ++ it.1 ∷ (it.2 ++ more.0) =

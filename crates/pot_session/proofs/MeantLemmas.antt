@@ -19,9 +19,6 @@ remove_contains (z ∷ zs) (suc p) x y l e (suc k, m, q) = elim (remove_contains
   | inr h ↦ inr (suc h.0, (let b = h.1 in omega (arith, b)), h.2)
 ]
 
-pub none_contained : {X : Type 0} (y : X) → Contains [] y → ⊥
-none_contained y (k, m, q) = omega (arith, m)
-
 only_contained : {X : Type 0} (x y : X) → Contains (x ∷ []) y → y ≡ x
 only_contained x y (zero, m, q) = sym q
 only_contained x y (suc k, m, q) = absurd (omega (arith, m))

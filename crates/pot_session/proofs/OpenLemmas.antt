@@ -2,33 +2,29 @@
 use Rattle.std.proofs.Common.{◌≡◌, ◌++◌, inl, inr, ℕ, suc, List, [], ◌∷◌, length, map, refl, sym, ap, subst, ◌∙◌, arith}
 use Rattle.std.specs.Prelude.{Some, All, slice_get, slice_index_or, flat_map}
 use Rattle.std.proofs.lemmas.Option.{slice_get_within, same_Some}
+use Rattle.std.proofs.lemmas.Bool.{cases_lt}
 use Rattle.pot_outside.specs.Archives.{Meaning}
-use Rattle.pot_rows.proofs.RowLemmas.{at_past, below_or_past}
+use Rattle.pot_rows.proofs.RowLemmas.{at_past}
 use Rattle.pot_shared.specs.declared.member.GroupOrigin.{GroupOrigin}
 use Rattle.pot_bytes.specs.declared.rack.Rack.{Rack}
-use Rattle.pot_machine.specs.declared.entry.Entry.{Entry}
+use Rattle.pot_bytes.proofs.Elements.{element_at}
 use Rattle.pot_machine.specs.Table.{Table, archives_in}
 use Rattle.pot_image.specs.Rules.{FitsTable}
 use Rattle.pot_group.specs.Arrivals.{arrivals}
 use Rattle.pot_group.specs.Group.{GroupView}
-use Rattle.pot_shelves.specs.Shelves.{Shelves}
 use Rattle.pot_turn.specs.declared.name.TurnName.{TurnName}
 use Rattle.pot_turn.specs.Views.{first_view, spent_view}
 use Rattle.pot_rows.specs.Rows.{AreOf, view_at}
 use Rattle.pot_shared.specs.declared.catalog.CatalogOrigin.{CatalogOrigin}
-use Rattle.pot_shared.specs.Members.{kept_log, origin_of, entries_of, all_logged, mark_at}
+use Rattle.pot_shared.specs.Members.{kept_log, origin_of, entries_of, mark_at}
 use Rattle.pot_shared.specs.Ready.{GroupPass, GroupPasses, IsTableOf}
 use Rattle.pot_shared.specs.Catalogs.{IndexPasses}
 use Rattle.pot_shared.specs.Sharing.{AreFirst, HaveLogs}
 use Rattle.pot_replies.specs.Sessions.{ByNobody}
+use Rattle.pot_shared.proofs.MemberLemmas.{entries_all}
 use Rattle.pot_commands.specs.Taking.{marks_of}
 use Rattle.pot_session.specs.Groups.{AreStarted, AreOfRack, AreAllMarked, AreFirstPasses, AreTakenAt, IsFirstPass, had_by, table_read, tables_read}
-use Rattle.pot_session.proofs.Lists.{same_maps, same_flat, same_on, at_place, all_at_place}
-
--- the entries of a group's log as passes see it are those of its log
-pub entries_kept : (s : Shelves) (log : List Entry) → entries_of (all_logged s log) ≡ log
-entries_kept s [] = refl
-entries_kept s (e ∷ log) = ap (λ l. e ∷ l) (entries_kept s log)
+use Rattle.pot_session.proofs.Lists.{same_maps, same_flat, same_on, all_at_place}
 
 -- the first tables are those that the groups were started over
 pub firsts : {M : Type 0} (see : M → GroupView) (ts : List Table) (ms : List M) → AreStarted see ts ms → map (λ m. (see m).first) ms ≡ ts
@@ -46,7 +42,7 @@ of_rack {M} see rack ts ms s fits count = record {
 }
   where
     at : (n : ℕ) (m : M) → slice_get ms n ≡ Some m → (t : Table) × (slice_get ts n ≡ Some t)
-    at n m q = at_place ts n (let l = slice_get_within ms n m q in omega (arith, l, s.count))
+    at n m q = element_at ts n (let l = slice_get_within ms n m q in omega (arith, l, s.count))
 
 -- THE FIRST PASSES
 
@@ -54,7 +50,7 @@ pub first_passes : {M : Type 0} (see : M → GroupView) (rack : Rack) (ms : List
     → AreOf names row → length names ≡ rack.groups → index.views ≡ first_view [] origin ∷ [] → AreFirstPasses row index
 first_passes {M} see rack ms names row index origin of first are count one = record {
   count = are.1 ∙ sym (ap length are.0);
-  each = λ n l. pass n (at_place ms n (let a = ap length are.0 in omega (arith, l, a, count, of.count)));
+  each = λ n l. pass n (element_at ms n (let a = ap length are.0 in omega (arith, l, a, count, of.count)));
   index_origin = origin;
   index_first = ap (λ vs. slice_index_or vs 0 spent_view) one;
 }
@@ -65,8 +61,8 @@ first_passes {M} see rack ms names row index origin of first are count one = rec
       origin = origin_of (see h.0);
       is = first n h.0 h.1;
       is_number = of.number n h.0 h.1;
-      none = ap arrivals (entries_kept (see h.0).shelves (see h.0).log) ∙ of.none n h.0 h.1;
-      nobody = subst ByNobody (sym (entries_kept (see h.0).shelves (see h.0).log)) (of.nobody n h.0 h.1);
+      none = ap arrivals (entries_all (see h.0).shelves (see h.0).log) ∙ of.none n h.0 h.1;
+      nobody = subst ByNobody (sym (entries_all (see h.0).shelves (see h.0).log)) (of.nobody n h.0 h.1);
     }
 
 -- the tables that passes read are these, where each has the origin of the group at its place
@@ -90,13 +86,13 @@ same_had see ms hs h = same_flat (λ m. had_by (see m)) (λ m. had_by (see m)) h
     each : (y m : _) → (kept_log (see y) ≡ kept_log (see m)) × (origin_of (see y) ≡ origin_of (see m)) → had_by (see y) ≡ had_by (see m)
     each y m e =
         ap (λ o. archives_in o.first ++ arrivals (see y).log) e.1
-        ∙ ap (λ l. archives_in (see m).first ++ arrivals l) (sym (entries_kept (see y).shelves (see y).log) ∙ (ap entries_of e.0 ∙ entries_kept (see m).shelves (see m).log))
+        ∙ ap (λ l. archives_in (see m).first ++ arrivals l) (sym (entries_all (see y).shelves (see y).log) ∙ (ap entries_of e.0 ∙ entries_all (see m).shelves (see m).log))
 
 -- the marks of the archives that the first passes know are those of the groups
 pub taken_at : {M : Type 0} (see : M → GroupView) (ms : List M) (names : List TurnName) (row : GroupPasses) (meant : ℕ → Meaning) → AreFirst see ms row → AreOf names row → length names ≡ length ms → AreAllMarked meant see ms
     → AreTakenAt meant row
-taken_at {M} see ms names row meant first of long marked g o e = elim (below_or_past g (length names)) [
-  | inl l ↦ (let m = at_place ms g (let n = long in omega (arith, l, n)) in at m.0 m.1)
+taken_at {M} see ms names row meant first of long marked g o e = elim (cases_lt g (length names)) [
+  | inl l ↦ (let m = element_at ms g (let n = long in omega (arith, l, n)) in at m.0 m.1)
   | inr l ↦ absurd (let q = sym e ∙ ap (λ (v : GroupPass). v.origin) (at_past names row g of l) in cc)
 ]
   where

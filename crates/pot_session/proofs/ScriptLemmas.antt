@@ -1,19 +1,16 @@
 -- The commands of a script before `quit`.
 use Rattle.std.proofs.Common.{◌≡◌, ◌≤◌, ◌+◌, ◌-◌, ◌++◌, ℕ, true, List, [], ◌∷◌, length, take, ap, sym, subst, refl, ◌∙◌, arith, length-append}
-use Rattle.std.specs.Prelude.{Option, None, codes}
+use Rattle.std.specs.Prelude.{Option, None}
 use Rattle.std.specs.List.{AllByRecursion}
 use Rattle.std.proofs.Math.Seq.{take-append_seam}
 use Rattle.pot_bytes.specs.declared.rack.Rack.{Rack}
 use Rattle.pot_script.specs.declared.command.Command.{Command}
 use Rattle.pot_script.specs.declared.command.Command.TheVariants.{Store, Fetch, List as Names, Status, Scrub, Repair, Replace, Migrate, Quit}
-use Rattle.pot_script.specs.Commands.{command_text, command_line, stated_bytes}
+use Rattle.pot_script.specs.Commands.{command_text}
 use Rattle.pot_script.specs.Scripts.{IsScript, AreSteps, script_text}
 use Rattle.pot_script.specs.Batches.{after_command}
+use Rattle.pot_script.proofs.ScriptLemmas.{text_some}
 use Rattle.pot_session.specs.Commands.{IsWorkedScript, IsStep, IsRead, other_line, is_worked}
-
-text_some : (c : Command) → 1 ≤ length (command_text c)
-text_some c =
-    omega (arith, length-append {A = ℕ} (command_line c ++ codes "\n") (stated_bytes c), length-append {A = ℕ} (command_line c) (codes "\n"))
 
 -- no more commands than bytes
 texts_many : (cs : List Command) → length cs ≤ length (script_text cs)

@@ -17,7 +17,7 @@ use Rattle.pot_image.specs.Images.{Contents}
 use Rattle.pot_image.specs.Spelling.{image_bytes}
 use Rattle.pot_turn.specs.declared.name.TurnName.{TurnName}
 use Rattle.pot_turn.specs.Views.{spent_view}
-use Rattle.pot_rows.specs.Rows.{PassRow, HasMoreParts, view_at}
+use Rattle.pot_rows.specs.Rows.{PassRow, view_at}
 use Rattle.pot_rows.specs.Ends.{HasAllParts}
 use Rattle.pot_shared.specs.declared.member.GroupOrigin.{GroupOrigin}
 use Rattle.pot_shared.specs.Ready.{GroupPass, GroupPasses, AreReady}
@@ -52,9 +52,6 @@ same_read rack names old new a b s = reads old.views new.views (b.of.1 ∙ sym a
 
 pub same_records : (old new : IndexPasses) → Stays old new → records_read new ≡ records_read old
 same_records old new s = ap records_in (s.origin 0)
-
-pub more_parts : (row : GroupPasses) → HasAllButKept row → HasMoreParts 1 row
-more_parts row h at l = (let p = h at l in omega (arith, p))
 
 pub still_but_kept : (old new : GroupPasses) → Stays old new → HasAllButKept old → HasAllButKept new
 still_but_kept old new s h g l = (let p = h g (let n = ap length s.names in omega (arith, n, l)) in let q = s.parts g in omega (arith, p, q))

@@ -4,6 +4,7 @@ use Rattle.pot_bytes.specs.declared.digest.Digest.{Digest}
 use Rattle.pot_bytes.specs.declared.rack.Place.{Place}
 use Rattle.pot_outside.specs.Archives.{Meaning}
 use Rattle.pot_outside.specs.Counts.{Rose}
+use Rattle.pot_shard.specs.Places.{place_at}
 use Rattle.pot_machine.specs.declared.entry.Entry.{Entry}
 use Rattle.pot_machine.specs.declared.entry.Entry.TheVariants.{Gone, Stuck, Oddly}
 use Rattle.pot_machine.specs.Slot.{is_live}
@@ -16,7 +17,7 @@ use Rattle.pot_image.specs.Rules.{FitsTogether}
 use Rattle.pot_replies.specs.Jobs.{EachIs}
 use Rattle.pot_replies.specs.Sections.{Section, mine}
 use Rattle.pot_replies.specs.Settings.{Setting}
-use Rattle.pot_replies.specs.Fetches.{IsLost, IsUnseen, place_at, seen_of}
+use Rattle.pot_replies.specs.Fetches.{IsLost, IsUnseen, seen_of}
 use Rattle.pot_commands.specs.Ends.{brings_none}
 use Rattle.pot_session.specs.declared.stop.Stop.{Stop}
 use Rattle.pot_session.specs.Serving.{IsBack, IsInRoom, LeaveGroups, rooms_by, setting_of}
@@ -47,7 +48,7 @@ WasNotLive s job w p =
 -- Of a fragment fewer points were seen than are needed, and each other one lay in a slot that was not Live when the job last came there.
 pub record FewAreLive (s : Setting) (job : ℕ) (kept : Record) (piece fragment : ℕ) (w : Section) : Type 0 where
   pub few : seen_of (mine job w).own kept piece fragment < kept.geometry.need
-  pub others : (x : ℕ) → IsUnseen kept piece fragment (mine job w) x → WasNotLive s job w (place_at kept piece fragment x)
+  pub others : (x : ℕ) → IsUnseen kept piece fragment (mine job w) x → WasNotLive s job w (place_at kept.geometry kept.places piece fragment x)
 
 -- `lost` comes only so in a session that took no archive beside those of the image that it began with, where the room tells, took all
 -- archives back, and none of them lost a block. The record is one that the rack has room for, as each is that a session reads or publishes.

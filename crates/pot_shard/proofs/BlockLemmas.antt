@@ -1,11 +1,10 @@
 -- Parts of random bytes, of fragments and of blocks.
-use Rattle.std.proofs.Common.{◌≡◌, ◌≤◌, ◌<◌, ◌+◌, ◌-◌, ◌*◌, ◌%◌, ◌^◌, ◌/◌, ◌++◌, ◌∷◌, [], ℕ, zero, suc, inl, inr, List, length, length-append, map, take, drop, get_or, refl, ap, ap₂, sym, ◌∙◌, arith, replicate, length-drop}
+use Rattle.std.proofs.Common.{◌≡◌, ◌≤◌, ◌<◌, ◌+◌, ◌-◌, ◌*◌, ◌%◌, ◌^◌, ◌++◌, ◌∷◌, [], ℕ, zero, suc, inl, inr, List, length, length-append, map, take, drop, get_or, refl, ap, ap₂, sym, ◌∙◌, arith, replicate, length-drop}
 use Rattle.std.proofs.lemmas.List.{drop_at, drop-append-le, take_all, take-append-le, length-take-le, length-map, length-replicate, get_or-map, get_or_append_left, take_at, flat_map_more, map-append, map-id}
 use Rattle.std.proofs.lemmas.Slice.{take-put_mid}
 use Rattle.std.proofs.Math.Nat.{mul-le-mul_right}
 use Rattle.std.specs.List.{flat_map, range_with_len}
 use Rattle.std.proofs.lemmas.List.FromFn.{length-map-range_with_len, map-range_with_len_more}
-use Rattle.std.proofs.lemmas.Nat.{mod_low, pow_pos, shr_split}
 use Rattle.byteorder.specs.Endian.{big_number}
 use Rattle.pot_bytes.specs.declared.rack.Geometry.{Geometry}
 use borrow.Rule.Slice.PartMut.{put_mid}
@@ -14,6 +13,7 @@ use Rattle.pot_split.specs.Secrecy.{IsRows}
 use Rattle.pot_object.specs.Objects.{object}
 use Rattle.pot_object.specs.Pieces.{pieces_of}
 use Rattle.std.proofs.lemmas.Bool.{cases_lt}
+use Rattle.pot_pointer.proofs.BlurLemmas.{blur_is_cleared}
 use Rattle.pot_shard.specs.FileBlocks.{blocks_at, file_blocks, piece_random, content_of, content_shards, fragment_len, fragment_shards, fragments_of, head_len, names_at, names_in, object_shards, part_at, piece_blocks, piece_len, shard_at_place}
 use Rattle.pot_shard.specs.Rings.{ring}
 use Rattle.pot_shard.specs.Shards.{shard_bytes}
@@ -41,20 +41,13 @@ last_at pads last number before whole =
     ∙ ap (take 928) (drop_at pads last (number * 928) before)
     ∙ take_all 928 last (omega arith))
 
--- a blur has its low bits cleared
-blur_cleared : (name bits : ℕ) → blur name bits % 2 ^ bits ≡ 0
-blur_cleared name bits =
-    let some : 0 < 2 ^ bits = pow_pos bits in
-    let whole : blur name bits ≡ name / 2 ^ bits * 2 ^ bits + 0 = omega (arith, shr_split name bits) in
-    ap (λ (z : ℕ). z % 2 ^ bits) whole ∙ mod_low (name / 2 ^ bits) bits 0 some
-
 -- so has a pointer of a ring
 pub ring_cleared : (names : List ℕ) (bits k : ℕ) → k < length names → get_or (ring names bits) k 0 % 2 ^ bits ≡ 0
 ring_cleared names bits k inside =
     let turned = drop 1 names ++ take 1 names in
     let f : ℕ → ℕ = λ name. blur name bits in
     let long : length turned ≡ length names = sym (length-map turned f) ∙ length-ring names bits in
-    ap (λ (z : ℕ). z % 2 ^ bits) (get_or-map f turned k 0 0 (omega arith)) ∙ blur_cleared (get_or turned k 0) bits
+    ap (λ (z : ℕ). z % 2 ^ bits) (get_or-map f turned k 0 0 (omega arith)) ∙ blur_is_cleared (get_or turned k 0) bits
 
 pub length-names_at : (n : ℕ) (bytes : List ℕ) → length (names_at n bytes) ≡ n
 length-names_at n bytes = length-map-range_with_len (λ i. big_number 8 (drop (i * 8) bytes)) 0 n
@@ -104,7 +97,7 @@ range_more n =
 pub parts_more : {X : Type 0} (f : ℕ → List X) (n : ℕ) → flat_map f (range_with_len 0 n) ++ f n ≡ flat_map f (range_with_len 0 (n + 1))
 parts_more f n = flat_map_more f [] (range_with_len 0 n) n ∙ ap (flat_map f) (sym (range_more n))
 
-one_part_more : (i size : ℕ) → (i + 1) * size ≡ i * size + size
+pub one_part_more : (i size : ℕ) → (i + 1) * size ≡ i * size + size
 one_part_more i size = grind arith
 
 parts_below : (i n size : ℕ) → i < n → i * size ≤ n * size

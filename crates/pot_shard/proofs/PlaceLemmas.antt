@@ -1,5 +1,5 @@
 -- Where blocks stand, and what they say.
-use Rattle.std.proofs.Common.{◌≡◌, ◌≤◌, ◌<◌, ◌+◌, ◌-◌, ◌*◌, ◌/◌, ℕ, List, [], length, map, take, drop, get_or, Some, refl, ap, sym, ◌∙◌, arith, length-drop}
+use Rattle.std.proofs.Common.{◌≡◌, ◌≤◌, ◌<◌, ◌+◌, ◌-◌, ◌*◌, ◌/◌, ℕ, List, [], length, map, take, drop, get_or, Some, refl, ap, sym, ◌∙◌, arith, length-drop, add-mul, add_assoc, mul_assoc}
 use Rattle.std.specs.Prelude.{slice_get}
 use Rattle.std.specs.List.{flat_map, range_with_len}
 use Rattle.std.proofs.Math.Nat.{mul-div_cancel}
@@ -72,6 +72,11 @@ count_law g file random =
     length-parts (blocks_at g file random) (g.fragments * g.shards) (pieces_of (length file))
     (λ k. length-piece_blocks g (take 16 random) file k (piece_random g k random))
 
+-- the position of a block by its piece
+position_in : (fragments shards i j p : ℕ) → (i * fragments + j) * shards + p ≡ i * (fragments * shards) + (j * shards + p)
+position_in fragments shards i j p =
+    ap (λ z. z + p) (add-mul (i * fragments) j shards ∙ ap (λ z. z + j * shards) (mul_assoc i fragments shards)) ∙ add_assoc (i * (fragments * shards)) (j * shards) p
+
 each_law : (g : Geometry) (file random : List ℕ) (i j p : ℕ) → i < pieces_of (length file) → j < g.fragments → p < g.shards
     → slice_get (file_blocks g file random) (position g i j p) ≡ Some (shard_bytes (shard_in g file random i j p))
 each_law g file random i j p exists within inside =
@@ -80,7 +85,8 @@ each_law g file random i j p exists within inside =
     let low : 0 + j * g.shards + g.shards ≤ size = part_within 0 g.shards j g.fragments g.shards size within refl (omega arith) in
     let low_q : q < size = omega (arith, low) in
     let high : 0 + i * size + size ≤ pieces_of (length file) * size = part_within 0 size i (pieces_of (length file)) size (pieces_of (length file) * size) exists refl (omega arith) in
-    slice_get-get_or (file_blocks g file random) (i * size + q) [] (omega (arith, high, low_q, count_law g file random))
+    ap (slice_get (file_blocks g file random)) (position_in g.fragments g.shards i j p)
+    ∙ slice_get-get_or (file_blocks g file random) (i * size + q) [] (omega (arith, high, low_q, count_law g file random))
     ∙ ap Some (at_part (blocks_at g file random) size (pieces_of (length file)) i q []
     (λ k. length-piece_blocks g (take 16 random) file k (piece_random g k random)) exists low_q
     ∙ block_of_piece g file random i j p within inside)

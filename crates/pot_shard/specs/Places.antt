@@ -1,7 +1,9 @@
 -- The blocks of a file by their place: piece i, fragment j and point p + 1, all counted from 0.
-use Rattle.std.specs.Prelude.{◌≡◌, ◌<◌, ℕ, ◌+◌, ◌*◌, List, length, drop, slice_get, slice_index, Some}
+use Rattle.std.specs.Prelude.{◌≡◌, ◌<◌, ℕ, ◌+◌, ◌*◌, List, length, drop, slice_get, slice_index, slice_index_or, Some}
 use Rattle.pot_bytes.specs.Lists.{AreBytes, IsBlock}
 use Rattle.pot_bytes.specs.declared.rack.Geometry.{Geometry}
+use Rattle.pot_bytes.specs.declared.rack.Place.{Place}
+use Rattle.pot_bytes.specs.Rack.{no_place}
 use Rattle.pot_gf.specs.Polynomials.{value, IsBelowDegree}
 use Rattle.pot_object.specs.Pieces.{content_size, pieces_of}
 use Rattle.pot_shard.specs.FileBlocks.{file_blocks, fragment_len, head_len, part_at, piece_random, shard_at_place}
@@ -11,7 +13,11 @@ use Rattle.pot_shard.specs.declared.shard.Shard.{Shard}
 
 -- the position of a block in the list of all
 abbrev pub position : Geometry → ℕ → ℕ → ℕ → ℕ
-position g i j p = i * (g.fragments * g.shards) + (j * g.shards + p)
+position g i j p = (i * g.fragments + j) * g.shards + p
+
+-- the place of a block, where these are the places of all
+abbrev pub place_at : Geometry → List Place → ℕ → ℕ → ℕ → Place
+place_at g places i j p = slice_index_or places (position g i j p) no_place
 
 -- the random bytes of fragment j of piece i
 abbrev pub fragment_random : Geometry → List ℕ → ℕ → ℕ → List ℕ

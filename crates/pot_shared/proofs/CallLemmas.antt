@@ -1,6 +1,7 @@
 -- One locked call, step by step.
-use Rattle.std.proofs.Common.{◌≡◌, ◌≢◌, ◌<◌, ◌⊎◌, ◌+◌, inl, inr, ℕ, zero, suc, true, false, List, [], ◌∷◌, ◌++◌, length, refl, ap, sym, ◌∙◌, subst, arith, set}
+use Rattle.std.proofs.Common.{◌≡◌, ◌<◌, ◌+◌, inl, inr, ℕ, zero, suc, true, false, List, [], ◌∷◌, ◌++◌, length, refl, ap, sym, ◌∙◌, subst, arith, set}
 use Rattle.std.specs.Prelude.{Option, Some}
+use Rattle.std.proofs.lemmas.Bool.{cases_eq}
 use Rattle.pot_bytes.specs.declared.rack.Place.{Place}
 use Rattle.pot_bytes.specs.declared.rack.Rack.{Rack}
 use Rattle.pot_machine.specs.declared.entry.Entry.{Entry}
@@ -82,19 +83,16 @@ module _ (names : List TurnName) (row row1 : GroupPasses) (at : ℕ) (of : AreOf
 
 -- READY AGAIN
 
-same_or : (a b : ℕ) → (a ≡ b) ⊎ (a ≢ b)
-same_or a b = grind arith
-
 -- after a call the passes are ready for another
 pub ready_again : (rack : Rack) (names : List TurnName) (told : Type 0) (R : GroupView → GroupView → List Entry → Type 0) (at : ℕ) (old new : GroupPasses)
     → at < length names → AreReady rack names old → CallAt told R at old new → AreReady rack names new
 ready_again rack names told R at old new within ready call = record {
   of = subst (λ (r : GroupPasses). AreOf names r) (sym call.is) (still_of names old at call.pass ready.of);
-  idle = (λ g. subst (λ (r : GroupPasses). (view_at r g).holds ≡ false) (sym call.is) (elim (same_or at g) [
+  idle = (λ g. subst (λ (r : GroupPasses). (view_at r g).holds ≡ false) (sym call.is) (elim (cases_eq at g) [
     | inl e ↦ subst (λ n. (view_at (with_view old at call.pass) n).holds ≡ false) e (ap (λ (v : GroupPass). v.holds) (at_set old at call.pass long ∙ call.turn.turn))
     | inr ne ↦ ap (λ (v : GroupPass). v.holds) (at_other old at g call.pass ne) ∙ ready.idle g
   ]));
-  origins = (λ g lt. subst (λ (r : GroupPasses). IsOrigin rack g (view_at r g).origin) (sym call.is) (elim (same_or at g) [
+  origins = (λ g lt. subst (λ (r : GroupPasses). IsOrigin rack g (view_at r g).origin) (sym call.is) (elim (cases_eq at g) [
     | inl e ↦ subst (λ n. IsOrigin rack n (view_at (with_view old at call.pass) n).origin) e (subst (λ o. IsOrigin rack at o) (sym (ap (λ (v : GroupPass). v.origin) (at_set old at call.pass long ∙ call.turn.turn))) (ready.origins at within))
     | inr ne ↦ subst (λ o. IsOrigin rack g o) (sym (ap (λ (v : GroupPass). v.origin) (at_other old at g call.pass ne))) (ready.origins g lt)
   ]));

@@ -1,9 +1,9 @@
 -- One locked call of the index, step by step.
 use Rattle.std.proofs.Common.{◌≡◌, ◌<◌, ℕ, zero, suc, false, List, [], ◌∷◌, ◌++◌, length, refl, ap, sym, ◌∙◌, subst, arith, set, append-nil}
 use Rattle.std.specs.Prelude.{Any, Some, Result, Ok, Err}
-use Rattle.std.proofs.lemmas.List.{map-append, length-append}
-use Rattle.pot_rows.proofs.Lists.{get_or_front}
+use Rattle.std.proofs.lemmas.List.{map-append}
 use Rattle.pot_bytes.specs.declared.rack.Rack.{Rack}
+use Rattle.pot_bytes.proofs.Elements.{any_front}
 use Rattle.pot_index.specs.declared.entry.Logged.{Logged}
 use Rattle.pot_index.specs.declared.record.Record.{Record}
 use Rattle.pot_index.specs.Entries.{entries, IsReserving}
@@ -93,10 +93,6 @@ module _ (rack : Rack) (names turn : List TurnName) (row row1 : IndexPasses) (re
             idle = (λ k lt. (let z : k ≡ 0 = (let o = ready.one in omega (arith, lt, o)) in subst (λ n. (view_at row2 n).holds ≡ false) (sym z) (ap (λ (v : IndexPass). v.holds) at)));
             origin = subst (λ o. IsIndexOf rack names o) (sym (ap (λ (v : IndexPass). v.origin) at)) ready.origin;
           }
-
--- what a pass has seen stands in the log that is met
-any_front : {X : Type 0} (P : X → Type 0) (xs ys : List X) → Any P xs → Any P (xs ++ ys)
-any_front P xs ys (k, x, lt, e, p) = (k, x, (let l = length-append xs ys in omega (arith, lt, l)), get_or_front xs ys k x lt ∙ e, p)
 
 pub reserved_there : (job : ℕ) (name : List ℕ) (row : IndexPasses) (log : List Logged) → StartsWith log (view_at row 0).seen → HasReserved job name row
     → Any (IsReserving job name) (entries log)

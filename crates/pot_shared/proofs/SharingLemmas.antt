@@ -1,18 +1,23 @@
 -- New passes of the turns of a vault.
 use Rattle.std.proofs.Common.{◌<◌, inl, inr, ℕ, List, length, ap, sym, ◌∙◌, subst, arith}
+use Rattle.std.proofs.lemmas.Bool.{cases_lt}
 use Rattle.pot_bytes.specs.declared.rack.Rack.{Rack}
 use Rattle.pot_turn.specs.declared.name.TurnName.{TurnName}
 use Rattle.pot_rows.specs.Parts.{RowNew}
-use Rattle.pot_rows.specs.Rows.{AreOf}
-use Rattle.pot_rows.proofs.RowLemmas.{at_past, below_or_past}
+use Rattle.pot_rows.specs.Rows.{AreOf, HasMoreParts}
+use Rattle.pot_rows.proofs.RowLemmas.{at_past}
 use Rattle.pot_shared.specs.Ready.{GroupPass, GroupPasses, AreReady, IsOrigin}
 use Rattle.pot_shared.specs.Seen.{RowKnowsMore}
 use Rattle.pot_shared.specs.Catalogs.{IndexPass, IndexPasses, IsIndexReady, IsIndexOf}
+use Rattle.pot_shared.specs.Sharing.{HasAllButKept}
+
+pub more_parts : (row : GroupPasses) → HasAllButKept row → HasMoreParts 1 row
+more_parts row h at l = (let p = h at l in omega (arith, p))
 
 pub new_ready : (rack : Rack) (names : List TurnName) (parts : ℕ) (old new : GroupPasses) → AreReady rack names old → AreOf names new → RowNew parts old new → AreReady rack names new
 new_ready rack names parts old new ready of is = record {
   of = of;
-  idle = (λ g. elim (below_or_past g (length names)) [
+  idle = (λ g. elim (cases_lt g (length names)) [
     | inl lt ↦ ap (λ (v : GroupPass). v.holds) (is g (within g lt))
     | inr le ↦ ap (λ (v : GroupPass). v.holds) (at_past names new g of le)
   ]);
@@ -35,7 +40,7 @@ new_index_ready rack names turn parts old new ready of is = record {
 pub knows_ready : (rack : Rack) (names : List TurnName) (old new : GroupPasses) → AreReady rack names old → RowKnowsMore old new → AreReady rack names new
 knows_ready rack names old new ready more = record {
   of = of;
-  idle = (λ g. elim (below_or_past g (length names)) [
+  idle = (λ g. elim (cases_lt g (length names)) [
     | inl lt ↦ (more.2 g (within g lt)).holds ∙ ready.idle g
     | inr le ↦ ap (λ (v : GroupPass). v.holds) (at_past names new g of le)
   ]);

@@ -3,6 +3,7 @@ use Rattle.std.proofs.Common.{◌≡◌, ◌<◌, ◌+◌, ◌-◌, inl, inr, �
 use Rattle.std.specs.Prelude.{nat_lt, map, slice_get, Some, option_map, ◌^◌}
 use Rattle.std.proofs.lemmas.List.{length-map}
 use Rattle.std.proofs.lemmas.Option.{slice_get-map, slice_get_cases, slice_get_within, get_or_from_slice_get, same_Some}
+use Rattle.std.proofs.lemmas.Bool.{cases_lt}
 use Rattle.pot_group.specs.Group.{GroupView}
 use Rattle.pot_bytes.specs.declared.rack.Rack.{Rack}
 use Rattle.pot_index.specs.Index.{IndexView, Names, IsIndex, Replays, names_read}
@@ -13,7 +14,7 @@ use Rattle.pot_turn.specs.Views.{first_view, cut_view, new_view, both_views, spe
 use Rattle.pot_rows.specs.Ends.{HasAllParts, RowClosed}
 use Rattle.pot_rows.specs.Parts.{RowCut, RowNew, RowJoined}
 use Rattle.pot_rows.specs.Rows.{AreOf, HasMoreParts, IsIdle, view_at}
-use Rattle.pot_rows.proofs.RowLemmas.{at_past, below_or_past}
+use Rattle.pot_rows.proofs.RowLemmas.{at_past}
 use Rattle.pot_shared.specs.declared.member.Logged.{Logged}
 use Rattle.pot_shared.specs.declared.catalog.CatalogOrigin.{CatalogOrigin}
 use Rattle.pot_shared.specs.Members.{kept_log, origin_of as group_origin}
@@ -59,7 +60,7 @@ one_back v some =
 
 pub back_again : (names : List TurnName) (old cut kept new : GroupPasses) → AreOf names old → AreOf names cut → AreOf names kept → AreOf names new
     → RowCut 2 old cut → RowNew 2 old kept → RowJoined cut kept new → HasMoreParts 2 old → SameAt old new
-back_again names old cut kept new of of_cut of_kept of_new is_cut is_new joined some at = elim (below_or_past at (length names)) [
+back_again names old cut kept new of of_cut of_kept of_new is_cut is_new joined some at = elim (cases_lt at (length names)) [
   | inl lt ↦
       let within : at < length old.names = (let l = ap length of.0 in omega (arith, lt, l)) in
       (joined at).both ∙ (ap (λ (v : GroupPass). both_views v (view_at kept at)) (is_cut at within) ∙ (ap (λ (w : GroupPass). both_views (cut_view 2 (view_at old at)) w) (is_new at within)
@@ -114,7 +115,7 @@ module _ {M : Type 0} (see : M → GroupView) (members : List M) (rack : Rack) (
     pub cut_ready : AreReady rack names cut
     cut_ready = record {
       of = of_cut;
-      idle = (λ g. elim (below_or_past g (length names)) [
+      idle = (λ g. elim (cases_lt g (length names)) [
         | inl lt ↦ ap (λ (v : GroupPass). v.holds) (is g (let l = names_long in omega (arith, lt, l))) ∙ first_ready.idle g
         | inr le ↦ ap (λ (v : GroupPass). v.holds) (at_past names cut g of_cut le)
       ]);

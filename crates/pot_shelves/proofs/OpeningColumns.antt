@@ -1,8 +1,8 @@
 -- The columns of a stripe are opened one after the other.
 use Rattle.std.proofs.Common.{◌≡◌, ◌≢◌, ◌⊎◌, inl, inr, ℕ, suc, ◌+◌, ◌<◌, ◌≤◌, List, ◌++◌, length, Option, Some, None, Bool, true, false, ◌&&◌, IsTrue, refl, sym, ap, ap₂, ◌∙◌, subst, arith, append-nil, append_assoc, length-append, if◌then◌else◌}
 use Rattle.std.specs.Prelude.{◌==◌}
-use Rattle.pot_machine.proofs.Cases.{last_or}
 use Rattle.pot_bytes.specs.Sums.{zero_block}
+use Rattle.pot_bytes.proofs.Basis.{last_or}
 use Rattle.pot_machine.specs.declared.slot.SlotState.{SlotState}
 use Rattle.pot_machine.specs.declared.slot.SlotState.TheVariants.{Void, Live, Lost, Broken}
 use Rattle.pot_machine.specs.declared.entry.Entry.{Entry}
@@ -12,6 +12,7 @@ use Rattle.pot_machine.specs.Table.{Table, width, slot_at, serving_at, count}
 use Rattle.pot_machine.specs.Machine.{Replays, TakesBroke, with_slot}
 use Rattle.pot_machine.proofs.Places.{slot_after, slot_other}
 use Rattle.pot_machine.proofs.Logs.{replays_append}
+use Rattle.pot_machine.proofs.Searches.{count_zero}
 use Rattle.pot_steps.specs.Stripe.{Sound}
 use Rattle.pot_steps.specs.Holdings.{stripe_of}
 use Rattle.pot_steps.specs.GroupStep.{entries_where}
@@ -23,7 +24,7 @@ use Rattle.pot_shelves.specs.Shelves.{Shelves, Stays}
 use Rattle.pot_shelves.specs.Opening.{FailedSo, ChangesStripe, IsPart, block_of, is_missing, gone_entry, OpensSlot, OpensColumns, short_by, first_by, second_by}
 use Rattle.pot_shelves.proofs.ShelfLemmas.{stays_refl, stays_then}
 use Rattle.pot_shelves.proofs.OpeningStripe.{sound_same, find_more, short_more, lives_more, sums_more, sums_none}
-use Rattle.pot_shelves.proofs.OpeningLogs.{with_at, at_here, at_below, entries_begin, entries_more, entries_length, count_begin, count_more}
+use Rattle.pot_shelves.proofs.OpeningLogs.{with_at, at_here, at_below, entries_begin, entries_more, entries_length, count_more}
 
 -- WHAT THE ARCHIVES DO MEANWHILE
 
@@ -99,7 +100,7 @@ columns_none told s t before a = record {
   adds = sums_none t.data_columns t.parity (λ c. None);
   log = sym (ap (λ xs. before ++ xs) (entries_begin (λ c. false) (Gone 0 s)) ∙ append-nil before);
   replay = subst (λ xs. Replays t xs t) (sym (entries_begin (λ c. false) (Gone 0 s))) refl;
-  few = λ number. subst (λ m. FailedSo a a number m) (sym (count_begin (λ c. false && (serving_at t s c == number)))) (failed_none told a a number (stays_refl told a));
+  few = λ number. subst (λ m. FailedSo a a number m) (sym (count_zero (λ c. false && (serving_at t s c == number)))) (failed_none told a a number (stays_refl told a));
   changes = changes_none s t;
   takes = λ k lt h. h;
   later = λ k le lt. refl;

@@ -2,6 +2,8 @@
 use Rattle.std.proofs.Common.{◌≡◌, ◌≢◌, ◌⊎◌, inl, inr, ◌↔◌, ℕ, zero, suc, ◌+◌, ◌<◌, ◌≤◌, List, Option, Some, None, Bool, true, false, ◌||◌, IsTrue, nat_eq, get_or, bit_xor, refl, sym, ap, ap₂, ◌∙◌, subst, arith, if◌then◌else◌}
 use Rattle.std.proofs.lemmas.Bool.Decides.{nat_tests}
 use Rattle.std.specs.Int.Bits.{xor_self, xor_zero_l, xor_zero_r}
+use Rattle.std.proofs.lemmas.Bool.{cases_eq, eqb-true, eq-eqb, ne_eqb, or_cases, or_left, or_right}
+use Rattle.std.proofs.lemmas.Option.{same_Some, none-some}
 use Rattle.pot_bytes.specs.declared.digest.Digest.{Digest}
 use Rattle.pot_bytes.specs.Lists.{IsBlock}
 use Rattle.pot_bytes.specs.Product.{byte_product}
@@ -11,11 +13,12 @@ use Rattle.pot_bytes.specs.Weighted.{scaled}
 use Rattle.pot_bytes.proofs.ProductLemmas.{byte_product-below, byte_product-zero_left, byte_product-zero_right, byte_product-one_left}
 use Rattle.pot_bytes.proofs.TotalLemmas.{total_change, total_zero, xor_cancel}
 use Rattle.pot_bytes.proofs.WeightedLemmas.{get_or-xor, get_or-scaled}
+use Rattle.pot_bytes.proofs.Basis.{last_or}
 use Rattle.pot_machine.specs.declared.slot.SlotState.{SlotState}
 use Rattle.pot_machine.specs.declared.slot.SlotState.TheVariants.{Void, Live, Lost, Broken}
 use Rattle.pot_machine.specs.Slot.{digest_in, is_live, is_lost}
 use Rattle.pot_machine.specs.Table.{count}
-use Rattle.pot_machine.proofs.Cases.{same_or, last_or}
+use Rattle.pot_machine.proofs.Searches.{count_none}
 use Rattle.pot_steps.specs.Equations.{p_weight, q_weight}
 use Rattle.pot_steps.specs.Flight.{weight, p_times, q_times}
 use Rattle.pot_steps.specs.Stripe.{Stripe, IsSound, Sound, NoneBroken, Filling, HasFilling, digest_of}
@@ -23,11 +26,11 @@ use Rattle.pot_steps.specs.Law.{IsRead, FindsUnsound, FewUnsound}
 use Rattle.pot_steps.specs.Decides.{Computed, AreRead, Serves}
 use Rattle.pot_steps.specs.GroupStep.{Breaks, Spared}
 use Rattle.pot_steps.proofs.BlockLemmas.{IsBlock-zero_block, IsBlock-xor, IsBlock-scaled, get_or-zero_block, same_blocks}
-use Rattle.pot_steps.proofs.Decides.{filling_computed, made, made_filling, read_serves}
-use Rattle.pot_steps.proofs.PutLaw.{count-zero}
+use Rattle.pot_steps.proofs.Decides.{filling_computed, made, made_filling, read_serves, left_in, left_out_of}
 use Rattle.pot_steps.proofs.Rebuilt.{combined}
 use Rattle.pot_steps.proofs.Relays.{weight-target, p-low_q, q-low_q}
 use Rattle.pot_steps.proofs.Solved.{total-below}
+use Rattle.pot_steps.proofs.AheadLemmas.{one_or_two}
 use Rattle.pot_shelves.specs.declared.filling.Breaking.{Breaking}
 use Rattle.pot_shelves.specs.declared.filling.Breaking.TheVariants as breaking
 use Rattle.pot_shelves.specs.declared.filling.Trial.{Trial}
@@ -35,34 +38,7 @@ use Rattle.pot_shelves.specs.declared.opening.Shortage.{Shortage}
 use Rattle.pot_shelves.specs.declared.opening.Shortage.TheVariants.{Nothing, One, Two, More}
 use Rattle.pot_shelves.specs.Opening.{or_zeros, IsWell, IsUnwell, IsAbsent, IsShort, AreSums}
 use Rattle.pot_shelves.specs.Filling.{Suits, AddsUp, Decides, IsBroken, residue, partner, parity_slots, side, trial_of, breaks_at}
-use Rattle.pot_shelves.proofs.OpeningStripe.{absent_unwell}
-
-one_or_two : (n : ℕ) → 1 ≤ n → n ≤ 2 → (n ≡ 1) ⊎ (n ≡ 2)
-one_or_two n a b = grind arith
-
-left_in : (c t x : ℕ) → c ≢ t → (if nat_eq c t then 0 else x) ≡ x
-left_in c t x ne = grind (arith, nat_tests)
-
-left_out_of : (t x : ℕ) → (if nat_eq t t then 0 else x) ≡ 0
-left_out_of t x = grind (arith, nat_tests)
-
-void_live : {d : Digest} → Void ≡ Live d → ⊥
-void_live e = absurd (cc)
-
-void_broken : {d : Digest} → Void ≡ Broken d → ⊥
-void_broken e = absurd (cc)
-
-live_broken : {d e : Digest} → Live d ≡ Broken e → ⊥
-live_broken h = absurd (cc)
-
-lost_broken : {d e : Digest} → Lost d ≡ Broken e → ⊥
-lost_broken h = absurd (cc)
-
-none_some : {A : Type 0} {x : A} → None ≡ Some x → ⊥
-none_some e = absurd (cc)
-
-some_same : {A : Type 0} (a b : A) → Some a ≡ Some b → a ≡ b
-some_same a b h = cc
+use Rattle.pot_shelves.proofs.OpeningStripe.{absent_unwell, void_live, void_broken, live_broken, lost_broken}
 
 taken_digest : (x : SlotState) (d : Digest) → (x ≡ Live d) ⊎ (x ≡ Lost d) → digest_in x ≡ Some d
 taken_digest x d (inl l) = ap digest_in l
@@ -96,22 +72,13 @@ zeros_of x b hx hb e = same_blocks x zero_block hx IsBlock-zero_block
 
 -- COUNTS OF TESTS
 
-eq_true : (c u : ℕ) → nat_eq c u ≡ true → c ≡ u
-eq_true c u h = grind (arith, nat_tests)
-
-true_eq : (c u : ℕ) → c ≡ u → nat_eq c u ≡ true
-true_eq c u h = grind (arith, nat_tests)
-
-eq_false : (c u : ℕ) → c ≢ u → nat_eq c u ≡ false
-eq_false c u h = grind (arith, nat_tests)
-
 -- a test that is true at one number at most
 count_one : (n u : ℕ) → count n (λ c. nat_eq c u) ≤ 1
 unfolding count
 count_one zero u = omega arith
-count_one (suc n) u = elim (same_or n u) [
-  | inl e ↦ rw (count-zero n (λ c. nat_eq c u) (λ c l. (let ne : c ≢ u = omega arith in eq_false c u ne)), true_eq n u e) (omega arith)
-  | inr ne ↦ rw (eq_false n u ne) (let ih : count n (λ c. nat_eq c u) ≤ 1 = count_one n u in omega arith)
+count_one (suc n) u = elim (cases_eq n u) [
+  | inl e ↦ rw (count_none n (λ c. nat_eq c u) (λ c l. (let ne : c ≢ u = omega arith in ne_eqb c u ne)), eq-eqb n u e) (omega arith)
+  | inr ne ↦ rw (ne_eqb n u ne) (let ih : count n (λ c. nat_eq c u) ≤ 1 = count_one n u in omega arith)
 ]
 
 count_either : (n : ℕ) (f g : ℕ → Bool) → count n (λ c. f c || g c) ≤ count n f + count n g
@@ -149,17 +116,6 @@ count_three (suc n) f c j k l m lt a b g = elim (last_or k n lt) [
   | inl e ↦ rw (sym (ap f e) ∙ g) (let two : 2 ≤ count n f = count_two n f c j l (omega arith) a b in omega arith)
   | inr x ↦ (let ih : 3 ≤ count n f = count_three n f c j k l m x a b g in omega arith)
 ]
-
-or_left : (a b : Bool) → a ≡ true → a || b ≡ true
-or_left a b e = ap (λ x. x || b) e
-
-or_right : (a b : Bool) → b ≡ true → a || b ≡ true
-or_right true b e = refl
-or_right false b e = e
-
-or_cases : (a b : Bool) → a || b ≡ true → (a ≡ true) ⊎ (b ≡ true)
-or_cases true b e = inl refl
-or_cases false b e = inr e
 
 partner_within : (n u : ℕ) → partner n u ≤ suc n
 partner_within n u = grind (arith, nat_tests)
@@ -281,7 +237,7 @@ module _ (data_columns parity : ℕ) (small : data_columns ≤ 16) (one : 1 ≤ 
     suit_serves None w e = subst (λ x. Serves s t x) (sym (xor_zeros part (base t) part_block (sums.blocks t t_in) e)) (read_serves s t (base t) (well_read t t_in w).1)
     suit_serves (Some d) a e = record {
       void = λ v. absurd ((absent_unwell s t d a).0 v);
-      digest = λ x h. ap digest_of (xor_with_zeros part (base t) part_block (sums.blocks t t_in) (absent_zero t d t_in a)) ∙ e ∙ some_same d x (sym (taken_digest (s.slots t) d a.0) ∙ h);
+      digest = λ x h. ap digest_of (xor_with_zeros part (base t) part_block (sums.blocks t t_in) (absent_zero t d t_in a)) ∙ e ∙ same_Some d x (sym (taken_digest (s.slots t) d a.0) ∙ h);
       held = λ b x. absurd (a.1 (b, x));
     }
 
@@ -359,15 +315,15 @@ module _ (data_columns parity : ℕ) (small : data_columns ≤ 16) (one : 1 ≤ 
   module _ (all : (c : ℕ) → c < data_columns + parity → IsWell s c) where
     each_parity : (m : ℕ) → parity ≡ m → (m ≡ 1) ⊎ (m ≡ 2) → (c : ℕ) → c < data_columns + parity → IsTrue (breaks_at (parity_slots data_columns m) c) ↔ (data_columns ≤ c)
     each_parity m e (inl one) c lt = subst (λ m. IsTrue (breaks_at (parity_slots data_columns m) c) ↔ (data_columns ≤ c)) (sym one)
-        ((λ h. (let q : c ≡ data_columns = eq_true c data_columns h in omega arith)), (λ le. true_eq c data_columns (omega (arith, lt, e, one, le))))
+        ((λ h. (let q : c ≡ data_columns = eqb-true c data_columns h in omega arith)), (λ le. eq-eqb c data_columns (omega (arith, lt, e, one, le))))
     each_parity m e (inr two) c lt = subst (λ m. IsTrue (breaks_at (parity_slots data_columns m) c) ↔ (data_columns ≤ c)) (sym two) (
       (λ h. elim (or_cases (nat_eq c data_columns) (nat_eq c (data_columns + 1)) h) [
-        | inl x ↦ (let q : c ≡ data_columns = eq_true c data_columns x in omega arith)
-        | inr x ↦ (let q : c ≡ data_columns + 1 = eq_true c (data_columns + 1) x in omega arith)
+        | inl x ↦ (let q : c ≡ data_columns = eqb-true c data_columns x in omega arith)
+        | inr x ↦ (let q : c ≡ data_columns + 1 = eqb-true c (data_columns + 1) x in omega arith)
       ]),
-      (λ le. elim (same_or c data_columns) [
-        | inl q ↦ or_left (nat_eq c data_columns) (nat_eq c (data_columns + 1)) (true_eq c data_columns q)
-        | inr ne ↦ or_right (nat_eq c data_columns) (nat_eq c (data_columns + 1)) (true_eq c (data_columns + 1) (omega (arith, lt, e, two, le, ne)))
+      (λ le. elim (cases_eq c data_columns) [
+        | inl q ↦ or_left (nat_eq c data_columns) (nat_eq c (data_columns + 1)) (eq-eqb c data_columns q)
+        | inr ne ↦ or_right (nat_eq c data_columns) (nat_eq c (data_columns + 1)) (eq-eqb c (data_columns + 1) (omega (arith, lt, e, two, le, ne)))
       ]),
     )
 
@@ -382,7 +338,7 @@ module _ (data_columns parity : ℕ) (small : data_columns ≤ 16) (one : 1 ≤ 
       few_unsound = (
         (λ c. false),
         (λ c lt. ((λ h. absurd (cc)), (λ u. absurd (well_not_unwell s c (all c lt) u)))),
-        rw (count-zero (data_columns + parity) (λ c. false) (λ c lt. refl)) (omega arith),
+        rw (count_none (data_columns + parity) (λ c. false) (λ c lt. refl)) (omega arith),
       );
       unbroken = λ c d lt. well_unbroken s c d (all c lt);
       ordered = slots_ordered parity refl (one_or_two parity one few);
@@ -393,8 +349,8 @@ module _ (data_columns parity : ℕ) (small : data_columns ≤ 16) (one : 1 ≤ 
   module _ (u : ℕ) (d : Digest) (lt_u : u < data_columns + parity) (gone : IsAbsent s u d) (all : (c : ℕ) → c < data_columns + parity → c ≢ u → IsWell s c) where
     one_finds : FindsUnsound data_columns parity s (λ c. nat_eq c u)
     one_finds c lt = (
-      (λ h. subst (λ k. IsUnwell s k) (sym (eq_true c u h)) (absent_unwell s u d gone)),
-      (λ w. elim (same_or c u) [ inl e ↦ true_eq c u e | inr ne ↦ absurd (well_not_unwell s c (all c lt ne) w) ]),
+      (λ h. subst (λ k. IsUnwell s k) (sym (eqb-true c u h)) (absent_unwell s u d gone)),
+      (λ w. elim (cases_eq c u) [ inl e ↦ eq-eqb c u e | inr ne ↦ absurd (well_not_unwell s c (all c lt ne) w) ]),
     )
 
     partner_le : partner data_columns u ≤ suc data_columns
@@ -414,12 +370,12 @@ module _ (data_columns parity : ℕ) (small : data_columns ≤ 16) (one : 1 ≤ 
       fills = fills u (partner data_columns u) (Some d) None lt_u partner_le partner_apart partner_high gone (λ ne. all (partner data_columns u) (omega (arith, partner_le, ne, one)) partner_apart) (λ c lt nu _. all c lt nu);
       adds = adds u (partner data_columns u) (Some d) None lt_u partner_le partner_apart partner_high gone (λ ne. all (partner data_columns u) (omega (arith, partner_le, ne, one)) partner_apart) (λ c lt nu _. all c lt nu);
       few_unsound = ((λ c. nat_eq c u), one_finds, (let l : count (data_columns + parity) (λ c. nat_eq c u) ≤ 1 = count_one (data_columns + parity) u in omega arith));
-      unbroken = λ c e lt. elim (same_or c u) [
+      unbroken = λ c e lt. elim (cases_eq c u) [
         | inl x ↦ subst (λ k. s.slots k ≢ Broken e) (sym x) (taken_unbroken (s.slots u) d e gone.0)
         | inr ne ↦ well_unbroken s c e (all c lt ne)
       ];
       ordered = lt_u;
-      which = inl (one_finds, u, lt_u, true_eq u u refl);
+      which = inl (one_finds, u, lt_u, eq-eqb u u refl);
     }
 
   -- two did not
@@ -430,18 +386,18 @@ module _ (data_columns parity : ℕ) (small : data_columns ≤ 16) (one : 1 ≤ 
 
     -- each column is one of the two, or gave its block
     at_each : (P : ℕ → Type 0) → P u → P k → ((c : ℕ) → c < data_columns + parity → IsWell s c → P c) → (c : ℕ) → c < data_columns + parity → P c
-    at_each P here there well c lt = elim (same_or c u) [
+    at_each P here there well c lt = elim (cases_eq c u) [
       | inl x ↦ subst P (sym x) here
-      | inr nu ↦ elim (same_or c k) [ inl x ↦ subst P (sym x) there | inr nk ↦ well c lt (all c lt nu nk) ]
+      | inr nu ↦ elim (cases_eq c k) [ inl x ↦ subst P (sym x) there | inr nk ↦ well c lt (all c lt nu nk) ]
     ]
 
     two_finds : FindsUnsound data_columns parity s (λ c. nat_eq c u || nat_eq c k)
     two_finds c lt = (
       (λ h. elim (or_cases (nat_eq c u) (nat_eq c k) h) [
-        | inl x ↦ subst (λ k. IsUnwell s k) (sym (eq_true c u x)) (absent_unwell s u d gone)
-        | inr x ↦ subst (λ k. IsUnwell s k) (sym (eq_true c k x)) (absent_unwell s k e gone2)
+        | inl x ↦ subst (λ k. IsUnwell s k) (sym (eqb-true c u x)) (absent_unwell s u d gone)
+        | inr x ↦ subst (λ k. IsUnwell s k) (sym (eqb-true c k x)) (absent_unwell s k e gone2)
       ]),
-      at_each (λ c. IsUnwell s c → nat_eq c u || nat_eq c k ≡ true) (λ _. or_left (nat_eq u u) (nat_eq u k) (true_eq u u refl)) (λ _. or_right (nat_eq k u) (nat_eq k k) (true_eq k k refl))
+      at_each (λ c. IsUnwell s c → nat_eq c u || nat_eq c k ≡ true) (λ _. or_left (nat_eq u u) (nat_eq u k) (eq-eqb u u refl)) (λ _. or_right (nat_eq k u) (nat_eq k k) (eq-eqb k k refl))
           (λ c lt w x. absurd (well_not_unwell s c w x)) c lt,
     )
 
@@ -459,7 +415,7 @@ module _ (data_columns parity : ℕ) (small : data_columns ≤ 16) (one : 1 ≤ 
       );
       unbroken = λ c x lt. at_each (λ c. s.slots c ≢ Broken x) (taken_unbroken (s.slots u) d x gone.0) (taken_unbroken (s.slots k) e x gone2.0) (λ c lt w. well_unbroken s c x w) c lt;
       ordered = (order, lt_k);
-      which = inl (two_finds, u, lt_u', or_left (nat_eq u u) (nat_eq u k) (true_eq u u refl));
+      which = inl (two_finds, u, lt_u', or_left (nat_eq u u) (nat_eq u k) (eq-eqb u u refl));
     }
 
     -- with one parity column two are too many
@@ -512,7 +468,7 @@ void_filled data_columns parity s void = (
   record {
     block = λ c lt. IsBlock-zero_block;
     void = λ c lt e. refl;
-    digest = λ c d lt e. absurd (none_some (sym (ap digest_in (void c lt)) ∙ e));
+    digest = λ c d lt e. absurd (none-some _ (sym (ap digest_in (void c lt)) ∙ e));
     held = λ c b lt x. absurd (void_live (sym (void c lt) ∙ x.live));
     p_sum = λ k. total_zero (data_columns + parity) _ (λ c lt. ap (byte_product (p_weight data_columns c)) (get_or-zero_block k) ∙ byte_product-zero_right (p_weight data_columns c));
     q_sum = λ two k. total_zero (data_columns + parity) _ (λ c lt. ap (byte_product (q_weight data_columns c)) (get_or-zero_block k) ∙ byte_product-zero_right (q_weight data_columns c));

@@ -1,12 +1,12 @@
 -- Functions with one value more, and what is made of their first values.
 use Rattle.std.proofs.Common.{◌≡◌, ◌≢◌, inl, inr, ℕ, zero, suc, ◌+◌, ◌<◌, ◌≤◌, [], ◌∷◌, ◌++◌, length, Bool, true, false, nat_eq, refl, sym, ap, ap₂, ◌∙◌, arith, length-append, ◌||◌, if◌then◌else◌}
 use Rattle.std.proofs.lemmas.Bool.Decides.{nat_tests, eqb_tells}
+use Rattle.pot_bytes.proofs.Basis.{last_or}
 use Rattle.pot_machine.specs.declared.entry.Entry.{Entry}
 use Rattle.pot_machine.specs.declared.entry.Entry.TheVariants.{Gone, Broke}
 use Rattle.pot_machine.specs.Table.{Table, count}
 use Rattle.pot_steps.specs.GroupStep.{entries_where, opening}
 use Rattle.pot_shelves.specs.Opening.{failures, failures_at}
-use Rattle.pot_machine.proofs.Cases.{last_or}
 
 -- the function with another value at `n`
 unfoldable pub with_at : {A : Type 0} → ℕ → (ℕ → A) → A → ℕ → A
@@ -113,10 +113,6 @@ count_same : (n : ℕ) (f g : ℕ → Bool) → ((k : ℕ) → k < n → g k ≡
 unfolding count
 count_same zero f g h = refl
 count_same (suc n) f g h = ap₂ (λ m b. m + (if b then 1 else 0)) (count_same n f g (λ k l. h k (omega arith))) (h n (omega arith))
-
-pub count_begin : (f : ℕ → Bool) → count 0 f ≡ 0
-unfolding count
-count_begin f = refl
 
 pub count_more : (n : ℕ) (f g : ℕ → Bool) (b : Bool) → ((k : ℕ) → k < n → g k ≡ f k) → g n ≡ b → count (suc n) g ≡ count n f + (if b then 1 else 0)
 unfolding count

@@ -2,6 +2,8 @@
 use Rattle.std.proofs.Common.{◌≡◌, ◌≢◌, ◌⊎◌, inl, inr, ℕ, suc, ◌+◌, ◌<◌, List, Option, Some, None, Bool, true, false, ◌&&◌, IsTrue, get_or, bit_xor, refl, sym, ap, ◌∙◌, subst, arith, if◌then◌else◌}
 use Rattle.std.specs.Prelude.{nat_le}
 use Rattle.std.specs.Int.Bits.{xor_zero_r}
+use Rattle.std.proofs.lemmas.Bool.{and_parts, and_from, false≢true, both_ways}
+use Rattle.std.proofs.lemmas.Option.{same_Some, none-some}
 use Rattle.pot_bytes.specs.declared.digest.Digest.{Digest}
 use Rattle.pot_bytes.specs.Totals.{total}
 use Rattle.pot_bytes.specs.Product.{byte_product}
@@ -13,8 +15,8 @@ use Rattle.pot_bytes.proofs.WeightedLemmas.{get_or-xor, get_or-scaled}
 use Rattle.pot_machine.specs.declared.slot.SlotState.{SlotState}
 use Rattle.pot_machine.specs.declared.slot.SlotState.TheVariants.{Void, Live, Lost, Broken}
 use Rattle.pot_machine.specs.Slot.{digest_in, is_live}
-use Rattle.pot_machine.proofs.Cases.{not_both, last_or}
 use Rattle.pot_bytes.specs.Lists.{IsBlock}
+use Rattle.pot_bytes.proofs.Basis.{last_or}
 use Rattle.pot_steps.specs.Equations.{p_weight, q_weight}
 use Rattle.pot_steps.specs.Stripe.{Stripe, Sound, HasFilling, digest_of}
 use Rattle.pot_steps.specs.Law.{FindsUnsound}
@@ -41,46 +43,26 @@ well_same s s' c e h (inr x) = inr (sound_same s s' c e h x)
 unwell_same : (s s' : Stripe) (c : ℕ) → s'.slots c ≡ s.slots c → s'.held c ≡ s.held c → IsUnwell s c → IsUnwell s' c
 unwell_same s s' c e h u = ((λ v. u.0 (sym e ∙ v)), (λ x. u.1 (sound_same s' s c (sym e) (sym h) x)))
 
-none_some : {b : List ℕ} → None ≡ Some b → ⊥
-none_some e = absurd (cc)
-
-some_same : (a b : List ℕ) → Some a ≡ Some b → a ≡ b
-some_same a b e = cc
-
 not_sound : (s : Stripe) (c : ℕ) → s.held c ≡ None → Sound s c → ⊥
-not_sound s c e x = none_some (sym e ∙ x.1.held)
+not_sound s c e x = none-some _ (sym e ∙ x.1.held)
 
-void_live : {d : Digest} → Void ≡ Live d → ⊥
+pub void_live : {d : Digest} → Void ≡ Live d → ⊥
 void_live e = absurd (cc)
 
 void_lost : {d : Digest} → Void ≡ Lost d → ⊥
 void_lost e = absurd (cc)
 
-void_broken : {d : Digest} → Void ≡ Broken d → ⊥
+pub void_broken : {d : Digest} → Void ≡ Broken d → ⊥
 void_broken e = absurd (cc)
 
 live_lost : {d e : Digest} → Live d ≡ Lost e → ⊥
 live_lost h = absurd (cc)
 
-live_broken : {d e : Digest} → Live d ≡ Broken e → ⊥
+pub live_broken : {d e : Digest} → Live d ≡ Broken e → ⊥
 live_broken h = absurd (cc)
 
-lost_broken : {d e : Digest} → Lost d ≡ Broken e → ⊥
+pub lost_broken : {d e : Digest} → Lost d ≡ Broken e → ⊥
 lost_broken h = absurd (cc)
-
-false_true : false ≡ true → ⊥
-false_true e = absurd (cc)
-
-and_left : (a b : Bool) → a && b ≡ true → a ≡ true
-and_left true b h = refl
-and_left false b h = absurd (false_true h)
-
-and_right : (a b : Bool) → a && b ≡ true → b ≡ true
-and_right true b h = h
-and_right false b h = absurd (false_true h)
-
-and_both : (a b : Bool) → a ≡ true → b ≡ true → a && b ≡ true
-and_both a b p q = rw (p, q) refl
 
 total_step : (n : ℕ) (f : ℕ → ℕ) → total (suc n) f ≡ bit_xor (total n f) (f n)
 unfolding total
@@ -99,20 +81,20 @@ p_weight_none data_columns c e = ap (λ b. if b then 1 else 0) e
 module _ (s : Stripe) (c : ℕ) (into : List ℕ) where
   part_found : (p : Part) → IsPart (s.slots c) into p → s.held c ≡ block_of into p → is_live (s.slots c) && is_missing p ≡ true
       → IsTrue (is_live (s.slots c)) × (Sound s c → ⊥)
-  part_found part.Empty is last h = absurd (false_true (and_right (is_live (s.slots c)) false h))
-  part_found part.Present is last h = absurd (false_true (and_right (is_live (s.slots c)) false h))
-  part_found (part.Missing d) is last h = (and_left (is_live (s.slots c)) true h, not_sound s c last)
-  part_found part.Broken is last h = absurd (false_true (and_right (is_live (s.slots c)) false h))
+  part_found part.Empty is last h = absurd (false≢true ((and_parts (is_live (s.slots c)) false h).1))
+  part_found part.Present is last h = absurd (false≢true ((and_parts (is_live (s.slots c)) false h).1))
+  part_found (part.Missing d) is last h = ((and_parts (is_live (s.slots c)) true h).0, not_sound s c last)
+  part_found part.Broken is last h = absurd (false≢true ((and_parts (is_live (s.slots c)) false h).1))
 
   present_sound : IsPart (s.slots c) into part.Present → s.held c ≡ Some into → Sound s c
   present_sound is last = (into, record { digest = digest_of into; live = is.0; held = last; right = refl })
 
   part_left : (p : Part) → IsPart (s.slots c) into p → s.held c ≡ block_of into p → is_live (s.slots c) && is_missing p ≡ false
       → IsTrue (is_live (s.slots c)) → Sound s c
-  part_left part.Empty is last h live = absurd (false_true (sym (ap is_live is) ∙ live))
+  part_left part.Empty is last h live = absurd (false≢true (sym (ap is_live is) ∙ live))
   part_left part.Present is last h live = present_sound is last
-  part_left (part.Missing d) is last h live = absurd (not_both (and_both (is_live (s.slots c)) true live refl) h)
-  part_left part.Broken is last h live = absurd (false_true (sym (ap is_live is.1) ∙ live))
+  part_left (part.Missing d) is last h live = absurd (both_ways _ h (and_from (is_live (s.slots c)) true live refl))
+  part_left part.Broken is last h live = absurd (false≢true (sym (ap is_live is.1) ∙ live))
 
 -- ONE COLUMN MORE
 
@@ -204,10 +186,10 @@ module _ (slots : ℕ → SlotState) (n : ℕ) (read read' : ℕ → Option (Lis
   ]
     where
       lives_last : (p : Part) → IsPart (slots n) into p → read' n ≡ block_of into p → (b : List ℕ) → read' n ≡ Some b → slots n ≡ Live (digest_of b)
-      lives_last part.Empty is last b e = absurd (none_some (sym last ∙ e))
-      lives_last part.Present is last b e = is.0 ∙ ap (λ x. Live (digest_of x)) (some_same into b (sym last ∙ e))
-      lives_last (part.Missing d) is last b e = absurd (none_some (sym last ∙ e))
-      lives_last part.Broken is last b e = absurd (none_some (sym last ∙ e))
+      lives_last part.Empty is last b e = absurd (none-some _ (sym last ∙ e))
+      lives_last part.Present is last b e = is.0 ∙ ap (λ x. Live (digest_of x)) (same_Some into b (sym last ∙ e))
+      lives_last (part.Missing d) is last b e = absurd (none-some _ (sym last ∙ e))
+      lives_last part.Broken is last b e = absurd (none-some _ (sym last ∙ e))
 
   -- a weighted sum grows by the block of the last column
   sum_more : (w : ℕ → ℕ) (sum sum' : List ℕ) → IsBlock sum' → ((k : ℕ) → get_or sum' k 0 ≡ bit_xor (get_or sum k 0) (byte_product (w n) (get_or (or_zeros (block_of into p)) k 0)))

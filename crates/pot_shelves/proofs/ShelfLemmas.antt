@@ -1,6 +1,6 @@
 -- Archives by their numbers: what calls of them come to one after another.
 use Rattle.std.proofs.Common.{◌≡◌, ◌≢◌, ◌≤◌, ◌-◌, ◌^◌, ◌==◌, ◌⊎◌, inl, inr, ℕ, Bool, true, false, List, Option, Some, None, Result, Ok, Err, refl, sym, ◌∙◌, arith}
-use Rattle.std.specs.Prelude.{cond}
+use Rattle.std.specs.Prelude.{cond, is_ok}
 use Rattle.std.proofs.lemmas.Bool.Decides.{eqb_tells, leb_tells}
 use Rattle.pot_outside.specs.Failing.{MayLeave}
 use Rattle.pot_outside.specs.declared.faults.Failed.{Failed}
@@ -8,7 +8,7 @@ use Rattle.pot_outside.specs.Archives.{OnlyLoses, at_slot}
 use Rattle.pot_outside.specs.Counts.{Rose}
 use Rattle.pot_outside.proofs.LossLemmas.{at_slot-here, at_slot-else, loses_nothing, loses_more, loses_under}
 use Rattle.pot_steps.specs.Holdings.{Holdings}
-use Rattle.pot_shelves.specs.Shelves.{Shelves, Keeps, LosesByCount, Stays, WritesInto, IsWritten, put_at}
+use Rattle.pot_shelves.specs.Shelves.{Shelves, Keeps, LosesByCount, Stays, WritesInto, WriteLeaves, put_at}
 
 -- ONE CALL AFTER ANOTHER
 
@@ -54,9 +54,18 @@ loses_put h a b c n slot left o p = λ k.
     loses_more (put_at h n slot left k) (put_at b.held n slot left k) (c.held k) (a.losses k) (b.losses k) (c.losses k)
     (put_under h a b n slot left k (k == n) (o k)) (p k)
 
+-- what a write leaves, by whether it went well
+pub left_new : (went : Bool) (was left : Option (List ℕ)) (block : List ℕ) → WriteLeaves went was block left → went ≡ true → left ≡ Some block
+left_new true was left block w e = w
+left_new false was left block w e = absurd (cc)
+
+pub left_any : (went : Bool) (was left : Option (List ℕ)) (block : List ℕ) → WriteLeaves went was block left → went ≡ false → MayLeave was block left
+left_any true was left block w e = absurd (cc)
+left_any false was left block w e = w
+
 -- a write after losses is that write and these losses
 written_after : (before now : ℕ → Option (List ℕ)) (slot : ℕ) (block : List ℕ) (r : Result (Unit {0}) Failed) (left : Option (List ℕ)) → ((b : List ℕ) → now slot ≡ Some b → before slot ≡ Some b)
-    → IsWritten r now slot block left → IsWritten r before slot block left
+    → WriteLeaves (is_ok r) (now slot) block left → WriteLeaves (is_ok r) (before slot) block left
 written_after before now slot block (Ok u) left keeps w = w
 written_after before now slot block (Err e) left keeps (inr w) = inr w
 written_after before now slot block (Err e) left keeps (inl w) = there (now slot) w keeps
@@ -67,7 +76,7 @@ written_after before now slot block (Err e) left keeps (inl w) = there (now slot
 
 -- a write after other changes and losses
 pub write_then : (h : Holdings) (a b c : Shelves) (n slot : ℕ) (block : List ℕ) (r : Result (Unit {0}) Failed) → LosesByCount h a b → WritesInto n slot block r b c
-    → (left : Option (List ℕ)) × IsWritten r (h n) slot block left × LosesByCount (put_at h n slot left) a c
+    → (left : Option (List ℕ)) × WriteLeaves (is_ok r) (h n slot) block left × LosesByCount (put_at h n slot left) a c
 write_then h a b c n slot block r l w = (w.0, written_after (h n) (b.held n) slot block r w.0 (λ x e. (l n).keeps slot x e) w.1, loses_put h a b c n slot w.0 l w.2)
 
 pub into_after : (a b c : Shelves) (n slot : ℕ) (block : List ℕ) (r : Result (Unit {0}) Failed) → LosesByCount a.held a b → WritesInto n slot block r b c → WritesInto n slot block r a c
@@ -96,10 +105,6 @@ lost_rose h old new k m b l e =
       ]
       | inr t ↦ inr (inl (omega (arith, (l k).later, t.1)))
     ]
-
-pub rose_on : (a b c : ℕ) → a ≤ b → Rose b c → Rose a c
-rose_on a b c l (inl r) = inl (omega arith)
-rose_on a b c l (inr r) = inr r
 
 pub rose_more : (a b c : ℕ) → Rose a b → b ≤ c → Rose a c
 rose_more a b c (inl r) l = inl (omega arith)

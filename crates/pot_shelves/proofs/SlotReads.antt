@@ -7,12 +7,13 @@ use Rattle.std.proofs.lemmas.Option.{same_Some, none-some, slice_get-get_or}
 use Rattle.pot_bytes.specs.declared.digest.Digest.{Digest}
 use Rattle.pot_bytes.specs.Digests.{digest_bytes}
 use Rattle.pot_bytes.specs.Lists.{IsBlock}
+use Rattle.pot_bytes.proofs.Elements.{element_at}
+use Rattle.pot_bytes.proofs.Basis.{last_or}
 use Rattle.pot_sealed.specs.Sealing.{digest_of as sealed_digest}
 use Rattle.pot_outside.specs.Counts.{Rose}
 use Rattle.pot_outside.specs.declared.archive.Held.{Held as IsHeld}
 use Rattle.pot_outside.specs.declared.archive.Held.TheVariants.{Held, Absent}
 use Rattle.pot_outside.specs.declared.faults.Failed.{Failed}
-use Rattle.pot_machine.proofs.Cases.{last_or}
 use Rattle.pot_machine.proofs.Columns.{names_serving}
 use Rattle.pot_machine.specs.declared.slot.SlotState.{SlotState}
 use Rattle.pot_machine.specs.declared.slot.SlotState.TheVariants.{Void, Live, Lost, Broken}
@@ -46,12 +47,6 @@ get_set_is : {X : Type 0} (xs : List X) (n : ℕ) (x y : X) → slice_get (set x
 get_set_is [] n x y e = absurd (cc)
 get_set_is (z ∷ xs) zero x y e = sym (same_Some x y e)
 get_set_is (z ∷ xs) (suc n) x y e = get_set_is xs n x y e
-
--- an element of a list
-element : {X : Type 0} (xs : List X) (k : ℕ) → k < length xs → (x : X) × (slice_get xs k ≡ Some x)
-element [] k lt = absurd (omega (arith, lt))
-element (x ∷ xs) zero lt = (x, refl)
-element (x ∷ xs) (suc k) lt = element xs k (omega (arith, lt))
 
 -- THE READS
 
@@ -88,7 +83,7 @@ reads_stays : (told : Type 0) (n s : ℕ) (t : Table) (readings : List Reading) 
 reads_stays told n s t readings a b le o = subst (λ a. Stays told a b) o.begins (subst (λ b. Stays told (o.at 0) b) o.ends (upto n (omega arith)))
   where
     one : (k : ℕ) → k < n → Stays told (o.at k) (o.at (suc k))
-    one k lt = let (r, e) = element readings k (omega (arith, lt, le, o.places)) in (o.reads k r lt e).stays
+    one k lt = let (r, e) = element_at readings k (omega (arith, lt, le, o.places)) in (o.reads k r lt e).stays
 
     upto : (k : ℕ) → k ≤ n → Stays told (o.at 0) (o.at k)
     upto zero le = stays_refl told (o.at 0)

@@ -1,6 +1,6 @@
 -- Archives in a list, seen by number: a call of one of them, and the marks of all.
 use Rattle.std.proofs.Common.{◌≡◌, ◌≢◌, ◌<◌, ◌≤◌, ◌==◌, ◌↔◌, ℕ, zero, suc, Bool, true, false, List, [], ◌∷◌, length, get_or, Option, Some, None, refl, ap, sym, ◌∙◌, arith, inl, inr, subst, IsTrue}
-use Rattle.std.specs.Prelude.{cond, map, Result, Ok, Err, Contains, IsSome, is_some, slice_get}
+use Rattle.std.specs.Prelude.{cond, map, Result, Ok, Err, Contains, IsSome, is_some, slice_get, is_ok}
 use Rattle.std.specs.List.{position, position_or_len}
 use Rattle.std.specs.Str.{bytes_eq}
 use Rattle.std.proofs.Math.ListN.{set}
@@ -23,7 +23,7 @@ use Rattle.pot_outside.specs.declared.archive.Held.{Held as IsHeld}
 use Rattle.pot_outside.specs.declared.faults.Failed.{Failed}
 use Rattle.pot_outside.proofs.LossLemmas.{loses_nothing}
 use Rattle.pot_steps.specs.Stripe.{digest_of}
-use Rattle.pot_shelves.specs.Shelves.{Shelves, numbers_of, shelf_of, given, mark_of, plain, put_at, Touches, Calls, Keeps, LosesByCount, IsTaken, IsWritten, WritesAt, FoldsAt, Stays, ReadsAt}
+use Rattle.pot_shelves.specs.Shelves.{Shelves, numbers_of, shelf_of, given, mark_of, plain, put_at, Touches, Calls, Keeps, LosesByCount, IsTaken, WriteLeaves, WritesAt, FoldsAt, Stays, ReadsAt}
 
 -- what `==` of digests says of a block
 pub digest_tells : (block now bytes : List ℕ) (d : Digest) (r : Bool) → now ≡ block → bytes ≡ digest_bytes now
@@ -172,7 +172,7 @@ module _ {A : Type 0} (told : Type 0) (meaning : A → Meaning) (marks : List Ma
   -- what a write leaves in its slot before any loss
   leaves : (number slot : ℕ) (block : List ℕ) (result : Result (Unit {0}) Failed) (old new : List (Shelf A))
       (t : Touches number (Calls meaning (Writes told slot block result)) old new) → told
-      → (left : Option (List ℕ)) × IsWritten result ((data_of old).held number) slot block left
+      → (left : Option (List ℕ)) × WriteLeaves (is_ok result) ((data_of old).held number slot) block left
       × LosesByCount (put_at (data_of old).held number slot left) (data_of old) (data_of new)
   leaves number slot block (Ok u) old new t z = (Some block, refl, puts number slot (Some block) _ old new t (t.by.tells z))
   leaves number slot block (Err e) old new t z =

@@ -1,5 +1,5 @@
 -- Archives as plain data, by their numbers, and what a call of one of them does.
-use Rattle.std.specs.Prelude.{◌≡◌, ◌≢◌, ◌≤◌, ◌<◌, ◌-◌, ◌^◌, ◌==◌, ◌++◌, ℕ, List, [], ◌∷◌, Option, Some, None, Result, Ok, Err, IsErr, IsTrue, if◌then◌else◌, find, map}
+use Rattle.std.specs.Prelude.{◌≡◌, ◌≢◌, ◌≤◌, ◌<◌, ◌-◌, ◌^◌, ◌==◌, ◌++◌, ℕ, List, [], ◌∷◌, Option, Some, None, Result, IsErr, IsTrue, if◌then◌else◌, find, map, Bool, true, false, is_ok}
 use Rattle.pot_outside.specs.Failing.{MayLeave}
 use Rattle.pot_outside.specs.declared.archive.Marks.{Marks}
 use Rattle.pot_outside.specs.declared.archive.Shelf.{Shelf}
@@ -145,14 +145,14 @@ abbrev pub put_at : Holdings → ℕ → ℕ → Option (List ℕ) → Holdings
 put_at h number slot block k = if k == number then at_slot (h k) slot block else h k
 
 -- what a write leaves in its slot before any loss: the block, and where it failed the old block, the new one or none
-abbrev pub IsWritten : Result (Unit {0}) Failed → (ℕ → Option (List ℕ)) → ℕ → List ℕ → Option (List ℕ) → Type 0
-IsWritten (Ok u) held slot block left = left ≡ Some block
-IsWritten (Err e) held slot block left = MayLeave (held slot) block left
+abbrev pub WriteLeaves : Bool → Option (List ℕ) → List ℕ → Option (List ℕ) → Type 0
+WriteLeaves true was block left = left ≡ Some block
+WriteLeaves false was block left = MayLeave was block left
 
 -- A block goes into this slot of an archive, or its write fails and leaves there what it may. Nothing else changes but by losses.
 abbrev pub WritesInto : ℕ → ℕ → List ℕ → Result (Unit {0}) Failed → Shelves → Shelves → Type 0
 WritesInto number slot block result old new =
-    (left : Option (List ℕ)) × IsWritten result (old.held number) slot block left × LosesByCount (put_at old.held number slot left) old new
+    (left : Option (List ℕ)) × WriteLeaves (is_ok result) (old.held number slot) block left × LosesByCount (put_at old.held number slot left) old new
 
 -- A block is written into a slot of an archive.
 pub record WritesAt (told : Type 0) (number slot : ℕ) (block : List ℕ) (result : Result (Unit {0}) Failed) (old new : Shelves) : Type 0 where

@@ -1,6 +1,7 @@
 //! The opening of a table: it is not trusted, and the block of every Live slot is read. The slots of a stripe are read
 //! first, then their blocks are digested side by side, and only then is it noted which are missing.
 ghost use Rattle.std.specs.Prelude.{◌≡◌, ◌<◌, ◌≤◌, ◌+◌, ◌↔◌, [], Bool, IsTrue, length, vec_len, vec_capacity};
+ghost use Rattle.pot_bytes.specs.Rack.{log_bound};
 ghost use Rattle.pot_machine.specs.Table.{width};
 ghost use Rattle.pot_machine.specs.Machine.{InRange};
 ghost use Rattle.pot_steps.specs.Stripe.{digest_of};
@@ -62,12 +63,12 @@ pub fn open_all<A: Archive>(
     archives: &mut Archives<A>,
 )
     requires log { log.old.items ≡ [] }
-    requires room { 262144 ≤ vec_capacity log.old }
+    requires room { log_bound ≤ vec_capacity log.old }
     requires archives { HasArchives table.old (plain A.account.meaning archives.old).numbers }
     ensures opens { OnShelves A.account (λ told. Opens told table.old.stripes table.old table.new log.new.items)
         archives.old archives.new }
-    ensures room { 262144 ≤ vec_capacity log.new }
-    ensures bound { length log.new.items ≤ 262144 }
+    ensures room { log_bound ≤ vec_capacity log.new }
+    ensures bound { length log.new.items ≤ log_bound }
 {
     let mut reads = StripeReads::nothing();
     for stripe in 0..table.stripes() {

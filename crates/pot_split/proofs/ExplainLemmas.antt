@@ -11,7 +11,8 @@ use Rattle.pot_gf.specs.Polynomials.{vanishing}
 use Rattle.pot_gf.proofs.Vanishing.{scaled-bytes}
 use Rattle.pot_split.specs.Secrecy.{IsRows}
 use Rattle.pot_split.specs.Threshold.{changed_rows, explaining}
-use Rattle.pot_split.proofs.ThresholdLaws.{first_row, other_rows, length-changed_row, length-changed_rows}
+use Rattle.pot_split.proofs.ThresholdLaws.{length-changed_row, length-changed_rows}
+use Rattle.pot_split.proofs.ShareLemmas.{first_row, other_rows}
 
 -- what is added twice is gone
 pub xor_undone : (a s : List ℕ) → length a ≡ length s → xor (xor a s) s ≡ a

@@ -197,7 +197,7 @@ last_same object other sum e =
     xor_comm other (xor sum (xor object other)) ∙ xor_assoc sum (xor object other) other
     ∙ ap (xor sum) (xor_undone object other e) ∙ xor_comm sum object
 
-side : (j f : ℕ) → j ≢ f → (j < f) ⊎ (f < j)
+pub side : (j f : ℕ) → j ≢ f → (j < f) ⊎ (f < j)
 side j f ne = grind arith
 
 pad_same : (size count f j : ℕ) (pads d : List ℕ) → length pads ≡ count * size → f < count → length d ≡ size → j ≢ f

@@ -3,7 +3,7 @@ use Rattle.std.proofs.Common.{◌≡◌, ◌<◌, ◌≤◌, ◌+◌, ◌*◌, �
 use Rattle.std.proofs.lemmas.List.{length-take-le, length-replicate, take_all, take-append-le, drop-append-le}
 use Rattle.std.proofs.Math.Nat.{mul-div_cancel}
 use Rattle.pot_bytes.specs.Sums.{xor, sum_of}
-use Rattle.pot_bytes.proofs.SumLemmas.{xor_assoc, xor_comm, xor_self, xor_replicate, length-xor, length-xor_le}
+use Rattle.pot_bytes.proofs.SumLemmas.{xor_assoc, xor_comm, xor_self, xor_replicate, length-xor}
 use Rattle.pot_split.specs.Secrecy.{rows_of, IsRows, meaning, secrecy}
 
 -- `done` of `count` rows are in place
@@ -11,14 +11,6 @@ pub record IsUnderWay (size count done : ℕ) (start rows into rest : List ℕ) 
   pub wide : length into ≡ size
   pub left : length rest ≡ (count - done) * size
   pub sum : xor into (sum_of size (rows_of (count - done) size rest)) ≡ xor start (sum_of size (rows_of count size rows))
-
--- a sum of lists is no longer than its size
-pub length-sum_of : (size : ℕ) (rows : List (List ℕ)) → length (sum_of size rows) ≤ size
-length-sum_of size [] = omega (arith, length-replicate {A = ℕ} size 0)
-length-sum_of size (r ∷ rows) =
-    let below : length (sum_of size rows) ≤ size = length-sum_of size rows in
-    let shorter : length (xor r (sum_of size rows)) ≤ length (sum_of size rows) = length-xor_le r (sum_of size rows) in
-    omega arith
 
 pub begins : (size count : ℕ) (start rows : List ℕ) → length start ≡ size → length rows ≡ count * size
     → IsUnderWay size count 0 start rows start rows

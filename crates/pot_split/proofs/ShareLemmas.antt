@@ -29,19 +29,19 @@ dot [] cs = 0
 dot (w ∷ ws) [] = 0
 dot (w ∷ ws) (c ∷ cs) = bit_xor (byte_product w c) (dot ws cs)
 
-fits : (size n : ℕ) (bytes : List ℕ) → length bytes ≡ suc n * size → size ≤ length bytes
-fits size n bytes e = grind arith
+pub first_row : (size n : ℕ) (bytes : List ℕ) → length bytes ≡ suc n * size → size ≤ length bytes
+first_row size n bytes e = grind arith
 
-rest : (size n : ℕ) (bytes : List ℕ) → length bytes ≡ suc n * size → length (drop size bytes) ≡ n * size
-rest size n bytes e = grind (arith, length-drop)
+pub other_rows : (size n : ℕ) (bytes : List ℕ) → length bytes ≡ suc n * size → length (drop size bytes) ≡ n * size
+other_rows size n bytes e = grind (arith, length-drop)
 
 pub length-weighted_rows : (size n : ℕ) (ws bytes : List ℕ) → length bytes ≡ n * size → length (weighted_sum size ws (rows_of n size bytes)) ≡ size
 length-weighted_rows size n [] bytes e = length-replicate {A = ℕ} size 0
 length-weighted_rows size zero (w ∷ ws) bytes e = length-replicate {A = ℕ} size 0
 length-weighted_rows size (suc n) (w ∷ ws) bytes e =
-    let row : length (scaled w (take size bytes)) ≡ size = length-map (take size bytes) (byte_product w) ∙ length-take-le size bytes (fits size n bytes e) in
+    let row : length (scaled w (take size bytes)) ≡ size = length-map (take size bytes) (byte_product w) ∙ length-take-le size bytes (first_row size n bytes e) in
     length-xor (scaled w (take size bytes)) (weighted_sum size ws (rows_of n size (drop size bytes)))
-    (row ∙ sym (length-weighted_rows size n ws (drop size bytes) (rest size n bytes e))) ∙ row
+    (row ∙ sym (length-weighted_rows size n ws (drop size bytes) (other_rows size n bytes e))) ∙ row
 
 -- each place of a weighted sum of rows is that of its column
 get_or-weighted_rows : (size n k : ℕ) (ws bytes : List ℕ) → length bytes ≡ n * size
@@ -50,10 +50,10 @@ unfolding dot
 get_or-weighted_rows size n k [] bytes e = zeros-below size k
 get_or-weighted_rows size zero k (w ∷ ws) bytes e = zeros-below size k
 get_or-weighted_rows size (suc n) k (w ∷ ws) bytes e =
-    let row : length (scaled w (take size bytes)) ≡ size = length-map (take size bytes) (byte_product w) ∙ length-take-le size bytes (fits size n bytes e) in
+    let row : length (scaled w (take size bytes)) ≡ size = length-map (take size bytes) (byte_product w) ∙ length-take-le size bytes (first_row size n bytes e) in
     get_or-xor (scaled w (take size bytes)) (weighted_sum size ws (rows_of n size (drop size bytes))) k
-    (row ∙ sym (length-weighted_rows size n ws (drop size bytes) (rest size n bytes e)))
-    ∙ ap₂ bit_xor (get_or-scaled w (take size bytes) k) (get_or-weighted_rows size n k ws (drop size bytes) (rest size n bytes e))
+    (row ∙ sym (length-weighted_rows size n ws (drop size bytes) (other_rows size n bytes e)))
+    ∙ ap₂ bit_xor (get_or-scaled w (take size bytes) k) (get_or-weighted_rows size n k ws (drop size bytes) (other_rows size n bytes e))
 
 -- with the powers of x as weights, from that of s on, it is the value times x^s
 dot-powers : (x s : ℕ) (ws cs : List ℕ) → length ws ≡ length cs → ((t : ℕ) → t < length ws → get_or ws t 0 ≡ power x (t + s))

@@ -1,5 +1,5 @@
 -- What makes the split by a threshold a sharing of a secret.
-use Rattle.std.proofs.Common.{◌≡◌, ◌<◌, ◌≤◌, ◌⊎◌, inl, inr, ◌+◌, ◌*◌, ◌/◌, ◌++◌, bit_xor, ℕ, zero, suc, List, [], ◌∷◌, length, map, take, drop, get_or, nat_eq, refl, ap, ap₂, sym, ◌∙◌, arith, length-append, length-drop, lit<}
+use Rattle.std.proofs.Common.{◌≡◌, ◌<◌, ◌≤◌, ◌⊎◌, inl, inr, ◌+◌, ◌*◌, ◌/◌, ◌++◌, bit_xor, ℕ, zero, suc, List, [], ◌∷◌, length, map, take, drop, get_or, nat_eq, refl, ap, ap₂, sym, ◌∙◌, arith, length-append, lit<}
 use Rattle.std.specs.List.{IsDistinct}
 use Rattle.std.specs.Int.Bits.{xor_zero_r, xor_self}
 use Rattle.std.proofs.lemmas.List.{length-take-le, length-map, ext_get_or, take_all, take-append-le, drop-append-le}
@@ -20,7 +20,7 @@ use Rattle.pot_gf.proofs.Values.{added, get_or-added, value-added, value-scaled,
 use Rattle.pot_gf.proofs.Vanishing.{vanishing-first, vanishing-degree, vanishing-zeros}
 use Rattle.pot_split.specs.Secrecy.{rows_of, IsRows}
 use Rattle.pot_split.specs.Threshold.{column, polynomial_at, share, shares_at, IsJoin, changed_rows, explaining, ArePoints}
-use Rattle.pot_split.proofs.ShareLemmas.{length-column, length-share, get_or-share}
+use Rattle.pot_split.proofs.ShareLemmas.{length-column, length-share, get_or-share, first_row, other_rows}
 
 -- rows that stand one behind another are found again
 pub rows_of-append : (n size : ℕ) (row bytes : List ℕ) → length row ≡ size → rows_of (suc n) size (row ++ bytes) ≡ row ∷ rows_of n size bytes
@@ -66,12 +66,6 @@ joins_law content coefficients points joined b c p d some rows enough wide j =
     (λ i l. column-shares content coefficients points k i (omega arith) l
     ∙ ap (λ rows. get_or (column k rows) i 0) (sym (rows-shares_at content coefficients points) ∙ ap (λ s. rows_of (length points) s (shares_at content coefficients points)) (sym wide)))
     ∙ value-at_zero (polynomial_at content coefficients k) (polynomial_bytes content coefficients k b c))
-
-pub first_row : (size n : ℕ) (rows : List ℕ) → length rows ≡ suc n * size → size ≤ length rows
-first_row size n rows e = grind arith
-
-pub other_rows : (size n : ℕ) (rows : List ℕ) → length rows ≡ suc n * size → length (drop size rows) ≡ n * size
-other_rows size n rows e = grind (arith, length-drop)
 
 pub one_row_more : (size n : ℕ) → size + n * size ≡ suc n * size
 one_row_more size n = grind arith

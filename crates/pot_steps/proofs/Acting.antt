@@ -21,11 +21,11 @@ use Rattle.pot_machine.specs.Table.{Table, width, slot_at, column_at, serving_at
 use Rattle.pot_machine.specs.Machine.{Legal, after, with_loss, with_losses, with_column, moved_on, moved_home, TakesRelay}
 use Rattle.pot_machine.specs.Rules.{IsTable, IsStanding}
 use Rattle.std.proofs.lemmas.List.{get_or-set_same}
-use Rattle.pot_machine.proofs.Cases.{same_or}
+use Rattle.std.proofs.lemmas.Bool.{cases_eq}
 use Rattle.pot_machine.proofs.Columns.{column_same, column_other}
 use Rattle.pot_machine.proofs.Kept.{after_keeps}
 use Rattle.pot_machine.proofs.Kept as kept
-use Rattle.pot_machine.proofs.LeftAlone.{sizes_stay, slots_stay, columns_stay}
+use Rattle.pot_machine.proofs.LeftAlone.{sizes_stay, slots_stay, columns_stay, lost_is_not_live}
 use Rattle.pot_machine.proofs.Places.{slot_after, slot_same, slot_other}
 use Rattle.pot_machine.proofs.Searches.{least_none}
 use Rattle.pot_machine.proofs.Sizes.{width-with_losses, stripes-with_losses}
@@ -141,16 +141,10 @@ slots_less t _ n k l = inl refl
 
 -- LIVE SLOTS AND THE ARCHIVES THAT SERVE THEM
 
-pub lost_live : (x : SlotState) → IsTrue (is_live (lost_of x)) → ⊥
-lost_live Void e = absurd (cc)
-lost_live (Live d) e = absurd (cc)
-lost_live (Lost d) e = absurd (cc)
-lost_live (Broken d) e = absurd (cc)
-
 losses_dead : (m : ℕ) (t : Table) (c n : ℕ) → IsTable t → m ≤ t.stripes → c < width t → n < m → IsTrue (is_live (slot_at (with_losses m t c) n c)) → ⊥
 losses_dead zero t c n h le lc lt e = absurd (omega arith)
-losses_dead (suc m) t c n h le lc lt e = elim (same_or n m) [
-  | inl q ↦ lost_live (slot_at (with_losses m t c) m c) (sym (ap is_live (ap (λ j. slot_at (with_losses (suc m) t c) j c) q ∙ written)) ∙ e)
+losses_dead (suc m) t c n h le lc lt e = elim (cases_eq n m) [
+  | inl q ↦ lost_is_not_live (slot_at (with_losses m t c) m c) (sym (ap is_live (ap (λ j. slot_at (with_losses (suc m) t c) j c) q ∙ written)) ∙ e)
   | inr ne ↦ losses_dead m t c n h (omega arith) lc (omega arith) (sym (ap is_live (slot_other (with_losses m t c) m c n c (lost_of (slot_at (with_losses m t c) m c)) wide wide (λ q. ne q.0))) ∙ e)
 ]
   where
@@ -185,7 +179,7 @@ home_serves home (Some m) z n at lt = sym (below n m.upto m.to home z at lt)
     below n u a b z e lt = grind (arith, nat_tests)
 
 serving_changed : (t u : Table) (c n k : ℕ) (x : Column) → column_at u c ≡ x → ((k : ℕ) → k ≢ c → column_at u k ≡ column_at t k) → serving x n ≡ serving_at t n c → serving_at u n k ≡ serving_at t n k
-serving_changed t u c n k x here other e = elim (same_or k c) [
+serving_changed t u c n k x here other e = elim (cases_eq k c) [
   | inl q ↦ subst (λ k. serving_at u n k ≡ serving_at t n k) (sym q) (ap (λ y. serving y n) here ∙ e)
   | inr ne ↦ ap (λ y. serving y n) (other k ne)
 ]
@@ -197,7 +191,7 @@ moved_beside t v c n k same ne = ap (λ y. serving y n) (column_other v c k _ ne
 pub moved_other : (t v : Table) (c s n k : ℕ) → (v.columns ≡ t.columns) → length t.columns ≡ width t → c < width t → IsSomeAnd (column_at t c).moving (λ m. m.upto ≡ s) → (n ≢ s) ⊎ (k ≢ c)
     → serving_at (with_column v c (moved_on (column_at t c))) n k ≡ serving_at t n k
 moved_other t v c s n k same sized lc at (inr ne) = moved_beside t v c n k same ne
-moved_other t v c s n k same sized lc at (inl ne) = elim (same_or k c) [
+moved_other t v c s n k same sized lc at (inl ne) = elim (cases_eq k c) [
   | inl q ↦ subst (λ k. serving_at (with_column v c (moved_on (column_at t c))) n k ≡ serving_at t n k) (sym q)
       (ap (λ y. serving y n) (get_or-set_same v.columns c (moved_on (column_at t c)) no_column (let e : length v.columns ≡ length t.columns = ap length same in omega arith))
       ∙ moved_serves (column_at t c).home (column_at t c).moving s n at ne)
@@ -214,9 +208,9 @@ serving_same t (Mended job s c) n k h l ln lk less live = absurd less
 serving_same t (MoveBegin job c to) n k h l ln lk less live =
     serving_changed t (after t (MoveBegin job c to)) c n k _ (column_same t c _ h.size.columns l.0.0) (λ k ne. column_other t c k _ ne) (begin_serves (column_at t c) to n l.1)
 serving_same t (Moved job s c true) n k h l ln lk less live = absurd less
-serving_same t (Moved job s c false) n k h l ln lk less live = elim (same_or n s) [
-  | inl e ↦ elim (same_or k c) [
-    | inl f ↦ absurd (lost_live (slot_at t s c) (sym (ap is_live (slot_same t s c (lost_of (slot_at t s c)) h.size.slots l.1 l.0.0))
+serving_same t (Moved job s c false) n k h l ln lk less live = elim (cases_eq n s) [
+  | inl e ↦ elim (cases_eq k c) [
+    | inl f ↦ absurd (lost_is_not_live (slot_at t s c) (sym (ap is_live (slot_same t s c (lost_of (slot_at t s c)) h.size.slots l.1 l.0.0))
         ∙ sym (ap₂ (λ n k. is_live (slot_at (with_loss t s c) n k)) e f) ∙ live))
     | inr ne ↦ moved_other t (with_loss t s c) c s n k refl h.size.columns l.0.0 l.0.1 (inr ne)
   ]
@@ -224,7 +218,7 @@ serving_same t (Moved job s c false) n k h l ln lk less live = elim (same_or n s
 ]
 serving_same t (MoveEnd job c) n k h l ln lk less live =
     serving_changed t (after t (MoveEnd job c)) c n k _ (column_same t c _ h.size.columns l.0) (λ k ne. column_other t c k _ ne) (home_serves (column_at t c).home (column_at t c).moving t.stripes n l.1 ln)
-serving_same t (Swapped job c to) n k h l ln lk less live = elim (same_or k c) [
+serving_same t (Swapped job c to) n k h l ln lk less live = elim (cases_eq k c) [
   | inl f ↦ absurd (losses_dead t.stripes t c n h (omega arith) l.0 ln (subst (λ j. IsTrue (is_live (slot_at (with_losses t.stripes t c) n j))) f live))
   | inr ne ↦ ap (λ y. serving y n) (columns_stay t (Swapped job c to) k ne)
 ]
@@ -269,8 +263,8 @@ unbroken_by t u h h' n slots k d lk e = broken_before (slot_at t n k) (slot_at u
 copied : (t : Table) (job s c : ℕ) (h h' : Holdings) (n : ℕ) → IsTable t → Legal t (Moved job s c true) → Copies t (after t (Moved job s c true)) h h' s c → n < t.stripes
     → Worse t.data_columns t.parity (stripe_of t h n) (stripe_of (after t (Moved job s c true)) h' n)
 copied t job s c h h' n table legal copies ln = worse_after t.data_columns t.parity (stripe_of t h n) (stripe_of (after t (Moved job s c true)) h' n)
-    (λ k lk. inl refl) (λ k b lk live held. elim (same_or n s) [
-      | inl p ↦ elim (same_or k c) [
+    (λ k lk. inl refl) (λ k b lk live held. elim (cases_eq n s) [
+      | inl p ↦ elim (cases_eq k c) [
         | inl q ↦ ap₂ (λ n k. held_at t h n k) p q ∙ copies.sound.held ∙ sym copies.written ∙ sym (ap₂ (λ n k. held_at (after t (Moved job s c true)) h' n k) p q) ∙ held
         | inr ne ↦ beside k lk (inr ne) ∙ held
       ]
@@ -293,9 +287,9 @@ StaysOrEnds old new n = (flight_in new n ≡ flight_in old n) ⊎ (flight_in new
 less_flight : (t : Table) (e : Entry) (given : List ℕ) (flights : List Flight) (n : ℕ) → EndsOrStays e → StaysOrEnds flights (flights_after t e given flights) n
 less_flight t (Begin job s c) given flights n l = absurd l
 less_flight t (Hop job s c) given flights n l = absurd l
-less_flight t (Mended job s c) given flights n l = elim (same_or n s) [ inl q ↦ inr (ap (flight_in (flights_after t (Mended job s c) given flights)) q ∙ ended_here flights s) | inr ne ↦ inl (flights_stay t (Mended job s c) given flights n ne) ]
-less_flight t (GaveUp job s c other) given flights n l = elim (same_or n s) [ inl q ↦ inr (ap (flight_in (flights_after t (GaveUp job s c other) given flights)) q ∙ ended_here flights s) | inr ne ↦ inl (flights_stay t (GaveUp job s c other) given flights n ne) ]
-less_flight t (Oddly job s c found) given flights n l = elim (same_or n s) [ inl q ↦ inr (ap (flight_in (flights_after t (Oddly job s c found) given flights)) q ∙ ended_here flights s) | inr ne ↦ inl (flights_stay t (Oddly job s c found) given flights n ne) ]
+less_flight t (Mended job s c) given flights n l = elim (cases_eq n s) [ inl q ↦ inr (ap (flight_in (flights_after t (Mended job s c) given flights)) q ∙ ended_here flights s) | inr ne ↦ inl (flights_stay t (Mended job s c) given flights n ne) ]
+less_flight t (GaveUp job s c other) given flights n l = elim (cases_eq n s) [ inl q ↦ inr (ap (flight_in (flights_after t (GaveUp job s c other) given flights)) q ∙ ended_here flights s) | inr ne ↦ inl (flights_stay t (GaveUp job s c other) given flights n ne) ]
+less_flight t (Oddly job s c found) given flights n l = elim (cases_eq n s) [ inl q ↦ inr (ap (flight_in (flights_after t (Oddly job s c found) given flights)) q ∙ ended_here flights s) | inr ne ↦ inl (flights_stay t (Oddly job s c found) given flights n ne) ]
 less_flight t _ given flights n l = inl refl
 
 -- EACH ENTRY, STRIPE BY STRIPE
@@ -334,14 +328,14 @@ begin_beside t s c takes k d lk ne e = not_broken (slot_at t s k) d (beside k c 
     beside k c false ne h = refl
 
 begin_unbroken : (t : Table) (h : Holdings) (s c : ℕ) → TakesRelay t s c → t.parity ≡ 2 → NoneBroken t.data_columns t.parity (stripe_of t h s)
-begin_unbroken t h s c takes two k d lk e = elim (same_or k c) [
+begin_unbroken t h s c takes two k d lk e = elim (cases_eq k c) [
   | inl q ↦ lost_unbroken (slot_at t s c) d (elim takes.1 [ inl l ↦ l | inr b ↦ absurd (let one : t.parity ≡ 1 = b.1 in omega arith) ]) (sym (ap (λ k. slot_at t s k) q) ∙ e)
   | inr ne ↦ begin_beside t s c takes k d lk ne e
 ]
 
 good_begin : (t : Table) (job s c : ℕ) (flights : List Flight) (given : List ℕ) (h h' : Holdings) (n : ℕ) → TakesRelay t s c → IsBlock given → LosesAtLive t h h' → Stands t h flights → n < t.stripes
     → Good t.data_columns t.parity (stripe_of t h' n) (flight_in (flights ++ begun t s c given ∷ []) n)
-good_begin t job s c flights given h h' n takes block loses x ln = elim (same_or n s) [
+good_begin t job s c flights given h h' n takes block loses x ln = elim (cases_eq n s) [
   | inl q ↦ subst (λ n. Good t.data_columns t.parity (stripe_of t h' n) (flight_in (flights ++ begun t s c given ∷ []) n)) (sym q)
       (subst (λ o. Good t.data_columns t.parity (stripe_of t h' s) o) (sym (begun_here flights (begun t s c given) none)) (
         (λ unbroken some. law unbroken (inr few)),
@@ -397,7 +391,7 @@ hop_flies t job s c flights given h f over next folds x =
 
 good_hop : (t : Table) (job s c : ℕ) (flights : List Flight) (given : List ℕ) (h h' : Holdings) (n : ℕ) → Legal t (Hop job s c) → Acts t flights given (Hop job s c) h h' → Stands t h flights → n < t.stripes
     → Good t.data_columns t.parity (stripe_of t h' n) (flight_in (map (flown s c given) flights) n)
-good_hop t job s c flights given h h' n legal acts x ln = elim (same_or n s) [
+good_hop t job s c flights given h h' n legal acts x ln = elim (cases_eq n s) [
   | inl q ↦ subst (λ n. Good t.data_columns t.parity (stripe_of t h' n) (flight_in (map (flown s c given) flights) n)) (sym q)
       (subst (λ o. Good t.data_columns t.parity (stripe_of t h' s) o) (sym (flown_in flights s c s given))
       (here (flight_in flights s) refl acts.0 (relay_at t s) refl legal.1 (good_at t h flights s x legal.0.0)))
@@ -446,7 +440,7 @@ find_all P test (y ∷ xs) x all e = step (λ q. find_all P test xs x (All-tail 
 
 good_mended : (t : Table) (job s c : ℕ) (flights : List Flight) (given : List ℕ) (h h' : Holdings) (n : ℕ) → Legal t (Mended job s c) → Acts t flights given (Mended job s c) h h' → Stands t h flights → n < t.stripes
     → Good t.data_columns t.parity (stripe_of (after t (Mended job s c)) h' n) (flight_in (flights_after t (Mended job s c) given flights) n)
-good_mended t job s c flights given h h' n legal acts x ln = elim (same_or n s) [
+good_mended t job s c flights given h h' n legal acts x ln = elim (cases_eq n s) [
   | inl q ↦ subst (λ n. Good t.data_columns t.parity (stripe_of (after t (Mended job s c)) h' n) (flight_in (flights_after t (Mended job s c) given flights) n)) (sym q)
       (subst (λ o. Good t.data_columns t.parity (stripe_of (after t (Mended job s c)) h' s) o) (sym (ended_here flights s))
       (here (flight_in flights s) refl acts (relay_at t s) refl legal.1 (x.flying s legal.0.0), tt))

@@ -1,5 +1,6 @@
 -- Each entry keeps the law of the Live slots.
 use Rattle.std.proofs.Common.{◌≡◌, ◌≢◌, ◌⊎◌, inl, inr, ℕ, ◌<◌, List, Option, Some, None, IsSomeAnd, true, false, IsTrue, refl, sym, ap, ◌∙◌, subst, arith}
+use Rattle.std.proofs.lemmas.Bool.{cases_eq}
 use Rattle.pot_bytes.specs.declared.digest.Digest.{Digest}
 use Rattle.pot_machine.specs.declared.slot.SlotState.{SlotState}
 use Rattle.pot_machine.specs.declared.slot.SlotState.TheVariants.{Live}
@@ -9,8 +10,7 @@ use Rattle.pot_machine.specs.Slot.{is_live, live_of}
 use Rattle.pot_machine.specs.Table.{Table, width, slot_at, serving_at}
 use Rattle.pot_machine.specs.Machine.{Legal, after}
 use Rattle.pot_machine.specs.Rules.{IsTable}
-use Rattle.pot_machine.proofs.Cases.{same_or}
-use Rattle.pot_machine.proofs.LeftAlone.{sizes_stay}
+use Rattle.pot_machine.proofs.LeftAlone.{sizes_stay, lost_is_not_live}
 use Rattle.pot_machine.proofs.Places.{slot_same, slot_other}
 use Rattle.pot_steps.specs.Stripe.{Sound, digest_of}
 use Rattle.pot_steps.specs.declared.flight.Flight.{Flight}
@@ -19,14 +19,14 @@ use Rattle.pot_steps.specs.Holdings.{Holdings, LiveLaw, stripe_of}
 use Rattle.pot_steps.specs.Entries.{held_at}
 use Rattle.pot_steps.specs.Flights.{Acts, WritesBack, Copies, flight_in}
 use Rattle.pot_steps.specs.Losses.{KeepsHeld, ActKeepsLive}
-use Rattle.pot_steps.proofs.Acting.{Lessens, slots_less, serving_same, moved_other, live_of_digest, lost_live}
+use Rattle.pot_steps.proofs.Acting.{Lessens, slots_less, serving_same, moved_other, live_of_digest}
 use Rattle.pot_steps.proofs.Changes.{LostOrSame, live_before}
 use Rattle.pot_steps.proofs.Losses.{entry_keeps_live}
 
 -- a slot that is Live afterwards was Live with the same digest
 same_live : (x y : SlotState) (d : Digest) → LostOrSame x y → IsTrue (is_live y) → x ≡ Live d → y ≡ Live d
 same_live x y d (inl e) l h = e ∙ h
-same_live x y d (inr e) l h = absurd (lost_live x (sym (ap is_live e) ∙ l))
+same_live x y d (inr e) l h = absurd (lost_is_not_live x (sym (ap is_live e) ∙ l))
 
 -- one place that stays as it was
 module _ (t u : Table) (h h' : Holdings) (rose : ℕ → Type 0) (n k : ℕ) (slot : LostOrSame (slot_at t n k) (slot_at u n k)) (serves : serving_at u n k ≡ serving_at t n k)
@@ -55,8 +55,8 @@ module _ (rose : ℕ → Type 0) (t : Table) (flights : List Flight) (given : Li
       (λ b l x. keeps n k b ln' lk' l x) (law n k ln' lk') live
 
   mended_live : (job s c : ℕ) → Legal t (Mended job s c) → Acts t flights given (Mended job s c) h h' → LiveLaw (after t (Mended job s c)) h' rose
-  mended_live job s c legal acts n k ln lk live = elim (same_or n s) [
-    | inl p ↦ elim (same_or k c) [
+  mended_live job s c legal acts n k ln lk live = elim (cases_eq n s) [
+    | inl p ↦ elim (cases_eq k c) [
       | inl q ↦ subst (λ n. Sound (stripe_of (after t (Mended job s c)) h' n) k ⊎ rose (serving_at (after t (Mended job s c)) n k)) (sym p)
           (subst (λ k. Sound (stripe_of (after t (Mended job s c)) h' s) k ⊎ rose (serving_at (after t (Mended job s c)) s k)) (sym q) (here (flight_in flights s) acts))
       | inr ne ↦ beside (inr ne) (slot_other t s c n k (live_of (slot_at t s c)) legal.0.1 lk (λ e. ne e.1))
@@ -84,8 +84,8 @@ module _ (rose : ℕ → Type 0) (t : Table) (flights : List Flight) (given : Li
       beside apart same = place_stays t (after t (Mended job s c)) h h' rose n k (inl same) refl (λ b l x. others (flight_in flights s) acts apart ∙ x) (law n k ln lk) live
 
   copied_live : (job s c : ℕ) → Legal t (Moved job s c true) → Copies t (after t (Moved job s c true)) h h' s c → LiveLaw (after t (Moved job s c true)) h' rose
-  copied_live job s c legal copies n k ln lk live = elim (same_or n s) [
-    | inl p ↦ elim (same_or k c) [
+  copied_live job s c legal copies n k ln lk live = elim (cases_eq n s) [
+    | inl p ↦ elim (cases_eq k c) [
       | inl q ↦ subst (λ n. Sound (stripe_of (after t (Moved job s c true)) h' n) k ⊎ rose (serving_at (after t (Moved job s c true)) n k)) (sym p)
           (subst (λ k. Sound (stripe_of (after t (Moved job s c true)) h' s) k ⊎ rose (serving_at (after t (Moved job s c true)) s k)) (sym q)
           (inl (copies.block, record { digest = copies.sound.digest; live = copies.sound.live; held = copies.written; right = copies.sound.right })))

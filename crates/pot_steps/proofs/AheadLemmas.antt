@@ -2,19 +2,15 @@
 use Rattle.std.proofs.Common.{◌≡◌, ◌≢◌, ◌⊎◌, inl, inr, ℕ, zero, suc, ◌+◌, ◌<◌, ◌≤◌, Option, Some, None, IfSome, Bool, true, false, not, ◌&&◌, nat_lt, nat_le, refl, sym, ap, ap₂, ◌∙◌, arith, if◌then◌else◌}
 use Rattle.std.specs.Prelude.{◌==◌}
 use Rattle.std.proofs.lemmas.Bool.Decides.{nat_tests}
+use Rattle.std.proofs.lemmas.Bool.{and_parts, and_right, and_left}
+use Rattle.pot_bytes.proofs.Basis.{last_or}
 use Rattle.pot_machine.specs.declared.relay.Relay.{Relay}
 use Rattle.pot_machine.specs.Slot.{is_void}
 use Rattle.pot_machine.specs.Table.{Table, width, slot_at, count, is_after, is_ahead, skipped}
 use Rattle.pot_machine.specs.Rules.{IsStanding}
-use Rattle.pot_machine.proofs.Cases.{last_or}
-use Rattle.pot_machine.proofs.Searches.{least_some, least_none}
+use Rattle.pot_machine.proofs.Searches.{least_some, least_none, count_none, count_most}
 use Rattle.pot_steps.specs.Flight.{hopped}
 use Rattle.pot_steps.specs.Ahead.{AheadFew, AheadHops, AheadNone}
-
-count_none : (n : ℕ) (test : ℕ → Bool) → ((k : ℕ) → k < n → test k ≡ false) → count n test ≡ 0
-unfolding count
-count_none zero test h = refl
-count_none (suc n) test h = rw (h n (omega arith)) (let ih : count n test ≡ 0 = count_none n test (λ k l. h k (omega arith)) in omega arith)
 
 pub count_same : (n : ℕ) (f g : ℕ → Bool) → ((k : ℕ) → k < n → f k ≡ g k) → count n f ≡ count n g
 unfolding count
@@ -29,15 +25,6 @@ count_one (suc n) f g c lt t e h = elim (last_or c n lt) [
   | inl q ↦ rw (← q, t, e) (let s : count c f ≡ count c g = count_same c f g (λ k l. h k (omega arith) (omega arith)) in omega arith)
   | inr l ↦ rw (h n (omega arith) (omega arith)) (let s : count n f ≡ count n g + 1 = count_one n f g c l t e (λ k m ne. h k (omega arith) ne) in omega (arith, s))
 ]
-
-count_most : (n : ℕ) (test : ℕ → Bool) → count n test ≤ n
-unfolding count
-count_most zero test = omega arith
-count_most (suc n) test = let ih : count n test ≤ n = count_most n test in let h : (if test n then 1 else 0) ≤ 1 = one (test n) in omega arith
-  where
-    one : (b : Bool) → (if b then 1 else 0) ≤ 1
-    one true = omega arith
-    one false = omega arith
 
 -- a test that fails at a number, and at two
 count_but : (n : ℕ) (test : ℕ → Bool) (t : ℕ) → t < n → test t ≡ false → count n test + 1 ≤ n
@@ -76,14 +63,6 @@ pub after_more : (last : Option ℕ) (c k : ℕ) → is_after last c ≡ true �
 after_more None c k h l = refl
 after_more (Some a) c k h l = grind (arith, nat_tests)
 
-pub and_first : (a b : Bool) → a && b ≡ true → a ≡ true
-and_first true b h = refl
-and_first false b h = h
-
-and_false : (a b : Bool) → a ≡ false → a && b ≡ false
-and_false true b h = absurd (cc)
-and_false false b h = refl
-
 below_not : (c k : ℕ) → k ≤ c → nat_lt c k ≡ false
 below_not c k l = grind (arith, nat_tests)
 
@@ -94,9 +73,9 @@ pub ahead_hops : AheadHops
 ahead_hops t r c e =
     let f : (c < width t) × (is_ahead t r c ≡ true) × ((j : ℕ) → j < c → is_ahead t r j ≡ false) = least_some (width t) (is_ahead t r) c e in
     let rest : ℕ → Bool = λ k. not (k == r.target) && (not (k == skipped t.data_columns r.skip r.target) && not (is_void (slot_at t r.stripe k))) in
-    let at : is_after r.last c ≡ true = and_first (is_after r.last c) (rest c) f.1 in
-    count_one (width t) (is_ahead t r) (is_ahead t (hopped r c)) c f.0 f.1 (and_false (nat_lt c c) (rest c) (below_not c c (omega arith))) (λ k l ne. elim (either k c ne) [
-      | inl lt ↦ f.2 k lt ∙ sym (and_false (nat_lt c k) (rest k) (below_not c k (omega arith)))
+    let at : is_after r.last c ≡ true = (and_parts (is_after r.last c) (rest c) f.1).0 in
+    count_one (width t) (is_ahead t r) (is_ahead t (hopped r c)) c f.0 f.1 (and_left (nat_lt c c) (rest c) (below_not c c (omega arith))) (λ k l ne. elim (either k c ne) [
+      | inl lt ↦ f.2 k lt ∙ sym (and_left (nat_lt c k) (rest k) (below_not c k (omega arith)))
       | inr gt ↦ ap (λ b. b && rest k) (after_more r.last c k at gt ∙ sym (above_is c k gt))
     ])
   where
@@ -105,18 +84,14 @@ ahead_hops t r c e =
 
 -- AT MOST C
 
-third : (a b : Bool) → b ≡ false → a && b ≡ false
-third true b h = h
-third false b h = refl
-
 at_target : (t : Table) (r : Relay) → is_ahead t r r.target ≡ false
-at_target t r = third (is_after r.last r.target) _ (and_false (not (r.target == r.target)) _ (itself r.target))
+at_target t r = and_right (is_after r.last r.target) _ (and_left (not (r.target == r.target)) _ (itself r.target))
   where
     itself : (a : ℕ) → not (a == a) ≡ false
     itself a = grind (arith, nat_tests)
 
 at_skipped : (t : Table) (r : Relay) (u : ℕ) → u ≡ skipped t.data_columns r.skip r.target → is_ahead t r u ≡ false
-at_skipped t r u e = third (is_after r.last u) _ (third (not (u == r.target)) _ (and_false (not (u == skipped t.data_columns r.skip r.target)) _ (itself u (skipped t.data_columns r.skip r.target) e)))
+at_skipped t r u e = and_right (is_after r.last u) _ (and_right (not (u == r.target)) _ (and_left (not (u == skipped t.data_columns r.skip r.target)) _ (itself u (skipped t.data_columns r.skip r.target) e)))
   where
     itself : (a b : ℕ) → a ≡ b → not (a == b) ≡ false
     itself a b e = grind (arith, nat_tests)
@@ -131,7 +106,7 @@ skipped_at t r two s = by r.skip s.skip
     by None h = none t.data_columns t.parity r.target two
     by (Some u) h = (h.0, λ e. h.1 (sym e))
 
-one_or_two : (n : ℕ) → 1 ≤ n → n ≤ 2 → (n ≡ 1) ⊎ (n ≡ 2)
+pub one_or_two : (n : ℕ) → 1 ≤ n → n ≤ 2 → (n ≡ 1) ⊎ (n ≡ 2)
 one_or_two n a b = grind arith
 
 pub ahead_few : AheadFew

@@ -1,8 +1,7 @@
 -- The bytes of blocks.
-use Rattle.std.proofs.Common.{◌≡◌, ℕ, sym, ◌∙◌, lit<, inl, inr, List, get_or, replicate}
-use Rattle.std.proofs.lemmas.Bool.{cases_lt}
+use Rattle.std.proofs.Common.{◌≡◌, ℕ, sym, ◌∙◌, lit<, List, get_or}
 use Rattle.std.proofs.lemmas.Nat.{xor_of_8}
-use Rattle.std.proofs.lemmas.List.{get_or-replicate, length-replicate, length-map, get_or_past}
+use Rattle.std.proofs.lemmas.List.{length-map}
 use Rattle.std.proofs.lemmas.Grind.{same_number_lists}
 use Rattle.pot_bytes.specs.Product.{byte_product}
 use Rattle.pot_bytes.specs.Sums.{xor, zero_block}
@@ -11,13 +10,11 @@ use Rattle.pot_bytes.proofs.ProductLemmas.{byte_product-below}
 use Rattle.pot_bytes.proofs.SumLemmas.{length-zero_block, length-xor}
 use Rattle.pot_bytes.proofs.WeightedLemmas.{get_or-xor, get_or-scaled}
 use Rattle.pot_bytes.specs.Lists.{IsBlock}
-
-replicate_zero : (n k : ℕ) → get_or {A = ℕ} (replicate n 0) k 0 ≡ 0
-replicate_zero n k = elim (cases_lt k n) [ inl l ↦ get_or-replicate n k 0 0 l | inr g ↦ get_or_past (replicate n 0) k 0 (rw length-replicate g) ]
+use Rattle.pot_gf.proofs.Built.{zeros-below}
 
 pub get_or-zero_block : (k : ℕ) → get_or zero_block k 0 ≡ 0
 unfolding zero_block
-get_or-zero_block k = replicate_zero 1024 k
+get_or-zero_block k = zeros-below 1024 k
 
 pub IsBlock-zero_block : IsBlock zero_block
 IsBlock-zero_block = record { size = length-zero_block; bytes = λ k. rw get_or-zero_block (lit< tt) }

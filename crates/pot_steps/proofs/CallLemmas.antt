@@ -15,6 +15,7 @@ use Rattle.std.proofs.Common.{bit_xor, get_or, length}
 use Rattle.std.proofs.lemmas.List.{length-map}
 use Rattle.std.specs.Int.Bits.{xor_assoc, xor_self, xor_zero_r, xor_zero_l}
 use Rattle.std.proofs.lemmas.Nat.{xor_comm}
+use Rattle.std.proofs.lemmas.Bool.{cases_eq}
 use Rattle.pot_bytes.specs.declared.digest.Digest.{Digest}
 use Rattle.pot_bytes.specs.Digests.{digest_bytes}
 use Rattle.pot_bytes.specs.Product.{byte_product}
@@ -27,7 +28,6 @@ use Rattle.pot_gf.proofs.FieldLemmas.{byte_product-assoc, byte_product-inverse}
 use Rattle.pot_bytes.specs.Lists.{IsBlock}
 use Rattle.pot_steps.specs.Stripe.{digest_of}
 use Rattle.pot_steps.proofs.BlockLemmas.{IsBlock-zero_block, IsBlock-xor, IsBlock-scaled, get_or-zero_block, same_blocks}
-use Rattle.pot_machine.proofs.Cases.{same_or}
 use Rattle.pot_steps.specs.declared.flight.Flight.{Flight}
 use Rattle.pot_steps.specs.Stripe.{Filling, NoneBroken}
 use Rattle.pot_steps.specs.Flights.{IsFlying}
@@ -190,7 +190,7 @@ lost_rebuilt t h f d table here next fly lost =
     ap digest_of same ∙ filled.1.digest f.relay.target d (stands t f.relay table here).target (ap digest_in lost)
   where
     none_broken : NoneBroken t.data_columns t.parity (stripe_of t h f.relay.stripe)
-    none_broken k e lk b = elim (same_or k f.relay.target) [
+    none_broken k e lk b = elim (cases_eq k f.relay.target) [
       | inl q ↦ apart (sym lost ∙ sym (ap (λ k. slot_at t f.relay.stripe k) q) ∙ b)
       | inr ne ↦ fly.beside k e lk ne b
     ]

@@ -2,6 +2,7 @@
 use Rattle.std.proofs.Common.{◌≡◌, ◌≢◌, ◌⊎◌, ℕ, suc, ◌+◌, ◌<◌, ◌≤◌, bit_xor, sym, ap, ap₂, ◌∙◌, arith, List, Some, None, inl, inr, subst, get_or, nat_eq, if◌then◌else◌}
 use Rattle.std.proofs.lemmas.Bool.Decides.{nat_tests}
 use Rattle.std.specs.Int.Bits.{xor_zero_r, xor_zero_l}
+use Rattle.std.proofs.lemmas.Bool.{cases_eq}
 use Rattle.pot_bytes.specs.declared.digest.Digest.{Digest}
 use Rattle.pot_bytes.specs.Totals.{total}
 use Rattle.pot_bytes.specs.Product.{byte_product}
@@ -20,12 +21,11 @@ use Rattle.pot_steps.proofs.BlockLemmas.{same_blocks}
 use Rattle.pot_steps.proofs.Relays.{weight-target, weight-left_out, p-low_q, q-low_q}
 use Rattle.pot_steps.proofs.Rebuilt.{combined, balanced, p_weight-below, q_weight-below}
 use Rattle.pot_steps.proofs.Solved.{solved, whole_sum, total-below}
-use Rattle.pot_machine.proofs.Cases.{same_or}
 
-left_in : (c t x : ℕ) → c ≢ t → (if nat_eq c t then 0 else x) ≡ x
+pub left_in : (c t x : ℕ) → c ≢ t → (if nat_eq c t then 0 else x) ≡ x
 left_in c t x ne = grind (arith, nat_tests)
 
-left_out_of : (t x : ℕ) → (if nat_eq t t then 0 else x) ≡ 0
+pub left_out_of : (t x : ℕ) → (if nat_eq t t then 0 else x) ≡ 0
 left_out_of t x = grind (arith, nat_tests)
 
 -- a block that was read serves
@@ -68,7 +68,7 @@ module _ (data_columns parity : ℕ) (few : parity ≤ 2) (one : 1 ≤ parity) (
       let n : ℕ = data_columns + parity in
       let all : ℕ → ℕ = λ c. byte_product (weight data_columns t u c) (get_or (f c) k 0) in
       let rest : ℕ → ℕ = λ c. if nat_eq c t then 0 else byte_product (weight data_columns t u c) (get_or (base c) k 0) in
-      let others : (c : ℕ) → c < n → c ≢ t → all c ≡ rest c = (λ c lt nt. elim (same_or c u) [
+      let others : (c : ℕ) → c < n → c ≢ t → all c ≡ rest c = (λ c lt nt. elim (cases_eq c u) [
         | inl e ↦ subst (λ c. all c ≡ rest c) (sym e) (
             ap (λ w. byte_product w (get_or (f u) k 0)) (weight-left_out data_columns t u small ne t_le u_in) ∙ byte_product-zero_left (get_or (f u) k 0)
             ∙ sym (left_in u t _ ne ∙ ap (λ w. byte_product w (get_or (base u) k 0)) (weight-left_out data_columns t u small ne t_le u_in) ∙ byte_product-zero_left (get_or (base u) k 0)))
@@ -106,9 +106,9 @@ module _ (data_columns parity : ℕ) (few : parity ≤ 2) (one : 1 ≤ parity) (
         at c t u x y z nt nu = grind (arith, nat_tests)
 
     each : (P : ℕ → List ℕ → Type 0) → P t x → (parity ≡ 2 → P u y) → ((c : ℕ) → c < data_columns + parity → c ≢ t → c ≢ u → P c (base c)) → (c : ℕ) → c < data_columns + parity → P c (made c)
-    each P at_t at_u others c lt = elim (same_or c t) [
+    each P at_t at_u others c lt = elim (cases_eq c t) [
       | inl e ↦ subst (λ c. P c (made c)) (sym e) (subst (P t) (sym made_t) at_t)
-      | inr nt ↦ elim (same_or c u) [
+      | inr nt ↦ elim (cases_eq c u) [
         | inl e ↦ subst (λ c. P c (made c)) (sym e) (subst (P u) (sym made_u) (at_u (two parity few one (λ h. (let g : data_columns < u = single h in absurd (omega arith))))))
         | inr nu ↦ subst (P c) (sym (made_other c nt nu)) (others c lt nt nu)
       ]
@@ -123,7 +123,7 @@ module _ (data_columns parity : ℕ) (few : parity ≤ 2) (one : 1 ≤ parity) (
     sum_t : (k : ℕ) → total (data_columns + parity) (λ c. byte_product (weight data_columns t u c) (get_or (made c) k 0)) ≡ 0
     sum_t k = whole_sum (data_columns + parity) (weight data_columns t u) (λ c. get_or (made c) k 0) t t_in (weight-target data_columns t u small ne t_le u_in) ((made_block t t_in).bytes k)
         (λ c. if nat_eq c t then 0 else byte_product (weight data_columns t u c) (get_or (base c) k 0)) (left_out_of t _)
-        (λ c lt nt. left_in c t _ nt ∙ elim (same_or c u) [
+        (λ c lt nt. left_in c t _ nt ∙ elim (cases_eq c u) [
           | inl e ↦ subst (λ c. byte_product (weight data_columns t u c) (get_or (base c) k 0) ≡ byte_product (weight data_columns t u c) (get_or (made c) k 0)) (sym e)
               (ap (λ w. byte_product w (get_or (base u) k 0)) (weight-left_out data_columns t u small ne t_le u_in) ∙ byte_product-zero_left (get_or (base u) k 0)
               ∙ sym (ap (λ w. byte_product w (get_or (made u) k 0)) (weight-left_out data_columns t u small ne t_le u_in) ∙ byte_product-zero_left (get_or (made u) k 0)))
@@ -137,7 +137,7 @@ module _ (data_columns parity : ℕ) (few : parity ≤ 2) (one : 1 ≤ parity) (
         let back : t ≢ u = (λ h. ne (sym h)) in
         whole_sum (data_columns + parity) (weight data_columns u t) (λ c. get_or (made c) k 0) u u_lt (weight-target data_columns u t small back u_in t_le) ((made_block u u_lt).bytes k)
         (λ c. if nat_eq c u then 0 else byte_product (weight data_columns u t c) (get_or (base c) k 0)) (left_out_of u _)
-        (λ c lt nu. left_in c u _ nu ∙ elim (same_or c t) [
+        (λ c lt nu. left_in c u _ nu ∙ elim (cases_eq c t) [
           | inl h ↦ subst (λ c. byte_product (weight data_columns u t c) (get_or (base c) k 0) ≡ byte_product (weight data_columns u t c) (get_or (made c) k 0)) (sym h)
               (ap (λ w. byte_product w (get_or (base t) k 0)) (weight-left_out data_columns u t small back u_in t_le) ∙ byte_product-zero_left (get_or (base t) k 0)
               ∙ sym (ap (λ w. byte_product w (get_or (made t) k 0)) (weight-left_out data_columns u t small back u_in t_le) ∙ byte_product-zero_left (get_or (made t) k 0)))

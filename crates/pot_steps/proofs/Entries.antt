@@ -1,6 +1,7 @@
 -- Each entry of a put, a look, an opening or a count is a step of each stripe.
 use Rattle.std.proofs.Common.{◌≡◌, ◌≢◌, ◌⊎◌, inl, inr, ℕ, suc, ◌+◌, ◌<◌, List, Option, Some, None, Bool, true, false, IsTrue, refl, sym, ap, ◌∙◌, subst, arith, nat_le}
 use Rattle.std.proofs.lemmas.Bool.Decides.{nat_tests}
+use Rattle.std.proofs.lemmas.Bool.{cases_eq}
 use Rattle.pot_bytes.specs.declared.digest.Digest.{Digest}
 use Rattle.pot_bytes.specs.Sums.{xor}
 use Rattle.pot_bytes.specs.Weighted.{scaled}
@@ -23,7 +24,6 @@ use Rattle.pot_steps.specs.Entries.{held_at, LosesAtLive, WritesStripe, EntryKee
 use Rattle.pot_steps.proofs.Steps.{worse_keeps, worse_keeps_flight}
 use Rattle.pot_steps.proofs.PutLaw.{put_keeps_law}
 use Rattle.pot_steps.proofs.Changes.{worse_from}
-use Rattle.pot_machine.proofs.Cases.{same_or}
 
 -- A STRIPE WHOSE SLOTS STAY OR BECOME LOST
 
@@ -53,7 +53,7 @@ broken (Broken d) h = (d, refl)
 
 broke : (t : Table) (h h' : Holdings) (s c n : ℕ) → IsTable t → s < t.stripes → c < width t → TakesBroke t s c → n < t.stripes → LosesAtLive t h h' → HoldsUp t h
     → StripeLaw t.data_columns t.parity (stripe_of (with_slot t s c (broken_of (slot_at t s c))) h' n) (relay_at t n)
-broke t h h' s c n table ls lc takes lt loses up = elim (same_or n s) [
+broke t h h' s c n table ls lc takes lt loses up = elim (cases_eq n s) [
   | inl e ↦ subst (λ n. StripeLaw t.data_columns t.parity (stripe_of (with_slot t s c (broken_of (slot_at t s c))) h' n) (relay_at t n)) (sym e)
       (λ none few. (let b : (d : Digest) × (broken_of (slot_at t s c) ≡ Broken d) = broken (slot_at t s c) takes in
       absurd (none c b.0 lc (slot_same t s c (broken_of (slot_at t s c)) table.size.slots ls lc ∙ b.1))))
@@ -131,7 +131,7 @@ module _ (t : Table) (h h' : Holdings) (s c : ℕ) (digest parity_digest : Diges
 
   put_step : (u : Table) (n : ℕ) → ((n : ℕ) → n < t.stripes → n ≢ s → Worse t.data_columns t.parity (stripe_of t h n) (stripe_of u h' n))
       → Puts t.data_columns t.parity (stripe_of t h s) (stripe_of u h' s) c block p q → HoldsUp t h → n < t.stripes → StripeLaw t.data_columns t.parity (stripe_of u h' n) (relay_at t n)
-  put_step u n others puts up ln = elim (same_or n s) [
+  put_step u n others puts up ln = elim (cases_eq n s) [
     | inl e ↦ subst (λ n. StripeLaw t.data_columns t.parity (stripe_of u h' n) (relay_at t n)) (sym e)
         (subst (λ o. StripeLaw t.data_columns t.parity (stripe_of u h' s) o) (sym takes.2.0)
         (put_keeps_law t.data_columns t.parity (stripe_of t h s) (stripe_of u h' s) c block p q table.size.data_columns.1 table.size.parity.1 table.size.parity.0

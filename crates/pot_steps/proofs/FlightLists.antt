@@ -1,13 +1,14 @@
 -- The flights of a group as a list, beside the relays of its table.
-use Rattle.std.proofs.Common.{◌≡◌, ◌≢◌, ℕ, zero, suc, Bool, true, false, not, Option, Some, None, List, [], ◌∷◌, ◌++◌, map, filter, cond, refl, sym, ap, ◌∙◌, arith, if◌then◌else◌}
+use Rattle.std.proofs.Common.{◌≡◌, ◌≢◌, ℕ, Bool, true, false, not, Option, Some, None, List, [], ◌∷◌, ◌++◌, map, filter, cond, refl, sym, ap, ◌∙◌, arith, if◌then◌else◌}
 use Rattle.std.specs.Prelude.{◌==◌}
 use Rattle.std.proofs.lemmas.Bool.Decides.{nat_tests}
 use Rattle.pot_machine.specs.declared.relay.Relay.{Relay}
 use Rattle.pot_machine.specs.declared.entry.Entry.{Entry}
 use Rattle.pot_machine.specs.declared.entry.Entry.TheVariants.{Begin, Hop, Mended, GaveUp, Oddly, Moved, Swapped}
 use Rattle.pot_machine.specs.Table.{Table, relay_at, relay_in}
-use Rattle.pot_machine.specs.Machine.{after, hopped, with_losses}
+use Rattle.pot_machine.specs.Machine.{after, hopped}
 use Rattle.pot_machine.specs.Laws.{ChangesRelay}
+use Rattle.pot_machine.proofs.LeftAlone.{relays-with_losses}
 use Rattle.pot_steps.specs.declared.flight.Flight.{Flight}
 use Rattle.pot_steps.specs.Flights.{AreFlights, flight_in, flights_after, flown, without_flight, begun}
 
@@ -35,10 +36,6 @@ relays-without s (x ∷ flights) = step (relays-without s flights) (not (x.relay
     step : relays_of (without_flight flights s) ≡ filter (λ r. not (r.stripe == s)) (relays_of flights) → (b : Bool) → relays_of (cond b (x ∷ without_flight flights s) (without_flight flights s)) ≡ cond b (x.relay ∷ filter (λ r. not (r.stripe == s)) (relays_of flights)) (filter (λ r. not (r.stripe == s)) (relays_of flights))
     step rest true = ap (λ rs. x.relay ∷ rs) rest
     step rest false = rest
-
-relays-with_losses : (n : ℕ) (t : Table) (c : ℕ) → (with_losses n t c).relays ≡ t.relays
-relays-with_losses zero t c = refl
-relays-with_losses (suc n) t c = relays-with_losses n t c
 
 -- the flights are those of the relays afterwards
 pub flights_go_on : (t : Table) (e : Entry) (given : List ℕ) (flights : List Flight) → AreFlights t flights → AreFlights (after t e) (flights_after t e given flights)

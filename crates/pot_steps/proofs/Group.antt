@@ -1,6 +1,7 @@
 -- The steps of a group keep the law of every stripe.
-use Rattle.std.proofs.Common.{◌≡◌, ◌≢◌, ◌⊎◌, inl, inr, ℕ, ◌<◌, ◌≤◌, List, [], ◌∷◌, ◌++◌, Option, Some, None, Bool, true, IsTrue, refl, sym, ap, ap₂, ◌∙◌, subst, arith, nat_eq, nat_le, if◌then◌else◌}
+use Rattle.std.proofs.Common.{◌≡◌, ◌≢◌, ◌⊎◌, inl, inr, ℕ, ◌<◌, List, [], ◌∷◌, ◌++◌, Option, Some, None, Bool, true, IsTrue, refl, sym, ap, ap₂, ◌∙◌, subst, arith, nat_eq, nat_le, if◌then◌else◌}
 use Rattle.std.proofs.lemmas.Bool.Decides.{nat_tests}
+use Rattle.std.proofs.lemmas.Bool.{cases_eq}
 use Rattle.pot_bytes.specs.Sums.{xor}
 use Rattle.pot_bytes.specs.Weighted.{scaled}
 use Rattle.pot_gf.specs.Field.{power}
@@ -22,7 +23,7 @@ use Rattle.pot_steps.specs.GroupStep.{GroupState, LosesBlocks, Passed, PassesTo,
 use Rattle.pot_steps.proofs.Acting.{act_keeps, loss_keeps_all}
 use Rattle.pot_steps.proofs.Entries.{is_void_at}
 use Rattle.pot_steps.proofs.StepsKeep.{loses_only}
-use Rattle.pot_machine.proofs.Cases.{same_or}
+use Rattle.pot_steps.proofs.AheadLemmas.{one_or_two}
 
 same : (h : Holdings) → LosesBlocks h h
 same h number slot b e = e
@@ -53,10 +54,6 @@ passes job passed old at now p x = stands_loses at old.held now old.flights p.lo
 
 settled : (g : GroupState) (fs : List Flight) → g.flights ≡ fs → Stands g.table g.held fs → Settled g
 settled g fs e x = subst (λ fs. Stands g.table g.held fs) (sym e) x
-
--- the entry of a put enters with its writes
-one_or_two : (n : ℕ) → 1 ≤ n → n ≤ 2 → (n ≡ 1) ⊎ (n ≡ 2)
-one_or_two n a b = grind arith
 
 puts_stand : (job s c : ℕ) (block p q : List ℕ) (kept kept2 : Bool) (at : Table) (now : Holdings) (new : GroupState) (fs : List Flight) → PutsBlock job s c block p q kept kept2 at now new → Stands at now fs
     → Stands new.table new.held fs
@@ -135,8 +132,8 @@ failed job column block old new f x =
     -- another place than that of the cursor, whose slot is Void
     place : column ≡ f.at.cursor.column → (s c : ℕ) → s < f.at.stripes → c < width f.at → slot_at f.at s c ≢ Void
         → (s ≢ f.at.cursor.stripe) ⊎ (serving_at f.at f.at.cursor.stripe column ≢ serving_at f.at s c)
-    place here s c ls lc void = elim (same_or s f.at.cursor.stripe) [
-      | inl e ↦ elim (same_or column c) [
+    place here s c ls lc void = elim (cases_eq s f.at.cursor.stripe) [
+      | inl e ↦ elim (cases_eq column c) [
         | inl g ↦ absurd (void (ap₂ (λ n k. slot_at f.at n k) e (sym g ∙ here) ∙ cursor_void f.at before.table (let l : s < f.at.stripes = ls in omega arith)))
         | inr ne ↦ inr (λ g. serving_apart f.at f.at.cursor.stripe column c before.table.columns f.legal.1 lc ne (g ∙ ap (λ n. serving_at f.at n c) e))
       ]

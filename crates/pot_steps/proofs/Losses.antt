@@ -1,5 +1,6 @@
 -- The law of the Live slots is kept.
 use Rattle.std.proofs.Common.{◌≡◌, ◌≢◌, ◌⊎◌, inl, inr, ℕ, ◌+◌, ◌<◌, ◌≤◌, List, Some, Bool, true, false, IsTrue, refl, sym, ap, ◌∙◌, subst, arith}
+use Rattle.std.proofs.lemmas.Bool.{cases_eq}
 use Rattle.pot_bytes.specs.declared.digest.Digest.{Digest}
 use Rattle.pot_bytes.specs.Sums.{xor}
 use Rattle.pot_bytes.specs.Weighted.{scaled}
@@ -20,7 +21,6 @@ use Rattle.pot_steps.specs.GroupStep.{as_read}
 use Rattle.pot_steps.specs.Losses.{KeepsHeld, LossesKeepLive, EntryKeepsLive, StartMakesLive}
 use Rattle.pot_steps.proofs.Entries.{column}
 use Rattle.pot_steps.proofs.Opening.{slots, live-opened, result}
-use Rattle.pot_machine.proofs.Cases.{same_or}
 
 -- a slot that is Live has a digest
 live : (x : SlotState) → IsTrue (is_live x) → (d : Digest) × (x ≡ Live d)
@@ -134,7 +134,7 @@ module _ (t : Table) (h h' : Holdings) (rose : ℕ → Type 0) (s c : ℕ) (dige
       → (t.data_columns + 1 < width t → IsTrue (is_live (slot_at u s (t.data_columns + 1))) → Sound (stripe_of u h' s) (t.data_columns + 1))
       → ((n k : ℕ) → k < width t → (n ≢ s) ⊎ ((k < t.data_columns) × (k ≢ c)) → slot_at u n k ≡ slot_at t n k)
       → (n k : ℕ) → n < t.stripes → k < width t → IsTrue (is_live (slot_at u n k)) → Sound (stripe_of u h' n) k ⊎ rose (serving_at u n k)
-  places u serves at_data at_p at_q others n k ln lk l = elim (same_or n s) [
+  places u serves at_data at_p at_q others n k ln lk l = elim (cases_eq n s) [
     | inl e ↦ subst (λ n. IsTrue (is_live (slot_at u n k)) → Sound (stripe_of u h' n) k ⊎ rose (serving_at u n k)) (sym e) (in_stripe k lk) l
     | inr ne ↦ left_alone u serves n k ln lk (others n k lk (inl ne)) (inl ne) l
   ]

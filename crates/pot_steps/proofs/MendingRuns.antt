@@ -1,6 +1,7 @@
 -- A place that can be rebuilt becomes sound by a look and a bounded number of calls of `mend`.
 use Rattle.std.proofs.Common.{◌≡◌, ◌≢◌, ◌⊎◌, inl, inr, ℕ, zero, suc, ◌+◌, ◌*◌, ◌<◌, ◌≤◌, Bool, true, false, IsTrue, IsSomeAnd, Option, Some, None, List, length, refl, sym, ap, ◌∙◌, subst, arith}
 use Rattle.std.specs.Prelude.{◌==◌}
+use Rattle.std.proofs.lemmas.Bool.{cases_eq, true≢false}
 use Rattle.pot_bytes.specs.declared.digest.Digest.{Digest}
 use Rattle.pot_machine.specs.declared.slot.SlotState.{SlotState}
 use Rattle.pot_machine.specs.declared.slot.SlotState.TheVariants.{Void, Live, Lost, Broken}
@@ -10,7 +11,6 @@ use Rattle.pot_machine.specs.Slot.{is_live, is_lost, is_broken, is_unsound, live
 use Rattle.pot_machine.specs.Table.{Table, width, slot_at, serving_at, relay_at, next_column, count}
 use Rattle.pot_machine.specs.Machine.{after}
 use Rattle.pot_machine.specs.Rules.{IsTable, IsStanding}
-use Rattle.pot_machine.proofs.Cases.{same_or}
 use Rattle.pot_machine.proofs.Places.{slot_same, slot_other}
 use Rattle.pot_steps.specs.Stripe.{Sound, digest_of}
 use Rattle.pot_steps.specs.Law.{Rebuildable}
@@ -88,9 +88,6 @@ lost_unsound (Broken d) e = absurd (cc)
 
 some_none : {A : Type 0} (a : A) → Some a ≡ None → ⊥
 some_none a e = absurd (cc)
-
-no : true ≡ false → ⊥
-no e = cc
 
 -- the place is sound, or fewer calls are left
 abbrev pub Nearer : GroupState → ℕ → ℕ → ℕ → Type 0
@@ -185,7 +182,7 @@ module _ (s c n : ℕ) (test : ℕ → Bool) (old new : GroupState) (settled : S
 
   pub nearer : (job : ℕ) (blind : List ℕ) (answer : MendAnswer) → Left old.table s c test (n + 1) → MendStep job s c blind answer old new → MendedWell answer → Nearer new s c n
   nearer job blind Began left step well = begins job blind step.0 left
-  nearer job blind NoNeed left step well = absurd (no (sym (lost_unsound (slot_at old.table s c) x.lost) ∙ step.1))
+  nearer job blind NoNeed left step well = absurd (true≢false (sym (lost_unsound (slot_at old.table s c) x.lost) ∙ step.1))
   nearer job blind (Stuck a b) left step well = absurd (some_none b (sym step.0.legal.3 ∙ not_stuck old.table old.held s c test x settled.table.size.parity.1))
   nearer job blind MendFull left step well = absurd well
   nearer job blind (MendFaulted d) left step well = absurd well
@@ -194,7 +191,7 @@ module _ (s c n : ℕ) (test : ℕ → Bool) (old new : GroupState) (settled : S
 
 -- a place that is sound stays so
 sound_live : (g : GroupState) (s c : ℕ) → Sound (stripe_of g.table g.held s) c → is_unsound (slot_at g.table s c) ≡ true → ⊥
-sound_live g s c y u = no (sym u ∙ ap is_unsound y.1.live)
+sound_live g s c y u = true≢false (sym u ∙ ap is_unsound y.1.live)
 
 stays : (job s c : ℕ) (blind : List ℕ) (answer : MendAnswer) (old new : GroupState) → Sound (stripe_of old.table old.held s) c → MendStep job s c blind answer old new → MendedWell answer
     → Sound (stripe_of new.table new.held s) c
@@ -280,11 +277,11 @@ module _ (t : Table) (h : Holdings) (s c n : ℕ) (test : ℕ → Bool) (x : IsO
   ]
 
   at_first : (o : Option Relay) → relay_at t s ≡ o → Left t s c test n
-  at_first (Some r) here = elim (same_or r.target c) [
+  at_first (Some r) here = elim (cases_eq r.target c) [
     | inl own ↦ Own r here own (own_calls r here own)
     | inr other ↦ Other r enough.0 here other enough.1 (let f : ahead t r ≤ t.data_columns = few r s here in let l : enough.0 + t.data_columns + 1 ≤ n = enough.2 in omega arith)
   ]
-  at_first None none = elim (same_or (length t.relays) 16) [
+  at_first None none = elim (cases_eq (length t.relays) 16) [
     | inl full ↦ Crowded enough.0 none full enough.1
         (let f : ahead t (first_of t.relays) ≤ t.data_columns = few (first_of t.relays) (first_of t.relays).stripe (first_stands t.relays (some full)) in
         let l : enough.0 + t.data_columns + 1 ≤ n = enough.2 in omega arith)
@@ -316,7 +313,7 @@ opened job s c t h h' table ls r kept = record {
   none_broken = λ k d lk e. r.none_broken k d lk (broken_before (slot_at t s k) (slot_at (after t (entry.Gone job s c)) s k) d (slots_less t (entry.Gone job s c) s k tt) e);
   here = here;
   few = r.few.2;
-  passes = λ k lk v m. elim (same_or k c) [
+  passes = λ k lk v m. elim (cases_eq k c) [
     | inl q ↦ ap r.few.0 q ∙ here
     | inr ne ↦
         let same : slot_at (after t (entry.Gone job s c)) s k ≡ slot_at t s k = slot_other t s c s k (lost_of (slot_at t s c)) r.column lk (λ q. ne q.1) in

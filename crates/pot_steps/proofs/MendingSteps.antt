@@ -3,6 +3,7 @@ use Rattle.std.proofs.Common.{◌≡◌, ◌≢◌, ◌⊎◌, inl, inr, ℕ, �
 use Rattle.std.specs.Prelude.{◌==◌}
 use Rattle.std.proofs.lemmas.Bool.Decides.{nat_tests}
 use Rattle.std.proofs.lemmas.List.{length-map}
+use Rattle.std.proofs.lemmas.Bool.{cases_eq, and_parts, cases_Bool}
 use Rattle.pot_bytes.specs.declared.digest.Digest.{Digest}
 use Rattle.pot_machine.specs.declared.slot.SlotState.{SlotState}
 use Rattle.pot_machine.specs.declared.slot.SlotState.TheVariants.{Void, Live, Lost, Broken}
@@ -13,7 +14,6 @@ use Rattle.pot_machine.specs.Table.{Table, width, slot_at, serving_at, relay_at,
 use Rattle.pot_machine.specs.Machine.{Legal, after}
 use Rattle.pot_machine.specs.Machine as machine
 use Rattle.pot_machine.specs.Rules.{IsTable, IsStanding}
-use Rattle.pot_machine.proofs.Cases.{same_or, true_or_false}
 use Rattle.pot_machine.proofs.Kept.{after_keeps}
 use Rattle.pot_machine.proofs.LeftAlone.{relays_stay}
 use Rattle.pot_machine.proofs.Places.{slot_same, slot_other}
@@ -25,7 +25,7 @@ use Rattle.pot_steps.specs.Ahead.{ahead}
 use Rattle.pot_steps.specs.Holdings.{Holdings, stripe_of}
 use Rattle.pot_steps.specs.Losses.{KeepsHeld}
 use Rattle.pot_steps.proofs.Acting.{find_all, slots_less, broken_before}
-use Rattle.pot_steps.proofs.AheadLemmas.{ahead_few, ahead_hops, after_more, and_first}
+use Rattle.pot_steps.proofs.AheadLemmas.{ahead_few, ahead_hops, after_more}
 use Rattle.pot_steps.proofs.CallLemmas.{relay_found}
 use Rattle.pot_steps.proofs.Changes.{LostOrSame, live_before, lost_kept}
 use Rattle.pot_steps.proofs.OpenPlaces.{IsOpen, NoneHidden, IsClear, Enough, Left, Own, Other, Free, Crowded, without, passes_without, first_of, first_stands, first_hopped, relay_over, relay_ended, ended_fewer, relay_hopped, lost_passes, one_beside}
@@ -55,7 +55,7 @@ next_ahead t r k e = (let f : (k < width t) × (is_ahead t r k ≡ true) × ((j 
 pub ahead_before : (t : Table) (r : Relay) (k j : ℕ) → next_column t r ≡ Some k → is_ahead t (hopped r k) j ≡ true → is_ahead t r j ≡ true
 ahead_before t r k j e h =
     let rest : ℕ → Bool = λ k. not (k == r.target) && (not (k == skipped t.data_columns r.skip r.target) && not (is_void (slot_at t r.stripe k))) in
-    both (is_after r.last j) (nat_lt k j) (rest j) h (λ l. after_more r.last k j (and_first (is_after r.last k) (rest k) (next_ahead t r k e).1) (above k j l))
+    both (is_after r.last j) (nat_lt k j) (rest j) h (λ l. after_more r.last k j (and_parts (is_after r.last k) (rest k) (next_ahead t r k e).1).0 (above k j l))
   where
     above : (k j : ℕ) → nat_lt k j ≡ true → k < j
     above k j l = grind (arith, nat_tests)
@@ -97,7 +97,7 @@ module _ (t u : Table) (h h' : Holdings) (s c : ℕ) (test : ℕ → Bool) (x : 
     none_broken = λ k d lk e. x.none_broken k d (let w : width u ≡ width t = wide in omega arith) (broken_before (slot_at t s k) (slot_at u s k) d (slots k) e);
     here = x.here;
     few = rw (wide, parity) x.few;
-    passes = λ k lk v m. elim (true_or_false (test k)) [
+    passes = λ k lk v m. elim (cases_Bool (test k)) [
       | inl e ↦ e
       | inr e ↦ (let l : k < width t = (let w : width u ≡ width t = wide in omega arith) in x.passes k l (λ q. v (same k l e ∙ q)) (λ y. m (carried k l (same k l e) y)))
     ];
@@ -109,13 +109,13 @@ module _ (t u : Table) (h h' : Holdings) (s c : ℕ) (test : ℕ → Bool) (x : 
     stripe = let l : s < t.stripes = x.stripe in omega arith;
     column = let l : c < width t = x.column in let w : width u ≡ width t = wide in omega arith;
     lost = ap is_lost (same c x.column (λ e. ne (sym e))) ∙ x.lost;
-    none_broken = λ k e lk b. elim (same_or k d) [
+    none_broken = λ k e lk b. elim (cases_eq k d) [
       | inl q ↦ live_broken (slot_at u s d) sound.1.digest e sound.1.live (sym (ap (λ k. slot_at u s k) q) ∙ b)
       | inr nk ↦ x.none_broken k e (let w : width u ≡ width t = wide in omega arith) (sym (same k (let w : width u ≡ width t = wide in omega arith) nk) ∙ b)
     ];
     here = passes_without test d c x.here (λ e. ne (sym e));
-    few = rw (wide, parity) (le (count-le (width t) (without test d) test (λ k lk e. and_first (test k) (not (k == d)) e)) x.few);
-    passes = λ k lk v m. elim (same_or k d) [
+    few = rw (wide, parity) (le (count-le (width t) (without test d) test (λ k lk e. (and_parts (test k) (not (k == d)) e).0)) x.few);
+    passes = λ k lk v m. elim (cases_eq k d) [
       | inl q ↦ absurd (m (subst (λ k. Sound (stripe_of u h' s) k) (sym q) sound))
       | inr nk ↦ (let l : k < width t = (let w : width u ≡ width t = wide in omega arith) in passes_without test d k (x.passes k l (λ q. v (same k l nk ∙ q)) (λ y. m (carried k l (same k l nk) y))) nk)
     ];
@@ -316,7 +316,7 @@ module _ (t : Table) (h h' : Holdings) (s c n : ℕ) (test : ℕ → Bool) (x : 
         open_mended t (after t (Mended job s d)) h h' s c test x kept refl refl refl (λ k. refl) d ne sound (λ k lk nk. stays k lk nk),
         Free (relay_ended t.relays s) (fewer s r here) (enough_more (after t (Mended job s d)) s c m n (without test d) (omega arith)
             (enough_less t (after t (Mended job s d)) s c m test (without test d) refl refl
-            (λ k lk e nc. (and_first (test k) (not (k == d)) e, λ l. ap is_live (stays k lk (differ k (test k) e)) ∙ l)) enough)),
+            (λ k lk e nc. ((and_parts (test k) (not (k == d)) e).0, λ l. ap is_live (stays k lk (differ k (test k) e)) ∙ l)) enough)),
       )
         where
           stays : (k : ℕ) → k < width t → k ≢ d → slot_at (after t (Mended job s d)) s k ≡ slot_at t s k

@@ -1,17 +1,18 @@
 -- A column that a relay visits has a weight that is not 0.
-use Rattle.std.proofs.Common.{◌≡◌, ◌≢◌, ℕ, suc, ◌<◌, ◌≤◌, bit_xor, refl, sym, ap, ap₂, ◌∙◌, arith, inl, inr, subst, lit<}
+use Rattle.std.proofs.Common.{◌≡◌, ◌≢◌, ℕ, suc, ◌<◌, ◌≤◌, bit_xor, refl, sym, ap, ap₂, ◌∙◌, arith, inl, inr}
 use Rattle.std.specs.Int.Bits.{xor_self, xor_zero_r, xor_zero_l}
 use Rattle.std.proofs.lemmas.Nat.{xor_of_8}
 use Rattle.pot_bytes.specs.Product.{byte_product}
-use Rattle.pot_bytes.proofs.ProductLemmas.{byte_product-xor_right, byte_product-below, byte_product-zero_left, byte_product-zero_right, byte_product-one_right, byte_product-comm}
+use Rattle.pot_bytes.proofs.ProductLemmas.{byte_product-xor_right, byte_product-zero_left, byte_product-zero_right, byte_product-one_right, byte_product-comm}
 use Rattle.pot_bytes.proofs.TotalLemmas.{from_zero}
 use Rattle.pot_gf.specs.Field.{power}
+use Rattle.pot_gf.proofs.FieldLemmas.{byte_product-cancel}
 use Rattle.pot_steps.specs.Equations.{p_weight, q_weight}
 use Rattle.pot_steps.specs.Flight.{weight, p_times, q_times}
-use Rattle.pot_steps.proofs.Relays.{power-below, power-positive, sum-positive, inverse-below, kinds}
+use Rattle.pot_steps.proofs.Relays.{power-below, power-positive, sum-positive, kinds}
 use Rattle.pot_steps.proofs.Relays as relays
-use Rattle.pot_steps.proofs.Solved.{divided_by}
 use Rattle.pot_steps.proofs.Weights.{p_weight-low, p_weight-high, q_weight-low, q_weight-p, q_weight-q}
+use Rattle.pot_steps.proofs.Rebuilt.{q_times-below, p_times-below}
 
 -- a times the weight of P, and b times that of Q
 abbrev row : ℕ → ℕ → ℕ → ℕ → ℕ
@@ -31,7 +32,7 @@ only_a : (a b g : ℕ) → bit_xor a (byte_product b g) ≡ 0 → b ≡ 0 → a 
 only_a a b g e z = sym (ap (bit_xor a) (ap (λ b. byte_product b g) z ∙ byte_product-zero_left g) ∙ xor_zero_r a) ∙ e
 
 only_b : (a b g : ℕ) → b < 256 → 0 < g → g < 256 → bit_xor a (byte_product b g) ≡ 0 → a ≡ 0 → b ≡ 0
-only_b a b g hb pos small e z = divided_by g b pos small hb (byte_product-comm g b ∙ sym (xor_zero_l (byte_product b g)) ∙ sym (ap (λ a. bit_xor a (byte_product b g)) z) ∙ e)
+only_b a b g hb pos small e z = byte_product-cancel g b pos small hb (byte_product-comm g b ∙ sym (xor_zero_l (byte_product b g)) ∙ sym (ap (λ a. bit_xor a (byte_product b g)) z) ∙ e)
 
 -- two columns fix both factors
 module _ (w a b : ℕ) (small : w ≤ 16) (ha : a < 256) (hb : b < 256) where
@@ -42,7 +43,7 @@ module _ (w a b : ℕ) (small : w ≤ 16) (ha : a < 256) (hb : b < 256) where
       let at_c : bit_xor a (byte_product b gc) ≡ 0 = sym (at_data w c a b ha hc) ∙ f in
       let same : byte_product b gu ≡ byte_product b gc = sym (from_zero a (byte_product b gu) at_u) ∙ from_zero a (byte_product b gc) at_c in
       let none : byte_product (bit_xor gu gc) b ≡ 0 = byte_product-comm (bit_xor gu gc) b ∙ byte_product-xor_right b gu gc ∙ ap (λ z. bit_xor z (byte_product b gc)) same ∙ xor_self (byte_product b gc) in
-      let z : b ≡ 0 = divided_by (bit_xor gu gc) b (sum-positive u c (omega arith) (omega arith) ne) (xor_of_8 gu gc (power-below u) (power-below c)) hb none in
+      let z : b ≡ 0 = byte_product-cancel (bit_xor gu gc) b (sum-positive u c (omega arith) (omega arith) ne) (xor_of_8 gu gc (power-below u) (power-below c)) hb none in
       (only_a a b gu at_u z, z)
 
   data_p : (u c : ℕ) → u < w → c ≡ w → row w a b u ≡ 0 → row w a b c ≡ 0 → (a ≡ 0) × (b ≡ 0)
@@ -75,44 +76,13 @@ module _ (w a b : ℕ) (small : w ≤ 16) (ha : a < 256) (hb : b < 256) where
     ]
   ]
 
--- both factors are bytes
-q_below : (w t u : ℕ) → q_times w t u < 256
-q_below w t u = elim (kinds w t) [
-  | inl td ↦ elim (kinds w u) [
-    | inl ud ↦ subst (λ n. n < 256) (sym (relays.q-data_data w t u td ud)) (inverse-below (bit_xor (power 3 t) (power 3 u)))
-    | inr (inl up) ↦ subst (λ n. n < 256) (sym (relays.q-data_p w t u td up)) (inverse-below (power 3 t))
-    | inr (inr uq) ↦ subst (λ n. n < 256) (sym (relays.q-low_q w t u (omega arith) uq)) (lit< tt)
-  ]
-  | inr (inl tp) ↦ elim (kinds w u) [
-    | inl ud ↦ subst (λ n. n < 256) (sym (relays.q-p_data w t u tp ud)) (inverse-below (power 3 u))
-    | inr (inl up) ↦ subst (λ n. n < 256) (sym (relays.q-p_p w t u tp up)) (lit< tt)
-    | inr (inr uq) ↦ subst (λ n. n < 256) (sym (relays.q-low_q w t u (omega arith) uq)) (lit< tt)
-  ]
-  | inr (inr tq) ↦ subst (λ n. n < 256) (sym (relays.q-q w t u tq)) (lit< tt)
-]
-
-p_below : (w t u : ℕ) → p_times w t u < 256
-p_below w t u = elim (kinds w t) [
-  | inl td ↦ elim (kinds w u) [
-    | inl ud ↦ subst (λ n. n < 256) (sym (relays.p-data_data w t u td ud)) (byte_product-below (q_times w t u) (power 3 u))
-    | inr (inl up) ↦ subst (λ n. n < 256) (sym (relays.p-data_p w t u td up)) (lit< tt)
-    | inr (inr uq) ↦ subst (λ n. n < 256) (sym (relays.p-low_q w t u (omega arith) uq)) (lit< tt)
-  ]
-  | inr (inl tp) ↦ subst (λ n. n < 256) (sym (relays.p-p w t u tp)) (lit< tt)
-  | inr (inr tq) ↦ elim (kinds w u) [
-    | inl ud ↦ subst (λ n. n < 256) (sym (relays.p-q_data w t u tq ud)) (power-below u)
-    | inr (inl up) ↦ subst (λ n. n < 256) (sym (relays.p-q_p w t u tq up)) (lit< tt)
-    | inr (inr uq) ↦ subst (λ n. n < 256) (sym (relays.p-q_q w t u tq uq)) (lit< tt)
-  ]
-]
-
 is_row : (w t u c : ℕ) → weight w t u c ≡ row w (p_times w t u) (q_times w t u) c
 unfolding weight
 is_row w t u c = refl
 
 pub weight_positive : (w t u c : ℕ) → w ≤ 16 → t ≤ suc w → u ≤ suc w → c ≤ suc w → u ≢ t → c ≢ u → 0 < weight w t u c
 weight_positive w t u c small lt lu lc ne apart = positive (weight w t u c) (λ e.
-    (let z : (p_times w t u ≡ 0) × (q_times w t u ≡ 0) = independent w (p_times w t u) (q_times w t u) small (p_below w t u) (q_below w t u) c u lc lu apart (sym (is_row w t u c) ∙ e)
+    (let z : (p_times w t u ≡ 0) × (q_times w t u ≡ 0) = independent w (p_times w t u) (q_times w t u) small (p_times-below w t u) (q_times-below w t u) c u lc lu apart (sym (is_row w t u c) ∙ e)
     (sym (is_row w t u u) ∙ relays.weight-left_out w t u small ne lt lu) in
     one_zero (sym (relays.weight-target w t u small ne lt lu) ∙ is_row w t u t ∙ ap₂ bit_xor (ap (λ a. byte_product a (p_weight w t)) z.0 ∙ byte_product-zero_left (p_weight w t)) (ap (λ b. byte_product b (q_weight w t)) z.1 ∙ byte_product-zero_left (q_weight w t)) ∙ xor_self 0)))
   where

@@ -2,6 +2,7 @@
 use Rattle.std.proofs.Common.{◌≡◌, ◌≢◌, ◌⊎◌, inl, inr, ℕ, suc, ◌+◌, ◌<◌, ◌≤◌, Bool, true, false, not, ◌&&◌, Option, Some, None, List, [], ◌∷◌, map, filter, cond, length, refl, sym, ap, ◌∙◌, arith, nat_le, if◌then◌else◌}
 use Rattle.std.specs.Prelude.{◌==◌, slice_index_or}
 use Rattle.std.proofs.lemmas.Bool.Decides.{nat_tests}
+use Rattle.std.proofs.lemmas.Bool.{cases_eq}
 use Rattle.pot_bytes.specs.declared.digest.Digest.{Digest}
 use Rattle.pot_machine.specs.declared.slot.SlotState.{SlotState}
 use Rattle.pot_machine.specs.declared.slot.SlotState.TheVariants.{Void, Live, Lost, Broken}
@@ -10,7 +11,6 @@ use Rattle.pot_machine.specs.Slot.{is_live, is_lost, is_broken, is_unsound}
 use Rattle.pot_machine.specs.Table.{Table, width, slot_at, relay_at, relay_in, count, first, first_beside, count_beside, is_ahead}
 use Rattle.pot_machine.specs.Machine.{stuck_by}
 use Rattle.pot_machine.specs.Machine as machine
-use Rattle.pot_machine.proofs.Cases.{same_or}
 use Rattle.pot_machine.proofs.Searches.{none_least}
 use Rattle.pot_steps.specs.Stripe.{Sound, NoneBroken}
 use Rattle.pot_steps.specs.Flight.{hopped}
@@ -42,7 +42,7 @@ passes_without test c k t ne = sym (without_other (test k) k c ne) ∙ t
 
 -- where at most two numbers pass, a third does not
 pub third_is : (n : ℕ) (test : ℕ → Bool) (a b k : ℕ) → count n test ≤ 2 → a < n → b < n → k < n → test a ≡ true → test b ≡ true → test k ≡ true → b ≢ a → k ≢ a → k ≡ b
-third_is n test a b k few la lb lk ta tb tk nb nk = elim (same_or k b) [
+third_is n test a b k few la lb lk ta tb tk nb nk = elim (cases_eq k b) [
   | inl e ↦ e
   | inr ne ↦
       let one : count n test ≡ count n (without test a) + 1 = count_without n test a la ta in

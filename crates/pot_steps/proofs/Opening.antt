@@ -1,6 +1,8 @@
 -- The opening makes the law of every stripe hold.
 use Rattle.std.proofs.Common.{◌≡◌, ◌≢◌, ◌⊎◌, inl, inr, ℕ, zero, suc, ◌<◌, ◌≤◌, List, [], ◌∷◌, ◌++◌, Bool, true, false, IsTrue, refl, sym, ap, ◌∙◌, subst, arith, map, if◌then◌else◌}
+use Rattle.std.proofs.lemmas.Bool.{cases_Bool, both_ways}
 use Rattle.pot_bytes.specs.declared.digest.Digest.{Digest}
+use Rattle.pot_bytes.proofs.Basis.{last_or}
 use Rattle.pot_machine.specs.declared.slot.SlotState.{SlotState}
 use Rattle.pot_machine.specs.declared.slot.SlotState.TheVariants.{Void, Live, Lost, Broken}
 use Rattle.pot_machine.specs.declared.entry.Entry.{Entry}
@@ -18,7 +20,6 @@ use Rattle.pot_steps.specs.Holdings.{HoldsUp, stripe_of}
 use Rattle.pot_steps.specs.GroupStep.{GroupState, StartStep, StartMakes, as_read, entries_where, opening}
 use Rattle.pot_steps.proofs.Steps.{filling_stays, some_same}
 use Rattle.pot_steps.proofs.Entries.{broken}
-use Rattle.pot_machine.proofs.Cases.{not_both, last_or, true_or_false}
 
 -- a log in two parts
 split : (xs ys : List Entry) (t u : Table) → Replays t (xs ++ ys) u → (v : Table) × Replays t xs v × Replays v ys u
@@ -103,7 +104,7 @@ module _ (n : ℕ) (test : ℕ → Bool) (make : ℕ → Entry) (change : SlotSt
   wrote (suc m) t u h ln lm r =
       let s : (v : Table) × Replays t (entries_where m test make) v × Replays v (if test m then make m ∷ [] else []) u = split (entries_where m test make) (if test m then make m ∷ [] else []) t u r in
       let w : Wrote t s.0 n m test change Took = wrote m t s.0 h ln (omega arith) s.1 in
-      elim (true_or_false (test m)) [
+      elim (cases_Bool (test m)) [
         | inl p ↦ (let one : Replays s.0 (make m ∷ []) u = subst (λ b. Replays s.0 (if b then make m ∷ [] else []) u) p s.2 in
             wrote_more t s.0 u m ln (omega arith) w p one.0 one.1)
         | inr f ↦ wrote_left t s.0 u m w f (subst (λ b. Replays s.0 (if b then make m ∷ [] else []) u) f s.2)
@@ -152,15 +153,15 @@ module _ (wide : ℕ) (t u : Table) (n : ℕ) (gone broke : ℕ → ℕ → Bool
   in_parts k lk = let g : width parts.0 ≡ width t = same_width in omega arith
 
   after_gone : (k : ℕ) → k < width t → slot_at parts.0 n k ≡ (if gone n k then lost_of (slot_at t n k) else slot_at t n k)
-  after_gone k lk = elim (true_or_false (gone n k)) [
+  after_gone k lk = elim (cases_Bool (gone n k)) [
     | inl p ↦ lost.here k (omega arith) p ∙ sym (ap (λ b. if b then lost_of (slot_at t n k) else slot_at t n k) p)
-    | inr f ↦ lost.other n k lk (λ _ _ p. not_both p f) ∙ sym (ap (λ b. if b then lost_of (slot_at t n k) else slot_at t n k) f)
+    | inr f ↦ lost.other n k lk (λ _ _ p. both_ways _ f p) ∙ sym (ap (λ b. if b then lost_of (slot_at t n k) else slot_at t n k) f)
   ]
 
   after_broke : (k : ℕ) → k < width t → slot_at u n k ≡ (if broke n k then broken_of (slot_at parts.0 n k) else slot_at parts.0 n k)
-  after_broke k lk = elim (true_or_false (broke n k)) [
+  after_broke k lk = elim (cases_Bool (broke n k)) [
     | inl p ↦ broke_wrote.here k (omega arith) p ∙ sym (ap (λ b. if b then broken_of (slot_at parts.0 n k) else slot_at parts.0 n k) p)
-    | inr f ↦ broke_wrote.other n k (in_parts k lk) (λ _ _ p. not_both p f) ∙ sym (ap (λ b. if b then broken_of (slot_at parts.0 n k) else slot_at parts.0 n k) f)
+    | inr f ↦ broke_wrote.other n k (in_parts k lk) (λ _ _ p. both_ways _ f p) ∙ sym (ap (λ b. if b then broken_of (slot_at parts.0 n k) else slot_at parts.0 n k) f)
   ]
 
   stripe_slots : (k : ℕ) → k < width t → slot_at u n k ≡ opened (gone n k) (broke n k) (slot_at t n k)

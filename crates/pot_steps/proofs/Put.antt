@@ -2,6 +2,7 @@
 use Rattle.std.proofs.Common.{◌≡◌, ◌≢◌, ◌⊎◌, ℕ, suc, ◌+◌, ◌<◌, ◌≤◌, bit_xor, refl, sym, ap, ap₂, ◌∙◌, arith, List, Some, None, inl, inr, subst, get_or, nat_eq, if◌then◌else◌}
 use Rattle.std.proofs.lemmas.Bool.Decides.{nat_tests}
 use Rattle.std.specs.Int.Bits.{xor_zero_l}
+use Rattle.std.proofs.lemmas.Option.{same_Some}
 use Rattle.pot_bytes.specs.declared.digest.Digest.{Digest}
 use Rattle.pot_bytes.specs.Totals.{total}
 use Rattle.pot_bytes.specs.Product.{byte_product}
@@ -40,9 +41,6 @@ module _ (data_columns c : ℕ) (block p q : List ℕ) (blocks : ℕ → List �
   at_other : (k : ℕ) → k < data_columns → k ≢ c → with_put data_columns c block p q blocks k ≡ blocks k
   unfolding with_put
   at_other k h ne = grind (arith, nat_tests)
-
-some_same : {A : Type 0} (a b : A) → Some a ≡ Some b → a ≡ b
-some_same a b h = cc
 
 not_void : (x : SlotState) (d : Digest) → digest_in x ≡ Some d → x ≡ Void → ⊥
 not_void x d h e = none (sym (ap digest_in e) ∙ h)
@@ -156,10 +154,10 @@ module _ (data_columns parity : ℕ) (s s' : Stripe) (c : ℕ) (block p q : List
   -- the slots
   new_digest : (k : ℕ) → k < data_columns + parity → (d : Digest) → digest_in (s'.slots k) ≡ Some d → digest_of (new k) ≡ d
   new_digest = by_column (λ k. (d : Digest) → digest_in (s'.slots k) ≡ Some d → digest_of (new k) ≡ d) data_columns parity c few
-      (λ d e. ap digest_of new-data ∙ some_same _ _ (sym (ap digest_in put.slot) ∙ e))
+      (λ d e. ap digest_of new-data ∙ same_Some _ _ (sym (ap digest_in put.slot) ∙ e))
       (λ k h ne d e. ap digest_of (new-other k h ne) ∙ f.digest k d (omega arith) (sym (ap digest_in (put.other_slots k h ne)) ∙ e))
-      (λ d e. ap digest_of new-p ∙ some_same _ _ (sym put.new_p.digest ∙ e))
-      (λ two d e. ap digest_of new-q ∙ some_same _ _ (sym (put.new_q two).digest ∙ e))
+      (λ d e. ap digest_of new-p ∙ same_Some _ _ (sym put.new_p.digest ∙ e))
+      (λ two d e. ap digest_of new-q ∙ same_Some _ _ (sym (put.new_q two).digest ∙ e))
 
   new_void : (k : ℕ) → k < data_columns + parity → s'.slots k ≡ Void → new k ≡ zero_block
   new_void = by_column (λ k. s'.slots k ≡ Void → new k ≡ zero_block) data_columns parity c few
@@ -170,10 +168,10 @@ module _ (data_columns parity : ℕ) (s s' : Stripe) (c : ℕ) (block p q : List
 
   new_held : (k : ℕ) → k < data_columns + parity → (b : List ℕ) → IsSound s' k b → new k ≡ b
   new_held = by_column (λ k. (b : List ℕ) → IsSound s' k b → new k ≡ b) data_columns parity c few
-      (λ b h. new-data ∙ some_same _ _ (sym put.written ∙ h.held))
+      (λ b h. new-data ∙ same_Some _ _ (sym put.written ∙ h.held))
       (λ k h ne b x. new-other k h ne ∙ f.held k b (omega arith) record { digest = x.digest; live = sym (put.other_slots k h ne) ∙ x.live; held = sym (put.other_held k h ne) ∙ x.held; right = x.right })
-      (λ b h. new-p ∙ some_same _ _ (sym (put.new_p.kept h.digest h.live) ∙ h.held))
-      (λ two b h. new-q ∙ some_same _ _ (sym ((put.new_q two).kept h.digest h.live) ∙ h.held))
+      (λ b h. new-p ∙ same_Some _ _ (sym (put.new_p.kept h.digest h.live) ∙ h.held))
+      (λ two b h. new-q ∙ same_Some _ _ (sym ((put.new_q two).kept h.digest h.live) ∙ h.held))
 
   pub put_keeps : Filling data_columns parity s' new
   put_keeps = record { block = new_block; void = new_void; digest = λ k d lt. new_digest k lt d; held = λ k b lt. new_held k lt b; p_sum = new_p_sum; q_sum = new_q_sum }

@@ -1,5 +1,5 @@
 -- A put keeps the stripe law, and the law says what it is to say of one parity column.
-use Rattle.std.proofs.Common.{◌≡◌, ◌≢◌, ◌⊎◌, ℕ, zero, suc, ◌+◌, ◌<◌, ◌≤◌, bit_xor, refl, sym, ap, ap₂, ◌∙◌, arith, List, None, inl, inr, get_or, nat_eq, if◌then◌else◌, Bool, false}
+use Rattle.std.proofs.Common.{◌≡◌, ◌≢◌, ◌⊎◌, ℕ, suc, ◌+◌, ◌≤◌, bit_xor, sym, ap, ◌∙◌, arith, List, None, inl, inr, get_or, nat_eq, if◌then◌else◌, false}
 use Rattle.std.proofs.lemmas.Bool.Decides.{nat_tests}
 use Rattle.std.specs.Int.Bits.{xor_zero_l}
 use Rattle.pot_bytes.specs.declared.digest.Digest.{Digest}
@@ -10,8 +10,8 @@ use Rattle.pot_bytes.proofs.TotalLemmas.{total_same, total_change, from_zero}
 use Rattle.pot_machine.specs.declared.slot.SlotState.{SlotState}
 use Rattle.pot_machine.specs.declared.slot.SlotState.TheVariants.{Void, Live, Broken}
 use Rattle.pot_machine.specs.Slot.{is_lost}
-use Rattle.pot_machine.specs.Table.{count}
 use Rattle.pot_bytes.specs.Lists.{IsBlock}
+use Rattle.pot_machine.proofs.Searches.{count_none}
 use Rattle.pot_steps.specs.Equations.{p_weight}
 use Rattle.pot_steps.specs.Stripe.{Stripe, Filling, Puts, digest_of}
 use Rattle.pot_steps.specs.Law.{StripeLaw, AllLive, SingleLaw, IsRead}
@@ -19,16 +19,11 @@ use Rattle.pot_steps.proofs.BlockLemmas.{same_blocks}
 use Rattle.pot_steps.proofs.Weights.{p_weight-low}
 use Rattle.pot_steps.proofs.Put.{new, put_keeps}
 
-pub count-zero : (n : ℕ) (f : ℕ → Bool) → ((c : ℕ) → c < n → f c ≡ false) → count n f ≡ 0
-unfolding count
-count-zero zero f h = refl
-count-zero (suc n) f h = ap₂ (λ a b. a + (if b then 1 else 0)) (count-zero n f (λ c l. h c (omega arith))) (h n (omega arith))
-
 pub put_keeps_law : (data_columns parity : ℕ) (s s' : Stripe) (c : ℕ) (block p q : List ℕ) → data_columns ≤ 16 → parity ≤ 2 → 1 ≤ parity
     → AllLive data_columns parity s → Puts data_columns parity s s' c block p q → StripeLaw data_columns parity s None → StripeLaw data_columns parity s' None
 put_keeps_law data_columns parity s s' c block p q small few one sound put law none le =
     let f : (blocks : ℕ → List ℕ) × Filling data_columns parity s blocks = law (λ k d lt e. unbroken (s.slots k) d (sound k lt) e)
-    (inr (rw (count-zero (data_columns + parity) (λ k. is_lost (s.slots k)) (λ k lt. unlost (s.slots k) (sound k lt))) (omega arith))) in
+    (inr (rw (count_none (data_columns + parity) (λ k. is_lost (s.slots k)) (λ k lt. unlost (s.slots k) (sound k lt))) (omega arith))) in
     (new data_columns parity s s' c block p q f.0 small few one put f.1, put_keeps data_columns parity s s' c block p q f.0 small few one put f.1)
   where
     unbroken : (x : SlotState) (d : Digest) → (x ≡ Void) ⊎ ((e : Digest) × (x ≡ Live e)) → x ≡ Broken d → ⊥

@@ -2,6 +2,7 @@
 use Rattle.std.proofs.Common.{◌≡◌, ◌≢◌, ◌⊎◌, ℕ, suc, ◌+◌, ◌<◌, ◌≤◌, bit_xor, refl, sym, ap, ap₂, ◌∙◌, arith, List, Option, Some, None, inl, inr, get_or, nat_eq, nat_le, if◌then◌else◌, Bool, true, false, ◌&&◌, not, lit<}
 use Rattle.std.proofs.lemmas.Bool.Decides.{nat_tests}
 use Rattle.std.specs.Int.Bits.{xor_zero_l}
+use Rattle.std.proofs.lemmas.Bool.{cases_Bool}
 use Rattle.pot_bytes.specs.Totals.{total}
 use Rattle.pot_bytes.specs.Product.{byte_product}
 use Rattle.pot_bytes.proofs.ProductLemmas.{byte_product-xor_left, byte_product-below, byte_product-zero_left, byte_product-zero_right, byte_product-one_left, byte_product-total}
@@ -18,7 +19,6 @@ use Rattle.pot_steps.specs.Flight.{IsRelay, HasNoNext, IsPartial, visits, folded
 use Rattle.pot_steps.proofs.BlockLemmas.{get_or-zero_block, same_blocks}
 use Rattle.pot_steps.proofs.Weights.{q_weight-low, q_weight-p, q_weight-q}
 use Rattle.pot_steps.proofs.Relays.{power-below, inverse-below, weight-target, weight-left_out, kinds, p-data_data, p-data_p, p-low_q, p-p, p-q_q, q-p_p, p-q_data, p-q_p, q-data_data, q-data_p, q-low_q, q-p_data, q-q}
-use Rattle.pot_machine.proofs.Cases.{true_or_false}
 
 below_is : (a b : ℕ) → a ≡ b → b < 256 → a < 256
 below_is a b e h = omega arith
@@ -34,7 +34,7 @@ q_weight-below data_columns c = elim (kinds data_columns c) [
   | inr (inr h) ↦ below_is _ _ (q_weight-q data_columns c h) (lit< tt)
 ]
 
-q_times-below : (data_columns t u : ℕ) → q_times data_columns t u < 256
+pub q_times-below : (data_columns t u : ℕ) → q_times data_columns t u < 256
 q_times-below data_columns t u = elim (kinds data_columns t) [
   | inl ht ↦ elim (kinds data_columns u) [
     | inl hu ↦ below_is _ _ (q-data_data data_columns t u ht hu) (inverse-below _)
@@ -49,7 +49,7 @@ q_times-below data_columns t u = elim (kinds data_columns t) [
   | inr (inr ht) ↦ below_is _ _ (q-q data_columns t u ht) (lit< tt)
 ]
 
-p_times-below : (data_columns t u : ℕ) → p_times data_columns t u < 256
+pub p_times-below : (data_columns t u : ℕ) → p_times data_columns t u < 256
 p_times-below data_columns t u = elim (kinds data_columns t) [
   | inl ht ↦ elim (kinds data_columns u) [
     | inl hu ↦ below_is _ _ (p-data_data data_columns t u ht hu) (byte_product-below _ _)
@@ -170,7 +170,7 @@ module _ (data_columns parity : ℕ) (few : parity ≤ 2) (one : 1 ≤ parity) w
     -- no column but the target is missing in the sum
     missing : (k c : ℕ) → c < data_columns + parity → c ≢ r.target
         → (if folded data_columns s.slots r c then byte_product (weight data_columns r.target (left_out data_columns r.target r.skip) c) (get_or (blocks c) k 0) else 0) ≡ byte_product (weight data_columns r.target (left_out data_columns r.target r.skip) c) (get_or (blocks c) k 0)
-    missing k c lt ne = elim (true_or_false (visits data_columns s.slots r c)) [
+    missing k c lt ne = elim (cases_Bool (visits data_columns s.slots r c)) [
       | inl v ↦ if_true _ _ _ (folded_true data_columns s.slots r c v (done c lt v))
       | inr v ↦ if_false _ _ _ (folded_false data_columns s.slots r c v) ∙ sym (nothing v)
     ]

@@ -2,6 +2,7 @@
 use Rattle.std.proofs.Common.{◌≡◌, ◌≢◌, ◌⊎◌, ℕ, suc, ◌+◌, ◌<◌, ◌≤◌, bit_xor, refl, sym, ap, ap₂, ◌∙◌, arith, List, Some, None, inl, inr, subst, get_or, nat_eq, if◌then◌else◌, Bool, true, false, lit<}
 use Rattle.std.proofs.lemmas.Bool.Decides.{nat_tests}
 use Rattle.std.specs.Int.Bits.{xor_self, xor_zero_r, xor_zero_l}
+use Rattle.std.proofs.lemmas.Bool.{cases_eq, cases_Bool}
 use Rattle.pot_bytes.specs.declared.digest.Digest.{Digest}
 use Rattle.pot_bytes.specs.Totals.{total}
 use Rattle.pot_bytes.specs.Product.{byte_product}
@@ -22,13 +23,12 @@ use Rattle.pot_steps.proofs.Weights.{p_weight-low}
 use Rattle.pot_steps.proofs.Relays.{weight_is, p-low_q, q-low_q}
 use Rattle.pot_steps.proofs.Rebuilt.{if_true, if_false, folded_true, folded_false, rebuilt, not_visited, folded_not_void, target_not_visited, left_out-facts}
 use Rattle.pot_steps.proofs.Steps.{filling_stays, no_digest, some_same}
-use Rattle.pot_machine.proofs.Cases.{same_or, true_or_false}
 
 module _ (data_columns parity : ℕ) (few : parity ≤ 2) (one : 1 ≤ parity) (small : data_columns ≤ 16) (s s' : Stripe) (r : Relay) (partial : List ℕ)
     (is : IsRelay data_columns parity r) (done : HasNoNext data_columns parity s r) (repairs : Repairs data_columns parity s s' r.target partial) where
   -- the slots keep their digests
   digests : (c : ℕ) → c < data_columns + parity → digest_in (s'.slots c) ≡ digest_in (s.slots c)
-  digests c lt = elim (same_or c r.target) [
+  digests c lt = elim (cases_eq c r.target) [
     | inl e ↦ ap (λ c. digest_in (s'.slots c)) e ∙ ap digest_in repairs.after ∙ sym (ap (λ c. digest_in (s.slots c)) e ∙ repairs.digest)
     | inr ne ↦ ap digest_in (repairs.other_slots c lt ne)
   ]
@@ -42,7 +42,7 @@ module _ (data_columns parity : ℕ) (few : parity ≤ 2) (one : 1 ≤ parity) (
       let f : (blocks : ℕ → List ℕ) × Filling data_columns parity s blocks × IsPartial data_columns parity s r blocks partial = law.filled none in
       let e : partial ≡ f.0 r.target = rebuilt data_columns parity few one small s r f.0 partial is f.1 law.is_block done f.2 in (
         f.0,
-        filling_stays data_columns parity s s' f.0 f.1 digests (λ c b lt h. elim (same_or c r.target) [
+        filling_stays data_columns parity s s' f.0 f.1 digests (λ c b lt h. elim (cases_eq c r.target) [
           | inl eq ↦ ap f.0 eq ∙ sym e ∙ some_same _ _ (sym repairs.written ∙ sym (ap s'.held eq) ∙ h.held)
           | inr ne ↦ f.1.held c b lt (other_sound c b lt ne h)
         ]),
@@ -79,7 +79,7 @@ module _ (data_columns parity : ℕ) (few : parity ≤ 2) (one : 1 ≤ parity) (
 
     -- every column but the target is folded, or Void
     kind : (k : ℕ) → k < data_columns + parity → k ≢ r.target → (folded data_columns s.slots r k ≡ true) ⊎ ((folded data_columns s.slots r k ≡ false) × (s.slots k ≡ Void))
-    kind k lt ne = elim (true_or_false (visits data_columns s.slots r k)) [
+    kind k lt ne = elim (cases_Bool (visits data_columns s.slots r k)) [
       | inl v ↦ inl (folded_true data_columns s.slots r k v (done k lt v))
       | inr v ↦ inr (
         folded_false data_columns s.slots r k v,
@@ -93,7 +93,7 @@ module _ (data_columns parity : ℕ) (few : parity ≤ 2) (one : 1 ≤ parity) (
 
     -- by column
     each : (P : ℕ → List ℕ → Type 0) → P r.target partial → ((k : ℕ) → k < data_columns + parity → k ≢ r.target → folded data_columns s.slots r k ≡ true → P k (law.some.0 k)) → ((k : ℕ) → k < data_columns + parity → k ≢ r.target → s.slots k ≡ Void → P k zero_block) → (k : ℕ) → k < data_columns + parity → P k (fresh k)
-    each P here there void k lt = elim (same_or k r.target) [
+    each P here there void k lt = elim (cases_eq k r.target) [
       | inl e ↦ subst (λ k. P k (fresh k)) (sym e) (subst (P r.target) (sym fresh_target) here)
       | inr ne ↦ elim (kind k lt ne) [
         | inl f ↦ subst (P k) (sym (fresh_folded k ne f)) (there k lt ne f)
@@ -151,7 +151,7 @@ module _ (data_columns parity : ℕ) (few : parity ≤ 2) (one : 1 ≤ parity) (
   -- a stripe whose target was repaired keeps the law: with two parity columns no slot of it was Broken
   pub mended_keeps : FlightLaw data_columns parity s r partial → (parity ≡ 2 → NoneBroken data_columns parity s) → StripeLaw data_columns parity s' None
   mended_keeps law never none few' = elim (was_broken (s.slots r.target)) [
-    | inl fine ↦ from_filling law (λ c d lt e. elim (same_or c r.target) [
+    | inl fine ↦ from_filling law (λ c d lt e. elim (cases_eq c r.target) [
       | inl eq ↦ fine d (sym (ap s.slots eq) ∙ e)
       | inr ne ↦ none c d lt (repairs.other_slots c lt ne ∙ e)
     ])

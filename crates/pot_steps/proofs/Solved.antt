@@ -6,11 +6,11 @@ use Rattle.pot_bytes.specs.Totals.{total}
 use Rattle.pot_bytes.specs.Product.{byte_product}
 use Rattle.pot_bytes.specs.Sums.{xor, zero_block}
 use Rattle.pot_bytes.specs.Weighted.{scaled}
-use Rattle.pot_bytes.proofs.ProductLemmas.{byte_product-xor_left, byte_product-xor_right, byte_product-below, byte_product-zero_left, byte_product-zero_right, byte_product-one_left, byte_product-comm}
+use Rattle.pot_bytes.proofs.ProductLemmas.{byte_product-xor_left, byte_product-xor_right, byte_product-below, byte_product-zero_left, byte_product-zero_right, byte_product-one_left}
 use Rattle.pot_bytes.proofs.TotalLemmas.{total_change, from_zero, xor_cancel}
 use Rattle.pot_bytes.proofs.WeightedLemmas.{get_or-xor, get_or-scaled}
 use Rattle.pot_gf.specs.Field.{power, inverse}
-use Rattle.pot_gf.proofs.FieldLemmas.{byte_product-assoc, byte_product-inverse}
+use Rattle.pot_gf.proofs.FieldLemmas.{byte_product-assoc, byte_product-inverse, byte_product-cancel}
 use Rattle.pot_bytes.specs.Lists.{IsBlock}
 use Rattle.pot_steps.specs.Equations.{p_weight, q_weight}
 use Rattle.pot_steps.specs.Flight.{weight, p_times, q_times}
@@ -40,10 +40,6 @@ divided : (a x : ℕ) → 0 < a → a < 256 → x < 256 → byte_product (invers
 divided a x ha hb hx h =
     sym (byte_product-one_left x hx) ∙ ap (λ z. byte_product z x) (sym (byte_product-inverse a ha hb)) ∙ byte_product-assoc a (inverse a) x ∙ ap (byte_product a) h ∙ byte_product-zero_right a
 
-pub divided_by : (a x : ℕ) → 0 < a → a < 256 → x < 256 → byte_product a x ≡ 0 → x ≡ 0
-divided_by a x ha hb hx h =
-    sym (byte_product-one_left x hx) ∙ ap (λ z. byte_product z x) (sym (byte_product-comm (inverse a) a ∙ byte_product-inverse a ha hb)) ∙ byte_product-assoc (inverse a) a x ∙ ap (byte_product (inverse a)) h ∙ byte_product-zero_right (inverse a)
-
 -- both equations of the table, for each pair of columns
 module _ (data_columns : ℕ) (small : data_columns ≤ 16) (p q : ℕ) (p_below : p < 256) (q_below : q < 256) where
   pub Both : ℕ → ℕ → Type 0
@@ -68,7 +64,7 @@ module _ (data_columns : ℕ) (small : data_columns ≤ 16) (p q : ℕ) (p_below
       let q_is : (t u : ℕ) → t < data_columns → u < data_columns → t ≢ u → bit_xor (byte_product (p_times data_columns t u) p) (byte_product (q_times data_columns t u) q) ≡ 0 → byte_product (power 3 u) p ≡ q = (λ t u ht hu ne e. side t u ht hu ne e) in
       let same : bit_xor (byte_product gu p) (byte_product gt p) ≡ 0 = ap₂ bit_xor (q_is t u ht hu ne e) (q_is u t hu ht (λ h. ne (sym h)) f) ∙ xor_self q in
       let below : bit_xor gu gt < 256 = xor_of_8 gu gt (power-below u) (power-below t) in
-      let p_zero : p ≡ 0 = divided_by (bit_xor gu gt) p (sum-positive u t (omega arith) (omega arith) (λ h. ne (sym h))) below p_below (byte_product-xor_left gu gt p ∙ same) in
+      let p_zero : p ≡ 0 = byte_product-cancel (bit_xor gu gt) p (sum-positive u t (omega arith) (omega arith) (λ h. ne (sym h))) below p_below (byte_product-xor_left gu gt p ∙ same) in
       (p_zero, sym (q_is t u ht hu ne e) ∙ ap (byte_product gu) p_zero ∙ byte_product-zero_right gu)
 
   data_p : (t : ℕ) → t < data_columns → Both t data_columns → Both data_columns t → (p ≡ 0) × (q ≡ 0)

@@ -3,7 +3,7 @@ use Rattle.std.proofs.Common.{◌≡◌, ◌≢◌, ◌⊎◌, ℕ, zero, suc, �
 use Rattle.std.proofs.lemmas.Bool.Decides.{nat_tests}
 use native.Mathlib.Nat.{le_trans}
 use Rattle.std.specs.Int.Bits.{xor_zero_l}
-use Rattle.pot_machine.proofs.Cases.{true_or_false}
+use Rattle.std.proofs.lemmas.Bool.{cases_Bool}
 use Rattle.pot_bytes.specs.declared.digest.Digest.{Digest}
 use Rattle.pot_bytes.specs.Totals.{total}
 use Rattle.pot_bytes.specs.Product.{byte_product}
@@ -176,7 +176,7 @@ module _ (data_columns parity : ℕ) (s : Stripe) (r : Relay) (c : ℕ) (b parti
 
   folded_on : (k : ℕ) → k ≢ c → folded data_columns s.slots (hopped r c) k ≡ folded data_columns s.slots r k
   unfolding folded
-  folded_on k ne = elim (true_or_false (visits data_columns s.slots r k)) [
+  folded_on k ne = elim (cases_Bool (visits data_columns s.slots r k)) [
     | inl v ↦ ap₂ (λ x y. x && y) (visits_on k) (within_on k ne v)
     | inr v ↦ ap (λ x. x && is_within (Some c) k) (visits_on k ∙ v) ∙ sym (ap (λ x. x && is_within r.last k) v)
   ]

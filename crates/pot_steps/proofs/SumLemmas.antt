@@ -4,7 +4,7 @@ use Rattle.std.specs.Int.Bits.{xor_self, xor_zero_r}
 use Rattle.std.proofs.lemmas.Nat.{xor_comm}
 use Rattle.pot_bytes.specs.Totals.{total}
 use Rattle.pot_bytes.proofs.TotalLemmas.{total_xor, total_one, xor_cancel}
-use Rattle.pot_machine.proofs.Cases.{last_or}
+use Rattle.pot_bytes.proofs.Basis.{last_or}
 
 -- all but two are zero
 total_two : (n : ℕ) (f : ℕ → ℕ) (c d : ℕ) → c < d → d < n → ((k : ℕ) → k < n → k ≢ c → k ≢ d → f k ≡ 0) → total n f ≡ bit_xor (f c) (f d)

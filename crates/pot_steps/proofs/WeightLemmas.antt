@@ -24,17 +24,9 @@ pub p_last : (w t u : ℕ) → w < t → w ≤ u → p_times w t u ≡ 0
 unfolding p_times
 p_last w t u a b = grind (arith, nat_tests)
 
-pub q_data : (w c : ℕ) → c < w → q_weight w c ≡ power 3 c
-unfolding q_weight
-q_data w c h = grind (arith, nat_tests)
-
 pub q_at_p : (w c : ℕ) → c ≡ w → q_weight w c ≡ 0
 unfolding q_weight
 q_at_p w c h = grind (arith, nat_tests)
-
-pub q_at_q : (w c : ℕ) → w < c → q_weight w c ≡ 1
-unfolding q_weight
-q_at_q w c h = grind (arith, nat_tests)
 
 pub weight_in_is : (w : ℕ) (r : Relay) (c out : ℕ) → out ≡ skipped w r.skip r.target → weight w r.target out c ≡ weight_in w r c
 unfolding left_out

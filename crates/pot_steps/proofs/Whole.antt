@@ -6,11 +6,11 @@ use Rattle.pot_bytes.proofs.TotalLemmas.{total_same}
 use Rattle.pot_machine.specs.declared.slot.SlotState.TheVariants.{Void}
 use Rattle.pot_machine.specs.declared.relay.Relay.{Relay}
 use Rattle.pot_machine.specs.Slot.{is_lost}
+use Rattle.pot_machine.proofs.Searches.{count_none}
 use Rattle.pot_steps.specs.Equations.{p_weight, q_weight}
 use Rattle.pot_steps.specs.Stripe.{Stripe, Sound, Filling, HasFilling, Whole}
 use Rattle.pot_steps.specs.Law.{StripeLaw, IsRead}
 use Rattle.pot_steps.specs.Laws.{WholeSums, RebuildableFilled}
-use Rattle.pot_steps.proofs.PutLaw.{count-zero}
 use Rattle.pot_steps.proofs.Steps.{count-le}
 
 read_is : (data_columns parity : ℕ) (s : Stripe) (f : ℕ → List ℕ) (c : ℕ) (b : List ℕ) → Filling data_columns parity s f → c < data_columns + parity → IsRead s c b → f c ≡ b
@@ -19,7 +19,7 @@ read_is data_columns parity s f c b h lt (inr x) = h.void c lt x.0 ∙ sym x.1
 
 whole_filled : (data_columns parity : ℕ) (s : Stripe) (relay : Option Relay) → StripeLaw data_columns parity s relay → Whole data_columns parity s → HasFilling data_columns parity s
 whole_filled data_columns parity s relay law w =
-    law w.none_broken (inr (rw (count-zero (data_columns + parity) (λ c. is_lost (s.slots c)) (λ c lt. unlost c (w.sound c lt))) (omega arith)))
+    law w.none_broken (inr (rw (count_none (data_columns + parity) (λ c. is_lost (s.slots c)) (λ c lt. unlost c (w.sound c lt))) (omega arith)))
   where
     unlost : (c : ℕ) → (s.slots c ≡ Void) ⊎ Sound s c → is_lost (s.slots c) ≡ false
     unlost c (inl e) = ap is_lost e

@@ -3,6 +3,7 @@
 use Rattle.std.specs.Prelude.{nat_eq, ◌≡◌, ◌≢◌, ◌⊎◌, ◌↔◌, ◌≤◌, ◌<◌, ℕ, zero, suc, ◌+◌, List, [], ◌∷◌, ◌++◌, Option, Some, None, IfSome, Bool, true, false, IsTrue, All, length, if◌then◌else◌}
 use Rattle.pot_bytes.specs.Sums.{xor}
 use Rattle.pot_bytes.specs.Weighted.{scaled}
+use Rattle.pot_bytes.specs.Rack.{log_bound}
 use Rattle.pot_outside.specs.Failing.{MayLeave}
 use Rattle.pot_gf.specs.Field.{power}
 use Rattle.pot_machine.specs.declared.slot.SlotState.TheVariants.{Void}
@@ -27,10 +28,6 @@ pub record GroupState : Type 0 where
   pub held : Holdings
   pub heard : ℕ → List (ℕ × List ℕ)
   pub flights : List Flight
-
--- at most so many entries has a log
-abbrev pub log_bound : ℕ
-log_bound = 262144
 
 -- blocks were lost, and nothing else
 abbrev pub LosesBlocks : Holdings → Holdings → Type 0

@@ -2,6 +2,7 @@
 -- they hold.
 use Rattle.std.specs.Prelude.{◌≡◌, ◌≢◌, ◌⊎◌, ℕ, ◌≤◌, List, [], ◌∷◌, ◌++◌, Option, Some, None, IsSomeAnd, IsTrue, false, length, slice_index_or}
 use Rattle.pot_bytes.specs.declared.digest.Digest.{Digest}
+use Rattle.pot_bytes.specs.Rack.{log_bound}
 use Rattle.pot_machine.specs.declared.slot.SlotState.TheVariants.{Broken}
 use Rattle.pot_machine.specs.declared.relay.Relay.{Relay}
 use Rattle.pot_machine.specs.declared.entry.Entry.{Entry}
@@ -13,7 +14,7 @@ use Rattle.pot_steps.specs.Stripe.{Sound, digest_of}
 use Rattle.pot_steps.specs.Flight.{partial_of}
 use Rattle.pot_steps.specs.Holdings.{Holdings, stripe_of}
 use Rattle.pot_steps.specs.Flights.{Acts, flight_in, flights_after}
-use Rattle.pot_steps.specs.GroupStep.{GroupState, LosesBlocks, FullStep, Settled, log_bound}
+use Rattle.pot_steps.specs.GroupStep.{GroupState, LosesBlocks, FullStep, Settled}
 
 -- One entry is logged, with the block that is handed in with it. Blocks may be lost before it does something and after.
 pub record Logged (e : Entry) (given : List ℕ) (old new : GroupState) : Type 0 where

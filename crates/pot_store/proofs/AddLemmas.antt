@@ -1,14 +1,14 @@
 -- Calls of a job on one group, one after another.
 use Rattle.std.proofs.Common.{◌≡◌, ◌<◌, ◌≤◌, ℕ, ◌+◌, List, [], ◌++◌, length, ap, sym, ◌∙◌, subst, arith, append_assoc, length-append}
 use Rattle.std.specs.Prelude.{Option, Some, IfSome}
-use Rattle.std.proofs.lemmas.List.{map-append, length-map}
+use Rattle.std.proofs.lemmas.List.{map-append, length-map, drop-length}
 use Rattle.pot_bytes.specs.declared.rack.Place.{Place}
 use Rattle.pot_bytes.specs.declared.rack.Rack.{Rack}
+use Rattle.pot_bytes.specs.Rack.{log_bound}
 use Rattle.pot_machine.specs.declared.entry.Entry.{Entry}
 use Rattle.pot_machine.specs.Table.{Table, width}
 use Rattle.pot_machine.specs.Logs.{is_of, own, replayed}
 use Rattle.pot_machine.proofs.Logs.{replays_is}
-use Rattle.pot_steps.specs.GroupStep.{log_bound}
 use Rattle.pot_group.specs.declared.finding.Kind.{Kind}
 use Rattle.pot_group.specs.Finding.{IsPlace, is_of as kind_of}
 use Rattle.pot_group.specs.Group.{GroupView}
@@ -28,7 +28,7 @@ use Rattle.pot_shared.specs.Calls.{CallAt, NextCall}
 use Rattle.pot_shared.proofs.CallLemmas.{is_origin, is_table}
 use Rattle.pot_shared.proofs.MemberLemmas.{entries_all}
 use Rattle.pot_store.specs.Works.{of_job, gained}
-use Rattle.pot_store.proofs.WorkLemmas.{all_none, drop_all, group_work, group_own, group_else, own_more, row_stays}
+use Rattle.pot_store.proofs.WorkLemmas.{all_none, group_work, group_own, group_else, own_more, row_stays}
 use Rattle.pot_store.specs.Adds.{Adds, FindsNext, IsFromOn, IsNextOf, Once}
 
 -- WHAT A GROUP READ
@@ -48,7 +48,7 @@ adds_none job g row idle = record {
 }
   where
     none : (h : ℕ) → own job (gained row row h) ≡ []
-    none h = ap (λ ls. own job (entries_of ls)) (drop_all (view_at row h).seen)
+    none h = ap (λ ls. own job (entries_of ls)) (drop-length (view_at row h).seen)
 
 -- ONE CALL AFTER ANOTHER
 

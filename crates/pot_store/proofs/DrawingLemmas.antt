@@ -10,13 +10,10 @@ use Rattle.pot_pads.specs.Pads.{Pads, next_bytes, moved}
 use Rattle.pot_pads.proofs.PadsLemmas.{moved-moved}
 use Rattle.pot_shard.specs.FileBlocks.{blocks_at, file_blocks, piece_blocks, piece_len, piece_random}
 use Rattle.pot_shard.specs.Stretches.{piece_start}
-use Rattle.pot_shard.proofs.BlockLemmas.{piece_of_blocks}
+use Rattle.pot_shard.proofs.BlockLemmas.{piece_of_blocks, one_part_more}
 use Rattle.pot_shard.proofs.DrawLemmas.{draw_laws}
 use Rattle.pot_store.specs.Drawing.{blocks_from, random_from, Drawn, IsDrawing}
 use Rattle.pot_store.specs.declared.drawing.Drawing.TheInside.{Inside}
-
-one_more : (i size : ℕ) → (i + 1) * size ≡ i * size + size
-one_more i size = grind arith
 
 -- a block of a piece stands in those of its file
 block_of_file : (g : Geometry) (file random : List ℕ) (i p : ℕ) → i < pieces_of (length file) → p < g.fragments * g.shards
@@ -35,7 +32,7 @@ pub drawn_more : (g : Geometry) (file : List ℕ) (start pads pads' : Pads) (id 
     → left' ≡ length blocks → IsDrawing g file start pads' id random' blocks' (piece + 1) left'
 drawn_more g file start pads pads' id random random' blocks blocks' piece left left' is exists moves as_long made as_many all =
     let here : piece + 1 - 1 ≡ piece = omega arith in
-    let at : piece_start g piece + piece_len g ≡ piece_start g (piece + 1) = omega (arith, one_more piece (piece_len g)) in
+    let at : piece_start g piece + piece_len g ≡ piece_start g (piece + 1) = omega (arith, one_part_more piece (piece_len g)) in
     let own : next_bytes pads (piece_len g) ≡ piece_random g piece (random_from g file start) =
     ap (λ (z : Pads). next_bytes z (piece_len g)) is.place ∙ sym (draw_laws.piece g start (pieces_of (length file)) piece exists) in
     let name : id ≡ take 16 (random_from g file start) = is.id_is ∙ sym (draw_laws.id g start (pieces_of (length file))) in
@@ -81,7 +78,7 @@ next_block g file start pads id random blocks piece left many x is some all at_h
     let p = size - left in
     let last : piece ≡ i + 1 = omega (arith, (is.drawn some).0) in
     let here : many - left ≡ p = omega (arith, all, is.block_room) in
-    let there : i * size + p ≡ piece * size - left = omega (arith, ap (λ (z : ℕ). z * size) last, one_more i size, is.few) in
+    let there : i * size + p ≡ piece * size - left = omega (arith, ap (λ (z : ℕ). z * size) last, one_part_more i size, is.few) in
     get_or_read_under blocks (many - left) many x [] at_hand (omega (arith, is.few, is.block_room)) all
     ∙ ap₂ (λ (bs : List (List ℕ)) (k : ℕ). get_or bs k []) (is.drawn some).1 here
     ∙ sym (block_of_file g file (random_from g file start) i p (omega (arith, is.within)) (omega (arith, is.few)))
@@ -97,7 +94,7 @@ piece_left piece pieces size left next none here more =
 
 -- how many were handed out stays where a piece is drawn
 pub same_next : (piece size left left' next : ℕ) → left ≡ 0 → left' ≡ size → piece * size - left ≡ next → (piece + 1) * size - left' ≡ next
-same_next piece size left left' next none all here = omega (arith, one_more piece size)
+same_next piece size left left' next none all here = omega (arith, one_part_more piece size)
 
 -- and is one more where one is handed out
 pub next_more : (piece size left next : ℕ) → 0 < left → left ≤ size → 1 ≤ piece → piece * size - left ≡ next

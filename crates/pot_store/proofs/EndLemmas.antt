@@ -4,12 +4,13 @@ use Rattle.std.specs.Prelude.{Option, Some, None, Err, slice_get}
 use Rattle.std.proofs.lemmas.List.{length-map, length-append, append_cancel_left}
 use Rattle.pot_bytes.specs.declared.rack.Rack.{Rack}
 use Rattle.pot_bytes.specs.declared.rack.Place.{Place}
+use Rattle.pot_bytes.specs.Rack.{log_bound}
 use Rattle.pot_machine.specs.declared.entry.Entry.TheVariants as entry
 use Rattle.pot_machine.specs.Table.{Table}
 use Rattle.pot_machine.specs.Logs.{own, replayed}
 use Rattle.pot_machine.proofs.Logs.{replays_is}
 use Rattle.pot_steps.specs.Stripe.{digest_of}
-use Rattle.pot_steps.specs.GroupStep.{Passed, skips, gone_entries, put_entry, unkept, log_bound}
+use Rattle.pot_steps.specs.GroupStep.{Passed, skips, gone_entries, put_entry, unkept}
 use Rattle.pot_group.specs.Group.{GroupView}
 use Rattle.pot_group.specs.declared.answers.PutFault.{PutFault}
 use Rattle.pot_group.specs.declared.answers.PutFault.TheVariants as fault

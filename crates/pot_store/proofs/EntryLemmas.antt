@@ -2,29 +2,25 @@
 use Rattle.std.proofs.Common.{◌≡◌, ◌≢◌, ◌<◌, ◌≤◌, ◌⊎◌, inl, inr, ⊎_elim, ℕ, zero, suc, ◌+◌, Bool, true, false, List, [], ◌∷◌, ◌++◌, length, refl, ap, sym, ◌∙◌, subst, arith, append-nil, eq-eqb}
 use Rattle.std.specs.Prelude.{filter, if◌then◌else◌, ◌==◌, ◌&&◌, Contains, slice_index_or}
 use Rattle.std.proofs.lemmas.List.Elements.{filter-append, Contains-append_cases, Contains-append_right}
+use Rattle.std.proofs.lemmas.Bool.{cases_eq}
 use Rattle.pot_bytes.specs.declared.digest.Digest.{Digest}
 use Rattle.pot_bytes.specs.declared.rack.Place.{Place}
+use Rattle.pot_bytes.proofs.Elements.{none_contained}
+use Rattle.pot_bytes.specs.Rack.{no_place}
 use Rattle.pot_machine.specs.declared.entry.Entry.{Entry}
 use Rattle.pot_machine.specs.declared.entry.Entry.TheVariants as entry
 use Rattle.pot_machine.specs.Logs.{is_of, own}
 use Rattle.pot_machine.proofs.Logs.{own_append, own_cons}
 use Rattle.pot_index.specs.declared.record.Record.{Record}
 use Rattle.pot_replies.specs.Jobs.{is_look_at, is_stuck_at}
-use Rattle.pot_replies.specs.Fetches.{no_place, IsOfPlace, MayFetch, LooksTwice, Mends, AreReads}
+use Rattle.pot_replies.specs.Fetches.{IsOfPlace, MayFetch, LooksTwice, Mends, AreReads}
 use Rattle.pot_store.specs.Visits.{Visit, MayVisit, IsVisit, is_begin_at, is_oddly_at, begun_next, begun_from, place_in, logged_at, logged_from}
-use Rattle.pot_store.proofs.LookLemmas.{nat_same, in_group, in_other, same_place, both, hit, is_elsewhere, Apart, AreVisits, first_visit, rest_visits}
+use Rattle.pot_store.proofs.LookLemmas.{in_group, in_other, same_place, both, hit, is_elsewhere, Apart, AreVisits, first_visit, rest_visits}
 
 abbrev pub spot : ℕ → ℕ → ℕ → Place
 spot g s c = record { group = g; column = c; stripe = s }
 
 -- OF THE RECORD'S PLACES ALONE
-
-none_contained : {X : Type 0} (x : X) → Contains [] x → ⊥
-none_contained x (k, lt, is) = omega (arith, lt)
-
-pub one_contained : {X : Type 0} (x e : X) → Contains (x ∷ []) e → x ≡ e
-one_contained x e (zero, lt, is) = is
-one_contained x e (suc k, lt, is) = absurd (omega (arith, lt))
 
 pub same_default : {X : Type 0} (xs : List X) (i : ℕ) (d e : X) → i < length xs → slice_index_or xs i d ≡ slice_index_or xs i e
 same_default [] i d e lt = absurd (omega (arith, lt))
@@ -61,7 +57,7 @@ may_at : (kept : Record) (p : Place) (job g : ℕ) (v : Visit) (e : Entry) → I
 may_at kept p job g v e is has there = ⊎_elim
     (λ (same : p.group ≡ g). may_one kept p job g e same has (is.kinds e (subst (λ es. Contains es e) (in_group p g v same) there)))
     (λ (ne : p.group ≢ g). absurd (none_contained e (subst (λ es. Contains es e) (in_other p g v ne) there)))
-    (nat_same p.group g)
+    (cases_eq p.group g)
 
 pub may_from : (kept : Record) (job g b : ℕ) (vs : List Visit) (e : Entry) → AreVisits job kept.places b vs → b + length vs ≤ length kept.places
     → Contains (logged_from kept.places g b vs) e → MayFetch kept g e
@@ -89,7 +85,7 @@ module _ (job : ℕ) (places : List Place) (g s c : ℕ) (test : Entry → Bool)
       (λ (off : ((p.stripe == s) && (p.column == c)) ≡ false). inl (ap (filter test) (in_group p g v same) ∙ none_passes test v.entries (λ e has. passes p e off (is.kinds e has))))
       (both p.stripe p.column s c))
       (λ (ne : p.group ≢ g). inl (ap (filter test) (in_other p g v ne)))
-      (nat_same p.group g)
+      (cases_eq p.group g)
 
   pub none_of : (b : ℕ) (vs : List Visit) → AreVisits job places b vs → ((x : ℕ) → x < length vs → place_in places (b + x) ≢ spot g s c) → filter test (logged_from places g b vs) ≡ []
   none_of b [] are other = refl

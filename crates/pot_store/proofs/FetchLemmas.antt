@@ -4,9 +4,11 @@ use Rattle.std.specs.Prelude.{IfSome, Result, Ok, Err, Vec, Contains, slice_inde
 use Rattle.std.specs.Global.{Global}
 use Rattle.std.proofs.lemmas.List.Elements.{Contains-append_cases}
 use Rattle.std.proofs.lemmas.List.{length-map}
+use Rattle.std.proofs.lemmas.Bool.{cases_lt}
 use Rattle.pot_bytes.specs.declared.digest.Digest.{Digest}
 use Rattle.pot_bytes.specs.declared.rack.Place.{Place}
 use Rattle.pot_bytes.specs.declared.rack.Rack.{Rack}
+use Rattle.pot_bytes.proofs.Elements.{one_contained}
 use Rattle.pot_machine.specs.declared.entry.Entry.{Entry}
 use Rattle.pot_machine.specs.declared.entry.Entry.TheVariants as entry
 use Rattle.pot_machine.specs.Slot.{is_live, is_void}
@@ -15,6 +17,7 @@ use Rattle.pot_machine.specs.Logs.{own, replayed}
 use Rattle.pot_machine.proofs.Logs.{replays_is}
 use Rattle.pot_steps.specs.Stripe.{digest_of}
 use Rattle.pot_shard.specs.FileBlocks.{file_blocks}
+use Rattle.pot_steps.proofs.CallLemmas.{is_digest}
 use Rattle.pot_index.specs.declared.entry.IndexEntry.TheVariants.{Find, Publish}
 use Rattle.pot_index.specs.declared.entry.Logged.{Logged}
 use Rattle.pot_index.specs.declared.record.Record.{Record}
@@ -44,16 +47,14 @@ use Rattle.pot_store.specs.Reads.{IsMade, AreMade, AreHad, IsStopped, IsFileIn, 
 use Rattle.pot_store.specs.Fetches.{AreFilled, FetchRow}
 use Rattle.pot_store.proofs.WorkLemmas.{known_work, known_none, own_more}
 use Rattle.pot_store.proofs.ReadLemmas.{both_gained, read_back, seen_parts}
-use Rattle.pot_store.proofs.EntryLemmas.{one_contained, has_place}
+use Rattle.pot_store.proofs.EntryLemmas.{has_place}
 use Rattle.pot_store.proofs.StoredLemmas.{from_blocks, same_file}
-use Rattle.pot_store.proofs.RecordLemmas.{is_digest}
 use Rattle.pot_store.proofs.FilledLemmas.{filled_of}
 use Rattle.pot_store.proofs.GoneLemmas.{GoneTwice, has_origin, live_is}
 use Rattle.pot_store.proofs.FitLemmas.{there_is, has_slot, many_places}
 use Rattle.pot_store.proofs.RowLemmas.{entries, file_row, odd_row}
 use Rattle.pot_store.proofs.ShortLemmas.{lost_row, fault_row, full_row}
 use Rattle.pot_store.proofs.LookLemmas.{AreVisits, came_past}
-use Rattle.pot_store.proofs.GatherLemmas.{below_or_not}
 use Rattle.pot_store.proofs.SearchLemmas.{search_work, search_own, search_gain, met_names, found_fits}
 
 -- A RECORD
@@ -107,7 +108,7 @@ module _ (job : ℕ) (name : List ℕ) (rack : Rack) (names turn : List TurnName
 
     -- what was seen was visited
     seen_within : (x : ℕ) (b : List ℕ) → came_at visits x ≡ Seen b → x < length visits
-    seen_within x b is = ⊎_elim (λ (l : x < length visits). l) (λ (le : length visits ≤ x). absurd (cc (is, came_past visits x le))) (below_or_not x (length visits))
+    seen_within x b is = ⊎_elim (λ (l : x < length visits). l) (λ (le : length visits ≤ x). absurd (cc (is, came_past visits x le))) (cases_lt x (length visits))
 
     made : (x : ℕ) → x < length visits → IsMade job (place_in kept.places x) (visit_at visits x) v w
     made x lt = (let z : 0 + x ≡ x = omega arith in subst (λ m. IsMade job (place_in kept.places m) (visit_at visits x) v w) z (reads.each x lt))

@@ -2,6 +2,7 @@
 use Rattle.std.proofs.Common.{◌≡◌, ◌<◌, ◌≤◌, ◌⊎◌, ⊎_elim, ℕ, zero, suc, ◌+◌, ◌-◌, ◌*◌, List, [], ◌∷◌, ◌++◌, length, refl, ap, sym, ◌∙◌, subst, arith, append-nil, append_assoc, length-append, take, drop, length-drop}
 use Rattle.std.specs.List.{flat_map, range_with_len}
 use Rattle.std.proofs.lemmas.Nat.{mul-add-lt}
+use Rattle.std.proofs.lemmas.Bool.{cases_lt}
 use Rattle.pot_steps.proofs.AheadLemmas.{count_same}
 use Rattle.pot_object.specs.Pieces.{content_size, object_size, pieces_of}
 use Rattle.pot_split.specs.Secrecy.{meaning}
@@ -14,9 +15,6 @@ use Rattle.pot_store.specs.declared.fetching.FetchFault.{FetchFault}
 use Rattle.pot_store.specs.Visits.{Visit, was_seen, block_in, came_at, seen_in, read_in}
 use Rattle.pot_store.specs.Reads.{IsHad, AreHad, IsStopped, IsRefused, content_at, fragments_in, object_at}
 use Rattle.pot_store.proofs.LookLemmas.{came_front, came_back}
-
-pub below_or_not : (a b : ℕ) → (a < b) ⊎ (b ≤ a)
-below_or_not a b = grind arith
 
 -- LISTS BY NUMBER
 
@@ -113,7 +111,7 @@ had_then kept m k vs ws cs ds one two =
           let content : content_at ds (f - m) ≡ content_at (cs ++ ds) f =
           sym (at_back cs ds (f - m)) ∙ ap (content_at (cs ++ ds)) (let b = one.count in omega (arith, e, b)) in
           had_same n need ws (vs ++ ws) (f - m) f (content_at ds (f - m)) (content_at (cs ++ ds) f) (λ x less. at x) content (two.each (f - m) (omega (arith, lt, high))))
-          (below_or_not f m);
+          (cases_lt f m);
     }
 
 -- a stop behind more fragments

@@ -2,6 +2,7 @@
 use Rattle.std.proofs.Common.{◌≡◌, ◌≤◌, ◌⊎◌, inl, inr, ⊎_elim, ℕ, zero, suc, ◌+◌, false, List, [], ◌∷◌, ◌++◌, IsTrue, length, refl, ap, sym, ◌∙◌, subst, arith, append_assoc, length-append, eq-eqb}
 use Rattle.std.specs.Prelude.{Option, Some, None, IfSome, filter, Contains}
 use Rattle.std.proofs.lemmas.List.Elements.{filter-append, Contains-append_right}
+use Rattle.pot_bytes.proofs.Elements.{parted_at}
 use Rattle.pot_machine.specs.declared.entry.Entry.{Entry}
 use Rattle.pot_machine.specs.declared.entry.Entry.TheVariants as entry
 use Rattle.pot_machine.specs.declared.slot.SlotState.{SlotState}
@@ -15,7 +16,6 @@ use Rattle.pot_replies.specs.Jobs.{is_look_at}
 use Rattle.pot_replies.specs.Fetches.{LooksTwice, LastIs, GoneAgain}
 use Rattle.pot_shared.specs.declared.member.GroupOrigin.{GroupOrigin}
 use Rattle.pot_store.proofs.LookLemmas.{hit}
-use Rattle.pot_store.proofs.ReadLemmas.{parted}
 
 -- a second Gone, the slot having been Live at some point between the two
 pub record GoneTwice (first : Table) (job : ℕ) (before added : List Entry) (s c : ℕ) : Type 0 where
@@ -69,7 +69,7 @@ module _ (job s c : ℕ) where
 
   looks_there : (es : List Entry) → Contains es gone → 1 ≤ looks es
   looks_there es has =
-      let at = parted es gone has in
+      let at = parted_at es gone has in
       let all = ap looks at.2 in
       let parts = looks_parts at.0 (gone ∷ at.1) in
       let one = looks_gone at.1 in

@@ -2,14 +2,12 @@
 use Rattle.std.proofs.Common.{◌≡◌, ◌≢◌, ◌<◌, ◌≤◌, ◌⊎◌, inl, inr, ⊎_elim, ℕ, zero, suc, ◌+◌, Bool, true, false, List, [], ◌∷◌, ◌++◌, length, refl, ap, sym, ◌∙◌, subst, arith, append_assoc, append-nil, eq-eqb, ne_eqb, replicate}
 use Rattle.std.specs.Prelude.{find, is_some, slice_set, Contains, ◌==◌, ◌&&◌, ◌||◌}
 use Rattle.std.proofs.lemmas.List.Elements.{Contains-append_right}
+use Rattle.std.proofs.lemmas.Bool.{cases_eq}
 use Rattle.pot_bytes.specs.declared.rack.Place.{Place}
 use Rattle.pot_machine.specs.declared.entry.Entry.{Entry}
 use Rattle.pot_machine.specs.declared.entry.Entry.TheVariants as entry
 use Rattle.pot_replies.specs.Jobs.{is_look_at, is_seen_at, is_stuck_at}
 use Rattle.pot_store.specs.Visits.{Unknown, was_seen, Visit, unvisited, MayVisit, IsVisit, is_begin_at, visit_at, came_at, place_in, logged_at, logged_from}
-
-pub nat_same : (a b : ℕ) → (a ≡ b) ⊎ (a ≢ b)
-nat_same a b = grind arith
 
 -- VISITS BY NUMBER
 
@@ -71,7 +69,7 @@ in_other p g v ne = rw (ne_eqb p.group g ne) refl
 
 -- a visit that was not made logs nothing anywhere
 pub in_none : (p : Place) (g : ℕ) → logged_at p g unvisited ≡ []
-in_none p g = ⊎_elim (λ (e : p.group ≡ g). in_group p g unvisited e) (λ (ne : p.group ≢ g). in_other p g unvisited ne) (nat_same p.group g)
+in_none p g = ⊎_elim (λ (e : p.group ≡ g). in_group p g unvisited e) (λ (ne : p.group ≢ g). in_other p g unvisited ne) (cases_eq p.group g)
 
 pub same_place : (p q : Place) → p.group ≡ q.group → p.stripe ≡ q.stripe → p.column ≡ q.column → p ≡ q
 same_place p q g s c = λ i. record { group = g i; column = c i; stripe = s i }
@@ -82,9 +80,9 @@ both a b s c = ⊎_elim
     (λ (e : a ≡ s). ⊎_elim
     (λ (f : b ≡ c). inl (e, f))
     (λ (ne : b ≢ c). inr (rw (eq-eqb a s e, ne_eqb b c ne) refl))
-    (nat_same b c))
+    (cases_eq b c))
     (λ (ne : a ≢ s). inr (rw (ne_eqb a s ne) refl))
-    (nat_same a s)
+    (cases_eq a s)
 
 pub hit : (a b s c : ℕ) → a ≡ s → b ≡ c → ((a == s) && (b == c)) ≡ true
 hit a b s c e f = rw (eq-eqb a s e, eq-eqb b c f) refl
@@ -145,7 +143,7 @@ not_seen p q job v is ne = ⊎_elim
     none_among p.stripe p.column v.entries (λ x has. (is_elsewhere job q p.stripe p.column off x (is.kinds x has)).seen))
     (both q.stripe q.column p.stripe p.column))
     (λ (other : q.group ≢ p.group). ap (seen_among p.stripe p.column) (in_other q p.group v other))
-    (nat_same q.group p.group)
+    (cases_eq q.group p.group)
 
 -- THE VISITS TO THE BLOCKS OF A RECORD
 

@@ -4,13 +4,13 @@ use Rattle.std.specs.Prelude.{IfSome, All}
 use Rattle.pot_bytes.specs.declared.digest.Digest.{Digest}
 use Rattle.pot_bytes.specs.declared.rack.Place.{Place}
 use Rattle.pot_bytes.specs.declared.rack.Rack.{Rack}
+use Rattle.pot_bytes.specs.Rack.{log_bound}
 use Rattle.pot_machine.specs.declared.entry.Entry.{Entry}
 use Rattle.pot_machine.specs.declared.entry.Entry.TheVariants as entry
 use Rattle.pot_machine.specs.Machine.{Replays}
 use Rattle.pot_machine.specs.Rules.{IsTable}
 use Rattle.pot_machine.specs.Table.{Table}
 use Rattle.pot_machine.specs.Logs.{is_of}
-use Rattle.pot_steps.specs.GroupStep.{log_bound}
 use Rattle.pot_group.specs.declared.relaying.Mend.{Mend}
 use Rattle.pot_group.specs.declared.relaying.Mend.TheVariants as mend
 use Rattle.pot_group.specs.Group.{GroupView}
@@ -24,6 +24,7 @@ use Rattle.pot_shared.specs.Members.{entries_of, origin_of}
 use Rattle.pot_shared.specs.Ready.{AreReady, GroupPass, GroupPasses}
 use Rattle.pot_shared.specs.Calls.{CallAt, CallTurn}
 use Rattle.pot_group.specs.Calls.{MendCall}
+use Rattle.pot_replies.proofs.Excluding.{last_same}
 use Rattle.pot_shared.specs.MendCalls.{GoesOn, MendTurns, MendsPlace, begins, blind_at}
 use Rattle.pot_shared.proofs.CallLemmas.{ready_again, set_twice}
 use Rattle.pot_store.specs.Adds.{Adds, IsFirst}
@@ -97,21 +98,9 @@ module _ (told : Type 0) (rack : Rack) (names : List TurnName) (job : ℕ) (p : 
 
 -- IN VAIN
 
--- two lists with one last entry
-same_last : (xs ys : List Entry) (x y : Entry) → xs ++ x ∷ [] ≡ ys ++ y ∷ [] → x ≡ y
-same_last [] [] x y e = cc e
-same_last [] (b ∷ []) x y e = absurd (cc e)
-same_last [] (b ∷ (d ∷ ys)) x y e = absurd (cc e)
-same_last (a ∷ []) [] x y e = absurd (cc e)
-same_last (a ∷ (d ∷ xs)) [] x y e = absurd (cc e)
-same_last (a ∷ xs) (b ∷ ys) x y e = same_last xs ys x y (tails a b (xs ++ x ∷ []) (ys ++ y ∷ []) e)
-  where
-    tails : (a b : Entry) (xs ys : List Entry) → a ∷ xs ≡ b ∷ ys → xs ≡ ys
-    tails a b xs ys e = cc e
-
 -- another entry than a Gone is the last
 no_gone : (job : ℕ) (p : Place) (xs : List Entry) (x : Entry) → (x ≡ entry.Gone job p.stripe p.column → ⊥) → EndsGone job p (xs ++ x ∷ []) → ⊥
-no_gone job p xs x other (sofar, e, parts, is) = other (same_last xs sofar x e parts ∙ is)
+no_gone job p xs x other (sofar, e, parts, is) = other (last_same xs sofar x e parts ∙ is)
 
 no_block : (job : ℕ) (p : Place) (c : Came) (old new : GroupPasses) → ((block : List ℕ) → c ≡ came.Seen block → ⊥) → ReadsBlock job p c old new
 no_block job p c old new unseen = record { read = λ block is. absurd (unseen block is); gives = λ block is d put. absurd (unseen block is) }

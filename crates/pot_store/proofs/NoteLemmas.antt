@@ -6,6 +6,7 @@ use Rattle.std.specs.Cmp.{nat_eq_equiv}
 use Rattle.std.proofs.lemmas.List.Elements.{All-push}
 use Rattle.std.proofs.lemmas.List.Folds.{list_any_none}
 use Rattle.std.proofs.lemmas.Map.Keys.{IsDistinct-push}
+use Rattle.std.proofs.lemmas.Bool.{cases_eq}
 use Rattle.pot_machine.specs.Table.{count}
 use Rattle.pot_machine.proofs.Searches.{count_zero}
 use Rattle.pot_steps.proofs.AheadLemmas.{count_same}
@@ -13,7 +14,6 @@ use Rattle.pot_replies.specs.Joined.{Read, point_in, share_in, points_read, shar
 use Rattle.pot_store.specs.declared.visiting.Point.{Point}
 use Rattle.pot_store.specs.declared.visiting.Point.TheVariants as point
 use Rattle.pot_store.specs.Visits.{Came, Unknown, Seen, Gone, Lost, Failed, Barred, came_of, was_seen, block_in}
-use Rattle.pot_store.proofs.LookLemmas.{nat_same}
 use Rattle.pot_store.proofs.GatherLemmas.{flat_more}
 
 -- COUNTS
@@ -24,15 +24,6 @@ one_if b = if b then 1 else 0
 pub count_more : (n : ℕ) (test : ℕ → Bool) → count (n + 1) test ≡ count n test + one_if (test n)
 unfolding count
 count_more n test = rw add-one refl
-
-pub count_none : (n : ℕ) (test : ℕ → Bool) → ((x : ℕ) → x < n → test x ≡ false) → count n test ≡ 0
-count_none zero test none = count_zero test
-count_none (suc n) test none =
-    let e : suc n ≡ n + 1 = omega arith in
-    let last : one_if (test n) ≡ 0 = ap one_if (none n (omega arith)) in
-    let rest = count_none n test (λ x lt. none x (omega (arith, lt))) in
-    let more = count_more n test in
-    ap (λ m. count m test) e ∙ omega (arith, more, last, rest)
 
 -- one number changed: at most one more
 pub count_change : (n x : ℕ) (old new : ℕ → Bool) → ((y : ℕ) → y ≢ x → new y ≡ old y) → count n new ≤ count n old + one_if (new x)
@@ -50,7 +41,7 @@ count_change (suc n) x old new same =
     let before = count_change n x old new same in
     let at : one_if (new n) ≡ one_if (old n) = ap one_if (same n ne) in
     omega (arith, a, b, before, at))
-    (nat_same n x)
+    (cases_eq n x)
 
 pub one_most : (b : Bool) → one_if b ≤ 1
 one_most true = omega arith

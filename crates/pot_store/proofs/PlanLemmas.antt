@@ -1,7 +1,6 @@
 -- How many blocks a file has.
 use Rattle.std.proofs.Common.{◌≤◌, ◌*◌, ℕ, arith}
 use Rattle.std.proofs.Math.Nat.{mul-le-mul_left}
-use Rattle.pot_object.specs.Pieces.{longest, pieces_of}
 
 -- at most 1,024 pieces of at most 8 fragments of at most 16 points
 pub few_blocks : (p k n : ℕ) → p ≤ 1024 → k ≤ 8 → n ≤ 16 → p * (k * n) ≤ 131072
@@ -12,6 +11,3 @@ few_blocks p k n a b c =
     let two : p * (k * n) ≤ p * 128 = mul-le-mul_left p one in
     let p128 : p * 128 ≤ 131072 = omega (arith, a) in
     omega (arith, two, p128)
-
-pub few_pieces : (n : ℕ) → n ≤ longest → pieces_of n ≤ 1024
-few_pieces n le = grind (arith, le)

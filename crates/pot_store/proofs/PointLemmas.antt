@@ -2,12 +2,14 @@
 use Rattle.std.proofs.Common.{◌≡◌, ◌≢◌, ◌<◌, ◌≤◌, ◌⊎◌, inl, inr, ⊎_elim, ℕ, zero, suc, ◌+◌, ◌*◌, true, false, List, [], ◌∷◌, ◌++◌, length, refl, ap, sym, ◌∙◌, subst, arith, replicate, drop}
 use Rattle.std.specs.Prelude.{Ok, Err, Contains, filter, slice_set, slice_index_or}
 use Rattle.std.proofs.lemmas.List.{length-replicate}
+use Rattle.std.proofs.lemmas.Bool.{cases_eq, cases_lt}
 use Rattle.pot_bytes.specs.declared.rack.Place.{Place}
 use Rattle.pot_machine.specs.declared.entry.Entry.{Entry}
 use Rattle.pot_machine.specs.declared.entry.Entry.TheVariants as entry
 use Rattle.pot_machine.specs.Table.{count}
 use Rattle.pot_split.specs.Threshold.{IsJoin}
 use Rattle.pot_object.specs.Pieces.{content_size}
+use Rattle.pot_machine.proofs.Searches.{count_none}
 use Rattle.pot_index.specs.declared.record.Record.{Record}
 use Rattle.pot_rows.specs.Works.{AllIdle}
 use Rattle.pot_replies.specs.Fetches.{LooksTwice}
@@ -22,11 +24,11 @@ use Rattle.pot_store.specs.declared.visiting.Point.TheVariants as point
 use Rattle.pot_store.specs.Visits.{Came, Unknown, Seen, Gone, Lost, Failed, Barred, was_seen, block_in, Visit, unvisited, MayVisit, LooksOnce, MendsOn, EndsVisit, EndsSecond, EndsInVain, EndsGone, look_logs, visit_at, came_at, place_in, seen_in}
 use Rattle.pot_store.specs.Points.{came_in, AreUnknown, IsSet, AreGathered}
 use Rattle.pot_store.specs.Reads.{AreMade, PointRead, AreTried, PointsTried, PointsBarred, PointsRead, IsShort, IsMissing, IsRefused, FragmentRead}
-use Rattle.pot_store.proofs.LookLemmas.{nat_same, hit, visit_none, visit_set, visit_other, set_long}
+use Rattle.pot_store.proofs.LookLemmas.{hit, visit_none, visit_set, visit_other, set_long}
 use Rattle.pot_store.proofs.FitLemmas.{GroupsDiffer}
 use Rattle.pot_store.proofs.ReadLemmas.{GoesOn, no_reads, reads_set}
-use Rattle.pot_store.proofs.GatherLemmas.{below_or_not, had_one}
-use Rattle.pot_store.proofs.NoteLemmas.{count_change, count_none, not_barred, one_if, one_most}
+use Rattle.pot_store.proofs.GatherLemmas.{had_one}
+use Rattle.pot_store.proofs.NoteLemmas.{count_change, not_barred, one_if, one_most}
 
 -- A LOOK, AND A MEND BEHIND IT
 
@@ -124,7 +126,7 @@ module _ (vs : List Visit) (x : ℕ) (v : Visit) (lt : x < length vs) where
   set_same old new same (here, others) y = ⊎_elim
       (λ (e : y ≡ x). subst (λ z. came_in new z ≡ came_at (slice_set vs x v) z) (sym e) (here ∙ sym set_came))
       (λ (ne : y ≢ x). others y ne ∙ (same y ∙ sym (other_came y ne)))
-      (nat_same y x)
+      (cases_eq y x)
 
   -- at most one more was seen
   set_seen : (n : ℕ) → seen_in n (slice_set vs x v) ≤ seen_in n vs + one_if (was_seen v.came)
@@ -194,7 +196,7 @@ module _ (job : ℕ) (places : List Place) (from n need x : ℕ) (points new : P
           looked = λ y less. ⊎_elim
               (λ (e : y ≡ x). (λ none. read.step.known (inl (sym (set_came sofar.visits x visit within) ∙ (ap (came_at (slice_set sofar.visits x visit)) (sym e) ∙ none)))))
               (λ (ne : y ≢ x). (λ none. sofar.looked y (omega (arith, less, ne)) (sym (other_came sofar.visits x visit within y ne) ∙ none)))
-              (nat_same y x);
+              (cases_eq y x);
           rest = λ y le. visit_other sofar.visits x y visit (λ e. omega (arith, e, le)) ∙ sofar.rest y (omega (arith, le));
           low = (let s = set_seen sofar.visits x visit within n in let m = one_most (was_seen read.came) in let f = fewer in omega (arith, s, m, f));
         }
@@ -238,7 +240,7 @@ looks_end job places from n need x points u v sofar e = record {
   tried = ⊎_elim
       (λ (less : seen_in n sofar.visits < need). inr (less, λ y lt. (sofar.looked y (omega (arith, lt, e)), λ none. absurd (omega (arith, none)))))
       (λ (le : need ≤ seen_in n sofar.visits). inl (let l = sofar.low in omega (arith, l, le)))
-      (below_or_not (seen_in n sofar.visits) need);
+      (cases_lt (seen_in n sofar.visits) need);
 }
 
 -- MENDS
@@ -279,7 +281,7 @@ module _ (job : ℕ) (places : List Place) (from n need x : ℕ) (points : Point
           λ low gone. ⊎_elim
               (λ (e : y ≡ x). other (sofar.same x ∙ (ap (came_at vs) (sym e) ∙ gone)))
               (λ (ne : y ≢ x). (each y lt).1 (omega (arith, low, ne)) gone)
-              (nat_same y x),
+              (cases_eq y x),
         ),
       )
 
@@ -341,10 +343,10 @@ module _ (job : ℕ) (places : List Place) (from n need x : ℕ) (points : Point
                     (λ (ne : y ≢ x).
                     let there = other_came vs x visit in_list y ne in
                     (λ none. (still.1 y within).0 (sym there ∙ none), λ low gone. (still.1 y within).1 (omega (arith, low, ne)) (sym there ∙ gone)))
-                    (nat_same y x),
+                    (cases_eq y x),
               ))
               (λ (le : need ≤ seen_in n (slice_set vs x visit)). inl (omega (arith, seen, le)))
-              (below_or_not (seen_in n (slice_set vs x visit)) need);
+              (cases_lt (seen_in n (slice_set vs x visit)) need);
         }
 
     -- a call was refused

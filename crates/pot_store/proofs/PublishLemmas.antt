@@ -9,6 +9,7 @@ use Rattle.pot_bytes.specs.Lists.{AreBytes}
 use Rattle.pot_bytes.specs.Rack.{IsRack}
 use Rattle.pot_bytes.specs.declared.rack.Place.{Place}
 use Rattle.pot_bytes.specs.declared.rack.Rack.{Rack}
+use Rattle.pot_bytes.proofs.Elements.{element_of_map}
 use Rattle.pot_object.specs.Pieces.{longest, pieces_of}
 use Rattle.pot_pads.specs.Pads.{Pads}
 use Rattle.pot_steps.specs.Stripe.{digest_of}
@@ -30,12 +31,6 @@ use Rattle.pot_store.specs.Puts.{ArePut}
 use Rattle.pot_store.specs.Stores.{record_of}
 
 -- LISTS
-
--- an element of a mapped list
-pub map_get : {A B : Type 0} (f : A → B) (xs : List A) (n : ℕ) (y : B) → slice_get (map f xs) n ≡ Some y → (x : A) × (slice_get xs n ≡ Some x) × (f x ≡ y)
-map_get f [] n y is = absurd (cc is)
-map_get f (x ∷ xs) zero y is = (x, refl, same_Some (f x) y is)
-map_get f (x ∷ xs) (suc n) y is = map_get f xs n y is
 
 pub get_map : {A B : Type 0} (f : A → B) (xs : List A) (n : ℕ) (x : A) → slice_get xs n ≡ Some x → slice_get (map f xs) n ≡ Some (f x)
 get_map f [] n x is = absurd (cc is)
@@ -75,7 +70,7 @@ more_parts n job rack names old new ready ready2 worked parts at lt =
 module _ (rack : Rack) (job : ℕ) (name file : List ℕ) (pads : Pads) (blocks : List (List ℕ)) (places : List Place) (old new : GroupPasses) (is_rack : IsRack rack)
     (short : length file ≤ longest) (count : length places ≡ pieces_of (length file) * (rack.geometry.fragments * rack.geometry.shards)) (puts : ArePut rack job blocks places old new) where
   placed_at : (b : ℕ) (p : Place) → slice_get places b ≡ Some p → (x : Placed) × (slice_get puts.placed b ≡ Some x) × (place_of x ≡ p)
-  placed_at b p is = map_get place_of puts.placed b p (sym (ap (λ ps. slice_get ps b) puts.places_are) ∙ is)
+  placed_at b p is = element_of_map place_of puts.placed b p (sym (ap (λ ps. slice_get ps b) puts.places_are) ∙ is)
 
   fits_split : FitsSplit rack (pieces_of (length file)) (record { geometry = rack.geometry; places = places })
   fits_split = record {
@@ -95,7 +90,7 @@ module _ (rack : Rack) (job : ℕ) (name file : List ℕ) (pads : Pads) (blocks 
   digest_at : (b : ℕ) (x : Placed) → slice_get puts.placed b ≡ Some x → x.digest ≡ digest_of (slice_index_or blocks b [])
   digest_at b x is =
       let at : slice_get (map digest_of (take (length puts.placed) blocks)) b ≡ Some x.digest = sym (ap (λ ds. slice_get ds b) puts.digests) ∙ get_map (λ (y : Placed). y.digest) puts.placed b x is in
-      let m = map_get digest_of (take (length puts.placed) blocks) b x.digest at in
+      let m = element_of_map digest_of (take (length puts.placed) blocks) b x.digest at in
       sym m.2 ∙ ap digest_of (sym (get_or_of blocks b m.0 [] (take_get blocks (length puts.placed) b m.0 m.1)))
 
   pub sees : AreBytes file → blocks ≡ blocks_from rack.geometry file pads → SeesFile new (record_of name file rack.geometry places)

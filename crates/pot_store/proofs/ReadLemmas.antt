@@ -2,9 +2,11 @@
 use Rattle.std.proofs.Common.{◌≡◌, ◌≢◌, ◌<◌, ◌≤◌, inl, ⊎_elim, ℕ, zero, suc, ◌+◌, ◌-◌, Bool, true, false, List, [], ◌∷◌, ◌++◌, length, refl, ap, sym, ◌∙◌, subst, arith, append-nil, append_assoc, length-append, replicate}
 use Rattle.std.specs.Prelude.{IfSome, Contains, filter, slice_set, if◌then◌else◌}
 use Rattle.std.proofs.lemmas.List.Elements.{Contains-append_left, Contains-append_right}
-use Rattle.std.proofs.lemmas.List.{map-append}
+use Rattle.std.proofs.lemmas.List.{map-append, drop-length}
+use Rattle.std.proofs.lemmas.Bool.{cases_eq, cases_lt}
 use Rattle.pot_bytes.specs.declared.digest.Digest.{Digest}
 use Rattle.pot_bytes.specs.declared.rack.Place.{Place}
+use Rattle.pot_bytes.proofs.Elements.{parted_at}
 use Rattle.pot_machine.specs.declared.entry.Entry.{Entry}
 use Rattle.pot_machine.specs.declared.entry.Entry.TheVariants as entry
 use Rattle.pot_machine.specs.declared.slot.SlotState.TheVariants.{Live}
@@ -23,9 +25,8 @@ use Rattle.pot_store.specs.Works.{of_job, gained}
 use Rattle.pot_store.specs.Adds.{Adds}
 use Rattle.pot_store.specs.Visits.{Came, Lost, Visit, unvisited, IsVisit, IsReadAt, HasPut, ReadsBlock, SoundThenGone, EndsGone, visit_at, place_in, logged_from}
 use Rattle.pot_store.specs.Reads.{IsMade, AreMade}
-use Rattle.pot_store.proofs.WorkLemmas.{drop_all, own_more, row_stays}
-use Rattle.pot_store.proofs.GatherLemmas.{below_or_not}
-use Rattle.pot_store.proofs.LookLemmas.{nat_same, visit_front, visit_back, visit_none, visit_set, visit_other, set_long, logged-append, logged_none, logged_last, logged_set, logged_set_else}
+use Rattle.pot_store.proofs.WorkLemmas.{own_more, row_stays}
+use Rattle.pot_store.proofs.LookLemmas.{visit_front, visit_back, visit_none, visit_set, visit_other, set_long, logged-append, logged_none, logged_last, logged_set, logged_set_else}
 
 -- AN ENTRY AMONG OTHERS
 
@@ -41,12 +42,6 @@ from_filter test (x ∷ es) e has = at (test x) refl (from_filter test es e)
         first (zero, lt, same) = (zero, omega arith, same)
         first (suc k, lt, same) = Contains-append_right (x ∷ []) es e (rest (k, omega (arith, lt), same))
     at false is rest = Contains-append_right (x ∷ []) es e (rest (subst (λ b. Contains (if b then x ∷ filter test es else filter test es) e) is has))
-
--- and parts it in two
-pub parted : (es : List Entry) (e : Entry) → Contains es e → (a : List Entry) × (b : List Entry) × (es ≡ a ++ e ∷ b)
-parted [] e (k, lt, is) = absurd (omega (arith, lt))
-parted (x ∷ es) e (zero, lt, is) = ([], es, ap (λ y. y ∷ es) is)
-parted (x ∷ es) e (suc k, lt, is) = (let r = parted es e (k, omega (arith, lt), is) in (x ∷ r.0, r.1, ap (λ l. x ∷ l) r.2))
 
 -- ONE VISIT MORE
 
@@ -180,7 +175,7 @@ module _ (job : ℕ) (u v w : GroupPasses) (first : RowWorked (of_job job) u v) 
         let less : y < length ws = (let n = length-append vs ws in omega (arith, at, lt, n)) in
         subst (λ z. IsMade job (place_in places (from + x)) z u w) (sym (visit_back vs ws y) ∙ ap (visit_at (vs ++ ws)) at)
         (subst (λ n. IsMade job (place_in places n) (visit_at ws y) u w) place (made_back (place_in places ((from + length vs) + y)) (visit_at ws y) (two.each y less))))
-        (below_or_not x (length vs));
+        (cases_lt x (length vs));
   }
 
 -- one visit among others goes on, the later ones standing in other groups
@@ -205,7 +200,7 @@ module _ (job : ℕ) (u v w : GroupPasses) (places : List Place) (from : ℕ) (v
       (λ (ne : p.group ≢ g).
       ap (λ l. logged_from places g from vs ++ l) (on.adds.none_else parts.1 g (λ e. ne (sym e)))
       ∙ (append-nil (logged_from places g from vs) ∙ sym (logged_set_else places g from vs x new ne)))
-      (nat_same p.group g))
+      (cases_eq p.group g))
 
   -- the Gone of before stands in what the first part gained
   gone_there : RowAlone (of_job job) u v → Contains (visit_at vs x).entries gone → Contains (gained u v p.group) gone
@@ -221,7 +216,7 @@ module _ (job : ℕ) (u v w : GroupPasses) (places : List Place) (from : ℕ) (v
     again = λ alone lost ends.
         let parts = row_alone_in_parts (of_job job) u v w reads.worked on.adds.worked alone in
         let it = on.again lost ends in
-        let at = parted (gained u v p.group) gone (gone_there parts.0 it.0) in
+        let at = parted_at (gained u v p.group) gone (gone_there parts.0 it.0) in
         gone_back job u v w reads.worked on.adds.worked p (λ y. Unit {0}) (λ y. (a : List Entry) × (between : List Entry) × (y ≡ a ++ gone ∷ between))
         (λ y so. (at.0, at.1 ++ y, ap (λ l. l ++ y) at.2 ∙ append_assoc at.0 (gone ∷ at.1) y)) it.1;
   }
@@ -236,7 +231,7 @@ module _ (job : ℕ) (u v w : GroupPasses) (places : List Place) (from : ℕ) (v
         (λ (ne : y ≢ x).
         subst (λ z. IsMade job (place_in places (from + y)) z u w) (sym (visit_other vs x y new ne))
         (made_front job u v w reads.worked on.adds.worked (place_in places (from + y)) (visit_at vs y) (reads.each y (let l = set_long vs x new in omega (arith, l, less)))))
-        (nat_same y x);
+        (cases_eq y x);
   }
 
 -- NONE YET
@@ -261,6 +256,6 @@ unmade job p u = record {
 pub no_reads : (job : ℕ) (places : List Place) (from n : ℕ) (u : GroupPasses) → AllIdle u → AreMade job places from (replicate n unvisited) u u
 no_reads job places from n u idle = record {
   worked = row_stays (of_job job) u idle;
-  own = λ alone g. ap (λ ls. own job (entries_of ls)) (drop_all (view_at u g).seen) ∙ sym (logged_none places g from n);
+  own = λ alone g. ap (λ ls. own job (entries_of ls)) (drop-length (view_at u g).seen) ∙ sym (logged_none places g from n);
   each = λ x lt. subst (λ v. IsMade job (place_in places (from + x)) v u u) (sym (visit_none n x)) (unmade job (place_in places (from + x)) u);
 }

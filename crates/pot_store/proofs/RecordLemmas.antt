@@ -3,7 +3,6 @@ use Rattle.std.proofs.Common.{◌≡◌, ◌≢◌, ℕ, Bool, true, false, List
 use Rattle.std.specs.Prelude.{Vec, Ok, Err, nat_eq, not}
 use Rattle.std.specs.Cmp.Lexicographic.{pointwise, same_text, other_text}
 use Rattle.std.specs.Global.{Global}
-use Rattle.pot_bytes.specs.Digests.{digest_bytes}
 use Rattle.pot_bytes.specs.declared.digest.Digest.{Digest}
 use Rattle.pot_steps.specs.Stripe.{digest_of}
 use Rattle.pot_index.specs.declared.record.Record.{Record}
@@ -14,10 +13,6 @@ use Rattle.pot_store.specs.declared.fetching.FetchFault.TheVariants as fault
 use Rattle.pot_store.specs.Visits.{Visit}
 use Rattle.pot_store.specs.Reads.{IsStopped, EndsFetch, FileRead, RecordRead}
 use Rattle.pot_store.proofs.ReadLemmas.{no_reads}
-
-pub is_digest : (d : Digest) (b : List ℕ) → d.bytes ≡ digest_bytes b → d ≡ digest_of b
-unfolding digest_of
-is_digest d b e = ap (λ x. record { bytes = x }) e
 
 -- what a comparison of digests tells
 pub digests_same : (a b : Digest) → false ≡ not (pointwise nat_eq a.bytes b.bytes) → a ≡ b

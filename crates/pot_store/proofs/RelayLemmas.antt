@@ -1,7 +1,7 @@
 -- What the turns of a mend log.
 use Rattle.std.proofs.Common.{◌≡◌, ◌≤◌, ◌⊎◌, inl, inr, ℕ, zero, suc, Bool, true, false, List, [], ◌∷◌, ◌++◌, length, refl, ap, sym, ◌∙◌, subst, arith, eq-eqb}
 use Rattle.std.specs.Prelude.{Option, Some, None, IsSomeAnd, IsTrue, Result, Ok, Err, Contains, ◌==◌, ◌&&◌, ◌↔◌, if◌then◌else◌, filter, find, is_some}
-use Rattle.std.proofs.lemmas.Bool.Decides.{nat_tests}
+use Rattle.std.proofs.lemmas.Bool.{eqb-true}
 use Rattle.pot_bytes.specs.declared.digest.Digest.{Digest}
 use Rattle.pot_bytes.specs.declared.rack.Place.{Place}
 use Rattle.pot_machine.specs.declared.entry.Entry.{Entry}
@@ -107,15 +107,12 @@ module _ (job : ℕ) (p : Place) where
 
 -- ONE TURN
 
-is_same : (a b : ℕ) → IsTrue (a == b) → a ≡ b
-is_same a b e = grind (arith, nat_tests)
-
 -- the tests for a place pass no other
 elsewhere : (a b s c : ℕ) → (a ≡ s → b ≡ c → ⊥) → ((a == s) && (b == c)) ≡ false
 elsewhere a b s c other = at (a == s) refl (b == c) refl
   where
     at : (x : Bool) → (a == s) ≡ x → (y : Bool) → (b == c) ≡ y → ((a == s) && (b == c)) ≡ false
-    at true e true f = absurd (other (is_same a s e) (is_same b c f))
+    at true e true f = absurd (other (eqb-true a s e) (eqb-true b c f))
     at true e false f = rw (e, f) refl
     at false e y f = rw e refl
 

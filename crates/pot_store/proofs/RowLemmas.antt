@@ -1,6 +1,7 @@
 -- The answers of a fetch that read all blocks it needs, by what its visits logged.
 use Rattle.std.proofs.Common.{◌≡◌, ◌≢◌, ◌<◌, ◌≤◌, ⊎_elim, ℕ, ◌+◌, ◌*◌, true, List, length, refl, ap, sym, ◌∙◌, subst, arith}
 use Rattle.std.specs.Prelude.{Option, None, is_some, find}
+use Rattle.std.proofs.lemmas.Bool.{cases_lt}
 use Rattle.pot_bytes.specs.declared.digest.Digest.{Digest}
 use Rattle.pot_bytes.specs.declared.rack.Place.{Place}
 use Rattle.pot_bytes.specs.declared.rack.Rack.{Rack}
@@ -9,18 +10,18 @@ use Rattle.pot_machine.specs.Logs.{own}
 use Rattle.pot_steps.proofs.AheadLemmas.{count_same}
 use Rattle.pot_steps.specs.Stripe.{digest_of}
 use Rattle.pot_object.specs.Pieces.{pieces_of}
+use Rattle.pot_shard.specs.Places.{place_at}
 use Rattle.pot_index.specs.declared.record.Record.{Record}
 use Rattle.pot_index.specs.Fits.{FitsRack}
 use Rattle.pot_replies.specs.Jobs.{is_seen_at}
 use Rattle.pot_replies.specs.Sections.{Section, mine}
 use Rattle.pot_replies.specs.Settings.{Setting}
-use Rattle.pot_replies.specs.Fetches.{Found, FetchEntries, IsFile, IsOdd, SeenAs, place_at, has_seen, seen_of}
+use Rattle.pot_replies.specs.Fetches.{Found, FetchEntries, IsFile, IsOdd, SeenAs, has_seen, seen_of}
 use Rattle.pot_store.specs.Visits.{Came, Unknown, Seen, Gone, Lost, Failed, Barred, Visit, was_seen, block_in, came_at, place_in, logged_from}
 use Rattle.pot_store.specs.Reads.{IsFileIn, content_at}
 use Rattle.pot_store.proofs.LookLemmas.{AreVisits, came_past, seen_is, seen_not}
 use Rattle.pot_store.proofs.EntryLemmas.{reads_from, mends_from}
 use Rattle.pot_store.proofs.FitLemmas.{fragment_within, point_within, apart}
-use Rattle.pot_store.proofs.GatherLemmas.{below_or_not}
 use Rattle.pot_store.proofs.NoteLemmas.{no_block}
 
 block_is : (a : Came) → was_seen a ≡ true → (b : List ℕ) × (a ≡ Seen b)
@@ -55,12 +56,12 @@ module _ (s : Setting) (rack : Rack) (job : ℕ) (name : List ℕ) (kept : Recor
       (⊎_elim
       (λ (l : b < length vs). seen_is kept.places job (length kept.places) 0 vs b (apart rack kept fits) are (omega (arith, room)) l)
       (λ (past : length vs ≤ b). seen_not kept.places job (length kept.places) 0 vs b (apart rack kept fits) are (omega (arith, room)) past (omega (arith, lt)) ∙ sym (ap was_seen (came_past vs b past)))
-      (below_or_not b (length vs)))
+      (cases_lt b (length vs)))
 
   -- and so many of a fragment
   pub seen_of_is : (i j : ℕ) → i < pieces_of kept.length → j < k → seen_of (mine job w).own kept i j ≡ count n (λ x. was_seen (came_at vs ((i * k + j) * n + x)))
   seen_of_is i j a b =
-      count_same n (λ x. has_seen (mine job w).own (place_at kept i j x)) (λ x. was_seen (came_at vs ((i * k + j) * n + x)))
+      count_same n (λ x. has_seen (mine job w).own (place_at kept.geometry kept.places i j x)) (λ x. was_seen (came_at vs ((i * k + j) * n + x)))
       (λ x lt. has_is ((i * k + j) * n + x) (point_within rack kept fits (i * k + j) x (fragment_within rack kept fits i j a b) lt))
 
   -- A FILE
@@ -97,7 +98,7 @@ module _ (s : Setting) (rack : Rack) (job : ℕ) (name : List ℕ) (kept : Recor
       unseen = λ i j x none. ⊎_elim
           (λ (lt : (i * k + j) * n + x < length kept.places). no_block (came_at vs ((i * k + j) * n + x)) (sym (has_is ((i * k + j) * n + x) lt) ∙ none))
           (λ (le : length kept.places ≤ (i * k + j) * n + x). past_none ((i * k + j) * n + x) le)
-          (below_or_not ((i * k + j) * n + x) (length kept.places));
+          (cases_lt ((i * k + j) * n + x) (length kept.places));
       wanted_is = wanted_is;
       bytes = bytes;
       joined = record {

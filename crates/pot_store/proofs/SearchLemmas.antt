@@ -12,7 +12,7 @@ use Rattle.pot_index.specs.Calls.{Finds}
 use Rattle.pot_index.specs.Entries as index
 use Rattle.pot_index.specs.Entries.{plain}
 use Rattle.pot_index.specs.Fits.{FitsRack}
-use Rattle.pot_index.specs.Index.{IndexView, Names, Replays, names_read}
+use Rattle.pot_index.specs.Index.{IndexView, Names, names_read}
 use Rattle.pot_index.specs.Index as index_of
 use Rattle.pot_turn.specs.declared.name.TurnName.{TurnName}
 use Rattle.pot_worked.specs.Worked.{added}
@@ -34,6 +34,7 @@ use Rattle.pot_shared.specs.IndexCalls.{IndexCall, FindsRecord}
 use Rattle.pot_store.specs.Works.{gained, known, section_of, JobWorked, JobAlone, IsSettingOf}
 use Rattle.pot_store.specs.Fetches.{IsUnfinished}
 use Rattle.pot_store.proofs.WorkLemmas.{all_none, all_one, known_work, known_none, index_work, index_own}
+use Rattle.pot_store.proofs.IndexLemmas.{names_to}
 
 -- WHAT A SEARCH LOGS
 
@@ -57,11 +58,6 @@ found_log job name s t (Ok r) is = ap (λ (i : IndexView). i.log) is.2
 found_log job name s t (Err find.Absent) is = ap (λ (i : IndexView). i.log) is.2
 found_log job name s t (Err find.LogFull) is = same_log s t is.1
 found_log job name s t (Err find.NoMemory) is = same_log s t is.2
-
--- the names that a log leads to
-pub names_are : (rack : Rack) (n : Names) (log : List Logged) (m : Names) → Replays rack n log m → names_after n log ≡ m
-names_are rack n [] m is = sym is
-names_are rack n (x ∷ log) m is = names_are rack (index_of.after n x) log m is.1
 
 module _ (job : ℕ) (name : List ℕ) (rack : Rack) (names turn : List TurnName) (u w : IndexPasses) (row : GroupPasses) (result : Result Record FindFault)
     (ready : IsIndexReady rack names turn u) (call : IndexCall (FindsRecord job name result row) u w) where
@@ -110,7 +106,7 @@ module _ (job : ℕ) (name : List ℕ) (rack : Rack) (names turn : List TurnName
     met_names =
         ap (λ r. names_after (names_read r) ((view_at u 0).seen ++ call.turn.others)) met_read
         ∙ (ap (names_after (names_read call.turn.old.read)) (sym call.turn.met)
-        ∙ names_are call.turn.old.rack (names_read call.turn.old.read) call.turn.old.log call.turn.old.now call.turn.is_old.replays)
+        ∙ names_to call.turn.old.rack (names_read call.turn.old.read) call.turn.old.log call.turn.old.now call.turn.is_old.replays)
 
 -- the record that was found fits the rack
 pub found_fits : (job : ℕ) (name : List ℕ) (rack : Rack) (names turn : List TurnName) (u w : IndexPasses) (row : GroupPasses) (kept : Record)

@@ -10,12 +10,13 @@ use Rattle.pot_machine.specs.declared.entry.Entry.TheVariants as entry
 use Rattle.pot_machine.specs.Logs.{own}
 use Rattle.pot_steps.proofs.AheadLemmas.{count_same}
 use Rattle.pot_object.specs.Pieces.{pieces_of}
+use Rattle.pot_shard.specs.Places.{place_at}
 use Rattle.pot_index.specs.declared.record.Record.{Record}
 use Rattle.pot_index.specs.Fits.{FitsRack}
 use Rattle.pot_rows.specs.Rows.{view_at}
 use Rattle.pot_replies.specs.Sections.{Section, mine}
 use Rattle.pot_replies.specs.Settings.{Setting}
-use Rattle.pot_replies.specs.Fetches.{Found, FetchEntries, IsLost, IsFetchFault, IsFetchLogFull, FirstShort, HopelessIf, IsHopeless, FailsAt, LooksTwice, place_at, has_seen}
+use Rattle.pot_replies.specs.Fetches.{Found, FetchEntries, IsLost, IsFetchFault, IsFetchLogFull, FirstShort, HopelessIf, IsHopeless, FailsAt, LooksTwice, has_seen}
 use Rattle.pot_shared.specs.Ready.{GroupPasses}
 use Rattle.pot_store.specs.Visits.{Came, Unknown, Seen, Gone, Lost, Failed, Barred, Visit, IsVisit, EndsVisit, EndsInVain, EndsGone, was_seen, visit_at, came_at, place_in, logged_from, seen_in}
 use Rattle.pot_store.specs.Reads.{IsFirstFailed, NoneFailed, IsShort, IsBarred, AreHad}
@@ -90,7 +91,7 @@ module _ (s : Setting) (rack : Rack) (job : ℕ) (name : List ℕ) (kept : Recor
   point_is x = ap (λ l. visit_at l (f * shards + x)) parts ∙ ((let e : f * shards + x ≡ length done + x = (let c = had.visited in omega (arith, c)) in ap (visit_at (done ++ last)) e) ∙ visit_back done last x)
 
   abbrev place : ℕ → Place
-  place x = place_at kept i j x
+  place x = place_at kept.geometry kept.places i j x
 
   its_seen : (x : ℕ) → x < shards → has_seen (mine job w).own (place x) ≡ was_seen (came_at last x)
   its_seen x lt = has_is s rack job name kept w all fits logs fit are (f * shards + x) (point_within rack kept fits f x f_within lt) ∙ ap seen_by (point_is x)

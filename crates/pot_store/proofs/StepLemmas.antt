@@ -1,8 +1,9 @@
 -- One put more.
 use Rattle.std.proofs.Common.{◌≡◌, ◌≢◌, ◌<◌, inl, ⊎_elim, ℕ, ◌+◌, true, List, [], ◌∷◌, ◌++◌, length, refl, ap, sym, ◌∙◌, subst, arith, append-nil, append_assoc, take}
 use Rattle.std.specs.Prelude.{Some, Ok, map, Contains, slice_get}
-use Rattle.std.proofs.lemmas.List.{map-append, length-append, length-map}
+use Rattle.std.proofs.lemmas.List.{map-append, length-append, length-map, drop-length}
 use Rattle.std.proofs.lemmas.List.Elements.{Contains-append_left, Contains-append_right}
+use Rattle.std.proofs.lemmas.Bool.{cases_eq}
 use Rattle.pot_bytes.specs.Sums.{xor}
 use Rattle.pot_bytes.specs.declared.digest.Digest.{Digest}
 use Rattle.pot_bytes.specs.declared.rack.Place.{Place}
@@ -35,7 +36,7 @@ use Rattle.pot_shared.proofs.CallLemmas.{is_origin, is_table}
 use Rattle.pot_shared.proofs.CatalogLemmas.{sees_more}
 use Rattle.pot_store.specs.Works.{of_job, gained}
 use Rattle.pot_store.specs.Puts.{ArePut}
-use Rattle.pot_store.proofs.WorkLemmas.{drop_all, row_stays, group_work, group_own, group_else, own_more, same_number}
+use Rattle.pot_store.proofs.WorkLemmas.{row_stays, group_work, group_own, group_else, own_more}
 use Rattle.pot_store.proofs.PutLemmas.{all_put, puts_more, in_more, in_same, take_next, snoc_get}
 use Rattle.pot_store.proofs.CursorLemmas.{IsBefore, puts_behind}
 
@@ -49,7 +50,7 @@ puts_none rack job blocks row idle = record {
   seen = λ b x is. absurd (cc is);
   apart = λ a b x y is. absurd (cc is);
   worked = row_stays (of_job job) row idle;
-  puts = λ alone g. ap (λ ls. own job (entries_of ls)) (drop_all (view_at row g).seen);
+  puts = λ alone g. ap (λ ls. own job (entries_of ls)) (drop-length (view_at row g).seen);
 }
 
 -- WHAT A CALL SAW
@@ -82,7 +83,7 @@ module _ (told : Type 0) (R : GroupView → GroupView → List Entry → Type 0)
       let seen : (view_at w group).seen ≡ ((view_at v group).seen ++ call.turn.others) ++ marked = ap (λ (x : GroupPass). x.seen) called_here ∙ ap (λ (x : GroupPass). x.seen) call.turn.turn in
       subst (λ i. StartsWith (view_at w i).seen (view_at v i).seen) e (call.turn.others ++ marked, seen ∙ append_assoc (view_at v group).seen call.turn.others marked))
       (λ (ne : group ≢ g). subst (λ (x : GroupPass). StartsWith x.seen (view_at v g).seen) (sym (called_there g ne)) ([], sym (append-nil (view_at v g).seen)))
-      (same_number group g)
+      (cases_eq group g)
 
   pub called_names : w.names ≡ v.names
   called_names = ap (λ (r : GroupPasses). r.names) call.is
@@ -217,7 +218,7 @@ module _ (rack : Rack) (names : List TurnName) (told : Type 0) (job : ℕ) (v w 
       let none : own job (gained v w g) ≡ [] = own_else parts.1 g ne in
       subst (λ xs. Puts job xs (own job (gained u w g))) (sym (in_same g placed it ne))
       (subst (λ es. Puts job (in_group g placed) es) (sym (more ∙ (ap (λ es. own job (gained u v g) ++ es) none ∙ append-nil (own job (gained u v g))))) (puts parts.0 g)))
-      (same_number group g)
+      (cases_eq group g)
 
   pub put_one : (blocks : List (List ℕ)) (places : List Place) (u : GroupPasses) → ArePut rack job blocks places u v → slice_get blocks (length places) ≡ Some block
       → group ≡ group_of rack rack.geometry (length places) → ArePut rack job blocks (places ++ place ∷ []) u w

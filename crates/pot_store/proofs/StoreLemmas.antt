@@ -1,11 +1,12 @@
 -- The answers of a store, by what each of its calls logged.
 use Rattle.std.proofs.Common.{◌≡◌, ◌≢◌, ◌<◌, ◌≤◌, ◌⊎◌, inl, inr, ⊎_elim, ℕ, zero, suc, ◌+◌, List, [], ◌∷◌, ◌++◌, length, refl, ap, sym, ◌∙◌, subst, arith, append-nil, append_assoc, take, drop}
 use Rattle.std.specs.Prelude.{Option, Some, None, Result, Ok, Err, IfSome, map, filter, slice_get}
-use Rattle.std.proofs.lemmas.List.{map-append, length-map}
+use Rattle.std.proofs.lemmas.List.{map-append, length-map, drop-length}
 use Rattle.std.proofs.lemmas.Option.{same_Some}
 use Rattle.pot_bytes.specs.Digests.{digest_bytes}
 use Rattle.pot_bytes.specs.declared.rack.Place.{Place}
 use Rattle.pot_bytes.specs.declared.rack.Rack.{Rack}
+use Rattle.pot_bytes.specs.Rack.{log_bound}
 use Rattle.pot_machine.specs.declared.entry.Entry.{Entry}
 use Rattle.pot_machine.specs.declared.entry.Entry.TheVariants as machine
 use Rattle.pot_machine.specs.Table.{Table}
@@ -13,7 +14,7 @@ use Rattle.pot_machine.specs.Logs.{own, replayed}
 use Rattle.pot_object.specs.Pieces.{longest, pieces_of}
 use Rattle.pot_pads.specs.Pads.{Pads}
 use Rattle.pot_steps.specs.Stripe.{digest_of}
-use Rattle.pot_steps.specs.GroupStep.{Passed, skips, gone_entries, log_bound}
+use Rattle.pot_steps.specs.GroupStep.{Passed, skips, gone_entries}
 use Rattle.pot_group.specs.declared.answers.PutFault.{PutFault}
 use Rattle.pot_group.specs.declared.answers.PutFault.TheVariants as put_fault
 use Rattle.pot_index.specs.declared.entry.IndexEntry.TheVariants as entry
@@ -45,19 +46,19 @@ use Rattle.pot_store.specs.Works.{of_job, gained, Known, known, JobWorked, JobAl
 use Rattle.pot_store.specs.Puts.{EndsFull, EndsLogFull, PutsEnd}
 use Rattle.pot_store.specs.Stores.{StoreRow, DrawsFrom, drawn_blocks, record_of, fault_of}
 use Rattle.pot_store.specs.declared.storing.StoreFault.TheVariants as fault
-use Rattle.pot_store.proofs.WorkLemmas.{drop_all, row_stays, index_idle, index_work, index_own, index_own_more}
+use Rattle.pot_store.proofs.WorkLemmas.{row_stays, index_idle, index_work, index_own, index_own_more}
 use Rattle.pot_store.proofs.IndexLemmas.{names_to, reserve_entries, reserve_adds, all_reserve, index_added, index_seen, none_in, not_ended}
 
 -- NOTHING WAS LOGGED
 
 pub gained_none : (row : GroupPasses) (g : ℕ) → gained row row g ≡ []
-gained_none row g = ap entries_of (drop_all (view_at row g).seen)
+gained_none row g = ap entries_of (drop-length (view_at row g).seen)
 
 pub stays : (job : ℕ) (k : Known) → AllIdle k.groups → AllIdle k.index → JobWorked job k k
 stays job k idle index_idle = record { groups = row_stays (of_job job) k.groups idle; index = row_stays (index.is_of job) k.index index_idle }
 
 pub silent : (job : ℕ) (k : Known) → IsSilent (mine job (section_of k k))
-silent job k = (λ g. ap (own job) (gained_none k.groups g), ap (index.own job) (drop_all (view_at k.index 0).seen))
+silent job k = (λ g. ap (own job) (gained_none k.groups g), ap (index.own job) (drop-length (view_at k.index 0).seen))
 
 -- THE NAME
 
@@ -107,7 +108,7 @@ module _ (job : ℕ) (name file : List ℕ) (rack : Rack) (names turn : List Tur
             last = refl;
             is = call.turn.met ∙ ap (λ l. (view_at i0 0).seen ++ l) (sym gain);
           };
-          full = subst (λ n. index_bounds.log_bound < (length old.log + length n.reserved) + 2) (sym leads) call.turn.call.0;
+          full = subst (λ n. index_log_bound < (length old.log + length n.reserved) + 2) (sym leads) call.turn.call.0;
         },
       )
 

@@ -6,6 +6,7 @@ use Rattle.std.proofs.lemmas.List.{map-append}
 use Rattle.std.proofs.lemmas.Option.{same_Some}
 use Rattle.pot_bytes.specs.declared.digest.Digest.{Digest}
 use Rattle.pot_bytes.specs.declared.rack.Place.{Place}
+use Rattle.pot_bytes.specs.Rack.{log_bound}
 use Rattle.pot_machine.specs.declared.entry.Entry.{Entry}
 use Rattle.pot_machine.specs.declared.entry.Entry.TheVariants as entry
 use Rattle.pot_machine.specs.declared.slot.SlotState.TheVariants.{Live}
@@ -13,7 +14,7 @@ use Rattle.pot_machine.specs.Slot.{digest_in}
 use Rattle.pot_machine.specs.Table.{slot_at}
 use Rattle.pot_machine.specs.Logs.{is_of, replayed}
 use Rattle.pot_machine.proofs.Logs.{replays_is}
-use Rattle.pot_steps.specs.GroupStep.{log_bound, look_entries}
+use Rattle.pot_steps.specs.GroupStep.{look_entries}
 use Rattle.pot_steps.specs.Stripe.{digest_of}
 use Rattle.pot_group.specs.declared.answers.Looked.{Looked}
 use Rattle.pot_group.specs.declared.answers.Looked.TheVariants as looked

@@ -1,8 +1,9 @@
 -- One locked call as work of a job, and work after work.
-use Rattle.std.proofs.Common.{◌≡◌, ◌≢◌, ◌<◌, ◌≤◌, ◌⊎◌, ⊎_elim, ℕ, zero, suc, Bool, true, false, List, [], ◌∷◌, ◌++◌, length, refl, ap, sym, ◌∙◌, subst, arith, drop}
+use Rattle.std.proofs.Common.{◌≡◌, ◌≢◌, ◌<◌, ◌≤◌, ◌⊎◌, ⊎_elim, ℕ, zero, suc, Bool, true, false, List, [], ◌∷◌, ◌++◌, length, refl, ap, sym, ◌∙◌, subst, arith}
 use Rattle.std.specs.Prelude.{filter}
-use Rattle.std.proofs.lemmas.List.{map-append}
+use Rattle.std.proofs.lemmas.List.{map-append, drop-length}
 use Rattle.std.proofs.lemmas.Option.{same_Some}
+use Rattle.std.proofs.lemmas.Bool.{cases_lt}
 use Rattle.pot_bytes.specs.declared.rack.Rack.{Rack}
 use Rattle.pot_machine.specs.declared.entry.Entry.{Entry}
 use Rattle.pot_machine.specs.Logs.{is_of, own}
@@ -16,7 +17,7 @@ use Rattle.pot_worked.specs.Laws.{AllOf}
 use Rattle.pot_worked.proofs.WorkedLemmas.{own_in_parts, more_is_work, more_has_none}
 use Rattle.pot_rows.specs.Rows.{PassRow, view_at}
 use Rattle.pot_rows.specs.Works.{AllIdle, RowWorked, RowAlone, TurnAt}
-use Rattle.pot_rows.proofs.RowLemmas.{at_past, below_or_past}
+use Rattle.pot_rows.proofs.RowLemmas.{at_past}
 use Rattle.pot_rows.proofs.TieLemmas.{knows_same}
 use Rattle.pot_rows.proofs.WorkLemmas.{turn_is_work, own_in_turn_at, row_work_in_parts, row_alone_in_parts}
 use Rattle.pot_shared.specs.declared.member.Logged.{Logged}
@@ -60,14 +61,7 @@ pub own_entries : (job : ℕ) (ls : List Logged) → own job (entries_of ls) ≡
 own_entries job [] = refl
 own_entries job (l ∷ ls) = own_at job l ls (own_entries job ls) (is_of job l.entry) refl
 
-pub same_number : (a b : ℕ) → (a ≡ b) ⊎ (a ≢ b)
-same_number a b = grind arith
-
 -- A ROW THAT STAYED
-
-pub drop_all : {X : Type 0} (xs : List X) → drop (length xs) xs ≡ []
-drop_all [] = refl
-drop_all (x ∷ xs) = drop_all xs
 
 module _ {E O : Type 0} (is_job : E → Bool) (row : PassRow E O) where
   pub row_stays : AllIdle row → RowWorked is_job row row
@@ -103,7 +97,7 @@ pub index_idle : (rack : Rack) (names turn : List TurnName) (row : IndexPasses) 
 index_idle rack names turn row ready at = ⊎_elim
     (λ (lt : at < length turn). ready.idle at lt)
     (λ (past : length turn ≤ at). ap (λ v. v.holds) (at_past turn row at ready.of past))
-    (below_or_past at (length turn))
+    (cases_lt at (length turn))
 
 module _ (job : ℕ) (rack : Rack) (names turn : List TurnName) (R : IndexView → IndexView → Type 0) (v w : IndexPasses) (ready : IsIndexReady rack names turn v)
     (call : IndexCall R v w) (all : AllOf (index.is_of job) call.turn.entries) where
@@ -130,7 +124,7 @@ module _ (job : ℕ) (rack : Rack) (names : List TurnName) (v w : GroupPasses) (
       let there = at_past w.names w at (refl, (let a = ready.of.1 in let b = ap length ready.of.0 in let c = knows.1 in let d = ap length knows.0 in omega (arith, a, b, c, d))) (let d = ap length knows.0 in omega (arith, past, d)) in
       subst (λ x. Worked (of_job job) (view_at v at) x) (here ∙ sym there)
       (more_is_work (of_job job) (view_at v at) (view_at v at) (knows_same (view_at v at)) (ready.idle at)))
-      (below_or_past at (length v.names))
+      (cases_lt at (length v.names))
 
   pub known_none : RowAlone (of_job job) v w → (g : ℕ) → own job (gained v w g) ≡ []
   known_none alone at = ⊎_elim
@@ -139,8 +133,8 @@ module _ (job : ℕ) (rack : Rack) (names : List TurnName) (v w : GroupPasses) (
       (λ (past : length v.names ≤ at).
       let there = at_past w.names w at (refl, (let a = ready.of.1 in let b = ap length ready.of.0 in let c = knows.1 in let d = ap length knows.0 in omega (arith, a, b, c, d))) (let d = ap length knows.0 in omega (arith, past, d)) in
       let here = at_past v.names v at (refl, (let a = ready.of.1 in let b = ap length ready.of.0 in omega (arith, a, b))) past in
-      ap (λ x. own job (entries_of (added (view_at v at) x))) (there ∙ sym here) ∙ ap (λ ls. own job (entries_of ls)) (drop_all (view_at v at).seen))
-      (below_or_past at (length v.names))
+      ap (λ x. own job (entries_of (added (view_at v at) x))) (there ∙ sym here) ∙ ap (λ ls. own job (entries_of ls)) (drop-length (view_at v at).seen))
+      (cases_lt at (length v.names))
 
 -- PART AFTER PART
 

@@ -2,20 +2,20 @@
 use Rattle.std.specs.Prelude.{◌≡◌, ◌⊎◌, ◌≤◌, ◌+◌, ◌*◌, ◌==◌, ◌&&◌, ℕ, zero, suc, Bool, true, false, if◌then◌else◌, List, [], ◌∷◌, ◌++◌, Option, Some, None, length, filter, find, is_some, slice_index_or, Contains}
 use Rattle.pot_bytes.specs.declared.digest.Digest.{Digest}
 use Rattle.pot_bytes.specs.declared.rack.Place.{Place}
+use Rattle.pot_bytes.specs.Rack.{log_bound, no_place}
 use Rattle.pot_machine.specs.declared.entry.Entry.{Entry}
 use Rattle.pot_machine.specs.declared.entry.Entry.TheVariants as entry
 use Rattle.pot_machine.specs.Slot.{is_unsound}
 use Rattle.pot_machine.specs.Machine.{Replays}
 use Rattle.pot_machine.specs.Rules.{IsTable}
 use Rattle.pot_machine.specs.Table.{Table, count, slot_at}
-use Rattle.pot_steps.specs.GroupStep.{log_bound}
 use Rattle.pot_steps.specs.Stripe.{digest_of}
 use Rattle.pot_rows.specs.Rows.{view_at}
 use Rattle.pot_shared.specs.declared.member.GroupOrigin.{GroupOrigin}
 use Rattle.pot_shared.specs.Members.{entries_of}
 use Rattle.pot_shared.specs.Ready.{GroupPasses}
 use Rattle.pot_machine.specs.Logs.{IsKeptPut}
-use Rattle.pot_replies.specs.Fetches.{no_place, LastIs, LooksTwice, SeenAs}
+use Rattle.pot_replies.specs.Fetches.{LastIs, LooksTwice, SeenAs}
 use Rattle.pot_replies.specs.Joined.{Read}
 use Rattle.pot_replies.specs.Jobs.{is_look_at, is_seen_at, is_stuck_at}
 use Rattle.pot_store.specs.declared.visiting.Point.{Point}

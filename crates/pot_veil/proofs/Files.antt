@@ -1,6 +1,7 @@
 -- The explanation of a file, piece by piece.
 use Rattle.std.proofs.Common.{length-drop, ◌≡◌, ◌≢◌, ◌<◌, ◌≤◌, ◌⊎◌, inl, inr, ℕ, zero, suc, ◌+◌, ◌-◌, ◌*◌, List, length, take, drop, get_or, refl, sym, ap, ap₂, ◌∙◌, subst, arith}
 use Rattle.std.proofs.lemmas.List.{length-take-le, get_or-take, get_or-drop, ext_get_or}
+use Rattle.std.proofs.lemmas.Bool.{cases_eq}
 use Rattle.pot_bytes.specs.Lists.{AreBytes}
 use Rattle.pot_bytes.specs.declared.rack.Geometry.{Geometry}
 use Rattle.pot_object.specs.Objects.{object}
@@ -18,9 +19,6 @@ use Rattle.pot_veil.proofs.Parts.{AreBytes-with_part, length-with_part, part-sam
 use Rattle.pot_veil.proofs.Pieces.{piece_laws}
 use Rattle.pot_veil.proofs.Rewriting.{put_is}
 use borrow.Rule.Slice.PartMut.{put_mid}
-
-same_or : (k c : ℕ) → (k ≡ c) ⊎ (k ≢ c)
-same_or k c = grind arith
 
 module _ (g : Geometry) (file other : List ℕ) (hidden : ℕ → ℕ) (seen : ℕ → List ℕ) (random : List ℕ) (v : IsVeiledFile g file other hidden seen random) where
   abbrev pieces : ℕ
@@ -76,7 +74,7 @@ module _ (g : Geometry) (file other : List ℕ) (hidden : ℕ → ℕ) (seen : �
   piece_now : (n i : ℕ) → n ≤ pieces → i < pieces → ((i < n) × (piece_random g i (upto n) ≡ part i)) ⊎ ((n ≤ i) × (piece_random g i (upto n) ≡ piece_random g i random))
   unfolding explained_upto
   piece_now zero i le li = inr (omega arith, refl)
-  piece_now (suc n) i le li = elim (same_or i n) [
+  piece_now (suc n) i le li = elim (cases_eq i n) [
     | inl e ↦ inl (
       omega arith,
       subst (λ k. take (piece_len g) (drop (piece_start g k) (with_part (piece_start g n) (part n) (upto n))) ≡ part k) (sym e)

@@ -1,10 +1,11 @@
 -- The seen blocks of a piece are those of the other object's piece too.
-use Rattle.std.proofs.Common.{◌≡◌, ◌≢◌, ◌<◌, ◌⊎◌, inl, inr, ◌+◌, ◌*◌, ◌/◌, ◌%◌, ◌||◌, ℕ, zero, suc, Bool, true, false, List, [], ◌∷◌, length, get_or, not, nat_eq, refl, sym, ap, ◌∙◌, subst, arith}
+use Rattle.std.proofs.Common.{◌≡◌, ◌<◌, inl, inr, ◌+◌, ◌*◌, ◌/◌, ◌%◌, ◌||◌, ℕ, zero, suc, Bool, true, false, List, [], ◌∷◌, length, get_or, not, nat_eq, refl, sym, ap, ◌∙◌, subst, arith}
 use Rattle.std.specs.List.{list_any}
 use Rattle.std.proofs.Math.Nat.{div-add-mod, div-lt_iff_lt-mul, mod-lt, mul_comm}
 use Rattle.std.proofs.lemmas.Bool.Decides.{nat_tests}
 use Rattle.std.proofs.lemmas.List.FromFn.{get_or-map-range_with_len}
 use Rattle.std.proofs.lemmas.List.Folds.{Any-from_list_any}
+use Rattle.std.proofs.lemmas.Bool.{cases_eq, eqb-true}
 use Rattle.pot_bytes.specs.declared.rack.Geometry.{Geometry}
 use Rattle.pot_object.specs.Objects.{object}
 use Rattle.pot_shard.specs.FileBlocks.{content_shards, fragment_len, fragment_shards, fragments_of, head_len, part_at, piece_blocks, shard_at_place}
@@ -15,9 +16,6 @@ use Rattle.pot_veil.specs.Drills.{is_seen_at}
 use Rattle.pot_veil.specs.Explained.{content_at, explained}
 use Rattle.pot_veil.specs.PieceLaws.{IsVeiled}
 use Rattle.pot_veil.proofs.Pieces.{piece_laws}
-
-same_or : (a b : ℕ) → (a ≡ b) ⊎ (a ≢ b)
-same_or a b = grind arith
 
 -- a place by fragment and point
 by_point : (g : Geometry) (place : ℕ) → place / g.shards * g.shards + place % g.shards ≡ place
@@ -50,9 +48,6 @@ is_among a hidden false same h = absurd (none a hidden same h)
     none : (a hidden : ℕ) → a ≡ hidden → (not (nat_eq a hidden) || false) ≡ true → ⊥
     none a hidden same h = grind (arith, nat_tests)
 
-equal : (a b : ℕ) → nat_eq a b ≡ true → a ≡ b
-equal a b h = grind (arith, nat_tests)
-
 any_default : (xs : List ℕ) (k d e : ℕ) → k < length xs → get_or xs k e ≡ get_or xs k d
 any_default [] k d e lt = absurd (omega arith)
 any_default (x ∷ xs) zero d e lt = refl
@@ -64,12 +59,12 @@ shards_kept : (g : Geometry) (o other : List ℕ) (hidden : ℕ) (seen random : 
 unfolding shard_of_piece
 shards_kept g o other hidden seen random j p v lj lp holds =
     let now : List ℕ = explained g o other hidden seen random in
-    elim (same_or j hidden) [
+    elim (cases_eq j hidden) [
       | inl here ↦
           (let among = is_among j hidden (list_any (λ x. nat_eq x (p + 1)) seen) here holds in
           let found = Any-from_list_any (λ (x : ℕ). nat_eq x (p + 1)) seen among in
           let k : ℕ = found.0 in
-          let point : get_or seen k 0 ≡ p + 1 = any_default seen k found.1 0 found.2 ∙ found.3 ∙ equal found.1 (p + 1) found.4 in
+          let point : get_or seen k 0 ≡ p + 1 = any_default seen k found.1 0 found.2 ∙ found.3 ∙ eqb-true found.1 (p + 1) found.4 in
           subst (λ (l : ℕ). shard_of_piece g other now l p ≡ shard_of_piece g o random l p) (sym here)
           (piece_laws.seen g o other hidden seen random k p v found.2 point))
       | inr apart ↦

@@ -9,6 +9,7 @@ use Rattle.pot_object.specs.Contents.{content}
 use Rattle.pot_split.specs.Secrecy.{changed_pads, secrecy, IsHidden, IsRows}
 use Rattle.pot_split.specs.Threshold.{explaining}
 use Rattle.pot_split.proofs.SplitLaws.{secrecy_laws, threshold_laws}
+use Rattle.pot_split.proofs.PadLemmas.{side}
 use Rattle.pot_shard.specs.FileBlocks.{coefficients_in, content_of, fragment_len, fragment_shards, fragments_of, head_len, names_at, names_in, pads_in, part_at, piece_len, shard_at_place}
 use Rattle.pot_shard.specs.FileLaws.{IsPiece}
 use Rattle.pot_shard.proofs.BlockLemmas.{part_within}
@@ -27,12 +28,9 @@ content-same g object r s i id pads = ap₂ (λ x y. content x (i + 1) g.fragmen
 stretch_below : (g : Geometry) (i j : ℕ) → i < j → rows_start g i + fragment_len g ≤ rows_start g j
 stretch_below g i j lt = part_within (head_len g) (fragment_len g) i j (fragment_len g) (rows_start g j) lt refl refl
 
-order : (i j : ℕ) → i ≢ j → (i < j) ⊎ (j < i)
-order i j ne = grind arith
-
 stretches_apart : (g : Geometry) (i j n : ℕ) → n ≤ fragment_len g → i ≢ j
     → (rows_start g i + fragment_len g ≤ rows_start g j) ⊎ (rows_start g j + n ≤ rows_start g i)
-stretches_apart g i j n le ne = elim (order i j ne) [
+stretches_apart g i j n le ne = elim (side i j ne) [
   | inl lt ↦ inl (stretch_below g i j lt)
   | inr gt ↦ inr (let b : rows_start g j + fragment_len g ≤ rows_start g i = stretch_below g j i gt in omega arith)
 ]

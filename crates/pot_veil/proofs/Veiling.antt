@@ -1,8 +1,8 @@
 -- What a coalition sees is kept.
-use Rattle.std.proofs.Common.{◌≡◌, ◌≢◌, ◌<◌, ◌≤◌, ◌⊎◌, inl, inr, ℕ, ◌+◌, Bool, true, List, length, map, filter, get_or, sym, ap, ◌∙◌, subst, arith, lit<}
+use Rattle.std.proofs.Common.{◌≡◌, ◌<◌, ◌≤◌, inl, inr, ℕ, ◌+◌, Bool, true, List, length, map, filter, get_or, sym, ap, ◌∙◌, subst, arith, lit<}
 use Rattle.std.specs.Prelude.{Contains}
 use Rattle.std.specs.List.{range_with_len}
-use Rattle.std.proofs.lemmas.Bool.{cases_lt}
+use Rattle.std.proofs.lemmas.Bool.{cases_lt, cases_eq}
 use Rattle.std.proofs.lemmas.List.{get_or-map, length-map}
 use Rattle.std.proofs.lemmas.List.Elements.{Contains-get_or}
 use Rattle.std.proofs.lemmas.List.FromFn.{get_or-range_with_len, length-range_with_len}
@@ -11,12 +11,12 @@ use Rattle.pot_gf.proofs.Values.{get_or-end}
 use Rattle.pot_object.specs.Pieces.{pieces_of}
 use Rattle.pot_pointer.proofs.FilterLemmas.{Contains-filter}
 use Rattle.pot_split.specs.Threshold.{ArePoints}
-use Rattle.pot_shard.specs.Places.{block_in, shard_in}
+use Rattle.pot_shard.specs.Places.{block_in, shard_in, place_at}
 use Rattle.pot_shard.specs.Shards.{shard_bytes}
 use Rattle.pot_shard.specs.declared.shard.Shard.{Shard}
 use Rattle.pot_shard.proofs.PlaceLemmas.{shard_at}
 use Rattle.pot_veil.specs.FileLaws.{IsVeiledFile}
-use Rattle.pot_veil.specs.Veiled.{explained_split, is_seen, place_of, seen_points, IsVeiledStore, Split, Spot, VeilLaws}
+use Rattle.pot_veil.specs.Veiled.{explained_split, is_seen, seen_points, IsVeiledStore, Split, Spot, VeilLaws}
 use Rattle.pot_veil.proofs.Files.{file_laws}
 
 -- NUMBERS THAT PASS A TEST, AND ONE MORE
@@ -54,17 +54,14 @@ passing_has test n p lt holds =
 
 points_are : (coalition : List Spot) (s : Split) (i j : ℕ) → ArePoints (seen_points coalition s i j)
 points_are coalition s i j k lt =
-    let b = passing_bounds (λ p. is_seen coalition (place_of s i j p)) s.geometry.shards k lt in
+    let b = passing_bounds (λ p. is_seen coalition (place_at s.geometry s.places i j p)) s.geometry.shards k lt in
     omega (arith, b.0)
 
 bytes_are : (coalition : List Spot) (s : Split) (i j : ℕ) → s.geometry.shards ≤ 16 → AreBytes (seen_points coalition s i j)
 bytes_are coalition s i j few k = elim (cases_lt k (length (seen_points coalition s i j))) [
-  | inl inside ↦ (let b = passing_bounds (λ p. is_seen coalition (place_of s i j p)) s.geometry.shards k inside in omega (arith, b.1))
+  | inl inside ↦ (let b = passing_bounds (λ p. is_seen coalition (place_at s.geometry s.places i j p)) s.geometry.shards k inside in omega (arith, b.1))
   | inr behind ↦ subst (λ (z : ℕ). z < 256) (sym (get_or-end (seen_points coalition s i j) k behind)) (lit< tt)
 ]
-
-same_or : (j l : ℕ) → (j ≡ l) ⊎ (j ≢ l)
-same_or j l = grind arith
 
 module _ (coalition : List Spot) (s : Split) (hidden : ℕ → ℕ) (file other random : List ℕ) (v : IsVeiledStore coalition s hidden file other random) where
   abbrev seen : ℕ → List ℕ
@@ -87,11 +84,11 @@ module _ (coalition : List Spot) (s : Split) (hidden : ℕ → ℕ) (file other 
   }
 
   shard_kept : (i j p : ℕ) → i < pieces_of (length file) → j < s.geometry.fragments → p < s.geometry.shards
-      → is_seen coalition (place_of s i j p) ≡ true → shard_in s.geometry other now i j p ≡ shard_in s.geometry file random i j p
-  shard_kept i j p li lj lp holds = elim (same_or j (hidden i)) [
+      → is_seen coalition (place_at s.geometry s.places i j p) ≡ true → shard_in s.geometry other now i j p ≡ shard_in s.geometry file random i j p
+  shard_kept i j p li lj lp holds = elim (cases_eq j (hidden i)) [
     | inl here ↦
-        (let test : ℕ → Bool = λ q. is_seen coalition (place_of s i (hidden i) q) in
-        let at = passing_has test s.geometry.shards p lp (subst (λ (l : ℕ). is_seen coalition (place_of s i l p) ≡ true) here holds) in
+        (let test : ℕ → Bool = λ q. is_seen coalition (place_at s.geometry s.places i (hidden i) q) in
+        let at = passing_has test s.geometry.shards p lp (subst (λ (l : ℕ). is_seen coalition (place_at s.geometry s.places i l p) ≡ true) here holds) in
         subst (λ (l : ℕ). shard_in s.geometry other now i l p ≡ shard_in s.geometry file random i l p) (sym here)
         (file_laws.seen s.geometry file other hidden seen random i at.0 p veiled_file li at.1 at.2))
     | inr apart ↦
@@ -102,7 +99,7 @@ module _ (coalition : List Spot) (s : Split) (hidden : ℕ → ℕ) (file other 
   ]
 
   pub block_kept : (i j p : ℕ) → i < pieces_of (length file) → j < s.geometry.fragments → p < s.geometry.shards
-      → is_seen coalition (place_of s i j p) ≡ true → block_in s.geometry other now i j p ≡ block_in s.geometry file random i j p
+      → is_seen coalition (place_at s.geometry s.places i j p) ≡ true → block_in s.geometry other now i j p ≡ block_in s.geometry file random i j p
   block_kept i j p li lj lp holds = ap shard_bytes (shard_kept i j p li lj lp holds)
 
 pub veil_laws : VeilLaws

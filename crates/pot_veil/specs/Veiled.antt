@@ -1,11 +1,11 @@
 -- Which points of a split a coalition of data archives sees, and when it learns nothing of the file.
-use Rattle.std.specs.Prelude.{◌≡◌, ◌<◌, ◌≤◌, ℕ, ◌+◌, ◌&&◌, ◌==◌, Bool, true, List, length, map, filter, slice_index_or}
+use Rattle.std.specs.Prelude.{◌≡◌, ◌<◌, ◌≤◌, ℕ, ◌+◌, ◌&&◌, ◌==◌, Bool, true, List, length, map, filter}
 use Rattle.std.specs.List.{list_any, range_with_len}
 use Rattle.pot_bytes.specs.declared.rack.Geometry.{Geometry}
 use Rattle.pot_bytes.specs.declared.rack.Place.{Place}
 use Rattle.pot_object.specs.Pieces.{pieces_of}
 use Rattle.pot_shard.specs.FileLaws.{IsStore}
-use Rattle.pot_shard.specs.Places.{block_in, position}
+use Rattle.pot_shard.specs.Places.{block_in, place_at}
 use Rattle.pot_veil.specs.Explained.{explained_file}
 
 -- a data column of a group
@@ -18,20 +18,13 @@ pub record Split : Type 0 where
   pub geometry : Geometry
   pub places : List Place
 
-abbrev pub no_place : Place
-no_place = record { group = 0; column = 0; stripe = 0 }
-
--- the place of piece i, fragment j and point p + 1
-abbrev pub place_of : Split → ℕ → ℕ → ℕ → Place
-place_of s i j p = slice_index_or s.places (position s.geometry i j p) no_place
-
 -- whether a place lies in the coalition
 abbrev pub is_seen : List Spot → Place → Bool
 is_seen coalition place = list_any (λ c. (c.group == place.group) && (c.column == place.column)) coalition
 
 -- the points of fragment j of piece i that the coalition sees
 abbrev pub seen_points : List Spot → Split → ℕ → ℕ → List ℕ
-seen_points coalition s i j = map (λ p. p + 1) (filter (λ p. is_seen coalition (place_of s i j p)) (range_with_len 0 s.geometry.shards))
+seen_points coalition s i j = map (λ p. p + 1) (filter (λ p. is_seen coalition (place_at s.geometry s.places i j p)) (range_with_len 0 s.geometry.shards))
 
 -- fragment j is the least of piece i of which fewer points are seen than are needed
 pub record IsHiddenAt (coalition : List Spot) (s : Split) (i j : ℕ) : Type 0 where
@@ -61,7 +54,7 @@ pub record VeilLaws : Type 0 where
       → IsStore s.geometry other (explained_split coalition s hidden file other random)
   pub blocks : (coalition : List Spot) (s : Split) (hidden : ℕ → ℕ) (file other random : List ℕ) (i j p : ℕ)
       → IsVeiledStore coalition s hidden file other random → i < pieces_of (length file) → j < s.geometry.fragments → p < s.geometry.shards
-      → is_seen coalition (place_of s i j p) ≡ true
+      → is_seen coalition (place_at s.geometry s.places i j p) ≡ true
       → block_in s.geometry other (explained_split coalition s hidden file other random) i j p ≡ block_in s.geometry file random i j p
   pub back : (coalition : List Spot) (s : Split) (hidden : ℕ → ℕ) (file other random : List ℕ) → IsVeiledStore coalition s hidden file other random
       → explained_split coalition s hidden other file (explained_split coalition s hidden file other random) ≡ random

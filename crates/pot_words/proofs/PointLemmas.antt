@@ -6,7 +6,7 @@ use Rattle.std.proofs.lemmas.List.{get_or_default}
 use Rattle.std.proofs.lemmas.List.Elements.{All-append, All-cons}
 use Rattle.std.proofs.lemmas.List.Splits.{join_with_byte-slice_split, slice_split_at}
 use Rattle.std.proofs.lemmas.Str.Pattern.{IsSplitOnceResult, split_after, split_parts}
-use Rattle.std.proofs.lemmas.Str.Parse.{digit_at}
+use Rattle.std.proofs.lemmas.Str.Parse.{digit_at, numerals_by_value, tells_digits}
 use Rattle.std.specs.Borrow.{Bor}
 use Rattle.std.specs.Int.{IsInRange}
 use Rattle.std.specs.List.{join_with_byte, slice_split}
@@ -17,7 +17,7 @@ use Rattle.pot_words.specs.Lists.{AscendFrom, HasPoints, HasSpots, IsSpot, Lists
 use Rattle.pot_words.specs.declared.spot.Spot.{Spot}
 use Rattle.pot_words.proofs.ListLemmas.{HasNoComma}
 use Rattle.pot_words.proofs.NumberLemmas.{one_text}
-use Rattle.pot_words.proofs.ValueLemmas.{IsUnhyphenedAt, numerals, unhyphened_decimal}
+use Rattle.pot_words.proofs.ValueLemmas.{IsUnhyphenedAt, unhyphened_decimal}
 
 -- a text is cut at its first dot in one way
 one_cut : (a b x y : Text) → All (λ c. (c == 46) ≡ false) a → All (λ c. (c == 46) ≡ false) b → a ++ 46 ∷ x ≡ b ++ 46 ∷ y → (a ≡ b) × (x ≡ y)
@@ -30,7 +30,7 @@ one_cut a b x y p q e =
 -- no byte below the digits stands in a number
 pub decimal_without : (byte n : ℕ) → byte < 48 → n < 2 ^ 64 → All (λ b. (b == byte) ≡ false) (decimal n)
 decimal_without byte n low small k d lt =
-    let range : IsInRange 48 57 (get_or (decimal n) k 0) = digit_at (decimal n) k (digits_decimal numerals n small) lt in
+    let range : IsInRange 48 57 (get_or (decimal n) k 0) = digit_at (decimal n) k (digits_decimal (numerals_by_value _ tells_digits) n small) lt in
     let same = get_or_default (decimal n) k d 0 lt in
     go (get_or (decimal n) k d == byte) (omega (arith, range, same))
   where
@@ -46,7 +46,7 @@ module _ (most : ℕ) (small : most < 2 ^ 64) where
 
 no_dot : (n : ℕ) → n < 2 ^ 64 → (i : ℕ) → i < length (decimal n) → get_or (decimal n) i 0 ≢ 46
 no_dot n small i lt is =
-    let range : IsInRange 48 57 (get_or (decimal n) i 0) = digit_at (decimal n) i (digits_decimal numerals n small) lt in
+    let range : IsInRange 48 57 (get_or (decimal n) i 0) = digit_at (decimal n) i (digits_decimal (numerals_by_value _ tells_digits) n small) lt in
     omega (arith, range, is)
 
 -- the parts round the first dot of a spot's text are its numbers

@@ -3,11 +3,11 @@ use Rattle.std.proofs.Common.{◌≡◌, ◌∙◌, ◌<◌, ◌^◌, ◌==◌, 
 use Rattle.std.specs.Bool.{⊤}
 use Rattle.std.specs.Char.{digit_value}
 use Rattle.std.specs.Prelude.{nat_eq, Ok, Err, ◌%◌, ◌/◌}
-use Rattle.std.specs.Str.Parse.{AllDigits, digits_value}
+use Rattle.std.specs.Str.Parse.{AllDigits}
 use Rattle.std.proofs.lemmas.Bool.Decides.{nat_tests}
 use Rattle.std.proofs.lemmas.Slice.Eq.{bytes_eq-Decides}
 use Rattle.std.proofs.lemmas.Fmt.{digits_decimal}
-use Rattle.std.proofs.lemmas.Str.Parse.{IsNumeralModel, numerals_by_value, tells_digits}
+use Rattle.std.proofs.lemmas.Str.Parse.{numerals_by_value, tells_digits}
 use Rattle.hex.specs.Hex.{decode_sized, decode_pairs}
 use Rattle.hex.specs.declared.error.FromHexError.TheVariants.{InvalidStringLength, OddLength}
 use Rattle.pot_options.specs.Options.{Text, AreNew, AreUnhyphened, IsRead, IsUnhyphened, IsUnread, given, is_among, is_used}
@@ -90,12 +90,8 @@ unhyphened_digits (d ∷ ds) digits = go (nat_eq d 45) refl digits.0
         let bad : digit_value 45 < 10 = subst (λ (k : ℕ). digit_value k < 10) is small in
         absurd (omega (arith, bad))
 
--- what `AllDigits` and `digits_value` say of a numeral
-pub numerals : IsNumeralModel (AllDigits 10) (digits_value 10)
-numerals = numerals_by_value _ tells_digits
-
 pub unhyphened_decimal : (n : ℕ) → n < 2 ^ 64 → IsUnhyphened (decimal n)
-unhyphened_decimal n small = unhyphened_digits (decimal n) (digits_decimal numerals n small)
+unhyphened_decimal n small = unhyphened_digits (decimal n) (digits_decimal (numerals_by_value _ tells_digits) n small)
 
 hyphen_pairs : (ds : List ℕ) (x : List ℕ) → decode_pairs 0 (45 ∷ ds) ≡ Ok x → ⊥
 unfolding decode_pairs

@@ -4,6 +4,7 @@ use Rattle.std.specs.Prelude.{filter, slice_get, Some}
 use Rattle.std.proofs.Math.Seq.{drop-append_seam}
 use Rattle.std.proofs.lemmas.List.Elements.{filter-append}
 use Rattle.std.proofs.lemmas.Option.{slice_get_within}
+use Rattle.std.proofs.lemmas.Bool.{false_from_ne_true}
 use Rattle.pot_turn.specs.declared.view.View.{View}
 use Rattle.pot_turn.specs.declared.view.Stretch.{Stretch}
 use Rattle.pot_turn.specs.Stretches.{stretch, times, Ascends}
@@ -25,10 +26,6 @@ module _ {E : Type 0} where
 -- a position behind another is that and a rest
 at_rest : (i n : ℕ) → n ≤ i → i ≡ n + (i - n)
 at_rest i n le = omega (arith, le)
-
-pub not_false : (b : Bool) → (b ≡ true → ⊥) → b ≡ false
-not_false true h = absurd (h refl)
-not_false false h = refl
 
 module _ {E O : Type 0} where
   -- One locked call
@@ -160,7 +157,7 @@ module _ {E O : Type 0} (is_of : E → Bool) (v : View E O) (others entries : Li
   met = v.seen ++ others
 
   none_of_others : (k : ℕ) (e : E) → slice_get others k ≡ Some e → is_of e ≡ false
-  none_of_others k e is = not_false (is_of e) (λ its_own.
+  none_of_others k e is = false_from_ne_true (is_of e) (λ its_own.
       let within = slice_get_within others k e is in
       let long = length-append v.seen others in
       let i : ℕ = length v.seen + k in
@@ -219,7 +216,7 @@ module _ {E O : Type 0} (is_of : E → Bool) (v w : View E O) (more : KnowsMore 
   }
 
   none_at : Alone is_of v w → filter is_of (added v w) ≡ []
-  none_at alone = filter_none is_of (added v w) (λ k e is. not_false (is_of e) (λ its.
+  none_at alone = filter_none is_of (added v w) (λ k e is. false_from_ne_true (is_of e) (λ its.
       let here : slice_get w.seen (length v.seen + k) ≡ Some e = ap (λ s. slice_get s (length v.seen + k)) more_seen ∙ (get_back v.seen (added v w) k ∙ is) in
       in_none (length v.seen + k) (alone (length v.seen + k) e (omega arith) here its)))
 

@@ -1,7 +1,8 @@
 -- What the authors wrote, step by step.
-use Rattle.std.proofs.Common.{◌≡◌, ◌≢◌, ℕ, zero, suc, ◌+◌, ◌-◌, ◌*◌, ◌<◌, ◌≤◌, false, List, [], ◌∷◌, ◌++◌, length, refl, ap, sym, ◌∙◌, subst, arith, eq-eqb, ne_eqb, ⊎_elim, ◌⊎◌, inl, inr, length-append}
+use Rattle.std.proofs.Common.{◌≡◌, ◌≢◌, ℕ, zero, suc, ◌+◌, ◌-◌, ◌*◌, ◌<◌, ◌≤◌, false, List, [], ◌∷◌, ◌++◌, length, refl, ap, sym, ◌∙◌, subst, arith, eq-eqb, ne_eqb, ⊎_elim, ◌⊎◌, length-append}
 use Rattle.std.specs.Prelude.{filter, slice_get, Some}
 use Rattle.std.proofs.Math.Nat.{add-mul}
+use Rattle.std.proofs.lemmas.Bool.{cases_lt}
 use Rattle.pot_turn.specs.declared.view.View.{View}
 use Rattle.pot_turn.specs.Logs.{StartsWith, longer}
 use Rattle.pot_turn.specs.Stretches.{times}
@@ -71,12 +72,6 @@ wrote_more u v w author n count is pass sofar wrote =
       after = λ a le. other a (λ h. omega (arith, h, le)) (sofar.after a le);
     }))
 
--- is a number below another or not
-split_at : (a m : ℕ) → (a < m) ⊎ (m ≤ a)
-split_at a zero = inr (omega arith)
-split_at zero (suc m) = inl (omega arith)
-split_at (suc a) (suc m) = ⊎_elim (λ (h : a < m). inl (omega (arith, h))) (λ (h : m ≤ a). inr (omega (arith, h))) (split_at a m)
-
 -- the authors of both passes
 pub wrote_both : (u w1 w2 : View Line ℕ) (n first middle upto count : ℕ) → first ≤ middle → middle ≤ upto → n < u.parts → IsPass w1 → IsPass w2
     → Wrote first middle count (cut_view n u) w1 → Wrote middle upto count (new_view n u) w2
@@ -95,7 +90,7 @@ wrote_both u w1 w2 n first middle upto count low high fewer pass1 pass2 one two 
       theirs = λ a le lt. ⊎_elim
           (λ (h : a < middle). carries_both (by a) w1 pass1 (lines_of a count) (one.theirs a le h) w2 pass2 grown1 grown2 (two.before a h))
           (λ (h : middle ≤ a). carries_other (by a) w2 pass2 (lines_of a count) (two.theirs a h lt) w1 pass1 grown1 grown2 same (one.after a h))
-          (split_at a middle);
+          (cases_lt a middle);
       before = λ a lt. none a (one.before a lt) (two.before a (omega (arith, lt, low)));
       after = λ a le. none a (one.after a (omega (arith, le, high))) (two.after a le);
     }

@@ -1,9 +1,9 @@
 use Rattle.std.proofs.Common.{[], ◌∷◌, ◌++◌, refl, sym, ap, ◌∙◌, arith}
+use Rattle.std.proofs.lemmas.List.{drop-length}
 use Rattle.pot_group.specs.Arrivals.{arrivals}
 use Rattle.pot_rows.specs.Rows.{view_at}
 use Rattle.pot_shared.specs.Members.{entries_of}
 use Rattle.pot_store.specs.Works.{known, section_of}
-use Rattle.pot_store.proofs.WorkLemmas.{drop_all}
 use Rattle.pot_commands.specs.Taking.{asks}
 use Rattle.pot_commands.proofs.AnswerLemmas.{asks_none, migrate_replies}
 use Rattle.pot_commands.proofs.Brought.{answered_none}
@@ -12,11 +12,11 @@ use Rattle.pot_commands.proofs.answering.answer.Goals as goal
 
 pub returns-in_default-with_capacity-clause-took : goal.returns-in_default-with_capacity-clause-took
 returns-in_default-with_capacity-clause-took g c =
-    took_none _ _ (asks c.args.command.now) _ _ _ _ (λ n. refl) (λ n. refl) (λ sole h. ap (λ ls. arrivals (entries_of ls)) (drop_all (view_at c.args.passes.now.groups h).seen))
+    took_none _ _ (asks c.args.command.now) _ _ _ _ (λ n. refl) (λ n. refl) (λ sole h. ap (λ ls. arrivals (entries_of ls)) (drop-length (view_at c.args.passes.now.groups h).seen))
 
 pub returns-in_default-with_capacity-2-clause-took : goal.returns-in_default-with_capacity-2-clause-took
 returns-in_default-with_capacity-2-clause-took g c =
-    took_none _ _ (asks c.args.command.now) _ _ _ _ (λ n. refl) (λ n. refl) (λ sole h. ap (λ ls. arrivals (entries_of ls)) (drop_all (view_at c.args.passes.now.groups h).seen))
+    took_none _ _ (asks c.args.command.now) _ _ _ _ (λ n. refl) (λ n. refl) (λ sole h. ap (λ ls. arrivals (entries_of ls)) (drop-length (view_at c.args.passes.now.groups h).seen))
 
 pub returns-in-Ok-migrate_archive-clause-says : goal.returns-in-Ok-migrate_archive-clause-says
 returns-in-Ok-migrate_archive-clause-says g c alone s set =

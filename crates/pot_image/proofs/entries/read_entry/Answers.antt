@@ -4,15 +4,14 @@ use Rattle.pot_image.proofs.Once.{ok_then}
 use Rattle.pot_image.proofs.Steps.{fails_then, fails_on, fails_as, exits, holds_of}
 use Rattle.pot_image.specs.Logs.{entry}
 use Rattle.pot_image.specs.Numbers.{natural, between}
-use Rattle.std.proofs.lemmas.Bool.{leb-true}
-use Rattle.pot_image.proofs.Once.{both_true}
+use Rattle.std.proofs.lemmas.Bool.{leb-true, and_parts}
 use Rattle.pot_image.proofs.entries.read_entry.Goals as goal
 
 pub read_entry_of-requires-clause-least : goal.read_entry_of-requires-clause-least
-read_entry_of-requires-clause-least c = leb-true _ _ (both_true _ _ (holds_of _ _ _ _ _ c.in_ok-kind.ensures)).0
+read_entry_of-requires-clause-least c = leb-true _ _ (and_parts _ _ (holds_of _ _ _ _ _ c.in_ok-kind.ensures)).0
 
 pub read_entry_of-requires-clause-most : goal.read_entry_of-requires-clause-most
-read_entry_of-requires-clause-most c = (let most : c.in_ok-kind.kind ≤ c.kinds-kinds.result = leb-true _ _ (both_true _ _ (holds_of _ _ _ _ _ c.in_ok-kind.ensures)).1 in omega (arith, most, c.kinds-kinds.ensures.most))
+read_entry_of-requires-clause-most c = (let most : c.in_ok-kind.kind ≤ c.kinds-kinds.result = leb-true _ _ (and_parts _ _ (holds_of _ _ _ _ _ c.in_ok-kind.ensures)).1 in omega (arith, most, c.kinds-kinds.ensures.most))
 
 pub returns-in_err-kind : goal.returns-in_err-kind
 unfolding entry

@@ -1,10 +1,10 @@
 use Rattle.std.proofs.Common.{sym, arith, ◌≡◌, ◌≤◌, ◌<◌, ◌-◌, ℕ}
 use Rattle.pot_image.proofs.Once.{ok_then, done_reads}
 use Rattle.pot_image.proofs.Steps.{fails_then, fails_on, exits, fails_at, holds_of, between_of, narrowed, barred, cut_short}
-use Rattle.std.proofs.lemmas.Bool.{leb-true}
+use Rattle.std.proofs.lemmas.Bool.{leb-true, and_from, and_left}
 use Rattle.pot_image.specs.Records.{place}
 use Rattle.pot_image.proofs.Once.{err_then}
-use Rattle.pot_image.proofs.PlaceRules.{group_read, group_is, group_short, first_false, second_false, both_are}
+use Rattle.pot_image.proofs.PlaceRules.{group_read, group_is, group_short, second_false}
 use Rattle.pot_image.proofs.places.read_place.Goals as goal
 
 group_below : (e n g : ℕ) → n ≡ e → e < g → n < g
@@ -45,7 +45,7 @@ returns-in_err-stripe-clause-reads c = λ before h. exits _ _ _ _ c.from_residua
 
 pub returns-then-not-is_filled-clause-reads : goal.returns-then-not-is_filled-clause-reads
 unfolding place
-returns-then-not-is_filled-clause-reads c = λ before h. fails_at _ _ _ c.at.ensures (ok_then _ _ _ _ _ _ (group_read _ _ _ _ _ c.group_of-expected.ensures.value c.in_ok-group.ensures) (ok_then _ _ _ _ _ _ c.in_ok-column.ensures (err_then _ _ _ _ (barred _ _ _ _ _ _ c.in_ok-stripe.ensures (first_false _ _ (sym c.if-not-is_filled.ensures))))))
+returns-then-not-is_filled-clause-reads c = λ before h. fails_at _ _ _ c.at.ensures (ok_then _ _ _ _ _ _ (group_read _ _ _ _ _ c.group_of-expected.ensures.value c.in_ok-group.ensures) (ok_then _ _ _ _ _ _ c.in_ok-column.ensures (err_then _ _ _ _ (barred _ _ _ _ _ _ c.in_ok-stripe.ensures (and_left _ _ (sym c.if-not-is_filled.ensures))))))
 
 pub returns-then-not-stamp-clause-reads : goal.returns-then-not-stamp-clause-reads
 unfolding place
@@ -53,4 +53,4 @@ returns-then-not-stamp-clause-reads c = λ before h. fails_at _ _ _ c.at-then-no
 
 pub returns-clause-reads : goal.returns-clause-reads
 unfolding place
-returns-clause-reads c = λ before h. ok_then _ _ _ _ _ _ (group_read _ _ _ _ _ c.group_of-expected.ensures.value c.in_ok-group.ensures) (ok_then _ _ _ _ _ _ c.in_ok-column.ensures (ok_then _ _ _ _ _ _ (narrowed _ _ _ _ _ _ c.in_ok-stripe.ensures (both_are _ _ (sym c.if-not-is_filled.ensures) (sym (c.if-not-stamp.ensures.apart before h)))) (done_reads _ _)))
+returns-clause-reads c = λ before h. ok_then _ _ _ _ _ _ (group_read _ _ _ _ _ c.group_of-expected.ensures.value c.in_ok-group.ensures) (ok_then _ _ _ _ _ _ c.in_ok-column.ensures (ok_then _ _ _ _ _ _ (narrowed _ _ _ _ _ _ c.in_ok-stripe.ensures (and_from _ _ (sym c.if-not-is_filled.ensures) (sym (c.if-not-stamp.ensures.apart before h)))) (done_reads _ _)))

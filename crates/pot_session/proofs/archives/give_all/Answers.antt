@@ -1,11 +1,12 @@
 use Rattle.std.proofs.Common.{◌≡◌, ◌<◌, inl, inr, IsTrue, true, false, length, refl, sym, ap, subst, ◌∙◌, arith}
 use Rattle.std.specs.Prelude.{[], Contains, Result, Ok, Err, IsErr, OnOk}
 use Rattle.std.proofs.lemmas.List.{nil_from_length}
+use Rattle.pot_bytes.proofs.Elements.{none_contained}
 use Rattle.pot_shelves.specs.Shelves.{numbers_of}
 use Rattle.pot_commands.specs.Holding.{times, AreOut}
 use Rattle.pot_session.proofs.Counts.{caused_both}
 use Rattle.pot_session.proofs.OutLemmas.{times-removed, is_out, out_less, is_another, all_home, is_zero}
-use Rattle.pot_session.proofs.MeantLemmas.{HeldOrGiven, given_more, none_contained, got_ok}
+use Rattle.pot_session.proofs.MeantLemmas.{HeldOrGiven, given_more, got_ok}
 use Rattle.pot_session.proofs.archives.give_all.Goals as goal
 
 apart : {X : Type 0} → false ≡ true → X

@@ -3,11 +3,13 @@ use Rattle.std.proofs.lemmas.List.{take_more}
 use Rattle.std.proofs.Math.Seq.{take-length}
 use Rattle.pot_shelves.specs.Shelves.{numbers_of}
 use Rattle.std.specs.Prelude.{Contains}
+use Rattle.pot_bytes.proofs.Elements.{none_contained}
 use Rattle.pot_outside.specs.Archives.{IsMeant}
+use Rattle.pot_doubles.proofs.CallLemmas.{rose_later}
 use Rattle.pot_commands.specs.Holding.{times, AreMeant, AreOut}
-use Rattle.pot_session.proofs.Counts.{rose_before, rose_after, err_again}
+use Rattle.pot_session.proofs.Counts.{rose_before, err_again}
 use Rattle.pot_session.proofs.OutLemmas.{none_out, is_home, out_more, out_same, apart_before, apart_from, apart_next, none_before, times-next, numbers-snoc, numbers-length}
-use Rattle.pot_session.proofs.MeantLemmas.{meant_more, none_contained}
+use Rattle.pot_session.proofs.MeantLemmas.{meant_more}
 use Rattle.pot_session.proofs.archives.take_all.Goals as goal
 
 pub take-requires : goal.take-requires
@@ -73,7 +75,7 @@ returns-in-Err g c = record {
   meant = λ told. tt;
   cause = record {
     later = omega (arith, c.loop-number.invariant.later, c.take.ensures.cause.later, c.give_all-given.ensures.cause.later);
-    rose = λ e. rose_before _ _ _ c.give_all-given.ensures.cause.later (rose_after _ _ _ c.loop-number.invariant.later (c.in-Err.ensures.cause.rose (err_again _ _ e)));
+    rose = λ e. rose_before _ _ _ c.give_all-given.ensures.cause.later (rose_later _ _ _ c.loop-number.invariant.later (c.in-Err.ensures.cause.rose (err_again _ _ e)));
   };
 }
 

@@ -5,6 +5,7 @@ use Rattle.pot_bytes.specs.Rack.{IsRack}
 use Rattle.pot_bytes.specs.declared.rack.Rack.{Rack}
 use Rattle.pot_image.specs.Images.{contents}
 use Rattle.pot_machine.specs.Table.{archives_in}
+use Rattle.pot_shared.proofs.SharingLemmas.{more_parts}
 use Rattle.pot_store.specs.Works.{known}
 use Rattle.pot_commands.specs.Rows.{HasFilled, IsWorked}
 use Rattle.pot_commands.specs.Taking.{asked_by, lending}
@@ -12,7 +13,7 @@ use Rattle.pot_session.specs.Serving.{HasSpaces, IsEnd}
 use Rattle.pot_session.proofs.Counts.{caused_both, caused_second}
 use Rattle.pot_session.proofs.LendLemmas.{first_used, have_come, home_after, image_low, low_after, marks_before, means_after, none_before_asked, none_first, out_after}
 use Rattle.pot_session.proofs.WorkLemmas.{are_worked, asked_low}
-use Rattle.pot_session.proofs.ServeLemmas.{has_filled, same_read, same_records, more_parts, still_but_kept, still_all, serves_closed, end_of, sink_failed, room_failed, desk_failed}
+use Rattle.pot_session.proofs.ServeLemmas.{has_filled, same_read, same_records, still_but_kept, still_all, serves_closed, end_of, sink_failed, room_failed, desk_failed}
 use Rattle.pot_session.proofs.serving.serve.Goals as goal
 
 pub work-ending-requires-clause-parts : goal.work-ending-requires-clause-parts

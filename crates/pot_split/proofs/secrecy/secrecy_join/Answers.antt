@@ -1,8 +1,8 @@
 use Rattle.std.proofs.Common.{length, ap, ◌/◌, ◌∙◌}
 use Rattle.pot_bytes.specs.Sums.{xor}
 use Rattle.pot_bytes.proofs.SumLemmas.{xor_replicate}
+use Rattle.pot_bytes.proofs.WeightedLemmas.{length-sum_of}
 use Rattle.pot_split.specs.Secrecy.{rows_of, meaning}
-use Rattle.pot_split.proofs.RowLemmas.{length-sum_of}
 use Rattle.pot_split.proofs.secrecy.secrecy_join.Goals as goal
 
 pub returns : goal.returns

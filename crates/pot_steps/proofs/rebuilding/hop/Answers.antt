@@ -1,5 +1,5 @@
 use Rattle.std.proofs.Common.{◌≡◌, ◌<◌, IsTrue, Some, sym, subst, ap, ◌∙◌}
-use Rattle.pot_machine.proofs.Cases.{not_both}
+use Rattle.std.proofs.lemmas.Bool.{both_ways}
 use Rattle.pot_machine.specs.Slot.{is_live, digest_in}
 use Rattle.pot_machine.specs.Table.{slot_at, next_column}
 use Rattle.pot_steps.specs.Stripe.{digest_of}
@@ -28,4 +28,4 @@ returns-else-has_digest c =
     (c.weight_of-weight.ensures ∙ ap (λ w. weight_in w c.args.flight.now.relay c.unwrap-column.result) c.data_columns.ensures.value)) in
     hop_ends c.args.job c.args.folded.now c.give_up.result c.args.table.now c.give_up.new.table c.args.flight.now c.unwrap-column.result (sym c.next_column.ensures ∙ c.unwrap-column.ensures)
     c.give_up.ensures.entry c.give_up.ensures.table
-    (λ q. not_both (c.has_digest.ensures.1 (ap digest_in c.slot.ensures ∙ q ∙ ap Some (sym found))) c.if-has_digest.false)
+    (λ q. both_ways _ c.if-has_digest.false (c.has_digest.ensures.1 (ap digest_in c.slot.ensures ∙ q ∙ ap Some (sym found))))

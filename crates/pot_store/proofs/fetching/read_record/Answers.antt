@@ -1,6 +1,7 @@
 use Rattle.std.proofs.Common.{ap, ◌∙◌}
 use Rattle.pot_bytes.specs.Digests.{digest_bytes}
-use Rattle.pot_store.proofs.RecordLemmas.{is_digest, digests_same, digests_differ, record_odd, record_file}
+use Rattle.pot_steps.proofs.CallLemmas.{is_digest}
+use Rattle.pot_store.proofs.RecordLemmas.{digests_same, digests_differ, record_odd, record_file}
 use Rattle.pot_store.proofs.fetching.read_record.Goals as goal
 
 pub returns-then-ne-clause-read : goal.returns-then-ne-clause-read

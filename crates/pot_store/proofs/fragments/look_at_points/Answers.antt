@@ -1,7 +1,7 @@
 use Rattle.std.proofs.Common.{◌≡◌, ◌+◌, refl, ap, sym, ◌∙◌, subst, arith, slice_index_or}
 use Rattle.pot_bytes.specs.declared.rack.Place.{Place}
+use Rattle.pot_bytes.specs.Rack.{no_place}
 use Rattle.pot_shared.specs.Ready.{HasSlot}
-use Rattle.pot_replies.specs.Fetches.{no_place}
 use Rattle.pot_store.specs.Visits.{place_in}
 use Rattle.pot_store.proofs.FitLemmas.{current_fits, fragment_apart, has_slot}
 use Rattle.pot_store.proofs.PointLemmas.{looks_begin, looks_end, looks_enough, looks_full, looks_step}

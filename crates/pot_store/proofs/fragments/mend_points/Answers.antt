@@ -1,7 +1,7 @@
 use Rattle.std.proofs.Common.{◌≡◌, ◌≢◌, ◌+◌, ℕ, [], refl, ap, sym, ◌∙◌, subst, arith, slice_index_or}
 use Rattle.pot_bytes.specs.declared.rack.Place.{Place}
+use Rattle.pot_bytes.specs.Rack.{no_place}
 use Rattle.pot_shared.specs.Ready.{AreReady, HasSlot}
-use Rattle.pot_replies.specs.Fetches.{no_place}
 use Rattle.pot_store.specs.declared.points.Points.{Points}
 use Rattle.pot_store.specs.declared.visiting.Point.TheVariants as point
 use Rattle.pot_store.specs.Visits.{Gone, came_of, place_in}

@@ -1,8 +1,9 @@
 use Rattle.std.proofs.Common.{◌≡◌, ◌∙◌, ◌≤◌, ◌*◌, ap, sym, subst}
 use Rattle.pot_object.specs.Pieces.{pieces_of}
 use Rattle.pot_store.specs.Drawing.{count_of}
-use Rattle.pot_store.proofs.PlanLemmas.{few_blocks, few_pieces}
+use Rattle.pot_store.proofs.PlanLemmas.{few_blocks}
 use Rattle.pot_store.proofs.storing.prepare.Goals as goal
+use Rattle.pot_store.proofs.FitLemmas.{pieces_few}
 
 pub returns-clause-planned : goal.returns-clause-planned
 returns-clause-planned c =
@@ -14,7 +15,7 @@ returns-clause-planned c =
       short = cut.0;
       pieces_is = cut.1;
       shards_is = shards ∙ sym (ap count_of drawing);
-      few = subst (λ n. n ≤ 131072) (sym shards) (few_blocks _ rack.geometry.fragments rack.geometry.shards (few_pieces _ cut.0) c.requires.geometry.fragments.1 c.requires.geometry.shards);
+      few = subst (λ n. n ≤ 131072) (sym shards) (few_blocks _ rack.geometry.fragments rack.geometry.shards (pieces_few _ cut.0) c.requires.geometry.fragments.1 c.requires.geometry.shards);
       drawing = drawing;
       none = c.in-Ok-with_capacity.ensures.items;
     }

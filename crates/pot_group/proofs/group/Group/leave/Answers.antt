@@ -1,6 +1,6 @@
 use Rattle.std.proofs.Common.{◌≡◌, length, ap, ◌∙◌, subst, IsTrue, arith}
+use Rattle.pot_bytes.specs.Rack.{log_bound}
 use Rattle.pot_machine.specs.declared.entry.Entry.TheVariants.{Skip}
-use Rattle.pot_steps.specs.GroupStep.{log_bound}
 use Rattle.pot_group.specs.Group.{GroupParts, view_of, noted}
 use Rattle.pot_group.proofs.Passing.{skip_legal, left_full, left_behind}
 use Rattle.pot_group.proofs.group.Group.leave.Goals as goal

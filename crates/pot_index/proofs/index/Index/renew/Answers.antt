@@ -1,9 +1,10 @@
 use Rattle.std.proofs.Common.{◌+◌, ◌<◌, arith, refl, subst, sym, Ok, Err}
+use Rattle.pot_bytes.specs.Rack.{log_bound}
 use Rattle.pot_object.specs.Pieces.{pieces_of}
 use Rattle.pot_index.specs.declared.fault.RenewFault.TheVariants.{TooOften}
 use Rattle.pot_index.specs.declared.record.Record.{Record}
 use Rattle.pot_index.specs.Fits.{FitsSplit}
-use Rattle.pot_index.specs.Index.{IndexView, IsPublished, IsRecordOf, log_bound, owed}
+use Rattle.pot_index.specs.Index.{IndexView, IsPublished, IsRecordOf, owed}
 use Rattle.pot_index.specs.Calls.{Renews}
 use Rattle.pot_index.proofs.IndexLemmas.{often_is, renewing_is, often_row, no_memory_row, renewed_row, renew_no_memory, full_row, record_published}
 use Rattle.pot_index.proofs.RecordLemmas.{belongs_unpublished}

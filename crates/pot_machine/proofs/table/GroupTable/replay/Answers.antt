@@ -1,5 +1,5 @@
 use Rattle.std.proofs.lemmas.List.{get_or_default}
-use Rattle.pot_machine.proofs.Cases.{not_both}
+use Rattle.std.proofs.lemmas.Bool.{both_ways}
 use Rattle.pot_machine.proofs.Logs.{replay_more, replayed_whole, replayed_front}
 use Rattle.pot_machine.proofs.table.GroupTable.replay.Goals as goal
 
@@ -14,4 +14,4 @@ returns c = replayed_whole c.args.self.now c.loop-entry.self c.args.entries.now 
 pub returns-then-not-legal : goal.returns-then-not-legal
 returns-then-not-legal c =
     replayed_front c.args.self.now c.loop-entry.self c.args.entries.now c.loop-entry.entry-index _ c.loop-entry.invariant c.loop-entry-test.true
-    (λ l. not_both (c.legal.ensures.1 l) c.if-not-legal.true)
+    (λ l. both_ways _ c.if-not-legal.true (c.legal.ensures.1 l))
