@@ -1,6 +1,7 @@
 -- One command more.
 use Rattle.std.proofs.Common.{◌≡◌, ◌+◌, ℕ, suc, List, [], ◌∷◌, ◌++◌, length, refl, ap, sym, subst, arith}
-use Rattle.std.proofs.lemmas.List.{map-append, drop-length}
+use Rattle.std.proofs.lemmas.List.{map-append}
+use lib.Seq.{drop-length}
 use Rattle.pot_bytes.specs.declared.rack.Rack.{Rack}
 use Rattle.pot_rows.specs.Rows.{view_at}
 use Rattle.pot_script.specs.declared.command.Command.{Command}

@@ -39,6 +39,7 @@ pub struct Group<A: Archive> {
 impl<A: Archive> Model for Group<A> {
     ghost use Rattle.std.specs.Prelude.{◌≤◌, IsTrue};
     ghost use Rattle.std.specs.Vec.{vec_capacity};
+    ghost use Rattle.pot_bytes.specs.Rack.{log_bound};
     ghost use Rattle.pot_group.specs.Group.{GroupParts, view_of, IsSettled};
     ghost use Rattle.pot_shelves.specs.Shelves.{numbers_of};
     ghost use Rattle.pot_group.specs.Arrivals.{HasArrived};

@@ -1,8 +1,8 @@
 -- What was written is read back: parts, one after another, and numbers within their sizes.
 use Rattle.std.proofs.Common.{◌≡◌, ℕ, zero, suc, ◌+◌, ◌<◌, ◌≤◌, ◌^◌, ◌==◌, List, [], ◌∷◌, ◌++◌, Bool, true, false, nat_le, length, get_or, take, drop, flat_map, Result, Ok, ap, ap₂, sym, subst, ◌∙◌, refl, arith, append_assoc, append-nil, take-suc, drop-cons, take_all}
-use Rattle.std.proofs.lemmas.List.{drop-length}
 use Rattle.byteorder.specs.Endian.{big_bytes, big_number}
 use Rattle.byteorder.specs.Numbers.{big_number-reads_back, length-bytes_high_first}
+use lib.Seq.{drop-length}
 use Rattle.pot_bytes.specs.declared.digest.Digest.{Digest}
 use Rattle.pot_image.specs.Fields.{Grammar, done}
 use Rattle.pot_image.specs.Reading.{◌>>=◌, over, several, reading}

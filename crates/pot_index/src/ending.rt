@@ -1,11 +1,11 @@
 //! Where a reservation ended.
 ghost use Rattle.std.specs.Prelude.{◌↔◌, ◌≤◌, IsTrue, Any, MatchOption, length};
+ghost use Rattle.pot_bytes.specs.Rack.{log_bound};
 ghost use Rattle.pot_index.specs.Entries.{IsReserving, IsEnding};
 ghost use Rattle.pot_index.specs.Ending.{IsHeld, EndsAt, Steps};
 
 use crate::entry::IndexEntry;
 use pot_bytes::Name;
-use Rattle.pot_bytes.specs.Rack.{log_bound}
 
 /// Whether the entry makes the job's reservation of the name.
 fn is_reserving(entry: &IndexEntry, job: u32, name: &Name) -> bool

@@ -1,5 +1,6 @@
 //! The lists of an index, with the room for all that is to come: no call but `begin`, `reserve` and `renew` takes memory.
 ghost use Rattle.std.specs.Prelude.{◌≡◌, ◌<◌, ◌≤◌, ◌+◌, ◌↔◌, false, IsTrue, IfOk, OnOk, OnErr, Any, MatchBool, MatchOption, MatchResult, HoldsAt, Contains, length, map};
+ghost use Rattle.pot_bytes.specs.Rack.{log_bound};
 ghost use Rattle.pot_index.specs.Entries.{IsReserving, IsQuiet, plain, bringing, brings, entries};
 ghost use Rattle.pot_index.specs.Records.{renewed, mark_of};
 ghost use Rattle.pot_index.specs.Index.{IsReserved, IsReservedBy, IsTaken, IsFree, Ascends, started, logged, owed};
@@ -19,7 +20,6 @@ use pot_bytes::{LOG_BOUND, Name, NoMemory, Rack};
 use std::alloc::Global;
 use std::marker::Model;
 use std::snapshot::Snapshot;
-use Rattle.pot_bytes.specs.Rack.{log_bound}
 
 /// The records by name, the reserved names, the log, and what clauses alone see: the records that the index began with, and
 /// those that entries brought.

@@ -1,8 +1,9 @@
 -- The steps of a move, one after another, as work of a job.
 use Rattle.std.proofs.Common.{◌≡◌, ◌≢◌, inl, ℕ, zero, suc, ◌<◌, ◌≤◌, ◌+◌, ◌-◌, ◌++◌, Bool, true, false, List, [], ◌∷◌, Option, Some, None, length, refl, sym, ap, ◌∙◌, subst, arith, append-nil, length-append, eq-eqb}
 use Rattle.std.specs.Prelude.{cond, IsSomeAnd, Result, Ok, Err, Contains, filter, ◌==◌}
-use Rattle.std.proofs.lemmas.List.{map-append, length-map, drop-length}
+use Rattle.std.proofs.lemmas.List.{map-append, length-map}
 use Rattle.std.proofs.lemmas.List.Elements.{Contains-append_right, filter-append}
+use lib.Seq.{drop-length}
 use Rattle.pot_bytes.specs.declared.rack.Rack.{Rack}
 use Rattle.pot_bytes.proofs.Elements.{none_contained, one_contained}
 use Rattle.pot_bytes.specs.Rack.{log_bound}

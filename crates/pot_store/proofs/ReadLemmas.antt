@@ -2,8 +2,9 @@
 use Rattle.std.proofs.Common.{◌≡◌, ◌≢◌, ◌<◌, ◌≤◌, inl, ⊎_elim, ℕ, zero, suc, ◌+◌, ◌-◌, Bool, true, false, List, [], ◌∷◌, ◌++◌, length, refl, ap, sym, ◌∙◌, subst, arith, append-nil, append_assoc, length-append, replicate}
 use Rattle.std.specs.Prelude.{IfSome, Contains, filter, slice_set, if◌then◌else◌}
 use Rattle.std.proofs.lemmas.List.Elements.{Contains-append_left, Contains-append_right}
-use Rattle.std.proofs.lemmas.List.{map-append, drop-length}
+use Rattle.std.proofs.lemmas.List.{map-append}
 use Rattle.std.proofs.lemmas.Bool.{cases_eq, cases_lt}
+use lib.Seq.{drop-length}
 use Rattle.pot_bytes.specs.declared.digest.Digest.{Digest}
 use Rattle.pot_bytes.specs.declared.rack.Place.{Place}
 use Rattle.pot_bytes.proofs.Elements.{parted_at}

@@ -1,9 +1,10 @@
 -- One put more.
 use Rattle.std.proofs.Common.{◌≡◌, ◌≢◌, ◌<◌, inl, ⊎_elim, ℕ, ◌+◌, true, List, [], ◌∷◌, ◌++◌, length, refl, ap, sym, ◌∙◌, subst, arith, append-nil, append_assoc, take}
 use Rattle.std.specs.Prelude.{Some, Ok, map, Contains, slice_get}
-use Rattle.std.proofs.lemmas.List.{map-append, length-append, length-map, drop-length}
+use Rattle.std.proofs.lemmas.List.{map-append, length-append, length-map}
 use Rattle.std.proofs.lemmas.List.Elements.{Contains-append_left, Contains-append_right}
 use Rattle.std.proofs.lemmas.Bool.{cases_eq}
+use lib.Seq.{drop-length}
 use Rattle.pot_bytes.specs.Sums.{xor}
 use Rattle.pot_bytes.specs.declared.digest.Digest.{Digest}
 use Rattle.pot_bytes.specs.declared.rack.Place.{Place}

@@ -1,8 +1,9 @@
 -- The answers of a store, by what each of its calls logged.
 use Rattle.std.proofs.Common.{◌≡◌, ◌≢◌, ◌<◌, ◌≤◌, ◌⊎◌, inl, inr, ⊎_elim, ℕ, zero, suc, ◌+◌, List, [], ◌∷◌, ◌++◌, length, refl, ap, sym, ◌∙◌, subst, arith, append-nil, append_assoc, take, drop}
 use Rattle.std.specs.Prelude.{Option, Some, None, Result, Ok, Err, IfSome, map, filter, slice_get}
-use Rattle.std.proofs.lemmas.List.{map-append, length-map, drop-length}
+use Rattle.std.proofs.lemmas.List.{map-append, length-map}
 use Rattle.std.proofs.lemmas.Option.{same_Some}
+use lib.Seq.{drop-length}
 use Rattle.pot_bytes.specs.Digests.{digest_bytes}
 use Rattle.pot_bytes.specs.declared.rack.Place.{Place}
 use Rattle.pot_bytes.specs.declared.rack.Rack.{Rack}

@@ -1,5 +1,5 @@
 use Rattle.std.proofs.Common.{[], ◌∷◌, ◌++◌, refl, sym, ap, ◌∙◌, arith}
-use Rattle.std.proofs.lemmas.List.{drop-length}
+use lib.Seq.{drop-length}
 use Rattle.pot_group.specs.Arrivals.{arrivals}
 use Rattle.pot_rows.specs.Rows.{view_at}
 use Rattle.pot_shared.specs.Members.{entries_of}
