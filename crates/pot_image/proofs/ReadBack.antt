@@ -26,6 +26,10 @@ back_end g view x a h = record { read = λ rest. ok_then g (λ z. done (view z))
 pub back_as : {A : Type 0} (g : Grammar A) (x y : List ℕ) (a : A) → x ≡ y → Back g x a → Back g y a
 back_as g x y a e h = subst (λ z. Back g z a) e h
 
+-- five parts, put together from the last or from the first
+pub five_joined : (a b c d e : List ℕ) → a ++ (b ++ (c ++ (d ++ e))) ≡ (((a ++ b) ++ c) ++ d) ++ e
+five_joined a b c d e = sym (append_assoc ((a ++ b) ++ c) d e ∙ append_assoc (a ++ b) c (d ++ e) ∙ append_assoc a b (c ++ (d ++ e)))
+
 pub back_number : (size : ℕ) (rule : ℕ → Bool) (n : ℕ) → n < 256 ^ size → rule n ≡ true → Back (natural size rule) (big_bytes size n) n
 unfolding natural
 back_number size rule n l e = record { read = λ rest. by_rest rest }

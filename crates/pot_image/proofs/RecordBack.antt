@@ -1,5 +1,5 @@
 -- The records of an image are read back.
-use Rattle.std.proofs.Common.{◌≡◌, ◌⊎◌, inl, inr, ℕ, zero, suc, ◌+◌, ◌-◌, ◌*◌, ◌<◌, ◌≤◌, ◌==◌, ◌&&◌, ◌||◌, not, All, Some, None, slice_get, List, [], ◌∷◌, ◌++◌, true, false, length, get_or, take, flat_map, ap, ap₂, sym, subst, ◌∙◌, refl, arith, append_assoc, append-nil, length-append, length-take-le, eq-eqb}
+use Rattle.std.proofs.Common.{◌≡◌, ◌⊎◌, inl, inr, ℕ, zero, suc, ◌+◌, ◌-◌, ◌*◌, ◌<◌, ◌≤◌, ◌==◌, ◌&&◌, ◌||◌, not, All, Some, None, slice_get, List, [], ◌∷◌, ◌++◌, true, false, length, get_or, take, flat_map, ap, ap₂, sym, subst, ◌∙◌, refl, arith, append-nil, length-append, length-take-le, eq-eqb}
 use Rattle.std.specs.List.{list_any}
 use Rattle.std.specs.Cmp.Lexicographic.{slice_cmp}
 use Rattle.std.specs.Ordering.{is_lt, nat_cmp}
@@ -33,7 +33,7 @@ use Rattle.pot_image.proofs.Filled.{all_pass}
 use Rattle.pot_image.proofs.MarkRules.{at_same}
 use Rattle.pot_image.proofs.HeadBack.{both, is_between, geometry_back}
 use Rattle.pot_image.proofs.LogBack.{name_back}
-use Rattle.pot_image.proofs.ReadBack.{Back, back_then, back_end, back_as, back_number, back_byte, back_digest, back_several}
+use Rattle.pot_image.proofs.ReadBack.{Back, back_then, back_end, back_as, five_joined, back_number, back_byte, back_digest, back_several}
 
 no_place : Place
 no_place = record { group = 0; column = 0; stripe = 0 }
@@ -148,7 +148,7 @@ name_above rs (suc i) up l =
 record_back : (rack : Rack) (ts : List Table) (i : ℕ) (before : List Record) (r : Record) → IsRack rack → FitsRack rack r → IsRecordOver ts r → is_above before r.name ≡ true → Back (record_behind Second rack ts i before) (record_bytes r) r
 unfolding record_behind record_bytes
 record_back rack ts i before r rules fits over above =
-    (back_as _ (name_bytes r.name ++ (big_bytes 8 r.length ++ (r.digest.bytes ++ (length (splits_of r) ∷ flat_map split_bytes (splits_of r))))) _ _ (spelled (name_bytes r.name) (big_bytes 8 r.length) r.digest.bytes (length (splits_of r) ∷ []) (flat_map split_bytes (splits_of r)))
+    (back_as _ (name_bytes r.name ++ (big_bytes 8 r.length ++ (r.digest.bytes ++ (length (splits_of r) ∷ flat_map split_bytes (splits_of r))))) _ _ (five_joined (name_bytes r.name) (big_bytes 8 r.length) r.digest.bytes (length (splits_of r) ∷ []) (flat_map split_bytes (splits_of r)))
     (back_then (name (is_above before)) _ (name_bytes r.name) _ r.name r (name_back (is_above before) r.name over.name above)
     (back_then (natural 8 (at_most longest)) _ (big_bytes 8 r.length) _ r.length r (back_number 8 (at_most longest) r.length (omega (arith, short)) (le-leb _ _ short))
     (back_then digest _ r.digest.bytes _ r.digest r (back_digest r.digest over.digest)
@@ -157,9 +157,6 @@ record_back rack ts i before r rules fits over above =
   where
     short : r.length ≤ 884736
     short = fits.long
-
-    spelled : (a b c d e : List ℕ) → a ++ (b ++ (c ++ (d ++ e))) ≡ (((a ++ b) ++ c) ++ d) ++ e
-    spelled a b c d e = sym (append_assoc ((a ++ b) ++ c) d e ∙ append_assoc (a ++ b) c (d ++ e) ∙ append_assoc a b (c ++ (d ++ e)))
 
 pub records_back : (rack : Rack) (ts : List Table) (rs : List Record) → IsRack rack → AreRecords rack ts rs → Back (records Second rack ts) (counted_bytes record_bytes rs) rs
 unfolding records
