@@ -21,7 +21,7 @@ stripe rack = natural 4 (at_most (rack.stripes - 1))
 abbrev pub column : Rack → Grammar ℕ
 column rack = natural 1 (between 0 (rack.columns + rack.parity - 1))
 
--- both
+-- a stripe, and a column behind it
 abbrev pub place : Rack → Grammar (ℕ × ℕ)
 place rack = stripe rack >>= λ s. column rack >>= λ c. done (s, c)
 

@@ -28,7 +28,7 @@ fn read_column<'a>(bytes: &'a [u8], rack: &Rack) -> Result<(u8, &'a [u8]), Fault
     read_byte(bytes, 0, rack.columns + rack.parity - 1)
 }
 
-/// Both.
+/// A stripe of the rack, and a column of its groups.
 fn read_place<'a>(bytes: &'a [u8], rack: &Rack) -> Result<(u32, u8, &'a [u8]), Fault>
     requires { IsRack rack.now }
     ensures { Gives (λ x. ((x.0, x.1), x.2.now)) result (reading (place rack.now) bytes.now) }

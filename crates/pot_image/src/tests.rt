@@ -215,7 +215,7 @@ fn signed(
     Ok(out)
 }
 
-/// An image of the second format without records, with one parity column, in the first.
+/// An image without records and with one parity column, in the first format.
 fn in_the_first_format(alloc: Global, bytes: &[u8]) -> Result<Vec<u8>, Fail> {
     let numbered = signed(alloc, bytes, 7, 1, &[])?;
     signed(alloc, &numbered, 26, 0, &[])
