@@ -1,8 +1,10 @@
 -- Elements of lists, for all crates above.
-use Rattle.std.proofs.Common.{◌≡◌, ℕ, zero, suc, ◌<◌, ◌≤◌, Bool, true, false, List, [], ◌∷◌, ◌++◌, Option, Some, length, slice_get, refl, ap, ◌∙◌, arith}
+use Rattle.std.proofs.Common.{◌≡◌, ℕ, zero, suc, ◌<◌, ◌≤◌, Bool, true, false, List, [], ◌∷◌, ◌++◌, Some, length, slice_get, refl, ap, ◌∙◌, arith, get_or, zero-add}
 use Rattle.std.specs.Prelude.{Any, Contains, filter, if◌then◌else◌, map}
 use Rattle.std.proofs.lemmas.List.{length-append, get_or_append_left}
 use Rattle.std.proofs.lemmas.Option.{same_Some}
+use Rattle.std.specs.List.{range_with_len}
+use Rattle.std.proofs.lemmas.List.FromFn.{get_or-range_with_len}
 
 -- WHAT A LIST CONTAINS
 
@@ -45,6 +47,10 @@ pub element_of_map : {X Y : Type 0} (f : X → Y) (xs : List X) (k : ℕ) (y : Y
 element_of_map f [] k y e = absurd (cc)
 element_of_map f (x ∷ xs) zero y e = (x, refl, same_Some (f x) y e)
 element_of_map f (x ∷ xs) (suc k) y e = element_of_map f xs k y e
+
+-- the first numbers, by place
+pub at_range : (n k d : ℕ) → k < n → get_or (range_with_len 0 n) k d ≡ k
+at_range n k d lt = get_or-range_with_len 0 n k d lt ∙ zero-add k
 
 -- HOW MANY
 

@@ -3,6 +3,7 @@ pub mod Basis
 pub mod Elements
 pub mod ListLemmas
 pub mod NameLemmas
+pub mod Orders
 pub mod ProductLemmas
 pub mod SumLemmas
 pub mod TotalLemmas

@@ -4,9 +4,13 @@ use Rattle.std.specs.List.{AllByRecursion, IsDistinct}
 use Rattle.std.proofs.lemmas.List.Elements.{All-nil, All-cons, All-head, All-tail}
 use Rattle.std.proofs.lemmas.List.Folds.{list_any-append}
 use Rattle.std.proofs.lemmas.Map.Keys.{IsDistinct-head, IsDistinct-tail}
-use Rattle.std.proofs.lemmas.Bool.{eqb-true, leb-true, le-leb, and_parts, cases_Bool}
+use Rattle.std.proofs.lemmas.Bool.{eqb-true, leb-true, le-leb, ne_eqb, cases_Bool, and_parts}
 use Rattle.pot_image.specs.Rules.{AreArchives}
 use Rattle.pot_image.proofs.ColumnRules.{AreFree, stands, stands_right, free_apart}
+
+-- numbers that differ, the other way round
+flipped : (n m : ℕ) → nat_eq n m ≡ false → nat_eq m n ≡ false
+flipped n m h = ne_eqb m n (λ e. (let t : nat_eq n m ≡ true = eq-eqb n m (sym e) in cc))
 
 -- FREE NUMBERS ARE DISTINCT
 
@@ -14,19 +18,9 @@ none_is : (n : ℕ) (ns : List ℕ) → stands n ns ≡ false → AllByRecursion
 none_is n [] e = tt
 none_is n (m ∷ ns) e = by_head (m == n) (stands n ns) refl e (λ h. none_is n ns h)
   where
-    flipped : nat_eq m n ≡ false → nat_eq n m ≡ false
-    flipped h = by_test (cases_Bool (nat_eq n m))
-      where
-        by_test : ((nat_eq n m ≡ true) ⊎ (nat_eq n m ≡ false)) → nat_eq n m ≡ false
-        by_test (inr q) = q
-        by_test (inl q) = absurd (clash (nat_eq m n) (eq-eqb m n (sym (eqb-true n m q))) h)
-          where
-            clash : (b : Bool) → b ≡ true → b ≡ false → ⊥
-            clash b t f = cc
-
     by_head : (a b : Bool) → nat_eq m n ≡ a → a || b ≡ false → (b ≡ false → AllByRecursion (λ k. nat_eq n k ≡ false) ns) → (nat_eq n m ≡ false) × AllByRecursion (λ k. nat_eq n k ≡ false) ns
     by_head true b q h again = absurd ((cc))
-    by_head false b q h again = (flipped q, again h)
+    by_head false b q h again = (flipped m n q, again h)
 
 free_distinct : (ns taken : List ℕ) → AreFree taken ns → IsDistinct nat_eq ns
 unfolding IsDistinct
@@ -45,17 +39,7 @@ archives_of_free ns h = record { within = free_within ns [] h; distinct = free_d
 
 stands_none : (n : ℕ) (ns : List ℕ) → AllByRecursion (λ m. nat_eq n m ≡ false) ns → stands n ns ≡ false
 stands_none n [] h = refl
-stands_none n (m ∷ ns) h = ap₂ (λ a b. a || b) (other h.0) (stands_none n ns h.1)
-  where
-    other : nat_eq n m ≡ false → nat_eq m n ≡ false
-    other e = by_test (cases_Bool (nat_eq m n))
-      where
-        by_test : ((nat_eq m n ≡ true) ⊎ (nat_eq m n ≡ false)) → nat_eq m n ≡ false
-        by_test (inr q) = q
-        by_test (inl q) = absurd (clash (nat_eq n m) (eq-eqb n m (sym (eqb-true m n q))) e)
-          where
-            clash : (b : Bool) → b ≡ true → b ≡ false → ⊥
-            clash b t f = cc
+stands_none n (m ∷ ns) h = ap₂ (λ a b. a || b) (flipped n m h.0) (stands_none n ns h.1)
 
 -- what is taken stands not among them
 abbrev AreNew : List ℕ → List ℕ → Type 0

@@ -1,11 +1,12 @@
 -- An image that was written is read back.
-use Rattle.std.proofs.Common.{◌≡◌, inl, inr, ℕ, ◌+◌, ◌-◌, ◌<◌, ◌≤◌, ◌^◌, List, [], ◌++◌, Result, Ok, Err, MatchResult, length, get_or, map, take, drop, flat_map, ap, sym, subst, ◌∙◌, refl, arith, append_assoc, append-nil, length-append}
+use Rattle.std.proofs.Common.{◌≡◌, inl, inr, ◌+◌, ◌-◌, ◌<◌, ◌≤◌, ◌^◌, [], ◌++◌, Result, Ok, Err, MatchResult, length, get_or, map, take, drop, flat_map, ap, sym, subst, ◌∙◌, refl, arith, append-nil, length-append}
 use Rattle.std.proofs.Math.Seq.{take-append_seam, drop-append_seam}
 use Rattle.std.proofs.lemmas.List.{get_or-map, length-map}
 use Rattle.byteorder.specs.Endian.{big_bytes}
 use Rattle.byteorder.specs.Numbers.{big_number-reads_back}
 use Rattle.pot_bytes.specs.Digests.{digest_bytes}
 use Rattle.pot_bytes.proofs.DigestLemmas.{length-digest_bytes}
+use Rattle.pot_object.proofs.ReadLemmas.{spread}
 use Rattle.pot_index.specs.Records.{record_bytes}
 use Rattle.pot_image.specs.declared.format.Format.TheVariants.{Second}
 use Rattle.pot_image.specs.declared.image.Image.{Image}
@@ -27,14 +28,11 @@ use Rattle.pot_image.proofs.RecordBack.{records_back}
 use Rattle.pot_image.proofs.LogBack.{logs_back, index_log_back}
 use Rattle.pot_image.proofs.ReadBack.{Back, back_then, back_end, back_as}
 
-join : (a b c d e : List ℕ) → a ++ (b ++ (c ++ (d ++ e))) ≡ (((a ++ b) ++ c) ++ d) ++ e
-join a b c d e = sym (append_assoc ((a ++ b) ++ c) d e ∙ append_assoc (a ++ b) c (d ++ e) ∙ append_assoc a b (c ++ (d ++ e)))
-
 image_back : (v : Contents) → IsImage v → Back (image Second) (field_bytes v) v
 unfolding image field_bytes
 image_back v is =
     (back_as _ (head_bytes v.session v.rack ++ (flat_map table_bytes v.tables ++ (counted_bytes record_bytes v.records ++ (flat_map (counted_bytes entry_bytes) v.group_logs ++ counted_bytes index_entry_bytes v.index_log)))) _ v
-    (join (head_bytes v.session v.rack) (flat_map table_bytes v.tables) (counted_bytes record_bytes v.records) (flat_map (counted_bytes entry_bytes) v.group_logs) (counted_bytes index_entry_bytes v.index_log))
+    (sym (spread (head_bytes v.session v.rack) (flat_map table_bytes v.tables) (counted_bytes record_bytes v.records) (flat_map (counted_bytes entry_bytes) v.group_logs) (counted_bytes index_entry_bytes v.index_log)))
     (back_then (head Second) _ (head_bytes v.session v.rack) _ (record { session = v.session; rack = v.rack }) v (head_back v.session v.rack is.session is.together.rack)
     (back_then (tables v.rack) _ (flat_map table_bytes v.tables) _ v.tables v (tables_back v.rack v.tables is.together.rack is.together.tables is.digests)
     (back_then (records Second v.rack v.tables) _ (counted_bytes record_bytes v.records) _ v.records v (records_back v.rack v.tables v.records is.together.rack is.together.records)

@@ -1,11 +1,12 @@
 -- The logs of an image are read back.
-use Rattle.std.proofs.Common.{◌≡◌, ℕ, ◌+◌, ◌-◌, ◌<◌, ◌≤◌, ◌&&◌, All, List, [], ◌∷◌, ◌++◌, Bool, true, length, get_or, flat_map, ap, sym, ◌∙◌, refl, arith, append_assoc}
+use Rattle.std.proofs.Common.{◌≡◌, ℕ, ◌+◌, ◌-◌, ◌<◌, ◌≤◌, ◌&&◌, All, List, [], ◌∷◌, ◌++◌, Bool, true, length, get_or, flat_map, ap, sym, refl, arith, append_assoc}
 use Rattle.std.proofs.lemmas.List.Sums.{list_all-from_AllPass}
 use Rattle.std.proofs.lemmas.Bool.{le-leb, and_from}
 use Rattle.byteorder.specs.Endian.{big_bytes}
 use Rattle.pot_bytes.specs.declared.rack.Rack.{Rack}
 use Rattle.pot_bytes.specs.Rack.{IsRack}
 use Rattle.pot_bytes.specs.Names.{IsName, is_name_byte}
+use Rattle.pot_object.proofs.ReadLemmas.{spread}
 use Rattle.pot_machine.specs.declared.entry.Entry.{Entry}
 use Rattle.pot_machine.specs.declared.entry.Entry.TheVariants.{Put, Skip, Seen, Gone, Broke, Fault, Begin, Hop, Mended, GaveUp, Oddly, Stuck, MoveBegin, Moved, MoveEnd, Swapped, Counted, Put2}
 use Rattle.pot_index.specs.declared.entry.IndexEntry.{IndexEntry}
@@ -16,7 +17,7 @@ use Rattle.pot_image.specs.Fields.{Grammar, done}
 use Rattle.pot_image.specs.Reading.{◌>>=◌}
 use Rattle.pot_image.specs.Numbers.{natural, any, at_most, between, flag, digest}
 use Rattle.pot_image.specs.Records.{is_name, name}
-use Rattle.pot_image.specs.Logs.{stripe, column, archive, entry_of, kinds, entry, entry_behind, group_log, group_log_behind, group_logs, behind_name, index_entry_of, index_kinds, index_entry, index_entry_behind, index_log}
+use Rattle.pot_image.specs.Logs.{stripe, column, place, archive, entry_of, kinds, entry, entry_behind, group_log, group_log_behind, group_logs, behind_name, index_entry_of, index_kinds, index_entry, index_entry_behind, index_log}
 use Rattle.pot_image.specs.Spelling.{flag_bytes, lead_bytes, place_bytes, entry_bytes, index_entry_bytes, counted_bytes}
 use Rattle.pot_image.specs.Rules.{IsJob, IsAt, FitsEntry, FitsIndexEntry, IsLog}
 use Rattle.pot_image.proofs.HeadBack.{is_between}
@@ -46,15 +47,16 @@ module _ (rack : Rack) (rules : IsRack rack) where
       (back_then (natural 1 (between 1 (kinds Second))) _ (kind ∷ []) (big_bytes 4 job ++ y) kind e (back_byte (between 1 18) kind (is_between 1 18 kind l m))
       (back_then (natural 4 any) _ (big_bytes 4 job) y job e (back_number 4 any job (omega (arith, j)) refl) h))
 
-  at_place : (next : ℕ → ℕ → Grammar Entry) (s c : ℕ) (y : List ℕ) (e : Entry) → IsAt rack s c → Back (next s c) y e → Back (stripe rack >>= λ s. column rack >>= λ c. next s c) (place_bytes s c ++ y) e
-  at_place next s c y e at h =
-      back_then (stripe rack) (λ s. column rack >>= λ c. next s c) (big_bytes 4 s) ((c ∷ []) ++ y) s e (stripe_back s at.0)
-      (back_then (column rack) (λ c. next s c) (c ∷ []) y c e (column_back c at.1) h)
+  place_back : (s c : ℕ) → IsAt rack s c → Back (place rack) (place_bytes s c) (s, c)
+  place_back s c at =
+      back_then (stripe rack) (λ s. column rack >>= λ c. done (s, c)) (big_bytes 4 s) (c ∷ []) s (s, c) (stripe_back s at.0)
+      (back_end (column rack) (λ c. (s, c)) (c ∷ []) c (column_back c at.1))
 
-  placed_back : (make : ℕ → ℕ → Entry) (s c : ℕ) → IsAt rack s c → Back (stripe rack >>= λ s. column rack >>= λ c. done (make s c)) (place_bytes s c) (make s c)
-  placed_back make s c at =
-      back_then (stripe rack) (λ s. column rack >>= λ c. done (make s c)) (big_bytes 4 s) (c ∷ []) s (make s c) (stripe_back s at.0)
-      (back_end (column rack) (λ c. make s c) (c ∷ []) c (column_back c at.1))
+  at_place : (next : ℕ → ℕ → Grammar Entry) (s c : ℕ) (y : List ℕ) (e : Entry) → IsAt rack s c → Back (next s c) y e → Back (place rack >>= λ p. next p.0 p.1) (place_bytes s c ++ y) e
+  at_place next s c y e at h = back_then (place rack) (λ p. next p.0 p.1) (place_bytes s c) y (s, c) e (place_back s c at) h
+
+  placed_back : (make : ℕ → ℕ → Entry) (s c : ℕ) → IsAt rack s c → Back (place rack >>= λ p. done (make p.0 p.1)) (place_bytes s c) (make s c)
+  placed_back make s c at = back_end (place rack) (λ p. make p.0 p.1) (place_bytes s c) (s, c) (place_back s c at)
 
   move_back : (make : ℕ → ℕ → Entry) (c to : ℕ) → c < rack.columns + rack.parity → to ≤ 511 → Back (column rack >>= λ c. archive >>= λ to. done (make c to)) ((c ∷ []) ++ big_bytes 4 to) (make c to)
   move_back make c to l m =
@@ -84,13 +86,10 @@ module _ (rack : Rack) (rules : IsRack rack) where
   entry_back (Swapped job c to) f = (lead_back job 16 _ _ (omega arith) (omega arith) f.0 (move_back (λ c to. Swapped job c to) c to f.1.0 f.1.1))
   entry_back (Counted job) f = (lead_back job 17 [] _ (omega arith) (omega arith) f (back_done (Counted job)))
   entry_back (Put2 job s c d p q kept kept2) f =
-      (back_as _ (lead_bytes 18 job ++ (place_bytes s c ++ (d.bytes ++ (p.bytes ++ (q.bytes ++ (flag_bytes kept ++ flag_bytes kept2)))))) _ _ (ap (λ z. lead_bytes 18 job ++ (place_bytes s c ++ z)) (spelled d.bytes p.bytes q.bytes (flag_bytes kept) (flag_bytes kept2)))
+      (back_as _ (lead_bytes 18 job ++ (place_bytes s c ++ (d.bytes ++ (p.bytes ++ (q.bytes ++ (flag_bytes kept ++ flag_bytes kept2)))))) _ _ (ap (λ z. lead_bytes 18 job ++ (place_bytes s c ++ z)) (sym (spread d.bytes p.bytes q.bytes (flag_bytes kept) (flag_bytes kept2))))
       (lead_back job 18 _ _ (omega arith) (omega arith) f.0 (at_place (λ s c. digest >>= λ d. digest >>= λ p. digest >>= λ q. flag >>= λ kept. flag >>= λ kept2. done (Put2 job s c d p q kept kept2)) s c _ _ f.1.0
       (back_then digest _ d.bytes _ d _ (back_digest d f.1.1.0) (back_then digest _ p.bytes _ p _ (back_digest p f.1.1.1.0) (back_then digest _ q.bytes _ q _ (back_digest q f.1.1.1.1)
       (back_then flag _ (flag_bytes kept) _ kept _ (back_flag kept) (back_end flag (λ kept2. Put2 job s c d p q kept kept2) (flag_bytes kept2) kept2 (back_flag kept2)))))))))
-    where
-      spelled : (a b c d e : List ℕ) → a ++ (b ++ (c ++ (d ++ e))) ≡ (((a ++ b) ++ c) ++ d) ++ e
-      spelled a b c d e = sym (append_assoc ((a ++ b) ++ c) d e ∙ append_assoc (a ++ b) c (d ++ e) ∙ append_assoc a b (c ++ (d ++ e)))
 
   log_back : (es : List Entry) → IsLog (FitsEntry rack) es → Back (group_log Second rack) (counted_bytes entry_bytes es) es
   unfolding group_log

@@ -13,7 +13,7 @@ use Rattle.pot_image.specs.Fields.{Grammar, done}
 use Rattle.pot_image.specs.Reading.{◌>>=◌}
 use Rattle.pot_index.specs.Records.{name_bytes}
 use Rattle.pot_image.specs.Numbers.{any, at_most, between}
-use Rattle.pot_image.specs.Logs.{stripe, column, of_two_columns, of_archive, of_put, of_two_puts, placed, entry_of, kinds, entry, entry_behind, group_log, group_log_behind, group_logs, behind_name, index_entry_of, index_kinds, index_entry, index_entry_behind, index_log}
+use Rattle.pot_image.specs.Logs.{stripe, column, place, of_two_columns, of_archive, of_put, of_two_puts, placed, entry_of, kinds, entry, entry_behind, group_log, group_log_behind, group_logs, behind_name, index_entry_of, index_kinds, index_entry, index_entry_behind, index_log}
 use Rattle.pot_image.specs.Spelling.{lead_bytes, place_bytes, entry_bytes, index_entry_bytes, counted_bytes}
 use Rattle.pot_image.proofs.RecordSpelled.{name_spelled}
 use Rattle.pot_image.proofs.Spelled.{Spelled, Behind, NoMore, spelled, behind_done, behind_then, spelled_byte, spelled_4, spelled_flag, spelled_digest, behind_several, spelled_counted}
@@ -42,12 +42,15 @@ module _ (rack : Rack) where
   column_spelled : Spelled (column rack) (λ c. c ∷ []) (λ c. between 0 (rack.columns + rack.parity - 1) c ≡ true)
   column_spelled = spelled_byte (between 0 (rack.columns + rack.parity - 1))
 
+  place_spelled : Spelled (place rack) (λ p. place_bytes p.0 p.1) NoMore
+  place_spelled = spelled _ _
+      (behind_then [] _ _ _ _ _ stripe_spelled (λ s a.
+      behind_then _ _ _ _ _ _ column_spelled (λ c b. behind_done _ _ _ refl)))
+
   -- behind a stripe and a column
-  at_place : (kind job : ℕ) (next : ℕ → ℕ → Grammar Entry) → ((s c : ℕ) → Behind (lead_bytes kind job ++ place_bytes s c) (next s c) entry_bytes)
-      → Behind (lead_bytes kind job) (stripe rack >>= λ s. column rack >>= λ c. next s c) entry_bytes
-  at_place kind job next h =
-      behind_then _ _ _ _ _ _ stripe_spelled (λ s a.
-      behind_then _ _ _ _ _ _ column_spelled (λ c b. h s c))
+  at_place : (kind job : ℕ) (next : ℕ × ℕ → Grammar Entry) → ((s c : ℕ) → Behind (lead_bytes kind job ++ place_bytes s c) (next (s, c)) entry_bytes)
+      → Behind (lead_bytes kind job) (place rack >>= next) entry_bytes
+  at_place kind job next h = behind_then _ _ _ _ _ _ place_spelled (λ p a. h p.0 p.1)
 
   placed_text : (kind job s c : ℕ) → 3 ≤ kind → kind ≤ 9 → lead_bytes kind job ++ place_bytes s c ≡ entry_bytes (placed kind job s c)
   unfolding entry_bytes
@@ -69,7 +72,7 @@ module _ (rack : Rack) where
   two_columns_spelled : (kind job : ℕ) (make : ℕ → ℕ → ℕ → Entry) → ((s c other : ℕ) → lead_bytes kind job ++ place_bytes s c ++ other ∷ [] ≡ entry_bytes (make s c other))
       → Behind (lead_bytes kind job) (of_two_columns rack make) entry_bytes
   two_columns_spelled kind job make same =
-      at_place kind job (λ s c. column rack >>= λ other. done (make s c other)) (λ s c.
+      at_place kind job _ (λ s c.
       behind_then _ _ _ _ _ _ column_spelled (λ other a. behind_done _ _ _ (same s c other)))
 
   move_spelled : (kind job : ℕ) (make : ℕ → ℕ → Entry) → ((c to : ℕ) → lead_bytes kind job ++ c ∷ [] ++ big_bytes 4 to ≡ entry_bytes (make c to))
@@ -84,7 +87,7 @@ module _ (rack : Rack) where
       (by_kind Is kind 1 _ _ put (λ a.
       by_kind Is kind 2 _ _ (behind_then _ _ _ _ _ _ stripe_spelled (λ s t. behind_done _ _ _ refl)) (λ b.
       behind_test (lead_bytes kind job) (nat_le kind 9) _ _ entry_bytes
-      (λ low. at_place kind job (λ s c. done (placed kind job s c)) (λ s c. behind_done _ _ _ (placed_text kind job s c (omega arith) (leb-true kind 9 low))))
+      (λ low. at_place kind job _ (λ s c. behind_done _ _ _ (placed_text kind job s c (omega arith) (leb-true kind 9 low))))
       (λ high.
       by_kind Is kind 10 _ _ (two_columns_spelled 10 job (GaveUp job) (λ s c other. refl)) (λ d.
       by_kind Is kind 11 _ _ (at_place 11 job _ (λ s c. behind_then _ _ _ _ _ _ spelled_digest (λ found t. behind_done _ _ _ refl))) (λ e.

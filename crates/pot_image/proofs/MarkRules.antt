@@ -3,12 +3,9 @@ use Rattle.std.proofs.Common.{zero, suc, replicate, ◌≡◌, ◌⊎◌, inl, i
 use Rattle.std.specs.List.{list_any}
 use Rattle.std.proofs.lemmas.List.{get_or-set_same, get_or-set_other}
 use Rattle.std.proofs.lemmas.List.Folds.{list_any-append}
-use Rattle.std.proofs.lemmas.Bool.{eqb-true, ne_eqb, and_parts, cases_Bool}
-use Rattle.pot_bytes.specs.declared.rack.Geometry.{Geometry}
+use Rattle.std.proofs.lemmas.Bool.{eqb-true, cases_Bool, and_parts, ne_eqb}
 use Rattle.pot_bytes.specs.declared.rack.Place.{Place}
 use Rattle.pot_bytes.specs.declared.rack.Rack.{Rack}
-use Rattle.pot_index.specs.declared.record.Split.{Split}
-use Rattle.pot_image.specs.declared.records.RecordSplits.{RecordSplits}
 use Rattle.pot_machine.proofs.Places.{place_same, place_below}
 use Rattle.pot_image.specs.Records.{is_at, is_apart}
 use Rattle.pot_image.specs.Marks.{spot, AreStamps, HaveMarks}
@@ -102,9 +99,6 @@ unmarked rack stamps last now a l = record {
 -- none is above a higher one
 pub stamps_below : (rack : Rack) (stamps : List ℕ) (last now : ℕ) → AreStamps rack stamps last → last ≤ now → AreStamps rack stamps now
 stamps_below rack stamps last now a l = record { count = a.count; low = λ i. (let low = a.low i in omega (arith, l, low)) }
-
-abbrev pub splits_of : List Split → Geometry → List Place → RecordSplits
-splits_of older g ps = record { older = older; current = record { geometry = g; places = ps } }
 
 -- zeros are no stamps
 pub no_stamps : (rack : Rack) (stamps : List ℕ) (n g z w : ℕ) → stamps ≡ replicate n 0 → length stamps ≡ g * z * w → g ≡ rack.groups → z ≡ rack.stripes → w ≡ rack.columns → AreStamps rack stamps 0

@@ -1,5 +1,5 @@
 -- The records of an image are read back.
-use Rattle.std.proofs.Common.{◌≡◌, ◌⊎◌, inl, inr, ℕ, zero, suc, ◌+◌, ◌-◌, ◌*◌, ◌<◌, ◌≤◌, ◌==◌, ◌&&◌, ◌||◌, not, All, Some, None, slice_get, List, [], ◌∷◌, ◌++◌, true, false, length, get_or, take, flat_map, ap, ap₂, sym, subst, ◌∙◌, refl, arith, append_assoc, append-nil, length-append, length-take-le, eq-eqb}
+use Rattle.std.proofs.Common.{◌≡◌, ◌⊎◌, inl, inr, ℕ, zero, suc, ◌+◌, ◌-◌, ◌*◌, ◌<◌, ◌≤◌, ◌==◌, ◌&&◌, ◌||◌, not, All, Some, None, slice_get, List, [], ◌∷◌, ◌++◌, true, false, length, get_or, take, flat_map, ap, ap₂, sym, subst, ◌∙◌, refl, arith, append-nil, length-append, length-take-le, eq-eqb}
 use Rattle.std.specs.List.{list_any}
 use Rattle.std.specs.Cmp.Lexicographic.{slice_cmp}
 use Rattle.std.specs.Ordering.{is_lt, nat_cmp}
@@ -14,6 +14,7 @@ use Rattle.pot_bytes.specs.declared.rack.Place.{Place}
 use Rattle.pot_bytes.specs.declared.rack.Rack.{Rack}
 use Rattle.pot_bytes.specs.Rack.{IsRack, no_place}
 use Rattle.pot_object.specs.Pieces.{longest, pieces_of}
+use Rattle.pot_object.proofs.ReadLemmas.{spread}
 use Rattle.pot_machine.specs.Table.{Table}
 use Rattle.pot_index.specs.declared.record.Record.{Record}
 use Rattle.pot_index.specs.declared.record.Split.{Split}
@@ -144,7 +145,7 @@ name_above rs (suc i) up l =
 record_back : (rack : Rack) (ts : List Table) (i : ℕ) (before : List Record) (r : Record) → IsRack rack → FitsRack rack r → IsRecordOver ts r → is_above before r.name ≡ true → Back (record_behind Second rack ts i before) (record_bytes r) r
 unfolding record_behind record_bytes
 record_back rack ts i before r rules fits over above =
-    (back_as _ (name_bytes r.name ++ (big_bytes 8 r.length ++ (r.digest.bytes ++ (length (splits_of r) ∷ flat_map split_bytes (splits_of r))))) _ _ (spelled (name_bytes r.name) (big_bytes 8 r.length) r.digest.bytes (length (splits_of r) ∷ []) (flat_map split_bytes (splits_of r)))
+    (back_as _ (name_bytes r.name ++ (big_bytes 8 r.length ++ (r.digest.bytes ++ (length (splits_of r) ∷ flat_map split_bytes (splits_of r))))) _ _ (sym (spread (name_bytes r.name) (big_bytes 8 r.length) r.digest.bytes (length (splits_of r) ∷ []) (flat_map split_bytes (splits_of r))))
     (back_then (name (is_above before)) _ (name_bytes r.name) _ r.name r (name_back (is_above before) r.name over.name above)
     (back_then (natural 8 (at_most longest)) _ (big_bytes 8 r.length) _ r.length r (back_number 8 (at_most longest) r.length (omega (arith, short)) (le-leb _ _ short))
     (back_then digest _ r.digest.bytes _ r.digest r (back_digest r.digest over.digest)
@@ -153,9 +154,6 @@ record_back rack ts i before r rules fits over above =
   where
     short : r.length ≤ 884736
     short = fits.long
-
-    spelled : (a b c d e : List ℕ) → a ++ (b ++ (c ++ (d ++ e))) ≡ (((a ++ b) ++ c) ++ d) ++ e
-    spelled a b c d e = sym (append_assoc ((a ++ b) ++ c) d e ∙ append_assoc (a ++ b) c (d ++ e) ∙ append_assoc a b (c ++ (d ++ e)))
 
 pub records_back : (rack : Rack) (ts : List Table) (rs : List Record) → IsRack rack → AreRecords rack ts rs → Back (records Second rack ts) (counted_bytes record_bytes rs) rs
 unfolding records

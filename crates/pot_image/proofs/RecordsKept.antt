@@ -2,8 +2,7 @@
 use Rattle.std.proofs.Common.{◌≡◌, ◌⊎◌, inl, inr, ℕ, ◌+◌, ◌-◌, ◌<◌, ◌≤◌, ◌&&◌, Bool, true, Some, None, slice_get, List, [], ◌∷◌, ◌++◌, length, get_or, map, All, Ok, ap, sym, subst, ◌∙◌, refl, arith, length-append}
 use Rattle.std.specs.Cmp.Lexicographic.{slice_cmp}
 use Rattle.std.specs.Ordering.{is_lt, nat_cmp}
-use Rattle.std.specs.declared.cmp.Ordering.{Ordering}
-use Rattle.std.specs.declared.cmp.Ordering.TheVariants.{Less, Equal, Greater}
+use Rattle.std.specs.declared.cmp.Ordering.TheVariants.{Less}
 use Rattle.std.proofs.Math.Seq.{get_or-append_seam}
 use Rattle.std.proofs.lemmas.Cmp.{nat_list_cmp_total}
 use Rattle.std.proofs.lemmas.List.{get_or_append_left, get_or-map, length-map}
@@ -16,6 +15,7 @@ use Rattle.pot_bytes.specs.Names.{IsName, is_name_byte}
 use Rattle.pot_bytes.specs.declared.digest.Digest.{Digest}
 use Rattle.pot_bytes.specs.declared.rack.Rack.{Rack}
 use Rattle.pot_bytes.specs.Rack.{IsRack}
+use Rattle.pot_bytes.proofs.Orders.{less_is}
 use Rattle.pot_object.specs.Pieces.{longest, pieces_of}
 use Rattle.pot_machine.specs.Table.{Table}
 use Rattle.pot_index.specs.declared.record.Record.{Record}
@@ -99,13 +99,8 @@ record_kept format rack ts i before bytes rest r rules e =
 abbrev Follows : Record → Record → Type 0
 Follows r o = slice_cmp nat_cmp r.name o.name ≡ Less
 
-is_less : (o : Ordering) → is_lt o ≡ true → o ≡ Less
-is_less Less e = refl
-is_less Equal e = absurd ((cc))
-is_less Greater e = absurd ((cc))
-
 above_is : (before : List Record) (x : List ℕ) (r : Record) → slice_get before (length before - 1) ≡ Some r → is_above before x ≡ true → slice_cmp nat_cmp r.name x ≡ Less
-above_is before x r e h = is_less (slice_cmp nat_cmp r.name x) (sym (ap (λ o. elim o [ None ↦ true | Some r ↦ is_lt (slice_cmp nat_cmp r.name x) ]) e) ∙ h)
+above_is before x r e h = less_is (slice_cmp nat_cmp r.name x) (sym (ap (λ o. elim o [ None ↦ true | Some r ↦ is_lt (slice_cmp nat_cmp r.name x) ]) e) ∙ h)
 
 record AreKept (rack : Rack) (ts : List Table) (n : ℕ) (rs : List Record) : Type 0 where
   count : length rs ≡ n

@@ -22,6 +22,10 @@ stripe rack = natural 4 (at_most (rack.stripes - 1))
 abbrev pub column : Rack → Grammar ℕ
 column rack = natural 1 (between 0 (rack.columns + rack.parity - 1))
 
+-- a stripe, and a column behind it
+abbrev pub place : Rack → Grammar (ℕ × ℕ)
+place rack = stripe rack >>= λ s. column rack >>= λ c. done (s, c)
+
 -- the number of an archive
 abbrev pub archive : Grammar ℕ
 archive = natural 4 (at_most 511)
@@ -35,28 +39,27 @@ abbrev pub of_column : Rack → (ℕ → Entry) → Grammar Entry
 of_column rack entry = column rack >>= λ c. done (entry c)
 
 abbrev pub of_place : Rack → (ℕ → ℕ → Entry) → Grammar Entry
-of_place rack entry = stripe rack >>= λ s. column rack >>= λ c. done (entry s c)
+of_place rack entry = place rack >>= λ p. done (entry p.0 p.1)
 
 abbrev pub of_two_columns : Rack → (ℕ → ℕ → ℕ → Entry) → Grammar Entry
-of_two_columns rack entry = stripe rack >>= λ s. column rack >>= λ c. column rack >>= λ other. done (entry s c other)
+of_two_columns rack entry = place rack >>= λ p. column rack >>= λ other. done (entry p.0 p.1 other)
 
 abbrev pub of_digest : Rack → (ℕ → ℕ → Digest → Entry) → Grammar Entry
-of_digest rack entry = stripe rack >>= λ s. column rack >>= λ c. digest >>= λ d. done (entry s c d)
+of_digest rack entry = place rack >>= λ p. digest >>= λ d. done (entry p.0 p.1 d)
 
 abbrev pub of_flag : Rack → (ℕ → ℕ → Bool → Entry) → Grammar Entry
-of_flag rack entry = stripe rack >>= λ s. column rack >>= λ c. flag >>= λ b. done (entry s c b)
+of_flag rack entry = place rack >>= λ p. flag >>= λ b. done (entry p.0 p.1 b)
 
 abbrev pub of_archive : Rack → (ℕ → ℕ → Entry) → Grammar Entry
 of_archive rack entry = column rack >>= λ c. archive >>= λ to. done (entry c to)
 
 abbrev pub of_put : Rack → (ℕ → ℕ → Digest → Digest → Bool → Entry) → Grammar Entry
-of_put rack entry =
-    stripe rack >>= λ s. column rack >>= λ c. digest >>= λ d. digest >>= λ p. flag >>= λ kept. done (entry s c d p kept)
+of_put rack entry = place rack >>= λ at. digest >>= λ d. digest >>= λ p. flag >>= λ kept. done (entry at.0 at.1 d p kept)
 
 abbrev pub of_two_puts : Rack → (ℕ → ℕ → Digest → Digest → Digest → Bool → Bool → Entry) → Grammar Entry
 of_two_puts rack entry =
-    stripe rack >>= λ s. column rack >>= λ c. digest >>= λ d. digest >>= λ p. digest >>= λ q. flag >>= λ kept. flag >>= λ kept2.
-    done (entry s c d p q kept kept2)
+    place rack >>= λ at. digest >>= λ d. digest >>= λ p. digest >>= λ q. flag >>= λ kept. flag >>= λ kept2.
+    done (entry at.0 at.1 d p q kept kept2)
 
 -- the entry of a kind from 3 to 9, which says a place and no more
 abbrev pub placed : ℕ → ℕ → ℕ → ℕ → Entry

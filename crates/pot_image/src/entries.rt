@@ -3,7 +3,7 @@ ghost use Rattle.std.specs.Prelude.{◌≡◌, ◌≤◌};
 ghost use Rattle.pot_bytes.specs.Rack.{IsRack};
 ghost use Rattle.pot_image.specs.Following.{Gives};
 ghost use Rattle.pot_image.specs.Reading.{reading};
-ghost use Rattle.pot_image.specs.Logs.{stripe, column, placed, kinds, entry_of, entry};
+ghost use Rattle.pot_image.specs.Logs.{stripe, column, place, placed, kinds, entry_of, entry};
 
 use crate::columns::read_at_most;
 use crate::fault::Fault;
@@ -28,14 +28,23 @@ fn read_column<'a>(bytes: &'a [u8], rack: &Rack) -> Result<(u8, &'a [u8]), Fault
     read_byte(bytes, 0, rack.columns + rack.parity - 1)
 }
 
+/// A stripe of the rack, and a column of its groups.
+fn read_place<'a>(bytes: &'a [u8], rack: &Rack) -> Result<(u32, u8, &'a [u8]), Fault>
+    requires { IsRack rack.now }
+    ensures { Gives (λ x. ((x.0, x.1), x.2.now)) result (reading (place rack.now) bytes.now) }
+{
+    let (stripe, after_stripe) = read_stripe(bytes, rack)?;
+    let (column, rest) = read_column(after_stripe, rack)?;
+    Ok((stripe, column, rest))
+}
+
 /// A put into a group with one parity column.
 fn read_put<'a>(bytes: &'a [u8], rack: &Rack, job: u32) -> Result<(Entry, &'a [u8]), Fault>
     requires { IsRack rack.now }
     ensures { Gives (λ x. (x.0, x.1.now)) result (reading (entry_of rack.now job 1) bytes.now) }
 {
-    let (stripe, after_stripe) = read_stripe(bytes, rack)?;
-    let (column, after_column) = read_column(after_stripe, rack)?;
-    let (digest, after_digest) = read_digest(after_column)?;
+    let (stripe, column, after_place) = read_place(bytes, rack)?;
+    let (digest, after_digest) = read_digest(after_place)?;
     let (parity_digest, after_parity) = read_digest(after_digest)?;
     let (kept, rest) = read_flag(after_parity)?;
     let entry = Entry::Put {
@@ -54,9 +63,8 @@ fn read_second_put<'a>(bytes: &'a [u8], rack: &Rack, job: u32) -> Result<(Entry,
     requires { IsRack rack.now }
     ensures { Gives (λ x. (x.0, x.1.now)) result (reading (entry_of rack.now job 18) bytes.now) }
 {
-    let (stripe, after_stripe) = read_stripe(bytes, rack)?;
-    let (column, after_column) = read_column(after_stripe, rack)?;
-    let (digest, after_digest) = read_digest(after_column)?;
+    let (stripe, column, after_place) = read_place(bytes, rack)?;
+    let (digest, after_digest) = read_digest(after_place)?;
     let (parity_digest, after_parity) = read_digest(after_digest)?;
     let (second_digest, after_second) = read_digest(after_parity)?;
     let (kept, after_kept) = read_flag(after_second)?;
@@ -129,8 +137,7 @@ fn read_placed<'a>(
     requires most { kind ≤ 9 }
     ensures { Gives (λ x. (x.0, x.1.now)) result (reading (entry_of rack.now job kind) bytes.now) }
 {
-    let (stripe, after_stripe) = read_stripe(bytes, rack)?;
-    let (column, rest) = read_column(after_stripe, rack)?;
+    let (stripe, column, rest) = read_place(bytes, rack)?;
     Ok((placed(kind, job, stripe, column), rest))
 }
 
@@ -149,9 +156,8 @@ fn read_gave_up<'a>(bytes: &'a [u8], rack: &Rack, job: u32) -> Result<(Entry, &'
     requires { IsRack rack.now }
     ensures { Gives (λ x. (x.0, x.1.now)) result (reading (entry_of rack.now job 10) bytes.now) }
 {
-    let (stripe, after_stripe) = read_stripe(bytes, rack)?;
-    let (column, after_column) = read_column(after_stripe, rack)?;
-    let (other, rest) = read_column(after_column, rack)?;
+    let (stripe, column, after_place) = read_place(bytes, rack)?;
+    let (other, rest) = read_column(after_place, rack)?;
     let entry = Entry::GaveUp {
         job,
         stripe,
@@ -166,9 +172,8 @@ fn read_oddly<'a>(bytes: &'a [u8], rack: &Rack, job: u32) -> Result<(Entry, &'a 
     requires { IsRack rack.now }
     ensures { Gives (λ x. (x.0, x.1.now)) result (reading (entry_of rack.now job 11) bytes.now) }
 {
-    let (stripe, after_stripe) = read_stripe(bytes, rack)?;
-    let (column, after_column) = read_column(after_stripe, rack)?;
-    let (found, rest) = read_digest(after_column)?;
+    let (stripe, column, after_place) = read_place(bytes, rack)?;
+    let (found, rest) = read_digest(after_place)?;
     let entry = Entry::Oddly {
         job,
         stripe,
@@ -183,9 +188,8 @@ fn read_stuck<'a>(bytes: &'a [u8], rack: &Rack, job: u32) -> Result<(Entry, &'a 
     requires { IsRack rack.now }
     ensures { Gives (λ x. (x.0, x.1.now)) result (reading (entry_of rack.now job 12) bytes.now) }
 {
-    let (stripe, after_stripe) = read_stripe(bytes, rack)?;
-    let (column, after_column) = read_column(after_stripe, rack)?;
-    let (other, rest) = read_column(after_column, rack)?;
+    let (stripe, column, after_place) = read_place(bytes, rack)?;
+    let (other, rest) = read_column(after_place, rack)?;
     let entry = Entry::Stuck {
         job,
         stripe,
@@ -211,9 +215,8 @@ fn read_moved<'a>(bytes: &'a [u8], rack: &Rack, job: u32) -> Result<(Entry, &'a 
     requires { IsRack rack.now }
     ensures { Gives (λ x. (x.0, x.1.now)) result (reading (entry_of rack.now job 14) bytes.now) }
 {
-    let (stripe, after_stripe) = read_stripe(bytes, rack)?;
-    let (column, after_column) = read_column(after_stripe, rack)?;
-    let (copied, rest) = read_flag(after_column)?;
+    let (stripe, column, after_place) = read_place(bytes, rack)?;
+    let (copied, rest) = read_flag(after_place)?;
     let entry = Entry::Moved {
         job,
         stripe,

@@ -13,6 +13,7 @@ use crate::columns::read_at_most;
 use crate::fault::Fault;
 use crate::fields::read_byte;
 use pot_bytes::{Geometry, Place, Rack};
+use pot_index::Places;
 use pot_machine::GroupTable;
 use std::alloc::Global;
 
@@ -121,14 +122,14 @@ pub(crate) fn read_places<'a>(
     geometry: Geometry,
     stamps: &mut [u64],
     last: u64,
-) -> Result<(Vec<Place>, &'a [u8]), Fault>
+) -> Result<(Places, &'a [u8]), Fault>
     requires rack { IsRack rack.now }
     requires tables { AreTables rack.now tables.now }
     requires pieces { pieces ≤ 1024 }
     requires geometry { IsGeometry geometry }
     requires last { 1 ≤ last }
     requires stamps { AreStamps rack.now stamps.old (last - 1) }
-    ensures reads { Gives (λ x. (x.0.items, x.1.now)) result (reading (places rack.now tables.now pieces geometry) bytes.now) }
+    ensures reads { Gives (λ x. (x.0, x.1.now)) result (reading (places rack.now tables.now pieces geometry) bytes.now) }
     ensures stamps { IfOk result (λ x. AreStamps rack.now stamps.new last) }
 {
     let total = pieces * u32::from(geometry.fragments) * u32::from(geometry.shards);
@@ -139,5 +140,5 @@ pub(crate) fn read_places<'a>(
         places.push(place)?;
         rest = after;
     }
-    Ok((places, rest))
+    Ok((Places::from_vec(places), rest))
 }

@@ -1,6 +1,5 @@
 //! The records of an image.
 ghost use Rattle.std.specs.Prelude.{◌≡◌, ◌≤◌, ◌<◌, ◌+◌, ◌-◌, ◌^◌, ℕ, [], IfOk};
-ghost use Rattle.pot_image.specs.declared.format.Format.TheVariants.{First, Second};
 ghost use Rattle.pot_bytes.specs.Rack.{IsRack, IsGeometry};
 ghost use Rattle.pot_object.specs.Pieces.{longest};
 ghost use Rattle.pot_image.specs.Following.{Gives};
@@ -18,7 +17,7 @@ use crate::head::read_geometry;
 use crate::names::read_name_above;
 use crate::places::read_places;
 use pot_bytes::Rack;
-use pot_index::{Places, Record, Split, Splits};
+use pot_index::{Record, Split, Splits};
 use pot_machine::GroupTable;
 use pot_object::{LONGEST, count_pieces};
 use std::alloc::Global;
@@ -65,7 +64,6 @@ fn read_split<'a>(
         stamps,
         last,
     )?;
-    let places = Places::from_vec(places);
     Ok((Split { geometry, places }, rest))
 }
 
@@ -100,72 +98,7 @@ fn read_older<'a>(
     Ok((Splits::from_vec(splits), rest))
 }
 
-/// The splits of a record of the first format: one, of the rack's geometry.
-fn read_first_splits<'a>(
-    alloc: Global,
-    bytes: &'a [u8],
-    rack: &Rack,
-    tables: &[GroupTable],
-    pieces: u32,
-    stamps: &mut [u64],
-    last: u64,
-) -> Result<(RecordSplits, &'a [u8]), Fault>
-    requires rack { IsRack rack.now }
-    requires tables { AreTables rack.now tables.now }
-    requires pieces { pieces ≤ 1024 }
-    requires last { last < 2 ^ 63 }
-    requires stamps { AreStamps rack.now stamps.old last }
-    ensures reads { Gives (λ x. (x.0, x.1.now)) result (reading (splits First rack.now tables.now pieces) bytes.now) }
-    ensures stamps { IfOk result (λ x. AreStamps rack.now stamps.new (last + 16)) }
-{
-    let geometry = rack.geometry;
-    let now = last + 16;
-    let (places, rest) = read_places(alloc, bytes, rack, tables, pieces, geometry, stamps, now)?;
-    let splits = RecordSplits {
-        older: Splits::from_vec(Vec::new(alloc)),
-        current: Split {
-            geometry,
-            places: Places::from_vec(places),
-        },
-    };
-    Ok((splits, rest))
-}
-
-/// The splits of a record of the second format.
-fn read_second_splits<'a>(
-    alloc: Global,
-    bytes: &'a [u8],
-    rack: &Rack,
-    tables: &[GroupTable],
-    pieces: u32,
-    stamps: &mut [u64],
-    last: u64,
-) -> Result<(RecordSplits, &'a [u8]), Fault>
-    requires rack { IsRack rack.now }
-    requires tables { AreTables rack.now tables.now }
-    requires pieces { pieces ≤ 1024 }
-    requires last { last < 2 ^ 63 }
-    requires stamps { AreStamps rack.now stamps.old last }
-    ensures reads { Gives (λ x. (x.0, x.1.now)) result (reading (splits Second rack.now tables.now pieces) bytes.now) }
-    ensures stamps { IfOk result (λ x. AreStamps rack.now stamps.new (last + 16)) }
-{
-    let (count, after_count) = read_byte(bytes, 1, 16)?;
-    let (older, after_older) = read_older(
-        alloc,
-        after_count,
-        rack,
-        tables,
-        pieces,
-        count - 1,
-        stamps,
-        last,
-    )?;
-    let now = last + 16;
-    let (current, rest) = read_split(alloc, after_older, rack, tables, pieces, stamps, now)?;
-    Ok((RecordSplits { older, current }, rest))
-}
-
-/// The splits of a record.
+/// The splits of a record. In the first format it has one, of the rack's geometry.
 fn read_splits<'a>(
     alloc: Global,
     bytes: &'a [u8],
@@ -184,9 +117,26 @@ fn read_splits<'a>(
     ensures reads { Gives (λ x. (x.0, x.1.now)) result (reading (splits format rack.now tables.now pieces) bytes.now) }
     ensures stamps { IfOk result (λ x. AreStamps rack.now stamps.new (last + 16)) }
 {
+    let now = last + 16;
     match format {
-        Format::First => read_first_splits(alloc, bytes, rack, tables, pieces, stamps, last),
-        Format::Second => read_second_splits(alloc, bytes, rack, tables, pieces, stamps, last),
+        Format::First => {
+            let geometry = rack.geometry;
+            let (places, rest) = read_places(
+                alloc, bytes, rack, tables, pieces, geometry, stamps, now,
+            )?;
+            let older = Splits::from_vec(Vec::new(alloc));
+            let current = Split { geometry, places };
+            Ok((RecordSplits { older, current }, rest))
+        }
+        Format::Second => {
+            let (count, after) = read_byte(bytes, 1, 16)?;
+            let count = count - 1;
+            let (older, after) = read_older(
+                alloc, after, rack, tables, pieces, count, stamps, last,
+            )?;
+            let (current, rest) = read_split(alloc, after, rack, tables, pieces, stamps, now)?;
+            Ok((RecordSplits { older, current }, rest))
+        }
     }
 }
 

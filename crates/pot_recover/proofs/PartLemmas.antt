@@ -10,12 +10,8 @@ use Rattle.std.proofs.lemmas.Map.Lookups.{exact_bytes}
 use Rattle.std.proofs.lemmas.Bool.{cases_lt}
 use Rattle.std.proofs.lemmas.List.{get_or-take, get_or-drop, length-take-le, length-drop}
 use Rattle.std.proofs.lemmas.List.Edits.{get_or-between, length-between}
+use Rattle.pot_bytes.proofs.Orders.{less_is}
 use Rattle.pot_pointer.proofs.FilterLemmas.{filter_is_part}
-
-less_is : (o : Ordering) → is_lt o ≡ true → o ≡ Less
-less_is Less h = refl
-less_is Equal h = absurd (cc)
-less_is Greater h = absurd (cc)
 
 pub equal_is : (o : Ordering) → is_eq o ≡ true → o ≡ Equal
 equal_is Less h = absurd (cc)

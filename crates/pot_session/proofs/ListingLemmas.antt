@@ -5,10 +5,11 @@ use Rattle.std.specs.List.{list_any, position, position_or_len, range_with_len}
 use Rattle.std.proofs.Math.Seq.{take-length}
 use Rattle.std.proofs.lemmas.List.Quantifiers.{position-Some}
 use Rattle.std.proofs.lemmas.List.Concat.{flat_map-append}
-use Rattle.std.proofs.lemmas.List.FromFn.{get_or-range_with_len, length-range_with_len}
+use Rattle.std.proofs.lemmas.List.FromFn.{length-range_with_len}
 use Rattle.std.proofs.lemmas.List.{take-append-drop, get_or-take, length-take, drop-take, drop-drop, take_more, flat_map_more, get_or_read}
 use Rattle.std.proofs.lemmas.Bool.{cases_lt}
 use Rattle.std.proofs.lemmas.Bool.Decides.{nat_tests}
+use Rattle.pot_bytes.proofs.Elements.{at_range}
 use Rattle.pot_session.specs.declared.listing.ListFault.{ListFault}
 use Rattle.pot_recover.specs.Fronts.{has_front}
 use Rattle.pot_session.specs.Listing.{IsBegun, Puts, front_at, least_of, part_in, part_of}
@@ -180,9 +181,6 @@ module _ {X : Type 0} (f : X → List ℕ) (xs : List X) (before middle after : 
 -- all texts were written
 pub texts_all : {X : Type 0} (f : X → List ℕ) (xs : List X) (before after : List ℕ) (i : ℕ) → i ≡ length xs → after ≡ before ++ flat_map f (take i xs) → after ≡ before ++ flat_map f xs
 texts_all f xs before after i e written = written ∙ ap (λ l. before ++ flat_map f l) (ap (λ n. take n xs) e ∙ take-length xs)
-
-at_range : (n i d : ℕ) → i < n → get_or (range_with_len 0 n) i d ≡ i
-at_range n i d l = (let e = get_or-range_with_len 0 n i d l in omega (arith, e))
 
 -- the number at a place of the first numbers
 pub number_at : (n i : ℕ) → i < n → i ≡ get_or (range_with_len 0 n) i i

@@ -47,6 +47,7 @@ use Rattle.pot_steps.proofs.Solved.{grown}
 use Rattle.pot_steps.proofs.Solved as solved
 use Rattle.pot_steps.proofs.Standing.{next_is_next, none_is_no_next, standing_is_relay, begin_has_few}
 use Rattle.pot_steps.proofs.Steps.{worse_keeps, worse_keeps_flight, begin_keeps, hop_keeps}
+use Rattle.pot_steps.proofs.Put.{not_void}
 
 -- ONE STRIPE
 
@@ -421,12 +422,6 @@ live_of_digest (Live x) d e = ap Live (cc)
 live_of_digest (Lost x) d e = ap Live (cc)
 live_of_digest (Broken x) d e = ap Live (cc)
 
-void_none : (x : SlotState) (d : Digest) → digest_in x ≡ Some d → x ≢ Void
-void_none x d e v = no (sym (ap digest_in v) ∙ e)
-  where
-    no : None ≡ Some d → ⊥
-    no e = cc
-
 pub find_all : {A : Type 0} (P : A → Type 0) (test : A → Bool) (xs : List A) (x : A) → All P xs → find test xs ≡ Some x → P x
 find_all P test [] x all e = absurd (cc)
 find_all P test (y ∷ xs) x all e = step (λ q. find_all P test xs x (All-tail P y xs all) q) (test y) e
@@ -468,7 +463,7 @@ good_mended t job s c flights given h h' n legal acts x ln = elim (cases_eq n s)
         mended_keeps t.data_columns t.parity x.table.size.parity.1 x.table.size.parity.0 x.table.size.data_columns.1 (stripe_of t h s) (stripe_of (after t (Mended job s c)) h' s) r (partial_of f)
         (standing_is_relay t r standing) (subst (λ n. flight.HasNoNext t.data_columns t.parity (stripe_of t h n) r) over (none_is_no_next t h r next.1))
         (subst (λ k. Repairs t.data_columns t.parity (stripe_of t h s) (stripe_of (after t (Mended job s c)) h' s) k (partial_of f)) (sym next.0) record {
-          before = void_none (slot_at t s c) (digest_of (partial_of f)) w.digest;
+          before = not_void (slot_at t s c) (digest_of (partial_of f)) w.digest;
           digest = w.digest;
           after = slot_same t s c (live_of (slot_at t s c)) x.table.size.slots legal.0.0 legal.0.1 ∙ live_of_digest (slot_at t s c) (digest_of (partial_of f)) w.digest;
           written = w.written;

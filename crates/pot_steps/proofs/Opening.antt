@@ -1,6 +1,7 @@
 -- The opening makes the law of every stripe hold.
 use Rattle.std.proofs.Common.{◌≡◌, ◌≢◌, ◌⊎◌, inl, inr, ℕ, zero, suc, ◌<◌, ◌≤◌, List, [], ◌∷◌, ◌++◌, Bool, true, false, IsTrue, refl, sym, ap, ◌∙◌, subst, arith, map, if◌then◌else◌}
 use Rattle.std.proofs.lemmas.Bool.{cases_Bool, both_ways}
+use Rattle.std.proofs.lemmas.Option.{same_Some}
 use Rattle.pot_bytes.specs.declared.digest.Digest.{Digest}
 use Rattle.pot_bytes.proofs.Basis.{last_or}
 use Rattle.pot_machine.specs.declared.slot.SlotState.{SlotState}
@@ -18,7 +19,7 @@ use Rattle.pot_steps.specs.Law.{StripeLaw, FindsUnsound}
 use Rattle.pot_steps.specs.Flights.{FliesOver, flight_in}
 use Rattle.pot_steps.specs.Holdings.{HoldsUp, stripe_of}
 use Rattle.pot_steps.specs.GroupStep.{GroupState, StartStep, StartMakes, as_read, entries_where, opening}
-use Rattle.pot_steps.proofs.Steps.{filling_stays, some_same}
+use Rattle.pot_steps.proofs.Steps.{filling_stays}
 use Rattle.pot_steps.proofs.Entries.{broken}
 
 -- a log in two parts
@@ -299,7 +300,7 @@ module _ (old new : GroupState) (st : StartStep old new) (table : IsTable old.ta
             live-opened (st.gone s k) (st.broke s k) (slot_at old.table s k) x.digest (sym (slots k lk) ∙ x.live) in
             let was : Sound (as_read old.table st.read s) k = (st.finds s ls).left k lk live.0 (ap is_live live.1) in
             f.1.held k was.0 lk was.1
-            ∙ some_same was.0 b (sym (st.reads s k was.0 ls lk was.1.held) ∙ st.loses (serving_at old.table s k) s b x.held)
+            ∙ same_Some was.0 b (sym (st.reads s k was.0 ls lk was.1.held) ∙ st.loses (serving_at old.table s k) s b x.held)
 
     law : StripeLaw old.table.data_columns old.table.parity (stripe_of (record old.table { slots = new.table.slots }) new.held s) (relay_at old.table s)
     law none few = elim (st.breaks s ls) [

@@ -42,7 +42,7 @@ module _ (data_columns c : ℕ) (block p q : List ℕ) (blocks : ℕ → List �
   unfolding with_put
   at_other k h ne = grind (arith, nat_tests)
 
-not_void : (x : SlotState) (d : Digest) → digest_in x ≡ Some d → x ≡ Void → ⊥
+pub not_void : (x : SlotState) (d : Digest) → digest_in x ≡ Some d → x ≡ Void → ⊥
 not_void x d h e = none (sym (ap digest_in e) ∙ h)
   where
     none : None ≡ Some d → ⊥

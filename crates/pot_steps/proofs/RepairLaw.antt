@@ -3,6 +3,7 @@ use Rattle.std.proofs.Common.{◌≡◌, ◌≢◌, ◌⊎◌, ℕ, suc, ◌+◌
 use Rattle.std.proofs.lemmas.Bool.Decides.{nat_tests}
 use Rattle.std.specs.Int.Bits.{xor_self, xor_zero_r, xor_zero_l}
 use Rattle.std.proofs.lemmas.Bool.{cases_eq, cases_Bool}
+use Rattle.std.proofs.lemmas.Option.{same_Some}
 use Rattle.pot_bytes.specs.declared.digest.Digest.{Digest}
 use Rattle.pot_bytes.specs.Totals.{total}
 use Rattle.pot_bytes.specs.Product.{byte_product}
@@ -22,7 +23,7 @@ use Rattle.pot_steps.proofs.BlockLemmas.{get_or-zero_block, IsBlock-zero_block}
 use Rattle.pot_steps.proofs.Weights.{p_weight-low}
 use Rattle.pot_steps.proofs.Relays.{weight_is, p-low_q, q-low_q}
 use Rattle.pot_steps.proofs.Rebuilt.{if_true, if_false, folded_true, folded_false, rebuilt, not_visited, folded_not_void, target_not_visited, left_out-facts}
-use Rattle.pot_steps.proofs.Steps.{filling_stays, no_digest, some_same}
+use Rattle.pot_steps.proofs.Steps.{filling_stays, no_digest}
 
 module _ (data_columns parity : ℕ) (few : parity ≤ 2) (one : 1 ≤ parity) (small : data_columns ≤ 16) (s s' : Stripe) (r : Relay) (partial : List ℕ)
     (is : IsRelay data_columns parity r) (done : HasNoNext data_columns parity s r) (repairs : Repairs data_columns parity s s' r.target partial) where
@@ -43,7 +44,7 @@ module _ (data_columns parity : ℕ) (few : parity ≤ 2) (one : 1 ≤ parity) (
       let e : partial ≡ f.0 r.target = rebuilt data_columns parity few one small s r f.0 partial is f.1 law.is_block done f.2 in (
         f.0,
         filling_stays data_columns parity s s' f.0 f.1 digests (λ c b lt h. elim (cases_eq c r.target) [
-          | inl eq ↦ ap f.0 eq ∙ sym e ∙ some_same _ _ (sym repairs.written ∙ sym (ap s'.held eq) ∙ h.held)
+          | inl eq ↦ ap f.0 eq ∙ sym e ∙ same_Some _ _ (sym repairs.written ∙ sym (ap s'.held eq) ∙ h.held)
           | inr ne ↦ f.1.held c b lt (other_sound c b lt ne h)
         ]),
       )
@@ -128,9 +129,9 @@ module _ (data_columns parity : ℕ) (few : parity ≤ 2) (one : 1 ≤ parity) (
     from_broken = record {
       block = each (λ k b. IsBlock b) law.is_block (λ k lt ne f. law.some.1.block k lt f) (λ k lt ne v. IsBlock-zero_block);
       void = each (λ k b. s'.slots k ≡ Void → b ≡ zero_block) (λ e. absurd (live_void (sym repairs.after ∙ e))) (λ k lt ne f e. absurd (folded_not_void data_columns s.slots r k f (no_digest (s.slots k) (sym (digests k lt) ∙ ap digest_in e)))) (λ k lt ne v e. refl);
-      digest = λ k d lt. each (λ k b. digest_in (s'.slots k) ≡ Some d → digest_of b ≡ d) (λ e. some_same _ _ (sym (ap digest_in repairs.after) ∙ e))
+      digest = λ k d lt. each (λ k b. digest_in (s'.slots k) ≡ Some d → digest_of b ≡ d) (λ e. same_Some _ _ (sym (ap digest_in repairs.after) ∙ e))
           (λ k lt ne f e. law.some.1.digest k d lt f (sym (digests k lt) ∙ e)) (λ k lt ne v e. absurd (no_some (sym (ap digest_in v) ∙ sym (digests k lt) ∙ e))) k lt;
-      held = λ k x lt. each (λ k b. IsSound s' k x → b ≡ x) (λ h. some_same _ _ (sym repairs.written ∙ h.held))
+      held = λ k x lt. each (λ k b. IsSound s' k x → b ≡ x) (λ h. same_Some _ _ (sym repairs.written ∙ h.held))
           (λ k lt ne f h. law.some.1.held k x lt f (other_sound k x lt ne h)) (λ k lt ne v h. absurd (live_void (sym h.live ∙ repairs.other_slots k lt ne ∙ v))) k lt;
       p_sum = fresh_sum;
       q_sum = λ e. absurd (omega arith);

@@ -4,6 +4,7 @@ use Rattle.std.proofs.lemmas.Bool.Decides.{nat_tests}
 use native.Mathlib.Nat.{le_trans}
 use Rattle.std.specs.Int.Bits.{xor_zero_l}
 use Rattle.std.proofs.lemmas.Bool.{cases_Bool}
+use Rattle.std.proofs.lemmas.Option.{same_Some}
 use Rattle.pot_bytes.specs.declared.digest.Digest.{Digest}
 use Rattle.pot_bytes.specs.Totals.{total}
 use Rattle.pot_bytes.specs.Product.{byte_product}
@@ -20,9 +21,6 @@ use Rattle.pot_steps.specs.Law.{StripeLaw, Worse, lost_count}
 use Rattle.pot_steps.specs.Flight.{IsNext, IsPartial, FlightLaw, visits, folded, hopped, is_within, weight, left_out}
 use Rattle.pot_steps.proofs.BlockLemmas.{get_or-zero_block, IsBlock-zero_block}
 use Rattle.pot_steps.proofs.Rebuilt.{if_true, if_false, folded_true, folded_within}
-
-pub some_same : {A : Type 0} (a b : A) → Some a ≡ Some b → a ≡ b
-some_same a b h = cc
 
 pub no_digest : (x : SlotState) → digest_in x ≡ None → x ≡ Void
 no_digest Void h = refl
@@ -228,9 +226,9 @@ module _ (data_columns parity : ℕ) (s : Stripe) (r : Relay) (c : ℕ) (b parti
       record {
         block = λ k lt e. each law.some.0 (λ k b. IsBlock b) is_block law.some.1.block k lt e;
         digest = λ k d lt e. each law.some.0 (λ k b. digest_in (s.slots k) ≡ Some d → digest_of b ≡ d)
-            (λ h. sound.right ∙ some_same _ _ (sym (ap digest_in sound.live) ∙ h)) (λ k lt e. law.some.1.digest k d lt e) k lt e;
+            (λ h. sound.right ∙ same_Some _ _ (sym (ap digest_in sound.live) ∙ h)) (λ k lt e. law.some.1.digest k d lt e) k lt e;
         held = λ k x lt e. each law.some.0 (λ k b. IsSound s k x → b ≡ x)
-            (λ h. some_same _ _ (sym sound.held ∙ h.held)) (λ k lt e. law.some.1.held k x lt e) k lt e;
+            (λ h. same_Some _ _ (sym sound.held ∙ h.held)) (λ k lt e. law.some.1.held k x lt e) k lt e;
       },
       hop_sum law.some.0 (with_held law.some.0) (held_other law.some.0) (held_here law.some.0) law.some.2,
     );

@@ -5,8 +5,9 @@ use Rattle.std.specs.List.{range_with_len}
 use Rattle.std.proofs.lemmas.Bool.{cases_lt, cases_eq}
 use Rattle.std.proofs.lemmas.List.{get_or-map, length-map}
 use Rattle.std.proofs.lemmas.List.Elements.{Contains-get_or}
-use Rattle.std.proofs.lemmas.List.FromFn.{get_or-range_with_len, length-range_with_len}
+use Rattle.std.proofs.lemmas.List.FromFn.{length-range_with_len}
 use Rattle.pot_bytes.specs.Lists.{AreBytes}
+use Rattle.pot_bytes.proofs.Elements.{at_range}
 use Rattle.pot_gf.proofs.Values.{get_or-end}
 use Rattle.pot_object.specs.Pieces.{pieces_of}
 use Rattle.pot_pointer.proofs.FilterLemmas.{Contains-filter}
@@ -24,9 +25,6 @@ use Rattle.pot_veil.proofs.Files.{file_laws}
 abbrev passing : (ℕ → Bool) → ℕ → List ℕ
 passing test n = map (λ p. p + 1) (filter test (range_with_len 0 n))
 
-range_at : (n i d : ℕ) → i < n → get_or (range_with_len 0 n) i d ≡ i
-range_at n i d lt = get_or-range_with_len 0 n i d lt ∙ (let e : 0 + i ≡ i = omega arith in e)
-
 passing_bounds : (test : ℕ → Bool) (n k : ℕ) → k < length (passing test n) → (1 ≤ get_or (passing test n) k 0) × (get_or (passing test n) k 0 ≤ n)
 passing_bounds test n k lt =
     let kept : List ℕ = filter test (range_with_len 0 n) in
@@ -35,14 +33,14 @@ passing_bounds test n k lt =
     let there : Contains (range_with_len 0 n) p = ((Contains-filter test (range_with_len 0 n) p).0 (Contains-get_or kept k 0 inside)).0 in
     let m : ℕ = there.0 in
     let below : m < n = omega (arith, there.1, length-range_with_len 0 n) in
-    let is : m ≡ p = sym (range_at n m p below) ∙ there.2 in
+    let is : m ≡ p = sym (at_range n m p below) ∙ there.2 in
     let value : get_or (passing test n) k 0 ≡ p + 1 = get_or-map (λ (q : ℕ). q + 1) kept k 0 0 inside in
     (omega (arith, value), omega (arith, value, is, below))
 
 passing_has : (test : ℕ → Bool) (n p : ℕ) → p < n → test p ≡ true → (k : ℕ) × (k < length (passing test n)) × (get_or (passing test n) k 0 ≡ p + 1)
 passing_has test n p lt holds =
     let kept : List ℕ = filter test (range_with_len 0 n) in
-    let there : Contains (range_with_len 0 n) p = (p, omega (arith, lt, length-range_with_len 0 n), range_at n p p lt) in
+    let there : Contains (range_with_len 0 n) p = (p, omega (arith, lt, length-range_with_len 0 n), at_range n p p lt) in
     let found : Contains kept p = (Contains-filter test (range_with_len 0 n) p).1 (there, holds) in
     let k : ℕ = found.0 in (
       k,

@@ -7,14 +7,10 @@ pub returns-in_err-stripe : goal.returns-in_err-stripe
 unfolding entry_of
 returns-in_err-stripe c = exits _ _ _ _ c.from_residual.ensures.1 (fails_then _ _ _ _ c.in_err-stripe.ensures)
 
-pub returns-in_err-column : goal.returns-in_err-column
-unfolding entry_of
-returns-in_err-column c = exits _ _ _ _ c.from_residual-in_err-column.ensures.1 (fails_on _ _ _ _ _ _ c.in_ok-stripe.ensures (fails_then _ _ _ _ c.in_err-column.ensures))
-
 pub returns-in_err-other : goal.returns-in_err-other
 unfolding entry_of
-returns-in_err-other c = exits _ _ _ _ c.from_residual-in_err-other.ensures.1 (fails_on _ _ _ _ _ _ c.in_ok-stripe.ensures (fails_on _ _ _ _ _ _ c.in_ok-column.ensures (fails_then _ _ _ _ c.in_err-other.ensures)))
+returns-in_err-other c = exits _ _ _ _ c.from_residual-in_err-other.ensures.1 (fails_on _ _ _ _ _ _ c.in_ok-stripe.ensures (fails_then _ _ _ _ c.in_err-other.ensures))
 
 pub returns : goal.returns
 unfolding entry_of
-returns c = ok_then _ _ _ _ _ _ c.in_ok-stripe.ensures (ok_then _ _ _ _ _ _ c.in_ok-column.ensures (ok_then _ _ _ _ _ _ c.in_ok-other.ensures (done_reads _ _)))
+returns c = ok_then _ _ _ _ _ _ c.in_ok-stripe.ensures (ok_then _ _ _ _ _ _ c.in_ok-other.ensures (done_reads _ _))

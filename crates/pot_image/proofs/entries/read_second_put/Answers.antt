@@ -7,30 +7,26 @@ pub returns-in_err-stripe : goal.returns-in_err-stripe
 unfolding entry_of
 returns-in_err-stripe c = exits _ _ _ _ c.from_residual.ensures.1 (fails_then _ _ _ _ c.in_err-stripe.ensures)
 
-pub returns-in_err-column : goal.returns-in_err-column
-unfolding entry_of
-returns-in_err-column c = exits _ _ _ _ c.from_residual-in_err-column.ensures.1 (fails_on _ _ _ _ _ _ c.in_ok-stripe.ensures (fails_then _ _ _ _ c.in_err-column.ensures))
-
 pub returns-in_err-digest : goal.returns-in_err-digest
 unfolding entry_of
-returns-in_err-digest c = exits _ _ _ _ c.from_residual-in_err-digest.ensures.1 (fails_on _ _ _ _ _ _ c.in_ok-stripe.ensures (fails_on _ _ _ _ _ _ c.in_ok-column.ensures (fails_then _ _ _ _ c.in_err-digest.ensures)))
+returns-in_err-digest c = exits _ _ _ _ c.from_residual-in_err-digest.ensures.1 (fails_on _ _ _ _ _ _ c.in_ok-stripe.ensures (fails_then _ _ _ _ c.in_err-digest.ensures))
 
 pub returns-in_err-parity_digest : goal.returns-in_err-parity_digest
 unfolding entry_of
-returns-in_err-parity_digest c = exits _ _ _ _ c.from_residual-in_err-parity_digest.ensures.1 (fails_on _ _ _ _ _ _ c.in_ok-stripe.ensures (fails_on _ _ _ _ _ _ c.in_ok-column.ensures (fails_on _ _ _ _ _ _ c.in_ok-digest.ensures (fails_then _ _ _ _ c.in_err-parity_digest.ensures))))
+returns-in_err-parity_digest c = exits _ _ _ _ c.from_residual-in_err-parity_digest.ensures.1 (fails_on _ _ _ _ _ _ c.in_ok-stripe.ensures (fails_on _ _ _ _ _ _ c.in_ok-digest.ensures (fails_then _ _ _ _ c.in_err-parity_digest.ensures)))
 
 pub returns-in_err-second_digest : goal.returns-in_err-second_digest
 unfolding entry_of
-returns-in_err-second_digest c = exits _ _ _ _ c.from_residual-in_err-second_digest.ensures.1 (fails_on _ _ _ _ _ _ c.in_ok-stripe.ensures (fails_on _ _ _ _ _ _ c.in_ok-column.ensures (fails_on _ _ _ _ _ _ c.in_ok-digest.ensures (fails_on _ _ _ _ _ _ c.in_ok-parity_digest.ensures (fails_then _ _ _ _ c.in_err-second_digest.ensures)))))
+returns-in_err-second_digest c = exits _ _ _ _ c.from_residual-in_err-second_digest.ensures.1 (fails_on _ _ _ _ _ _ c.in_ok-stripe.ensures (fails_on _ _ _ _ _ _ c.in_ok-digest.ensures (fails_on _ _ _ _ _ _ c.in_ok-parity_digest.ensures (fails_then _ _ _ _ c.in_err-second_digest.ensures))))
 
 pub returns-in_err-kept : goal.returns-in_err-kept
 unfolding entry_of
-returns-in_err-kept c = exits _ _ _ _ c.from_residual-in_err-kept.ensures.1 (fails_on _ _ _ _ _ _ c.in_ok-stripe.ensures (fails_on _ _ _ _ _ _ c.in_ok-column.ensures (fails_on _ _ _ _ _ _ c.in_ok-digest.ensures (fails_on _ _ _ _ _ _ c.in_ok-parity_digest.ensures (fails_on _ _ _ _ _ _ c.in_ok-second_digest.ensures (fails_then _ _ _ _ c.in_err-kept.ensures))))))
+returns-in_err-kept c = exits _ _ _ _ c.from_residual-in_err-kept.ensures.1 (fails_on _ _ _ _ _ _ c.in_ok-stripe.ensures (fails_on _ _ _ _ _ _ c.in_ok-digest.ensures (fails_on _ _ _ _ _ _ c.in_ok-parity_digest.ensures (fails_on _ _ _ _ _ _ c.in_ok-second_digest.ensures (fails_then _ _ _ _ c.in_err-kept.ensures)))))
 
 pub returns-in_err-kept2 : goal.returns-in_err-kept2
 unfolding entry_of
-returns-in_err-kept2 c = exits _ _ _ _ c.from_residual-in_err-kept2.ensures.1 (fails_on _ _ _ _ _ _ c.in_ok-stripe.ensures (fails_on _ _ _ _ _ _ c.in_ok-column.ensures (fails_on _ _ _ _ _ _ c.in_ok-digest.ensures (fails_on _ _ _ _ _ _ c.in_ok-parity_digest.ensures (fails_on _ _ _ _ _ _ c.in_ok-second_digest.ensures (fails_on _ _ _ _ _ _ c.in_ok-kept.ensures (fails_then _ _ _ _ c.in_err-kept2.ensures)))))))
+returns-in_err-kept2 c = exits _ _ _ _ c.from_residual-in_err-kept2.ensures.1 (fails_on _ _ _ _ _ _ c.in_ok-stripe.ensures (fails_on _ _ _ _ _ _ c.in_ok-digest.ensures (fails_on _ _ _ _ _ _ c.in_ok-parity_digest.ensures (fails_on _ _ _ _ _ _ c.in_ok-second_digest.ensures (fails_on _ _ _ _ _ _ c.in_ok-kept.ensures (fails_then _ _ _ _ c.in_err-kept2.ensures))))))
 
 pub returns : goal.returns
 unfolding entry_of
-returns c = ok_then _ _ _ _ _ _ c.in_ok-stripe.ensures (ok_then _ _ _ _ _ _ c.in_ok-column.ensures (ok_then _ _ _ _ _ _ c.in_ok-digest.ensures (ok_then _ _ _ _ _ _ c.in_ok-parity_digest.ensures (ok_then _ _ _ _ _ _ c.in_ok-second_digest.ensures (ok_then _ _ _ _ _ _ c.in_ok-kept.ensures (ok_then _ _ _ _ _ _ c.in_ok-kept2.ensures (done_reads _ _)))))))
+returns c = ok_then _ _ _ _ _ _ c.in_ok-stripe.ensures (ok_then _ _ _ _ _ _ c.in_ok-digest.ensures (ok_then _ _ _ _ _ _ c.in_ok-parity_digest.ensures (ok_then _ _ _ _ _ _ c.in_ok-second_digest.ensures (ok_then _ _ _ _ _ _ c.in_ok-kept.ensures (ok_then _ _ _ _ _ _ c.in_ok-kept2.ensures (done_reads _ _))))))

@@ -1,6 +1,7 @@
 use Rattle.pot_image.specs.Reading.{reading}
 use Rattle.std.proofs.Common.{ap, sym, subst, ◌∙◌, []}
-use Rattle.pot_image.proofs.Steps.{fails_as, exits, several_on, several_fails, several_done}
+use Rattle.pot_image.proofs.Once.{done_reads}
+use Rattle.pot_image.proofs.Steps.{fails_as, exits, done_as, several_on, several_fails, several_done}
 use Rattle.pot_image.specs.Reading.{several}
 use Rattle.pot_image.specs.Records.{place, places}
 use Rattle.pot_image.specs.Marks.{HaveMarks}
@@ -19,4 +20,4 @@ loop-number-preserved c = record {
 
 pub returns-clause-reads : goal.returns-clause-reads
 unfolding places
-returns-clause-reads c = sym (ap (λ n. reading (several 0 n (place c.args.rack.now c.args.tables.now c.args.geometry) []) c.args.bytes.now) (as_total _ _ _ _ _ c.from.ensures c.from-2.ensures)) ∙ sym c.loop-number.invariant.reads ∙ several_done _ _ _ _ _ c.loop-number-test.false
+returns-clause-reads c = sym (ap (λ n. reading (several 0 n (place c.args.rack.now c.args.tables.now c.args.geometry) []) c.args.bytes.now) (as_total _ _ _ _ _ c.from.ensures c.from-2.ensures)) ∙ sym c.loop-number.invariant.reads ∙ several_done _ _ _ _ _ c.loop-number-test.false ∙ sym (done_reads _ _) ∙ done_as _ _ _ (sym c.from_vec.ensures)

@@ -1,7 +1,7 @@
-use Rattle.std.proofs.Common.{ap, sym, ◌∙◌, arith, ◌≡◌, ◌≤◌, ◌+◌, ℕ, List, Result, Ok}
-use Rattle.pot_image.proofs.Steps.{fails_as, exits, several_on, several_fails, several_done}
+use Rattle.std.proofs.Common.{ap, sym, ◌∙◌, arith, ◌≡◌, ◌≤◌, ◌+◌, ℕ}
+use Rattle.pot_image.proofs.Once.{done_reads}
+use Rattle.pot_image.proofs.Steps.{fails_as, exits, done_as, several_on, several_fails, several_done}
 use Rattle.pot_image.proofs.MarkRules.{stamps_below}
-use Rattle.pot_index.specs.declared.record.Split.{Split}
 use Rattle.pot_image.proofs.records.read_older.Goals as goal
 
 pub returns-in_err-split-clause-reads : goal.returns-in_err-split-clause-reads
@@ -18,7 +18,4 @@ loop-number-preserved c = record {
     now_is last n m e = omega (arith, e)
 
 pub returns-clause-reads : goal.returns-clause-reads
-returns-clause-reads c = sym c.loop-number.invariant.reads ∙ several_done _ _ _ _ _ c.loop-number-test.false ∙ ap (λ xs. read_as xs c.loop-number.rest.now) (sym c.from_vec.ensures)
-  where
-    read_as : List Split → List ℕ → Result (List Split × List ℕ) ℕ
-    read_as xs rest = Ok (xs, rest)
+returns-clause-reads c = sym c.loop-number.invariant.reads ∙ several_done _ _ _ _ _ c.loop-number-test.false ∙ sym (done_reads _ _) ∙ done_as _ _ _ (sym c.from_vec.ensures)

@@ -1,6 +1,5 @@
-use Rattle.std.proofs.Common.{ap, sym}
-use Rattle.pot_image.proofs.Once.{ok_then}
-use Rattle.pot_image.proofs.Steps.{fails_then, fails_on, exits, done_as}
+use Rattle.pot_image.proofs.Once.{ok_then, done_reads}
+use Rattle.pot_image.proofs.Steps.{fails_then, fails_on, exits}
 use Rattle.pot_image.specs.Records.{split}
 use Rattle.pot_image.proofs.HeadRules.{geometry_kept}
 use Rattle.pot_image.proofs.records.read_split.Goals as goal
@@ -18,4 +17,4 @@ read_places-requires-clause-geometry c = (geometry_kept _ _ _ _ c.in_ok-geometry
 
 pub returns-clause-reads : goal.returns-clause-reads
 unfolding split
-returns-clause-reads c = ok_then _ _ _ _ _ _ c.in_ok-geometry.ensures (ok_then _ _ _ _ _ _ c.in_ok-places.ensures.reads (done_as _ _ _ (ap (λ ps. record { geometry = c.in_ok-geometry.geometry; places = ps }) (sym c.from_vec-places.ensures))))
+returns-clause-reads c = ok_then _ _ _ _ _ _ c.in_ok-geometry.ensures (ok_then _ _ _ _ _ _ c.in_ok-places.ensures.reads (done_reads _ _))
