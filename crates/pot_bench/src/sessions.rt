@@ -1,11 +1,9 @@
 //! Sessions over archives in memory: each begins with what a desk keeps, stores and fetches files, and leaves a desk again.
-ghost use Rattle.std.specs.Prelude.{◌≡◌, ◌<◌, ◌≤◌, ◌∷◌, [], ℕ, IsTrue, IfOk, Some, length, map, slice_get};
-ghost use Rattle.std.specs.List.{flat_map};
+ghost use Rattle.std.specs.Prelude.{◌≡◌, ◌<◌, ◌≤◌, [], ℕ, IsTrue, IfOk, Some, length, slice_get};
 ghost use Rattle.std.proofs.Props.{props};
 ghost use Rattle.std.specs.Vec.{vec_capacity};
 ghost use Rattle.pot_bytes.specs.Rack.{IsRack};
 ghost use Rattle.pot_bench.specs.Plain.{meaning_in};
-ghost use Rattle.pot_machine.specs.Column.{homes_of};
 ghost use Rattle.pot_group.specs.Group.{view_of};
 ghost use Rattle.pot_rows.specs.Ends.{HasAllParts};
 ghost use Rattle.pot_shared.specs.Catalogs.{IsIndexReady};
@@ -15,10 +13,10 @@ ghost use Rattle.pot_shared.specs.Sharing.{HasAllButKept, IsGroupOf};
 use crate::plain::{PlainArchive, shelf};
 use crate::rows::SEED;
 use pot_bytes::{Geometry, Name, Rack};
-use pot_group::{Ended, Group, StartRefused};
+use pot_group::{Ended, Group, StartRefused, are_homes};
 use pot_image::{Image, read_image, write_image};
 use pot_index::{Index, IndexEnded};
-use pot_machine::{Column, Entry, GroupTable};
+use pot_machine::{Entry, GroupTable};
 use pot_outside::Shelf;
 use pot_pads::PadStream;
 use pot_shared::{Closed, Member, Passes, Vault};
@@ -138,29 +136,6 @@ fn homes(alloc: Global, table: &GroupTable) -> Result<Vec<Shelf<PlainArchive>>, 
         shelves.push(shelf(alloc, column.home)?)?;
     }
     Ok(shelves)
-}
-
-/// Whether the column stays, and its home is this archive.
-fn is_home(column: &Column, shelf: &Shelf<PlainArchive>) -> bool
-    ensures { IsTrue result → homes_of column.now ≡ shelf.now.number ∷ [] }
-{
-    match column.moving {
-        None => column.home == shelf.number,
-        Some(_) => false,
-    }
-}
-
-/// Whether the columns stay, and their homes are these archives, in order.
-fn are_homes(columns: &[Column], shelves: &[Shelf<PlainArchive>]) -> bool
-    ensures { IsTrue result → map (λ s. s.number) shelves.now ≡ flat_map homes_of columns.now }
-{
-    match columns {
-        [] => shelves.is_empty(),
-        [column, columns @ ..] => match shelves {
-            [] => false,
-            [shelf, shelves @ ..] => is_home(column, shelf) && are_homes(columns, shelves),
-        },
-    }
 }
 
 /// Whether the table is of a group of the rack, has one parity column, and has no relay.

@@ -3,7 +3,6 @@ pub mod Basis
 pub mod Elements
 pub mod ListLemmas
 pub mod NameLemmas
-pub mod Orders
 pub mod ProductLemmas
 pub mod SumLemmas
 pub mod TotalLemmas

@@ -18,7 +18,7 @@ mod numbers;
 mod parts;
 mod product;
 mod rack;
-mod strings;
+mod sequence;
 mod weighted;
 
 pub use block::{Block, block_law, xor_into};
@@ -29,7 +29,7 @@ pub use numbers::{read_be32, read_be64};
 pub use parts::digest_of_two;
 pub use product::{gf_times, product_laws};
 pub use rack::{Geometry, LOG_BOUND, Place, Rack};
-pub use strings::Bytes;
+pub use sequence::{Bytes, Sequence};
 pub use weighted::{add_weighted, fold_weighted, stripe_sum, weighted_laws};
 
 #[cfg(test)]

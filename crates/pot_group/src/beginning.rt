@@ -1,11 +1,13 @@
 //! How a group begins.
-ghost use Rattle.std.specs.Prelude.{◌≡◌, ◌≤◌, [], IsTrue, IfOk, IfErr, map, vec_capacity};
+ghost use Rattle.std.specs.Prelude.{◌≡◌, ◌↔◌, ◌≤◌, [], IsTrue, IfOk, IfErr, map, vec_capacity};
+ghost use Rattle.std.specs.List.{flat_map};
 ghost use Rattle.pot_bytes.specs.Rack.{log_bound};
+ghost use Rattle.pot_machine.specs.Column.{homes_of};
 
 use crate::group::Group;
 use crate::known::Known;
 use pot_bytes::LOG_BOUND;
-use pot_machine::{Entry, GroupTable};
+use pot_machine::{Column, Entry, GroupTable};
 use pot_outside::{Archive, Shelf};
 use pot_shelves::{Archives, open_all};
 use pot_steps::Flight;
@@ -15,6 +17,22 @@ use std::alloc::Global;
 pub struct StartRefused<A> {
     pub table: GroupTable,
     pub shelves: Vec<Shelf<A>>,
+}
+
+/// Whether these are the archives of the columns, as `Group::start` asks for them: the home of each, and then the target of its move.
+pub fn are_homes<A>(columns: &[Column], shelves: &[Shelf<A>]) -> bool
+    ensures { IsTrue result ↔ (map (λ s. s.number) shelves.now ≡ flat_map homes_of columns.now) }
+{
+    let [column, columns @ ..] = columns else {
+        return shelves.is_empty();
+    };
+    match (column.moving, shelves) {
+        (None, [home, shelves @ ..]) => column.home == home.number && are_homes(columns, shelves),
+        (Some(moving), [home, target, shelves @ ..]) => {
+            column.home == home.number && moving.to == target.number && are_homes(columns, shelves)
+        }
+        _ => false,
+    }
 }
 
 impl<A: Archive> Group<A> {

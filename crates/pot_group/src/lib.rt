@@ -92,7 +92,7 @@ mod tests;
 mod uses;
 
 pub use answers::{Looked, PutFault};
-pub use beginning::StartRefused;
+pub use beginning::{StartRefused, are_homes};
 pub use copying::{MoveFault, MoveStep};
 pub use counting::Counts;
 pub use finding::Kind;

@@ -1,14 +1,12 @@
 //! The stage of the tests: a group of number 5 with at most four columns, over archives in memory from number 0 on, whose blocks
 //! each repeat one byte.
-ghost use Rattle.std.specs.Prelude.{◌≡◌, ◌<◌, ◌∷◌, [], IsTrue, map};
+ghost use Rattle.std.specs.Prelude.{◌≡◌, ◌<◌, IsTrue};
 ghost use Rattle.pot_machine.specs.Table.{width};
-ghost use Rattle.std.specs.List.{flat_map};
-ghost use Rattle.pot_machine.specs.Column.{homes_of};
 
 use crate::*;
 use pot_bytes::{Block, Digest, Geometry, Place, Rack, digest_of};
 use pot_doubles::{Loss, LossyArchive};
-use pot_machine::{Column, Entry, GroupTable, SlotState};
+use pot_machine::{Entry, GroupTable, SlotState};
 use pot_outside::{Archive, Shelf};
 use std::alloc::{AllocError, Global};
 use std::process::Abort;
@@ -245,29 +243,6 @@ fn table(alloc: Global, scene: &Scene) -> Result<GroupTable, Fail> {
         return Err(Fail::from("an entry is not legal"));
     }
     Ok(table)
-}
-
-/// Whether the column stays, and its home is this archive.
-fn is_home(column: &Column, shelf: &Shelf<LossyArchive>) -> bool
-    ensures { IsTrue result → homes_of column.now ≡ shelf.now.number ∷ [] }
-{
-    match column.moving {
-        None => column.home == shelf.number,
-        Some(_) => false,
-    }
-}
-
-/// Whether the columns stay, and their homes are these archives, in order.
-fn are_homes(columns: &[Column], shelves: &[Shelf<LossyArchive>]) -> bool
-    ensures { IsTrue result → map (λ s. s.number) shelves.now ≡ flat_map homes_of columns.now }
-{
-    match columns {
-        [] => shelves.is_empty(),
-        [column, columns @ ..] => match shelves {
-            [] => false,
-            [shelf, shelves @ ..] => is_home(column, shelf) && are_homes(columns, shelves),
-        },
-    }
 }
 
 /// Begins the group over a table and its archives.

@@ -15,7 +15,6 @@ use Rattle.pot_bytes.specs.Names.{IsName, is_name_byte}
 use Rattle.pot_bytes.specs.declared.digest.Digest.{Digest}
 use Rattle.pot_bytes.specs.declared.rack.Rack.{Rack}
 use Rattle.pot_bytes.specs.Rack.{IsRack}
-use Rattle.pot_bytes.proofs.Orders.{less_is}
 use Rattle.pot_object.specs.Pieces.{longest, pieces_of}
 use Rattle.pot_machine.specs.Table.{Table}
 use Rattle.pot_index.specs.declared.record.Record.{Record}
@@ -98,6 +97,11 @@ record_kept format rack ts i before bytes rest r rules e =
 
 abbrev Follows : Record → Record → Type 0
 Follows r o = slice_cmp nat_cmp r.name o.name ≡ Less
+
+less_is : (o : Ordering) → is_lt o ≡ true → o ≡ Less
+less_is Less e = refl
+less_is Equal e = absurd (cc)
+less_is Greater e = absurd (cc)
 
 above_is : (before : List Record) (x : List ℕ) (r : Record) → slice_get before (length before - 1) ≡ Some r → is_above before x ≡ true → slice_cmp nat_cmp r.name x ≡ Less
 above_is before x r e h = less_is (slice_cmp nat_cmp r.name x) (sym (ap (λ o. elim o [ None ↦ true | Some r ↦ is_lt (slice_cmp nat_cmp r.name x) ]) e) ∙ h)

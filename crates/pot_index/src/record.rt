@@ -1,10 +1,12 @@
 //! What the index keeps of a file.
 ghost use Rattle.std.specs.Prelude.{◌≡◌, ◌<◌, length, IfOk, OnOk, OnErr};
 
-use crate::places::Places;
 use crate::splits::Splits;
-use pot_bytes::{Digest, Geometry, Name, NoMemory};
+use pot_bytes::{Digest, Geometry, Name, NoMemory, Place, Sequence};
 use std::alloc::Global;
+
+/// Where the blocks of a split stand, by piece, fragment and point.
+pub type Places = Sequence<Place>;
 
 /// How a file was split, and where its blocks stand.
 #[derive(Drop)]

@@ -1,7 +1,6 @@
 ghost use Rattle.std.specs.Prelude.{◌≡◌, ◌≤◌, ◌<◌, [], ◌∷◌, ◌++◌, length, IfOk, OnOk, OnErr};
 
-use crate::places::Places;
-use crate::record::Split;
+use crate::record::{Places, Split};
 use pot_bytes::{Geometry, NoMemory};
 use std::alloc::Global;
 use std::marker::Model;

@@ -15,34 +15,25 @@ digest_in (Broken d) = Some d
 
 abbrev pub is_void : SlotState → Bool
 is_void Void = true
-is_void (Live d) = false
-is_void (Lost d) = false
-is_void (Broken d) = false
+is_void _ = false
 
 abbrev pub is_live : SlotState → Bool
-is_live Void = false
 is_live (Live d) = true
-is_live (Lost d) = false
-is_live (Broken d) = false
+is_live _ = false
 
 abbrev pub is_lost : SlotState → Bool
-is_lost Void = false
-is_lost (Live d) = false
 is_lost (Lost d) = true
-is_lost (Broken d) = false
+is_lost _ = false
 
 abbrev pub is_broken : SlotState → Bool
-is_broken Void = false
-is_broken (Live d) = false
-is_broken (Lost d) = false
 is_broken (Broken d) = true
+is_broken _ = false
 
 -- Lost or Broken
 abbrev pub is_unsound : SlotState → Bool
-is_unsound Void = false
-is_unsound (Live d) = false
 is_unsound (Lost d) = true
 is_unsound (Broken d) = true
+is_unsound _ = false
 
 -- the test that a condition of the code stands for
 abbrev pub meets : Condition → SlotState → Bool
@@ -52,10 +43,8 @@ meets condition.Unsound = is_unsound
 
 -- a Live slot becomes Lost with the same digest, and any other slot stays
 abbrev pub lost_of : SlotState → SlotState
-lost_of Void = Void
 lost_of (Live d) = Lost d
-lost_of (Lost d) = Lost d
-lost_of (Broken d) = Broken d
+lost_of slot = slot
 
 -- the slot becomes Broken with the same digest
 abbrev pub broken_of : SlotState → SlotState

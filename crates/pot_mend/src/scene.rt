@@ -1,18 +1,16 @@
 //! The stage of the tests: a vault of one group of one data column and one parity column, over archives in memory.
-ghost use Rattle.std.specs.Prelude.{◌≡◌, ◌<◌, ◌∷◌, [], IsTrue, IfOk, length, map};
-ghost use Rattle.std.specs.List.{flat_map};
+ghost use Rattle.std.specs.Prelude.{◌≡◌, ◌<◌, IfOk, length};
 ghost use Rattle.pot_bytes.specs.Rack.{IsRack};
 ghost use Rattle.pot_doubles.specs.Archives.{meaning_in};
-ghost use Rattle.pot_machine.specs.Column.{homes_of};
 ghost use Rattle.pot_group.specs.Group.{view_of};
 ghost use Rattle.pot_shared.specs.Ready.{AreReady};
 ghost use Rattle.pot_shared.specs.Sharing.{IsGroupOf};
 
 use pot_bytes::{Block, Geometry, Rack};
 use pot_doubles::{Loss, LossyArchive};
-use pot_group::{Group, StartRefused};
+use pot_group::{Group, StartRefused, are_homes};
 use pot_index::Index;
-use pot_machine::{Column, GroupTable};
+use pot_machine::GroupTable;
 use pot_outside::Shelf;
 use pot_sealed::Sealed;
 use pot_shared::{Member, Passes, Vault};
@@ -46,29 +44,6 @@ pub(crate) fn rack(stripes: u32) -> Result<Rack, Fail>
     }
 }
 
-/// Whether the column stays, and its home is this archive.
-fn is_home(column: &Column, shelf: &Shelf<LossyArchive>) -> bool
-    ensures { IsTrue result → homes_of column.now ≡ shelf.now.number ∷ [] }
-{
-    match column.moving {
-        None => column.home == shelf.number,
-        Some(_) => false,
-    }
-}
-
-/// Whether the columns stay, and their homes are these archives, in order.
-fn are_homes(columns: &[Column], shelves: &[Shelf<LossyArchive>]) -> bool
-    ensures { IsTrue result → map (λ s. s.number) shelves.now ≡ flat_map homes_of columns.now }
-{
-    match columns {
-        [] => shelves.is_empty(),
-        [column, columns @ ..] => match shelves {
-            [] => false,
-            [shelf, shelves @ ..] => is_home(column, shelf) && are_homes(columns, shelves),
-        },
-    }
-}
-
 /// An empty archive with these failing calls and losses.
 pub(crate) fn shelf(
     alloc: Global,
@@ -78,15 +53,7 @@ pub(crate) fn shelf(
 ) -> Result<Shelf<LossyArchive>, Fail>
     ensures { IfOk result (λ s. s.number ≡ number) }
 {
-    let mut fails = Vec::new(alloc);
-    for call in failing {
-        fails.push(*call)?;
-    }
-    let mut losses = Vec::new(alloc);
-    for loss in lost {
-        losses.push(*loss)?;
-    }
-    let archive = LossyArchive::new(alloc, fails, losses);
+    let archive = LossyArchive::new(alloc, failing.to_vec(alloc)?, lost.to_vec(alloc)?);
     Ok(Shelf { number, archive })
 }
 

@@ -8,12 +8,14 @@
 //!    side by side: the same invariant, and `candidates`.
 #![tactic(auto)]
 
+mod ranges;
 #[cfg(test)]
 mod tests;
 
-ghost use Rattle.std.specs.Prelude.{◌≡◌, ◌↔◌, ℕ, ◌%◌, ◌^◌, ◌<◌, ◌≤◌, length, filter, IfOk, Contains, AllPairs, IsPermutation, slice_range};
+ghost use Rattle.std.specs.Prelude.{◌≡◌, ◌↔◌, ℕ, ◌%◌, ◌^◌, ◌<◌, ◌≤◌, length, filter, IfOk, Contains, AllPairs, IsPermutation};
 ghost use Rattle.pot_pointer.specs.Pointers.{blur, named, is_meant, IsBefore, IsCandidate};
 
+pub use ranges::equal_range;
 use std::alloc::{AllocError, Global};
 use std::marker::Model;
 
@@ -83,8 +85,7 @@ impl RegionIndex {
         ensures exact { (entry : Named) → Contains result.now entry ↔ IsCandidate self.now pointer bits entry }
         ensures order { AllPairs IsBefore result.now }
     {
-        let (start, end) = region(&self.entries, pointer, bits);
-        &self.entries[start..end]
+        equal_range(&self.entries, |entry| blur(entry.name, bits).cmp(&pointer))
     }
 }
 
@@ -102,16 +103,4 @@ fn enumerated(alloc: Global, names: &[u64]) -> Result<Vec<Named>, NoMemory>
         })
         .collect(alloc)?;
     Ok(entries)
-}
-
-// Where the names of a pointer begin in a table and where they end.
-fn region(table: &[Named], pointer: u64, bits: u8) -> (usize, usize)
-    requires bits { bits ≤ 63 }
-    requires order { AllPairs IsBefore table.now }
-    ensures bounds { (result.0 ≤ result.1) × (result.1 ≤ length table.now) }
-    ensures meant { slice_range table.now result.0 result.1 ≡ filter (is_meant pointer bits) table.now }
-{
-    let start = table.partition_point(|entry| blur(entry.name, bits) < pointer);
-    let end = table.partition_point(|entry| blur(entry.name, bits) <= pointer);
-    (start, end)
 }

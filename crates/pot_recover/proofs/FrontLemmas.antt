@@ -10,7 +10,8 @@ use Rattle.std.proofs.lemmas.Bool.{cases_lt}
 use Rattle.std.proofs.lemmas.Bool.Decides.{nat_tests}
 use Rattle.pot_recover.specs.Fronts.{front_of, has_front, is_below, FrontsRise}
 use Rattle.pot_recover.proofs.DistinctLemmas.{fronts_rise, pairs_in_order}
-use Rattle.pot_recover.proofs.PartLemmas.{partitioned_at_most, below_not}
+use Rattle.pot_pointer.proofs.RangeLemmas.{partitioned_at_most, below_not}
+use Rattle.pot_recover.proofs.PartLemmas.{compares_rise}
 
 -- in byte order the fronts do not fall
 pub objects_rise : (objects : List (List ℕ)) → IsStrictlySortedBy (slice_cmp nat_cmp) objects → FrontsRise objects
@@ -89,7 +90,7 @@ module _ (objects : List (List ℕ)) (front : List ℕ) (rise : FrontsRise objec
       by : (k : ℕ) → k < length objects → place ≤ k → (b : Bool) → is_eq (at k) ≡ b → b ≡ false
       by k l le false e = refl
       by k l le true e =
-          let most = partitioned_at_most front_of objects front rise place k [] le l (equal_is_most (at k) e) in
+          let most = partitioned_at_most (λ o. slice_cmp nat_cmp (front_of o) front) objects (compares_rise front_of front objects rise) place k [] le l (equal_is_most (at k) e) in
           absurd (not_both_is (at place) (split.1 place [] (omega arith) less) most here)
 
       each : (k : ℕ) → k < length objects → has_front front (get_or objects k []) ≡ false

@@ -26,7 +26,6 @@ mod fault;
 mod kind;
 mod laws;
 mod lines;
-mod name_list;
 mod parts;
 mod printing;
 mod reading;
@@ -39,10 +38,9 @@ pub use cuts::{cut_after, cut_at};
 pub use decimal_number::read_number;
 pub use fault::ScriptFault;
 pub use laws::{batches_are_whole, lines_are_short, one_reading};
-pub use name_list::NameList;
 pub use printing::{print_bad_line, print_reply, print_words_refused};
 pub use reading::read_script;
-pub use reply::Reply;
+pub use reply::{NameList, Reply};
 
 #[cfg(test)]
 mod tests;

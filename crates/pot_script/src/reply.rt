@@ -1,7 +1,10 @@
 ghost use Rattle.std.specs.Prelude.{◌≡◌};
 
-use crate::name_list::NameList;
-use pot_bytes::{Bytes, Digest, Name};
+use pot_bytes::{Bytes, Digest, Name, Sequence};
+use pot_index::Listed;
+
+/// Published names with the lengths of their files, in the order in which they are printed.
+pub type NameList = Sequence<Listed>;
 
 /// What a command of the script answers.
 #[derive(Drop)]

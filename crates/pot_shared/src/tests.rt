@@ -1,10 +1,8 @@
 //! A vault of one group over archives in memory.
-ghost use Rattle.std.specs.Prelude.{◌≡◌, ◌<◌, ◌+◌, ◌≤◌, ◌∷◌, [], IsTrue, IfOk, length, map};
+ghost use Rattle.std.specs.Prelude.{◌≡◌, ◌<◌, ◌+◌, ◌≤◌, [], IfOk, length};
 ghost use Rattle.std.specs.Vec.{vec_capacity};
-ghost use Rattle.std.specs.List.{flat_map};
 ghost use Rattle.pot_bytes.specs.Rack.{IsRack};
 ghost use Rattle.pot_doubles.specs.Archives.{meaning_in};
-ghost use Rattle.pot_machine.specs.Column.{homes_of};
 ghost use Rattle.pot_group.specs.Group.{view_of};
 ghost use Rattle.pot_rows.specs.Ends.{HasAllParts};
 ghost use Rattle.pot_rows.specs.Rows.{HasMoreParts};
@@ -15,9 +13,9 @@ ghost use Rattle.pot_shared.specs.Sharing.{HasAllButKept, IsGroupOf};
 use crate::*;
 use pot_bytes::{Block, Geometry, Name, Place, Rack};
 use pot_doubles::{Loss, LossyArchive};
-use pot_group::{Group, Kind, Looked, Mend, MoveFault, MoveStep, Role, StartRefused};
+use pot_group::{Group, Kind, Looked, Mend, MoveFault, MoveStep, Role, StartRefused, are_homes};
 use pot_index::{FindFault, Index};
-use pot_machine::{Column, GroupTable};
+use pot_machine::GroupTable;
 use pot_outside::Shelf;
 use pot_pads::PadStream;
 use pot_sealed::Sealed;
@@ -25,38 +23,11 @@ use std::alloc::Global;
 use std::sync::Wait;
 use std::test::Fail;
 
-/// Whether the column stays, and its home is this archive.
-fn is_home(column: &Column, shelf: &Shelf<LossyArchive>) -> bool
-    ensures { IsTrue result → homes_of column.now ≡ shelf.now.number ∷ [] }
-{
-    match column.moving {
-        None => column.home == shelf.number,
-        Some(_) => false,
-    }
-}
-
-/// Whether the columns stay, and their homes are these archives, in order.
-fn are_homes(columns: &[Column], shelves: &[Shelf<LossyArchive>]) -> bool
-    ensures { IsTrue result → map (λ s. s.number) shelves.now ≡ flat_map homes_of columns.now }
-{
-    match columns {
-        [] => shelves.is_empty(),
-        [column, columns @ ..] => match shelves {
-            [] => false,
-            [shelf, shelves @ ..] => is_home(column, shelf) && are_homes(columns, shelves),
-        },
-    }
-}
-
 /// An empty archive with these losses.
 fn shelf(alloc: Global, number: u32, lost: &[Loss]) -> Result<Shelf<LossyArchive>, Fail>
     ensures { IfOk result (λ s. s.number ≡ number) }
 {
-    let mut losses = Vec::new(alloc);
-    for loss in lost {
-        losses.push(*loss)?;
-    }
-    let archive = LossyArchive::new(alloc, Vec::new(alloc), losses);
+    let archive = LossyArchive::new(alloc, Vec::new(alloc), lost.to_vec(alloc)?);
     Ok(Shelf { number, archive })
 }
 
