@@ -5,13 +5,13 @@ use Rattle.pot_shared.proofs.vault.Vault.find.Goals as goal
 
 pub leave-requires-clause-grown : goal.leave-requires-clause-grown
 leave-requires-clause-grown g c =
-    let on = (small_on _ _ (finds_small c.args.job c.args.name.now _ _ c.find-answer.result c.find-answer.ensures.call)) in
-    grown c.requires.index c.enter-catalog.result c.enter-catalog.ensures.took c.enter-catalog.ensures.origin c.find-answer.new.self on c.find-answer.ensures.names
+    grown c.requires.index c.enter-catalog.result c.enter-catalog.ensures.took c.enter-catalog.ensures.origin c.find-answer.new.self
+    (small_on _ _ (finds_small c.args.job c.args.name.now _ _ c.find-answer.result c.find-answer.ensures.call)) c.find-answer.ensures.names
 
 pub returns-clause-call : goal.returns-clause-call
 returns-clause-call g c =
-    let on = (small_on _ _ (finds_small c.args.job c.args.name.now _ _ c.find-answer.result c.find-answer.ensures.call)) in
-    called c.requires.index c.enter-catalog.result c.enter-catalog.ensures.took c.enter-catalog.ensures.origin c.find-answer.new.self on c.find-answer.ensures.names
+    called c.requires.index c.enter-catalog.result c.enter-catalog.ensures.took c.enter-catalog.ensures.origin c.find-answer.new.self
+    (small_on _ _ (finds_small c.args.job c.args.name.now _ _ c.find-answer.result c.find-answer.ensures.call)) c.find-answer.ensures.names
     c.leave.ensures.left c.enter-catalog.ensures.begins c.rules.ensures c.rules-2.ensures (c.find-answer.ensures.call, c.find-answer.ensures.seen, c.find-answer.ensures.told)
 
 pub returns-clause-ready : goal.returns-clause-ready

@@ -4,13 +4,13 @@ use Rattle.pot_shared.proofs.vault.Vault.publish.Goals as goal
 
 pub leave-requires-clause-grown : goal.leave-requires-clause-grown
 leave-requires-clause-grown g c =
-    let on = (publishes_on c.args.job c.args.kept c.publish-answer.result _ _ c.publish-answer.ensures.call) in
-    grown c.requires.index c.enter-catalog.result c.enter-catalog.ensures.took c.enter-catalog.ensures.origin c.publish-answer.new.self on c.publish-answer.ensures.names
+    grown c.requires.index c.enter-catalog.result c.enter-catalog.ensures.took c.enter-catalog.ensures.origin c.publish-answer.new.self
+    (publishes_on c.args.job c.args.kept c.publish-answer.result _ _ c.publish-answer.ensures.call) c.publish-answer.ensures.names
 
 pub returns-clause-call : goal.returns-clause-call
 returns-clause-call g c =
-    let on = (publishes_on c.args.job c.args.kept c.publish-answer.result _ _ c.publish-answer.ensures.call) in
-    called c.requires.index c.enter-catalog.result c.enter-catalog.ensures.took c.enter-catalog.ensures.origin c.publish-answer.new.self on c.publish-answer.ensures.names
+    called c.requires.index c.enter-catalog.result c.enter-catalog.ensures.took c.enter-catalog.ensures.origin c.publish-answer.new.self
+    (publishes_on c.args.job c.args.kept c.publish-answer.result _ _ c.publish-answer.ensures.call) c.publish-answer.ensures.names
     c.leave.ensures.left c.enter-catalog.ensures.begins c.rules.ensures c.rules-2.ensures c.publish-answer.ensures.call
 
 pub returns-clause-ready : goal.returns-clause-ready
