@@ -1,5 +1,4 @@
 use Rattle.std.proofs.Common.{◌<◌, IsTrue, length, arith}
-use Rattle.pot_group.specs.Group.{view_of}
 use Rattle.pot_shared.specs.Calls.{CallAt}
 use Rattle.pot_shared.proofs.CallLemmas.{grown, same_origin, called, ready_again}
 use Rattle.pot_mend.proofs.SteppingLemmas.{StepCall, step_made, steps_at}
@@ -20,10 +19,10 @@ step_call g c =
     c.logged-before.ensures.settled c.logged-before.ensures.first (step_made _ _ _ _ _ _ c.step_in-answer.ensures) c.logged-after.ensures.settled c.leave.ensures.left
 
 pub returns-clause-ready : goal.returns-clause-ready
-returns-clause-ready g c = ready_again c.requires.ready c.requires.place.0 (step_call g (goal.at.returns-clause-ready g c).After-leave)
+returns-clause-ready g c = ready_again c.requires.ready c.requires.place.0 (step_call g c)
 
 pub returns-clause-steps : goal.returns-clause-steps
 returns-clause-steps g c =
     let within : c.args.place.group < length c.args.passes.now.groups.views = (let a = c.requires.place.0 in let b = c.requires.ready.of.1 in omega (arith, a, b)) in
     steps_at (IsTrue g.A.Archive.account.tells) c.args.job c.args.place c.step_in-answer.result c.args.passes.now.groups c.leave.new.passes within c.requires.ready.idle
-    (step_call g (goal.at.returns-clause-steps g c).After-leave)
+    (step_call g c)
