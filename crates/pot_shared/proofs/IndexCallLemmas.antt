@@ -26,7 +26,7 @@ pub record GoesOn (s t : IndexView) : Type 0 where
   pub rack : t.rack ≡ s.rack
   pub read : t.read ≡ s.read
 
-module _ (rack : Rack) (names turn : List TurnName) (row row1 : IndexPasses) (ready : IsIndexReady rack names turn row) (old : CatalogView)
+module _ {rack : Rack} {names turn : List TurnName} {row row1 : IndexPasses} (ready : IsIndexReady rack names turn row) (old : CatalogView)
     (took : row1 ≡ with_view row 0 (took_view old.index.log (view_at row 0))) (origin : Some (origin_of old) ≡ (view_at row 0).origin) where
   within : 0 < length row.views
   within = let a = ready.of.1 in let b = ready.one in omega (arith, a, b)
@@ -48,7 +48,7 @@ module _ (rack : Rack) (names turn : List TurnName) (row row1 : IndexPasses) (re
     pub same_origin : Some (origin_of new) ≡ (view_at row1 0).origin
     same_origin = ap (λ o. Some o) same_origin_of ∙ (origin ∙ sym (ap (λ (v : IndexPass). v.origin) took_at))
 
-    module _ (R : IndexView → IndexView → Type 0) (row2 : IndexPasses) (left : row2 ≡ with_view row1 0 (left_view new.index.log (view_at row1 0)))
+    module _ {row2 : IndexPasses} (left : row2 ≡ with_view row1 0 (left_view new.index.log (view_at row1 0)))
         (begins : StartsWith old.index.log (view_at row 0).seen) where
       abbrev pass : IndexPass
       pass = left_view new.index.log (took_view old.index.log (view_at row 0))
@@ -59,7 +59,7 @@ module _ (rack : Rack) (names turn : List TurnName) (row row1 : IndexPasses) (re
           let there : with_view row1 0 pass ≡ with_view (with_view row 0 (took_view old.index.log (view_at row 0))) 0 pass = ap (λ (r : IndexPasses). with_view r 0 pass) took in
           here ∙ (there ∙ ap (λ vs. record row { views = vs }) (set_twice row.views 0 (took_view old.index.log (view_at row 0)) pass))
 
-      pub called : IsIndex old.index → IsIndex new.index → R old.index new.index → IndexCall R row row2
+      pub called : {R : IndexView → IndexView → Type 0} → IsIndex old.index → IsIndex new.index → R old.index new.index → IndexCall R row row2
       called is_old is_new call =
           let v = view_at row 0 in
           let met = v.seen ++ begins.0 in

@@ -1,6 +1,7 @@
 -- What a locked call of a group does, as its caller's passes see it.
-use Rattle.std.specs.Prelude.{◌≡◌, ℕ, List, [], ◌++◌, Option, Some}
+use Rattle.std.specs.Prelude.{◌≡◌, ℕ, IsTrue, List, [], ◌++◌, Option, Some}
 use Rattle.pot_bytes.specs.declared.rack.Place.{Place}
+use Rattle.pot_outside.specs.Archives.{Account}
 use Rattle.pot_machine.specs.declared.entry.Entry.{Entry}
 use Rattle.pot_machine.specs.Rules.{IsTable}
 use Rattle.pot_group.specs.declared.finding.Kind.{Kind}
@@ -34,6 +35,10 @@ pub record CallAt (told : Type 0) (R : GroupView → GroupView → List Entry �
   pub pass : GroupPass
   pub is : new ≡ with_view old group pass
   pub turn : CallTurn told R (view_at old group) pass
+
+-- the same of a group whose archives have this account, which says whether they tell
+abbrev pub MakesAt : {A : Type 0} → Account A → (Type 0 → GroupView → GroupView → List Entry → Type 0) → ℕ → GroupPasses → GroupPasses → Type 0
+MakesAt account row group old new = CallAt (IsTrue account.tells) (row (IsTrue account.tells)) group old new
 
 -- A SEARCH
 

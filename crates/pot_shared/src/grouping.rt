@@ -1,5 +1,5 @@
 //! The locked calls of a group.
-ghost use Rattle.std.specs.Prelude.{◌<◌, ◌≡◌, IsTrue, length};
+ghost use Rattle.std.specs.Prelude.{◌<◌, ◌≡◌, length};
 
 use crate::vault::{Passes, Vault};
 use pot_bytes::{Block, Place};
@@ -11,7 +11,7 @@ use std::sync::Wait;
 impl<A: Archive> Vault<A> {
     ghost use Rattle.pot_shared.specs.Ready.{AreReady, HasSlot};
     ghost use Rattle.pot_group.specs.Calls.{PutCall, LookCall, CountCall};
-    ghost use Rattle.pot_shared.specs.Calls.{CallAt, NextCall};
+    ghost use Rattle.pot_shared.specs.Calls.{MakesAt, NextCall};
 
     /// Puts a block into a group, in one turn of it, as `Group::put`. The group takes over the block's digest, and that of `parity`
     /// where this is the parity block that it writes: another one changes no answer.
@@ -32,7 +32,8 @@ impl<A: Archive> Vault<A> {
         requires job { 0 < job }
         ensures ready { AreReady self.now.rack self.now.groups passes.new.groups }
         ensures index { passes.new.index ≡ passes.old.index }
-        ensures call { CallAt (IsTrue A.account.tells) (PutCall (IsTrue A.account.tells) job block.now.block result) group passes.old.groups passes.new.groups }
+        ensures call { MakesAt A.account (λ told. PutCall told job block.now.block result)
+            group passes.old.groups passes.new.groups }
     {
         let mut member = self.groups.enter(rt, &mut passes.groups, group as usize);
         let _before = member.group.logged();
@@ -58,7 +59,8 @@ impl<A: Archive> Vault<A> {
         requires job { 0 < job }
         ensures ready { AreReady self.now.rack self.now.groups passes.new.groups }
         ensures index { passes.new.index ≡ passes.old.index }
-        ensures call { CallAt (IsTrue A.account.tells) (LookCall (IsTrue A.account.tells) job place into.new result) place.group passes.old.groups passes.new.groups }
+        ensures call { MakesAt A.account (λ told. LookCall told job place into.new result)
+            place.group passes.old.groups passes.new.groups }
     {
         let mut member = self
             .groups
@@ -87,7 +89,8 @@ impl<A: Archive> Vault<A> {
         requires job { 0 < job }
         ensures ready { AreReady self.now.rack self.now.groups passes.new.groups }
         ensures index { passes.new.index ≡ passes.old.index }
-        ensures call { CallAt (IsTrue A.account.tells) (CountCall (IsTrue A.account.tells) job result) group passes.old.groups passes.new.groups }
+        ensures call { MakesAt A.account (λ told. CountCall told job result)
+            group passes.old.groups passes.new.groups }
     {
         let mut member = self.groups.enter(rt, &mut passes.groups, group as usize);
         let _before = member.group.logged();
@@ -112,7 +115,8 @@ impl<A: Archive> Vault<A> {
         requires group { group < length self.now.groups }
         ensures ready { AreReady self.now.rack self.now.groups passes.new.groups }
         ensures index { passes.new.index ≡ passes.old.index }
-        ensures call { CallAt (IsTrue A.account.tells) (NextCall stripe column kind result) group passes.old.groups passes.new.groups }
+        ensures call { MakesAt A.account (λ _. NextCall stripe column kind result)
+            group passes.old.groups passes.new.groups }
     {
         let member = self.groups.enter(rt, &mut passes.groups, group as usize);
         let _before = member.group.logged();

@@ -21,7 +21,7 @@ fn draw_blind(pads: &mut PadStream) -> Block
 
 impl<A: Archive> Vault<A> {
     ghost use Rattle.pot_shared.specs.Ready.{AreReady, HasSlot};
-    ghost use Rattle.pot_shared.specs.Calls.{CallAt};
+    ghost use Rattle.pot_shared.specs.Calls.{MakesAt};
     ghost use Rattle.pot_group.specs.Calls.{MendCall};
     ghost use Rattle.pot_shared.specs.MendCalls.{MendsPlace};
 
@@ -39,7 +39,8 @@ impl<A: Archive> Vault<A> {
         requires job { 0 < job }
         ensures ready { AreReady self.now.rack self.now.groups passes.new.groups }
         ensures index { passes.new.index ≡ passes.old.index }
-        ensures call { CallAt (IsTrue A.account.tells) (MendCall (IsTrue A.account.tells) job place blind.now result) place.group passes.old.groups passes.new.groups }
+        ensures call { MakesAt A.account (λ told. MendCall told job place blind.now result)
+            place.group passes.old.groups passes.new.groups }
     {
         let mut member = self
             .groups
@@ -67,7 +68,8 @@ impl<A: Archive> Vault<A> {
         requires job { 0 < job }
         ensures ready { AreReady self.now.rack self.now.groups passes.new.groups }
         ensures index { passes.new.index ≡ passes.old.index }
-        ensures mended { MendsPlace (IsTrue A.account.tells) job place pads.old pads.new result passes.old.groups passes.new.groups }
+        ensures mended { MendsPlace (IsTrue A.account.tells) job place pads.old pads.new result
+            passes.old.groups passes.new.groups }
     {
         let mut blind = draw_blind(pads);
         'steps: loop {

@@ -1,5 +1,5 @@
 //! The locked calls that move a column, and that bring an archive to one.
-ghost use Rattle.std.specs.Prelude.{◌<◌, ◌+◌, ◌≡◌, IsTrue, length};
+ghost use Rattle.std.specs.Prelude.{◌<◌, ◌+◌, ◌≡◌, length};
 
 use crate::vault::{Passes, Vault};
 use pot_group::{MoveFault, MoveStep, ShelfRefused};
@@ -8,7 +8,7 @@ use std::sync::Wait;
 
 impl<A: Archive> Vault<A> {
     ghost use Rattle.pot_shared.specs.Ready.{AreReady};
-    ghost use Rattle.pot_shared.specs.Calls.{CallAt};
+    ghost use Rattle.pot_shared.specs.Calls.{MakesAt};
     ghost use Rattle.pot_group.specs.Calls.{MoveBeginCall, MoveStepCall, SwapCall};
 
     /// A column begins to move to an archive that comes, in one turn of its group, as `Group::move_begin`.
@@ -30,7 +30,8 @@ impl<A: Archive> Vault<A> {
         requires job { 0 < job }
         ensures ready { AreReady self.now.rack self.now.groups passes.new.groups }
         ensures index { passes.new.index ≡ passes.old.index }
-        ensures call { CallAt (IsTrue A.account.tells) (MoveBeginCall (IsTrue A.account.tells) A.account.meaning job column shelf result) group passes.old.groups passes.new.groups }
+        ensures call { MakesAt A.account (λ told. MoveBeginCall told A.account.meaning job column shelf result)
+            group passes.old.groups passes.new.groups }
     {
         let mut member = self.groups.enter(rt, &mut passes.groups, group as usize);
         let _before = member.group.logged();
@@ -59,7 +60,8 @@ impl<A: Archive> Vault<A> {
         requires job { 0 < job }
         ensures ready { AreReady self.now.rack self.now.groups passes.new.groups }
         ensures index { passes.new.index ≡ passes.old.index }
-        ensures call { CallAt (IsTrue A.account.tells) (MoveStepCall (IsTrue A.account.tells) job column result) group passes.old.groups passes.new.groups }
+        ensures call { MakesAt A.account (λ told. MoveStepCall told job column result)
+            group passes.old.groups passes.new.groups }
     {
         let mut member = self.groups.enter(rt, &mut passes.groups, group as usize);
         let _before = member.group.logged();
@@ -89,7 +91,8 @@ impl<A: Archive> Vault<A> {
         requires job { 0 < job }
         ensures ready { AreReady self.now.rack self.now.groups passes.new.groups }
         ensures index { passes.new.index ≡ passes.old.index }
-        ensures call { CallAt (IsTrue A.account.tells) (SwapCall (IsTrue A.account.tells) A.account.meaning job column shelf result) group passes.old.groups passes.new.groups }
+        ensures call { MakesAt A.account (λ told. SwapCall told A.account.meaning job column shelf result)
+            group passes.old.groups passes.new.groups }
     {
         let mut member = self.groups.enter(rt, &mut passes.groups, group as usize);
         let _before = member.group.logged();

@@ -8,7 +8,7 @@ use std::sync::Wait;
 
 impl<A: Archive> Vault<A> {
     ghost use Rattle.pot_shared.specs.Ready.{AreReady};
-    ghost use Rattle.pot_shared.specs.Calls.{CallAt};
+    ghost use Rattle.pot_shared.specs.Calls.{MakesAt};
     ghost use Rattle.pot_shared.specs.UseCalls.{FindsUse, TraceCall, TracesAll, UseCall};
 
     /// What the first group that uses the archive of this number uses it as. The groups are asked in order, each in one turn.
@@ -16,7 +16,8 @@ impl<A: Archive> Vault<A> {
         requires ready { AreReady self.now.rack self.now.groups passes.old.groups }
         ensures ready { AreReady self.now.rack self.now.groups passes.new.groups }
         ensures index { passes.new.index ≡ passes.old.index }
-        ensures finds { FindsUse (IsTrue A.account.tells) (length self.now.groups) number result passes.old.groups passes.new.groups }
+        ensures finds { FindsUse (IsTrue A.account.tells) (length self.now.groups) number result
+            passes.old.groups passes.new.groups }
     {
         'asked: for at in 0..self.groups.len() {
             if let Some(found) = self.use_at(rt, passes, at, number) {
@@ -32,7 +33,8 @@ impl<A: Archive> Vault<A> {
         requires ready { AreReady self.now.rack self.now.groups passes.old.groups }
         ensures ready { AreReady self.now.rack self.now.groups passes.new.groups }
         ensures index { passes.new.index ≡ passes.old.index }
-        ensures traces { TracesAll (IsTrue A.account.tells) (length self.now.groups) from to result passes.old.groups passes.new.groups }
+        ensures traces { TracesAll (IsTrue A.account.tells) (length self.now.groups) from to result
+            passes.old.groups passes.new.groups }
     {
         let mut home = None;
         let mut taken = false;
@@ -50,7 +52,8 @@ impl<A: Archive> Vault<A> {
         requires group { at < length self.now.groups }
         ensures ready { AreReady self.now.rack self.now.groups passes.new.groups }
         ensures index { passes.new.index ≡ passes.old.index }
-        ensures call { CallAt (IsTrue A.account.tells) (UseCall number result) at passes.old.groups passes.new.groups }
+        ensures call { MakesAt A.account (λ _. UseCall number result)
+            at passes.old.groups passes.new.groups }
     {
         let member = self.groups.enter(rt, &mut passes.groups, at);
         let _before = member.group.logged();
@@ -72,7 +75,8 @@ impl<A: Archive> Vault<A> {
         requires group { at < length self.now.groups }
         ensures ready { AreReady self.now.rack self.now.groups passes.new.groups }
         ensures index { passes.new.index ≡ passes.old.index }
-        ensures call { CallAt (IsTrue A.account.tells) (TraceCall from to result) at passes.old.groups passes.new.groups }
+        ensures call { MakesAt A.account (λ _. TraceCall from to result)
+            at passes.old.groups passes.new.groups }
     {
         let member = self.groups.enter(rt, &mut passes.groups, at);
         let _before = member.group.logged();

@@ -86,7 +86,7 @@ module _ (told : Type 0) (rack : Rack) (names : List TurnName) (job : ℕ) (p : 
       let next : GroupPasses = with_view row p.group u in
       let call : CallAt told (MendCall told job p (blind_at pads n) a) p.group row next = record { pass = u; is = refl; turn = turn } in
       let here : view_at next p.group ≡ u = at_set row p.group u (long row ready) in
-      let ready_next : AreReady rack names next = ready_again rack names told (MendCall told job p (blind_at pads n) a) p.group row next within ready call in
+      let ready_next : AreReady rack names next = ready_again ready within call in
       let later : EndsMend result next (with_view next p.group w) =
       ends_turns (n + begins a) more result next w (λ i d lt. go (suc i) d (omega (arith, lt))) ready_next
       (subst (λ (x : GroupPass). MendTurns told job p pads (n + begins a) (more ++ result ∷ []) x w) (sym here) rest) in

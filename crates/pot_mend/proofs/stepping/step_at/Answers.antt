@@ -1,46 +1,28 @@
-use Rattle.std.proofs.Common.{◌<◌, IsTrue, refl, length, arith}
-use Rattle.pot_group.specs.Group.{view_of}
+use Rattle.std.proofs.Common.{◌<◌, IsTrue, length, arith}
+use Rattle.pot_shared.specs.Calls.{CallAt}
 use Rattle.pot_shared.proofs.CallLemmas.{grown, same_origin, called, ready_again}
 use Rattle.pot_mend.proofs.SteppingLemmas.{StepCall, step_made, steps_at}
+use Rattle.pot_mend.proofs.stepping.step_at.Given as given
 use Rattle.pot_mend.proofs.stepping.step_at.Goals as goal
 
 pub leave-requires-clause-grown : goal.leave-requires-clause-grown
-leave-requires-clause-grown g c =
-    let old = view_of g.A.Archive.account.meaning c.enter-member.result.group in
-    let new = view_of g.A.Archive.account.meaning c.step_in-answer.new.group in
-    let Call = StepCall c.args.job c.args.place.stripe c.args.place.column c.step_in-answer.result in
-    grown c.args.vault.now.groups c.args.passes.now.groups c.enter-member.new.passes c.args.place.group c.requires.ready.of c.requires.place.0 old c.enter-member.ensures.took
-    new Call (step_made c.args.job c.args.place.stripe c.args.place.column c.step_in-answer.result old new c.step_in-answer.ensures) c.logged-before.ensures.arrived c.enter-member.ensures.origin
+leave-requires-clause-grown g c = grown c.requires.ready c.requires.place.0 c.enter-member.ensures.took c.logged-before.ensures.arrived c.step_in-answer.ensures.grows
 
 pub leave-requires-clause-origin : goal.leave-requires-clause-origin
 leave-requires-clause-origin g c =
-    let old = view_of g.A.Archive.account.meaning c.enter-member.result.group in
-    let new = view_of g.A.Archive.account.meaning c.step_in-answer.new.group in
-    let Call = StepCall c.args.job c.args.place.stripe c.args.place.column c.step_in-answer.result in
-    same_origin c.args.vault.now.groups c.args.passes.now.groups c.enter-member.new.passes c.args.place.group c.requires.ready.of c.requires.place.0 old c.enter-member.ensures.took
-    new Call (step_made c.args.job c.args.place.stripe c.args.place.column c.step_in-answer.result old new c.step_in-answer.ensures) c.logged-before.ensures.arrived c.enter-member.ensures.origin
+    same_origin c.requires.ready c.requires.place.0 c.enter-member.ensures.took c.logged-before.ensures.arrived c.step_in-answer.ensures.grows c.enter-member.ensures.origin
+
+step_call : (g : given.Over) (c : goal.After-leave g)
+    → CallAt (IsTrue g.A.Archive.account.tells) (StepCall c.args.job c.args.place.stripe c.args.place.column c.step_in-answer.result) c.args.place.group c.args.passes.now.groups c.leave.new.passes
+step_call g c =
+    called c.requires.ready c.requires.place.0 c.enter-member.ensures.took c.logged-before.ensures.arrived c.enter-member.ensures.begins c.enter-member.ensures.origin
+    c.logged-before.ensures.settled c.logged-before.ensures.first (step_made _ _ _ _ _ _ c.step_in-answer.ensures) c.logged-after.ensures.settled c.leave.ensures.left
 
 pub returns-clause-ready : goal.returns-clause-ready
-returns-clause-ready g c =
-    let told = IsTrue g.A.Archive.account.tells in
-    let old = view_of g.A.Archive.account.meaning c.enter-member.result.group in
-    let new = view_of g.A.Archive.account.meaning c.step_in-answer.new.group in
-    let Call = StepCall c.args.job c.args.place.stripe c.args.place.column c.step_in-answer.result in
-    let call = called c.args.vault.now.groups c.args.passes.now.groups c.enter-member.new.passes c.args.place.group c.requires.ready.of c.requires.place.0 old c.enter-member.ensures.took
-    new Call (step_made c.args.job c.args.place.stripe c.args.place.column c.step_in-answer.result old new c.step_in-answer.ensures) c.logged-before.ensures.arrived c.enter-member.ensures.origin
-    told c.leave.new.passes c.leave.ensures.left c.enter-member.ensures.begins
-    c.logged-before.ensures.settled c.logged-before.ensures.first c.logged-after.ensures.settled in
-    ready_again c.args.vault.now.rack c.args.vault.now.groups told Call c.args.place.group c.args.passes.now.groups c.leave.new.passes c.requires.place.0 c.requires.ready call
+returns-clause-ready g c = ready_again c.requires.ready c.requires.place.0 (step_call g c)
 
 pub returns-clause-steps : goal.returns-clause-steps
 returns-clause-steps g c =
-    let told = IsTrue g.A.Archive.account.tells in
-    let old = view_of g.A.Archive.account.meaning c.enter-member.result.group in
-    let new = view_of g.A.Archive.account.meaning c.step_in-answer.new.group in
-    let Call = StepCall c.args.job c.args.place.stripe c.args.place.column c.step_in-answer.result in
-    let call = called c.args.vault.now.groups c.args.passes.now.groups c.enter-member.new.passes c.args.place.group c.requires.ready.of c.requires.place.0 old c.enter-member.ensures.took
-    new Call (step_made c.args.job c.args.place.stripe c.args.place.column c.step_in-answer.result old new c.step_in-answer.ensures) c.logged-before.ensures.arrived c.enter-member.ensures.origin
-    told c.leave.new.passes c.leave.ensures.left c.enter-member.ensures.begins
-    c.logged-before.ensures.settled c.logged-before.ensures.first c.logged-after.ensures.settled in
     let within : c.args.place.group < length c.args.passes.now.groups.views = (let a = c.requires.place.0 in let b = c.requires.ready.of.1 in omega (arith, a, b)) in
-    steps_at told c.args.job c.args.place c.step_in-answer.result c.args.passes.now.groups c.leave.new.passes within c.requires.ready.idle call
+    steps_at (IsTrue g.A.Archive.account.tells) c.args.job c.args.place c.step_in-answer.result c.args.passes.now.groups c.leave.new.passes within c.requires.ready.idle
+    (step_call g c)

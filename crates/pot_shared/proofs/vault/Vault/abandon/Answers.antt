@@ -1,18 +1,15 @@
 use Rattle.std.proofs.Common.{ap}
 use Rattle.pot_shared.specs.Ready.{GroupPasses}
-use Rattle.pot_shared.specs.IndexCalls.{Abandons}
 use Rattle.pot_shared.proofs.IndexCallLemmas.{grown, called, abandons_on}
 use Rattle.pot_shared.proofs.vault.Vault.abandon.Goals as goal
 
 pub leave-requires-clause-grown : goal.leave-requires-clause-grown
 leave-requires-clause-grown g c =
-    let on = (abandons_on c.args.job c.args.name.now c.abandon-answer.result _ _ c.abandon-answer.ensures.call) in
-    grown c.args.self.now.rack c.args.self.now.groups c.args.self.now.index c.args.passes.now.index c.enter-catalog.new.passes c.requires.index c.enter-catalog.result
-    c.enter-catalog.ensures.took c.enter-catalog.ensures.origin c.abandon-answer.new.self on (ap (λ (r : GroupPasses). r.names) c.abandon-answer.ensures.kept)
+    grown c.requires.index c.enter-catalog.result c.enter-catalog.ensures.took c.enter-catalog.ensures.origin c.abandon-answer.new.self
+    (abandons_on c.args.job c.args.name.now c.abandon-answer.result _ _ c.abandon-answer.ensures.call) (ap (λ (r : GroupPasses). r.names) c.abandon-answer.ensures.kept)
 
 pub returns-clause-call : goal.returns-clause-call
 returns-clause-call g c =
-    let on = (abandons_on c.args.job c.args.name.now c.abandon-answer.result _ _ c.abandon-answer.ensures.call) in
-    called c.args.self.now.rack c.args.self.now.groups c.args.self.now.index c.args.passes.now.index c.enter-catalog.new.passes c.requires.index c.enter-catalog.result
-    c.enter-catalog.ensures.took c.enter-catalog.ensures.origin c.abandon-answer.new.self on (ap (λ (r : GroupPasses). r.names) c.abandon-answer.ensures.kept)
-    (Abandons c.args.job c.args.name.now c.abandon-answer.result) c.leave.new.passes c.leave.ensures.left c.enter-catalog.ensures.begins c.rules.ensures c.rules-2.ensures c.abandon-answer.ensures.call
+    called c.requires.index c.enter-catalog.result c.enter-catalog.ensures.took c.enter-catalog.ensures.origin c.abandon-answer.new.self
+    (abandons_on c.args.job c.args.name.now c.abandon-answer.result _ _ c.abandon-answer.ensures.call) (ap (λ (r : GroupPasses). r.names) c.abandon-answer.ensures.kept)
+    c.leave.ensures.left c.enter-catalog.ensures.begins c.rules.ensures c.rules-2.ensures c.abandon-answer.ensures.call

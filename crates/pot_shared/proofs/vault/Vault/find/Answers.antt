@@ -1,4 +1,3 @@
-use Rattle.pot_shared.specs.IndexCalls.{FindsRecord}
 use Rattle.pot_shared.proofs.CatalogLemmas.{finds_small}
 use Rattle.pot_shared.proofs.IndexCallLemmas.{grown, called, small_on}
 use Rattle.pot_shared.proofs.SharingLemmas.{knows_ready}
@@ -6,16 +5,14 @@ use Rattle.pot_shared.proofs.vault.Vault.find.Goals as goal
 
 pub leave-requires-clause-grown : goal.leave-requires-clause-grown
 leave-requires-clause-grown g c =
-    let on = (small_on _ _ (finds_small c.args.job c.args.name.now _ _ c.find-answer.result c.find-answer.ensures.call)) in
-    grown c.args.self.now.rack c.args.self.now.groups c.args.self.now.index c.args.passes.now.index c.enter-catalog.new.passes c.requires.index c.enter-catalog.result
-    c.enter-catalog.ensures.took c.enter-catalog.ensures.origin c.find-answer.new.self on c.find-answer.ensures.names
+    grown c.requires.index c.enter-catalog.result c.enter-catalog.ensures.took c.enter-catalog.ensures.origin c.find-answer.new.self
+    (small_on _ _ (finds_small c.args.job c.args.name.now _ _ c.find-answer.result c.find-answer.ensures.call)) c.find-answer.ensures.names
 
 pub returns-clause-call : goal.returns-clause-call
 returns-clause-call g c =
-    let on = (small_on _ _ (finds_small c.args.job c.args.name.now _ _ c.find-answer.result c.find-answer.ensures.call)) in
-    called c.args.self.now.rack c.args.self.now.groups c.args.self.now.index c.args.passes.now.index c.enter-catalog.new.passes c.requires.index c.enter-catalog.result
-    c.enter-catalog.ensures.took c.enter-catalog.ensures.origin c.find-answer.new.self on c.find-answer.ensures.names
-    (FindsRecord c.args.job c.args.name.now c.find-answer.result c.find-answer.new.passes) c.leave.new.passes c.leave.ensures.left c.enter-catalog.ensures.begins c.rules.ensures c.rules-2.ensures (c.find-answer.ensures.call, c.find-answer.ensures.seen, c.find-answer.ensures.told)
+    called c.requires.index c.enter-catalog.result c.enter-catalog.ensures.took c.enter-catalog.ensures.origin c.find-answer.new.self
+    (small_on _ _ (finds_small c.args.job c.args.name.now _ _ c.find-answer.result c.find-answer.ensures.call)) c.find-answer.ensures.names
+    c.leave.ensures.left c.enter-catalog.ensures.begins c.rules.ensures c.rules-2.ensures (c.find-answer.ensures.call, c.find-answer.ensures.seen, c.find-answer.ensures.told)
 
 pub returns-clause-ready : goal.returns-clause-ready
 returns-clause-ready g c =

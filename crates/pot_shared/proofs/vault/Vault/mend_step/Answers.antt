@@ -1,37 +1,16 @@
-use Rattle.std.proofs.Common.{IsTrue}
-use Rattle.pot_group.specs.Group.{view_of}
-use Rattle.pot_group.specs.Calls.{MendCall}
 use Rattle.pot_shared.proofs.CallLemmas.{grown, same_origin, called, ready_again}
 use Rattle.pot_shared.proofs.vault.Vault.mend_step.Goals as goal
 
 pub leave-requires-clause-grown : goal.leave-requires-clause-grown
-leave-requires-clause-grown g c =
-    let told = IsTrue g.A.Archive.account.tells in
-    let old = view_of g.A.Archive.account.meaning c.enter-member.result.group in
-    let new = view_of g.A.Archive.account.meaning c.mend-answer.new.self in
-    grown c.args.self.now.groups c.args.passes.now.groups c.enter-member.new.passes c.args.place.group c.requires.ready.of c.requires.place.0 old c.enter-member.ensures.took
-    new (MendCall told c.args.job c.args.place c.args.blind.now c.mend-answer.result) c.mend-answer.ensures.mends c.logged-before.ensures.arrived c.enter-member.ensures.origin
+leave-requires-clause-grown g c = grown c.requires.ready c.requires.place.0 c.enter-member.ensures.took c.logged-before.ensures.arrived c.mend-answer.ensures.mends.1
 
 pub leave-requires-clause-origin : goal.leave-requires-clause-origin
-leave-requires-clause-origin g c =
-    let told = IsTrue g.A.Archive.account.tells in
-    let old = view_of g.A.Archive.account.meaning c.enter-member.result.group in
-    let new = view_of g.A.Archive.account.meaning c.mend-answer.new.self in
-    same_origin c.args.self.now.groups c.args.passes.now.groups c.enter-member.new.passes c.args.place.group c.requires.ready.of c.requires.place.0 old c.enter-member.ensures.took
-    new (MendCall told c.args.job c.args.place c.args.blind.now c.mend-answer.result) c.mend-answer.ensures.mends c.logged-before.ensures.arrived c.enter-member.ensures.origin
+leave-requires-clause-origin g c = same_origin c.requires.ready c.requires.place.0 c.enter-member.ensures.took c.logged-before.ensures.arrived c.mend-answer.ensures.mends.1 c.enter-member.ensures.origin
 
 pub returns-clause-call : goal.returns-clause-call
 returns-clause-call g c =
-    let told = IsTrue g.A.Archive.account.tells in
-    let old = view_of g.A.Archive.account.meaning c.enter-member.result.group in
-    let new = view_of g.A.Archive.account.meaning c.mend-answer.new.self in
-    called c.args.self.now.groups c.args.passes.now.groups c.enter-member.new.passes c.args.place.group c.requires.ready.of c.requires.place.0 old c.enter-member.ensures.took
-    new (MendCall told c.args.job c.args.place c.args.blind.now c.mend-answer.result) c.mend-answer.ensures.mends c.logged-before.ensures.arrived c.enter-member.ensures.origin
-    told c.leave.new.passes c.leave.ensures.left c.enter-member.ensures.begins
-    c.logged-before.ensures.settled c.logged-before.ensures.first c.logged-after.ensures.settled
+    called c.requires.ready c.requires.place.0 c.enter-member.ensures.took c.logged-before.ensures.arrived c.enter-member.ensures.begins c.enter-member.ensures.origin
+    c.logged-before.ensures.settled c.logged-before.ensures.first c.mend-answer.ensures.mends c.logged-after.ensures.settled c.leave.ensures.left
 
 pub returns-clause-ready : goal.returns-clause-ready
-returns-clause-ready g c =
-    let told = IsTrue g.A.Archive.account.tells in
-    ready_again c.args.self.now.rack c.args.self.now.groups told (MendCall told c.args.job c.args.place c.args.blind.now c.mend-answer.result) c.args.place.group c.args.passes.now.groups c.leave.new.passes
-    c.requires.place.0 c.requires.ready (returns-clause-call g c)
+returns-clause-ready g c = ready_again c.requires.ready c.requires.place.0 (returns-clause-call g c)

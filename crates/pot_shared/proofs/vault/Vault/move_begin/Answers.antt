@@ -1,42 +1,19 @@
-use Rattle.std.proofs.Common.{IsTrue}
-use Rattle.pot_group.specs.Group.{view_of}
-use Rattle.pot_group.specs.Calls.{MoveBeginCall}
 use Rattle.pot_shared.proofs.CallLemmas.{is_column, grown, same_origin, called, ready_again}
 use Rattle.pot_shared.proofs.vault.Vault.move_begin.Goals as goal
 
 pub move_begin-answer-requires-clause-column : goal.move_begin-answer-requires-clause-column
-move_begin-answer-requires-clause-column g c =
-    is_column c.args.self.now.rack (IsTrue g.A.Archive.account.tells) c.args.group c.args.column _ (view_of g.A.Archive.account.meaning c.enter-member.result.group) c.enter-member.ensures.origin
-    (c.requires.ready.origins c.args.group c.requires.group) c.logged-before.ensures.settled c.requires.column
+move_begin-answer-requires-clause-column g c = is_column c.requires.ready c.requires.group c.enter-member.ensures.origin c.logged-before.ensures.settled c.requires.column
 
 pub leave-requires-clause-grown : goal.leave-requires-clause-grown
-leave-requires-clause-grown g c =
-    let told = IsTrue g.A.Archive.account.tells in
-    let old = view_of g.A.Archive.account.meaning c.enter-member.result.group in
-    let new = view_of g.A.Archive.account.meaning c.move_begin-answer.new.self in
-    grown c.args.self.now.groups c.args.passes.now.groups c.enter-member.new.passes c.args.group c.requires.ready.of c.requires.group old c.enter-member.ensures.took
-    new (MoveBeginCall told g.A.Archive.account.meaning c.args.job c.args.column c.args.shelf c.move_begin-answer.result) c.move_begin-answer.ensures.moves c.logged-before.ensures.arrived c.enter-member.ensures.origin
+leave-requires-clause-grown g c = grown c.requires.ready c.requires.group c.enter-member.ensures.took c.logged-before.ensures.arrived c.move_begin-answer.ensures.moves.1
 
 pub leave-requires-clause-origin : goal.leave-requires-clause-origin
-leave-requires-clause-origin g c =
-    let told = IsTrue g.A.Archive.account.tells in
-    let old = view_of g.A.Archive.account.meaning c.enter-member.result.group in
-    let new = view_of g.A.Archive.account.meaning c.move_begin-answer.new.self in
-    same_origin c.args.self.now.groups c.args.passes.now.groups c.enter-member.new.passes c.args.group c.requires.ready.of c.requires.group old c.enter-member.ensures.took
-    new (MoveBeginCall told g.A.Archive.account.meaning c.args.job c.args.column c.args.shelf c.move_begin-answer.result) c.move_begin-answer.ensures.moves c.logged-before.ensures.arrived c.enter-member.ensures.origin
+leave-requires-clause-origin g c = same_origin c.requires.ready c.requires.group c.enter-member.ensures.took c.logged-before.ensures.arrived c.move_begin-answer.ensures.moves.1 c.enter-member.ensures.origin
 
 pub returns-clause-call : goal.returns-clause-call
 returns-clause-call g c =
-    let told = IsTrue g.A.Archive.account.tells in
-    let old = view_of g.A.Archive.account.meaning c.enter-member.result.group in
-    let new = view_of g.A.Archive.account.meaning c.move_begin-answer.new.self in
-    called c.args.self.now.groups c.args.passes.now.groups c.enter-member.new.passes c.args.group c.requires.ready.of c.requires.group old c.enter-member.ensures.took
-    new (MoveBeginCall told g.A.Archive.account.meaning c.args.job c.args.column c.args.shelf c.move_begin-answer.result) c.move_begin-answer.ensures.moves c.logged-before.ensures.arrived c.enter-member.ensures.origin
-    told c.leave.new.passes c.leave.ensures.left c.enter-member.ensures.begins
-    c.logged-before.ensures.settled c.logged-before.ensures.first c.logged-after.ensures.settled
+    called c.requires.ready c.requires.group c.enter-member.ensures.took c.logged-before.ensures.arrived c.enter-member.ensures.begins c.enter-member.ensures.origin
+    c.logged-before.ensures.settled c.logged-before.ensures.first c.move_begin-answer.ensures.moves c.logged-after.ensures.settled c.leave.ensures.left
 
 pub returns-clause-ready : goal.returns-clause-ready
-returns-clause-ready g c =
-    let told = IsTrue g.A.Archive.account.tells in
-    ready_again c.args.self.now.rack c.args.self.now.groups told (MoveBeginCall told g.A.Archive.account.meaning c.args.job c.args.column c.args.shelf c.move_begin-answer.result) c.args.group c.args.passes.now.groups c.leave.new.passes
-    c.requires.group c.requires.ready (returns-clause-call g c)
+returns-clause-ready g c = ready_again c.requires.ready c.requires.group (returns-clause-call g c)

@@ -1,19 +1,16 @@
 use Rattle.std.proofs.Common.{ap}
 use Rattle.pot_shared.specs.Ready.{GroupPasses}
-use Rattle.pot_shared.specs.IndexCalls.{ListsAll}
 use Rattle.pot_shared.proofs.CatalogLemmas.{lists_small}
 use Rattle.pot_shared.proofs.IndexCallLemmas.{grown, called, small_on}
 use Rattle.pot_shared.proofs.vault.Vault.names.Goals as goal
 
 pub leave-requires-clause-grown : goal.leave-requires-clause-grown
 leave-requires-clause-grown g c =
-    let on = (small_on _ _ (lists_small c.args.job _ _ c.names-answer.result c.names-answer.ensures.call)) in
-    grown c.args.self.now.rack c.args.self.now.groups c.args.self.now.index c.args.passes.now.index c.enter-catalog.new.passes c.requires.index c.enter-catalog.result
-    c.enter-catalog.ensures.took c.enter-catalog.ensures.origin c.names-answer.new.self on (ap (λ (r : GroupPasses). r.names) c.names-answer.ensures.kept)
+    grown c.requires.index c.enter-catalog.result c.enter-catalog.ensures.took c.enter-catalog.ensures.origin c.names-answer.new.self
+    (small_on _ _ (lists_small c.args.job _ _ c.names-answer.result c.names-answer.ensures.call)) (ap (λ (r : GroupPasses). r.names) c.names-answer.ensures.kept)
 
 pub returns-clause-call : goal.returns-clause-call
 returns-clause-call g c =
-    let on = (small_on _ _ (lists_small c.args.job _ _ c.names-answer.result c.names-answer.ensures.call)) in
-    called c.args.self.now.rack c.args.self.now.groups c.args.self.now.index c.args.passes.now.index c.enter-catalog.new.passes c.requires.index c.enter-catalog.result
-    c.enter-catalog.ensures.took c.enter-catalog.ensures.origin c.names-answer.new.self on (ap (λ (r : GroupPasses). r.names) c.names-answer.ensures.kept)
-    (ListsAll c.args.job c.names-answer.result) c.leave.new.passes c.leave.ensures.left c.enter-catalog.ensures.begins c.rules.ensures c.rules-2.ensures c.names-answer.ensures.call
+    called c.requires.index c.enter-catalog.result c.enter-catalog.ensures.took c.enter-catalog.ensures.origin c.names-answer.new.self
+    (small_on _ _ (lists_small c.args.job _ _ c.names-answer.result c.names-answer.ensures.call)) (ap (λ (r : GroupPasses). r.names) c.names-answer.ensures.kept)
+    c.leave.ensures.left c.enter-catalog.ensures.begins c.rules.ensures c.rules-2.ensures c.names-answer.ensures.call

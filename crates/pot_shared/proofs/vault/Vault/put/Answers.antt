@@ -1,37 +1,20 @@
-use Rattle.std.proofs.Common.{IsTrue}
-use Rattle.pot_group.specs.Group.{view_of}
-use Rattle.pot_group.specs.Calls.{PutCall}
 use Rattle.pot_shared.proofs.CallLemmas.{grown, same_origin, called, ready_again}
 use Rattle.pot_shared.proofs.vault.Vault.put.Goals as goal
 
 pub leave-requires-clause-grown : goal.leave-requires-clause-grown
 leave-requires-clause-grown g c =
-    let told = IsTrue g.A.Archive.account.tells in
-    let old = view_of g.A.Archive.account.meaning c.enter-member.result.group in
-    let new = view_of g.A.Archive.account.meaning c.put-answer.new.self in
-    grown c.args.self.now.groups c.args.passes.now.groups c.enter-member.new.passes c.args.group c.requires.ready.of c.requires.group old c.enter-member.ensures.took
-    new (PutCall told c.args.job c.args.block.now.block c.put-answer.result) (rw (c.expect.ensures, c.block.ensures) at c.put-answer.ensures.puts) c.logged-before.ensures.arrived c.enter-member.ensures.origin
+    let puts = rw (c.expect.ensures, c.block.ensures) at c.put-answer.ensures.puts in
+    grown c.requires.ready c.requires.group c.enter-member.ensures.took c.logged-before.ensures.arrived puts.1
 
 pub leave-requires-clause-origin : goal.leave-requires-clause-origin
 leave-requires-clause-origin g c =
-    let told = IsTrue g.A.Archive.account.tells in
-    let old = view_of g.A.Archive.account.meaning c.enter-member.result.group in
-    let new = view_of g.A.Archive.account.meaning c.put-answer.new.self in
-    same_origin c.args.self.now.groups c.args.passes.now.groups c.enter-member.new.passes c.args.group c.requires.ready.of c.requires.group old c.enter-member.ensures.took
-    new (PutCall told c.args.job c.args.block.now.block c.put-answer.result) (rw (c.expect.ensures, c.block.ensures) at c.put-answer.ensures.puts) c.logged-before.ensures.arrived c.enter-member.ensures.origin
+    let puts = rw (c.expect.ensures, c.block.ensures) at c.put-answer.ensures.puts in
+    same_origin c.requires.ready c.requires.group c.enter-member.ensures.took c.logged-before.ensures.arrived puts.1 c.enter-member.ensures.origin
 
 pub returns-clause-call : goal.returns-clause-call
 returns-clause-call g c =
-    let told = IsTrue g.A.Archive.account.tells in
-    let old = view_of g.A.Archive.account.meaning c.enter-member.result.group in
-    let new = view_of g.A.Archive.account.meaning c.put-answer.new.self in
-    called c.args.self.now.groups c.args.passes.now.groups c.enter-member.new.passes c.args.group c.requires.ready.of c.requires.group old c.enter-member.ensures.took
-    new (PutCall told c.args.job c.args.block.now.block c.put-answer.result) (rw (c.expect.ensures, c.block.ensures) at c.put-answer.ensures.puts) c.logged-before.ensures.arrived c.enter-member.ensures.origin
-    told c.leave.new.passes c.leave.ensures.left c.enter-member.ensures.begins
-    c.logged-before.ensures.settled c.logged-before.ensures.first c.logged-after.ensures.settled
+    called c.requires.ready c.requires.group c.enter-member.ensures.took c.logged-before.ensures.arrived c.enter-member.ensures.begins c.enter-member.ensures.origin
+    c.logged-before.ensures.settled c.logged-before.ensures.first (rw (c.expect.ensures, c.block.ensures) at c.put-answer.ensures.puts) c.logged-after.ensures.settled c.leave.ensures.left
 
 pub returns-clause-ready : goal.returns-clause-ready
-returns-clause-ready g c =
-    let told = IsTrue g.A.Archive.account.tells in
-    ready_again c.args.self.now.rack c.args.self.now.groups told (PutCall told c.args.job c.args.block.now.block c.put-answer.result) c.args.group c.args.passes.now.groups c.leave.new.passes
-    c.requires.group c.requires.ready (returns-clause-call g c)
+returns-clause-ready g c = ready_again c.requires.ready c.requires.group (returns-clause-call g c)
