@@ -1,9 +1,9 @@
 -- An archive that was asked for: whether it may come, that it came, and that it was handed back.
-use Rattle.std.proofs.Common.{◌≡◌, ◌≢◌, ◌<◌, ◌≤◌, ◌⊎◌, ⊎_elim, inl, inr, ℕ, zero, suc, Bool, true, false, List, [], ◌∷◌, ◌++◌, length, refl, sym, ap, subst, ◌∙◌, arith, append-nil, append_assoc, eq-eqb, length-append}
-use Rattle.std.specs.Prelude.{Option, Some, None, IsSome, IsSomeAnd, IfSome, Contains, Result, Ok, Err, MatchResult, flat_map, slice_index_or}
+use Rattle.std.proofs.Common.{◌≡◌, ◌≢◌, ◌<◌, ⊎_elim, ℕ, zero, suc, Bool, true, false, List, [], ◌∷◌, ◌++◌, length, refl, sym, ap, subst, ◌∙◌, arith, append-nil, append_assoc, eq-eqb, length-append}
+use Rattle.std.specs.Prelude.{Option, Some, None, IsSome, IsSomeAnd, IfSome, Contains, flat_map, slice_index_or}
 use Rattle.std.proofs.lemmas.List.{nil_from_length}
 use Rattle.std.proofs.lemmas.Option.{same_Some}
-use Rattle.std.proofs.lemmas.List.Elements.{Contains-append_cases, Contains-append_left, Contains-append_right}
+use Rattle.std.proofs.lemmas.List.Elements.{Contains-append_cases, Contains-append_left}
 use mathlib.Core.Path.{fun_ext}
 use Rattle.std.proofs.lemmas.Bool.{cases_eq}
 use lib.Seq.{drop-length}
@@ -22,7 +22,6 @@ use Rattle.pot_machine.specs.Table.{Table, width, column_at, holder_of, count, n
 use Rattle.pot_machine.specs.Logs.{job_of, is_of, own, replayed}
 use Rattle.pot_machine.proofs.Logs.{replays_is}
 use Rattle.pot_index.specs.Entries as index
-use Rattle.pot_group.specs.declared.moving.ShelfCause.TheVariants as cause
 use Rattle.pot_group.specs.Arrivals.{arrival, arrivals, HasArrived}
 use Rattle.pot_machine.specs.Column.{homes_of}
 use Rattle.pot_group.specs.Causes.{brought_by}
@@ -34,7 +33,6 @@ use Rattle.pot_worked.proofs.SoleLemmas.{gain_in_parts}
 use Rattle.pot_rows.specs.Rows.{view_at}
 use Rattle.pot_rows.specs.Works.{RowWorked}
 use Rattle.pot_rows.proofs.RowLemmas.{at_set}
-use Rattle.pot_script.specs.declared.reply.Reply.TheVariants as replies
 use Rattle.pot_replies.specs.Settings.{Setting}
 use Rattle.pot_replies.specs.Sections.{Section, mine, IsSilent, IsOfJobs}
 use Rattle.pot_replies.specs.Moves.{IsUsed}
@@ -47,19 +45,26 @@ use Rattle.pot_shared.proofs.MemberLemmas.{marks_by, entries_all, entries_append
 use Rattle.pot_group.specs.Calls.{ComesBy}
 use Rattle.pot_shared.specs.Ready.{AreReady, GroupPass, GroupPasses}
 use Rattle.pot_store.specs.Works.{Known, known, of_job, gained, JobWorked, JobAlone, IsSettingOf, section_of}
-use Rattle.pot_store.proofs.WorkLemmas.{row_stays, index_idle, group_work, group_own, group_else, work_more, alone_parts, own_more}
+use Rattle.pot_store.proofs.WorkLemmas.{row_stays, index_idle, group_work, group_own, group_else, work_more, alone_parts, own_more, all_none, all_one}
 use Rattle.pot_mend.specs.Moves.{IsAsked, seen_in}
-use Rattle.pot_mend.specs.declared.checking.UseFault.TheVariants as used
 use Rattle.pot_mend.proofs.HadLemmas.{IsUsedIn, brought_here, brought_named, had_used, named_held, same_width}
-use Rattle.pot_commands.specs.declared.arriving.Unanswered.TheVariants as unanswered
 use Rattle.pot_commands.specs.Ends.{AllSole}
 use Rattle.pot_commands.specs.Holding.{times}
 use Rattle.pot_commands.specs.Taking.{Lending, Took, HasUse, AreUsed, AreMarkedBy, came_in, marks_of}
 use Rattle.pot_commands.proofs.Brought.{its_setting, is_its}
 use Rattle.pot_commands.proofs.Going.{sole_alone, work_all_went}
 use Rattle.pot_commands.proofs.Logs.{turn_added}
-use Rattle.pot_commands.proofs.TakingLemmas.{arrival_in, came_one, come_none, takes_back, takes_one, took_none, used_more, use_more}
+use Rattle.pot_commands.proofs.TakingLemmas.{arrival_in, came_one, come_none, meant_by, takes_back, takes_one, took_none, used_more, use_more}
 use Rattle.pot_commands.proofs.Whose.{its_jobs, own_all}
+
+-- THE ROOM
+
+-- what is the same at one number, and at the others
+pub same_at : {X : Type 0} (f g : ℕ → X) (k : ℕ) → g k ≡ f k → ((n : ℕ) → n ≢ k → g n ≡ f n) → (n : ℕ) → g n ≡ f n
+same_at f g k here others n = ⊎_elim
+    (λ (e : n ≡ k). subst (λ m. g m ≡ f m) (sym e) here)
+    (λ (ne : n ≢ k). others n ne)
+    (cases_eq n k)
 
 -- LISTS
 
@@ -136,7 +141,7 @@ use_there : (o : Option GroupOrigin) (t : Table) (P : Table → Type 0) → IfSo
 use_there None t P is h = absurd h
 use_there (Some y) t P is h = subst P (sym is) h
 
-module _ (rack : Rack) (names turn : List TurnName) (job : ℕ) (row0 row1 : GroupPasses) (i i1 : IndexPasses) (ready : AreReady rack names row0) (ready1 : AreReady rack names row1)
+module _ {rack : Rack} {names turn : List TurnName} (job : ℕ) {row0 row1 : GroupPasses} {i i1 : IndexPasses} (ready : AreReady rack names row0) (ready1 : AreReady rack names row1)
     (iready : IsIndexReady rack names turn i) (same : i1 ≡ i) (asked : IsAsked row0 row1) where
   abbrev k0 : Known
   k0 = known row0 i
@@ -204,7 +209,7 @@ module _ (rack : Rack) (names turn : List TurnName) (job : ℕ) (row0 row1 : Gro
   check_took told well ns r r' out means = took_none told well ns r r' k0 k1 out means (silent_arrivals job k0 k1 checked_work checked_silent)
 
   -- ONE CALL THEN, of the group of this number
-  module _ (told : Type 0) (R : GroupView → GroupView → List Entry → Type 0) (group : ℕ) (row2 : GroupPasses) (i2 : IndexPasses) (same2 : i2 ≡ i1) (ready2 : AreReady rack names row2) (within : group < length names)
+  module _ {told : Type 0} {R : GroupView → GroupView → List Entry → Type 0} {group : ℕ} {row2 : GroupPasses} {i2 : IndexPasses} (same2 : i2 ≡ i1) (ready2 : AreReady rack names row2) (within : group < length names)
       (call : CallAt told R group row1 row2) (all : AllOf (is_of job) call.turn.entries) where
     abbrev k2 : Known
     k2 = known row2 i2
@@ -339,83 +344,6 @@ module _ (rack : Rack) (names turn : List TurnName) (job : ℕ) (row0 row1 : Gro
         ap (replayed call.turn.old.first) log_now
         ∙ (ap (λ t. replayed t call.turn.new.log) (sym call.turn.first) ∙ replays_is call.turn.new.first call.turn.new.log call.turn.new.table call.turn.settled.replay)
 
-    -- IT CAME
-    module _ {A : Type 0} (meaning : A → Meaning) (e : Entry) (shelf : Shelf A) (brings : arrival e ≡ shelf.number ∷ []) (comes : ComesBy told meaning e shelf call.turn.old call.turn.new call.turn.entries) where
-      abbrev to : ℕ
-      to = shelf.number
-
-      at_names : group < length row0.names
-      at_names = (let a = ap length ready.of.0 in omega (arith, a, within))
-
-      come_are : AllSole k0 k2 → (n : ℕ) → times n (to ∷ []) ≡ times n (came_in (length row0.names) (gained row0 row2))
-      come_are sole n =
-          ap (times n) (sym (came_one (length row0.names) (gained row0 row2) group at_names (gains_there sole)
-          ∙ (ap arrivals (gains_here sole ∙ comes.entries_are) ∙ (append-nil (arrival e) ∙ brings))))
-
-      its_marks : (meant : ℕ → Meaning) → told → IsMeant (meant to) (meaning shelf.archive) → mark_at call.turn.new.shelves to ≡ marks_of (meant to)
-      its_marks meant tells is =
-          let b = comes.comes.brings in
-          ap (λ f. marks f (call.turn.new.shelves.losses_taken to)) (b.marked ∙ (b.counts.0 ∙ is.faulted)) ∙ ap (λ l. marks (meant to).faults l) (b.marked_losses tells ∙ (b.counts.1 ∙ is.lost))
-        where
-          marks : ℕ → ℕ → Marks
-          marks f l = record { faults = f; losses = l }
-
-      come_marked : (meant : ℕ → Meaning) → told → IsMeant (meant to) (meaning shelf.archive) → AllSole k0 k2 → (g : ℕ) → g < length row0.names → AreMarkedBy meant (added (view_at row0 g) (view_at row2 g))
-      come_marked meant tells is sole g lt l n has arr = ⊎_elim
-          (λ (same_group : g ≡ group).
-          (let there : Contains (all_logged call.turn.new.shelves (e ∷ [])) l =
-          subst (λ es. Contains (all_logged call.turn.new.shelves es) l) comes.entries_are (subst (λ ls. Contains ls l) (marked_here sole) (subst (λ h. Contains (added (view_at row0 h) (view_at row2 h)) l) same_group has)) in
-          let one : logged_at call.turn.new.shelves e ≡ l = one_contained (logged_at call.turn.new.shelves e) l there in
-          let number : to ≡ n = one_contained to n (subst (λ ns. Contains ns n) brings (subst (λ (x : Logged). Contains (arrival x.entry) n) (sym one) arr)) in
-          subst (λ k. l.taken ≡ Some (marks_of (meant k))) number
-          (ap (λ (x : Logged). x.taken) (sym one) ∙ (marks_by call.turn.new.shelves e to (subst (λ ns. Contains ns to) (sym brings) (zero, omega arith, refl)) ∙ ap (λ m. Some m) (its_marks meant tells is)))))
-          (λ (ne : g ≢ group). absurd (none_contained n (subst (λ ns. Contains ns n) (gains_there sole g ne) (arrival_in (added (view_at row0 g) (view_at row2 g)) l n has arr))))
-          (cases_eq g group)
-
-      pub came_took : (well : Type 0) (r r' : Lending) → r.out to ≡ false → ((n : ℕ) → n ≢ to → (r'.means n ≡ r.means n) × (r'.out n ≡ r.out n)) → r'.out to ≡ true
-          → (told → IsMeant (r.means to) (meaning shelf.archive)) → Took told well (to ∷ []) r r' k0 k2
-      came_took well r r' home others out is = record {
-        taken = to ∷ [];
-        takes = takes_one told well to r r' home others out;
-        come = record { are = come_are; marked = λ tells. come_marked r.means tells (is tells) };
-      }
-
-      now_use : HasUse row2 to
-      now_use = (
-        group,
-        (let a = ap length ready2.of.0 in omega (arith, a, within)),
-        subst (λ o. IsSomeAnd o (λ (x : GroupOrigin). (y : List Entry) × (z : List Entry) × (entries_of (view_at row2 group).seen ≡ y ++ z) × IsSome (holder_of (replayed x.first y) to)))
-            (call.turn.origin ∙ sym (group_worked group).origin) (
-              entries_of (view_at row2 group).seen,
-              [],
-              sym (append-nil (entries_of (view_at row2 group).seen)),
-              subst (λ t. IsSome (holder_of t to)) (sym (table_now ∙ comes.comes.acts.table))
-                  (entry_held call.turn.old.table e to call.turn.settled_old.table comes.comes.acts.legal (subst (λ ns. Contains ns to) (sym brings) (0, omega arith, refl))),
-            ),
-      )
-
-      pub came_used : (out now : ℕ → Bool) → ((n : ℕ) → n ≢ to → now n ≡ out n) → AreUsed out row0 → AreUsed now row2
-      came_used out now others used n is = ⊎_elim
-          (λ (e : n ≡ to). subst (λ k. HasUse row2 k) (sym e) now_use)
-          (λ (ne : n ≢ to). use_more job row0 row2 whole_work.groups (ready2.of.0 ∙ sym ready.of.0) n (used n (sym (others n ne) ∙ is)))
-          (cases_eq n to)
-
-    -- IT WAS HANDED BACK
-    module _ (none : call.turn.entries ≡ []) where
-      pub back_silent : JobAlone job k0 k2 → IsSilent (mine job (section_of k0 k2))
-      back_silent alone = none_here alone none
-
-      pub back_used : (out now : ℕ → Bool) → ((n : ℕ) → now n ≡ out n) → AreUsed out row0 → AreUsed now row2
-      back_used out now lends used = used_more job out now row0 row2 whole_work.groups (ready2.of.0 ∙ sym ready.of.0) lends used
-
-      pub back_took : (well : Type 0) (to : ℕ) (r r' : Lending) → r.out to ≡ false → ((n : ℕ) → n ≢ to → (r'.means n ≡ r.means n) × (r'.out n ≡ r.out n)) → r'.out to ≡ false
-          → (told → well → IsMeant (r.means to) (r'.means to)) → Took told well (to ∷ []) r r' k0 k2
-      back_took well to r r' home others out still = record {
-        taken = [];
-        takes = takes_back told well to r r' home others out still;
-        come = come_none told r.means k0 k2 (silent_arrivals job k0 k2 whole_work back_silent);
-      }
-
     -- the archives of the group have a use in the logs
     pub group_used : (alone : JobAlone job k0 k2) → ((g : ℕ) (x y : List Entry) (e : Entry) → gained row0 row2 g ≡ x ++ e ∷ y → is_of job e ≡ true) → (s : Setting) → IsSettingOf s rack k0 → length names ≡ rack.groups
         → HasArrived call.turn.old.first call.turn.old.log call.turn.old.shelves.numbers → (n : ℕ) → Contains call.turn.old.shelves.numbers n → IsUsed s (seen_in row0) n
@@ -425,3 +353,118 @@ module _ (rack : Rack) (names turn : List TurnName) (job : ℕ) (row0 row1 : Gro
           (let b = ap (λ (r : Rack). r.groups) set.rack_is in omega (arith, within, b, count)),
           (u.0, u.1, sym (met_log alone its) ∙ u.2, subst (λ t. IsSome (holder_of (replayed t u.0) n)) (sym (its_first alone its s set)) u.3),
         )
+
+  -- IT CAME, by an entry of the job
+  module _ {told : Type 0} {R : GroupView → GroupView → List Entry → Type 0} {group : ℕ} {row2 : GroupPasses} {i2 : IndexPasses} (same2 : i2 ≡ i1) (ready2 : AreReady rack names row2) (within : group < length names)
+      (call : CallAt told R group row1 row2) {A : Type 0} {meaning : A → Meaning} {e : Entry} {shelf : Shelf A} {to : ℕ} (comes : ComesBy told meaning e shelf call.turn.old call.turn.new call.turn.entries)
+      (number : shelf.number ≡ to) (by_job : job_of e ≡ job) (brings : arrival e ≡ shelf.number ∷ []) where
+    abbrev with_it : Known
+    with_it = known row2 i2
+
+    pub came_all : AllOf (is_of job) call.turn.entries
+    came_all = subst (λ es. AllOf (is_of job) es) (sym comes.entries_are) (all_one (is_of job) e (eq-eqb (job_of e) job by_job))
+
+    pub came_work : JobWorked job k0 with_it
+    came_work = whole_work same2 ready2 within call came_all
+
+    arrives : arrival e ≡ to ∷ []
+    arrives = brings ∙ ap (λ n. n ∷ []) number
+
+    at_names : group < length row0.names
+    at_names = (let a = ap length ready.of.0 in omega (arith, a, within))
+
+    come_are : AllSole k0 with_it → (n : ℕ) → times n (to ∷ []) ≡ times n (came_in (length row0.names) (gained row0 row2))
+    come_are sole n =
+        ap (times n) (sym (came_one (length row0.names) (gained row0 row2) group at_names (gains_there same2 ready2 within call came_all sole)
+        ∙ (ap arrivals (gains_here same2 ready2 within call came_all sole ∙ comes.entries_are) ∙ (append-nil (arrival e) ∙ arrives))))
+
+    its_marks : (meant : ℕ → Meaning) → told → IsMeant (meant to) (meaning shelf.archive) → mark_at call.turn.new.shelves to ≡ marks_of (meant to)
+    its_marks meant tells is =
+        let b = comes.comes.brings in
+        subst (λ n. mark_at call.turn.new.shelves n ≡ marks_of (meant to)) number
+        (ap (λ f. marks f (call.turn.new.shelves.losses_taken shelf.number)) (b.marked ∙ (b.counts.0 ∙ is.faulted)) ∙ ap (λ l. marks (meant to).faults l) (b.marked_losses tells ∙ (b.counts.1 ∙ is.lost)))
+      where
+        marks : ℕ → ℕ → Marks
+        marks f l = record { faults = f; losses = l }
+
+    come_marked : (meant : ℕ → Meaning) → told → IsMeant (meant to) (meaning shelf.archive) → AllSole k0 with_it → (g : ℕ) → g < length row0.names → AreMarkedBy meant (added (view_at row0 g) (view_at row2 g))
+    come_marked meant tells is sole g lt l n has arr = ⊎_elim
+        (λ (same_group : g ≡ group).
+        (let there : Contains (all_logged call.turn.new.shelves (e ∷ [])) l =
+        subst (λ es. Contains (all_logged call.turn.new.shelves es) l) comes.entries_are
+        (subst (λ ls. Contains ls l) (marked_here same2 ready2 within call came_all sole) (subst (λ h. Contains (added (view_at row0 h) (view_at row2 h)) l) same_group has)) in
+        let one : logged_at call.turn.new.shelves e ≡ l = one_contained (logged_at call.turn.new.shelves e) l there in
+        let its_number : to ≡ n = only to n (subst (λ ns. Contains ns n) arrives (subst (λ (x : Logged). Contains (arrival x.entry) n) (sym one) arr)) in
+        subst (λ k. l.taken ≡ Some (marks_of (meant k))) its_number
+        (ap (λ (x : Logged). x.taken) (sym one) ∙ (marks_by call.turn.new.shelves e to (subst (λ ns. Contains ns to) (sym arrives) (zero, omega arith, refl)) ∙ ap (λ m. Some m) (its_marks meant tells is)))))
+        (λ (ne : g ≢ group).
+        absurd (none_contained n (subst (λ ns. Contains ns n) (gains_there same2 ready2 within call came_all sole g ne) (arrival_in (added (view_at row0 g) (view_at row2 g)) l n has arr))))
+        (cases_eq g group)
+
+    pub came_took : (well : Type 0) (r r' : Lending) → r.out to ≡ false → ((n : ℕ) → n ≢ to → (r'.means n ≡ r.means n) × (r'.out n ≡ r.out n)) → r'.out to ≡ true
+        → (told → IsMeant (r.means to) (meaning shelf.archive)) → Took told well (to ∷ []) r r' k0 with_it
+    came_took well r r' home others out is = record {
+      taken = to ∷ [];
+      takes = takes_one told well to r r' home others out;
+      come = record { are = come_are; marked = λ tells. come_marked r.means tells (is tells) };
+    }
+
+    now_use : HasUse row2 to
+    now_use = (
+      group,
+      (let a = ap length ready2.of.0 in omega (arith, a, within)),
+      subst (λ o. IsSomeAnd o (λ (x : GroupOrigin). (y : List Entry) × (z : List Entry) × (entries_of (view_at row2 group).seen ≡ y ++ z) × IsSome (holder_of (replayed x.first y) to)))
+          (call.turn.origin ∙ sym (group_worked same2 ready2 within call came_all group).origin) (
+            entries_of (view_at row2 group).seen,
+            [],
+            sym (append-nil (entries_of (view_at row2 group).seen)),
+            subst (λ t. IsSome (holder_of t to)) (sym (table_now same2 ready2 within call came_all ∙ comes.comes.acts.table))
+                (entry_held call.turn.old.table e to call.turn.settled_old.table comes.comes.acts.legal (subst (λ ns. Contains ns to) (sym arrives) (0, omega arith, refl))),
+          ),
+    )
+
+    pub came_used : (out now : ℕ → Bool) → ((n : ℕ) → n ≢ to → now n ≡ out n) → AreUsed out row0 → AreUsed now row2
+    came_used out now others used n is = ⊎_elim
+        (λ (e : n ≡ to). subst (λ k. HasUse row2 k) (sym e) now_use)
+        (λ (ne : n ≢ to). use_more job row0 row2 came_work.groups (ready2.of.0 ∙ sym ready.of.0) n (used n (sym (others n ne) ∙ is)))
+        (cases_eq n to)
+
+  -- IT WAS HANDED BACK
+  module _ {told : Type 0} {R : GroupView → GroupView → List Entry → Type 0} {group : ℕ} {row2 : GroupPasses} {i2 : IndexPasses} (same2 : i2 ≡ i1) (ready2 : AreReady rack names row2) (within : group < length names)
+      (call : CallAt told R group row1 row2) (none : call.turn.entries ≡ []) where
+    pub back_all : AllOf (is_of job) call.turn.entries
+    back_all = subst (λ es. AllOf (is_of job) es) (sym none) (all_none (is_of job))
+
+    pub back_work : JobWorked job k0 (known row2 i2)
+    back_work = whole_work same2 ready2 within call back_all
+
+    pub back_silent : JobAlone job k0 (known row2 i2) → IsSilent (mine job (section_of k0 (known row2 i2)))
+    back_silent alone = none_here same2 ready2 within call back_all alone none
+
+    -- to the room that had lent it
+    module _ {A : Type 0} {shelf handed : Shelf A} {to : ℕ} (handed_is : handed ≡ shelf) (number : shelf.number ≡ to) (r r1 r2 : Lending) (home : r.out to ≡ false)
+        (took_others : (n : ℕ) → n ≢ to → (r1.means n ≡ r.means n) × (r1.out n ≡ r.out n)) (back : r2.out handed.number ≡ false)
+        (gave_others : (n : ℕ) → n ≢ handed.number → (r2.means n ≡ r1.means n) × (r2.out n ≡ r1.out n)) where
+      handed_number : handed.number ≡ to
+      handed_number = ap (λ (x : Shelf A). x.number) handed_is ∙ number
+
+      home_again : r2.out to ≡ false
+      home_again = subst (λ n. r2.out n ≡ false) handed_number back
+
+      others_same : (n : ℕ) → n ≢ to → (r2.means n ≡ r.means n) × (r2.out n ≡ r.out n)
+      others_same n ne =
+          let later = gave_others n (λ e. ne (e ∙ handed_number)) in
+          let then = took_others n ne in
+          (later.0 ∙ then.0, later.1 ∙ then.1)
+
+      pub back_used : AreUsed r.out row0 → AreUsed r2.out row2
+      back_used used = used_more job r.out r2.out row0 row2 back_work.groups (ready2.of.0 ∙ sym ready.of.0) (same_at r.out r2.out to (home_again ∙ sym home) (λ n ne. (others_same n ne).1)) used
+
+      pub back_took : (meaning : A → Meaning) (well : Type 0) → (told → IsMeant (r.means to) (meaning shelf.archive)) → (told → well → IsMeant (r2.means handed.number) (meaning handed.archive)) → Took told well (to ∷ []) r r2 k0 (known row2 i2)
+      back_took meaning well took gave = record {
+        taken = [];
+        takes = takes_back told well to r r2 home others_same home_again
+            (λ tells w. meant_by (r.means to) (r2.means to) (meaning shelf.archive) (took tells) (subst (λ n. IsMeant (r2.means n) (meaning shelf.archive)) handed_number
+            (subst (λ (x : Shelf A). IsMeant (r2.means handed.number) (meaning x.archive)) handed_is (gave tells w))));
+        come = come_none told r.means k0 (known row2 i2) (silent_arrivals job k0 (known row2 i2) back_work back_silent);
+      }

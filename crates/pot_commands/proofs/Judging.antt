@@ -9,6 +9,19 @@ use Rattle.pot_commands.specs.declared.working.Ending.TheVariants as ending
 use Rattle.pot_commands.specs.Rows.{IsSessionSetting}
 use Rattle.pot_commands.specs.Ends.{AllSole, Ends, EndsOver}
 
+-- with a command that has no reply
+short_over : (rack : Rack) (seed : List ℕ) (session : ℕ) (told : Type 0) (before after : List ℕ) (cs : List Command) (old new : Known) → Ends rack seed session told before after cs old new ending.NoMemory
+    → AllSole old new → (s : Setting) → IsSessionSetting s rack seed session old → EndsOver s (section_of old new) told before after cs ending.NoMemory
+short_over rack seed session told before after cs old new e sole s is = record {
+  first = e.first;
+  next = e.next;
+  rest = e.rest;
+  parts = e.parts;
+  replies = e.replies;
+  replied = e.replied sole s is;
+  written = e.written;
+}
+
 pub ends_over : (rack : Rack) (seed : List ℕ) (session : ℕ) (told : Type 0) (before after : List ℕ) (cs : List Command) (old new : Known) (e : Ending) → Ends rack seed session told before after cs old new e
     → AllSole old new → (s : Setting) → IsSessionSetting s rack seed session old → EndsOver s (section_of old new) told before after cs e
 ends_over rack seed session told before after cs old new (ending.Done refused) e sole s is = record {
@@ -28,21 +41,5 @@ ends_over rack seed session told before after cs old new ending.SinkFailed e sol
   replied = e.replied sole s is;
   written = e.written;
 }
-ends_over rack seed session told before after cs old new ending.NoMemory e sole s is = record {
-  first = e.first;
-  next = e.next;
-  rest = e.rest;
-  parts = e.parts;
-  replies = e.replies;
-  replied = e.replied sole s is;
-  written = e.written;
-}
-ends_over rack seed session told before after cs old new ending.RoomFailed e sole s is = record {
-  first = e.first;
-  next = e.next;
-  rest = e.rest;
-  parts = e.parts;
-  replies = e.replies;
-  replied = e.replied sole s is;
-  written = e.written;
-}
+ends_over rack seed session told before after cs old new ending.NoMemory e sole s is = short_over rack seed session told before after cs old new e sole s is
+ends_over rack seed session told before after cs old new ending.RoomFailed e sole s is = short_over rack seed session told before after cs old new e sole s is

@@ -1,14 +1,11 @@
 -- A `migrate`, by how it ends.
-use Rattle.std.proofs.Common.{◌≡◌, ◌≢◌, ◌<◌, ◌⊎◌, ⊎_elim, inl, inr, ℕ, zero, suc, Bool, true, false, List, [], ◌∷◌, ◌++◌, length, refl, sym, ap, subst, ◌∙◌, arith, eq-eqb, append-nil}
-use Rattle.std.specs.Prelude.{nat_lt, Contains, IsSome, Option, Some, None, Result, Ok, Err, MatchResult, filter}
-use Rattle.std.proofs.lemmas.List.Elements.{filter-append}
+use Rattle.std.proofs.Common.{◌≡◌, ◌<◌, ⊎_elim, inl, inr, ℕ, Bool, true, false, List, [], ◌∷◌, ◌++◌, length, refl, sym, ap, subst, ◌∙◌, arith, append-nil}
+use Rattle.std.specs.Prelude.{nat_lt, Contains, IsSome, Option, Some, None, Result, Ok, Err, filter}
 use Rattle.std.proofs.lemmas.Bool.Decides.{nat_tests}
 use mathlib.Core.Path.{fun_ext}
 use Rattle.pot_bytes.specs.declared.rack.Rack.{Rack}
-use Rattle.pot_outside.specs.Archives.{Meaning, IsMeant}
+use Rattle.pot_outside.specs.Archives.{Meaning}
 use Rattle.pot_outside.specs.declared.archive.Shelf.{Shelf}
-use Rattle.pot_index.specs.declared.entry.Logged as of_index
-use Rattle.pot_index.specs.Entries as index
 use Rattle.pot_machine.specs.declared.column.Column.{Column}
 use Rattle.pot_machine.specs.declared.column.Moving.{Moving}
 use Rattle.pot_machine.specs.declared.entry.Entry.{Entry}
@@ -19,7 +16,6 @@ use Rattle.pot_machine.proofs.Columns.{column_same}
 use Rattle.pot_group.specs.declared.moving.ShelfCause.{ShelfCause}
 use Rattle.pot_group.specs.declared.moving.ShelfCause.TheVariants as cause
 use Rattle.pot_group.specs.declared.moving.ShelfRefused.{ShelfRefused}
-use Rattle.pot_group.specs.Group.{GroupView}
 use Rattle.pot_group.specs.Moving.{RefusesMove}
 use Rattle.pot_turn.specs.declared.name.TurnName.{TurnName}
 use Rattle.pot_worked.specs.Worked.{added}
@@ -36,21 +32,14 @@ use Rattle.pot_shared.specs.Members.{entries_of}
 use Rattle.pot_group.specs.Calls.{MoveBeginCall}
 use Rattle.pot_shared.specs.Ready.{AreReady, GroupPasses}
 use Rattle.pot_shared.proofs.MemberLemmas.{entries_append}
-use Rattle.pot_store.specs.Works.{Known, known, gained, JobWorked, JobAlone, IsSettingOf, section_of}
-use Rattle.pot_store.proofs.WorkLemmas.{all_none, all_one}
-use Rattle.pot_mend.specs.declared.checking.MoveAt.{MoveAt}
+use Rattle.pot_store.specs.Works.{Known, known, gained, JobAlone, IsSettingOf, section_of}
 use Rattle.pot_mend.specs.Moves.{IsAsked, MayMove, MigrateChecked, seen_in}
 use Rattle.pot_mend.specs.declared.checking.UseFault.{UseFault}
 use Rattle.pot_mend.specs.declared.checking.UseFault.TheVariants as used
-use Rattle.pot_mend.specs.declared.fault.MendFault.TheVariants as fault
 use Rattle.pot_commands.specs.declared.arriving.Unanswered.{Unanswered}
-use Rattle.pot_commands.specs.declared.arriving.Unanswered.TheVariants as unanswered
-use Rattle.pot_commands.specs.declared.moving.Unbegun.{Unbegun}
-use Rattle.pot_commands.specs.declared.moving.Unbegun.TheVariants as unbegun
-use Rattle.pot_commands.specs.Arriving.{HandsBack, HasBegun, Unbegins, unbegun_of, use_reply}
+use Rattle.pot_commands.specs.Arriving.{HandsBack, HasBegun, Unbegins, use_reply}
 use Rattle.pot_commands.specs.Rows.{IsMigrateReply}
-use Rattle.pot_commands.specs.Taking.{Lending, Took, AreUsed}
-use Rattle.pot_commands.proofs.ArrivingLemmas.{back_silent, back_took, back_used, came_took, came_used, checked_silent, group_used, its_first, logs_met, met_log, met_logs, met_table, of_jobs, only_here, own_each, own_here, table_now, whole_work}
+use Rattle.pot_commands.proofs.ArrivingLemmas.{back_all, back_silent, came_all, checked_silent, group_used, its_first, logs_met, met_log, met_logs, met_table, of_jobs, only_here, own_each, own_here, table_now, whole_work}
 
 -- LOGS AT A CHECK
 
@@ -73,14 +62,7 @@ none_before before begun job each = fun_ext (λ g. ap (λ l. before g ++ l) (non
 pub may_begin : (b : Bool) (s : Setting) (logs : ℕ → List Entry) (from to g c : ℕ) → b ≡ false → MayMove b s logs from to g c → MayBegin s logs from to g c
 may_begin b s logs from to g c off may = subst (λ x. MayMove x s logs from to g c) off may
 
--- what did not fail in one way did not in the other
-abbrev failed : Unbegun → Result MoveAt Unbegun
-failed end = Err end
-
-pub still_well : (answer : Result Reply Unanswered) (end : Unbegun) → end ≡ unbegun_of answer → (failed end ≢ failed unbegun.RoomFailed) → answer ≢ Err unanswered.RoomFailed
-still_well answer end is well e = well (ap failed (is ∙ ap unbegun_of e))
-
-module _ (rack : Rack) (names turn : List TurnName) (job from to : ℕ) (row0 row1 : GroupPasses) (i i1 : IndexPasses) (ready : AreReady rack names row0) (ready1 : AreReady rack names row1)
+module _ {rack : Rack} {names turn : List TurnName} (job from to : ℕ) {row0 row1 : GroupPasses} {i i1 : IndexPasses} (ready : AreReady rack names row0) (ready1 : AreReady rack names row1)
     (iready : IsIndexReady rack names turn i) (same : i1 ≡ i) (asked : IsAsked row0 row1) where
   abbrev first : Known
   first = known row0 i
@@ -102,11 +84,11 @@ module _ (rack : Rack) (names turn : List TurnName) (job from to : ℕ) (row0 ro
   asked_section = section_of first (known row1 i1)
 
   pub refused_begins : (fault : UseFault) (reply : Reply) → reply ≡ use_reply fault → ((s : Setting) → IsSettingOf s rack first → MigrateChecked s (seen_in row1) from to (Err fault)) → JobAlone job first (known row1 i1)
-      → (s : Setting) → IsSettingOf s rack first → Unbegins s job from to (unbegun.Answered reply) asked_section
+      → (s : Setting) → IsSettingOf s rack first → Unbegins s job from to (Ok reply) asked_section
   refused_begins fault reply is says alone s set = λ its.
-      let silent = checked_silent rack names turn job row0 row1 i i1 ready ready1 iready same asked alone in (
+      let silent = checked_silent job ready ready1 iready same asked alone in (
         subst (λ r. IsMigrateReply s asked_section.before (λ g. []) job from to r asked_section) (sym is)
-            (refused_row s fault asked_section (sym (met_logs rack names turn job row0 row1 i i1 ready ready1 iready same asked alone (of_jobs job asked_section its))) silent (says s set)),
+            (refused_row s fault asked_section (sym (met_logs job ready ready1 iready same asked alone (of_jobs job asked_section its))) silent (says s set)),
         silent,
       )
 
@@ -120,9 +102,9 @@ module _ (rack : Rack) (names turn : List TurnName) (job from to : ℕ) (row0 ro
       → (s : Setting) → IsSettingOf s rack first → IsOfJobs job 1 asked_section → HasBegun s job from to g c asked_section
   goes_on g c false on says alone s set its = absurd (cc on)
   goes_on g c true on says alone s set its =
-      let silent = checked_silent rack names turn job row0 row1 i i1 ready ready1 iready same asked alone in
+      let silent = checked_silent job ready ready1 iready same asked alone in
       let all = of_jobs job asked_section its in
-      let met = met_logs rack names turn job row0 row1 i i1 ready ready1 iready same asked alone all in
+      let met = met_logs job ready ready1 iready same asked alone all in
       let may = subst (λ logs. MayGoOn s logs from to g c) met (says s set) in
       let none : asked_section.added g ≡ [] = sym (own_each job (asked_section.added g) (all g)) ∙ silent.0 g in
       record {
@@ -132,35 +114,15 @@ module _ (rack : Rack) (names turn : List TurnName) (job from to : ℕ) (row0 ro
       }
 
   -- A CALL OF THE GROUP
-  module _ {A : Type 0} (told : Type 0) (meaning : A → Meaning) (group c : ℕ) (shelf : Shelf A) (number : shelf.number ≡ to) (row2 : GroupPasses) (i2 : IndexPasses) (same2 : i2 ≡ i1) (ready2 : AreReady rack names row2)
+  module _ {A : Type 0} (told : Type 0) (meaning : A → Meaning) (group c : ℕ) (shelf : Shelf A) (number : shelf.number ≡ to) {row2 : GroupPasses} {i2 : IndexPasses} (same2 : i2 ≡ i1) (ready2 : AreReady rack names row2)
       (within : group < length names) where
     abbrev last : Known
     last = known row2 i2
 
     -- IT CAME
     module _ (u : Unit {0}) (call : CallAt told (MoveBeginCall told meaning job c shelf (Ok u)) group row1 row2) where
-      abbrev R : GroupView → GroupView → List Entry → Type 0
-      R = MoveBeginCall told meaning job c shelf (Ok u)
-
-      abbrev e : Entry
-      e = entry.MoveBegin job c shelf.number
-
-      begin_all : AllOf (is_of job) call.turn.entries
-      begin_all = subst (λ es. AllOf (is_of job) es) (sym call.turn.call.entries_are) (all_one (is_of job) e (eq-eqb job job refl))
-
-      pub begin_work : JobWorked job first last
-      begin_work = whole_work rack names turn job row0 row1 i i1 ready ready1 iready same asked told R group row2 i2 same2 ready2 within call begin_all
-
-      pub begin_used : (out now : ℕ → Bool) → ((n : ℕ) → n ≢ to → now n ≡ out n) → AreUsed out row0 → AreUsed now row2
-      begin_used out now others used =
-          came_used rack names turn job row0 row1 i i1 ready ready1 iready same asked told R group row2 i2 same2 ready2 within call begin_all meaning e shelf refl call.turn.call
-          out now (λ n ne. others n (λ z. ne (z ∙ sym number))) used
-
-      pub begin_took : (well : Type 0) (r r' : Lending) → r.out to ≡ false → ((n : ℕ) → n ≢ to → (r'.means n ≡ r.means n) × (r'.out n ≡ r.out n)) → r'.out to ≡ true → (told → IsMeant (r.means to) (meaning shelf.archive))
-          → Took told well (to ∷ []) r r' first last
-      begin_took well r r' home others out is = subst (λ n. Took told well (n ∷ []) r r' first last) number
-          (came_took rack names turn job row0 row1 i i1 ready ready1 iready same asked told R group row2 i2 same2 ready2 within call begin_all meaning e shelf refl call.turn.call well r r'
-          (subst (λ n. r.out n ≡ false) (sym number) home) (λ n ne. others n (λ z. ne (z ∙ sym number))) (subst (λ n. r'.out n ≡ true) (sym number) out) (subst (λ n. told → IsMeant (r.means n) (meaning shelf.archive)) (sym number) is))
+      came_own : AllOf (is_of job) call.turn.entries
+      came_own = came_all job ready ready1 iready same asked same2 ready2 within call call.turn.call number refl refl
 
       now_moves : IsSome (column_at call.turn.new.table c).moving
       now_moves =
@@ -174,44 +136,30 @@ module _ (rack : Rack) (names turn : List TurnName) (job from to : ℕ) (row0 ro
       begin_says true off says alone s set its = absurd (cc off)
       begin_says false off says alone s set its =
           let all = of_jobs job (section_of first last) its in
-          let met = logs_met rack names turn job row0 row1 i i1 ready ready1 iready same asked told R group row2 i2 same2 ready2 within call begin_all alone all in
-          let began = its_first rack names turn job row0 row1 i i1 ready ready1 iready same asked told R group row2 i2 same2 ready2 within call begin_all alone all s set in
+          let met = logs_met job ready ready1 iready same asked same2 ready2 within call came_own alone all in
+          let began = its_first job ready ready1 iready same asked same2 ready2 within call came_own alone all s set in
           let grows : seen_in row0 group ++ gained row0 row2 group ≡ seen_in row2 group =
-          sym (ap entries_of (begin_work.groups group).seen ∙ entries_append (view_at row0 group).seen (added (view_at row0 group) (view_at row2 group))) in
+          sym (ap entries_of ((whole_work job ready ready1 iready same asked same2 ready2 within call came_own).groups group).seen ∙ entries_append (view_at row0 group).seen (added (view_at row0 group) (view_at row2 group))) in
           let table : replayed (s.first group) (seen_in row0 group ++ gained row0 row2 group) ≡ call.turn.new.table =
           ap (replayed (s.first group)) grows
-          ∙ (ap (λ t. replayed t (seen_in row2 group)) began ∙ table_now rack names turn job row0 row1 i i1 ready ready1 iready same asked told R group row2 i2 same2 ready2 within call begin_all) in
+          ∙ (ap (λ t. replayed t (seen_in row2 group)) began ∙ table_now job ready ready1 iready same asked same2 ready2 within call came_own) in
           record {
             begins = inl (
               subst (λ logs. MayBegin s logs from to group c) met (says s set),
-              own_here rack names turn job row0 row1 i i1 ready ready1 iready same asked told R group row2 i2 same2 ready2 within call begin_all alone
+              own_here job ready ready1 iready same asked same2 ready2 within call came_own alone
                   ∙ (call.turn.call.entries_are ∙ ap (λ n. entry.MoveBegin job c n ∷ []) number),
             );
-            only = only_here rack names turn job row0 row1 i i1 ready ready1 iready same asked told R group row2 i2 same2 ready2 within call begin_all alone;
+            only = only_here job ready ready1 iready same asked same2 ready2 within call came_own alone;
             moves = subst (λ (t : Table). IsSome (column_at t c).moving) (sym table) now_moves;
           }
 
     -- IT WAS HANDED BACK
     module _ (r : ShelfRefused A) (call : CallAt told (MoveBeginCall told meaning job c shelf (Err r)) group row1 row2) where
-      abbrev Q : GroupView → GroupView → List Entry → Type 0
-      Q = MoveBeginCall told meaning job c shelf (Err r)
+      back_own : AllOf (is_of job) call.turn.entries
+      back_own = back_all job ready ready1 iready same asked same2 ready2 within call call.turn.call.0.entries_are
 
-      none : call.turn.entries ≡ []
-      none = call.turn.call.0.entries_are
-
-      none_all : AllOf (is_of job) call.turn.entries
-      none_all = subst (λ es. AllOf (is_of job) es) (sym none) (all_none (is_of job))
-
-      pub unbegun_work : JobWorked job first last
-      unbegun_work = whole_work rack names turn job row0 row1 i i1 ready ready1 iready same asked told Q group row2 i2 same2 ready2 within call none_all
-
-      pub unbegun_used : (out now : ℕ → Bool) → ((n : ℕ) → now n ≡ out n) → AreUsed out row0 → AreUsed now row2
-      unbegun_used out now lends used = back_used rack names turn job row0 row1 i i1 ready ready1 iready same asked told Q group row2 i2 same2 ready2 within call none_all none out now lends used
-
-      pub unbegun_took : (well : Type 0) (l l' : Lending) → l.out to ≡ false → ((n : ℕ) → n ≢ to → (l'.means n ≡ l.means n) × (l'.out n ≡ l.out n)) → l'.out to ≡ false
-          → (told → well → IsMeant (l.means to) (l'.means to)) → Took told well (to ∷ []) l l' first last
-      unbegun_took well l l' home others out still =
-          back_took rack names turn job row0 row1 i i1 ready ready1 iready same asked told Q group row2 i2 same2 ready2 within call none_all none well to l l' home others out still
+      its_silent : JobAlone job first last → IsSilent (mine job (section_of first last))
+      its_silent = back_silent job ready ready1 iready same asked same2 ready2 within call call.turn.call.0.entries_are
 
       no_move : (o : Option Moving) → o ≡ None → IsSome o → ⊥
       no_move None e h = cc h
@@ -220,7 +168,7 @@ module _ (rack : Rack) (names turn : List TurnName) (job from to : ℕ) (row0 ro
       module _ (s : Setting) (set : IsSettingOf s rack first) (count : length names ≡ rack.groups) (may : MayBegin s (seen_in row1) from to group c) (alone : JobAlone job first last)
           (all : (g : ℕ) (x y : List Entry) (e : Entry) → gained row0 row2 g ≡ x ++ e ∷ y → is_of job e ≡ true) (silent : IsSilent (mine job (section_of first last))) where
         met : seen_in row1 ≡ seen_in row0
-        met = logs_met rack names turn job row0 row1 i i1 ready ready1 iready same asked told Q group row2 i2 same2 ready2 within call none_all alone all
+        met = logs_met job ready ready1 iready same asked same2 ready2 within call back_own alone all
 
         full_row : (why : ShelfCause) → RefusesMove call.turn.old c shelf.number why → (reply : Reply) → HandsBack group why (Ok reply) → IsMigrateReply s (seen_in row0) (λ g. []) job from to reply (section_of first last)
         full_row cause.LogFull why (replies.LogFull g) e = subst (λ k. IsMigrateReply s (seen_in row0) (λ h. []) job from to (replies.LogFull k) (section_of first last)) (sym e) (inl (record {
@@ -229,27 +177,23 @@ module _ (rack : Rack) (names turn : List TurnName) (job from to : ℕ) (row0 ro
           none = λ h. refl;
           silent = silent;
           full = ap (λ f. length (f group)) (unchanged (seen_in row0) job)
-              ∙ (ap length (sym (met_log rack names turn job row0 row1 i i1 ready ready1 iready same asked told Q group row2 i2 same2 ready2 within call none_all alone all)) ∙ why);
+              ∙ (ap length (sym (met_log job ready ready1 iready same asked same2 ready2 within call back_own alone all)) ∙ why);
         }))
         full_row (cause.InUse n) why (replies.InUse k) e = absurd (⊎_elim
             (λ (h : IsSome (column_at call.turn.old.table c).moving × (n ≡ (column_at call.turn.old.table c).home)).
             no_move (column_at call.turn.old.table c).moving
-            (ap (λ (t : Table). (column_at t c).moving) (sym (met_table rack names turn job row0 row1 i i1 ready ready1 iready same asked told Q group row2 i2 same2 ready2 within call none_all alone all s set))
+            (ap (λ (t : Table). (column_at t c).moving) (sym (met_table job ready ready1 iready same asked same2 ready2 within call back_own alone all s set))
             ∙ subst (λ logs. moving_at s logs group c ≡ None) met may.1) h.0)
             (λ (h : ((column_at call.turn.old.table c).moving ≡ None) × Contains call.turn.old.shelves.numbers shelf.number × (n ≡ shelf.number)).
             may.2 (subst (λ logs. IsUsed s logs to) (sym met)
-            (group_used rack names turn job row0 row1 i i1 ready ready1 iready same asked told Q group row2 i2 same2 ready2 within call none_all alone all s set count call.turn.call.0.arrived to
+            (group_used job ready ready1 iready same asked same2 ready2 within call back_own alone all s set count call.turn.call.0.arrived to
             (subst (λ m. Contains call.turn.old.shelves.numbers m) number h.1))))
             why.1)
         full_row _ why _ e = absurd e
 
       pub unbegun_says : (b : Bool) → b ≡ false → length names ≡ rack.groups → ((s : Setting) → IsSettingOf s rack first → MigrateChecked s (seen_in row1) from to (Ok (record { group = group; column = c; resumes = b })))
-          → (answer : Result Reply Unanswered) → HandsBack group r.cause answer → JobAlone job first last → (s : Setting) → IsSettingOf s rack first → Unbegins s job from to (unbegun_of answer) (section_of first last)
+          → (answer : Result Reply Unanswered) → HandsBack group r.cause answer → JobAlone job first last → (s : Setting) → IsSettingOf s rack first → Unbegins s job from to answer (section_of first last)
       unbegun_says true off count says answer h alone s set = absurd (cc off)
       unbegun_says false off count says (Ok reply) h alone s set = λ its.
-          let silent = back_silent rack names turn job row0 row1 i i1 ready ready1 iready same asked told Q group row2 i2 same2 ready2 within call none_all none alone in
-          (full_row s set count (says s set) alone (of_jobs job (section_of first last) its) silent r.cause call.turn.call.1 reply h, silent)
-      unbegun_says false off count says (Err unanswered.RoomFailed) h alone s set =
-          back_silent rack names turn job row0 row1 i i1 ready ready1 iready same asked told Q group row2 i2 same2 ready2 within call none_all none alone
-      unbegun_says false off count says (Err unanswered.NoMemory) h alone s set =
-          back_silent rack names turn job row0 row1 i i1 ready ready1 iready same asked told Q group row2 i2 same2 ready2 within call none_all none alone
+          (full_row s set count (says s set) alone (of_jobs job (section_of first last) its) (its_silent alone) r.cause call.turn.call.1 reply h, its_silent alone)
+      unbegun_says false off count says (Err e) h alone s set = its_silent alone

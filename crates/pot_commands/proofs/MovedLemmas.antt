@@ -1,6 +1,6 @@
 -- A `migrate` whose column moves: what its reply is, by the move that it began and by its work.
-use Rattle.std.proofs.Common.{◌≡◌, ◌≢◌, ◌<◌, ◌⊎◌, ⊎_elim, inl, inr, ℕ, zero, suc, Bool, true, false, List, [], ◌∷◌, ◌++◌, length, refl, sym, ap, subst, ◌∙◌, arith, append-nil, append_assoc}
-use Rattle.std.specs.Prelude.{nat_lt, Contains, IsSome, Result, Ok, Err, filter}
+use Rattle.std.proofs.Common.{◌≡◌, ◌≢◌, ◌⊎◌, ⊎_elim, inl, inr, ℕ, zero, suc, Bool, true, false, List, [], ◌∷◌, ◌++◌, refl, sym, ap, subst, ◌∙◌, arith, append-nil, append_assoc}
+use Rattle.std.specs.Prelude.{nat_lt, Contains, IsSome, Result, Ok, Err, MatchResult, filter}
 use mathlib.Core.Path.{fun_ext}
 use Rattle.std.proofs.lemmas.Bool.{cases_eq}
 use lib.Seq.{drop-length}
@@ -30,8 +30,8 @@ use Rattle.pot_store.proofs.WorkLemmas.{alone_parts, index_idle, row_stays, work
 use Rattle.pot_mend.specs.Moves.{EndsMove, MoveRow, seen_in}
 use Rattle.pot_mend.specs.declared.fault.MendFault.{MendFault}
 use Rattle.pot_mend.specs.declared.fault.MendFault.TheVariants as fault
-use Rattle.pot_commands.specs.Arriving.{HasBegun, move_reply}
-use Rattle.pot_commands.specs.declared.moving.Unbegun.TheVariants as unbegun
+use Rattle.pot_commands.specs.Arriving.{HasBegun, Unbegins, move_reply}
+use Rattle.pot_commands.specs.declared.arriving.Unanswered.{Unanswered}
 use Rattle.pot_commands.specs.Ends.{AllSole}
 use Rattle.pot_commands.specs.Rows.{IsMigrateReply}
 use Rattle.pot_commands.specs.Taking.{Lending, Took, AreUsed}
@@ -263,18 +263,20 @@ module _ (rack : Rack) (names turn : List TurnName) (job from to g c : ℕ) (row
             (subst (λ logs. IsSome (moving_at s logs g c)) befores here.moves) result row),
       )
 
--- A line that began no move: it is judged on all that the section has.
-pub unbegun_row : (s : Setting) (job from to : ℕ) (reply : Reply) (w : Section) → IsOfJobs job 1 w → IsMigrateReply s w.before (λ g. []) job from to reply w → IsSilent (mine job w)
-    → (h : Halves w) × IsMigrateReply s w.before h.begun job from to reply (work_of w h)
-unbegun_row s job from to reply w its row silent =
+-- The answer to a line that began no move: it is judged on all that the section has.
+pub unbegun_answer : (s : Setting) (job from to : ℕ) (answer : Result Reply Unanswered) (w : Section) → Unbegins s job from to answer w
+    → MatchResult answer (λ reply. IsOfJobs job 1 w → (h : Halves w) × IsMigrateReply s w.before h.begun job from to reply (work_of w h)) (λ e. IsSilent (mine job w))
+unbegun_answer s job from to (Err e) w silent = silent
+unbegun_answer s job from to (Ok reply) w begins = λ its.
+    let row = begins its in
     let h : Halves w = record {
       begun = λ g. [];
       worked = w.added;
       parts = λ g. refl;
       begins = λ g e (k, lt, at). absurd (omega (arith, lt));
-      no_more = λ g. ap (filter is_move_begin) (sym (own_all job (w.added g) (its.groups g)) ∙ silent.0 g);
+      no_more = λ g. ap (filter is_move_begin) (sym (own_all job (w.added g) (its.groups g)) ∙ row.1.0 g);
       in_order = λ g. tt;
     } in
     let befores : (λ g. w.before g ++ []) ≡ w.before = fun_ext (λ g. append-nil (w.before g)) in
     let whole : work_of w h ≡ w = λ i. record { before = befores i; added = w.added; index_before = w.index_before; index_added = w.index_added } in
-    (h, subst (λ x. IsMigrateReply s w.before (λ g. []) job from to reply x) (sym whole) row)
+    (h, subst (λ x. IsMigrateReply s w.before (λ g. []) job from to reply x) (sym whole) row.0)

@@ -1,9 +1,8 @@
 -- A `replace`, by how it ends.
-use Rattle.std.proofs.Common.{◌≡◌, ◌≢◌, ◌<◌, ⊎_elim, ℕ, Bool, true, false, List, [], ◌∷◌, ◌++◌, length, refl, sym, ap, subst, ◌∙◌, arith, eq-eqb}
-use Rattle.std.specs.Prelude.{Contains, Result, Ok, Err, MatchResult, OnErr, IsTrue}
-use Rattle.std.proofs.lemmas.Bool.{cases_eq}
+use Rattle.std.proofs.Common.{◌≡◌, ◌<◌, ℕ, Bool, true, List, [], ◌∷◌, ◌++◌, length, refl, sym, ap, subst, ◌∙◌}
+use Rattle.std.specs.Prelude.{Contains, Result, Ok, Err, MatchResult}
 use Rattle.pot_bytes.specs.declared.rack.Rack.{Rack}
-use Rattle.pot_outside.specs.Archives.{Meaning, IsMeant}
+use Rattle.pot_outside.specs.Archives.{Meaning}
 use Rattle.pot_outside.specs.declared.archive.Shelf.{Shelf}
 use Rattle.pot_machine.specs.declared.entry.Entry.{Entry}
 use Rattle.pot_machine.specs.declared.entry.Entry.TheVariants as entry
@@ -13,7 +12,6 @@ use Rattle.pot_machine.specs.Logs.{is_of, replayed}
 use Rattle.pot_group.specs.declared.moving.ShelfCause.{ShelfCause}
 use Rattle.pot_group.specs.declared.moving.ShelfCause.TheVariants as cause
 use Rattle.pot_group.specs.declared.moving.ShelfRefused.{ShelfRefused}
-use Rattle.pot_group.specs.Group.{GroupView}
 use Rattle.pot_group.specs.Moving.{RefusesSwap, live_in}
 use Rattle.pot_turn.specs.declared.name.TurnName.{TurnName}
 use Rattle.pot_worked.specs.Laws.{AllOf}
@@ -26,34 +24,16 @@ use Rattle.pot_shared.specs.Calls.{CallAt}
 use Rattle.pot_shared.specs.Catalogs.{IndexPasses, IsIndexReady}
 use Rattle.pot_group.specs.Calls.{SwapCall}
 use Rattle.pot_shared.specs.Ready.{AreReady, GroupPasses}
-use Rattle.pot_store.specs.Works.{Known, known, JobWorked, JobAlone, IsSettingOf, section_of}
-use Rattle.pot_store.proofs.WorkLemmas.{all_none, all_one}
+use Rattle.pot_store.specs.Works.{Known, known, JobAlone, IsSettingOf, section_of}
 use Rattle.pot_mend.specs.Moves.{IsAsked, ReplaceChecked, seen_in}
 use Rattle.pot_mend.specs.declared.checking.UseFault.{UseFault}
 use Rattle.pot_mend.specs.declared.checking.UseFault.TheVariants as used
 use Rattle.pot_commands.specs.declared.arriving.Unanswered.{Unanswered}
-use Rattle.pot_commands.specs.declared.arriving.Unanswered.TheVariants as unanswered
 use Rattle.pot_commands.specs.Arriving.{HandsBack, use_reply}
 use Rattle.pot_commands.specs.Rows.{IsReplaceReply}
-use Rattle.pot_commands.specs.Taking.{Lending, Took, AreUsed}
-use Rattle.pot_commands.proofs.ArrivingLemmas.{back_silent, back_took, back_used, came_took, came_used, checked_silent, group_used, logs_met, met_log, met_logs, met_table, its_first, of_jobs, only_here, own_here, whole_work}
+use Rattle.pot_commands.proofs.ArrivingLemmas.{back_all, back_silent, came_all, checked_silent, group_used, logs_met, met_log, met_logs, met_table, its_first, of_jobs, only_here, own_here}
 
--- THE ROOM
-
--- a number that was home and is home, beside which nothing changed
-pub same_out : (out now : ℕ → Bool) (to : ℕ) → out to ≡ false → now to ≡ false → ((n : ℕ) → n ≢ to → now n ≡ out n) → (n : ℕ) → now n ≡ out n
-same_out out now to was is others n = ⊎_elim
-    (λ (e : n ≡ to). subst (λ k. now k ≡ out k) (sym e) (is ∙ sym was))
-    (λ (ne : n ≢ to). others n ne)
-    (cases_eq n to)
-
-pub same_means : (means now : ℕ → Meaning) (to : ℕ) → now to ≡ means to → ((n : ℕ) → n ≢ to → now n ≡ means n) → (n : ℕ) → now n ≡ means n
-same_means means now to is others n = ⊎_elim
-    (λ (e : n ≡ to). subst (λ k. now k ≡ means k) (sym e) is)
-    (λ (ne : n ≢ to). others n ne)
-    (cases_eq n to)
-
-module _ (rack : Rack) (names turn : List TurnName) (job from to : ℕ) (row0 row1 : GroupPasses) (i i1 : IndexPasses) (ready : AreReady rack names row0) (ready1 : AreReady rack names row1)
+module _ {rack : Rack} {names turn : List TurnName} (job from to : ℕ) {row0 row1 : GroupPasses} {i i1 : IndexPasses} (ready : AreReady rack names row0) (ready1 : AreReady rack names row1)
     (iready : IsIndexReady rack names turn i) (same : i1 ≡ i) (asked : IsAsked row0 row1) where
   abbrev first : Known
   first = known row0 i
@@ -69,44 +49,27 @@ module _ (rack : Rack) (names turn : List TurnName) (job from to : ℕ) (row0 ro
   pub refused_says : (fault : UseFault) (reply : Reply) → reply ≡ use_reply fault → ((s : Setting) → IsSettingOf s rack first → ReplaceChecked s (seen_in row1) from to (Err fault)) → JobAlone job first (known row1 i1) → (s : Setting) → IsSettingOf s rack first
       → IsOfJobs job 1 (section_of first (known row1 i1)) → IsReplaceReply s job from to reply (mine job (section_of first (known row1 i1)))
   refused_says fault reply is says alone s set its =
-      subst (λ r. IsReplaceReply s job from to r (mine job (section_of first (known row1 i1)))) (sym is) (refused_row s fault (met_logs rack names turn job row0 row1 i i1 ready ready1 iready same asked alone (of_jobs job (section_of first (known row1 i1)) its))
-      (checked_silent rack names turn job row0 row1 i i1 ready ready1 iready same asked alone) (says s set))
+      subst (λ r. IsReplaceReply s job from to r (mine job (section_of first (known row1 i1)))) (sym is) (refused_row s fault (met_logs job ready ready1 iready same asked alone (of_jobs job (section_of first (known row1 i1)) its))
+      (checked_silent job ready ready1 iready same asked alone) (says s set))
 
   -- A CALL OF THE GROUP
-  module _ {A : Type 0} (told : Type 0) (meaning : A → Meaning) (group c : ℕ) (shelf : Shelf A) (number : shelf.number ≡ to) (row2 : GroupPasses) (i2 : IndexPasses) (same2 : i2 ≡ i1) (ready2 : AreReady rack names row2)
+  module _ {A : Type 0} (told : Type 0) (meaning : A → Meaning) (group c : ℕ) (shelf : Shelf A) (number : shelf.number ≡ to) {row2 : GroupPasses} {i2 : IndexPasses} (same2 : i2 ≡ i1) (ready2 : AreReady rack names row2)
       (within : group < length names) where
     abbrev last : Known
     last = known row2 i2
 
     -- IT CAME
     module _ (slots : ℕ) (call : CallAt told (SwapCall told meaning job c shelf (Ok slots)) group row1 row2) where
-      abbrev R : GroupView → GroupView → List Entry → Type 0
-      R = SwapCall told meaning job c shelf (Ok slots)
-
-      swap_all : AllOf (is_of job) call.turn.entries
-      swap_all = subst (λ es. AllOf (is_of job) es) (sym call.turn.call.0.entries_are) (all_one (is_of job) (entry.Swapped job c shelf.number) (eq-eqb job job refl))
-
-      pub swap_work : JobWorked job first last
-      swap_work = whole_work rack names turn job row0 row1 i i1 ready ready1 iready same asked told R group row2 i2 same2 ready2 within call swap_all
-
-      pub swap_used : (out now : ℕ → Bool) → ((n : ℕ) → n ≢ to → now n ≡ out n) → AreUsed out row0 → AreUsed now row2
-      swap_used out now others used =
-          came_used rack names turn job row0 row1 i i1 ready ready1 iready same asked told R group row2 i2 same2 ready2 within call swap_all meaning (entry.Swapped job c shelf.number) shelf refl call.turn.call.0
-          out now (λ n ne. others n (λ e. ne (e ∙ sym number))) used
-
-      pub swap_took : (well : Type 0) (r r' : Lending) → r.out to ≡ false → ((n : ℕ) → n ≢ to → (r'.means n ≡ r.means n) × (r'.out n ≡ r.out n)) → r'.out to ≡ true → (told → IsMeant (r.means to) (meaning shelf.archive))
-          → Took told well (to ∷ []) r r' first last
-      swap_took well r r' home others out is = subst (λ n. Took told well (n ∷ []) r r' first last) number
-          (came_took rack names turn job row0 row1 i i1 ready ready1 iready same asked told R group row2 i2 same2 ready2 within call swap_all meaning (entry.Swapped job c shelf.number) shelf refl call.turn.call.0 well r r'
-          (subst (λ n. r.out n ≡ false) (sym number) home) (λ n ne. others n (λ e. ne (e ∙ sym number))) (subst (λ n. r'.out n ≡ true) (sym number) out) (subst (λ n. told → IsMeant (r.means n) (meaning shelf.archive)) (sym number) is))
+      came_own : AllOf (is_of job) call.turn.entries
+      came_own = came_all job ready ready1 iready same asked same2 ready2 within call call.turn.call.0 number refl refl
 
       pub swap_says : (b : Bool) → ((s : Setting) → IsSettingOf s rack first → ReplaceChecked s (seen_in row1) from to (Ok (record { group = group; column = c; resumes = b }))) → JobAlone job first last → (s : Setting)
           → IsSettingOf s rack first → IsOfJobs job 1 (section_of first last) → IsReplaceReply s job from to (replies.Replaced from to slots) (mine job (section_of first last))
       swap_says b says alone s set its =
           let all = of_jobs job (section_of first last) its in
-          let met = logs_met rack names turn job row0 row1 i i1 ready ready1 iready same asked told R group row2 i2 same2 ready2 within call swap_all alone all in
-          let table = met_table rack names turn job row0 row1 i i1 ready ready1 iready same asked told R group row2 i2 same2 ready2 within call swap_all alone all s set in
-          let began = its_first rack names turn job row0 row1 i i1 ready ready1 iready same asked told R group row2 i2 same2 ready2 within call swap_all alone all s set in
+          let met = logs_met job ready ready1 iready same asked same2 ready2 within call came_own alone all in
+          let table = met_table job ready ready1 iready same asked same2 ready2 within call came_own alone all s set in
+          let began = its_first job ready ready1 iready same asked same2 ready2 within call came_own alone all s set in
           let row = says s set in (
             refl,
             refl,
@@ -115,9 +78,9 @@ module _ (rack : Rack) (names turn : List TurnName) (job from to : ℕ) (row0 ro
               column = c;
               home = subst (λ logs. HasHome s logs from group c) met row.1;
               free = subst (λ logs. IsUsed s logs to → ⊥) met row.2;
-              own_is = own_here rack names turn job row0 row1 i i1 ready ready1 iready same asked told R group row2 i2 same2 ready2 within call swap_all alone
+              own_is = own_here job ready ready1 iready same asked same2 ready2 within call came_own alone
                   ∙ (call.turn.call.0.entries_are ∙ ap (λ n. entry.Swapped job c n ∷ []) number);
-              only = only_here rack names turn job row0 row1 i i1 ready ready1 iready same asked told R group row2 i2 same2 ready2 within call swap_all alone;
+              only = only_here job ready ready1 iready same asked same2 ready2 within call came_own alone;
               slots_is = call.turn.call.1 ∙ (ap (λ t. live_in t c) (sym table)
                   ∙ ap (λ n. count n (λ k. is_live (slot_at (replayed (s.first group) (seen_in row0 group)) k c))) (ap (λ (t : Table). t.stripes) table ∙ (call.turn.settled_old.sizes.2 ∙ ap (λ (t : Table). t.stripes) (sym began))));
             },
@@ -125,25 +88,11 @@ module _ (rack : Rack) (names turn : List TurnName) (job from to : ℕ) (row0 ro
 
     -- IT WAS HANDED BACK
     module _ (r : ShelfRefused A) (call : CallAt told (SwapCall told meaning job c shelf (Err r)) group row1 row2) where
-      abbrev Q : GroupView → GroupView → List Entry → Type 0
-      Q = SwapCall told meaning job c shelf (Err r)
+      back_own : AllOf (is_of job) call.turn.entries
+      back_own = back_all job ready ready1 iready same asked same2 ready2 within call call.turn.call.0.entries_are
 
-      none : call.turn.entries ≡ []
-      none = call.turn.call.0.entries_are
-
-      none_all : AllOf (is_of job) call.turn.entries
-      none_all = subst (λ es. AllOf (is_of job) es) (sym none) (all_none (is_of job))
-
-      pub refused_work : JobWorked job first last
-      refused_work = whole_work rack names turn job row0 row1 i i1 ready ready1 iready same asked told Q group row2 i2 same2 ready2 within call none_all
-
-      pub refused_used : (out now : ℕ → Bool) → ((n : ℕ) → now n ≡ out n) → AreUsed out row0 → AreUsed now row2
-      refused_used out now lends used = back_used rack names turn job row0 row1 i i1 ready ready1 iready same asked told Q group row2 i2 same2 ready2 within call none_all none out now lends used
-
-      pub refused_took : (well : Type 0) (l l' : Lending) → l.out to ≡ false → ((n : ℕ) → n ≢ to → (l'.means n ≡ l.means n) × (l'.out n ≡ l.out n)) → l'.out to ≡ false
-          → (told → well → IsMeant (l.means to) (l'.means to)) → Took told well (to ∷ []) l l' first last
-      refused_took well l l' home others out still =
-          back_took rack names turn job row0 row1 i i1 ready ready1 iready same asked told Q group row2 i2 same2 ready2 within call none_all none well to l l' home others out still
+      its_silent : JobAlone job first last → IsSilent (mine job (section_of first last))
+      its_silent = back_silent job ready ready1 iready same asked same2 ready2 within call call.turn.call.0.entries_are
 
       full_row : (b : Bool) (s : Setting) → IsSettingOf s rack first → length names ≡ rack.groups → ReplaceChecked s (seen_in row1) from to (Ok (record { group = group; column = c; resumes = b })) → JobAlone job first last
           → ((g : ℕ) (x y : List Entry) (e : Entry) → (section_of first last).added g ≡ x ++ e ∷ y → is_of job e ≡ true) → IsSilent (mine job (section_of first last)) → (why : ShelfCause) → RefusesSwap call.turn.old shelf.number why
@@ -153,25 +102,23 @@ module _ (rack : Rack) (names turn : List TurnName) (job from to : ℕ) (row0 ro
         home = subst (λ logs. HasHome s logs from group c) met row.1;
         free = subst (λ logs. IsUsed s logs to → ⊥) met row.2;
         silent = silent;
-        full = ap length (sym (met_log rack names turn job row0 row1 i i1 ready ready1 iready same asked told Q group row2 i2 same2 ready2 within call none_all alone all)) ∙ why;
+        full = ap length (sym (met_log job ready ready1 iready same asked same2 ready2 within call back_own alone all)) ∙ why;
       })
         where
           met : seen_in row1 ≡ seen_in row0
-          met = logs_met rack names turn job row0 row1 i i1 ready ready1 iready same asked told Q group row2 i2 same2 ready2 within call none_all alone all
+          met = logs_met job ready ready1 iready same asked same2 ready2 within call back_own alone all
       full_row b s set count row alone all silent (cause.InUse n) why (replies.InUse k) e =
           absurd (row.2 (subst (λ logs. IsUsed s logs to) (sym met)
-          (group_used rack names turn job row0 row1 i i1 ready ready1 iready same asked told Q group row2 i2 same2 ready2 within call none_all alone all s set count call.turn.call.0.arrived to
+          (group_used job ready ready1 iready same asked same2 ready2 within call back_own alone all s set count call.turn.call.0.arrived to
           (subst (λ k. Contains call.turn.old.shelves.numbers k) number why.1))))
         where
           met : seen_in row1 ≡ seen_in row0
-          met = logs_met rack names turn job row0 row1 i i1 ready ready1 iready same asked told Q group row2 i2 same2 ready2 within call none_all alone all
+          met = logs_met job ready ready1 iready same asked same2 ready2 within call back_own alone all
       full_row b s set count row alone all silent _ why _ e = absurd e
 
       pub refused_ends : (b : Bool) → length names ≡ rack.groups → ((s : Setting) → IsSettingOf s rack first → ReplaceChecked s (seen_in row1) from to (Ok (record { group = group; column = c; resumes = b })))
           → (result : Result Reply Unanswered) → HandsBack group r.cause result → JobAlone job first last → (s : Setting) → IsSettingOf s rack first
           → MatchResult result (λ reply. IsOfJobs job 1 (section_of first last) → IsReplaceReply s job from to reply (mine job (section_of first last))) (λ e. IsSilent (mine job (section_of first last)))
       refused_ends b count says (Ok reply) e alone s set = λ its.
-          full_row b s set count (says s set) alone (of_jobs job (section_of first last) its)
-          (back_silent rack names turn job row0 row1 i i1 ready ready1 iready same asked told Q group row2 i2 same2 ready2 within call none_all none alone) r.cause call.turn.call.1 reply e
-      refused_ends b count says (Err f) e alone s set =
-          back_silent rack names turn job row0 row1 i i1 ready ready1 iready same asked told Q group row2 i2 same2 ready2 within call none_all none alone
+          full_row b s set count (says s set) alone (of_jobs job (section_of first last) its) (its_silent alone) r.cause call.turn.call.1 reply e
+      refused_ends b count says (Err f) e alone s set = its_silent alone

@@ -18,8 +18,8 @@ use Rattle.pot_shared.specs.Ready.{GroupPasses, AreReady}
 use Rattle.pot_shared.specs.Catalogs.{IndexPasses, IsIndexReady}
 use Rattle.pot_store.specs.Works.{Known, known, JobWorked}
 use Rattle.pot_commands.specs.Rows.{HasFilled}
+use Rattle.pot_commands.specs.declared.working.Ending.{Ending}
 use Rattle.pot_commands.specs.declared.working.Ending.TheVariants as ending
-use Rattle.pot_commands.specs.declared.working.Stopped.TheVariants as stopped
 use Rattle.pot_commands.specs.Ones.{Gives, Leaves, OneEnds}
 use Rattle.pot_commands.specs.Ends.{texts_of, any_refusal, AllStay, AllWent, AreReplied, Ends}
 use Rattle.pot_commands.specs.Holding.{times}
@@ -153,9 +153,19 @@ module _ (told tells : Type 0) (rack : Rack) (seed : List ℕ) (session : ℕ) (
     written = λ t. writes t ∙ (ap (λ l. l ++ texts_of its) (so.written t) ∙ (append_assoc before (texts_of so.replies) (texts_of its) ∙ ap (λ l. before ++ l) (sym (texts_append so.replies its))));
   }
 
-  pub working_cut : (after : List ℕ) → OneEnds rack seed session (n + 1) c mid new told now after (Err stopped.SinkFailed)
-      → Ends rack seed session told before after cs old new ending.SinkFailed
-  working_cut after (its, gives, writes) = record {
+  left_short : (after : List ℕ) → Leaves rack seed session (n + 1) c mid new → (told → after ≡ now) → Ends rack seed session told before after cs old new ending.NoMemory
+  left_short after leaves writes = record {
+    first = take n cs;
+    next = c;
+    rest = drop (suc n) cs;
+    parts = whole;
+    replies = so.replies;
+    replied = left_on rack seed session (take n cs) so.replies c old mid new so.went so.stays so.replied its_worked (subst (λ j. Leaves rack seed session j c mid new) number leaves);
+    written = λ t. writes t ∙ so.written t;
+  }
+
+  pub working_ends : (after : List ℕ) (end : Ending) → OneEnds rack seed session (n + 1) c mid new told now after (Err end) → Ends rack seed session told before after cs old new end
+  working_ends after ending.SinkFailed (its, gives, writes) = record {
     first = take n cs;
     next = c;
     rest = drop (suc n) cs;
@@ -171,25 +181,9 @@ module _ (told tells : Type 0) (rack : Rack) (seed : List ℕ) (session : ℕ) (
       cut.2 ∙ (ap (λ l. l ++ take cut.0 (texts_of its)) (so.written t) ∙ append_assoc before (texts_of so.replies) (take cut.0 (texts_of its))),
     );
   }
-
-  left_short : (after : List ℕ) → Leaves rack seed session (n + 1) c mid new → (told → after ≡ now) → Ends rack seed session told before after cs old new ending.NoMemory
-  left_short after leaves writes = record {
-    first = take n cs;
-    next = c;
-    rest = drop (suc n) cs;
-    parts = whole;
-    replies = so.replies;
-    replied = left_on rack seed session (take n cs) so.replies c old mid new so.went so.stays so.replied its_worked (subst (λ j. Leaves rack seed session j c mid new) number leaves);
-    written = λ t. writes t ∙ so.written t;
-  }
-
-  pub working_short : (after : List ℕ) → OneEnds rack seed session (n + 1) c mid new told now after (Err stopped.NoMemory)
-      → Ends rack seed session told before after cs old new ending.NoMemory
-  working_short after (leaves, writes) = left_short after leaves writes
-
-  pub working_failed : (after : List ℕ) → OneEnds rack seed session (n + 1) c mid new told now after (Err stopped.RoomFailed)
-      → Ends rack seed session told before after cs old new ending.RoomFailed
-  working_failed after (leaves, writes) = left_short after leaves writes
+  working_ends after ending.RoomFailed (leaves, writes) = left_short after leaves writes
+  working_ends after ending.NoMemory (leaves, writes) = left_short after leaves writes
+  working_ends after (ending.Done refused) none = absurd none
 
 -- all commands were worked
 pub all_took : (told tells well : Type 0) (rack : Rack) (seed : List ℕ) (session : ℕ) (before now : List ℕ) (cs : List Command) (n : ℕ) (refused : Bool) (lent lends : Lending) (old new : Known)

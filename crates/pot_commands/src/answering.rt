@@ -244,10 +244,7 @@ pub fn answer<R: Room, X: Wait>(
             let Ok(mut replies) = Vec::with_capacity(alloc, 1) else {
                 return Err(Unanswered::NoMemory);
             };
-            let reply = match replace_archive(rt, vault, passes, job, *from, *to, room) {
-                Ok(reply) => reply,
-                Err(unanswered) => return Err(unanswered),
-            };
+            let reply = replace_archive(rt, vault, passes, job, *from, *to, room)?;
             replies.push_reserved(reply);
             Ok(replies)
         }
@@ -255,10 +252,7 @@ pub fn answer<R: Room, X: Wait>(
             let Ok(mut replies) = Vec::with_capacity(alloc, 1) else {
                 return Err(Unanswered::NoMemory);
             };
-            let reply = match migrate_archive(rt, vault, passes, job, *from, *to, room) {
-                Ok(reply) => reply,
-                Err(unanswered) => return Err(unanswered),
-            };
+            let reply = migrate_archive(rt, vault, passes, job, *from, *to, room)?;
             replies.push_reserved(reply);
             Ok(replies)
         }

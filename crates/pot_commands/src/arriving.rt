@@ -1,5 +1,5 @@
 //! Archives that come from the room for a command.
-ghost use Rattle.std.specs.Prelude.{◌≡◌, ◌<◌, ◌≢◌, ℕ, [], ◌∷◌, Err, IsTrue, IsErrOf, MatchResult, true, false, length};
+ghost use Rattle.std.specs.Prelude.{◌≡◌, ◌<◌, ◌≢◌, ℕ, [], ◌∷◌, Err, IfOk, IsTrue, IsErrOf, OnErr, OnOk, MatchResult, true, false, length};
 ghost use Rattle.pot_outside.specs.Archives.{IsMeant};
 ghost use Rattle.pot_outside.specs.Counts.{Caused};
 ghost use Rattle.pot_replies.specs.Settings.{Setting};
@@ -57,15 +57,7 @@ pub fn replace_archive<R: Room, X: Wait>(
         Ok(at) => at,
         Err(fault) => return Ok(use_reply(fault)),
     };
-    let archive = match room.take(to) {
-        Ok(archive) => archive,
-        Err(RoomFault::Failed) => return Err(Unanswered::RoomFailed),
-        Err(RoomFault::NoMemory) => return Err(Unanswered::NoMemory),
-    };
-    let shelf = Shelf {
-        number: to,
-        archive,
-    };
+    let shelf = take_shelf(room, to)?;
     match vault.swap(rt, passes, at.group, job, at.column, shelf) {
         Ok(slots) => Ok(Reply::Replaced { from, to, slots }),
         Err(refused) => hand_back(room, at.group, refused),
@@ -79,6 +71,26 @@ pub(crate) fn use_reply(fault: UseFault) -> Reply
     match fault {
         UseFault::NoSuchArchive { number } => Reply::NoArchive { number },
         UseFault::InUse { number } => Reply::InUse { number },
+    }
+}
+
+/// Takes the archive of a number from the room as a shelf.
+///
+/// # Errors
+/// `RoomFailed` only where the room's count of faults rose, or `NoMemory`. The room then lends and means what it did.
+pub(crate) fn take_shelf<R: Room>(room: &mut R, number: u32) -> Result<Shelf<R::A>, Unanswered>
+    requires home { R.out room.old number ≡ false }
+    ensures number { IfOk result (λ shelf. shelf.number ≡ number) }
+    ensures told { IfOk result (λ shelf. IsTrue R.A.account.tells → IsMeant (R.means room.old number) (R.A.account.meaning shelf.archive)) }
+    ensures taken { OnOk result (R.out room.new number ≡ true) }
+    ensures stays { OnErr result ((n : ℕ) → (R.means room.new n ≡ R.means room.old n) × (R.out room.new n ≡ R.out room.old n)) }
+    ensures others { (n : ℕ) → n ≢ number → (R.means room.new n ≡ R.means room.old n) × (R.out room.new n ≡ R.out room.old n) }
+    ensures cause { Caused (R.faults room.old) (R.faults room.new) (IsErrOf result Unanswered.RoomFailed) }
+{
+    match room.take(number) {
+        Ok(archive) => Ok(Shelf { number, archive }),
+        Err(RoomFault::Failed) => Err(Unanswered::RoomFailed),
+        Err(RoomFault::NoMemory) => Err(Unanswered::NoMemory),
     }
 }
 

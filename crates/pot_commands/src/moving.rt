@@ -6,26 +6,16 @@ ghost use Rattle.pot_replies.specs.Sections.{mine, work_of, Halves, IsOfJobs, Is
 ghost use Rattle.pot_shared.specs.Ready.{AreReady};
 ghost use Rattle.pot_shared.specs.Catalogs.{IsIndexReady};
 ghost use Rattle.pot_store.specs.Works.{JobWorked, JobAlone, IsSettingOf, known, section_of};
-ghost use Rattle.pot_commands.specs.Arriving.{HasBegun, Unbegins, move_reply, unbegun_of};
+ghost use Rattle.pot_commands.specs.Arriving.{HasBegun, Unbegins, move_reply};
 ghost use Rattle.pot_commands.specs.Rows.{IsMigrateReply};
 ghost use Rattle.pot_commands.specs.Taking.{AreUsed, Took, lending};
 
-use crate::arriving::{Unanswered, hand_back, use_reply};
+use crate::arriving::{Unanswered, hand_back, take_shelf, use_reply};
 use pot_mend::{MendFault, MoveAt, check_migrate, migrate};
-use pot_outside::{Room, RoomFault, Shelf};
+use pot_outside::Room;
 use pot_script::Reply;
 use pot_shared::{Passes, Vault};
 use std::sync::Wait;
-
-/// Why a move did not begin.
-#[derive(Drop)]
-enum Unbegun {
-    /// It can't, and this is the reply.
-    Answered { reply: Reply },
-    /// The room did not give the archive, or did not take it back.
-    RoomFailed,
-    NoMemory,
-}
 
 /// Moves a column from one archive to another: the column begins to move to an archive that is taken from the room, unless it moves there
 /// already, and then moves to its end. A shelf that the group refuses is given back to the room at once.
@@ -56,9 +46,7 @@ pub fn migrate_archive<R: Room, X: Wait>(
 {
     let at = match begin_move(rt, vault, passes, job, from, to, room) {
         Ok(at) => at,
-        Err(Unbegun::Answered { reply }) => return Ok(reply),
-        Err(Unbegun::RoomFailed) => return Err(Unanswered::RoomFailed),
-        Err(Unbegun::NoMemory) => return Err(Unanswered::NoMemory),
+        Err(answer) => return answer,
     };
     let moved = migrate(rt, vault, passes, at.group, job, at.column);
     Ok(move_reply(from, to, moved))
@@ -67,7 +55,7 @@ pub fn migrate_archive<R: Room, X: Wait>(
 /// Lets a column begin to move to an archive that is taken from the room, unless it moves there already.
 ///
 /// # Errors
-/// As `Unbegun` says. Nothing was logged then.
+/// The answer to the line, where no move began. Nothing was logged then.
 fn begin_move<R: Room, X: Wait>(
     rt: &X,
     vault: &Vault<R::A>,
@@ -76,7 +64,7 @@ fn begin_move<R: Room, X: Wait>(
     from: u32,
     to: u32,
     room: &mut R,
-) -> Result<MoveAt, Unbegun>
+) -> Result<MoveAt, Result<Reply, Unanswered>>
     requires ready { AreReady vault.now.rack vault.now.groups passes.old.groups }
     requires index { IsIndexReady vault.now.rack vault.now.groups vault.now.index passes.old.index }
     requires count { length vault.now.groups ≡ vault.now.rack.groups }
@@ -88,43 +76,23 @@ fn begin_move<R: Room, X: Wait>(
     ensures place { IfOk result (λ at. (at.group < length vault.now.groups) × (at.column < vault.now.rack.columns + vault.now.rack.parity)) }
     ensures says { JobAlone job (known passes.old.groups passes.old.index) (known passes.new.groups passes.new.index) → (s : Setting) → IsSettingOf s vault.now.rack (known passes.old.groups passes.old.index) → let w = section_of (known passes.old.groups passes.old.index) (known passes.new.groups passes.new.index) in MatchResult result (λ at. IsOfJobs job 1 w → HasBegun s job from to at.group at.column w) (λ e. Unbegins s job from to e w) }
     ensures used { AreUsed (R.out room.new) passes.new.groups }
-    ensures took { Took (IsTrue R.A.account.tells) (result ≢ Err Unbegun.RoomFailed) (to ∷ []) (lending (R.out room.old) (R.means room.old)) (lending (R.out room.new) (R.means room.new)) (known passes.old.groups passes.old.index) (known passes.new.groups passes.new.index) }
-    ensures cause { Caused (R.faults room.old) (R.faults room.new) (IsErrOf result Unbegun.RoomFailed) }
+    ensures took { Took (IsTrue R.A.account.tells) (result ≢ Err (Err Unanswered.RoomFailed)) (to ∷ []) (lending (R.out room.old) (R.means room.old)) (lending (R.out room.new) (R.means room.new)) (known passes.old.groups passes.old.index) (known passes.new.groups passes.new.index) }
+    ensures cause { Caused (R.faults room.old) (R.faults room.new) (IsErrOf result (Err Unanswered.RoomFailed)) }
 {
     let at = match check_migrate(rt, vault, passes, from, to) {
         Ok(at) => at,
-        Err(fault) => {
-            return Err(Unbegun::Answered {
-                reply: use_reply(fault),
-            });
-        }
+        Err(fault) => return Err(Ok(use_reply(fault))),
     };
     if at.resumes {
         return Ok(at);
     }
-    let archive = match room.take(to) {
-        Ok(archive) => archive,
-        Err(RoomFault::Failed) => return Err(Unbegun::RoomFailed),
-        Err(RoomFault::NoMemory) => return Err(Unbegun::NoMemory),
-    };
-    let shelf = Shelf {
-        number: to,
-        archive,
+    let shelf = match take_shelf(room, to) {
+        Ok(shelf) => shelf,
+        Err(unanswered) => return Err(Err(unanswered)),
     };
     match vault.move_begin(rt, passes, at.group, job, at.column, shelf) {
         Ok(()) => Ok(at),
-        Err(refused) => Err(unbegun_of(hand_back(room, at.group, refused))),
-    }
-}
-
-/// The end of a line that began no move, by what was answered for its archive.
-fn unbegun_of(answer: Result<Reply, Unanswered>) -> Unbegun
-    ensures { result ≡ unbegun_of answer }
-{
-    match answer {
-        Ok(reply) => Unbegun::Answered { reply },
-        Err(Unanswered::RoomFailed) => Unbegun::RoomFailed,
-        Err(Unanswered::NoMemory) => Unbegun::NoMemory,
+        Err(refused) => Err(hand_back(room, at.group, refused)),
     }
 }
 

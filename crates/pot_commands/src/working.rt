@@ -33,15 +33,7 @@ pub enum Ending {
     NoMemory,
 }
 
-/// Why a command's replies are not written.
-#[derive(Clone, Copy, PartialEq, Eq, Debug)]
-enum Stopped {
-    SinkFailed,
-    RoomFailed,
-    NoMemory,
-}
-
-/// Works a command, and then writes its replies. It answers whether one of them is a refusal.
+/// Works a command, and then writes its replies. It answers whether one of them is a refusal, or how the commands end at it.
 fn work_one<K: Sink, R: Room, X: Wait>(
     rt: &X,
     alloc: Global,
@@ -53,7 +45,7 @@ fn work_one<K: Sink, R: Room, X: Wait>(
     command: &Command,
     sink: &mut K,
     room: &mut R,
-) -> Result<bool, Stopped>
+) -> Result<bool, Ending>
     requires ready { AreReady vault.now.rack vault.now.groups passes.old.groups }
     requires index { IsIndexReady vault.now.rack vault.now.groups vault.now.index passes.old.index }
     requires parts { HasMoreParts 1 passes.old.groups }
@@ -69,23 +61,23 @@ fn work_one<K: Sink, R: Room, X: Wait>(
     ensures worked { JobWorked job (known passes.old.groups passes.old.index) (known passes.new.groups passes.new.index) }
     ensures ends { OneEnds vault.now.rack seed.now session job command.now (known passes.old.groups passes.old.index) (known passes.new.groups passes.new.index) (IsTrue K.tells) (K.written sink.old) (K.written sink.new) result }
     ensures used { AreUsed (R.out room.new) passes.new.groups }
-    ensures took { Took (IsTrue R.A.account.tells) (result ≢ Err Stopped.RoomFailed) (asks command.now) (lending (R.out room.old) (R.means room.old)) (lending (R.out room.new) (R.means room.new)) (known passes.old.groups passes.old.index) (known passes.new.groups passes.new.index) }
-    ensures sink { Caused (K.faults sink.old) (K.faults sink.new) (IsErrOf result Stopped.SinkFailed) }
-    ensures room { Caused (R.faults room.old) (R.faults room.new) (IsErrOf result Stopped.RoomFailed) }
+    ensures took { Took (IsTrue R.A.account.tells) (result ≢ Err Ending.RoomFailed) (asks command.now) (lending (R.out room.old) (R.means room.old)) (lending (R.out room.new) (R.means room.new)) (known passes.old.groups passes.old.index) (known passes.new.groups passes.new.index) }
+    ensures sink { Caused (K.faults sink.old) (K.faults sink.new) (IsErrOf result Ending.SinkFailed) }
+    ensures room { Caused (R.faults room.old) (R.faults room.new) (IsErrOf result Ending.RoomFailed) }
 {
     let answered = answer(rt, alloc, vault, passes, seed, session, job, command, room);
     let replies = match answered {
         Ok(replies) => replies,
-        Err(Unanswered::RoomFailed) => return Err(Stopped::RoomFailed),
-        Err(Unanswered::NoMemory) => return Err(Stopped::NoMemory),
+        Err(Unanswered::RoomFailed) => return Err(Ending::RoomFailed),
+        Err(Unanswered::NoMemory) => return Err(Ending::NoMemory),
     };
     let text = match print_replies(alloc, &replies) {
         Ok(text) => text,
-        Err(NoMemory) => return Err(Stopped::NoMemory),
+        Err(NoMemory) => return Err(Ending::NoMemory),
     };
     match write_out(sink, &text) {
         Ok(()) => Ok(has_refusal(&replies)),
-        Err(Failed) => Err(Stopped::SinkFailed),
+        Err(Failed) => Err(Ending::SinkFailed),
     }
 }
 
@@ -129,9 +121,7 @@ pub fn work<K: Sink, R: Room, X: Wait>(
             rt, alloc, vault, passes, seed, session, job, command, sink, room,
         ) {
             Ok(some) => refused |= some,
-            Err(Stopped::SinkFailed) => return Ending::SinkFailed,
-            Err(Stopped::RoomFailed) => return Ending::RoomFailed,
-            Err(Stopped::NoMemory) => return Ending::NoMemory,
+            Err(ending) => return ending,
         }
     }
     Ending::Done { refused }

@@ -18,11 +18,11 @@ pub returns-in_default-with_capacity-2-clause-took : goal.returns-in_default-wit
 returns-in_default-with_capacity-2-clause-took g c =
     took_none _ _ (asks c.args.command.now) _ _ _ _ (λ n. refl) (λ n. refl) (λ sole h. ap (λ ls. arrivals (entries_of ls)) (drop-length (view_at c.args.passes.now.groups h).seen))
 
-pub returns-in-Ok-migrate_archive-clause-says : goal.returns-in-Ok-migrate_archive-clause-says
-returns-in-Ok-migrate_archive-clause-says g c alone s set =
-    migrate_replies s c.args.job c.args.command.now c.in-Migrate.from c.in-Migrate.to c.in-Ok-migrate_archive.reply c.push_reserved-in-Migrate.new.self.items
+pub returns-in_ok-reply-in-Migrate-clause-says : goal.returns-in_ok-reply-in-Migrate-clause-says
+returns-in_ok-reply-in-Migrate-clause-says g c alone s set =
+    migrate_replies s c.args.job c.args.command.now c.in-Migrate.from c.in-Migrate.to c.in_ok-reply-in-Migrate.reply c.push_reserved-in-Migrate.new.self.items
     (section_of (known c.args.passes.now.groups c.args.passes.now.index) (known c.migrate_archive.new.passes.groups c.migrate_archive.new.passes.index)) c.in-Migrate.is
-    (c.push_reserved-in-Migrate.ensures.items ∙ ap (λ l. l ++ c.in-Ok-migrate_archive.reply ∷ []) c.in-Ok-with_capacity.ensures.items) (c.in-Ok-migrate_archive.ensures.says alone s set.setting)
+    (c.push_reserved-in-Migrate.ensures.items ∙ ap (λ l. l ++ c.in_ok-reply-in-Migrate.reply ∷ []) c.in-Ok-with_capacity.ensures.items) (c.in_ok-reply-in-Migrate.ensures.says alone s set.setting)
 
 pub returns-in-Ok-answer_plain : goal.returns-in-Ok-answer_plain
 returns-in-Ok-answer_plain g c =
@@ -39,13 +39,13 @@ returns-in-Ok-answer_plain g c =
       cause = record { later = omega arith; rose = λ e. absurd (cc) };
     }
 
-pub returns-in-Err-answer_plain : goal.returns-in-Err-answer_plain
-returns-in-Err-answer_plain g c =
+pub returns-in-Err : goal.returns-in-Err
+returns-in-Err g c =
     record {
       ready = c.answer_plain.ensures.ready;
       index = c.answer_plain.ensures.index;
       worked = c.answer_plain.ensures.worked;
-      says = c.in-Err-answer_plain.ensures.says;
+      says = c.in-Err.ensures.says;
       used = used_more c.args.job (g.R.Room.out c.args.room.now) (g.R.Room.out c.args.room.now) c.args.passes.now.groups c.answer_plain.new.passes.groups c.answer_plain.ensures.worked.groups
           (c.answer_plain.ensures.ready.of.0 ∙ sym c.requires.ready.of.0) (λ n. refl) c.requires.used;
       took = took_none _ _ (asks c.args.command.now) _ _ _ _ (λ n. refl) (λ n. refl)

@@ -1,16 +1,18 @@
-use Rattle.std.proofs.Common.{◌≡◌, [], ◌∷◌, refl, sym, ap, subst, ◌∙◌, IsTrue}
+use Rattle.std.proofs.Common.{refl, sym, subst, arith}
 use Rattle.pot_replies.specs.Sections.{Halves, work_of}
 use Rattle.pot_store.specs.Works.{known, section_of}
-use Rattle.pot_commands.specs.Arriving.{Unbegins}
 use Rattle.pot_commands.specs.Rows.{IsMigrateReply}
-use Rattle.pot_commands.proofs.MovedLemmas.{both_says, both_took, both_used, both_work, unbegun_row}
+use Rattle.pot_commands.proofs.MovedLemmas.{both_says, both_took, both_used, both_work, unbegun_answer}
+use Rattle.pot_commands.proofs.TakingLemmas.{took_wider}
 use Rattle.pot_commands.proofs.moving.migrate_archive.Goals as goal
 
-pub returns-in-Err-Answered-clause-says : goal.returns-in-Err-Answered-clause-says
-returns-in-Err-Answered-clause-says g c alone s set its =
-    let w = section_of (known c.args.passes.now.groups c.args.passes.now.index) (known c.begin_move.new.passes.groups c.begin_move.new.passes.index) in
-    let u = subst (λ e. Unbegins s c.args.job c.args.from c.args.to e w) c.in-Err-Answered.field-0-is (c.in-Err-Answered.ensures.says alone s set) its in
-    unbegun_row s c.args.job c.args.from c.args.to c.in-Err-Answered.reply w its u.0 u.1
+pub returns-in-Err-clause-says : goal.returns-in-Err-clause-says
+returns-in-Err-clause-says g c alone s set =
+    unbegun_answer s c.args.job c.args.from c.args.to c.in-Err.answer (section_of (known c.args.passes.now.groups c.args.passes.now.index) (known c.begin_move.new.passes.groups c.begin_move.new.passes.index))
+    (c.in-Err.ensures.says alone s set)
+
+pub returns-in-Err-clause-took : goal.returns-in-Err-clause-took
+returns-in-Err-clause-took g c = took_wider _ _ _ _ _ _ _ _ _ (λ n. omega arith) (λ w e. w (cc e)) c.in-Err.ensures.took
 
 pub returns-clause-worked : goal.returns-clause-worked
 returns-clause-worked g c = both_work c.args.vault.now.rack c.args.vault.now.groups c.args.vault.now.index c.args.job c.args.from c.args.to c.in-Ok.at.group c.in-Ok.at.column c.args.passes.now.groups c.begin_move.new.passes.groups c.migrate-moved.new.passes.groups

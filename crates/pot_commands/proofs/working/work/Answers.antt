@@ -1,7 +1,7 @@
-use Rattle.std.proofs.Common.{◌≡◌, length, take, ap, ◌∙◌, refl, arith}
+use Rattle.std.proofs.Common.{◌≡◌, length, take, ap, ◌∙◌, arith}
 use Rattle.std.proofs.Math.Seq.{take-length}
 use Rattle.pot_commands.specs.Taking.{lending}
-use Rattle.pot_commands.proofs.WorkingLemmas.{begins_working, all_took, ends_took, new_went, working_more, working_cut, working_failed, working_short, work_stays}
+use Rattle.pot_commands.proofs.WorkingLemmas.{begins_working, all_took, ends_took, new_went, working_ends, working_more, work_stays}
 use Rattle.pot_commands.proofs.working.work.Goals as goal
 
 pub loop-index-init : goal.loop-index-init
@@ -14,65 +14,25 @@ loop-index-init g c = record {
   later = omega arith;
 }
 
-pub returns-in-Err-SinkFailed-clause-went : goal.returns-in-Err-SinkFailed-clause-went
-returns-in-Err-SinkFailed-clause-went g c =
+pub returns-in-Err-clause-went : goal.returns-in-Err-clause-went
+returns-in-Err-clause-went g c =
     let i = c.loop-index.invariant in
     new_went _ _ _ _ _ _ _ _ _ _ _ _ (lending (g.R.Room.out c.work_one.new.room) (g.R.Room.means c.work_one.new.room)) _ _ _ i.working c.index-commands-index.result c.loop-index-test.true c.index-commands-index.is c.work_one.ensures.worked
     (work_stays c.args.vault.now.rack c.args.vault.now.groups c.args.vault.now.index _ _ _ _ _ i.ready c.work_one.ensures.ready i.index c.work_one.ensures.index c.work_one.ensures.worked)
 
-pub returns-in-Err-SinkFailed-clause-ends : goal.returns-in-Err-SinkFailed-clause-ends
-returns-in-Err-SinkFailed-clause-ends g c =
+pub returns-in-Err-clause-ends : goal.returns-in-Err-clause-ends
+returns-in-Err-clause-ends g c =
     let i = c.loop-index.invariant in
-    working_cut _ _ _ _ _ _ _ _ _ _ _ _ (lending (g.R.Room.out c.work_one.new.room) (g.R.Room.means c.work_one.new.room)) _ _ _ i.working c.index-commands-index.result c.loop-index-test.true c.index-commands-index.is c.work_one.ensures.worked
+    working_ends _ _ _ _ _ _ _ _ _ _ _ _ (lending (g.R.Room.out c.work_one.new.room) (g.R.Room.means c.work_one.new.room)) _ _ _ i.working c.index-commands-index.result c.loop-index-test.true c.index-commands-index.is c.work_one.ensures.worked
     (work_stays c.args.vault.now.rack c.args.vault.now.groups c.args.vault.now.index _ _ _ _ _ i.ready c.work_one.ensures.ready i.index c.work_one.ensures.index c.work_one.ensures.worked)
-    _ (rw c.in-Err-SinkFailed.field-0-is at c.in-Err-SinkFailed.ensures.ends)
+    _ _ c.in-Err.ensures.ends
 
-pub returns-in-Err-SinkFailed-clause-took : goal.returns-in-Err-SinkFailed-clause-took
-returns-in-Err-SinkFailed-clause-took g c =
+pub returns-in-Err-clause-took : goal.returns-in-Err-clause-took
+returns-in-Err-clause-took g c =
     let i = c.loop-index.invariant in
     ends_took _ _ _ _ _ _ _ _ _ _ _ _ (lending (g.R.Room.out c.work_one.new.room) (g.R.Room.means c.work_one.new.room)) _ _ _ i.working c.index-commands-index.result c.loop-index-test.true c.index-commands-index.is c.work_one.ensures.worked
     (work_stays c.args.vault.now.rack c.args.vault.now.groups c.args.vault.now.index _ _ _ _ _ i.ready c.work_one.ensures.ready i.index c.work_one.ensures.index c.work_one.ensures.worked)
-    _ _ (λ w e. cc) (rw c.in-Err-SinkFailed.field-0-is at c.in-Err-SinkFailed.ensures.took)
-
-pub returns-in-Err-RoomFailed-clause-went : goal.returns-in-Err-RoomFailed-clause-went
-returns-in-Err-RoomFailed-clause-went g c =
-    let i = c.loop-index.invariant in
-    new_went _ _ _ _ _ _ _ _ _ _ _ _ (lending (g.R.Room.out c.work_one.new.room) (g.R.Room.means c.work_one.new.room)) _ _ _ i.working c.index-commands-index.result c.loop-index-test.true c.index-commands-index.is c.work_one.ensures.worked
-    (work_stays c.args.vault.now.rack c.args.vault.now.groups c.args.vault.now.index _ _ _ _ _ i.ready c.work_one.ensures.ready i.index c.work_one.ensures.index c.work_one.ensures.worked)
-
-pub returns-in-Err-RoomFailed-clause-ends : goal.returns-in-Err-RoomFailed-clause-ends
-returns-in-Err-RoomFailed-clause-ends g c =
-    let i = c.loop-index.invariant in
-    working_failed _ _ _ _ _ _ _ _ _ _ _ _ (lending (g.R.Room.out c.work_one.new.room) (g.R.Room.means c.work_one.new.room)) _ _ _ i.working c.index-commands-index.result c.loop-index-test.true c.index-commands-index.is c.work_one.ensures.worked
-    (work_stays c.args.vault.now.rack c.args.vault.now.groups c.args.vault.now.index _ _ _ _ _ i.ready c.work_one.ensures.ready i.index c.work_one.ensures.index c.work_one.ensures.worked)
-    _ (rw c.in-Err-RoomFailed.field-0-is at c.in-Err-RoomFailed.ensures.ends)
-
-pub returns-in-Err-RoomFailed-clause-took : goal.returns-in-Err-RoomFailed-clause-took
-returns-in-Err-RoomFailed-clause-took g c =
-    let i = c.loop-index.invariant in
-    ends_took _ _ _ _ _ _ _ _ _ _ _ _ (lending (g.R.Room.out c.work_one.new.room) (g.R.Room.means c.work_one.new.room)) _ _ _ i.working c.index-commands-index.result c.loop-index-test.true c.index-commands-index.is c.work_one.ensures.worked
-    (work_stays c.args.vault.now.rack c.args.vault.now.groups c.args.vault.now.index _ _ _ _ _ i.ready c.work_one.ensures.ready i.index c.work_one.ensures.index c.work_one.ensures.worked)
-    _ _ (λ w e. w refl) (rw c.in-Err-RoomFailed.field-0-is at c.in-Err-RoomFailed.ensures.took)
-
-pub returns-in-Err-NoMemory-clause-went : goal.returns-in-Err-NoMemory-clause-went
-returns-in-Err-NoMemory-clause-went g c =
-    let i = c.loop-index.invariant in
-    new_went _ _ _ _ _ _ _ _ _ _ _ _ (lending (g.R.Room.out c.work_one.new.room) (g.R.Room.means c.work_one.new.room)) _ _ _ i.working c.index-commands-index.result c.loop-index-test.true c.index-commands-index.is c.work_one.ensures.worked
-    (work_stays c.args.vault.now.rack c.args.vault.now.groups c.args.vault.now.index _ _ _ _ _ i.ready c.work_one.ensures.ready i.index c.work_one.ensures.index c.work_one.ensures.worked)
-
-pub returns-in-Err-NoMemory-clause-ends : goal.returns-in-Err-NoMemory-clause-ends
-returns-in-Err-NoMemory-clause-ends g c =
-    let i = c.loop-index.invariant in
-    working_short _ _ _ _ _ _ _ _ _ _ _ _ (lending (g.R.Room.out c.work_one.new.room) (g.R.Room.means c.work_one.new.room)) _ _ _ i.working c.index-commands-index.result c.loop-index-test.true c.index-commands-index.is c.work_one.ensures.worked
-    (work_stays c.args.vault.now.rack c.args.vault.now.groups c.args.vault.now.index _ _ _ _ _ i.ready c.work_one.ensures.ready i.index c.work_one.ensures.index c.work_one.ensures.worked)
-    _ (rw c.in-Err-NoMemory.field-0-is at c.in-Err-NoMemory.ensures.ends)
-
-pub returns-in-Err-NoMemory-clause-took : goal.returns-in-Err-NoMemory-clause-took
-returns-in-Err-NoMemory-clause-took g c =
-    let i = c.loop-index.invariant in
-    ends_took _ _ _ _ _ _ _ _ _ _ _ _ (lending (g.R.Room.out c.work_one.new.room) (g.R.Room.means c.work_one.new.room)) _ _ _ i.working c.index-commands-index.result c.loop-index-test.true c.index-commands-index.is c.work_one.ensures.worked
-    (work_stays c.args.vault.now.rack c.args.vault.now.groups c.args.vault.now.index _ _ _ _ _ i.ready c.work_one.ensures.ready i.index c.work_one.ensures.index c.work_one.ensures.worked)
-    _ _ (λ w e. cc) (rw c.in-Err-NoMemory.field-0-is at c.in-Err-NoMemory.ensures.took)
+    _ _ (λ w e. w (cc e)) c.in-Err.ensures.took
 
 pub returns-clause-took : goal.returns-clause-took
 returns-clause-took g c =
