@@ -2,7 +2,7 @@
 //!
 //! Just before each store, each fetch and the opening run the digests alone that it takes, so that a change in the speed of the
 //! machine comes to both.
-ghost use Rattle.std.specs.Prelude.{◌≡◌, ◌≤◌, ◌↔◌, IsTrue, IfOk};
+ghost use Rattle.std.specs.Prelude.{◌≡◌, ◌<◌, ◌≤◌, ◌↔◌, IsTrue, IfOk};
 
 use crate::given::{FETCH, FILE, Given, STORE, by_opening};
 use crate::report::{Beside, Report};
@@ -49,31 +49,84 @@ pub fn time_sessions<R: Clock + Wait + Print + Eprint>(
     let count = (u32::from(megabytes) * 10 / 8).clamp(1, 10);
     let files = files(alloc, count)?;
     let mut sums = Vec::new(alloc);
+    let desk = time_stores(rt, alloc, &files, count, &mut sums, report, beside)?;
+    let (desk, whole) = time_fetches(rt, alloc, desk, &files, count, &mut sums, report, beside)?;
+    time_one_gone(rt, alloc, desk, &files, whole, report)?;
+    report.sum(rt, "digest_of, sessions", &sums)
+}
+
+/// A session stores the files. It prints a line.
+fn time_stores<R: Clock + Wait + Print + Eprint>(
+    rt: &R,
+    alloc: Global,
+    files: &[u8],
+    count: u32,
+    sums: &mut Vec<u8>,
+    report: &Report,
+    beside: &Beside,
+) -> io::Result<Desk> {
     let mut session = Desk::new(alloc)?.open(alloc)?;
-    let timed = store_files(rt, alloc, &mut session, &mut sums, &files)?;
+    let timed = store_files(rt, alloc, &mut session, sums, files)?;
     let desk = session.end(alloc)?;
     let given = STORE.times(count).bytes(files.len());
     report.calls(rt, "store", &timed, given, count, beside, desk.image())?;
+    Ok(desk)
+}
+
+/// A session that is opened over a desk fetches the files. It prints a line for the opening and two for the fetches, and answers how
+/// many seconds these took.
+fn time_fetches<R: Clock + Wait + Print + Eprint>(
+    rt: &R,
+    alloc: Global,
+    desk: Desk,
+    files: &[u8],
+    count: u32,
+    sums: &mut Vec<u8>,
+    report: &Report,
+    beside: &Beside,
+) -> io::Result<(Desk, f64)> {
     let given = by_opening(desk.stripes());
     let digested = given.bytes(desk.text().len());
-    let (mut session, timed) = open_desk(rt, alloc, desk, &mut sums, &given)?;
-    let fetched = fetch_files(rt, alloc, &mut session, &mut sums, &files)?;
+    let (mut session, timed) = open_desk(rt, alloc, desk, sums, &given)?;
+    let fetched = fetch_files(rt, alloc, &mut session, sums, files)?;
     let desk = session.end(alloc)?;
     report.calls(rt, "opening", &timed, digested, count, beside, desk.image())?;
-    let Fetched { timed, bytes, same } = fetched;
     let given = FETCH.times(count).bytes(files.len());
-    report.calls(rt, "fetch", &timed, given, count, beside, &bytes)?;
-    report.same(rt, same)?;
-    let gone = fetch_with_one_gone(rt, alloc, desk, &files)?;
-    let whole = timed.seconds;
+    report_fetched(rt, &fetched, given, count, report, beside)?;
+    Ok((desk, fetched.timed.seconds))
+}
+
+/// Prints a line for the fetches, and whether they gave the files.
+fn report_fetched(
+    rt: &(impl Print + Eprint),
+    fetched: &Fetched,
+    given: u32,
+    count: u32,
+    report: &Report,
+    beside: &Beside,
+) -> io::Result<()> {
+    let Fetched { timed, bytes, same } = fetched;
+    report.calls(rt, "fetch", timed, given, count, beside, bytes)?;
+    report.same(rt, *same)
+}
+
+/// A session for which an archive is gone fetches the files, which took so many seconds with all archives. It prints a line.
+fn time_one_gone<R: Clock + Wait + Print + Eprint>(
+    rt: &R,
+    alloc: Global,
+    desk: Desk,
+    files: &[u8],
+    whole: f64,
+    report: &Report,
+) -> io::Result<()> {
+    let gone = fetch_with_one_gone(rt, alloc, desk, files)?;
     report.beside(
         rt,
         "fetch, an archive gone",
         &gone.timed,
         whole,
         &gone.bytes,
-    )?;
-    report.sum(rt, "digest_of, sessions", &sums)
+    )
 }
 
 /// A session that is opened after one archive was emptied fetches the files.
@@ -173,15 +226,29 @@ fn fetch_files<R: Clock + Wait>(
     let mut job = 0u32;
     for file in files.chunks(FILE) {
         job = job.saturating_add(1);
-        let name = name_of(job)?;
         timed.digests += time_digests(rt, sums, &FETCH, file)?;
-        let begun = Instant::now(rt)?;
-        let fetched = session.fetch(rt, alloc, job, &name)?;
-        timed.seconds += begun.elapsed(rt)?.as_secs_f64();
-        bytes.extend_from_slice(&fetched)?;
+        timed.seconds += fetch_file(rt, alloc, session, job, &mut bytes)?;
     }
     let same = are_same(&bytes, files);
     Ok(Fetched { timed, bytes, same })
+}
+
+/// Fetches a file as this job, and adds its bytes. It answers how many seconds the fetch took.
+fn fetch_file<R: Clock + Wait>(
+    rt: &R,
+    alloc: Global,
+    session: &mut Session,
+    job: u32,
+    bytes: &mut Vec<u8>,
+) -> io::Result<f64>
+    requires { 0 < job }
+{
+    let name = name_of(job)?;
+    let begun = Instant::now(rt)?;
+    let fetched = session.fetch(rt, alloc, job, &name)?;
+    let seconds = begun.elapsed(rt)?.as_secs_f64();
+    bytes.extend_from_slice(&fetched)?;
+    Ok(seconds)
 }
 
 /// Whether the bytes that were fetched are those of the files.

@@ -64,12 +64,12 @@ impl Report {
         columns: u8,
         seconds: f64,
         digests: f64,
-        bytes: &[u8],
+        checksum: u64,
     ) -> io::Result<()> {
         let speed = self.rounds * f64::from(columns) / 16.0 / seconds;
         let part = digests / seconds;
         eprintln!(rt; "{name}: {speed:.0} MB/s, its digests alone take {part:.2} of that time")?;
-        println!(rt; "{name} {:016x}", checksum(bytes))
+        println!(rt; "{name} {checksum:016x}")
     }
 
     /// Prints how fast a loop was over three columns of each group, of a megabyte each, and how many times as fast as another one.
@@ -79,12 +79,12 @@ impl Report {
         name: &str,
         seconds: f64,
         other: f64,
-        bytes: &[u8],
+        checksum: u64,
     ) -> io::Result<()> {
         let speed = self.rounds * 3.0 / 16.0 / seconds;
         let times = other / seconds;
         eprintln!(rt; "{name}: {speed:.0} MB/s, {times:.2} times digest_of")?;
-        println!(rt; "{name} {:016x}", checksum(bytes))
+        println!(rt; "{name} {checksum:016x}")
     }
 
     /// Prints how fast calls of sessions were over so many files, beside two loops of the same run; how many bytes SHA-256 was given by

@@ -5,7 +5,7 @@
 
 use crate::groups::{Blocks, REPLACING, TARGET, TURNS, Trial};
 use crate::plain::shelf;
-use crate::report::Report;
+use crate::report::{Report, checksum};
 use crate::rows::SEED;
 use pot_bytes::{Block, digest_of};
 use pot_pads::PadStream;
@@ -15,24 +15,93 @@ use std::io;
 use std::rt::Clock;
 use std::time::Instant;
 
-/// How many seconds a loop took over all groups, and what it computed over the last one.
-#[derive(Drop)]
+/// How many seconds a loop took over all groups, and the checksum of what it computed over the last one.
+#[derive(Clone, Copy)]
 struct Timed {
     seconds: f64,
-    bytes: Vec<u8>,
+    checksum: u64,
 }
 
-/// No group yet.
-fn untimed(alloc: Global) -> Timed {
-    Timed {
-        seconds: 0.0,
-        bytes: Vec::new(alloc),
+impl Timed {
+    /// No group yet.
+    fn new() -> Timed {
+        Timed {
+            seconds: 0.0,
+            checksum: checksum(&[]),
+        }
+    }
+
+    /// Adds the time since the loop began.
+    fn add(&mut self, clock: &impl Clock, begun: &Instant) -> io::Result<()> {
+        self.seconds += begun.elapsed(clock)?.as_secs_f64();
+        Ok(())
+    }
+
+    /// Digests, one at a time.
+    fn digest(&mut self, clock: &impl Clock, alloc: Global, blocks: &[Block]) -> io::Result<()> {
+        let begun = Instant::now(clock)?;
+        let bytes = digests(alloc, blocks)?;
+        self.add(clock, &begun)?;
+        self.checksum = checksum(&bytes);
+        Ok(())
+    }
+
+    /// The same digests, four at a time.
+    fn digest_in_fours(
+        &mut self,
+        clock: &impl Clock,
+        alloc: Global,
+        blocks: &[Block],
+    ) -> io::Result<()> {
+        let begun = Instant::now(clock)?;
+        let bytes = digests_in_fours(alloc, blocks)?;
+        self.add(clock, &begun)?;
+        self.checksum = checksum(&bytes);
+        Ok(())
+    }
+
+    /// Puts that fill a group.
+    fn fill(&mut self, clock: &impl Clock, blocks: &[Block], trial: &mut Trial) -> io::Result<()> {
+        let begun = Instant::now(clock)?;
+        trial.fill(blocks)?;
+        self.add(clock, &begun)
+    }
+
+    /// Looks at all data slots of a group.
+    fn look(&mut self, clock: &impl Clock, alloc: Global, trial: &mut Trial) -> io::Result<()> {
+        let begun = Instant::now(clock)?;
+        let bytes = trial.look(alloc)?;
+        self.add(clock, &begun)?;
+        self.checksum = checksum(&bytes);
+        Ok(())
+    }
+
+    /// Relays that rebuild the blocks of a column. Its new archive comes before the clock starts.
+    fn mend(&mut self, clock: &impl Clock, alloc: Global, trial: &mut Trial) -> io::Result<()> {
+        let mut pads = PadStream::new(&SEED, 0, 5);
+        trial.replace(shelf(alloc, REPLACING)?)?;
+        let begun = Instant::now(clock)?;
+        trial.mend(&mut pads)?;
+        self.add(clock, &begun)
+    }
+
+    /// The move of a column. The archive that it moves to comes before the clock starts.
+    fn move_home(
+        &mut self,
+        clock: &impl Clock,
+        alloc: Global,
+        trial: &mut Trial,
+    ) -> io::Result<()> {
+        trial.leave_home(shelf(alloc, TARGET)?)?;
+        let begun = Instant::now(clock)?;
+        trial.move_home()?;
+        self.add(clock, &begun)
     }
 }
 
 /// Digests of as many blocks as a group has data slots, one at a time and four at a time, puts that fill it, looks at all of them, relays that rebuild those of
 /// one column after its archive was replaced, and the move of another column.
-#[derive(Drop)]
+#[derive(Clone, Copy)]
 pub struct Trials {
     digests: Timed,
     quartets: Timed,
@@ -51,12 +120,12 @@ impl Trials {
         megabytes: u16,
     ) -> io::Result<Trials> {
         let mut trials = Trials {
-            digests: untimed(alloc),
-            quartets: untimed(alloc),
-            puts: untimed(alloc),
-            looks: untimed(alloc),
-            mends: untimed(alloc),
-            moves: untimed(alloc),
+            digests: Timed::new(),
+            quartets: Timed::new(),
+            puts: Timed::new(),
+            looks: Timed::new(),
+            mends: Timed::new(),
+            moves: Timed::new(),
         };
         for _ in 0..megabytes {
             trials.go_on(clock, alloc, blocks)?;
@@ -67,47 +136,32 @@ impl Trials {
     /// One group more.
     fn go_on(&mut self, clock: &impl Clock, alloc: Global, blocks: &[Block]) -> io::Result<()> {
         let mut trial = Trial::new(alloc)?;
-        let begun = Instant::now(clock)?;
-        self.digests.bytes = digests(alloc, blocks)?;
-        self.digests.seconds += begun.elapsed(clock)?.as_secs_f64();
-        let begun = Instant::now(clock)?;
-        self.quartets.bytes = digests_in_fours(alloc, blocks)?;
-        self.quartets.seconds += begun.elapsed(clock)?.as_secs_f64();
-        let begun = Instant::now(clock)?;
-        trial.fill(blocks)?;
-        self.puts.seconds += begun.elapsed(clock)?.as_secs_f64();
-        let begun = Instant::now(clock)?;
-        self.looks.bytes = trial.look(alloc)?;
-        self.looks.seconds += begun.elapsed(clock)?.as_secs_f64();
-        self.change_archives(clock, alloc, &mut trial)?;
-        let Blocks {
-            filled,
-            mended,
-            moved,
-        } = trial.end(alloc)?;
-        self.puts.bytes = filled;
-        self.mends.bytes = mended;
-        self.moves.bytes = moved;
+        self.run(clock, alloc, blocks, &mut trial)?;
+        self.keep(&trial.end(alloc)?);
         Ok(())
     }
 
-    /// The relays and the move of a group that is full. Archives come before the clock starts.
-    fn change_archives(
+    /// The six loops over a group without blocks.
+    fn run(
         &mut self,
         clock: &impl Clock,
         alloc: Global,
+        blocks: &[Block],
         trial: &mut Trial,
     ) -> io::Result<()> {
-        let mut pads = PadStream::new(&SEED, 0, 5);
-        trial.replace(shelf(alloc, REPLACING)?)?;
-        let begun = Instant::now(clock)?;
-        trial.mend(&mut pads)?;
-        self.mends.seconds += begun.elapsed(clock)?.as_secs_f64();
-        trial.leave_home(shelf(alloc, TARGET)?)?;
-        let begun = Instant::now(clock)?;
-        trial.move_home()?;
-        self.moves.seconds += begun.elapsed(clock)?.as_secs_f64();
-        Ok(())
+        self.digests.digest(clock, alloc, blocks)?;
+        self.quartets.digest_in_fours(clock, alloc, blocks)?;
+        self.puts.fill(clock, blocks, trial)?;
+        self.looks.look(clock, alloc, trial)?;
+        self.mends.mend(clock, alloc, trial)?;
+        self.moves.move_home(clock, alloc, trial)
+    }
+
+    /// The checksums of the blocks that puts, relays and the move left.
+    fn keep(&mut self, blocks: &Blocks) {
+        self.puts.checksum = checksum(&blocks.filled);
+        self.mends.checksum = checksum(&blocks.mended);
+        self.moves.checksum = checksum(&blocks.moved);
     }
 
     /// Prints a line for each. Two puts make four digests at a time: of each block, and of each parity block that is expected. The
@@ -126,12 +180,19 @@ impl Trials {
         let all = digests.seconds;
         let read = all * 63.0 / 64.0;
         let four = quartets.seconds;
-        report.part(rt, "digest_of, blocks", 3, all, all, &digests.bytes)?;
-        report.times(rt, "digest_four, blocks", four, all, &quartets.bytes)?;
-        report.part(rt, "put", 3, puts.seconds, four * 2.0, &puts.bytes)?;
-        report.part(rt, "look", 3, looks.seconds, read, &looks.bytes)?;
-        report.part(rt, "mend", 1, mends.seconds, all * 4.0 / 3.0, &mends.bytes)?;
-        report.part(rt, "move", 1, moves.seconds, read / 3.0, &moves.bytes)
+        report.part(rt, "digest_of, blocks", 3, all, all, digests.checksum)?;
+        report.times(rt, "digest_four, blocks", four, all, quartets.checksum)?;
+        report.part(rt, "put", 3, puts.seconds, four * 2.0, puts.checksum)?;
+        report.part(rt, "look", 3, looks.seconds, read, looks.checksum)?;
+        report.part(
+            rt,
+            "mend",
+            1,
+            mends.seconds,
+            all * 4.0 / 3.0,
+            mends.checksum,
+        )?;
+        report.part(rt, "move", 1, moves.seconds, read / 3.0, moves.checksum)
     }
 }
 
