@@ -7,7 +7,7 @@ use Rattle.std.proofs.lemmas.Bool.Decides.{eqb_tells}
 use Rattle.pot_outside.specs.declared.archive.Shelf.{Shelf}
 use Rattle.pot_shelves.specs.Shelves.{numbers_of}
 use Rattle.pot_commands.specs.Holding.{times, AreApart, AreOut}
-use Rattle.pot_commands.proofs.TakingLemmas.{times-append}
+use Rattle.pot_commands.proofs.TakingLemmas.{times-append, bit}
 
 -- without one shelf, its number stands once less
 pub times-removed : {A : Type 0} (n : ℕ) (ss : List (Shelf A)) (p : ℕ) (s : Shelf A) → p < length ss → s ≡ slice_index_or ss p s
@@ -17,9 +17,6 @@ times-removed n (x ∷ xs) zero s l e = ap (λ (y : Shelf _). cond (eqb y.number
 times-removed n (x ∷ xs) (suc p) s l e = (let r = times-removed n xs p s (omega (arith, l)) e in omega (arith, r))
 
 -- ONE NUMBER
-
-abbrev bit : Bool → ℕ
-bit b = cond b 1 0
 
 one_or_none : (o : Bool) (t : ℕ) → t ≡ 0 → t ≡ cond o 1 0 → o ≡ false
 one_or_none true t z e = absurd (omega (arith, z, e))
