@@ -190,7 +190,9 @@ fn store_files<R: Clock + Wait>(
         let name = name_of(job)?;
         timed.digests += time_digests(rt, sums, &STORE, file)?;
         let begun = Instant::now(rt)?;
-        session.store(rt, alloc, job, &name, file)?;
+        let Ok(_) = session.store(rt, alloc, job, &name, file) else {
+            return Err(io::Error::from(AllocError));
+        };
         timed.seconds += begun.elapsed(rt)?.as_secs_f64();
     }
     Ok(timed)
@@ -245,7 +247,9 @@ fn fetch_file<R: Clock + Wait>(
 {
     let name = name_of(job)?;
     let begun = Instant::now(rt)?;
-    let fetched = session.fetch(rt, alloc, job, &name)?;
+    let Ok(fetched) = session.fetch(rt, alloc, job, &name) else {
+        return Err(io::Error::from(AllocError));
+    };
     let seconds = begun.elapsed(rt)?.as_secs_f64();
     bytes.extend_from_slice(&fetched)?;
     Ok(seconds)

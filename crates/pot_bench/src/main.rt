@@ -26,6 +26,8 @@ mod timing;
 use filing::time_sessions;
 use report::{Beside, Report};
 use rows::Rows;
+use std::alloc::Global;
+use std::rt::Clock;
 use std::{env, io};
 use timing::Trials;
 
@@ -37,33 +39,54 @@ fn main(rt: HostRuntime) -> io::Result<()> {
     let rounds = 16 * u32::from(megabytes);
     let mut rows = Rows::new(rt.alloc())?;
     let mut report = Report::new(&rt, rounds)?;
-    rows.xor_into(rounds + 1);
-    report.line(&rt, "xor_into", 1, rows.out())?;
-    let sum = rows.fold_weighted(rounds);
-    report.line(&rt, "fold_weighted", 1, sum.bytes())?;
-    rows.share_two_of_three(rounds);
-    let share_out = report.line(&rt, "share_out 2 of 3", 1, rows.out())?;
-    rows.share_three_of_five(rounds);
-    report.line(&rt, "share_out 3 of 5", 1, rows.out())?;
-    rows.join_two_of_three(rounds);
-    report.line(&rt, "share_join 2 of 3", 2, rows.out())?;
-    rows.join_three_of_five(rounds);
-    report.line(&rt, "share_join 3 of 5", 3, rows.out())?;
-    rows.digest_of(rounds);
-    let digest_of = report.line(&rt, "digest_of", 1, rows.out())?;
-    rows.fill(rounds);
-    report.line(&rt, "fill", 1, rows.out())?;
-    rows.fill_bytes(rounds);
-    report.line(&rt, "the kit's fill_bytes", 1, rows.out())?;
-    let blocks = pieces::two_of_three(rt.alloc(), rounds)?;
-    report.line(&rt, "piece_blocks 2, 2 of 3", 1, &blocks)?;
-    let blocks = pieces::three_of_five(rt.alloc(), rounds)?;
-    report.line(&rt, "piece_blocks 3, 3 of 5", 1, &blocks)?;
+    let beside = time_rows(&rt, rounds, &mut rows, &mut report)?;
+    time_pieces(&rt, rt.alloc(), rounds, &mut report)?;
     let trials = Trials::over(&rt, rt.alloc(), rows.blocks(), megabytes)?;
     trials.report(&rt, &report)?;
-    let beside = Beside {
+    time_sessions(&rt, rt.alloc(), megabytes, &report, &beside)
+}
+
+/// The loops over rows, each with a line.
+fn time_rows(
+    rt: &(impl Print + Eprint + Clock),
+    rounds: u32,
+    rows: &mut Rows,
+    report: &mut Report,
+) -> io::Result<Beside> {
+    rows.xor_into(rounds.saturating_add(1));
+    report.line(rt, "xor_into", 1, rows.out())?;
+    let sum = rows.fold_weighted(rounds);
+    report.line(rt, "fold_weighted", 1, sum.bytes())?;
+    rows.share_two_of_three(rounds);
+    let share_out = report.line(rt, "share_out 2 of 3", 1, rows.out())?;
+    rows.share_three_of_five(rounds);
+    report.line(rt, "share_out 3 of 5", 1, rows.out())?;
+    rows.join_two_of_three(rounds);
+    report.line(rt, "share_join 2 of 3", 2, rows.out())?;
+    rows.join_three_of_five(rounds);
+    report.line(rt, "share_join 3 of 5", 3, rows.out())?;
+    rows.digest_of(rounds);
+    let digest_of = report.line(rt, "digest_of", 1, rows.out())?;
+    rows.fill(rounds);
+    report.line(rt, "fill", 1, rows.out())?;
+    rows.fill_bytes(rounds);
+    report.line(rt, "the kit's fill_bytes", 1, rows.out())?;
+    Ok(Beside {
         digest_of,
         share_out,
-    };
-    time_sessions(&rt, rt.alloc(), megabytes, &report, &beside)
+    })
+}
+
+/// The blocks of the pieces of two splits, each with a line.
+fn time_pieces(
+    rt: &(impl Print + Eprint + Clock),
+    alloc: Global,
+    rounds: u32,
+    report: &mut Report,
+) -> io::Result<()> {
+    let blocks = pieces::two_of_three(alloc, rounds)?;
+    report.line(rt, "piece_blocks 2, 2 of 3", 1, &blocks)?;
+    let blocks = pieces::three_of_five(alloc, rounds)?;
+    report.line(rt, "piece_blocks 3, 3 of 5", 1, &blocks)?;
+    Ok(())
 }

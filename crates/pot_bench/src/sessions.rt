@@ -20,7 +20,7 @@ use pot_machine::{Entry, GroupTable};
 use pot_outside::Shelf;
 use pot_pads::PadStream;
 use pot_shared::{Closed, Member, Passes, Vault};
-use pot_store::{fetch_file, store_file};
+use pot_store::{FetchFault, StoreFault, Stored, fetch_file, store_file};
 use std::alloc::{AllocError, Global};
 use std::sync::Wait;
 
@@ -216,7 +216,20 @@ pub struct Session {
 }
 
 impl Session {
-    /// Stores a file as this job. It fails where the store is refused, and for want of memory.
+    ghost use Rattle.std.specs.Prelude.{true};
+    ghost use Rattle.pot_pads.specs.Pads.{pads_of};
+    ghost use Rattle.pot_replies.specs.Settings.{Setting};
+    ghost use Rattle.pot_store.specs.Works.{section_of, JobAlone, JobWorked, IsSettingOf};
+    ghost use Rattle.pot_store.specs.Stores.{DrawsFrom, StoreRow};
+    ghost use Rattle.pot_store.specs.Fetches.{AreFilled, FetchRow};
+    ghost use Rattle.pot_store.specs.Stored.{FetchGives};
+    ghost use Rattle.pot_bench.specs.declared.rows.TheConstants.{SEED};
+    ghost use Rattle.pot_bench.specs.Sessions.{knows};
+
+    /// Stores a file as this job.
+    ///
+    /// # Errors
+    /// As `store_file`.
     pub fn store<R: Wait>(
         &mut self,
         rt: &R,
@@ -224,11 +237,14 @@ impl Session {
         job: u32,
         name: &Name,
         file: &[u8],
-    ) -> Result<(), AllocError>
+    ) -> Result<Stored, StoreFault>
         requires { 0 < job }
+        ensures worked { JobWorked job (knows self.old) (knows self.new) }
+        ensures says { JobAlone job (knows self.old) (knows self.new) → (s : Setting) → IsSettingOf s self.old.vault.rack (knows self.old)
+            → DrawsFrom s (pads_of SEED self.old.number job) job file.now → StoreRow s job name.now file.now result (section_of (knows self.old) (knows self.new)) }
     {
         let pads = PadStream::new(&SEED, self.number, job);
-        match store_file(
+        store_file(
             rt,
             alloc,
             &self.vault,
@@ -237,24 +253,29 @@ impl Session {
             name,
             file,
             pads,
-        ) {
-            Ok(_) => Ok(()),
-            Err(_) => Err(AllocError),
-        }
+        )
     }
 
-    /// Fetches a file as this job. It fails where the fetch is refused, and for want of memory.
+    /// Fetches a file as this job.
+    ///
+    /// # Errors
+    /// As `fetch_file`.
     pub fn fetch<R: Wait>(
         &mut self,
         rt: &R,
         alloc: Global,
         job: u32,
         name: &Name,
-    ) -> Result<Vec<u8>, AllocError>
+    ) -> Result<Vec<u8>, FetchFault>
         requires { 0 < job }
+        ensures worked { JobWorked job (knows self.old) (knows self.new) }
+        ensures says { JobAlone job (knows self.old) (knows self.new) → (s : Setting) → IsSettingOf s self.old.vault.rack (knows self.old)
+            → s.mends ≡ true → AreFilled s → FetchRow s job name.now result (section_of (knows self.old) (knows self.new)) }
+        ensures stored { JobAlone job (knows self.old) (knows self.new) → (s : Setting) → IsSettingOf s self.old.vault.rack (knows self.old)
+            → s.mends ≡ true → AreFilled s → FetchGives s job name.now result (section_of (knows self.old) (knows self.new)) }
     {
         let mut pads = PadStream::new(&SEED, self.number, job);
-        match fetch_file(
+        fetch_file(
             rt,
             alloc,
             &self.vault,
@@ -262,10 +283,7 @@ impl Session {
             job,
             name,
             &mut pads,
-        ) {
-            Ok(bytes) => Ok(bytes),
-            Err(_) => Err(AllocError),
-        }
+        )
     }
 
     /// Ends the session. Its image is that of its close.
