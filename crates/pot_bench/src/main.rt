@@ -52,8 +52,10 @@ fn time_rows(
     rounds: u32,
     rows: &mut Rows,
     report: &mut Report,
-) -> io::Result<Beside> {
-    rows.xor_into(rounds.saturating_add(1));
+) -> io::Result<Beside>
+    requires { rounds < 4294967295 }
+{
+    rows.xor_into(rounds + 1);
     report.line(rt, "xor_into", 1, rows.out())?;
     let sum = rows.fold_weighted(rounds);
     report.line(rt, "fold_weighted", 1, sum.bytes())?;
