@@ -109,7 +109,7 @@ module _ (job : ℕ) (name file : List ℕ) (rack : Rack) (names turn : List Tur
             last = refl;
             is = call.turn.met ∙ ap (λ l. (view_at i0 0).seen ++ l) (sym gain);
           };
-          full = subst (λ n. index_log_bound < (length old.log + length n.reserved) + 2) (sym leads) call.turn.call.0;
+          full = subst (λ n. log_bound < (length old.log + length n.reserved) + 2) (sym leads) call.turn.call.0;
         },
       )
 
