@@ -394,7 +394,7 @@ module _ {rack : Rack} {names turn : List TurnName} (job : ℕ) {row0 row1 : Gro
         subst (λ es. Contains (all_logged call.turn.new.shelves es) l) comes.entries_are
         (subst (λ ls. Contains ls l) (marked_here same2 ready2 within call came_all sole) (subst (λ h. Contains (added (view_at row0 h) (view_at row2 h)) l) same_group has)) in
         let one : logged_at call.turn.new.shelves e ≡ l = one_contained (logged_at call.turn.new.shelves e) l there in
-        let its_number : to ≡ n = only to n (subst (λ ns. Contains ns n) arrives (subst (λ (x : Logged). Contains (arrival x.entry) n) (sym one) arr)) in
+        let its_number : to ≡ n = one_contained to n (subst (λ ns. Contains ns n) arrives (subst (λ (x : Logged). Contains (arrival x.entry) n) (sym one) arr)) in
         subst (λ k. l.taken ≡ Some (marks_of (meant k))) its_number
         (ap (λ (x : Logged). x.taken) (sym one) ∙ (marks_by call.turn.new.shelves e to (subst (λ ns. Contains ns to) (sym arrives) (zero, omega arith, refl)) ∙ ap (λ m. Some m) (its_marks meant tells is)))))
         (λ (ne : g ≢ group).
