@@ -8,13 +8,13 @@ use Rattle.pot_machine.specs.Logs.{own}
 use Rattle.pot_steps.specs.Stripe.{digest_of}
 use Rattle.pot_group.specs.Arrivals.{arrivals}
 use Rattle.pot_pads.specs.Pads.{pads_of}
-use Rattle.pot_index.specs.declared.record.Record.{Record}
 use Rattle.pot_rows.specs.Rows.{view_at}
 use Rattle.pot_script.specs.declared.command.Command.{Command}
 use Rattle.pot_script.specs.declared.reply.Reply.{Reply}
 use Rattle.pot_replies.specs.Settings.{Setting}
 use Rattle.pot_shared.specs.declared.member.GroupOrigin.{GroupOrigin}
 use Rattle.pot_shared.specs.declared.catalog.CatalogOrigin.{CatalogOrigin}
+use Rattle.pot_shared.specs.Catalogs.{records_in}
 use Rattle.pot_store.specs.Works.{gained, Known, JobWorked, JobAlone, IsSettingOf, section_of}
 use Rattle.pot_store.specs.Drawing.{blocks_from}
 use Rattle.pot_commands.specs.Rows.{HasFilled, IsSessionSetting, AreReplies, IsIdle}
@@ -33,11 +33,7 @@ is_table : (o : Option GroupOrigin) → IfSome o (λ x. table_of o ≡ x.first)
 is_table None = tt
 is_table (Some o) = refl
 
-abbrev records_of : Option CatalogOrigin → List Record
-records_of None = []
-records_of (Some o) = o.read
-
-are_records : (o : Option CatalogOrigin) → IfSome o (λ x. records_of o ≡ x.read)
+are_records : (o : Option CatalogOrigin) → IfSome o (λ x. records_in o ≡ x.read)
 are_records None = tt
 are_records (Some o) = refl
 
@@ -46,7 +42,7 @@ module _ (rack : Rack) (seed : List ℕ) (session : ℕ) (k : Known) where
   its_setting = record {
     rack = rack;
     first = λ g. table_of (view_at k.groups g).origin;
-    read = records_of (view_at k.index 0).origin;
+    read = records_in (view_at k.index 0).origin;
     digests = λ geometry job file. map digest_of (blocks_from geometry file (pads_of seed session job));
     mends = true;
   }

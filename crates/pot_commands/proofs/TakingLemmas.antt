@@ -1,5 +1,5 @@
 -- Archives that were taken, part after part.
-use Rattle.std.proofs.Common.{◌≡◌, ◌≢◌, ◌<◌, ◌≤◌, ◌+◌, ◌++◌, ◌⊎◌, ⊎_elim, ℕ, zero, suc, Bool, true, false, cond, List, [], ◌∷◌, length, refl, sym, ap, subst, ◌∙◌, arith, eqb, append-nil, append_assoc}
+use Rattle.std.proofs.Common.{◌≡◌, ◌≢◌, ◌<◌, ◌≤◌, ◌+◌, ◌++◌, ◌⊎◌, ⊎_elim, ℕ, zero, suc, Bool, true, false, List, [], ◌∷◌, length, refl, sym, ap, subst, ◌∙◌, arith, eqb, append-nil, append_assoc}
 use Rattle.std.specs.Prelude.{Option, Some, None, IsSomeAnd, IsSome, Contains}
 use Rattle.std.proofs.lemmas.Bool.Decides.{eqb_tells}
 use Rattle.std.proofs.lemmas.List.Elements.{Contains-append_cases, Contains-append_left, Contains-append_right}
@@ -21,6 +21,7 @@ use Rattle.pot_shared.specs.Members.{entries_of}
 use Rattle.pot_shared.specs.Ready.{GroupPasses}
 use Rattle.pot_shared.proofs.MemberLemmas.{entries_append}
 use Rattle.pot_store.specs.Works.{Known, of_job, gained}
+use Rattle.pot_store.proofs.NoteLemmas.{one_if}
 use Rattle.pot_commands.specs.Ends.{AllSole, AllWent}
 use Rattle.pot_commands.specs.Holding.{times}
 use Rattle.pot_commands.specs.Taking.{Lending, Takes, Come, Took, HasUse, AreUsed, AreMarkedBy, came_in, marks_of}
@@ -32,23 +33,20 @@ pub times-append : (n : ℕ) (xs ys : List ℕ) → times n (xs ++ ys) ≡ times
 times-append n [] ys = omega arith
 times-append n (x ∷ xs) ys = (let e = times-append n xs ys in omega (arith, e))
 
-abbrev pub bit : Bool → ℕ
-bit b = cond b 1 0
-
-home_bit : (b : Bool) → bit b ≡ 0 → b ≡ false
+home_bit : (b : Bool) → one_if b ≡ 0 → b ≡ false
 home_bit true e = absurd (omega (arith, e))
 home_bit false e = refl
 
 pub times_here : (n : ℕ) → times n (n ∷ []) ≡ 1
 times_here n = ⊎_elim
-    (λ (h : (eqb n n ≡ true) × (n ≡ n)). (let e = ap bit h.0 in omega (arith, e)))
+    (λ (h : (eqb n n ≡ true) × (n ≡ n)). (let e = ap one_if h.0 in omega (arith, e)))
     (λ (h : (eqb n n ≡ false) × (n ≢ n)). absurd (h.1 refl))
     (eqb_tells n n)
 
 pub times_there : (k n : ℕ) → k ≢ n → times n (k ∷ []) ≡ 0
 times_there k n ne = ⊎_elim
     (λ (h : (eqb k n ≡ true) × (k ≡ n)). absurd (ne h.1))
-    (λ (h : (eqb k n ≡ false) × (k ≢ n)). (let e = ap bit h.0 in omega (arith, e)))
+    (λ (h : (eqb k n ≡ false) × (k ≢ n)). (let e = ap one_if h.0 in omega (arith, e)))
     (eqb_tells k n)
 
 pub contains_times : (xs : List ℕ) (n : ℕ) → Contains xs n → 1 ≤ times n xs
@@ -92,7 +90,7 @@ module _ (told well : Type 0) where
   -- a room that lends what it lent, and means what it meant
   pub takes_none : (asked : List ℕ) (r r' : Lending) → ((n : ℕ) → r'.out n ≡ r.out n) → ((n : ℕ) → r'.means n ≡ r.means n) → Takes told well asked [] r r'
   takes_none asked r r' out means = record {
-    out = λ n. (let e = ap bit (out n) in omega (arith, e));
+    out = λ n. (let e = ap one_if (out n) in omega (arith, e));
     among = λ n. omega arith;
     others = λ n z. means n;
     still = λ t w n o. subst (λ m. IsMeant (r.means n) m) (sym (means n)) (meant_self (r.means n));
@@ -110,8 +108,8 @@ module _ (told well : Type 0) where
     takes_one out = record {
       out = λ n. ⊎_elim
           (λ (h : (eqb k n ≡ true) × (k ≡ n)).
-          (let e = ap bit (subst (λ m. r.out m ≡ false) h.1 home) in let f = ap bit (subst (λ m. r'.out m ≡ true) h.1 out) in let g = ap bit h.0 in omega (arith, e, f, g)))
-          (λ (h : (eqb k n ≡ false) × (k ≢ n)). (let e = ap bit (others n (λ same. h.1 (sym same))).1 in let g = ap bit h.0 in omega (arith, e, g)))
+          (let e = ap one_if (subst (λ m. r.out m ≡ false) h.1 home) in let f = ap one_if (subst (λ m. r'.out m ≡ true) h.1 out) in let g = ap one_if h.0 in omega (arith, e, f, g)))
+          (λ (h : (eqb k n ≡ false) × (k ≢ n)). (let e = ap one_if (others n (λ same. h.1 (sym same))).1 in let g = ap one_if h.0 in omega (arith, e, g)))
           (eqb_tells k n);
       among = λ n. omega arith;
       others = λ n z. (others n (other n z)).0;
@@ -126,8 +124,8 @@ module _ (told well : Type 0) where
     takes_back out still = record {
       out = λ n. ⊎_elim
           (λ (h : (eqb k n ≡ true) × (k ≡ n)).
-          (let e = ap bit (subst (λ m. r.out m ≡ false) h.1 home) in let f = ap bit (subst (λ m. r'.out m ≡ false) h.1 out) in omega (arith, e, f)))
-          (λ (h : (eqb k n ≡ false) × (k ≢ n)). (let e = ap bit (others n (λ same. h.1 (sym same))).1 in omega (arith, e)))
+          (let e = ap one_if (subst (λ m. r.out m ≡ false) h.1 home) in let f = ap one_if (subst (λ m. r'.out m ≡ false) h.1 out) in omega (arith, e, f)))
+          (λ (h : (eqb k n ≡ false) × (k ≢ n)). (let e = ap one_if (others n (λ same. h.1 (sym same))).1 in omega (arith, e)))
           (eqb_tells k n);
       among = λ n. omega arith;
       others = λ n z. (others n (other n z)).0;
@@ -140,7 +138,7 @@ module _ (told well : Type 0) where
   -- one command more
   module _ (asked more t u : List ℕ) (r0 r1 r2 : Lending) (p : Takes told (Unit {0}) asked t r0 r1) (q : Takes told well more u r1 r2) where
     mid_home : (n : ℕ) → r2.out n ≡ false → r1.out n ≡ false
-    mid_home n o = home_bit (r1.out n) (let e = q.out n in let f = ap bit o in omega (arith, e, f))
+    mid_home n o = home_bit (r1.out n) (let e = q.out n in let f = ap one_if o in omega (arith, e, f))
 
     pub takes_more : Takes told well (asked ++ more) (t ++ u) r0 r2
     takes_more = record {
@@ -154,7 +152,7 @@ module _ (told well : Type 0) where
     pub then_marks : told → (n : ℕ) → 1 ≤ times n u → marks_of (r1.means n) ≡ marks_of (r0.means n)
     then_marks tells n some = same_marks (r0.means n) (r1.means n) (p.still tells tt n (home_bit (r1.out n) (let e = q.out n in let l = at_most (r2.out n) in omega (arith, e, l, some))))
       where
-        at_most : (b : Bool) → bit b ≤ 1
+        at_most : (b : Bool) → one_if b ≤ 1
         at_most true = omega arith
         at_most false = omega arith
 

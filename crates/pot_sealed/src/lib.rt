@@ -5,7 +5,6 @@
 
 ghost use Rattle.std.specs.Prelude.{◌≡◌, ◌↔◌, [], ◌∷◌, IsTrue, map};
 ghost use Rattle.pot_bytes.specs.Digests.{digest_bytes};
-ghost use Rattle.pot_sealed.specs.Sealing.{digest_of};
 
 use pot_bytes::{Block, Digest, digest_of};
 use pot_lanes::digest_four;
@@ -15,7 +14,7 @@ use pot_lanes::digest_four;
 pub struct Sealed {
     block: Block,
     digest: Digest,
-    ghost sealed: { digest ≡ digest_of block },
+    ghost sealed: { digest ≡ record { bytes = digest_bytes block } },
 }
 
 impl Sealed {
@@ -45,7 +44,7 @@ impl Sealed {
 
     /// The digest of its block.
     pub fn digest(&self) -> Digest
-        ensures { result ≡ digest_of self.now.block }
+        ensures { result ≡ record { bytes = digest_bytes self.now.block } }
     {
         self.digest
     }
@@ -53,7 +52,7 @@ impl Sealed {
 
 /// The digests of four blocks.
 pub fn digests_of_four(a: &Block, b: &Block, c: &Block, d: &Block) -> [Digest; 4]
-    ensures { result ≡ digest_of a.now ∷ digest_of b.now ∷ digest_of c.now ∷ digest_of d.now ∷ [] }
+    ensures { result ≡ map (λ block. record { bytes = digest_bytes block }) (a.now ∷ b.now ∷ c.now ∷ d.now ∷ []) }
 {
     let [first, second, third, fourth] = digest_four(a.bytes(), b.bytes(), c.bytes(), d.bytes());
     [
@@ -91,18 +90,11 @@ pub fn seal_four(a: &Block, b: &Block, c: &Block, d: &Block) -> [Sealed; 4]
 
 /// The digest of a block, taken over from `known` where that is the same block.
 pub fn digest_knowing(block: &Block, known: &Sealed) -> Digest
-    ensures { result ≡ digest_of block.now }
+    ensures { result ≡ record { bytes = digest_bytes block.now } }
 {
     if block.bytes() == known.block.bytes() {
         known.digest
     } else {
         digest_of(block.bytes())
     }
-}
-
-/// Whether a block has this digest.
-pub fn has_digest(block: &Block, digest: Digest, known: &Sealed) -> bool
-    ensures { IsTrue result ↔ digest_of block.now ≡ digest }
-{
-    digest_knowing(block, known) == digest
 }

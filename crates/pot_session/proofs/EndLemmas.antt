@@ -23,14 +23,14 @@ use Rattle.pot_worked.specs.Worked.{added}
 use Rattle.pot_rows.specs.Rows.{view_at}
 use Rattle.pot_shared.specs.Members.{kept_log, origin_of, mark_at}
 use Rattle.pot_shared.specs.Ready.{GroupPass, GroupPasses, AreReady}
-use Rattle.pot_shared.specs.Catalogs.{IndexPasses, IsIndexReady}
+use Rattle.pot_shared.specs.Catalogs.{IndexPasses, IsIndexReady, records_in}
 use Rattle.pot_shared.specs.Sharing.{Ends}
 use Rattle.pot_store.specs.Works.{Known, known, gained}
 use Rattle.pot_commands.specs.Ends.{AllSole}
 use Rattle.pot_commands.specs.Holding.{times, AreApart}
 use Rattle.pot_commands.proofs.TakingLemmas.{times-append}
 use Rattle.pot_commands.specs.Taking.{AreMarkedBy, came_in, marks_of}
-use Rattle.pot_session.specs.Groups.{AreServed, AreEnded, AreLow, AreTakenAt, HasMarks, HaveCome, had_by, tables_read, records_in, records_read}
+use Rattle.pot_session.specs.Groups.{AreServed, AreEnded, AreLow, AreTakenAt, HasMarks, HaveCome, had_by, tables_read, records_read}
 use Rattle.pot_session.specs.Serving.{IsInHand, LeavesRecords, LeavesLogs, LeaveGroups, still}
 use Rattle.pot_session.proofs.Lists.{same_at, flat_contains}
 use Rattle.pot_session.proofs.GroupLemmas.{find_shelf}

@@ -18,11 +18,12 @@ use Rattle.pot_shared.specs.Members.{entries_of}
 use Rattle.pot_shared.specs.Ready.{GroupPass, GroupPasses}
 use Rattle.pot_shared.specs.Catalogs.{IndexPasses}
 use Rattle.pot_store.specs.Works.{Known, gained}
+use Rattle.pot_store.proofs.NoteLemmas.{one_if}
 use Rattle.pot_commands.specs.Ends.{AllSole}
 use Rattle.pot_commands.specs.Holding.{times, AreOut, Untouched}
 use Rattle.pot_commands.specs.Taking.{Lending, Takes, Come, AreMarkedBy, AreUsed, marks_of}
 use Rattle.pot_commands.proofs.ArrivingLemmas.{arrived_used}
-use Rattle.pot_commands.proofs.TakingLemmas.{arrival_in, bit, came_within, times-append, times_there}
+use Rattle.pot_commands.proofs.TakingLemmas.{arrival_in, came_within, times-append, times_there}
 use Rattle.pot_session.specs.Groups.{AreFirstPasses, AreLow, HaveCome, table_read, tables_read}
 use Rattle.pot_session.proofs.ComingLemmas.{times_contains}
 use Rattle.pot_session.proofs.Lists.{all_contained}
@@ -76,7 +77,7 @@ read_in (v ∷ vs) (suc g) o lt is =
 pub first_used : (out : ℕ → Bool) (first : Contents) (row : GroupPasses) (index : IndexPasses) → FitsTogether first → AreFirstPasses row index → tables_read row ≡ first.tables → AreOut out (flat_map archives_in first.tables)
     → AreUsed out row
 first_used out first row index fits passes read outs n is =
-    let some : 1 ≤ times n (flat_map archives_in (tables_read row)) = (let a = outs n in let b = ap bit is in let c = ap (λ ts. times n (flat_map archives_in ts)) read in omega (arith, a, b, c)) in
+    let some : 1 ≤ times n (flat_map archives_in (tables_read row)) = (let a = outs n in let b = ap one_if is in let c = ap (λ ts. times n (flat_map archives_in ts)) read in omega (arith, a, b, c)) in
     let f = first_with row.views n (times_contains (flat_map archives_in (tables_read row)) n some) in
     let o = f.2.0 in
     let rules : FitsTable first.rack o.first = all_contained (FitsTable first.rack) first.tables o.first fits.tables.fits (subst (λ ts. Contains ts o.first) read (read_in row.views f.0 o f.1 f.2.1)) in (
@@ -114,7 +115,7 @@ module _ (told well : Type 0) (asked : List ℕ) (r r' : Lending) (old new : Kno
       let none : times n ns ≡ 0 = omega (arith, some, a, b, d, at) in
       come.marked tells sole g lt l n has arr ∙ ap (λ m. Some (marks_of m)) (untouched n none)
     where
-      at_most : (b : Bool) → bit b ≤ 1
+      at_most : (b : Bool) → one_if b ≤ 1
       at_most true = omega arith
       at_most false = omega arith
 
@@ -122,7 +123,7 @@ module _ (told well : Type 0) (asked : List ℕ) (r r' : Lending) (old new : Kno
   pub home_after : (n : ℕ) → times n (ns ++ asked) ≡ 0 → r'.out n ≡ false
   home_after n none = by (r'.out n) (let a = times-append n ns asked in let b = outs n in let c = takes.out n in let d = takes.among n in omega (arith, none, a, b, c, d))
     where
-      by : (b : Bool) → bit b ≡ 0 → b ≡ false
+      by : (b : Bool) → one_if b ≡ 0 → b ≡ false
       by true e = absurd (omega (arith, e))
       by false e = refl
 

@@ -6,8 +6,9 @@ use Rattle.std.proofs.lemmas.List.{take_more, take-append-drop, length-take-le, 
 use Rattle.std.proofs.lemmas.Bool.Decides.{eqb_tells}
 use Rattle.pot_outside.specs.declared.archive.Shelf.{Shelf}
 use Rattle.pot_shelves.specs.Shelves.{numbers_of}
+use Rattle.pot_store.proofs.NoteLemmas.{one_if}
 use Rattle.pot_commands.specs.Holding.{times, AreApart, AreOut}
-use Rattle.pot_commands.proofs.TakingLemmas.{times-append, bit}
+use Rattle.pot_commands.proofs.TakingLemmas.{times-append}
 
 -- without one shelf, its number stands once less
 pub times-removed : {A : Type 0} (n : ℕ) (ss : List (Shelf A)) (p : ℕ) (s : Shelf A) → p < length ss → s ≡ slice_index_or ss p s
@@ -27,7 +28,7 @@ is_one true t e l = refl
 is_one false t e l = absurd (omega (arith, e, l))
 
 step_out : (b o p : Bool) (t : ℕ) → t ≡ cond o 1 0 → (b ≡ true → (o ≡ false) × (p ≡ true)) → (b ≡ false → p ≡ o) → t + (cond b 1 0 + 0) ≡ cond p 1 0
-step_out true o p t e on off = (let h = on refl in rw h.1 (omega (arith, e ∙ ap bit h.0)))
+step_out true o p t e on off = (let h = on refl in rw h.1 (omega (arith, e ∙ ap one_if h.0)))
 step_out false o p t e on off = (let h = off refl in rw h (omega (arith, e)))
 
 step_in : (b o p : Bool) (t u : ℕ) → t ≡ cond b 1 0 + u → t ≡ cond o 1 0 → (b ≡ true → p ≡ false) → (b ≡ false → p ≡ o) → u ≡ cond p 1 0
@@ -39,7 +40,7 @@ step_in false o p t u d e on off = (let h = off refl in rw h (omega (arith, d, e
 
 -- none is out
 pub none_out : (out : ℕ → Bool) → ((n : ℕ) → out n ≡ false) → AreOut out []
-none_out out h n = sym (ap bit (h n))
+none_out out h n = sym (ap one_if (h n))
 
 pub all_home : (out : ℕ → Bool) → AreOut out [] → (n : ℕ) → out n ≡ false
 all_home out h n = one_or_none (out n) (times n []) refl (h n)
@@ -48,12 +49,12 @@ all_home out h n = one_or_none (out n) (times n []) refl (h n)
 pub out_apart : (out : ℕ → Bool) (ns : List ℕ) → AreOut out ns → AreApart ns
 out_apart out ns h n = (let e = h n in let l = at_most (out n) in omega (arith, e, l))
   where
-    at_most : (b : Bool) → bit b ≤ 1
+    at_most : (b : Bool) → one_if b ≤ 1
     at_most true = omega arith
     at_most false = omega arith
 
 pub none_out_of : (out : ℕ → Bool) (ns : List ℕ) (n : ℕ) → AreOut out ns → out n ≡ false → times n ns ≡ 0
-none_out_of out ns n h e = h n ∙ ap bit e
+none_out_of out ns n h e = h n ∙ ap one_if e
 
 -- a number of which there is none yet is not out
 pub is_home : (out : ℕ → Bool) (ns : List ℕ) (n : ℕ) → AreOut out ns → times n ns ≡ 0 → out n ≡ false
@@ -77,7 +78,7 @@ out_more out new ns k h was now others n =
 
 -- a take that was refused changed nothing
 pub out_same : (out new : ℕ → Bool) (ns : List ℕ) (k : ℕ) → AreOut out ns → out k ≡ false → new k ≡ false → ((n : ℕ) → n ≢ k → new n ≡ out n) → AreOut new ns
-out_same out new ns k h was now others n = h n ∙ ap bit (each (eqb_tells k n))
+out_same out new ns k h was now others n = h n ∙ ap one_if (each (eqb_tells k n))
   where
     each : ((eqb k n ≡ true) × (k ≡ n)) ⊎ ((eqb k n ≡ false) × (k ≢ n)) → out n ≡ new n
     each (inl e) = subst (λ m. out m ≡ new m) e.1 (was ∙ sym now)
@@ -87,7 +88,7 @@ out_same out new ns k h was now others n = h n ∙ ap bit (each (eqb_tells k n))
 pub is_out : {A : Type 0} (out : ℕ → Bool) (ss : List (Shelf A)) (p : ℕ) (s : Shelf A) → AreOut out (numbers_of ss) → p < length ss → s ≡ slice_index_or ss p s → out s.number ≡ true
 is_out out ss p s h l e =
     is_one (out s.number) (times s.number (numbers_of ss)) (h s.number)
-    (let r = times-removed s.number ss p s l e in let o : cond (eqb s.number s.number) 1 0 ≡ 1 = ap bit (self_eq s.number) in omega (arith, r, o))
+    (let r = times-removed s.number ss p s l e in let o : cond (eqb s.number s.number) 1 0 ≡ 1 = ap one_if (self_eq s.number) in omega (arith, r, o))
   where
     self_eq : (n : ℕ) → eqb n n ≡ true
     self_eq n = elim (eqb_tells n n) [ inl e ↦ e.0 | inr e ↦ absurd (e.1 refl) ]
@@ -103,7 +104,7 @@ out_less out new ss p s h l e now others n =
 -- a number of which there is none is not that of this shelf
 pub is_another : {A : Type 0} (n : ℕ) (ss : List (Shelf A)) (p : ℕ) (s : Shelf A) → p < length ss → s ≡ slice_index_or ss p s → times n (numbers_of ss) ≡ 0 → n ≢ s.number
 is_another n ss p s l e none same =
-    absurd (let r = times-removed n ss p s l e in let o : cond (eqb s.number n) 1 0 ≡ 1 = ap bit (at (eqb_tells s.number n)) in omega (arith, r, o, none))
+    absurd (let r = times-removed n ss p s l e in let o : cond (eqb s.number n) 1 0 ≡ 1 = ap one_if (at (eqb_tells s.number n)) in omega (arith, r, o, none))
   where
     at : ((eqb s.number n ≡ true) × (s.number ≡ n)) ⊎ ((eqb s.number n ≡ false) × (s.number ≢ n)) → eqb s.number n ≡ true
     at (inl h) = h.0
@@ -121,8 +122,8 @@ times-front n ns i = (let e = times-append n (take i ns) (drop i ns) in let f = 
 pub times-next : (n : ℕ) (ns : List ℕ) (i : ℕ) → i < length ns → times n (take (i + 1) ns) ≡ times n (take i ns) + (cond (eqb (get_or ns i 0) n) 1 0 + 0)
 times-next n ns i l = ap (times n) (take_more ns i 0 l) ∙ times-append n (take i ns) (get_or ns i 0 ∷ [])
 
-at_itself : (n : ℕ) → bit (eqb n n) ≡ 1
-at_itself n = ap bit (elim (eqb_tells n n) [ inl e ↦ e.0 | inr e ↦ absurd (e.1 refl) ])
+at_itself : (n : ℕ) → one_if (eqb n n) ≡ 1
+at_itself n = ap one_if (elim (eqb_tells n n) [ inl e ↦ e.0 | inr e ↦ absurd (e.1 refl) ])
 
 -- where no number stands twice, the next one does not stand before
 pub apart_before : (ns : List ℕ) (i : ℕ) → AreApart ns → i < length ns → times (get_or ns i 0) (take i ns) ≡ 0
@@ -133,12 +134,12 @@ apart_before ns i apart l =
 pub apart_from : (ns : List ℕ) (i n : ℕ) → i < length ns → times n ns ≡ 0 → n ≢ get_or ns i 0
 apart_from ns i n l none same =
     absurd (let e = times-next n ns i l in let f = times-front n ns (i + 1) in
-    let s : cond (eqb (get_or ns i 0) n) 1 0 ≡ 1 = subst (λ m. bit (eqb m n) ≡ 1) same (at_itself n) in omega (arith, e, f, s, none))
+    let s : cond (eqb (get_or ns i 0) n) 1 0 ≡ 1 = subst (λ m. one_if (eqb m n) ≡ 1) same (at_itself n) in omega (arith, e, f, s, none))
 
 -- nor one that does not stand in the front that ends with it
 pub apart_next : (ns : List ℕ) (i n : ℕ) → i < length ns → times n (take (i + 1) ns) ≡ 0 → n ≢ get_or ns i 0
 apart_next ns i n l none same =
-    absurd (let e = times-next n ns i l in let s : cond (eqb (get_or ns i 0) n) 1 0 ≡ 1 = subst (λ m. bit (eqb m n) ≡ 1) same (at_itself n) in omega (arith, e, s, none))
+    absurd (let e = times-next n ns i l in let s : cond (eqb (get_or ns i 0) n) 1 0 ≡ 1 = subst (λ m. one_if (eqb m n) ≡ 1) same (at_itself n) in omega (arith, e, s, none))
 
 -- none of a front either
 pub none_before : (n : ℕ) (ns : List ℕ) (i : ℕ) → times n ns ≡ 0 → times n (take i ns) ≡ 0
@@ -154,7 +155,7 @@ numbers-length ss ns i e l = sym (length-map ss (λ (x : Shelf _). x.number)) �
 -- numbers that are all distinct
 none_of : (n : ℕ) (xs : List ℕ) → AllByRecursion (λ y. nat_eq n y ≡ false) xs → times n xs ≡ 0
 none_of n [] a = refl
-none_of n (y ∷ ys) a = (let r = none_of n ys a.1 in let z : cond (eqb y n) 1 0 ≡ 0 = ap bit (other (eqb_tells y n)) in omega (arith, r, z))
+none_of n (y ∷ ys) a = (let r = none_of n ys a.1 in let z : cond (eqb y n) 1 0 ≡ 0 = ap one_if (other (eqb_tells y n)) in omega (arith, r, z))
   where
     other : ((eqb y n ≡ true) × (y ≡ n)) ⊎ ((eqb y n ≡ false) × (y ≢ n)) → eqb y n ≡ false
     other (inl h) = absurd (no_eq (eqb n y) n y (eqb_tells n y) a.0 (sym h.1))
@@ -166,5 +167,5 @@ apart_of [] d n = omega arith
 apart_of (x ∷ xs) d n = each (eqb_tells x n) (apart_of xs d.1 n)
   where
     each : ((eqb x n ≡ true) × (x ≡ n)) ⊎ ((eqb x n ≡ false) × (x ≢ n)) → times n xs ≤ 1 → cond (eqb x n) 1 0 + times n xs ≤ 1
-    each (inl h) r = (let z : times n xs ≡ 0 = subst (λ m. times m xs ≡ 0) h.1 (none_of x xs d.0) in let o : cond (eqb x n) 1 0 ≡ 1 = ap bit h.0 in omega (arith, z, o))
-    each (inr h) r = (let o : cond (eqb x n) 1 0 ≡ 0 = ap bit h.0 in omega (arith, r, o))
+    each (inl h) r = (let z : times n xs ≡ 0 = subst (λ m. times m xs ≡ 0) h.1 (none_of x xs d.0) in let o : cond (eqb x n) 1 0 ≡ 1 = ap one_if h.0 in omega (arith, z, o))
+    each (inr h) r = (let o : cond (eqb x n) 1 0 ≡ 0 = ap one_if h.0 in omega (arith, r, o))

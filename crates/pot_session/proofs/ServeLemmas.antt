@@ -21,7 +21,7 @@ use Rattle.pot_rows.specs.Rows.{PassRow, view_at}
 use Rattle.pot_rows.specs.Ends.{HasAllParts}
 use Rattle.pot_shared.specs.declared.member.GroupOrigin.{GroupOrigin}
 use Rattle.pot_shared.specs.Ready.{GroupPass, GroupPasses, AreReady}
-use Rattle.pot_shared.specs.Catalogs.{IndexPass, IndexPasses}
+use Rattle.pot_shared.specs.Catalogs.{IndexPass, IndexPasses, records_in}
 use Rattle.pot_shared.specs.Sharing.{HasAllButKept}
 use Rattle.pot_store.specs.Works.{Known, known, section_of}
 use Rattle.pot_commands.specs.declared.working.Ending.{Ending}
@@ -33,7 +33,7 @@ use Rattle.pot_session.specs.declared.status.Status.{Status}
 use Rattle.pot_session.specs.declared.status.Status.TheVariants as status
 use Rattle.pot_session.specs.declared.stop.Stop.{Stop}
 use Rattle.pot_session.specs.declared.stop.Stop.TheVariants as stop
-use Rattle.pot_session.specs.Groups.{AreFirstPasses, table_read, tables_read, records_in, records_read}
+use Rattle.pot_session.specs.Groups.{AreFirstPasses, table_read, tables_read, records_read}
 use Rattle.pot_session.proofs.Lists.{at_same}
 use Rattle.pot_session.specs.Serving.{Rooms, Serves, Closed, Closes, IsCloseStop, IsEnd, setting_of, status_after}
 

@@ -15,7 +15,7 @@ use Rattle.pot_shared.specs.declared.member.GroupOrigin.{GroupOrigin}
 use Rattle.pot_shared.specs.declared.catalog.CatalogOrigin.{CatalogOrigin}
 use Rattle.pot_shared.specs.Members.{entries_of, mark_at}
 use Rattle.pot_shared.specs.Ready.{GroupPass, GroupPasses, IsTableOf}
-use Rattle.pot_shared.specs.Catalogs.{IndexPasses}
+use Rattle.pot_shared.specs.Catalogs.{IndexPasses, records_in}
 use Rattle.pot_store.specs.Works.{Known, gained}
 use Rattle.pot_commands.specs.Ends.{AllSole, AllStay, AllWent}
 use Rattle.pot_commands.specs.Holding.{times}
@@ -69,11 +69,6 @@ table_read (Some o) = o.first ∷ []
 -- the tables that the groups of a row began with, in order
 abbrev pub tables_read : GroupPasses → List Table
 tables_read row = flat_map (λ (v : GroupPass). table_read v.origin) row.views
-
--- the records that the index of a pass began with
-abbrev pub records_in : Option CatalogOrigin → List Record
-records_in None = []
-records_in (Some o) = o.read
 
 abbrev pub records_read : IndexPasses → List Record
 records_read row = records_in (view_at row 0).origin

@@ -1,5 +1,5 @@
 -- What the contracts see of an index under its turn, with the passes that it keeps.
-use Rattle.std.specs.Prelude.{◌≡◌, ◌<◌, ◌⊎◌, ℕ, List, [], false, Option, IfSome, Contains, length}
+use Rattle.std.specs.Prelude.{◌≡◌, ◌<◌, ◌⊎◌, ℕ, List, [], false, Option, IfSome, Contains, length, Some, None}
 use Rattle.pot_bytes.specs.declared.rack.Rack.{Rack}
 use Rattle.pot_index.specs.declared.entry.IndexEntry.TheVariants.{Publish}
 use Rattle.pot_index.specs.declared.entry.Logged.{Logged}
@@ -49,6 +49,11 @@ IndexPass = View Logged CatalogOrigin
 
 abbrev pub IndexPasses : Type 0
 IndexPasses = PassRow Logged CatalogOrigin
+
+-- the records that the index of a pass began with
+abbrev pub records_in : Option CatalogOrigin → List Record
+records_in None = []
+records_in (Some o) = o.read
 
 -- the index is that of the rack, over groups under these turns
 abbrev pub IsIndexOf : Rack → List TurnName → Option CatalogOrigin → Type 0

@@ -1,6 +1,6 @@
 -- The slots of a stripe are read one after the other, their blocks are digested, and what is missing is noted.
 use Rattle.std.proofs.Common.{◌≡◌, ◌≢◌, inl, inr, ℕ, zero, suc, ◌+◌, ◌<◌, ◌≤◌, List, [], ◌∷◌, ◌++◌, length, length-set, set, get_or, Option, Some, None, Bool, true, false, ◌&&◌, IsTrue, Contains, refl, sym, ap, ◌∙◌, subst, arith, append-nil, if◌then◌else◌}
-use Rattle.std.specs.Prelude.{◌==◌, Result, Ok, Err, slice_get}
+use Rattle.std.specs.Prelude.{◌==◌, Result, Ok, Err, slice_get, map}
 use Rattle.std.proofs.lemmas.Bool.{false≢true}
 use Rattle.std.proofs.lemmas.Bool.Decides.{eqb_tells}
 use Rattle.std.proofs.lemmas.Option.{same_Some, none-some, slice_get-get_or}
@@ -9,7 +9,6 @@ use Rattle.pot_bytes.specs.Digests.{digest_bytes}
 use Rattle.pot_bytes.specs.Lists.{IsBlock}
 use Rattle.pot_bytes.proofs.Elements.{element_at}
 use Rattle.pot_bytes.proofs.Basis.{last_or}
-use Rattle.pot_sealed.specs.Sealing.{digest_of as sealed_digest}
 use Rattle.pot_outside.specs.Counts.{Rose}
 use Rattle.pot_outside.specs.declared.archive.Held.{Held as IsHeld}
 use Rattle.pot_outside.specs.declared.archive.Held.TheVariants.{Held, Absent}
@@ -149,8 +148,8 @@ digest_is block bytes d v e = ap made (e ∙ ap digest_bytes v)
 
 -- four digests that were taken side by side are those of the next four blocks
 pub digests_four : (n : ℕ) (readings : List Reading) (digests four : List Digest) (z : Digest) (p q r s : Reading) → length readings ≡ 20 → n + 4 ≤ 20
-    → four ≡ sealed_digest (get_or readings n p).block ∷ sealed_digest (get_or readings (n + 1) q).block ∷ sealed_digest (get_or readings (n + 2) r).block
-    ∷ sealed_digest (get_or readings (n + 3) s).block ∷ []
+    → four ≡ map (λ block. record { bytes = digest_bytes block })
+        ((get_or readings n p).block ∷ (get_or readings (n + 1) q).block ∷ (get_or readings (n + 2) r).block ∷ (get_or readings (n + 3) s).block ∷ [])
     → AreDigests n readings digests → AreDigests (n + 4) readings (set (set (set (set digests n (get_or four 0 z)) (n + 1) (get_or four 1 z)) (n + 2) (get_or four 2 z)) (n + 3) (get_or four 3 z))
 unfolding digest_of
 digests_four n readings digests four z p q r s long le e below =
