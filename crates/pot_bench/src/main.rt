@@ -11,6 +11,7 @@
 //! archive gone: to standard output goes how many bytes they digest, and whether the fetched bytes are those of the
 //! files. It is no part of the archive.
 #![tactic(auto)]
+
 ghost use Rattle.std.specs.Prelude.{◌<◌};
 
 mod filing;

@@ -149,7 +149,7 @@ digest_is block bytes d v e = ap made (e ∙ ap digest_bytes v)
 -- four digests that were taken side by side are those of the next four blocks
 pub digests_four : (n : ℕ) (readings : List Reading) (digests four : List Digest) (z : Digest) (p q r s : Reading) → length readings ≡ 20 → n + 4 ≤ 20
     → four ≡ map (λ block. record { bytes = digest_bytes block })
-        ((get_or readings n p).block ∷ (get_or readings (n + 1) q).block ∷ (get_or readings (n + 2) r).block ∷ (get_or readings (n + 3) s).block ∷ [])
+    ((get_or readings n p).block ∷ (get_or readings (n + 1) q).block ∷ (get_or readings (n + 2) r).block ∷ (get_or readings (n + 3) s).block ∷ [])
     → AreDigests n readings digests → AreDigests (n + 4) readings (set (set (set (set digests n (get_or four 0 z)) (n + 1) (get_or four 1 z)) (n + 2) (get_or four 2 z)) (n + 3) (get_or four 3 z))
 unfolding digest_of
 digests_four n readings digests four z p q r s long le e below =
