@@ -2,6 +2,7 @@
 use Rattle.std.proofs.Common.{◌≡◌, inl, ℕ, List, [], ◌∷◌, refl, ap, sym, ◌∙◌, subst}
 use Rattle.std.specs.Prelude.{map}
 use lib.Seq.{drop-length}
+use Rattle.pot_bytes.specs.declared.rack.Geometry.{Geometry}
 use Rattle.pot_bytes.specs.declared.rack.Rack.{Rack}
 use Rattle.pot_index.specs.Entries as index
 use Rattle.pot_pads.specs.Pads.{Pads, pads_of}
@@ -14,6 +15,9 @@ use Rattle.pot_replies.specs.Sections.{Section, mine, IsSilent}
 use Rattle.pot_shared.specs.Ready.{GroupPasses, AreReady}
 use Rattle.pot_shared.specs.Catalogs.{IndexPasses, IsIndexReady}
 use Rattle.pot_store.specs.Works.{of_job, Known, known, JobWorked}
+use Rattle.pot_replies.specs.Renewals.{renewing}
+use Rattle.pot_store.specs.Drawing.{blocks_from}
+use Rattle.pot_store.specs.Renewals.{RenewsFrom}
 use Rattle.pot_store.specs.Stores.{DrawsFrom, drawn_blocks}
 use Rattle.pot_store.proofs.WorkLemmas.{row_stays, index_idle}
 use Rattle.pot_script.specs.declared.reply.Reply.{Reply}
@@ -30,6 +34,7 @@ stayed_worked rack names turn job row i ready index_ready = record {
 
 pub idle_silent : (s : Setting) (job : ℕ) (c : Command) (w : Section) → IsSilent (mine job w) → IsIdle s job c w
 idle_silent s job (commands.Fetch name) w h = inl h
+idle_silent s job (commands.Renew name geometry) w h = inl (inl h)
 idle_silent s job _ w h = h
 
 -- the stream of a job draws what its session means
@@ -37,11 +42,17 @@ pub draws : (s : Setting) (rack : Rack) (seed : List ℕ) (session job : ℕ) (k
     → DrawsFrom s pads job file
 draws s rack seed session job k pads file is same = is.drawn s.rack.geometry job file ∙ ap (λ p. map digest_of (drawn_blocks s p file)) (sym same)
 
+-- and so does the stream of a new split
+pub renews : (s : Setting) (rack : Rack) (seed : List ℕ) (session job : ℕ) (k : Known) (pads : Pads) (geometry : Geometry) → IsSessionSetting s rack seed session k → pads ≡ pads_of seed session (renewing job)
+    → RenewsFrom s pads geometry job
+renews s rack seed session job k pads geometry is same file = is.drawn geometry (renewing job) file ∙ ap (λ p. map digest_of (blocks_from geometry file p)) (sym same)
+
 -- a command that is worked and is no `status` has one reply
 pub single : (groups : ℕ) (c : Command) → IsPlain groups c → (c ≡ commands.Status → ⊥) → IsSingle groups c
 single groups commands.Status w ne = absurd (ne refl)
 single groups (commands.Store name file) w ne = w
 single groups (commands.Fetch name) w ne = w
+single groups (commands.Renew name geometry) w ne = w
 single groups commands.List w ne = w
 single groups (commands.Scrub group) w ne = w
 single groups (commands.Repair group) w ne = w
@@ -54,6 +65,7 @@ plain groups (commands.Migrate from to) w ne nm = absurd (nm from to refl)
 plain groups commands.Status w ne nm = w
 plain groups (commands.Store name file) w ne nm = w
 plain groups (commands.Fetch name) w ne nm = w
+plain groups (commands.Renew name geometry) w ne nm = w
 plain groups commands.List w ne nm = w
 plain groups (commands.Scrub group) w ne nm = w
 plain groups (commands.Repair group) w ne nm = w

@@ -84,6 +84,7 @@ pub judged : (s : Setting) (job : ℕ) (c : Command) (rs : List Reply) (w : Sect
 judged s job (commands.Migrate from to) (r ∷ []) w its row = row its
 judged s job (commands.Store name file) rs w its row = began_none s job (commands.Store name file) rs w (λ a b e. cc e) its row
 judged s job (commands.Fetch name) rs w its row = began_none s job (commands.Fetch name) rs w (λ a b e. cc e) its row
+judged s job (commands.Renew name geometry) rs w its row = began_none s job (commands.Renew name geometry) rs w (λ a b e. cc e) its row
 judged s job commands.List rs w its row = began_none s job commands.List rs w (λ a b e. cc e) its row
 judged s job commands.Status rs w its row = began_none s job commands.Status rs w (λ a b e. cc e) its row
 judged s job (commands.Scrub group) rs w its row = began_none s job (commands.Scrub group) rs w (λ a b e. cc e) its row

@@ -1,6 +1,7 @@
 //! One command, and its replies.
-ghost use Rattle.std.specs.Prelude.{◌≡◌, ◌≢◌, ◌<◌, ◌∷◌, [], ℕ, List, Err, IsErrOf, IsTrue, MatchResult, length};
+ghost use Rattle.std.specs.Prelude.{◌≡◌, ◌≢◌, ◌<◌, ◌^◌, ◌∷◌, [], ℕ, List, Err, IsErrOf, IsTrue, MatchResult, length};
 ghost use Rattle.pot_bytes.specs.Rack.{IsRack};
+ghost use Rattle.pot_bytes.specs.declared.rack.Geometry.{Geometry};
 ghost use Rattle.pot_outside.specs.Counts.{Caused};
 ghost use Rattle.pot_rows.specs.Rows.{HasMoreParts};
 ghost use Rattle.pot_replies.specs.Settings.{Setting};
@@ -11,9 +12,10 @@ ghost use Rattle.pot_store.specs.Works.{JobWorked, JobAlone, known, section_of};
 ghost use Rattle.pot_store.specs.Stores.{StoreRow};
 ghost use Rattle.pot_store.specs.Fetches.{FetchRow, IsUnfinished};
 ghost use Rattle.pot_store.specs.Stored.{FetchGives};
+ghost use Rattle.pot_store.specs.Renewals.{RenewRow};
 ghost use Rattle.pot_mend.specs.Scrubs.{ScrubRow};
 ghost use Rattle.pot_mend.specs.Repairs.{RepairRow};
-ghost use Rattle.pot_commands.specs.Rows.{HasFilled, IsSessionSetting, IsStoreReply, IsFetchReply, IsScrubReply, IsRepairReply, AreReplies, IsIdle, IsPlain, IsSingle, IsWorked};
+ghost use Rattle.pot_commands.specs.Rows.{HasFilled, IsSessionSetting, IsStoreReply, IsFetchReply, IsRenewReply, IsUnrenewed, IsScrubReply, IsRepairReply, AreReplies, IsIdle, IsPlain, IsSingle, IsWorked};
 ghost use Rattle.pot_commands.specs.Taking.{AreUsed, Took, asks, lending};
 
 use crate::arriving::{Unanswered, replace_archive};
@@ -25,9 +27,14 @@ use pot_outside::{Archive, Room};
 use pot_pads::PadStream;
 use pot_script::{Command, Reply};
 use pot_shared::{Passes, Vault};
-use pot_store::{FetchFault, StoreFault, Stored, fetch_file, store_file};
+use pot_store::{
+    FetchFault, RenewFileFault, StoreFault, Stored, fetch_file, renew_file, store_file,
+};
 use std::alloc::Global;
 use std::sync::Wait;
+
+/// The first of the numbers whose streams new splits are drawn from: the job's number is added.
+const RENEWING: u32 = 0x8000_0000;
 
 /// The reply to a store, by its answer. `Strange` has none, and comes only where another pass logged an entry of the job.
 fn store_reply(name: &Name, answer: Result<Stored, StoreFault>) -> Result<Reply, NoMemory>
@@ -88,6 +95,46 @@ fn fetch_reply(name: &Name, answer: Result<Vec<u8>, FetchFault>) -> Result<Reply
     }
 }
 
+/// The reply to a renewal, by its answer.
+fn renew_reply(name: &Name, answer: Result<Stored, RenewFileFault>) -> Result<Reply, NoMemory>
+    ensures { (s : Setting) → (job : ℕ) → (geometry : Geometry) → (w : Section) → RenewRow s job name.now geometry answer w → MatchResult result (λ reply. IsRenewReply s job name.now geometry reply w) (λ e. IsUnrenewed s job name.now geometry w) }
+{
+    let name = *name;
+    match answer {
+        Ok(stored) => Ok(Reply::Renewed {
+            name,
+            pieces: stored.pieces,
+            shards: stored.shards,
+        }),
+        Err(RenewFileFault::IndexLogFull) => Ok(Reply::IndexLogFull),
+        Err(RenewFileFault::Absent) => Ok(Reply::Absent { name }),
+        Err(RenewFileFault::TooOften) => Ok(Reply::Often { name }),
+        Err(RenewFileFault::Faulted { group, column }) => Ok(Reply::Fault { group, column }),
+        Err(
+            RenewFileFault::Lost {
+                piece,
+                fragment,
+                have,
+                need,
+            },
+        ) => Ok(Reply::Lost {
+            name,
+            piece,
+            fragment,
+            have,
+            need,
+        }),
+        Err(RenewFileFault::LogFull { group }) => Ok(Reply::LogFull { group }),
+        Err(RenewFileFault::Odd { wanted, found }) => Ok(Reply::Odd {
+            name,
+            wanted,
+            found,
+        }),
+        Err(RenewFileFault::Full { group }) => Ok(Reply::Full { group }),
+        Err(RenewFileFault::NoMemory) => Err(NoMemory),
+    }
+}
+
 /// The reply to a scrub, by its answer.
 fn scrub_reply(group: u8, answer: Result<Scrubbed, MendFault>) -> Reply
     ensures { (s : Setting) → (job : ℕ) → (w : Section) → ScrubRow s job group answer w → IsScrubReply s job group result w }
@@ -133,9 +180,8 @@ fn answer_one<A: Archive, R: Wait>(
     requires index { IsIndexReady vault.now.rack vault.now.groups vault.now.index passes.old.index }
     requires parts { HasMoreParts 1 passes.old.groups }
     requires rack { IsRack vault.now.rack }
-    requires parity { vault.now.rack.parity ≡ 1 }
     requires count { length vault.now.groups ≡ vault.now.rack.groups }
-    requires job { 0 < job }
+    requires job { (0 < job) × (job < 2 ^ 31) }
     requires single { IsSingle vault.now.rack.groups command.now }
     ensures ready { AreReady vault.now.rack vault.now.groups passes.new.groups }
     ensures index { IsIndexReady vault.now.rack vault.now.groups vault.now.index passes.new.index }
@@ -152,6 +198,22 @@ fn answer_one<A: Archive, R: Wait>(
             let mut pads = PadStream::new(seed, session, job);
             let fetched = fetch_file(rt, alloc, vault, passes, job, name, &mut pads);
             fetch_reply(name, fetched)
+        }
+        Command::Renew { name, geometry } => {
+            let mut blinds = PadStream::new(seed, session, job);
+            let pads = PadStream::new(seed, session, RENEWING + job);
+            let renewed = renew_file(
+                rt,
+                alloc,
+                vault,
+                passes,
+                job,
+                name,
+                geometry,
+                &mut blinds,
+                pads,
+            );
+            renew_reply(name, renewed)
         }
         Command::List => list_names(rt, alloc, vault, passes, job),
         Command::Scrub { group } => {
@@ -185,9 +247,8 @@ fn answer_plain<A: Archive, R: Wait>(
     requires index { IsIndexReady vault.now.rack vault.now.groups vault.now.index passes.old.index }
     requires parts { HasMoreParts 1 passes.old.groups }
     requires rack { IsRack vault.now.rack }
-    requires parity { vault.now.rack.parity ≡ 1 }
     requires count { length vault.now.groups ≡ vault.now.rack.groups }
-    requires job { 0 < job }
+    requires job { (0 < job) × (job < 2 ^ 31) }
     requires plain { IsPlain vault.now.rack.groups command.now }
     ensures ready { AreReady vault.now.rack vault.now.groups passes.new.groups }
     ensures index { IsIndexReady vault.now.rack vault.now.groups vault.now.index passes.new.index }
@@ -225,9 +286,8 @@ pub fn answer<R: Room, X: Wait>(
     requires index { IsIndexReady vault.now.rack vault.now.groups vault.now.index passes.old.index }
     requires parts { HasMoreParts 1 passes.old.groups }
     requires rack { IsRack vault.now.rack }
-    requires parity { vault.now.rack.parity ≡ 1 }
     requires count { length vault.now.groups ≡ vault.now.rack.groups }
-    requires job { 0 < job }
+    requires job { (0 < job) × (job < 2 ^ 31) }
     requires worked { IsWorked vault.now.rack.groups command.now }
     requires filled { HasFilled vault.now.rack (known passes.old.groups passes.old.index) }
     requires used { AreUsed (R.out room.old) passes.old.groups }

@@ -50,9 +50,8 @@ fn work_one<K: Sink, R: Room, X: Wait>(
     requires index { IsIndexReady vault.now.rack vault.now.groups vault.now.index passes.old.index }
     requires parts { HasMoreParts 1 passes.old.groups }
     requires rack { IsRack vault.now.rack }
-    requires parity { vault.now.rack.parity ≡ 1 }
     requires count { length vault.now.groups ≡ vault.now.rack.groups }
-    requires job { 0 < job }
+    requires job { (0 < job) × (job < 2 ^ 31) }
     requires worked { IsWorked vault.now.rack.groups command.now }
     requires filled { HasFilled vault.now.rack (known passes.old.groups passes.old.index) }
     requires used { AreUsed (R.out room.old) passes.old.groups }
@@ -99,7 +98,6 @@ pub fn work<K: Sink, R: Room, X: Wait>(
     requires index { IsIndexReady vault.now.rack vault.now.groups vault.now.index passes.old.index }
     requires parts { HasMoreParts 1 passes.old.groups }
     requires rack { IsRack vault.now.rack }
-    requires parity { vault.now.rack.parity ≡ 1 }
     requires count { length vault.now.groups ≡ vault.now.rack.groups }
     requires few { length commands.now < 2 ^ 31 }
     requires filled { HasFilled vault.now.rack (known passes.old.groups passes.old.index) }

@@ -1,3 +1,4 @@
+pub mod DiskLemmas
 pub mod CallLemmas
 pub mod LossLemmas
 pub mod RoomLemmas

@@ -22,6 +22,10 @@ is_due c = list_any (λ n. n == c.made) c.fails.items
 abbrev pub begun : Calls → Calls
 begun c = record c { made = raised c.made; faults = (if is_due c then raised c.faults else c.faults) }
 
+-- after one more fault
+abbrev pub failing : Calls → Calls
+failing c = record c { faults = raised c.faults }
+
 -- after a call found no memory and had no answer for that
 abbrev pub starving : Calls → Calls
 starving c = record c { faults = raised c.faults; starved = true }

@@ -1,6 +1,6 @@
 ghost use Rattle.std.specs.Prelude.{◌≡◌, ◌≤◌, IsTrue};
 ghost use Rattle.pot_outside.specs.Counts.{Caused, Rose};
-ghost use Rattle.pot_doubles.specs.Calls.{IsFresh, is_due, begun, starving, covering};
+ghost use Rattle.pot_doubles.specs.Calls.{IsFresh, is_due, begun, starving, failing, covering};
 
 /// The calls of a double so far: which ones are to fail, and how often it failed.
 #[derive(Drop)]
@@ -45,6 +45,14 @@ impl Calls {
             self.faults = self.faults.saturating_add(1);
         }
         due
+    }
+
+    /// Counts a fault for a call that fails for another reason.
+    pub fn fail(&mut self)
+        ensures counted { self.new ≡ failing self.old }
+        ensures cause { Caused self.old.faults self.new.faults (Unit {0}) }
+    {
+        self.faults = self.faults.saturating_add(1);
     }
 
     /// Counts a fault for a call that found no memory.

@@ -1,5 +1,5 @@
-//! The outside in memory: sources, sinks, archives, rooms of archives, desks and gates that fail where they
-//! are told to. Tests and runs without files stand on them; no real file is touched here.
+//! The outside in memory: sources, sinks, archives, rooms of archives, disks, desks and gates that fail where
+//! they are told to. Tests and runs without files stand on them; no real file is touched here.
 //!
 //! Each double but the gates tells its contents, and numbers its calls from 0. A constructor takes the
 //! numbers of the calls that are to fail. Invariants, each kept by the type that it names:
@@ -8,12 +8,14 @@
 //!    having failed;
 //! 2. every block that a `LossyArchive` holds stands among the blocks that it was ever written;
 //! 3. its count of losses rises exactly at a listed loss and at `lose`;
-//! 4. the sums that it heard are those that `fold` was given and had memory for.
+//! 4. the sums that it heard are those that `fold` was given and had memory for;
+//! 5. a `MemDisk` keeps each write that began and each sync that answered `Ok`.
 #![tactic(auto)]
 
 mod archive;
 mod calls;
 mod desk;
+mod disk;
 mod gate;
 mod losses;
 mod room;
@@ -21,6 +23,7 @@ mod streams;
 
 pub use archive::{Heard, LossyArchive};
 pub use desk::MemDesk;
+pub use disk::MemDisk;
 pub use gate::{OpenGate, PairGate};
 pub use losses::Loss;
 pub use room::MemRoom;

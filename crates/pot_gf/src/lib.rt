@@ -13,7 +13,7 @@ mod polynomial;
 
 pub use field::{field_laws, inv, mul};
 pub use lagrange::weight_at_zero;
-pub use polynomial::{Poly, polynomial_laws};
+pub use polynomial::{Poly, polynomial_laws, value_of};
 
 #[cfg(test)]
 mod tests;

@@ -148,7 +148,7 @@ impl Poly {
 }
 
 /// The value at x of the polynomial with these coefficients, by Horner's form.
-fn value_of(coefficients: &[u8], x: u8) -> u8
+pub fn value_of(coefficients: &[u8], x: u8) -> u8
     ensures { result ≡ value coefficients.now x }
 {
     let mut sum = 0;

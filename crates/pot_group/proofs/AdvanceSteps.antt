@@ -7,7 +7,9 @@ use Rattle.pot_outside.specs.declared.faults.Failed.{Failed}
 use Rattle.pot_machine.specs.declared.entry.Entry.{Entry}
 use Rattle.pot_machine.specs.declared.entry.Entry.TheVariants.{Hop, GaveUp, Fault, Oddly, Mended}
 use Rattle.pot_machine.specs.Slot.{is_live, digest_in}
-use Rattle.pot_machine.specs.Table.{Table, slot_at, serving_at, relay_at, next_column}
+use Rattle.pot_machine.specs.Column.{names}
+use Rattle.pot_machine.specs.Table.{Table, slot_at, column_at, serving_at, relay_at, next_column}
+use Rattle.pot_machine.proofs.Columns.{names_serving}
 use Rattle.pot_machine.specs.Machine.{Legal, after}
 use Rattle.pot_steps.specs.declared.flight.Flight.{Flight}
 use Rattle.pot_steps.specs.Stripe.{Sound, digest_of}
@@ -15,7 +17,7 @@ use Rattle.pot_steps.specs.Flight.{unfolded, weight_in, partial_of}
 use Rattle.pot_steps.specs.Flights.{Acts, flight_in, flights_after, IsFlying, FliesOver, WritesBack, without_flight}
 use Rattle.pot_steps.specs.Holdings.{stripe_of}
 use Rattle.pot_steps.specs.GroupStep.{GroupState}
-use Rattle.pot_steps.specs.RelaySteps.{Logged, AdvanceStep, Hopped, Ended, Faulted, Idle, HearsSum, Hears, ComesTo, Odd}
+use Rattle.pot_steps.specs.RelaySteps.{Logged, Writes, AdvanceStep, Hopped, Ended, Faulted, Idle, HearsSum, Hears, ComesTo, Odd}
 use Rattle.pot_steps.proofs.CallLemmas.{stands, next_within, legal_oddly, odd_broken}
 use Rattle.pot_steps.proofs.FlightLists.{relay_of, relay_of_flight, over_stripe}
 use Rattle.pot_shelves.specs.Shelves.{Shelves, LosesByCount, FoldsAt, Shelved, plain, WritesAt, put_at}
@@ -31,7 +33,7 @@ use Rattle.pot_steps.specs.Calls.{FinishMeans}
 use Rattle.pot_steps.specs.declared.rebuilding.Finished.TheVariants as finished
 use Rattle.pot_group.specs.declared.relaying.AdvanceFault.{AdvanceFault}
 use Rattle.pot_group.specs.declared.relaying.AdvanceFault.TheVariants as failed
-use Rattle.pot_group.proofs.RelayExits.{hop_step, missing, quiet_act, writes_back, untouched}
+use Rattle.pot_group.proofs.RelayExits.{hop_step, missing, quiet_act, unwritten, writes_back, untouched}
 
 module _ (told : Type 0) (g : GroupView) (now : Shelves) (job : ℕ) (f : Flight) (c : ℕ) (settled : IsSettled told g) (room : length g.log < log_bound)
     (here : flight_in g.flights f.relay.stripe ≡ Some f) (next : next_column g.table f.relay ≡ Some c) (within : f.relay.stripe < g.table.stripes)
@@ -52,6 +54,7 @@ module _ (told : Type 0) (g : GroupView) (now : Shelves) (job : ℕ) (f : Flight
     lost = (λ n m b e. (loses t n).keeps m b e);
     acts = acts;
     loses = (λ n m b e. e);
+    elsewhere = (λ n m b ne e. (loses t n).keeps m b e);
   }
 
   pub gave_up : Legal g.table (GaveUp job f.relay.stripe f.relay.target c)
@@ -205,6 +208,7 @@ module _ (told : Type 0) (g : GroupView) (job : ℕ) (f : Flight) (settled : IsS
       lost = (λ n q b e. e);
       acts = (λ n k b ln lk l e. e);
       loses = (λ n q b e. e);
+      elsewhere = (λ n q b ne e. e);
     },
     (λ n. refl),
     odd_broken g.table g.shelves.held f wanted settled.table stood next (fly k) m.4 (λ q. m.3 (q ∙ sym m.2)),
@@ -237,6 +241,8 @@ module _ (told : Type 0) (g : GroupView) (job : ℕ) (f : Flight) (settled : IsS
             (writes_back told g new.shelves job f.relay.stripe f.relay.target f settled room here m.0.legal (digest ∙ ap (λ b. Some (digest_of b)) is)
             (subst (λ b. WritesAt told (serving_at g.table f.relay.stripe f.relay.target) f.relay.stripe b (Ok (tt)) g.shelves new.shelves) is m.1) t);
         loses = (λ n q b e. (subst (λ left. LosesByCount (put_at g.shelves.held (serving_at g.table f.relay.stripe f.relay.target) f.relay.stripe left) g.shelves new.shelves) ((m.1.wrote t).1 ∙ ap Some is) (m.1.wrote t).2 n).keeps q b e);
+        elsewhere = (λ n q b ne e. sym (unwritten (Writes g.table (Mended job f.relay.stripe f.relay.target)) g.shelves.held (serving_at g.table f.relay.stripe f.relay.target) f.relay.stripe (m.1.wrote t).0 (refl, refl) n q ne)
+            ∙ ((m.1.wrote t).2 n).keeps q b e);
       },
       m.1.heard t,
     )
@@ -252,6 +258,9 @@ module _ (told : Type 0) (g : GroupView) (job : ℕ) (f : Flight) (settled : IsS
         lost = (λ n q b e. e);
         acts = (λ n k b ln lk live h. sym (untouched told g new.shelves job f block settled room here next (m.2.1.wrote t).0 n k lk live) ∙ h);
         loses = (λ n q b e. ((m.2.1.wrote t).2 n).keeps q b e);
+        elsewhere = (λ n q b ne e. sym (unwritten (Writes g.table (Fault job f.relay.stripe column)) g.shelves.held (serving_at g.table f.relay.stripe f.relay.target) f.relay.stripe (m.2.1.wrote t).0
+            (subst (λ k. IsTrue (names (column_at g.table k) (serving_at g.table f.relay.stripe f.relay.target))) (sym m.0) (names_serving (column_at g.table f.relay.target) f.relay.stripe), refl) n q ne)
+            ∙ ((m.2.1.wrote t).2 n).keeps q b e);
       },
       inr (subst (λ o. IsSomeAnd o (λ r. next_column g.table r ≡ None)) (sym stood) next, subst (λ o. IsSomeAnd o (λ r. r.target ≡ column)) (sym stood) (sym m.0), m.2.1.heard t),
     )

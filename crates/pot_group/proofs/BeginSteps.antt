@@ -122,6 +122,7 @@ logged_in told g settled room e given legal acts = record {
   lost = (λ n m b e. e);
   acts = acts;
   loses = (λ n m b e. e);
+  elsewhere = (λ n m b ne e. e);
 }
 
 module _ {A : Type 0} (told : Type 0) (meaning : A → Meaning) (old : GroupParts A) (job s c : ℕ) (blind : List ℕ)

@@ -97,7 +97,7 @@ module _ (told : Type 0) (g : GroupView) (s c : ℕ) (m : Moving) (settled : IsS
   in_column : (column_at g.table c) ≡ record { home = (column_at g.table c).home; moving = Some m }
   in_column = ap (λ o. record { home = (column_at g.table c).home; moving = o }) moving
 
-  target_named : IsTrue (names (column_at g.table c) m.to)
+  pub target_named : IsTrue (names (column_at g.table c) m.to)
   target_named = subst (λ o. IsTrue (names_moved o (column_at g.table c).home m.to)) (sym moving) (named_target m (column_at g.table c).home)
 
   pub target_there : Contains g.shelves.numbers m.to

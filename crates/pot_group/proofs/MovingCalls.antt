@@ -17,6 +17,7 @@ use Rattle.pot_group.specs.Moving.{Comes, MoveUse}
 use Rattle.pot_steps.specs.Entries.{LosesAtLive}
 use Rattle.pot_steps.specs.Flights.{Acts}
 use Rattle.pot_steps.specs.Holdings.{Holdings}
+use Rattle.pot_steps.specs.RelaySteps.{Writes}
 use Rattle.pot_group.proofs.Brought.{held_same}
 use Rattle.pot_group.proofs.MoveExits.{move_begin_settled, swap_settled}
 
@@ -58,9 +59,9 @@ swap_legal told meaning old mid job c to settled column fresh e =
 module _ {A : Type 0} (told : Type 0) (meaning : A → Meaning) (old mid new : GroupParts A) (shelf : Shelf A) (settled : IsSettled told (view_of meaning old)) (room : length old.log < log_bound)
     (fresh : Contains (plain meaning old.shelves).numbers shelf.number → ⊥) (em : mid ≡ with_archives old mid.shelves)
     (brings : Brings told shelf.number (meaning shelf.archive) (plain meaning old.shelves) (plain meaning mid.shelves)) where
-  came_by : (e : Entry) → Legal old.table e → ((h h' : Holdings) → LosesAtLive old.table h h' → Acts old.table old.flights [] e h h')
+  came_by : (e : Entry) → Legal old.table e → ((h h' : Holdings) → LosesAtLive old.table h h' → Acts old.table old.flights [] e h h') → ((slot : ℕ) → Writes old.table e shelf.number slot)
       → Comes told meaning e shelf (view_of meaning old) (view_of meaning (acted (with_archives old mid.shelves) e []))
-  came_by e legal acts = record {
+  came_by e legal acts written = record {
     room = room;
     fresh = fresh;
     acts = record { number = refl; first = refl; legal = legal; table = refl; log = refl; flights = refl };
@@ -78,6 +79,7 @@ module _ {A : Type 0} (told : Type 0) (meaning : A → Meaning) (old mid new : G
         acts = acts (view_of meaning old).shelves.held (plain meaning mid.shelves).held
             (λ n k b ln lk live q. sym (held_same told (view_of meaning old) shelf.number (meaning shelf.archive) (plain meaning mid.shelves) settled fresh brings n k lk) ∙ q);
         loses = (λ n m b q. q);
+        elsewhere = (λ n m b ne q. sym (brings.same_held n m (λ is. ne (subst (λ n. Writes old.table e n m) (sym is) (written m)))) ∙ q);
       };
       brings = record { blocks = brings.blocks; sums = brings.sums; others = brings.same_held; silent = brings.same_heard };
     };
@@ -86,12 +88,12 @@ module _ {A : Type 0} (told : Type 0) (meaning : A → Meaning) (old mid new : G
   pub begun_comes : (job c : ℕ) → c < width old.table → (column_at old.table c).moving ≡ None → new ≡ acted mid (MoveBegin job c shelf.number) []
       → Comes told meaning (MoveBegin job c shelf.number) shelf (view_of meaning old) (view_of meaning new)
   begun_comes job c column still en = subst (λ (w : GroupParts A). Comes told meaning (MoveBegin job c shelf.number) shelf (view_of meaning old) (view_of meaning w)) (sym (en ∙ ap (λ (w : GroupParts A). acted w (MoveBegin job c shelf.number) []) em))
-      (came_by (MoveBegin job c shelf.number) ((column, unheld told (view_of meaning old) shelf.number settled fresh), still) (λ h h' l. l))
+      (came_by (MoveBegin job c shelf.number) ((column, unheld told (view_of meaning old) shelf.number settled fresh), still) (λ h h' l. l) (λ slot. refl))
 
   pub swapped_comes : (job c : ℕ) → c < width old.table → new ≡ acted mid (Swapped job c shelf.number) []
       → Comes told meaning (Swapped job c shelf.number) shelf (view_of meaning old) (view_of meaning new)
   swapped_comes job c column en = subst (λ (w : GroupParts A). Comes told meaning (Swapped job c shelf.number) shelf (view_of meaning old) (view_of meaning w)) (sym (en ∙ ap (λ (w : GroupParts A). acted w (Swapped job c shelf.number) []) em))
-      (came_by (Swapped job c shelf.number) (column, unheld told (view_of meaning old) shelf.number settled fresh) (λ h h' l. l))
+      (came_by (Swapped job c shelf.number) (column, unheld told (view_of meaning old) shelf.number settled fresh) (λ h h' l. l) (λ slot. refl))
 
 -- an archive that came is there
 pub contains_last : (xs : List ℕ) (n : ℕ) → Contains (xs ++ n ∷ []) n

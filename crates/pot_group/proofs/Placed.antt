@@ -171,7 +171,18 @@ module _ (told : Type 0) (job : ℕ) (p q block : List ℕ) (old mid : GroupView
   faulted_made = (
     skips job f.passed ++ entry.Fault job f.now.table.cursor.stripe column ∷ [],
     fault_logged,
-    (f.passed, f.now.table.cursor.stripe, inl (refl, inr (omega (arith, f.means.3, f.passes.data_columns))), failed_here, f.passes.gones),
+    (
+      f.passed,
+      f.now.table.cursor.stripe,
+      inl (
+        refl,
+        ap (λ u. u.cursor.stripe) (sym f.means.0.replay.1),
+        subst (λ u. TakesBlocks u u.cursor.stripe) (sym f.means.0.replay.1) f.means.2,
+        inr (omega (arith, f.means.3, f.passes.data_columns)),
+      ),
+      failed_here,
+      f.passes.gones,
+    ),
   )
 
   pub faulted_step : length mid.log ≤ log_bound → told → PutStep job block (put_as (Err (fault.Faulted column))) (state_of old) (state_of mid)
@@ -283,7 +294,12 @@ module _ (told : Type 0) (job : ℕ) (p q block : List ℕ) (old mid new : Group
     (
       f.passed,
       mid.table.cursor.stripe,
-      inl (refl, inl (m.1 ∙ sym (ap (λ u. u.cursor.column) m.0.logs.replay.1))),
+      inl (
+        refl,
+        ap (λ u. u.cursor.stripe) (sym m.0.logs.replay.1),
+        subst (λ u. TakesBlocks u u.cursor.stripe) (sym (m.0.logs.replay.1 ∙ f.means.0.replay)) f.means.2,
+        inl (m.1 ∙ sym (ap (λ u. u.cursor.column) m.0.logs.replay.1)),
+      ),
       failed mid.table.cursor.stripe column m.0.fails,
       f.passes.gones,
     ),

@@ -45,6 +45,13 @@ use Rattle.pot_group.proofs.Settled.{settled_act, settled_loses, same_columns, g
 use Rattle.pot_group.proofs.Reading.{covers_rise, served}
 use Rattle.pot_machine.specs.Rules.{IsStanding}
 
+-- a write leaves what is held elsewhere
+pub unwritten : (Writes : ℕ → ℕ → Type 0) (h : Holdings) (number slot : ℕ) (left : Option (List ℕ)) → Writes number slot → (n q : ℕ) → (Writes n q → ⊥) → put_at h number slot left n q ≡ h n q
+unwritten Writes h number slot left here n q apart = put_at-other h number slot left n q (elim (cases_eq n number) [
+  | inl e ↦ inr (λ k. apart (subst (λ n. Writes n q) (sym e) (subst (Writes number) (sym k) here)))
+  | inr ne ↦ inl ne
+])
+
 -- One entry that names no fault. The archives are as they are.
 pub quiet_act : (told : Type 0) (g : GroupView) (e : Entry) (given : List ℕ) → IsSettled told g → Legal g.table e → length g.log < log_bound
     → (after g.table e).columns ≡ g.table.columns → ((c : ℕ) → brought c e ≡ []) → (told → Acts g.table g.flights given e g.shelves.held g.shelves.held)
@@ -159,6 +166,7 @@ module _ (told : Type 0) (g : GroupView) (now : Shelves) (job s c : ℕ) (f : Fl
           lost = (λ n m b e. (loses t n).keeps m b e);
           acts = hop_acts t;
           loses = (λ n m b e. e);
+          elsewhere = (λ n m b ne e. (loses t n).keeps m b e);
         },
         subst (λ o. IsSomeAnd o (λ f. Hears s c f.sum (state_of g) (state_of (record g { table = after g.table (Hop job s c); log = g.log ++ Hop job s c ∷ []; flights = map (flown s c sum) g.flights; shelves = now })))) (sym here)
             (record { here = hears t; others = silent t }),

@@ -15,7 +15,7 @@ use Rattle.pot_machine.specs.Table.{Table, width, slot_at, column_at, serving_at
 use Rattle.pot_machine.specs.Machine.{Legal, after}
 use Rattle.pot_steps.specs.Stripe.{Sound, IsSound}
 use Rattle.pot_steps.specs.Holdings.{stripe_of}
-use Rattle.pot_steps.specs.RelaySteps.{Logged}
+use Rattle.pot_steps.specs.RelaySteps.{Logged, Writes}
 use Rattle.pot_group.specs.declared.reads.Found.TheVariants as found
 use Rattle.pot_group.specs.declared.copying.MoveStep.{MoveStep}
 use Rattle.pot_group.specs.declared.copying.MoveStep.TheVariants as moved
@@ -29,7 +29,8 @@ use Rattle.pot_steps.specs.MoveSteps.{MoveStep as IsMoveStep}
 use Rattle.pot_steps.proofs.MendingSteps.{some_of}
 use Rattle.pot_group.specs.Moving.{CopiesInto, FailedBy, MoveWrites, MovesOn, OnMove, Steps, move_as}
 use Rattle.pot_group.proofs.BeginSteps.{logged_in}
-use Rattle.pot_group.proofs.MoveExits.{beside, copied_settled, copies, move_end_settled, passed_settled, uncopied_settled}
+use Rattle.pot_group.proofs.MoveExits.{beside, copied_settled, copies, move_end_settled, passed_settled, target_named, uncopied_settled}
+use Rattle.pot_group.proofs.RelayExits.{unwritten}
 use Rattle.pot_shelves.proofs.ShelfLemmas.{into_after, keeps_refl, keeps_then, loses_from_then, loses_refl}
 
 some_map : {A : Type 0} {P Q : A → Type 0} (o : Option A) → ((a : A) → P a → Q a) → IsSomeAnd o P → IsSomeAnd o Q
@@ -110,6 +111,7 @@ module _ (told : Type 0) (g : GroupView) (job c : ℕ) (m : Moving) (settled : I
             lost = (λ n q b e. e);
             acts = copies told g m.upto c m settled column moving refl now job block room (copy_legal lt live) sound w k;
             loses = (λ n q b e. (subst (λ left. LosesByCount (put_at g.shelves.held m.to m.upto left) g.shelves now) ((w.wrote k).1) (w.wrote k).2 n).keeps q b e);
+            elsewhere = (λ n q b ne e. sym (unwritten (Writes g.table (Moved job m.upto c true)) g.shelves.held m.to m.upto (w.wrote k).0 (refl, on_move (λ x. m.to ≡ x.to) refl, refl) n q ne) ∙ ((w.wrote k).2 n).keeps q b e);
           },
           w.heard k,
         );
@@ -147,6 +149,7 @@ module _ (told : Type 0) (g : GroupView) (job c : ℕ) (m : Moving) (settled : I
             lost = (λ n q b e. e);
             acts = (λ n q b ln lq live h. sym (beside told g m.upto c m settled column moving refl (w.wrote k).0 n q lq) ∙ h);
             loses = (λ n q b e. ((w.wrote k).2 n).keeps q b e);
+            elsewhere = (λ n q b ne e. sym (unwritten (Writes g.table (Fault job m.upto c)) g.shelves.held m.to m.upto (w.wrote k).0 (target_named told g m.upto c m settled column moving refl, refl) n q ne) ∙ ((w.wrote k).2 n).keeps q b e);
           },
           w.heard k,
           on_move (λ n. n.upto ≡ m.upto) refl,
@@ -214,6 +217,7 @@ module _ {A : Type 0} (told : Type 0) (meaning : A → Meaning) (old : GroupPart
         lost = (λ n q x h. (finds.stays.loses t n).keeps q x h);
         acts = (λ n k x ln lk l h. h);
         loses = (λ n q x h. h);
+        elsewhere = (λ n q x ne h. (finds.stays.loses t n).keeps q x h);
       },
       finds.stays.heard t,
       on_move told (view_of meaning old) job c m settled room column moving (λ n. n.upto ≡ m.upto) refl,
@@ -255,6 +259,7 @@ module _ {A : Type 0} (told : Type 0) (meaning : A → Meaning) (old : GroupPart
       lost = λ n q x h. (stays.loses t n).keeps q x (l.lost n q x h);
       acts = l.acts;
       loses = l.loses;
+      elsewhere = λ n q x ne h. (stays.loses t n).keeps q x (l.elsewhere n q x ne h);
     }
 
     steps_back : (r : Result MoveStep MoveFault) → MovesOn job c r (view_of meaning (with_archives old b)) (view_of meaning new) → told
@@ -314,6 +319,7 @@ module _ {A : Type 0} (told : Type 0) (meaning : A → Meaning) (old : GroupPart
         lost = (λ n q x h. (finds.stays.loses t n).keeps q x h);
         acts = (λ n k x ln lk l h. h);
         loses = (λ n q x h. h);
+        elsewhere = (λ n q x ne h. (finds.stays.loses t n).keeps q x h);
       },
       finds.stays.heard t,
       (λ x. finds.means t x.0 x.1.held (x.1.right ∙ same x.1.digest (sym x.1.live ∙ live))),

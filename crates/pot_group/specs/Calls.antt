@@ -8,7 +8,7 @@ use Rattle.pot_machine.specs.declared.entry.Entry.{Entry}
 use Rattle.pot_machine.specs.declared.entry.Entry.TheVariants as entry
 use Rattle.pot_machine.specs.Slot.{is_unsound}
 use Rattle.pot_machine.specs.Table.{slot_at, column_at, relay_at}
-use Rattle.pot_machine.specs.Machine.{Legal, stuck_by}
+use Rattle.pot_machine.specs.Machine.{Legal, TakesBlocks, stuck_by}
 use Rattle.pot_steps.specs.GroupStep.{PutStep, LookStep, CountStep, Passed, skips, gone_entries, put_entry, look_entries, unkept}
 use Rattle.pot_steps.specs.Mending.{LosesNothing}
 use Rattle.pot_steps.specs.MoveSteps as move
@@ -59,10 +59,11 @@ Makes account row old new = OnGroup account (λ told. Made (row told)) old new
 
 -- A PUT
 
--- a Fault after the stripes passed, at the cursor's column or at a parity column
+-- a Fault after the stripes passed, in the cursor's stripe, which takes blocks, at the cursor's column or at a parity column
 abbrev pub PutNothing : ℕ → List Passed → ℕ → ℕ → GroupView → GroupView → List Entry → Type 0
 PutNothing job passed s column old new entries =
-    (entries ≡ skips job passed ++ entry.Fault job s column ∷ []) × ((column ≡ new.table.cursor.column) ⊎ (old.table.data_columns ≤ column))
+    (entries ≡ skips job passed ++ entry.Fault job s column ∷ []) × (s ≡ new.table.cursor.stripe) × TakesBlocks new.table new.table.cursor.stripe
+    × ((column ≡ new.table.cursor.column) ⊎ (old.table.data_columns ≤ column))
 
 -- the block was put, and this is the first parity column whose block was not
 abbrev pub PutUnkept : ℕ → List Passed → ℕ → ℕ → List ℕ → GroupView → List Entry → Type 0

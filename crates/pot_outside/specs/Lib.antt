@@ -1,4 +1,5 @@
 pub mod Archives
 pub mod Counts
+pub mod Disks
 pub mod Streams
 pub mod Failing

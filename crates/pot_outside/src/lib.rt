@@ -1,4 +1,4 @@
-//! What the program stands on outside: sources, sinks, archives, rooms of archives, desks and gates.
+//! What the program stands on outside: sources, sinks, archives, rooms of archives, disks, desks and gates.
 //!
 //! Each trait has a meaning that some types tell, as those in memory do, and some don't, as real files.
 //! Clauses on the meaning hold where it is told; all others hold for every object. Each object but a gate
@@ -11,6 +11,7 @@
 
 mod archive;
 mod desk;
+mod disk;
 mod faults;
 mod gate;
 mod room;
@@ -18,6 +19,7 @@ mod streams;
 
 pub use archive::{Archive, Held, Marks, Shelf};
 pub use desk::Desk;
+pub use disk::Disk;
 pub use faults::{DeskFault, Failed, RoomFault};
 pub use gate::Gate;
 pub use room::Room;

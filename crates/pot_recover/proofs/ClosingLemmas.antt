@@ -26,7 +26,7 @@ use Rattle.pot_recover.proofs.JoinLemmas.{length-pieces, bytes_in_pieces}
 use Rattle.pot_recover.proofs.MemberLemmas.{length-levels}
 use Rattle.pot_recover.proofs.NextLemmas.{points_same, to_fixed, from_fixed, fixed_once, chain_points, part_at_place, last_shard, returns_is, at_place}
 
-all_in : {X : Type 0} (P : X → Type 0) (xs : List X) (x : X) → AreAll P xs → IsIn xs x → P x
+pub all_in : {X : Type 0} (P : X → Type 0) (xs : List X) (x : X) → AreAll P xs → IsIn xs x → P x
 all_in P [] x a h = absurd h
 all_in P (y ∷ ys) x a (inl e) = subst P e a.0
 all_in P (y ∷ ys) x a (inr h) = all_in P ys x a.1 h

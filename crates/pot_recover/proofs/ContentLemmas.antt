@@ -14,7 +14,7 @@ use Rattle.pot_recover.specs.declared.held.Held.{Held}
 use Rattle.pot_recover.proofs.JoinLemmas.{points_distinct}
 use Rattle.pot_recover.proofs.RingLemmas.{range-bytes}
 
-held_bytes : (k : ℕ) (chain : List Held) → HaveBytes chain → AreBytes (bytes_held k chain)
+pub held_bytes : (k : ℕ) (chain : List Held) → HaveBytes chain → AreBytes (bytes_held k chain)
 held_bytes k [] h j = lit< tt
 held_bytes k (x ∷ chain) h zero = h x (inl refl) k
 held_bytes k (x ∷ chain) h (suc j) = held_bytes k chain (λ y i. h y (inr i)) j

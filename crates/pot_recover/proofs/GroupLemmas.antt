@@ -13,6 +13,7 @@ use Rattle.pot_pointer.specs.Pointers.{blur}
 use Rattle.pot_shard.specs.LinkedRings.{IsLinked}
 use Rattle.pot_shard.specs.declared.shard.Shard.{Shard}
 use Rattle.pot_recover.specs.Groups.{IsAt, AreParts, IsLevelOf, AreLevelsOf, no_shard, shards_at, AreInside, IsChainOf}
+use Rattle.pot_recover.specs.LongScopes.{IsLongChainOf}
 
 pub get_or-mapped : {X Y : Type 0} (f : X → Y) (xs : List X) (i : ℕ) (d : X) (e : Y) → i < length xs → get_or (map f xs) i e ≡ f (get_or xs i d)
 get_or-mapped f [] i d e h = absurd (omega arith)
@@ -194,3 +195,57 @@ module _ (shards : List Shard) (m n bits : ℕ) where
         ))
         (listed_map_on (IsPathBelow bits levels m) (shards_at parts) all is
         (λ a b p q e. positions_same 1 parts a b are (path_chain p.0 a p.2 p.1).1 (path_chain q.0 b q.2 q.1).1 e))
+
+  -- the same for chains of 1 to n
+  module _ (parts : List (List Shard)) (levels : List Level) (are : AreParts shards m n bits 1 parts) (are_levels : AreLevelsOf parts levels)
+      (whole : length parts ≡ n) (blurred : (s : Shard) → IsIn shards s → s.blur ≡ bits) where
+    pub long_path : (k : ℕ) (c : List ℕ) → IsPath bits levels k c → k < n
+        → IsLongChainOf shards m n (shards_at parts c) × AreInside parts c × (length (shards_at parts c) ≡ suc k)
+    long_path k c path less = by parts levels c are are_levels whole path
+      where
+        by : (parts : List (List Shard)) (levels : List Level) (c : List ℕ) → AreParts shards m n bits 1 parts → AreLevelsOf parts levels → length parts ≡ n
+            → IsPath bits levels k c → IsLongChainOf shards m n (shards_at parts c) × AreInside parts c × (length (shards_at parts c) ≡ suc k)
+        by parts levels [] are are_levels whole path = absurd path
+        by parts [] (p ∷ ps) are are_levels whole path = absurd path
+        by [] (a ∷ levels) (p ∷ ps) are are_levels whole path = absurd are_levels
+        by (part ∷ parts) (a ∷ levels) (p ∷ ps) are are_levels whole path =
+            let inside : p < length part = omega (arith, path.0, ap length are_levels.0.pointers, length-map part (λ (s : Shard). s.pointer)) in
+            let r = to_run 1 part parts a levels p ps are are_levels (omega (arith, whole)) inside path.2 in (
+              (
+                (r.0.0.point, r.0.1, r.0.2, omega (arith, r.2, path.1, less, r.0.0.count)),
+                r.0.0.need,
+                r.0.0.count,
+              ),
+              r.1,
+              ap suc (r.2 ∙ path.1),
+            )
+
+    pub path_of_long : (chain : List Shard) → IsLongChainOf shards m n chain → (c : List ℕ) × (k : ℕ) × (k < n) × IsPath bits levels k c × (shards_at parts c ≡ chain) × (length chain ≡ suc k)
+    path_of_long chain is = by parts levels chain are are_levels whole is
+      where
+        by : (parts : List (List Shard)) (levels : List Level) (chain : List Shard) → AreParts shards m n bits 1 parts → AreLevelsOf parts levels → length parts ≡ n
+            → IsLongChainOf shards m n chain → (c : List ℕ) × (k : ℕ) × (k < n) × IsPath bits levels k c × (shards_at parts c ≡ chain) × (length chain ≡ suc k)
+        by parts levels [] are are_levels whole is = absurd is
+        by [] levels (s ∷ rest) are are_levels whole is = absurd (omega (arith, whole, is.0.3, is.2))
+        by (part ∷ parts) [] (s ∷ rest) are are_levels whole is = absurd are_levels
+        by (part ∷ parts) (a ∷ levels) (s ∷ rest) are are_levels whole is =
+            let at : IsAt m n bits 1 s = record { need = is.1; count = is.2; bits_are = blurred s is.0.1.0; point = is.0.0 } in
+            let r = from_run 1 part parts a levels s rest are are_levels (omega (arith, whole)) (omega (arith, whole, is.0.3, is.2)) (at, is.0.1, is.0.2) in (
+              r.0 ∷ r.1,
+              length rest,
+              omega (arith, is.0.3, is.2),
+              (omega (arith, r.2, ap length are_levels.0.pointers, length-map part (λ (t : Shard). t.pointer)), r.5, r.3),
+              r.4,
+              refl,
+            )
+
+    -- the chains of shards are those of positions, each once
+    pub long_listed : (all : List (List ℕ)) → IsListed (IsPathBelow bits levels n) all → IsListed (IsLongChainOf shards m n) (map (shards_at parts) all)
+    long_listed all is =
+        listed_same (λ y. (c : List ℕ) × IsPathBelow bits levels n c × (shards_at parts c ≡ y)) (IsLongChainOf shards m n) (map (shards_at parts) all)
+        (λ y. (
+          λ w. subst (IsLongChainOf shards m n) w.2 (long_path w.1.0 w.0 w.1.2 w.1.1).0,
+          λ h. let r = path_of_long y h in (r.0, (r.1, r.2, r.3), r.4),
+        ))
+        (listed_map_on (IsPathBelow bits levels n) (shards_at parts) all is
+        (λ a b p q e. positions_same 1 parts a b are (long_path p.0 a p.2 p.1).1 (long_path q.0 b q.2 q.1).1 e))

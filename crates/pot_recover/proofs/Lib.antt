@@ -14,6 +14,10 @@ pub mod OrderLemmas
 pub mod PartLemmas
 pub mod ReachedLemmas
 pub mod RingLemmas
+pub mod LongClosing
+pub mod LongLemmas
+pub mod LongTop
+pub mod RobustLemmas
 pub mod ScopeLemmas
 pub mod SetLemmas
 pub mod TopLemmas

@@ -27,7 +27,7 @@ pub points_same : (bits : ℕ) (chain : List Held) → map point_of chain ≡ po
 points_same bits [] = refl
 points_same bits (h ∷ chain) = ap (λ l. h.x ∷ l) (points_same bits chain)
 
-bytes_same : (bits k : ℕ) (chain : List Held) → bytes_held k chain ≡ bytes_at k (map (shard_of bits) chain)
+pub bytes_same : (bits k : ℕ) (chain : List Held) → bytes_held k chain ≡ bytes_at k (map (shard_of bits) chain)
 bytes_same bits k [] = refl
 bytes_same bits k (h ∷ chain) = ap (λ l. get_or h.share.now k 0 ∷ l) (bytes_same bits k chain)
 

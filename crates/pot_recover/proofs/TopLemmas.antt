@@ -140,7 +140,7 @@ if_ok_both (Ok x) P Q R f p q = f x p q
 if_ok_both (Err e) P Q R f p q = tt
 
 -- what is counted of the same is the same
-counted_same : {X : Type 0} (P Q : X → Type 0) (n : ℕ) → ((x : X) → P x ↔ Q x) → IsCounted P n → IsCounted Q n
+pub counted_same : {X : Type 0} (P Q : X → Type 0) (n : ℕ) → ((x : X) → P x ↔ Q x) → IsCounted P n → IsCounted Q n
 counted_same P Q n same (inl (number, few)) = inl ((number.0, listed_same P Q number.0 same number.1, number.2), few)
 counted_same P Q n same (inr (many, is)) = inr ((many.0, many.1, λ x h. (same x).0 (many.2 x h), many.3), is)
 

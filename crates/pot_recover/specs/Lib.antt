@@ -5,9 +5,11 @@ pub mod Fronts
 pub mod Groups
 pub mod Held
 pub mod HeldShards
+pub mod LongScopes
 pub mod Reached
 pub mod Recovered
 pub mod Rings
+pub mod Robust
 pub mod Scopes
 pub mod Sets
 pub mod StoredRings

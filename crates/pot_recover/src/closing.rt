@@ -69,7 +69,7 @@ fn add_where_closed(
 }
 
 /// The shards at these positions, one in each part.
-fn chain_at<'b>(
+pub(crate) fn chain_at<'b>(
     alloc: Global,
     group: &Group<'_, 'b>,
     positions: &Chain,

@@ -103,7 +103,7 @@ fn push_piece(rows: &mut Vec<u8>, held: &Held, start: usize, end: usize) -> Resu
 }
 
 /// Whether a content may have these bytes at its places 16 to 31: a number, a count and zeros.
-fn is_tail(tail: &[u8; 16]) -> bool
+pub(crate) fn is_tail(tail: &[u8; 16]) -> bool
     ensures { IsTrue result ↔ IsTail tail.now }
 {
     is_numbered(tail[0], tail[1]) && is_zeros(&tail[2..])

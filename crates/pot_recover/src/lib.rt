@@ -12,6 +12,8 @@
 //!    goes on, and past it go the pointers of a set alone: `pointer_laws`.
 //! 4. Chains and choices are counted before they are followed, and more than 4,000,000 of one are refused (`specs/Wide`).
 //! 5. A ring of shards as it is stored is a ring here: `link_laws`.
+//! 6. A ring some of whose shares are wrong closes by those that agree: `recover_robust` gives what the definition calls
+//!    robustly recovered (`specs/Robust`). Chains go to n there, for no m of the shares are known to be right.
 #![tactic(auto)]
 
 mod choices;
@@ -24,10 +26,13 @@ mod joining;
 mod laws;
 mod parts;
 mod rings;
+mod robust;
+mod robust_closing;
+mod robust_rings;
 mod sets;
 #[cfg(test)]
 mod tests;
 mod top;
 
 pub use laws::{link_laws, pointer_laws, ring_laws};
-pub use top::{RecoverFault, Recovered, recover};
+pub use top::{RecoverFault, Recovered, recover, recover_robust};

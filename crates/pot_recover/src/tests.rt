@@ -184,3 +184,76 @@ fn a_million_chains_are_followed_by_their_pointers(rt: HostRuntime) {
     assert!(rt; blocks.len() == 1_000_000);
     gives(&rt, &blocks, 4, &[]);
 }
+
+/// The eight blocks of a file of five bytes: two fragments, of four shards each, of which two are needed.
+fn stored_with_more(
+    rt: &(impl Abort + Alloc<A = Global>),
+    file: &[u8; 5],
+    seed: u64,
+) -> Vec<Block> {
+    let geometry = Geometry {
+        fragments: 2,
+        need: 2,
+        shards: 4,
+        blur: 16,
+    };
+    let mut random = vec![in rt.alloc(); 0; random_len(1, &geometry) as usize].expect(rt, "memory");
+    scatter(&mut random, seed);
+    let blocks = blocks_of(rt.alloc(), file, &geometry, &random).expect(rt, "memory");
+    assert_eq!(rt; blocks.len(), 8);
+    blocks
+}
+
+/// These blocks give so many objects although some shares are wrong, the first of them this one.
+fn gives_robustly(
+    rt: &(impl Abort + Alloc<A = Global>),
+    blocks: &[Block],
+    count: usize,
+    first: &[u8; 928],
+)
+    requires few { length blocks.now < 2 ^ 32 }
+{
+    let found = recover_robust(rt.alloc(), blocks, 16).expect(rt, "few chains");
+    assert_eq!(rt; found.len(), count);
+    if count > 0 {
+        assert!(rt; found.len() > 0);
+        assert!(rt; found.object(0) == first);
+    }
+}
+
+/// A block with one byte changed by this difference.
+fn changed(block: &Block, at: usize, difference: u8) -> Block
+    requires { at < 1024 }
+{
+    let mut bytes = *block.bytes();
+    bytes[at] ^= difference;
+    Block::from_bytes(bytes)
+}
+
+#[test]
+fn a_wrong_share_is_borne(rt: HostRuntime) {
+    let object = object_of(b"hello", 1);
+    let mut blocks = stored_with_more(&rt, b"hello", 1);
+    assert!(rt; blocks.len() == 8);
+    gives(&rt, &blocks, 16, &[object]);
+    gives_robustly(&rt, &blocks, 1, &object);
+    // The first shard of the first fragment.
+    blocks[0] = changed(&blocks[0], 500, 0x3c);
+    gives(&rt, &blocks, 16, &[]);
+    gives_robustly(&rt, &blocks, 1, &object);
+    blocks[0] = changed(&blocks[0], 500, 0x3c);
+    gives(&rt, &blocks, 16, &[object]);
+}
+
+#[test]
+fn two_wrong_shares_at_one_place_are_not_borne(rt: HostRuntime) {
+    let object = object_of(b"hello", 1);
+    let mut blocks = stored_with_more(&rt, b"hello", 1);
+    assert!(rt; blocks.len() == 8);
+    blocks[2] = changed(&blocks[2], 500, 1);
+    gives_robustly(&rt, &blocks, 1, &object);
+    blocks[3] = changed(&blocks[3], 501, 1);
+    gives_robustly(&rt, &blocks, 1, &object);
+    blocks[3] = changed(&blocks[3], 500, 1);
+    gives_robustly(&rt, &blocks, 0, &object);
+}

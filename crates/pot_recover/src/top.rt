@@ -4,6 +4,7 @@ ghost use Rattle.pot_chains.specs.Listed.{IsIn};
 ghost use Rattle.pot_recover.specs.Choices.{AreContents};
 ghost use Rattle.pot_recover.specs.Fronts.{has_front};
 ghost use Rattle.pot_recover.specs.Recovered.{AreRecovered, IsBefore, IsChoice, IsRecovered};
+ghost use Rattle.pot_recover.specs.Robust.{AreRobustlyRecovered, IsRobustlyTooWide, IsRobustlyWithin};
 ghost use Rattle.pot_recover.specs.Wide.{IsTooWide, IsWithin, AreFew, AreTooWide};
 
 use crate::choices::{count_choices, objects_of};
@@ -11,6 +12,7 @@ use crate::distinct::sort_distinct;
 use crate::fronts::first_front;
 use crate::held::held_in;
 use crate::rings::{WIDEST, closed_contents};
+use crate::robust_rings::robust_contents;
 use pot_bytes::Block;
 use pot_chains::SearchFault;
 use std::alloc::Global;
@@ -96,6 +98,35 @@ pub fn recover(alloc: Global, blocks: &[Block], bits: u8) -> Result<Recovered, R
     };
     let mut chains = 0;
     match closed_contents(alloc, &held, bits, &mut chains) {
+        Ok(contents) => from_contents(alloc, contents, chains),
+        Err(SearchFault::Wide) => Err(RecoverFault::Wide {
+            chains: 4_000_001,
+            choices: 0,
+        }),
+        Err(SearchFault::NoMemory) => Err(RecoverFault::NoMemory),
+    }
+}
+
+/// The same over rings some of whose shares may be wrong: half of those beyond m of each ring, rounded down. Names and
+/// pointers have to be as they were written.
+///
+/// The work is that of the chains of 1 to n, each extended by the candidates of its pointer alone, and of the choices.
+pub fn recover_robust(alloc: Global, blocks: &[Block], bits: u8) -> Result<Recovered, RecoverFault>
+    requires bits { bits ≤ 63 }
+    requires few { length blocks.now < 2 ^ 32 }
+
+    // Exactly what the definition calls robustly recovered, in byte order.
+    ensures objects { IfOk result (λ objects. AreRobustlyRecovered blocks.now bits objects) }
+
+    // Both counts are no more than the limit.
+    ensures within { OnOk result (IsRobustlyWithin blocks.now bits) }
+    ensures wide { IfErr result (λ fault. IsRobustlyTooWide blocks.now bits fault) }
+{
+    let Ok(held) = held_in(alloc, blocks, bits) else {
+        return Err(RecoverFault::NoMemory);
+    };
+    let mut chains = 0;
+    match robust_contents(alloc, &held, bits, &mut chains) {
         Ok(contents) => from_contents(alloc, contents, chains),
         Err(SearchFault::Wide) => Err(RecoverFault::Wide {
             chains: 4_000_001,

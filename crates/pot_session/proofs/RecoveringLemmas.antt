@@ -138,7 +138,6 @@ module _ (r : Recover) (room_told : Type 0) (meant means : ℕ → Meaning) wher
   stop_is stop.Cut h = absurd h
   stop_is (stop.Trailer kept computed) h = absurd h
   stop_is (stop.Form place) h = absurd h
-  stop_is stop.SecondParity h = absurd h
   stop_is stop.Spent h = absurd h
   stop_is stop.Exists h = absurd h
 

@@ -5,7 +5,7 @@ use Rattle.std.specs.List.{AllByRecursion}
 use Rattle.std.proofs.Math.Seq.{take-append_seam}
 use Rattle.pot_bytes.specs.declared.rack.Rack.{Rack}
 use Rattle.pot_script.specs.declared.command.Command.{Command}
-use Rattle.pot_script.specs.declared.command.Command.TheVariants.{Store, Fetch, List as Names, Status, Scrub, Repair, Replace, Migrate, Quit}
+use Rattle.pot_script.specs.declared.command.Command.TheVariants.{Store, Fetch, List as Names, Status, Scrub, Repair, Replace, Migrate, Renew, Quit}
 use Rattle.pot_script.specs.Commands.{command_text}
 use Rattle.pot_script.specs.Scripts.{IsScript, AreSteps, script_text}
 use Rattle.pot_script.specs.Batches.{after_command}
@@ -36,6 +36,7 @@ worked_first number (Scrub group) cs e = (refl, e)
 worked_first number (Repair group) cs e = (refl, e)
 worked_first number (Replace from to) cs e = (refl, e)
 worked_first number (Migrate from to) cs e = (refl, e)
+worked_first number (Renew name geometry) cs e = (refl, e)
 worked_first number Quit cs e = (refl, e)
 worked_first number _ cs e = absurd (cc)
 

@@ -45,7 +45,6 @@ drill_stop d seed told input stop.NoImage h = absurd h
 drill_stop d seed told input stop.Cut h = absurd h
 drill_stop d seed told input (stop.Trailer kept computed) h = absurd h
 drill_stop d seed told input (stop.Form place) h = absurd h
-drill_stop d seed told input stop.SecondParity h = absurd h
 drill_stop d seed told input stop.Spent h = absurd h
 drill_stop d seed told input stop.Exists h = absurd h
 drill_stop d seed told input stop.RoomFault h = absurd h

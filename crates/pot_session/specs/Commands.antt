@@ -1,4 +1,5 @@
--- The scripts that this program works: those of `store`, `fetch`, `list`, `status`, `scrub`, `repair`, `replace`, `migrate` and `quit` lines alone.
+-- The scripts that this program works: those of `store`, `fetch`, `list`, `status`, `scrub`, `repair`, `replace`, `migrate`, `renew` and `quit`
+-- lines alone.
 use Rattle.std.specs.Prelude.{◌≡◌, ◌≢◌, ◌<◌, ◌+◌, ◌^◌, ◌++◌, ℕ, Bool, true, false, List, [], ◌∷◌, Option, Some, None, if◌then◌else◌, length}
 use Rattle.std.specs.List.{AllByRecursion}
 use Rattle.pot_bytes.specs.declared.rack.Rack.{Rack}
@@ -18,6 +19,7 @@ is_worked (command.Scrub group) = true
 is_worked (command.Repair group) = true
 is_worked (command.Replace from to) = true
 is_worked (command.Migrate from to) = true
+is_worked (command.Renew name geometry) = true
 is_worked command.Quit = true
 is_worked _ = false
 

@@ -1,5 +1,5 @@
 -- What a session reads from its desk and writes there.
-use Rattle.std.specs.Prelude.{◌≡◌, ◌≢◌, ◌<◌, ◌+◌, ◌-◌, ◌^◌, ℕ, List, [], Option, Some, None, Result, Ok, Err, replicate}
+use Rattle.std.specs.Prelude.{◌≡◌, ◌<◌, ◌+◌, ◌-◌, ◌^◌, ℕ, List, [], Option, Some, None, Result, Ok, Err, replicate}
 use Rattle.pot_outside.specs.Failing.{MayLeave}
 use Rattle.pot_image.specs.declared.image.Image.{Image}
 use Rattle.pot_image.specs.declared.fault.ImageFault.TheVariants as faults
@@ -9,17 +9,15 @@ use Rattle.pot_session.specs.declared.stop.Stop.TheVariants as stop
 
 -- WHAT IS READ
 
--- One more session may begin: the rack has one parity column, and the number of the image's session is not the last one.
-pub record GoesOn (i : Image) : Type 0 where
-  pub parity : i.rack.parity ≡ 1
-  pub session : i.session < 2 ^ 32 - 1
+-- One more session may begin: the number of the image's session is not the last one.
+abbrev pub GoesOn : Image → Type 0
+GoesOn i = i.session < 2 ^ 32 - 1
 
 -- why the bytes are no image from which a session may begin
 abbrev pub RefusesBytes : List ℕ → Stop → Type 0
 RefusesBytes bytes stop.Cut = AnswersImage bytes (Err faults.Cut)
 RefusesBytes bytes (stop.Trailer kept computed) = AnswersImage bytes (Err (faults.Trailer kept computed))
 RefusesBytes bytes (stop.Form place) = AnswersImage bytes (Err (faults.Form place))
-RefusesBytes bytes stop.SecondParity = (i : Image) × AnswersImage bytes (Ok i) × (i.rack.parity ≢ 1)
 RefusesBytes bytes stop.Spent = (i : Image) × AnswersImage bytes (Ok i) × (i.session ≡ 2 ^ 32 - 1)
 RefusesBytes bytes stop.NoMemory = Unit {0}
 RefusesBytes bytes _ = ⊥
@@ -46,7 +44,6 @@ IsDeskStop stop.NoImage = Unit {0}
 IsDeskStop stop.Cut = Unit {0}
 IsDeskStop (stop.Trailer kept computed) = Unit {0}
 IsDeskStop (stop.Form place) = Unit {0}
-IsDeskStop stop.SecondParity = Unit {0}
 IsDeskStop stop.Spent = Unit {0}
 IsDeskStop stop.DeskFault = Unit {0}
 IsDeskStop stop.NoMemory = Unit {0}

@@ -1,8 +1,10 @@
 -- The blocks that are read from archives without a desk, the objects that they give, and what `recover` comes to.
-use Rattle.std.specs.Prelude.{◌≡◌, ◌<◌, ◌≤◌, ◌-◌, ◌^◌, ◌⊎◌, ℕ, List, Some, Result, Ok, Err, Contains}
+use Rattle.std.specs.Prelude.{◌≡◌, ◌<◌, ◌≤◌, ◌-◌, ◌^◌, ◌⊎◌, ℕ, Bool, true, false, List, Some, Result, Ok, Err, Contains}
 use Rattle.pot_outside.specs.Archives.{Meaning, OnlyLoses}
 use Rattle.pot_recover.specs.Recovered.{AreRecovered}
+use Rattle.pot_recover.specs.Robust.{AreRobustlyRecovered, IsRobustlyTooWide, IsRobustlyWithin}
 use Rattle.pot_recover.specs.Wide.{IsTooWide, IsWithin}
+use Rattle.pot_recover.specs.declared.top.RecoverFault.{RecoverFault}
 use Rattle.pot_recover.specs.declared.top.RecoverFault.TheVariants.{Wide}
 use Rattle.pot_words.specs.declared.recover.Recover.{Recover}
 use Rattle.pot_session.specs.declared.status.Status.{Status}
@@ -56,14 +58,24 @@ pub record AreHeldIn (archives stripes : ℕ) (meant means : ℕ → Meaning) (b
 
 -- THE WHOLE
 
+-- The objects that these blocks give by rings that close, or by rings that close robustly where that is asked for. Both counts are borne.
+abbrev pub GiveObjects : Bool → List (List ℕ) → ℕ → List (List ℕ) → Type 0
+GiveObjects false blocks bits objects = AreRecovered blocks bits objects × IsWithin blocks bits
+GiveObjects true blocks bits objects = AreRobustlyRecovered blocks bits objects × IsRobustlyWithin blocks bits
+
+-- one of the two counts is not borne
+abbrev pub GiveTooMany : Bool → List (List ℕ) → ℕ → RecoverFault → Type 0
+GiveTooMany false blocks bits fault = IsTooWide blocks bits fault
+GiveTooMany true blocks bits fault = IsRobustlyTooWide blocks bits fault
+
 -- The blocks that were read give these objects; or they are too wide; or an archive or the room failed, or memory ran out. `told` is whether the
 -- archives tell their blocks.
 abbrev pub FindsObjects : Recover → Type 0 → (ℕ → Meaning) → (ℕ → Meaning) → Result (List (List ℕ)) Stop → Type 0
 FindsObjects r told meant means (Ok objects) =
-    (blocks : List (List ℕ)) × (told → AreHeldIn r.archives r.stripes meant means blocks) × AreRecovered blocks r.blur objects × IsWithin blocks r.blur
+    (blocks : List (List ℕ)) × (told → AreHeldIn r.archives r.stripes meant means blocks) × GiveObjects r.robust blocks r.blur objects
 FindsObjects r told meant means (Err stop.TooWide) =
     (blocks : List (List ℕ)) × (told → AreHeldIn r.archives r.stripes meant means blocks)
-    × ((chains : ℕ) × (choices : ℕ) × IsTooWide blocks r.blur (Wide chains choices))
+    × ((chains : ℕ) × (choices : ℕ) × GiveTooMany r.robust blocks r.blur (Wide chains choices))
 FindsObjects r told meant means (Err stop.RoomFault) = Unit {0}
 FindsObjects r told meant means (Err stop.NoMemory) = Unit {0}
 FindsObjects r told meant means (Err _) = ⊥

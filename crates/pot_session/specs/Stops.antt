@@ -32,18 +32,13 @@ status_of stop.NoImage = status.ImageRefused
 status_of stop.Cut = status.ImageRefused
 status_of (stop.Trailer kept computed) = status.ImageRefused
 status_of (stop.Form place) = status.ImageRefused
-status_of stop.SecondParity = status.ImageRefused
 status_of stop.Spent = status.SessionSpent
 status_of stop.Exists = status.ImageExists
 status_of stop.RoomFault = status.RoomFault
 status_of stop.TooWide = status.TooWide
 status_of stop.NoMemory = status.NoMemory
 
--- the image is refused because of the field at this place
-abbrev pub form_text : ℕ → List ℕ
-form_text place = codes "image refused form" ++ spaced place ++ codes "\n"
-
--- The text that is written for a stop. The number of parity columns stands at byte 26 of an image.
+-- the text that is written for a stop
 abbrev pub stop_text : Stop → List ℕ
 stop_text stop.Words = words_refused_text
 stop_text stop.SourceFault = []
@@ -52,8 +47,7 @@ stop_text stop.DeskFault = []
 stop_text stop.NoImage = codes "image refused none\n"
 stop_text stop.Cut = codes "image refused cut\n"
 stop_text (stop.Trailer kept computed) = codes "image refused trailer" ++ in_hex kept ++ in_hex computed ++ codes "\n"
-stop_text (stop.Form place) = form_text place
-stop_text stop.SecondParity = form_text 26
+stop_text (stop.Form place) = codes "image refused form" ++ spaced place ++ codes "\n"
 stop_text stop.Spent = codes "session spent\n"
 stop_text stop.Exists = codes "image exists\n"
 stop_text stop.RoomFault = []

@@ -29,9 +29,6 @@ fn open_image(alloc: Global, bytes: &[u8]) -> Result<Image, Stop>
         Err(ImageFault::Form { place }) => return Err(Stop::Form { place }),
         Err(ImageFault::NoMemory) => return Err(Stop::NoMemory),
     };
-    if image.rack.parity != 1 {
-        return Err(Stop::SecondParity);
-    }
     if image.session == u32::MAX {
         return Err(Stop::Spent);
     }
@@ -42,7 +39,7 @@ fn open_image(alloc: Global, bytes: &[u8]) -> Result<Image, Stop>
 ///
 /// # Errors
 /// `DeskFault` only where the desk's count of faults rose; `NoImage` where the desk has none; else why its bytes are no image, or
-/// that its rack has two parity columns, or that no number of a session is left.
+/// that no number of a session is left.
 pub fn open_desk<D: Desk>(alloc: Global, desk: &mut D) -> Result<Image, Stop>
     ensures opens { OpensDesk (IsTrue D.tells) (D.held desk.old) result }
     ensures fits { IfOk result (λ i. FitsTogether (contents i)) }

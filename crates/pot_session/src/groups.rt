@@ -109,7 +109,6 @@ pub fn start_group<A: Archive>(
     hand: &mut Vec<Shelf<A>>,
 ) -> Result<Member<A>, NoMemory>
     requires relays { table.relays ≡ [] }
-    requires parity { table.parity ≡ 1 }
     requires count { length (archives_in table) ≤ length hand.old.items }
     requires hand { take (length (archives_in table)) (numbers_of hand.old.items) ≡ archives_in table }
     requires space { length hand.old.items ≤ vec_capacity hand.old }

@@ -37,7 +37,6 @@ fn start_groups<A: Archive>(
     members: &mut Vec<Member<A>>,
 ) -> Result<(), NoMemory>
     requires tables { All (FitsTable rack.now) tables.items }
-    requires parity { rack.now.parity ≡ 1 }
     requires few { length tables.items ≤ 16 }
     requires hand { numbers_of hand.old.items ≡ flat_map archives_in tables.items }
     requires space { length hand.old.items ≤ vec_capacity hand.old }
@@ -77,7 +76,6 @@ pub fn open_vault<A: Archive>(
     remains: &mut Remains<A>,
 ) -> Result<(Vault<A>, Passes<A>), NoMemory>
     requires rack { IsRack rack.now }
-    requires parity { rack.now.parity ≡ 1 }
     requires tables { All (FitsTable rack.now) tables.items }
     requires count { length tables.items ≡ rack.now.groups }
     requires records { AreRead rack.now records.items }

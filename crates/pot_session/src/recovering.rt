@@ -1,8 +1,8 @@
 //! Recovery: the archives alone give the files back, without a desk.
 
-ghost use Rattle.std.specs.Prelude.{◌≡◌, ◌≢◌, ◌≤◌, ◌+◌, ◌*◌, ℕ, IsTrue, IfOk, OnOk, IfErr, IsErr, IsErrOf, IsOk, ◌⊎◌, false, length};
+ghost use Rattle.std.specs.Prelude.{◌≡◌, ◌≢◌, ◌<◌, ◌≤◌, ◌+◌, ◌*◌, ◌^◌, ℕ, IsTrue, IfOk, OnOk, IfErr, IsErr, IsErrOf, IsOk, ◌⊎◌, false, length};
 ghost use Rattle.pot_outside.specs.Counts.{Caused};
-ghost use Rattle.pot_session.specs.Recovering.{Adds, AreHeldIn, FindsObjects, Gathers, IsRecovery, Recovers};
+ghost use Rattle.pot_session.specs.Recovering.{Adds, AreHeldIn, FindsObjects, Gathers, GiveObjects, GiveTooMany, IsRecovery, Recovers};
 
 use crate::listing::list_objects;
 use crate::refusing::refuse;
@@ -10,7 +10,7 @@ use crate::status::Status;
 use crate::stop::Stop;
 use pot_bytes::Block;
 use pot_outside::{Archive, Failed, Held, Room, RoomFault, Sink};
-use pot_recover::{RecoverFault, Recovered, recover};
+use pot_recover::{RecoverFault, Recovered, recover, recover_robust};
 use pot_words::Recover;
 use std::alloc::Global;
 
@@ -129,6 +129,25 @@ fn read_archives<R: Room>(
     Ok(blocks)
 }
 
+/// The objects that these blocks give, where `robust` by rings some of whose shares may be wrong.
+fn objects_in(
+    alloc: Global,
+    blocks: &[Block],
+    bits: u8,
+    robust: bool,
+) -> Result<Recovered, RecoverFault>
+    requires bits { bits ≤ 63 }
+    requires few { length blocks.now < 2 ^ 32 }
+    ensures found { IfOk result (λ objects. GiveObjects robust blocks.now bits objects) }
+    ensures wide { IfErr result (λ fault. GiveTooMany robust blocks.now bits fault) }
+{
+    if robust {
+        recover_robust(alloc, blocks, bits)
+    } else {
+        recover(alloc, blocks, bits)
+    }
+}
+
 /// The objects that the archives give. No block is left in memory then.
 ///
 /// # Errors
@@ -142,7 +161,7 @@ fn find_objects<R: Room>(alloc: Global, task: &Recover, room: &mut R) -> Result<
     ensures cause { Caused (R.faults room.old) (R.faults room.new) (IsErrOf result Stop.RoomFault) }
 {
     match read_archives(alloc, task, room) {
-        Ok(blocks) => match recover(alloc, &blocks, task.blur) {
+        Ok(blocks) => match objects_in(alloc, &blocks, task.blur, task.robust) {
             Ok(objects) => Ok(objects),
             Err(RecoverFault::Wide { .. }) => Err(Stop::TooWide),
             Err(RecoverFault::NoMemory) => Err(Stop::NoMemory),

@@ -29,6 +29,10 @@ const LONG: &str =
 const SIX: &str =
     "init --groups 3 --columns 1 --stripes 8 --fragments 2 --need 3 --shards 3 --blur 16";
 
+/// A rack of 9 archives, with one data column in a group: each stripe is a block and its two parity blocks.
+const NINE: &str =
+    "init --groups 3 --columns 1 --parity 2 --stripes 8 --fragments 2 --need 3 --shards 3 --blur 16";
+
 /// A rack of one stripe.
 const ONE: &str =
     "init --groups 3 --columns 1 --stripes 1 --fragments 2 --need 2 --shards 3 --blur 16";
@@ -573,12 +577,12 @@ fn repairs_and_scrubs_a_group(rt: HostRuntime) -> Result<(), Fail> {
             object: Object::Archive(*archive),
             call: *call,
         };
-        let _outside = hold_all(&rt, alloc, losses, sessions, trouble)?;
+        let _outside = hold_all(&rt, alloc, SIX, losses, sessions, trouble)?;
     }
     Ok(())
 }
 
-/// Sessions over a rack of 6 archives, each with its status, and all that they write.
+/// Sessions over a rack, each with its status, and all that they write.
 type Sessions<'a> = (&'a [(&'a [u8], u8)], &'a [u8]);
 
 /// Archives that come to groups: where a home is replaced its blocks are rebuilt, and a column that moves has them still. They are
@@ -641,13 +645,14 @@ const NOTHING_HEARD: (usize, u64) = (0, 0xe3b0_c442_98fc_1c14);
 fn hold_all<X: Wait + Abort>(
     rt: &X,
     alloc: Global,
+    words: &str,
     losses: &[(u32, Loss)],
     sessions: &Sessions,
     trouble: Trouble,
 ) -> Result<Outside, Fail> {
     let (scripts, text) = *sessions;
     let mut outside = Outside::new(alloc, None, losses, trouble)?;
-    assert_eq!(rt; outside.call(rt, alloc, SIX, b"", NO_TROUBLE)?, 0);
+    assert_eq!(rt; outside.call(rt, alloc, words, b"", NO_TROUBLE)?, 0);
     for (script, status) in scripts {
         assert_eq!(rt;
             outside.call(rt, alloc, "run", script, NO_TROUBLE)?,
@@ -662,7 +667,7 @@ fn hold_all<X: Wait + Abort>(
 fn archives_that_come(rt: HostRuntime) -> Result<(), Fail> {
     let alloc = rt.alloc();
     for (sessions, wanted) in &ARRIVALS {
-        let outside = hold_all(&rt, alloc, &[], sessions, NO_TROUBLE)?;
+        let outside = hold_all(&rt, alloc, SIX, &[], sessions, NO_TROUBLE)?;
         let heard = outside.heard(alloc)?;
         assert_eq!(rt; (heard.len(), mark_of(&heard)), *wanted);
     }
@@ -725,7 +730,114 @@ fn archives_that_do_not_come(rt: HostRuntime) -> Result<(), Fail> {
             object: *object,
             call: *call,
         };
-        let _outside = hold_all(&rt, rt.alloc(), &[], sessions, trouble)?;
+        let _outside = hold_all(&rt, rt.alloc(), SIX, &[], sessions, trouble)?;
+    }
+    Ok(())
+}
+
+/// With two parity columns two archives of a group may be replaced, and a third is one too many; a parity block that is not written
+/// ends the store, and the one that is left unwritten is rebuilt.
+const OVER_NINE: [(Object, u32, Sessions); 3] = [
+    (
+        Object::Source,
+        u32::MAX,
+        (
+            &[
+                (
+                    b"store a 5\nhello\nreplace 0 9\nreplace 1 10\nfetch a\nstatus\n\
+                repair 0\nscrub 0\nmigrate 2 11\nquit\n",
+                    0,
+                ),
+                (b"scrub 0\nfetch a\nquit\n", 0),
+            ],
+            b"ready\nstored a 1 6\nreplaced 0 9 2\nreplaced 1 10 2\nfile a 5\nhello\n\
+        group 0 live 4 lost 2 broken 0 cursor 2 0\n\
+        group 1 live 6 lost 0 broken 0 cursor 2 0\n\
+        group 2 live 6 lost 0 broken 0 cursor 2 0\n\
+        repaired 0 2 0\nscrubbed 0 6 0\nmigrated 2 11 2\nscrubbed 0 6 0\nfile a 5\nhello\n",
+        ),
+    ),
+    (
+        Object::Source,
+        u32::MAX,
+        (
+            &[(
+                b"store a 5\nhello\nreplace 0 9\nreplace 1 10\nreplace 2 11\nfetch a\nquit\n",
+                1,
+            )],
+            b"ready\nstored a 1 6\nreplaced 0 9 2\nreplaced 1 10 2\nreplaced 2 11 2\nlost a 0 1 2 3\n",
+        ),
+    ),
+    (
+        Object::Archive(2),
+        0,
+        (
+            &[(
+                b"store a 5\nhello\nstatus\nrepair 0\nstore a 5\nhello\nfetch a\nquit\n",
+                1,
+            )],
+            b"ready\nfault 0 2\n\
+        group 0 live 2 lost 1 broken 0 cursor 1 0\n\
+        group 1 live 0 lost 0 broken 0 cursor 0 0\n\
+        group 2 live 0 lost 0 broken 0 cursor 0 0\n\
+        repaired 0 1 0\nstored a 1 6\nfile a 5\nhello\n",
+        ),
+    ),
+];
+
+#[test]
+fn two_parity_columns(rt: HostRuntime) -> Result<(), Fail> {
+    let alloc = rt.alloc();
+    assert_eq!(rt; made(&rt, alloc, NINE)?.len(), 324);
+    for (object, call, sessions) in &OVER_NINE {
+        let trouble = Trouble {
+            object: *object,
+            call: *call,
+        };
+        let _outside = hold_all(&rt, alloc, NINE, &[], sessions, trouble)?;
+    }
+    Ok(())
+}
+
+/// Sixteen renewals of a file, one behind another.
+const RENEWALS: &[u8] = b"store a 5\nhello\n\
+    renew a 2 1 1 0\nrenew a 2 1 1 0\nrenew a 2 1 1 0\nrenew a 2 1 1 0\n\
+    renew a 2 1 1 0\nrenew a 2 1 1 0\nrenew a 2 1 1 0\nrenew a 2 1 1 0\n\
+    renew a 2 1 1 0\nrenew a 2 1 1 0\nrenew a 2 1 1 0\nrenew a 2 1 1 0\n\
+    renew a 2 1 1 0\nrenew a 2 1 1 0\nrenew a 2 1 1 0\nrenew a 2 1 1 0\nquit\n";
+
+/// What these write, and what the next session does: 16 splits are enough, and the current one is kept.
+const RENEWED: &[u8] = b"ready\nstored a 1 6\n\
+    renewed a 1 2\nrenewed a 1 2\nrenewed a 1 2\nrenewed a 1 2\nrenewed a 1 2\n\
+    renewed a 1 2\nrenewed a 1 2\nrenewed a 1 2\nrenewed a 1 2\nrenewed a 1 2\n\
+    renewed a 1 2\nrenewed a 1 2\nrenewed a 1 2\nrenewed a 1 2\nrenewed a 1 2\n\
+    often a\noften a\nfile a 5\nhello\n";
+
+/// A file that was split anew is fetched by its new split, in the same session and in the next.
+#[test]
+fn new_splits(rt: HostRuntime) -> Result<(), Fail> {
+    let table: [Sessions; 2] = [
+        (
+            &[
+                (
+                    b"store a 5\nhello\nrenew a 3 2 3 8\nfetch a\nstatus\nquit\n",
+                    0,
+                ),
+                (b"fetch a\nrenew b 2 2 3 16\nquit\n", 1),
+            ],
+            b"ready\nstored a 1 6\nrenewed a 1 9\nfile a 5\nhello\n\
+            group 0 live 7 lost 0 broken 0 cursor 1 2\n\
+            group 1 live 7 lost 0 broken 0 cursor 1 2\n\
+            group 2 live 7 lost 0 broken 0 cursor 1 2\n\
+            file a 5\nhello\nabsent b\n",
+        ),
+        (
+            &[(RENEWALS, 1), (b"renew a 2 2 3 16\nfetch a\nquit\n", 1)],
+            RENEWED,
+        ),
+    ];
+    for sessions in &table {
+        let _outside = hold_all(&rt, rt.alloc(), TWELVE, &[], sessions, NO_TROUBLE)?;
     }
     Ok(())
 }
@@ -914,7 +1026,8 @@ fn refuse<X: Wait + Abort>(
 fn words_and_scripts_that_are_refused(rt: HostRuntime) -> Result<(), Fail> {
     let alloc = rt.alloc();
     let image = made(&rt, alloc, TWELVE)?;
-    let table: [(&str, &[u8], u8, &[u8]); 5] = [
+    let table: [(&str, &[u8], u8, &[u8]); 6] = [
+        ("run", b"renew a 2 2 4 16\nquit\n", 3, b"bad line 1\n"),
         ("run", b"store a 5\nhello\nfetch a\n", 3, b"bad line 3\n"),
         ("run", b"store a 5\nhello\nquit\nx", 3, b"bad line 3\n"),
         (
@@ -973,6 +1086,37 @@ fn images_that_are_refused(rt: HostRuntime) -> Result<(), Fail> {
     for (image, status, text) in table {
         refuse(&rt, alloc, image, "run", SCRIPT, (status, text))?;
     }
+    Ok(())
+}
+
+/// The first bytes of an image of six archives with this format, this session and so many parity columns, and its digest.
+fn of_format(
+    alloc: Global,
+    image: &[u8],
+    format: u8,
+    session: u8,
+    parity: u8,
+) -> Result<Vec<u8>, AllocError> {
+    let mut bytes = image.get(..7).unwrap_or(&[]).to_vec(alloc)?;
+    bytes.push(format)?;
+    bytes.extend_from_slice(image.get(8..19).unwrap_or(&[]))?;
+    bytes.push(session)?;
+    bytes.extend_from_slice(image.get(20..26).unwrap_or(&[]))?;
+    bytes.push(parity)?;
+    bytes.extend_from_slice(image.get(27..220).unwrap_or(&[]))?;
+    sealed(alloc, &bytes)
+}
+
+/// An image of the first format is read, and one of the second is written.
+#[test]
+fn an_image_of_the_first_format(rt: HostRuntime) -> Result<(), Fail> {
+    let alloc = rt.alloc();
+    let image = made(&rt, alloc, SIX)?;
+    let first = of_format(alloc, &image, 1, 0, 0)?;
+    let mut outside = Outside::new(alloc, Some(first), &[], NO_TROUBLE)?;
+    assert_eq!(rt; outside.call(&rt, alloc, "run", b"quit\n", NO_TROUBLE)?, 0);
+    let wanted = of_format(alloc, &image, 2, 1, 1)?;
+    assert!(rt; outside.image()?.as_deref() == Some(wanted.as_slice()));
     Ok(())
 }
 

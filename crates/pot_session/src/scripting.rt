@@ -73,6 +73,7 @@ fn is_worked(command: &Command) -> bool
             | Command::Repair { .. }
             | Command::Replace { .. }
             | Command::Migrate { .. }
+            | Command::Renew { .. }
             | Command::Quit
     )
 }

@@ -96,7 +96,6 @@ fn open_session<R: Room>(
     room: &mut R,
 ) -> Result<Opened<R::A>, RoomFault>
     requires together { FitsTogether (contents image) }
-    requires parity { image.rack.parity ≡ 1 }
     requires home { (n : ℕ) → R.out room.old n ≡ false }
     ensures opened { IfOk result (λ o. AreFirstPasses o.passes.groups o.passes.index) }
     ensures marked { IsTrue R.A.account.tells → IfOk result (λ o. AreTakenAt (R.means room.old) o.passes.groups) }
@@ -152,7 +151,6 @@ pub fn serve<K: Sink, R: Room, D: Desk, X: Wait>(
     desk: &mut D,
 ) -> Status
     requires together { FitsTogether (contents image) }
-    requires parity { image.rack.parity ≡ 1 }
     requires few { length commands.now < 2 ^ 31 }
     requires worked { AllByRecursion (IsStep image.rack) commands.now }
     requires home { (n : ℕ) → R.out room.old n ≡ false }

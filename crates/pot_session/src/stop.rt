@@ -9,9 +9,6 @@ use crate::status::Status;
 use pot_bytes::{Digest, NoMemory};
 use std::alloc::{AllocError, Global};
 
-/// Where an image has the number of its parity columns.
-const PARITY_PLACE: u64 = 26;
-
 /// Why there are no commands.
 #[derive(Clone, Copy, PartialEq, Eq, Debug)]
 pub enum Stop {
@@ -31,8 +28,6 @@ pub enum Stop {
     Trailer { kept: Digest, computed: Digest },
     /// The field of the image at this place breaks its rule or does not end.
     Form { place: u64 },
-    /// The image is of a rack with two parity columns, which is not worked yet.
-    SecondParity,
     /// The image is that of the last session that there can be.
     Spent,
     /// The desk holds an image already.
@@ -76,11 +71,9 @@ impl Stop {
             Stop::SourceFault => Status::SourceFault,
             Stop::BadLine { .. } => Status::ScriptRefused,
             Stop::DeskFault => Status::DeskFault,
-            Stop::NoImage
-            | Stop::Cut
-            | Stop::Trailer { .. }
-            | Stop::Form { .. }
-            | Stop::SecondParity => Status::ImageRefused,
+            Stop::NoImage | Stop::Cut | Stop::Trailer { .. } | Stop::Form { .. } => {
+                Status::ImageRefused
+            }
             Stop::Spent => Status::SessionSpent,
             Stop::Exists => Status::ImageExists,
             Stop::RoomFault => Status::RoomFault,
@@ -101,7 +94,6 @@ pub fn text_of(alloc: Global, stop: Stop) -> Result<Vec<u8>, AllocError>
         Stop::Cut => b"image refused cut\n".to_vec(alloc),
         Stop::Trailer { kept, computed } => trailer(alloc, kept, computed),
         Stop::Form { place } => numbered(alloc, b"image refused form", place),
-        Stop::SecondParity => numbered(alloc, b"image refused form", PARITY_PLACE),
         Stop::Spent => b"session spent\n".to_vec(alloc),
         Stop::Exists => b"image exists\n".to_vec(alloc),
         Stop::TooWide => b"too wide\n".to_vec(alloc),

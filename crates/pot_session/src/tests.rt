@@ -9,9 +9,6 @@ use std::test::Fail;
 const INIT: &str =
     "init --groups 5 --columns 3 --stripes 2 --fragments 2 --need 2 --shards 3 --blur 2";
 
-const TWO_PARITIES: &str =
-    "init --parity 2 --groups 5 --columns 3 --stripes 2 --fragments 2 --need 2 --shards 3 --blur 2";
-
 /// How a call ended, and what its desk has then.
 #[derive(Drop)]
 struct Outcome {
@@ -148,12 +145,10 @@ fn refuses_words_and_scripts(rt: HostRuntime) -> Result<(), Fail> {
 fn refuses_images(rt: HostRuntime) -> Result<(), Fail> {
     let first = made(&rt, &rt, INIT)?;
     let cut = first.get(..100).unwrap_or(&[]);
-    let two = made(&rt, &rt, TWO_PARITIES)?;
-    let table: [(Option<&[u8]>, &[u8]); 4] = [
+    let table: [(Option<&[u8]>, &[u8]); 3] = [
         (None, b"image refused none\n"),
         (Some(cut), b"image refused cut\n"),
         (Some(&[0; 200]), b"image refused form 0\n"),
-        (Some(&two), b"image refused form 26\n"),
     ];
     for (image, text) in &table {
         let image = match image {

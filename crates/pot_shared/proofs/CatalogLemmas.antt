@@ -14,15 +14,19 @@ use Rattle.pot_index.specs.declared.fault.FindFault.{FindFault}
 use Rattle.pot_index.specs.declared.fault.FindFault.TheVariants as find_fault
 use Rattle.pot_index.specs.declared.fault.ListFault.{ListFault}
 use Rattle.pot_index.specs.declared.fault.ListFault.TheVariants as list_fault
+use Rattle.pot_index.specs.declared.fault.RenewFault.{RenewFault}
+use Rattle.pot_index.specs.declared.fault.RenewFault.TheVariants as renew_fault
 use Rattle.pot_index.specs.declared.fault.ReserveFault.{ReserveFault}
 use Rattle.pot_index.specs.declared.fault.ReserveFault.TheVariants as reserve_fault
 use Rattle.pot_index.specs.declared.listed.Listed.{Listed}
 use Rattle.pot_index.specs.declared.record.Record.{Record}
-use Rattle.pot_index.specs.Calls.{Reserves, Finds, ListsNames, published_by}
+use Rattle.pot_index.specs.declared.record.Split.{Split}
+use Rattle.pot_index.specs.Calls.{Reserves, Finds, ListsNames, Renews, published_by}
 use Rattle.pot_index.specs.Entries.{plain, bringing}
-use Rattle.pot_index.specs.Index.{IndexView, Names, after, logged}
-use Rattle.pot_index.proofs.RecordLemmas.{inserted_from}
-use Rattle.pot_index.specs.Records.{mark_of}
+use Rattle.pot_index.specs.Index.{IndexView, IsIndex, IsRecordOf, Names, after, logged}
+use Rattle.pot_index.specs.Records.{mark_of, renewed}
+use Rattle.pot_index.proofs.RecordLaws.{one_record}
+use Rattle.pot_index.proofs.RecordLemmas.{inserted_from, replaced_from}
 use Rattle.pot_turn.specs.declared.name.TurnName.{TurnName}
 use Rattle.pot_turn.specs.Logs.{StartsWith}
 use Rattle.pot_rows.specs.Rows.{AreOf, HasMoreParts, view_at}
@@ -94,9 +98,9 @@ pub small_publishes : (s t : IndexView) → IsSmall s t → (r : Record) → Pub
 small_publishes s t (inl e) r p = subst (λ (i : IndexView). Publishes i.log r) e p
 small_publishes s t (inr (e, is)) r p =
     let q = subst (λ (i : IndexView). Publishes i.log r) is p in
-    elim (contains_last s.log (plain e) (bringing (entry.Publish q.0 r.name (mark_of r)) r) q.1) [
+    elim (contains_last s.log (plain e) (bringing q.0 r) q.1) [
       | inl h ↦ (q.0, h)
-      | inr same ↦ absurd (brings_none e (entry.Publish q.0 r.name (mark_of r)) r same)
+      | inr same ↦ absurd (brings_none e q.0 r same)
     ]
 
 pub small_rack : (s t : IndexView) → IsSmall s t → t.rack ≡ s.rack
@@ -124,7 +128,7 @@ plain_published n (entry.Often job name) = refl
 
 -- a longer log publishes what it published
 publishes_more : (log : List Logged) (x : Logged) (r : Record) → Publishes log r → Publishes (log ++ x ∷ []) r
-publishes_more log x r (job, has) = (job, Contains-append_left log (x ∷ []) (bringing (entry.Publish job r.name (mark_of r)) r) has)
+publishes_more log x r (e, has) = (e, Contains-append_left log (x ∷ []) (bringing e r) has)
 
 pub small_told : (s t : IndexView) → IsSmall s t → AreTold s → AreTold t
 small_told s t (inl e) told = subst AreTold (sym e) told
@@ -194,24 +198,59 @@ contains_end (x ∷ xs) y = (let h = contains_end xs y in (suc h.0, omega (arith
 same_record : (e f : IndexEntry) (r o : Record) → bringing e r ≡ bringing f o → r ≡ o
 same_record e f r o is = (let same : Some r ≡ Some o = ap (λ (x : Logged). x.brought) is in cc)
 
-pub keeps_published : (s : IndexView) (job : ℕ) (r : Record) (t : IndexView) (kept : GroupPasses) → t ≡ published_by s job r → SeesFile kept r
+-- an entry that brings a record whose puts the kept passes have seen
+keeps_brought : (s : IndexView) (e : IndexEntry) (r : Record) (t : IndexView) (kept : GroupPasses) → t ≡ logged s (bringing e r)
+    → ((o : Record) → Contains (after s.now (bringing e r)).published o → (r ≡ o) ⊎ Contains s.now.published o) → SeesFile kept r
     → KeepsSeen (record { index = s; kept = kept }) → KeepsSeen (record { index = t; kept = kept })
-keeps_published s job r t kept is seen keeps = subst (λ (i : IndexView). KeepsSeen (record { index = i; kept = kept })) (sym is) (record {
+keeps_brought s e r t kept is from seen keeps = subst (λ (i : IndexView). KeepsSeen (record { index = i; kept = kept })) (sym is) (record {
   groups = keeps.groups;
   ready = keeps.ready;
   kept = keeps.kept;
-  seen = (λ o p. elim (contains_last s.log (bringing (entry.Publish job r.name (mark_of r)) r) (bringing (entry.Publish p.0 o.name (mark_of o)) o) p.1) [
+  seen = (λ o p. elim (contains_last s.log (bringing e r) (bringing p.0 o) p.1) [
     | inl h ↦ keeps.seen o (p.0, h)
-    | inr same ↦ subst (λ x. SeesFile kept x) (same_record (entry.Publish job r.name (mark_of r)) (entry.Publish p.0 o.name (mark_of o)) r o same) seen
+    | inr same ↦ subst (λ x. SeesFile kept x) (same_record e p.0 r o same) seen
   ]);
-  told = (λ o has. elim (inserted_from r o s.now.published has) [
-    | inl same ↦ inr (job, subst (λ x. Contains (s.log ++ x ∷ []) (bringing (entry.Publish job o.name (mark_of o)) o)) (ap (λ (x : Record). bringing (entry.Publish job x.name (mark_of x)) x) (sym same)) (contains_end s.log (bringing (entry.Publish job o.name (mark_of o)) o)))
+  told = (λ o has. elim (from o has) [
+    | inl same ↦ inr (subst (λ x. Publishes (s.log ++ bringing e r ∷ []) x) same (e, contains_end s.log (bringing e r)))
     | inr old ↦ elim (keeps.told o old) [
       | inl read ↦ inl read
-      | inr put ↦ inr (publishes_more s.log (bringing (entry.Publish job r.name (mark_of r)) r) o put)
+      | inr put ↦ inr (publishes_more s.log (bringing e r) o put)
     ]
   ]);
 })
+
+pub keeps_published : (s : IndexView) (job : ℕ) (r : Record) (t : IndexView) (kept : GroupPasses) → t ≡ published_by s job r → SeesFile kept r
+    → KeepsSeen (record { index = s; kept = kept }) → KeepsSeen (record { index = t; kept = kept })
+keeps_published s job r t kept is seen keeps =
+    keeps_brought s (entry.Publish job r.name (mark_of r)) r t kept is (λ o has. inserted_from r o s.now.published has) seen keeps
+
+-- A NEW SPLIT
+
+-- the puts of a file at the places of a split are those of each record of that file with the split
+pub file_same : (row : GroupPasses) (r o : Record) (split : Split) → o.length ≡ r.length → o.digest ≡ r.digest → SeesFile row (renewed r split) → SeesFile row (renewed o split)
+file_same row r o split long digest s = record {
+  file = s.file;
+  random = s.random;
+  store = s.store;
+  long = s.long ∙ sym long;
+  digest = digest ∙ s.digest;
+  puts = s.puts;
+}
+
+-- the index has one record of a name
+one_of : (s : IndexView) (name : List ℕ) (r o : Record) → IsIndex s → IsRecordOf s.now name r → IsRecordOf s.now name o → r ≡ o
+one_of s name r o is_index is other = one_record s.now.published r o is_index.names.ascends is.0 other.0 (is.1 ∙ sym other.1)
+
+pub keeps_renewed : (s : IndexView) (job : ℕ) (name : List ℕ) (split : Split) (result : Result (Unit {0}) RenewFault) (t : IndexView) (kept : GroupPasses) (r : Record)
+    → IsIndex s → Renews job name split s t result → IsRecordOf s.now name r → SeesFile kept (renewed r split)
+    → KeepsSeen (record { index = s; kept = kept }) → KeepsSeen (record { index = t; kept = kept })
+keeps_renewed s job name split (Ok u) t kept r is_index (o, of, (room, few, is)) here seen keeps =
+    let q = renewed o split in
+    keeps_brought s (entry.Renew job name (mark_of q)) q t kept is (λ p has. replaced_from q p s.now.published has)
+    (subst (λ (x : Record). SeesFile kept (renewed x split)) (one_of s name r o is_index here of) seen) keeps
+keeps_renewed s job name split (Err renew_fault.LogFull) t kept r is_index (o, of, (full, is)) here seen keeps = keeps_small s t kept (inl is) keeps
+keeps_renewed s job name split (Err renew_fault.TooOften) t kept r is_index (o, of, (room, many, is)) here seen keeps = keeps_small s t kept (inr (_, is)) keeps
+keeps_renewed s job name split (Err renew_fault.NoMemory) t kept r is_index (o, of, (room, few, is)) here seen keeps = keeps_small s t kept (inl is) keeps
 
 -- the kept passes have a part to give
 pub kept_parts : (c : CatalogView) → KeepsSeen c → HasMoreParts 1 c.kept

@@ -1,22 +1,32 @@
 -- One locked call of the index, step by step.
-use Rattle.std.proofs.Common.{◌≡◌, ◌<◌, ℕ, zero, suc, false, List, [], ◌∷◌, ◌++◌, length, refl, ap, sym, ◌∙◌, subst, arith, set, append-nil}
+use Rattle.std.proofs.Common.{◌≡◌, ◌<◌, inl, inr, ℕ, zero, suc, false, List, [], ◌∷◌, ◌++◌, length, refl, ap, sym, ◌∙◌, subst, arith, set, append-nil}
 use Rattle.std.specs.Prelude.{Any, Some, Result, Ok, Err}
 use Rattle.std.proofs.lemmas.List.{map-append}
 use Rattle.pot_bytes.specs.declared.rack.Rack.{Rack}
 use Rattle.pot_bytes.proofs.Elements.{any_front}
 use Rattle.pot_index.specs.declared.entry.Logged.{Logged}
+use Rattle.pot_object.specs.Pieces.{pieces_of}
+use Rattle.pot_index.specs.declared.fault.RenewFault.{RenewFault}
+use Rattle.pot_index.specs.declared.fault.RenewFault.TheVariants as renew_fault
 use Rattle.pot_index.specs.declared.record.Record.{Record}
+use Rattle.pot_index.specs.declared.record.Split.{Split}
+use Rattle.pot_index.specs.Calls.{Renews}
 use Rattle.pot_index.specs.Entries.{entries, IsReserving}
-use Rattle.pot_index.specs.Index.{IndexView, IsIndex}
+use Rattle.pot_index.specs.Fits.{FitsSplit}
+use Rattle.pot_index.specs.Index.{AreNames, IndexView, IsIndex, Names, Replays, names_read}
+use Rattle.pot_index.proofs.IndexLemmas.{started_is}
+use Rattle.pot_index.proofs.NamesKept.{replay_keeps, went_on, leads_once}
+use Rattle.pot_index.proofs.RecordLaws.{splits_stay}
 use Rattle.pot_turn.specs.declared.name.TurnName.{TurnName}
 use Rattle.pot_turn.specs.Logs.{StartsWith}
 use Rattle.pot_turn.specs.Views.{took_view, left_view}
 use Rattle.pot_rows.specs.Rows.{AreOf, view_at, with_view}
 use Rattle.pot_rows.proofs.RowLemmas.{at_set, still_of}
 use Rattle.pot_shared.specs.declared.catalog.Strange.{Strange}
-use Rattle.pot_shared.specs.Catalogs.{CatalogView, IndexPass, IndexPasses, IsIndexReady, IsIndexOf, origin_of}
-use Rattle.pot_shared.specs.IndexCalls.{IndexCall, HasReserved, Abandons, PublishesRecord}
-use Rattle.pot_shared.proofs.CatalogLemmas.{IsSmall, small_log, small_rack, small_read}
+use Rattle.pot_shared.specs.Ready.{GroupPasses}
+use Rattle.pot_shared.specs.Catalogs.{CatalogView, IndexPass, IndexPasses, IsIndexReady, IsIndexOf, origin_of, records_in}
+use Rattle.pot_shared.specs.IndexCalls.{IndexCall, HasReserved, Abandons, PublishesRecord, MayRenew, MayRenewBy}
+use Rattle.pot_shared.proofs.CatalogLemmas.{IsSmall, file_same, small_log, small_rack, small_read}
 use Rattle.pot_shared.proofs.CallLemmas.{set_twice}
 
 -- the log went on, and nothing else that the origin has changed
@@ -113,3 +123,38 @@ abandons_on job name (Err e) s t a = same_on s t a.0
 pub publishes_on : (job : ℕ) (r : Record) (result : Result (Unit {0}) Strange) (s t : IndexView) → PublishesRecord job r result s t → GoesOn s t
 publishes_on job r (Ok u) s t a = record { more = _; log = ap (λ (i : IndexView). i.log) a.1; rack = ap (λ (i : IndexView). i.rack) a.1; read = ap (λ (i : IndexView). i.read) a.1 }
 publishes_on job r (Err e) s t a = same_on s t a.0
+
+pub renews_on : (job : ℕ) (name : List ℕ) (split : Split) (result : Result (Unit {0}) RenewFault) (s t : IndexView) → Renews job name split s t result → GoesOn s t
+renews_on job name split (Ok u) s t (o, of, (room, few, is)) = record { more = _; log = ap (λ (i : IndexView). i.log) is; rack = ap (λ (i : IndexView). i.rack) is; read = ap (λ (i : IndexView). i.read) is }
+renews_on job name split (Err renew_fault.LogFull) s t (o, of, (full, is)) = same_on s t is
+renews_on job name split (Err renew_fault.TooOften) s t (o, of, (room, many, is)) = small_on s t (inr (_, is))
+renews_on job name split (Err renew_fault.NoMemory) s t (o, of, (room, few, is)) = same_on s t is
+
+-- WHAT MAY BE RENEWED STILL MAY
+
+-- whatever came between: a record keeps its file
+still_may : (rack : Rack) (n m k : Names) (log more : List Logged) (name : List ℕ) (split : Split) (row : GroupPasses) → AreNames rack n
+    → Replays rack n log m → Replays rack n (log ++ more) k → MayRenew rack m name split row → MayRenew rack k name split row
+still_may rack n m k log more name split row names to all (r, is, fits, seen) =
+    let parts = went_on rack n k log more all in
+    let same : parts.0 ≡ m = leads_once rack n parts.0 m log parts.1 to in
+    let rest : Replays rack m more k = subst (λ (x : Names). Replays rack x more k) same parts.2 in
+    let now = splits_stay rack m k more r (replay_keeps rack n m log names to) rest is.0 in (
+      now.0,
+      (now.1, now.2.name ∙ is.1),
+      subst (λ (p : ℕ). FitsSplit rack (pieces_of p) split) (sym now.2.long) fits,
+      file_same row r now.0 split now.2.long now.2.digest seen,
+    )
+
+module _ {rack : Rack} {names turn : List TurnName} {row row1 : IndexPasses} (ready : IsIndexReady rack names turn row) (old : CatalogView)
+    (took : row1 ≡ with_view row 0 (took_view old.index.log (view_at row 0))) (origin : Some (origin_of old) ≡ (view_at row 0).origin) (begins : StartsWith old.index.log (view_at row 0).seen) where
+  -- what the pass of the index may renew, the index that was met may
+  pub may_there : (name : List ℕ) (split : Split) (groups : GroupPasses) → IsIndex old.index → MayRenewBy rack name split groups row → MayRenew old.index.rack old.index.now name split groups
+  may_there name split groups is_index (n, to, may) =
+      let same : old.index.rack ≡ rack = (met_is ready old took origin).0 in
+      let read : records_in (view_at row 0).origin ≡ old.index.read = sym (ap records_in origin) in
+      let first : AreNames old.index.rack (names_read old.index.read) = (started_is old.index.rack old.index.read is_index.rack is_index.read).names in
+      still_may old.index.rack (names_read old.index.read) n old.index.now (view_at row 0).seen begins.0 name split groups first
+      (subst (λ (rs : List Record). Replays old.index.rack (names_read rs) (view_at row 0).seen n) read (subst (λ (x : Rack). Replays x (names_read (records_in (view_at row 0).origin)) (view_at row 0).seen n) (sym same) to))
+      (subst (λ (l : List Logged). Replays old.index.rack (names_read old.index.read) l old.index.now) begins.1 is_index.replays)
+      (subst (λ (x : Rack). MayRenew x n name split groups) (sym same) may)

@@ -1,12 +1,11 @@
 -- What the contracts see of an index under its turn, with the passes that it keeps.
 use Rattle.std.specs.Prelude.{◌≡◌, ◌<◌, ◌⊎◌, ℕ, List, [], false, Option, IfSome, Contains, length, Some, None}
 use Rattle.pot_bytes.specs.declared.rack.Rack.{Rack}
-use Rattle.pot_index.specs.declared.entry.IndexEntry.TheVariants.{Publish}
+use Rattle.pot_index.specs.declared.entry.IndexEntry.{IndexEntry}
 use Rattle.pot_index.specs.declared.entry.Logged.{Logged}
 use Rattle.pot_index.specs.declared.record.Record.{Record}
 use Rattle.pot_index.specs.Entries.{bringing}
 use Rattle.pot_index.specs.Index.{IndexView}
-use Rattle.pot_index.specs.Records.{mark_of}
 use Rattle.pot_turn.specs.declared.name.TurnName.{TurnName}
 use Rattle.pot_turn.specs.declared.view.View.{View}
 use Rattle.pot_rows.specs.Rows.{PassRow, AreOf, view_at}
@@ -18,11 +17,11 @@ pub record CatalogView : Type 0 where
   pub index : IndexView
   pub kept : GroupPasses
 
--- a log of an index publishes this record
+-- an entry of the log of an index brings this record: it is published, or has this current split from then on
 abbrev pub Publishes : List Logged → Record → Type 0
-Publishes log r = (job : ℕ) × Contains log (bringing (Publish job r.name (mark_of r)) r)
+Publishes log r = (e : IndexEntry) × Contains log (bringing e r)
 
--- each record that is published was read, or was published by an entry of the log
+-- each record that is published was read, or an entry of the log brought it
 abbrev pub AreTold : IndexView → Type 0
 AreTold s = (r : Record) → Contains s.now.published r → Contains s.read r ⊎ Publishes s.log r
 
@@ -30,8 +29,8 @@ AreTold s = (r : Record) → Contains s.now.published r → Contains s.read r �
 abbrev pub IsKept : GroupPass → Type 0
 IsKept v = (v.parts ≡ 2) × (v.turns ≡ []) × (v.joined ≡ []) × (v.made ≡ 0)
 
--- The kept passes are of all groups, have two parts and never called, and have seen the puts of each record that was published;
--- every other record was read.
+-- The kept passes are of all groups, have two parts and never called, and have seen the puts of the current split of each record
+-- that an entry brought; every other record was read.
 pub record KeepsSeen (c : CatalogView) : Type 0 where
   pub groups : length c.kept.names ≡ c.index.rack.groups
   pub ready : AreReady c.index.rack c.kept.names c.kept

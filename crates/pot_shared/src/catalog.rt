@@ -1,17 +1,20 @@
 //! The index as a value under a turn, with a pass of each group that it keeps.
 ghost use Rattle.std.specs.Prelude.{◌≡◌, Any};
 ghost use Rattle.pot_rows.specs.Rows.{HasMoreParts};
-ghost use Rattle.pot_index.specs.Calls.{Reserves, Finds, ListsNames};
+ghost use Rattle.pot_index.specs.Calls.{Reserves, Finds, ListsNames, Renews};
 ghost use Rattle.pot_index.specs.Entries.{entries, IsReserving};
 ghost use Rattle.pot_index.specs.Fits.{FitsRack};
+ghost use Rattle.pot_index.specs.Index.{IsIndex};
 ghost use Rattle.pot_shared.specs.Ready.{AreReady};
 ghost use Rattle.pot_shared.specs.Seen.{RowKnowsMore, SeesFile};
 ghost use Rattle.pot_shared.specs.Catalogs.{AreTold, Publishes};
-ghost use Rattle.pot_shared.specs.IndexCalls.{Abandons, PublishesRecord};
+ghost use Rattle.pot_shared.specs.IndexCalls.{Abandons, MayRenew, PublishesRecord};
 
 use crate::member::Member;
 use pot_bytes::{Name, Rack};
-use pot_index::{FindFault, Index, ListFault, Listed, Logged, Record, ReserveFault};
+use pot_index::{
+    FindFault, Index, ListFault, Listed, Logged, Record, RenewFault, ReserveFault, Split,
+};
 use pot_outside::Archive;
 use pot_rows::{Passes, Turns};
 use pot_turn::{Kept, TurnName};
@@ -34,7 +37,7 @@ pub struct Strange {
     pub at: u32,
 }
 
-/// An index, and passes that have seen the puts of each record that it published.
+/// An index, and passes that have seen the puts of each split that it published or renewed a record to.
 #[derive(Drop)]
 pub struct Catalog<A: Archive> {
     pub(crate) index: Index,
@@ -68,8 +71,6 @@ impl<A: Archive> Kept for Catalog<A> {
 }
 
 impl<A: Archive> Catalog<A> {
-    ghost use Rattle.pot_index.specs.Index.{IsIndex};
-
     /// What the index keeps. It does nothing.
     pub(crate) fn rules(&self)
         ensures { IsIndex self.now.index }
@@ -158,5 +159,28 @@ impl<A: Archive> Catalog<A> {
         groups.tie(passes, &mut self.kept);
         self.index.publish(job, kept);
         Ok(())
+    }
+
+    /// Gives the record of a name a new current split whose puts the caller has seen, as `Index::renew`. The kept passes have then
+    /// seen them too.
+    pub(crate) fn renew(
+        &mut self,
+        groups: &Turns<Member<A>>,
+        passes: &mut Passes<Member<A>>,
+        job: u32,
+        name: &Name,
+        split: Split,
+    ) -> Result<(), RenewFault>
+        requires ready { AreReady self.old.index.rack groups.now passes.old }
+        requires parts { HasMoreParts 1 passes.old }
+        requires names { self.old.kept.names ≡ groups.now }
+        requires rules { IsIndex self.old.index }
+        requires renews { MayRenew self.old.index.rack self.old.index.now name.now split passes.old }
+        ensures call { Renews job name.now split self.old.index self.new.index result }
+        ensures names { self.new.kept.names ≡ self.old.kept.names }
+        ensures tied { RowKnowsMore passes.old passes.new }
+    {
+        groups.tie(passes, &mut self.kept);
+        self.index.renew(job, name, split)
     }
 }

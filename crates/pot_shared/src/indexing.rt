@@ -6,7 +6,7 @@ ghost use Rattle.pot_index.specs.Fits.{FitsRack};
 use crate::catalog::Strange;
 use crate::vault::{Passes, Vault};
 use pot_bytes::Name;
-use pot_index::{FindFault, ListFault, Listed, Record, ReserveFault};
+use pot_index::{FindFault, ListFault, Listed, Record, RenewFault, ReserveFault, Split};
 use pot_outside::Archive;
 use std::alloc::Global;
 use std::sync::Wait;
@@ -15,7 +15,7 @@ impl<A: Archive> Vault<A> {
     ghost use Rattle.pot_shared.specs.Ready.{AreReady};
     ghost use Rattle.pot_shared.specs.Seen.{RowKnowsMore, SeesFile};
     ghost use Rattle.pot_shared.specs.Catalogs.{IsIndexReady};
-    ghost use Rattle.pot_shared.specs.IndexCalls.{IndexCall, HasReserved, ReservesName, ListsAll, FindsRecord, Abandons, PublishesRecord};
+    ghost use Rattle.pot_shared.specs.IndexCalls.{IndexCall, HasReserved, ReservesName, ListsAll, FindsRecord, Abandons, PublishesRecord, MayRenewBy, RenewsSplit};
 
     /// Reserves a name, in one turn of the index, as `Index::reserve`.
     pub fn reserve<R: Wait>(
@@ -114,8 +114,34 @@ impl<A: Archive> Vault<A> {
         answer
     }
 
-    /// Finds a record, in one turn of the index, as `Index::find`. Of a record that was published in this session the passes
-    /// have then seen every put.
+    /// Gives the record of a name a new current split whose puts the passes have seen, in one turn of the index, as `Index::renew`.
+    pub fn renew<R: Wait>(
+        &self,
+        rt: &R,
+        passes: &mut Passes<A>,
+        job: u32,
+        name: &Name,
+        split: Split,
+    ) -> Result<(), RenewFault>
+        requires ready { AreReady self.now.rack self.now.groups passes.old.groups }
+        requires parts { HasMoreParts 1 passes.old.groups }
+        requires index { IsIndexReady self.now.rack self.now.groups self.now.index passes.old.index }
+        requires renews { MayRenewBy self.now.rack name.now split passes.old.groups passes.old.index }
+        ensures index { IsIndexReady self.now.rack self.now.groups self.now.index passes.new.index }
+        ensures ready { AreReady self.now.rack self.now.groups passes.new.groups }
+        ensures groups { RowKnowsMore passes.old.groups passes.new.groups }
+        ensures call { IndexCall (RenewsSplit job name.now split result) passes.old.index passes.new.index }
+    {
+        let mut catalog = self.index.enter(rt, &mut passes.index, 0);
+        catalog.rules();
+        let answer = catalog.renew(&self.groups, &mut passes.groups, job, name, split);
+        catalog.rules();
+        self.index.leave(&mut passes.index, 0, catalog);
+        answer
+    }
+
+    /// Finds a record, in one turn of the index, as `Index::find`. Of a split that the record got in this session the passes have then
+    /// seen every put.
     pub fn find<R: Wait>(
         &self,
         rt: &R,

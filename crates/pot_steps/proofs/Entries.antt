@@ -80,7 +80,7 @@ void_or_live (Live d) e = inr (d, refl)
 void_or_live (Lost d) e = absurd (cc)
 void_or_live (Broken d) e = absurd (cc)
 
-all_live : (t : Table) (h : Holdings) (s : ℕ) → first t s is_unsound ≡ None → AllLive t.data_columns t.parity (stripe_of t h s)
+pub all_live : (t : Table) (h : Holdings) (s : ℕ) → first t s is_unsound ≡ None → AllLive t.data_columns t.parity (stripe_of t h s)
 all_live t h s none c lt = void_or_live (slot_at t s c) (least_none (width t) (λ k. is_unsound (slot_at t s k)) none c lt)
 
 -- the slot of the cursor is Void
@@ -95,10 +95,10 @@ module _ (t : Table) (h h' : Holdings) (s c : ℕ) (digest parity_digest : Diges
   pub column : c < t.data_columns
   column = let e : c ≡ t.cursor.column = takes.1 in let b : t.cursor.column < t.data_columns = table.cursor.column in omega arith
 
-  in_stripe : s < t.stripes
+  pub in_stripe : s < t.stripes
   in_stripe = takes.0.1
 
-  empty : slot_at t s c ≡ Void
+  pub empty : slot_at t s c ≡ Void
   empty =
       is_void_at (slot_at t s c)
       (ap (λ n. is_void (slot_at t n c)) takes.0.0
@@ -107,7 +107,7 @@ module _ (t : Table) (h h' : Holdings) (s c : ℕ) (digest parity_digest : Diges
       reached : (a b : ℕ) → a ≡ b → nat_le a b ≡ true
       reached a b e = grind (arith, nat_tests)
 
-  puts_one : t.parity ≡ 1 → Puts t.data_columns t.parity (stripe_of t h s) (stripe_of (with_put t s c digest parity_digest kept) h' s) c block p q
+  pub puts_one : t.parity ≡ 1 → Puts t.data_columns t.parity (stripe_of t h s) (stripe_of (with_put t s c digest parity_digest kept) h' s) c block p q
   puts_one single = record {
     is_block = w.is_block;
     column = column;
@@ -124,7 +124,7 @@ module _ (t : Table) (h h' : Holdings) (s c : ℕ) (digest parity_digest : Diges
   }
 
   -- the stripes beside it
-  beside : (u : Table) (n : ℕ) → n < t.stripes → n ≢ s → ((k : ℕ) → k < width t → slot_at u n k ≡ slot_at t n k) → ((k : ℕ) → held_at u h' n k ≡ held_at t h' n k)
+  pub beside : (u : Table) (n : ℕ) → n < t.stripes → n ≢ s → ((k : ℕ) → k < width t → slot_at u n k ≡ slot_at t n k) → ((k : ℕ) → held_at u h' n k ≡ held_at t h' n k)
       → Worse t.data_columns t.parity (stripe_of t h n) (stripe_of u h' n)
   beside u n ln ne slots held = worse_from t.data_columns t.parity (stripe_of t h n) (stripe_of u h' n)
       (λ k lk. inl (slots k lk)) (λ k b lk void e. sym (w.others n k ln lk (inl ne)) ∙ sym (held k) ∙ e)
@@ -147,18 +147,16 @@ module _ (t : Table) (h h' : Holdings) (s c : ℕ) (digest parity_digest : Diges
 
   -- with two parity columns
   module _ (second_digest : Digest) (double : t.parity ≡ 2) (is_second : second_digest ≡ digest_of (xor q (scaled (power 3 c) block))) where
-    both : Table
+    abbrev pub both : Table
     both = with_slot (with_put t s c digest parity_digest kept) s (t.data_columns + 1) (parity_slot second_digest kept2)
 
     one_more : t.data_columns + 1 ≡ suc t.data_columns
     one_more = omega arith
 
-    second_other : (n k : ℕ) → k < width t → ((n ≡ s) × (k ≡ t.data_columns + 1) → ⊥) → slot_at both n k ≡ slot_at (with_put t s c digest parity_digest kept) n k
-    unfolding both
+    pub second_other : (n k : ℕ) → k < width t → ((n ≡ s) × (k ≡ t.data_columns + 1) → ⊥) → slot_at both n k ≡ slot_at (with_put t s c digest parity_digest kept) n k
     second_other n k lk ne = put2_other t s c digest parity_digest second_digest kept kept2 in_stripe column table.size double n k lk ne
 
-    puts_two : Puts t.data_columns t.parity (stripe_of t h s) (stripe_of both h' s) c block p q
-    unfolding both
+    pub puts_two : Puts t.data_columns t.parity (stripe_of t h s) (stripe_of both h' s) c block p q
     puts_two = record {
       is_block = w.is_block;
       column = column;
@@ -180,7 +178,6 @@ module _ (t : Table) (h h' : Holdings) (s c : ℕ) (digest parity_digest : Diges
     }
 
     put2_holds : HoldsUp t h → HoldsUp (with_slot (with_put t s c digest parity_digest kept) s (t.data_columns + 1) (parity_slot second_digest kept2)) h'
-    unfolding both
     put2_holds up n ln = put_step both n
         (λ n ln ne. beside both n ln ne
         (λ k lk. second_other n k lk (λ e. ne e.0) ∙ put_other t s c digest parity_digest kept in_stripe column table.size n k lk (λ e. ne e.0) (λ e. ne e.0)) (λ k. refl))

@@ -108,7 +108,7 @@ pub count_keeps : CountStepKeeps
 count_keeps job old new step x = one_entry (entry.Counted job) old new step.logs.flights step.replay step.loses (loses_only old.table old.held old.held (same old.held)) refl x
 
 -- the slot of the cursor is Void
-cursor_void : (t : Table) → IsTable t → t.cursor.stripe < t.stripes → slot_at t t.cursor.stripe t.cursor.column ≡ Void
+pub cursor_void : (t : Table) → IsTable t → t.cursor.stripe < t.stripes → slot_at t t.cursor.stripe t.cursor.column ≡ Void
 cursor_void t h l =
     is_void_at (slot_at t t.cursor.stripe t.cursor.column) (h.voids.cursor t.cursor.column l h.cursor.column ∙ reached t.cursor.column)
   where

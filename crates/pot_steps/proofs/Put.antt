@@ -49,11 +49,11 @@ not_void x d h e = none (sym (ap digest_in e) ∙ h)
     none h = cc
 
 -- what a put reads of a parity slot is the filling's block
-old_is : (data_columns parity : ℕ) (s : Stripe) (blocks : ℕ → List ℕ) (c : ℕ) (old : List ℕ) → Filling data_columns parity s blocks → c < data_columns + parity → IsOld s c old → blocks c ≡ old
+pub old_is : (data_columns parity : ℕ) (s : Stripe) (blocks : ℕ → List ℕ) (c : ℕ) (old : List ℕ) → Filling data_columns parity s blocks → c < data_columns + parity → IsOld s c old → blocks c ≡ old
 old_is data_columns parity s blocks c old f lt h = elim h [ inl e ↦ f.void c lt e.0 ∙ sym e.1 | inr e ↦ f.held c old lt e ]
 
 -- what holds at the column of the put, at the other data columns and at the parity columns holds at each
-by_column : (P : ℕ → Type 0) (data_columns parity c : ℕ) → parity ≤ 2 → P c → ((k : ℕ) → k < data_columns → k ≢ c → P k) → P data_columns → (parity ≡ 2 → P (suc data_columns)) → (k : ℕ) → k < data_columns + parity → P k
+pub by_column : (P : ℕ → Type 0) (data_columns parity c : ℕ) → parity ≤ 2 → P c → ((k : ℕ) → k < data_columns → k ≢ c → P k) → P data_columns → (parity ≡ 2 → P (suc data_columns)) → (k : ℕ) → k < data_columns + parity → P k
 by_column P data_columns parity c le here others at_p at_q k lt = elim (which k data_columns c parity le lt) [
   | inl e ↦ subst P (sym e) here
   | inr (inl h) ↦ others k h.0 h.1
@@ -69,19 +69,19 @@ module _ (data_columns parity : ℕ) (s s' : Stripe) (c : ℕ) (block p q : List
   unfolding with_put
   new = with_put data_columns c block (xor p block) (xor q (scaled (power 3 c) block)) blocks
 
-  new-data : new c ≡ block
+  pub new-data : new c ≡ block
   unfolding new
   new-data = at_data data_columns c block (xor p block) (xor q (scaled (power 3 c) block)) blocks put.column
 
-  new-p : new data_columns ≡ xor p block
+  pub new-p : new data_columns ≡ xor p block
   unfolding new
   new-p = at_p data_columns c block (xor p block) (xor q (scaled (power 3 c) block)) blocks put.column
 
-  new-q : new (suc data_columns) ≡ xor q (scaled (power 3 c) block)
+  pub new-q : new (suc data_columns) ≡ xor q (scaled (power 3 c) block)
   unfolding new
   new-q = at_q data_columns c block (xor p block) (xor q (scaled (power 3 c) block)) blocks put.column
 
-  new-other : (k : ℕ) → k < data_columns → k ≢ c → new k ≡ blocks k
+  pub new-other : (k : ℕ) → k < data_columns → k ≢ c → new k ≡ blocks k
   unfolding new
   new-other k h ne = at_other data_columns c block (xor p block) (xor q (scaled (power 3 c) block)) blocks k h ne
 

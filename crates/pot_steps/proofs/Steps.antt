@@ -60,7 +60,7 @@ worse_keeps data_columns parity s s' relay relay' w r law none few =
     (elim few [ inl some ↦ inl (r some) | inr le ↦ inr (le_trans (count-le (data_columns + parity) (λ c. is_lost (s.slots c)) (λ c. is_lost (s'.slots c)) w.lost) le) ]) in
     (old.0, filling_stays data_columns parity s s' old.0 old.1 w.digests (λ c b lt h. old.1.held c b lt (w.sound c b lt h)))
 
-void_same : (x y : SlotState) → digest_in x ≡ digest_in y → is_void x ≡ is_void y
+pub void_same : (x y : SlotState) → digest_in x ≡ digest_in y → is_void x ≡ is_void y
 void_same Void y e = ap is_void (sym (no_digest y (sym e)))
 void_same (Live d) y e = sym (not_void y d (sym e))
   where
@@ -78,17 +78,17 @@ void_same (Broken d) (Live _) e = refl
 void_same (Broken d) (Lost _) e = refl
 void_same (Broken d) (Broken _) e = refl
 
-visits_same : (data_columns : ℕ) (slots slots' : ℕ → SlotState) (r : Relay) (c : ℕ) → digest_in (slots' c) ≡ digest_in (slots c) → visits data_columns slots' r c ≡ visits data_columns slots r c
+pub visits_same : (data_columns : ℕ) (slots slots' : ℕ → SlotState) (r : Relay) (c : ℕ) → digest_in (slots' c) ≡ digest_in (slots c) → visits data_columns slots' r c ≡ visits data_columns slots r c
 unfolding visits
 visits_same data_columns slots slots' r c e = ap (λ z. not (nat_eq c r.target) && (not (nat_eq c (left_out data_columns r.target r.skip)) && not z)) (void_same (slots' c) (slots c) e)
 
-folded_same : (data_columns : ℕ) (slots slots' : ℕ → SlotState) (r : Relay) (c : ℕ) → digest_in (slots' c) ≡ digest_in (slots c) → folded data_columns slots' r c ≡ folded data_columns slots r c
+pub folded_same : (data_columns : ℕ) (slots slots' : ℕ → SlotState) (r : Relay) (c : ℕ) → digest_in (slots' c) ≡ digest_in (slots c) → folded data_columns slots' r c ≡ folded data_columns slots r c
 unfolding folded
 folded_same data_columns slots slots' r c e = ap (λ z. z && is_within r.last c) (visits_same data_columns slots slots' r c e)
 
 -- the flight law stays
 module _ (data_columns parity : ℕ) (s s' : Stripe) (r : Relay) (partial : List ℕ) (w : Worse data_columns parity s s') where
-  partial_stays : (blocks : ℕ → List ℕ) → IsPartial data_columns parity s r blocks partial → IsPartial data_columns parity s' r blocks partial
+  pub partial_stays : (blocks : ℕ → List ℕ) → IsPartial data_columns parity s r blocks partial → IsPartial data_columns parity s' r blocks partial
   partial_stays blocks p k = p k ∙ total_same (data_columns + parity) _ _ (λ c lt.
       ap (λ z. if z then byte_product (weight data_columns r.target (left_out data_columns r.target r.skip) c) (get_or (blocks c) k 0) else 0) (sym (folded_same data_columns s.slots s'.slots r c (w.digests c lt))))
 
@@ -179,7 +179,7 @@ module _ (data_columns parity : ℕ) (s : Stripe) (r : Relay) (c : ℕ) (b parti
     | inr v ↦ ap (λ x. x && is_within (Some c) k) (visits_on k ∙ v) ∙ sym (ap (λ x. x && is_within r.last k) v)
   ]
 
-  hop_sum : (blocks blocks' : ℕ → List ℕ) → ((k : ℕ) → k ≢ c → blocks' k ≡ blocks k) → blocks' c ≡ b → IsPartial data_columns parity s r blocks partial → IsPartial data_columns parity s (hopped r c) blocks' partial'
+  pub hop_sum : (blocks blocks' : ℕ → List ℕ) → ((k : ℕ) → k ≢ c → blocks' k ≡ blocks k) → blocks' c ≡ b → IsPartial data_columns parity s r blocks partial → IsPartial data_columns parity s (hopped r c) blocks' partial'
   hop_sum blocks blocks' same here p k =
       let n : ℕ = data_columns + parity in
       let w : ℕ → ℕ = weight data_columns r.target (left_out data_columns r.target r.skip) in

@@ -8,7 +8,8 @@ use Rattle.pot_machine.specs.declared.relay.Relay.{Relay}
 use Rattle.pot_machine.specs.declared.entry.Entry.{Entry}
 use Rattle.pot_machine.specs.declared.entry.Entry.TheVariants as entry
 use Rattle.pot_machine.specs.Slot.{is_live, is_unsound}
-use Rattle.pot_machine.specs.Table.{Table, slot_at, serving_at, relay_at, next_column}
+use Rattle.pot_machine.specs.Column.{names}
+use Rattle.pot_machine.specs.Table.{Table, slot_at, column_at, serving_at, relay_at, next_column}
 use Rattle.pot_machine.specs.Machine.{Legal, after, stuck_by}
 use Rattle.pot_steps.specs.Stripe.{Sound, digest_of}
 use Rattle.pot_steps.specs.Flight.{partial_of}
@@ -16,7 +17,18 @@ use Rattle.pot_steps.specs.Holdings.{Holdings, stripe_of}
 use Rattle.pot_steps.specs.Flights.{Acts, flight_in, flights_after}
 use Rattle.pot_steps.specs.GroupStep.{GroupState, LosesBlocks, FullStep, Settled}
 
--- One entry is logged, with the block that is handed in with it. Blocks may be lost before it does something and after.
+-- The slot of an archive that an entry writes, or in which a write that failed may leave something, and all slots of an archive that
+-- it brings.
+abbrev pub Writes : Table → Entry → ℕ → ℕ → Type 0
+Writes t (entry.Mended job s c) number slot = (number ≡ serving_at t s c) × (slot ≡ s)
+Writes t (entry.Moved job s c copied) number slot = IsTrue copied × IsSomeAnd (column_at t c).moving (λ m. number ≡ m.to) × (slot ≡ s)
+Writes t (entry.Fault job s c) number slot = IsTrue (names (column_at t c) number) × (slot ≡ s)
+Writes t (entry.MoveBegin job c to) number slot = number ≡ to
+Writes t (entry.Swapped job c to) number slot = number ≡ to
+Writes t _ number slot = ⊥
+
+-- One entry is logged, with the block that is handed in with it. Blocks may be lost before it does something and after. Elsewhere
+-- than where it writes blocks are lost, and nothing else.
 pub record Logged (e : Entry) (given : List ℕ) (old new : GroupState) : Type 0 where
   pub legal : Legal old.table e
   pub log : new.log ≡ old.log ++ e ∷ []
@@ -28,6 +40,7 @@ pub record Logged (e : Entry) (given : List ℕ) (old new : GroupState) : Type 0
   pub lost : LosesBlocks old.held before
   pub acts : Acts old.table old.flights given e before now
   pub loses : LosesBlocks now new.held
+  pub elsewhere : (number slot : ℕ) (b : List ℕ) → (Writes old.table e number slot → ⊥) → new.held number slot ≡ Some b → old.held number slot ≡ Some b
 
 -- one entry keeps every law
 abbrev pub LoggedKeeps : Type 0

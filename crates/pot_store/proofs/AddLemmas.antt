@@ -140,7 +140,7 @@ module _ (told : Type 0) (job : ℕ) (R : GroupView → GroupView → List Entry
   pub left_bound : length (view_at w group).seen ≤ log_bound
   left_bound = (let a = left_long in let b = call.turn.settled.bound in omega (arith, a, b))
 
-  its_gain : gained v w group ≡ entries_of call.turn.others ++ call.turn.entries
+  pub its_gain : gained v w group ≡ entries_of call.turn.others ++ call.turn.entries
   its_gain =
       ap entries_of (behind (view_at w group).seen (view_at v group).seen (call.turn.others ++ marked) (its_seen ∙ append_assoc (view_at v group).seen call.turn.others marked))
       ∙ (map-append (λ l. l.entry) call.turn.others marked

@@ -1,5 +1,5 @@
 -- Which entries the visits to a record's blocks log: those that a fetch of the record may, each place being visited once.
-use Rattle.std.proofs.Common.{◌≡◌, ◌≢◌, ◌<◌, ◌≤◌, ◌⊎◌, inl, inr, ⊎_elim, ℕ, zero, suc, ◌+◌, Bool, true, false, List, [], ◌∷◌, ◌++◌, length, refl, ap, sym, ◌∙◌, subst, arith, append-nil, eq-eqb}
+use Rattle.std.proofs.Common.{◌≡◌, ◌≢◌, ◌<◌, ◌≤◌, ◌⊎◌, inl, inr, ⊎_elim, ℕ, zero, suc, ◌+◌, Bool, true, false, List, [], ◌∷◌, ◌++◌, length, refl, ap, sym, ◌∙◌, subst, arith, append-nil, length-append, eq-eqb}
 use Rattle.std.specs.Prelude.{filter, if◌then◌else◌, ◌==◌, ◌&&◌, Contains, slice_index_or}
 use Rattle.std.proofs.lemmas.List.Elements.{filter-append, Contains-append_cases, Contains-append_right}
 use Rattle.std.proofs.lemmas.Bool.{cases_eq}
@@ -186,7 +186,7 @@ low_next s c (suc zero) e is le = at (is_oddly_at s c e)
 low_next s c (suc (suc zero)) e is le = rw is (omega arith)
 low_next s c (suc (suc (suc n))) e is le = absurd (omega (arith, le))
 
-begun_low : (s c n : ℕ) (es : List Entry) → n ≤ 2 → filter (is_begin_at s c) es ≡ [] → begun_from s c n es ≤ 2
+pub begun_low : (s c n : ℕ) (es : List Entry) → n ≤ 2 → filter (is_begin_at s c) es ≡ [] → begun_from s c n es ≤ 2
 begun_low s c n [] low none = low
 begun_low s c n (e ∷ es) low none = (let h = first_fails (is_begin_at s c) e es none in begun_low s c (begun_next s c n e) es (low_next s c n e h.0 low) h.1)
 
@@ -269,9 +269,9 @@ begun_anew j s c f x t y z =
 -- THE RULES OF A JOB THAT MENDS
 
 module _ (job : ℕ) (places : List Place) (n : ℕ) (vs : List Visit) (apart : Apart places n) (fits : length vs ≤ n) (are : AreVisits job places 0 vs) where
-  none_again : (g : ℕ) (added : List Entry) → own job added ≡ logged_from places g 0 vs → (s c : ℕ) (f : Digest) (x t y z : List Entry)
+  none_again : (g : ℕ) (added more : List Entry) → own job added ≡ logged_from places g 0 vs ++ more → ((s c : ℕ) → filter (is_begin_at s c) more ≡ []) → (s c : ℕ) (f : Digest) (x t y z : List Entry)
       → added ≡ (x ++ entry.Begin job s c ∷ (t ++ entry.Oddly job s c f ∷ y)) ++ entry.Begin job s c ∷ z → ⊥
-  none_again g added is s c f x t y z at =
+  none_again g added more is quiet s c f x t y z at =
       let b : Entry = entry.Begin job s c in
       let o : Entry = entry.Oddly job s c f in
       let mine : is_of job b ≡ true = eq-eqb job job refl in
@@ -283,16 +283,26 @@ module _ (job : ℕ) (places : List Place) (n : ℕ) (vs : List Visit) (apart : 
       ap (own job) at ∙ (own_append job (x ++ b ∷ (t ++ o ∷ y)) (b ∷ z)
       ∙ (ap (λ l. l ++ own job (b ∷ z)) front ∙ ap (λ l. (own job x ++ b ∷ (own job t ++ o ∷ own job y)) ++ l) (own_cons job b z mine))) in
       let high = begun_anew job s c f (own job x) (own job t) (own job y) (own job z) in
-      let low = begun_all job places g s c n apart 0 vs (omega (arith, fits)) are in
-      let same : begun_from s c 0 (logged_from places g 0 vs) ≡ begun_from s c 0 ((own job x ++ b ∷ (own job t ++ o ∷ own job y)) ++ b ∷ own job z) =
-      ap (begun_from s c 0) (sym is ∙ all) in
+      let low = begun_low s c (begun_from s c 0 (logged_from places g 0 vs)) more (begun_all job places g s c n apart 0 vs (omega (arith, fits)) are) (quiet s c) in
+      let same : begun_from s c (begun_from s c 0 (logged_from places g 0 vs)) more ≡ begun_from s c 0 ((own job x ++ b ∷ (own job t ++ o ∷ own job y)) ++ b ∷ own job z) =
+      sym (begun_append s c 0 (logged_from places g 0 vs) more) ∙ ap (begun_from s c 0) (sym is ∙ all) in
       omega (arith, high, low, same)
 
-  pub mends_from : (g : ℕ) (added : List Entry) → own job added ≡ logged_from places g 0 vs → Mends job added
-  mends_from g added is = record {
-    one_stuck = λ s c. (let e = ap (λ es. length (filter (is_stuck_at s c) es)) is in let l = one_stuck job places n vs apart fits are g s c in omega (arith, e, l));
-    none_again = λ s c f x t y z at none. none_again g added is s c f x t y z at;
+  -- and of one that behind these visits begins no relay and logs no Stuck
+  pub mends_then : (g : ℕ) (added more : List Entry) → own job added ≡ logged_from places g 0 vs ++ more → ((s c : ℕ) → filter (is_begin_at s c) more ≡ [])
+      → ((s c : ℕ) → filter (is_stuck_at s c) more ≡ []) → Mends job added
+  mends_then g added more is quiet none_stuck = record {
+    one_stuck = λ s c.
+        (let e = ap (λ es. length (filter (is_stuck_at s c) es)) is in let l = one_stuck job places n vs apart fits are g s c in
+        let a = ap length (filter-append (is_stuck_at s c) (logged_from places g 0 vs) more) in
+        let b = length-append (filter (is_stuck_at s c) (logged_from places g 0 vs)) (filter (is_stuck_at s c) more) in
+        let d = ap length (none_stuck s c) in
+        omega (arith, e, l, a, b, d));
+    none_again = λ s c f x t y z at none. none_again g added more is quiet s c f x t y z at;
   }
+
+  pub mends_from : (g : ℕ) (added : List Entry) → own job added ≡ logged_from places g 0 vs → Mends job added
+  mends_from g added is = mends_then g added [] (is ∙ sym (append-nil (logged_from places g 0 vs))) (λ s c. refl) (λ s c. refl)
 
 -- what a fetch of the record may log
 pub reads_from : (kept : Record) (job : ℕ) (vs : List Visit) (logs : ℕ → List Entry) → ((g : ℕ) → logs g ≡ logged_from kept.places g 0 vs)

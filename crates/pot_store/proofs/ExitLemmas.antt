@@ -72,7 +72,7 @@ module _ (job : ℕ) (name file : List ℕ) (rack : Rack) (names turn : List Tur
         ∙ (ap (λ es. own job (gained g0 g2 g) ++ es) (known_none job rack names g2 g3 ready2 knows (its_alone alone).1 g) ∙ append-nil (own job (gained g0 g2 g)))
 
   pub published_row : (pads : Pads) (places : List Place) (pieces shards : ℕ) (v : Unit {0}) (g3 : GroupPasses) (i3 : IndexPasses) (ready2 : AreReady rack names g2) (knows : RowKnowsMore g2 g3)
-      → IndexCall (PublishesRecord job (record_of name file rack.geometry places) (Ok v)) i2 i3 → ArePut rack job (blocks_from rack.geometry file pads) places g1 g2
+      → IndexCall (PublishesRecord job (record_of name file rack.geometry places) (Ok v)) i2 i3 → ArePut rack rack.geometry job (blocks_from rack.geometry file pads) places g1 g2
       → length file ≤ longest → pieces ≡ pieces_of (length file) → shards ≡ pieces_of (length file) * (rack.geometry.fragments * rack.geometry.shards) → length places ≡ shards
       → JobAlone job (known g0 i0) (known g3 i3) → (s : Setting) → IsSettingOf s rack (known g0 i0) → DrawsFrom s pads job file
       → StoreRow s job name file (Ok (record { pieces = pieces; shards = shards })) (section_of (known g0 i0) (known g3 i3))
@@ -108,7 +108,7 @@ module _ (job : ℕ) (name file : List ℕ) (rack : Rack) (names turn : List Tur
   }
 
   abandoned_here : (pads : Pads) (group : ℕ) (cause : PutFault) (v : Unit {0}) (i3 : IndexPasses) → IndexCall (Abandons job name (Ok v)) i2 i3 → length file ≤ longest
-      → (RowAlone (of_job job) g1 g2 → PutsEnd rack job (blocks_from rack.geometry file pads) group cause g1 g2)
+      → (RowAlone (of_job job) g1 g2 → PutsEnd rack rack.geometry job (blocks_from rack.geometry file pads) group cause g1 g2)
       → JobAlone job (known g0 i0) (known g2 i3) → (s : Setting) → IsSettingOf s rack (known g0 i0) → DrawsFrom s pads job file
       → StoreRow s job name file (Err (fault_of group cause)) (section_of (known g0 i0) (known g2 i3))
   abandoned_here pads group cause v i3 call short ends alone s set draws =
@@ -117,11 +117,11 @@ module _ (job : ℕ) (name file : List ℕ) (rack : Rack) (names turn : List Tur
       refused_row job name file rack s pads g0 g2 i0 i3 group cause (blocks_from rack.geometry file pads) short set.rack_is draws
       (ap (λ (q : Rack). map digest_of (blocks_from q.geometry file pads)) (sym set.rack_is))
       (index_owns job name file rack names turn g0 g2 i0 i2 u ready0.idle index0 reserve2 index2 (Abandons job name (Ok v)) i3 call all alone.index ∙ ap (λ es. plain (entry.Reserve job name) ∷ es) is)
-      (subst (λ (x : GroupPasses). PutsEnd rack job (blocks_from rack.geometry file pads) group cause x g2) same1 (ends (subst (λ (x : GroupPasses). RowAlone (of_job job) x g2) (sym same1) alone.groups)))
+      (subst (λ (x : GroupPasses). PutsEnd rack rack.geometry job (blocks_from rack.geometry file pads) group cause x g2) same1 (ends (subst (λ (x : GroupPasses). RowAlone (of_job job) x g2) (sym same1) alone.groups)))
       set worked2
 
   pub abandoned_row : (pads : Pads) (group : ℕ) (cause : PutFault) (v : Unit {0}) (g3 : GroupPasses) (i3 : IndexPasses) → g3 ≡ g2 → IndexCall (Abandons job name (Ok v)) i2 i3 → length file ≤ longest
-      → (RowAlone (of_job job) g1 g2 → PutsEnd rack job (blocks_from rack.geometry file pads) group cause g1 g2)
+      → (RowAlone (of_job job) g1 g2 → PutsEnd rack rack.geometry job (blocks_from rack.geometry file pads) group cause g1 g2)
       → JobAlone job (known g0 i0) (known g3 i3) → (s : Setting) → IsSettingOf s rack (known g0 i0) → DrawsFrom s pads job file
       → StoreRow s job name file (Err (fault_of group cause)) (section_of (known g0 i0) (known g3 i3))
   abandoned_row pads group cause v g3 i3 same3 call short ends alone s set draws =

@@ -18,11 +18,10 @@ use Rattle.pot_machine.proofs.Logs.{replays_is}
 use Rattle.pot_steps.specs.Stripe.{digest_of}
 use Rattle.pot_shard.specs.FileBlocks.{file_blocks}
 use Rattle.pot_steps.proofs.CallLemmas.{is_digest}
-use Rattle.pot_index.specs.declared.entry.IndexEntry.TheVariants.{Find, Publish}
+use Rattle.pot_index.specs.declared.entry.IndexEntry.TheVariants.{Find}
 use Rattle.pot_index.specs.declared.entry.Logged.{Logged}
 use Rattle.pot_index.specs.declared.record.Record.{Record}
 use Rattle.pot_index.specs.Entries.{plain, bringing}
-use Rattle.pot_index.specs.Records.{mark_of}
 use Rattle.pot_index.specs.Fits.{FitsRack}
 use Rattle.pot_index.specs.Index.{IsRecordOf}
 use Rattle.pot_turn.specs.declared.name.TurnName.{TurnName}
@@ -44,7 +43,7 @@ use Rattle.pot_store.specs.Works.{of_job, gained, known, section_of, JobWorked, 
 use Rattle.pot_store.specs.Visits.{Seen, Lost, Visit, IsReadAt, EndsGone, visit_at, came_at, place_in, logged_from, seen_in}
 use Rattle.pot_store.specs.Stored.{blocks_in, IsStoredAs, IsReadOf, FetchGives}
 use Rattle.pot_store.specs.Reads.{IsMade, AreMade, AreHad, IsStopped, IsFileIn, EndsFetch}
-use Rattle.pot_store.specs.Fetches.{AreFilled, FetchRow}
+use Rattle.pot_store.specs.Fetches.{AreFilled, FetchRow, IsUnfinished}
 use Rattle.pot_store.proofs.WorkLemmas.{known_work, known_none, own_more}
 use Rattle.pot_store.proofs.ReadLemmas.{both_gained, read_back, seen_parts}
 use Rattle.pot_store.proofs.EntryLemmas.{has_place}
@@ -74,7 +73,7 @@ module _ (job : ℕ) (name : List ℕ) (rack : Rack) (names turn : List TurnName
   abbrev all : Section
   all = section_of (known u ui) (known w wi)
 
-  fits : FitsRack rack kept
+  pub fits : FitsRack rack kept
   fits = found_fits job name rack names turn ui wi v kept index_ready call
 
   -- the log of a group ans its pass has seen it in the end
@@ -90,11 +89,11 @@ module _ (job : ℕ) (name : List ℕ) (rack : Rack) (names turn : List TurnName
     parts : RowAlone (of_job job) u v × RowAlone (of_job job) v w
     parts = row_alone_in_parts (of_job job) u v w tied reads.worked alone.groups
 
-    logs : (g : ℕ) → own job (all.added g) ≡ logged_from kept.places g 0 visits
+    pub logs : (g : ℕ) → own job (all.added g) ≡ logged_from kept.places g 0 visits
     logs g = own_more job u v w tied reads.worked g
         ∙ (ap (λ l. l ++ own job (gained v w g)) (known_none job rack names u v ready knows parts.0 g) ∙ reads.own parts.1 g)
 
-    found : Found s job name kept all
+    pub found : Found s job name kept all
     found = record {
       index = search_own job name rack names turn ui wi v (Ok kept) index_ready call alone.index;
       sofar = call.turn.others;
@@ -103,7 +102,7 @@ module _ (job : ℕ) (name : List ℕ) (rack : Rack) (names turn : List TurnName
       published = subst (λ m. IsRecordOf m name kept) (sym (met_names job name rack names turn ui wi v (Ok kept) index_ready call s u set)) call.turn.call.0.1;
     }
 
-    are : AreVisits job kept.places 0 visits
+    pub are : AreVisits job kept.places 0 visits
     are x lt = (reads.each x lt).is
 
     -- what was seen was visited
@@ -179,7 +178,7 @@ module _ (job : ℕ) (name : List ℕ) (rack : Rack) (names turn : List TurnName
         let had = subst (λ m. AreHad kept m is.done is.contents) at is.had in
         full_row s rack job name kept all visits is.done is.last is.contents fits logs is.piece is.fragment is.in_pieces is.in_fragments is.are had is.long are twice found group w whole is.refused
 
-    file_room : (contents : List (List ℕ)) (bytes : List ℕ) → IsFileIn kept visits contents bytes → length visits ≤ length kept.places
+    pub file_room : (contents : List (List ℕ)) (bytes : List ℕ) → IsFileIn kept visits contents bytes → length visits ≤ length kept.places
     file_room contents bytes file = (let a = file.had.visited in let b = many_places rack kept fits in omega (arith, a, b))
 
     pub record_row : (result : Result (Vec ℕ Global) FetchFault) → EndsFetch kept visits result w → FetchRow s job name result all
@@ -196,19 +195,23 @@ module _ (job : ℕ) (name : List ℕ) (rack : Rack) (names turn : List TurnName
     record_row (Err (fault.Lost piece number have m)) is = refused_row (fault.Lost piece number have m, is)
     record_row (Err (fault.LogFull group)) is = refused_row (fault.LogFull group, is)
 
+    -- no memory, with these visits
+    pub unfinished : length visits ≤ length kept.places → IsUnfinished s job name all
+    unfinished room = inr (kept, found, entries s rack job name kept all visits fits logs room are)
+
     -- THE FILE THAT WAS STORED
 
     published_there : Publishes (all.index_before ++ all.index_added) kept → Publishes call.turn.old.log kept
-    published_there (by, has) =
+    published_there (e, has) =
         let gain = search_gain job name rack names turn ui wi v (Ok kept) index_ready call in
         let log : all.index_before ++ all.index_added ≡ call.turn.old.log ++ plain (Find job name true) ∷ [] =
         ap (λ l. all.index_before ++ l) gain
         ∙ (sym (append_assoc all.index_before call.turn.others (plain (Find job name true) ∷ [])) ∙ ap (λ l. l ++ plain (Find job name true) ∷ []) (sym call.turn.met)) in
-        let it : Logged = bringing (Publish by kept.name (mark_of kept)) kept in (
-          by,
+        let it : Logged = bringing e kept in (
+          e,
           ⊎_elim
               (λ (before : Contains call.turn.old.log it). before)
-              (λ (last : Contains (plain (Find job name true) ∷ []) it). absurd (let e = ap (λ (x : Logged). x.brought) (one_contained (plain (Find job name true)) it last) in cc e))
+              (λ (last : Contains (plain (Find job name true) ∷ []) it). absurd (let none = ap (λ (x : Logged). x.brought) (one_contained (plain (Find job name true)) it last) in cc none))
               (Contains-append_cases call.turn.old.log (plain (Find job name true) ∷ []) it (subst (λ l. Contains l it) log has)),
         )
 

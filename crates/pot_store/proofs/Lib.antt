@@ -31,3 +31,4 @@ pub mod RecordLemmas
 pub mod SearchLemmas
 pub mod FilledLemmas
 pub mod FetchLemmas
+pub mod RenewLemmas

@@ -6,18 +6,23 @@ use Rattle.std.proofs.lemmas.List.Elements.{All-nil, All-cons}
 use Rattle.std.proofs.lemmas.Option.{same_Some}
 use Rattle.std.proofs.Math.Nat.{mul_assoc}
 use Rattle.pot_bytes.specs.Lists.{AreBytes}
+use Rattle.pot_bytes.specs.Digests.{digest_bytes}
 use Rattle.pot_bytes.specs.Rack.{IsRack}
+use Rattle.pot_bytes.specs.declared.rack.Geometry.{Geometry}
 use Rattle.pot_bytes.specs.declared.rack.Place.{Place}
 use Rattle.pot_bytes.specs.declared.rack.Rack.{Rack}
 use Rattle.pot_bytes.proofs.Elements.{element_of_map}
 use Rattle.pot_object.specs.Pieces.{longest, pieces_of}
 use Rattle.pot_pads.specs.Pads.{Pads}
 use Rattle.pot_steps.specs.Stripe.{digest_of}
+use Rattle.pot_shard.specs.FileBlocks.{file_blocks}
+use Rattle.pot_shard.specs.FileLaws.{IsStore}
 use Rattle.pot_shard.proofs.DrawLemmas.{draw_laws}
 use Rattle.pot_index.specs.declared.entry.IndexEntry.{IndexEntry}
 use Rattle.pot_index.specs.declared.entry.IndexEntry.TheVariants as entry
 use Rattle.pot_index.specs.Entries.{IsReserving}
-use Rattle.pot_index.specs.Fits.{FitsRack, FitsSplit, FitsPlace}
+use Rattle.pot_index.specs.declared.record.Record.{Record}
+use Rattle.pot_index.specs.Fits.{FitsGeometry, FitsRack, FitsSplit, FitsPlace}
 use Rattle.pot_turn.specs.declared.name.TurnName.{TurnName}
 use Rattle.pot_rows.specs.Rows.{HasMoreParts}
 use Rattle.pot_rows.specs.Works.{RowWorked}
@@ -65,26 +70,19 @@ more_parts n job rack names old new ready ready2 worked parts at lt =
     let p = parts at (let a = ap length ready.of.0 in let b = ap length ready2.of.0 in omega (arith, lt, a, b)) in
     let e = (worked at).parts in omega (arith, p, e)
 
--- THE RECORD
+-- THE SPLIT
 
-module _ (rack : Rack) (job : ℕ) (name file : List ℕ) (pads : Pads) (blocks : List (List ℕ)) (places : List Place) (old new : GroupPasses) (is_rack : IsRack rack)
-    (short : length file ≤ longest) (count : length places ≡ pieces_of (length file) * (rack.geometry.fragments * rack.geometry.shards)) (puts : ArePut rack job blocks places old new) where
+module _ (rack : Rack) (geometry : Geometry) (job : ℕ) (file : List ℕ) (pads : Pads) (blocks : List (List ℕ)) (places : List Place) (old new : GroupPasses) (fits_rack : FitsGeometry rack geometry)
+    (short : length file ≤ longest) (count : length places ≡ pieces_of (length file) * (geometry.fragments * geometry.shards)) (puts : ArePut rack geometry job blocks places old new) where
   placed_at : (b : ℕ) (p : Place) → slice_get places b ≡ Some p → (x : Placed) × (slice_get puts.placed b ≡ Some x) × (place_of x ≡ p)
   placed_at b p is = element_of_map place_of puts.placed b p (sym (ap (λ ps. slice_get ps b) puts.places_are) ∙ is)
 
-  fits_split : FitsSplit rack (pieces_of (length file)) (record { geometry = rack.geometry; places = places })
+  pub fits_split : FitsSplit rack (pieces_of (length file)) (record { geometry = geometry; places = places })
   fits_split = record {
-    geometry = record { limits = is_rack.geometry; groups = is_rack.groups.0 };
-    count = count ∙ sym (mul_assoc (pieces_of (length file)) rack.geometry.fragments rack.geometry.shards);
-    places = λ b p is. (let m = placed_at b p is in subst (λ q. FitsPlace rack rack.geometry b q) m.2 (puts.fits b m.0 m.1));
+    geometry = fits_rack;
+    count = count ∙ sym (mul_assoc (pieces_of (length file)) geometry.fragments geometry.shards);
+    places = λ b p is. (let m = placed_at b p is in subst (λ q. FitsPlace rack geometry b q) m.2 (puts.fits b m.0 m.1));
     distinct = λ a b p at_a at_b. (let m = placed_at a p at_a in let n = placed_at b p at_b in puts.apart a b m.0 n.0 m.1 n.1 (m.2 ∙ sym n.2));
-  }
-
-  pub fits : FitsRack rack (record_of name file rack.geometry places)
-  fits = record {
-    long = short;
-    few = omega arith;
-    splits = All-cons (FitsSplit rack (pieces_of (length file))) (record { geometry = rack.geometry; places = places }) [] fits_split (All-nil (FitsSplit rack (pieces_of (length file))));
   }
 
   digest_at : (b : ℕ) (x : Placed) → slice_get puts.placed b ≡ Some x → x.digest ≡ digest_of (slice_index_or blocks b [])
@@ -93,15 +91,35 @@ module _ (rack : Rack) (job : ℕ) (name file : List ℕ) (pads : Pads) (blocks 
       let m = element_of_map digest_of (take (length puts.placed) blocks) b x.digest at in
       sym m.2 ∙ ap digest_of (sym (get_or_of blocks b m.0 [] (take_get blocks (length puts.placed) b m.0 m.1)))
 
-  pub sees : AreBytes file → blocks ≡ blocks_from rack.geometry file pads → SeesFile new (record_of name file rack.geometry places)
-  sees bytes are = record {
+  -- of a record of the file with this split the passes have seen the puts
+  pub sees_split : AreBytes file → blocks ≡ blocks_from geometry file pads → (r : Record) → r.geometry ≡ geometry → r.places ≡ places → r.length ≡ length file → r.digest ≡ record { bytes = digest_bytes file } → SeesFile new r
+  sees_split bytes are r of_geometry at long digest = record {
     file = file;
-    random = random_from rack.geometry file pads;
-    store = draw_laws.store rack.geometry pads file is_rack.geometry short bytes;
-    long = refl;
-    digest = refl;
+    random = random_from geometry file pads;
+    store = subst (λ g. IsStore g file (random_from geometry file pads)) (sym of_geometry) (draw_laws.store geometry pads file fits_rack.limits short bytes);
+    long = sym long;
+    digest = digest;
     puts = λ b p is.
-        let m = placed_at b p is in
-        subst (λ q. SeesPut new q (digest_of (slice_index_or (blocks_from rack.geometry file pads) b []))) m.2
-        (subst (λ d. SeesPut new (place_of m.0) d) (digest_at b m.0 m.1 ∙ ap (λ bs. digest_of (slice_index_or bs b [])) are) (puts.seen b m.0 m.1));
+        let m = placed_at b p (ap (λ ps. slice_get ps b) (sym at) ∙ is) in
+        subst (λ q. SeesPut new q (digest_of (slice_index_or (file_blocks r.geometry file (random_from geometry file pads)) b []))) m.2
+        (subst (λ d. SeesPut new (place_of m.0) d)
+        (digest_at b m.0 m.1 ∙ ap (λ bs. digest_of (slice_index_or bs b [])) (are ∙ ap (λ g. file_blocks g file (random_from geometry file pads)) (sym of_geometry))) (puts.seen b m.0 m.1));
   }
+
+-- THE RECORD
+
+module _ (rack : Rack) (job : ℕ) (name file : List ℕ) (pads : Pads) (blocks : List (List ℕ)) (places : List Place) (old new : GroupPasses) (is_rack : IsRack rack)
+    (short : length file ≤ longest) (count : length places ≡ pieces_of (length file) * (rack.geometry.fragments * rack.geometry.shards)) (puts : ArePut rack rack.geometry job blocks places old new) where
+  its_geometry : FitsGeometry rack rack.geometry
+  its_geometry = record { limits = is_rack.geometry; groups = is_rack.groups.0 }
+
+  pub fits : FitsRack rack (record_of name file rack.geometry places)
+  fits = record {
+    long = short;
+    few = omega arith;
+    splits = All-cons (FitsSplit rack (pieces_of (length file))) (record { geometry = rack.geometry; places = places }) []
+        (fits_split rack rack.geometry job file pads blocks places old new its_geometry short count puts) (All-nil (FitsSplit rack (pieces_of (length file))));
+  }
+
+  pub sees : AreBytes file → blocks ≡ blocks_from rack.geometry file pads → SeesFile new (record_of name file rack.geometry places)
+  sees bytes are = sees_split rack rack.geometry job file pads blocks places old new its_geometry short count puts bytes are (record_of name file rack.geometry places) refl refl refl refl

@@ -13,7 +13,6 @@ use Rattle.pot_index.specs.Entries as index
 use Rattle.pot_index.specs.Entries.{plain}
 use Rattle.pot_index.specs.Fits.{FitsRack}
 use Rattle.pot_index.specs.Index.{IndexView, Names, names_read}
-use Rattle.pot_index.specs.Index as index_of
 use Rattle.pot_turn.specs.declared.name.TurnName.{TurnName}
 use Rattle.pot_worked.specs.Worked.{added}
 use Rattle.pot_worked.specs.Laws.{AllOf}
@@ -92,7 +91,7 @@ module _ (job : ℕ) (name : List ℕ) (rack : Rack) (names turn : List TurnName
       ∙ ap (λ es. call.turn.others ++ es) search_entries
 
   -- the rack of the index that was met
-  met_rack : call.turn.old.rack ≡ rack
+  pub met_rack : call.turn.old.rack ≡ rack
   met_rack = at_origin (view_at u 0).origin call.turn.origin.1 ready.origin
     where
       at_origin : (o : Option CatalogOrigin) → Some (record { rack = call.turn.old.rack; read = call.turn.old.read; names = call.turn.origin.0 }) ≡ o → IsIndexOf rack names o → call.turn.old.rack ≡ rack

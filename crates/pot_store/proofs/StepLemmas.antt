@@ -1,18 +1,17 @@
 -- One put more.
-use Rattle.std.proofs.Common.{◌≡◌, ◌≢◌, ◌<◌, inl, ⊎_elim, ℕ, ◌+◌, true, List, [], ◌∷◌, ◌++◌, length, refl, ap, sym, ◌∙◌, subst, arith, append-nil, append_assoc, take}
+use Rattle.std.proofs.Common.{◌≡◌, ◌≢◌, ◌<◌, ⊎_elim, ℕ, ◌+◌, true, List, [], ◌∷◌, ◌++◌, length, refl, ap, sym, ◌∙◌, subst, arith, append-nil, append_assoc, take}
 use Rattle.std.specs.Prelude.{Some, Ok, map, Contains, slice_get}
 use Rattle.std.proofs.lemmas.List.{map-append, length-append, length-map}
 use Rattle.std.proofs.lemmas.List.Elements.{Contains-append_left, Contains-append_right}
 use Rattle.std.proofs.lemmas.Bool.{cases_eq}
 use lib.Seq.{drop-length}
-use Rattle.pot_bytes.specs.Sums.{xor}
 use Rattle.pot_bytes.specs.declared.digest.Digest.{Digest}
+use Rattle.pot_bytes.specs.declared.rack.Geometry.{Geometry}
 use Rattle.pot_bytes.specs.declared.rack.Place.{Place}
 use Rattle.pot_bytes.specs.declared.rack.Rack.{Rack}
 use Rattle.pot_machine.specs.declared.entry.Entry.{Entry}
-use Rattle.pot_machine.specs.declared.entry.Entry.TheVariants as entry
 use Rattle.pot_machine.specs.Table.{Table}
-use Rattle.pot_machine.specs.Machine.{Legal, Replays, after}
+use Rattle.pot_machine.specs.Machine.{Legal, Replays, TakesPut, after}
 use Rattle.pot_machine.specs.Rules.{IsTable}
 use Rattle.pot_machine.specs.Logs.{own, IsKeptPut}
 use Rattle.pot_machine.proofs.LeftAlone.{sizes_stay, rules_stay, logs_went_on}
@@ -38,12 +37,12 @@ use Rattle.pot_shared.proofs.CatalogLemmas.{sees_more}
 use Rattle.pot_store.specs.Works.{of_job, gained}
 use Rattle.pot_store.specs.Puts.{ArePut}
 use Rattle.pot_store.proofs.WorkLemmas.{row_stays, group_work, group_own, group_else, own_more}
-use Rattle.pot_store.proofs.PutLemmas.{all_put, puts_more, in_more, in_same, take_next, snoc_get}
+use Rattle.pot_store.proofs.PutLemmas.{all_put, kept_put, takes_put, puts_more, in_more, in_same, take_next, snoc_get}
 use Rattle.pot_store.proofs.CursorLemmas.{IsBefore, puts_behind}
 
 -- no block was put yet
-pub puts_none : (rack : Rack) (job : ℕ) (blocks : List (List ℕ)) (row : GroupPasses) → AllIdle row → ArePut rack job blocks [] row row
-puts_none rack job blocks row idle = record {
+pub puts_none : (rack : Rack) (geometry : Geometry) (job : ℕ) (blocks : List (List ℕ)) (row : GroupPasses) → AllIdle row → ArePut rack geometry job blocks [] row row
+puts_none rack geometry job blocks row idle = record {
   placed = [];
   places_are = refl;
   digests = refl;
@@ -91,16 +90,13 @@ module _ (told : Type 0) (R : GroupView → GroupView → List Entry → Type 0)
 
 -- A PUT THAT WAS MADE
 
-module _ (rack : Rack) (names : List TurnName) (told : Type 0) (job : ℕ) (v w : GroupPasses) (group : ℕ) (block : List ℕ) (place : Place)
-    (ready : AreReady rack names v) (lt : group < length names) (one : rack.parity ≡ 1) (call : CallAt told (PutCall told job block (Ok place)) group v w) where
+module _ (rack : Rack) (geometry : Geometry) (names : List TurnName) (told : Type 0) (job : ℕ) (v w : GroupPasses) (group : ℕ) (block : List ℕ) (place : Place)
+    (ready : AreReady rack names v) (lt : group < length names) (call : CallAt told (PutCall told job block (Ok place)) group v w) where
   within : group < length v.views
   within = let l = ready.of.1 in omega (arith, lt, l)
 
   its_table : IsTableOf rack call.turn.old.table
   its_table = is_table rack told group (view_at v group).origin call.turn.old call.turn.origin (ready.origins group lt) call.turn.settled_old
-
-  pub one_parity : call.turn.old.table.parity ≡ 1
-  one_parity = its_table.1 ∙ one
 
   pub its_group : place.group ≡ group
   its_group = call.turn.call.tells.0 ∙ (is_origin rack group (view_at v group).origin call.turn.old call.turn.origin (ready.origins group lt)).0
@@ -111,12 +107,9 @@ module _ (rack : Rack) (names : List TurnName) (told : Type 0) (job : ℕ) (v w 
   abbrev the_put : Entry
   the_put = put_entry call.turn.old.table.parity job place.stripe place.column block made.1 made.2 true true
 
-  plain_put : the_put ≡ entry.Put job place.stripe place.column (digest_of block) (digest_of (xor made.1 block)) true
-  plain_put = subst (λ n. put_entry n job place.stripe place.column block made.1 made.2 true true ≡ entry.Put job place.stripe place.column (digest_of block) (digest_of (xor made.1 block)) true) (sym one_parity) refl
-
-  -- the new entry, with one parity column
+  -- the new entry
   pub is_put : IsKeptPut job place.stripe place.column (digest_of block) the_put
-  is_put = inl (digest_of (xor made.1 block), plain_put)
+  is_put = kept_put call.turn.old.table.parity job place.stripe place.column block made.1 made.2
 
   pub entries_are : call.turn.entries ≡ skips job made.0 ++ the_put ∷ []
   entries_are = made.3
@@ -131,11 +124,11 @@ module _ (rack : Rack) (names : List TurnName) (told : Type 0) (job : ℕ) (v w 
   at_rules : IsTable at.0
   at_rules = rules_stay call.turn.new.first at.0 (call.turn.old.log ++ skips job made.0) (subst IsTable (sym call.turn.first) call.turn.read) at.1
 
-  at_legal : Legal at.0 (entry.Put job place.stripe place.column (digest_of block) (digest_of (xor made.1 block)) true)
-  at_legal = subst (Legal at.0) plain_put at.2
+  at_takes : TakesPut at.0 place.stripe place.column
+  at_takes = takes_put at.0 call.turn.old.table.parity job place.stripe place.column block made.1 made.2 true true at.2
 
   -- its place lies in the rack
-  pub its_fit : (b : ℕ) → group ≡ group_of rack rack.geometry b → FitsPlace rack rack.geometry b (record { group = group; column = place.column; stripe = place.stripe })
+  pub its_fit : (b : ℕ) → group ≡ group_of rack geometry b → FitsPlace rack geometry b (record { group = group; column = place.column; stripe = place.stripe })
   its_fit b is =
       let s = sizes_stay at.0 the_put in
       let t = ap (λ (x : Table). x.data_columns) at.3 in
@@ -146,9 +139,8 @@ module _ (rack : Rack) (names : List TurnName) (told : Type 0) (job : ℕ) (v w 
       let origin = (is_origin rack group (view_at v group).origin call.turn.old call.turn.origin (ready.origins group lt)).1 in
       let columns : at.0.data_columns ≡ rack.columns = sym s.0 ∙ (sym t ∙ (sizes.0 ∙ (first ∙ origin.0))) in
       let stripes : at.0.stripes ≡ rack.stripes = sym s.2 ∙ (sym r ∙ (sizes.2 ∙ (first_r ∙ origin.2))) in
-      let legal = at_legal in
-      let lc : place.column ≡ at.0.cursor.column = legal.1.1 in
-      let ls : place.stripe < at.0.stripes = legal.1.0.1 in
+      let lc : place.column ≡ at.0.cursor.column = at_takes.1 in
+      let ls : place.stripe < at.0.stripes = at_takes.0.1 in
       let c : at.0.cursor.column < at.0.data_columns = at_rules.cursor.column in
       record {
         group = is;
@@ -166,8 +158,8 @@ module _ (rack : Rack) (names : List TurnName) (told : Type 0) (job : ℕ) (v w 
       puts_behind call.turn.new.first (call.turn.old.log ++ skips job made.0) at.0 at.1 j p.stripe p.column d e put (Contains-append_left call.turn.old.log (skips job made.0) e met) in
       let s : p.stripe ≡ place.stripe = ap (λ (x : Place). x.stripe) same in
       let c : p.column ≡ place.column = ap (λ (x : Place). x.column) same in
-      let ls : place.stripe ≡ at.0.cursor.stripe = at_legal.1.0.0 in
-      let lc : place.column ≡ at.0.cursor.column = at_legal.1.1 in
+      let ls : place.stripe ≡ at.0.cursor.stripe = at_takes.0.0 in
+      let lc : place.column ≡ at.0.cursor.column = at_takes.1 in
       ⊎_elim (λ (b : p.stripe < at.0.cursor.stripe). omega (arith, b, s, ls)) (λ (b : (p.stripe ≡ at.0.cursor.stripe) × (p.column < at.0.cursor.column)). (let k = b.1 in omega (arith, k, c, lc))) behind
 
   -- WITH THOSE BEFORE
@@ -176,13 +168,13 @@ module _ (rack : Rack) (names : List TurnName) (told : Type 0) (job : ℕ) (v w 
   it = record { group = group; stripe = place.stripe; column = place.column; digest = digest_of block }
 
   pub work : RowWorked (of_job job) v w
-  work = group_work told job (PutCall told job block (Ok place)) group v w within call (all_put job block (Ok place) call.turn.old call.turn.new call.turn.entries one_parity call.turn.call.tells) ready.idle
+  work = group_work told job (PutCall told job block (Ok place)) group v w within call (all_put job block (Ok place) call.turn.old call.turn.new call.turn.entries call.turn.call.tells) ready.idle
 
   own_here : RowAlone (of_job job) v w → own job (gained v w group) ≡ call.turn.entries
-  own_here alone = group_own told job (PutCall told job block (Ok place)) group v w within call (all_put job block (Ok place) call.turn.old call.turn.new call.turn.entries one_parity call.turn.call.tells) alone
+  own_here alone = group_own told job (PutCall told job block (Ok place)) group v w within call (all_put job block (Ok place) call.turn.old call.turn.new call.turn.entries call.turn.call.tells) alone
 
   own_else : RowAlone (of_job job) v w → (h : ℕ) → group ≢ h → own job (gained v w h) ≡ []
-  own_else alone = group_else told job (PutCall told job block (Ok place)) group v w within call (all_put job block (Ok place) call.turn.old call.turn.new call.turn.entries one_parity call.turn.call.tells) alone
+  own_else alone = group_else told job (PutCall told job block (Ok place)) group v w within call (all_put job block (Ok place) call.turn.old call.turn.new call.turn.entries call.turn.call.tells) alone
 
   pub is_place : place ≡ place_of it
   is_place = ap (λ g. record { group = g; column = place.column; stripe = place.stripe }) its_group
@@ -221,8 +213,8 @@ module _ (rack : Rack) (names : List TurnName) (told : Type 0) (job : ℕ) (v w 
       (subst (λ es. Puts job (in_group g placed) es) (sym (more ∙ (ap (λ es. own job (gained u v g) ++ es) none ∙ append-nil (own job (gained u v g))))) (puts parts.0 g)))
       (cases_eq group g)
 
-  pub put_one : (blocks : List (List ℕ)) (places : List Place) (u : GroupPasses) → ArePut rack job blocks places u v → slice_get blocks (length places) ≡ Some block
-      → group ≡ group_of rack rack.geometry (length places) → ArePut rack job blocks (places ++ place ∷ []) u w
+  pub put_one : (blocks : List (List ℕ)) (places : List Place) (u : GroupPasses) → ArePut rack geometry job blocks places u v → slice_get blocks (length places) ≡ Some block
+      → group ≡ group_of rack geometry (length places) → ArePut rack geometry job blocks (places ++ place ∷ []) u w
   put_one blocks places u sofar is at_group =
       let long : length sofar.placed ≡ length places = sym (ap length sofar.places_are ∙ length-map sofar.placed place_of) in
       let long_now : length (sofar.placed ++ it ∷ []) ≡ length sofar.placed + 1 = length-append sofar.placed (it ∷ []) in
@@ -238,7 +230,7 @@ module _ (rack : Rack) (names : List TurnName) (told : Type 0) (job : ℕ) (v w 
         fits = λ b x at. ⊎_elim
             (λ (old : slice_get sofar.placed b ≡ Some x). sofar.fits b x old)
             (λ (new : (b ≡ length sofar.placed) × (x ≡ it)).
-            subst (λ y. FitsPlace rack rack.geometry b (place_of y)) (sym new.1) (its_fit b (at_group ∙ ap (group_of rack rack.geometry) (sym (new.0 ∙ long)))))
+            subst (λ y. FitsPlace rack geometry b (place_of y)) (sym new.1) (its_fit b (at_group ∙ ap (group_of rack geometry) (sym (new.0 ∙ long)))))
             (snoc_get sofar.placed it b x at);
         seen = λ b x at. ⊎_elim
             (λ (old : slice_get sofar.placed b ≡ Some x). still_sees (place_of x) x.digest (sofar.seen b x old))

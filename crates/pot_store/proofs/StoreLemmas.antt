@@ -26,7 +26,6 @@ use Rattle.pot_index.specs.Ending.{EndsAt}
 use Rattle.pot_index.specs.Entries as index
 use Rattle.pot_index.specs.Entries.{plain, bringing, entries}
 use Rattle.pot_index.specs.Index.{IndexView, names_read}
-use Rattle.pot_index.specs.Index as index_bounds
 use Rattle.pot_index.specs.Fits.{FitsPlace, group_of}
 use Rattle.pot_index.specs.Records.{mark_of}
 use Rattle.pot_turn.specs.declared.name.TurnName.{TurnName}
@@ -37,6 +36,7 @@ use Rattle.pot_rows.specs.Works.{AllIdle, RowWorked, RowAlone}
 use Rattle.pot_rows.proofs.WorkLemmas.{row_work_in_parts, row_alone_in_parts}
 use Rattle.pot_replies.specs.Settings.{Setting}
 use Rattle.pot_replies.specs.Sections.{mine, IsSilent, Moment, names_after}
+use Rattle.pot_replies.specs.Renewals.{IsPutFault}
 use Rattle.pot_replies.specs.Stores.{Placed, Puts, IsStored, IsStoreFault, IsFull, IsStoreLogFull, IsUnkept, Stops, in_group, place_of}
 use Rattle.pot_shared.specs.declared.member.GroupOrigin.{GroupOrigin}
 use Rattle.pot_shared.specs.Members.{entries_of}
@@ -126,7 +126,7 @@ module _ (job : ℕ) (name file : List ℕ) (rack : Rack) (names turn : List Tur
       (none_in_groups job name rack names turn g0 i0 i1 e idle ready call, reserve_own job name rack names turn g0 i0 i1 e idle ready call alone.index)
 
 -- the list at a place: what stands before, the element, and what stands behind
-cut_at : {X : Type 0} (xs : List X) (n : ℕ) (x : X) → slice_get xs n ≡ Some x → take n xs ++ x ∷ drop (suc n) xs ≡ xs
+pub cut_at : {X : Type 0} (xs : List X) (n : ℕ) (x : X) → slice_get xs n ≡ Some x → take n xs ++ x ∷ drop (suc n) xs ≡ xs
 cut_at [] n x is = absurd (cc is)
 cut_at (y ∷ ys) zero x is = (let e : y ≡ x = same_Some y x is in ap (λ z. z ∷ ys) (sym e))
 cut_at (y ∷ ys) (suc n) x is = ap (λ l. y ∷ l) (cut_at ys n x is)
@@ -177,7 +177,7 @@ module _ (job : ℕ) (name file : List ℕ) (rack : Rack) (names turn : List Tur
 
 -- PUBLISHED
 
-digest_is : (bytes : List ℕ) → record { bytes = digest_bytes bytes } ≡ digest_of bytes
+pub digest_is : (bytes : List ℕ) → record { bytes = digest_bytes bytes } ≡ digest_of bytes
 unfolding digest_of
 digest_is bytes = refl
 
@@ -208,22 +208,22 @@ stored_row job name file rack s pads g0 g3 i0 i3 blocks places pieces shards pla
 -- what the log that a pass has seen leads to, in the words of a session
 module _ (s : Setting) (rack : Rack) (job : ℕ) (g0 g2 : GroupPasses) (i0 : IndexPasses) (g : ℕ) (within : g < length g0.names) (set : IsSettingOf s rack (known g0 i0)) (worked : RowWorked (of_job job) g0 g2)
     (o : GroupOrigin) (named : (view_at g2 g).origin ≡ Some o) where
-  seen_is : entries_of (view_at g2 g).seen ≡ entries_of (view_at g0 g).seen ++ gained g0 g2 g
+  pub seen_is : entries_of (view_at g2 g).seen ≡ entries_of (view_at g0 g).seen ++ gained g0 g2 g
   seen_is = ap entries_of (worked g).seen ∙ map-append (λ l. l.entry) (view_at g0 g).seen (added (view_at g0 g) (view_at g2 g))
 
-  seen_length : length (entries_of (view_at g0 g).seen ++ gained g0 g2 g) ≡ length (view_at g2 g).seen
+  pub seen_length : length (entries_of (view_at g0 g).seen ++ gained g0 g2 g) ≡ length (view_at g2 g).seen
   seen_length = sym (ap length seen_is) ∙ length-map (view_at g2 g).seen (λ l. l.entry)
 
-  first_is : s.first g ≡ o.first
+  pub first_is : s.first g ≡ o.first
   first_is = subst (λ x. IfSome x (λ y. s.first g ≡ y.first)) (sym (worked g).origin ∙ named) (set.first g within)
 
-  leads_to : replayed (s.first g) (entries_of (view_at g0 g).seen ++ gained g0 g2 g) ≡ replayed o.first (entries_of (view_at g2 g).seen)
+  pub leads_to : replayed (s.first g) (entries_of (view_at g0 g).seen ++ gained g0 g2 g) ≡ replayed o.first (entries_of (view_at g2 g).seen)
   leads_to = ap (λ t. replayed t (entries_of (view_at g0 g).seen ++ gained g0 g2 g)) first_is ∙ ap (replayed o.first) (sym seen_is)
 
 module _ (job : ℕ) (name file : List ℕ) (rack : Rack) (s : Setting) (pads : Pads) (g0 g2 : GroupPasses) (i0 i3 : IndexPasses) (group : ℕ) (cause : PutFault) (blocks : List (List ℕ))
     (short : length file ≤ longest) (racks : s.rack ≡ rack) (draws : DrawsFrom s pads job file) (same : map digest_of blocks ≡ map digest_of (drawn_blocks s pads file))
     (index : index.own job (added (view_at i0 0) (view_at i3 0)) ≡ plain (entry.Reserve job name) ∷ plain (entry.Abandon job name) ∷ [])
-    (ends : PutsEnd rack job blocks group cause g0 g2) where
+    (ends : PutsEnd rack rack.geometry job blocks group cause g0 g2) where
   abbrev stops : (last : List Entry) → ends.last ≡ last → Stops s job name file group last (mine job (section_of (known g0 i0) (known g2 i3)))
   stops last is = record {
     short = short;
@@ -286,9 +286,9 @@ module _ (job : ℕ) (name file : List ℕ) (rack : Rack) (s : Setting) (pads : 
     }
 
     fault_row : (column : ℕ) (passed : List Passed) (last : Entry) → ends.last ≡ skips job passed ++ last ∷ []
-        → ((t : ℕ) × (last ≡ machine.Fault job t column)) ⊎ IsUnkept rack.columns job (digest_of ends.next) column last
+        → ((t : ℕ) × (last ≡ machine.Fault job t column) × IsPutFault ends.origin.first job (entries_of (view_at g0 group).seen) (gained g0 g2 group) t column) ⊎ IsUnkept rack.columns job (digest_of ends.next) column last
         → IsStoreFault s job name file group column (mine job (section_of (known g0 i0) (known g2 i3)))
-    fault_row column passed last is (inl at) = record { passed = passed; last = last; stops = stops (skips job passed ++ last ∷ []) is; fault = inl at }
+    fault_row column passed last is (inl at) = record { passed = passed; last = last; stops = stops (skips job passed ++ last ∷ []) is; fault = inl (at.0, at.1) }
     fault_row column passed last is (inr un) = record {
       passed = passed;
       last = last;
@@ -300,7 +300,7 @@ module _ (job : ℕ) (name file : List ℕ) (rack : Rack) (s : Setting) (pads : 
 pub refused_row : (job : ℕ) (name file : List ℕ) (rack : Rack) (s : Setting) (pads : Pads) (g0 g2 : GroupPasses) (i0 i3 : IndexPasses) (group : ℕ) (cause : PutFault) (blocks : List (List ℕ))
     → length file ≤ longest → s.rack ≡ rack → DrawsFrom s pads job file → map digest_of blocks ≡ map digest_of (drawn_blocks s pads file)
     → index.own job (added (view_at i0 0) (view_at i3 0)) ≡ plain (entry.Reserve job name) ∷ plain (entry.Abandon job name) ∷ []
-    → PutsEnd rack job blocks group cause g0 g2 → IsSettingOf s rack (known g0 i0) → RowWorked (of_job job) g0 g2
+    → PutsEnd rack rack.geometry job blocks group cause g0 g2 → IsSettingOf s rack (known g0 i0) → RowWorked (of_job job) g0 g2
     → StoreRow s job name file (Err (fault_of group cause)) (section_of (known g0 i0) (known g2 i3))
 refused_row job name file rack s pads g0 g2 i0 i3 group put_fault.Full blocks short racks draws same index ends set worked =
     let e = ends.ends in

@@ -9,4 +9,5 @@ pub mod Visits
 pub mod Points
 pub mod Shares
 pub mod Reads
+pub mod Renewals
 pub mod Stored

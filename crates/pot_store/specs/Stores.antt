@@ -3,7 +3,6 @@ use Rattle.std.specs.Prelude.{◌≡◌, ◌<◌, ◌≤◌, ℕ, List, [], Resu
 use Rattle.pot_bytes.specs.Digests.{digest_bytes}
 use Rattle.pot_bytes.specs.declared.rack.Geometry.{Geometry}
 use Rattle.pot_bytes.specs.declared.rack.Place.{Place}
-use Rattle.pot_bytes.specs.declared.rack.Rack.{Rack}
 use Rattle.pot_group.specs.declared.answers.PutFault.{PutFault}
 use Rattle.pot_group.specs.declared.answers.PutFault.TheVariants as put_fault
 use Rattle.pot_index.specs.declared.record.Record.{Record}
@@ -37,13 +36,13 @@ drawn_blocks s pads file = blocks_from s.rack.geometry file pads
 abbrev pub DrawsFrom : Setting → Pads → ℕ → List ℕ → Type 0
 DrawsFrom s pads job file = s.digests s.rack.geometry job file ≡ map digest_of (drawn_blocks s pads file)
 
--- what a store of a file has before it logs anything: its pieces and blocks are counted, no block was drawn, and no place is noted
-pub record IsPlan (rack : Rack) (file : List ℕ) (pads : Pads) (pieces shards : ℕ) (d : Drawn) (places : List Place) : Type 0 where
+-- what a split of a file has before a block of it is put: its pieces and blocks are counted, no block was drawn, and no place is noted
+pub record IsPlan (geometry : Geometry) (file : List ℕ) (pads : Pads) (pieces shards : ℕ) (d : Drawn) (places : List Place) : Type 0 where
   pub short : length file ≤ longest
   pub pieces_is : pieces ≡ pieces_of (length file)
   pub shards_is : shards ≡ count_of d
   pub few : shards ≤ 131072
-  pub drawing : d ≡ record { geometry = rack.geometry; file = file; start = pads; next = 0 }
+  pub drawing : d ≡ record { geometry = geometry; file = file; start = pads; next = 0 }
   pub none : places ≡ []
 
 -- why it has none of that

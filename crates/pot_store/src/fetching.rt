@@ -102,7 +102,7 @@ pub fn fetch_file<A: Archive, R: Wait>(
 }
 
 /// Reads the file of a record, and compares its digest.
-fn read_record<A: Archive, R: Wait>(
+pub(crate) fn read_record<A: Archive, R: Wait>(
     rt: &R,
     alloc: Global,
     vault: &Vault<A>,

@@ -1,7 +1,7 @@
 //! The puts of a store.
 ghost use Rattle.std.specs.Prelude.{◌≡◌, ◌<◌, ◌≤◌, [], IfOk, IfErr, length};
 ghost use Rattle.std.specs.Vec.{vec_capacity};
-ghost use Rattle.pot_bytes.specs.Rack.{IsRack};
+ghost use Rattle.pot_bytes.specs.Rack.{IsGeometry, IsRack};
 ghost use Rattle.pot_index.specs.Fits.{group_of};
 ghost use Rattle.pot_rows.specs.Works.{RowWorked, RowAlone};
 ghost use Rattle.pot_shared.specs.Ready.{AreReady};
@@ -10,7 +10,7 @@ ghost use Rattle.pot_store.specs.Drawing.{all_blocks, count_of};
 ghost use Rattle.pot_store.specs.Puts.{ArePut, PutsEnd};
 
 use crate::sealing::SealedDrawing;
-use pot_bytes::{Place, Rack};
+use pot_bytes::{Geometry, Place, Rack};
 use pot_group::PutFault;
 use pot_outside::Archive;
 use pot_shared::{Passes, Vault};
@@ -23,18 +23,19 @@ pub(crate) struct Stopped {
     pub cause: PutFault,
 }
 
-/// The group of the block of this number.
-fn group_of(rack: &Rack, number: u32) -> u8
+/// The group of the block of this number of a split of this geometry.
+fn group_of(rack: &Rack, geometry: &Geometry, number: u32) -> u8
     requires rack { IsRack rack.now }
+    requires geometry { IsGeometry geometry.now }
     requires few { number < 1000000 }
-    ensures value { result ≡ group_of rack.now rack.now.geometry number }
+    ensures value { result ≡ group_of rack.now geometry.now number }
     ensures within { result < rack.now.groups }
 {
-    let shards = u32::from(rack.geometry.shards);
+    let shards = u32::from(geometry.shards);
     ((number / shards + number % shards) % u32::from(rack.groups)) as u8
 }
 
-/// Puts the blocks of a file, each into its own group, in order, and notes where they stand.
+/// Puts the blocks of a split of this geometry, each into its own group, in order, and notes where they stand.
 ///
 /// # Errors
 /// The first put that is refused.
@@ -43,16 +44,17 @@ pub(crate) fn put_all<A: Archive, R: Wait>(
     vault: &Vault<A>,
     passes: &mut Passes<A>,
     job: u32,
+    geometry: &Geometry,
     drawing: &mut SealedDrawing,
     count: u32,
     places: &mut Vec<Place>,
 ) -> Result<(), Stopped>
     requires ready { AreReady vault.now.rack vault.now.groups passes.old.groups }
     requires rack { IsRack vault.now.rack }
-    requires parity { vault.now.rack.parity ≡ 1 }
     requires groups { length vault.now.groups ≡ vault.now.rack.groups }
     requires job { 0 < job }
-    requires geometry { drawing.old.geometry ≡ vault.now.rack.geometry }
+    requires geometry { IsGeometry geometry.now }
+    requires drawing { drawing.old.geometry ≡ geometry.now }
     requires first { drawing.old.next ≡ 0 }
     requires count { count ≡ count_of drawing.old }
     requires few { count ≤ 131072 }
@@ -60,12 +62,12 @@ pub(crate) fn put_all<A: Archive, R: Wait>(
     ensures ready { AreReady vault.now.rack vault.now.groups passes.new.groups }
     ensures index { passes.new.index ≡ passes.old.index }
     ensures worked { RowWorked (of_job job) passes.old.groups passes.new.groups }
-    ensures put { IfOk result (λ _. (length places.new.items ≡ count) × ArePut vault.now.rack job (all_blocks drawing.old) places.new.items passes.old.groups passes.new.groups) }
-    ensures ends { IfErr result (λ e. RowAlone (of_job job) passes.old.groups passes.new.groups → PutsEnd vault.now.rack job (all_blocks drawing.old) e.group e.cause passes.old.groups passes.new.groups) }
+    ensures put { IfOk result (λ _. (length places.new.items ≡ count) × ArePut vault.now.rack geometry.now job (all_blocks drawing.old) places.new.items passes.old.groups passes.new.groups) }
+    ensures ends { IfErr result (λ e. RowAlone (of_job job) passes.old.groups passes.new.groups → PutsEnd vault.now.rack geometry.now job (all_blocks drawing.old) e.group e.cause passes.old.groups passes.new.groups) }
 {
     for number in 0..count {
-        let group = group_of(&vault.rack, number);
-        let next = drawing.next((group, group_of(&vault.rack, number + 1)));
+        let group = group_of(&vault.rack, geometry, number);
+        let next = drawing.next((group, group_of(&vault.rack, geometry, number + 1)));
         match vault.put(rt, passes, group, job, &next.block, &next.parity) {
             Ok(place) => {
                 drawing.note(place, &next);

@@ -2,7 +2,7 @@
 ghost use Rattle.std.specs.Prelude.{◌≡◌, ◌<◌, ◌≤◌, IfOk, IfErr, length};
 ghost use Rattle.std.specs.Vec.{vec_capacity};
 ghost use Rattle.pot_object.specs.Pieces.{longest};
-ghost use Rattle.pot_bytes.specs.Rack.{IsRack};
+ghost use Rattle.pot_bytes.specs.Rack.{IsGeometry, IsRack};
 ghost use Rattle.pot_rows.specs.Rows.{HasMoreParts};
 ghost use Rattle.pot_shared.specs.Ready.{AreReady};
 ghost use Rattle.pot_shared.specs.Catalogs.{IsIndexReady};
@@ -13,7 +13,7 @@ ghost use Rattle.pot_store.specs.Stores.{DrawsFrom, StoreRow, record_of, fault_o
 use crate::drawing::Drawing;
 use crate::putting::{Stopped, put_all};
 use crate::sealing::SealedDrawing;
-use pot_bytes::{Geometry, Name, Place, Rack, digest_of};
+use pot_bytes::{Geometry, Name, Place, digest_of};
 use pot_group::PutFault;
 use pot_index::{Places, Record, ReserveFault, Splits};
 use pot_object::{TooLong, cut_file};
@@ -83,23 +83,24 @@ fn record_of(
     }
 }
 
-/// What a store has beside its passes: the numbers of its pieces and blocks, the blocks, and room for their places.
-struct Plan<'a> {
-    pieces: u32,
-    shards: u32,
-    drawing: SealedDrawing<'a>,
-    places: Vec<Place>,
+/// What a split of a file has before its puts: the numbers of its pieces and blocks, the blocks, and room for their places.
+pub(crate) struct Plan<'a> {
+    pub pieces: u32,
+    pub shards: u32,
+    pub drawing: SealedDrawing<'a>,
+    pub places: Vec<Place>,
 }
 
-/// Takes the memory that a store needs.
-fn prepare<'a>(
+/// Takes the memory that a split of a file needs, whose puts go into groups of as many data columns.
+pub(crate) fn prepare<'a>(
     alloc: Global,
-    rack: &Rack,
+    columns: u8,
+    geometry: &Geometry,
     file: &'a [u8],
     pads: PadStream,
 ) -> Result<Plan<'a>, StoreFault>
-    requires { IsRack rack.now }
-    ensures planned { IfOk result (λ p. IsPlan rack.now file.now pads p.pieces p.shards p.drawing p.places.items) }
+    requires { IsGeometry geometry.now }
+    ensures planned { IfOk result (λ p. IsPlan geometry.now file.now pads p.pieces p.shards p.drawing p.places.items) }
     ensures room { IfOk result (λ p. p.shards ≤ vec_capacity p.places) }
     ensures refused { IfErr result (IsUnplanned file.now) }
 {
@@ -107,7 +108,6 @@ fn prepare<'a>(
         Ok(pieces) => pieces,
         Err(TooLong { length }) => return Err(StoreFault::TooLong { length }),
     };
-    let geometry = &rack.geometry;
     let shards = pieces * (u32::from(geometry.fragments) * u32::from(geometry.shards));
     let Ok(drawing) = Drawing::start(alloc, geometry, file, pads) else {
         return Err(StoreFault::NoMemory);
@@ -118,7 +118,7 @@ fn prepare<'a>(
     Ok(Plan {
         pieces,
         shards,
-        drawing: SealedDrawing::new(drawing, shards, rack.columns),
+        drawing: SealedDrawing::new(drawing, shards, columns),
         places,
     })
 }
@@ -143,7 +143,6 @@ pub fn store_file<A: Archive, R: Wait>(
     requires index { IsIndexReady vault.now.rack vault.now.groups vault.now.index passes.old.index }
     requires parts { HasMoreParts 1 passes.old.groups }
     requires rack { IsRack vault.now.rack }
-    requires parity { vault.now.rack.parity ≡ 1 }
     requires groups { length vault.now.groups ≡ vault.now.rack.groups }
     requires job { 0 < job }
     ensures ready { AreReady vault.now.rack vault.now.groups passes.new.groups }
@@ -156,16 +155,17 @@ pub fn store_file<A: Archive, R: Wait>(
         shards,
         mut drawing,
         mut places,
-    } = prepare(alloc, &vault.rack, file, pads)?;
+    } = prepare(alloc, vault.rack.columns, &vault.rack.geometry, file, pads)?;
     match vault.reserve(rt, passes, job, name) {
         Ok(()) => {}
         Err(ReserveFault::LogFull) => return Err(StoreFault::IndexLogFull),
         Err(ReserveFault::Exists) => return Err(StoreFault::Exists),
         Err(ReserveFault::NoMemory) => return Err(StoreFault::NoMemory),
     }
-    match put_all(rt, vault, passes, job, &mut drawing, shards, &mut places) {
+    let geometry = &vault.rack.geometry;
+    match put_all(rt, vault, passes, job, geometry, &mut drawing, shards, &mut places) {
         Ok(()) => {
-            let kept = record_of(alloc, name, file, &vault.rack.geometry, places);
+            let kept = record_of(alloc, name, file, geometry, places);
             match vault.publish(rt, passes, job, kept) {
                 Ok(()) => Ok(Stored { pieces, shards }),
                 Err(Strange { at }) => Err(StoreFault::Strange { at }),

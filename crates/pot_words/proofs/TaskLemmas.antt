@@ -9,7 +9,7 @@ use Rattle.pot_words.specs.declared.drill.Drill.{Drill}
 use Rattle.pot_words.specs.declared.recover.Recover.{Recover}
 use Rattle.pot_words.specs.declared.run.Run.{Run}
 use Rattle.pot_words.proofs.PointLemmas.{unhyphened_points, unhyphened_spots}
-use Rattle.pot_words.proofs.ValueLemmas.{AreUnhyphenedAt, unhyphened_number, unhyphened_number_or, unhyphened_seed}
+use Rattle.pot_words.proofs.ValueLemmas.{AreUnhyphenedAt, unhyphened_number, unhyphened_number_or, unhyphened_seed, unhyphened_yes}
 
 module _ (value : Text → Option Text) where
   pub init_unhyphened : (rack : Rack) → HasInit rack value → AreUnhyphenedAt value init_names
@@ -42,7 +42,7 @@ module _ (value : Text → Option Text) where
     unhyphened_number value _ 1 512 r.archives (omega arith) has.0,
     (
       unhyphened_number value _ 1 4096 r.stripes (omega arith) has.1,
-      (unhyphened_number value _ 0 63 r.blur (omega arith) has.2, tt),
+      (unhyphened_number value _ 0 63 r.blur (omega arith) has.2, (unhyphened_yes value _ r.robust has.3, tt)),
     ),
   )
 

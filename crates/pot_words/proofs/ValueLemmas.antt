@@ -2,7 +2,7 @@
 use Rattle.std.proofs.Common.{◌≡◌, ◌∙◌, ◌<◌, ◌^◌, ◌==◌, ◌||◌, ℕ, Bool, cond, true, false, refl, sym, ap, subst, List, [], ◌∷◌, ◌++◌, Option, Some, None, bytes_eq, true≢false, inl, inr, arith, length, decimal}
 use Rattle.std.specs.Bool.{⊤}
 use Rattle.std.specs.Char.{digit_value}
-use Rattle.std.specs.Prelude.{nat_eq, Ok, Err, ◌%◌, ◌/◌}
+use Rattle.std.specs.Prelude.{codes, nat_eq, Ok, Err, ◌%◌, ◌/◌}
 use Rattle.std.specs.Str.Parse.{AllDigits}
 use Rattle.std.proofs.lemmas.Bool.Decides.{nat_tests}
 use Rattle.std.proofs.lemmas.Slice.Eq.{bytes_eq-Decides}
@@ -13,7 +13,7 @@ use Rattle.hex.specs.declared.error.FromHexError.TheVariants.{InvalidStringLengt
 use Rattle.pot_options.specs.Options.{Text, AreNew, AreUnhyphened, IsRead, IsUnhyphened, IsUnread, given, is_among, is_used}
 use Rattle.pot_words.specs.Answers.{IsOnly}
 use Rattle.pot_words.specs.Tasks.{SpellOptions}
-use Rattle.pot_words.specs.Values.{HasNumber, HasNumberOr, HasSeed}
+use Rattle.pot_words.specs.Values.{HasNumber, HasNumberOr, HasSeed, HasYes}
 use Rattle.pot_words.proofs.NumberLemmas.{one_text}
 
 not_used : (before : List (Text × Text)) (u : Text × Text) (n : Text) → is_used (before ++ u ∷ []) n ≡ false → (is_used before n ≡ false) × (bytes_eq u.0 n ≡ false)
@@ -129,3 +129,8 @@ module _ (value : Text → Option Text) (name : Text) where
   pub unhyphened_seed : (seed : Option (List ℕ)) → HasSeed value name seed → IsUnhyphenedAt value name
   unhyphened_seed None left_out v is = let bad : None ≡ Some v = sym left_out ∙ is in absurd (cc)
   unhyphened_seed (Some seed) has v is = subst IsUnhyphened (one_text (value name) has.0 v has.1 is) (unhyphened_hex has.0 32 seed has.2)
+
+  pub unhyphened_yes : (yes : Bool) → HasYes value name yes → IsUnhyphenedAt value name
+  unhyphened_yes true has v is = subst IsUnhyphened (one_text (value name) (codes "yes") v has is) refl
+  unhyphened_yes false (inl left_out) v is = let bad : None ≡ Some v = sym left_out ∙ is in absurd (cc)
+  unhyphened_yes false (inr has) v is = subst IsUnhyphened (one_text (value name) (codes "no") v has is) refl

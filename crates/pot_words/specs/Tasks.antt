@@ -5,7 +5,7 @@ use Rattle.pot_bytes.specs.declared.rack.Geometry.{Geometry}
 use Rattle.pot_bytes.specs.declared.rack.Rack.{Rack}
 use Rattle.pot_options.specs.Options.{Text, SpellUses, given}
 use Rattle.pot_words.specs.Lists.{HasPoints, HasSpots}
-use Rattle.pot_words.specs.Values.{HasNumber, HasNumberOr, HasSeed}
+use Rattle.pot_words.specs.Values.{HasNumber, HasNumberOr, HasSeed, HasYes}
 use Rattle.pot_words.specs.declared.audit.Audit.{Audit}
 use Rattle.pot_words.specs.declared.command.Command.{Command}
 use Rattle.pot_words.specs.declared.command.Command.TheVariants as command
@@ -58,12 +58,12 @@ abbrev pub SpellGenerate : List Text → ℕ → Type 0
 SpellGenerate words n = (1 ≤ n) × (n ≤ 1000000) × (words ≡ decimal n ∷ [])
 
 abbrev pub recover_names : List Text
-recover_names = codes "archives" ∷ codes "stripes" ∷ codes "blur" ∷ []
+recover_names = codes "archives" ∷ codes "stripes" ∷ codes "blur" ∷ codes "robust" ∷ []
 
 abbrev pub HasRecover : Recover → (Text → Option Text) → Type 0
 HasRecover r value = HasNumber value (codes "archives") 1 512 r.archives
     × HasNumber value (codes "stripes") 1 4096 r.stripes
-    × HasNumber value (codes "blur") 0 63 r.blur
+    × HasNumber value (codes "blur") 0 63 r.blur × HasYes value (codes "robust") r.robust
 
 -- the words spell the options of `recover`
 abbrev pub SpellRecover : List Text → Recover → Type 0

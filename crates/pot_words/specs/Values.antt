@@ -1,5 +1,5 @@
 -- The values of options. `value` gives the text of an option by its name.
-use Rattle.std.specs.Prelude.{◌≡◌, ◌≤◌, ◌⊎◌, ℕ, List, Option, Some, None, Ok, decimal}
+use Rattle.std.specs.Prelude.{◌≡◌, ◌≤◌, ◌⊎◌, ℕ, Bool, true, false, List, Option, Some, None, Ok, codes, decimal}
 use Rattle.hex.specs.Hex.{decode_sized}
 use Rattle.pot_options.specs.Options.{Text}
 
@@ -18,3 +18,8 @@ abbrev pub HasSeed : (Text → Option Text) → Text → Option (List ℕ) → T
 HasSeed value name None = value name ≡ None
 HasSeed value name (Some seed) =
     (text : Text) × (value name ≡ Some text) × (decode_sized text 32 ≡ Ok seed)
+
+-- the option is `yes`, or it is `no` or left out
+abbrev pub HasYes : (Text → Option Text) → Text → Bool → Type 0
+HasYes value name true = value name ≡ Some (codes "yes")
+HasYes value name false = (value name ≡ None) ⊎ (value name ≡ Some (codes "no"))

@@ -7,7 +7,7 @@ ghost use Rattle.pot_words.specs.Answers.{IsOnly};
 ghost use Rattle.pot_words.specs.Tasks.{HasRecover, SpellRecover};
 ghost use Rattle.pot_words.specs.declared.recover.Recover.{Recover};
 
-use crate::values::{number_of, small_number_of};
+use crate::values::{number_of, small_number_of, yes_of};
 use pot_bytes::NoMemory;
 use pot_options::{Options, read_options};
 use std::alloc::Global;
@@ -21,9 +21,11 @@ pub struct Recover {
     pub stripes: u32,
     /// The number of low bits that a pointer leaves out, at most 63.
     pub blur: u8,
+    /// Whether some shares of a ring may be wrong.
+    pub robust: bool,
 }
 
-static NAMES: [&str; 3] = ["archives", "stripes", "blur"];
+static NAMES: [&str; 4] = ["archives", "stripes", "blur", "robust"];
 
 /// The task that the words after `recover` spell.
 pub fn read_recover(alloc: Global, words: &[String]) -> Result<Option<Recover>, NoMemory>
@@ -42,9 +44,11 @@ fn recover_of(options: &Options<'_>) -> Option<Recover>
     let archives = number_of(options, "archives", 1, 512)?;
     let stripes = number_of(options, "stripes", 1, 4096)?;
     let blur = small_number_of(options, "blur", 0, 63)?;
+    let robust = yes_of(options, "robust")?;
     Some(Recover {
         archives,
         stripes,
         blur,
+        robust,
     })
 }

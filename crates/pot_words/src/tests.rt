@@ -245,13 +245,14 @@ fn generate(rt: HostRuntime) -> Result<(), Fail> {
 #[test]
 fn recover(rt: HostRuntime) -> Result<(), Fail> {
     let alloc = rt.alloc();
-    let good: [(&str, Recover); 3] = [
+    let good: [(&str, Recover); 5] = [
         (
             "recover --archives 20 --stripes 16 --blur 16",
             Recover {
                 archives: 20,
                 stripes: 16,
                 blur: 16,
+                robust: false,
             },
         ),
         (
@@ -260,6 +261,7 @@ fn recover(rt: HostRuntime) -> Result<(), Fail> {
                 archives: 1,
                 stripes: 1,
                 blur: 0,
+                robust: false,
             },
         ),
         (
@@ -268,6 +270,25 @@ fn recover(rt: HostRuntime) -> Result<(), Fail> {
                 archives: 512,
                 stripes: 4096,
                 blur: 63,
+                robust: false,
+            },
+        ),
+        (
+            "recover --archives 20 --stripes 16 --blur 16 --robust yes",
+            Recover {
+                archives: 20,
+                stripes: 16,
+                blur: 16,
+                robust: true,
+            },
+        ),
+        (
+            "recover --robust no --archives 20 --stripes 16 --blur 16",
+            Recover {
+                archives: 20,
+                stripes: 16,
+                blur: 16,
+                robust: false,
             },
         ),
     ];
@@ -285,6 +306,9 @@ fn recover(rt: HostRuntime) -> Result<(), Fail> {
         "recover --archives 20 --stripes 16 --blur 64",
         "recover --archives 20 --stripes 16 --blur 00",
         "recover --archives 20 --stripes 16 --blur 16 --blur 16",
+        "recover --archives 20 --stripes 16 --blur 16 --robust",
+        "recover --archives 20 --stripes 16 --blur 16 --robust true",
+        "recover --archives 20 --stripes 16 --blur 16 --robust Yes",
         "recover --archives 20 --stripes 16 --blur 16 --seed 00",
     ];
     assert!(rt; none_of(alloc, bad.as_slice())?);

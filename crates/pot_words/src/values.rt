@@ -1,8 +1,9 @@
 //! The values of options: numbers and seeds.
 
+ghost use Rattle.std.specs.Prelude.{◌≡◌, ◌≢◌, codes, if◌then◌else◌, IfSome, IsNone};
 ghost use Rattle.pot_options.specs.Options.{given};
 ghost use Rattle.pot_words.specs.Answers.{IsOnly};
-ghost use Rattle.pot_words.specs.Values.{HasNumber, HasNumberOr, HasSeed};
+ghost use Rattle.pot_words.specs.Values.{HasNumber, HasNumberOr, HasSeed, HasYes};
 
 use crate::numbers::read_number;
 use pot_options::Options;
@@ -56,4 +57,25 @@ pub fn seed_of(options: &Options<'_>, name: &str) -> Option<Option<[u8; 32]>>
         Ok(()) => Some(Some(seed)),
         Err(_) => None,
     }
+}
+
+/// Whether the option is `yes`. It may be `no`, or left out.
+pub fn yes_of(options: &Options<'_>, name: &str) -> Option<bool>
+    ensures { IsOnly (HasYes (given options.now) name.now) result }
+{
+    match options.value(name) {
+        None => Some(false),
+        Some(text) => yes_or_no(text),
+    }
+}
+
+/// Whether a text is `yes`, where it is that or `no`.
+fn yes_or_no(text: &str) -> Option<bool>
+    ensures yes { IfSome result (λ yes. text.now ≡ (if yes then codes "yes" else codes "no")) }
+    ensures none { IsNone result → (text.now ≢ codes "yes") × (text.now ≢ codes "no") }
+{
+    if text == "yes" {
+        return Some(true);
+    }
+    if text == "no" { Some(false) } else { None }
 }

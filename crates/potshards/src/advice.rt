@@ -19,7 +19,7 @@ pub fn advice_at(status: u8) -> Option<&'static str>
             "potshards: standard output could not be written: commands may have been worked without their replies; give it an output that is open and has room, and ask again",
         ),
         6 => Some(
-            "potshards: the desk could not be locked, read or replaced: see that no other run works in this folder and that desk.psi, desk.new and desk.lock can be written, and run it again; what it stored may have to be stored again",
+            "potshards: the desk could not be locked, read or replaced: see that no other run works in this folder and that desk.pss and desk.lock can be written and desk.psi can be read, and run it again; what it stored may have to be stored again",
         ),
         8 => Some(
             "potshards: an archive file could not be opened, read or synced: see that each archive-N can be read and written and that its disk has room, and run it again; what it stored may have to be stored again",

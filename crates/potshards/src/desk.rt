@@ -1,13 +1,16 @@
 ghost use Rattle.std.specs.Prelude.{◌≡◌, OnOk, OnSome, IsSome};
 
+use crate::disk::FileDisk;
 use crate::faults::count_fault;
-use crate::opening::{anew, as_it_is, open_apart};
+use crate::opening::{as_it_is, open_apart};
 use pot_outside::{Desk, DeskFault, Failed};
+use pot_safe_desk::SafeDesk;
 use std::fs::{File, OpenOptions};
-use std::io::{ErrorKind, Write};
+use std::io::ErrorKind;
 use std::{fs, io};
 
-/// The image in the file `desk.psi` of the working folder, or none where there is no such file.
+/// The image in the file `desk.pss` of the working folder, or none. Where that has none and there is a file
+/// `desk.psi`, as earlier programs wrote it, the image is what that holds.
 ///
 /// The desk is for one run at a time: its first call locks the file `desk.lock`, and fails where another desk
 /// has the lock. It keeps the lock until it is dropped, and the file stays, empty.
@@ -44,17 +47,15 @@ impl DeskFile {
     }
 
     /// The image, under the lock.
-    fn load(&mut self) -> io::Result<Option<Vec<u8>>>
+    fn load(&mut self) -> Result<Option<Vec<u8>>, DeskFault>
         ensures locked { OnOk result (IsSome self.new.lock) }
         ensures keeps { OnSome self.old.lock (self.new.lock ≡ self.old.lock) }
         ensures faults { self.new.faults ≡ self.old.faults }
     {
-        self.hold_lock()?;
-        match fs::read(&self.rt, "desk.psi") {
-            Ok(image) => Ok(Some(image)),
-            Err(e) if e.kind() == ErrorKind::NotFound => Ok(None),
-            Err(e) => Err(e),
+        if self.hold_lock().is_err() {
+            return Err(DeskFault::Failed);
         }
+        load_image(&self.rt)
     }
 
     /// Puts an image in the place of the one before, under the lock.
@@ -75,18 +76,45 @@ fn take_lock(rt: &HostRuntime) -> io::Result<File> {
     Ok(file)
 }
 
-/// Writes an image beside the old one, brings it to the disk, and lets it take the old one's place. Where it
-/// fails, the old image stands, or the new one does.
+/// The desk in `desk.pss`, which is made where it is missing.
+fn open_desk(rt: &HostRuntime) -> io::Result<SafeDesk<FileDisk>> {
+    let file = open_apart(rt, &as_it_is(), "desk.pss")?;
+    Ok(SafeDesk::new(rt.alloc(), FileDisk::new(file)))
+}
+
+/// The image of `desk.pss`, or else of `desk.psi`.
+fn load_image(rt: &HostRuntime) -> Result<Option<Vec<u8>>, DeskFault> {
+    let Ok(mut desk) = open_desk(rt) else {
+        return Err(DeskFault::Failed);
+    };
+    match desk.read() {
+        Ok(None) => load_earlier(rt),
+        answer => answer,
+    }
+}
+
+/// The image of `desk.psi`, or none where there is no such file.
+fn load_earlier(rt: &HostRuntime) -> Result<Option<Vec<u8>>, DeskFault> {
+    match fs::read(rt, "desk.psi") {
+        Ok(image) => Ok(Some(image)),
+        Err(e) if e.kind() == ErrorKind::NotFound => Ok(None),
+        Err(e) if e.kind() == ErrorKind::OutOfMemory => Err(DeskFault::NoMemory),
+        Err(_) => Err(DeskFault::Failed),
+    }
+}
+
+/// Puts an image into `desk.pss`. Where it fails or the run stops at any moment, the old image stands, or the new
+/// one does.
 ///
-/// The folder is synced before the rename too, so that archive files that were made in this run have their
-/// names on the disk before an image speaks of them.
+/// The folder is synced first, so that the archive files that were made in this run have their names on the disk
+/// before an image speaks of them, and `desk.pss` has its own.
 fn put_image(rt: &HostRuntime, image: &[u8]) -> io::Result<()> {
-    let mut file = open_apart(rt, &anew(), "desk.new")?;
-    file.write_all(image)?;
-    file.sync_all()?;
+    let mut desk = open_desk(rt)?;
     sync_folder(rt)?;
-    fs::rename(rt, "desk.new", "desk.psi")?;
-    sync_folder(rt)
+    match desk.replace(image) {
+        Ok(()) => Ok(()),
+        Err(Failed) => Err(ErrorKind::Other.into()),
+    }
 }
 
 /// Brings the names of the working folder's files to the disk.
@@ -114,8 +142,8 @@ impl Desk for DeskFile {
     {
         match self.load() {
             Ok(image) => Ok(image),
-            Err(e) if e.kind() == ErrorKind::OutOfMemory => Err(DeskFault::NoMemory),
-            Err(_) => {
+            Err(DeskFault::NoMemory) => Err(DeskFault::NoMemory),
+            Err(DeskFault::Failed) => {
                 count_fault(&mut self.faults);
                 Err(DeskFault::Failed)
             }

@@ -37,14 +37,3 @@ pub fn as_it_is() -> OpenOptions
     how.read(true).write(true).create(true);
     how
 }
-
-/// To write a file anew, whatever was there.
-pub fn anew() -> OpenOptions
-    ensures empties { asks_truncate result ≡ true }
-    ensures makes { asks_create result ≡ true }
-    ensures writes { asks_write result ≡ true }
-{
-    let mut how = OpenOptions::new();
-    how.write(true).create(true).truncate(true);
-    how
-}

@@ -5,7 +5,7 @@ use crate::folder::Folder;
 use pot_bytes::Block;
 use pot_outside::{Archive, Desk, DeskFault, Held, Room};
 use std::fs;
-use std::os::unix::fs::symlink;
+use std::os::unix::fs::{FileExt, symlink};
 use std::test::Fail;
 
 #[test]
@@ -93,11 +93,18 @@ fn an_archive_that_is_not_synced_is_a_fault(rt: HostRuntime) -> Result<(), Fail>
     Ok(())
 }
 
-/// A new desk, and no file of an earlier one.
-fn new_desk(rt: &HostRuntime) -> DeskFile {
-    for name in ["desk.psi", "desk.new", "desk.lock"] {
+/// The files of a desk.
+const DESK_FILES: [&str; 3] = ["desk.pss", "desk.psi", "desk.lock"];
+
+fn remove_desk(rt: &HostRuntime) {
+    for name in DESK_FILES {
         let _ = fs::remove_file(rt, name);
     }
+}
+
+/// A new desk, and no file of an earlier one.
+fn new_desk(rt: &HostRuntime) -> DeskFile {
+    remove_desk(rt);
     DeskFile::new(rt)
 }
 
@@ -113,17 +120,28 @@ fn has_image(desk: &mut DeskFile, image: &[u8]) -> bool {
 fn an_image_in_a_file(rt: HostRuntime) -> Result<(), Fail> {
     let mut desk = new_desk(&rt);
     assert!(rt; desk.read().is_ok_and(|image| image.is_none()));
-    // of a run that was stopped
-    fs::write(&rt, "desk.new", "longer than each image that is to come")?;
-    let images: [&[u8]; 3] = [b"first", b"", b"the third image"];
+    let images: [&[u8]; 4] = [b"first", b"", b"the third image", b"4"];
     for image in images {
         assert!(rt; desk.replace(image).is_ok());
         assert!(rt; has_image(&mut desk, image));
     }
-    assert!(rt; fs::read(&rt, "desk.new").is_err());
+    drop(desk);
+    assert!(rt; has_image(&mut DeskFile::new(&rt), b"4"));
+    assert!(rt; fs::read(&rt, "desk.psi").is_err());
     assert!(rt; fs::read(&rt, "desk.lock")?.is_empty());
-    fs::remove_file(&rt, "desk.psi")?;
-    fs::remove_file(&rt, "desk.lock")?;
+    remove_desk(&rt);
+    Ok(())
+}
+
+#[test]
+fn an_image_of_an_earlier_program(rt: HostRuntime) -> Result<(), Fail> {
+    let mut desk = new_desk(&rt);
+    fs::write(&rt, "desk.psi", "as it was")?;
+    assert!(rt; has_image(&mut desk, b"as it was"));
+    assert!(rt; desk.replace(b"as it is").is_ok());
+    assert!(rt; has_image(&mut desk, b"as it is"));
+    assert!(rt; fs::read(&rt, "desk.psi")?.as_slice() == b"as it was".as_slice());
+    remove_desk(&rt);
     Ok(())
 }
 
@@ -139,29 +157,42 @@ fn a_second_desk_is_refused_until_the_first_is_gone(rt: HostRuntime) -> Result<(
     assert!(rt; has_image(&mut second, b"of the first"));
     assert!(rt; second.replace(b"of the second").is_ok());
     assert!(rt; DeskFile::new(&rt).read() == Err(DeskFault::Failed));
-    fs::remove_file(&rt, "desk.psi")?;
-    fs::remove_file(&rt, "desk.lock")?;
+    remove_desk(&rt);
     Ok(())
 }
 
-/// `desk.new` is a folder, is full, or cannot be synced.
+/// `desk.pss` is a folder, is full, or cannot be synced.
 #[test]
 fn an_image_that_is_not_replaced_stays(rt: HostRuntime) -> Result<(), Fail> {
     let mut desk = new_desk(&rt);
-    assert!(rt; desk.replace(b"old").is_ok());
-    fs::create_dir(&rt, "desk.new")?;
-    let refused = desk.replace(b"new").is_err();
-    fs::remove_dir(&rt, "desk.new")?;
+    fs::write(&rt, "desk.psi", "old")?;
+    fs::create_dir(&rt, "desk.pss")?;
+    let refused = desk.replace(b"new").is_err() && desk.read() == Err(DeskFault::Failed);
+    fs::remove_dir(&rt, "desk.pss")?;
     assert!(rt; refused);
     for device in ["/dev/full", "/dev/null"] {
-        symlink(&rt, device, "desk.new")?;
+        symlink(&rt, device, "desk.pss")?;
         let refused = desk.replace(b"new").is_err();
-        fs::remove_file(&rt, "desk.new")?;
+        fs::remove_file(&rt, "desk.pss")?;
         assert!(rt; refused, "at {device}");
     }
     assert!(rt; has_image(&mut desk, b"old"));
-    fs::remove_file(&rt, "desk.psi")?;
-    fs::remove_file(&rt, "desk.lock")?;
+    remove_desk(&rt);
+    Ok(())
+}
+
+/// The second image is cut off behind its slot's header, and its gate is still shut.
+#[test]
+fn a_run_that_was_stopped_leaves_the_image_before(rt: HostRuntime) -> Result<(), Fail> {
+    let mut desk = new_desk(&rt);
+    assert!(rt; desk.replace(b"before").is_ok());
+    assert!(rt; desk.replace(b"behind").is_ok());
+    let file = fs::OpenOptions::new().write(true).open(&rt, "desk.pss")?;
+    file.write_all_at(&[0], 1)?;
+    file.set_len(4096 + (1 << 30) + 16)?;
+    drop(file);
+    assert!(rt; has_image(&mut desk, b"before"));
+    remove_desk(&rt);
     Ok(())
 }
 

@@ -27,12 +27,6 @@ start_group-requires-clause-relays g c =
     let split = first_is c.loop-alloc.tables.items c.remove-table.new.self.items c.remove-table.result some c.remove-table.ensures.value c.remove-table.ensures.items in
     (next_table _ c.args.rack.now _ _ _ _ _ _ c.requires.tables c.loop-alloc.invariant.started split).fits.relays
 
-pub start_group-requires-clause-parity : goal.start_group-requires-clause-parity
-start_group-requires-clause-parity g c =
-    let some : 0 < length c.loop-alloc.tables.items = omega (arith, some_left _ (sym c.loop-alloc-test.ensures), c.loop-alloc.tables.ok.0) in
-    let split = first_is c.loop-alloc.tables.items c.remove-table.new.self.items c.remove-table.result some c.remove-table.ensures.value c.remove-table.ensures.items in
-    (next_table _ c.args.rack.now _ _ _ _ _ _ c.requires.tables c.loop-alloc.invariant.started split).fits.parity ∙ c.requires.parity
-
 pub start_group-requires-clause-count : goal.start_group-requires-clause-count
 start_group-requires-clause-count g c =
     let some : 0 < length c.loop-alloc.tables.items = omega (arith, some_left _ (sym c.loop-alloc-test.ensures), c.loop-alloc.tables.ok.0) in

@@ -28,9 +28,6 @@ work-ending-requires-clause-filled g c = λ bounds within.
     (has_filled c.args.seed.now (contents c.args.image) c.in-Ok.opened.passes.groups c.in-Ok.opened.passes.index c.requires.together c.in-Ok.ensures.opened c.in-Ok.ensures.read.0 c.in-Ok.ensures.read.1
     (ap length c.in-Ok.ensures.ready.0.of.0 ∙ (c.in-Ok.ensures.count ∙ ap (λ (r : Rack). r.groups) c.in-Ok.ensures.same.2)))
 
-pub work-ending-requires-clause-parity : goal.work-ending-requires-clause-parity
-work-ending-requires-clause-parity g c = λ bounds within. ap (λ (r : _). r.parity) c.in-Ok.ensures.same.2 ∙ c.requires.parity
-
 pub work-ending-requires-clause-worked : goal.work-ending-requires-clause-worked
 work-ending-requires-clause-worked g c = λ bounds within.
     subst (λ (r : Rack). AllByRecursion (IsWorked r.groups) c.args.commands.now) (sym c.in-Ok.ensures.same.2) (are_worked c.args.image.rack c.args.commands.now c.requires.worked)

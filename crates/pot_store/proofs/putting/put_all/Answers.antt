@@ -7,14 +7,15 @@ use Rattle.pot_store.proofs.StepLemmas.{put_one, puts_none}
 use Rattle.pot_store.proofs.EndLemmas.{refused_work, puts_end}
 use Rattle.pot_shard.proofs.PlaceLemmas.{place_laws}
 use Rattle.pot_store.specs.Drawing.{random_from}
+use Rattle.pot_index.specs.Fits.{group_of}
 use Rattle.pot_store.proofs.putting.put_all.Goals as goal
 
 pub loop-number-init : goal.loop-number-init
 loop-number-init g c = (
   c.requires.ready,
   refl,
-  subst (λ ps. ArePut c.args.vault.now.rack c.args.job (all_blocks c.args.drawing.now) ps c.args.passes.now.groups c.args.passes.now.groups) (sym c.requires.room.0)
-      (puts_none c.args.vault.now.rack c.args.job (all_blocks c.args.drawing.now) c.args.passes.now.groups c.requires.ready.idle),
+  subst (λ ps. ArePut c.args.vault.now.rack c.args.geometry.now c.args.job (all_blocks c.args.drawing.now) ps c.args.passes.now.groups c.args.passes.now.groups) (sym c.requires.room.0)
+      (puts_none c.args.vault.now.rack c.args.geometry.now c.args.job (all_blocks c.args.drawing.now) c.args.passes.now.groups c.requires.ready.idle),
   ap length c.requires.room.0,
   ap (λ n. record c.args.drawing.now { next = n }) c.requires.first,
   c.requires.room.1,
@@ -25,7 +26,7 @@ returns-in-Err-clause-worked g c =
     let sofar = c.loop-number.invariant in
     let lt : c.group_of-group.result < length c.args.vault.now.groups = (let w = c.group_of-group.ensures.within in let n = c.requires.groups in omega (arith, w, n)) in
     refused_work c.args.vault.now.rack c.args.vault.now.groups (IsTrue g.A.Archive.account.tells) c.args.job c.args.passes.now.groups c.loop-number.passes.groups c.put.new.passes.groups c.group_of-group.result
-    c.next-next.result.block.block c.in-Err.cause sofar.0 lt c.requires.parity c.in-Err.ensures.call sofar.2.worked
+    c.next-next.result.block.block c.in-Err.cause sofar.0 lt c.in-Err.ensures.call sofar.2.worked
 
 pub returns-in-Err-clause-ends : goal.returns-in-Err-clause-ends
 returns-in-Err-clause-ends g c =
@@ -38,9 +39,9 @@ returns-in-Err-clause-ends g c =
     let is : slice_get (all_blocks c.args.drawing.now) (length c.loop-number.places.items) ≡ Some c.next-next.result.block.block =
     get_some (all_blocks c.args.drawing.now) (length c.loop-number.places.items) c.next-next.result.block.block []
     (let n = sofar.3 in let k = c.requires.count in omega (arith, less, all, n, k)) (block ∙ ap (λ n. slice_index_or (all_blocks c.args.drawing.now) n []) (sym sofar.3)) in
-    puts_end c.args.vault.now.rack c.args.vault.now.groups (IsTrue g.A.Archive.account.tells) c.args.job c.args.passes.now.groups c.loop-number.passes.groups c.put.new.passes.groups c.group_of-group.result
-    c.next-next.result.block.block c.in-Err.cause sofar.0 lt c.requires.parity c.in-Err.ensures.call (all_blocks c.args.drawing.now) c.loop-number.places.items sofar.2 is
-    (c.group_of-group.ensures.value ∙ ap (λ n. Rattle.pot_index.specs.Fits.group_of c.args.vault.now.rack c.args.vault.now.rack.geometry n) (sym sofar.3)) c.requires.ready.of.0
+    puts_end c.args.vault.now.rack c.args.geometry.now c.args.vault.now.groups (IsTrue g.A.Archive.account.tells) c.args.job c.args.passes.now.groups c.loop-number.passes.groups c.put.new.passes.groups c.group_of-group.result
+    c.next-next.result.block.block c.in-Err.cause sofar.0 lt c.in-Err.ensures.call (all_blocks c.args.drawing.now) c.loop-number.places.items sofar.2 is
+    (c.group_of-group.ensures.value ∙ ap (λ n. group_of c.args.vault.now.rack c.args.geometry.now n) (sym sofar.3)) c.requires.ready.of.0
 
 pub loop-number-preserved : goal.loop-number-preserved
 loop-number-preserved g c =
@@ -53,12 +54,12 @@ loop-number-preserved g c =
     let is : slice_get (all_blocks c.args.drawing.now) (length c.loop-number.places.items) ≡ Some c.next-next.result.block.block =
     get_some (all_blocks c.args.drawing.now) (length c.loop-number.places.items) c.next-next.result.block.block []
     (let n = sofar.3 in let k = c.requires.count in omega (arith, less, all, n, k)) (block ∙ ap (λ n. slice_index_or (all_blocks c.args.drawing.now) n []) (sym sofar.3)) in
-    let more = put_one c.args.vault.now.rack c.args.vault.now.groups (IsTrue g.A.Archive.account.tells) c.args.job c.loop-number.passes.groups c.put.new.passes.groups c.group_of-group.result
-    c.next-next.result.block.block c.in-Ok.place sofar.0 lt c.requires.parity c.in-Ok.ensures.call (all_blocks c.args.drawing.now) c.loop-number.places.items c.args.passes.now.groups sofar.2 is
-    (c.group_of-group.ensures.value ∙ ap (λ n. Rattle.pot_index.specs.Fits.group_of c.args.vault.now.rack c.args.vault.now.rack.geometry n) (sym sofar.3)) in (
+    let more = put_one c.args.vault.now.rack c.args.geometry.now c.args.vault.now.groups (IsTrue g.A.Archive.account.tells) c.args.job c.loop-number.passes.groups c.put.new.passes.groups c.group_of-group.result
+    c.next-next.result.block.block c.in-Ok.place sofar.0 lt c.in-Ok.ensures.call (all_blocks c.args.drawing.now) c.loop-number.places.items c.args.passes.now.groups sofar.2 is
+    (c.group_of-group.ensures.value ∙ ap (λ n. group_of c.args.vault.now.rack c.args.geometry.now n) (sym sofar.3)) in (
       c.in-Ok.ensures.ready,
       c.in-Ok.ensures.index ∙ sofar.1,
-      subst (λ ps. ArePut c.args.vault.now.rack c.args.job (all_blocks c.args.drawing.now) ps c.args.passes.now.groups c.put.new.passes.groups) (sym c.push_reserved.ensures.items) more,
+      subst (λ ps. ArePut c.args.vault.now.rack c.args.geometry.now c.args.job (all_blocks c.args.drawing.now) ps c.args.passes.now.groups c.put.new.passes.groups) (sym c.push_reserved.ensures.items) more,
       search rules,
       c.note.ensures ∙ c.next-next.ensures.next ∙ ap (λ (d : Drawn). record d { next = d.next + 1 }) sofar.4,
       search rules,

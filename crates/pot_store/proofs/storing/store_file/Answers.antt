@@ -89,7 +89,7 @@ returns-in-Ok-publish-clause-says g c = λ alone s set draws.
     let count : length c.put_all.new.places.items ≡ pieces_of (length c.args.file.now) * (c.args.vault.now.rack.geometry.fragments * c.args.vault.now.rack.geometry.shards) = cc (put.0, plan.shards_is, ap count_of plan.drawing) in
     published_row c.args.job c.args.name.now c.args.file.now c.args.vault.now.rack c.args.vault.now.groups c.args.vault.now.index c.args.passes.now.groups c.reserve.new.passes.groups c.put_all.new.passes.groups c.args.passes.now.index c.reserve.new.passes.index c.put_all.new.passes.index c.in-Ok.field-0 c.requires.ready c.requires.index c.reserve.ensures.groups c.in-Ok.ensures.call c.reserve.ensures.index c.put_all.ensures.index c.put_all.ensures.worked c.args.pads c.put_all.new.places.items c.in_ok-pieces.field-0.pieces c.in_ok-pieces.field-0.shards c.in-Ok-publish.field-0 c.publish.new.passes.groups c.publish.new.passes.index
     c.put_all.ensures.ready c.publish.ensures.groups (subst (λ (r : Record). IndexCall (PublishesRecord c.args.job r (Ok c.in-Ok-publish.field-0)) c.put_all.new.passes.index c.publish.new.passes.index) c.record_of-kept.ensures c.in-Ok-publish.ensures.call)
-    (subst (λ (d : Drawn). ArePut c.args.vault.now.rack c.args.job (all_blocks d) c.put_all.new.places.items c.reserve.new.passes.groups c.put_all.new.passes.groups) drawn put.1)
+    (subst (λ (d : Drawn). ArePut c.args.vault.now.rack c.args.vault.now.rack.geometry c.args.job (all_blocks d) c.put_all.new.places.items c.reserve.new.passes.groups c.put_all.new.passes.groups) drawn put.1)
     plan.short plan.pieces_is (plan.shards_is ∙ ap count_of plan.drawing) put.0 alone s set draws
 
 pub returns-in-Ok-put_all-clause-worked : goal.returns-in-Ok-put_all-clause-worked
@@ -113,7 +113,7 @@ returns-in-Ok-abandon-clause-says g c = λ alone s set draws.
     let drawn : c.in_ok-pieces.field-0.drawing ≡ record { geometry = c.args.vault.now.rack.geometry; file = c.args.file.now; start = c.args.pads; next = 0 } = plan.drawing in
     subst (λ e. StoreRow s c.args.job c.args.name.now c.args.file.now (Err e) (section_of (known c.args.passes.now.groups c.args.passes.now.index) (known c.abandon.new.passes.groups c.abandon.new.passes.index))) (sym c.fault_of.ensures)
     (abandoned_row c.args.job c.args.name.now c.args.file.now c.args.vault.now.rack c.args.vault.now.groups c.args.vault.now.index c.args.passes.now.groups c.reserve.new.passes.groups c.put_all.new.passes.groups c.args.passes.now.index c.reserve.new.passes.index c.put_all.new.passes.index c.in-Ok.field-0 c.requires.ready c.requires.index c.reserve.ensures.groups c.in-Ok.ensures.call c.reserve.ensures.index c.put_all.ensures.index c.put_all.ensures.worked c.args.pads c.in-Err.stopped.group c.in-Err.stopped.cause c.in-Ok-abandon.field-0 c.abandon.new.passes.groups c.abandon.new.passes.index c.abandon.ensures.groups c.in-Ok-abandon.ensures.call plan.short
-    (λ here. subst (λ (d : Drawn). PutsEnd c.args.vault.now.rack c.args.job (all_blocks d) c.in-Err.stopped.group c.in-Err.stopped.cause c.reserve.new.passes.groups c.put_all.new.passes.groups) drawn (c.in-Err.ensures.ends here)) alone s set draws)
+    (λ here. subst (λ (d : Drawn). PutsEnd c.args.vault.now.rack c.args.vault.now.rack.geometry c.args.job (all_blocks d) c.in-Err.stopped.group c.in-Err.stopped.cause c.reserve.new.passes.groups c.put_all.new.passes.groups) drawn (c.in-Err.ensures.ends here)) alone s set draws)
 
 pub returns-clause-worked : goal.returns-clause-worked
 returns-clause-worked g c =

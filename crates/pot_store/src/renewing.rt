@@ -1,0 +1,213 @@
+//! A file is split anew: it is fetched, the blocks of its new split are put, and its record gets that split.
+ghost use Rattle.std.specs.Prelude.{◌≡◌, ◌<◌, ◌≤◌, true, length, IfOk, IfErr};
+ghost use Rattle.pot_bytes.specs.Rack.{IsRack};
+ghost use Rattle.pot_object.specs.Pieces.{longest};
+ghost use Rattle.pot_index.specs.Fits.{FitsGeometry};
+ghost use Rattle.pot_rows.specs.Rows.{HasMoreParts};
+ghost use Rattle.pot_rows.specs.Works.{RowWorked};
+ghost use Rattle.pot_shared.specs.Ready.{AreReady};
+ghost use Rattle.pot_shared.specs.Catalogs.{IsIndexReady};
+ghost use Rattle.pot_replies.specs.Settings.{Setting};
+ghost use Rattle.pot_store.specs.Works.{known, of_job, section_of, JobWorked, JobAlone, IsSettingOf};
+ghost use Rattle.pot_store.specs.Fetches.{AreFilled};
+ghost use Rattle.pot_store.specs.Renewals.{of_find, of_fetch, of_put, of_renew, PutsSplit, RenewsFrom, RenewRow};
+
+use crate::fetching::{FetchFault, read_record};
+use crate::putting::{Stopped, put_all};
+use crate::storing::{Plan, Stored, prepare};
+use pot_bytes::{Digest, Geometry, Name};
+use pot_group::PutFault;
+use pot_index::{FindFault, Places, RenewFault, Split};
+use pot_outside::Archive;
+use pot_pads::PadStream;
+use pot_shared::{Passes, Vault};
+use std::alloc::Global;
+use std::sync::Wait;
+
+/// How many older splits a record has at most, beside the current one.
+const MOST_OLDER: usize = 15;
+
+/// Why a file was not split anew.
+#[derive(Clone, Copy, PartialEq, Eq, Debug)]
+pub enum RenewFileFault {
+    /// The log of the index has no room for the search, or for the new split.
+    IndexLogFull,
+    /// No file is published under the name.
+    Absent,
+    /// The record has 16 splits.
+    TooOften,
+    /// The archive of the column failed.
+    Faulted { group: u8, column: u8 },
+    /// Of this fragment, whose number counts from 1, no more points can be had.
+    Lost {
+        piece: u32,
+        fragment: u8,
+        have: u8,
+        need: u8,
+    },
+    /// The log of the group has no room.
+    LogFull { group: u8 },
+    /// The bytes that were read have another digest than the file.
+    Odd { wanted: Digest, found: Digest },
+    /// No stripe of the group takes a block any more.
+    Full { group: u8 },
+    NoMemory,
+}
+
+/// The answer to a search that found nothing.
+fn of_find(fault: FindFault) -> RenewFileFault
+    ensures { result ≡ of_find fault }
+{
+    match fault {
+        FindFault::LogFull => RenewFileFault::IndexLogFull,
+        FindFault::Absent => RenewFileFault::Absent,
+        FindFault::NoMemory => RenewFileFault::NoMemory,
+    }
+}
+
+/// The answer to a file that was not read.
+fn of_fetch(fault: FetchFault) -> RenewFileFault
+    ensures { result ≡ of_fetch fault }
+{
+    match fault {
+        FetchFault::IndexLogFull => RenewFileFault::IndexLogFull,
+        FetchFault::Absent => RenewFileFault::Absent,
+        FetchFault::Faulted { group, column } => RenewFileFault::Faulted { group, column },
+        FetchFault::Lost {
+            piece,
+            fragment,
+            have,
+            need,
+        } => RenewFileFault::Lost {
+            piece,
+            fragment,
+            have,
+            need,
+        },
+        FetchFault::LogFull { group } => RenewFileFault::LogFull { group },
+        FetchFault::Odd { wanted, found } => RenewFileFault::Odd { wanted, found },
+        FetchFault::NoMemory => RenewFileFault::NoMemory,
+    }
+}
+
+/// The answer to a put that was refused.
+fn of_put(stopped: Stopped) -> RenewFileFault
+    ensures { result ≡ of_put stopped.group stopped.cause }
+{
+    let group = stopped.group;
+    match stopped.cause {
+        PutFault::LogFull => RenewFileFault::LogFull { group },
+        PutFault::Full => RenewFileFault::Full { group },
+        PutFault::Faulted { column } => RenewFileFault::Faulted { group, column },
+    }
+}
+
+/// The answer to a record that got no new split.
+fn of_renew(fault: RenewFault) -> RenewFileFault
+    ensures { result ≡ of_renew fault }
+{
+    match fault {
+        RenewFault::LogFull => RenewFileFault::IndexLogFull,
+        RenewFault::TooOften => RenewFileFault::TooOften,
+        RenewFault::NoMemory => RenewFileFault::NoMemory,
+    }
+}
+
+/// Puts the blocks of a file as a split of this geometry, with the next bytes of the stream.
+///
+/// # Errors
+/// `NoMemory` before the first put, or the first put that is refused.
+fn put_split<A: Archive, R: Wait>(
+    rt: &R,
+    alloc: Global,
+    vault: &Vault<A>,
+    passes: &mut Passes<A>,
+    job: u32,
+    geometry: &Geometry,
+    file: &[u8],
+    pads: PadStream,
+) -> Result<(Stored, Split), RenewFileFault>
+    requires ready { AreReady vault.now.rack vault.now.groups passes.old.groups }
+    requires rack { IsRack vault.now.rack }
+    requires groups { length vault.now.groups ≡ vault.now.rack.groups }
+    requires job { 0 < job }
+    requires geometry { FitsGeometry vault.now.rack geometry.now }
+    requires short { length file.now ≤ longest }
+    ensures ready { AreReady vault.now.rack vault.now.groups passes.new.groups }
+    ensures index { passes.new.index ≡ passes.old.index }
+    ensures worked { RowWorked (of_job job) passes.old.groups passes.new.groups }
+    ensures puts { PutsSplit vault.now.rack geometry.now job file.now pads result passes.old.groups passes.new.groups }
+{
+    let Ok(plan) = prepare(alloc, vault.rack.columns, geometry, file, pads) else {
+        return Err(RenewFileFault::NoMemory);
+    };
+    let Plan {
+        pieces,
+        shards,
+        mut drawing,
+        mut places,
+    } = plan;
+    match put_all(rt, vault, passes, job, geometry, &mut drawing, shards, &mut places) {
+        Ok(()) => {
+            let split = Split {
+                geometry: *geometry,
+                places: Places::from_vec(places),
+            };
+            Ok((Stored { pieces, shards }, split))
+        }
+        Err(stopped) => Err(of_put(stopped)),
+    }
+}
+
+/// Splits the file that is published under a name anew: fetches it, its relays blinded by `blinds`, puts the blocks of a split of this
+/// geometry with the next bytes of `pads`, and makes that split the record's current one. The older blocks stay.
+///
+/// # Errors
+/// In this order: `IndexLogFull` and `Absent`, as `Vault::find`; `TooOften` exactly where the record found has 16 splits; those of
+/// `fetch_file`; the first put that is refused; `IndexLogFull` and `TooOften`, as `Vault::renew`. `NoMemory` may come before the first
+/// look, before the first put and behind the last one. After a refusal the record is as it was, and blocks that were put stay.
+pub fn renew_file<A: Archive, R: Wait>(
+    rt: &R,
+    alloc: Global,
+    vault: &Vault<A>,
+    passes: &mut Passes<A>,
+    job: u32,
+    name: &Name,
+    geometry: &Geometry,
+    blinds: &mut PadStream,
+    pads: PadStream,
+) -> Result<Stored, RenewFileFault>
+    requires ready { AreReady vault.now.rack vault.now.groups passes.old.groups }
+    requires index { IsIndexReady vault.now.rack vault.now.groups vault.now.index passes.old.index }
+    requires parts { HasMoreParts 1 passes.old.groups }
+    requires rack { IsRack vault.now.rack }
+    requires count { length vault.now.groups ≡ vault.now.rack.groups }
+    requires job { 0 < job }
+    requires geometry { FitsGeometry vault.now.rack geometry.now }
+    ensures ready { AreReady vault.now.rack vault.now.groups passes.new.groups }
+    ensures index { IsIndexReady vault.now.rack vault.now.groups vault.now.index passes.new.index }
+    ensures worked { JobWorked job (known passes.old.groups passes.old.index) (known passes.new.groups passes.new.index) }
+    ensures says { JobAlone job (known passes.old.groups passes.old.index) (known passes.new.groups passes.new.index)
+        → (s : Setting) → IsSettingOf s vault.now.rack (known passes.old.groups passes.old.index) → s.mends ≡ true → AreFilled s → RenewsFrom s pads geometry.now job
+        → RenewRow s job name.now geometry.now result (section_of (known passes.old.groups passes.old.index) (known passes.new.groups passes.new.index)) }
+{
+    let kept = match vault.find(rt, alloc, passes, job, name) {
+        Ok(kept) => kept,
+        Err(fault) => return Err(of_find(fault)),
+    };
+    if kept.older.as_slice().len() == MOST_OLDER {
+        return Err(RenewFileFault::TooOften);
+    }
+    let file = match read_record(rt, alloc, vault, passes, job, &kept, blinds) {
+        Ok(file) => file,
+        Err(fault) => return Err(of_fetch(fault)),
+    };
+    let (stored, split) = match put_split(rt, alloc, vault, passes, job, geometry, &file, pads) {
+        Ok(put) => put,
+        Err(fault) => return Err(fault),
+    };
+    match vault.renew(rt, passes, job, name, split) {
+        Ok(()) => Ok(stored),
+        Err(fault) => Err(of_renew(fault)),
+    }
+}
