@@ -4,7 +4,8 @@ use crossbeam_queue::{Pass, RuledArrayQueue};
 use std::collections::LinkedList;
 use std::marker::PhantomData;
 
-/// What a worker knows: its parts, the jobs in line from the beginning, and the positions that it took. No value of it is made.
+/// What a worker knows: its parts, the jobs in line from the beginning, and the positions that it took.
+/// No value of it is made.
 pub struct Hand<J> {
     pub parts: u64,
     pub jobs: LinkedList<J>,

@@ -8,7 +8,10 @@ use crate::Job;
 /// Puts each of these jobs at its place.
 pub fn place_finished<J: Job + Drop>(mut finished: Vec<(u32, J)>, places: &mut Vec<Option<J>>)
     requires within { Each (λ e. e.0 < length places.old.items) finished.items }
-    ensures { (jobs : List J) → (taken : List ℕ) → ArePlaced J.done J.related jobs taken places.old.items → AreWorkOf J.done J.related jobs finished.items → ArePlaced J.done J.related jobs (taken ++ map (λ e. e.0) finished.items) places.new.items }
+    ensures { (jobs : List J) → (taken : List ℕ) →
+        ArePlaced J.done J.related jobs taken places.old.items →
+        AreWorkOf J.done J.related jobs finished.items →
+        ArePlaced J.done J.related jobs (taken ++ map (λ e. e.0) finished.items) places.new.items }
 {
     while let Some((position, job)) = finished.pop() {
         places[position as usize] = Some(job);

@@ -36,7 +36,8 @@ fn work_until_empty<J: Job, W: Gate, R: Wait>(
     requires hired { IsHired J.done (view worker.old.claim) worker.old }
     ensures own { IsPassOf line.now worker.new.claim }
     ensures worked { HasFinished J.done J.related (view worker.old.claim) (view worker.new.claim) worker.new.finished.items }
-    ensures all { (view worker.old.claim).parts ≡ all_parts → (p : ℕ) → p < length (view worker.old.claim).jobs → times p (view worker.new.claim).taken ≡ 1 }
+    ensures all { (view worker.old.claim).parts ≡ all_parts → (p : ℕ) →
+        p < length (view worker.old.claim).jobs → times p (view worker.new.claim).taken ≡ 1 }
 {
     for _ in rt.forever() {
         let Some((position, mut job)) = line.pop_as::<Takes, R>(rt, &mut worker.claim) else {
@@ -83,7 +84,8 @@ fn hire<J: Job + Drop>(
     requires room { length rooms.items ≤ vec_capacity workers.old }
     ensures own { IsPassOf line.now claim.new }
     ensures left { view claim.new ≡ hand (all_parts - length rooms.items) (view claim.old).jobs [] }
-    ensures hired { Each (λ w. IsPassOf line.now w.claim × IsHired J.done (hand 1 (view claim.old).jobs []) w) workers.new.items }
+    ensures hired { Each (λ w. IsPassOf line.now w.claim ×
+        IsHired J.done (hand 1 (view claim.old).jobs []) w) workers.new.items }
     ensures many { length workers.new.items ≡ length rooms.items }
 {
     while let Some(finished) = rooms.pop() {
@@ -102,7 +104,8 @@ fn dismiss<J: Job + Drop>(
     requires own { IsPassOf line.now claim.old }
     requires parts { view claim.old ≡ hand (all_parts - length workers.items) (view claim.old).jobs [] }
     requires few { length workers.items < all_parts }
-    requires worked { Each (λ w. IsPassOf line.now w.claim × HasFinished J.done J.related (hand 1 (view claim.old).jobs []) (view w.claim) w.finished.items) workers.items }
+    requires worked { Each (λ w. IsPassOf line.now w.claim ×
+        HasFinished J.done J.related (hand 1 (view claim.old).jobs []) (view w.claim) w.finished.items) workers.items }
     requires places { length places.old.items ≡ length (view claim.old).jobs }
     ensures own { IsPassOf line.now claim.new }
     ensures all { ((view claim.new).parts ≡ all_parts) × ((view claim.new).jobs ≡ (view claim.old).jobs) }
@@ -127,8 +130,10 @@ fn work_on_threads<J: Job + Send + Drop, W: Gate, R: Threads + Wait + Sync>(
     workers: &mut [Worker<J>],
 )
     requires some { 0 < length workers.old }
-    requires hired { Each (λ w. IsPassOf line.now w.claim × IsHired J.done (hand 1 (view claim.now).jobs []) w) workers.old }
-    ensures worked { Each (λ w. IsPassOf line.now w.claim × HasFinished J.done J.related (hand 1 (view claim.now).jobs []) (view w.claim) w.finished.items) workers.new }
+    requires hired { Each (λ w. IsPassOf line.now w.claim ×
+        IsHired J.done (hand 1 (view claim.now).jobs []) w) workers.old }
+    ensures worked { Each (λ w. IsPassOf line.now w.claim ×
+        HasFinished J.done J.related (hand 1 (view claim.now).jobs []) (view w.claim) w.finished.items) workers.new }
     ensures many { length workers.new ≡ length workers.old }
 {
     let threads = workers.len();
@@ -137,8 +142,10 @@ fn work_on_threads<J: Job + Send + Drop, W: Gate, R: Threads + Wait + Sync>(
         workers,
         threads,
         &|_: usize, worker: &mut Worker<J>|
-            requires { IsPassOf line.now worker.old.claim × IsHired J.done (view worker.old.claim) worker.old }
-            ensures { IsPassOf line.entry.now worker.new.claim × HasFinished J.done J.related (view worker.old.claim) (view worker.new.claim) worker.new.finished.items }
+            requires { IsPassOf line.now worker.old.claim ×
+                IsHired J.done (view worker.old.claim) worker.old }
+            ensures { IsPassOf line.entry.now worker.new.claim ×
+                HasFinished J.done J.related (view worker.old.claim) (view worker.new.claim) worker.new.finished.items }
         { work_until_empty(rt, line, gate, worker) },
     );
 }

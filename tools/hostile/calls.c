@@ -1,0 +1,292 @@
+/* Stands between a program and the C library: counts the calls on the working folder's files and on the standard
+ * streams, lets one of them fail, and notes what they change.
+ *
+ * HOSTILE_FAIL=N    the Nth counted call, from 1, fails
+ * HOSTILE_HOW=HOW   eio, enospc: it does nothing and fails so; short: it moves one byte; kill: the program is
+ *                   killed before it; lie: it does nothing and says that it did
+ * HOSTILE_ALLOC=N   the Nth request for memory, from 1, is refused
+ * HOSTILE_LOG=FILE  each counted call is noted there: a line of words, and behind a write its bytes
+ *
+ * Counted are calls on files of the working folder, on the folder itself, and on standard input and output. Standard
+ * error and everything else are left alone. */
+#define _GNU_SOURCE
+#include <dlfcn.h>
+#include <errno.h>
+#include <fcntl.h>
+#include <signal.h>
+#include <stdarg.h>
+#include <stdio.h>
+#include <stdlib.h>
+#include <string.h>
+#include <sys/file.h>
+#include <sys/socket.h>
+#include <sys/stat.h>
+#include <sys/uio.h>
+#include <unistd.h>
+
+enum { MOST = 4096, LONGEST = 64 };
+
+static char names[MOST][LONGEST];
+static int log_file = -1;
+static long calls, allocations, failing = -1, refused = -1;
+static const char *how = "eio";
+static int ready;
+
+static void *real(const char *name) { return dlsym(RTLD_NEXT, name); }
+
+static void start(void) {
+    if (ready) return;
+    ready = 1;
+    const char *text = getenv("HOSTILE_FAIL");
+    if (text) failing = atol(text);
+    text = getenv("HOSTILE_ALLOC");
+    if (text) refused = atol(text);
+    text = getenv("HOSTILE_HOW");
+    if (text) how = text;
+    text = getenv("HOSTILE_LOG");
+    if (text) {
+        int (*open_file)(const char *, int, ...) = real("open");
+        log_file = open_file(text, O_WRONLY | O_CREAT | O_TRUNC | O_CLOEXEC, 0666);
+    }
+    strcpy(names[0], "stdin");
+    strcpy(names[1], "stdout");
+}
+
+static void put(const void *bytes, size_t count) {
+    ssize_t (*write_file)(int, const void *, size_t) = real("write");
+    const char *from = bytes;
+    while (count > 0) {
+        ssize_t moved = write_file(log_file, from, count);
+        if (moved <= 0) abort();
+        from += moved;
+        count -= moved;
+    }
+}
+
+/* A line: the call, the file, a place and a length; behind it the bytes, where the call writes some. */
+static void note(const char *call, const char *name, long at, long count, const void *bytes) {
+    if (log_file < 0) return;
+    char line[256];
+    int size = snprintf(line, sizeof line, "%s %s %ld %ld %d\n", call, name, at, count, bytes != NULL);
+    put(line, size);
+    if (bytes) put(bytes, count);
+}
+
+/* Whether this call fails: 0 no, 1 with errno, 2 it is to move one byte, 3 it is to do nothing and say that it did. */
+static int fails(void) {
+    calls++;
+    if (calls != failing) return 0;
+    note("failed", how, calls, 0, NULL);
+    if (!strcmp(how, "kill")) kill(getpid(), SIGKILL);
+    if (!strcmp(how, "short")) return 2;
+    if (!strcmp(how, "lie")) return 3;
+    errno = strcmp(how, "enospc") ? EIO : ENOSPC;
+    return 1;
+}
+
+static int is_ours(int fd) { return fd >= 0 && fd < MOST && names[fd][0] && fd != 2; }
+
+static void opened(int fd, const char *path) {
+    if (fd >= 0 && fd < MOST && fd != log_file) {
+        snprintf(names[fd], LONGEST, "%s", path[0] == '/' ? "" : path);
+    }
+}
+
+static int open_as(const char *call, int at, const char *path, int flags, mode_t mode) {
+    start();
+    int (*real_call)(int, const char *, int, ...) = real("openat");
+    if (path[0] == '/') return real_call(at, path, flags, mode);
+    struct stat found;
+    int is_new = (flags & O_CREAT) && stat(path, &found) != 0;
+    note("begin", call, 0, 0, NULL);
+    int fault = fails();
+    if (fault == 1 || fault == 3) return errno = errno ? errno : EIO, -1;
+    int fd = real_call(at, path, flags, mode);
+    if (fd >= 0) {
+        opened(fd, path);
+        if (is_new) note("create", path, 0, 0, NULL);
+        if (flags & O_TRUNC) note("truncate", path, 0, 0, NULL);
+    }
+    return fd;
+}
+
+int open(const char *path, int flags, ...) {
+    va_list rest;
+    va_start(rest, flags);
+    mode_t mode = va_arg(rest, mode_t);
+    va_end(rest);
+    return open_as("open", AT_FDCWD, path, flags, mode);
+}
+int open64(const char *path, int flags, ...) {
+    va_list rest;
+    va_start(rest, flags);
+    mode_t mode = va_arg(rest, mode_t);
+    va_end(rest);
+    return open_as("open", AT_FDCWD, path, flags | O_LARGEFILE, mode);
+}
+int openat(int at, const char *path, int flags, ...) {
+    va_list rest;
+    va_start(rest, flags);
+    mode_t mode = va_arg(rest, mode_t);
+    va_end(rest);
+    return open_as("open", at, path, flags, mode);
+}
+int openat64(int at, const char *path, int flags, ...) {
+    va_list rest;
+    va_start(rest, flags);
+    mode_t mode = va_arg(rest, mode_t);
+    va_end(rest);
+    return open_as("open", at, path, flags | O_LARGEFILE, mode);
+}
+
+int fcntl(int fd, int command, ...) {
+    start();
+    va_list rest;
+    va_start(rest, command);
+    void *given = va_arg(rest, void *);
+    va_end(rest);
+    int (*real_call)(int, int, ...) = real("fcntl");
+    int other = real_call(fd, command, given);
+    if ((command == F_DUPFD || command == F_DUPFD_CLOEXEC) && other >= 0 && is_ours(fd) && other < MOST) {
+        memcpy(names[other], names[fd], LONGEST);
+    }
+    return other;
+}
+
+int close(int fd) {
+    start();
+    int (*real_call)(int) = real("close");
+    if (fd == log_file) return 0;
+    if (fd > 2 && fd < MOST) names[fd][0] = 0;
+    return real_call(fd);
+}
+
+static ssize_t read_as(int fd, void *into, size_t count, off_t at, int is_placed) {
+    start();
+    ssize_t (*placed)(int, void *, size_t, off_t) = real("pread64");
+    ssize_t (*plain)(int, void *, size_t) = real("read");
+    if (is_ours(fd)) {
+        note("begin", "read", 0, 0, NULL);
+        int fault = fails();
+        if (fault == 1) return -1;
+        if (fault == 2 && count > 1) count = 1;
+        if (fault == 3) {
+            memset(into, 0, count);
+            return count;
+        }
+    }
+    return is_placed ? placed(fd, into, count, at) : plain(fd, into, count);
+}
+ssize_t read(int fd, void *into, size_t count) { return read_as(fd, into, count, 0, 0); }
+ssize_t pread(int fd, void *into, size_t count, off_t at) { return read_as(fd, into, count, at, 1); }
+ssize_t pread64(int fd, void *into, size_t count, off_t at) { return read_as(fd, into, count, at, 1); }
+
+static ssize_t write_as(int fd, const void *from, size_t count, off_t at, int is_placed) {
+    start();
+    ssize_t (*placed)(int, const void *, size_t, off_t) = real("pwrite64");
+    ssize_t (*plain)(int, const void *, size_t) = real("write");
+    if (!is_ours(fd)) return is_placed ? placed(fd, from, count, at) : plain(fd, from, count);
+    note("begin", "write", 0, 0, NULL);
+    int fault = fails();
+    if (fault == 1) return -1;
+    if (fault == 2 && count > 1) count = 1;
+    if (fault == 3) return count;
+    off_t place = is_placed ? at : lseek(fd, 0, SEEK_CUR);
+    ssize_t moved = is_placed ? placed(fd, from, count, at) : plain(fd, from, count);
+    if (moved > 0) note("write", names[fd], place, moved, from);
+    return moved;
+}
+ssize_t write(int fd, const void *from, size_t count) { return write_as(fd, from, count, 0, 0); }
+ssize_t pwrite(int fd, const void *from, size_t count, off_t at) { return write_as(fd, from, count, at, 1); }
+ssize_t pwrite64(int fd, const void *from, size_t count, off_t at) { return write_as(fd, from, count, at, 1); }
+ssize_t __write(int fd, const void *from, size_t count) { return write_as(fd, from, count, 0, 0); }
+
+ssize_t writev(int fd, const struct iovec *parts, int count) {
+    start();
+    ssize_t moved = 0;
+    for (int i = 0; i < count; i++) {
+        if (parts[i].iov_len == 0) continue;
+        ssize_t now = write_as(fd, parts[i].iov_base, parts[i].iov_len, 0, 0);
+        if (now < 0) return moved ? moved : -1;
+        moved += now;
+        if ((size_t)now < parts[i].iov_len) break;
+    }
+    return moved;
+}
+
+static int simple(const char *call, int fd) {
+    start();
+    int (*real_call)(int) = real(call);
+    if (!is_ours(fd)) return real_call(fd);
+    note("begin", call, 0, 0, NULL);
+    int fault = fails();
+    if (fault == 1) return -1;
+    if (fault == 2) return errno = EIO, -1;
+    if (fault == 3) return 0;
+    int status = real_call(fd);
+    if (status == 0) note("sync", names[fd], 0, 0, NULL);
+    return status;
+}
+int fsync(int fd) { return simple("fsync", fd); }
+int fdatasync(int fd) { return simple("fdatasync", fd); }
+
+int flock(int fd, int what) {
+    start();
+    int (*real_call)(int, int) = real("flock");
+    if (is_ours(fd)) {
+        note("begin", "flock", 0, 0, NULL);
+        if (fails()) return errno = EIO, -1;
+    }
+    return real_call(fd, what);
+}
+
+static int rename_as(const char *from, const char *to) {
+    start();
+    int (*real_call)(const char *, const char *) = real("rename");
+    note("begin", "rename", 0, 0, NULL);
+    if (fails()) return errno = EIO, -1;
+    int status = real_call(from, to);
+    if (status == 0) {
+        char both[2 * LONGEST];
+        snprintf(both, sizeof both, "%s>%s", from, to);
+        note("rename", both, 0, 0, NULL);
+    }
+    return status;
+}
+int rename(const char *from, const char *to) { return rename_as(from, to); }
+
+int ftruncate64(int fd, off_t size) {
+    start();
+    int (*real_call)(int, off_t) = real("ftruncate64");
+    if (is_ours(fd)) {
+        note("begin", "ftruncate", 0, 0, NULL);
+        if (fails()) return errno = EIO, -1;
+        note("resize", names[fd], size, 0, NULL);
+    }
+    return real_call(fd, size);
+}
+
+static int is_refused(void) {
+    static int inside;
+    if (!ready) {
+        if (inside) return 0;
+        inside = 1;
+        start();
+        inside = 0;
+    }
+    allocations++;
+    if (allocations != refused) return 0;
+    note("refused", "memory", allocations, 0, NULL);
+    return 1;
+}
+
+extern void *__libc_malloc(size_t);
+extern void *__libc_realloc(void *, size_t);
+extern void *__libc_calloc(size_t, size_t);
+
+void *malloc(size_t size) { return is_refused() ? (errno = ENOMEM, NULL) : __libc_malloc(size); }
+void *realloc(void *old, size_t size) { return is_refused() ? (errno = ENOMEM, NULL) : __libc_realloc(old, size); }
+
+__attribute__((destructor)) static void count(void) {
+    note("calls", "all", calls, allocations, NULL);
+}

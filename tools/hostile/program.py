@@ -1,0 +1,148 @@
+"""The built program in a folder of its own: sessions over it, what they wrote, and the calls that they made."""
+
+import os
+import pathlib
+import shutil
+import subprocess
+import tempfile
+
+HERE = pathlib.Path(__file__).resolve().parent
+TOP = HERE.parent.parent
+PROGRAM = TOP / "crates/potshards/out/potshards"
+
+RACK = "--groups 3 --columns 3 --stripes 16 --fragments 2 --need 2 --shards 3 --blur 16".split()
+NARROW = "--groups 3 --columns 1 --stripes 8 --fragments 2 --need 3 --shards 3 --blur 16".split()
+TWO_PARITY = "--groups 3 --columns 2 --parity 2 --stripes 16 --fragments 2 --need 2 --shards 3 --blur 16".split()
+SEED = "5e" * 32
+
+# What standard error begins with at the statuses that have something to do.
+ADVICE = {
+    4: "potshards: standard input or the system's random bytes could not be read",
+    5: "potshards: standard output could not be written",
+    6: "potshards: the desk could not be locked, read or replaced",
+    8: "potshards: an archive file could not be opened, read or synced",
+    70: "potshards: memory ran out",
+}
+
+
+class Answer:
+    """What a call of the program came to."""
+
+    def __init__(self, ran):
+        self.status, self.out = ran.returncode, ran.stdout
+        self.err = ran.stderr.decode("utf-8", "replace")
+
+    def tells(self):
+        """Whether standard error says what the status asks for: its line, or nothing."""
+        wanted = ADVICE.get(self.status)
+        lines = self.err.splitlines()
+        return any(it.startswith(wanted) for it in lines) if wanted else not lines
+
+
+class Folder:
+    """A working folder that is removed at the end."""
+
+    def __init__(self, base=None):
+        self.path = pathlib.Path(tempfile.mkdtemp(prefix="hostile-", dir=base))
+
+    def __enter__(self):
+        return self
+
+    def __exit__(self, *_):
+        shutil.rmtree(self.path, ignore_errors=True)
+
+    def copy_of(self, other):
+        """Makes this folder what the other one is, whose desk is a file with holes."""
+        subprocess.run(["cp", "-a", "--sparse=always", f"{other.path}/.", str(self.path)], check=True)
+        return self
+
+    def call(self, words, given=b"", **hostile):
+        """Calls the program. hostile: fail, how, alloc, log, which calls.c reads."""
+        env = {"PATH": os.environ.get("PATH", "")}
+        chosen = {f"HOSTILE_{key.upper()}": str(value) for key, value in hostile.items() if value is not None}
+        if chosen:
+            env.update(chosen, LD_PRELOAD=str(library()))
+        ran = subprocess.run([str(PROGRAM), *words], input=given, cwd=self.path, env=env, capture_output=True, timeout=120)
+        return Answer(ran)
+
+    def run(self, script, **hostile):
+        return self.call(["run", "--seed", SEED], script, **hostile)
+
+    def begin(self, rack=RACK):
+        answer = self.call(["init", *rack])
+        assert (answer.status, answer.out) == (0, b"ready\n"), (answer.status, answer.out, answer.err)
+        return self
+
+
+def library():
+    """The library that stands between the program and the C library, compiled once for each process."""
+    made = pathlib.Path(tempfile.gettempdir()) / f"hostile-calls-{os.getuid()}-{int((HERE / 'calls.c').stat().st_mtime)}.so"
+    if not made.exists():
+        room = made.with_suffix(f".{os.getpid()}")
+        subprocess.run(["cc", "-O1", "-shared", "-fPIC", "-o", str(room), str(HERE / "calls.c"), "-ldl"], check=True)
+        os.replace(room, made)
+    return made
+
+
+def store(name, contents):
+    return b"store %s %d\n%s\n" % (name.encode(), len(contents), contents)
+
+
+def script(*lines):
+    """A script of these lines, given as text or bytes, with its `quit`."""
+    parts = [it if isinstance(it, bytes) else it.encode() + b"\n" for it in lines]
+    return b"".join(parts) + b"quit\n"
+
+
+def pattern(count, first=17):
+    """Bytes that differ from file to file."""
+    return bytes((first + 31 * at) % 256 for at in range(count))
+
+
+def replies(out):
+    """The replies in order, each as (first line, the bytes of its file or None). A reply that is cut short is left out."""
+    found, at = [], 0
+    while at < len(out):
+        end = out.find(b"\n", at)
+        if end < 0:
+            break
+        line, at = out[at:end].decode("latin-1"), end + 1
+        if line.startswith("file "):
+            length = int(line.split()[2])
+            if at + length + 1 > len(out):
+                break
+            found.append((line, out[at : at + length]))
+            at += length + 1
+        else:
+            found.append((line, None))
+    return found
+
+
+def stored_in(out):
+    """The names that a session said it stored."""
+    return {line.split()[1] for line, _ in replies(out) if line.startswith("stored ")}
+
+
+def complaints_at_fetch(folder, files, may_miss=()):
+    """Fetches each of these files and compares. Gives a line for each that is wrong. Of those in may_miss, `absent` is no wrong."""
+    answer = folder.run(script(*[f"fetch {name}" for name in files]))
+    if answer.status not in (0, 1):
+        return [f"the next session ends with {answer.status}: {answer.out[:80]!r} {answer.err[:80]!r}"]
+    found = replies(answer.out)
+    wrong = []
+    for (name, contents), (line, got) in zip(files.items(), found):
+        if got is not None and got != contents:
+            wrong.append(f"{name} came back as other bytes")
+        elif got is None and not (name in may_miss and line == f"absent {name}"):
+            wrong.append(f"{name} did not come back: {line}")
+    return wrong + ([] if len(found) == len(files) else ["replies are missing"])
+
+
+def complaints_at_repair(folder, groups):
+    """Repairs every group, and then asks that no slot is lost or broken. Gives a line for each that is."""
+    answer = folder.run(script(*[f"repair {it}" for it in range(groups)], "status"))
+    lines = [line for line, _ in replies(answer.out)]
+    wrong = [f"after the repair: {it}" for it in lines if it.startswith("group ") and " lost 0 broken 0 " not in it]
+    if answer.status not in (0, 1) or sum(it.startswith("group ") for it in lines) != groups:
+        wrong.append(f"a session of repairs ends with {answer.status}: {lines[-3:]}")
+    return wrong

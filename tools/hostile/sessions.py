@@ -1,0 +1,39 @@
+"""The sessions that are disturbed: what stands before, the script, and what stands then."""
+
+from program import NARROW, RACK, TWO_PARITY, pattern, script, store
+
+
+class Session:
+    """A rack, scripts of sessions before it that end, archives that are emptied then, and the script that is disturbed."""
+
+    def __init__(self, name, rack, groups, before, during, emptied=(), files=None, new=None):
+        self.name, self.rack, self.groups, self.before, self.during = name, rack, groups, before, during
+        # the files that ended sessions stored, and those that the disturbed one stores
+        self.emptied, self.files, self.new = emptied, files or {}, new or {}
+
+    def prepare(self, folder):
+        folder.begin(self.rack)
+        for text in self.before:
+            answer = folder.run(text)
+            assert answer.status == 0, (self.name, answer.status, answer.out, answer.err)
+        for number in self.emptied:
+            (folder.path / f"archive-{number}").write_bytes(b"")
+        return folder
+
+
+A, B, C = pattern(900), pattern(5, 80), pattern(1800, 3)
+OLD = {"a": A, "b": B}
+STORED = [script(store("a", A), store("b", B))]
+
+SESSIONS = [
+    Session("store", RACK, 3, STORED, script(store("c", C), "fetch a"), files=OLD, new={"c": C}),
+    Session("first-store", RACK, 3, [], script(store("a", A), store("b", B)), new=OLD),
+    Session("fetch-that-mends", RACK, 3, STORED, script("fetch a", "fetch b"), emptied=(0, 4), files=OLD),
+    Session("repair", RACK, 3, STORED, script("repair 0", "scrub 0", "repair 1", "scrub 1"), emptied=(1, 6), files=OLD),
+    Session("replace", RACK, 3, STORED, script("replace 0 20", "fetch a", "repair 0", "status"), files=OLD),
+    Session("migrate", RACK, 3, STORED, script("migrate 2 21", store("c", C), "fetch b"), files=OLD, new={"c": C}),
+    Session("renew", RACK, 3, STORED, script("renew a 3 2 3 20", "fetch a", "list"), files=OLD),
+    Session("one-column", NARROW, 3, STORED, script(store("c", B), "fetch a", "scrub 2"), files=OLD, new={"c": B}),
+    Session("two-parity", TWO_PARITY, 3, STORED, script(store("c", C), "repair 0", "fetch a"), emptied=(0, 1), files=OLD, new={"c": C}),
+    Session("looks", RACK, 3, STORED, script("list", "status", "scrub 0", "scrub 1", "scrub 2", "fetch b"), files=OLD),
+]
