@@ -1,0 +1,4 @@
+pub mod Answers
+pub mod Chains
+pub mod Promises
+pub mod Runs

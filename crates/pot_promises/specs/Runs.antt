@@ -1,0 +1,46 @@
+-- What a run of the program is that ends well.
+use Rattle.std.specs.Prelude.{◌≡◌, ◌++◌, ℕ, Bool, IsTrue, List, Option, Some}
+use Rattle.pot_outside.specs.Archives.{Meaning}
+use Rattle.pot_script.specs.declared.command.Command.{Command}
+use Rattle.pot_script.specs.declared.reply.Reply.{Reply}
+use Rattle.pot_image.specs.declared.image.Image.{Image}
+use Rattle.pot_image.specs.Images.{Contents, contents}
+use Rattle.pot_image.specs.Rules.{FitsTogether}
+use Rattle.pot_image.specs.Spelling.{image_bytes}
+use Rattle.pot_commands.specs.Ends.{texts_of}
+use Rattle.pot_session.specs.declared.status.Status.{Status}
+use Rattle.pot_session.specs.declared.status.Status.TheVariants as status
+use Rattle.pot_session.specs.Commands.{IsRead}
+use Rattle.pot_session.specs.Desks.{HoldsImage, begun}
+use Rattle.pot_session.specs.Runs.{Holds, seen_by}
+use Rattle.pot_promises.specs.Chains.{IsSession}
+
+-- the statuses of a run whose commands were all answered
+abbrev pub IsDone : Status → Type 0
+IsDone status.Good = Unit {0}
+IsDone status.Refusals = Unit {0}
+IsDone _ = ⊥
+
+-- A session over the image that the desk held, with the commands that the source had: each has its replies, what was written is
+-- their texts, and the desk holds the image that the session left.
+pub record RanAs (seed : List ℕ) (source_told : Type 0) (input : List ℕ) (sink_told : Type 0) (before after : List ℕ) (held holds : Option (List ℕ)) : Type 0 where
+  pub read : Image
+  pub was_held : HoldsImage held read
+  pub fits : FitsTogether (begun (contents read))
+  pub commands : List Command
+  pub script : IsRead read.rack source_told input commands
+  pub last : Contents
+  pub replies : List Reply
+  pub session : IsSession seed (begun (contents read)) last commands replies
+  pub written : sink_told → after ≡ before ++ texts_of replies
+  pub left : holds ≡ Some (image_bytes last)
+
+-- What is told of a run of the program by its own contract: where the desk tells its image and the status is 0 or 1, it was such a
+-- session. So what is promised of sessions is promised of runs.
+abbrev pub RunsAreSessions : Type 0
+RunsAreSessions =
+    (seed : List ℕ) (source_tells sink_tells desk_tells room_tells : Bool) (input rest before after : List ℕ) (held holds : Option (List ℕ)) (meant means : ℕ → Meaning)
+    (answer : Status)
+    → Holds seed (seen_by (IsTrue source_tells) input rest (IsTrue sink_tells) before after (IsTrue desk_tells) held holds (IsTrue room_tells) meant means) answer
+    → IsDone answer → IsTrue desk_tells
+    → RanAs seed (IsTrue source_tells) input (IsTrue sink_tells) before after held holds
