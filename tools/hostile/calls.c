@@ -230,6 +230,16 @@ static int simple(const char *call, int fd) {
 int fsync(int fd) { return simple("fsync", fd); }
 int fdatasync(int fd) { return simple("fdatasync", fd); }
 
+int statx(int fd, const char *path, int flags, unsigned mask, struct statx *into) {
+    start();
+    int (*real_call)(int, const char *, int, unsigned, struct statx *) = real("statx");
+    if (path && !path[0] && is_ours(fd)) {
+        note("begin", "statx", 0, 0, NULL);
+        if (fails()) return errno = EIO, -1;
+    }
+    return real_call(fd, path, flags, mask, into);
+}
+
 int flock(int fd, int what) {
     start();
     int (*real_call)(int, int) = real("flock");
