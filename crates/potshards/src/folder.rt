@@ -18,6 +18,7 @@ pub struct Folder {
     rt: HostRuntime,
     out: BTreeSet<u32>,
     faults: u64,
+    failures: u64,
     progress: Progress,
 }
 
@@ -26,11 +27,13 @@ impl Folder {
     pub fn new(rt: &HostRuntime) -> Folder
         ensures out { (n : ℕ) → contains nat_cmp result.out n ≡ false }
         ensures faults { result.faults ≡ 0 }
+        ensures failures { result.failures ≡ 0 }
     {
         Folder {
             rt: *rt,
             out: BTreeSet::new(rt.alloc()),
             faults: 0,
+            failures: 0,
             progress: Progress::new(rt),
         }
     }
@@ -64,6 +67,8 @@ impl Room for Folder {
 
     ghost faults = { λ f. f.faults };
 
+    ghost failures = { λ f. f.failures };
+
     fn take(&mut self, number: u32) -> Result<FileArchive, RoomFault> {
         self.progress.at(&self.rt, number);
         let archive = match open_archive(&self.rt, number) {
@@ -71,6 +76,7 @@ impl Room for Folder {
             Err(RoomFault::NoMemory) => return Err(RoomFault::NoMemory),
             Err(RoomFault::Failed) => {
                 count_fault(&mut self.faults);
+                count_fault(&mut self.failures);
                 return Err(RoomFault::Failed);
             }
         };
@@ -85,6 +91,9 @@ impl Room for Folder {
         let synced = archive.sync();
         if archive.marks().faults > 0 {
             count_fault(&mut self.faults);
+        }
+        if synced.is_err() {
+            count_fault(&mut self.failures);
         }
         synced
     }
