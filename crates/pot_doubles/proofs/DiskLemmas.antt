@@ -1,14 +1,13 @@
 -- What a disk in memory reads.
-use Rattle.std.proofs.Common.{◌≡◌, ◌+◌, ◌-◌, ◌<◌, ◌≤◌, ℕ, zero, suc, Bool, true, false, List, [], ◌∷◌, length, map, drop, get_or, Option, Some, None, inl, inr, refl, sym, ◌∙◌, ap, subst, arith}
+use Rattle.std.proofs.Common.{◌≡◌, ◌+◌, ◌-◌, ◌<◌, ◌≤◌, ℕ, Bool, true, false, List, [], ◌∷◌, length, map, drop, get_or, inl, inr, refl, sym, ◌∙◌, ap, arith}
 use Rattle.std.proofs.lemmas.Bool.{cases_lt}
 use Rattle.std.proofs.lemmas.Bool.Decides.{nat_tests}
 use Rattle.std.proofs.lemmas.List.{at_drop_more, at_drop_all, get_or-replicate, get_or_past, length-replicate}
 use Rattle.std.proofs.lemmas.List.FromFn.{length-map-range_with_len, get_or-map-range_with_len}
 use Rattle.std.proofs.lemmas.Grind.{same_number_lists}
-use Rattle.std.specs.Prelude.{nat_lt, if◌then◌else◌, unwrap_or, replicate, not, ◌&&◌, ◌⊎◌}
-use Rattle.pot_outside.specs.Disks.{DiskCall, Wrote, Synced, seen, laid_over, bytes_at, IsPending, IsCrashImage}
+use Rattle.std.specs.Prelude.{nat_lt, if◌then◌else◌, replicate, not, ◌&&◌, ◌⊎◌}
+use Rattle.pot_outside.specs.Disks.{DiskCall, Wrote, Synced, seen, bytes_at, IsPending, IsCrashImage}
 use Rattle.pot_doubles.specs.declared.disk.Note.{Note}
-use Rattle.pot_doubles.specs.declared.disk.Note.TheVariants.{Write, Sync}
 use Rattle.pot_doubles.specs.Disks.{call_of, is_write, with_ones, filled, left_by}
 
 pub seen_nothing : (place : ℕ) → seen [] place ≡ 0

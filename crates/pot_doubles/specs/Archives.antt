@@ -1,5 +1,5 @@
 -- Archives in memory.
-use Rattle.std.specs.Prelude.{◌≡◌, ℕ, List, map, Some, None, Result, Ok, Err}
+use Rattle.std.specs.Prelude.{◌≡◌, ℕ, Bool, List, map, Some, None, is_some, Result, Ok, Err}
 use Rattle.std.specs.Ordering.{nat_cmp}
 use Rattle.std.specs.BTreeMap.{get}
 use Rattle.pot_outside.specs.Archives.{Contents, Meaning, at_slot}
@@ -25,6 +25,10 @@ heard_by a = map (λ h. (h.slot, h.sum)) a.heard.items
 -- its calls so far
 abbrev pub archive_calls : LossyArchive → Calls
 archive_calls a = a.calls
+
+-- whether it is under a fuse
+abbrev pub archive_fused : LossyArchive → Bool
+archive_fused a = is_some a.fuse
 
 -- how often blocks went missing
 abbrev pub lost_by : LossyArchive → ℕ
@@ -60,6 +64,7 @@ pub record LosesOne (old new : LossyArchive) (slot : ℕ) : Type 0 where
   pub past : history_of new ≡ history_of old
   pub heard : heard_by new ≡ heard_by old
   pub calls : archive_calls new ≡ archive_calls old
+  pub fuse : archive_fused new ≡ archive_fused old
 
 -- after the losses listed for its call a write puts the block into its slot, or fails and writes nothing
 abbrev pub WritesAfterLosses : LossyArchive → LossyArchive → ℕ → List ℕ → Result (Unit {0}) Failed → Type 0

@@ -1,5 +1,5 @@
 -- The calls of a double: which ones are to fail, and how often it failed.
-use Rattle.std.specs.Prelude.{◌≡◌, ◌+◌, ◌-◌, ◌^◌, ◌==◌, ◌⊎◌, ◌||◌, nat_lt, ℕ, List, Bool, true, false, min, Result, Ok, Err, if◌then◌else◌}
+use Rattle.std.specs.Prelude.{◌≡◌, ◌↔◌, ◌+◌, ◌-◌, ◌^◌, ◌==◌, ◌⊎◌, ◌||◌, nat_lt, ℕ, List, Bool, true, false, min, Result, Ok, Err, IsTrue, if◌then◌else◌}
 use Rattle.std.specs.List.{list_any}
 use Rattle.pot_doubles.specs.declared.calls.Calls.{Calls}
 
@@ -18,9 +18,13 @@ pub record IsFresh (calls : Calls) (fails : List ℕ) : Type 0 where
 abbrev pub is_due : Calls → Bool
 is_due c = list_any (λ n. n == c.made) c.fails.items
 
+-- after one more call began, which counts a fault where it fails
+abbrev pub begun_as : Bool → Calls → Calls
+begun_as fails c = record c { made = raised c.made; faults = (if fails then raised c.faults else c.faults) }
+
 -- after one more call began, which counts a fault where it is to fail
 abbrev pub begun : Calls → Calls
-begun c = record c { made = raised c.made; faults = (if is_due c then raised c.faults else c.faults) }
+begun c = begun_as (is_due c) c
 
 -- after one more fault
 abbrev pub failing : Calls → Calls
@@ -43,3 +47,31 @@ Answered due first new (Err e) = ((due ≡ true) × (new ≡ first)) ⊎ ((due �
 -- a call that fails exactly where it is to fail or found no memory, and counts a fault exactly then
 abbrev pub Counted : {T E : Type 0} → Calls → Calls → Result T E → Type 0
 Counted old new result = Answered (is_due old) (begun old) new result
+
+-- UNDER A FUSE, which several doubles share. Nothing is told of when it is spent, since others spend it too.
+
+-- a call that is listed fails, and without a fuse no other does
+pub record IsToFail (fused : Bool) (calls : Calls) (fails : Bool) : Type 0 where
+  pub listed : is_due calls ≡ true → fails ≡ true
+  pub unfused : fused ≡ false → fails ≡ is_due calls
+
+-- a call began, and counted a fault where it fails
+pub record BeginsFused (fused : Bool) (old new : Calls) (fails : Bool) : Type 0 where
+  pub due : IsToFail fused old fails
+  pub counted : new ≡ begun_as fails old
+
+-- A call that takes these steps once it began is answered by a failure exactly where it was to fail or found
+-- no memory, and counts a fault exactly then.
+abbrev pub AnsweredFused : {T E : Type 0} → Bool → (Calls → Calls) → Calls → Calls → Result T E → Type 0
+AnsweredFused fused steps old new result =
+    (fails : Bool) × IsToFail fused old fails × Answered fails (steps (begun_as fails old)) new result
+
+-- a call that takes no such step
+abbrev pub CountedFused : {T E : Type 0} → Bool → Calls → Calls → Result T E → Type 0
+CountedFused fused old new result = AnsweredFused fused (λ c. c) old new result
+
+-- a call that has failed exactly where it was to fail, and counts a fault exactly then
+pub record FailsFused (fused : Bool) (old new : Calls) (failed : Type 0) : Type 0 where
+  pub fails : Bool
+  pub begins : BeginsFused fused old new fails
+  pub told : failed ↔ IsTrue fails

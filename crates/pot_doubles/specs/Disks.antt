@@ -1,5 +1,5 @@
 -- Disks in memory.
-use Rattle.std.specs.Prelude.{◌≡◌, ◌≤◌, ◌&&◌, ◌||◌, not, nat_lt, nat_eq, ℕ, Bool, true, false, List, [], ◌∷◌, length, map, replicate, Option, Some, None, is_some, if◌then◌else◌}
+use Rattle.std.specs.Prelude.{◌||◌, not, nat_lt, ℕ, Bool, true, false, List, [], ◌∷◌, length, map, replicate, Option, Some, None, if◌then◌else◌}
 use Rattle.pot_outside.specs.Disks.{DiskCall, Wrote, Synced}
 use Rattle.pot_doubles.specs.Calls.{begun, failing, is_due}
 use Rattle.pot_doubles.specs.declared.calls.Calls.{Calls}

@@ -1,11 +1,12 @@
 -- Rooms of archives in memory.
-use Rattle.std.specs.Prelude.{◌≡◌, ◌≢◌, ◌<◌, ◌==◌, ℕ, Bool, List, [], ◌∷◌, Option, Some, None, length, slice_index_or, if◌then◌else◌, is_some, unwrap_or}
+use Rattle.std.specs.Prelude.{◌≡◌, ◌≢◌, ◌<◌, ◌==◌, ℕ, Bool, List, [], ◌∷◌, Option, Some, None, false, length, slice_index_or, if◌then◌else◌, is_some, unwrap_or}
 use Rattle.std.specs.List.{list_any}
+use Rattle.std.specs.Option.{option_map_or}
 use Rattle.std.specs.Ordering.{nat_cmp}
 use Rattle.std.specs.BTreeMap.{get}
 use Rattle.pot_outside.specs.declared.archive.Shelf.{Shelf}
 use Rattle.pot_outside.specs.Archives.{Meaning}
-use Rattle.pot_doubles.specs.Archives.{archive_calls, meaning_in}
+use Rattle.pot_doubles.specs.Archives.{archive_calls, archive_fused, meaning_in}
 use Rattle.pot_doubles.specs.declared.calls.Calls.{Calls}
 use Rattle.pot_doubles.specs.declared.room.MemRoom.{MemRoom}
 use Rattle.pot_doubles.specs.declared.archive.LossyArchive.{LossyArchive}
@@ -39,6 +40,18 @@ lent_of r number = unwrap_or (get nat_cmp r.lent number) 0
 -- its calls so far
 abbrev pub room_calls : MemRoom → Calls
 room_calls r = r.calls
+
+-- whether it is under a fuse
+abbrev pub room_fused : MemRoom → Bool
+room_fused r = is_some r.fuse
+
+-- whether the archive of a number is under a fuse, where there is one
+abbrev pub fused_at : MemRoom → ℕ → Bool
+fused_at r number = option_map_or archive_fused (archive_of (shelves_of r) number) false
+
+-- how often a take or a give of the room's own failed
+abbrev pub failures_of : MemRoom → ℕ
+failures_of r = r.failures
 
 -- a call leaves a number as it was
 abbrev pub SameAt : MemRoom → MemRoom → ℕ → Type 0

@@ -2,6 +2,7 @@ ghost use Rattle.std.specs.Prelude.{ℕ};
 ghost use Rattle.pot_doubles.specs.Kept.{IsKept};
 
 use crate::calls::Calls;
+use crate::fuse::{Fuse, begin_fused};
 use crate::losses::{Loss, lose_listed};
 use pot_bytes::{Block, block_law, fold_weighted};
 use pot_outside::{Archive, Failed, Held, Marks};
@@ -24,16 +25,18 @@ pub struct LossyArchive {
     losses: Vec<Loss>,
     lost: u64,
     calls: Calls,
+    fuse: Option<Fuse>,
     ghost kept: { IsKept blocks past.items },
 }
 
 impl LossyArchive {
-    ghost use Rattle.std.specs.Prelude.{◌≡◌, ℕ, [], None, IsTrue, map};
+    ghost use Rattle.std.specs.Prelude.{◌≡◌, ◌||◌, ℕ, [], None, IsTrue, false, is_some, map};
     ghost use Rattle.std.specs.Option.{option_copied};
     ghost use Rattle.pot_outside.specs.Archives.{OnlyLoses};
     ghost use Rattle.pot_outside.specs.Counts.{Caused};
-    ghost use Rattle.pot_doubles.specs.Calls.{IsFresh, is_due, begun};
-    ghost use Rattle.pot_doubles.specs.Archives.{held_in, history_of, heard_by, archive_calls, lost_by, losses_of, LosesListed, LosesOne};
+    ghost use Rattle.pot_doubles.specs.Calls.{IsFresh, BeginsFused};
+    ghost use Rattle.pot_doubles.specs.Archives.{held_in, history_of, heard_by, archive_calls, archive_fused};
+    ghost use Rattle.pot_doubles.specs.Archives.{lost_by, losses_of, meaning_in, LosesListed, LosesOne};
 
     /// An archive without blocks. The calls of the numbers `fails` are to fail, and the losses come at the
     /// start of their calls.
@@ -44,6 +47,7 @@ impl LossyArchive {
         ensures lost { lost_by result ≡ 0 }
         ensures losses { losses_of result ≡ losses.items }
         ensures calls { IsFresh (archive_calls result) fails.items }
+        ensures unfused { archive_fused result ≡ false }
     {
         LossyArchive {
             blocks: BTreeMap::new(alloc),
@@ -52,7 +56,21 @@ impl LossyArchive {
             losses,
             lost: 0,
             calls: Calls::new(fails),
+            fuse: None,
         }
+    }
+
+    /// The same archive under this fuse, where there is one.
+    pub fn under(mut self, fuse: Option<Fuse>) -> LossyArchive
+        ensures means { meaning_in result ≡ meaning_in self }
+        ensures losses { losses_of result ≡ losses_of self }
+        ensures calls { archive_calls result ≡ archive_calls self }
+        ensures fused { archive_fused result ≡ (is_some fuse || archive_fused self) }
+    {
+        if fuse.is_some() {
+            self.fuse = fuse;
+        }
+        self
     }
 
     /// Loses the block of a slot at once, and counts a loss. It is no call that is numbered.
@@ -89,21 +107,21 @@ impl LossyArchive {
         ensures loses { OnlyLoses (held_in self.old) (held_in self.new) (lost_by self.old) (lost_by self.new) }
         ensures listed { LosesListed self.old self.new }
         ensures heard { heard_by self.new ≡ heard_by self.old }
-        ensures due { result ≡ is_due (archive_calls self.old) }
-        ensures counted { archive_calls self.new ≡ begun (archive_calls self.old) }
+        ensures fuse { archive_fused self.new ≡ archive_fused self.old }
+        ensures begins { BeginsFused (archive_fused self.old) (archive_calls self.old) (archive_calls self.new) result }
         ensures cause { Caused (archive_calls self.old).faults (archive_calls self.new).faults (IsTrue result) }
     {
         let call = self.calls.number();
         lose_listed(&mut self.blocks, &self.losses, call, &mut self.lost);
-        self.calls.begin()
+        begin_fused(&mut self.calls, &self.fuse)
     }
 }
 
 impl Archive for LossyArchive {
     ghost use Rattle.std.specs.Prelude.{◌≡◌, ◌<◌, true, IsTrue};
     ghost use Rattle.pot_outside.specs.Archives.{Meaning, Reads, Folds, Writes};
-    ghost use Rattle.pot_doubles.specs.Calls.{Counted};
-    ghost use Rattle.pot_doubles.specs.Archives.{meaning_in, archive_calls, lost_by, losses_of, LosesListed};
+    ghost use Rattle.pot_doubles.specs.Calls.{CountedFused};
+    ghost use Rattle.pot_doubles.specs.Archives.{meaning_in, archive_calls, archive_fused, lost_by, losses_of, LosesListed};
     ghost use Rattle.pot_doubles.specs.Archives.{WritesAfterLosses, lost_after_losses};
 
     ghost account = { record { tells = true; meaning = meaning_in } };
@@ -111,7 +129,8 @@ impl Archive for LossyArchive {
     fn read(&mut self, slot: u32, into: &mut Block) -> Result<Held, Failed>
         ensures reads { Reads (IsTrue true) slot into.new result (meaning_in self.old) (meaning_in self.new) }
         ensures listed { LosesListed self.old self.new }
-        ensures counted { Counted (archive_calls self.old) (archive_calls self.new) result }
+        ensures fuse { archive_fused self.new ≡ archive_fused self.old }
+        ensures counted { CountedFused (archive_fused self.old) (archive_calls self.old) (archive_calls self.new) result }
     {
         if self.begin() {
             return Err(Failed);
@@ -129,7 +148,8 @@ impl Archive for LossyArchive {
         requires { 0 < weight }
         ensures folds { Folds (IsTrue true) slot weight sum.old sum.new result (meaning_in self.old) (meaning_in self.new) }
         ensures listed { LosesListed self.old self.new }
-        ensures counted { Counted (archive_calls self.old) (archive_calls self.new) result }
+        ensures fuse { archive_fused self.new ≡ archive_fused self.old }
+        ensures counted { CountedFused (archive_fused self.old) (archive_calls self.old) (archive_calls self.new) result }
     {
         if self.begin() {
             return Err(Failed);
@@ -151,7 +171,8 @@ impl Archive for LossyArchive {
         ensures wrote { WritesAfterLosses self.old self.new slot block.now result }
         ensures lost { lost_by self.new ≡ lost_after_losses self.old }
         ensures listed { losses_of self.new ≡ losses_of self.old }
-        ensures counted { Counted (archive_calls self.old) (archive_calls self.new) result }
+        ensures fuse { archive_fused self.new ≡ archive_fused self.old }
+        ensures counted { CountedFused (archive_fused self.old) (archive_calls self.old) (archive_calls self.new) result }
     {
         if self.begin() {
             return Err(Failed);

@@ -5,17 +5,20 @@
 //! numbers of the calls that are to fail. Invariants, each kept by the type that it names:
 //! 1. the count of faults (`Calls`) begins at 0 and rises exactly at a call that is to fail, and at a call
 //!    that found no memory and has no answer for that; a room counts one more for an archive that comes back
-//!    having failed;
+//!    having failed, but not among its own failures;
 //! 2. every block that a `LossyArchive` holds stands among the blocks that it was ever written;
 //! 3. its count of losses rises exactly at a listed loss and at `lose`;
 //! 4. the sums that it heard are those that `fold` was given and had memory for;
-//! 5. a `MemDisk` keeps each write that began and each sync that answered `Ok`.
+//! 5. a `MemDisk` keeps each write that began and each sync that answered `Ok`;
+//! 6. under a `Fuse`, which a room and the archives that it hands out share, calls fail that are not listed.
+//!    Which ones is not told, since a clause knows nothing of a counter that others change. Each counts a fault.
 #![tactic(auto)]
 
 mod archive;
 mod calls;
 mod desk;
 mod disk;
+mod fuse;
 mod gate;
 mod losses;
 mod room;

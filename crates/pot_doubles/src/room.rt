@@ -1,10 +1,13 @@
-ghost use Rattle.std.specs.Prelude.{◌≡◌, ◌≢◌, ◌||◌, ℕ, OnOk, OnErr, IfOk, IfErr, MatchOption, false};
+ghost use Rattle.std.specs.Prelude.{◌≡◌, ◌≢◌, ◌||◌, ℕ, OnOk, OnErr, IfOk, IfErr, MatchOption, is_some, true, false};
 ghost use Rattle.std.specs.Option.{option_copied};
 ghost use Rattle.pot_doubles.specs.Calls.{IsFresh};
-ghost use Rattle.pot_doubles.specs.Rooms.{archive_of, meaning_of, means_in, is_out, room_calls, shelves_of, any_starved, IsFirst};
+ghost use Rattle.pot_doubles.specs.Rooms.{archive_of, meaning_of, means_in, is_out, room_calls, room_fused, failures_of};
+ghost use Rattle.pot_doubles.specs.Rooms.{shelves_of, any_starved, IsFirst, SameAt};
 
 use crate::LossyArchive;
 use crate::calls::Calls;
+use crate::fuse::{Fuse, begin_fused};
+use pot_bytes::NoMemory;
 use pot_outside::{Archive, Failed, Room, RoomFault, Shelf};
 use std::alloc::{AllocError, Global};
 use std::collections::BTreeMap;
@@ -17,6 +20,8 @@ pub struct MemRoom {
     shelves: Vec<Shelf<LossyArchive>>,
     lent: BTreeMap<u32, u64>,
     calls: Calls,
+    failures: u64,
+    fuse: Option<Fuse>,
 }
 
 impl MemRoom {
@@ -25,12 +30,39 @@ impl MemRoom {
         ensures means { (n : ℕ) → means_in result n ≡ meaning_of (archive_of archives.items n) }
         ensures lent { (n : ℕ) → is_out result n ≡ false }
         ensures calls { IsFresh (room_calls result) fails.items }
+        ensures failures { failures_of result ≡ 0 }
+        ensures unfused { room_fused result ≡ false }
     {
         MemRoom {
             alloc,
             shelves: archives,
             lent: BTreeMap::new(alloc),
             calls: Calls::new(fails),
+            failures: 0,
+            fuse: None,
+        }
+    }
+
+    /// Lets this many further calls pass, of the room and of the archives that it hands out from now on, and
+    /// fails all later ones. An archive that is out comes under the fuse when it is taken next.
+    pub fn fuse(&mut self, calls: u64) -> Result<(), NoMemory>
+        ensures fused { OnOk result (room_fused self.new ≡ true) }
+        ensures refused { OnErr result (room_fused self.new ≡ room_fused self.old) }
+        ensures same { (n : ℕ) → SameAt self.old self.new n }
+        ensures calls { room_calls self.new ≡ room_calls self.old }
+        ensures failures { failures_of self.new ≡ failures_of self.old }
+    {
+        self.fuse = Some(Fuse::new(self.alloc, calls)?);
+        Ok(())
+    }
+
+    /// The fuse for one archive more, where the room is under one.
+    fn share_fuse(&self) -> Result<Option<Fuse>, AllocError>
+        ensures { IfOk result (λ f. is_some f ≡ room_fused self.now) }
+    {
+        match &self.fuse {
+            None => Ok(None),
+            Some(fuse) => Ok(Some(fuse.share()?)),
         }
     }
 
@@ -112,12 +144,12 @@ fn place_of(shelves: &[Shelf<LossyArchive>], number: u32) -> Option<usize>
 }
 
 impl Room for MemRoom {
-    ghost use Rattle.std.specs.Prelude.{◌≡◌, ◌≢◌, ◌↔◌, ℕ, true, false, IsTrue, IsErr, IsErrOf, IfOk, OnOk, OnErr};
+    ghost use Rattle.std.specs.Prelude.{◌≡◌, ◌≢◌, ◌||◌, ℕ, true, false, IsErr, IsErrOf, IfOk, OnOk, OnErr};
     ghost use Rattle.pot_outside.specs.Counts.{Caused, Rose};
     ghost use Rattle.pot_outside.specs.Archives.{IsMeant};
-    ghost use Rattle.pot_doubles.specs.Archives.{archive_calls, meaning_in};
-    ghost use Rattle.pot_doubles.specs.Calls.{begun, is_due, covering, Answered};
-    ghost use Rattle.pot_doubles.specs.Rooms.{means_in, is_out, lent_of, room_calls, SameAt};
+    ghost use Rattle.pot_doubles.specs.Archives.{archive_calls, archive_fused, meaning_in};
+    ghost use Rattle.pot_doubles.specs.Calls.{covering, raised, AnsweredFused, FailsFused};
+    ghost use Rattle.pot_doubles.specs.Rooms.{means_in, is_out, lent_of, room_calls, room_fused, fused_at, failures_of, SameAt};
 
     type A = LossyArchive;
 
@@ -129,6 +161,8 @@ impl Room for MemRoom {
 
     ghost faults = { λ r. (room_calls r).faults };
 
+    ghost failures = { failures_of };
+
     fn take(&mut self, number: u32) -> Result<LossyArchive, RoomFault>
         requires { is_out self.old number ≡ false }
         ensures told { IfOk result (λ a. IsMeant (means_in self.old number) (meaning_in a)) }
@@ -138,12 +172,21 @@ impl Room for MemRoom {
         ensures unchanged { OnErr result (means_in self.new number ≡ means_in self.old number) }
         ensures others { (n : ℕ) → n ≢ number → SameAt self.old self.new n }
         ensures cause { Caused (room_calls self.old).faults (room_calls self.new).faults (IsErrOf result RoomFault.Failed) }
-        ensures fails { IsErrOf result RoomFault.Failed ↔ IsTrue (is_due (room_calls self.old)) }
-        ensures counted { room_calls self.new ≡ begun (room_calls self.old) }
+        ensures own { Caused (failures_of self.old) (failures_of self.new) (IsErrOf result RoomFault.Failed) }
+        ensures sound { OnOk result (failures_of self.new ≡ failures_of self.old) }
+        ensures starved { IsErrOf result RoomFault.NoMemory → failures_of self.new ≡ failures_of self.old }
+        ensures raised { IsErrOf result RoomFault.Failed → failures_of self.new ≡ raised (failures_of self.old) }
+        ensures counted { FailsFused (room_fused self.old) (room_calls self.old) (room_calls self.new) (IsErrOf result RoomFault.Failed) }
+        ensures fused { IfOk result (λ a. archive_fused a ≡ (room_fused self.old || fused_at self.old number)) }
+        ensures fuse { room_fused self.new ≡ room_fused self.old }
     {
-        if self.calls.begin() {
+        if begin_fused(&mut self.calls, &self.fuse) {
+            self.failures = self.failures.saturating_add(1);
             return Err(RoomFault::Failed);
         }
+        let Ok(fuse) = self.share_fuse() else {
+            return Err(RoomFault::NoMemory);
+        };
         let faults = match self.archive(number) {
             Some(archive) => archive.marks().faults,
             None => 0,
@@ -153,7 +196,7 @@ impl Room for MemRoom {
         }
         let empty = LossyArchive::new(self.alloc, Vec::new(self.alloc), Vec::new(self.alloc));
         match exchange(&mut self.shelves, number, empty) {
-            Ok(archive) | Err(archive) => Ok(archive),
+            Ok(archive) | Err(archive) => Ok(archive.under(fuse)),
         }
     }
 
@@ -164,18 +207,24 @@ impl Room for MemRoom {
         ensures others { (n : ℕ) → n ≢ number → SameAt self.old self.new n }
         ensures covers { Rose (lent_of self.old number) (archive_calls archive).faults → Rose (room_calls self.old).faults (room_calls self.new).faults }
         ensures cause { Caused (room_calls self.old).faults (room_calls self.new).faults (IsErr result) }
-        ensures counted { Answered (is_due (room_calls self.old)) (covering (lent_of self.old number) (archive_calls archive).faults (begun (room_calls self.old))) (room_calls self.new) result }
+        ensures own { Caused (failures_of self.old) (failures_of self.new) (IsErr result) }
+        ensures sound { OnOk result (failures_of self.new ≡ failures_of self.old) }
+        ensures raised { OnErr result (failures_of self.new ≡ raised (failures_of self.old)) }
+        ensures counted { AnsweredFused (room_fused self.old) (covering (lent_of self.old number) (archive_calls archive).faults) (room_calls self.old) (room_calls self.new) result }
+        ensures fuse { room_fused self.new ≡ room_fused self.old }
     {
-        let fails = self.calls.begin();
+        let fails = begin_fused(&mut self.calls, &self.fuse);
         let before = self.lent.remove(&number).unwrap_or(0);
         self.calls.cover(before, archive.marks().faults);
         if fails {
+            self.failures = self.failures.saturating_add(1);
             return Err(Failed);
         }
         match put_back(&mut self.shelves, number, archive) {
             Ok(()) => Ok(()),
             Err(AllocError) => {
                 self.calls.starve();
+                self.failures = self.failures.saturating_add(1);
                 Err(Failed)
             }
         }
@@ -186,6 +235,7 @@ impl Room for MemRoom {
 mod tests {
     use super::*;
     use pot_bytes::Block;
+    use pot_outside::Held;
     use std::test::Fail;
 
     /// An archive whose slot 0 is filled with this byte, and of which the second call fails.
@@ -231,6 +281,35 @@ mod tests {
         assert!(rt; taken.is_err());
         assert_eq!(rt; room.calls.faults(), 3);
         assert!(rt; room.archive(9).is_some() && !room.starved());
+        Ok(())
+    }
+
+    /// The answers of five reads of slot 0.
+    fn reads(archive: &mut LossyArchive) -> [Result<Held, Failed>; 5] {
+        let mut into = Block::zero();
+        [(); 5].map(|()| archive.read(0, &mut into))
+    }
+
+    #[test]
+    fn fails_once_its_fuse_is_spent(rt: HostRuntime) -> Result<(), Fail> {
+        let alloc = rt.alloc();
+        let mut shelves = Vec::new(alloc);
+        shelves.push(Shelf {
+            number: 5,
+            archive: filled(alloc, 50)?,
+        })?;
+        let mut room = MemRoom::new(alloc, shelves, Vec::new(alloc));
+        room.fuse(4).map_err(|_| "fuse")?;
+        let mut archive = room.take(5).map_err(|_| "take")?;
+        // The first read is listed to fail.
+        let (held, failed) = (Ok(Held::Held), Err(Failed));
+        assert_eq!(rt; reads(&mut archive), [failed, held, held, failed, failed]);
+        assert_eq!(rt; archive.marks().faults, 3);
+        assert!(rt; room.take(7).is_err_and(|fault| fault == RoomFault::Failed));
+        assert_eq!(rt; (room.failures, room.calls.faults()), (1, 1));
+        assert_eq!(rt; room.give(5, archive), Err(Failed));
+        assert_eq!(rt; (room.failures, room.calls.faults()), (2, 3));
+        assert!(rt; !room.starved());
         Ok(())
     }
 }

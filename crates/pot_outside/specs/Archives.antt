@@ -1,5 +1,5 @@
 -- What a call of an archive does to its blocks, and what a room means by a number.
-use Rattle.std.specs.Prelude.{◌≡◌, ◌≤◌, ◌-◌, ◌^◌, ◌==◌, ◌⊎◌, ◌++◌, ℕ, Bool, List, [], ◌∷◌, Option, Some, None, Result, Ok, Err, Contains, length, slice_index, ◌<◌, if◌then◌else◌, IsErr}
+use Rattle.std.specs.Prelude.{◌≡◌, ◌≤◌, ◌-◌, ◌^◌, ◌==◌, ◌⊎◌, ◌++◌, ℕ, Bool, List, [], ◌∷◌, Option, Some, None, Result, Ok, Err, Contains, ◌<◌, if◌then◌else◌, IsErr}
 use Rattle.pot_bytes.specs.Lists.{IsBlock}
 use Rattle.pot_outside.specs.Failing.{MayLeave}
 use Rattle.pot_bytes.specs.Sums.{xor}

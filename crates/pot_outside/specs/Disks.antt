@@ -1,5 +1,5 @@
 -- What the calls of a disk do to its bytes, and what a crash leaves of them.
-use Rattle.std.specs.Prelude.{◌≡◌, ◌⊎◌, ◌+◌, ◌-◌, ◌<◌, ◌≤◌, nat_lt, if◌then◌else◌, ℕ, List, [], ◌∷◌, ◌++◌, length, drop, get_or, map, Option, Result, Ok, Err}
+use Rattle.std.specs.Prelude.{◌≡◌, ◌⊎◌, ◌+◌, ◌-◌, ◌<◌, ◌≤◌, nat_lt, if◌then◌else◌, ℕ, List, [], ◌∷◌, ◌++◌, length, drop, get_or, map, Result, Ok, Err}
 use Rattle.std.specs.List.{range_with_len}
 use Rattle.pot_outside.specs.declared.faults.Failed.{Failed}
 

@@ -5,7 +5,7 @@ pub struct Failed;
 /// Why a room could not give an archive.
 #[derive(Clone, Copy, PartialEq, Eq, Debug)]
 pub enum RoomFault {
-    /// The room failed. Its count of faults rose.
+    /// The room failed. Its count of faults rose, and that of its own failures.
     Failed,
     NoMemory,
 }

@@ -71,14 +71,14 @@ impl DeskFile {
 
 /// `desk.lock`, open and locked. Fails at once where it is locked elsewhere.
 fn take_lock(rt: &HostRuntime) -> io::Result<File> {
-    let file = open_apart(rt, &as_it_is(), "desk.lock")?;
+    let file = open_apart(rt, &as_it_is(true), "desk.lock")?;
     file.try_lock()?;
     Ok(file)
 }
 
 /// The desk in `desk.pss`, which is made where it is missing.
 fn open_desk(rt: &HostRuntime) -> io::Result<SafeDesk<FileDisk>> {
-    let file = open_apart(rt, &as_it_is(), "desk.pss")?;
+    let file = open_apart(rt, &as_it_is(true), "desk.pss")?;
     Ok(SafeDesk::new(rt.alloc(), FileDisk::new(file)))
 }
 

@@ -26,14 +26,14 @@ pub fn open_apart(rt: &HostRuntime, how: &OpenOptions, name: &str) -> io::Result
     }
 }
 
-/// To read and write what is there, and to make the file where there is none.
-pub fn as_it_is() -> OpenOptions
+/// To read and write what is there, and to make the file where there is none and one may be made.
+pub fn as_it_is(may_make: bool) -> OpenOptions
     ensures keeps { asks_truncate result ≡ false }
-    ensures makes { asks_create result ≡ true }
+    ensures makes { asks_create result ≡ may_make }
     ensures reads { asks_read result ≡ true }
     ensures writes { asks_write result ≡ true }
 {
     let mut how = OpenOptions::new();
-    how.read(true).write(true).create(true);
+    how.read(true).write(true).create(may_make);
     how
 }

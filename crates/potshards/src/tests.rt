@@ -3,7 +3,7 @@ use crate::desk::DeskFile;
 use crate::drawn;
 use crate::folder::Folder;
 use pot_bytes::Block;
-use pot_outside::{Archive, Desk, DeskFault, Held, Room};
+use pot_outside::{Archive, Desk, DeskFault, Held, Room, RoomFault};
 use std::fs;
 use std::os::unix::fs::{FileExt, symlink};
 use std::test::Fail;
@@ -65,6 +65,7 @@ fn an_archive_that_is_taken_again_has_its_blocks(rt: HostRuntime) -> Result<(), 
 
 #[test]
 fn a_link_is_followed_and_stays(rt: HostRuntime) -> Result<(), Fail> {
+    fs::write(&rt, "elsewhere", "")?;
     symlink(&rt, "elsewhere", "archive-9")?;
     let mut room = Folder::new(&rt);
     let mut archive = room.take(9)?;
@@ -77,6 +78,20 @@ fn a_link_is_followed_and_stays(rt: HostRuntime) -> Result<(), Fail> {
     assert!(rt; written && given && stays);
     assert_eq!(rt; bytes.len(), 1025);
     assert!(rt; bytes.get(1024).copied() == Some(0x77));
+    Ok(())
+}
+
+#[test]
+fn an_archive_behind_a_link_that_leads_nowhere_is_not_made(rt: HostRuntime) -> Result<(), Fail> {
+    symlink(&rt, "nowhere", "archive-11")?;
+    let mut room = Folder::new(&rt);
+    let refused = room.take(11).is_err_and(|fault| fault == RoomFault::Failed);
+    let none_made = fs::metadata(&rt, "nowhere").is_err();
+    fs::write(&rt, "nowhere", "")?;
+    let taken = room.take(11).is_ok();
+    fs::remove_file(&rt, "archive-11")?;
+    fs::remove_file(&rt, "nowhere")?;
+    assert!(rt; refused && none_made && taken);
     Ok(())
 }
 

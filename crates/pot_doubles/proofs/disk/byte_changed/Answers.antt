@@ -1,5 +1,4 @@
-use Rattle.std.proofs.Common.{◌≡◌, ◌+◌, ◌∷◌, ◌∙◌, sym, subst, ap}
-use Rattle.std.specs.Prelude.{unwrap_or}
+use Rattle.std.proofs.Common.{◌+◌, ◌∷◌, ◌∙◌, sym, ap}
 use Rattle.pot_outside.specs.Disks.{seen}
 use Rattle.pot_doubles.specs.Disks.{call_of}
 use Rattle.pot_doubles.specs.declared.disk.Note.{Note}

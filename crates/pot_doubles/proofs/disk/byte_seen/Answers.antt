@@ -1,4 +1,4 @@
-use Rattle.std.proofs.Common.{◌≡◌, ◌+◌, map, drop, ◌∙◌, sym}
+use Rattle.std.proofs.Common.{◌+◌, map, drop, ◌∙◌, sym}
 use Rattle.pot_doubles.specs.Disks.{call_of}
 use Rattle.pot_doubles.proofs.DiskLemmas.{seen_from, seen_end}
 use Rattle.pot_doubles.proofs.disk.byte_seen.Goals as goal

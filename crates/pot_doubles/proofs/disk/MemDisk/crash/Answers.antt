@@ -1,4 +1,4 @@
-use Rattle.std.proofs.Common.{◌≡◌, ◌∷◌, map, ap, ◌∙◌, List}
+use Rattle.std.proofs.Common.{◌∷◌, map, ap, ◌∙◌, List}
 use Rattle.pot_outside.specs.Disks.{Synced}
 use Rattle.pot_doubles.specs.Disks.{call_of, left_by, changes_of}
 use Rattle.pot_doubles.specs.declared.disk.Note.{Note}
