@@ -1,3 +1,4 @@
+pub mod AlteredLemmas
 pub mod ChoiceLemmas
 pub mod ClosingLemmas
 pub mod ContentLemmas
@@ -20,4 +21,5 @@ pub mod LongTop
 pub mod RobustLemmas
 pub mod ScopeLemmas
 pub mod SetLemmas
+pub mod StoredLemmas
 pub mod TopLemmas

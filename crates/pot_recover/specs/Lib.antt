@@ -1,3 +1,4 @@
+pub mod Altered
 pub mod Choices
 pub mod Contents
 pub mod Counts
@@ -12,5 +13,6 @@ pub mod Rings
 pub mod Robust
 pub mod Scopes
 pub mod Sets
+pub mod StoredFragments
 pub mod StoredRings
 pub mod Wide

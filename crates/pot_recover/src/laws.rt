@@ -1,4 +1,6 @@
+ghost use Rattle.pot_recover.specs.Altered.{AlteredLaws};
 ghost use Rattle.pot_recover.specs.Sets.{PointerLaws, RingLaws};
+ghost use Rattle.pot_recover.specs.StoredFragments.{StoredLaws};
 ghost use Rattle.pot_recover.specs.StoredRings.{LinkLaws};
 
 /// Chains, and sets past them, find just the closed fragments.
@@ -14,4 +16,15 @@ pub fn pointer_laws()
 /// A ring as it is stored is a ring of recovery, and the other way round.
 pub fn link_laws()
     ensures { LinkLaws }
+{}
+
+/// A ring of which no more shares were altered than may be wrong closes robustly with what it closed with, and with
+/// nothing else.
+pub fn altered_laws()
+    ensures { AlteredLaws }
+{}
+
+/// A fragment as it is stored closes with its content, and robustly too where so few of its shares were altered.
+pub fn stored_laws()
+    ensures { StoredLaws }
 {}

@@ -1,4 +1,4 @@
-//! Files and hostile blocks, as blocks in memory.
+//! Files, hostile blocks and wrong shares, as blocks in memory.
 ghost use Rattle.std.specs.Prelude.{◌≡◌, ◌<◌, ◌≤◌, ◌*◌, ◌^◌, length};
 ghost use Rattle.pot_shard.specs.Shards.{IsShard};
 
@@ -20,18 +20,27 @@ fn scatter(out: &mut [u8], seed: u64) {
     }
 }
 
-/// The six blocks of a file of five bytes: two fragments, of three shards each, of which two are needed.
-fn stored(rt: &(impl Abort + Alloc<A = Global>), file: &[u8; 5], seed: u64) -> Vec<Block> {
+/// The blocks of a file of five bytes: two fragments, of so many shards each, of which two are needed.
+fn stored(
+    rt: &(impl Abort + Alloc<A = Global>),
+    file: &[u8; 5],
+    seed: u64,
+    shards: u8,
+) -> Vec<Block>
+    requires some { 2 ≤ shards }
+    requires few { shards ≤ 16 }
+    ensures number { length result.items ≡ 2 * shards }
+{
     let geometry = Geometry {
         fragments: 2,
         need: 2,
-        shards: 3,
+        shards,
         blur: 16,
     };
     let mut random = vec![in rt.alloc(); 0; random_len(1, &geometry) as usize].expect(rt, "memory");
     scatter(&mut random, seed);
     let blocks = blocks_of(rt.alloc(), file, &geometry, &random).expect(rt, "memory");
-    assert_eq!(rt; blocks.len(), 6);
+    assert!(rt; blocks.len() == 2 * usize::from(shards));
     blocks
 }
 
@@ -44,18 +53,20 @@ fn object_of(file: &[u8; 5], seed: u64) -> [u8; 928] {
     object
 }
 
-/// These blocks give these objects.
-fn gives(rt: &(impl Abort + Alloc<A = Global>), blocks: &[Block], bits: u8, expected: &[[u8; 928]])
-    requires bits { bits ≤ 63 }
-    requires few { length blocks.now < 2 ^ 32 }
-{
-    let found = recover(rt.alloc(), blocks, bits).expect(rt, "few chains");
-    assert_eq!(rt; found.len(), expected.len());
-    assert_eq!(rt; found.is_empty(), expected.is_empty());
-    for (at, object) in expected.iter().enumerate() {
-        assert!(rt; at < found.len());
-        assert!(rt; found.object(at) == object, "{at}");
+/// Whether these objects were recovered.
+fn are(found: Result<Recovered, RecoverFault>, expected: &[[u8; 928]]) -> bool {
+    let Ok(found) = found else {
+        return false;
+    };
+    if found.len() != expected.len() || found.is_empty() != expected.is_empty() {
+        return false;
     }
+    for at in 0..expected.len() {
+        if found.object(at) != &expected[at] {
+            return false;
+        }
+    }
+    true
 }
 
 /// The XOR of three blocks.
@@ -68,11 +79,9 @@ fn parity(a: &Block, b: &Block, c: &Block) -> Block {
 
 #[test]
 fn two_files_come_back_from_all_blocks(rt: HostRuntime) {
-    let (hello, world) = (stored(&rt, b"hello", 1), stored(&rt, b"world", 2));
-    assert!(rt; hello.len() == 6);
-    assert!(rt; world.len() == 6);
-    gives(&rt, &hello, 16, &[object_of(b"hello", 1)]);
-    gives(&rt, &hello, 15, &[]);
+    let (hello, world) = (stored(&rt, b"hello", 1, 3), stored(&rt, b"world", 2, 3));
+    assert!(rt; are(recover(rt.alloc(), &hello, 16), &[object_of(b"hello", 1)]));
+    assert!(rt; are(recover(rt.alloc(), &hello, 15), &[]));
     let mut blocks = Vec::from_slice(rt.alloc(), &hello).expect(&rt, "memory");
     blocks.extend_from_slice(&world).expect(&rt, "memory");
     // Three parity blocks decode as a linked ring that does not close, and three mirror a shard.
@@ -89,16 +98,15 @@ fn two_files_come_back_from_all_blocks(rt: HostRuntime) {
     let (one, other) = (object_of(b"hello", 1), object_of(b"world", 2));
     assert!(rt; blocks.len() == 18);
     if one < other {
-        gives(&rt, &blocks, 16, &[one, other]);
+        assert!(rt; are(recover(rt.alloc(), &blocks, 16), &[one, other]));
     } else {
-        gives(&rt, &blocks, 16, &[other, one]);
+        assert!(rt; are(recover(rt.alloc(), &blocks, 16), &[other, one]));
     }
 }
 
 #[test]
 fn nothing_comes_back_without_a_shard_or_with_one_outside_the_grammar(rt: HostRuntime) {
-    let blocks = stored(&rt, b"hello", 1);
-    assert!(rt; blocks.len() == 6);
+    let blocks = stored(&rt, b"hello", 1, 3);
     // One byte each: of the zeros before the share, of the low bits of the pointer, and x.
     for (at, byte) in [(24, 1), (31, 255), (23, 1), (4, 0), (0, 0)] {
         for lost in 0..6 {
@@ -107,10 +115,10 @@ fn nothing_comes_back_without_a_shard_or_with_one_outside_the_grammar(rt: HostRu
             let mut rest = Vec::from_slice(rt.alloc(), &blocks).expect(&rt, "memory");
             assert!(rt; rest.len() == 6);
             rest[lost] = Block::from_bytes(altered);
-            gives(&rt, &rest, 16, &[]);
+            assert!(rt; are(recover(rt.alloc(), &rest, 16), &[]));
             rest.push(blocks[lost]).expect(&rt, "memory");
             assert!(rt; rest.len() == 7);
-            gives(&rt, &rest, 16, &[object_of(b"hello", 1)]);
+            assert!(rt; are(recover(rt.alloc(), &rest, 16), &[object_of(b"hello", 1)]));
         }
     }
 }
@@ -141,7 +149,7 @@ fn crowd(rt: &(impl Abort + Alloc<A = Global>), each: u64) -> Vec<Block> {
 fn four_million_chains_are_borne_and_no_more(rt: HostRuntime) {
     let blocks = crowd(&rt, 1_999);
     assert!(rt; blocks.len() == 3_998);
-    gives(&rt, &blocks, 63, &[]);
+    assert!(rt; are(recover(rt.alloc(), &blocks, 63), &[]));
     let blocks = crowd(&rt, 2_001);
     assert!(rt; blocks.len() == 4_002);
     assert!(rt;
@@ -182,43 +190,7 @@ fn pairs(rt: &(impl Abort + Alloc<A = Global>), count: u64) -> Vec<Block>
 fn a_million_chains_are_followed_by_their_pointers(rt: HostRuntime) {
     let blocks = pairs(&rt, 500_000);
     assert!(rt; blocks.len() == 1_000_000);
-    gives(&rt, &blocks, 4, &[]);
-}
-
-/// The eight blocks of a file of five bytes: two fragments, of four shards each, of which two are needed.
-fn stored_with_more(
-    rt: &(impl Abort + Alloc<A = Global>),
-    file: &[u8; 5],
-    seed: u64,
-) -> Vec<Block> {
-    let geometry = Geometry {
-        fragments: 2,
-        need: 2,
-        shards: 4,
-        blur: 16,
-    };
-    let mut random = vec![in rt.alloc(); 0; random_len(1, &geometry) as usize].expect(rt, "memory");
-    scatter(&mut random, seed);
-    let blocks = blocks_of(rt.alloc(), file, &geometry, &random).expect(rt, "memory");
-    assert_eq!(rt; blocks.len(), 8);
-    blocks
-}
-
-/// These blocks give so many objects although some shares are wrong, the first of them this one.
-fn gives_robustly(
-    rt: &(impl Abort + Alloc<A = Global>),
-    blocks: &[Block],
-    count: usize,
-    first: &[u8; 928],
-)
-    requires few { length blocks.now < 2 ^ 32 }
-{
-    let found = recover_robust(rt.alloc(), blocks, 16).expect(rt, "few chains");
-    assert_eq!(rt; found.len(), count);
-    if count > 0 {
-        assert!(rt; found.len() > 0);
-        assert!(rt; found.object(0) == first);
-    }
+    assert!(rt; are(recover(rt.alloc(), &blocks, 4), &[]));
 }
 
 /// A block with one byte changed by this difference.
@@ -231,29 +203,45 @@ fn changed(block: &Block, at: usize, difference: u8) -> Block
 }
 
 #[test]
-fn a_wrong_share_is_borne(rt: HostRuntime) {
+fn a_wrong_byte_at_any_place_of_a_share_is_borne(rt: HostRuntime) {
     let object = object_of(b"hello", 1);
-    let mut blocks = stored_with_more(&rt, b"hello", 1);
-    assert!(rt; blocks.len() == 8);
-    gives(&rt, &blocks, 16, &[object]);
-    gives_robustly(&rt, &blocks, 1, &object);
-    // The first shard of the first fragment.
-    blocks[0] = changed(&blocks[0], 500, 0x3c);
-    gives(&rt, &blocks, 16, &[]);
-    gives_robustly(&rt, &blocks, 1, &object);
-    blocks[0] = changed(&blocks[0], 500, 0x3c);
-    gives(&rt, &blocks, 16, &[object]);
+    let mut blocks = stored(&rt, b"hello", 1, 4);
+    let first = blocks[0];
+    for at in 32..1024 {
+        blocks[0] = changed(&first, at, 0x3c);
+        assert!(rt; blocks.len() == 8);
+        assert!(rt; are(recover(rt.alloc(), &blocks, 16), &[]), "{at}");
+        assert!(rt;
+            are(recover_robust(rt.alloc(), &blocks, 16), &[object]),
+            "{at}"
+        );
+    }
 }
 
 #[test]
-fn two_wrong_shares_at_one_place_are_not_borne(rt: HostRuntime) {
+fn of_four_shares_one_may_be_wrong_at_a_place(rt: HostRuntime) {
     let object = object_of(b"hello", 1);
-    let mut blocks = stored_with_more(&rt, b"hello", 1);
-    assert!(rt; blocks.len() == 8);
-    blocks[2] = changed(&blocks[2], 500, 1);
-    gives_robustly(&rt, &blocks, 1, &object);
-    blocks[3] = changed(&blocks[3], 501, 1);
-    gives_robustly(&rt, &blocks, 1, &object);
-    blocks[3] = changed(&blocks[3], 500, 1);
-    gives_robustly(&rt, &blocks, 0, &object);
+    let stored = stored(&rt, b"hello", 1, 4);
+    // The block, the place in it and the difference of two bytes, and whether the object comes back all the same. The
+    // first four blocks are the shards of one fragment; the share begins at 32, the name at 8 and the pointer at 16.
+    for (a, b, comes) in [
+        ((0, 500, 0), (0, 500, 0), true),
+        ((2, 500, 1), (3, 501, 1), true),
+        ((2, 500, 1), (7, 500, 1), true),
+        ((2, 500, 1), (3, 500, 1), false),
+        ((0, 8, 1), (0, 500, 0), false),
+        ((0, 16, 1), (0, 500, 0), false),
+    ] {
+        let mut blocks = Vec::from_slice(rt.alloc(), &stored).expect(&rt, "memory");
+        assert!(rt; blocks.len() == 8);
+        blocks[a.0] = changed(&blocks[a.0], a.1, a.2);
+        blocks[b.0] = changed(&blocks[b.0], b.1, b.2);
+        let found = recover_robust(rt.alloc(), &blocks, 16);
+        assert!(rt;
+            are(found, if comes { &[object] } else { &[] }),
+            "{} {}",
+            a.1,
+            b.1
+        );
+    }
 }
