@@ -391,7 +391,9 @@ fn bytes_behind_the_image(rt: HostRuntime) -> Result<(), Fail> {
     let mut longer = EMPTY.as_slice().to_vec(alloc)?;
     longer.push(0)?;
     assert!(rt; read_image(alloc, &longer).err() == Some(ImageFault::Form { place: 8 }));
-    let stated = signed(alloc, &EMPTY, 15, 253, &[0])?;
-    assert!(rt; read_image(alloc, &stated).err() == Some(ImageFault::Form { place: 220 }));
+    let one = signed(alloc, &EMPTY, 15, 253, &[0])?;
+    assert!(rt; read_image(alloc, &one).err() == Some(ImageFault::Form { place: 221 }));
+    let three = signed(alloc, &FULL, 15, 0x30, &[1, 2, 3])?;
+    assert!(rt; read_image(alloc, &three).err() == Some(ImageFault::Form { place: 1296 }));
     Ok(())
 }
