@@ -46,9 +46,9 @@ fn main(rt: HostRuntime) -> io::Result<()> {
     time_sessions(&rt, rt.alloc(), megabytes)
 }
 
-/// The loops over rows, each with a line.
+/// The loops over rows, each with a line. A join is told for each of its two shares.
 fn time_rows(rt: &(impl Print + Eprint + Clock), rounds: u32, rows: &mut Rows) -> io::Result<()>
-    requires { rounds < 4294967295 }
+    requires { rounds < 2147483648 }
 {
     let begun = Instant::now(rt)?;
     rows.xor_into(rounds + 1);
@@ -64,7 +64,7 @@ fn time_rows(rt: &(impl Print + Eprint + Clock), rounds: u32, rows: &mut Rows) -
     print_loop(rt, "share_out 2 of 3", &begun, rounds, rows.out())?;
     let begun = Instant::now(rt)?;
     rows.share_join(rounds);
-    print_loop(rt, "share_join 2 of 3", &begun, rounds, rows.out())?;
+    print_loop(rt, "share_join 2 of 3", &begun, 2 * rounds, rows.out())?;
     let begun = Instant::now(rt)?;
     rows.digest_of(rounds);
     print_loop(rt, "digest_of", &begun, rounds, rows.out())

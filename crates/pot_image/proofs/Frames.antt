@@ -23,7 +23,7 @@ pub leaves_form : (g : Grammar Contents) (bytes : List ℕ) (f : ImageFault) (le
 leaves_form g bytes f left e h = subst (Leaves g bytes) (sym e) (left_at g bytes left (16 + (length bytes - left)) h refl)
 
 pub leaves_over : (g : Grammar Contents) (bytes rest : List ℕ) (a : Contents) (f : ImageFault) → f ≡ Form (16 + (length bytes - 0)) → reading g bytes ≡ Ok (a, rest) → length rest == 0 ≡ false → Leaves g bytes f
-leaves_over g bytes rest a f e h l = subst (Leaves g bytes) (sym e) (length bytes, refl, leaves_left g bytes rest a h (some (length rest) l))
+leaves_over g bytes rest a f e h l = subst (Leaves g bytes) (sym e) (length bytes, omega arith, leaves_left g bytes rest a h (some (length rest) l))
   where
     some : (n : ℕ) → n == 0 ≡ false → 0 < n
     some n q = grind (arith, nat_tests)
