@@ -97,7 +97,10 @@ fn fetch_reply(name: &Name, answer: Result<Vec<u8>, FetchFault>) -> Result<Reply
 
 /// The reply to a renewal, by its answer.
 fn renew_reply(name: &Name, answer: Result<Stored, RenewFileFault>) -> Result<Reply, NoMemory>
-    ensures { (s : Setting) → (job : ℕ) → (geometry : Geometry) → (w : Section) → RenewRow s job name.now geometry answer w → MatchResult result (λ reply. IsRenewReply s job name.now geometry reply w) (λ e. IsUnrenewed s job name.now geometry w) }
+    ensures { (s : Setting) → (job : ℕ) → (geometry : Geometry) → (w : Section)
+        → RenewRow s job name.now geometry answer w
+        → MatchResult result (λ reply. IsRenewReply s job name.now geometry reply w)
+        (λ e. IsUnrenewed s job name.now geometry w) }
 {
     let name = *name;
     match answer {

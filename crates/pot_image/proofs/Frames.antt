@@ -9,14 +9,11 @@ use Rattle.pot_image.specs.Following.{Fails}
 use Rattle.pot_image.specs.Images.{Contents, Leaves}
 use Rattle.pot_image.specs.Fields.{Grammar, IsOf, LeavesAt}
 use Rattle.pot_image.specs.Reading.{reading}
-use Rattle.pot_image.proofs.Once.{of_read, leaves_at, leaves_left, err_short, ok_short}
+use Rattle.pot_image.proofs.Once.{of_read, leaves_at, leaves_left, err_short}
 
 -- a place where so many bytes are left
 pub left_at : {A : Type 0} (g : Grammar A) (bytes : List ℕ) (left place : ℕ) → reading g bytes ≡ Err left → place ≡ 16 + (length bytes - left) → (p : ℕ) × (place ≡ 16 + p) × LeavesAt g bytes p
 left_at g bytes left place e q = (let l = err_short g bytes left e in (length bytes - left, q, leaves_at g bytes left (length bytes - left) e (omega (arith, l))))
-
-pub left_over : {A : Type 0} (g : Grammar A) (bytes rest : List ℕ) (a : A) (place : ℕ) → reading g bytes ≡ Ok (a, rest) → 0 < length rest → place ≡ 16 + (length bytes - length rest) → (p : ℕ) × (place ≡ 16 + p) × LeavesAt g bytes p
-left_over g bytes rest a place e l q = (let s = ok_short g bytes rest a e in (length bytes - length rest, q, leaves_left g bytes rest a (length bytes - length rest) e l (omega (arith, s))))
 
 pub nothing_left : {A : Type 0} (g : Grammar A) (bytes rest : List ℕ) (a : A) → reading g bytes ≡ Ok (a, rest) → length rest ≡ 0 → IsOf g bytes a
 nothing_left g bytes [] a e l = of_read g bytes a e
@@ -25,8 +22,8 @@ nothing_left g bytes (x ∷ rest) a e l = absurd (omega (arith, l))
 pub leaves_form : (g : Grammar Contents) (bytes : List ℕ) (f : ImageFault) (left : ℕ) → f ≡ Form (16 + (length bytes - left)) → reading g bytes ≡ Err left → Leaves g bytes f
 leaves_form g bytes f left e h = subst (Leaves g bytes) (sym e) (left_at g bytes left (16 + (length bytes - left)) h refl)
 
-pub leaves_over : (g : Grammar Contents) (bytes rest : List ℕ) (a : Contents) (f : ImageFault) → f ≡ Form (16 + (length bytes - length rest)) → reading g bytes ≡ Ok (a, rest) → length rest == 0 ≡ false → Leaves g bytes f
-leaves_over g bytes rest a f e h l = subst (Leaves g bytes) (sym e) (left_over g bytes rest a (16 + (length bytes - length rest)) h (some (length rest) l) refl)
+pub leaves_over : (g : Grammar Contents) (bytes rest : List ℕ) (a : Contents) (f : ImageFault) → f ≡ Form (16 + (length bytes - 0)) → reading g bytes ≡ Ok (a, rest) → length rest == 0 ≡ false → Leaves g bytes f
+leaves_over g bytes rest a f e h l = subst (Leaves g bytes) (sym e) (length bytes, omega arith, leaves_left g bytes rest a h (some (length rest) l))
   where
     some : (n : ℕ) → n == 0 ≡ false → 0 < n
     some n q = grind (arith, nat_tests)

@@ -3,7 +3,7 @@ use Rattle.std.proofs.Common.{append-nil, ◌-◌, ◌≡◌, ◌⊎◌, inl, in
 use Rattle.std.proofs.lemmas.List.{take-append-drop, length-take-le}
 use Rattle.std.proofs.lemmas.Bool.{le-leb, leb-true, and_parts, true≢false, cases_Bool}
 use Rattle.std.proofs.Math.Seq.{take-append_seam, drop-append_seam}
-use Rattle.pot_image.specs.Fields.{Field, Grammar, done, wants, IsField, ReadsFields, Breaks, joined, IsOf, LeavesAt}
+use Rattle.pot_image.specs.Fields.{Field, Grammar, done, wants, IsField, ReadsFields, Breaks, joined, IsOf, BreaksAt, RunsOnTo, LeavesAt}
 use Rattle.pot_image.specs.Reading.{◌>>=◌, stands, reading}
 
 -- what follows a result that is Ok
@@ -119,12 +119,10 @@ breaks_are {A} (wants f next) bytes n e = (let again = breaks_are (next (take f.
             let met : stands f bytes ≡ true = ap₂ (λ a b. a && b) (le-leb _ _ long) (ap f.holds first ∙ is.1) in
             true≢false (sym met ∙ unmet)
 
-pub breaks_read : {A : Type 0} (g : Grammar A) (xs : List (List ℕ)) (rest : List ℕ) → Breaks g xs rest
-    → (reading g (joined xs ++ rest) ≡ Err (length rest)) ⊎ ((a : A) × (reading g (joined xs ++ rest) ≡ Ok (a, rest)) × (0 < length rest))
+pub breaks_read : {A : Type 0} (g : Grammar A) (xs : List (List ℕ)) (rest : List ℕ) → Breaks g xs rest → reading g (joined xs ++ rest) ≡ Err (length rest)
 unfolding reading
-breaks_read (done b) [] rest h = inr (b, refl, h)
-breaks_read (done b) (x ∷ xs) rest h = absurd h
-breaks_read (wants f next) [] rest h = (inl (stops (cases_Bool (stands f rest))))
+breaks_read (done b) xs rest h = absurd h
+breaks_read (wants f next) [] rest h = stops (cases_Bool (stands f rest))
   where
     stops : ((stands f rest ≡ true) ⊎ (stands f rest ≡ false)) → cond (stands f rest) (reading (next (take f.size rest)) (drop f.size rest)) (Err (length rest)) ≡ Err (length rest)
     stops (inr unmet) = ap (λ b. cond b (reading (next (take f.size rest)) (drop f.size rest)) (Err (length rest))) unmet
@@ -132,11 +130,7 @@ breaks_read (wants f next) [] rest h = (inl (stops (cases_Bool (stands f rest)))
         let is = and_parts (nat_le f.size (length rest)) (f.holds (take f.size rest)) met in
         absurd (h (take f.size rest) (drop f.size rest) (sym (take-append-drop f.size rest)) (length-take-le f.size rest (leb-true _ _ is.0), is.1))
 breaks_read {A} (wants f next) (x ∷ xs) rest h =
-    (let e : reading (wants f next) ((x ++ joined xs) ++ rest) ≡ reading (next x) (joined xs ++ rest) = ap (reading (wants f next)) (append_assoc x (joined xs) rest) ∙ reads_on f next x (joined xs ++ rest) h.0 in
-    elim (breaks_read (next x) xs rest h.1) [
-      | inl stops ↦ inl (e ∙ stops)
-      | inr left ↦ inr (left.0, e ∙ left.1, left.2)
-    ])
+    ap (reading (wants f next)) (append_assoc x (joined xs) rest) ∙ reads_on f next x (joined xs ++ rest) h.0 ∙ breaks_read (next x) xs rest h.1
 
 -- THE LAWS
 
@@ -146,20 +140,15 @@ of_read g bytes a e = (let r = reads_are g bytes [] a e in record { fields = r.0
 pub read_of : {A : Type 0} (g : Grammar A) (bytes : List ℕ) (a : A) → IsOf g bytes a → reading g bytes ≡ Ok (a, [])
 read_of g bytes a o = ap (reading g) (o.spelled ∙ sym (append-nil (joined o.fields))) ∙ is_read g o.fields [] a o.reads
 
--- the place where reading stops, or where it is done before the end
+-- the place where reading stops
 pub leaves_at : {A : Type 0} (g : Grammar A) (bytes : List ℕ) (n place : ℕ) → reading g bytes ≡ Err n → place + n ≡ length bytes → LeavesAt g bytes place
 leaves_at g bytes n place e c = (let r = breaks_are g bytes n e in
-    record { fields = r.0; rest = r.1; spelled = r.2; breaks = r.3; counted = (let h : length bytes ≡ length (joined r.0) + length r.1 = ap length r.2 ∙ length-append (joined r.0) r.1 in omega (arith, h, c, r.4)) })
+    inl (record { fields = r.0; rest = r.1; spelled = r.2; breaks = r.3; counted = (let h : length bytes ≡ length (joined r.0) + length r.1 = ap length r.2 ∙ length-append (joined r.0) r.1 in omega (arith, h, c, r.4)) }))
 
-done_breaks : {A : Type 0} (g : Grammar A) (xs : List (List ℕ)) (a : A) (rest : List ℕ) → ReadsFields g xs a → 0 < length rest → Breaks g xs rest
-done_breaks (done b) [] a rest h l = l
-done_breaks (done b) (x ∷ xs) a rest h l = absurd h
-done_breaks (wants f next) [] a rest h l = absurd h
-done_breaks (wants f next) (x ∷ xs) a rest h l = (h.0, done_breaks (next x) xs a rest h.1 l)
-
-pub leaves_left : {A : Type 0} (g : Grammar A) (bytes rest : List ℕ) (a : A) (place : ℕ) → reading g bytes ≡ Ok (a, rest) → 0 < length rest → place + length rest ≡ length bytes → LeavesAt g bytes place
-leaves_left g bytes rest a place e l c = (let r = reads_are g bytes rest a e in
-    record { fields = r.0; rest = rest; spelled = r.1; breaks = done_breaks g r.0 a rest r.2 l; counted = (let h : length bytes ≡ length (joined r.0) + length rest = ap length r.1 ∙ length-append (joined r.0) rest in omega (arith, h, c)) })
+-- the end of the bytes, where reading is done before it
+pub leaves_left : {A : Type 0} (g : Grammar A) (bytes rest : List ℕ) (a : A) → reading g bytes ≡ Ok (a, rest) → 0 < length rest → LeavesAt g bytes (length bytes)
+leaves_left g bytes rest a e l = (let r = reads_are g bytes rest a e in
+    inr (record { fields = r.0; value = a; rest = rest; spelled = r.1; reads = r.2; left = l; counted = refl }))
 
 -- no more bytes are left than there were
 pub err_short : {A : Type 0} (g : Grammar A) (bytes : List ℕ) (n : ℕ) → reading g bytes ≡ Err n → n ≤ length bytes
@@ -174,21 +163,19 @@ once_value g bytes a b p q = (one_value a b [] [] _ (read_of g bytes a p) (read_
 -- how a text that leaves the grammar is read
 pub data Left {A : Type 0} (g : Grammar A) (bytes : List ℕ) (p : ℕ) : Type 0 where
   stopped : (n : ℕ) → reading g bytes ≡ Err n → p + n ≡ length bytes → Left g bytes p
-  over_long : (a : A) (rest : List ℕ) → reading g bytes ≡ Ok (a, rest) → 0 < length rest → p + length rest ≡ length bytes → Left g bytes p
+  over_long : (a : A) (rest : List ℕ) → reading g bytes ≡ Ok (a, rest) → 0 < length rest → p ≡ length bytes → Left g bytes p
 
 left_of : {A : Type 0} (g : Grammar A) (bytes : List ℕ) (p : ℕ) → LeavesAt g bytes p → Left g bytes p
-left_of g bytes p l = (
-    let whole : p + length l.rest ≡ length bytes = (let h : length bytes ≡ length (joined l.fields) + length l.rest = ap length l.spelled ∙ length-append (joined l.fields) l.rest in omega (arith, h, l.counted)) in
-    elim (breaks_read g l.fields l.rest l.breaks) [
-      | inl stops ↦ stopped (length l.rest) (ap (reading g) l.spelled ∙ stops) whole
-      | inr left ↦ over_long left.0 l.rest (ap (reading g) l.spelled ∙ left.1) left.2 whole
-    ])
+left_of g bytes p (inl b) = (
+    let h : length bytes ≡ length (joined b.fields) + length b.rest = ap length b.spelled ∙ length-append (joined b.fields) b.rest in
+    stopped (length b.rest) (ap (reading g) b.spelled ∙ breaks_read g b.fields b.rest b.breaks) (omega (arith, h, b.counted)))
+left_of g bytes p (inr r) = over_long r.value r.rest (ap (reading g) r.spelled ∙ is_read g r.fields r.rest r.value r.reads) r.left r.counted
 
 one_place : {A : Type 0} (g : Grammar A) (bytes : List ℕ) (p q : ℕ) → Left g bytes p → Left g bytes q → p ≡ q
 one_place g bytes p q (stopped n e c) (stopped m h d) = (let same = err_is n m _ _ refl refl (sym e ∙ h) in omega (arith, c, d, same))
 one_place g bytes p q (stopped n e c) (over_long a rest h l d) = absurd (not_both (a, rest) n _ h e)
 one_place g bytes p q (over_long a rest e l c) (stopped m h d) = absurd (not_both (a, rest) m _ e h)
-one_place g bytes p q (over_long a rest e l c) (over_long b more h k d) = (let same = (one_value a b rest more _ e h).1 in let len = ap length same in omega (arith, c, d, len))
+one_place g bytes p q (over_long a rest e l c) (over_long b more h k d) = c ∙ sym d
 
 pub once_place : {A : Type 0} (g : Grammar A) (bytes : List ℕ) (p q : ℕ) → LeavesAt g bytes p → LeavesAt g bytes q → p ≡ q
 once_place g bytes p q l m = one_place g bytes p q (left_of g bytes p l) (left_of g bytes q m)
@@ -209,4 +196,4 @@ decided {A} g bytes = by_reading (reading g bytes) refl
       where
         by_rest : (a : A) (rest : List ℕ) → reading g bytes ≡ Ok (a, rest) → ((a : A) × IsOf g bytes a) ⊎ ((p : ℕ) × LeavesAt g bytes p)
         by_rest a [] h = inl (a, of_read g bytes a h)
-        by_rest a (x ∷ rest) h = (let short = ok_short g bytes (x ∷ rest) a h in inr (length bytes - length (x ∷ rest), leaves_left g bytes (x ∷ rest) a (length bytes - length (x ∷ rest)) h (omega arith) (omega arith)))
+        by_rest a (x ∷ rest) h = inr (length bytes, leaves_left g bytes (x ∷ rest) a h (omega arith))

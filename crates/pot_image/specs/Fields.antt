@@ -1,6 +1,6 @@
 -- A grammar of fields, one after another. What stands next depends on what was read: a grammar is done with a value, or
 -- wants a field of some size that keeps a rule, and goes on by the bytes of that field.
-use Rattle.std.specs.Prelude.{◌≡◌, ◌<◌, ◌++◌, ℕ, List, [], ◌∷◌, Bool, true, length}
+use Rattle.std.specs.Prelude.{◌≡◌, ◌⊎◌, ◌<◌, ◌++◌, ℕ, List, [], ◌∷◌, Bool, true, length}
 
 -- a field: its size, and the rule that its bytes keep
 pub record Field : Type 0 where
@@ -27,10 +27,9 @@ ReadsFields (wants f next) [] a = ⊥
 ReadsFields (wants f next) (x ∷ xs) a = IsField f x × ReadsFields (next x) xs a
 
 -- These fields are those that the grammar wants in turn. Behind the last it wants another, which does not stand at the front
--- of the rest, or it is done, and bytes are left.
+-- of the rest.
 abbrev pub Breaks : {A : Type 0} → Grammar A → List (List ℕ) → List ℕ → Type 0
-Breaks (done b) [] rest = 0 < length rest
-Breaks (done b) (x ∷ xs) rest = ⊥
+Breaks (done b) xs rest = ⊥
 Breaks (wants f next) [] rest = NoField f rest
 Breaks (wants f next) (x ∷ xs) rest = IsField f x × Breaks (next x) xs rest
 
@@ -44,11 +43,25 @@ pub record IsOf {A : Type 0} (g : Grammar A) (bytes : List ℕ) (value : A) : Ty
   pub spelled : bytes ≡ joined fields
   pub reads : ReadsFields g fields value
 
--- The bytes leave the grammar at this place: it is that of the first field that breaks its rule or does not end, or the end
--- of the last one where bytes are left.
-pub record LeavesAt {A : Type 0} (g : Grammar A) (bytes : List ℕ) (place : ℕ) : Type 0 where
+-- at this place stands the first field that breaks its rule or does not end
+pub record BreaksAt {A : Type 0} (g : Grammar A) (bytes : List ℕ) (place : ℕ) : Type 0 where
   pub fields : List (List ℕ)
   pub rest : List ℕ
   pub spelled : bytes ≡ joined fields ++ rest
   pub breaks : Breaks g fields rest
   pub counted : place ≡ length (joined fields)
+
+-- the grammar is done, and bytes are left, the last of them before this place
+pub record RunsOnTo {A : Type 0} (g : Grammar A) (bytes : List ℕ) (place : ℕ) : Type 0 where
+  pub fields : List (List ℕ)
+  pub value : A
+  pub rest : List ℕ
+  pub spelled : bytes ≡ joined fields ++ rest
+  pub reads : ReadsFields g fields value
+  pub left : 0 < length rest
+  pub counted : place ≡ length bytes
+
+-- The bytes leave the grammar at this place: that of the first field that breaks its rule or does not end, or the end of the
+-- bytes, where some are left behind the last field.
+abbrev pub LeavesAt : {A : Type 0} → Grammar A → List ℕ → ℕ → Type 0
+LeavesAt g bytes place = BreaksAt g bytes place ⊎ RunsOnTo g bytes place

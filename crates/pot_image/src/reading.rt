@@ -44,7 +44,7 @@ fn read_fields<'a>(
     Ok((image, rest))
 }
 
-/// The fields leave the grammar where so many bytes are left.
+/// The fields leave the grammar so many bytes before their end.
 fn form(body: &[u8], left: usize) -> ImageFault
     requires { left ≤ length body.now }
     ensures { result ≡ Form (16 + (length body.now - left)) }
@@ -60,7 +60,7 @@ fn read_answered(alloc: Global, body: &[u8], format: Format) -> Result<Image, Im
     match read_fields(alloc, body, format) {
         Ok((image, rest)) => {
             if !rest.is_empty() {
-                return Err(form(body, rest.len()));
+                return Err(form(body, 0));
             }
             Ok(image)
         }

@@ -1,6 +1,6 @@
-use crate::{ImageFault, read_image, write_image};
+use crate::{Image, ImageFault, read_image, write_image};
 use pot_bytes::{Digest, Geometry, Rack, digest_of};
-use pot_machine::{Column, Cursor};
+use pot_machine::{Column, Cursor, GroupTable};
 use std::alloc::Global;
 use std::test::Fail;
 
@@ -194,6 +194,26 @@ const FULL_FIRST: [u8; 923] = [
     0x3e, 0x3d, 0x66, 0x9f, 0xf5, 0x7e, 0xf7, 0xce, 0xc9, 0xcd, 0x8d,
 ];
 
+/// Why the bytes are refused, if they are.
+fn refused(alloc: Global, bytes: &[u8]) -> Option<ImageFault> {
+    read_image(alloc, bytes).err()
+}
+
+/// Whether the bytes are refused as a form at this place.
+fn breaks_at(alloc: Global, bytes: &[u8], place: u64) -> bool {
+    refused(alloc, bytes) == Some(ImageFault::Form { place })
+}
+
+/// What is written of the image that is read from the bytes.
+fn written_again(alloc: Global, bytes: &[u8]) -> Result<Vec<u8>, Fail> {
+    let image = read_image(alloc, bytes).map_err(|_| "no image")?;
+    if !image.is_countable() {
+        return Err(Fail::from("too many parts"));
+    }
+    let again = write_image(alloc, &image).map_err(|_| "no memory")?;
+    Ok(again)
+}
+
 /// The bytes before the trailer, with another byte at a place and more bytes behind, under a right trailer.
 fn signed(
     alloc: Global,
@@ -202,12 +222,10 @@ fn signed(
     value: u8,
     more: &[u8],
 ) -> Result<Vec<u8>, Fail> {
-    let text = bytes.len().saturating_sub(32);
-    let mut out = Vec::with_capacity(alloc, bytes.len())?;
-    for (i, byte) in bytes.iter().enumerate() {
-        if i < text {
-            out.push(if i == place { value } else { *byte })?;
-        }
+    let (text, _trailer) = bytes.split_at(bytes.len().saturating_sub(32));
+    let mut out = text.to_vec(alloc)?;
+    if let Some(byte) = out.get_mut(place) {
+        *byte = value;
     }
     out.extend_from_slice(more)?;
     let digest = digest_of(&out);
@@ -215,27 +233,16 @@ fn signed(
     Ok(out)
 }
 
-/// An image without records and with one parity column, in the first format.
-fn in_the_first_format(alloc: Global, bytes: &[u8]) -> Result<Vec<u8>, Fail> {
-    let numbered = signed(alloc, bytes, 7, 1, &[])?;
-    signed(alloc, &numbered, 26, 0, &[])
-}
-
 #[test]
 fn images_are_read_and_written_again(rt: HostRuntime) -> Result<(), Fail> {
     let alloc = rt.alloc();
-    for bytes in [EMPTY.as_slice(), FULL.as_slice()] {
-        let image = read_image(alloc, bytes).map_err(|_| "no image")?;
-        assert!(rt; image.is_countable());
-        let again = write_image(alloc, &image).map_err(|_| "no memory")?;
-        assert!(rt; again.as_slice() == bytes);
-    }
+    assert!(rt; written_again(alloc, &EMPTY)?.as_slice() == EMPTY.as_slice());
+    assert!(rt; written_again(alloc, &FULL)?.as_slice() == FULL.as_slice());
     Ok(())
 }
 
-#[test]
-fn the_printed_images_are_read(rt: HostRuntime) -> Result<(), Fail> {
-    let alloc = rt.alloc();
+/// The parts of the image that FORMATS.md prints.
+fn is_as_printed(image: &Image) -> bool {
     let rack = Rack {
         groups: 1,
         columns: 1,
@@ -248,6 +255,18 @@ fn the_printed_images_are_read(rt: HostRuntime) -> Result<(), Fail> {
             blur: 0,
         },
     };
+    image.session == 5
+        && image.rack == rack
+        && image.tables.len() == 1
+        && image.tables.iter().all(has_nothing)
+        && image.records.is_empty()
+        && image.group_logs.len() == 1
+        && image.group_logs.iter().all(|log| log.is_empty())
+        && image.index_log.is_empty()
+}
+
+/// Whether the cursor is at the first place, and archives 0 and 1 are homes of the columns, which do not move.
+fn has_nothing(table: &GroupTable) -> bool {
     let columns = [
         Column {
             home: 0,
@@ -258,80 +277,57 @@ fn the_printed_images_are_read(rt: HostRuntime) -> Result<(), Fail> {
             moving: None,
         },
     ];
+    let cursor = Cursor {
+        stripe: 0,
+        column: 0,
+    };
+    table.cursor() == cursor && table.columns() == columns.as_slice()
+}
+
+#[test]
+fn the_printed_images_are_read(rt: HostRuntime) -> Result<(), Fail> {
+    let alloc = rt.alloc();
     for bytes in [PRINTED.as_slice(), PRINTED_FIRST.as_slice()] {
         let image = read_image(alloc, bytes).map_err(|_| "no image")?;
-        assert_eq!(rt; image.session, 5);
-        assert_eq!(rt; image.rack, rack);
-        assert_eq!(rt; image.tables.len(), 1);
-        for table in &image.tables {
-            assert_eq!(rt;
-                table.cursor(),
-                Cursor {
-                    stripe: 0,
-                    column: 0
-                }
-            );
-            assert!(rt; table.columns() == columns.as_slice());
-        }
-        assert_eq!(rt; (image.records.len(), image.index_log.len()), (0, 0));
-        assert_eq!(rt; image.group_logs.len(), 1);
-        assert!(rt; image.group_logs.iter().all(|log| log.is_empty()));
-        assert!(rt; image.is_countable());
-        let again = write_image(alloc, &image).map_err(|_| "no memory")?;
-        assert!(rt; again.as_slice() == PRINTED.as_slice());
+        assert!(rt; is_as_printed(&image));
+        assert!(rt; written_again(alloc, bytes)?.as_slice() == PRINTED.as_slice());
     }
     Ok(())
 }
 
+/// Whether there is one record, of one split of the rack's geometry with four places.
+fn has_one_split(image: &Image) -> bool {
+    let geometry = image.rack.geometry;
+    image.records.len() == 1
+        && image.records.iter().all(|record| {
+            record.older.as_slice().is_empty()
+                && record.geometry == geometry
+                && record.places.as_slice().len() == 4
+        })
+}
+
+/// It is written in the second.
 #[test]
 fn the_first_format_is_read(rt: HostRuntime) -> Result<(), Fail> {
     let alloc = rt.alloc();
-    let empty = in_the_first_format(alloc, &EMPTY)?;
-    let image = read_image(alloc, &empty).map_err(|_| "no image")?;
-    assert_eq!(rt; image.rack.parity, 1);
-    assert!(rt; image.is_countable());
-    let again = write_image(alloc, &image).map_err(|_| "no memory")?;
-    assert!(rt;
-        again.as_slice() == EMPTY.as_slice(),
-        "it is written in the second"
-    );
+    let numbered = signed(alloc, &EMPTY, 7, 1, &[])?;
+    let first = signed(alloc, &numbered, 26, 0, &[])?;
+    assert!(rt; written_again(alloc, &first)?.as_slice() == EMPTY.as_slice());
     let image = read_image(alloc, &FULL_FIRST).map_err(|_| "no image")?;
-    assert_eq!(rt; image.session, 7);
-    assert_eq!(rt; image.records.len(), 1);
-    for record in &image.records {
-        assert!(rt; record.older.as_slice().is_empty());
-        assert_eq!(rt; record.geometry, image.rack.geometry);
-        assert_eq!(rt; record.places.as_slice().len(), 4);
-    }
-    assert_eq!(rt; image.index_log.len(), 6);
+    assert_eq!(rt; (image.session, image.index_log.len()), (7, 6));
+    assert!(rt; has_one_split(&image));
     Ok(())
 }
 
-#[test]
-fn each_cut_and_each_bit_is_refused(rt: HostRuntime) -> Result<(), Fail> {
-    let alloc = rt.alloc();
-    for n in 0..EMPTY.len() {
-        let refused = read_image(alloc, &EMPTY[..n]).err();
-        assert!(rt; refused == Some(ImageFault::Cut));
+/// The refusal of the empty image with this bit of this byte changed, but for its trailer.
+fn refusal_of(place: usize, was: bool, bytes: &[u8]) -> ImageFault {
+    match place {
+        0..=3 => ImageFault::Form { place: 0 },
+        4..=7 => ImageFault::Form { place: 4 },
+        8..=15 if was => ImageFault::Form { place: 8 },
+        8..=15 => ImageFault::Cut,
+        _ => trailer(bytes),
     }
-    for (place, byte) in EMPTY.iter().enumerate() {
-        for bit in 0..8u32 {
-            let mut bytes = EMPTY.as_slice().to_vec(alloc)?;
-            if let Some(changed) = bytes.get_mut(place) {
-                *changed ^= 1 << bit;
-            }
-            let wanted = match place {
-                0..=3 => ImageFault::Form { place: 0 },
-                4..=7 => ImageFault::Form { place: 4 },
-                8..=15 if byte & (1 << bit) == 0 => ImageFault::Cut,
-                8..=15 => ImageFault::Form { place: 8 },
-                _ => trailer(&bytes),
-            };
-            let refused = read_image(alloc, &bytes).err();
-            assert!(rt; refused == Some(wanted), "byte {place}, bit {bit}");
-        }
-    }
-    Ok(())
 }
 
 /// The refusal of a wrong trailer.
@@ -346,52 +342,77 @@ fn trailer(bytes: &[u8]) -> ImageFault {
 }
 
 #[test]
-fn the_first_field_that_breaks_its_rule(rt: HostRuntime) -> Result<(), Fail> {
+fn each_cut_and_each_bit_is_refused(rt: HostRuntime) -> Result<(), Fail> {
     let alloc = rt.alloc();
-    // a place of the empty image, the byte that is put there, and the place of the field
-    let changes: [(usize, u8, u64); 21] = [
-        (20, 17, 20),
-        (20, 2, 24),
-        (21, 17, 21),
-        (21, 0, 21),
-        (22, 9, 22),
-        (23, 0, 23),
-        (23, 4, 24),
-        (24, 17, 24),
-        (25, 64, 25),
-        (26, 3, 26),
-        (27, 1, 27),
-        (31, 0, 28),
-        (30, 16, 28),
-        (35, 9, 32),
-        (36, 1, 36),
-        (38, 1, 37),
-        (59, 0, 56),
-        (58, 2, 56),
-        (60, 2, 60),
-        (72, 4, 72),
-        (219, 1, 220),
-    ];
-    for (place, value, wanted) in changes {
-        let bytes = signed(alloc, &EMPTY, place, value, &[])?;
-        let refused = read_image(alloc, &bytes).err();
-        assert!(rt;
-            refused == Some(ImageFault::Form { place: wanted }),
-            "byte {place}"
-        );
+    for n in 0..252 {
+        let front = EMPTY.get(..n).unwrap_or(&[]);
+        assert!(rt; refused(alloc, front) == Some(ImageFault::Cut), "{n} bytes");
     }
-    let session = signed(alloc, &EMPTY, 16, 255, &[])?;
-    assert!(rt; read_image(alloc, &session).is_ok());
+    for place in 0..252 {
+        for bit in [1u8, 2, 4, 8, 16, 32, 64, 128] {
+            let mut bytes = EMPTY.as_slice().to_vec(alloc)?;
+            let mut was = false;
+            if let Some(byte) = bytes.get_mut(place) {
+                was = *byte & bit != 0;
+                *byte ^= bit;
+            }
+            let wanted = refusal_of(place, was, &bytes);
+            assert!(rt;
+                refused(alloc, &bytes) == Some(wanted),
+                "byte {place}, bit {bit}"
+            );
+        }
+    }
     Ok(())
 }
 
+/// A place of the empty image, the byte that is put there, and the place of the field.
+const CHANGES: [(usize, u8, u64); 21] = [
+    (20, 17, 20),
+    (20, 2, 24),
+    (21, 17, 21),
+    (21, 0, 21),
+    (22, 9, 22),
+    (23, 0, 23),
+    (23, 4, 24),
+    (24, 17, 24),
+    (25, 64, 25),
+    (26, 3, 26),
+    (27, 1, 27),
+    (31, 0, 28),
+    (30, 16, 28),
+    (35, 9, 32),
+    (36, 1, 36),
+    (38, 1, 37),
+    (59, 0, 56),
+    (58, 2, 56),
+    (60, 2, 60),
+    (72, 4, 72),
+    (219, 1, 220),
+];
+
+#[test]
+fn the_first_field_that_breaks_its_rule(rt: HostRuntime) -> Result<(), Fail> {
+    let alloc = rt.alloc();
+    for (place, value, wanted) in &CHANGES {
+        let bytes = signed(alloc, &EMPTY, *place, *value, &[])?;
+        assert!(rt; breaks_at(alloc, &bytes, *wanted), "byte {place}");
+    }
+    let session = signed(alloc, &EMPTY, 16, 255, &[])?;
+    assert!(rt; refused(alloc, &session).is_none());
+    Ok(())
+}
+
+/// Bytes behind the stated length, and bytes before the trailer, which is told by its own place.
 #[test]
 fn bytes_behind_the_image(rt: HostRuntime) -> Result<(), Fail> {
     let alloc = rt.alloc();
     let mut longer = EMPTY.as_slice().to_vec(alloc)?;
     longer.push(0)?;
-    assert!(rt; read_image(alloc, &longer).err() == Some(ImageFault::Form { place: 8 }));
-    let stated = signed(alloc, &EMPTY, 15, 253, &[0])?;
-    assert!(rt; read_image(alloc, &stated).err() == Some(ImageFault::Form { place: 220 }));
+    assert!(rt; breaks_at(alloc, &longer, 8));
+    let one = signed(alloc, &EMPTY, 15, 0xfd, &[0])?;
+    assert!(rt; breaks_at(alloc, &one, 221));
+    let three = signed(alloc, &FULL, 15, 0x30, &[1, 2, 3])?;
+    assert!(rt; breaks_at(alloc, &three, 1296));
     Ok(())
 }

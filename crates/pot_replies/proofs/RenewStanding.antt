@@ -23,6 +23,7 @@ module _ (s : Setting) (job : ℕ) (name : List ℕ) (geometry : Geometry) (w w'
   fetched_stands : (behind : List Logged) (kept : Record) (file : List ℕ) (puts : ℕ → List Entry) → Fetched behind s job name geometry kept file puts w → Fetched behind s job name geometry kept file puts w'
   fetched_stands behind kept file puts is = record {
     found = found_stands job w w' wide behind s name kept is.found;
+    few = is.few;
     reads = is.reads;
     own_is = λ g. same_own job w w' wide g ∙ is.own_is g;
     are_reads = is.are_reads;

@@ -27,9 +27,10 @@ use Rattle.pot_replies.specs.Fetches.{FoundThen, Found, AreReads, Mends, SeesAll
 abbrev pub renewing : ℕ → ℕ
 renewing job = 2 ^ 31 + job
 
--- The file was fetched, and these blocks of its new split were put so far, followed by these entries in one group.
+-- The file of a record with fewer than 16 splits was fetched, and these entries came behind in each group.
 pub record Fetched (behind : List Logged) (s : Setting) (job : ℕ) (name : List ℕ) (geometry : Geometry) (kept : Record) (file : List ℕ) (puts : ℕ → List Entry) (w : Section) : Type 0 where
   pub found : FoundThen behind s job name kept w
+  pub few : length kept.older < 15
   pub reads : ℕ → List Entry
   pub own_is : (g : ℕ) → (mine job w).own g ≡ reads g ++ puts g
   pub are_reads : AreReads kept job reads
@@ -38,7 +39,7 @@ pub record Fetched (behind : List Logged) (s : Setting) (job : ℕ) (name : List
   pub long : length file ≡ kept.length
   pub digest : digest_of file ≡ kept.digest
 
--- and all of its blocks were
+-- and these entries are the puts of all blocks of its new split
 pub record AllPut (behind : List Logged) (s : Setting) (job : ℕ) (name : List ℕ) (geometry : Geometry) (placed : List Placed) (w : Section) : Type 0 where
   pub kept : Record
   pub file : List ℕ
@@ -59,7 +60,7 @@ pub record IsRenewed (s : Setting) (job : ℕ) (name : List ℕ) (geometry : Geo
   pub pieces_is : pieces ≡ pieces_of now.length
   pub shards_is : shards ≡ length placed
 
--- `often`: the record found had 16 splits, or had them once the blocks were put
+-- `often`: the record found had 16 splits; or it had fewer, and had 16 once the blocks were put
 pub record IsOften (s : Setting) (job : ℕ) (name : List ℕ) (w : Section) : Type 0 where
   pub kept : Record
   pub found : Found s job name kept w

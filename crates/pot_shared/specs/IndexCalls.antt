@@ -77,14 +77,17 @@ PublishesRecord job r (Err e) s t = EndsStrangely job r.name e.at s t
 
 -- WHICH SPLITS A RECORD MAY GET
 
--- a record is published under the name, the split fits its file, and the passes have seen the puts of that file at the split's places
+-- a record is published under the name, the split fits its file, and the passes have seen the puts of that
+-- file at the split's places
 abbrev pub MayRenew : Rack → Names → List ℕ → Split → GroupPasses → Type 0
-MayRenew rack n name split row = (r : Record) × IsRecordOf n name r × FitsSplit rack (pieces_of r.length) split × SeesFile row (renewed r split)
+MayRenew rack n name split row =
+    (r : Record) × IsRecordOf n name r × FitsSplit rack (pieces_of r.length) split × SeesFile row (renewed r split)
 
 -- so it is of the names to which the log leads that the pass of the index has seen
 abbrev pub MayRenewBy : Rack → List ℕ → Split → GroupPasses → IndexPasses → Type 0
 MayRenewBy rack name split row index =
-    (n : Names) × Replays rack (names_read (records_in (view_at index 0).origin)) (view_at index 0).seen n × MayRenew rack n name split row
+    (n : Names) × Replays rack (names_read (records_in (view_at index 0).origin)) (view_at index 0).seen n
+    × MayRenew rack n name split row
 
 abbrev pub RenewsSplit : ℕ → List ℕ → Split → Result (Unit {0}) RenewFault → IndexView → IndexView → Type 0
 RenewsSplit job name split result s t = Renews job name split s t result

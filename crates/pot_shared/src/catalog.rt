@@ -37,7 +37,7 @@ pub struct Strange {
     pub at: u32,
 }
 
-/// An index, and passes that have seen the puts of each split that it published or renewed a record to.
+/// An index, and passes that have seen the puts of each split that a record got in this session.
 #[derive(Drop)]
 pub struct Catalog<A: Archive> {
     pub(crate) index: Index,
@@ -161,8 +161,8 @@ impl<A: Archive> Catalog<A> {
         Ok(())
     }
 
-    /// Gives the record of a name a new current split whose puts the caller has seen, as `Index::renew`. The kept passes have then
-    /// seen them too.
+    /// Gives the record of a name a new current split whose puts the caller has seen, as `Index::renew`. The
+    /// kept passes have then seen them too.
     pub(crate) fn renew(
         &mut self,
         groups: &Turns<Member<A>>,

@@ -114,7 +114,8 @@ impl<A: Archive> Vault<A> {
         answer
     }
 
-    /// Gives the record of a name a new current split whose puts the passes have seen, in one turn of the index, as `Index::renew`.
+    /// Gives the record of a name a new current split whose puts the passes have seen, in one turn of the
+    /// index, as `Index::renew`.
     pub fn renew<R: Wait>(
         &self,
         rt: &R,
@@ -130,7 +131,8 @@ impl<A: Archive> Vault<A> {
         ensures index { IsIndexReady self.now.rack self.now.groups self.now.index passes.new.index }
         ensures ready { AreReady self.now.rack self.now.groups passes.new.groups }
         ensures groups { RowKnowsMore passes.old.groups passes.new.groups }
-        ensures call { IndexCall (RenewsSplit job name.now split result) passes.old.index passes.new.index }
+        ensures call { IndexCall (RenewsSplit job name.now split result)
+            passes.old.index passes.new.index }
     {
         let mut catalog = self.index.enter(rt, &mut passes.index, 0);
         catalog.rules();
@@ -140,8 +142,8 @@ impl<A: Archive> Vault<A> {
         answer
     }
 
-    /// Finds a record, in one turn of the index, as `Index::find`. Of a split that the record got in this session the passes have then
-    /// seen every put.
+    /// Finds a record, in one turn of the index, as `Index::find`. Of a split that the record got in this
+    /// session the passes have then seen every put.
     pub fn find<R: Wait>(
         &self,
         rt: &R,

@@ -82,6 +82,7 @@ use Rattle.pot_store.proofs.SearchLemmas.{search_work, met_rack, absent_row, sil
 use Rattle.pot_store.proofs.PublishLemmas.{fits_split, sees_split}
 use Rattle.pot_store.proofs.PutLemmas.{take_all}
 use Rattle.pot_store.proofs.ReadLemmas.{both_gained, no_reads, seen_parts}
+use Rattle.pot_store.proofs.RowLemmas.{file_row}
 use Rattle.pot_store.proofs.StoreLemmas.{cut_at, digest_is, first_is, leads_to, seen_length}
 use Rattle.pot_store.proofs.WorkLemmas.{all_none, all_one, known_work, known_none, row_stays, index_idle, index_work, index_own, own_more, index_own_more, work_more, alone_parts}
 
@@ -223,12 +224,17 @@ module _ (job : ℕ) (name : List ℕ) (rack : Rack) (names turn : List TurnName
   }
 
   module _ (alone : JobAlone job (known u ui) (known y yi)) (s : Setting) (set : IsSettingOf s rack (known u ui)) (mends : s.mends ≡ true) (filled : AreFilled s)
-      (bytes : Vec ℕ Global) (ends : EndsFetch kept visits (Ok bytes) w) where
+      (bytes : Vec ℕ Global) (ends : EndsFetch kept visits (Ok bytes) w) (few : length kept.older < 15) where
     pub both_alone : JobAlone job (known u ui) (known w wi) × JobAlone job (known w wi) (known y yi)
     both_alone = alone_parts job (known u ui) (known w wi) (known y yi) fetch_work behind alone
 
     pub read_file : IsFile s job name bytes.items fetch_section
     read_file = record_row job name rack names turn u v w ui wi kept ready count index_ready knows call visits reads both_alone.0 s set mends filled (Ok bytes) ends
+
+    -- it is the record that was found
+    same_kept : read_file.kept ≡ kept
+    unfolding read_file record_row file_row
+    same_kept = refl
 
     own_parts : (g : ℕ) → own job (all_section.added g) ≡ own job (fetch_section.added g) ++ own job (gained w y g)
     own_parts g = own_more job u w y fetch_work.groups behind.groups g
@@ -249,6 +255,7 @@ module _ (job : ℕ) (name : List ℕ) (rack : Rack) (names turn : List TurnName
         → Fetched more s job name geometry read_file.kept bytes.items (λ g. own job (gained w y g)) all_section
     fetched geometry more is quiet = record {
       found = found_behind s read_file.kept more is read_file.found;
+      few = subst (λ (r : Record). length r.older < 15) (sym same_kept) few;
       reads = λ g. own job (fetch_section.added g);
       own_is = own_parts;
       are_reads = read_file.entries.reads;
@@ -376,19 +383,19 @@ pub stopped_row : (job : ℕ) (name : List ℕ) (rack : Rack) (names turn : List
     (call : IndexCall (FindsRecord job name (Ok kept) v) ui wi) (visits : List Visit) (reads : AreMade job kept.places 0 visits v w)
     (ready_w : AreReady rack names w) (y : GroupPasses) (yi : IndexPasses) (behind : JobWorked job (known w wi) (known y yi))
     (alone : JobAlone job (known u ui) (known y yi)) (s : Setting) (set : IsSettingOf s rack (known u ui)) (mends : s.mends ≡ true) (filled : AreFilled s)
-    (bytes : Vec ℕ Global) (ends : EndsFetch kept visits (Ok bytes) w)
+    (bytes : Vec ℕ Global) (ends : EndsFetch kept visits (Ok bytes) w) (few : length kept.older < 15)
     (geometry : Geometry) (pads : Pads) (draws : RenewsFrom s pads geometry job) (group : ℕ) (cause : PutFault) (none : index.own job (added (view_at wi 0) (view_at yi 0)) ≡ [])
     (puts_end : PutsEnd rack geometry job (blocks_from geometry bytes.items pads) group cause w y)
     → RenewRow s job name geometry (Err (of_put group cause)) (section_of (known u ui) (known y yi))
-stopped_row job name rack names turn u v w ui wi kept ready count index_ready knows call visits reads ready_w y yi behind alone s set mends filled bytes ends geometry pads draws group put_fault.Full none puts_end =
+stopped_row job name rack names turn u v w ui wi kept ready count index_ready knows call visits reads ready_w y yi behind alone s set mends filled bytes ends few geometry pads draws group put_fault.Full none puts_end =
     let e = puts_end.ends in
-    full_row job name rack names turn u v w ui wi kept ready count index_ready knows call visits reads ready_w y yi behind alone s set mends filled bytes ends geometry pads draws group put_fault.Full none puts_end e.0 e.1 e.2
-stopped_row job name rack names turn u v w ui wi kept ready count index_ready knows call visits reads ready_w y yi behind alone s set mends filled bytes ends geometry pads draws group put_fault.LogFull none puts_end =
+    full_row job name rack names turn u v w ui wi kept ready count index_ready knows call visits reads ready_w y yi behind alone s set mends filled bytes ends few geometry pads draws group put_fault.Full none puts_end e.0 e.1 e.2
+stopped_row job name rack names turn u v w ui wi kept ready count index_ready knows call visits reads ready_w y yi behind alone s set mends filled bytes ends few geometry pads draws group put_fault.LogFull none puts_end =
     let e = puts_end.ends in
-    inr (log_full_row job name rack names turn u v w ui wi kept ready count index_ready knows call visits reads ready_w y yi behind alone s set mends filled bytes ends geometry pads draws group put_fault.LogFull none puts_end e.0 e.1 e.2 e.3 e.4)
-stopped_row job name rack names turn u v w ui wi kept ready count index_ready knows call visits reads ready_w y yi behind alone s set mends filled bytes ends geometry pads draws group (put_fault.Faulted column) none puts_end =
+    inr (log_full_row job name rack names turn u v w ui wi kept ready count index_ready knows call visits reads ready_w y yi behind alone s set mends filled bytes ends few geometry pads draws group put_fault.LogFull none puts_end e.0 e.1 e.2 e.3 e.4)
+stopped_row job name rack names turn u v w ui wi kept ready count index_ready knows call visits reads ready_w y yi behind alone s set mends filled bytes ends few geometry pads draws group (put_fault.Faulted column) none puts_end =
     let e = puts_end.ends in
-    inr (fault_row job name rack names turn u v w ui wi kept ready count index_ready knows call visits reads ready_w y yi behind alone s set mends filled bytes ends geometry pads draws group (put_fault.Faulted column) none puts_end column e.0 e.1 e.2 e.3)
+    inr (fault_row job name rack names turn u v w ui wi kept ready count index_ready knows call visits reads ready_w y yi behind alone s set mends filled bytes ends few geometry pads draws group (put_fault.Faulted column) none puts_end column e.0 e.1 e.2 e.3)
 
 -- WHAT A RENEWAL LOGS IN THE INDEX
 
@@ -515,10 +522,10 @@ module _ (job : ℕ) (name : List ℕ) (rack : Rack) (names turn : List TurnName
   renewed_work = whole_work job name rack names turn u v w ui wi kept ready count index_ready knows call visits reads ready_w y yi put_behind
 
   module _ (alone : JobAlone job (known u ui) (known y yi)) (s : Setting) (set : IsSettingOf s rack (known u ui)) (mends : s.mends ≡ true) (filled : AreFilled s)
-      (bytes : Vec ℕ Global) (ends : EndsFetch kept visits (Ok bytes) w) (geometry : Geometry) (pads : Pads) (draws : RenewsFrom s pads geometry job)
+      (bytes : Vec ℕ Global) (ends : EndsFetch kept visits (Ok bytes) w) (few : length kept.older < 15) (geometry : Geometry) (pads : Pads) (draws : RenewsFrom s pads geometry job)
       (made : Stored) (is : IsSplit rack geometry job bytes.items pads made split w x) where
     abbrev its_parts : JobAlone job (known u ui) (known w wi) × JobAlone job (known w wi) (known y yi)
-    its_parts = both_alone job name rack names turn u v w ui wi kept ready count index_ready knows call visits reads ready_w y yi put_behind alone s set mends filled bytes ends
+    its_parts = both_alone job name rack names turn u v w ui wi kept ready count index_ready knows call visits reads ready_w y yi put_behind alone s set mends filled bytes ends few
 
     put_parts : RowAlone (of_job job) w x × RowAlone (of_job job) x y
     put_parts = row_alone_in_parts (of_job job) w x y put_work (known_work job rack names x y ready_x knows_y) its_parts.1.groups
@@ -540,7 +547,7 @@ module _ (job : ℕ) (name : List ℕ) (rack : Rack) (names turn : List TurnName
     index_last = index_own job rack names turn (RenewsSplit job name split result) wi yi ready_wi last last_all its_parts.1.index ∙ last_adds
 
     all_are : (more : List Logged) → renew_entries job name last.turn.call.0 split result ≡ more → AllPut more s job name geometry is.puts.placed (section_of (known u ui) (known y yi))
-    all_are more e = all_are_put job name rack names turn u v w ui wi kept ready count index_ready knows call visits reads ready_w y yi put_behind alone s set mends filled bytes ends
+    all_are more e = all_are_put job name rack names turn u v w ui wi kept ready count index_ready knows call visits reads ready_w y yi put_behind alone s set mends filled bytes ends few
         geometry pads more split.places x (index_last ∙ e) draws is.puts blocks_long puts_y
 
     pub no_memory_row : result ≡ Err renew_fault.NoMemory → RenewRow s job name geometry (Err fault.NoMemory) (section_of (known u ui) (known y yi))
@@ -644,13 +651,13 @@ module _ (job : ℕ) (name : List ℕ) (rack : Rack) (names turn : List TurnName
   split_work = whole_work job name rack names turn u v w ui wi kept ready count index_ready knows call visits reads ready_w x wi puts_behind
 
   module _ (alone : JobAlone job (known u ui) (known x wi)) (s : Setting) (set : IsSettingOf s rack (known u ui)) (mends : s.mends ≡ true) (filled : AreFilled s)
-      (bytes : Vec ℕ Global) (ends : EndsFetch kept visits (Ok bytes) w) (geometry : Geometry) (pads : Pads) (draws : RenewsFrom s pads geometry job) where
+      (bytes : Vec ℕ Global) (ends : EndsFetch kept visits (Ok bytes) w) (few : length kept.older < 15) (geometry : Geometry) (pads : Pads) (draws : RenewsFrom s pads geometry job) where
     stops_row : (e : RenewFileFault) → StopsAt rack geometry job bytes.items pads e w x → RenewRow s job name geometry (Err e) (section_of (known u ui) (known x wi))
     stops_row e is =
         subst (λ (f : RenewFileFault). RenewRow s job name geometry (Err f) (section_of (known u ui) (known x wi))) (sym is.is)
-        (stopped_row job name rack names turn u v w ui wi kept ready count index_ready knows call visits reads ready_w x wi puts_behind alone s set mends filled bytes ends geometry pads draws is.group is.cause
+        (stopped_row job name rack names turn u v w ui wi kept ready count index_ready knows call visits reads ready_w x wi puts_behind alone s set mends filled bytes ends few geometry pads draws is.group is.cause
         (ap (index.own job) (drop-length (view_at wi 0).seen))
-        (is.ends (both_alone job name rack names turn u v w ui wi kept ready count index_ready knows call visits reads ready_w x wi puts_behind alone s set mends filled bytes ends).1.groups))
+        (is.ends (both_alone job name rack names turn u v w ui wi kept ready count index_ready knows call visits reads ready_w x wi puts_behind alone s set mends filled bytes ends few).1.groups))
 
     unplanned : x ≡ w → RenewRow s job name geometry (Err fault.NoMemory) (section_of (known u ui) (known x wi))
     unplanned same =

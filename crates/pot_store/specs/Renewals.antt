@@ -67,9 +67,11 @@ pub record StopsAt (rack : Rack) (geometry : Geometry) (job : ℕ) (file : List 
   pub group : ℕ
   pub cause : PutFault
   pub is : e ≡ of_put group cause
-  pub ends : RowAlone (of_job job) old new → PutsEnd rack geometry job (blocks_from geometry file pads) group cause old new
+  pub ends : RowAlone (of_job job) old new
+      → PutsEnd rack geometry job (blocks_from geometry file pads) group cause old new
 
--- The blocks of a file, by the next bytes of a stream, were put as a split of this geometry, which each record of that file may get.
+-- The blocks of a file, by the next bytes of a stream, were put as a split of this geometry, which each
+-- record of that file may get.
 pub record IsSplit (rack : Rack) (geometry : Geometry) (job : ℕ) (file : List ℕ) (pads : Pads) (x : Stored) (split : Split) (old new : GroupPasses) : Type 0 where
   pub pieces_is : x.pieces ≡ pieces_of (length file)
   pub shards_is : x.shards ≡ length split.places
@@ -80,26 +82,35 @@ pub record IsSplit (rack : Rack) (geometry : Geometry) (job : ℕ) (file : List 
   pub sees : (r : Record) → r.length ≡ length file → r.digest ≡ digest_of file → SeesFile new (renewed r split)
 
 abbrev pub PutsSplit : Rack → Geometry → ℕ → List ℕ → Pads → Result (Stored × Split) RenewFileFault → GroupPasses → GroupPasses → Type 0
-PutsSplit rack geometry job file pads (Ok (x, split)) old new = IsSplit rack geometry job file pads x split old new
+PutsSplit rack geometry job file pads (Ok (x, split)) old new =
+    IsSplit rack geometry job file pads x split old new
 PutsSplit rack geometry job file pads (Err fault.NoMemory) old new = new ≡ old
 PutsSplit rack geometry job file pads (Err e) old new = StopsAt rack geometry job file pads e old new
 
 -- THE ANSWERS
 
--- the digests that a session means for the new split of any file are those of its blocks by the next bytes of the stream
+-- the digests that a session means for the new split of any file are those of its blocks by the next bytes
+-- of the stream
 abbrev pub RenewsFrom : Setting → Pads → Geometry → ℕ → Type 0
-RenewsFrom s pads geometry job = (file : List ℕ) → s.digests geometry (renewing job) file ≡ map digest_of (blocks_from geometry file pads)
+RenewsFrom s pads geometry job =
+    (file : List ℕ) → s.digests geometry (renewing job) file ≡ map digest_of (blocks_from geometry file pads)
 
--- What each answer says of the section: it ended as a fetch does, or at the puts of the new split, or behind them. The number of a
--- fragment counts from 1.
+-- What each answer says of the section: it ended as a fetch does, or at the puts of the new split, or behind
+-- them. The number of a fragment counts from 1.
 abbrev pub RenewRow : Setting → ℕ → List ℕ → Geometry → Result Stored RenewFileFault → Section → Type 0
 RenewRow s job name geometry (Ok x) w = IsRenewed s job name geometry x.pieces x.shards w
-RenewRow s job name geometry (Err fault.IndexLogFull) w = IsIndexFull s 1 job w ⊎ IsRenewIndexFull s job name geometry w
+RenewRow s job name geometry (Err fault.IndexLogFull) w =
+    IsIndexFull s 1 job w ⊎ IsRenewIndexFull s job name geometry w
 RenewRow s job name geometry (Err fault.Absent) w = IsAbsent job name (mine job w)
-RenewRow s job name geometry (Err fault.TooOften) w = IsOften s job name w ⊎ IsOftenLate s job name geometry w
-RenewRow s job name geometry (Err (fault.Faulted group column)) w = IsFetchFault s job name group column w ⊎ IsRenewFault s job name geometry group column w
-RenewRow s job name geometry (Err (fault.Lost piece fragment have need)) w = (j : ℕ) × (fragment ≡ suc j) × IsLost s job name piece j have need w
-RenewRow s job name geometry (Err (fault.LogFull group)) w = IsFetchLogFull s job name group w ⊎ IsRenewLogFull s job name geometry group w
+RenewRow s job name geometry (Err fault.TooOften) w =
+    IsOften s job name w ⊎ IsOftenLate s job name geometry w
+RenewRow s job name geometry (Err (fault.Faulted group column)) w =
+    IsFetchFault s job name group column w ⊎ IsRenewFault s job name geometry group column w
+RenewRow s job name geometry (Err (fault.Lost piece fragment have need)) w =
+    (j : ℕ) × (fragment ≡ suc j) × IsLost s job name piece j have need w
+RenewRow s job name geometry (Err (fault.LogFull group)) w =
+    IsFetchLogFull s job name group w ⊎ IsRenewLogFull s job name geometry group w
 RenewRow s job name geometry (Err (fault.Odd wanted found)) w = IsOdd None s job name wanted found w
 RenewRow s job name geometry (Err (fault.Full group)) w = IsRenewFull s job name geometry group w
-RenewRow s job name geometry (Err fault.NoMemory) w = IsUnfinished s job name w ⊎ ((placed : List Placed) × AllPut [] s job name geometry placed w)
+RenewRow s job name geometry (Err fault.NoMemory) w =
+    IsUnfinished s job name w ⊎ ((placed : List Placed) × AllPut [] s job name geometry placed w)

@@ -62,8 +62,12 @@ pub(crate) fn put_all<A: Archive, R: Wait>(
     ensures ready { AreReady vault.now.rack vault.now.groups passes.new.groups }
     ensures index { passes.new.index ≡ passes.old.index }
     ensures worked { RowWorked (of_job job) passes.old.groups passes.new.groups }
-    ensures put { IfOk result (λ _. (length places.new.items ≡ count) × ArePut vault.now.rack geometry.now job (all_blocks drawing.old) places.new.items passes.old.groups passes.new.groups) }
-    ensures ends { IfErr result (λ e. RowAlone (of_job job) passes.old.groups passes.new.groups → PutsEnd vault.now.rack geometry.now job (all_blocks drawing.old) e.group e.cause passes.old.groups passes.new.groups) }
+    ensures put { IfOk result (λ _. (length places.new.items ≡ count)
+        × ArePut vault.now.rack geometry.now job (all_blocks drawing.old) places.new.items
+        passes.old.groups passes.new.groups) }
+    ensures ends { IfErr result (λ e. RowAlone (of_job job) passes.old.groups passes.new.groups
+        → PutsEnd vault.now.rack geometry.now job (all_blocks drawing.old) e.group e.cause
+        passes.old.groups passes.new.groups) }
 {
     for number in 0..count {
         let group = group_of(&vault.rack, geometry, number);

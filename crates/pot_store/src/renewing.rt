@@ -1,4 +1,5 @@
-//! A file is split anew: it is fetched, the blocks of its new split are put, and its record gets that split.
+//! A file is split anew: it is fetched, the blocks of its new split are put, and its record gets that
+//! split.
 ghost use Rattle.std.specs.Prelude.{◌≡◌, ◌<◌, ◌≤◌, true, length, IfOk, IfErr};
 ghost use Rattle.pot_bytes.specs.Rack.{IsRack};
 ghost use Rattle.pot_object.specs.Pieces.{longest};
@@ -37,7 +38,10 @@ pub enum RenewFileFault {
     /// The record has 16 splits.
     TooOften,
     /// The archive of the column failed.
-    Faulted { group: u8, column: u8 },
+    Faulted {
+        group: u8,
+        column: u8,
+    },
     /// Of this fragment, whose number counts from 1, no more points can be had.
     Lost {
         piece: u32,
@@ -46,11 +50,18 @@ pub enum RenewFileFault {
         need: u8,
     },
     /// The log of the group has no room.
-    LogFull { group: u8 },
+    LogFull {
+        group: u8,
+    },
     /// The bytes that were read have another digest than the file.
-    Odd { wanted: Digest, found: Digest },
+    Odd {
+        wanted: Digest,
+        found: Digest,
+    },
     /// No stripe of the group takes a block any more.
-    Full { group: u8 },
+    Full {
+        group: u8,
+    },
     NoMemory,
 }
 
@@ -136,7 +147,8 @@ fn put_split<A: Archive, R: Wait>(
     ensures ready { AreReady vault.now.rack vault.now.groups passes.new.groups }
     ensures index { passes.new.index ≡ passes.old.index }
     ensures worked { RowWorked (of_job job) passes.old.groups passes.new.groups }
-    ensures puts { PutsSplit vault.now.rack geometry.now job file.now pads result passes.old.groups passes.new.groups }
+    ensures puts { PutsSplit vault.now.rack geometry.now job file.now pads result
+        passes.old.groups passes.new.groups }
 {
     let Ok(plan) = prepare(alloc, vault.rack.columns, geometry, file, pads) else {
         return Err(RenewFileFault::NoMemory);
@@ -147,7 +159,16 @@ fn put_split<A: Archive, R: Wait>(
         mut drawing,
         mut places,
     } = plan;
-    match put_all(rt, vault, passes, job, geometry, &mut drawing, shards, &mut places) {
+    match put_all(
+        rt,
+        vault,
+        passes,
+        job,
+        geometry,
+        &mut drawing,
+        shards,
+        &mut places,
+    ) {
         Ok(()) => {
             let split = Split {
                 geometry: *geometry,
@@ -159,13 +180,15 @@ fn put_split<A: Archive, R: Wait>(
     }
 }
 
-/// Splits the file that is published under a name anew: fetches it, its relays blinded by `blinds`, puts the blocks of a split of this
-/// geometry with the next bytes of `pads`, and makes that split the record's current one. The older blocks stay.
+/// Splits the file that is published under a name anew: fetches it, its relays blinded by `blinds`, puts the
+/// blocks of a split of this geometry with the next bytes of `pads`, and makes that split the record's current
+/// one. The older blocks stay.
 ///
 /// # Errors
-/// In this order: `IndexLogFull` and `Absent`, as `Vault::find`; `TooOften` exactly where the record found has 16 splits; those of
-/// `fetch_file`; the first put that is refused; `IndexLogFull` and `TooOften`, as `Vault::renew`. `NoMemory` may come before the first
-/// look, before the first put and behind the last one. After a refusal the record is as it was, and blocks that were put stay.
+/// In this order: `IndexLogFull` and `Absent`, as `Vault::find`; `TooOften` exactly where the record found has
+/// 16 splits; those of `fetch_file`; the first put that is refused; `IndexLogFull` and `TooOften`, as
+/// `Vault::renew`. `NoMemory` may come before the first look, before the first put and behind the last one.
+/// After a refusal the record is as it was, and blocks that were put stay.
 pub fn renew_file<A: Archive, R: Wait>(
     rt: &R,
     alloc: Global,
@@ -186,10 +209,15 @@ pub fn renew_file<A: Archive, R: Wait>(
     requires geometry { FitsGeometry vault.now.rack geometry.now }
     ensures ready { AreReady vault.now.rack vault.now.groups passes.new.groups }
     ensures index { IsIndexReady vault.now.rack vault.now.groups vault.now.index passes.new.index }
-    ensures worked { JobWorked job (known passes.old.groups passes.old.index) (known passes.new.groups passes.new.index) }
-    ensures says { JobAlone job (known passes.old.groups passes.old.index) (known passes.new.groups passes.new.index)
-        → (s : Setting) → IsSettingOf s vault.now.rack (known passes.old.groups passes.old.index) → s.mends ≡ true → AreFilled s → RenewsFrom s pads geometry.now job
-        → RenewRow s job name.now geometry.now result (section_of (known passes.old.groups passes.old.index) (known passes.new.groups passes.new.index)) }
+    ensures worked { JobWorked job (known passes.old.groups passes.old.index)
+        (known passes.new.groups passes.new.index) }
+    ensures says { JobAlone job (known passes.old.groups passes.old.index)
+        (known passes.new.groups passes.new.index)
+        → (s : Setting) → IsSettingOf s vault.now.rack (known passes.old.groups passes.old.index)
+        → s.mends ≡ true → AreFilled s → RenewsFrom s pads geometry.now job
+        → RenewRow s job name.now geometry.now result
+        (section_of (known passes.old.groups passes.old.index)
+        (known passes.new.groups passes.new.index)) }
 {
     let kept = match vault.find(rt, alloc, passes, job, name) {
         Ok(kept) => kept,

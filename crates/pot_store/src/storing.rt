@@ -100,7 +100,8 @@ pub(crate) fn prepare<'a>(
     pads: PadStream,
 ) -> Result<Plan<'a>, StoreFault>
     requires { IsGeometry geometry.now }
-    ensures planned { IfOk result (λ p. IsPlan geometry.now file.now pads p.pieces p.shards p.drawing p.places.items) }
+    ensures planned { IfOk result (λ p.
+        IsPlan geometry.now file.now pads p.pieces p.shards p.drawing p.places.items) }
     ensures room { IfOk result (λ p. p.shards ≤ vec_capacity p.places) }
     ensures refused { IfErr result (IsUnplanned file.now) }
 {
@@ -163,7 +164,16 @@ pub fn store_file<A: Archive, R: Wait>(
         Err(ReserveFault::NoMemory) => return Err(StoreFault::NoMemory),
     }
     let geometry = &vault.rack.geometry;
-    match put_all(rt, vault, passes, job, geometry, &mut drawing, shards, &mut places) {
+    match put_all(
+        rt,
+        vault,
+        passes,
+        job,
+        geometry,
+        &mut drawing,
+        shards,
+        &mut places,
+    ) {
         Ok(()) => {
             let kept = record_of(alloc, name, file, geometry, places);
             match vault.publish(rt, passes, job, kept) {

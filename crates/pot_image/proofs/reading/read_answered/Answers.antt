@@ -1,11 +1,8 @@
 use Rattle.std.proofs.Common.{sym}
 use Rattle.std.proofs.lemmas.Bool.{eqb-true}
-use Rattle.pot_image.proofs.Once.{err_short, ok_short}
+use Rattle.pot_image.proofs.Once.{err_short}
 use Rattle.pot_image.proofs.Frames.{leaves_form, leaves_over, nothing_left, fails_form}
 use Rattle.pot_image.proofs.reading.read_answered.Goals as goal
-
-pub form-requires : goal.form-requires
-form-requires c = ok_short _ _ _ _ c.in-Ok.ensures
 
 pub returns-then-not-is_empty : goal.returns-then-not-is_empty
 returns-then-not-is_empty c = leaves_over _ _ _ _ _ c.form.ensures c.in-Ok.ensures (sym c.if-not-is_empty.ensures)

@@ -1,4 +1,4 @@
-use Rattle.std.proofs.Common.{◌≡◌, ◌∙◌, ℕ, List, true, inl, length, refl, ap, sym, subst, arith}
+use Rattle.std.proofs.Common.{◌≡◌, ◌<◌, ◌∙◌, ℕ, List, true, inl, length, refl, ap, sym, subst, arith}
 use Rattle.std.specs.Prelude.{Ok, Err}
 use Rattle.pot_replies.specs.Settings.{Setting}
 use Rattle.pot_shared.specs.Catalogs.{IndexPasses}
@@ -56,11 +56,12 @@ returns-in-Err-put_split-clause-worked g c =
 
 pub returns-in-Err-put_split-clause-says : goal.returns-in-Err-put_split-clause-says
 returns-in-Err-put_split-clause-says g c =
+    let few : length c.in-Ok.kept.older < 15 = (let a = ap length c.as_slice.ensures.value in let b = c.if-as_slice-eq-MOST_OLDER.false in let most = c.as_slice.ensures.few in omega (arith, a, b, most)) in
     subst (λ (i : IndexPasses). JobAlone c.args.job (known c.args.passes.now.groups c.args.passes.now.index) (known c.put_split.new.passes.groups i) → (s : Setting) → IsSettingOf s c.args.vault.now.rack (known c.args.passes.now.groups c.args.passes.now.index) → s.mends ≡ true → AreFilled s
     → RenewsFrom s c.args.pads c.args.geometry.now c.args.job → RenewRow s c.args.job c.args.name.now c.args.geometry.now (Err c.in-Err-put_split.fault) (section_of (known c.args.passes.now.groups c.args.passes.now.index) (known c.put_split.new.passes.groups i))) (sym (c.put_split.ensures.index ∙ c.read_record.ensures.index))
     (λ alone s set mends filled draws.
     refused_row c.args.job c.args.name.now c.args.vault.now.rack c.args.vault.now.groups c.args.vault.now.index c.args.passes.now.groups c.find.new.passes.groups c.read_record.new.passes.groups c.args.passes.now.index c.find.new.passes.index c.in-Ok.kept c.requires.ready c.requires.count c.requires.index c.find.ensures.groups c.in-Ok.ensures.call c.in-Ok-read_record.ensures.read.visits c.in-Ok-read_record.ensures.read.reads c.read_record.ensures.ready c.put_split.new.passes.groups c.put_split.ensures.worked c.find.ensures.index
-    alone s set mends filled c.in-Ok-read_record.file c.in-Ok-read_record.ensures.read.ends c.args.geometry.now c.args.pads draws c.in-Err-put_split.fault 
+    alone s set mends filled c.in-Ok-read_record.file c.in-Ok-read_record.ensures.read.ends few c.args.geometry.now c.args.pads draws c.in-Err-put_split.fault
     (subst (λ (f : List ℕ). PutsSplit c.args.vault.now.rack c.args.geometry.now c.args.job f c.args.pads (Err c.in-Err-put_split.fault) c.read_record.new.passes.groups c.put_split.new.passes.groups) c.deref.ensures.value c.in-Err-put_split.ensures.puts))
 
 pub renew-requires-clause-parts : goal.renew-requires-clause-parts
@@ -83,9 +84,10 @@ returns-in-Ok-renew-clause-worked g c =
 
 pub returns-in-Ok-renew-clause-says : goal.returns-in-Ok-renew-clause-says
 returns-in-Ok-renew-clause-says g c = λ alone s set mends filled draws.
+    let few : length c.in-Ok.kept.older < 15 = (let a = ap length c.as_slice.ensures.value in let b = c.if-as_slice-eq-MOST_OLDER.false in let most = c.as_slice.ensures.few in omega (arith, a, b, most)) in
     renewed_row c.args.job c.args.name.now c.args.vault.now.rack c.args.vault.now.groups c.args.vault.now.index c.args.passes.now.groups c.find.new.passes.groups c.read_record.new.passes.groups c.args.passes.now.index c.find.new.passes.index c.in-Ok.kept c.requires.ready c.requires.count c.requires.index c.find.ensures.groups c.in-Ok.ensures.call c.in-Ok-read_record.ensures.read.visits c.in-Ok-read_record.ensures.read.reads c.read_record.ensures.ready c.put_split.new.passes.groups c.put_split.ensures.ready c.put_split.ensures.worked c.find.ensures.index c.in-Ok-put_split.put.1 (Ok c.in-Ok-renew.field-0) c.renew.new.passes.groups c.renew.new.passes.index c.renew.ensures.groups
     (subst (λ (i : IndexPasses). IndexCall (RenewsSplit c.args.job c.args.name.now c.in-Ok-put_split.put.1 (Ok c.in-Ok-renew.field-0)) i c.renew.new.passes.index) (c.put_split.ensures.index ∙ c.read_record.ensures.index) c.in-Ok-renew.ensures.call)
-    alone s set mends filled c.in-Ok-read_record.file c.in-Ok-read_record.ensures.read.ends c.args.geometry.now c.args.pads draws c.in-Ok-put_split.put.0
+    alone s set mends filled c.in-Ok-read_record.file c.in-Ok-read_record.ensures.read.ends few c.args.geometry.now c.args.pads draws c.in-Ok-put_split.put.0
     (made_split c.args.vault.now.rack c.args.geometry.now c.args.job c.in-Ok-read_record.file.items c.args.pads c.in-Ok-put_split.put c.read_record.new.passes.groups c.put_split.new.passes.groups (subst (λ (f : List ℕ). PutsSplit c.args.vault.now.rack c.args.geometry.now c.args.job f c.args.pads (Ok c.in-Ok-put_split.put) c.read_record.new.passes.groups c.put_split.new.passes.groups) c.deref.ensures.value c.in-Ok-put_split.ensures.puts))
     c.in-Ok-renew.field-0 refl
 
@@ -96,9 +98,10 @@ returns-clause-worked g c =
 
 pub returns-clause-says : goal.returns-clause-says
 returns-clause-says g c = λ alone s set mends filled draws.
+    let few : length c.in-Ok.kept.older < 15 = (let a = ap length c.as_slice.ensures.value in let b = c.if-as_slice-eq-MOST_OLDER.false in let most = c.as_slice.ensures.few in omega (arith, a, b, most)) in
     subst (λ (e : RenewFileFault). RenewRow s c.args.job c.args.name.now c.args.geometry.now (Err e) (section_of (known c.args.passes.now.groups c.args.passes.now.index) (known c.renew.new.passes.groups c.renew.new.passes.index))) (sym c.of_renew.ensures)
     (unrenewed_row c.args.job c.args.name.now c.args.vault.now.rack c.args.vault.now.groups c.args.vault.now.index c.args.passes.now.groups c.find.new.passes.groups c.read_record.new.passes.groups c.args.passes.now.index c.find.new.passes.index c.in-Ok.kept c.requires.ready c.requires.count c.requires.index c.find.ensures.groups c.in-Ok.ensures.call c.in-Ok-read_record.ensures.read.visits c.in-Ok-read_record.ensures.read.reads c.read_record.ensures.ready c.put_split.new.passes.groups c.put_split.ensures.ready c.put_split.ensures.worked c.find.ensures.index c.in-Ok-put_split.put.1 (Err c.in-Err-renew.fault) c.renew.new.passes.groups c.renew.new.passes.index c.renew.ensures.groups
     (subst (λ (i : IndexPasses). IndexCall (RenewsSplit c.args.job c.args.name.now c.in-Ok-put_split.put.1 (Err c.in-Err-renew.fault)) i c.renew.new.passes.index) (c.put_split.ensures.index ∙ c.read_record.ensures.index) c.in-Err-renew.ensures.call)
-    alone s set mends filled c.in-Ok-read_record.file c.in-Ok-read_record.ensures.read.ends c.args.geometry.now c.args.pads draws c.in-Ok-put_split.put.0
+    alone s set mends filled c.in-Ok-read_record.file c.in-Ok-read_record.ensures.read.ends few c.args.geometry.now c.args.pads draws c.in-Ok-put_split.put.0
     (made_split c.args.vault.now.rack c.args.geometry.now c.args.job c.in-Ok-read_record.file.items c.args.pads c.in-Ok-put_split.put c.read_record.new.passes.groups c.put_split.new.passes.groups (subst (λ (f : List ℕ). PutsSplit c.args.vault.now.rack c.args.geometry.now c.args.job f c.args.pads (Ok c.in-Ok-put_split.put) c.read_record.new.passes.groups c.put_split.new.passes.groups) c.deref.ensures.value c.in-Ok-put_split.ensures.puts))
     c.in-Err-renew.fault refl)
