@@ -60,35 +60,23 @@
 //! | `move_begin` | MoveBegin, or none | whether the archive was taken, and why not |
 //! | `move_step` | Moved, MoveEnd, Fault, or none where the column does not move | what it came to |
 //! | `swap` | Swapped, or none | how many slots were Live, or why the archive was not taken |
-//! | `next`, `use_of`, `trace`, `logged`, `end`, `expect` | none | what they read |
+//! | `next`, `has_slot`, `use_of`, `trace`, `logged`, `end`, `expect` | none | what they read |
 #![tactic(auto)]
 
 mod answers;
 mod beginning;
 mod copying;
 mod counting;
-#[cfg(test)]
-mod fault_tests;
 mod finding;
 mod group;
 mod known;
 mod looking;
-#[cfg(test)]
-mod move_tests;
 mod moving;
 mod parities;
-#[cfg(test)]
-mod parity_tests;
 mod putting;
 mod reads;
-#[cfg(test)]
-mod relay_tests;
 mod relaying;
-#[cfg(test)]
-mod scene;
 mod telling;
-#[cfg(test)]
-mod tests;
 mod uses;
 
 pub use answers::{Looked, PutFault};

@@ -14,6 +14,7 @@ pub struct LogFull;
 
 impl<A: Archive> Group<A> {
     ghost use Rattle.pot_group.specs.Finding.{is_of, IsPlace};
+    ghost use Rattle.pot_machine.specs.Table.{width};
     ghost use Rattle.pot_group.specs.Calls.{Makes, CountCall};
 
     /// Counts the slots of the group by state, tells its cursor, and logs that it did.
@@ -30,6 +31,14 @@ impl<A: Archive> Group<A> {
         let counts = counts_of(&self.table);
         self.note(Entry::Counted { job });
         Ok(counts)
+    }
+
+    /// Whether it has a slot of this stripe and this column.
+    pub fn has_slot(&self, stripe: u32, column: u8) -> bool
+        ensures { IsTrue result ↔ (stripe < self.now.table.stripes) × (column < width self.now.table) }
+    {
+        stripe < self.table.stripes()
+            && column < self.table.data_columns() + self.table.parity()
     }
 
     /// The first place at or after this one, by stripe and then column, whose slot is of the kind.
