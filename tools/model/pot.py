@@ -3,16 +3,17 @@
 
 import sys
 
-from potmodel import group_stories
+from potmodel import group_stories, session_stories
 
 
 def main(words):
     """Works one command and answers its status."""
-    if words == ["group"]:
-        text, status = group_stories.tell(sys.stdin.read())
+    programs = {"group": group_stories, "session": session_stories}
+    if len(words) == 1 and words[0] in programs:
+        text, status = programs[words[0]].tell(sys.stdin.read())
         sys.stdout.write(text)
         return status
-    sys.stderr.write("pot.py group < stories\n")
+    sys.stderr.write("pot.py group|session < stories\n")
     return 2
 
 

@@ -69,11 +69,16 @@ class Room(Device):
         super().__init__(fails)
         self.archives, self.out = dict(archives or {}), set()
 
+    def archive(self, number):
+        """The archive of a number that is not out."""
+        return self.archives.setdefault(number, Archive())
+
     def take(self, number):
         """The archive of this number, which is then out."""
         self.begin_call()
         self.out.add(number)
-        return self.archives.pop(number, None) or Archive()
+        self.archive(number)
+        return self.archives.pop(number)
 
     def give(self, number, archive):
         """Takes an archive back."""
