@@ -1,13 +1,24 @@
 """Stories of sessions as text: each line is printed as it was read, with the outcome of a step below it."""
 
 import re
+import sys
 
 from . import session
-from .devices import Desk, Room, Sink, Source
+from .devices import Desk, Failed, Room, Sink, Source
 from .image import Refused, read_image
 from .pieces import Shard, block_of, digest, number
 from .table import BROKEN, LIVE, LOST, VOID
 
+NUMBER = "(?:0|[1-9][0-9]*)"
+HEX = "(?:[0-9a-f]{2})+"
+STEPS = re.compile("|".join([
+    rf"\$(?: [^ ]+)*", r"drawn [0-9a-f]{2}", rf"fail (?:source|sink|desk|room|archive {NUMBER}) {NUMBER}", rf"lose {NUMBER} {NUMBER}(?: {NUMBER})?",
+    rf"empty(?: {NUMBER})+", rf"alter {NUMBER} {NUMBER} {NUMBER} [0-9a-f]{{2}}", rf"crowd {NUMBER} {NUMBER}", "none", rf"(?:zeros|cut) {NUMBER}",
+    rf"(?:set|insert) {NUMBER} {HEX}", rf"copy {NUMBER} {NUMBER} {NUMBER}", rf"flip {NUMBER}", "seal(?: more)?",
+    "image|fields|slots|logs|blocks|heard|room", rf"each (?:source|sink|desk|room|cut|archive {NUMBER}) {NUMBER} {NUMBER}",
+    rf"each set {NUMBER} {NUMBER}(?: {NUMBER})+",
+]))
+SCRIPT = re.compile(rf"\|(?:-? .*)?|\+ {NUMBER} {NUMBER}|\* {NUMBER} {NUMBER}")
 LETTERS = {VOID: ".", LIVE: "L", LOST: "x", BROKEN: "B"}
 FILE = re.compile(rb"file [^ ]+ ([0-9]{1,9})")
 
@@ -42,7 +53,7 @@ def item_text(item):
     data, is_ended = item
     mark = "" if is_ended else "-"
     if len(data) <= 200 and all(32 <= byte <= 126 for byte in data):
-        return f">{mark} {data.decode()}".rstrip(" ") if not data else f">{mark} {data.decode()}"
+        return f">{mark} {data.decode()}" if data else f">{mark}"
     return f"#{mark} {len(data)} {short(digest(data))}"
 
 
@@ -88,10 +99,10 @@ class Scene:
 
     def step(self, words):
         """Does a step, and gives its outcome lines."""
-        made = getattr(self, "step_" + words[0], None)
-        if made is None:
+        try:
+            return getattr(self, "step_" + words[0])(*words[1:]) or []
+        except (Failed, LookupError, TypeError):
             raise NoStep()
-        return made(*words[1:]) or []
 
     def step_drawn(self, text):
         """Another drawn seed."""
@@ -144,11 +155,15 @@ class Scene:
 
     def step_cut(self, count):
         """The first bytes of the image."""
+        if int(count) > len(self.image):
+            raise NoStep()
         self.image = self.image[:int(count)]
 
     def put_bytes(self, place, data, dropped):
         """Bytes from a place on, in place of so many."""
         at = int(place)
+        if at + dropped > len(self.image):
+            raise NoStep()
         self.image = self.image[:at] + data + self.image[at + dropped:]
 
     def step_set(self, place, text):
@@ -161,6 +176,8 @@ class Scene:
 
     def step_copy(self, first, count, to):
         """Bytes of the image copied to another place of it."""
+        if int(first) + int(count) > len(self.image):
+            raise NoStep()
         self.put_bytes(to, self.image[int(first):int(first) + int(count)], int(count))
 
     def step_flip(self, place):
@@ -240,59 +257,73 @@ class Scene:
 
 
 class Story:
-    """The lines of a story, and the steps that they come to."""
+    """The lines of a story, the number of the first, and the steps that they come to."""
 
-    def __init__(self):
-        self.lines = []
+    def __init__(self, first):
+        self.first, self.lines = first, []
 
     def steps(self):
-        """The lines in runs: a call with its script, or a line alone."""
+        """The lines in runs, each with the number of its first line: a call with its script, or a line alone."""
         runs = []
-        for line in self.lines:
-            if runs and runs[-1][0].startswith("$") and line[:1] in ("|", "+", "*"):
-                runs[-1].append(line)
+        for line_number, line in enumerate(self.lines, self.first):
+            if runs and runs[-1][1][0].startswith("$") and line[:1] in ("|", "+", "*") and SCRIPT.fullmatch(line):
+                runs[-1][1].append(line)
             else:
-                runs.append([line])
+                runs.append((line_number, [line]))
         return runs
 
     def each_lines(self):
         """The places and the words of the lines that make variants."""
-        return [(at, run[0].split(" ")) for at, run in enumerate(self.steps()) if run[0].startswith("each ")]
+        return [(at, lines[0].split(" ")) for at, (_, lines) in enumerate(self.steps()) if lines[0].startswith("each ")]
 
     def tell(self, chosen=None, meant=None):
-        """The outcome lines of each step. The `each` line at place `chosen` means the words `meant`; the others do nothing."""
-        scene, outcomes = Scene(), []
-        for at, run in enumerate(self.steps()):
-            words = run[0].split(" ")
-            if at == chosen:
-                outcomes.append(scene.step(meant) if meant else [])
-            elif words[0] in ("each", "=", "") or run[0].startswith("#"):
-                outcomes.append([])
-            elif words[0] == "$":
-                outcomes.append(scene.call(words[1:], b"".join(script_bytes(line) for line in run[1:])))
-            else:
-                outcomes.append(scene.step(words))
-        return outcomes
+        """The outcome lines of each step, with its lines. The `each` line at place `chosen` means the words `meant`, the others nothing."""
+        scene, runs = Scene(), self.steps()
+        for words in [lines[0].split(" ") for _, lines in runs] + [meant or [""]]:
+            if is_for_whole_story(words):
+                scene.step(words)
+        for at, (line_number, lines) in enumerate(runs):
+            words = meant or [""] if at == chosen else lines[0].split(" ")
+            try:
+                yield lines, self.outcome(scene, words, lines)
+            except NoStep:
+                raise NoStep(line_number)
+
+    @staticmethod
+    def outcome(scene, words, lines):
+        """The outcome lines of a step."""
+        if words[0] in ("each", "=", "") or words[0].startswith("#") or is_for_whole_story(words):
+            return []
+        if not STEPS.fullmatch(" ".join(words)):
+            raise NoStep()
+        if words[0] == "$":
+            return scene.call(words[1:], b"".join(script_bytes(line) for line in lines[1:]))
+        return scene.step(words)
 
     def told(self):
         """The story as it is printed."""
-        out = []
-        for run, outcome in zip(self.steps(), self.tell()):
-            out += run + ["  " + line for line in outcome]
+        for lines, outcome in self.tell():
+            yield from lines
+            yield from ("  " + line for line in outcome)
         for at, words in self.each_lines():
-            out += self.variants(at, words)
-        return out
+            yield from self.variants(at, words)
 
     def variants(self, at, words):
         """The lines of the variants of an `each` line: those of one outcome in a row share one."""
         rows = []
         for label, name, meant in meanings(words):
-            outcome = "; ".join(line for lines in self.tell(at, meant)[at + 1:] for line in lines)
+            below = [outcome for _, outcome in self.tell(at, meant)][at + 1:]
+            outcome = "; ".join(line for lines in below for line in lines)
             if rows and rows[-1][2] == outcome:
                 rows[-1][1] = name
             else:
                 rows.append([f"{label} {name}", None, outcome])
         return [f"  {first}{' to ' + last if last else ''}: {outcome}" for first, last, outcome in rows]
+
+
+def is_for_whole_story(words):
+    """Whether a step holds from the story's beginning on, wherever it stands."""
+    return words[:2] == ["fail", "room"] or words[:2] == ["fail", "archive"] or words[0] == "lose" and len(words) == 4
 
 
 def meanings(words):
@@ -326,13 +357,20 @@ def script_bytes(line):
 
 
 def tell(text):
-    """What the stories come to."""
+    """What the stories come to, and the status. The first line that is no step ends them."""
     lines = text.split("\n")
     if lines[-1] == "":
         lines.pop()
-    stories = [Story()]
-    for line in lines:
+    stories, out = [Story(1)], []
+    for line_number, line in enumerate(lines, 1):
         if line.startswith("= "):
-            stories.append(Story())
+            stories.append(Story(line_number))
         stories[-1].lines.append(line)
-    return "".join(line + "\n" for story in stories for line in story.told()), 0
+    try:
+        for story in stories:
+            for line in story.told():
+                out.append(line + "\n")
+    except NoStep as no_step:
+        sys.stderr.write(f"line {no_step.args[0]} is no step\n")
+        return "".join(out), 1
+    return "".join(out), 0
