@@ -40,7 +40,6 @@ def values():
         ("05 + 1f x + a0 x^2 at 1, 2, 3 and 80", "crates/pot_gf/src/tests.rt", polynomial_at([0x05, 0x1F, 0xA0], [1, 2, 3, 0x80])),
         ("57 + 83 x at 1, 2 and 3", "crates/pot_split/src/lib.rt", polynomial_at([0x57, 0x83], [1, 2, 3])),
         ("57 + 83 x at 1, 2 and 3", "crates/pot_joins/src/lib.rt", polynomial_at([0x57, 0x83], [1, 2, 3])),
-        ("00 + 10 x + 01 x^2 at 1, 2 and 3", "crates/pot_joins/src/lib.rt", polynomial_at([0, 0x10, 1], [1, 2, 3])),
         ("key stream of the key 0, block 0 (RFC 8439, A.1)", "crates/pot_pads/src/tests.rt", Stream(bytes(32), 0, 0).take(64).hex()),
         ("key stream of the key 0, block 1 (RFC 8439, A.1)", "crates/pot_pads/src/tests.rt", Stream(bytes(32), 0, 0).take(128)[64:].hex()),
         ("SHA-256 of `hello`", "crates/pot_object/src/tests.rt", pieces.digest(b"hello").hex()),
