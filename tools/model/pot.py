@@ -4,7 +4,7 @@
 import os
 import sys
 
-from potmodel import constants, files, group_stories, pieces, recovery, session, session_stories
+from potmodel import constants, files, group_stories, image, pieces, recovery, session, session_stories
 from potmodel.devices import Sink, Source
 
 USAGE = """pot.py group < stories
@@ -14,6 +14,7 @@ pot.py image FILE
 pot.py block FILE SLOT
 pot.py recover FOLDER ARCHIVES STRIPES BLUR [robust]
 pot.py run FOLDER WORDS.. < source
+pot.py desk FOLDER FORMAT OUT
 """
 
 
@@ -75,11 +76,23 @@ def run(folder, *words):
     return status
 
 
+def write_desk(folder, form, out):
+    """Writes the image of a folder's desk into the folder OUT: in format 1 as desk.psi, in format 2 as desk.pss."""
+    data = image.write_image(image.read_image(files.FileDesk(folder).read()), int(form))
+    if form == "2":
+        files.FileDesk(out).replace(data)
+        return 0
+    with open(os.path.join(out, "desk.psi"), "wb") as file:
+        file.write(data)
+    return 0
+
+
 def main(words):
     """Works one command and answers its status."""
     commands = {
         "group": lambda: tell_stories(group_stories), "session": lambda: tell_stories(session_stories),
         "constants": print_constants, "image": print_image, "block": print_block, "recover": recover, "run": run,
+        "desk": write_desk,
     }
     if not words or words[0] not in commands:
         sys.stderr.write(USAGE)

@@ -1,6 +1,6 @@
 """Values that the repository says were computed apart from the crates, each with a name and where it stands."""
 
-from . import drill, field, pieces
+from . import field, pieces
 from .image import Image, Rack, write_image
 from .pieces import Geometry
 from .stream import Stream
@@ -15,19 +15,7 @@ def small_image(form):
     """The image of session 5 of one group with one data column and one stripe, in a format."""
     image = Image.empty(Rack(1, 1, 1, 1, Geometry(2, 1, 1, 0)))
     image.session = 5
-    return write_image(image) if form == 2 else first_format(write_image(image))
-
-
-def first_format(data):
-    """An image without records and with one parity column, in format 1."""
-    body = data[:4] + pieces.number(1, 4) + data[8:26] + bytes(2) + data[28:-32]
-    return body + pieces.digest(body)
-
-
-def drill_digest(length, geometry, hidden, seen):
-    """The second line of a drill of `hello` and `world`."""
-    _, text = drill.report((b"hello", b"world"), geometry, hidden, seen, bytes([7]) * 32)
-    return text.split()[-1].decode()
+    return write_image(image, form)
 
 
 def values():

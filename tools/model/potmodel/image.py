@@ -38,15 +38,16 @@ def is_name(text):
     return 1 <= len(text) <= 64 and LETTERS.issuperset(text)
 
 
-def write_image(image):
-    """The bytes of an image, in format 2."""
-    rack, k_m_n_blur = image.rack, bytes(image.rack.geometry)
-    body = number(image.session, 4) + bytes([rack.groups, rack.columns]) + k_m_n_blur + bytes([rack.parity, 0]) + number(rack.stripes, 4)
+def write_image(image, form=2):
+    """The bytes of an image: in format 2, or in format 1 with one parity column and one split of the rack's geometry for each file."""
+    rack = image.rack
+    body = number(image.session, 4) + bytes([rack.groups, rack.columns]) + bytes(rack.geometry)
+    body += bytes([rack.parity if form == 2 else 0, 0]) + number(rack.stripes, 4)
     body += b"".join(table_bytes(table) for table in image.tables)
-    body += number(len(image.records), 4) + b"".join(record.bytes() for record in image.records)
+    body += number(len(image.records), 4) + b"".join(record.bytes(form) for record in image.records)
     for log, kinds in [(log, GROUP_KINDS) for log in image.group_logs] + [(image.index_log, INDEX_KINDS)]:
         body += number(len(log), 4) + b"".join(entry_bytes(entry, kinds) for entry in log)
-    whole = b"PSI1" + number(2, 4) + number(16 + len(body) + 32, 8) + body
+    whole = b"PSI1" + number(form, 4) + number(16 + len(body) + 32, 8) + body
     return whole + digest(whole)
 
 

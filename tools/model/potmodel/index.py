@@ -24,11 +24,12 @@ class Record:
         """The split by which the file is fetched."""
         return self.splits[-1]
 
-    def bytes(self):
-        """The record as an image has it."""
-        text = bytes([len(self.name)]) + self.name + number(self.length, 8) + self.digest + bytes([len(self.splits)])
+    def bytes(self, form=2):
+        """The record as an image has it; in format 1 without the number of splits and the geometry."""
+        text = bytes([len(self.name)]) + self.name + number(self.length, 8) + self.digest
+        text += bytes([len(self.splits)]) if form == 2 else b""
         for split in self.splits:
-            text += bytes(split.geometry)
+            text += bytes(split.geometry) if form == 2 else b""
             text += b"".join(bytes([group, column]) + number(stripe, 4) for group, column, stripe in split.places)
         return text
 
