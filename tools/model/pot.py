@@ -33,7 +33,7 @@ def print_constants():
 
 
 def print_image(path):
-    """Prints the fields of an image, which stands alone in a file or in a desk's file."""
+    """Prints what stands in an image, which stands alone in a file or in a desk's file."""
     scene = session_stories.Scene()
     with open(path, "rb") as file:
         scene.image = file.read() if not path.endswith(".pss") else None
@@ -41,7 +41,7 @@ def print_image(path):
         desk = files.FileDesk(os.path.dirname(path))
         desk.path = path
         scene.image = desk.read()
-    for line in scene.step_image() + scene.step_fields() + scene.step_slots() + scene.step_logs():
+    for line in scene.step_image() + scene.step_fields() + scene.step_records() + scene.step_slots() + scene.step_logs():
         print(line)
     return 0
 

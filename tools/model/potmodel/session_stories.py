@@ -15,7 +15,7 @@ STEPS = re.compile("|".join([
     rf"\$(?: [^ ]+)*", r"drawn [0-9a-f]{2}", rf"fail (?:source|sink|desk|room|archive {NUMBER}) {NUMBER}", rf"lose {NUMBER} {NUMBER}(?: {NUMBER})?",
     rf"empty(?: {NUMBER})+", rf"alter {NUMBER} {NUMBER} {NUMBER} [0-9a-f]{{2}}", rf"crowd {NUMBER} {NUMBER}", "none", rf"(?:zeros|cut) {NUMBER}",
     rf"(?:set|insert) {NUMBER} {HEX}", rf"copy {NUMBER} {NUMBER} {NUMBER}", rf"flip {NUMBER}", "seal(?: more)?",
-    "image|fields|slots|logs|blocks|heard|room", rf"each (?:source|sink|desk|room|cut|archive {NUMBER}) {NUMBER} {NUMBER}",
+    "image|fields|records|slots|logs|blocks|heard|room", rf"each (?:source|sink|desk|room|cut|archive {NUMBER}) {NUMBER} {NUMBER}",
     rf"each set {NUMBER} {NUMBER}(?: {NUMBER})+",
 ]))
 SCRIPT = re.compile(rf"\|(?:-? .*)?|\+ {NUMBER} {NUMBER}|\* {NUMBER} {NUMBER}")
@@ -201,7 +201,7 @@ class Scene:
             return None
 
     def step_fields(self):
-        """The image's fields but slots and logs."""
+        """The image's fields but records, slots and logs."""
         image = self.read()
         if image is None:
             return ["no fields"]
@@ -211,11 +211,18 @@ class Scene:
         for group, table in enumerate(image.tables):
             homes = [f"{at.home}>{at.to}@{at.upto}" if at.to is not None else str(at.home) for at in table.columns]
             lines.append(f"group {group} cursor %d %d homes {' '.join(homes)}" % table.cursor)
+        return lines
+
+    def step_records(self):
+        """The records of the image and their splits."""
+        image, lines = self.read(), []
+        if image is None:
+            return ["no fields"]
         for record in image.records:
             lines.append(f"record {record.name.decode()} {record.length} {short(record.digest)}")
             for split in record.splits:
                 lines.append("split %d %d %d %d " % split.geometry + " ".join("%d.%d.%d" % place for place in split.places))
-        return lines
+        return lines or ["no records"]
 
     def step_slots(self):
         """The slots of each group up to the cursor's stripe."""
@@ -292,10 +299,12 @@ class Story:
     @staticmethod
     def outcome(scene, words, lines):
         """The outcome lines of a step."""
-        if words[0] in ("each", "=", "") or words[0].startswith("#") or is_for_whole_story(words):
+        if words[0] in ("=", "") or words[0].startswith("#"):
             return []
         if not STEPS.fullmatch(" ".join(words)):
             raise NoStep()
+        if words[0] == "each" or is_for_whole_story(words):
+            return []
         if words[0] == "$":
             return scene.call(words[1:], b"".join(script_bytes(line) for line in lines[1:]))
         return scene.step(words)
@@ -323,7 +332,8 @@ class Story:
 
 def is_for_whole_story(words):
     """Whether a step holds from the story's beginning on, wherever it stands."""
-    return words[:2] == ["fail", "room"] or words[:2] == ["fail", "archive"] or words[0] == "lose" and len(words) == 4
+    is_one = words[:2] in (["fail", "room"], ["fail", "archive"]) or words[0] == "lose" and len(words) == 4
+    return is_one and STEPS.fullmatch(" ".join(words)) is not None
 
 
 def meanings(words):
