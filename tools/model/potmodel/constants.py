@@ -4,6 +4,7 @@ from . import field, pieces
 from .image import Image, Rack, write_image
 from .pieces import Geometry
 from .stream import Stream
+from .table import Relay, Table
 
 
 def polynomial_at(coefficients, points):
@@ -18,11 +19,23 @@ def small_image(form):
     return write_image(image, form)
 
 
+def weights(target, skip):
+    """The weights of three data columns, P and Q in a relay."""
+    table = Table(3, 2, 1, range(5))
+    return bytes(table.weight_of(Relay(0, target, skip), column) for column in range(5)).hex()
+
+
+def relay_weights():
+    """Rows of weights that a test has: the target, and the slot that is left out."""
+    rows = [(0, None), (0, 1), (1, 3), (2, 0), (3, 2), (4, None), (4, 1)]
+    return [(f"weights of a relay of column {target}, without {skip}", "crates/pot_steps/src/tests.rt", weights(target, skip)) for target, skip in rows]
+
+
 def values():
     """Name, file of the repository, and value as hexadecimal digits."""
     inverses = bytes(field.inverse(a) for a in range(1, 256)).hex()
     empty = write_image(Image.empty(Rack(3, 1, 1, 8, Geometry(2, 3, 3, 16))))
-    return [
+    return relay_weights() + [
         ("product 57 83 and 57 13 (FIPS 197, 4.2)", "crates/pot_gf/src/tests.rt", bytes([field.times(0x57, 0x83), field.times(0x57, 0x13)]).hex()),
         ("inverses of 1 to 255", "crates/pot_gf/src/tests.rt", inverses),
         ("05 + 1f x + a0 x^2 at 1, 2, 3 and 80", "crates/pot_gf/src/tests.rt", polynomial_at([0x05, 0x1F, 0xA0], [1, 2, 3, 0x80])),
