@@ -4,7 +4,7 @@
 import os
 import sys
 
-from potmodel import constants, files, group_stories, image, pieces, recovery, session, session_stories
+from potmodel import constants, files, group_stories, image, pieces, random_stories, recovery, session, session_stories
 from potmodel.devices import Sink, Source
 
 USAGE = """pot.py group < stories
@@ -15,6 +15,7 @@ pot.py block FILE SLOT
 pot.py recover FOLDER ARCHIVES STRIPES BLUR [robust]
 pot.py run FOLDER WORDS.. < source
 pot.py desk FOLDER FORMAT OUT
+pot.py random group|session SEED COUNT
 """
 
 
@@ -87,12 +88,18 @@ def write_desk(folder, form, out):
     return 0
 
 
+def print_random(kind, seed, count):
+    """Prints stories by chance."""
+    sys.stdout.write(random_stories.stories(kind, seed, count))
+    return 0
+
+
 def main(words):
     """Works one command and answers its status."""
     commands = {
         "group": lambda: tell_stories(group_stories), "session": lambda: tell_stories(session_stories),
         "constants": print_constants, "image": print_image, "block": print_block, "recover": recover, "run": run,
-        "desk": write_desk,
+        "desk": write_desk, "random": print_random,
     }
     if not words or words[0] not in commands:
         sys.stderr.write(USAGE)
