@@ -1,5 +1,5 @@
 -- Rings of which some shares were altered.
-use Rattle.std.proofs.Common.{◌≡◌, ◌↔◌, inl, inr, ℕ, zero, suc, ◌+◌, ◌<◌, ◌≤◌, Bool, true, false, cond, List, [], ◌∷◌, map, length, get_or, nat_eq, refl, sym, ap, ◌∙◌, subst, arith}
+use Rattle.std.proofs.Common.{◌≡◌, ◌↔◌, ℕ, suc, ◌+◌, ◌<◌, ◌≤◌, Bool, true, false, cond, List, [], ◌∷◌, map, length, get_or, nat_eq, refl, sym, ap, ◌∙◌, subst, arith}
 use Rattle.std.specs.Cmp.Lexicographic.{same_text}
 use Rattle.std.specs.Str.{bytes_eq}
 use Rattle.std.proofs.lemmas.Bool.{eq-eqb}
@@ -7,7 +7,7 @@ use Rattle.std.proofs.lemmas.List.{length-map, ext_get_or}
 use Rattle.std.proofs.lemmas.Simd.{map-map}
 use Rattle.pot_bytes.specs.Lists.{AreBytes}
 use Rattle.pot_chains.specs.Paths.{last_of, AreLinked, AreAll}
-use Rattle.pot_gf.specs.Polynomials.{value, PassesThrough}
+use Rattle.pot_gf.specs.Polynomials.{PassesThrough}
 use Rattle.pot_joins.specs.Joins.{IsOnOne}
 use Rattle.pot_robust.specs.Robust.{agreements, borne, AreValues}
 use Rattle.pot_robust.proofs.RobustLemmas.{unique_law}
@@ -17,7 +17,7 @@ use Rattle.pot_recover.specs.Altered.{without_share, HasOtherShares, distance, a
 use Rattle.pot_recover.specs.Held.{IsHeld}
 use Rattle.pot_recover.specs.Recovered.{IsClosedIn}
 use Rattle.pot_recover.specs.Rings.{IsRing, points_of, bytes_at, need_of, Closes}
-use Rattle.pot_recover.specs.Robust.{IsRobustAt, ClosesRobustly, ClosesRobustlyAsRing, IsRobustlyClosedIn}
+use Rattle.pot_recover.specs.Robust.{IsRobustAt, ClosesRobustlyAsRing, IsRobustlyClosedIn}
 use Rattle.pot_recover.proofs.RingLemmas.{all_weaker, samples}
 
 one_of : (b : Bool) (m n k : ℕ) → k ≤ m + n → suc k ≤ cond b 1 0 + m + (cond b 0 1 + n)

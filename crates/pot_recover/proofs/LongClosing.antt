@@ -1,12 +1,10 @@
 -- A chain of n held shards, and whether it closes robustly as a ring.
-use Rattle.std.proofs.Common.{◌≡◌, ◌↔◌, ◌⊎◌, inl, inr, ℕ, zero, suc, ◌+◌, ◌-◌, ◌<◌, ◌≤◌, List, [], ◌∷◌, map, length, get_or, refl, sym, ap, ◌∙◌, subst, arith}
+use Rattle.std.proofs.Common.{◌≡◌, ◌↔◌, inr, ℕ, suc, ◌+◌, ◌-◌, ◌<◌, ◌≤◌, List, [], ◌∷◌, map, length, get_or, refl, sym, ap, ◌∙◌, subst, arith}
 use Rattle.std.specs.List.{range_with_len}
-use Rattle.std.proofs.lemmas.List.{length-map, get_or_default}
+use Rattle.std.proofs.lemmas.List.{length-map}
 use Rattle.pot_pointer.specs.Pointers.{blur}
 use Rattle.pot_chains.specs.Listed.{IsIn}
-use Rattle.pot_chains.specs.Paths.{last_of}
 use Rattle.pot_chains.proofs.ListedLemmas.{in_map}
-use Rattle.pot_shard.specs.LinkedRings.{IsLinked}
 use Rattle.pot_shard.specs.declared.shard.Shard.{Shard}
 use Rattle.pot_recover.specs.Groups.{IsAt, IsHoldable, no_shard}
 use Rattle.pot_recover.specs.HeldShards.{shard_of, point_of, bytes_held, AreWhole, HaveBytes}

@@ -1,19 +1,19 @@
 -- What was searched of long chains, m and n by m and n.
-use Rattle.std.proofs.Common.{◌≡◌, ◌↔◌, ◌⊎◌, inl, inr, ℕ, zero, suc, ◌+◌, ◌-◌, ◌<◌, ◌≤◌, List, [], ◌∷◌, ◌++◌, map, length, take, get_or, refl, sym, ap, ◌∙◌, subst, arith, length-append, add-one, Ok, Err}
-use Rattle.std.specs.Prelude.{⊤, OnOk, Result}
+use Rattle.std.proofs.Common.{◌≡◌, ◌↔◌, ◌⊎◌, inl, inr, ℕ, suc, ◌+◌, ◌-◌, ◌<◌, ◌≤◌, List, [], ◌∷◌, ◌++◌, map, length, take, get_or, refl, sym, ap, ◌∙◌, subst, arith, length-append, add-one}
+use Rattle.std.specs.Prelude.{⊤}
 use Rattle.std.proofs.lemmas.Bool.{cases_lt}
-use Rattle.std.proofs.lemmas.List.{length-take-le, length-map}
+use Rattle.std.proofs.lemmas.List.{length-map}
 use Rattle.pot_chains.specs.Levels.{IsPath, IsPathBelow, AreLevels}
 use Rattle.pot_chains.specs.Listed.{IsIn, IsListed, AreAbove, HasGrown}
-use Rattle.pot_chains.specs.Paths.{last_of, AreLinked, AreAll, IsReached}
+use Rattle.pot_chains.specs.Paths.{last_of, AreLinked, AreAll}
 use Rattle.pot_chains.proofs.ListedLemmas.{listed_append, listed_same, once_append, in_append, in_take_more, from_map, once_map_on}
 use Rattle.pot_shard.specs.LinkedRings.{IsLinked}
 use Rattle.pot_shard.specs.declared.shard.Shard.{Shard}
-use Rattle.pot_recover.specs.Groups.{AreParts, AreLevelsOf, parts_of, shards_in, shards_at, AreInside, IsGroup, IsHoldable}
+use Rattle.pot_recover.specs.Groups.{parts_of, shards_in, shards_at, AreInside, IsGroup, IsHoldable}
 use Rattle.pot_recover.specs.HeldShards.{shard_of}
 use Rattle.pot_recover.specs.Rings.{IsRing}
 use Rattle.pot_recover.specs.Robust.{ClosesRobustlyAsRing}
-use Rattle.pot_recover.specs.LongScopes.{IsLongChainOf, IsLongChainIn, IsRobustlyFoundIn, IsRobustlyFoundOf, IsRobustlyFoundAmong, HasSearchedLong, IsLongWhole}
+use Rattle.pot_recover.specs.LongScopes.{IsLongChainOf, IsLongChainIn, IsRobustlyFoundOf, IsRobustlyFoundAmong, HasSearchedLong, IsLongWhole}
 use Rattle.pot_recover.specs.declared.group.Group.{Group}
 use Rattle.pot_recover.proofs.GroupLemmas.{long_path, path_of_long, long_listed, positions_same}
 use Rattle.pot_recover.proofs.MemberLemmas.{members_are, levels_are, length-levels}

@@ -1,7 +1,7 @@
 -- From the shards that are held to the objects that are robustly recovered.
-use Rattle.std.proofs.Common.{◌≡◌, ◌↔◌, inl, inr, ℕ, ◌≤◌, List, [], ◌∷◌, length, refl, subst, sym, arith}
+use Rattle.std.proofs.Common.{◌↔◌, inl, inr, ℕ, ◌≤◌, List, [], ◌∷◌, refl, subst, sym, arith}
 use Rattle.std.specs.Prelude.{AllPairs, ⊤}
-use Rattle.pot_chains.specs.Listed.{IsIn, IsOnce, AreAbove}
+use Rattle.pot_chains.specs.Listed.{IsIn, AreAbove}
 use Rattle.pot_chains.specs.Paths.{AreAll}
 use Rattle.pot_chains.proofs.ListedLemmas.{listed_same}
 use Rattle.pot_shard.specs.declared.shard.Shard.{Shard}

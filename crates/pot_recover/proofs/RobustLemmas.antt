@@ -1,20 +1,17 @@
 -- What the shares of a ring give robustly.
-use Rattle.std.proofs.Common.{◌≡◌, ◌⊎◌, inl, inr, ℕ, zero, suc, ◌+◌, ◌<◌, ◌≤◌, List, [], ◌∷◌, map, length, take, drop, get_or, set, refl, sym, ap, ◌∙◌, subst, arith, lit<}
+use Rattle.std.proofs.Common.{◌≡◌, inl, inr, ℕ, zero, suc, ◌+◌, ◌<◌, ◌≤◌, List, [], ◌∷◌, map, length, take, drop, get_or, set, refl, sym, ap, ◌∙◌, subst, arith}
 use Rattle.std.specs.List.{range_with_len}
 use Rattle.std.proofs.lemmas.Bool.{cases_eq}
-use Rattle.std.proofs.lemmas.List.{length-map, length-take-le, length-drop, get_or-take, get_or-drop, ext_get_or, get_or-set_same, get_or-set_other, length-set}
+use Rattle.std.proofs.lemmas.List.{length-map, length-take-le, length-drop, get_or-take, get_or-drop, ext_get_or, get_or-set_same, get_or-set_other}
 use Rattle.pot_chains.specs.Listed.{IsIn}
 use Rattle.pot_bytes.specs.Lists.{AreBytes}
-use Rattle.pot_object.specs.Contents.{IsContent}
-use Rattle.pot_recover.specs.Contents.{IsTail}
 use Rattle.pot_recover.specs.HeldShards.{point_of, bytes_held, share_of, AreWhole, HaveBytes}
-use Rattle.pot_recover.specs.Rings.{IsAnyContent}
 use Rattle.pot_recover.specs.Robust.{IsRobustAt, AreRobust, IsRobustlyFixed, HasNoRobust}
 use Rattle.pot_recover.specs.declared.held.Held.{Held}
-use Rattle.pot_recover.proofs.ContentLemmas.{held_bytes, tail_of}
+use Rattle.pot_recover.proofs.ContentLemmas.{held_bytes}
 use Rattle.pot_recover.proofs.JoinLemmas.{points_distinct}
 use Rattle.pot_recover.proofs.RingLemmas.{range-bytes}
-use Rattle.pot_robust.specs.Robust.{AreValues, IsRobust}
+use Rattle.pot_robust.specs.Robust.{AreValues}
 use Rattle.pot_robust.proofs.RobustLemmas.{unique_law}
 
 pub share_whole : (ring : List Held) (i : ℕ) (d : Held) → AreWhole ring → i < length ring → length (share_of (get_or ring i d)) ≡ 992

@@ -24,7 +24,8 @@ pub fn altered_laws()
     ensures { AlteredLaws }
 {}
 
-/// A fragment as it is stored closes with its content, and robustly too where so few of its shares were altered.
+/// A fragment as it is stored closes with its content, so that its file's objects come back, and robustly too where few
+/// of its shares were altered.
 pub fn stored_laws()
     ensures { StoredLaws }
 {}

@@ -14,6 +14,9 @@
 //! 5. A ring of shards as it is stored is a ring here: `link_laws`.
 //! 6. A ring some of whose shares are wrong closes by those that agree: `recover_robust` gives what the definition calls
 //!    robustly recovered (`specs/Robust`). Chains go to n there, for no m of the shares are known to be right.
+//! 7. A fragment as it is stored closes with its content, so the objects of a file come back from its blocks, and robustly
+//!    where no more than half of the shares beyond m were altered: `stored_laws`, `altered_laws` (`specs/StoredFragments`,
+//!    `Altered`).
 #![tactic(auto)]
 
 mod choices;

@@ -1,4 +1,4 @@
-use Rattle.std.proofs.Common.{◌≡◌, ◌≤◌, take, length}
+use Rattle.std.proofs.Common.{◌≡◌, take, length}
 use Rattle.pot_recover.specs.HeldShards.{bytes_held}
 use Rattle.pot_recover.proofs.robust.bytes_at.Given as goal
 

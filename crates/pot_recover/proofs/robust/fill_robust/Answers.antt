@@ -1,4 +1,4 @@
-use Rattle.std.proofs.Common.{◌∙◌, arith, refl, length}
+use Rattle.std.proofs.Common.{◌∙◌, arith, refl}
 use Rattle.std.proofs.lemmas.List.{length-set}
 use Rattle.pot_recover.proofs.RobustLemmas.{robust_more}
 use Rattle.pot_recover.proofs.robust.fill_robust.Goals as goal

@@ -1,4 +1,4 @@
-use Rattle.std.proofs.Common.{◌≡◌, false, refl, sym, subst, arith, length, rules}
+use Rattle.std.proofs.Common.{◌≡◌, refl, sym, subst, arith, length, rules}
 use Rattle.std.specs.Prelude.{IsTrue}
 use Rattle.pot_recover.specs.Contents.{IsTail}
 use Rattle.pot_recover.proofs.ContentLemmas.{tail_of}

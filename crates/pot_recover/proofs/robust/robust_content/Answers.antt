@@ -1,4 +1,3 @@
-use Rattle.pot_recover.proofs.LongLemmas.{group_searched}
 use Rattle.std.proofs.Common.{◌≡◌, refl, sym, subst, arith, length, rules}
 use Rattle.pot_object.specs.Contents.{IsContent}
 use Rattle.pot_recover.proofs.RobustLemmas.{none_given, one_robust}

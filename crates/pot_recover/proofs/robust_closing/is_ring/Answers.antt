@@ -1,4 +1,4 @@
-use Rattle.std.proofs.Common.{◌≡◌, ◌-◌, ◌∙◌, length, get_or, sym, arith, nat_eq}
+use Rattle.std.proofs.Common.{◌-◌, ◌∙◌, length, get_or, sym, arith}
 use Rattle.std.proofs.lemmas.Bool.{eqb-true, eq-eqb}
 use Rattle.std.proofs.lemmas.List.{get_or_default}
 use Rattle.pot_recover.proofs.ClosingLemmas.{nobody}

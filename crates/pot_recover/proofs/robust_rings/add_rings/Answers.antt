@@ -2,7 +2,7 @@ use Rattle.std.proofs.Common.{◌↔◌, ◌⊎◌, inl, inr, List, ℕ, arith, 
 use Rattle.std.proofs.lemmas.List.{take_all}
 use Rattle.pot_chains.specs.Listed.{IsIn}
 use Rattle.pot_chains.proofs.ListedLemmas.{in_get_or}
-use Rattle.pot_recover.specs.Groups.{shards_in, shards_at, parts_of}
+use Rattle.pot_recover.specs.Groups.{shards_at, parts_of}
 use Rattle.pot_recover.specs.LongScopes.{IsRobustlyFoundAmong}
 use Rattle.pot_recover.specs.Robust.{ClosesRobustlyAsRing}
 use Rattle.pot_recover.proofs.LongLemmas.{whole_of, found_is, among_more}

@@ -1,6 +1,6 @@
 use Rattle.std.proofs.Common.{◌↔◌, ◌⊎◌, List, ℕ, take}
 use Rattle.pot_chains.specs.Listed.{IsIn}
-use Rattle.pot_recover.specs.Groups.{shards_in, parts_of}
+use Rattle.pot_recover.specs.Groups.{parts_of}
 use Rattle.pot_recover.specs.LongScopes.{IsRobustlyFoundAmong}
 use Rattle.pot_recover.proofs.robust_rings.add_rings.Given as goal
 

@@ -1,4 +1,4 @@
-use Rattle.std.proofs.Common.{◌≡◌, ◌-◌, ◌∙◌, ℕ, List, length, ap, sym, subst, arith}
+use Rattle.std.proofs.Common.{◌-◌, ℕ, List, length, ap, sym, subst, arith}
 use Rattle.std.proofs.lemmas.Result.{on_ok_weaker}
 use Rattle.pot_chains.specs.Levels.{IsPath, IsPathBelow, AreLevels}
 use Rattle.pot_chains.specs.Listed.{IsListed, AreAbove, HasGrown}
