@@ -125,8 +125,9 @@ class Scene:
         """Opens the table over the archives of its columns."""
         if self.group is not None:
             return "open already"
-        if self.log is None and not all(self.take_in(entry) for entry in self.had):
+        if not all(self.take_in(entry) for entry in self.had):
             return "no table"
+        self.had = []
         if self.table.relays:
             return "relays stand"
         self.group = Group(5, self.table, {number: self.archive(number) for number in self.table.uses()})
@@ -134,10 +135,10 @@ class Scene:
 
     def take_in(self, entry):
         """Applies an entry that led to the table, if it is legal."""
-        if not self.table.legal(entry):
-            return False
-        self.table.apply(entry)
-        return True
+        is_legal = self.table.legal(entry)
+        if is_legal:
+            self.table.apply(entry)
+        return is_legal
 
     def step_close(self):
         """Ends the group."""
