@@ -6,6 +6,7 @@ use Rattle.pot_script.specs.declared.command.Command.{Command}
 use Rattle.pot_image.specs.declared.image.Image.{Image}
 use Rattle.pot_image.specs.Images.{Contents, contents, AnswersImage}
 use Rattle.pot_image.specs.Rules.{FitsTogether}
+use Rattle.pot_image.proofs.ImageBack.{answers_back}
 use Rattle.pot_image.proofs.ImageKept.{numbered_kept}
 use Rattle.pot_replies.specs.Sections.{Section, Follows}
 use Rattle.pot_commands.specs.declared.working.Ending.{Ending}
@@ -21,7 +22,9 @@ use Rattle.pot_session.specs.Runs.{Holds, Stopped, Served, IsOf, seen_by}
 use Rattle.pot_session.specs.Serving.{Serves, Unopened, Closed, IsClosed, Rooms, rooms_by, Leaves, IsBack, HoldsAfter, setting_of, status_after}
 use Rattle.pot_session.specs.Stops.{Refuses, status_of}
 use Rattle.pot_session.proofs.BeginLemmas.{begun_fits}
-use Rattle.pot_promises.specs.Runs.{IsDone, RanAs, RunsAreSessions}
+use Rattle.std.proofs.lemmas.Option.{same_Some}
+use Rattle.pot_image.specs.Spelling.{image_bytes}
+use Rattle.pot_promises.specs.Runs.{IsDone, RanAs, RunsAreSessions, RunsGoOn}
 
 -- no stop gives such a status
 not_done : (s : Stop) → IsDone (status_of s) → ⊥
@@ -55,7 +58,7 @@ image_fits held i (bytes, is, answers) = by_length answers
     by_length (inr (enough, inr marked)) = numbered_kept bytes (Ok i) marked.1
 
 -- nothing was added behind
-none_behind : Section → Section
+abbrev none_behind : Section → Section
 none_behind w = record {
   before = λ g. w.before g ++ w.added g;
   added = λ g. [];
@@ -127,3 +130,15 @@ module _ (seed : List ℕ) (source_tells sink_tells desk_tells room_tells : Bool
 pub runs_are_sessions : RunsAreSessions
 runs_are_sessions seed source_tells sink_tells desk_tells room_tells input rest before after held holds meant means answer it done told =
     held_as seed source_tells sink_tells desk_tells room_tells input rest before after held holds meant means answer done told it
+
+-- THE NEXT RUN
+
+pub runs_go_on : RunsGoOn
+runs_go_on last held read is_image has (bytes, is, answers) =
+    let same : bytes ≡ image_bytes last = same_Some bytes (image_bytes last) (sym is ∙ has) in
+    let it : contents read ≡ last = answers_back last is_image (Ok read) (subst (λ b. AnswersImage b (Ok read)) same answers) in
+    record {
+      rack = ap (λ (v : Contents). v.rack) it;
+      tables = ap (λ (v : Contents). v.tables) it;
+      records = ap (λ (v : Contents). v.records) it;
+    }

@@ -5,7 +5,7 @@ use Rattle.pot_script.specs.declared.command.Command.{Command}
 use Rattle.pot_script.specs.declared.reply.Reply.{Reply}
 use Rattle.pot_image.specs.declared.image.Image.{Image}
 use Rattle.pot_image.specs.Images.{Contents, contents}
-use Rattle.pot_image.specs.Rules.{FitsTogether}
+use Rattle.pot_image.specs.Rules.{FitsTogether, IsImage}
 use Rattle.pot_image.specs.Spelling.{image_bytes}
 use Rattle.pot_commands.specs.Ends.{texts_of}
 use Rattle.pot_session.specs.declared.status.Status.{Status}
@@ -13,7 +13,7 @@ use Rattle.pot_session.specs.declared.status.Status.TheVariants as status
 use Rattle.pot_session.specs.Commands.{IsRead}
 use Rattle.pot_session.specs.Desks.{HoldsImage, begun}
 use Rattle.pot_session.specs.Runs.{Holds, seen_by}
-use Rattle.pot_promises.specs.Chains.{IsSession}
+use Rattle.pot_promises.specs.Chains.{IsSession, Begins}
 
 -- the statuses of a run whose commands were all answered
 abbrev pub IsDone : Status → Type 0
@@ -44,3 +44,9 @@ RunsAreSessions =
     → Holds seed (seen_by (IsTrue source_tells) input rest (IsTrue sink_tells) before after (IsTrue desk_tells) held holds (IsTrue room_tells) meant means) answer
     → IsDone answer → IsTrue desk_tells
     → RanAs seed (IsTrue source_tells) input (IsTrue sink_tells) before after held holds
+
+-- Where a run left an image on its desk, and the image keeps the rules of images, the next run begins with it.
+abbrev pub RunsGoOn : Type 0
+RunsGoOn =
+    (last : Contents) (held : Option (List ℕ)) (read : Image) → IsImage last → held ≡ Some (image_bytes last) → HoldsImage held read
+    → Begins last (begun (contents read))
