@@ -1,5 +1,5 @@
 -- A file that was stored is what a later fetch gives.
-use Rattle.std.proofs.Common.{◌≡◌, ◌+◌, ◌<◌, ℕ, zero, suc, true, List, [], ◌∷◌, ◌++◌, Option, Some, length, refl, ap, sym, ◌∙◌, subst, arith}
+use Rattle.std.proofs.Common.{◌≡◌, ◌+◌, ◌<◌, ℕ, zero, suc, true, List, [], ◌∷◌, ◌++◌, Some, refl, ap, sym, ◌∙◌, subst, arith}
 use Rattle.std.specs.Prelude.{Contains, slice_get}
 use Rattle.std.specs.List.{IsDistinct}
 use Rattle.std.proofs.lemmas.Option.{same_Some}
@@ -23,14 +23,14 @@ use Rattle.pot_image.specs.Images.{Contents}
 use Rattle.pot_image.specs.Rules.{FitsTogether}
 use Rattle.pot_replies.specs.Digests.{NoTwoAlike}
 use Rattle.pot_replies.specs.Sections.{Section, Halves, names_after, work_of}
-use Rattle.pot_replies.specs.Sessions.{One, AreSections, Answers}
+use Rattle.pot_replies.specs.Sessions.{AreSections, Answers}
 use Rattle.pot_replies.specs.Settings.{Setting}
 use Rattle.pot_commands.specs.Rows.{Row, IsStoreReply, IsFetchReply}
 use Rattle.pot_commands.specs.Ends.{steps_of}
 use Rattle.pot_commands.proofs.Logs.{names_to}
 use Rattle.pot_session.specs.Serving.{setting_of}
 use Rattle.pot_promises.specs.Answers.{IsAnswered, count_replies, reply_place}
-use Rattle.pot_promises.specs.Chains.{IsSession, Begins, Leaves, Later, Same, More}
+use Rattle.pot_promises.specs.Chains.{IsSession, Begins, Later, Same, More}
 use Rattle.pot_promises.specs.Promises.{GivesBack, GivesBackLater}
 use Rattle.pot_promises.proofs.Keeping.{Has, still_has, published_has, found_digest}
 use Rattle.pot_promises.proofs.Replying.{as_many, element_behind, own_entry}

@@ -1,5 +1,5 @@
 -- A run that ends well is a session.
-use Rattle.std.proofs.Common.{◌≡◌, ◌⊎◌, inl, inr, ℕ, List, [], ◌++◌, Option, Result, Ok, Err, Bool, refl, ap, sym, ◌∙◌, subst, append-nil}
+use Rattle.std.proofs.Common.{◌≡◌, inl, inr, ℕ, List, [], ◌++◌, Option, Result, Ok, Err, Bool, refl, ap, sym, ◌∙◌, subst, append-nil}
 use Rattle.std.specs.Prelude.{IsTrue}
 use Rattle.pot_outside.specs.Archives.{Meaning}
 use Rattle.pot_script.specs.declared.command.Command.{Command}
@@ -13,12 +13,11 @@ use Rattle.pot_commands.specs.declared.working.Ending.{Ending}
 use Rattle.pot_commands.specs.declared.working.Ending.TheVariants as ending
 use Rattle.pot_commands.specs.Ends.{EndsOver}
 use Rattle.pot_session.specs.declared.status.Status.{Status}
-use Rattle.pot_session.specs.declared.status.Status.TheVariants as status
 use Rattle.pot_session.specs.declared.stop.Stop.{Stop}
 use Rattle.pot_session.specs.declared.stop.Stop.TheVariants as stop
 use Rattle.pot_session.specs.Commands.{IsRead}
 use Rattle.pot_session.specs.Desks.{HoldsImage, begun}
-use Rattle.pot_session.specs.Runs.{Holds, Stopped, Served, IsOf, seen_by}
+use Rattle.pot_session.specs.Runs.{Holds, Stopped, Served, seen_by}
 use Rattle.pot_session.specs.Serving.{Serves, Unopened, Closed, IsClosed, Rooms, rooms_by, Leaves, IsBack, HoldsAfter, setting_of, status_after}
 use Rattle.pot_session.specs.Stops.{Refuses, status_of}
 use Rattle.pot_session.proofs.BeginLemmas.{begun_fits}
