@@ -35,15 +35,15 @@ abbrev pub borne_of : List Shard → ℕ
 borne_of ring = borne (length ring) (need_of ring)
 
 pub record AlteredLaws : Type 0 where
-  -- A ring closes robustly with the content with which it closed, where no more of its shares were altered than may be wrong.
+  -- A ring of which no more shares were altered than may be wrong closes robustly with the content with which it closed.
   pub shares : (ring altered : List Shard) (content : List ℕ) → HasOtherShares ring altered
       → altered_shares ring altered ≤ borne_of ring
       → IsRing ring → Closes ring content → ClosesRobustlyAsRing altered content
-  -- So it does where at each of the 992 places no more of them were altered: all shares may then have wrong bytes.
+  -- So does one of which no more were altered at each of the 992 places: all its shares may then have wrong bytes.
   pub places : (ring altered : List Shard) (content : List ℕ) → HasOtherShares ring altered
       → ((k : ℕ) → k < 992 → distance (bytes_at k ring) (bytes_at k altered) ≤ borne_of ring)
       → IsRing ring → Closes ring content → ClosesRobustlyAsRing altered content
-  -- It closes robustly with that content alone.
+  -- A ring of held shards closes robustly with one content at most.
   pub only : (blocks : List (List ℕ)) (bits : ℕ) (ring : List Shard) (a b : List ℕ)
       → ((s : Shard) → IsHeld blocks bits s → AreBytes s.share) → AreAll (IsHeld blocks bits) ring
       → ClosesRobustlyAsRing ring a → ClosesRobustlyAsRing ring b → a ≡ b
