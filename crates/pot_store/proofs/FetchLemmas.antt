@@ -51,7 +51,7 @@ use Rattle.pot_store.proofs.StoredLemmas.{from_blocks, same_file}
 use Rattle.pot_store.proofs.FilledLemmas.{filled_of}
 use Rattle.pot_store.proofs.GoneLemmas.{GoneTwice, has_origin, live_is}
 use Rattle.pot_store.proofs.FitLemmas.{there_is, has_slot, many_places}
-use Rattle.pot_store.proofs.RowLemmas.{entries, file_row, odd_row}
+use Rattle.pot_store.proofs.RowLemmas.{entries, file_row, file_kept, odd_row}
 use Rattle.pot_store.proofs.ShortLemmas.{lost_row, fault_row, full_row}
 use Rattle.pot_store.proofs.LookLemmas.{AreVisits, came_past}
 use Rattle.pot_store.proofs.SearchLemmas.{search_work, search_own, search_gain, met_names, found_fits}
@@ -194,6 +194,12 @@ module _ (job : ℕ) (name : List ℕ) (rack : Rack) (names turn : List TurnName
     record_row (Err (fault.Faulted group column)) is = refused_row (fault.Faulted group column, is)
     record_row (Err (fault.Lost piece number have m)) is = refused_row (fault.Lost piece number have m, is)
     record_row (Err (fault.LogFull group)) is = refused_row (fault.LogFull group, is)
+
+    -- the record of a file is the one that was found
+    pub record_kept : (bytes : Vec ℕ Global) (ends : EndsFetch kept visits (Ok bytes) w) → (record_row (Ok bytes) ends).kept ≡ kept
+    unfolding record_row
+    record_kept bytes (contents, file, digest) =
+        file_kept s rack job name kept all visits fits logs (file_room contents bytes.items file) are found contents bytes.items file digest
 
     -- no memory, with these visits
     pub unfinished : length visits ≤ length kept.places → IsUnfinished s job name all

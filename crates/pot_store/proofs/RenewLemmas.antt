@@ -75,14 +75,13 @@ use Rattle.pot_store.specs.Visits.{Visit, is_begin_at}
 use Rattle.pot_store.specs.Works.{of_job, gained, known, section_of, JobWorked, JobAlone, IsSettingOf}
 use Rattle.pot_store.proofs.EndLemmas.{fault_wider}
 use Rattle.pot_store.proofs.EntryLemmas.{mends_then}
-use Rattle.pot_store.proofs.FetchLemmas.{all_work, record_row, fits, found, logs, are, file_room, unfinished}
+use Rattle.pot_store.proofs.FetchLemmas.{all_work, record_row, record_kept, fits, found, logs, are, file_room, unfinished}
 use Rattle.pot_store.proofs.FitLemmas.{apart}
 use Rattle.pot_store.proofs.IndexLemmas.{names_to, index_seen}
 use Rattle.pot_store.proofs.SearchLemmas.{search_work, met_rack, absent_row, silent_row, index_full_row as index_full}
 use Rattle.pot_store.proofs.PublishLemmas.{fits_split, sees_split}
 use Rattle.pot_store.proofs.PutLemmas.{take_all}
 use Rattle.pot_store.proofs.ReadLemmas.{both_gained, no_reads, seen_parts}
-use Rattle.pot_store.proofs.RowLemmas.{file_row}
 use Rattle.pot_store.proofs.StoreLemmas.{cut_at, digest_is, first_is, leads_to, seen_length}
 use Rattle.pot_store.proofs.WorkLemmas.{all_none, all_one, known_work, known_none, row_stays, index_idle, index_work, index_own, own_more, index_own_more, work_more, alone_parts}
 
@@ -233,8 +232,8 @@ module _ (job : ℕ) (name : List ℕ) (rack : Rack) (names turn : List TurnName
 
     -- it is the record that was found
     same_kept : read_file.kept ≡ kept
-    unfolding read_file record_row file_row
-    same_kept = refl
+    unfolding read_file
+    same_kept = record_kept job name rack names turn u v w ui wi kept ready count index_ready knows call visits reads both_alone.0 s set mends filled bytes ends
 
     own_parts : (g : ℕ) → own job (all_section.added g) ≡ own job (fetch_section.added g) ++ own job (gained w y g)
     own_parts g = own_more job u w y fetch_work.groups behind.groups g

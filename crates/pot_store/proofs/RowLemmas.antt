@@ -73,6 +73,11 @@ module _ (s : Setting) (rack : Rack) (job : ℕ) (name : List ℕ) (kept : Recor
     pub file_row : digest_of bytes ≡ kept.digest → IsFile s job name bytes w
     file_row digest = record { kept = kept; found = found; entries = entries; sees = sees; long = file.long; digest = digest }
 
+    -- it is of the record that was found
+    pub file_kept : (digest : digest_of bytes ≡ kept.digest) → (file_row digest).kept ≡ kept
+    unfolding file_row
+    file_kept digest = refl
+
     abbrev block : ℕ → ℕ → ℕ → Option (List ℕ)
     block i j x = block_in (came_at vs ((i * k + j) * n + x))
 
