@@ -310,12 +310,18 @@ class Story:
         return scene.step(words)
 
     def told(self):
-        """The story as it is printed."""
+        """The story as it is printed; variants come before the blank lines and comments at its end."""
+        ends = []
         for lines, outcome in self.tell():
-            yield from lines
+            if lines[0] == "" or lines[0].startswith("#"):
+                ends += lines
+                continue
+            yield from ends + lines
             yield from ("  " + line for line in outcome)
+            ends = []
         for at, words in self.each_lines():
             yield from self.variants(at, words)
+        yield from ends
 
     def variants(self, at, words):
         """The lines of the variants of an `each` line: those of one outcome in a row share one."""
