@@ -26,27 +26,23 @@ pub enum Change {
     Crowd { each: u32 },
 }
 
-/// A shard that closes a ring with each of the other point.
-fn forged(x: u8, name: u32) -> Block {
-    let shard = Shard {
-        x,
-        m: 2,
-        n: 2,
-        blur: 63,
-        name: u64::from(name),
-        pointer: 0,
-        share: [0; 992],
-    };
-    let mut block = Block::zero();
-    encode_shard(&shard, &mut block);
-    block
-}
-
+/// Shards that close a ring with each of the other point.
 fn crowd(archive: &mut LossyArchive, each: u32) -> Result<(), Fault> {
-    for name in 0..each {
-        for x in [1u8, 2] {
-            let slot = name.saturating_mul(2).saturating_add(u32::from(x) - 1);
-            if archive.write(slot, &forged(x, name)).is_err() {
+    for (x, first) in [(1, 0), (2, 1)] {
+        for name in 0..each {
+            let shard = Shard {
+                x,
+                m: 2,
+                n: 2,
+                blur: 63,
+                name: u64::from(name),
+                pointer: 0,
+                share: [0; 992],
+            };
+            let mut block = Block::zero();
+            encode_shard(&shard, &mut block);
+            let slot = name.saturating_mul(2).saturating_add(first);
+            if archive.write(slot, &block).is_err() {
                 return Err(Fault::NoStep);
             }
         }

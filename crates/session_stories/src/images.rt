@@ -100,11 +100,19 @@ fn tell_record(alloc: Global, record: &Record, told: &mut Told) -> Result<(), Fa
     tell_split(alloc, record.geometry, record.places.as_slice(), told)
 }
 
-/// All fields but slots and logs.
+/// The head, and the tables but for their slots.
 fn tell_fields(alloc: Global, image: &Image, told: &mut Told) -> Result<(), Fault> {
     tell_head(alloc, image, told)?;
     for (group, table) in image.tables.iter().enumerate() {
         tell_table(alloc, group, table, told)?;
+    }
+    Ok(())
+}
+
+/// The records of all files.
+fn tell_records(alloc: Global, image: &Image, told: &mut Told) -> Result<(), Fault> {
+    if image.records.is_empty() {
+        return told.outcome("no records");
     }
     for record in &image.records {
         tell_record(alloc, record, told)?;
@@ -164,6 +172,7 @@ pub fn tell_image(alloc: Global, bytes: &[u8], word: &str, told: &mut Told) -> R
     };
     match word {
         "fields" => tell_fields(alloc, &image, told),
+        "records" => tell_records(alloc, &image, told),
         "slots" => tell_slots(alloc, &image, told),
         "logs" => tell_logs(alloc, &image, told),
         _ => Err(Fault::NoStep),

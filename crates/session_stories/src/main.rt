@@ -30,13 +30,19 @@ use std::sync::Wait;
 use story::tell_in_turn;
 use told::Told;
 
-/// The places at which stories begin, and that of the end.
+/// The places at which stories begin, and that of the end. What is said directly above a title belongs to its story.
 fn starts_of(alloc: Global, lines: &[&str]) -> Result<Vec<usize>, AllocError> {
     let mut starts = Vec::new(alloc);
+    let mut above = None;
     for (at, line) in lines.iter().enumerate() {
-        if at == 0 || line.starts_with("= ") {
-            starts.push(at)?;
+        if line.starts_with("= ") {
+            starts.push(if starts.is_empty() { 0 } else { above.unwrap_or(at) })?;
         }
+        above = if line.is_empty() || line.starts_with('#') {
+            above.or(Some(at))
+        } else {
+            None
+        };
     }
     starts.push(lines.len())?;
     Ok(starts)

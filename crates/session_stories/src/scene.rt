@@ -24,18 +24,18 @@ pub struct Turn {
 
 /// A call of the program that was not made yet: its words, and its script so far.
 #[derive(Drop)]
-struct Pending<'a> {
-    words: &'a str,
+struct Pending {
+    words: String,
     script: Vec<u8>,
 }
 
 /// A story as it goes on.
 #[derive(Drop)]
-pub struct Scene<'a> {
+pub struct Scene {
     alloc: Global,
     turn: Option<Turn>,
     outside: Outside,
-    pending: Option<Pending<'a>>,
+    pending: Option<Pending>,
 }
 
 /// Adds what a line says of the whole story.
@@ -88,9 +88,9 @@ fn troubles_of(alloc: Global, story: &[&str], turn: Option<Turn>) -> Result<Trou
     Ok(troubles)
 }
 
-impl<'a> Scene<'a> {
+impl Scene {
     /// The beginning of a story, in which it is this turn of a line `each`, or none.
-    pub fn new(alloc: Global, story: &[&str], turn: Option<Turn>) -> Result<Scene<'a>, Fault> {
+    pub fn new(alloc: Global, story: &[&str], turn: Option<Turn>) -> Result<Scene, Fault> {
         let troubles = troubles_of(alloc, story, turn)?;
         Ok(Scene {
             alloc,
@@ -100,13 +100,22 @@ impl<'a> Scene<'a> {
         })
     }
 
+    /// Begins a call of the program, which is made behind its script.
+    fn begin_call(&mut self, words: &str) -> Result<(), Fault> {
+        self.pending = Some(Pending {
+            words: String::from_str(self.alloc, words)?,
+            script: Vec::new(self.alloc),
+        });
+        Ok(())
+    }
+
     /// Makes the call that was not made yet, and tells what came of it.
     pub fn make_call<X: Wait>(&mut self, rt: &X, told: &mut Told) -> Result<(), Fault> {
         let alloc = self.alloc;
         let Some(Pending { words, script }) = self.pending.take() else {
             return Ok(());
         };
-        let (status, written) = self.outside.call(rt, alloc, words, script)?;
+        let (status, written) = self.outside.call(rt, alloc, &words, script)?;
         told.outcome(&format!(in alloc; "status {status}")?)?;
         tell_written(alloc, &written, told)
     }
@@ -116,7 +125,7 @@ impl<'a> Scene<'a> {
         &mut self,
         rt: &X,
         at: usize,
-        line: &'a str,
+        line: &str,
         told: &mut Told,
     ) -> Result<(), Fault> {
         if is_part(line) {
@@ -132,18 +141,11 @@ impl<'a> Scene<'a> {
     }
 
     /// Takes the step that a line says.
-    fn step(&mut self, at: usize, line: &'a str, told: &mut Told) -> Result<(), Fault> {
+    fn step(&mut self, at: usize, line: &str, told: &mut Told) -> Result<(), Fault> {
         let (word, rest) = line.split_once(' ').unwrap_or((line, ""));
         let alloc = self.alloc;
         match word {
-            "$" => {
-                let script = Vec::new(alloc);
-                self.pending = Some(Pending {
-                    words: rest,
-                    script,
-                });
-                Ok(())
-            }
+            "$" => self.begin_call(rest),
             "each" => self.take_turn(at, rest, told),
             "drawn" => {
                 self.outside.drawn = byte_of(rest)?;
@@ -151,7 +153,7 @@ impl<'a> Scene<'a> {
             }
             "fail" => self.fail(rest),
             "lose" | "empty" | "alter" | "crowd" => self.change_blocks(word, rest),
-            "fields" | "slots" | "logs" => self.look_into_image(word, told),
+            "fields" | "records" | "slots" | "logs" => self.look_into_image(word, told),
             "image" | "blocks" | "heard" | "room" => tell_look(alloc, &self.outside, word, told),
             "=" | "" => Ok(()),
             _ if line.starts_with('#') => Ok(()),

@@ -83,6 +83,15 @@ impl Turns {
         Ok(set)
     }
 
+    /// How many sets of the archives there are.
+    fn sets(&self) -> u32 {
+        let mut sets: u32 = 1;
+        for _ in &self.archives {
+            sets = sets.saturating_mul(2);
+        }
+        sets
+    }
+
     /// All numbers, ascending.
     pub fn numbers(&self, alloc: Global) -> Result<Vec<u32>, Fault> {
         let mut numbers = Vec::new(alloc);
@@ -92,9 +101,9 @@ impl Turns {
             }
             return Ok(numbers);
         }
-        for number in 0..=u32::from(u16::MAX) {
+        for number in 0..self.sets() {
             let count = number.count_ones();
-            if number >> self.archives.len() == 0 && self.first <= count && count <= self.last {
+            if self.first <= count && count <= self.last {
                 numbers.push(number)?;
             }
         }
