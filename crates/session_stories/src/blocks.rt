@@ -3,6 +3,7 @@ ghost use Rattle.std.specs.Prelude.{◌≡◌, ℕ, false};
 ghost use Rattle.pot_doubles.specs.Rooms.{is_out};
 
 use crate::fault::Fault;
+use crate::outside::Outside;
 use crate::words::{byte_of, numbers_of};
 use pot_bytes::Block;
 use pot_doubles::{LossyArchive, MemRoom};
@@ -88,7 +89,7 @@ fn apply(archive: &mut LossyArchive, change: Change) -> Result<(), Fault> {
 }
 
 /// Changes the blocks of an archive, which is taken from the room and given back.
-pub fn change_archive(room: &mut MemRoom, number: u32, change: Change) -> Result<(), Fault>
+fn change_in(room: &mut MemRoom, number: u32, change: Change) -> Result<(), Fault>
     requires home { (n : ℕ) → is_out room.old n ≡ false }
     ensures home { (n : ℕ) → is_out room.new n ≡ false }
 {
@@ -100,6 +101,11 @@ pub fn change_archive(room: &mut MemRoom, number: u32, change: Change) -> Result
         Ok(()) => applied,
         Err(_) => Err(Fault::NoStep),
     }
+}
+
+/// Changes the blocks of an archive.
+fn change_archive(outside: &mut Outside, number: u32, change: Change) -> Result<(), Fault> {
+    change_in(&mut outside.room, number, change)
 }
 
 /// The change of an archive's blocks that a line says, and the archive.
@@ -128,25 +134,24 @@ fn one_change(alloc: Global, word: &str, rest: &str) -> Result<(u32, Change), Fa
 }
 
 /// Loses all blocks of these archives.
-pub fn empty_all(room: &mut MemRoom, archives: &[u32]) -> Result<(), Fault>
-    requires home { (n : ℕ) → is_out room.old n ≡ false }
-    ensures home { (n : ℕ) → is_out room.new n ≡ false }
-{
+pub fn empty_all(outside: &mut Outside, archives: &[u32]) -> Result<(), Fault> {
     for archive in archives {
-        change_archive(room, *archive, Change::Empty)?;
+        change_archive(outside, *archive, Change::Empty)?;
     }
     Ok(())
 }
 
 /// Changes blocks as a line says.
-pub fn change_blocks(alloc: Global, room: &mut MemRoom, word: &str, rest: &str) -> Result<(), Fault>
-    requires home { (n : ℕ) → is_out room.old n ≡ false }
-    ensures home { (n : ℕ) → is_out room.new n ≡ false }
-{
+pub fn change_blocks(
+    alloc: Global,
+    outside: &mut Outside,
+    word: &str,
+    rest: &str,
+) -> Result<(), Fault> {
     if word == "empty" {
         let archives = numbers_of(alloc, rest)?;
-        return empty_all(room, &archives);
+        return empty_all(outside, &archives);
     }
     let (archive, what) = one_change(alloc, word, rest)?;
-    change_archive(room, archive, what)
+    change_archive(outside, archive, what)
 }

@@ -1,4 +1,6 @@
 //! What stands in the desk's image.
+ghost use Rattle.std.specs.Prelude.{◌<◌};
+
 use crate::fault::Fault;
 use crate::logs::tell_logs;
 use crate::told::Told;

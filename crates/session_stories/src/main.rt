@@ -36,7 +36,11 @@ fn starts_of(alloc: Global, lines: &[&str]) -> Result<Vec<usize>, AllocError> {
     let mut above = None;
     for (at, line) in lines.iter().enumerate() {
         if line.starts_with("= ") {
-            starts.push(if starts.is_empty() { 0 } else { above.unwrap_or(at) })?;
+            starts.push(if starts.is_empty() {
+                0
+            } else {
+                above.unwrap_or(at)
+            })?;
         }
         above = if line.is_empty() || line.starts_with('#') {
             above.or(Some(at))

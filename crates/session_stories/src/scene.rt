@@ -182,7 +182,7 @@ impl Scene {
         if word == "lose" && numbers_of(self.alloc, rest)?.len() == 3 {
             return Ok(());
         }
-        change_blocks(self.alloc, &mut self.outside.room, word, rest)
+        change_blocks(self.alloc, &mut self.outside, word, rest)
     }
 
     /// Tells what stands in the image.
@@ -214,7 +214,7 @@ impl Scene {
             }
             Event::ArchivesAreEmptied => {
                 let set = turns.set(alloc, turn.number)?;
-                empty_all(&mut self.outside.room, &set)?;
+                empty_all(&mut self.outside, &set)?;
             }
         }
         Ok(())

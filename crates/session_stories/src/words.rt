@@ -1,6 +1,5 @@
 //! The words of a line.
 use crate::fault::Fault;
-use hex::FromHex;
 use pot_bytes::digest_of;
 use std::alloc::{AllocError, Global};
 
@@ -25,8 +24,9 @@ pub fn bytes_of(alloc: Global, word: &str) -> Result<Vec<u8>, Fault> {
 
 /// The byte that a word spells by two digits.
 pub fn byte_of(word: &str) -> Result<u8, Fault> {
-    match <[u8; 1] as FromHex>::from_hex(word) {
-        Ok([byte]) => Ok(byte),
+    let mut bytes = [0; 1];
+    match hex::decode_to_slice(word, &mut bytes) {
+        Ok(()) => Ok(bytes[0]),
         Err(_) => Err(Fault::NoStep),
     }
 }
