@@ -16,8 +16,6 @@ mod archives;
 mod asking;
 mod closing;
 mod desk;
-#[cfg(test)]
-mod drill_tests;
 mod drilling;
 mod groups;
 mod intake;
@@ -27,20 +25,14 @@ mod making;
 mod opening;
 mod pairing;
 mod preparing;
-#[cfg(test)]
-mod recover_tests;
 mod recovering;
 mod refusing;
-#[cfg(test)]
-mod row_tests;
 mod scripting;
 mod serving;
 mod spelling;
 mod status;
 mod stop;
 mod telling;
-#[cfg(test)]
-mod tests;
 mod top;
 
 pub use laws::loss_laws;
