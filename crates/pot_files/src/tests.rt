@@ -1,6 +1,6 @@
 use crate::advice::advice_at;
 use crate::desk::DeskFile;
-use crate::drawn;
+use crate::seed::drawn;
 use crate::folder::Folder;
 use pot_bytes::Block;
 use pot_outside::{Archive, Desk, DeskFault, Held, Room};
