@@ -1,4 +1,5 @@
 pub mod Parts
+pub mod Readings
 pub mod ReplyKinds
 pub mod ReplyWords
 pub mod ScriptWords

@@ -1,8 +1,9 @@
 -- The words of a reply's first line, and what stands behind that line.
 use Rattle.std.specs.Prelude.{◌≡◌, ◌≤◌, ◌++◌, ◌∷◌, [], ℕ, List, Option, Some, None, length, codes, decimal, flat_map}
 use Rattle.std.specs.List.{AllByRecursion, join_with_byte}
-use Rattle.hex.specs.Hex.{encode_lower}
+use Rattle.hex.specs.Hex.{IsBytes, encode_lower}
 use Rattle.pot_bytes.specs.Names.{IsName}
+use Rattle.pot_bytes.specs.declared.digest.Digest.{Digest}
 use Rattle.pot_index.specs.declared.listed.Listed.{Listed}
 use Rattle.pot_script.specs.declared.reply.Reply.{Reply}
 use Rattle.pot_script.specs.declared.reply.Reply.TheVariants as replies
@@ -57,6 +58,10 @@ IsNumber n = n ≤ 4294967295
 abbrev pub IsByte : ℕ → Type 0
 IsByte n = n ≤ 255
 
+-- 32 bytes
+abbrev pub IsDigest : Digest → Type 0
+IsDigest d = (length d.bytes ≡ 32) × IsBytes d.bytes
+
 -- a published name whose length has 32 bits
 abbrev pub IsListing : Listed → Type 0
 IsListing l = IsName l.name × IsNumber l.length
@@ -78,7 +83,7 @@ IsReply (replies.Full group) = IsByte group
 IsReply (replies.Absent name) = IsName name
 IsReply (replies.Lost name piece fragment have need) =
     IsName name × IsNumber piece × IsByte fragment × IsByte have × IsByte need
-IsReply (replies.Odd name wanted found) = IsName name × (length wanted.bytes ≡ 32) × (length found.bytes ≡ 32)
+IsReply (replies.Odd name wanted found) = IsName name × IsDigest wanted × IsDigest found
 IsReply (replies.Fault group column) = IsByte group × IsByte column
 IsReply (replies.LogFull group) = IsByte group
 IsReply replies.IndexLogFull = Unit {0}

@@ -9,6 +9,18 @@
 //!    a file joined are the file (`parts_are_whole`).
 #![tactic(auto)]
 
+mod fields;
+mod groups;
+mod kind;
+mod lines;
+mod naming;
+mod parts;
+mod rare;
+mod replies;
 mod script;
+mod start;
 
-pub use script::{Word, write_script};
+pub use naming::{LAST_PART, ends_as_part, part_name, part_names};
+pub use parts::{PART_SIZE, count_parts, part, parts_are_whole};
+pub use replies::read_replies;
+pub use script::write_script;
