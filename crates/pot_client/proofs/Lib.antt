@@ -1,5 +1,2 @@
-pub mod FieldLemmas
 pub mod KindLemmas
 pub mod PartLemmas
-pub mod ReadingLemmas
-pub mod ReplyLemmas

@@ -1,15 +1,11 @@
 //! The line that says how a group stands.
 
-ghost use Rattle.std.specs.Prelude.{◌≡◌, ◌≢◌, ◌∷◌, ℕ, List, MatchOption, decimal};
-ghost use Rattle.pot_client.specs.ReplyWords.{IsNumber, ReadsStart};
-ghost use Rattle.pot_client.specs.declared.kind.ReplyKind.TheVariants as kinds;
 
 use crate::start::Start;
 use pot_script::{Reply, Words};
 
 /// `group G live L lost O broken B cursor STRIPE COLUMN`, behind its first word.
 pub fn read_group(mut words: Words) -> Option<Start>
-    ensures { ReadsStart kinds.Group words.entry result }
 {
     let group = words.next_number(255)? as u8;
     let live = next_count(&mut words, b"live")?;
@@ -30,7 +26,6 @@ pub fn read_group(mut words: Words) -> Option<Start>
 
 // The number behind this word, where the word is next.
 fn next_count(words: &mut Words, word: &[u8]) -> Option<u32>
-    ensures { MatchOption result ((n : ℕ) (others : List (List ℕ)) → IsNumber n → words.old ≢ word.now ∷ decimal n ∷ others) (λ n. IsNumber n × (words.old ≡ word.now ∷ decimal n ∷ words.new)) }
 {
     if words.next()? != word {
         return None;

@@ -20,7 +20,7 @@ mod replies;
 mod script;
 mod start;
 
-pub use naming::{LAST_PART, ends_as_part, part_name, part_names};
+pub use naming::{LAST_PART, ends_as_part, part_name};
 pub use parts::{PART_SIZE, count_parts, part, parts_are_whole};
 pub use replies::read_replies;
 pub use script::write_script;

@@ -1,7 +1,5 @@
 //! The first lines of replies, each by the words behind its first.
 
-ghost use Rattle.pot_client.specs.ReplyWords.{ReadsStart};
-ghost use Rattle.pot_client.specs.declared.kind.ReplyKind.TheVariants as kinds;
 
 use crate::fields::{read_name, read_one, read_sized, read_split, read_three, read_two};
 use crate::groups::read_group;
@@ -12,7 +10,6 @@ use pot_script::{Reply, Words};
 
 /// What the first line of a reply of this kind tells that has these words behind its first.
 pub fn read_start(kind: ReplyKind, words: Words) -> Option<Start>
-    ensures { ReadsStart kind words.entry result }
 {
     match kind {
         ReplyKind::Stored => read_stored(words),
@@ -39,7 +36,6 @@ pub fn read_start(kind: ReplyKind, words: Words) -> Option<Start>
 }
 
 fn read_stored(words: Words) -> Option<Start>
-    ensures { ReadsStart kinds.Stored words.entry result }
 {
     let (name, pieces, shards) = read_split(words)?;
     Some(Start::Whole(Reply::Stored {
@@ -50,21 +46,18 @@ fn read_stored(words: Words) -> Option<Start>
 }
 
 fn read_file(words: Words) -> Option<Start>
-    ensures { ReadsStart kinds.File words.entry result }
 {
     let (name, length) = read_sized(words)?;
     Some(Start::File { name, length })
 }
 
 fn read_names(words: Words) -> Option<Start>
-    ensures { ReadsStart kinds.Names words.entry result }
 {
     let count = read_one(words, u32::MAX)?;
     Some(Start::Names { count })
 }
 
 fn read_scrubbed(words: Words) -> Option<Start>
-    ensures { ReadsStart kinds.Scrubbed words.entry result }
 {
     let (group, seen, gone) = read_three(words, 255)?;
     Some(Start::Whole(Reply::Scrubbed {
@@ -75,7 +68,6 @@ fn read_scrubbed(words: Words) -> Option<Start>
 }
 
 fn read_repaired(words: Words) -> Option<Start>
-    ensures { ReadsStart kinds.Repaired words.entry result }
 {
     let (group, mended, left) = read_three(words, 255)?;
     Some(Start::Whole(Reply::Repaired {
@@ -86,21 +78,18 @@ fn read_repaired(words: Words) -> Option<Start>
 }
 
 fn read_replaced(words: Words) -> Option<Start>
-    ensures { ReadsStart kinds.Replaced words.entry result }
 {
     let (from, to, slots) = read_three(words, u32::MAX)?;
     Some(Start::Whole(Reply::Replaced { from, to, slots }))
 }
 
 fn read_migrated(words: Words) -> Option<Start>
-    ensures { ReadsStart kinds.Migrated words.entry result }
 {
     let (from, to, slots) = read_three(words, u32::MAX)?;
     Some(Start::Whole(Reply::Migrated { from, to, slots }))
 }
 
 fn read_long(words: Words) -> Option<Start>
-    ensures { ReadsStart kinds.Long words.entry result }
 {
     let (name, length) = read_sized(words)?;
     Some(Start::Whole(Reply::Long {
@@ -110,49 +99,42 @@ fn read_long(words: Words) -> Option<Start>
 }
 
 fn read_exists(words: Words) -> Option<Start>
-    ensures { ReadsStart kinds.Exists words.entry result }
 {
     let name = read_name(words)?;
     Some(Start::Whole(Reply::Exists { name }))
 }
 
 fn read_full(words: Words) -> Option<Start>
-    ensures { ReadsStart kinds.Full words.entry result }
 {
     let group = read_one(words, 255)?;
     Some(Start::Whole(Reply::Full { group: group as u8 }))
 }
 
 fn read_absent(words: Words) -> Option<Start>
-    ensures { ReadsStart kinds.Absent words.entry result }
 {
     let name = read_name(words)?;
     Some(Start::Whole(Reply::Absent { name }))
 }
 
 fn read_fault(words: Words) -> Option<Start>
-    ensures { ReadsStart kinds.Fault words.entry result }
 {
     let (group, column) = read_two(words)?;
     Some(Start::Whole(Reply::Fault { group, column }))
 }
 
 fn read_noarchive(words: Words) -> Option<Start>
-    ensures { ReadsStart kinds.NoArchive words.entry result }
 {
     let number = read_one(words, u32::MAX)?;
     Some(Start::Whole(Reply::NoArchive { number }))
 }
 
 fn read_inuse(words: Words) -> Option<Start>
-    ensures { ReadsStart kinds.InUse words.entry result }
 {
     let number = read_one(words, u32::MAX)?;
     Some(Start::Whole(Reply::InUse { number }))
 }
 
 fn read_renewed(words: Words) -> Option<Start>
-    ensures { ReadsStart kinds.Renewed words.entry result }
 {
     let (name, pieces, shards) = read_split(words)?;
     Some(Start::Whole(Reply::Renewed {
@@ -163,7 +145,6 @@ fn read_renewed(words: Words) -> Option<Start>
 }
 
 fn read_often(words: Words) -> Option<Start>
-    ensures { ReadsStart kinds.Often words.entry result }
 {
     let name = read_name(words)?;
     Some(Start::Whole(Reply::Often { name }))

@@ -1,8 +1,5 @@
 //! The names of parts, each that of its file with `.p` and four digits behind it.
 
-ghost use Rattle.std.specs.Prelude.{◌≡◌, ◌≢◌, ◌≤◌, ◌<◌, ◌++◌, ℕ, List, true, length, MatchOption};
-ghost use Rattle.pot_bytes.specs.Names.{IsName};
-ghost use Rattle.pot_client.specs.Parts.{ends_as_part, suffix, digit as decimal_digit};
 
 use pot_bytes::Name;
 
@@ -14,7 +11,6 @@ const SUFFIX: usize = 6;
 
 /// The name of a part of a file of this name. None exactly where that is too long, or the number is.
 pub fn part_name(name: &Name, number: u32) -> Option<Name>
-    ensures { MatchOption result (number ≤ 9999 → IsName (name.now ++ suffix number) → ⊥) (λ part. (number ≤ 9999) × (part ≡ name.now ++ suffix number)) }
 {
     if number > LAST_PART {
         return None;
@@ -32,7 +28,6 @@ pub fn part_name(name: &Name, number: u32) -> Option<Name>
 
 // What the name of a part has behind that of its file.
 fn suffix_of(number: u32) -> [u8; SUFFIX]
-    ensures { result ≡ suffix number }
 {
     [
         b'.',
@@ -46,14 +41,12 @@ fn suffix_of(number: u32) -> [u8; SUFFIX]
 
 // The last digit of a number.
 fn digit(number: u32) -> u8
-    ensures { result ≡ decimal_digit number }
 {
     b'0' + (number % 10) as u8
 }
 
 /// Whether a name ends as that of a part does.
 pub fn ends_as_part(name: &Name) -> bool
-    ensures { result ≡ ends_as_part name.now }
 {
     let bytes = name.bytes();
     let start = bytes.len().saturating_sub(SUFFIX);
@@ -64,9 +57,3 @@ pub fn ends_as_part(name: &Name) -> bool
         _ => false,
     }
 }
-
-/// The names of parts tell their files and numbers, and each ends as no name of a whole file does.
-pub fn part_names()
-    ensures apart { (a b : List ℕ) (m n : ℕ) → m ≤ 9999 → n ≤ 9999 → a ++ suffix m ≡ b ++ suffix n → (a ≡ b) × (m ≡ n) }
-    ensures marked { (a : List ℕ) (m : ℕ) → ends_as_part (a ++ suffix m) ≡ true }
-{}

@@ -1,9 +1,5 @@
 //! The lines with fields as no other line has them.
 
-ghost use Rattle.std.specs.Prelude.{◌≡◌, length};
-ghost use Rattle.hex.specs.Hex.{encode_lower};
-ghost use Rattle.pot_client.specs.ReplyWords.{IsOnly, ReadsStart};
-ghost use Rattle.pot_client.specs.declared.kind.ReplyKind.TheVariants as kinds;
 
 use crate::start::Start;
 use hex::{FromHex, encode_to_slice};
@@ -12,7 +8,6 @@ use pot_script::{Reply, Words, read_number};
 
 /// `lost NAME PIECE FRAGMENT HAVE NEED`, behind its first word.
 pub fn read_lost(mut words: Words) -> Option<Start>
-    ensures { ReadsStart kinds.Lost words.entry result }
 {
     let name = words.next_name()?;
     let piece = words.next_number(u32::MAX)?;
@@ -31,7 +26,6 @@ pub fn read_lost(mut words: Words) -> Option<Start>
 
 /// `odd NAME WANTED FOUND`, behind its first word.
 pub fn read_odd(mut words: Words) -> Option<Start>
-    ensures { ReadsStart kinds.Odd words.entry result }
 {
     let name = words.next_name()?;
     let wanted = read_digest(words.next()?)?;
@@ -46,7 +40,6 @@ pub fn read_odd(mut words: Words) -> Option<Start>
 
 // The digest that the 64 hexadecimal digits of lower case write.
 fn read_digest(word: &[u8]) -> Option<Digest>
-    ensures { IsOnly (λ (digest : Digest). (length digest.bytes ≡ 32) × (word.now ≡ encode_lower digest.bytes)) result }
 {
     let bytes = <[u8; 32] as FromHex>::from_hex(word).ok()?;
     let mut digits = [0u8; 64];
@@ -60,7 +53,6 @@ fn read_digest(word: &[u8]) -> Option<Digest>
 
 /// `logfull G` or `logfull index`, behind its first word.
 pub fn read_logfull(mut words: Words) -> Option<Start>
-    ensures { ReadsStart kinds.LogFull words.entry result }
 {
     let word = words.next()?;
     words.end()?;
