@@ -1,12 +1,10 @@
 //! The line that says how a group stands.
 
-
 use crate::start::Start;
 use pot_script::{Reply, Words};
 
 /// `group G live L lost O broken B cursor STRIPE COLUMN`, behind its first word.
-pub fn read_group(mut words: Words) -> Option<Start>
-{
+pub fn read_group(mut words: Words) -> Option<Start> {
     let group = words.next_number(255)? as u8;
     let live = next_count(&mut words, b"live")?;
     let lost = next_count(&mut words, b"lost")?;
@@ -25,8 +23,7 @@ pub fn read_group(mut words: Words) -> Option<Start>
 }
 
 // The number behind this word, where the word is next.
-fn next_count(words: &mut Words, word: &[u8]) -> Option<u32>
-{
+fn next_count(words: &mut Words, word: &[u8]) -> Option<u32> {
     if words.next()? != word {
         return None;
     }

@@ -1,6 +1,5 @@
 //! The names of parts, each that of its file with `.p` and four digits behind it.
 
-
 use pot_bytes::Name;
 
 /// The greatest number of a part.
@@ -10,8 +9,7 @@ pub const LAST_PART: u32 = 9_999;
 const SUFFIX: usize = 6;
 
 /// The name of a part of a file of this name. None exactly where that is too long, or the number is.
-pub fn part_name(name: &Name, number: u32) -> Option<Name>
-{
+pub fn part_name(name: &Name, number: u32) -> Option<Name> {
     if number > LAST_PART {
         return None;
     }
@@ -27,8 +25,7 @@ pub fn part_name(name: &Name, number: u32) -> Option<Name>
 }
 
 // What the name of a part has behind that of its file.
-fn suffix_of(number: u32) -> [u8; SUFFIX]
-{
+fn suffix_of(number: u32) -> [u8; SUFFIX] {
     [
         b'.',
         b'p',
@@ -40,14 +37,12 @@ fn suffix_of(number: u32) -> [u8; SUFFIX]
 }
 
 // The last digit of a number.
-fn digit(number: u32) -> u8
-{
+fn digit(number: u32) -> u8 {
     b'0' + (number % 10) as u8
 }
 
 /// Whether a name ends as that of a part does.
-pub fn ends_as_part(name: &Name) -> bool
-{
+pub fn ends_as_part(name: &Name) -> bool {
     let bytes = name.bytes();
     let start = bytes.len().saturating_sub(SUFFIX);
     match &bytes[start..] {

@@ -1,14 +1,12 @@
 //! The lines with fields as no other line has them.
 
-
 use crate::start::Start;
 use hex::{FromHex, encode_to_slice};
 use pot_bytes::Digest;
 use pot_script::{Reply, Words, read_number};
 
 /// `lost NAME PIECE FRAGMENT HAVE NEED`, behind its first word.
-pub fn read_lost(mut words: Words) -> Option<Start>
-{
+pub fn read_lost(mut words: Words) -> Option<Start> {
     let name = words.next_name()?;
     let piece = words.next_number(u32::MAX)?;
     let fragment = words.next_number(255)? as u8;
@@ -25,8 +23,7 @@ pub fn read_lost(mut words: Words) -> Option<Start>
 }
 
 /// `odd NAME WANTED FOUND`, behind its first word.
-pub fn read_odd(mut words: Words) -> Option<Start>
-{
+pub fn read_odd(mut words: Words) -> Option<Start> {
     let name = words.next_name()?;
     let wanted = read_digest(words.next()?)?;
     let found = read_digest(words.next()?)?;
@@ -39,8 +36,7 @@ pub fn read_odd(mut words: Words) -> Option<Start>
 }
 
 // The digest that the 64 hexadecimal digits of lower case write.
-fn read_digest(word: &[u8]) -> Option<Digest>
-{
+fn read_digest(word: &[u8]) -> Option<Digest> {
     let bytes = <[u8; 32] as FromHex>::from_hex(word).ok()?;
     let mut digits = [0u8; 64];
     encode_to_slice(bytes, &mut digits).ok()?;
@@ -52,8 +48,7 @@ fn read_digest(word: &[u8]) -> Option<Digest>
 }
 
 /// `logfull G` or `logfull index`, behind its first word.
-pub fn read_logfull(mut words: Words) -> Option<Start>
-{
+pub fn read_logfull(mut words: Words) -> Option<Start> {
     let word = words.next()?;
     words.end()?;
     if word == b"index".as_slice() {

@@ -12,8 +12,7 @@ use pot_script::{NameList, Reply, Words, cut_after, cut_at};
 use std::alloc::{AllocError, Global};
 
 /// The replies that a session wrote. None where these bytes are those of no replies.
-pub fn read_replies(alloc: Global, bytes: &[u8]) -> Result<Option<Vec<Reply>>, AllocError>
-{
+pub fn read_replies(alloc: Global, bytes: &[u8]) -> Result<Option<Vec<Reply>>, AllocError> {
     let mut text = Text { left: bytes };
     let mut replies = Vec::new(alloc);
     while !text.left.is_empty() {
@@ -36,17 +35,27 @@ impl<'a> Text<'a> {
     fn next(&mut self, alloc: Global) -> Result<Option<Reply>, AllocError>
         ensures shorter { IfOk result (λ found. IfSome found (λ _. length self.new.left.now < length self.old.left.now)) }
     {
-        match self.next_start() {
-            Some(Start::Whole(reply)) => Ok(Some(reply)),
-            Some(Start::File { name, length }) => self.file(alloc, name, length),
-            Some(Start::Names { count }) => self.names(alloc, count),
-            None => Ok(None),
+        let Some(start) = self.next_start() else {
+            return Ok(None);
+        };
+        self.finish(alloc, start)
+    }
+
+    // The reply whose first line told this.
+    fn finish(&mut self, alloc: Global, start: Start) -> Result<Option<Reply>, AllocError>
+        ensures shorter { length self.new.left.now ≤ length self.old.left.now }
+    {
+        match start {
+            Start::Whole(reply) => Ok(Some(reply)),
+            Start::File { name, length } => self.file(alloc, name, length),
+            Start::Names { count } => self.names(alloc, count),
         }
     }
 
     // The next line, without its LF.
     fn next_line(&mut self) -> Option<&'a [u8]>
         ensures shorter { IfSome result (λ _. length self.new.left.now < length self.old.left.now) }
+        ensures never_longer { length self.new.left.now ≤ length self.old.left.now }
     {
         let (line, rest) = cut_at(self.left, b'\n')?;
         self.left = rest;

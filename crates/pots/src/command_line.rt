@@ -57,14 +57,44 @@ fn over_archives<'a>(
 fn init_command<'a>(alloc: Global) -> Result<Command<'a>, AllocError> {
     Command::new(alloc, "init")
         .about("Make an archive in this folder")
-        .arg(option(alloc, "sites", "N", "Places that hold archives [default: 3]"))?
-        .arg(option(alloc, "survive", "S", "Places that may be lost [default: 1]"))?
-        .arg(option(alloc, "room", "SIZE", "Bytes to keep, as 500K or 20M [default: 4M]"))?
-        .arg(option(alloc, "groups", "G", "Groups of archives, in place of --room"))?
+        .arg(option(
+            alloc,
+            "sites",
+            "N",
+            "Places that hold archives [default: 3]",
+        ))?
+        .arg(option(
+            alloc,
+            "survive",
+            "S",
+            "Places that may be lost [default: 1]",
+        ))?
+        .arg(option(
+            alloc,
+            "room",
+            "SIZE",
+            "Bytes to keep, as 500K or 20M [default: 4M]",
+        ))?
+        .arg(option(
+            alloc,
+            "groups",
+            "G",
+            "Groups of archives, in place of --room",
+        ))?
         .arg(option(alloc, "columns", "C", "Data archives of a group"))?
         .arg(option(alloc, "parity", "P", "Parity archives of a group, 1 or 2"))?
-        .arg(option(alloc, "stripes", "Z", "Blocks of an archive, in place of --room"))?
-        .arg(option(alloc, "fragments", "K", "Fragments of a piece, all of them needed"))?
+        .arg(option(
+            alloc,
+            "stripes",
+            "Z",
+            "Blocks of an archive, in place of --room",
+        ))?
+        .arg(option(
+            alloc,
+            "fragments",
+            "K",
+            "Fragments of a piece, all of them needed",
+        ))?
         .arg(option(alloc, "need", "M", "Shards that give a fragment back"))?
         .arg(option(alloc, "shards", "N", "Shards of a fragment"))?
         .arg(option(alloc, "blur", "B", "Low bits that a pointer leaves out"))?
@@ -92,16 +122,30 @@ fn file_commands<'a>(alloc: Global, app: Command<'a>) -> Result<Command<'a>, All
 }
 
 fn care_commands<'a>(alloc: Global, app: Command<'a>) -> Result<Command<'a>, AllocError> {
-    let repair = over_archives(alloc, "repair", "Mend the blocks that are lost")?
-        .arg(words(alloc, "group", "Groups [default: all]"))?;
-    let check = over_archives(alloc, "check", "Look at every block, and say what to do")?
-        .arg(words(alloc, "group", "Groups [default: all]"))?;
-    let replace = over_archives(alloc, "replace", "Put an empty archive in the place of a lost one")?
-        .arg(word(alloc, "from", "The archive that is lost"))?
-        .arg(word(alloc, "to", "An archive that is in no use"))?;
-    let migrate = over_archives(alloc, "migrate", "Copy an archive to another, and use that one")?
-        .arg(word(alloc, "from", "The archive to leave"))?
-        .arg(word(alloc, "to", "An archive that is in no use"))?;
+    let repair = over_archives(alloc, "repair", "Mend the blocks that are lost")?.arg(words(
+        alloc,
+        "group",
+        "Groups [default: all]",
+    ))?;
+    let check = over_archives(alloc, "check", "Look at every block, and say what to do")?.arg(words(
+        alloc,
+        "group",
+        "Groups [default: all]",
+    ))?;
+    let replace = over_archives(
+        alloc,
+        "replace",
+        "Put an empty archive in the place of a lost one",
+    )?
+    .arg(word(alloc, "from", "The archive that is lost"))?
+    .arg(word(alloc, "to", "An archive that is in no use"))?;
+    let migrate = over_archives(
+        alloc,
+        "migrate",
+        "Copy an archive to another, and use that one",
+    )?
+    .arg(word(alloc, "from", "The archive to leave"))?
+    .arg(word(alloc, "to", "An archive that is in no use"))?;
     app.subcommand(over_archives(alloc, "status", "Say how each group stands")?)?
         .subcommand(check)?
         .subcommand(repair)?
@@ -117,7 +161,12 @@ fn rescue_commands<'a>(alloc: Global, app: Command<'a>) -> Result<Command<'a>, A
     let recover = Command::new(alloc, "recover")
         .about("Write the files that the archives alone give, without the desk")
         .arg(option(alloc, "to", "DIR", "The folder for the files").required(true))?
-        .arg(option(alloc, "archives", "N", "Read archives 0 to N-1 [default: as the desk says]"))?
+        .arg(option(
+            alloc,
+            "archives",
+            "N",
+            "Read archives 0 to N-1 [default: as the desk says]",
+        ))?
         .arg(option(alloc, "stripes", "Z", "Blocks of an archive"))?
         .arg(option(alloc, "blur", "B", "Low bits that a pointer leaves out"))?
         .arg(flag(alloc, "robust", "Bear some wrong shares"))?;

@@ -21,12 +21,16 @@ pub fn image_bytes(rt: &HostRuntime) -> Result<Vec<u8>, Failure> {
         Ok(Some(bytes)) => Ok(bytes),
         Ok(None) => Err(failure(
             IMAGE_REFUSED,
-            format!(in alloc; "there is no archive in this folder: make one by `pots init`, or go to its folder"),
+            format!(in alloc;
+                "there is no archive in this folder: make one by `pots init`, or go to its folder"
+            ),
         )),
         Err(DeskFault::NoMemory) => Err(Failure::NoMemory),
         Err(DeskFault::Failed) => Err(failure(
             DESK_FAILED,
-            format!(in alloc; "the desk could not be locked or read: see that no other run works in this folder, and run it again"),
+            format!(in alloc;
+                "the desk could not be locked or read: see that no other run works in this folder, and run it again"
+            ),
         )),
     }
 }
@@ -39,7 +43,9 @@ pub fn desk_image(rt: &HostRuntime) -> Result<Image, Failure> {
         Err(ImageFault::NoMemory) => Err(Failure::NoMemory),
         Err(_) => Err(failure(
             IMAGE_REFUSED,
-            format!(in alloc; "the desk's image is broken: put a copy back, as potshards-recovery(7) says"),
+            format!(in alloc;
+                "the desk's image is broken: put a copy back, as potshards-recovery(7) says"
+            ),
         )),
     }
 }
@@ -52,7 +58,9 @@ pub fn write_beside(rt: &HostRuntime, name: &str, bytes: &[u8]) -> Result<(), Fa
     if written.is_err() || fs::rename(rt, beside.as_str(), name).is_err() {
         return Err(failure(
             OUTPUT_FAILED,
-            format!(in alloc; "{name} could not be written: see that its folder is there and has room"),
+            format!(in alloc;
+                "{name} could not be written: see that its folder is there and has room"
+            ),
         ));
     }
     Ok(())

@@ -63,7 +63,9 @@ fn fetch_one<X: Wait>(
     if count > 0 && !is_whole(alloc, &answers, u64::from(count), &bytes)? {
         return Err(failure(
             REFUSED,
-            format!(in alloc; "{text}: its parts do not give the file that was stored; nothing was written"),
+            format!(in alloc;
+                "{text}: its parts do not give the file that was stored; nothing was written"
+            ),
         ));
     }
     write_beside(rt, path.as_str(), &bytes)?;
@@ -77,7 +79,9 @@ fn free_path(rt: &HostRuntime, text: &str, target: &Target) -> Result<String, Fa
     if !target.force && fs::symlink_metadata(rt, path.as_str()).is_ok() {
         return Err(failure(
             OUTPUT_FAILED,
-            format!(in rt.alloc(); "{path} is there already: move it away, or write over it by --force"),
+            format!(in rt.alloc();
+                "{path} is there already: move it away, or write over it by --force"
+            ),
         ));
     }
     Ok(path)
@@ -200,7 +204,9 @@ fn tell_listed(rt: &HostRuntime, voice: Voice, name: &Name, length: u64) -> Resu
     let line = match voice {
         Voice::Plain => format!(in rt.alloc(); "{length:>10}  {name}")?,
         Voice::Json => {
-            format!(in rt.alloc(); "{{\"reply\":\"name\",\"name\":\"{name}\",\"length\":{length}}}")?
+            format!(in rt.alloc();
+                "{{\"reply\":\"name\",\"name\":\"{name}\",\"length\":{length}}}"
+            )?
         }
     };
     say(rt, line.as_str())

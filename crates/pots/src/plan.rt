@@ -31,7 +31,9 @@ pub fn wish_of(alloc: Global, matches: &ArgMatches) -> Result<Wish, Failure> {
     if sites == 0 || survive >= sites {
         return Err(failure(
             WORDS_REFUSED,
-            format!(in alloc; "of {sites} places {survive} cannot be lost: give --sites more, or --survive fewer"),
+            format!(in alloc;
+                "of {sites} places {survive} cannot be lost: give --sites more, or --survive fewer"
+            ),
         ));
     }
     let text = matches.get_str("room").unwrap_or("4M");

@@ -69,7 +69,10 @@ fn take_part<'a>(
     };
     let path = format!(in rt.alloc(); "{folder}/{id}")?;
     write_beside(rt, path.as_str(), bytes)?;
-    say(rt, format!(in rt.alloc(); "file {id}: {length} bytes, in {path}")?.as_str())?;
+    say(
+        rt,
+        format!(in rt.alloc(); "file {id}: {length} bytes, in {path}")?.as_str(),
+    )?;
     Ok(rest)
 }
 

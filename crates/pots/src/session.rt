@@ -17,11 +17,7 @@ pub struct Answers {
 }
 
 /// Holds a session for these commands.
-pub fn ask<X: Wait>(
-    rt: &HostRuntime,
-    turns: &X,
-    commands: &[Command],
-) -> Result<Answers, Failure> {
+pub fn ask<X: Wait>(rt: &HostRuntime, turns: &X, commands: &[Command]) -> Result<Answers, Failure> {
     let alloc = rt.alloc();
     let script = write_script(alloc, commands)?;
     let mut words = Vec::new(alloc);

@@ -60,7 +60,9 @@ fn entry_of(rt: &HostRuntime, path: &str, given: Option<&str>) -> Result<Entry, 
         _ => {
             return Err(failure(
                 WORDS_REFUSED,
-                format!(in alloc; "{text:?} is no name for a stored file: give one of 1 to 64 bytes of a-z, 0-9, '.', '_' and '-' by --as, that does not end as .p0001 does"),
+                format!(in alloc;
+                    "{text:?} is no name for a stored file: give one of 1 to 64 bytes of a-z, 0-9, '.', '_' and '-' by --as, that does not end as .p0001 does"
+                ),
             ));
         }
     };
@@ -93,7 +95,9 @@ fn see_room(rt: &HostRuntime, entries: &[Entry]) -> Result<(), Failure> {
     if needed > free {
         return Err(failure(
             REFUSED,
-            format!(in rt.alloc(); "there is no room: {needed} blocks of each group are needed, and {free} are free; nothing was stored; make a larger archive in another folder"),
+            format!(in rt.alloc();
+                "there is no room: {needed} blocks of each group are needed, and {free} are free; nothing was stored; make a larger archive in another folder"
+            ),
         ));
     }
     Ok(())
@@ -187,7 +191,9 @@ fn name_of_part(alloc: Global, name: &Name, number: u64) -> Result<Name, Failure
             let name = text_of(name);
             Err(failure(
                 WORDS_REFUSED,
-                format!(in alloc; "{name} is too long a name for a file in parts, or the file is too long: give a name of at most 58 bytes by --as"),
+                format!(in alloc;
+                    "{name} is too long a name for a file in parts, or the file is too long: give a name of at most 58 bytes by --as"
+                ),
             ))
         }
     }
@@ -219,7 +225,9 @@ fn store_all<X: Wait>(
     let name = text_of(&entry.name);
     Err(failure(
         answers.status,
-        format!(in rt.alloc(); "{name}: not all parts were stored; store the file again under another name"),
+        format!(in rt.alloc();
+            "{name}: not all parts were stored; store the file again under another name"
+        ),
     ))
 }
 
@@ -229,7 +237,9 @@ fn tell_parts(rt: &HostRuntime, voice: Voice, entry: &Entry, count: usize) -> Re
     let line = match voice {
         Voice::Plain => format!(in rt.alloc(); "{name}: stored in {count} parts, {length} bytes")?,
         Voice::Json => {
-            format!(in rt.alloc(); "{{\"reply\":\"parts\",\"name\":\"{name}\",\"parts\":{count},\"length\":{length}}}")?
+            format!(in rt.alloc();
+                "{{\"reply\":\"parts\",\"name\":\"{name}\",\"parts\":{count},\"length\":{length}}}"
+            )?
         }
     };
     say(rt, line.as_str())?;

@@ -24,7 +24,9 @@ pub fn say(rt: &HostRuntime, line: &str) -> Result<(), Failure> {
         Ok(()) => Ok(()),
         Err(_) => Err(failure(
             OUTPUT_FAILED,
-            format!(in rt.alloc(); "standard output could not be written: give it an output that is open and has room"),
+            format!(in rt.alloc();
+                "standard output could not be written: give it an output that is open and has room"
+            ),
         )),
     }
 }
@@ -42,11 +44,19 @@ pub fn tell(rt: &HostRuntime, voice: Voice, reply: &Reply) -> Result<(), Failure
 // What a reply says of files, in a sentence.
 fn sentence(alloc: Global, reply: &Reply) -> Result<String, AllocError> {
     match reply {
-        Reply::Stored { name, pieces, shards } => {
+        Reply::Stored {
+            name,
+            pieces,
+            shards,
+        } => {
             let name = text_of(name);
             format!(in alloc; "{name}: stored in {pieces} pieces, by {shards} shards")
         }
-        Reply::Renewed { name, pieces, shards } => {
+        Reply::Renewed {
+            name,
+            pieces,
+            shards,
+        } => {
             let name = text_of(name);
             format!(in alloc; "{name}: split anew in {pieces} pieces, by {shards} shards")
         }
@@ -70,20 +80,37 @@ fn sentence(alloc: Global, reply: &Reply) -> Result<String, AllocError> {
 // What a reply says of groups and archives.
 fn sentence_of_blocks(alloc: Global, reply: &Reply) -> Result<String, AllocError> {
     match reply {
-        Reply::Group { group, live, lost, broken, stripe, column } => {
-            format!(in alloc; "group {group}: {live} blocks live, {lost} lost, {broken} broken; the next goes to stripe {stripe}, column {column}")
+        Reply::Group {
+            group,
+            live,
+            lost,
+            broken,
+            stripe,
+            column,
+        } => {
+            format!(in alloc;
+                "group {group}: {live} blocks live, {lost} lost, {broken} broken; the next goes to stripe {stripe}, column {column}"
+            )
         }
         Reply::Scrubbed { group, seen, gone } => {
             format!(in alloc; "group {group}: {seen} blocks are there, {gone} are gone")
         }
-        Reply::Repaired { group, mended, left } => {
+        Reply::Repaired {
+            group,
+            mended,
+            left,
+        } => {
             format!(in alloc; "group {group}: {mended} blocks mended, {left} left as they were")
         }
         Reply::Replaced { from, to, slots } => {
-            format!(in alloc; "archive-{to} stands in the place of archive-{from}; its {slots} blocks are lost until `pots repair` mends them")
+            format!(in alloc;
+                "archive-{to} stands in the place of archive-{from}; its {slots} blocks are lost until `pots repair` mends them"
+            )
         }
         Reply::Migrated { from, to, slots } => {
-            format!(in alloc; "archive-{to} is used in the place of archive-{from}; {slots} blocks were copied")
+            format!(in alloc;
+                "archive-{to} is used in the place of archive-{from}; {slots} blocks were copied"
+            )
         }
         _ => String::from_str(alloc, ""),
     }
@@ -98,7 +125,9 @@ fn sentence_of_refusal(alloc: Global, reply: &Reply) -> Result<String, AllocErro
         }
         Reply::Exists { name } => {
             let name = text_of(name);
-            format!(in alloc; "{name}: is stored already and stays as it is; store it under another name by --as")
+            format!(in alloc;
+                "{name}: is stored already and stays as it is; store it under another name by --as"
+            )
         }
         Reply::Full { group } => {
             format!(in alloc; "group {group} is full: make a larger archive in another folder")
@@ -107,9 +136,17 @@ fn sentence_of_refusal(alloc: Global, reply: &Reply) -> Result<String, AllocErro
             let name = text_of(name);
             format!(in alloc; "{name}: is not stored; `pots list` says what is")
         }
-        Reply::Lost { name, piece, fragment, have, need } => {
+        Reply::Lost {
+            name,
+            piece,
+            fragment,
+            have,
+            need,
+        } => {
             let name = text_of(name);
-            format!(in alloc; "{name}: of piece {piece}, fragment {fragment} only {have} of {need} shards are there; bring lost archives back, and try `pots repair`")
+            format!(in alloc;
+                "{name}: of piece {piece}, fragment {fragment} only {have} of {need} shards are there; bring lost archives back, and try `pots repair`"
+            )
         }
         Reply::Often { name } => {
             let name = text_of(name);
@@ -124,10 +161,14 @@ fn sentence_of_trouble(alloc: Global, reply: &Reply) -> Result<String, AllocErro
     match reply {
         Reply::Odd { name, .. } => {
             let name = text_of(name);
-            format!(in alloc; "{name}: its bytes are not those that were stored; try `pots repair`, and then fetch it again")
+            format!(in alloc;
+                "{name}: its bytes are not those that were stored; try `pots repair`, and then fetch it again"
+            )
         }
         Reply::Fault { group, column } => {
-            format!(in alloc; "the archive of column {column} of group {group} failed: see its disk, then run `pots check`")
+            format!(in alloc;
+                "the archive of column {column} of group {group} failed: see its disk, then run `pots check`"
+            )
         }
         Reply::LogFull { group } => {
             format!(in alloc; "the log of group {group} is full: run the command again")
@@ -136,7 +177,9 @@ fn sentence_of_trouble(alloc: Global, reply: &Reply) -> Result<String, AllocErro
             format!(in alloc; "the log of the index is full: run the command again")
         }
         Reply::NoArchive { number } => {
-            format!(in alloc; "archive-{number} is used by no group: `pots status` and `ls` say what there is")
+            format!(in alloc;
+                "archive-{number} is used by no group: `pots status` and `ls` say what there is"
+            )
         }
         Reply::InUse { number } => {
             format!(in alloc; "archive-{number} is in use: take a number that is in no use")
@@ -148,16 +191,40 @@ fn sentence_of_trouble(alloc: Global, reply: &Reply) -> Result<String, AllocErro
 // A reply as a line of JSON.
 fn json_line(alloc: Global, reply: &Reply) -> Result<String, AllocError> {
     let value = match reply {
-        Reply::Stored { name, pieces, shards } => json_of_split(alloc, "stored", name, *pieces, *shards),
-        Reply::Renewed { name, pieces, shards } => json_of_split(alloc, "renewed", name, *pieces, *shards),
-        Reply::File { name, bytes } => json_of_length(alloc, "file", name, bytes.as_slice().len() as u64),
-        Reply::Names { names } => json_of_number(alloc, "names", "count", names.as_slice().len() as u64),
+        Reply::Stored {
+            name,
+            pieces,
+            shards,
+        } => json_of_split(alloc, "stored", name, *pieces, *shards),
+        Reply::Renewed {
+            name,
+            pieces,
+            shards,
+        } => json_of_split(alloc, "renewed", name, *pieces, *shards),
+        Reply::File { name, bytes } => json_of_length(
+            alloc,
+            "file",
+            name,
+            bytes.as_slice().len() as u64,
+        ),
+        Reply::Names { names } => json_of_number(
+            alloc,
+            "names",
+            "count",
+            names.as_slice().len() as u64,
+        ),
         Reply::Long { name, length } => json_of_length(alloc, "long", name, *length),
         Reply::Exists { name } => json_of_name(alloc, "exists", name),
         Reply::Absent { name } => json_of_name(alloc, "absent", name),
         Reply::Often { name } => json_of_name(alloc, "often", name),
         Reply::Odd { name, .. } => json_of_name(alloc, "odd", name),
-        Reply::Lost { name, piece, fragment, have, need } => {
+        Reply::Lost {
+            name,
+            piece,
+            fragment,
+            have,
+            need,
+        } => {
             json!(in alloc; {"reply": "lost", "name": text_of(name), "piece": *piece, "fragment": *fragment, "have": *have, "need": *need})
         }
         _ => json_of_blocks(alloc, reply),
@@ -168,23 +235,43 @@ fn json_line(alloc: Global, reply: &Reply) -> Result<String, AllocError> {
 // A reply on groups or archives.
 fn json_of_blocks(alloc: Global, reply: &Reply) -> Result<Value, AllocError> {
     match reply {
-        Reply::Group { group, live, lost, broken, stripe, column } => {
+        Reply::Group {
+            group,
+            live,
+            lost,
+            broken,
+            stripe,
+            column,
+        } => {
             json!(in alloc; {"reply": "group", "group": *group, "live": *live, "lost": *lost, "broken": *broken, "stripe": *stripe, "column": *column})
         }
         Reply::Scrubbed { group, seen, gone } => {
             json!(in alloc; {"reply": "scrubbed", "group": *group, "seen": *seen, "gone": *gone})
         }
-        Reply::Repaired { group, mended, left } => {
+        Reply::Repaired {
+            group,
+            mended,
+            left,
+        } => {
             json!(in alloc; {"reply": "repaired", "group": *group, "mended": *mended, "left": *left})
         }
-        Reply::Replaced { from, to, slots } => json_of_archives(alloc, "replaced", *from, *to, *slots),
-        Reply::Migrated { from, to, slots } => json_of_archives(alloc, "migrated", *from, *to, *slots),
+        Reply::Replaced { from, to, slots } => json_of_archives(
+            alloc, "replaced", *from, *to, *slots,
+        ),
+        Reply::Migrated { from, to, slots } => json_of_archives(
+            alloc, "migrated", *from, *to, *slots,
+        ),
         Reply::Fault { group, column } => {
             json!(in alloc; {"reply": "fault", "group": *group, "column": *column})
         }
         Reply::Full { group } => json_of_number(alloc, "full", "group", u64::from(*group)),
         Reply::LogFull { group } => json_of_number(alloc, "logfull", "group", u64::from(*group)),
-        Reply::NoArchive { number } => json_of_number(alloc, "noarchive", "archive", u64::from(*number)),
+        Reply::NoArchive { number } => json_of_number(
+            alloc,
+            "noarchive",
+            "archive",
+            u64::from(*number),
+        ),
         Reply::InUse { number } => json_of_number(alloc, "inuse", "archive", u64::from(*number)),
         _ => json!(in alloc; {"reply": "logfull", "log": "index"}),
     }
@@ -194,15 +281,32 @@ fn json_of_name(alloc: Global, reply: &str, name: &Name) -> Result<Value, AllocE
     json!(in alloc; {"reply": reply, "name": text_of(name)})
 }
 
-fn json_of_length(alloc: Global, reply: &str, name: &Name, length: u64) -> Result<Value, AllocError> {
+fn json_of_length(
+    alloc: Global,
+    reply: &str,
+    name: &Name,
+    length: u64,
+) -> Result<Value, AllocError> {
     json!(in alloc; {"reply": reply, "name": text_of(name), "length": length})
 }
 
-fn json_of_split(alloc: Global, reply: &str, name: &Name, pieces: u32, shards: u32) -> Result<Value, AllocError> {
+fn json_of_split(
+    alloc: Global,
+    reply: &str,
+    name: &Name,
+    pieces: u32,
+    shards: u32,
+) -> Result<Value, AllocError> {
     json!(in alloc; {"reply": reply, "name": text_of(name), "pieces": pieces, "shards": shards})
 }
 
-fn json_of_archives(alloc: Global, reply: &str, from: u32, to: u32, slots: u32) -> Result<Value, AllocError> {
+fn json_of_archives(
+    alloc: Global,
+    reply: &str,
+    from: u32,
+    to: u32,
+    slots: u32,
+) -> Result<Value, AllocError> {
     json!(in alloc; {"reply": reply, "from": from, "to": to, "slots": slots})
 }
 

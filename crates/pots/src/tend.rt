@@ -46,7 +46,10 @@ pub fn groups_of(rt: &HostRuntime, words: &[&str]) -> Result<Vec<u8>, Failure> {
             _ => {
                 return Err(failure(
                     WORDS_REFUSED,
-                    format!(in alloc; "{word:?} is no group: there are groups 0 to {}", count.saturating_sub(1)),
+                    format!(in alloc;
+                        "{word:?} is no group: there are groups 0 to {}",
+                        count.saturating_sub(1)
+                    ),
                 ));
             }
         }
@@ -104,7 +107,9 @@ fn tell_ailing(rt: &HostRuntime, table: &GroupTable) -> Result<u32, Failure> {
         if count > 0 {
             ailing = ailing.saturating_add(1);
             let archive = table.columns().get(column).map_or(0, |c| c.home);
-            let line = format!(in rt.alloc(); "archive-{archive}: {count} blocks are lost; `pots repair` mends them, after `pots replace {archive} N` where its disk is gone")?;
+            let line = format!(in rt.alloc();
+                "archive-{archive}: {count} blocks are lost; `pots repair` mends them, after `pots replace {archive} N` where its disk is gone"
+            )?;
             say(rt, line.as_str())?;
         }
     }
@@ -137,7 +142,9 @@ pub fn renew<X: Wait>(
         let Some(name) = Name::read(text.as_bytes()) else {
             return Err(failure(
                 WORDS_REFUSED,
-                format!(in alloc; "{text:?} is no name of a stored file: `pots list` says what is stored"),
+                format!(in alloc;
+                    "{text:?} is no name of a stored file: `pots list` says what is stored"
+                ),
             ));
         };
         commands.push(Command::Renew { name, geometry })?;

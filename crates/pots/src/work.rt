@@ -49,7 +49,13 @@ fn in_session<X: Wait>(
         Voice::Plain
     };
     match name {
-        "store" => store(rt, turns, voice, list_of(given, "file"), given.get_str("as")),
+        "store" => store(
+            rt,
+            turns,
+            voice,
+            list_of(given, "file"),
+            given.get_str("as"),
+        ),
         "fetch" => {
             let target = Target {
                 folder: given.get_str("to").unwrap_or("."),
@@ -115,7 +121,9 @@ fn see_archives(rt: &HostRuntime, given: &ArgMatches) -> Result<(), Failure> {
     }
     Err(failure(
         ARCHIVE_FAILED,
-        format!(in alloc; "archives {names} are missing or shorter than the desk knows: bring their disks back, or go on without them by --without {names}"),
+        format!(in alloc;
+            "archives {names} are missing or shorter than the desk knows: bring their disks back, or go on without them by --without {names}"
+        ),
     ))
 }
 
@@ -144,15 +152,14 @@ fn new_geometry(rt: &HostRuntime, given: &ArgMatches) -> Result<Geometry, Failur
     }
     Err(failure(
         WORDS_REFUSED,
-        format!(in rt.alloc(); "files cannot be split so here: 2 to 8 fragments, and no more shards than groups, of which {}", rack.groups),
+        format!(in rt.alloc();
+            "files cannot be split so here: 2 to 8 fragments, and no more shards than groups, of which {}",
+            rack.groups
+        ),
     ))
 }
 
-fn given_geometry(
-    alloc: Global,
-    given: &ArgMatches,
-    else_: Geometry,
-) -> Result<Geometry, Failure> {
+fn given_geometry(alloc: Global, given: &ArgMatches, else_: Geometry) -> Result<Geometry, Failure> {
     Ok(Geometry {
         fragments: byte(alloc, given, "fragments", else_.fragments)?,
         need: byte(alloc, given, "need", else_.need)?,
@@ -189,7 +196,9 @@ fn rack_in(alloc: Global, given: &ArgMatches) -> Result<Rack, Failure> {
     let Some(chosen) = rack_for(&wish, parity) else {
         return Err(failure(
             WORDS_REFUSED,
-            format!(in alloc; "no archive has so much room: give --room less, and keep the rest in other folders"),
+            format!(in alloc;
+                "no archive has so much room: give --room less, and keep the rest in other folders"
+            ),
         ));
     };
     let rack = Rack {
@@ -204,7 +213,9 @@ fn rack_in(alloc: Global, given: &ArgMatches) -> Result<Rack, Failure> {
     }
     Err(failure(
         WORDS_REFUSED,
-        format!(in alloc; "these numbers make no archive: see init in pots(1) for what each may be"),
+        format!(in alloc;
+            "these numbers make no archive: see init in pots(1) for what each may be"
+        ),
     ))
 }
 
@@ -238,10 +249,28 @@ fn tell_rack(rt: &HostRuntime, rack: &Rack) -> Result<(), Failure> {
     let spare = shards.saturating_sub(need);
     let hidden = need.saturating_sub(1);
     let last = archives.saturating_sub(1);
-    say(rt, format!(in alloc; "{archives} archives, archive-0 to archive-{last}, for about {room} bytes of files")?.as_str())?;
-    say(rt, format!(in alloc; "each byte of a file takes {whole}.{tenth} bytes in them")?.as_str())?;
-    say(rt, format!(in alloc; "archives of {hidden} groups together tell nothing of a file; those of {need} groups may tell all")?.as_str())?;
-    say(rt, format!(in alloc; "in each group {parity} lost archives are mended, and with {spare} groups lost every file is still fetched")?.as_str())?;
+    say(
+        rt,
+        format!(in alloc;
+            "{archives} archives, archive-0 to archive-{last}, for about {room} bytes of files"
+        )?.as_str(),
+    )?;
+    say(
+        rt,
+        format!(in alloc; "each byte of a file takes {whole}.{tenth} bytes in them")?.as_str(),
+    )?;
+    say(
+        rt,
+        format!(in alloc;
+            "archives of {hidden} groups together tell nothing of a file; those of {need} groups may tell all"
+        )?.as_str(),
+    )?;
+    say(
+        rt,
+        format!(in alloc;
+            "in each group {parity} lost archives are mended, and with {spare} groups lost every file is still fetched"
+        )?.as_str(),
+    )?;
     tell_places(rt, rack)
 }
 
@@ -251,8 +280,16 @@ fn tell_places(rt: &HostRuntime, rack: &Rack) -> Result<(), Failure> {
     for group in 0..u32::from(rack.groups) {
         let first = group * width;
         let last = (first + width).saturating_sub(1);
-        let place = group.checked_rem(u32::from(rack.geometry.shards)).unwrap_or(0) + 1;
-        say(rt, format!(in rt.alloc(); "group {group}: archive-{first} to archive-{last}, for place {place}")?.as_str())?;
+        let place = group
+            .checked_rem(u32::from(rack.geometry.shards))
+            .unwrap_or(0)
+            + 1;
+        say(
+            rt,
+            format!(in rt.alloc();
+                "group {group}: archive-{first} to archive-{last}, for place {place}"
+            )?.as_str(),
+        )?;
     }
     Ok(())
 }
