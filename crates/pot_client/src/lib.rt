@@ -24,3 +24,6 @@ pub use naming::{LAST_PART, ends_as_part, part_name};
 pub use parts::{PART_SIZE, count_parts, part, parts_are_whole};
 pub use replies::read_replies;
 pub use script::write_script;
+
+#[cfg(test)]
+mod tests;

@@ -1,6 +1,6 @@
 //! The words of the command line.
 
-use crate::failure::{Failure, WORDS_REFUSED, failure};
+use crate::failure::{Failure, WORDS_REFUSED, fail_with};
 use clap::{Arg, ArgAction, ArgMatches, Command};
 use pot_script::read_number;
 use std::alloc::{AllocError, Global};
@@ -206,7 +206,7 @@ pub fn number(
 pub fn number_in(alloc: Global, text: &str, most: u32) -> Result<u32, Failure> {
     match read_number(text.as_bytes(), most) {
         Some(number) => Ok(number),
-        None => Err(failure(
+        None => Err(fail_with(
             WORDS_REFUSED,
             format!(in alloc; "{text:?} is no number from 0 to {most}"),
         )),

@@ -1,6 +1,6 @@
 //! What the desk knows before a session: its image, its copies, and how long each archive has to be.
 
-use crate::failure::{DESK_FAILED, Failure, IMAGE_REFUSED, OUTPUT_FAILED, failure};
+use crate::failure::{DESK_FAILED, Failure, IMAGE_REFUSED, OUTPUT_FAILED, fail_with};
 use pot_files::DeskFile;
 use pot_image::{Image, ImageFault, read_image};
 use pot_machine::GroupTable;
@@ -19,14 +19,14 @@ pub fn image_bytes(rt: &HostRuntime) -> Result<Vec<u8>, Failure> {
     let alloc = rt.alloc();
     match DeskFile::new(rt).read() {
         Ok(Some(bytes)) => Ok(bytes),
-        Ok(None) => Err(failure(
+        Ok(None) => Err(fail_with(
             IMAGE_REFUSED,
             format!(in alloc;
                 "there is no archive in this folder: make one by `pots init`, or go to its folder"
             ),
         )),
         Err(DeskFault::NoMemory) => Err(Failure::NoMemory),
-        Err(DeskFault::Failed) => Err(failure(
+        Err(DeskFault::Failed) => Err(fail_with(
             DESK_FAILED,
             format!(in alloc;
                 "the desk could not be locked or read: see that no other run works in this folder, and run it again"
@@ -41,7 +41,7 @@ pub fn desk_image(rt: &HostRuntime) -> Result<Image, Failure> {
     match read_image(alloc, &image_bytes(rt)?) {
         Ok(image) => Ok(image),
         Err(ImageFault::NoMemory) => Err(Failure::NoMemory),
-        Err(_) => Err(failure(
+        Err(_) => Err(fail_with(
             IMAGE_REFUSED,
             format!(in alloc;
                 "the desk's image is broken: put a copy back, as potshards-recovery(7) says"
@@ -56,7 +56,7 @@ pub fn write_beside(rt: &HostRuntime, name: &str, bytes: &[u8]) -> Result<(), Fa
     let beside = format!(in alloc; "{name}.tmp")?;
     let written = fs::write(rt, beside.as_str(), bytes);
     if written.is_err() || fs::rename(rt, beside.as_str(), name).is_err() {
-        return Err(failure(
+        return Err(fail_with(
             OUTPUT_FAILED,
             format!(in alloc;
                 "{name} could not be written: see that its folder is there and has room"

@@ -31,7 +31,7 @@ pub enum Failure {
 }
 
 /// The failure of this status and line, or want of memory where there is none for the line.
-pub fn failure(status: u8, line: Result<String, AllocError>) -> Failure {
+pub fn fail_with(status: u8, line: Result<String, AllocError>) -> Failure {
     match line {
         Ok(line) => Failure::Told { status, line },
         Err(_) => Failure::NoMemory,

@@ -1,7 +1,7 @@
 //! Fetching stored files into a folder, and listing them.
 
 use crate::desk::{desk_image, write_beside};
-use crate::failure::{Failure, OUTPUT_FAILED, failure};
+use crate::failure::{Failure, OUTPUT_FAILED, fail_with};
 use crate::session::{Answers, ask};
 use crate::store::summary_of;
 use crate::tell::{Voice, say, tell, text_of};
@@ -47,7 +47,7 @@ fn fetch_one<X: Wait>(
 ) -> Result<u8, Failure> {
     let alloc = rt.alloc();
     let Some(name) = Name::read(text.as_bytes()) else {
-        return Err(failure(
+        return Err(fail_with(
             REFUSED,
             format!(in alloc; "{text:?}: is not stored; `pots list` says what is"),
         ));
@@ -61,7 +61,7 @@ fn fetch_one<X: Wait>(
     }
     let bytes = joined(alloc, &answers)?;
     if count > 0 && !is_whole(alloc, &answers, u64::from(count), &bytes)? {
-        return Err(failure(
+        return Err(fail_with(
             REFUSED,
             format!(in alloc;
                 "{text}: its parts do not give the file that was stored; nothing was written"
@@ -77,7 +77,7 @@ fn free_path(rt: &HostRuntime, text: &str, target: &Target) -> Result<String, Fa
     let folder = target.folder;
     let path = format!(in rt.alloc(); "{folder}/{text}")?;
     if !target.force && fs::symlink_metadata(rt, path.as_str()).is_ok() {
-        return Err(failure(
+        return Err(fail_with(
             OUTPUT_FAILED,
             format!(in rt.alloc();
                 "{path} is there already: move it away, or write over it by --force"

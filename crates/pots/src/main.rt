@@ -14,7 +14,7 @@ mod session;
 mod store;
 mod tell;
 mod tend;
-mod work;
+mod commands;
 
 use command_line::program;
 use failure::{Failure, NO_MEMORY, WORDS_REFUSED};
@@ -22,7 +22,7 @@ use session::advice;
 use std::env;
 use std::process::ExitCode;
 use std::sync::Wait;
-use work::work;
+use commands::run_command;
 
 /// The words of the command line, and all that they ask for.
 fn answer<X: Wait>(rt: &HostRuntime, turns: &X) -> Result<u8, Failure> {
@@ -33,7 +33,7 @@ fn answer<X: Wait>(rt: &HostRuntime, turns: &X) -> Result<u8, Failure> {
     };
     let app = program(alloc)?;
     match app.try_get_matches_from(words.as_slice()) {
-        Ok(matches) => work(rt, turns, &matches),
+        Ok(matches) => run_command(rt, turns, &matches),
         Err(error) => {
             // What cannot be printed changes nothing of the status.
             let _ = error.print(rt);

@@ -5,7 +5,7 @@
 //! places together as shards suffice give a file, and fewer see of no fragment as many shards as it needs.
 
 use crate::command_line::number;
-use crate::failure::{Failure, WORDS_REFUSED, failure};
+use crate::failure::{Failure, WORDS_REFUSED, fail_with};
 use clap::ArgMatches;
 use pot_bytes::{Geometry, Rack};
 use std::alloc::Global;
@@ -29,7 +29,7 @@ pub fn wish_of(alloc: Global, matches: &ArgMatches) -> Result<Wish, Failure> {
     let sites = number(alloc, matches, "sites", 16)?.unwrap_or(3) as u8;
     let survive = number(alloc, matches, "survive", 15)?.unwrap_or(1) as u8;
     if sites == 0 || survive >= sites {
-        return Err(failure(
+        return Err(fail_with(
             WORDS_REFUSED,
             format!(in alloc;
                 "of {sites} places {survive} cannot be lost: give --sites more, or --survive fewer"
@@ -38,7 +38,7 @@ pub fn wish_of(alloc: Global, matches: &ArgMatches) -> Result<Wish, Failure> {
     }
     let text = matches.get_str("room").unwrap_or("4M");
     let Some(room) = size_in(text) else {
-        return Err(failure(
+        return Err(fail_with(
             WORDS_REFUSED,
             format!(in alloc; "{text:?} is no size: write it as 500K, 20M or 4000000"),
         ));
@@ -123,10 +123,11 @@ pub fn room_of(rack: &Rack) -> u64 {
     slots.checked_div(shards).unwrap_or(0).saturating_mul(PIECE)
 }
 
-/// How many bytes are written for ten bytes of a file.
+/// How many bytes are written for ten bytes of a file, rounded.
 pub fn cost_of_ten(rack: &Rack) -> u64 {
     let shards = u64::from(rack.geometry.fragments) * u64::from(rack.geometry.shards);
     let columns = u64::from(rack.columns);
     let written = shards * (columns + u64::from(rack.parity)) * BLOCK * 10;
-    written.checked_div(columns * PIECE).unwrap_or(0)
+    let files = columns * PIECE;
+    (written + files / 2).checked_div(files).unwrap_or(0)
 }

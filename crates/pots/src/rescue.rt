@@ -1,13 +1,13 @@
 //! Files without the desk, and archives on other disks.
 
 use crate::desk::write_beside;
-use crate::failure::{ARCHIVE_FAILED, Failure, WORDS_REFUSED, failure};
+use crate::failure::{ARCHIVE_FAILED, Failure, WORDS_REFUSED, fail_with};
 use crate::session::{call, refusal};
 use crate::tell::say;
 use pot_bytes::Rack;
 use pot_script::{cut_after, cut_at, read_number};
 use std::alloc::Global;
-use std::fs;
+use std::fs::{self, File};
 use std::os::unix::fs::symlink;
 use std::sync::Wait;
 
@@ -34,7 +34,7 @@ pub fn recover<X: Wait>(
         return Err(refusal(alloc, status, &written));
     }
     if fs::create_dir_all(rt, folder).is_err() {
-        return Err(failure(
+        return Err(fail_with(
             ARCHIVE_FAILED,
             format!(in alloc; "{folder} could not be made"),
         ));
@@ -102,7 +102,7 @@ pub fn span_of(rack: &Rack) -> Span {
 /// Moves archives into another folder, and leaves links to them.
 pub fn place(rt: &HostRuntime, archives: &str, folder: &str) -> Result<u8, Failure> {
     let Some((first, last)) = range_in(archives) else {
-        return Err(failure(
+        return Err(fail_with(
             WORDS_REFUSED,
             format!(in rt.alloc(); "{archives:?} names no archives: write 7 or 0-3"),
         ));
@@ -130,7 +130,7 @@ fn place_one(rt: &HostRuntime, number: u32, folder: &str) -> Result<(), Failure>
         return Err(not_placed(alloc, &name, "is there already"));
     }
     let copied = if fs::metadata(rt, name.as_str()).is_ok() {
-        fs::copy(rt, name.as_str(), there.as_str()).is_ok()
+        fs::copy(rt, name.as_str(), there.as_str()).is_ok() && is_synced(rt, there.as_str())
     } else {
         fs::write(rt, there.as_str(), b"".as_slice()).is_ok()
     };
@@ -146,8 +146,13 @@ fn place_one(rt: &HostRuntime, number: u32, folder: &str) -> Result<(), Failure>
     say(rt, format!(in alloc; "{name}: in {there}")?.as_str())
 }
 
+// Whether what a file holds is on its disk.
+fn is_synced(rt: &HostRuntime, name: &str) -> bool {
+    File::open(rt, name).is_ok_and(|file| file.sync_all().is_ok())
+}
+
 fn not_placed(alloc: Global, name: &str, why: &str) -> Failure {
-    failure(
+    fail_with(
         ARCHIVE_FAILED,
         format!(in alloc; "{name} {why} in the other folder: it stays where it was"),
     )

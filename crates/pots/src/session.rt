@@ -1,6 +1,6 @@
 //! One session over the archives of the working folder.
 
-use crate::failure::{Failure, INPUT_FAILED, NO_MEMORY, failure};
+use crate::failure::{Failure, INPUT_FAILED, NO_MEMORY, fail_with};
 use pot_client::{read_replies, write_script};
 use pot_doubles::{MemSink, MemSource};
 use pot_files::{DeskFile, Folder, NoGate, advice_at, drawn};
@@ -28,7 +28,7 @@ pub fn ask<X: Wait>(rt: &HostRuntime, turns: &X, commands: &[Command]) -> Result
     }
     match read_replies(alloc, &written)? {
         Some(replies) => Ok(Answers { status, replies }),
-        None => Err(failure(
+        None => Err(fail_with(
             NO_MEMORY,
             format!(in alloc; "the session wrote what is no reply"),
         )),
@@ -44,7 +44,7 @@ pub fn call<X: Wait>(
 ) -> Result<(u8, Vec<u8>), Failure> {
     let alloc = rt.alloc();
     let Ok(seed) = drawn(rt) else {
-        return Err(failure(
+        return Err(fail_with(
             INPUT_FAILED,
             format!(in alloc; "the system gave no random bytes: try again"),
         ));
@@ -84,7 +84,7 @@ pub fn refusal(alloc: Global, status: u8, written: &[u8]) -> Failure {
         11 => "give a smaller blur, or fewer archives at a time",
         _ => "see potshards(1)",
     };
-    failure(status, format!(in alloc; "{text}: {next}"))
+    fail_with(status, format!(in alloc; "{text}: {next}"))
 }
 
 /// The line of a status that says what failed, without the name of the program.

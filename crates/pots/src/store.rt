@@ -1,7 +1,7 @@
 //! Storing files of any size.
 
 use crate::desk::desk_image;
-use crate::failure::{Failure, INPUT_FAILED, WORDS_REFUSED, failure};
+use crate::failure::{Failure, INPUT_FAILED, WORDS_REFUSED, fail_with};
 use crate::session::ask;
 use crate::tell::{Voice, say, tell, text_of};
 use pot_bytes::{Bytes, Geometry, Name, Rack, digest_of};
@@ -58,7 +58,7 @@ fn entry_of(rt: &HostRuntime, path: &str, given: Option<&str>) -> Result<Entry, 
     let name = match Name::read(text.as_bytes()) {
         Some(name) if !ends_as_part(&name) => name,
         _ => {
-            return Err(failure(
+            return Err(fail_with(
                 WORDS_REFUSED,
                 format!(in alloc;
                     "{text:?} is no name for a stored file: give one of 1 to 64 bytes of a-z, 0-9, '.', '_' and '-' by --as, that does not end as .p0001 does"
@@ -68,7 +68,7 @@ fn entry_of(rt: &HostRuntime, path: &str, given: Option<&str>) -> Result<Entry, 
     };
     match fs::read(rt, path) {
         Ok(bytes) => Ok(Entry { name, bytes }),
-        Err(_) => Err(failure(
+        Err(_) => Err(fail_with(
             INPUT_FAILED,
             format!(in alloc; "{path} could not be read: see that it is a file that may be read"),
         )),
@@ -93,7 +93,7 @@ fn see_room(rt: &HostRuntime, entries: &[Entry]) -> Result<(), Failure> {
     let needed = blocks.div_ceil(u64::from(image.rack.groups).max(1));
     let free = least_room(&image);
     if needed > free {
-        return Err(failure(
+        return Err(fail_with(
             REFUSED,
             format!(in rt.alloc();
                 "there is no room: {needed} blocks of each group are needed, and {free} are free; nothing was stored; make a larger archive in another folder"
@@ -189,7 +189,7 @@ fn name_of_part(alloc: Global, name: &Name, number: u64) -> Result<Name, Failure
         Some(part) => Ok(part),
         None => {
             let name = text_of(name);
-            Err(failure(
+            Err(fail_with(
                 WORDS_REFUSED,
                 format!(in alloc;
                     "{name} is too long a name for a file in parts, or the file is too long: give a name of at most 58 bytes by --as"
@@ -223,7 +223,7 @@ fn store_all<X: Wait>(
         }
     }
     let name = text_of(&entry.name);
-    Err(failure(
+    Err(fail_with(
         answers.status,
         format!(in rt.alloc();
             "{name}: not all parts were stored; store the file again under another name"

@@ -1,6 +1,6 @@
 //! Replies as lines for people, or as JSON.
 
-use crate::failure::{Failure, OUTPUT_FAILED, failure};
+use crate::failure::{Failure, OUTPUT_FAILED, fail_with};
 use pot_bytes::Name;
 use pot_script::Reply;
 use serde_json::{Value, json};
@@ -22,7 +22,7 @@ pub fn text_of(name: &Name) -> &str {
 pub fn say(rt: &HostRuntime, line: &str) -> Result<(), Failure> {
     match println!(rt; "{line}") {
         Ok(()) => Ok(()),
-        Err(_) => Err(failure(
+        Err(_) => Err(fail_with(
             OUTPUT_FAILED,
             format!(in rt.alloc();
                 "standard output could not be written: give it an output that is open and has room"

@@ -1,7 +1,7 @@
 //! Looking at an archive, mending it, and moving what it holds.
 
 use crate::desk::desk_image;
-use crate::failure::{Failure, WORDS_REFUSED, failure};
+use crate::failure::{Failure, WORDS_REFUSED, fail_with};
 use crate::session::{Answers, ask};
 use crate::tell::{Voice, say, tell};
 use pot_bytes::{Geometry, Name};
@@ -10,7 +10,7 @@ use pot_script::Command;
 use std::sync::Wait;
 
 /// Works commands in one session and tells each reply.
-pub fn work<X: Wait>(
+pub fn tell_all<X: Wait>(
     rt: &HostRuntime,
     turns: &X,
     voice: Voice,
@@ -27,7 +27,7 @@ pub fn work<X: Wait>(
 pub fn status<X: Wait>(rt: &HostRuntime, turns: &X, voice: Voice) -> Result<u8, Failure> {
     let mut commands = Vec::new(rt.alloc());
     commands.push(Command::Status)?;
-    Ok(work(rt, turns, voice, &commands)?.status)
+    Ok(tell_all(rt, turns, voice, &commands)?.status)
 }
 
 /// The groups of a list, or all of the rack.
@@ -44,7 +44,7 @@ pub fn groups_of(rt: &HostRuntime, words: &[&str]) -> Result<Vec<u8>, Failure> {
         match pot_script::read_number(word.as_bytes(), 255) {
             Some(group) if group < u32::from(count) => groups.push(group as u8)?,
             _ => {
-                return Err(failure(
+                return Err(fail_with(
                     WORDS_REFUSED,
                     format!(in alloc;
                         "{word:?} is no group: there are groups 0 to {}",
@@ -68,7 +68,7 @@ pub fn repair<X: Wait>(
     for group in groups_of(rt, words)?.iter() {
         commands.push(Command::Repair { group: *group })?;
     }
-    Ok(work(rt, turns, voice, &commands)?.status)
+    Ok(tell_all(rt, turns, voice, &commands)?.status)
 }
 
 /// Looks at each block of these groups, and says which archives ail and what mends them.
@@ -83,7 +83,7 @@ pub fn check<X: Wait>(
     for group in groups.iter() {
         commands.push(Command::Scrub { group: *group })?;
     }
-    let answers = work(rt, turns, voice, &commands)?;
+    let answers = tell_all(rt, turns, voice, &commands)?;
     if voice == Voice::Json {
         return Ok(answers.status);
     }
@@ -140,7 +140,7 @@ pub fn renew<X: Wait>(
     let mut commands = Vec::new(alloc);
     for text in names {
         let Some(name) = Name::read(text.as_bytes()) else {
-            return Err(failure(
+            return Err(fail_with(
                 WORDS_REFUSED,
                 format!(in alloc;
                     "{text:?} is no name of a stored file: `pots list` says what is stored"
@@ -149,5 +149,5 @@ pub fn renew<X: Wait>(
         };
         commands.push(Command::Renew { name, geometry })?;
     }
-    Ok(work(rt, turns, voice, &commands)?.status)
+    Ok(tell_all(rt, turns, voice, &commands)?.status)
 }

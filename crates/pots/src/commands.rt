@@ -2,14 +2,14 @@
 
 use crate::command_line::{names_number, number, number_in};
 use crate::desk::{ailing, desk_image, image_bytes, keep_copy, write_beside};
-use crate::failure::{ARCHIVE_FAILED, Failure, WORDS_REFUSED, failure};
+use crate::failure::{ARCHIVE_FAILED, Failure, WORDS_REFUSED, fail_with};
 use crate::fetch::{Target, fetch, list};
 use crate::plan::{archives_of, cost_of_ten, fits, rack_for, room_of, wish_of};
 use crate::rescue::{Span, place, recover, span_of};
 use crate::session::{call, refusal};
 use crate::store::store;
 use crate::tell::{Voice, say};
-use crate::tend::{check, renew, repair, status, work as work_all};
+use crate::tend::{check, renew, repair, status, tell_all};
 use clap::ArgMatches;
 use pot_bytes::{Geometry, Rack};
 use pot_script::Command;
@@ -18,7 +18,7 @@ use std::fs;
 use std::sync::Wait;
 
 /// Does what the command line asks for, and gives the exit status.
-pub fn work<X: Wait>(rt: &HostRuntime, turns: &X, matches: &ArgMatches) -> Result<u8, Failure> {
+pub fn run_command<X: Wait>(rt: &HostRuntime, turns: &X, matches: &ArgMatches) -> Result<u8, Failure> {
     match matches.subcommand() {
         Some(("init", given)) => init(rt, turns, given),
         Some(("place", given)) => place(rt, text(given, "archives"), text(given, "folder")),
@@ -100,7 +100,7 @@ fn move_archive<X: Wait>(
     } else {
         Command::Migrate { from, to }
     })?;
-    Ok(work_all(rt, turns, voice, &commands)?.status)
+    Ok(tell_all(rt, turns, voice, &commands)?.status)
 }
 
 // Refuses archives that are missing or too short, but for those that are named by `--without`.
@@ -119,7 +119,7 @@ fn see_archives(rt: &HostRuntime, given: &ArgMatches) -> Result<(), Failure> {
     if names.is_empty() {
         return Ok(());
     }
-    Err(failure(
+    Err(fail_with(
         ARCHIVE_FAILED,
         format!(in alloc;
             "archives {names} are missing or shorter than the desk knows: bring their disks back, or go on without them by --without {names}"
@@ -134,7 +134,7 @@ fn set_aside(rt: &HostRuntime, archive: u32) -> Result<(), Failure> {
     if is_link && fs::metadata(rt, name.as_str()).is_err() {
         let aside = format!(in rt.alloc(); "{name}.gone")?;
         if fs::rename(rt, name.as_str(), aside.as_str()).is_err() {
-            return Err(failure(
+            return Err(fail_with(
                 ARCHIVE_FAILED,
                 format!(in rt.alloc(); "{name} leads nowhere and could not be moved aside"),
             ));
@@ -150,7 +150,7 @@ fn new_geometry(rt: &HostRuntime, given: &ArgMatches) -> Result<Geometry, Failur
     if geometry.fits(rack.groups) {
         return Ok(geometry);
     }
-    Err(failure(
+    Err(fail_with(
         WORDS_REFUSED,
         format!(in rt.alloc();
             "files cannot be split so here: 2 to 8 fragments, and no more shards than groups, of which {}",
@@ -194,7 +194,7 @@ fn rack_in(alloc: Global, given: &ArgMatches) -> Result<Rack, Failure> {
     let wish = wish_of(alloc, given)?;
     let parity = byte(alloc, given, "parity", 1)?;
     let Some(chosen) = rack_for(&wish, parity) else {
-        return Err(failure(
+        return Err(fail_with(
             WORDS_REFUSED,
             format!(in alloc;
                 "no archive has so much room: give --room less, and keep the rest in other folders"
@@ -211,7 +211,7 @@ fn rack_in(alloc: Global, given: &ArgMatches) -> Result<Rack, Failure> {
     if fits(&rack) {
         return Ok(rack);
     }
-    Err(failure(
+    Err(fail_with(
         WORDS_REFUSED,
         format!(in alloc;
             "these numbers make no archive: see init in pots(1) for what each may be"
@@ -244,54 +244,57 @@ fn tell_rack(rt: &HostRuntime, rack: &Rack) -> Result<(), Failure> {
     let alloc = rt.alloc();
     let (archives, room, ten) = (archives_of(rack), room_of(rack), cost_of_ten(rack));
     let (whole, tenth) = (ten / 10, ten % 10);
-    let split = rack.geometry;
-    let (need, shards, parity) = (split.need, split.shards, rack.parity);
-    let spare = shards.saturating_sub(need);
-    let hidden = need.saturating_sub(1);
     let last = archives.saturating_sub(1);
-    say(
-        rt,
-        format!(in alloc;
-            "{archives} archives, archive-0 to archive-{last}, for about {room} bytes of files"
-        )?.as_str(),
+    let line = format!(in alloc;
+        "{archives} archives, archive-0 to archive-{last}, for about {room} bytes of files"
     )?;
-    say(
-        rt,
-        format!(in alloc; "each byte of a file takes {whole}.{tenth} bytes in them")?.as_str(),
-    )?;
-    say(
-        rt,
-        format!(in alloc;
-            "archives of {hidden} groups together tell nothing of a file; those of {need} groups may tell all"
-        )?.as_str(),
-    )?;
-    say(
-        rt,
-        format!(in alloc;
-            "in each group {parity} lost archives are mended, and with {spare} groups lost every file is still fetched"
-        )?.as_str(),
-    )?;
-    tell_places(rt, rack)
-}
-
-// Says which archives belong to one place.
-fn tell_places(rt: &HostRuntime, rack: &Rack) -> Result<(), Failure> {
-    let width = u32::from(rack.columns) + u32::from(rack.parity);
+    say(rt, line.as_str())?;
+    let line = format!(in alloc; "each byte of a file takes {whole}.{tenth} bytes in them")?;
+    say(rt, line.as_str())?;
+    tell_secrecy(rt, rack)?;
     for group in 0..u32::from(rack.groups) {
-        let first = group * width;
-        let last = (first + width).saturating_sub(1);
-        let place = group
-            .checked_rem(u32::from(rack.geometry.shards))
-            .unwrap_or(0)
-            + 1;
-        say(
-            rt,
-            format!(in rt.alloc();
-                "group {group}: archive-{first} to archive-{last}, for place {place}"
-            )?.as_str(),
-        )?;
+        tell_group(rt, rack, group)?;
     }
     Ok(())
+}
+
+// Says what archives tell, and what may be lost.
+fn tell_secrecy(rt: &HostRuntime, rack: &Rack) -> Result<(), Failure> {
+    let alloc = rt.alloc();
+    let (need, parity) = (rack.geometry.need, rack.parity);
+    let spare = rack.geometry.shards.saturating_sub(need);
+    let hidden = need.saturating_sub(1);
+    let line = format!(in alloc;
+        "places that may join without seeing more of a file than its length: {hidden}; places that may see it: {need}"
+    )?;
+    say(rt, line.as_str())?;
+    let line = format!(in alloc;
+        "archives of each group that may be lost and are mended: {parity}; places that may be lost while files are fetched: {spare}"
+    )?;
+    say(rt, line.as_str())
+}
+
+// Says which archives a group has, and for which place they are.
+fn tell_group(rt: &HostRuntime, rack: &Rack, group: u32) -> Result<(), Failure> {
+    let width = u32::from(rack.columns) + u32::from(rack.parity);
+    let first = group * width;
+    let last = (first + width).saturating_sub(1);
+    let place = place_of(rack, group);
+    let line = format!(in rt.alloc();
+        "group {group}: archive-{first} to archive-{last}, for place {place}"
+    )?;
+    say(rt, line.as_str())
+}
+
+// The place of a group, from 1: the groups of one place have one shard at most of each fragment.
+fn place_of(rack: &Rack, group: u32) -> u32 {
+    let (groups, shards) = (u32::from(rack.groups), u32::from(rack.geometry.shards));
+    let places = if groups.checked_rem(shards) == Some(0) {
+        shards
+    } else {
+        groups
+    };
+    group.checked_rem(places).unwrap_or(0) + 1
 }
 
 // Writes the files that the archives give, as the desk or the options say where to look.
