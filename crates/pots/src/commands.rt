@@ -18,7 +18,11 @@ use std::fs;
 use std::sync::Wait;
 
 /// Does what the command line asks for, and gives the exit status.
-pub fn run_command<X: Wait>(rt: &HostRuntime, turns: &X, matches: &ArgMatches) -> Result<u8, Failure> {
+pub fn run_command<X: Wait>(
+    rt: &HostRuntime,
+    turns: &X,
+    matches: &ArgMatches,
+) -> Result<u8, Failure> {
     match matches.subcommand() {
         Some(("init", given)) => init(rt, turns, given),
         Some(("place", given)) => place(rt, text(given, "archives"), text(given, "folder")),

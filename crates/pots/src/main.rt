@@ -5,6 +5,7 @@
 #![tactic(auto)]
 
 mod command_line;
+mod commands;
 mod desk;
 mod failure;
 mod fetch;
@@ -14,15 +15,14 @@ mod session;
 mod store;
 mod tell;
 mod tend;
-mod commands;
 
 use command_line::program;
+use commands::run_command;
 use failure::{Failure, NO_MEMORY, WORDS_REFUSED};
 use session::advice;
 use std::env;
 use std::process::ExitCode;
 use std::sync::Wait;
-use commands::run_command;
 
 /// The words of the command line, and all that they ask for.
 fn answer<X: Wait>(rt: &HostRuntime, turns: &X) -> Result<u8, Failure> {
