@@ -41,6 +41,7 @@ pub use laws::{batches_are_whole, lines_are_short, one_reading};
 pub use printing::{print_bad_line, print_reply, print_words_refused};
 pub use reading::read_script;
 pub use reply::{NameList, Reply};
+pub use words::Words;
 
 #[cfg(test)]
 mod tests;

@@ -1,5 +1,5 @@
 ghost use Rattle.std.specs.Prelude.{◌≡◌, IsSome, IsSomeAnd, codes};
-ghost use Rattle.potshards.specs.Advice.{HasAdvice, Tells};
+ghost use Rattle.pot_files.specs.Advice.{HasAdvice, Tells};
 
 /// The line on standard error for an exit status: what happened, and what to do. None for a status that says
 /// how a session went, which its output tells.

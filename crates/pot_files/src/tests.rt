@@ -1,7 +1,7 @@
 use crate::advice::advice_at;
 use crate::desk::DeskFile;
-use crate::drawn;
 use crate::folder::Folder;
+use crate::seed::drawn;
 use pot_bytes::Block;
 use pot_outside::{Archive, Desk, DeskFault, Held, Room, RoomFault};
 use std::fs;

@@ -1,0 +1,4 @@
+pub mod Parts
+pub mod ReplyKinds
+pub mod ReplyWords
+pub mod ScriptWords

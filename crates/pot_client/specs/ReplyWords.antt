@@ -1,0 +1,108 @@
+-- The words of a reply's first line, and what stands behind that line.
+use Rattle.std.specs.Prelude.{◌≡◌, ◌≤◌, ◌++◌, ◌∷◌, [], ℕ, List, Option, Some, None, length, codes, decimal, flat_map}
+use Rattle.std.specs.List.{AllByRecursion, join_with_byte}
+use Rattle.hex.specs.Hex.{IsBytes, encode_lower}
+use Rattle.pot_bytes.specs.Names.{IsName}
+use Rattle.pot_bytes.specs.declared.digest.Digest.{Digest}
+use Rattle.pot_index.specs.declared.listed.Listed.{Listed}
+use Rattle.pot_script.specs.declared.reply.Reply.{Reply}
+use Rattle.pot_script.specs.declared.reply.Reply.TheVariants as replies
+use Rattle.pot_script.specs.Replies.{listed_text}
+use Rattle.pot_client.specs.declared.kind.ReplyKind.{ReplyKind}
+use Rattle.pot_client.specs.declared.start.Start.{Start}
+use Rattle.pot_client.specs.declared.start.Start.TheVariants as starts
+use Rattle.pot_client.specs.ReplyKinds.{keyword, kind_of}
+
+-- the numbers in decimal
+abbrev pub decimals : List ℕ → List (List ℕ)
+decimals [] = []
+decimals (n ∷ ns) = decimal n ∷ decimals ns
+
+-- the words of a reply's first line behind its first word, which tells the kind
+abbrev pub fields : Reply → List (List ℕ)
+fields (replies.Stored name pieces shards) = name ∷ decimals (pieces ∷ shards ∷ [])
+fields (replies.File name bytes) = name ∷ decimals (length bytes ∷ [])
+fields (replies.Names names) = decimals (length names ∷ [])
+fields (replies.Group group live lost broken stripe column) =
+    decimal group ∷ codes "live" ∷ decimal live ∷ codes "lost" ∷ decimal lost ∷ codes "broken" ∷ decimal broken
+    ∷ codes "cursor" ∷ decimals (stripe ∷ column ∷ [])
+fields (replies.Scrubbed group seen gone) = decimals (group ∷ seen ∷ gone ∷ [])
+fields (replies.Repaired group mended left) = decimals (group ∷ mended ∷ left ∷ [])
+fields (replies.Replaced from to slots) = decimals (from ∷ to ∷ slots ∷ [])
+fields (replies.Migrated from to slots) = decimals (from ∷ to ∷ slots ∷ [])
+fields (replies.Long name len) = name ∷ decimals (len ∷ [])
+fields (replies.Exists name) = name ∷ []
+fields (replies.Full group) = decimals (group ∷ [])
+fields (replies.Absent name) = name ∷ []
+fields (replies.Lost name piece fragment have need) = name ∷ decimals (piece ∷ fragment ∷ have ∷ need ∷ [])
+fields (replies.Odd name wanted found) = name ∷ encode_lower wanted.bytes ∷ encode_lower found.bytes ∷ []
+fields (replies.Fault group column) = decimals (group ∷ column ∷ [])
+fields (replies.LogFull group) = decimals (group ∷ [])
+fields replies.IndexLogFull = codes "index" ∷ []
+fields (replies.NoArchive number) = decimals (number ∷ [])
+fields (replies.InUse number) = decimals (number ∷ [])
+fields (replies.Renewed name pieces shards) = name ∷ decimals (pieces ∷ shards ∷ [])
+fields (replies.Often name) = name ∷ []
+
+-- what stands behind the first line
+abbrev pub behind : Reply → List ℕ
+behind (replies.File name bytes) = bytes ++ codes "\n"
+behind (replies.Names names) = flat_map listed_text names
+behind _ = []
+
+-- a number of 32 bits
+abbrev pub IsNumber : ℕ → Type 0
+IsNumber n = n ≤ 4294967295
+
+-- a number of 8 bits
+abbrev pub IsByte : ℕ → Type 0
+IsByte n = n ≤ 255
+
+-- 32 bytes
+abbrev pub IsDigest : Digest → Type 0
+IsDigest d = (length d.bytes ≡ 32) × IsBytes d.bytes
+
+-- a published name whose length has 32 bits
+abbrev pub IsListing : Listed → Type 0
+IsListing l = IsName l.name × IsNumber l.length
+
+-- a reply whose names are names, and whose numbers have the bits of their types; a length has 32 bits
+abbrev pub IsReply : Reply → Type 0
+IsReply (replies.Stored name pieces shards) = IsName name × IsNumber pieces × IsNumber shards
+IsReply (replies.File name bytes) = IsName name × IsNumber (length bytes)
+IsReply (replies.Names names) = IsNumber (length names) × AllByRecursion IsListing names
+IsReply (replies.Group group live lost broken stripe column) =
+    IsByte group × IsNumber live × IsNumber lost × IsNumber broken × IsNumber stripe × IsByte column
+IsReply (replies.Scrubbed group seen gone) = IsByte group × IsNumber seen × IsNumber gone
+IsReply (replies.Repaired group mended left) = IsByte group × IsNumber mended × IsNumber left
+IsReply (replies.Replaced from to slots) = IsNumber from × IsNumber to × IsNumber slots
+IsReply (replies.Migrated from to slots) = IsNumber from × IsNumber to × IsNumber slots
+IsReply (replies.Long name len) = IsName name × IsNumber len
+IsReply (replies.Exists name) = IsName name
+IsReply (replies.Full group) = IsByte group
+IsReply (replies.Absent name) = IsName name
+IsReply (replies.Lost name piece fragment have need) =
+    IsName name × IsNumber piece × IsByte fragment × IsByte have × IsByte need
+IsReply (replies.Odd name wanted found) = IsName name × IsDigest wanted × IsDigest found
+IsReply (replies.Fault group column) = IsByte group × IsByte column
+IsReply (replies.LogFull group) = IsByte group
+IsReply replies.IndexLogFull = Unit {0}
+IsReply (replies.NoArchive number) = IsNumber number
+IsReply (replies.InUse number) = IsNumber number
+IsReply (replies.Renewed name pieces shards) = IsName name × IsNumber pieces × IsNumber shards
+IsReply (replies.Often name) = IsName name
+
+-- what the first line of a reply tells of it
+abbrev pub start_of : Reply → Start
+start_of (replies.File name bytes) = starts.File name (length bytes)
+start_of (replies.Names names) = starts.Names (length names)
+start_of r = starts.Whole r
+
+-- the only value of which P holds
+abbrev pub IsOnly : {T : Type 0} → (T → Type 0) → Option T → Type 0
+IsOnly {T} P None = (t : T) → P t → ⊥
+IsOnly {T} P (Some t) = P t × ((s : T) → P s → s ≡ t)
+
+-- what is read of a first line of this kind that has these fields, if it is that of a reply
+abbrev pub ReadsStart : ReplyKind → List (List ℕ) → Option Start → Type 0
+ReadsStart kind words result = (r : Reply) → kind_of r ≡ kind → IsReply r → words ≡ fields r → result ≡ Some (start_of r)
