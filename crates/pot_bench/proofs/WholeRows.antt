@@ -1,4 +1,4 @@
--- One row is a whole row.
+-- One row or two are whole rows.
 use Rattle.std.proofs.Common.{◌≡◌, ◌<◌, ◌*◌, ◌/◌, ℕ, ap, sym, arith}
 use Rattle.std.proofs.Math.Nat.{mul-div_cancel}
 
@@ -7,3 +7,6 @@ whole count size total h e = rw e (ap (λ k. k * size) (sym (mul-div_cancel coun
 
 pub one_row : (size total : ℕ) → 0 < size → total ≡ size → total ≡ total / size * size
 one_row size total h e = whole 1 size total h (omega (arith, e))
+
+pub two_rows : (size total : ℕ) → 0 < size → total ≡ 2 * size → total ≡ total / size * size
+two_rows size total h e = whole 2 size total h e

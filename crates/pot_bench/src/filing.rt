@@ -5,7 +5,7 @@
 ghost use Rattle.std.specs.Prelude.{◌≡◌, ◌<◌, ◌≤◌, ◌↔◌, IsTrue, IfOk};
 
 use crate::given::{FETCH, FILE, Given, STORE, by_opening};
-use crate::report::{Timed, print_given, print_part, print_sum};
+use crate::report::{Beside, Report};
 use crate::rows::{SEED, zeros};
 use crate::sessions::{Desk, Session};
 use pot_bytes::Name;
@@ -15,6 +15,13 @@ use std::io;
 use std::rt::Clock;
 use std::sync::Wait;
 use std::time::Instant;
+
+/// How many seconds calls took, and how many the digests alone that they make.
+#[derive(Clone, Copy)]
+pub struct Timed {
+    pub seconds: f64,
+    pub digests: f64,
+}
 
 /// No call yet.
 const UNTIMED: Timed = Timed {
@@ -31,46 +38,43 @@ struct Fetched {
 }
 
 /// A session stores files of 800 KB, ten for eight megabytes but no more than ten; one that is opened after it fetches them, and so
-/// does one for which an archive is gone. It prints lines for each.
+/// does one for which an archive is gone. It prints a line for each.
 pub fn time_sessions<R: Clock + Wait + Print + Eprint>(
     rt: &R,
     alloc: Global,
     megabytes: u16,
+    report: &Report,
+    beside: &Beside,
 ) -> io::Result<()> {
     let count = (u32::from(megabytes) * 10 / 8).clamp(1, 10);
     let files = files(alloc, count)?;
     let mut sums = Vec::new(alloc);
-    let desk = time_stores(rt, alloc, &files, count, &mut sums)?;
-    let desk = time_fetches(rt, alloc, desk, &files, count, &mut sums)?;
-    let gone = fetch_with_one_gone(rt, alloc, desk, &files)?;
-    print_calls(rt, "fetch, an archive gone", &gone.timed, count)?;
-    print_sum(rt, "fetch, an archive gone", &gone.bytes)?;
-    print_sum(rt, "digest_of, sessions", &sums)
+    let desk = time_stores(rt, alloc, &files, count, &mut sums, report, beside)?;
+    let (desk, whole) = time_fetches(rt, alloc, desk, &files, count, &mut sums, report, beside)?;
+    time_one_gone(rt, alloc, desk, &files, whole, report)?;
+    report.sum(rt, "digest_of, sessions", &sums)
 }
 
-/// How fast calls went over so many files.
-fn print_calls(rt: &impl Eprint, name: &str, timed: &Timed, files: u32) -> io::Result<()> {
-    print_part(rt, name, f64::from(files) * 0.78125, timed)
-}
-
-/// A session stores the files.
+/// A session stores the files. It prints a line.
 fn time_stores<R: Clock + Wait + Print + Eprint>(
     rt: &R,
     alloc: Global,
     files: &[u8],
     count: u32,
     sums: &mut Vec<u8>,
+    report: &Report,
+    beside: &Beside,
 ) -> io::Result<Desk> {
     let mut session = Desk::new(alloc)?.open(alloc)?;
     let timed = store_files(rt, alloc, &mut session, sums, files)?;
     let desk = session.end(alloc)?;
-    print_calls(rt, "store", &timed, count)?;
     let given = STORE.times(count).bytes(files.len());
-    print_given(rt, "store", given, count, desk.image())?;
+    report.calls(rt, "store", &timed, given, count, beside, desk.image())?;
     Ok(desk)
 }
 
-/// A session that is opened over a desk fetches the files.
+/// A session that is opened over a desk fetches the files. It prints a line for the opening and two for the fetches, and answers how
+/// many seconds these took.
 fn time_fetches<R: Clock + Wait + Print + Eprint>(
     rt: &R,
     alloc: Global,
@@ -78,30 +82,51 @@ fn time_fetches<R: Clock + Wait + Print + Eprint>(
     files: &[u8],
     count: u32,
     sums: &mut Vec<u8>,
-) -> io::Result<Desk> {
+    report: &Report,
+    beside: &Beside,
+) -> io::Result<(Desk, f64)> {
     let given = by_opening(desk.stripes());
     let digested = given.bytes(desk.text().len());
     let (mut session, timed) = open_desk(rt, alloc, desk, sums, &given)?;
     let fetched = fetch_files(rt, alloc, &mut session, sums, files)?;
     let desk = session.end(alloc)?;
-    print_calls(rt, "opening", &timed, count)?;
-    print_given(rt, "opening", digested, count, desk.image())?;
-    print_fetched(rt, &fetched, count, files.len())?;
-    Ok(desk)
+    report.calls(rt, "opening", &timed, digested, count, beside, desk.image())?;
+    let given = FETCH.times(count).bytes(files.len());
+    report_fetched(rt, &fetched, given, count, report, beside)?;
+    Ok((desk, fetched.timed.seconds))
 }
 
-/// The lines for the fetches, and whether they gave the files.
-fn print_fetched(
+/// Prints a line for the fetches, and whether they gave the files.
+fn report_fetched(
     rt: &(impl Print + Eprint),
     fetched: &Fetched,
+    given: u32,
     count: u32,
-    whole: usize,
+    report: &Report,
+    beside: &Beside,
 ) -> io::Result<()> {
     let Fetched { timed, bytes, same } = fetched;
-    print_calls(rt, "fetch", timed, count)?;
-    print_given(rt, "fetch", FETCH.times(count).bytes(whole), count, bytes)?;
-    let word = if *same { "the files" } else { "other bytes" };
-    println!(rt; "fetched {word}")
+    report.calls(rt, "fetch", timed, given, count, beside, bytes)?;
+    report.same(rt, *same)
+}
+
+/// A session for which an archive is gone fetches the files, which took so many seconds with all archives. It prints a line.
+fn time_one_gone<R: Clock + Wait + Print + Eprint>(
+    rt: &R,
+    alloc: Global,
+    desk: Desk,
+    files: &[u8],
+    whole: f64,
+    report: &Report,
+) -> io::Result<()> {
+    let gone = fetch_with_one_gone(rt, alloc, desk, files)?;
+    report.beside(
+        rt,
+        "fetch, an archive gone",
+        &gone.timed,
+        whole,
+        &gone.bytes,
+    )
 }
 
 /// A session that is opened after one archive was emptied fetches the files.

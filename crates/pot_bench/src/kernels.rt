@@ -7,6 +7,8 @@ use pot_bytes::{Block, digest_of, fold_weighted, xor_into};
 use pot_pads::PadStream;
 use pot_sealed::digests_of_four;
 use pot_split::{share_join, share_out};
+use rand_chacha::ChaCha20Rng;
+use rand_core::Rng;
 use std::alloc::{AllocError, Global};
 
 /// XORs `from` into `into`.
@@ -48,7 +50,7 @@ fn fold_each(sum: &mut Block, weight: u8, blocks: &[Block]) {
 
 /// The share at 3, where two shares give the content.
 #[tactic(auto, using(crate::proofs::WholeRows::one_row))]
-pub fn share_rounds(content: &[u8], coefficients: &[u8], out: &mut [u8], rounds: u32)
+pub fn share_two_rounds(content: &[u8], coefficients: &[u8], out: &mut [u8], rounds: u32)
     requires some { 0 < length content.now }
     requires rows { length coefficients.now ≡ length content.now }
     requires wide { length out.old ≡ length content.now }
@@ -56,6 +58,19 @@ pub fn share_rounds(content: &[u8], coefficients: &[u8], out: &mut [u8], rounds:
 {
     for _ in 0..rounds {
         share_out(content, coefficients, 3, out);
+    }
+}
+
+/// The share at 5, where three shares give the content.
+#[tactic(auto, using(crate::proofs::WholeRows::two_rows))]
+pub fn share_three_rounds(content: &[u8], coefficients: &[u8], out: &mut [u8], rounds: u32)
+    requires some { 0 < length content.now }
+    requires rows { length coefficients.now ≡ 2 * length content.now }
+    requires wide { length out.old ≡ length content.now }
+    ensures { length out.new ≡ length out.old }
+{
+    for _ in 0..rounds {
+        share_out(content, coefficients, 5, out);
     }
 }
 
@@ -104,5 +119,14 @@ pub fn fill_rounds(pads: &mut PadStream, row: &mut [u8], rounds: u32)
 {
     for _ in 0..rounds {
         pads.fill(row);
+    }
+}
+
+/// Fills the row with the next bytes of the kit's own generator.
+pub fn generate_rounds(generator: &mut ChaCha20Rng, row: &mut [u8], rounds: u32)
+    ensures { length row.new ≡ length row.old }
+{
+    for _ in 0..rounds {
+        generator.fill_bytes(row);
     }
 }

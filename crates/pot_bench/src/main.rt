@@ -1,12 +1,15 @@
-//! Times what the archive spends its time on: the loops that touch every byte of a file, the calls of a group, and stores, fetches
-//! and the opening of sessions.
+//! Times the loops that touch every byte of a file.
 //!
-//! To standard output goes a line for each with a checksum of what it computed, the same at each run; to standard error how fast it
-//! went, and of calls which part of their time the digests alone take that they make. The argument says over how many megabytes
-//! each loop over rows goes, 1 without it, and how many groups are filled, one after another, with 3 MB each. After the looks the
-//! archive of a column is replaced, and relays rebuild its blocks (`mend`); then another column moves (`move`). Sessions store and
-//! fetch ten files of 800 KB for 8 megabytes, and no more than ten, and fetch them again with an archive gone. It is no part of the
-//! archive.
+//! To standard output goes a line for each loop with a checksum of what it computed, the same at each
+//! run. To standard error goes how fast it went, and how many times slower than `xor_into` of that run;
+//! of puts, looks, relays and moves in a group, which part of their time the digests alone take that they make.
+//! The argument says over how many megabytes each loop goes: 1 without it. Puts and looks go over three
+//! times as many. After the looks the archive of a column is replaced, and relays rebuild its blocks (`mend`);
+//! then another column moves (`move`). Each goes over as many megabytes as the argument says, and its checksum
+//! is of the blocks that the new archive holds, which are those of the archive that was replaced or left.
+//! Sessions store and fetch ten files of 800 KB for 8 megabytes, and no more than ten, and fetch them again with an
+//! archive gone: to standard output goes how many bytes they digest, and whether the fetched bytes are those of the
+//! files. It is no part of the archive.
 #![tactic(auto)]
 
 ghost use Rattle.std.specs.Prelude.{◌<◌};
@@ -23,13 +26,12 @@ mod sessions;
 mod timing;
 
 use filing::time_sessions;
-use report::print_loop;
+use report::{Beside, Report};
 use rows::Rows;
 use std::alloc::Global;
 use std::rt::Clock;
-use std::time::Instant;
 use std::{env, io};
-use timing::time_group;
+use timing::Trials;
 
 fn main(rt: HostRuntime) -> io::Result<()> {
     let megabytes: u16 = match env::args(&rt)?.nth(1) {
@@ -38,41 +40,57 @@ fn main(rt: HostRuntime) -> io::Result<()> {
     };
     let rounds = 16 * u32::from(megabytes);
     let mut rows = Rows::new(rt.alloc())?;
-    time_rows(&rt, rounds, &mut rows)?;
-    time_pieces(&rt, rt.alloc(), rounds)?;
-    for _ in 0..megabytes {
-        time_group(&rt, rt.alloc(), rows.blocks())?;
-    }
-    time_sessions(&rt, rt.alloc(), megabytes)
+    let mut report = Report::new(&rt, rounds)?;
+    let beside = time_rows(&rt, rounds, &mut rows, &mut report)?;
+    time_pieces(&rt, rt.alloc(), rounds, &mut report)?;
+    let trials = Trials::over(&rt, rt.alloc(), rows.blocks(), megabytes)?;
+    trials.report(&rt, &report)?;
+    time_sessions(&rt, rt.alloc(), megabytes, &report, &beside)
 }
 
-/// The loops over rows, each with a line. A join is told for each of its two shares.
-fn time_rows(rt: &(impl Print + Eprint + Clock), rounds: u32, rows: &mut Rows) -> io::Result<()>
-    requires { rounds < 2147483648 }
+/// The loops over rows, each with a line.
+fn time_rows(
+    rt: &(impl Print + Eprint + Clock),
+    rounds: u32,
+    rows: &mut Rows,
+    report: &mut Report,
+) -> io::Result<Beside>
+    requires { rounds < 4294967295 }
 {
-    let begun = Instant::now(rt)?;
     rows.xor_into(rounds + 1);
-    print_loop(rt, "xor_into", &begun, rounds, rows.out())?;
-    let begun = Instant::now(rt)?;
+    report.line(rt, "xor_into", 1, rows.out())?;
     let sum = rows.fold_weighted(rounds);
-    print_loop(rt, "fold_weighted", &begun, rounds, sum.bytes())?;
-    let begun = Instant::now(rt)?;
-    rows.fill(rounds);
-    print_loop(rt, "fill", &begun, rounds, rows.out())?;
-    let begun = Instant::now(rt)?;
-    rows.share_out(rounds);
-    print_loop(rt, "share_out 2 of 3", &begun, rounds, rows.out())?;
-    let begun = Instant::now(rt)?;
-    rows.share_join(rounds);
-    print_loop(rt, "share_join 2 of 3", &begun, 2 * rounds, rows.out())?;
-    let begun = Instant::now(rt)?;
+    report.line(rt, "fold_weighted", 1, sum.bytes())?;
+    rows.share_two_of_three(rounds);
+    let share_out = report.line(rt, "share_out 2 of 3", 1, rows.out())?;
+    rows.share_three_of_five(rounds);
+    report.line(rt, "share_out 3 of 5", 1, rows.out())?;
+    rows.join_two_of_three(rounds);
+    report.line(rt, "share_join 2 of 3", 2, rows.out())?;
+    rows.join_three_of_five(rounds);
+    report.line(rt, "share_join 3 of 5", 3, rows.out())?;
     rows.digest_of(rounds);
-    print_loop(rt, "digest_of", &begun, rounds, rows.out())
+    let digest_of = report.line(rt, "digest_of", 1, rows.out())?;
+    rows.fill(rounds);
+    report.line(rt, "fill", 1, rows.out())?;
+    rows.fill_bytes(rounds);
+    report.line(rt, "the kit's fill_bytes", 1, rows.out())?;
+    Ok(Beside {
+        digest_of,
+        share_out,
+    })
 }
 
-/// The blocks of the pieces of a split, with a line.
-fn time_pieces(rt: &(impl Print + Eprint + Clock), alloc: Global, rounds: u32) -> io::Result<()> {
-    let begun = Instant::now(rt)?;
+/// The blocks of the pieces of two splits, each with a line.
+fn time_pieces(
+    rt: &(impl Print + Eprint + Clock),
+    alloc: Global,
+    rounds: u32,
+    report: &mut Report,
+) -> io::Result<()> {
     let blocks = pieces::two_of_three(alloc, rounds)?;
-    print_loop(rt, "piece_blocks 2, 2 of 3", &begun, rounds, &blocks)
+    report.line(rt, "piece_blocks 2, 2 of 3", 1, &blocks)?;
+    let blocks = pieces::three_of_five(alloc, rounds)?;
+    report.line(rt, "piece_blocks 3, 3 of 5", 1, &blocks)?;
+    Ok(())
 }

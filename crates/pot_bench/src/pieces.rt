@@ -24,18 +24,32 @@ pub fn two_of_three(alloc: Global, rounds: u32) -> Result<Vec<u8>, AllocError>
     fill_rounds(&mut pads, &mut piece, 1);
     fill_rounds(&mut pads, &mut random, 1);
     let mut blocks = [Block::zero(); 6];
-    piece_rounds(&piece, &geometry(), &random, &mut blocks, rounds);
+    piece_rounds(&piece, &split(2, 2, 3), &random, &mut blocks, rounds);
     bytes_of(alloc, &blocks)
 }
 
-/// Two fragments, of which two of three shards each give one.
-fn geometry() -> Geometry
-    ensures { result ≡ record { fragments = 2; need = 2; shards = 3; blur = 16 } }
+/// The bytes of the blocks of a piece of three fragments, of which three of five shards each give one.
+pub fn three_of_five(alloc: Global, rounds: u32) -> Result<Vec<u8>, AllocError>
+    ensures { IfOk result (λ bytes. length bytes.items ≡ 15 * 1024) }
+{
+    let mut pads = PadStream::new(&SEED, 0, 3);
+    let mut piece = [0; 864];
+    let mut random = [0; 7_944];
+    fill_rounds(&mut pads, &mut piece, 1);
+    fill_rounds(&mut pads, &mut random, 1);
+    let mut blocks = [Block::zero(); 15];
+    piece_rounds(&piece, &split(3, 3, 5), &random, &mut blocks, rounds);
+    bytes_of(alloc, &blocks)
+}
+
+/// A geometry with a blur of 16 bits.
+fn split(fragments: u8, need: u8, shards: u8) -> Geometry
+    ensures { result ≡ record { fragments = fragments; need = need; shards = shards; blur = 16 } }
 {
     Geometry {
-        fragments: 2,
-        need: 2,
-        shards: 3,
+        fragments,
+        need,
+        shards,
         blur: 16,
     }
 }

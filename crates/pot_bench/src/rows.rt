@@ -2,10 +2,13 @@ ghost use Rattle.std.specs.Prelude.{◌≡◌, ◌*◌, length, IfOk};
 ghost use Rattle.pot_bench.specs.declared.rows.TheConstants.{ROW};
 
 use crate::kernels::{
-    blocks_of, digest_rounds, fill_rounds, fold_blocks, join_rounds, share_rounds, xor_rounds,
+    blocks_of, digest_rounds, fill_rounds, fold_blocks, generate_rounds, join_rounds,
+    share_three_rounds, share_two_rounds, xor_rounds,
 };
 use pot_bytes::Block;
 use pot_pads::PadStream;
+use rand_chacha::ChaCha20Rng;
+use rand_core::SeedableRng;
 use std::alloc::{AllocError, Global};
 
 /// The bytes of a row, of which 16 are a megabyte.
@@ -29,7 +32,7 @@ pub struct Rows {
     out: Vec<u8>,
     blocks: Vec<Block>,
     ghost content_len: { length content.items ≡ ROW },
-    ghost shares_len: { length shares.items ≡ 3 * ROW },
+    ghost shares_len: { length shares.items ≡ 5 * ROW },
     ghost out_len: { length out.items ≡ ROW },
 }
 
@@ -39,7 +42,7 @@ impl Rows {
     /// Random bytes for a content and for shares, and zeros for what is computed.
     pub fn new(alloc: Global) -> Result<Rows, AllocError> {
         let mut content = zeros(alloc, ROW)?;
-        let mut shares = zeros(alloc, 3 * ROW)?;
+        let mut shares = zeros(alloc, 5 * ROW)?;
         let mut pads = PadStream::new(&SEED, 0, 0);
         fill_rounds(&mut pads, &mut content, 1);
         fill_rounds(&mut pads, &mut shares, 1);
@@ -76,20 +79,32 @@ impl Rows {
         fold_blocks(&self.blocks, rounds)
     }
 
-    /// The share at 3, where two of three shares give the content.
-    pub fn share_out(&mut self, rounds: u32)
+    pub fn share_two_of_three(&mut self, rounds: u32)
         ensures { KeepsRows self.old self.new }
     {
         let coefficients = &self.shares[ROW..2 * ROW];
-        share_rounds(&self.content, coefficients, &mut self.out, rounds);
+        share_two_rounds(&self.content, coefficients, &mut self.out, rounds);
     }
 
-    /// What two of three shares give.
-    pub fn share_join(&mut self, rounds: u32)
+    pub fn share_three_of_five(&mut self, rounds: u32)
         ensures { KeepsRows self.old self.new }
     {
-        let shares = &self.shares[ROW..];
+        let coefficients = &self.shares[ROW..3 * ROW];
+        share_three_rounds(&self.content, coefficients, &mut self.out, rounds);
+    }
+
+    pub fn join_two_of_three(&mut self, rounds: u32)
+        ensures { KeepsRows self.old self.new }
+    {
+        let shares = &self.shares[ROW..3 * ROW];
         join_rounds(&[2, 3], shares, &mut self.out, rounds);
+    }
+
+    pub fn join_three_of_five(&mut self, rounds: u32)
+        ensures { KeepsRows self.old self.new }
+    {
+        let shares = &self.shares[2 * ROW..];
+        join_rounds(&[3, 4, 5], shares, &mut self.out, rounds);
     }
 
     pub fn digest_of(&mut self, rounds: u32)
@@ -103,5 +118,14 @@ impl Rows {
     {
         let mut pads = PadStream::new(&SEED, 0, 1);
         fill_rounds(&mut pads, &mut self.out, rounds);
+    }
+
+    /// What the kit's own generator gives for the same stream.
+    pub fn fill_bytes(&mut self, rounds: u32)
+        ensures { KeepsRows self.old self.new }
+    {
+        let mut generator = ChaCha20Rng::from_seed(SEED);
+        generator.set_stream(1);
+        generate_rounds(&mut generator, &mut self.out, rounds);
     }
 }

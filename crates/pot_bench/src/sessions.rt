@@ -111,6 +111,9 @@ impl Desk {
         else {
             return Err(AllocError);
         };
+        if rack.parity != 1 {
+            return Err(AllocError);
+        }
         let members = start_groups(alloc, &rack, tables, archives)?;
         let Ok(index) = Index::start(alloc, &rack, records) else {
             return Err(AllocError);
@@ -135,7 +138,7 @@ fn homes(alloc: Global, table: &GroupTable) -> Result<Vec<Shelf<PlainArchive>>, 
     Ok(shelves)
 }
 
-/// Whether the table is of a group of the rack, and has no relay.
+/// Whether the table is of a group of the rack, has one parity column, and has no relay.
 fn is_of_rack(table: &GroupTable, rack: &Rack) -> bool
     ensures table { IsTrue result → IsTableOf rack.now table.now }
     ensures relays { IsTrue result → table.now.relays ≡ [] }
@@ -154,6 +157,7 @@ fn start_group(
     table: GroupTable,
     shelves: Vec<Shelf<PlainArchive>>,
 ) -> Result<Member<PlainArchive>, AllocError>
+    requires parity { rack.now.parity ≡ 1 }
     ensures { IfOk result (λ m. IsGroupOf rack.now number (view_of meaning_in m.group)) }
 {
     if !is_of_rack(&table, rack) || !are_homes(table.columns(), &shelves) {
@@ -177,6 +181,7 @@ fn start_groups(
     tables: Vec<GroupTable>,
     archives: Vec<Vec<Shelf<PlainArchive>>>,
 ) -> Result<Vec<Member<PlainArchive>>, AllocError>
+    requires parity { rack.now.parity ≡ 1 }
     ensures count { IfOk result (λ v. length v.items ≡ rack.now.groups) }
     ensures groups { IfOk result (λ v. (n : ℕ) (m : _) → slice_get v.items n ≡ Some m → IsGroupOf rack.now n (view_of meaning_in m.group)) }
 {
@@ -202,6 +207,7 @@ pub struct Session {
     vault: Vault<PlainArchive>,
     passes: Passes<PlainArchive>,
     ghost rack: { IsRack vault.rack },
+    ghost parity: { vault.rack.parity ≡ 1 },
     ghost count: { length vault.groups ≡ vault.rack.groups },
     ghost ready: { AreReady vault.rack vault.groups passes.groups } by { Prim.hlevel props },
     ghost index: { IsIndexReady vault.rack vault.groups vault.index passes.index } by { Prim.hlevel props },

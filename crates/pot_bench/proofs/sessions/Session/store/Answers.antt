@@ -11,6 +11,7 @@ pub invariant_of-self : goal.invariant_of-self
 invariant_of-self g c =
     let s = c.args.self.now in record {
       rack = s.rack;
+      parity = s.parity;
       count = s.count;
       ready = c.store_file.ensures.ready;
       index = c.store_file.ensures.index;

@@ -1,6 +1,6 @@
 use Rattle.std.proofs.Common.{refl}
 use Rattle.std.specs.List.{IsDistinct}
-use Rattle.pot_bench.proofs.rows.Rows.share_join.Goals as goal
+use Rattle.pot_bench.proofs.rows.Rows.join_two_of_three.Goals as goal
 
 pub join_rounds-requires-clause-distinct : goal.join_rounds-requires-clause-distinct
 unfolding IsDistinct
