@@ -1,4 +1,6 @@
 //! Calls of a group that stands.
+ghost use Rattle.std.specs.Prelude.{◌≡◌};
+
 use crate::archive::Shared;
 use crate::lines::{Call, Job};
 use crate::outcomes::{NO_SLOT, Outcome};
@@ -14,7 +16,10 @@ pub const GROUP: u8 = 5;
 /// The byte that every blind repeats.
 const BLIND: u8 = 0x5a;
 
-fn place(stripe: u32, column: u8) -> Place {
+fn place(stripe: u32, column: u8) -> Place
+    ensures stripe { result.stripe ≡ stripe }
+    ensures column { result.column ≡ column }
+{
     Place {
         group: GROUP,
         column,

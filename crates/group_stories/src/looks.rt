@@ -1,4 +1,6 @@
 //! Looks from outside.
+ghost use Rattle.std.specs.Prelude.{◌<◌};
+
 use crate::entries::entry_text;
 use crate::lines::Look;
 use crate::outcomes::{ByteText, repeated};

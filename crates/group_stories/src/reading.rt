@@ -27,11 +27,6 @@ fn number(word: &str) -> Option<u32> {
     word.parse::<u32>().ok()
 }
 
-/// A number of a column.
-fn column(word: &str) -> Option<u8> {
-    u8::try_from(number(word)?).ok()
-}
-
 /// The value of a hexadecimal digit of lower case.
 fn digit(byte: u8) -> Option<u8> {
     match byte {
@@ -49,24 +44,67 @@ fn byte(word: &str) -> Option<u8> {
     }
 }
 
-fn job(word: &str) -> Option<Job> {
-    Job::new(number(word)?)
+/// The words of a line that are still to be read.
+#[derive(Clone, Copy)]
+struct Words<'a, 'b> {
+    left: &'b [&'a str],
 }
 
-/// Whether a parity block was kept.
-fn kept(word: &str) -> Option<bool> {
-    match word {
-        "kept" => Some(true),
-        "unkept" => Some(false),
-        _ => None,
+impl<'a, 'b> Words<'a, 'b> {
+    fn next(&mut self) -> Option<&'a str> {
+        match self.left {
+            [word, left @ ..] => {
+                self.left = left;
+                Some(*word)
+            }
+            _ => None,
+        }
     }
-}
 
-fn kind(word: &str) -> Option<Kind> {
-    match word {
-        "live" => Some(Kind::Live),
-        "unsound" => Some(Kind::Unsound),
-        _ => None,
+    fn number(&mut self) -> Option<u32> {
+        number(self.next()?)
+    }
+
+    fn column(&mut self) -> Option<u8> {
+        u8::try_from(self.number()?).ok()
+    }
+
+    fn byte(&mut self) -> Option<u8> {
+        byte(self.next()?)
+    }
+
+    fn digest(&mut self) -> Option<Digest> {
+        Some(digest(self.byte()?))
+    }
+
+    fn job(&mut self) -> Option<Job> {
+        Job::new(self.number()?)
+    }
+
+    /// Whether a parity block was kept.
+    fn kept(&mut self) -> Option<bool> {
+        match self.next()? {
+            "kept" => Some(true),
+            "unkept" => Some(false),
+            _ => None,
+        }
+    }
+
+    fn kind(&mut self) -> Option<Kind> {
+        match self.next()? {
+            "live" => Some(Kind::Live),
+            "unsound" => Some(Kind::Unsound),
+            _ => None,
+        }
+    }
+
+    /// The number behind `at`, if the line has one.
+    fn at(&mut self) -> Option<Option<u32>> {
+        match self.next() {
+            None => Some(None),
+            Some("at") => Some(Some(self.number()?)),
+            Some(_) => None,
+        }
     }
 }
 
@@ -78,29 +116,33 @@ pub fn read_line(alloc: Global, text: &str) -> Result<Option<Says>, AllocError> 
     if text.starts_with("= ") {
         return Ok(Some(Says::Title));
     }
-    let mut words = Vec::new(alloc);
+    let mut list = Vec::new(alloc);
     for word in text.split(' ') {
-        words.push(word)?;
+        list.push(word)?;
     }
-    Ok(read_words(&words))
+    let mut words = Words { left: &list };
+    let says = read_words(&mut words);
+    Ok(if words.left.is_empty() { says } else { None })
 }
 
-fn read_words(words: &[&str]) -> Option<Says> {
-    match words {
-        ["group", columns, parity, stripes] => read_shape(columns, parity, stripes),
-        ["had", entry @ ..] => Some(Says::Had(read_entry(entry)?)),
-        ["each", "call", "fails"] => Some(Says::EachCallFails),
-        ["holds" | "fail" | "lose", ..] => read_act(words),
-        ["repeat", times, step @ ..] => Some(Says::Calls(read_times(times)?, read_call(step)?)),
-        _ => read_step(words),
+fn read_words(words: &mut Words) -> Option<Says> {
+    match words.next()? {
+        "group" => read_shape(words),
+        "had" => Some(Says::Had(read_entry(words)?)),
+        "each" => read_each(words),
+        "holds" => read_holds(words),
+        "fail" => read_fail(words),
+        "lose" => read_lose(words),
+        "repeat" => read_repeat(words),
+        word => read_step(word, words),
     }
 }
 
-fn read_shape(columns: &str, parity: &str, stripes: &str) -> Option<Says> {
+fn read_shape(words: &mut Words) -> Option<Says> {
     let shape = Shape {
-        columns: column(columns)?,
-        parity: column(parity)?,
-        stripes: number(stripes)?,
+        columns: words.column()?,
+        parity: words.column()?,
+        stripes: words.number()?,
     };
     if !shape.rack().fits() {
         return None;
@@ -108,183 +150,181 @@ fn read_shape(columns: &str, parity: &str, stripes: &str) -> Option<Says> {
     Some(Says::Group(shape))
 }
 
-fn read_times(word: &str) -> Option<u32> {
-    let times = number(word)?;
+fn read_each(words: &mut Words) -> Option<Says> {
+    if words.next()? == "call" && words.next()? == "fails" {
+        return Some(Says::EachCallFails);
+    }
+    None
+}
+
+fn read_repeat(words: &mut Words) -> Option<Says> {
+    let times = words.number()?;
     if times == 0 || times > MOST_TIMES {
         return None;
     }
-    Some(times)
+    let call = words.next()?;
+    Some(Says::Calls(times, read_call(call, words)?))
+}
+
+fn read_holds(words: &mut Words) -> Option<Says> {
+    let archive = words.number()?;
+    let act = Act::Holds {
+        slot: words.number()?,
+        byte: words.byte()?,
+    };
+    Some(Says::Outside(archive, act))
+}
+
+fn read_fail(words: &mut Words) -> Option<Says> {
+    let archive = words.number()?;
+    let call = words.at()?.unwrap_or(0);
+    Some(Says::Outside(archive, Act::Fail { call }))
+}
+
+fn read_lose(words: &mut Words) -> Option<Says> {
+    let archive = words.number()?;
+    let slot = words.number()?;
+    let act = match words.at()? {
+        Some(call) => Act::LoseAt { slot, call },
+        None => Act::Lose { slot },
+    };
+    Some(Says::Outside(archive, act))
 }
 
 /// An entry, with the byte that a block repeats in place of its digest.
-fn read_entry(words: &[&str]) -> Option<Entry> {
-    match words {
-        ["put", by, stripe, at, of, parity, kept_first] => Some(Entry::Put {
-            job: job(by)?.number(),
-            stripe: number(stripe)?,
-            column: column(at)?,
-            digest: digest(byte(of)?),
-            parity_digest: digest(byte(parity)?),
-            kept: kept(kept_first)?,
+fn read_entry(words: &mut Words) -> Option<Entry> {
+    match words.next()? {
+        "put" => read_put(words),
+        "put2" => read_put2(words),
+        "skip" => Some(Entry::Skip {
+            job: words.job()?.number(),
+            stripe: words.number()?,
         }),
-        [
-            "put2",
-            by,
-            stripe,
-            at,
-            of,
-            parity,
-            second,
-            kept_first,
-            kept_second,
-        ] => {
-            Some(Entry::Put2 {
-                job: job(by)?.number(),
-                stripe: number(stripe)?,
-                column: column(at)?,
-                digest: digest(byte(of)?),
-                parity_digest: digest(byte(parity)?),
-                second_digest: digest(byte(second)?),
-                kept: kept(kept_first)?,
-                kept2: kept(kept_second)?,
-            })
-        }
-        ["skip", by, stripe] => Some(Entry::Skip {
-            job: job(by)?.number(),
-            stripe: number(stripe)?,
+        "gone" => Some(Entry::Gone {
+            job: words.number()?,
+            stripe: words.number()?,
+            column: words.column()?,
         }),
-        ["gone", by, stripe, at] => Some(Entry::Gone {
-            job: number(by)?,
-            stripe: number(stripe)?,
-            column: column(at)?,
-        }),
-        ["broke", by, stripe, at] => Some(Entry::Broke {
-            job: number(by)?,
-            stripe: number(stripe)?,
-            column: column(at)?,
+        "broke" => Some(Entry::Broke {
+            job: words.number()?,
+            stripe: words.number()?,
+            column: words.column()?,
         }),
         _ => None,
     }
 }
 
-fn read_act(words: &[&str]) -> Option<Says> {
-    match words {
-        ["holds", archive, slot, of] => {
-            let act = Act::Holds {
-                slot: number(slot)?,
-                byte: byte(of)?,
-            };
-            Some(Says::Outside(number(archive)?, act))
-        }
-        ["fail", archive] => Some(Says::Outside(number(archive)?, Act::Fail { call: 0 })),
-        ["fail", archive, "at", call] => {
-            let call = number(call)?;
-            Some(Says::Outside(number(archive)?, Act::Fail { call }))
-        }
-        ["lose", archive, slot] => {
-            let slot = number(slot)?;
-            Some(Says::Outside(number(archive)?, Act::Lose { slot }))
-        }
-        ["lose", archive, slot, "at", call] => {
-            let act = Act::LoseAt {
-                slot: number(slot)?,
-                call: number(call)?,
-            };
-            Some(Says::Outside(number(archive)?, act))
-        }
-        _ => None,
-    }
+fn read_put(words: &mut Words) -> Option<Entry> {
+    Some(Entry::Put {
+        job: words.job()?.number(),
+        stripe: words.number()?,
+        column: words.column()?,
+        digest: words.digest()?,
+        parity_digest: words.digest()?,
+        kept: words.kept()?,
+    })
+}
+
+fn read_put2(words: &mut Words) -> Option<Entry> {
+    Some(Entry::Put2 {
+        job: words.job()?.number(),
+        stripe: words.number()?,
+        column: words.column()?,
+        digest: words.digest()?,
+        parity_digest: words.digest()?,
+        second_digest: words.digest()?,
+        kept: words.kept()?,
+        kept2: words.kept()?,
+    })
 }
 
 /// A look, or a call that is made once.
-fn read_step(words: &[&str]) -> Option<Says> {
-    match words {
-        ["table"] => Some(Says::Look(Look::Table)),
-        ["log"] => Some(Says::Look(Look::Log)),
-        ["heard", archive] => Some(Says::Look(Look::Heard {
-            archive: number(archive)?,
+fn read_step(word: &str, words: &mut Words) -> Option<Says> {
+    match word {
+        "table" => Some(Says::Look(Look::Table)),
+        "log" => Some(Says::Look(Look::Log)),
+        "heard" => Some(Says::Look(Look::Heard {
+            archive: words.number()?,
         })),
-        ["blocks", archive] => Some(Says::Look(Look::Blocks {
-            archive: number(archive)?,
+        "blocks" => Some(Says::Look(Look::Blocks {
+            archive: words.number()?,
         })),
-        ["faults"] => Some(Says::Look(Look::Faults)),
-        _ => Some(Says::Calls(1, read_call(words)?)),
+        "faults" => Some(Says::Look(Look::Faults)),
+        _ => Some(Says::Calls(1, read_call(word, words)?)),
     }
 }
 
-/// A call of one block or of the group as a whole.
-fn read_call(words: &[&str]) -> Option<Call> {
-    match words {
-        ["open"] => Some(Call::Open),
-        ["close"] => Some(Call::Close),
-        ["put", by, of] => Some(Call::Put {
-            job: job(by)?,
-            byte: byte(of)?,
+/// A call of the group as a whole, or else of a place or a column.
+fn read_call(word: &str, words: &mut Words) -> Option<Call> {
+    match word {
+        "open" => Some(Call::Open),
+        "close" => Some(Call::Close),
+        "logged" => Some(Call::Logged),
+        "put" => Some(Call::Put {
+            job: words.job()?,
+            byte: words.byte()?,
         }),
-        ["count", by] => Some(Call::Count { job: job(by)? }),
-        ["next", stripe, at, of] => Some(Call::Next {
-            stripe: number(stripe)?,
-            column: column(at)?,
-            kind: kind(of)?,
+        "count" => Some(Call::Count { job: words.job()? }),
+        "use_of" => Some(Call::UseOf {
+            archive: words.number()?,
         }),
-        ["use_of", archive] => Some(Call::UseOf {
-            archive: number(archive)?,
+        "trace" => Some(Call::Trace {
+            from: words.number()?,
+            to: words.number()?,
         }),
-        ["trace", from, to] => Some(Call::Trace {
-            from: number(from)?,
-            to: number(to)?,
+        "expect" => Some(Call::Expect {
+            byte: words.byte()?,
+            parity: words.byte()?,
         }),
-        ["expect", of, parity] => Some(Call::Expect {
-            byte: byte(of)?,
-            parity: byte(parity)?,
-        }),
-        ["logged"] => Some(Call::Logged),
-        _ => read_place_call(words),
+        _ => read_place_call(word, words),
     }
 }
 
-/// A call of a place.
-fn read_place_call(words: &[&str]) -> Option<Call> {
-    match words {
-        ["look", by, stripe, at] => Some(Call::Look {
-            job: job(by)?,
-            stripe: number(stripe)?,
-            column: column(at)?,
+fn read_place_call(word: &str, words: &mut Words) -> Option<Call> {
+    match word {
+        "look" => Some(Call::Look {
+            job: words.job()?,
+            stripe: words.number()?,
+            column: words.column()?,
         }),
-        ["begin", by, stripe, at] => Some(Call::Begin {
-            job: job(by)?,
-            stripe: number(stripe)?,
-            column: column(at)?,
+        "next" => Some(Call::Next {
+            stripe: words.number()?,
+            column: words.column()?,
+            kind: words.kind()?,
         }),
-        ["advance", by, stripe] => Some(Call::Advance {
-            job: job(by)?,
-            stripe: number(stripe)?,
+        "begin" => Some(Call::Begin {
+            job: words.job()?,
+            stripe: words.number()?,
+            column: words.column()?,
         }),
-        ["mend", by, stripe, at] => Some(Call::Mend {
-            job: job(by)?,
-            stripe: number(stripe)?,
-            column: column(at)?,
+        "advance" => Some(Call::Advance {
+            job: words.job()?,
+            stripe: words.number()?,
         }),
-        _ => read_column_call(words),
+        "mend" => Some(Call::Mend {
+            job: words.job()?,
+            stripe: words.number()?,
+            column: words.column()?,
+        }),
+        _ => read_column_call(word, words),
     }
 }
 
-/// A call of a column.
-fn read_column_call(words: &[&str]) -> Option<Call> {
-    match words {
-        ["move_begin", by, at, archive] => Some(Call::MoveBegin {
-            job: job(by)?,
-            column: column(at)?,
-            archive: number(archive)?,
+fn read_column_call(word: &str, words: &mut Words) -> Option<Call> {
+    match word {
+        "move_begin" => Some(Call::MoveBegin {
+            job: words.job()?,
+            column: words.column()?,
+            archive: words.number()?,
         }),
-        ["move_step", by, at] => Some(Call::MoveStep {
-            job: job(by)?,
-            column: column(at)?,
+        "move_step" => Some(Call::MoveStep {
+            job: words.job()?,
+            column: words.column()?,
         }),
-        ["swap", by, at, archive] => Some(Call::Swap {
-            job: job(by)?,
-            column: column(at)?,
-            archive: number(archive)?,
+        "swap" => Some(Call::Swap {
+            job: words.job()?,
+            column: words.column()?,
+            archive: words.number()?,
         }),
         _ => None,
     }
