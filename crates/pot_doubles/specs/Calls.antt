@@ -48,7 +48,7 @@ Answered due first new (Err e) = ((due ≡ true) × (new ≡ first)) ⊎ ((due �
 abbrev pub Counted : {T E : Type 0} → Calls → Calls → Result T E → Type 0
 Counted old new result = Answered (is_due old) (begun old) new result
 
--- UNDER A FUSE, which several doubles share. Nothing is told of when it is spent, since others spend it too.
+-- UNDER A FUSE, which several doubles share. Nothing tells when it is spent, since others spend it too.
 
 -- a call that is listed fails, and without a fuse no other does
 pub record IsToFail (fused : Bool) (calls : Calls) (fails : Bool) : Type 0 where
@@ -60,9 +60,10 @@ pub record BeginsFused (fused : Bool) (old new : Calls) (fails : Bool) : Type 0 
   pub due : IsToFail fused old fails
   pub counted : new ≡ begun_as fails old
 
--- A call that takes these steps once it began is answered by a failure exactly where it was to fail or found
--- no memory, and counts a fault exactly then.
-abbrev pub AnsweredFused : {T E : Type 0} → Bool → (Calls → Calls) → Calls → Calls → Result T E → Type 0
+-- A call that takes these steps once it began is answered by a failure exactly where it was to fail or
+-- found no memory, and counts a fault exactly then.
+abbrev pub AnsweredFused
+    : {T E : Type 0} → Bool → (Calls → Calls) → Calls → Calls → Result T E → Type 0
 AnsweredFused fused steps old new result =
     (fails : Bool) × IsToFail fused old fails × Answered fails (steps (begun_as fails old)) new result
 

@@ -104,12 +104,15 @@ impl LossyArchive {
 
     /// Begins a call: loses what is listed for it, and says whether it is to fail.
     fn begin(&mut self) -> bool
-        ensures loses { OnlyLoses (held_in self.old) (held_in self.new) (lost_by self.old) (lost_by self.new) }
+        ensures loses { OnlyLoses (held_in self.old) (held_in self.new)
+            (lost_by self.old) (lost_by self.new) }
         ensures listed { LosesListed self.old self.new }
         ensures heard { heard_by self.new ≡ heard_by self.old }
         ensures fuse { archive_fused self.new ≡ archive_fused self.old }
-        ensures begins { BeginsFused (archive_fused self.old) (archive_calls self.old) (archive_calls self.new) result }
-        ensures cause { Caused (archive_calls self.old).faults (archive_calls self.new).faults (IsTrue result) }
+        ensures begins { BeginsFused (archive_fused self.old)
+            (archive_calls self.old) (archive_calls self.new) result }
+        ensures cause { Caused (archive_calls self.old).faults (archive_calls self.new).faults
+            (IsTrue result) }
     {
         let call = self.calls.number();
         lose_listed(&mut self.blocks, &self.losses, call, &mut self.lost);
@@ -127,10 +130,12 @@ impl Archive for LossyArchive {
     ghost account = { record { tells = true; meaning = meaning_in } };
 
     fn read(&mut self, slot: u32, into: &mut Block) -> Result<Held, Failed>
-        ensures reads { Reads (IsTrue true) slot into.new result (meaning_in self.old) (meaning_in self.new) }
+        ensures reads { Reads (IsTrue true) slot into.new result
+            (meaning_in self.old) (meaning_in self.new) }
         ensures listed { LosesListed self.old self.new }
         ensures fuse { archive_fused self.new ≡ archive_fused self.old }
-        ensures counted { CountedFused (archive_fused self.old) (archive_calls self.old) (archive_calls self.new) result }
+        ensures counted { CountedFused (archive_fused self.old)
+            (archive_calls self.old) (archive_calls self.new) result }
     {
         if self.begin() {
             return Err(Failed);
@@ -146,10 +151,12 @@ impl Archive for LossyArchive {
 
     fn fold(&mut self, slot: u32, weight: u8, sum: &mut Block) -> Result<Held, Failed>
         requires { 0 < weight }
-        ensures folds { Folds (IsTrue true) slot weight sum.old sum.new result (meaning_in self.old) (meaning_in self.new) }
+        ensures folds { Folds (IsTrue true) slot weight sum.old sum.new result
+            (meaning_in self.old) (meaning_in self.new) }
         ensures listed { LosesListed self.old self.new }
         ensures fuse { archive_fused self.new ≡ archive_fused self.old }
-        ensures counted { CountedFused (archive_fused self.old) (archive_calls self.old) (archive_calls self.new) result }
+        ensures counted { CountedFused (archive_fused self.old)
+            (archive_calls self.old) (archive_calls self.new) result }
     {
         if self.begin() {
             return Err(Failed);
@@ -167,12 +174,14 @@ impl Archive for LossyArchive {
     }
 
     fn write(&mut self, slot: u32, block: &Block) -> Result<(), Failed>
-        ensures writes { Writes (IsTrue true) slot block.now result (meaning_in self.old) (meaning_in self.new) }
+        ensures writes { Writes (IsTrue true) slot block.now result
+            (meaning_in self.old) (meaning_in self.new) }
         ensures wrote { WritesAfterLosses self.old self.new slot block.now result }
         ensures lost { lost_by self.new ≡ lost_after_losses self.old }
         ensures listed { losses_of self.new ≡ losses_of self.old }
         ensures fuse { archive_fused self.new ≡ archive_fused self.old }
-        ensures counted { CountedFused (archive_fused self.old) (archive_calls self.old) (archive_calls self.new) result }
+        ensures counted { CountedFused (archive_fused self.old)
+            (archive_calls self.old) (archive_calls self.new) result }
     {
         if self.begin() {
             return Err(Failed);

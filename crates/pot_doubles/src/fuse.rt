@@ -7,7 +7,7 @@ use std::alloc::{AllocError, Global};
 use std::sync::Arc;
 use std::sync::atomic::{AtomicU64, Ordering};
 
-/// How many calls of several doubles together may still pass. Once there are none left, each call fails.
+/// How many calls of several doubles together may still pass. Once none is left, each call fails.
 #[derive(Drop)]
 pub struct Fuse {
     left: Arc<AtomicU64, Global>,
@@ -36,8 +36,8 @@ impl Fuse {
     }
 }
 
-/// Begins a call of a double, and says whether it is to fail: it is listed, or the fuse lets no call pass. It
-/// then counts a fault.
+/// Begins a call of a double, and says whether it is to fail: it is listed, or the fuse lets none
+/// pass. It then counts a fault.
 pub fn begin_fused(calls: &mut Calls, fuse: &Option<Fuse>) -> bool
     ensures begins { BeginsFused (is_some fuse.now) calls.old calls.new result }
     ensures cause { Caused calls.old.faults calls.new.faults (IsTrue result) }

@@ -10,8 +10,9 @@
 //! 3. its count of losses rises exactly at a listed loss and at `lose`;
 //! 4. the sums that it heard are those that `fold` was given and had memory for;
 //! 5. a `MemDisk` keeps each write that began and each sync that answered `Ok`;
-//! 6. under a `Fuse`, which a room and the archives that it hands out share, calls fail that are not listed.
-//!    Which ones is not told, since a clause knows nothing of a counter that others change. Each counts a fault.
+//! 6. under a `Fuse`, which a room and the archives that it hands out share, calls fail that are not
+//!    listed, and each counts a fault. Which ones is not told, since a clause knows nothing of a counter
+//!    that others change.
 #![tactic(auto)]
 
 mod archive;

@@ -43,8 +43,9 @@ impl MemRoom {
         }
     }
 
-    /// Lets this many further calls pass, of the room and of the archives that it hands out from now on, and
-    /// fails all later ones. An archive that is out comes under the fuse when it is taken next.
+    /// Lets this many further calls pass, of the room and of the archives that it hands out from
+    /// now on, and fails all later ones. An archive that is out comes under the fuse when it is
+    /// taken next.
     pub fn fuse(&mut self, calls: u64) -> Result<(), NoMemory>
         ensures fused { OnOk result (room_fused self.new ≡ true) }
         ensures refused { OnErr result (room_fused self.new ≡ room_fused self.old) }
@@ -92,7 +93,8 @@ fn exchange(
 ) -> Result<LossyArchive, LossyArchive>
     ensures found { IfOk result (λ old. archive_of shelves.old.items number ≡ Some old) }
     ensures puts { OnOk result (archive_of shelves.new.items number ≡ Some archive) }
-    ensures others { (n : ℕ) → n ≢ number → archive_of shelves.new.items n ≡ archive_of shelves.old.items n }
+    ensures others { (n : ℕ) → n ≢ number →
+        archive_of shelves.new.items n ≡ archive_of shelves.old.items n }
     ensures absent { OnErr result (archive_of shelves.old.items number ≡ None) }
     ensures back { IfErr result (λ back. back ≡ archive) }
     ensures same { OnErr result (shelves.new.items ≡ shelves.old.items) }
@@ -113,7 +115,8 @@ fn put_back(
     archive: LossyArchive,
 ) -> Result<(), AllocError>
     ensures puts { OnOk result (archive_of shelves.new.items number ≡ Some archive) }
-    ensures others { (n : ℕ) → n ≢ number → archive_of shelves.new.items n ≡ archive_of shelves.old.items n }
+    ensures others { (n : ℕ) → n ≢ number →
+        archive_of shelves.new.items n ≡ archive_of shelves.old.items n }
 {
     match exchange(shelves, number, archive) {
         Ok(_taken) => Ok(()),
@@ -133,7 +136,8 @@ fn is_one_starved(shelves: &[Shelf<LossyArchive>]) -> bool
 
 /// The place of the first shelf of this number.
 fn place_of(shelves: &[Shelf<LossyArchive>], number: u32) -> Option<usize>
-    ensures { MatchOption result (archive_of shelves.now number ≡ None) (λ place. IsFirst shelves.now number place) }
+    ensures { MatchOption result (archive_of shelves.now number ≡ None)
+        (λ place. IsFirst shelves.now number place) }
 {
     for (place, shelf) in shelves.iter().enumerate() {
         if shelf.number == number {
@@ -171,13 +175,19 @@ impl Room for MemRoom {
         ensures refused { OnErr result (is_out self.new number ≡ false) }
         ensures unchanged { OnErr result (means_in self.new number ≡ means_in self.old number) }
         ensures others { (n : ℕ) → n ≢ number → SameAt self.old self.new n }
-        ensures cause { Caused (room_calls self.old).faults (room_calls self.new).faults (IsErrOf result RoomFault.Failed) }
-        ensures own { Caused (failures_of self.old) (failures_of self.new) (IsErrOf result RoomFault.Failed) }
+        ensures cause { Caused (room_calls self.old).faults (room_calls self.new).faults
+            (IsErrOf result RoomFault.Failed) }
+        ensures own { Caused (failures_of self.old) (failures_of self.new)
+            (IsErrOf result RoomFault.Failed) }
         ensures sound { OnOk result (failures_of self.new ≡ failures_of self.old) }
-        ensures starved { IsErrOf result RoomFault.NoMemory → failures_of self.new ≡ failures_of self.old }
-        ensures raised { IsErrOf result RoomFault.Failed → failures_of self.new ≡ raised (failures_of self.old) }
-        ensures counted { FailsFused (room_fused self.old) (room_calls self.old) (room_calls self.new) (IsErrOf result RoomFault.Failed) }
-        ensures fused { IfOk result (λ a. archive_fused a ≡ (room_fused self.old || fused_at self.old number)) }
+        ensures starved { IsErrOf result RoomFault.NoMemory →
+            failures_of self.new ≡ failures_of self.old }
+        ensures raised { IsErrOf result RoomFault.Failed →
+            failures_of self.new ≡ raised (failures_of self.old) }
+        ensures counted { FailsFused (room_fused self.old) (room_calls self.old)
+            (room_calls self.new) (IsErrOf result RoomFault.Failed) }
+        ensures fused { IfOk result (λ a.
+            archive_fused a ≡ (room_fused self.old || fused_at self.old number)) }
         ensures fuse { room_fused self.new ≡ room_fused self.old }
     {
         if begin_fused(&mut self.calls, &self.fuse) {
@@ -205,12 +215,16 @@ impl Room for MemRoom {
         ensures told { OnOk result (IsMeant (means_in self.new number) (meaning_in archive)) }
         ensures back { is_out self.new number ≡ false }
         ensures others { (n : ℕ) → n ≢ number → SameAt self.old self.new n }
-        ensures covers { Rose (lent_of self.old number) (archive_calls archive).faults → Rose (room_calls self.old).faults (room_calls self.new).faults }
-        ensures cause { Caused (room_calls self.old).faults (room_calls self.new).faults (IsErr result) }
+        ensures covers { Rose (lent_of self.old number) (archive_calls archive).faults →
+            Rose (room_calls self.old).faults (room_calls self.new).faults }
+        ensures cause { Caused (room_calls self.old).faults (room_calls self.new).faults
+            (IsErr result) }
         ensures own { Caused (failures_of self.old) (failures_of self.new) (IsErr result) }
         ensures sound { OnOk result (failures_of self.new ≡ failures_of self.old) }
         ensures raised { OnErr result (failures_of self.new ≡ raised (failures_of self.old)) }
-        ensures counted { AnsweredFused (room_fused self.old) (covering (lent_of self.old number) (archive_calls archive).faults) (room_calls self.old) (room_calls self.new) result }
+        ensures counted { AnsweredFused (room_fused self.old)
+            (covering (lent_of self.old number) (archive_calls archive).faults)
+            (room_calls self.old) (room_calls self.new) result }
         ensures fuse { room_fused self.new ≡ room_fused self.old }
     {
         let fails = begin_fused(&mut self.calls, &self.fuse);
