@@ -110,7 +110,7 @@ class Scene:
 
     def step(self, words):
         """The outcome of a step."""
-        if self.group is None and words[0] not in NOTES | {"open"}:
+        if self.group is None and words[0] not in NOTES | {"open", "repeat"}:
             return "no group"
         if words[0] in PLACED and not self.is_place(words):
             return "no slot"
