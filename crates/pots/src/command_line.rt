@@ -218,3 +218,8 @@ pub fn names_number(list: &str, number: u32) -> bool {
     list.split(',')
         .any(|word| read_number(word.as_bytes(), 511) == Some(number))
 }
+
+/// The number as a byte, or 255 where it is more.
+pub fn small(number: u32) -> u8 {
+    number.min(255) as u8
+}

@@ -1,6 +1,6 @@
 //! What each command asks for.
 
-use crate::command_line::{names_number, number, number_in};
+use crate::command_line::{names_number, number, number_in, small};
 use crate::desk::{ailing, desk_image, image_bytes, keep_copy, write_beside};
 use crate::failure::{ARCHIVE_FAILED, Failure, WORDS_REFUSED, fail_with};
 use crate::fetch::{Target, fetch, list};
@@ -173,7 +173,10 @@ fn given_geometry(alloc: Global, given: &ArgMatches, else_: Geometry) -> Result<
 }
 
 fn byte(alloc: Global, given: &ArgMatches, id: &str, else_: u8) -> Result<u8, Failure> {
-    Ok(number(alloc, given, id, 255)?.map_or(else_, |value| value as u8))
+    match number(alloc, given, id, 255)? {
+        Some(value) => Ok(small(value)),
+        None => Ok(else_),
+    }
 }
 
 // Makes an archive, and says what follows from its rack.
@@ -281,8 +284,8 @@ fn tell_secrecy(rt: &HostRuntime, rack: &Rack) -> Result<(), Failure> {
 // Says which archives a group has, and for which place they are.
 fn tell_group(rt: &HostRuntime, rack: &Rack, group: u32) -> Result<(), Failure> {
     let width = u32::from(rack.columns) + u32::from(rack.parity);
-    let first = group * width;
-    let last = (first + width).saturating_sub(1);
+    let first = group.saturating_mul(width);
+    let last = first.saturating_add(width).saturating_sub(1);
     let place = place_of(rack, group);
     let line = format!(in rt.alloc();
         "group {group}: archive-{first} to archive-{last}, for place {place}"
@@ -298,7 +301,7 @@ fn place_of(rack: &Rack, group: u32) -> u32 {
     } else {
         groups
     };
-    group.checked_rem(places).unwrap_or(0) + 1
+    group.checked_rem(places).unwrap_or(0).saturating_add(1)
 }
 
 // Writes the files that the archives give, as the desk or the options say where to look.

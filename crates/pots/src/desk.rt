@@ -1,5 +1,8 @@
 //! What the desk knows before a session: its image, its copies, and how long each archive has to be.
 
+ghost use Rattle.std.specs.Prelude.{◌≡◌};
+ghost use Rattle.pot_machine.specs.Table.{width};
+
 use crate::failure::{DESK_FAILED, Failure, IMAGE_REFUSED, OUTPUT_FAILED, fail_with};
 use pot_files::DeskFile;
 use pot_image::{Image, ImageFault, read_image};
@@ -88,11 +91,18 @@ fn copy_name(rt: &HostRuntime, session: u32) -> Result<String, Failure> {
 pub fn needed_slots(rt: &HostRuntime, image: &Image) -> Result<BTreeMap<u32, u32>, Failure> {
     let mut needed = BTreeMap::new(rt.alloc());
     for table in image.tables.iter() {
-        for column in 0..table.columns().len() {
-            add_needed(table, column as u8, &mut needed)?;
+        for column in 0..width_of(table) {
+            add_needed(table, column, &mut needed)?;
         }
     }
     Ok(needed)
+}
+
+/// How many columns a table has.
+pub fn width_of(table: &GroupTable) -> u8
+    ensures { result ≡ width table.now }
+{
+    table.data_columns() + table.parity()
 }
 
 fn add_needed(
@@ -100,6 +110,9 @@ fn add_needed(
     column: u8,
     needed: &mut BTreeMap<u32, u32>,
 ) -> Result<(), Failure> {
+    if column >= width_of(table) {
+        return Ok(());
+    }
     for stripe in 0..table.stripes() {
         if table.slot(stripe, column).is_live() {
             needed.insert(table.archive_of(stripe, column), stripe + 1)?;

@@ -37,7 +37,11 @@ fn answer<X: Wait>(rt: &HostRuntime, turns: &X) -> Result<u8, Failure> {
         Err(error) => {
             // What cannot be printed changes nothing of the status.
             let _ = error.print(rt);
-            Ok(error.exit_code() as u8)
+            Ok(if error.exit_code() == 0 {
+                0
+            } else {
+                WORDS_REFUSED
+            })
         }
     }
 }

@@ -4,7 +4,7 @@
 //! Group g stands at place g mod sites, so each place has one shard at most of each fragment: so many
 //! places together as shards suffice give a file, and fewer see of no fragment as many shards as it needs.
 
-use crate::command_line::number;
+use crate::command_line::{number, small};
 use crate::failure::{Failure, WORDS_REFUSED, fail_with};
 use clap::ArgMatches;
 use pot_bytes::{Geometry, Rack};
@@ -26,8 +26,8 @@ pub struct Wish {
 
 /// What was asked of `init`.
 pub fn wish_of(alloc: Global, matches: &ArgMatches) -> Result<Wish, Failure> {
-    let sites = number(alloc, matches, "sites", 16)?.unwrap_or(3) as u8;
-    let survive = number(alloc, matches, "survive", 15)?.unwrap_or(1) as u8;
+    let sites = small(number(alloc, matches, "sites", 16)?.unwrap_or(3));
+    let survive = small(number(alloc, matches, "survive", 15)?.unwrap_or(1));
     if sites == 0 || survive >= sites {
         return Err(fail_with(
             WORDS_REFUSED,
@@ -58,29 +58,35 @@ fn size_in(text: &str) -> Option<u64> {
         digits => (digits, 1),
     };
     let count = pot_script::read_number(digits, 4_000_000_000)?;
-    Some(u64::from(count) * unit)
+    Some(u64::from(count).saturating_mul(unit))
 }
 
-/// The rack for a wish, where one is large enough: of those with the fewest archives that with the fewest stripes.
+/// The rack for a wish, where one is large enough: that with the fewest columns, from 3 on, and of those that
+/// with the fewest groups.
 pub fn rack_for(wish: &Wish, parity: u8) -> Option<Rack> {
-    let mut best: Option<Rack> = None;
     for columns in 3..=16u8 {
-        for turns in 1..=16u8 {
-            if let Some(rack) = rack_of(wish, columns, parity, turns) {
-                if best.is_none_or(|other| archives_of(&rack) < archives_of(&other)) {
-                    best = Some(rack);
-                }
-            }
+        if let Some(rack) = narrowest(wish, columns, parity) {
+            return Some(rack);
         }
     }
-    best
+    None
+}
+
+// The rack of so many columns with the fewest groups, where one is large enough.
+fn narrowest(wish: &Wish, columns: u8, parity: u8) -> Option<Rack> {
+    for turns in 1..=16u8 {
+        if let Some(rack) = rack_of(wish, columns, parity, turns) {
+            return Some(rack);
+        }
+    }
+    None
 }
 
 // The rack of so many columns and so many groups at each place, where it is large enough.
 fn rack_of(wish: &Wish, columns: u8, parity: u8, turns: u8) -> Option<Rack> {
     let groups = wish.sites.checked_mul(turns)?;
     let pieces = wish.room.div_ceil(PIECE).saturating_mul(2);
-    let row = u64::from(columns) * u64::from(turns);
+    let row = u64::from(columns).saturating_mul(u64::from(turns));
     if row == 0 {
         return None;
     }
@@ -113,21 +119,33 @@ pub fn fits(rack: &Rack) -> bool {
 
 /// How many archives a rack has.
 pub fn archives_of(rack: &Rack) -> u32 {
-    u32::from(rack.groups) * (u32::from(rack.columns) + u32::from(rack.parity))
+    let width = u32::from(rack.columns) + u32::from(rack.parity);
+    u32::from(rack.groups).saturating_mul(width)
 }
 
 /// How many bytes of files a rack holds, about.
 pub fn room_of(rack: &Rack) -> u64 {
-    let slots = u64::from(rack.groups) * u64::from(rack.columns) * u64::from(rack.stripes);
-    let shards = u64::from(rack.geometry.fragments) * u64::from(rack.geometry.shards);
+    let columns = u64::from(rack.groups).saturating_mul(u64::from(rack.columns));
+    let slots = columns.saturating_mul(u64::from(rack.stripes));
+    let shards = shards_of(rack);
     slots.checked_div(shards).unwrap_or(0).saturating_mul(PIECE)
 }
 
 /// How many bytes are written for ten bytes of a file, rounded.
 pub fn cost_of_ten(rack: &Rack) -> u64 {
-    let shards = u64::from(rack.geometry.fragments) * u64::from(rack.geometry.shards);
     let columns = u64::from(rack.columns);
-    let written = shards * (columns + u64::from(rack.parity)) * BLOCK * 10;
+    let width = columns + u64::from(rack.parity);
+    let written = shards_of(rack)
+        .saturating_mul(width)
+        .saturating_mul(BLOCK * 10);
     let files = columns * PIECE;
-    (written + files / 2).checked_div(files).unwrap_or(0)
+    written
+        .saturating_add(files / 2)
+        .checked_div(files)
+        .unwrap_or(0)
+}
+
+// How many shards a piece has.
+fn shards_of(rack: &Rack) -> u64 {
+    u64::from(rack.geometry.fragments).saturating_mul(u64::from(rack.geometry.shards))
 }

@@ -2,6 +2,7 @@
 
 use crate::desk::write_beside;
 use crate::failure::{ARCHIVE_FAILED, Failure, WORDS_REFUSED, fail_with};
+use crate::plan::archives_of;
 use crate::session::{call, refusal};
 use crate::tell::say;
 use pot_bytes::Rack;
@@ -40,7 +41,10 @@ pub fn recover<X: Wait>(
         ));
     }
     let mut rest: &[u8] = &written;
-    while let Some((line, after)) = cut_at(rest, b'\n') {
+    for _ in 0..written.len() {
+        let Some((line, after)) = cut_at(rest, b'\n') else {
+            break;
+        };
         rest = take_part(rt, folder, line, after)?;
     }
     Ok(status)
@@ -92,7 +96,7 @@ fn recover_words(alloc: Global, span: &Span) -> Result<Vec<String>, Failure> {
 /// What `recover` is told where the desk says it.
 pub fn span_of(rack: &Rack) -> Span {
     Span {
-        archives: u32::from(rack.groups) * (u32::from(rack.columns) + u32::from(rack.parity)),
+        archives: archives_of(rack),
         stripes: rack.stripes,
         blur: u32::from(rack.geometry.blur),
         robust: false,

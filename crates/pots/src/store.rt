@@ -106,7 +106,7 @@ fn see_room(rt: &HostRuntime, entries: &[Entry]) -> Result<(), Failure> {
 // How many blocks a file of so many bytes has, that of its parts with it.
 fn blocks_of(geometry: &Geometry, length: usize) -> u64 {
     let pieces = (length.div_ceil(PIECE) as u64).saturating_add(count_parts(length) as u64);
-    let shards = u64::from(geometry.fragments) * u64::from(geometry.shards);
+    let shards = u64::from(geometry.fragments).saturating_mul(u64::from(geometry.shards));
     pieces.saturating_add(1).saturating_mul(shards)
 }
 
@@ -170,7 +170,7 @@ fn store_parts<X: Wait>(
             held = bytes.len();
             blocks = blocks_of(&geometry, bytes.len());
         }
-        let name = name_of_part(alloc, &entry.name, number as u64 + 1)?;
+        let name = name_of_part(alloc, &entry.name, (number as u64).saturating_add(1))?;
         commands.push(store_command(alloc, name, bytes)?)?;
     }
     let name = name_of_part(alloc, &entry.name, 0)?;

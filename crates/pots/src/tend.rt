@@ -1,6 +1,6 @@
 //! Looking at an archive, mending it, and moving what it holds.
 
-use crate::desk::desk_image;
+use crate::desk::{desk_image, width_of};
 use crate::failure::{Failure, WORDS_REFUSED, fail_with};
 use crate::session::{Answers, ask};
 use crate::tell::{Voice, say, tell};
@@ -102,11 +102,11 @@ pub fn check<X: Wait>(
 // Tells which archives of a group ail, and how many do.
 fn tell_ailing(rt: &HostRuntime, table: &GroupTable) -> Result<u32, Failure> {
     let mut ailing = 0u32;
-    for column in 0..table.columns().len() {
-        let count = lost_in(table, column as u8);
+    for column in 0..width_of(table) {
+        let count = lost_in(table, column);
         if count > 0 {
             ailing = ailing.saturating_add(1);
-            let archive = table.columns().get(column).map_or(0, |c| c.home);
+            let archive = home_of(table, column);
             let line = format!(in rt.alloc();
                 "archive-{archive}: {count} blocks are lost; `pots repair` mends them, after `pots replace {archive} N` where its disk is gone"
             )?;
@@ -116,9 +116,20 @@ fn tell_ailing(rt: &HostRuntime, table: &GroupTable) -> Result<u32, Failure> {
     Ok(ailing)
 }
 
+// The archive of a column.
+fn home_of(table: &GroupTable, column: u8) -> u32 {
+    match table.columns().get(usize::from(column)) {
+        Some(column) => column.home,
+        None => 0,
+    }
+}
+
 // How many blocks of a column are lost or broken.
 fn lost_in(table: &GroupTable, column: u8) -> u32 {
     let mut count = 0u32;
+    if column >= width_of(table) {
+        return count;
+    }
     for stripe in 0..table.stripes() {
         let state = table.slot(stripe, column);
         if !state.is_void() && !state.is_live() {
