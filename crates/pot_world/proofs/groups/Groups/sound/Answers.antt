@@ -1,4 +1,4 @@
-use Rattle.std.proofs.Common.{◌<◌, ◌≤◌, length, ap, ◌∙◌, sym, subst, arith}
+use Rattle.std.proofs.Common.{◌<◌, ◌≤◌, length, subst, arith}
 use Rattle.pot_world.specs.Data.{SiteData, SoundIn}
 use Rattle.pot_world.proofs.SiteCode.{none_sound, sound_in}
 use Rattle.pot_world.proofs.groups.Groups.sound.Goals as goal
