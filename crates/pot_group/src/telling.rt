@@ -37,8 +37,7 @@ impl<A: Archive> Group<A> {
     pub fn has_slot(&self, stripe: u32, column: u8) -> bool
         ensures { IsTrue result ↔ (stripe < self.now.table.stripes) × (column < width self.now.table) }
     {
-        stripe < self.table.stripes()
-            && column < self.table.data_columns() + self.table.parity()
+        stripe < self.table.stripes() && column < self.table.data_columns() + self.table.parity()
     }
 
     /// The first place at or after this one, by stripe and then column, whose slot is of the kind.
