@@ -17,26 +17,40 @@ pub struct Told {
 /// Tells all stories of a text, or the first line that is no step.
 pub fn tell(alloc: Global, texts: &[String]) -> Result<Told, AllocError> {
     let mut lines = Vec::new(alloc);
+    if !read_lines(alloc, texts, &mut lines)? {
+        return refuse(alloc, texts, lines.len());
+    }
+    Ok(Told {
+        text: tell_lines(alloc, &lines)?,
+        refused: false,
+    })
+}
+
+/// Reads the lines up to the first that is no step, and says whether there is none.
+fn read_lines<'a>(
+    alloc: Global,
+    texts: &'a [String],
+    lines: &mut Vec<Line<'a>>,
+) -> Result<bool, AllocError> {
     let mut part = Part::Front;
     for text in texts {
-        match read_at(alloc, &mut part, text.as_str())? {
-            Some(says) => lines.push(Line {
-                text: text.as_str(),
-                says,
-            })?,
-            None => return refuse(alloc, lines.len(), text.as_str()),
+        let text = text.as_str();
+        match read_at(alloc, &mut part, text)? {
+            Some(says) => lines.push(Line { text, says })?,
+            None => return Ok(false),
         }
     }
+    Ok(true)
+}
+
+fn tell_lines(alloc: Global, lines: &[Line]) -> Result<String, AllocError> {
     let mut teller = Teller::new(alloc);
-    for line in &lines {
+    for line in lines {
         teller.tell(line)?;
     }
     teller.end_story()?;
     teller.flush()?;
-    Ok(Told {
-        text: teller.take_text(),
-        refused: false,
-    })
+    Ok(teller.take_text())
 }
 
 /// What a line says, if it may stand in this part.
@@ -51,7 +65,12 @@ fn read_at(alloc: Global, part: &mut Part, text: &str) -> Result<Option<Says>, A
     Ok(Some(says))
 }
 
-fn refuse(alloc: Global, before: usize, text: &str) -> Result<Told, AllocError> {
+/// The line behind so many is no step.
+fn refuse(alloc: Global, texts: &[String], before: usize) -> Result<Told, AllocError> {
+    let text = match texts.get(before) {
+        Some(text) => text.as_str(),
+        None => "",
+    };
     let number = before.saturating_add(1);
     Ok(Told {
         text: format!(in alloc; "line {number} is no step: {text}\n")?,
