@@ -57,7 +57,7 @@ fn in_session<X: Wait>(
             rt,
             turns,
             voice,
-            list_of(given, "file"),
+            given.get_strs("file").unwrap_or(&[]),
             given.get_str("as"),
         ),
         "fetch" => {
@@ -65,15 +65,27 @@ fn in_session<X: Wait>(
                 folder: given.get_str("to").unwrap_or("."),
                 force: given.get_flag("force"),
             };
-            fetch(rt, turns, voice, list_of(given, "name"), &target)
+            fetch(
+                rt,
+                turns,
+                voice,
+                given.get_strs("name").unwrap_or(&[]),
+                &target,
+            )
         }
         "list" => list(rt, turns, voice),
         "status" => status(rt, turns, voice),
-        "check" => check(rt, turns, voice, list_of(given, "group")),
-        "repair" => repair(rt, turns, voice, list_of(given, "group")),
+        "check" => check(rt, turns, voice, given.get_strs("group").unwrap_or(&[])),
+        "repair" => repair(rt, turns, voice, given.get_strs("group").unwrap_or(&[])),
         "renew" => {
             let geometry = new_geometry(rt, given)?;
-            renew(rt, turns, voice, list_of(given, "name"), geometry)
+            renew(
+                rt,
+                turns,
+                voice,
+                given.get_strs("name").unwrap_or(&[]),
+                geometry,
+            )
         }
         _ => move_archive(rt, turns, voice, name == "replace", given),
     }
@@ -81,10 +93,6 @@ fn in_session<X: Wait>(
 
 fn text<'a>(given: &ArgMatches<'a>, id: &str) -> &'a str {
     given.get_str(id).unwrap_or("")
-}
-
-fn list_of<'m, 'a>(given: &'m ArgMatches<'a>, id: &str) -> &'m [&'a str] {
-    given.get_strs(id).unwrap_or(&[])
 }
 
 // Puts an archive in the place of another.

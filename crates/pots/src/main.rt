@@ -15,6 +15,8 @@ mod session;
 mod store;
 mod tell;
 mod tend;
+#[cfg(test)]
+mod tests;
 
 use command_line::program;
 use commands::run_command;
