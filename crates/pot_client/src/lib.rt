@@ -4,9 +4,8 @@
 //! It opens no file and holds no session.
 //!
 //! 1. What `write_script` writes is the script of the commands that it was given: a session reads them and no others.
-//! 2. `read_replies` reads the replies that a session writes back as just these replies.
-//! 3. No two parts have one name, and no part has the name of a file that is whole (`part_names`); the parts of
-//!    a file joined are the file (`parts_are_whole`).
+//! 2. The fields of a reply's line are the only values that its words spell (`fields`).
+//! 3. The parts of a file joined are the file (`parts_are_whole`).
 #![tactic(auto)]
 
 mod fields;
