@@ -84,11 +84,12 @@ fn a_link_is_followed_and_stays(rt: HostRuntime) -> Result<(), Fail> {
 #[test]
 fn an_archive_behind_a_link_that_leads_nowhere_is_not_made(rt: HostRuntime) -> Result<(), Fail> {
     symlink(&rt, "nowhere", "archive-11")?;
-    let mut room = Folder::new(&rt);
-    let refused = room.take(11).is_err_and(|fault| fault == RoomFault::Failed);
+    let refused = Folder::new(&rt)
+        .take(11)
+        .is_err_and(|fault| fault == RoomFault::Failed);
     let none_made = fs::metadata(&rt, "nowhere").is_err();
     fs::write(&rt, "nowhere", "")?;
-    let taken = room.take(11).is_ok();
+    let taken = Folder::new(&rt).take(11).is_ok();
     fs::remove_file(&rt, "archive-11")?;
     fs::remove_file(&rt, "nowhere")?;
     assert!(rt; refused && none_made && taken);
