@@ -5,6 +5,7 @@ where nothing was. It needs Python 3.9, a C compiler, and the program as the REA
 
 import argparse
 import concurrent.futures
+import multiprocessing
 import os
 import pathlib
 import sys
@@ -32,7 +33,7 @@ def told(parts, jobs, base):
     """Works all rows of these parts, tells each as it ends, and gives how many tries were made and how many were wrong."""
     tasks = [(name, at) for name in parts for at in range(len(list(PARTS[name].rows(base))))]
     all_tries = all_wrong = 0
-    with concurrent.futures.ProcessPoolExecutor(jobs) as pool:
+    with concurrent.futures.ProcessPoolExecutor(jobs, multiprocessing.get_context("fork")) as pool:
         for done in concurrent.futures.as_completed([pool.submit(work, name, at, base) for name, at in tasks]):
             name, tries, wrong, seconds = done.result()
             print(f"{name:36} {tries:6} tries {len(wrong):4} wrong {seconds:6.0f} s", flush=True)
