@@ -1,5 +1,6 @@
 """The built program in a folder of its own: sessions over it, what they wrote, and the calls that they made."""
 
+import errno
 import os
 import pathlib
 import shutil
@@ -54,8 +55,9 @@ class Folder:
         shutil.rmtree(self.path, ignore_errors=True)
 
     def copy_of(self, other):
-        """Makes this folder what the other one is, whose desk is a file with holes."""
-        subprocess.run(["cp", "-a", "--sparse=always", f"{other.path}/.", str(self.path)], check=True)
+        """Makes this folder what the other one is."""
+        for path in other.path.iterdir():
+            copy_with_holes(path, self.path / path.name)
         return self
 
     def call(self, words, given=b"", **hostile):
@@ -83,6 +85,23 @@ class Folder:
         lines = list(lines_of(log))
         log.unlink()
         return answer, lines
+
+
+def copy_with_holes(path, to):
+    """Copies the parts of a file that it has: a desk is a file of a gibibyte with few of them."""
+    with open(path, "rb", 0) as old, open(to, "wb", 0) as new:
+        size, at = os.fstat(old.fileno()).st_size, 0
+        new.truncate(size)
+        while at < size:
+            try:
+                at = os.lseek(old.fileno(), at, os.SEEK_DATA)
+            except OSError as error:
+                if error.errno != errno.ENXIO:
+                    raise
+                return
+            end = os.lseek(old.fileno(), at, os.SEEK_HOLE)
+            while at < end:
+                at += os.pwrite(new.fileno(), os.pread(old.fileno(), min(end - at, 1 << 20), at), at)
 
 
 def lines_of(path):
@@ -147,9 +166,10 @@ def complaints_at_replies(out, files):
     return [f"{line.split()[1]} came back as other bytes" for line, got in replies(out) if got is not None and files.get(line.split()[1]) != got]
 
 
-def complaints_at_fetch(folder, files, may_miss=()):
-    """Fetches each of these files and compares. Gives a line for each that is wrong. Of those in may_miss, `absent` is no wrong."""
-    answer = folder.run(script(*[f"fetch {name}" for name in files]))
+def complaints_afterwards(folder, files, may_miss, groups, spent):
+    """What is wrong in a session that fetches each of these files, repairs every group, and asks how they are. Of the files in
+    may_miss `absent` is no wrong, and of the groups in spent, whose parity is spent, lost slots."""
+    answer = folder.run(script(*[f"fetch {name}" for name in files], *[f"repair {it}" for it in range(groups)], "status"))
     if answer.status not in (0, 1):
         return [f"the next session ends with {answer.status}: {answer.out[:80]!r} {answer.err[:80]!r}"]
     found = replies(answer.out)
@@ -157,15 +177,6 @@ def complaints_at_fetch(folder, files, may_miss=()):
     for name, (line, got) in zip(files, found):
         if got is None and not (name in may_miss and line == f"absent {name}"):
             wrong.append(f"{name} did not come back: {line}")
-    return wrong + ([] if len(found) == len(files) else ["replies are missing"])
-
-
-def complaints_at_repair(folder, groups, spent=()):
-    """Repairs every group, and then asks that no slot is lost or broken, but for lost ones of groups whose parity is spent."""
-    answer = folder.run(script(*[f"repair {it}" for it in range(groups)], "status"))
-    lines = [line for line, _ in replies(answer.out)]
-    states = [line.split() for line in lines if line.startswith("group ")]
-    wrong = [f"after the repair: {' '.join(it)}" for it in states if it[7] != "0" or (it[5] != "0" and int(it[1]) not in spent)]
-    if answer.status not in (0, 1) or len(states) != groups:
-        wrong.append(f"a session of repairs ends with {answer.status}: {lines[-3:]}")
-    return wrong
+    states = [line.split() for line, _ in found[len(files) + groups :]]
+    wrong += [f"after the repair: {' '.join(it)}" for it in states if it[7] != "0" or (it[5] != "0" and int(it[1]) not in spent)]
+    return wrong + ([] if len(states) == groups else ["replies are missing"])

@@ -1,6 +1,6 @@
 """The sessions that are disturbed: what stands before, the script, and what stands then."""
 
-from program import NARROW, RACK, TWO_PARITY, complaints_at_fetch, complaints_at_repair, pattern, script, store
+from program import NARROW, RACK, TWO_PARITY, complaints_afterwards, pattern, script, store
 
 
 class Session:
@@ -27,10 +27,9 @@ class Session:
         return {group for group, numbers in self.spent.items() if name in {f"archive-{it}" for it in numbers}}
 
     def complaints_afterwards(self, folder, sure=(), spent=()):
-        """What is wrong in the sessions after the disturbed one: every file of an ended session has to come back, and those of
+        """What is wrong in the session after the disturbed one: every file of an ended session has to come back, and those of
         the disturbed one that are sure; its other files may be absent, and are never other bytes. Then all is mended."""
-        may_miss = set(self.new) - set(sure)
-        return complaints_at_fetch(folder, {**self.files, **self.new}, may_miss) + complaints_at_repair(folder, self.groups, spent)
+        return complaints_afterwards(folder, self.files | self.new, set(self.new) - set(sure), self.groups, spent)
 
 
 A, B, C = pattern(900), pattern(5, 80), pattern(1800, 3)
