@@ -29,7 +29,10 @@ def work(name, at, base):
     """Does one row of a part, and gives its name, the count of tries, what was wrong, what else it tells, and the seconds it took."""
     began = time.time()
     chosen = list(PARTS[name].rows(base))[at]
-    tries, wrong, *notes = chosen[1]()
+    try:
+        tries, wrong, *notes = chosen[1]()
+    except Exception as error:  # a row that breaks off is wrong, and the others go on
+        tries, wrong, notes = 0, [f"it broke off: {error!r}"], []
     return chosen[0], tries, wrong, notes, time.time() - began
 
 

@@ -4,12 +4,13 @@ came into the folder since its last sync any. Then the next session has to open,
 back, a file of the stopped one whole or not at all, and a repair leaves no slot lost.
 
 It is harder than the documents ask in that names come in no order, and softer than a disk that says that it synced and did
-not: what was synced stays. A stop in the midst of a write is one of the torn writes, one in the midst of a sync a stop before it."""
+not: what was synced stays. A stop in the midst of a write is one of the torn writes, one in the midst of a sync a stop before it. With `twice` the session
+that mends what the first crash left is crashed as well."""
 
 import random
 
-from program import Folder
-from sessions import SESSIONS
+from program import Folder, script
+from sessions import OTHER_RUNS, SESSIONS
 
 IMAGES = 700
 # The changes that `leave` can make again. Any other one is told, since its crashes would not be tried.
@@ -51,24 +52,47 @@ def leave(folder, changes, dice):
                     file.write(part)
 
 
-def sweep(session, base, images, seed):
-    dice = random.Random(f"{session.name} {seed}")
-    wrong = []
+def noted_changes(folder, words, given):
+    """The changes of a run over this folder, and its answer."""
+    answer, lines = folder.noted(words, given)
+    changes = changes_of(lines)
+    unknown = {call for call, *_ in changes} - KNOWN
+    assert answer.status in (0, 1) and changes and not unknown, (answer.status, answer.out, unknown)
+    return changes, answer
+
+
+def sweep(run, base, images, seed):
+    """Crashes of one run."""
+    dice, wrong = random.Random(f"{run.name} {seed}"), []
     with Folder(base) as prepared:
-        session.prepare(prepared)
+        run.prepare(prepared)
         with Folder(base) as folder:
-            answer, lines = folder.copy_of(prepared).noted(session.during)
-        changes = changes_of(lines)
-        unknown = {call for call, *_ in changes} - KNOWN
-        if answer.status not in (0, 1) or not changes or unknown:
-            return 0, [f"{session.name} ends with {answer.status}, {len(changes)} changes, unknown ones {sorted(unknown)}"]
+            changes, clean = noted_changes(folder.copy_of(prepared), run.words, run.given)
         for number in range(images):
             upto = dice.randrange(len(changes) + 1)
             with Folder(base) as folder:
                 leave(folder.copy_of(prepared), changes[:upto], dice)
-                # behind its last change the session ended
-                found = session.complaints_afterwards(folder, session.new if upto == len(changes) else ())
-            wrong += [f"{session.name}, image {number} behind change {upto} of {len(changes)}: {it}" for it in found]
+                # behind its last change the run ended
+                found = run.complaints_afterwards(folder, clean, run.new if upto == len(changes) else ())
+            wrong += [f"{run.name}, image {number} behind change {upto} of {len(changes)}: {it}" for it in found]
+    return images, wrong
+
+
+def sweep_twice(session, base, images):
+    """Crashes of a session that repairs everything behind a crash of the first one."""
+    dice, wrong = random.Random(f"{session.name} twice"), []
+    repairs = script(*[f"repair {it}" for it in range(session.groups)])
+    with Folder(base) as prepared:
+        session.prepare(prepared)
+        with Folder(base) as folder:
+            changes, clean = noted_changes(folder.copy_of(prepared), session.words, session.given)
+        for number in range(images):
+            with Folder(base) as folder, Folder(base) as other:
+                leave(folder.copy_of(prepared), changes[: dice.randrange(len(changes) + 1)], dice)
+                later, _ = noted_changes(other.copy_of(folder), session.words, repairs)
+                leave(folder, later[: dice.randrange(len(later) + 1)], dice)
+                found = session.complaints_afterwards(folder, clean)
+            wrong += [f"{session.name}, image {number} of two crashes: {it}" for it in found]
     return images, wrong
 
 
@@ -76,3 +100,5 @@ def rows(base):
     for session in SESSIONS:
         for part in range(2):
             yield f"crash {session.name} {part}", lambda it=session, by=part: sweep(it, base, IMAGES // 2, by)
+        yield f"crash {session.name} twice", lambda it=session: sweep_twice(it, base, IMAGES // 2)
+    yield "crash init", lambda: sweep(OTHER_RUNS[0], base, IMAGES // 2, 0)

@@ -1,19 +1,19 @@
-"""Each call of a session on an archive, the desk, a stream or the random bytes fails in turn: with EIO, with ENOSPC, by a short
+"""Each call of a run on an archive, the desk, a stream or the random bytes fails in turn: with EIO, with ENOSPC, by a short
 count, by a file of which every later call fails too, and by the end of the program before it. The status and what is written
 are those that docs/FORMATS.md has for the object that failed, and the sessions afterwards have every file."""
 
 from program import Folder, complaints_at_replies, stored_in
-from sessions import SESSIONS
+from sessions import OTHER_RUNS, SESSIONS
 
 HOWS = ("eio", "enospc", "short", "dead", "kill")
 KILLED = -9
 
 
 class Trial:
-    """A session, how one of its calls fails, and what it answers where none does."""
+    """A run, how one of its calls fails, and what it answers where none does."""
 
-    def __init__(self, session, how, clean):
-        self.session, self.how, self.clean = session, how, clean
+    def __init__(self, run, how, clean):
+        self.run, self.how, self.clean = run, how, clean
 
     def statuses(self, call, name):
         """The statuses that are right where this call on this file fails."""
@@ -25,8 +25,9 @@ class Trial:
             return {4}
         if not name.startswith("archive-"):
             return {5} if name == "stdout" else {6}
-        # an archive that fails in a session is told by its blocks, and where it can't be opened or synced by the status
-        return {8} if call in ("open", "fsync") or self.how == "dead" else {0, 1}
+        # a read or a write of a session that fails is told by its blocks
+        is_told = call in ("open", "fsync") or self.how == "dead" or not self.run.is_session
+        return {8} if is_told else {0, 1}
 
     def is_text(self, answer, call):
         """Whether what was written is right beside the status."""
@@ -35,7 +36,7 @@ class Trial:
             return answer.out == whole
         if answer.status == 4:
             return answer.out == b""
-        if answer.status in (5, KILLED) or (answer.status == 8 and call == "open"):
+        if answer.status in (5, KILLED) or (answer.status == 8 and (call == "open" or not self.run.is_session)):
             return whole.startswith(answer.out)
         if answer.status == 6:
             return answer.out in (b"", whole)
@@ -43,35 +44,34 @@ class Trial:
 
     def complaints(self, folder, at, call, name):
         """What is wrong when the call of this number fails, which is this one on this file."""
-        answer = folder.run(self.session.during, fail=at, how=self.how)
-        wrong = complaints_at_replies(answer.out, {**self.session.files, **self.session.new})
+        answer = folder.call(self.run.words, self.run.given, fail=at, how=self.how)
+        wrong = complaints_at_replies(answer.out, self.run.files | self.run.new) if self.run.is_session else []
         if answer.status not in self.statuses(call, name) or not self.is_text(answer, call):
             wrong.append(f"status {answer.status} with {answer.out[-60:]!r}")
         if not answer.tells():
             wrong.append(f"status {answer.status} and on standard error {answer.err[:80]!r}")
         # what a session said it stored is sure where the session ended; a loss beyond the parity is not mended
         sure = stored_in(answer.out) if answer.status in (0, 1) else ()
-        return wrong + self.session.complaints_afterwards(folder, sure, self.session.spent_groups(name))
+        return wrong + self.run.complaints_afterwards(folder, self.clean, sure, self.run.spent_groups(name))
 
 
-def sweep(session, how, base):
+def sweep(run, how, base):
     wrong = []
     with Folder(base) as prepared:
-        session.prepare(prepared)
+        run.prepare(prepared)
         with Folder(base) as folder:
-            clean, lines = folder.copy_of(prepared).noted(session.during)
+            clean, lines = folder.copy_of(prepared).noted(run.words, run.given)
+        assert run.is_clean(clean), (clean.status, clean.out, clean.err)
         calls = [name.split(":", 1) for call, name, *_ in lines if call == "begin"]
-        if clean.status not in (0, 1) or not calls:
-            return 0, [f"{session.name} ends with {clean.status}, {len(calls)} calls"]
         for at, (call, name) in enumerate(calls, 1):
             with Folder(base) as folder:
-                found = Trial(session, how, clean).complaints(folder.copy_of(prepared), at, call, name)
-            wrong += [f"{session.name}, {call} of {name}, call {at}, fails with {how}: {it}" for it in found]
+                found = Trial(run, how, clean).complaints(folder.copy_of(prepared), at, call, name)
+            wrong += [f"{run.name}, {call} of {name}, call {at}, fails with {how}: {it}" for it in found]
     return len(calls), wrong
 
 
 def rows(base):
     """Gives the tasks: a name, and a function that gives the count of tries and the complaints."""
-    for session in SESSIONS:
+    for run in [*SESSIONS, *OTHER_RUNS]:
         for how in HOWS:
-            yield f"devices {session.name} {how}", lambda it=session, by=how: sweep(it, by, base)
+            yield f"devices {run.name} {how}", lambda it=run, by=how: sweep(it, by, base)

@@ -78,7 +78,7 @@ class Folder:
         assert (answer.status, answer.out) == (0, b"ready\n"), (answer.status, answer.out, answer.err)
         return self
 
-    def noted(self, given, words=("run", "--seed", SEED)):
+    def noted(self, words, given):
         """Calls the program with nothing in its way, and gives its answer and the lines that calls.c noted of it."""
         log = self.path.with_suffix(".log")
         answer = self.call(words, given, log=log)
