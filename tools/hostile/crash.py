@@ -4,8 +4,8 @@ came into the folder since its last sync any. Then the next session has to open,
 back, a file of the stopped one whole or not at all, and a repair leaves no slot lost.
 
 It is harder than the documents ask in that names come in no order, and softer than a disk that says that it synced and did
-not: what was synced stays. A stop in the midst of a write is one of the torn writes, one in the midst of a sync a stop before it. With `twice` the session
-that mends what the first crash left is crashed as well."""
+not: what was synced stays. A stop in the midst of a write is one of the torn writes, one in the midst of a sync a stop before it. With
+`twice` the session that mends what the first crash left is crashed as well."""
 
 import random
 
@@ -20,14 +20,15 @@ KNOWN = {"write", "sync", "create"}
 def changes_of(lines):
     """The changes of a noted session, in order, each as (call, file, place, bytes)."""
     skipped = {"begin", "calls"}
-    return [(call, name, at, written) for call, name, at, _, written in lines if call not in skipped and name not in ("stdin", "stdout")]
+    ours = [it for it in lines if it[0] not in skipped and it[1] not in ("stdin", "stdout")]
+    return [(call, name, at, written) for call, name, at, _, written in ours]
 
 
 def torn(dice, written):
     """What a write may have left: all of it, nothing, a first or a last part, zeros or other bytes in its place."""
     cut = dice.randrange(len(written) + 1)
-    left = [[(0, written)], [], [(0, written[:cut])], [(cut, written[cut:])], [(0, bytes(len(written)))], [(0, dice.randbytes(len(written)))]]
-    return dice.choice(left)
+    others = [bytes(len(written)), dice.randbytes(len(written))]
+    return dice.choice([[], [(0, written)], [(0, written[:cut])], [(cut, written[cut:])], *[[(0, other)] for other in others]])
 
 
 def last_syncs(changes):

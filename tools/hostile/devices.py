@@ -50,9 +50,11 @@ class Trial:
             wrong.append(f"status {answer.status} with {answer.out[-60:]!r}")
         if not answer.tells():
             wrong.append(f"status {answer.status} and on standard error {answer.err[:80]!r}")
-        # what a session said it stored is sure where the session ended; a loss beyond the parity is not mended
+        # what a session said it stored is sure where the session ended
         sure = stored_in(answer.out) if answer.status in (0, 1) else ()
-        return wrong + self.run.complaints_afterwards(folder, self.clean, sure, self.run.spent_groups(name))
+        # a block that could not be read is lost, and beyond the parity it is not mended
+        spent = self.run.spent_groups(name) if call == "read" or self.how == "dead" else ()
+        return wrong + self.run.complaints_afterwards(folder, self.clean, sure, spent)
 
 
 def sweep(run, how, base):

@@ -9,6 +9,7 @@ reply has to be bytes of the length and the SHA-256 digest that the image's reco
 the image that is the very file that was stored."""
 
 import hashlib
+import os
 import random
 import re
 import sys
@@ -20,7 +21,9 @@ from potmodel import devices, files, image as images, session  # noqa: E402
 
 FILES = {"a": pattern(900), "b": b"hello", "c": b"world"}
 FETCHES = script(*[f"fetch {it}" for it in FILES], "list", "status", "scrub 0")
-COMMANDS = [store("d", b"first"), "fetch a", "list", "scrub 1", "renew b 3 2 3 20", "repair 0", "status", "fetch d", "replace 0 20", "migrate 2 21"]
+COMMANDS = [
+    store("d", b"first"), "fetch a", "list", "scrub 1", "renew b 3 2 3 20", "repair 0", "status", "fetch d", "replace 0 20", "migrate 2 21",
+]
 
 
 def image_of(folder):
@@ -74,8 +77,9 @@ def trial(folder, given, base, stored):
     answer = folder.run(given)
     wrong = other_bytes(answer.out, stored, records_of(left) | records)
     if (answer.status, answer.out) != (status, text):
-        at = next((k for k, (one, other) in enumerate(zip(answer.out, text)) if one != other), min(len(answer.out), len(text)))
-        wrong.append(f"status {answer.status}, and the model {status}; from byte {at} {answer.out[at:][:60]!r}, and the model {text[at:][:60]!r}")
+        at = len(os.path.commonprefix([answer.out, text]))
+        here, there = answer.out[at : at + 60], text[at : at + 60]
+        wrong.append(f"status {answer.status}, and the model {status}; from byte {at} {here!r}, and the model {there!r}")
     elif image_of(folder) != left:
         wrong.append("the image that it leaves is not the model's")
     return answer, wrong

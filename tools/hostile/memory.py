@@ -10,8 +10,8 @@ SESSIONS = [
             script(store("a", b"hello"), store("b", b"world"), "replace 0 6", "fetch a", "status", "repair 0", "scrub 0"),
             new={"a": b"hello", "b": b"world"}),
     Session("every-line", NARROW, 3, [script(store("a", b"hello"))],
-            script(store("b", b"world"), store("b", b"again"), "fetch a", "fetch none", "list", "status", "scrub 0", "repair 0", "migrate 2 8",
-                   "migrate 4 8", "renew a 2 3 3 16", "replace 0 6", "repair 0", "fetch b"),
+            script(store("b", b"world"), store("b", b"again"), "fetch a", "fetch none", "list", "status", "scrub 0", "repair 0",
+                   "migrate 2 8", "migrate 4 8", "renew a 2 3 3 16", "replace 0 6", "repair 0", "fetch b"),
             files={"a": b"hello"}, new={"b": b"world"}),
 ]
 

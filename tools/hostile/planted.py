@@ -3,12 +3,11 @@ tool is wrong. The program itself can't be given them, since its proofs refuse s
 
 import crash
 import devices
+import forged
 import memory
 import program
 from program import Folder, script
 from sessions import SESSIONS
-
-import forged
 
 BY_NAME = {it.name: it for it in SESSIONS}
 

@@ -163,7 +163,8 @@ def stored_in(out):
 
 def complaints_at_replies(out, files):
     """A line for each reply that gives other bytes than those of the file."""
-    return [f"{line.split()[1]} came back as other bytes" for line, got in replies(out) if got is not None and files.get(line.split()[1]) != got]
+    named = [(line.split()[1], got) for line, got in replies(out) if got is not None]
+    return [f"{name} came back as other bytes" for name, got in named if files.get(name) != got]
 
 
 def complaints_afterwards(folder, files, may_miss, groups, spent):

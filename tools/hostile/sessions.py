@@ -83,7 +83,8 @@ SESSIONS = [
     Session("migrate", RACK, 3, STORED, script("migrate 2 21", store("c", C), "fetch b"), files=OLD, new={"c": C}),
     Session("renew", RACK, 3, STORED, script("renew a 3 2 3 20", "fetch a", "list"), files=OLD),
     Session("one-column", NARROW, 3, STORED, script(store("c", B), "fetch a", "scrub 2"), files=OLD, new={"c": B}),
-    Session("two-parity", TWO_PARITY, 3, STORED, script(store("c", C), "repair 0", "fetch a"), emptied=(0, 1), files=OLD, new={"c": C}, spent={0: range(4)}),
+    Session("two-parity", TWO_PARITY, 3, STORED, script(store("c", C), "repair 0", "fetch a"), emptied=(0, 1), files=OLD, new={"c": C},
+            spent={0: range(4)}),
     Session("looks", RACK, 3, STORED, script("list", "status", "scrub 0", "scrub 1", "scrub 2", "fetch b"), files=OLD),
 ]
 

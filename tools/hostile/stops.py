@@ -12,7 +12,8 @@ import program
 def sweep(base):
     """Gives how many folders were opened, and what was wrong."""
     desk = pathlib.Path(__file__).with_name("desk")
-    ran = subprocess.run([sys.executable, str(desk), str(program.PROGRAM)], capture_output=True, text=True, env={**os.environ, "TMPDIR": base})
+    command = [sys.executable, str(desk), str(program.PROGRAM)]
+    ran = subprocess.run(command, capture_output=True, text=True, env=os.environ | {"TMPDIR": base})
     last = re.search(r"^(\d+) opened, (\d+) wrong$", ran.stdout, re.M)
     if not last or (ran.returncode == 0) != (last[2] == "0"):
         return 0, [f"tools/hostile/desk ends with {ran.returncode}: {ran.stderr[-80:]!r}"]
