@@ -16,6 +16,7 @@ PLANT = None
 RACK = "--groups 3 --columns 3 --stripes 16 --fragments 2 --need 2 --shards 3 --blur 16".split()
 NARROW = "--groups 3 --columns 1 --stripes 8 --fragments 2 --need 3 --shards 3 --blur 16".split()
 TWO_PARITY = "--groups 3 --columns 2 --parity 2 --stripes 16 --fragments 2 --need 2 --shards 3 --blur 16".split()
+THREE_AND_TWO = "--groups 3 --columns 3 --parity 2 --stripes 16 --fragments 2 --need 2 --shards 3 --blur 16".split()
 SEED = "5e" * 32
 
 # What standard error begins with at the statuses that have something to do.

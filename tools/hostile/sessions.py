@@ -1,6 +1,6 @@
 """The runs that are disturbed: what stands before, the words and the script, and what stands then."""
 
-from program import NARROW, RACK, SEED, TWO_PARITY, complaints_afterwards, pattern, script, store
+from program import NARROW, RACK, SEED, THREE_AND_TWO, TWO_PARITY, complaints_afterwards, pattern, script, store
 
 
 class Session:
@@ -52,7 +52,7 @@ class OtherRun:
 
     def prepare(self, folder):
         if self.is_filled:
-            assert folder.begin(RACK).run(script(store("a", A))).status == 0
+            assert folder.begin(RACK).run(script(store("a", B))).status == 0
         return folder
 
     def is_clean(self, answer):
@@ -71,6 +71,7 @@ class OtherRun:
 A, B, C = pattern(900), pattern(5, 80), pattern(1800, 3)
 OLD = {"a": A, "b": B}
 STORED = [script(store("a", A), store("b", B))]
+ONE_STORED = [script(store("b", B))]
 # The archives of the first two groups, each of three columns and one of parity.
 FIRST_TWO = {0: range(4), 1: range(4, 8)}
 
@@ -85,15 +86,18 @@ SESSIONS = [
     Session("one-column", NARROW, 3, STORED, script(store("c", B), "fetch a", "scrub 2"), files=OLD, new={"c": B}),
     Session("two-parity", TWO_PARITY, 3, STORED, script(store("c", C), "repair 0", "fetch a"), emptied=(0, 1), files=OLD, new={"c": C},
             spent={0: range(4)}),
+    # the next two go on in a stripe that has blocks already, whose parity is written over
+    Session("store-in-stripe", RACK, 3, ONE_STORED, script(store("c", C), "fetch c"), files={"b": B}, new={"c": C}),
+    Session("store-in-stripe-two", THREE_AND_TWO, 3, ONE_STORED, script(store("c", C), "fetch c"), files={"b": B}, new={"c": C}),
     Session("looks", RACK, 3, STORED, script("list", "status", "scrub 0", "scrub 1", "scrub 2", "fetch b"), files=OLD),
 ]
 
 DRILL = "drill --fragments 2 --need 2 --shards 3 --blur 16 --hidden 1 --seen 2 --seed".split() + [SEED]
-RECOVER = "recover --archives 12 --stripes 16 --blur 16".split()
+RECOVER = "recover --archives 12 --stripes 3 --blur 16".split()
 OTHER_RUNS = [
     OtherRun("init", ["init", *NARROW], b"ready\n"),
-    OtherRun("recover", RECOVER, A, is_filled=True),
-    OtherRun("recover-robust", [*RECOVER, "--robust", "yes"], A, is_filled=True),
+    OtherRun("recover", RECOVER, B, is_filled=True),
+    OtherRun("recover-robust", [*RECOVER, "--robust", "yes"], B, is_filled=True),
     # of two pieces three blocks of the fragment that is seen, and one of the other
     OtherRun("drill", DRILL, b"explained 900 2 8\n", b"900\n%s\n%s\n" % (A, pattern(900, 5))),
     OtherRun("bad-line", ["run"], b"bad line 2\n", b"fetch a\nno line\n", is_filled=True, status=3),
