@@ -2,13 +2,18 @@
  * streams, lets one of them fail, and notes what they change.
  *
  * HOSTILE_FAIL=N    the Nth counted call, from 1, fails
- * HOSTILE_HOW=HOW   eio, enospc: it does nothing and fails so; short: it moves one byte; kill: the program is
- *                   killed before it; lie: it does nothing and says that it did
+ * HOSTILE_HOW=HOW   eio, enospc: it does nothing and fails so; dead: so does each later call on its file; short: a read
+ *                   or a write moves one byte, and a call without a count works; kill: the program is killed before it
  * HOSTILE_ALLOC=N   the Nth request for memory, from 1, is refused
+ * HOSTILE_REST=1    and so is each one behind it
  * HOSTILE_LOG=FILE  each counted call is noted there: a line of words, and behind a write its bytes
+ * HOSTILE_PLANT=IT  a fault of the program is feigned, which the tool has to find: `no-sync PREFIX`, a file whose name begins
+ *                   so is not synced and its calls say that it was; `deaf`, a write that fails says that it was done; `other`,
+ *                   a long text is written to standard output with one other byte; `calm`, where memory was refused the exit
+ *                   status is 0
  *
- * Counted are calls on files of the working folder, on the folder itself, and on standard input and output. Standard
- * error and everything else are left alone. */
+ * Counted are calls on files of the working folder, on the folder itself, on standard input and output, and on the system's
+ * random bytes. Standard error and everything else are left alone. */
 #define _GNU_SOURCE
 #include <dlfcn.h>
 #include <errno.h>
@@ -29,8 +34,9 @@ enum { MOST = 4096, LONGEST = 64 };
 static char names[MOST][LONGEST];
 static int log_file = -1;
 static long calls, allocations, failing = -1, refused = -1;
-static const char *how = "eio";
-static int ready;
+static const char *how = "eio", *plant = "";
+static char dead[LONGEST];
+static int ready, all_refused;
 
 static void *real(const char *name) { return dlsym(RTLD_NEXT, name); }
 
@@ -43,6 +49,9 @@ static void start(void) {
     if (text) refused = atol(text);
     text = getenv("HOSTILE_HOW");
     if (text) how = text;
+    text = getenv("HOSTILE_PLANT");
+    if (text) plant = text;
+    all_refused = getenv("HOSTILE_REST") != NULL;
     text = getenv("HOSTILE_LOG");
     if (text) {
         int (*open_file)(const char *, int, ...) = real("open");
@@ -72,16 +81,24 @@ static void note(const char *call, const char *name, long at, long count, const 
     if (bytes) put(bytes, count);
 }
 
-/* Whether this call fails: 0 no, 1 with errno, 2 it is to move one byte, 3 it is to do nothing and say that it did. */
-static int fails(void) {
+/* What a call comes to. */
+enum { WORKS, FAILS, IS_SHORT };
+
+/* Counts a call on a file, and says what it comes to: where it fails errno is set. */
+static int judged(const char *call, const char *name) {
+    char both[2 * LONGEST];
+    snprintf(both, sizeof both, "%s:%s", call, name);
+    note("begin", both, 0, 0, NULL);
     calls++;
-    if (calls != failing) return 0;
-    note("failed", how, calls, 0, NULL);
-    if (!strcmp(how, "kill")) kill(getpid(), SIGKILL);
-    if (!strcmp(how, "short")) return 2;
-    if (!strcmp(how, "lie")) return 3;
+    int is_first = calls == failing;
+    int is_dead = dead[0] && !strcmp(dead, name);
+    if (!is_first && !is_dead) return WORKS;
+    if (is_first) note("failed", name, calls, 0, NULL);
+    if (is_first && !strcmp(how, "kill")) kill(getpid(), SIGKILL);
+    if (is_first && !strcmp(how, "dead")) snprintf(dead, LONGEST, "%s", name);
+    if (!strcmp(how, "short")) return IS_SHORT;
     errno = strcmp(how, "enospc") ? EIO : ENOSPC;
-    return 1;
+    return FAILS;
 }
 
 static int is_ours(int fd) { return fd >= 0 && fd < MOST && names[fd][0] && fd != 2; }
@@ -98,9 +115,7 @@ static int open_as(const char *call, int at, const char *path, int flags, mode_t
     if (path[0] == '/') return real_call(at, path, flags, mode);
     struct stat found;
     int is_new = (flags & O_CREAT) && stat(path, &found) != 0;
-    note("begin", call, 0, 0, NULL);
-    int fault = fails();
-    if (fault == 1 || fault == 3) return errno = errno ? errno : EIO, -1;
+    if (judged(call, path) == FAILS) return -1;
     int fd = real_call(at, path, flags, mode);
     if (fd >= 0) {
         opened(fd, path);
@@ -166,14 +181,9 @@ static ssize_t read_as(int fd, void *into, size_t count, off_t at, int is_placed
     ssize_t (*placed)(int, void *, size_t, off_t) = real("pread64");
     ssize_t (*plain)(int, void *, size_t) = real("read");
     if (is_ours(fd)) {
-        note("begin", "read", 0, 0, NULL);
-        int fault = fails();
-        if (fault == 1) return -1;
-        if (fault == 2 && count > 1) count = 1;
-        if (fault == 3) {
-            memset(into, 0, count);
-            return count;
-        }
+        int fate = judged("read", names[fd]);
+        if (fate == FAILS) return -1;
+        if (fate == IS_SHORT && count > 1) count = 1;
     }
     return is_placed ? placed(fd, into, count, at) : plain(fd, into, count);
 }
@@ -181,16 +191,24 @@ ssize_t read(int fd, void *into, size_t count) { return read_as(fd, into, count,
 ssize_t pread(int fd, void *into, size_t count, off_t at) { return read_as(fd, into, count, at, 1); }
 ssize_t pread64(int fd, void *into, size_t count, off_t at) { return read_as(fd, into, count, at, 1); }
 
+/* The text with its middle byte changed, as a program might that looks at no digest. */
+static const void *with_other_byte(const void *from, size_t count) {
+    static char room[1 << 16];
+    if (strcmp(plant, "other") || count < 800 || count > sizeof room) return from;
+    memcpy(room, from, count);
+    room[count / 2] ^= 1;
+    return room;
+}
+
 static ssize_t write_as(int fd, const void *from, size_t count, off_t at, int is_placed) {
     start();
     ssize_t (*placed)(int, const void *, size_t, off_t) = real("pwrite64");
     ssize_t (*plain)(int, const void *, size_t) = real("write");
     if (!is_ours(fd)) return is_placed ? placed(fd, from, count, at) : plain(fd, from, count);
-    note("begin", "write", 0, 0, NULL);
-    int fault = fails();
-    if (fault == 1) return -1;
-    if (fault == 2 && count > 1) count = 1;
-    if (fault == 3) return count;
+    int fate = judged("write", names[fd]);
+    if (fate == FAILS) return strcmp(plant, "deaf") ? -1 : (ssize_t)count;
+    if (fate == IS_SHORT && count > 1) count = 1;
+    if (fd == 1) from = with_other_byte(from, count);
     off_t place = is_placed ? at : lseek(fd, 0, SEEK_CUR);
     ssize_t moved = is_placed ? placed(fd, from, count, at) : plain(fd, from, count);
     if (moved > 0) note("write", names[fd], place, moved, from);
@@ -214,47 +232,42 @@ ssize_t writev(int fd, const struct iovec *parts, int count) {
     return moved;
 }
 
-static int simple(const char *call, int fd) {
+static int is_left_out(const char *name) {
+    size_t size = strlen("no-sync ");
+    return !strncmp(plant, "no-sync ", size) && !strncmp(name, plant + size, strlen(plant + size));
+}
+
+static int sync_as(const char *call, int fd) {
     start();
     int (*real_call)(int) = real(call);
     if (!is_ours(fd)) return real_call(fd);
-    note("begin", call, 0, 0, NULL);
-    int fault = fails();
-    if (fault == 1) return -1;
-    if (fault == 2) return errno = EIO, -1;
-    if (fault == 3) return 0;
+    if (is_left_out(names[fd])) return 0;
+    if (judged(call, names[fd]) == FAILS) return -1;
     int status = real_call(fd);
     if (status == 0) note("sync", names[fd], 0, 0, NULL);
     return status;
 }
-int fsync(int fd) { return simple("fsync", fd); }
-int fdatasync(int fd) { return simple("fdatasync", fd); }
+int fsync(int fd) { return sync_as("fsync", fd); }
+int fdatasync(int fd) { return sync_as("fdatasync", fd); }
 
 int statx(int fd, const char *path, int flags, unsigned mask, struct statx *into) {
     start();
     int (*real_call)(int, const char *, int, unsigned, struct statx *) = real("statx");
-    if (path && !path[0] && is_ours(fd)) {
-        note("begin", "statx", 0, 0, NULL);
-        if (fails()) return errno = EIO, -1;
-    }
+    if (!path[0] && is_ours(fd) && judged("statx", names[fd]) == FAILS) return -1;
     return real_call(fd, path, flags, mask, into);
 }
 
 int flock(int fd, int what) {
     start();
     int (*real_call)(int, int) = real("flock");
-    if (is_ours(fd)) {
-        note("begin", "flock", 0, 0, NULL);
-        if (fails()) return errno = EIO, -1;
-    }
+    if (is_ours(fd) && judged("flock", names[fd]) == FAILS) return -1;
     return real_call(fd, what);
 }
 
 static int rename_as(const char *from, const char *to) {
     start();
     int (*real_call)(const char *, const char *) = real("rename");
-    note("begin", "rename", 0, 0, NULL);
-    if (fails()) return errno = EIO, -1;
+    if (judged("rename", from) == FAILS) return -1;
     int status = real_call(from, to);
     if (status == 0) {
         char both[2 * LONGEST];
@@ -265,15 +278,22 @@ static int rename_as(const char *from, const char *to) {
 }
 int rename(const char *from, const char *to) { return rename_as(from, to); }
 
-int ftruncate64(int fd, off_t size) {
+static int resize_as(int fd, off_t size) {
     start();
     int (*real_call)(int, off_t) = real("ftruncate64");
     if (is_ours(fd)) {
-        note("begin", "ftruncate", 0, 0, NULL);
-        if (fails()) return errno = EIO, -1;
+        if (judged("ftruncate", names[fd]) == FAILS) return -1;
         note("resize", names[fd], size, 0, NULL);
     }
     return real_call(fd, size);
+}
+int ftruncate(int fd, off_t size) { return resize_as(fd, size); }
+int ftruncate64(int fd, off_t size) { return resize_as(fd, size); }
+
+int getentropy(void *into, size_t count) {
+    start();
+    int (*real_call)(void *, size_t) = real("getentropy");
+    return judged("getentropy", "random") == FAILS ? -1 : real_call(into, count);
 }
 
 static int is_refused(void) {
@@ -285,7 +305,7 @@ static int is_refused(void) {
         inside = 0;
     }
     allocations++;
-    if (allocations != refused) return 0;
+    if (refused < 0 || allocations < refused || (allocations > refused && !all_refused)) return 0;
     note("refused", "memory", allocations, 0, NULL);
     return 1;
 }
@@ -299,4 +319,5 @@ void *realloc(void *old, size_t size) { return is_refused() ? (errno = ENOMEM, N
 
 __attribute__((destructor)) static void count(void) {
     note("calls", "all", calls, allocations, NULL);
+    if (!strcmp(plant, "calm") && refused >= 0 && allocations >= refused) _exit(0);
 }

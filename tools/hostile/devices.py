@@ -1,63 +1,79 @@
-"""Each call of a session on an archive, the desk or a stream fails in turn: with EIO, with ENOSPC, and by a short count."""
+"""Each call of a run on an archive, the desk, a stream or the random bytes fails in turn: with EIO, with ENOSPC, by a short
+count, by a file of which every later call fails too, and by the end of the program before it. The status and what is written
+are those that docs/FORMATS.md has for the object that failed, and the sessions afterwards have every file."""
 
-from program import Folder, complaints_at_fetch, complaints_at_repair, stored_in
-from sessions import SESSIONS
+from program import Folder, complaints_at_replies, stored_in
+from sessions import OTHER_RUNS, SESSIONS
 
-
-def calls_of(path):
-    """How many counted calls a log tells of, and how many requests for memory."""
-    with open(path, "rb") as log:
-        for line in iter(log.readline, b""):
-            call, _, at, count, has_bytes = line.decode().split()
-            if has_bytes == "1":
-                log.read(int(count))
-            if call == "calls":
-                return int(at), int(count)
-    return 0, 0
+HOWS = ("eio", "enospc", "short", "dead", "kill")
+KILLED = -9
 
 
-def count_calls(session, base):
-    with Folder(base) as folder:
-        session.prepare(folder)
-        log = folder.path.with_suffix(".log")
-        answer = folder.run(session.during, log=log)
-        made, asked = calls_of(log)
-        log.unlink()
-        return answer, made, asked
+class Trial:
+    """A run, how one of its calls fails, and what it answers where none does."""
 
+    def __init__(self, run, how, clean):
+        self.run, self.how, self.clean = run, how, clean
 
-def complaints(session, prepared, at, how, clean, base):
-    """What is wrong when the call of this number fails so."""
-    with Folder(base) as folder:
-        folder.copy_of(prepared)
-        answer = folder.run(session.during, fail=at, how=how)
-        wrong = []
-        if answer.status not in (0, 1, 4, 5, 6, 8):
-            wrong.append(f"status {answer.status}")
+    def statuses(self, call, name):
+        """The statuses that are right where this call on this file fails."""
+        if self.how == "kill":
+            return {KILLED}
+        if self.how == "short":
+            return {self.clean.status}
+        if name in ("stdin", "random"):
+            return {4}
+        if not name.startswith("archive-"):
+            return {5} if name == "stdout" else {6}
+        # a read or a write of a session that fails is told by its blocks
+        is_told = call in ("open", "fsync") or self.how == "dead" or not self.run.is_session
+        return {8} if is_told else {0, 1}
+
+    def is_text(self, answer, call):
+        """Whether what was written is right beside the status."""
+        whole = self.clean.out
+        if self.how == "short":
+            return answer.out == whole
+        if answer.status == 4:
+            return answer.out == b""
+        if answer.status in (5, KILLED) or (answer.status == 8 and (call == "open" or not self.run.is_session)):
+            return whole.startswith(answer.out)
+        if answer.status == 6:
+            return answer.out in (b"", whole)
+        return answer.out == whole if call == "fsync" else True
+
+    def complaints(self, folder, at, call, name):
+        """What is wrong when the call of this number fails, which is this one on this file."""
+        answer = folder.call(self.run.words, self.run.given, fail=at, how=self.how)
+        wrong = complaints_at_replies(answer.out, self.run.files | self.run.new) if self.run.is_session else []
+        if answer.status not in self.statuses(call, name) or not self.is_text(answer, call):
+            wrong.append(f"status {answer.status} with {answer.out[-60:]!r}")
         if not answer.tells():
             wrong.append(f"status {answer.status} and on standard error {answer.err[:80]!r}")
-        if how == "short" and (answer.status, answer.out) != (clean.status, clean.out):
-            wrong.append(f"a short count changes the answer to {answer.status} {answer.out[:60]!r}")
-        # What a session said it stored stands where the session ended; else it may have to be stored again.
-        new = {name: text for name, text in session.new.items() if name in stored_in(answer.out)}
-        ended = answer.status in (0, 1)
-        wrong += complaints_at_fetch(folder, {**session.files, **new}, may_miss=() if ended else new)
-        wrong += complaints_at_repair(folder, session.groups)
-        return [f"{session.name}, call {at} fails with {how}: {it}" for it in wrong]
+        # what a session said it stored is sure where the session ended
+        sure = stored_in(answer.out) if answer.status in (0, 1) else ()
+        # a block that could not be read is lost, and beyond the parity it is not mended
+        spent = self.run.spent_groups(name) if call == "read" or self.how == "dead" else ()
+        return wrong + self.run.complaints_afterwards(folder, self.clean, sure, spent)
+
+
+def sweep(run, how, base):
+    wrong = []
+    with Folder(base) as prepared:
+        run.prepare(prepared)
+        with Folder(base) as folder:
+            clean, lines = folder.copy_of(prepared).noted(run.words, run.given)
+        assert run.is_clean(clean), (clean.status, clean.out, clean.err)
+        calls = [name.split(":", 1) for call, name, *_ in lines if call == "begin"]
+        for at, (call, name) in enumerate(calls, 1):
+            with Folder(base) as folder:
+                found = Trial(run, how, clean).complaints(folder.copy_of(prepared), at, call, name)
+            wrong += [f"{run.name}, {call} of {name}, call {at}, fails with {how}: {it}" for it in found]
+    return len(calls), wrong
 
 
 def rows(base):
     """Gives the tasks: a name, and a function that gives the count of tries and the complaints."""
-    for session in SESSIONS:
-        for how in ("eio", "enospc", "short"):
-            yield f"devices {session.name} {how}", lambda it=session, by=how: sweep(it, by, base)
-
-
-def sweep(session, how, base):
-    clean, made, _ = count_calls(session, base)
-    wrong = [] if clean.status in (0, 1) and made else [f"{session.name} ends with {clean.status}, {made} calls"]
-    with Folder(base) as prepared:
-        session.prepare(prepared)
-        for at in range(1, made + 1):
-            wrong += complaints(session, prepared, at, how, clean, base)
-    return made, wrong
+    for run in [*SESSIONS, *OTHER_RUNS]:
+        for how in HOWS:
+            yield f"devices {run.name} {how}", lambda it=run, by=how: sweep(it, by, base)

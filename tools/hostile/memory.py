@@ -1,39 +1,51 @@
-"""Each request for memory is refused in turn: 70 and some first bytes of what the session writes, or just what it writes."""
+"""Each request for memory is refused in turn, by itself and with all requests behind it: status 70 and some first bytes of what
+the run writes, or just what it writes. Afterwards every file of an ended session comes back."""
 
-from devices import count_calls
-from program import NARROW, Folder, complaints_at_fetch, pattern, script, store
-from sessions import Session, SESSIONS
+from program import NARROW, RACK, Folder, script, store
+from sessions import OTHER_RUNS, Session
 
-FILE = pattern(900)
-EVERY_LINE = Session(
-    "every-line", NARROW, 3, [script(store("a", b"hello"))],
-    script(store("b", b"world"), store("b", b"again"), "fetch a", "fetch none", "list", "status", "scrub 0", "repair 0", "migrate 2 8", "migrate 4 8",
-           "renew a 2 3 3 16", "replace 0 6", "repair 0", "fetch b"),
-    files={"a": b"hello"}, new={"b": b"world"})
-ROW_1 = Session("store-and-fetch", SESSIONS[0].rack, 3, [], script(store("a", b"hello"), "fetch a"), new={"a": b"hello"})
-ROW_11 = Session(
-    "replace-and-mend", NARROW, 3, [], script(store("a", b"hello"), store("b", b"world"), "replace 0 6", "fetch a", "status", "repair 0", "scrub 0"),
-    new={"a": b"hello", "b": b"world"})
+SESSIONS = [
+    Session("store-and-fetch", RACK, 3, [], script(store("a", b"hello"), "fetch a"), new={"a": b"hello"}),
+    Session("replace-and-mend", NARROW, 3, [],
+            script(store("a", b"hello"), store("b", b"world"), "replace 0 6", "fetch a", "status", "repair 0", "scrub 0"),
+            new={"a": b"hello", "b": b"world"}),
+    Session("every-line", NARROW, 3, [script(store("a", b"hello"))],
+            script(store("b", b"world"), store("b", b"again"), "fetch a", "fetch none", "list", "status", "scrub 0", "repair 0",
+                   "migrate 2 8", "migrate 4 8", "renew a 2 3 3 16", "replace 0 6", "repair 0", "fetch b"),
+            files={"a": b"hello"}, new={"b": b"world"}),
+]
 
 
-def sweep(session, base):
-    clean, _, asked = count_calls(session, base)
-    wrong = [] if clean.status in (0, 1) and asked else [f"{session.name} ends with {clean.status}, {asked} requests"]
+def asked_for(lines):
+    """How many requests for memory the noted run made."""
+    return next(count for call, _, _, count, _ in lines if call == "calls")
+
+
+def complaints(answer, clean):
+    """What is wrong with an answer where memory was refused."""
+    is_whole = (answer.status, answer.out) == (clean.status, clean.out)
+    is_refused = answer.status == 70 and clean.out.startswith(answer.out)
+    wrong = [] if is_whole or is_refused else [f"status {answer.status}, {answer.out[-60:]!r}"]
+    return wrong + ([] if answer.tells() else [f"status {answer.status} and {answer.err[:60]!r}"])
+
+
+def sweep(run, rest, base):
+    wrong = []
     with Folder(base) as prepared:
-        session.prepare(prepared)
-        for at in range(1, asked + 1):
+        run.prepare(prepared)
+        with Folder(base) as folder:
+            clean, lines = folder.copy_of(prepared).noted(run.words, run.given)
+        assert run.is_clean(clean), (clean.status, clean.out, clean.err)
+        for at in range(1, asked_for(lines) + 1):
             with Folder(base) as folder:
-                folder.copy_of(prepared)
-                answer = folder.run(session.during, alloc=at)
-                is_row = (answer.status, answer.out) == (clean.status, clean.out)
-                is_refused = answer.status == 70 and clean.out.startswith(answer.out)
-                found = [] if is_row or is_refused else [f"status {answer.status}, {answer.out[-60:]!r}"]
-                found += [] if answer.tells() else [f"status {answer.status} and {answer.err[:60]!r}"]
-                found += complaints_at_fetch(folder, session.files)
-                wrong += [f"{session.name}, request {at} refused: {it}" for it in found]
-    return asked, wrong
+                answer = folder.copy_of(prepared).call(run.words, run.given, alloc=at, rest=rest)
+                sure = run.new if answer.status in (0, 1) else ()
+                found = complaints(answer, clean) + run.complaints_afterwards(folder, clean, sure)
+            wrong += [f"{run.name}, request {at} refused: {it}" for it in found]
+    return asked_for(lines), wrong
 
 
 def rows(base):
-    for session in (ROW_1, ROW_11, EVERY_LINE):
-        yield f"memory {session.name}", lambda it=session: sweep(it, base)
+    for rest, text in ((None, "one"), (1, "all-from")):
+        for run in [*SESSIONS, *OTHER_RUNS]:
+            yield f"memory {run.name} {text}", lambda it=run, by=rest: sweep(it, by, base)

@@ -1,5 +1,6 @@
 """The built program in a folder of its own: sessions over it, what they wrote, and the calls that they made."""
 
+import errno
 import os
 import pathlib
 import shutil
@@ -9,10 +10,13 @@ import tempfile
 HERE = pathlib.Path(__file__).resolve().parent
 TOP = HERE.parent.parent
 PROGRAM = TOP / "crates/potshards/out/potshards"
+# A fault that calls.c feigns, and that is to be found.
+PLANT = None
 
 RACK = "--groups 3 --columns 3 --stripes 16 --fragments 2 --need 2 --shards 3 --blur 16".split()
 NARROW = "--groups 3 --columns 1 --stripes 8 --fragments 2 --need 3 --shards 3 --blur 16".split()
 TWO_PARITY = "--groups 3 --columns 2 --parity 2 --stripes 16 --fragments 2 --need 2 --shards 3 --blur 16".split()
+THREE_AND_TWO = "--groups 3 --columns 3 --parity 2 --stripes 16 --fragments 2 --need 2 --shards 3 --blur 16".split()
 SEED = "5e" * 32
 
 # What standard error begins with at the statuses that have something to do.
@@ -52,13 +56,15 @@ class Folder:
         shutil.rmtree(self.path, ignore_errors=True)
 
     def copy_of(self, other):
-        """Makes this folder what the other one is, whose desk is a file with holes."""
-        subprocess.run(["cp", "-a", "--sparse=always", f"{other.path}/.", str(self.path)], check=True)
+        """Makes this folder what the other one is."""
+        for path in other.path.iterdir():
+            copy_with_holes(path, self.path / path.name)
         return self
 
     def call(self, words, given=b"", **hostile):
-        """Calls the program. hostile: fail, how, alloc, log, which calls.c reads."""
+        """Calls the program. hostile: fail, how, alloc, rest, log, which calls.c reads."""
         env = {"PATH": os.environ.get("PATH", "")}
+        hostile["plant"] = PLANT
         chosen = {f"HOSTILE_{key.upper()}": str(value) for key, value in hostile.items() if value is not None}
         if chosen:
             env.update(chosen, LD_PRELOAD=str(library()))
@@ -72,6 +78,39 @@ class Folder:
         answer = self.call(["init", *rack])
         assert (answer.status, answer.out) == (0, b"ready\n"), (answer.status, answer.out, answer.err)
         return self
+
+    def noted(self, words, given):
+        """Calls the program with nothing in its way, and gives its answer and the lines that calls.c noted of it."""
+        log = self.path.with_suffix(".log")
+        answer = self.call(words, given, log=log)
+        lines = list(lines_of(log))
+        log.unlink()
+        return answer, lines
+
+
+def copy_with_holes(path, to):
+    """Copies the parts of a file that it has: a desk is a file of a gibibyte with few of them."""
+    with open(path, "rb", 0) as old, open(to, "wb", 0) as new:
+        size, at = os.fstat(old.fileno()).st_size, 0
+        new.truncate(size)
+        while at < size:
+            try:
+                at = os.lseek(old.fileno(), at, os.SEEK_DATA)
+            except OSError as error:
+                if error.errno != errno.ENXIO:
+                    raise
+                return
+            end = os.lseek(old.fileno(), at, os.SEEK_HOLE)
+            while at < end:
+                at += os.pwrite(new.fileno(), os.pread(old.fileno(), min(end - at, 1 << 20), at), at)
+
+
+def lines_of(path):
+    """The lines that calls.c noted, each as its first word, its name, two numbers, and the bytes of a write."""
+    with open(path, "rb") as log:
+        for line in iter(log.readline, b""):
+            call, name, at, count, has_bytes = line.decode().split()
+            yield call, name, int(at), int(count), log.read(int(count)) if has_bytes == "1" else b""
 
 
 def library():
@@ -123,26 +162,23 @@ def stored_in(out):
     return {line.split()[1] for line, _ in replies(out) if line.startswith("stored ")}
 
 
-def complaints_at_fetch(folder, files, may_miss=()):
-    """Fetches each of these files and compares. Gives a line for each that is wrong. Of those in may_miss, `absent` is no wrong."""
-    answer = folder.run(script(*[f"fetch {name}" for name in files]))
+def complaints_at_replies(out, files):
+    """A line for each reply that gives other bytes than those of the file."""
+    named = [(line.split()[1], got) for line, got in replies(out) if got is not None]
+    return [f"{name} came back as other bytes" for name, got in named if files.get(name) != got]
+
+
+def complaints_afterwards(folder, files, may_miss, groups, spent):
+    """What is wrong in a session that fetches each of these files, repairs every group, and asks how they are. Of the files in
+    may_miss `absent` is no wrong, and of the groups in spent, whose parity is spent, lost slots."""
+    answer = folder.run(script(*[f"fetch {name}" for name in files], *[f"repair {it}" for it in range(groups)], "status"))
     if answer.status not in (0, 1):
         return [f"the next session ends with {answer.status}: {answer.out[:80]!r} {answer.err[:80]!r}"]
     found = replies(answer.out)
-    wrong = []
-    for (name, contents), (line, got) in zip(files.items(), found):
-        if got is not None and got != contents:
-            wrong.append(f"{name} came back as other bytes")
-        elif got is None and not (name in may_miss and line == f"absent {name}"):
+    wrong = complaints_at_replies(answer.out, files)
+    for name, (line, got) in zip(files, found):
+        if got is None and not (name in may_miss and line == f"absent {name}"):
             wrong.append(f"{name} did not come back: {line}")
-    return wrong + ([] if len(found) == len(files) else ["replies are missing"])
-
-
-def complaints_at_repair(folder, groups):
-    """Repairs every group, and then asks that no slot is lost or broken. Gives a line for each that is."""
-    answer = folder.run(script(*[f"repair {it}" for it in range(groups)], "status"))
-    lines = [line for line, _ in replies(answer.out)]
-    wrong = [f"after the repair: {it}" for it in lines if it.startswith("group ") and " lost 0 broken 0 " not in it]
-    if answer.status not in (0, 1) or sum(it.startswith("group ") for it in lines) != groups:
-        wrong.append(f"a session of repairs ends with {answer.status}: {lines[-3:]}")
-    return wrong
+    states = [line.split() for line, _ in found[len(files) + groups :]]
+    wrong += [f"after the repair: {' '.join(it)}" for it in states if it[7] != "0" or (it[5] != "0" and int(it[1]) not in spent)]
+    return wrong + ([] if len(states) == groups else ["replies are missing"])
