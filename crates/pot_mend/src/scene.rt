@@ -111,7 +111,7 @@ pub(crate) fn vault(
     let mut members = Vec::new(alloc);
     members.push(member(alloc, rack, failing, lost)?)?;
     match Vault::start(alloc, rack, members, index) {
-        Ok(made) => Ok(made),
+        Ok((vault, passes, _spaces)) => Ok((vault, passes)),
         Err(_) => Err(Fail::from("no memory")),
     }
 }

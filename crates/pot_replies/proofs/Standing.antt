@@ -48,7 +48,7 @@ module _ (job : ℕ) (w w' : Section) (wide : Widens job w w') where
   pub same_own : (g : ℕ) → own job (w'.added g) ≡ own job (w.added g)
   same_own g = none_more (is_of job) (w.added g) (wide.more g) (w'.added g) (wide.added g) (wide.others g)
 
-  same_index : index.own job w'.index_added ≡ index.own job w.index_added
+  pub same_index : index.own job w'.index_added ≡ index.own job w.index_added
   same_index = none_more (index.is_of job) w.index_added wide.index_more w'.index_added wide.index_added wide.index_others
 
   pub mine_stays : mine job w' ≡ mine job w
@@ -75,7 +75,7 @@ module _ (job : ℕ) (w w' : Section) (wide : Widens job w w') where
     is = m.is ∙ ap (λ s. s ++ m.sofar) (sym wide.index_before);
   }
 
-  pub found_stands : (behind : List Logged) (s : Setting) (name : List ℕ) (kept : Record) → FoundThen behind s job name kept w → FoundThen behind s job name kept w'
+  abbrev pub found_stands : (behind : List Logged) (s : Setting) (name : List ℕ) (kept : Record) → FoundThen behind s job name kept w → FoundThen behind s job name kept w'
   found_stands behind s name kept is = record {
     index = same_index ∙ is.index;
     sofar = is.sofar;

@@ -1,12 +1,11 @@
 //! How a vault ends.
 ghost use Rattle.std.specs.Prelude.{◌≡◌, ◌≤◌, [], length};
-ghost use Rattle.std.specs.Vec.{vec_capacity};
 ghost use Rattle.pot_rows.specs.Ends.{HasAllParts};
 ghost use Rattle.pot_rows.specs.Rows.{view_at};
 
 use crate::catalog::Catalog;
 use crate::member::Member;
-use crate::vault::{Passes, Vault};
+use crate::vault::{Passes, Spaces, Vault};
 use pot_index::Index;
 use pot_outside::Archive;
 
@@ -25,22 +24,23 @@ impl<A: Archive> Vault<A> {
     ghost use Rattle.pot_shared.specs.Sharing.{HasAllButKept, Ends};
 
     /// Ends the turns with passes that have all parts but those of the kept ones, and hands out the groups and the index. It takes
-    /// no memory.
-    pub fn close(self, passes: Passes<A>) -> Closed<A>
+    /// no memory, since the spaces that `start` made have room.
+    pub fn close(self, passes: Passes<A>, spaces: Spaces<A>) -> Closed<A>
         requires ready { AreReady self.rack self.groups passes.groups }
         requires index { IsIndexReady self.rack self.groups self.index passes.index }
         requires parts { HasAllButKept passes.groups × HasAllParts passes.index }
-        requires room { (self.members.items ≡ []) × (length self.groups ≤ vec_capacity self.members) }
-        requires index_room { (self.catalogs.items ≡ []) × (1 ≤ vec_capacity self.catalogs) }
+        requires room { length self.groups ≤ spaces }
         ensures { Ends (λ m. kept_log (view_of A.account.meaning m.group)) (λ m. origin_of (view_of A.account.meaning m.group)) self.rack self.groups passes.groups (view_at passes.index 0) result.members.items result.index }
     {
         let Vault {
             rack: _,
             groups,
             index,
+        } = self;
+        let Spaces {
             mut members,
             mut catalogs,
-        } = self;
+        } = spaces;
         let Passes {
             groups: mut row,
             index: pass,

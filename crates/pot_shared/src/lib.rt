@@ -26,4 +26,4 @@ pub use catalog::{Catalog, CatalogOrigin, Strange};
 pub use ending::Closed;
 pub use member::{GroupOrigin, Logged, Member};
 pub use starting::VaultRefused;
-pub use vault::{Passes, Vault};
+pub use vault::{Passes, Spaces, Vault};

@@ -11,7 +11,7 @@ ghost use Rattle.pot_shared.specs.Sharing.{SameAt};
 
 use crate::catalog::Catalog;
 use crate::member::Member;
-use crate::vault::{Passes, Vault};
+use crate::vault::{Passes, Spaces, Vault};
 use pot_bytes::Rack;
 use pot_index::Index;
 use pot_outside::Archive;
@@ -71,7 +71,7 @@ impl<A: Archive> Vault<A> {
     ghost use Rattle.pot_shared.specs.Sharing.{HasAllButKept, IsGroupOf, AreFirst, HaveLogs};
 
     /// Puts each group and the index under a turn. The passes have seen all logs, and have all parts of the index's turn and all but
-    /// two of each group's, which the index keeps. The group at place g has number g and a table of the rack.
+    /// two of each group's, which the index keeps. The group at place g has number g and a table of the rack. The spaces are those that `close` wants.
     ///
     /// # Errors
     /// Want of memory alone. The index comes back as it was, and the groups in their order with the logs and origins that they had.
@@ -80,7 +80,7 @@ impl<A: Archive> Vault<A> {
         rack: &Rack,
         members: Vec<Member<A>>,
         index: Index,
-    ) -> Result<(Vault<A>, Passes<A>), VaultRefused<A>>
+    ) -> Result<(Vault<A>, Passes<A>, Spaces<A>), VaultRefused<A>>
         requires count { length members.items ≡ rack.now.groups }
         requires groups { (n : ℕ) (m : _) → slice_get members.items n ≡ Some m → IsGroupOf rack.now n (view_of A.account.meaning m.group) }
         requires rack { index.rack ≡ rack.now }
@@ -91,7 +91,7 @@ impl<A: Archive> Vault<A> {
         ensures parts { IfOk result (λ p. HasAllButKept p.1.groups × HasAllParts p.1.index) }
         ensures first { IfOk result (λ p. AreFirst (λ m. view_of A.account.meaning m.group) members.items p.1.groups) }
         ensures index { IfOk result (λ p. p.1.index.views ≡ first_view [] (record { rack = rack.now; read = index.read; names = p.0.groups }) ∷ []) }
-        ensures room { IfOk result (λ p. (p.0.members.items ≡ []) × (length p.0.groups ≤ vec_capacity p.0.members) × (p.0.catalogs.items ≡ []) × (1 ≤ vec_capacity p.0.catalogs)) }
+        ensures room { IfOk result (λ p. length p.0.groups ≤ p.2) }
         ensures refused { IfErr result (λ r. (r.index ≡ index) × HaveLogs (λ m. view_of A.account.meaning m.group) members.items r.members.items) }
     {
         let mut members = members;
@@ -111,14 +111,12 @@ impl<A: Archive> Vault<A> {
                     rack: *rack,
                     groups,
                     index: turn,
-                    members,
-                    catalogs,
                 };
                 let passes = Passes {
                     groups: row,
                     index: pass,
                 };
-                Ok((vault, passes))
+                Ok((vault, passes, Spaces { members, catalogs }))
             }
             Err(index) => {
                 catalogs.destroy_empty();

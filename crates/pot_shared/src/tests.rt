@@ -1,6 +1,5 @@
 //! A vault of one group over archives in memory.
 ghost use Rattle.std.specs.Prelude.{◌≡◌, ◌<◌, ◌+◌, ◌≤◌, [], IfOk, length};
-ghost use Rattle.std.specs.Vec.{vec_capacity};
 ghost use Rattle.pot_bytes.specs.Rack.{IsRack};
 ghost use Rattle.pot_doubles.specs.Archives.{meaning_in};
 ghost use Rattle.pot_group.specs.Group.{view_of};
@@ -65,7 +64,14 @@ fn vault(
     alloc: Global,
     rack: &Rack,
     lost: &[Loss],
-) -> Result<(Vault<LossyArchive>, Passes<LossyArchive>), Fail>
+) -> Result<
+    (
+        Vault<LossyArchive>,
+        Passes<LossyArchive>,
+        Spaces<LossyArchive>,
+    ),
+    Fail,
+>
     requires fits { IsRack rack.now }
     requires one { rack.now.groups ≡ 1 }
     requires parity { rack.now.parity ≡ 1 }
@@ -73,7 +79,7 @@ fn vault(
     ensures count { IfOk result (λ p. length p.0.groups ≡ rack.now.groups) }
     ensures ready { IfOk result (λ p. AreReady rack.now p.0.groups p.1.groups × IsIndexReady rack.now p.0.groups p.0.index p.1.index) }
     ensures parts { IfOk result (λ p. HasAllButKept p.1.groups × HasAllParts p.1.index) }
-    ensures room { IfOk result (λ p. (p.0.members.items ≡ []) × (length p.0.groups ≤ vec_capacity p.0.members) × (p.0.catalogs.items ≡ []) × (1 ≤ vec_capacity p.0.catalogs)) }
+    ensures room { IfOk result (λ p. length p.0.groups ≤ p.2) }
 {
     let Ok(index) = Index::start(alloc, rack, Vec::new(alloc)) else {
         return Err(Fail::from("no memory"));
@@ -122,8 +128,8 @@ fn rack() -> Result<Rack, Fail>
 #[test]
 fn begins_and_ends(rt: HostRuntime) -> Result<(), Fail> {
     let rack = rack()?;
-    let (vault, passes) = vault(rt.alloc(), &rack, &[])?;
-    let Closed { members, index } = vault.close(passes);
+    let (vault, passes, spaces) = vault(rt.alloc(), &rack, &[])?;
+    let Closed { members, index } = vault.close(passes, spaces);
     assert_eq!(rt; members.len(), 1);
     assert_eq!(rt; index.logged(), 0);
     Ok(())
@@ -133,7 +139,7 @@ fn begins_and_ends(rt: HostRuntime) -> Result<(), Fail> {
 fn calls_of_a_job(rt: HostRuntime) -> Result<(), Fail> {
     let rack = rack()?;
     let alloc = rt.alloc();
-    let (vault, mut passes) = vault(alloc, &rack, &[])?;
+    let (vault, mut passes, _spaces) = vault(alloc, &rack, &[])?;
     let Some(name) = Name::read(b"a") else {
         return Err(Fail::from("no name"));
     };
@@ -169,7 +175,7 @@ fn calls_of_a_job(rt: HostRuntime) -> Result<(), Fail> {
 fn passes_shared_out(rt: HostRuntime) -> Result<(), Fail> {
     let rack = rack()?;
     let alloc = rt.alloc();
-    let (vault, mut passes) = vault(alloc, &rack, &[])?;
+    let (vault, mut passes, _spaces) = vault(alloc, &rack, &[])?;
     let Ok(mut given) = vault.split(alloc, &mut passes, 4) else {
         return Err(Fail::from("no memory"));
     };
@@ -196,7 +202,7 @@ fn filled<R: Wait>(
     ensures count { IfOk result (λ p. length p.0.groups ≡ rack.now.groups) }
     ensures ready { IfOk result (λ p. AreReady rack.now p.0.groups p.1.groups) }
 {
-    let (vault, mut passes) = vault(alloc, rack, lost)?;
+    let (vault, mut passes, _spaces) = vault(alloc, rack, lost)?;
     let block = Sealed::new(&Block::from_bytes([0x11; 1024]));
     match vault.put(rt, &mut passes, 0, 1, &block, &block) {
         Ok(_) => Ok((vault, passes)),

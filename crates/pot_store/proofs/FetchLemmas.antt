@@ -2,7 +2,7 @@
 use Rattle.std.proofs.Common.{◌≡◌, ◌<◌, ◌≤◌, inr, ⊎_elim, ℕ, ◌+◌, ◌*◌, true, false, List, [], ◌∷◌, ◌++◌, IsTrue, length, ap, sym, ◌∙◌, subst, arith, append_assoc, length-append}
 use Rattle.std.specs.Prelude.{IfSome, Result, Ok, Err, Vec, Contains, slice_index_or}
 use Rattle.std.specs.Global.{Global}
-use Rattle.std.proofs.lemmas.List.Elements.{Contains-append_cases}
+use Rattle.std.proofs.lemmas.List.Elements.{Contains-append_cases, Contains-append_left}
 use Rattle.std.proofs.lemmas.List.{length-map}
 use Rattle.std.proofs.lemmas.Bool.{cases_lt}
 use Rattle.pot_bytes.specs.declared.digest.Digest.{Digest}
@@ -207,13 +207,16 @@ module _ (job : ℕ) (name : List ℕ) (rack : Rack) (names turn : List TurnName
 
     -- THE FILE THAT WAS STORED
 
-    published_there : Publishes (all.index_before ++ all.index_added) kept → Publishes call.turn.old.log kept
-    published_there (e, has) =
+    published_there : Publishes (all.index_before ++ found.sofar) kept → Publishes call.turn.old.log kept
+    published_there (e, soon) =
         let gain = search_gain job name rack names turn ui wi v (Ok kept) index_ready call in
         let log : all.index_before ++ all.index_added ≡ call.turn.old.log ++ plain (Find job name true) ∷ [] =
         ap (λ l. all.index_before ++ l) gain
         ∙ (sym (append_assoc all.index_before call.turn.others (plain (Find job name true) ∷ [])) ∙ ap (λ l. l ++ plain (Find job name true) ∷ []) (sym call.turn.met)) in
-        let it : Logged = bringing e kept in (
+        let it : Logged = bringing e kept in
+        let has : Contains (all.index_before ++ all.index_added) it =
+        subst (λ l. Contains l it) (append_assoc all.index_before found.sofar (plain (Find job name true) ∷ found.later) ∙ ap (λ l. all.index_before ++ l) (sym found.at))
+        (Contains-append_left (all.index_before ++ found.sofar) (plain (Find job name true) ∷ found.later) it soon) in (
           e,
           ⊎_elim
               (λ (before : Contains call.turn.old.log it). before)
@@ -222,7 +225,7 @@ module _ (job : ℕ) (name : List ℕ) (rack : Rack) (names turn : List TurnName
         )
 
     stored_as : (contents : List (List ℕ)) (bytes : List ℕ) (So : List ℕ → Type 0) → IsFileIn kept visits contents bytes → ((f : List ℕ) → bytes ≡ f → digest_of f ≡ kept.digest → So f)
-        → Publishes (all.index_before ++ all.index_added) kept → IsStoredAs kept (blocks_in visits) So
+        → Publishes (all.index_before ++ found.sofar) kept → IsStoredAs kept (blocks_in visits) So
     stored_as contents bytes So file make published =
         let sees : SeesFile v kept = call.turn.call.1 kept (published_there published) in
         let digest : digest_of sees.file ≡ kept.digest = sym (is_digest kept.digest sees.file (ap (λ (d : Digest). d.bytes) sees.digest)) in

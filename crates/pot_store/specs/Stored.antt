@@ -40,12 +40,13 @@ abbrev pub IsReadOf : Setting → ℕ → Record → Section → List ℕ → Ty
 IsReadOf s job kept w b =
     (p : Place) × Contains kept.places p × SeenAs (s.first p.group) job (w.before p.group) (w.added p.group) p.stripe p.column (digest_of b)
 
--- the record that was found, and the blocks that were read; where its current split was made in this session,
--- they are so
+-- the record that was found, and the blocks that were read; where its current split was made in this session before
+-- it was found, they are so
 abbrev pub GivesOf : Setting → ℕ → List ℕ → Section → (List ℕ → Type 0) → Type 0
 GivesOf s job name w So =
-    (kept : Record) × Found s job name kept w × ((read : List (List ℕ)) × ((b : List ℕ) → Contains read b → IsReadOf s job kept w b)
-    × (Publishes (w.index_before ++ w.index_added) kept → IsStoredAs kept read So))
+    (kept : Record) × (found : Found s job name kept w)
+    × ((read : List (List ℕ)) × ((b : List ℕ) → Contains read b → IsReadOf s job kept w b)
+    × (Publishes (w.index_before ++ found.sofar) kept → IsStoredAs kept read So))
 
 -- the bytes are the file that was stored or split anew, and no other digest is answered
 abbrev pub FetchGives : Setting → ℕ → List ℕ → Result (Vec ℕ Global) FetchFault → Section → Type 0

@@ -9,9 +9,13 @@ use crate::rule::{Cut, Free, Look, Pair, Parts, Raise, Take, TurnRule};
 use crate::view::Sight;
 use atomic_table::{Refused, Seat, Table};
 use std::alloc::{AllocFailed, Global};
+use std::hint;
 use std::marker::Brand;
 use std::snapshot::Snapshot;
 use std::sync::Wait;
+
+/// How often a pass looks for the value before its thread sleeps: a turn is kept for a few microseconds, and to be woken takes longer.
+const LOOKS: u32 = 200;
 
 /// A value that one pass at a time can have.
 #[derive(Drop)]
@@ -93,6 +97,24 @@ impl<T: Kept> Turn<T> {
         }
     }
 
+    /// Takes the value if it comes home within so many looks.
+    fn spin(&self, pass: &mut Pass<T>) -> Option<T>
+        requires own { IsPassOf self.now pass.old }
+        requires idle { (view pass.old).holds ≡ false }
+        ensures same { turn_of pass.new ≡ turn_of pass.old }
+        ensures told { MatchOption result (view pass.new ≡ view pass.old)
+            (λ v. StartsWith (T.log v) (view pass.old).seen × (Some (T.origin v) ≡ (view pass.old).origin)
+            × (view pass.new ≡ took_view (T.log v) (view pass.old))) }
+    {
+        for _ in 0..LOOKS {
+            if let Some(value) = self.try_take(pass) {
+                return Some(value);
+            }
+            hint::spin_loop();
+        }
+        None
+    }
+
     /// Waits for the value and takes it. Its log begins with all that the pass had seen, and the pass has then seen that log.
     pub fn enter<R: Wait>(&self, rt: &R, pass: &mut Pass<T>) -> T
         requires own { IsPassOf self.now pass.old }
@@ -103,7 +125,7 @@ impl<T: Kept> Turn<T> {
         ensures seen { view pass.new ≡ took_view (T.log result) (view pass.old) }
     {
         for _ in rt.forever() {
-            if let Some(value) = self.try_take(pass) {
+            if let Some(value) = self.spin(pass) {
                 return value;
             }
             self.table.shared.park(rt, 0, 1);

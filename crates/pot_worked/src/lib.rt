@@ -14,7 +14,7 @@
 #![tactic(auto)]
 
 ghost use Rattle.pot_worked.specs.Laws.{WorkGoesOn, WorkInParts, AloneInParts, OwnInTurn, OwnInParts, MoreIsWork, MoreHasNone, AloneAtClose};
-ghost use Rattle.pot_worked.specs.Batches.{AloneInBatch};
+ghost use Rattle.pot_worked.specs.Batches.{AloneInBatch, OwnedInBatch};
 ghost use Rattle.pot_worked.specs.Sole.{WorkWent, WentInParts, GainInParts, SoleInParts, SoleAlone, SoleOwns, BatchWent, SoleAtClose};
 
 /// The laws of a job's work: of one locked call, of part after part, of a pass that only sees more, at a close, and of the jobs of a batch.
@@ -28,6 +28,7 @@ pub fn work_laws<E, O>()
     ensures none { MoreHasNone E O }
     ensures close { AloneAtClose E O }
     ensures batch { AloneInBatch E O }
+    ensures owns { OwnedInBatch E O }
 {}
 
 /// The laws of commands in a row, each one job or a batch, from the first to the close.
