@@ -1,6 +1,7 @@
 -- In a script a batch has as many jobs as its line says, and then its `end`.
 use Rattle.std.proofs.Common.{◌≡◌, ◌≢◌, ◌<◌, ◌-◌, ◌++◌, ◌∷◌, ℕ, Bool, true, false, List, [], length, refl, sym, ap, subst, ◌∙◌, append_assoc, arith, inl, inr, length-append}
 use Rattle.std.specs.Prelude.{◌==◌, Option, Some, None, if◌then◌else◌}
+use Rattle.std.specs.List.{AllByRecursion}
 use Rattle.std.proofs.lemmas.Bool.{cases_lt}
 use Rattle.std.proofs.lemmas.Bool.Decides.{nat_tests}
 use Rattle.pot_bytes.specs.declared.rack.Rack.{Rack}
@@ -11,6 +12,7 @@ use Rattle.pot_script.specs.declared.kind.Kind.TheVariants as kinds
 use Rattle.pot_script.specs.Batches.{StartsBatch, is_end, is_job, may_stand, after_command}
 use Rattle.pot_script.specs.Kinds.{kind_of}
 use Rattle.pot_script.specs.Scripts.{AreSteps, IsScript, IsStep, after_commands}
+use Rattle.pot_script.specs.Steps.{IsJobLine}
 use Rattle.pot_script.proofs.KindLemmas.{only_end}
 
 is_end_kind : (k : Kind) → is_end k ≡ true → k ≡ kinds.End
@@ -30,34 +32,50 @@ one_job_less : (n : ℕ) (c : Command) → is_job (kind_of c) ≡ true → after
 one_job_less n commands.End h = absurd (cc)
 one_job_less n _ h = refl
 
-next_job : (n : ℕ) (c : Command) (cs : List Command) → 0 < n → is_job (kind_of c) ≡ true → StartsBatch (n - 1) cs → StartsBatch n (c ∷ cs)
-next_job n c cs above job s = record {
-  jobs = c ∷ s.jobs;
-  rest = s.rest;
-  many = omega (arith, s.many);
-  each = (job, s.each);
-  whole = ap (λ (l : List Command). c ∷ l) s.whole;
+-- so many jobs of the grammar stand at the front of these commands, then `end`, and then commands outside a batch
+pub record IsBatch (rack : Rack) (count : ℕ) (after : List Command) : Type 0 where
+  pub jobs : List Command
+  pub rest : List Command
+  pub many : length jobs ≡ count
+  pub each : AllByRecursion (IsJobLine rack) jobs
+  pub whole : after ≡ jobs ++ commands.End ∷ rest
+  pub others : AreSteps rack None rest
+  pub closed : after_commands None rest ≡ None
+
+next_job : (rack : Rack) (n : ℕ) (c : Command) (cs : List Command) → 0 < n → IsJobLine rack c → IsBatch rack (n - 1) cs → IsBatch rack n (c ∷ cs)
+next_job rack n c cs above job b = record {
+  jobs = c ∷ b.jobs;
+  rest = b.rest;
+  many = omega (arith, b.many);
+  each = (job, b.each);
+  whole = ap (λ (l : List Command). c ∷ l) b.whole;
+  others = b.others;
+  closed = b.closed;
 }
 
-last_job : (n : ℕ) (c : Command) (cs : List Command) → n ≡ 0 → kind_of c ≡ kinds.End → StartsBatch n (c ∷ cs)
-last_job n c cs zero is_end = record {
-  jobs = [];
-  rest = cs;
-  many = sym zero;
-  each = tt;
-  whole = ap (λ (d : Command). d ∷ cs) (only_end (λ d. d ≡ commands.End) refl c is_end);
-}
+last_job : (rack : Rack) (n : ℕ) (c : Command) (cs : List Command) → n ≡ 0 → kind_of c ≡ kinds.End → AreSteps rack (after_command (Some n) c) cs
+    → after_commands (after_command (Some n) c) cs ≡ None → IsBatch rack n (c ∷ cs)
+last_job rack n c cs zero is_end are closed =
+    only_end (λ d. AreSteps rack (after_command (Some n) d) cs → after_commands (after_command (Some n) d) cs ≡ None → IsBatch rack n (d ∷ cs))
+    (λ others out. record { jobs = []; rest = cs; many = sym zero; each = tt; whole = refl; others = others; closed = out }) c is_end are closed
 
-batch_of : (rack : Rack) (n : ℕ) (cs : List Command) → AreSteps rack (Some n) cs → after_commands (Some n) cs ≡ None → StartsBatch n cs
+pub batch_of : (rack : Rack) (n : ℕ) (cs : List Command) → AreSteps rack (Some n) cs → after_commands (Some n) cs ≡ None → IsBatch rack n cs
 batch_of rack n [] are closed = absurd (cc)
 batch_of rack n (c ∷ cs) are closed =
     elim (cases_lt 0 n) [
       | inl above ↦
           let job = job_stands n (kind_of c) above are.0.stands in
           let less = one_job_less n c job in
-          next_job n c cs above job (batch_of rack (n - 1) cs (subst (λ b. AreSteps rack b cs) less are.1) (subst (λ b. after_commands b cs ≡ None) less closed))
-      | inr below ↦ let zero : n ≡ 0 = omega arith in last_job n c cs zero (end_stands n (kind_of c) zero are.0.stands)
+          next_job rack n c cs above (job, are.0.is) (batch_of rack (n - 1) cs (subst (λ b. AreSteps rack b cs) less are.1) (subst (λ b. after_commands b cs ≡ None) less closed))
+      | inr below ↦ let zero : n ≡ 0 = omega arith in last_job rack n c cs zero (end_stands n (kind_of c) zero are.0.stands) are.1 closed
     ]
+
+are_jobs : (rack : Rack) (cs : List Command) → AllByRecursion (IsJobLine rack) cs → AllByRecursion (λ c. is_job (kind_of c) ≡ true) cs
+are_jobs rack [] each = tt
+are_jobs rack (c ∷ cs) each = (each.0.0, are_jobs rack cs each.1)
+
+starts : {rack : Rack} {count : ℕ} {after : List Command} → IsBatch rack count after → StartsBatch count after
+starts {rack} b = record { jobs = b.jobs; rest = b.rest; many = b.many; each = are_jobs rack b.jobs b.each; whole = b.whole }
 
 -- `together` stands outside a batch
 never : (t : Bool) → (if t then false else false) ≡ true → ⊥
@@ -83,7 +101,7 @@ after_commands-append : (batch : Option ℕ) (front back : List Command) → aft
 after_commands-append batch [] back = refl
 after_commands-append batch (f ∷ front) back = after_commands-append (after_command batch f) front back
 
-both : (c d : Command) (x y : List Command) → c ∷ x ≡ d ∷ y → (c ≡ d) × (x ≡ y)
+pub both : (c d : Command) (x y : List Command) → c ∷ x ≡ d ∷ y → (c ≡ d) × (x ≡ y)
 both c d x y e = (cc, cc)
 
 -- a command that is not the last of a list stands before the last
@@ -107,8 +125,8 @@ in_steps rack front others count are closed =
     let b = behind rack None front (commands.Together count) others are in
     let inside : after_command (after_commands None front) (commands.Together count) ≡ Some count =
     ap (λ batch. after_command batch (commands.Together count)) (outside (after_commands None front) b.step.stands) in
-    batch_of rack count others (subst (λ batch. AreSteps rack batch others) inside b.others)
-    (subst (λ batch. after_commands batch others ≡ None) inside (sym (after_commands-append None front (commands.Together count ∷ others)) ∙ closed))
+    starts (batch_of rack count others (subst (λ batch. AreSteps rack batch others) inside b.others)
+    (subst (λ batch. after_commands batch others ≡ None) inside (sym (after_commands-append None front (commands.Together count ∷ others)) ∙ closed)))
 
 -- a batch stays one where commands follow
 longer : (count : ℕ) (others more back : List Command) → back ≡ others ++ more → StartsBatch count others → StartsBatch count back

@@ -6,4 +6,5 @@ pub mod Lines
 pub mod Parts
 pub mod Replies
 pub mod Scripts
+pub mod Steps
 pub mod Words

@@ -16,6 +16,8 @@
 //!    nothing only where the vector had no room for it.
 //! 4. In a script each `together N` is followed by N jobs and then `end`: `batches_are_whole`. No line of the
 //!    grammar has more than 4,096 bytes: `lines_are_short`.
+//! 5. `group_steps` parts the commands before `quit` into steps, each a command alone or the 1 to 1,024 jobs of a batch. The steps
+//!    have the commands in their order, and none is lost.
 #![tactic(auto)]
 
 mod batch;
@@ -23,6 +25,7 @@ mod command;
 mod cuts;
 mod decimal_number;
 mod fault;
+mod grouping;
 mod kind;
 mod laws;
 mod lines;
@@ -37,6 +40,7 @@ pub use command::Command;
 pub use cuts::{cut_after, cut_at};
 pub use decimal_number::read_number;
 pub use fault::ScriptFault;
+pub use grouping::{Lines, Step, group_steps};
 pub use laws::{batches_are_whole, lines_are_short, one_reading};
 pub use printing::{print_bad_line, print_reply, print_words_refused};
 pub use reading::read_script;

@@ -341,3 +341,57 @@ fn reads_numbers(rt: HostRuntime) {
         assert_eq!(rt; read_number(digits, 511), *number);
     }
 }
+
+#[test]
+fn groups_the_commands_into_steps(rt: HostRuntime) -> Result<(), Fail> {
+    let table: [(&[u8], &[u8]); 5] = [
+        (b"quit\n", b""),
+        (b"fetch a\nfetch b\nquit\n", b"ab"),
+        (
+            b"fetch a\ntogether 2\nfetch b\nfetch c\nend\nfetch d\nquit\n",
+            b"a(bc)d",
+        ),
+        (
+            b"together 1\nfetch a\nend\ntogether 3\nfetch b\nfetch c\nfetch d\nend\nfetch e\nquit\n",
+            b"(a)(bcd)e",
+        ),
+        (
+            b"fetch a\ntogether 2\nfetch b\nfetch c\nend\nquit\n",
+            b"a(bc)",
+        ),
+    ];
+    for (script, steps) in &table {
+        assert_eq!(rt; grouped(rt.alloc(), script)?.as_slice(), *steps);
+    }
+    Ok(())
+}
+
+/// The names that a script fetches, with parentheses around those of a batch.
+fn grouped(alloc: Global, script: &[u8]) -> Result<Vec<u8>, Fail> {
+    let mut commands = read_script(alloc, script, &RACK)?;
+    let _quit = commands.pop();
+    let mut names = Vec::new(alloc);
+    for step in &group_steps(alloc, commands)? {
+        match step {
+            Step::One(command) => names.extend_from_slice(fetched(command))?,
+            Step::Together(lines) => append_batch(lines, &mut names)?,
+        }
+    }
+    Ok(names)
+}
+
+fn append_batch(lines: &Lines, names: &mut Vec<u8>) -> Result<(), Fail> {
+    names.push(b'(')?;
+    for line in lines.as_slice() {
+        names.extend_from_slice(fetched(line))?;
+    }
+    names.push(b')')?;
+    Ok(())
+}
+
+fn fetched(command: &Command) -> &[u8] {
+    match command {
+        Command::Fetch { name } => name.bytes(),
+        _ => b"?",
+    }
+}
