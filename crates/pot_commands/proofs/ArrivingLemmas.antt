@@ -48,7 +48,7 @@ use Rattle.pot_store.specs.Works.{Known, known, of_job, gained, JobWorked, JobAl
 use Rattle.pot_store.proofs.WorkLemmas.{row_stays, index_idle, group_work, group_own, group_else, work_more, alone_parts, own_more, all_none, all_one}
 use Rattle.pot_mend.specs.Moves.{IsAsked, seen_in}
 use Rattle.pot_mend.proofs.HadLemmas.{IsUsedIn, brought_here, brought_named, had_used, named_held, same_width}
-use Rattle.pot_commands.specs.Ends.{AllSole}
+use Rattle.pot_commands.specs.Going.{AllSole}
 use Rattle.pot_commands.specs.Holding.{times}
 use Rattle.pot_commands.specs.Taking.{Lending, Took, HasUse, AreUsed, AreMarkedBy, came_in, marks_of}
 use Rattle.pot_commands.proofs.Brought.{its_setting, is_its}

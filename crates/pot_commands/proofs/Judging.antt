@@ -1,18 +1,19 @@
--- How commands end by what the logs gained, where nobody else logged anything.
+-- How steps end by what the logs gained, where nobody else logged anything.
 use Rattle.std.specs.Prelude.{ℕ, List}
 use Rattle.pot_bytes.specs.declared.rack.Rack.{Rack}
-use Rattle.pot_script.specs.declared.command.Command.{Command}
+use Rattle.pot_script.specs.declared.grouping.Step.{Step}
 use Rattle.pot_replies.specs.Settings.{Setting}
 use Rattle.pot_store.specs.Works.{Known, section_of}
 use Rattle.pot_commands.specs.declared.working.Ending.{Ending}
 use Rattle.pot_commands.specs.declared.working.Ending.TheVariants as ending
 use Rattle.pot_commands.specs.Rows.{IsSessionSetting}
-use Rattle.pot_commands.specs.Ends.{AllSole, Ends, EndsOver}
+use Rattle.pot_commands.specs.Ends.{Ends, EndsOver}
+use Rattle.pot_commands.specs.Going.{AllSole}
 
--- with a command that has no reply
-short_over : (rack : Rack) (seed : List ℕ) (session : ℕ) (told : Type 0) (before after : List ℕ) (cs : List Command) (old new : Known) → Ends rack seed session told before after cs old new ending.NoMemory
-    → AllSole old new → (s : Setting) → IsSessionSetting s rack seed session old → EndsOver s (section_of old new) told before after cs ending.NoMemory
-short_over rack seed session told before after cs old new e sole s is = record {
+-- with a step that was left
+short_over : (rack : Rack) (seed : List ℕ) (session : ℕ) (told : Type 0) (before after : List ℕ) (ss : List Step) (old new : Known) → Ends rack seed session told before after ss old new ending.NoMemory
+    → AllSole old new → (s : Setting) → IsSessionSetting s rack seed session old → EndsOver s (section_of old new) told before after ss ending.NoMemory
+short_over rack seed session told before after ss old new e sole s is = record {
   first = e.first;
   next = e.next;
   rest = e.rest;
@@ -22,15 +23,15 @@ short_over rack seed session told before after cs old new e sole s is = record {
   written = e.written;
 }
 
-pub ends_over : (rack : Rack) (seed : List ℕ) (session : ℕ) (told : Type 0) (before after : List ℕ) (cs : List Command) (old new : Known) (e : Ending) → Ends rack seed session told before after cs old new e
-    → AllSole old new → (s : Setting) → IsSessionSetting s rack seed session old → EndsOver s (section_of old new) told before after cs e
-ends_over rack seed session told before after cs old new (ending.Done refused) e sole s is = record {
+pub ends_over : (rack : Rack) (seed : List ℕ) (session : ℕ) (told : Type 0) (before after : List ℕ) (ss : List Step) (old new : Known) (e : Ending) → Ends rack seed session told before after ss old new e
+    → AllSole old new → (s : Setting) → IsSessionSetting s rack seed session old → EndsOver s (section_of old new) told before after ss e
+ends_over rack seed session told before after ss old new (ending.Done refused) e sole s is = record {
   replies = e.replies;
   replied = e.replied sole s is;
   refusal = e.refusal;
   written = e.written;
 }
-ends_over rack seed session told before after cs old new ending.SinkFailed e sole s is = record {
+ends_over rack seed session told before after ss old new ending.SinkFailed e sole s is = record {
   first = e.first;
   next = e.next;
   rest = e.rest;
@@ -41,5 +42,5 @@ ends_over rack seed session told before after cs old new ending.SinkFailed e sol
   replied = e.replied sole s is;
   written = e.written;
 }
-ends_over rack seed session told before after cs old new ending.NoMemory e sole s is = short_over rack seed session told before after cs old new e sole s is
-ends_over rack seed session told before after cs old new ending.RoomFailed e sole s is = short_over rack seed session told before after cs old new e sole s is
+ends_over rack seed session told before after ss old new ending.NoMemory e sole s is = short_over rack seed session told before after ss old new e sole s is
+ends_over rack seed session told before after ss old new ending.RoomFailed e sole s is = short_over rack seed session told before after ss old new e sole s is

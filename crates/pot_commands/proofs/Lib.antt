@@ -13,6 +13,16 @@ pub mod ReplaceLemmas
 pub mod MigrateLemmas
 pub mod MovedLemmas
 pub mod FoldLemmas
+pub mod StepLemmas
 pub mod StreamLemmas
 pub mod WorkingLemmas
 pub mod Judging
+pub mod Crossing
+pub mod BatchLemmas
+pub mod BatchStanding
+pub mod BatchAnswers
+pub mod BatchRows
+pub mod SharedLemmas
+pub mod BackLemmas
+pub mod TogetherLemmas
+pub mod UnbegunLemmas

@@ -12,9 +12,11 @@ use Rattle.pot_machine.specs.Logs.{replayed}
 use Rattle.pot_group.specs.Arrivals.{arrival, arrivals}
 use Rattle.pot_group.proofs.Arriving.{arrivals-append}
 use Rattle.pot_worked.specs.Worked.{added}
+use Rattle.pot_worked.specs.Sole.{Went}
 use Rattle.pot_worked.proofs.SoleLemmas.{gain_in_parts}
 use Rattle.pot_rows.specs.Rows.{view_at}
 use Rattle.pot_rows.specs.Works.{RowWorked}
+use Rattle.pot_rows.proofs.WorkLemmas.{row_work_went}
 use Rattle.pot_shared.specs.declared.member.Logged.{Logged}
 use Rattle.pot_shared.specs.declared.member.GroupOrigin.{GroupOrigin}
 use Rattle.pot_shared.specs.Members.{entries_of}
@@ -22,7 +24,7 @@ use Rattle.pot_shared.specs.Ready.{GroupPasses}
 use Rattle.pot_shared.proofs.MemberLemmas.{entries_append}
 use Rattle.pot_store.specs.Works.{Known, of_job, gained}
 use Rattle.pot_store.proofs.NoteLemmas.{one_if}
-use Rattle.pot_commands.specs.Ends.{AllSole, AllWent}
+use Rattle.pot_commands.specs.Going.{AllSole, AllStay, AllWent}
 use Rattle.pot_commands.specs.Holding.{times}
 use Rattle.pot_commands.specs.Taking.{Lending, Takes, Come, Took, HasUse, AreUsed, AreMarkedBy, came_in, marks_of}
 use Rattle.pot_commands.proofs.Going.{sole_parts, known_follows}
@@ -277,23 +279,32 @@ some_more : {X : Type 0} (o q : Option X) (P Q : X → Type 0) → q ≡ o → (
 some_more None q P Q same f h = absurd h
 some_more (Some x) q P Q same f h = subst (λ y. IsSomeAnd y Q) (sym same) (f x h)
 
--- what was in use is, by a log that went on
-pub use_more : (job : ℕ) (row new : GroupPasses) → RowWorked (of_job job) row new → new.names ≡ row.names → (n : ℕ) → HasUse row n → HasUse new n
-use_more job row new worked names n (g, lt, is_use) = (
+-- what was in use is, by logs that went on
+pub use_on : (row new : GroupPasses) → ((at : ℕ) → Went (view_at row at) (view_at new at)) → ((at : ℕ) → (view_at new at).origin ≡ (view_at row at).origin) → new.names ≡ row.names
+    → (n : ℕ) → HasUse row n → HasUse new n
+use_on row new went origin names n (g, lt, is_use) = (
   g,
   (let e = ap length names in omega (arith, e, lt)),
   some_more (view_at row g).origin (view_at new g).origin
       (λ (o : GroupOrigin). (x : List Entry) × (y : List Entry) × (entries_of (view_at row g).seen ≡ x ++ y) × IsSome (holder_of (replayed o.first x) n))
       (λ (o : GroupOrigin). (x : List Entry) × (y : List Entry) × (entries_of (view_at new g).seen ≡ x ++ y) × IsSome (holder_of (replayed o.first x) n))
-      (worked g).origin
+      (origin g)
       (λ o h. (
         h.0,
         h.1 ++ entries_of (added (view_at row g) (view_at new g)),
-        ap entries_of (worked g).seen ∙ (entries_append (view_at row g).seen (added (view_at row g) (view_at new g)) ∙ (ap (λ l. l ++ entries_of (added (view_at row g) (view_at new g))) h.2 ∙ append_assoc h.0 h.1 (entries_of (added (view_at row g) (view_at new g))))),
+        ap entries_of (went g).seen ∙ (entries_append (view_at row g).seen (added (view_at row g) (view_at new g)) ∙ (ap (λ l. l ++ entries_of (added (view_at row g) (view_at new g))) h.2 ∙ append_assoc h.0 h.1 (entries_of (added (view_at row g) (view_at new g))))),
         h.3,
       ))
       is_use,
 )
 
+-- by a job's work
+pub use_more : (job : ℕ) (row new : GroupPasses) → RowWorked (of_job job) row new → new.names ≡ row.names → (n : ℕ) → HasUse row n → HasUse new n
+use_more job row new worked names = use_on row new (row_work_went (of_job job) row new worked) (λ at. (worked at).origin) names
+
 pub used_more : (job : ℕ) (out now : ℕ → Bool) (row new : GroupPasses) → RowWorked (of_job job) row new → new.names ≡ row.names → ((n : ℕ) → now n ≡ out n) → AreUsed out row → AreUsed now new
 used_more job out now row new worked names same used n is = use_more job row new worked names n (used n (sym (same n) ∙ is))
+
+-- by the jobs of a batch, which take no archive
+pub used_on : (out now : ℕ → Bool) (old new : Known) → AllWent old new → AllStay old new → ((n : ℕ) → now n ≡ out n) → AreUsed out old.groups → AreUsed now new.groups
+used_on out now old new went stays same used n is = use_on old.groups new.groups went.groups stays.groups.origin stays.groups.names n (used n (sym (same n) ∙ is))

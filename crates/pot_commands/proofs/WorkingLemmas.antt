@@ -1,5 +1,5 @@
--- The commands so far, and their end.
-use Rattle.std.proofs.Common.{◌≡◌, ◌<◌, ◌+◌, ◌++◌, ℕ, zero, suc, Bool, true, false, List, [], ◌∷◌, length, take, drop, get_or, refl, ap, sym, ◌∙◌, subst, arith, append-nil, append_assoc, add-one}
+-- The steps so far, and their end.
+use Rattle.std.proofs.Common.{◌≡◌, ◌<◌, ◌≤◌, ◌+◌, ◌++◌, ℕ, zero, suc, Bool, true, false, List, [], ◌∷◌, length, take, drop, slice_index_or, refl, ap, sym, ◌∙◌, subst, arith, append-nil, append_assoc, add-one}
 use Rattle.std.specs.Prelude.{◌||◌, Ok, Err}
 use Rattle.std.specs.List.{AllByRecursion}
 use Rattle.std.proofs.lemmas.Grind.{flat_map-append}
@@ -8,7 +8,7 @@ use lib.Seq.{drop-length}
 use Rattle.pot_bytes.specs.declared.rack.Rack.{Rack}
 use Rattle.pot_turn.specs.declared.name.TurnName.{TurnName}
 use Rattle.pot_rows.specs.Rows.{HasMoreParts}
-use Rattle.pot_script.specs.declared.command.Command.{Command}
+use Rattle.pot_script.specs.declared.grouping.Step.{Step}
 use Rattle.pot_script.specs.declared.reply.Reply.{Reply}
 use Rattle.pot_script.specs.Replies.{reply_text, is_refusal}
 use Rattle.pot_group.specs.Arrivals.{arrivals}
@@ -16,18 +16,21 @@ use Rattle.pot_rows.specs.Rows.{view_at}
 use Rattle.pot_shared.specs.Members.{entries_of}
 use Rattle.pot_shared.specs.Ready.{GroupPasses, AreReady}
 use Rattle.pot_shared.specs.Catalogs.{IndexPasses, IsIndexReady}
-use Rattle.pot_store.specs.Works.{Known, known, JobWorked}
+use Rattle.pot_replies.specs.Sessions.{jobs_in, jobs_of}
+use Rattle.pot_store.specs.Works.{Known, known}
 use Rattle.pot_commands.specs.Rows.{HasFilled}
 use Rattle.pot_commands.specs.declared.working.Ending.{Ending}
 use Rattle.pot_commands.specs.declared.working.Ending.TheVariants as ending
-use Rattle.pot_commands.specs.Ones.{Gives, Leaves, OneEnds}
-use Rattle.pot_commands.specs.Ends.{texts_of, any_refusal, AllStay, AllWent, AreReplied, Ends}
+use Rattle.pot_commands.specs.Ones.{OneEnds}
+use Rattle.pot_commands.specs.Steps.{step_of, steps_of, StepGives, StepLeaves}
+use Rattle.pot_commands.specs.Ends.{next_job, texts_of, any_refusal, AreReplied, Ends}
+use Rattle.pot_commands.specs.Going.{AllStay, AllWent}
 use Rattle.pot_commands.specs.Holding.{times}
-use Rattle.pot_commands.specs.Taking.{Lending, Took, asks, asked_by}
+use Rattle.pot_commands.specs.Taking.{Lending, Took, asks_in, asked_by}
 use Rattle.pot_commands.proofs.AnswerLemmas.{stayed_worked}
 use Rattle.pot_commands.proofs.Going.{filled_stays, work_all_went, went_more, stays_more}
 use Rattle.pot_commands.proofs.TakingLemmas.{took_none, took_more, took_wider, times-append}
-use Rattle.pot_commands.proofs.FoldLemmas.{none_replied, replied_on, left_on, next_on}
+use Rattle.pot_commands.proofs.FoldLemmas.{jobs_append, jobs_more, none_replied, replied_on, left_on, next_on}
 
 -- THE PASSES
 
@@ -37,14 +40,6 @@ stays_same k = record {
   index = record { names = refl; origin = λ at. refl; opened = λ at. refl; parts = λ at. refl };
 }
 
--- a job's work leaves the passes ready for another
-pub work_stays : (rack : Rack) (names turn : List TurnName) (job : ℕ) (row row' : GroupPasses) (i i' : IndexPasses) → AreReady rack names row → AreReady rack names row'
-    → IsIndexReady rack names turn i → IsIndexReady rack names turn i' → JobWorked job (known row i) (known row' i') → AllStay (known row i) (known row' i')
-work_stays rack names turn job row row' i i' ready ready' iready iready' worked = record {
-  groups = record { names = ready'.of.0 ∙ sym ready.of.0; origin = λ at. (worked.groups at).origin; opened = λ at. (worked.groups at).opened; parts = λ at. (worked.groups at).parts };
-  index = record { names = iready'.of.0 ∙ sym iready.of.0; origin = λ at. (worked.index at).origin; opened = λ at. (worked.index at).opened; parts = λ at. (worked.index at).parts };
-}
-
 pub parts_stay : (old new : Known) (n : ℕ) → AllStay old new → HasMoreParts n old.groups → HasMoreParts n new.groups
 parts_stay old new n stays more at lt =
     let same = stays.groups.parts at in
@@ -52,17 +47,33 @@ parts_stay old new n stays more at lt =
     let m = more at (omega (arith, lt, long)) in
     omega (arith, m, same)
 
+pub index_parts_stay : (old new : Known) (n : ℕ) → AllStay old new → HasMoreParts n old.index → HasMoreParts n new.index
+index_parts_stay old new n stays more at lt =
+    let same = stays.index.parts at in
+    let long = ap length stays.index.names in
+    let m = more at (omega (arith, lt, long)) in
+    omega (arith, m, same)
+
 -- LISTS
 
-take_more : {X : Type 0} (xs : List X) (i : ℕ) (x : X) → i < length xs → x ≡ get_or xs i x → take (suc i) xs ≡ take i xs ++ x ∷ []
+take_more : {X : Type 0} (xs : List X) (i : ℕ) (x : X) → i < length xs → x ≡ slice_index_or xs i x → take (suc i) xs ≡ take i xs ++ x ∷ []
 take_more [] i x h e = absurd (omega arith)
 take_more (y ∷ xs) zero x h e = ap (λ z. z ∷ []) (sym e)
 take_more (y ∷ xs) (suc i) x h e = ap (λ r. y ∷ r) (take_more xs i x (omega arith) e)
 
-pub holds_at : {X : Type 0} (P : X → Type 0) (xs : List X) (i : ℕ) (x : X) → AllByRecursion P xs → i < length xs → x ≡ get_or xs i x → P x
+pub holds_at : {X : Type 0} (P : X → Type 0) (xs : List X) (i : ℕ) (x : X) → AllByRecursion P xs → i < length xs → x ≡ slice_index_or xs i x → P x
 holds_at P [] i x all h e = absurd (omega arith)
 holds_at P (y ∷ xs) zero x all h e = subst P (sym e) all.0
 holds_at P (y ∷ xs) (suc i) x all h e = holds_at P xs i x all.1 (omega arith) e
+
+-- the jobs of a step are numbered within those of all
+pub jobs_fit : (ss : List Step) (n job bound : ℕ) (d : Step) → n < length ss → d ≡ slice_index_or ss n d → job ≡ next_job (take n ss) → next_job ss ≤ bound
+    → (0 < job) × (job + jobs_in (step_of d) ≤ bound)
+jobs_fit ss n job bound d within is number few =
+    let more : next_job (take (suc n) ss) ≡ next_job (take n ss) + jobs_in (step_of d) = ap next_job (take_more ss n d within is) ∙ jobs_more (take n ss) d in
+    let all : next_job ss ≡ next_job (take (suc n) ss) + jobs_of (steps_of (drop (suc n) ss)) =
+    ap next_job (sym (take-append-drop (suc n) ss)) ∙ jobs_append (take (suc n) ss) (drop (suc n) ss) in
+    (omega (arith, number), omega (arith, number, more, all, few))
 
 texts_append : (rs its : List Reply) → texts_of (rs ++ its) ≡ texts_of rs ++ texts_of its
 texts_append rs its = flat_map-append reply_text rs its
@@ -75,21 +86,23 @@ refusal_append (r ∷ rs) its = ap (λ b. is_refusal r || b) (refusal_append rs 
     assoc true b c = refl
     assoc false b c = refl
 
--- THE COMMANDS SO FAR
+-- THE STEPS SO FAR
 
-pub record IsWorking (told tells : Type 0) (rack : Rack) (seed : List ℕ) (session : ℕ) (before now : List ℕ) (cs : List Command) (n : ℕ) (refused : Bool) (lent lends : Lending) (old mid : Known) : Type 0 where
+pub record IsWorking (told tells : Type 0) (rack : Rack) (seed : List ℕ) (session : ℕ) (before now : List ℕ) (ss : List Step) (n job : ℕ) (refused : Bool) (lent lends : Lending) (old mid : Known) : Type 0 where
+  pub number : job ≡ next_job (take n ss)
   pub went : AllWent old mid
   pub stays : AllStay old mid
-  pub took : Took tells (Unit {0}) (asked_by (take n cs)) lent lends old mid
+  pub took : Took tells (Unit {0}) (asked_by (take n ss)) lent lends old mid
   pub filled : HasFilled rack mid
   pub replies : List Reply
-  pub replied : AreReplied rack seed session (take n cs) replies old mid
+  pub replied : AreReplied rack seed session (take n ss) replies old mid
   pub refusal : refused ≡ any_refusal replies
   pub written : told → now ≡ before ++ texts_of replies
 
-pub begins_working : (told tells : Type 0) (rack : Rack) (seed : List ℕ) (session : ℕ) (before : List ℕ) (cs : List Command) (lent : Lending) (names turn : List TurnName) (row : GroupPasses) (i : IndexPasses)
-    → AreReady rack names row → IsIndexReady rack names turn i → HasFilled rack (known row i) → IsWorking told tells rack seed session before before cs 0 false lent lent (known row i) (known row i)
-begins_working told tells rack seed session before cs lent names turn row i ready index_ready filled = record {
+pub begins_working : (told tells : Type 0) (rack : Rack) (seed : List ℕ) (session : ℕ) (before : List ℕ) (ss : List Step) (lent : Lending) (names turn : List TurnName) (row : GroupPasses) (i : IndexPasses)
+    → AreReady rack names row → IsIndexReady rack names turn i → HasFilled rack (known row i) → IsWorking told tells rack seed session before before ss 0 1 false lent lent (known row i) (known row i)
+begins_working told tells rack seed session before ss lent names turn row i ready index_ready filled = record {
+  number = refl;
   went = work_all_went 1 (known row i) (known row i) (stayed_worked rack names turn 1 row i ready index_ready);
   stays = stays_same (known row i);
   took = took_none tells (Unit {0}) [] lent lent (known row i) (known row i) (λ n. refl) (λ n. refl) (λ sole g. ap (λ ls. arrivals (entries_of ls)) (drop-length (view_at row g).seen));
@@ -100,80 +113,78 @@ begins_working told tells rack seed session before cs lent names turn row i read
   written = λ t. sym (append-nil before);
 }
 
-module _ (told tells : Type 0) (rack : Rack) (seed : List ℕ) (session : ℕ) (before now : List ℕ) (cs : List Command) (n : ℕ) (refused : Bool) (lent lends then : Lending) (old mid new : Known)
-    (so : IsWorking told tells rack seed session before now cs n refused lent lends old mid) (c : Command) (within : n < length cs) (is : c ≡ get_or cs n c)
-    (worked : JobWorked (n + 1) mid new) (stays : AllStay mid new) where
-  number : n + 1 ≡ suc (length (take n cs))
-  number = let l = length-take-le n cs (omega (arith, within)) in omega (arith, l)
+module _ (told tells : Type 0) (rack : Rack) (seed : List ℕ) (session : ℕ) (before now : List ℕ) (ss : List Step) (n job : ℕ) (refused : Bool) (lent lends then : Lending) (old mid new : Known)
+    (so : IsWorking told tells rack seed session before now ss n job refused lent lends old mid) (d : Step) (within : n < length ss) (is : d ≡ slice_index_or ss n d)
+    (went : AllWent mid new) (stays : AllStay mid new) where
+  abbrev first : List Step
+  first = take n ss ++ d ∷ []
 
-  its_worked : JobWorked (suc (length (take n cs))) mid new
-  its_worked = subst (λ j. JobWorked j mid new) number worked
+  one_more : take (n + 1) ss ≡ first
+  one_more = ap (λ k. take k ss) (add-one n) ∙ take_more ss n d within is
 
-  abbrev first : List Command
-  first = take n cs ++ c ∷ []
-
-  whole : cs ≡ first ++ drop (suc n) cs
-  whole = sym (take-append-drop (suc n) cs) ∙ ap (λ l. l ++ drop (suc n) cs) (take_more cs n c within is)
+  whole : ss ≡ first ++ drop (suc n) ss
+  whole = sym (take-append-drop (suc n) ss) ∙ ap (λ l. l ++ drop (suc n) ss) (take_more ss n d within is)
 
   pub new_went : AllWent old new
-  new_went = went_more old mid new so.went (work_all_went (n + 1) mid new worked)
+  new_went = went_more old mid new so.went went
 
   pub new_stays : AllStay old new
   new_stays = stays_more old mid new so.stays stays
 
-  new_replied : (its : List Reply) → Gives rack seed session (n + 1) c mid new its → AreReplied rack seed session first (so.replies ++ its) old new
-  new_replied its gives = replied_on rack seed session (take n cs) so.replies c old mid new so.went so.stays so.replied its_worked its
-      (subst (λ j. Gives rack seed session j c mid new its) number gives)
+  new_replied : (its : List Reply) → StepGives rack seed session job (step_of d) mid new its → AreReplied rack seed session first (so.replies ++ its) old new
+  new_replied its gives = replied_on rack seed session (take n ss) so.replies d old mid new so.went so.stays so.replied went its
+      (subst (λ j. StepGives rack seed session j (step_of d) mid new its) so.number gives)
 
-  -- what was taken before and for this command
-  next_took : (well : Type 0) → Took tells well (asks c) lends then mid new → Took tells well (asked_by (take n cs) ++ asks c) lent then old new
-  next_took well took = took_more tells well (asked_by (take n cs)) (asks c) lent lends then old mid new so.went (work_all_went (n + 1) mid new worked) so.stays.groups.names so.took took
+  -- what was taken before and for this step
+  next_took : (well : Type 0) → Took tells well (asks_in d) lends then mid new → Took tells well (asked_by (take n ss) ++ asks_in d) lent then old new
+  next_took well took = took_more tells well (asked_by (take n ss)) (asks_in d) lent lends then old mid new so.went went so.stays.groups.names so.took took
 
-  asked_next : asked_by (take (n + 1) cs) ≡ asked_by (take n cs) ++ asks c
-  asked_next = ap (λ k. asked_by (take k cs)) (add-one n) ∙ (ap asked_by (take_more cs n c within is) ∙ (flat_map-append asks (take n cs) (c ∷ []) ∙ ap (λ l. asked_by (take n cs) ++ l) (append-nil (asks c))))
+  asked_next : asked_by (take (n + 1) ss) ≡ asked_by (take n ss) ++ asks_in d
+  asked_next = ap asked_by one_more ∙ (flat_map-append asks_in (take n ss) (d ∷ []) ∙ ap (λ l. asked_by (take n ss) ++ l) (append-nil (asks_in d)))
 
-  pub ends_took : (well then_well : Type 0) → (then_well → well) → Took tells well (asks c) lends then mid new → Took tells then_well (asked_by cs) lent then old new
+  pub ends_took : (well then_well : Type 0) → (then_well → well) → Took tells well (asks_in d) lends then mid new → Took tells then_well (asked_by ss) lent then old new
   ends_took well then_well from took =
-      took_wider tells well then_well (asked_by (take n cs) ++ asks c) (asked_by cs) lent then old new
+      took_wider tells well then_well (asked_by (take n ss) ++ asks_in d) (asked_by ss) lent then old new
       (λ k. (let a = ap (times k) asked_next in
-      let b : times k (asked_by cs) ≡ times k (asked_by (take (n + 1) cs) ++ asked_by (drop (n + 1) cs)) = ap (times k) (ap asked_by (sym (take-append-drop (n + 1) cs)) ∙ flat_map-append asks (take (n + 1) cs) (drop (n + 1) cs)) in
-      let d = times-append k (asked_by (take (n + 1) cs)) (asked_by (drop (n + 1) cs)) in omega (arith, a, b, d)))
+      let b : times k (asked_by ss) ≡ times k (asked_by (take (n + 1) ss) ++ asked_by (drop (n + 1) ss)) = ap (times k) (ap asked_by (sym (take-append-drop (n + 1) ss)) ∙ flat_map-append asks_in (take (n + 1) ss) (drop (n + 1) ss)) in
+      let cut = times-append k (asked_by (take (n + 1) ss)) (asked_by (drop (n + 1) ss)) in omega (arith, a, b, cut)))
       from (next_took well took)
 
-  pub working_more : (after : List ℕ) (some : Bool) (well : Type 0) → well → Took tells well (asks c) lends then mid new → OneEnds rack seed session (n + 1) c mid new told now after (Ok some)
-      → IsWorking told tells rack seed session before after cs (n + 1) (refused || some) lent then old new
-  working_more after some well is_well took (its, gives, refuses, writes) = record {
+  pub working_more : (after : List ℕ) (some : Bool) (well : Type 0) → well → Took tells well (asks_in d) lends then mid new → OneEnds rack seed session job (step_of d) mid new told now after (Ok some)
+      → (after_job : ℕ) → after_job ≡ job + jobs_in (step_of d) → IsWorking told tells rack seed session before after ss (n + 1) after_job (refused || some) lent then old new
+  working_more after some well is_well took (its, gives, refuses, writes) after_job next = record {
+    number = next ∙ (ap (λ j. j + jobs_in (step_of d)) so.number ∙ (sym (jobs_more (take n ss) d) ∙ ap next_job (sym one_more)));
     went = new_went;
     stays = new_stays;
-    took = subst (λ ns. Took tells (Unit {0}) ns lent then old new) (sym asked_next) (took_wider tells well (Unit {0}) (asked_by (take n cs) ++ asks c) (asked_by (take n cs) ++ asks c) lent then old new (λ k. omega arith) (λ u. is_well) (next_took well took));
+    took = subst (λ ns. Took tells (Unit {0}) ns lent then old new) (sym asked_next) (took_wider tells well (Unit {0}) (asked_by (take n ss) ++ asks_in d) (asked_by (take n ss) ++ asks_in d) lent then old new (λ k. omega arith) (λ u. is_well) (next_took well took));
     filled = filled_stays rack mid new stays so.filled;
     replies = so.replies ++ its;
-    replied = subst (λ ds. AreReplied rack seed session ds (so.replies ++ its) old new) (sym (ap (λ k. take k cs) (add-one n) ∙ take_more cs n c within is)) (new_replied its gives);
+    replied = subst (λ ds. AreReplied rack seed session ds (so.replies ++ its) old new) (sym one_more) (new_replied its gives);
     refusal = ap (λ b. b || some) so.refusal ∙ (ap (λ b. any_refusal so.replies || b) refuses ∙ sym (refusal_append so.replies its));
     written = λ t. writes t ∙ (ap (λ l. l ++ texts_of its) (so.written t) ∙ (append_assoc before (texts_of so.replies) (texts_of its) ∙ ap (λ l. before ++ l) (sym (texts_append so.replies its))));
   }
 
-  left_short : (after : List ℕ) → Leaves rack seed session (n + 1) c mid new → (told → after ≡ now) → Ends rack seed session told before after cs old new ending.NoMemory
+  left_short : (after : List ℕ) → StepLeaves rack seed session job (step_of d) mid new → (told → after ≡ now) → Ends rack seed session told before after ss old new ending.NoMemory
   left_short after leaves writes = record {
-    first = take n cs;
-    next = c;
-    rest = drop (suc n) cs;
+    first = take n ss;
+    next = d;
+    rest = drop (suc n) ss;
     parts = whole;
     replies = so.replies;
-    replied = left_on rack seed session (take n cs) so.replies c old mid new so.went so.stays so.replied its_worked (subst (λ j. Leaves rack seed session j c mid new) number leaves);
+    replied = left_on rack seed session (take n ss) so.replies d old mid new so.went so.stays so.replied went (subst (λ j. StepLeaves rack seed session j (step_of d) mid new) so.number leaves);
     written = λ t. writes t ∙ so.written t;
   }
 
-  pub working_ends : (after : List ℕ) (end : Ending) → OneEnds rack seed session (n + 1) c mid new told now after (Err end) → Ends rack seed session told before after cs old new end
+  pub working_ends : (after : List ℕ) (end : Ending) → OneEnds rack seed session job (step_of d) mid new told now after (Err end) → Ends rack seed session told before after ss old new end
   working_ends after ending.SinkFailed (its, gives, writes) = record {
-    first = take n cs;
-    next = c;
-    rest = drop (suc n) cs;
+    first = take n ss;
+    next = d;
+    rest = drop (suc n) ss;
     parts = whole;
     replies = so.replies;
     its = its;
-    answered = next_on rack seed session (take n cs) so.replies c old mid new so.went so.stays so.replied its_worked its
-        (subst (λ j. Gives rack seed session j c mid new its) number gives);
+    answered = next_on rack seed session (take n ss) so.replies d old mid new so.went so.stays so.replied went its
+        (subst (λ j. StepGives rack seed session j (step_of d) mid new its) so.number gives);
     replied = new_replied its gives;
     written = λ t. let cut = writes t in (
       cut.0,
@@ -185,15 +196,15 @@ module _ (told tells : Type 0) (rack : Rack) (seed : List ℕ) (session : ℕ) (
   working_ends after ending.NoMemory (leaves, writes) = left_short after leaves writes
   working_ends after (ending.Done refused) none = absurd none
 
--- all commands were worked
-pub all_took : (told tells well : Type 0) (rack : Rack) (seed : List ℕ) (session : ℕ) (before now : List ℕ) (cs : List Command) (n : ℕ) (refused : Bool) (lent lends : Lending) (old new : Known)
-    → IsWorking told tells rack seed session before now cs n refused lent lends old new → take n cs ≡ cs → Took tells well (asked_by cs) lent lends old new
-all_took told tells well rack seed session before now cs n refused lent lends old new so all =
-    took_wider tells (Unit {0}) well (asked_by (take n cs)) (asked_by cs) lent lends old new (λ k. (let e = ap (λ ds. times k (asked_by ds)) all in omega (arith, e))) (λ w. tt) so.took
+-- all steps were worked
+pub all_took : (told tells well : Type 0) (rack : Rack) (seed : List ℕ) (session : ℕ) (before now : List ℕ) (ss : List Step) (n job : ℕ) (refused : Bool) (lent lends : Lending) (old new : Known)
+    → IsWorking told tells rack seed session before now ss n job refused lent lends old new → take n ss ≡ ss → Took tells well (asked_by ss) lent lends old new
+all_took told tells well rack seed session before now ss n job refused lent lends old new so all =
+    took_wider tells (Unit {0}) well (asked_by (take n ss)) (asked_by ss) lent lends old new (λ k. (let e = ap (λ ds. times k (asked_by ds)) all in omega (arith, e))) (λ w. tt) so.took
 
-pub ends_well : (told tells : Type 0) (rack : Rack) (seed : List ℕ) (session : ℕ) (before now : List ℕ) (cs : List Command) (n : ℕ) (refused : Bool) (lent lends : Lending) (old new : Known)
-    → IsWorking told tells rack seed session before now cs n refused lent lends old new → take n cs ≡ cs → Ends rack seed session told before now cs old new (ending.Done refused)
-ends_well told tells rack seed session before now cs n refused lent lends old new so all = record {
+pub ends_well : (told tells : Type 0) (rack : Rack) (seed : List ℕ) (session : ℕ) (before now : List ℕ) (ss : List Step) (n job : ℕ) (refused : Bool) (lent lends : Lending) (old new : Known)
+    → IsWorking told tells rack seed session before now ss n job refused lent lends old new → take n ss ≡ ss → Ends rack seed session told before now ss old new (ending.Done refused)
+ends_well told tells rack seed session before now ss n job refused lent lends old new so all = record {
   replies = so.replies;
   replied = subst (λ ds. AreReplied rack seed session ds so.replies old new) all so.replied;
   refusal = so.refusal;

@@ -2,7 +2,11 @@ pub mod Rows
 pub mod Counting
 pub mod Ones
 pub mod Ends
+pub mod Going
+pub mod Steps
 pub mod Streams
 pub mod Holding
 pub mod Taking
 pub mod Arriving
+pub mod Jobs
+pub mod Batches

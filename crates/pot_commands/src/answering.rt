@@ -169,7 +169,7 @@ fn repair_reply(group: u8, answer: Result<Repaired, MendFault>) -> Reply
 }
 
 /// Works a command that has one reply.
-fn answer_one<A: Archive, R: Wait>(
+pub(crate) fn answer_one<A: Archive, R: Wait>(
     rt: &R,
     alloc: Global,
     vault: &Vault<A>,

@@ -1,6 +1,6 @@
-//! The commands of a session's script, worked one after another over a vault, and their replies.
+//! The commands of a session's script, worked step after step over a vault, and their replies.
 //!
-//! It reads no script, starts no vault and closes none. Commands that work at the same time are not its matter.
+//! It reads no script, starts no vault and closes none.
 //!
 //! 1. Each command is one job, numbered from 1, and works for that job alone (`JobWorked`).
 //! 2. Each reply is the one that the job's own entries give by the table of replies (specs/Rows.antt), if nobody else logged
@@ -9,10 +9,15 @@
 //!    (`Took`). Who closes the vault gives back those that came.
 //! 4. The replies of a command are written after it, and in order. What is written is their text; where the sink failed or
 //!    memory ran out, specs/Ends.antt says how far it came.
+//! 5. The lines of a batch are worked at once, each as a job with passes of its own, and their replies stand in the order of
+//!    the lines (`answer_together`). Each is judged on what all of them logged (`batch_laws`).
 #![tactic(auto)]
 
 mod answering;
 mod arriving;
+mod batching;
+mod laws;
+mod line_job;
 mod listing;
 mod moving;
 mod output;
@@ -20,7 +25,8 @@ mod working;
 
 pub use answering::answer;
 pub use arriving::{Unanswered, replace_archive};
+pub use laws::batch_laws;
 pub use listing::{count_groups, list_names};
 pub use moving::migrate_archive;
 pub use output::write_out;
-pub use working::{Ending, work};
+pub use working::{Ending, Terms, work};

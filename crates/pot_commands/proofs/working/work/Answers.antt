@@ -1,11 +1,11 @@
-use Rattle.std.proofs.Common.{◌≡◌, length, take, ap, ◌∙◌, arith}
+use Rattle.std.proofs.Common.{◌≡◌, ◌+◌, ◌^◌, length, take, ap, ◌∙◌, arith}
 use Rattle.std.proofs.Math.Seq.{take-length}
 use Rattle.pot_commands.specs.Taking.{lending}
-use Rattle.pot_commands.proofs.WorkingLemmas.{begins_working, all_took, ends_took, new_went, working_ends, working_more, work_stays}
+use Rattle.pot_commands.proofs.WorkingLemmas.{begins_working, all_took, ends_took, holds_at, index_parts_stay, jobs_fit, new_stays, new_went, parts_stay, working_ends, working_more}
 use Rattle.pot_commands.proofs.working.work.Goals as goal
 
-pub loop-index-init : goal.loop-index-init
-loop-index-init g c = record {
+pub loop-step-init : goal.loop-step-init
+loop-step-init g c = record {
   working = begins_working _ _ _ _ _ _ _ _ c.args.vault.now.groups c.args.vault.now.index _ _ c.requires.ready c.requires.index c.requires.filled;
   ready = c.requires.ready;
   index = c.requires.index;
@@ -16,40 +16,58 @@ loop-index-init g c = record {
 
 pub returns-in-Err-clause-went : goal.returns-in-Err-clause-went
 returns-in-Err-clause-went g c =
-    let i = c.loop-index.invariant in
-    new_went _ _ _ _ _ _ _ _ _ _ _ _ (lending (g.R.Room.out c.work_one.new.room) (g.R.Room.means c.work_one.new.room)) _ _ _ i.working c.index-commands-index.result c.loop-index-test.true c.index-commands-index.is c.work_one.ensures.worked
-    (work_stays c.args.vault.now.rack c.args.vault.now.groups c.args.vault.now.index _ _ _ _ _ i.ready c.work_one.ensures.ready i.index c.work_one.ensures.index c.work_one.ensures.worked)
+    let i = c.loop-step.invariant in
+    new_went _ _ _ _ _ _ _ _ _ _ _ _ _ (lending (g.R.Room.out c.work_one.new.room) (g.R.Room.means c.work_one.new.room)) _ _ _ i.working c.step-item.result c.loop-step-test.true c.step-item.is c.work_one.ensures.went c.work_one.ensures.stays
 
 pub returns-in-Err-clause-ends : goal.returns-in-Err-clause-ends
 returns-in-Err-clause-ends g c =
-    let i = c.loop-index.invariant in
-    working_ends _ _ _ _ _ _ _ _ _ _ _ _ (lending (g.R.Room.out c.work_one.new.room) (g.R.Room.means c.work_one.new.room)) _ _ _ i.working c.index-commands-index.result c.loop-index-test.true c.index-commands-index.is c.work_one.ensures.worked
-    (work_stays c.args.vault.now.rack c.args.vault.now.groups c.args.vault.now.index _ _ _ _ _ i.ready c.work_one.ensures.ready i.index c.work_one.ensures.index c.work_one.ensures.worked)
+    let i = c.loop-step.invariant in
+    working_ends _ _ _ _ _ _ _ _ _ _ _ _ _ (lending (g.R.Room.out c.work_one.new.room) (g.R.Room.means c.work_one.new.room)) _ _ _ i.working c.step-item.result c.loop-step-test.true c.step-item.is c.work_one.ensures.went c.work_one.ensures.stays
     _ _ c.in-Err.ensures.ends
 
 pub returns-in-Err-clause-took : goal.returns-in-Err-clause-took
 returns-in-Err-clause-took g c =
-    let i = c.loop-index.invariant in
-    ends_took _ _ _ _ _ _ _ _ _ _ _ _ (lending (g.R.Room.out c.work_one.new.room) (g.R.Room.means c.work_one.new.room)) _ _ _ i.working c.index-commands-index.result c.loop-index-test.true c.index-commands-index.is c.work_one.ensures.worked
-    (work_stays c.args.vault.now.rack c.args.vault.now.groups c.args.vault.now.index _ _ _ _ _ i.ready c.work_one.ensures.ready i.index c.work_one.ensures.index c.work_one.ensures.worked)
+    let i = c.loop-step.invariant in
+    ends_took _ _ _ _ _ _ _ _ _ _ _ _ _ (lending (g.R.Room.out c.work_one.new.room) (g.R.Room.means c.work_one.new.room)) _ _ _ i.working c.step-item.result c.loop-step-test.true c.step-item.is c.work_one.ensures.went c.work_one.ensures.stays
     _ _ (λ w e. w (cc e)) c.in-Err.ensures.took
 
 pub returns-clause-took : goal.returns-clause-took
 returns-clause-took g c =
-    let last : c.loop-index.index ≡ length c.args.commands.now = omega (arith, c.loop-index-test.false, c.loop-index.auto.index-end) in
-    all_took _ _ _ _ _ _ _ _ _ _ _ _ _ _ _ c.loop-index.invariant.working (ap (λ n. take n c.args.commands.now) last ∙ take-length c.args.commands.now)
+    let last : c.loop-step.step-index ≡ length c.args.steps.now = omega (arith, c.loop-step-test.false, c.loop-step.auto.step-index-end) in
+    all_took _ _ _ _ _ _ _ _ _ _ _ _ _ _ _ _ c.loop-step.invariant.working (ap (λ n. take n c.args.steps.now) last ∙ take-length c.args.steps.now)
 
-pub loop-index-preserved : goal.loop-index-preserved
-loop-index-preserved g c =
-    let i = c.loop-index.invariant in
+pub loop-step-preserved : goal.loop-step-preserved
+loop-step-preserved g c =
+    let i = c.loop-step.invariant in
     record {
       working =
-          working_more _ _ _ _ _ _ _ _ _ _ _ _ (lending (g.R.Room.out c.work_one.new.room) (g.R.Room.means c.work_one.new.room)) _ _ _ i.working c.index-commands-index.result c.loop-index-test.true c.index-commands-index.is c.work_one.ensures.worked
-          (work_stays c.args.vault.now.rack c.args.vault.now.groups c.args.vault.now.index _ _ _ _ _ i.ready c.work_one.ensures.ready i.index c.work_one.ensures.index c.work_one.ensures.worked)
-          _ c.in-Ok.some _ (λ e. cc) c.in-Ok.ensures.took c.in-Ok.ensures.ends;
+          working_more _ _ _ _ _ _ _ _ _ _ _ _ _ (lending (g.R.Room.out c.work_one.new.room) (g.R.Room.means c.work_one.new.room)) _ _ _ i.working c.step-item.result c.loop-step-test.true c.step-item.is c.work_one.ensures.went c.work_one.ensures.stays
+          _ c.in-Ok.some _ (λ e. cc) c.in-Ok.ensures.took c.in-Ok.ensures.ends _ (ap (λ n. c.loop-step.job + n) c.jobs_in-job.ensures);
       ready = c.work_one.ensures.ready;
       index = c.work_one.ensures.index;
       used = c.work_one.ensures.used;
       room_later = omega (arith, i.room_later, c.work_one.ensures.room.later);
       later = omega (arith, i.later, c.work_one.ensures.sink.later);
     }
+
+pub returns-in-Err-clause-stays : goal.returns-in-Err-clause-stays
+returns-in-Err-clause-stays g c =
+    let i = c.loop-step.invariant in
+    new_stays _ _ _ _ _ _ _ _ _ _ _ _ _ (lending (g.R.Room.out c.work_one.new.room) (g.R.Room.means c.work_one.new.room)) _ _ _ i.working c.step-item.result c.loop-step-test.true c.step-item.is c.work_one.ensures.went c.work_one.ensures.stays
+
+pub work_one-requires-clause-parts : goal.work_one-requires-clause-parts
+work_one-requires-clause-parts g c = λ κs within.
+    let stays = c.loop-step.invariant.working.stays in
+    (parts_stay _ _ 2048 stays c.requires.parts.0, index_parts_stay _ _ 2048 stays c.requires.parts.1)
+
+pub work_one-requires-clause-job : goal.work_one-requires-clause-job
+work_one-requires-clause-job g c = λ κs within.
+    jobs_fit c.args.steps.now c.loop-step.step-index c.loop-step.job (2 ^ 31) c.step-item.result c.loop-step-test.true c.step-item.is c.loop-step.invariant.working.number c.requires.few
+
+pub work_one-requires-clause-filled : goal.work_one-requires-clause-filled
+work_one-requires-clause-filled g c = λ κs within. c.loop-step.invariant.working.filled
+
+pub overflow_add-job : goal.overflow_add-job
+overflow_add-job g c =
+    let fits = jobs_fit c.args.steps.now c.loop-step.step-index c.loop-step.job (2 ^ 31) c.step-item.result c.loop-step-test.true c.step-item.is c.loop-step.invariant.working.number c.requires.few in
+    let same = c.jobs_in-job.ensures in omega (arith, fits.1, same)

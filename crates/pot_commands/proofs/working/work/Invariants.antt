@@ -6,10 +6,10 @@ use Rattle.pot_commands.specs.Taking.{AreUsed, lending}
 use Rattle.pot_commands.proofs.WorkingLemmas.{IsWorking}
 use Rattle.pot_commands.proofs.working.work.Given as goal
 
-abbrev pub invariant-loop-index : goal.invariant-loop-index
-invariant-loop-index g l = record {
-  working : IsWorking (IsTrue g.K.Sink.tells) (IsTrue g.R.A.Archive.account.tells) l.vault.rack l.seed l.session (g.K.Sink.written l.initial.sink) (g.K.Sink.written l.sink) l.commands l.index l.refused
-      (lending (g.R.Room.out l.initial.room) (g.R.Room.means l.initial.room)) (lending (g.R.Room.out l.room) (g.R.Room.means l.room)) (known l.initial.passes.groups l.initial.passes.index) (known l.passes.groups l.passes.index);
+abbrev pub invariant-loop-step : goal.invariant-loop-step
+invariant-loop-step g l = record {
+  working : IsWorking (IsTrue g.K.Sink.tells) (IsTrue g.R.A.Archive.account.tells) l.vault.rack l.terms.seed.now l.terms.session (g.K.Sink.written l.initial.sink) (g.K.Sink.written l.sink) l.steps l.step-index l.job
+      l.refused (lending (g.R.Room.out l.initial.room) (g.R.Room.means l.initial.room)) (lending (g.R.Room.out l.room) (g.R.Room.means l.room)) (known l.initial.passes.groups l.initial.passes.index) (known l.passes.groups l.passes.index);
   ready : AreReady l.vault.rack l.vault.groups l.passes.groups;
   index : IsIndexReady l.vault.rack l.vault.groups l.vault.index l.passes.index;
   used : AreUsed (g.R.Room.out l.room) l.passes.groups;

@@ -1,0 +1,26 @@
+-- What passes of all turns did between two moments: they went on, stayed what they are, and nobody else logged anything.
+use Rattle.std.specs.Prelude.{◌≡◌, ℕ}
+use Rattle.pot_rows.specs.Rows.{PassRow, view_at}
+use Rattle.pot_rows.specs.Works.{RowWent, RowSole}
+use Rattle.pot_store.specs.Works.{Known}
+
+-- each pass is of the same turn and the same value as before, began at the same log, and has as many parts
+pub record Stays {E O : Type 0} (old new : PassRow E O) : Type 0 where
+  pub names : new.names ≡ old.names
+  pub origin : (at : ℕ) → (view_at new at).origin ≡ (view_at old at).origin
+  pub opened : (at : ℕ) → (view_at new at).opened ≡ (view_at old at).opened
+  pub parts : (at : ℕ) → (view_at new at).parts ≡ (view_at old at).parts
+
+pub record AllStay (old new : Known) : Type 0 where
+  pub groups : Stays old.groups new.groups
+  pub index : Stays old.index new.index
+
+-- the passes of all turns went on
+pub record AllWent (old new : Known) : Type 0 where
+  pub groups : RowWent old.groups new.groups
+  pub index : RowWent old.index new.index
+
+-- nobody else logged anything meanwhile
+pub record AllSole (old new : Known) : Type 0 where
+  pub groups : RowSole old.groups new.groups
+  pub index : RowSole old.index new.index

@@ -1,0 +1,140 @@
+-- A line of a batch as a job: what it has, what it is given, and what its work leaves of it.
+use Rattle.std.specs.Prelude.{◌≡◌, ◌<◌, ◌^◌, ◌*◌, ◌&&◌, ◌∷◌, ◌++◌, ℕ, suc, Bool, true, false, List, []}
+use Rattle.std.specs.Prelude.{Option, Some, None, Result, Ok, Err, IsSome, length}
+use Rattle.pot_bytes.specs.Rack.{IsRack}
+use Rattle.pot_bytes.specs.declared.rack.Rack.{Rack}
+use Rattle.pot_bytes.specs.declared.memory.NoMemory.{NoMemory}
+use Rattle.pot_turn.specs.declared.name.TurnName.{TurnName}
+use Rattle.pot_rows.specs.Rows.{HasMoreParts}
+use Rattle.pot_rows.specs.Parts.{RowCut, RowNew, RowJoined}
+use Rattle.pot_script.specs.declared.command.Command.{Command}
+use Rattle.pot_script.specs.declared.reply.Reply.{Reply}
+use Rattle.pot_shared.specs.Ready.{AreReady}
+use Rattle.pot_shared.specs.Catalogs.{IsIndexReady}
+use Rattle.pot_replies.specs.Settings.{Setting}
+use Rattle.pot_replies.specs.Sections.{Section}
+use Rattle.pot_store.specs.Works.{Known, JobWorked, JobAlone, section_of}
+use Rattle.pot_commands.specs.Rows.{IsSessionSetting, AreReplies, IsIdle, IsSingle}
+
+-- the rack of a vault, and its turns
+pub record VaultView : Type 0 where
+  pub rack : Rack
+  pub groups : List TurnName
+  pub index : List TurnName
+
+abbrev pub vault_view : Rack → List TurnName → List TurnName → VaultView
+vault_view rack groups index = record { rack = rack; groups = groups; index = index }
+
+-- what the jobs of a batch have in common: the vault, and what their random bytes are drawn from
+pub record Common : Type 0 where
+  pub vault : VaultView
+  pub seed : List ℕ
+  pub session : ℕ
+
+abbrev pub common : VaultView → List ℕ → ℕ → Common
+common vault seed session = record { vault = vault; seed = seed; session = session }
+
+-- a job: what its passes know, its line with its number, and its answer once it is done
+pub record JobView : Type 0 where
+  pub common : Common
+  pub passes : Known
+  pub job : ℕ
+  pub line : Command
+  pub answer : Option (Result Reply NoMemory)
+
+abbrev pub job_view : Common → Known → ℕ → Command → Option (Result Reply NoMemory) → JobView
+job_view b passes job line answer = record { common = b; passes = passes; job = job; line = line; answer = answer }
+
+-- passes of a vault that can call
+pub record CanCall (v : VaultView) (k : Known) : Type 0 where
+  pub ready : AreReady v.rack v.groups k.groups
+  pub index_ready : IsIndexReady v.rack v.groups v.index k.index
+
+-- a job of this vault whose passes can call
+abbrev pub HasPasses : VaultView → JobView → Type 0
+HasPasses v j = (j.common.vault ≡ v) × CanCall v j.passes
+
+-- what a line needs to be worked
+pub record CanBegin (j : JobView) : Type 0 where
+  pub passes : CanCall j.common.vault j.passes
+  pub parts : HasMoreParts 1 j.passes.groups
+  pub is_rack : IsRack j.common.vault.rack
+  pub count : length j.common.vault.groups ≡ j.common.vault.rack.groups
+  pub number : (0 < j.job) × (j.job < 2 ^ 31)
+  pub single : IsSingle j.common.vault.rack.groups j.line
+
+-- a job that is not done can be worked
+abbrev pub CanWork : JobView → Type 0
+CanWork j = j.answer ≡ None → CanBegin j
+
+abbrev pub IsDone : JobView → Type 0
+IsDone j = IsSome j.answer
+
+-- what is told of a section by the answer of a line, which is its reply or that memory ran out
+abbrev pub Says : Setting → ℕ → Command → Option (Result Reply NoMemory) → Section → Type 0
+Says s job c None w = ⊥
+Says s job c (Some (Ok reply)) w = AreReplies s job c (reply ∷ []) w
+Says s job c (Some (Err e)) w = IsIdle s job c w
+
+-- The job that was handed in, and what its work leaves of it: it worked for itself alone, and its entries give
+-- its answer, if nobody else logged an entry of it.
+pub record Did (j k : JobView) : Type 0 where
+  pub common : k.common ≡ j.common
+  pub number : k.job ≡ j.job
+  pub line : k.line ≡ j.line
+  pub passes : CanCall k.common.vault k.passes
+  pub worked : JobWorked j.job j.passes k.passes
+  pub says : JobAlone j.job j.passes k.passes → (s : Setting)
+      → IsSessionSetting s j.common.vault.rack j.common.seed j.common.session j.passes
+      → Says s j.job j.line k.answer (section_of j.passes k.passes)
+
+-- SHARED OUT
+
+-- the job of a line that was not begun, with new passes of two parts, which know what these know
+pub record IsGiven (b : Common) (start : Known) (job : ℕ) (c : Command) (j : JobView) : Type 0 where
+  pub common : j.common ≡ b
+  pub number : j.job ≡ job
+  pub line : j.line ≡ c
+  pub answer : j.answer ≡ None
+  pub passes : CanCall b.vault j.passes
+  pub groups : RowNew 2 start.groups j.passes.groups
+  pub index : RowNew 2 start.index j.passes.index
+
+-- one for each line, in order, numbered from this one on
+abbrev pub AreGiven : Common → Known → ℕ → List Command → List JobView → Type 0
+AreGiven b start from [] [] = Unit {0}
+AreGiven b start from (c ∷ cs) (j ∷ js) = IsGiven b start from c j × AreGiven b start (suc from) cs js
+AreGiven b start from _ _ = ⊥
+
+-- The lines were shared out to these jobs, which took their parts from the passes.
+pub record AreShared (b : Common) (old : Known) (from : ℕ) (lines : List Command) (js : List JobView)
+    (new : Known) : Type 0 where
+  pub given : AreGiven b old from lines js
+  pub groups : RowCut (2 * length js) old.groups new.groups
+  pub index : RowCut (2 * length js) old.index new.index
+
+-- TAKEN BACK
+
+-- the passes took in those of the jobs, in order
+abbrev pub AllJoined : Known → List JobView → Known → Type 0
+AllJoined old [] new = new ≡ old
+AllJoined old (j ∷ js) new =
+    (mid : Known) × RowJoined old.groups j.passes.groups mid.groups
+    × RowJoined old.index j.passes.index mid.index × AllJoined mid js new
+
+abbrev pub reply_in : Option (Result Reply NoMemory) → List Reply
+reply_in (Some (Ok reply)) = reply ∷ []
+reply_in _ = []
+
+abbrev pub has_reply : Option (Result Reply NoMemory) → Bool
+has_reply (Some (Ok reply)) = true
+has_reply _ = false
+
+-- the replies of jobs, and whether each has one
+abbrev pub replies_in : List JobView → List Reply
+replies_in [] = []
+replies_in (j ∷ js) = reply_in j.answer ++ replies_in js
+
+abbrev pub all_replied : List JobView → Bool
+all_replied [] = true
+all_replied (j ∷ js) = has_reply j.answer && all_replied js

@@ -1,0 +1,69 @@
+-- What is told of a step of a script that was worked, a command alone or the jobs of a batch: by the entries of its jobs, if nobody
+-- else logged anything meanwhile.
+use Rattle.std.specs.Prelude.{◌≡◌, ◌⊎◌, ◌<◌, ◌≤◌, ℕ, suc, List, [], ◌∷◌, length, map}
+use Rattle.std.specs.List.{AllByRecursion}
+use Rattle.pot_bytes.specs.declared.rack.Rack.{Rack}
+use Rattle.pot_machine.specs.Logs.{own}
+use Rattle.pot_script.specs.declared.command.Command.{Command}
+use Rattle.pot_script.specs.declared.command.Command.TheVariants as commands
+use Rattle.pot_script.specs.declared.grouping.Step as script
+use Rattle.pot_script.specs.declared.grouping.Step.TheVariants as steps
+use Rattle.pot_script.specs.declared.reply.Reply.{Reply}
+use Rattle.pot_replies.specs.Settings.{Setting}
+use Rattle.pot_replies.specs.Sections.{Section, Halves, IsOfJobs, work_of}
+use Rattle.pot_replies.specs.Sessions.{Step, One, Together, Answered, jobs_in}
+use Rattle.pot_store.specs.Works.{Known, section_of}
+use Rattle.pot_commands.specs.Rows.{IsSessionSetting, Row, IsIdle, IsSingle, IsWorked}
+use Rattle.pot_commands.specs.Going.{AllSole}
+
+-- a step of a script as a step of a session
+abbrev pub step_of : script.Step → Step Command
+step_of (steps.One c) = One c
+step_of (steps.Together lines) = Together lines
+
+abbrev pub steps_of : List script.Step → List (Step Command)
+steps_of ss = map step_of ss
+
+-- the lines that are worked in a batch over so many groups: they have one reply, and take no archive
+abbrev pub IsBatched : ℕ → Command → Type 0
+IsBatched groups commands.List = ⊥
+IsBatched groups c = IsSingle groups c
+
+-- the steps that are worked over so many groups
+abbrev pub IsWorkedStep : ℕ → script.Step → Type 0
+IsWorkedStep groups (steps.One c) = IsWorked groups c
+IsWorkedStep groups (steps.Together lines) =
+    (0 < length lines) × (length lines ≤ 1024) × AllByRecursion (IsBatched groups) lines
+
+-- WITHOUT REPLIES
+
+-- A line of a batch that ended early: it has a reply which was not written, or has none.
+abbrev pub IsLineLeft : Setting → ℕ → Command → (w : Section) → Halves w → Type 0
+IsLineLeft s job c w h =
+    ((r : Reply) × Row s job c (r ∷ []) w h)
+    ⊎ (((g : ℕ) → own job (h.begun g) ≡ []) × IsIdle s job c (work_of w h))
+
+abbrev pub AreLinesLeft : Setting → ℕ → List Command → (w : Section) → Halves w → Type 0
+AreLinesLeft s job [] w h = Unit {0}
+AreLinesLeft s job (c ∷ cs) w h = IsLineLeft s job c w h × AreLinesLeft s (suc job) cs w h
+
+-- a step that ended for want of memory, or since the room failed, or whose replies were not printed for want of memory
+abbrev pub IsStepLeft : Setting → ℕ → Step Command → Section → Type 0
+IsStepLeft s job (One c) w = IsIdle s job c w ⊎ ((rs : List Reply) × (h : Halves w) × Row s job c rs w h)
+IsStepLeft s job (Together lines) w = (h : Halves w) × AreLinesLeft s job lines w h
+
+-- WHERE NOBODY ELSE LOGGED ANYTHING
+
+module _ (rack : Rack) (seed : List ℕ) (session job : ℕ) (step : Step Command) (old new : Known) where
+  -- what was logged is of the step's jobs alone, and gives these replies
+  abbrev pub StepGives : List Reply → Type 0
+  StepGives rs =
+      AllSole old new → (s : Setting) → IsSessionSetting s rack seed session old
+      → IsOfJobs job (jobs_in step) (section_of old new)
+      × ((h : Halves (section_of old new)) × Answered (Row s) job step rs (section_of old new) h)
+
+  -- what was logged is of the step's jobs alone, and the step was left
+  abbrev pub StepLeaves : Type 0
+  StepLeaves =
+      AllSole old new → (s : Setting) → IsSessionSetting s rack seed session old
+      → IsOfJobs job (jobs_in step) (section_of old new) × IsStepLeft s job step (section_of old new)
