@@ -1,0 +1,4 @@
+pub mod Adding
+pub mod Exposing
+pub mod HidingLemmas
+pub mod Blinding

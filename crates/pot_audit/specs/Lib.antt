@@ -1,0 +1,4 @@
+pub mod Blinds
+pub mod Exposure
+pub mod Hiding
+pub mod Veils
