@@ -2,7 +2,7 @@
 use Rattle.std.proofs.Common.{◌≡◌, inl, inr, ℕ, List, [], ◌++◌, Option, Result, Ok, Err, Bool, refl, ap, sym, ◌∙◌, subst, append-nil}
 use Rattle.std.specs.Prelude.{IsTrue}
 use Rattle.pot_outside.specs.Archives.{Meaning}
-use Rattle.pot_script.specs.declared.command.Command.{Command}
+use Rattle.pot_script.specs.declared.grouping.Step.{Step}
 use Rattle.pot_image.specs.declared.image.Image.{Image}
 use Rattle.pot_image.specs.Images.{Contents, contents, AnswersImage}
 use Rattle.pot_image.specs.Rules.{FitsTogether}
@@ -83,19 +83,19 @@ module _ (seed : List ℕ) (source_tells sink_tells desk_tells room_tells : Bool
   abbrev Ran : Type 0
   Ran = RanAs seed (IsTrue source_tells) input (IsTrue sink_tells) before after held holds
 
-  -- a session that closed, by how its commands and its close ended
-  closed : (i : Image) (commands : List Command) → HoldsImage held i → IsRead i.rack (IsTrue source_tells) input commands
-      → IsClosed seed (begun (contents i)) commands rooms (IsTrue sink_tells) before after (IsTrue desk_tells) holds answer → Ran
-  closed i commands was_held script c = by c.ending c.ends c.closed c.leaves c.desk c.status
+  -- a session that closed, by how its steps and its close ended
+  closed : (i : Image) (steps : List Step) → HoldsImage held i → IsRead i.rack (IsTrue source_tells) input steps
+      → IsClosed seed (begun (contents i)) steps rooms (IsTrue sink_tells) before after (IsTrue desk_tells) holds answer → Ran
+  closed i steps was_held script c = by c.ending c.ends c.closed c.leaves c.desk c.status
     where
-      by : (e : Ending) → EndsOver (setting_of seed (begun (contents i))) c.story (IsTrue sink_tells) before after commands e
+      by : (e : Ending) → EndsOver (setting_of seed (begun (contents i))) c.story (IsTrue sink_tells) before after steps e
           → (r : Result (Unit {0}) Stop) → Leaves rooms (IsBack r) (begun (contents i)) c.last c.story
           → (IsTrue desk_tells → HoldsAfter (begun (contents i)) c.last holds r) → answer ≡ status_after e r → Ran
       by (ending.Done refused) ends (Ok u) leaves desk is = record {
         read = i;
         was_held = was_held;
         fits = begun_fits (contents i) (begun (contents i)) refl (image_fits held i was_held);
-        commands = commands;
+        steps = steps;
         script = script;
         last = c.last;
         replies = ends.replies;
@@ -119,12 +119,12 @@ module _ (seed : List ℕ) (source_tells sink_tells desk_tells room_tells : Bool
 
   held_as : Holds seed (seen_by (IsTrue source_tells) input rest (IsTrue sink_tells) before after (IsTrue desk_tells) held holds (IsTrue room_tells) meant means) answer → Ran
   held_as (Stopped s stops refuses same) = absurd (refused_not (IsTrue sink_tells) before after s answer refuses done)
-  held_as (Served i commands of whole serves ends untouched) = by serves
+  held_as (Served i steps of whole serves ends untouched) = by serves
     where
-      by : Serves seed (begun (contents i)) commands rooms (IsTrue sink_tells) before after (IsTrue desk_tells) holds answer → Ran
+      by : Serves seed (begun (contents i)) steps rooms (IsTrue sink_tells) before after (IsTrue desk_tells) holds answer → Ran
       by (Unopened (inl is) sink desk) = absurd (subst IsDone is done)
       by (Unopened (inr is) sink desk) = absurd (subst IsDone is done)
-      by (Closed c) = closed i commands (of.image told) of.script c
+      by (Closed c) = closed i steps (of.image told) of.script c
 
 pub runs_are_sessions : RunsAreSessions
 runs_are_sessions seed source_tells sink_tells desk_tells room_tells input rest before after held holds meant means answer it done told =

@@ -1,13 +1,13 @@
 -- Sessions, each of which begins with the image that the one before left.
 use Rattle.std.specs.Prelude.{◌≡◌, ℕ, List, []}
 use Rattle.pot_index.specs.declared.entry.Logged.{Logged}
-use Rattle.pot_script.specs.declared.command.Command.{Command}
+use Rattle.pot_script.specs.declared.grouping.Step.{Step}
 use Rattle.pot_script.specs.declared.reply.Reply.{Reply}
 use Rattle.pot_image.specs.Images.{Contents}
 use Rattle.pot_replies.specs.Sections.{Section, Follows}
 use Rattle.pot_replies.specs.Sessions.{Replied}
 use Rattle.pot_commands.specs.Rows.{Row}
-use Rattle.pot_commands.specs.Ends.{steps_of}
+use Rattle.pot_commands.specs.Steps.{steps_of}
 use Rattle.pot_session.specs.Serving.{LeavesRecords, setting_of}
 
 -- A session over the image with which it began left that image: the log of its index leads from the records of the one to
@@ -17,9 +17,9 @@ pub record Leaves (first last : Contents) : Type 0 where
   pub rack : last.rack ≡ first.rack
   pub records : LeavesRecords first.rack first.records story last.index_log last.records
 
--- A session that began with this image, as its logs and its close tell: these commands, the first of its script, have these
+-- A session that began with this image, as its logs and its close tell: these steps, the first of its script, have these
 -- replies by what its logs had gained when the last of them was answered.
-pub record IsSession (seed : List ℕ) (first last : Contents) (cs : List Command) (rs : List Reply) : Type 0 where
+pub record IsSession (seed : List ℕ) (first last : Contents) (ss : List Step) (rs : List Reply) : Type 0 where
   pub story : Section
   pub opened : story.index_before ≡ []
   pub rack : last.rack ≡ first.rack
@@ -27,7 +27,7 @@ pub record IsSession (seed : List ℕ) (first last : Contents) (cs : List Comman
   pub done : Section
   pub later : Section
   pub follows : Follows done later story
-  pub replied : Replied (Row (setting_of seed first)) 1 (steps_of cs) rs done
+  pub replied : Replied (Row (setting_of seed first)) 1 (steps_of ss) rs done
 
 -- An image with which a session may begin, for one that an earlier session left: the number of the session is another, the
 -- logs are empty, and the rack, the tables and the records are the same.

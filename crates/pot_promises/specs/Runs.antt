@@ -1,7 +1,7 @@
 -- What a run of the program is that ends well.
 use Rattle.std.specs.Prelude.{◌≡◌, ◌++◌, ℕ, Bool, IsTrue, List, Option, Some}
 use Rattle.pot_outside.specs.Archives.{Meaning}
-use Rattle.pot_script.specs.declared.command.Command.{Command}
+use Rattle.pot_script.specs.declared.grouping.Step.{Step}
 use Rattle.pot_script.specs.declared.reply.Reply.{Reply}
 use Rattle.pot_image.specs.declared.image.Image.{Image}
 use Rattle.pot_image.specs.Images.{Contents, contents}
@@ -21,17 +21,17 @@ IsDone status.Good = Unit {0}
 IsDone status.Refusals = Unit {0}
 IsDone _ = ⊥
 
--- A session over the image that the desk held, with the commands that the source had: each has its replies, what was written is
+-- A session over the image that the desk held, with the steps that the source had: each has its replies, what was written is
 -- their texts, and the desk holds the image that the session left.
 pub record RanAs (seed : List ℕ) (source_told : Type 0) (input : List ℕ) (sink_told : Type 0) (before after : List ℕ) (held holds : Option (List ℕ)) : Type 0 where
   pub read : Image
   pub was_held : HoldsImage held read
   pub fits : FitsTogether (begun (contents read))
-  pub commands : List Command
-  pub script : IsRead read.rack source_told input commands
+  pub steps : List Step
+  pub script : IsRead read.rack source_told input steps
   pub last : Contents
   pub replies : List Reply
-  pub session : IsSession seed (begun (contents read)) last commands replies
+  pub session : IsSession seed (begun (contents read)) last steps replies
   pub written : sink_told → after ≡ before ++ texts_of replies
   pub left : holds ≡ Some (image_bytes last)
 

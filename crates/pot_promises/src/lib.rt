@@ -2,7 +2,7 @@
 //!
 //! It has definitions and laws alone, and no code that does anything. A law is a function whose `ensures` is its statement.
 //!
-//! 1. A run that ends with 0 or 1 is a session over the image that its desk held: each command has its replies, what is written
+//! 1. A run that ends with 0 or 1 is a session over the image that its desk held: each command, in a batch too, has its replies, what is written
 //!    is their texts, and the desk holds what the session left; where that keeps the rules of images, the next run begins with
 //!    it (`run_laws`).
 //! 2. Where a command stored a file and a later one of the session fetched its name, the bytes are the file (`file_laws`, `gives_back`).

@@ -1,5 +1,5 @@
 -- What a vault that ended leaves: its records, its tables, and the archives of its groups.
-use Rattle.std.proofs.Common.{◌≡◌, ◌<◌, ◌≤◌, ◌^◌, ◌+◌, ◌++◌, ⊎_elim, ℕ, zero, suc, List, [], ◌∷◌, length, map, refl, sym, ap, subst, ◌∙◌, arith, append-nil, get_or}
+use Rattle.std.proofs.Common.{◌≡◌, ◌<◌, ◌≤◌, ◌^◌, ◌+◌, ⊎_elim, ℕ, zero, suc, List, [], ◌∷◌, length, map, refl, sym, ap, subst, ◌∙◌, arith, get_or}
 use Rattle.std.specs.Prelude.{Some, None, All, Contains, slice_get, flat_map}
 use Rattle.std.proofs.lemmas.List.{length-map}
 use Rattle.std.proofs.lemmas.List.Elements.{Contains-append_cases}
@@ -26,7 +26,7 @@ use Rattle.pot_shared.specs.Ready.{GroupPass, GroupPasses, AreReady}
 use Rattle.pot_shared.specs.Catalogs.{IndexPasses, IsIndexReady, records_in}
 use Rattle.pot_shared.specs.Sharing.{Ends}
 use Rattle.pot_store.specs.Works.{Known, known, gained}
-use Rattle.pot_commands.specs.Ends.{AllSole}
+use Rattle.pot_commands.specs.Going.{AllSole}
 use Rattle.pot_commands.specs.Holding.{times, AreApart}
 use Rattle.pot_commands.proofs.TakingLemmas.{times-append}
 use Rattle.pot_commands.specs.Taking.{AreMarkedBy, came_in, marks_of}

@@ -1,5 +1,5 @@
 -- The archives of a session: those that it begins with are in use, and those that commands took are given back with them.
-use Rattle.std.proofs.Common.{◌≡◌, ◌≢◌, ◌<◌, ◌≤◌, ◌+◌, ◌++◌, ⊎_elim, ℕ, zero, suc, Bool, true, false, cond, List, [], ◌∷◌, length, refl, sym, ap, subst, ◌∙◌, arith, append-nil}
+use Rattle.std.proofs.Common.{◌≡◌, ◌<◌, ◌≤◌, ◌++◌, ⊎_elim, ℕ, zero, suc, Bool, true, false, List, [], ◌∷◌, length, refl, sym, ap, subst, ◌∙◌, arith}
 use Rattle.std.specs.Prelude.{Option, Some, None, All, Contains, IsSome, IsSomeAnd, slice_index_or, flat_map}
 use Rattle.std.proofs.lemmas.List.Elements.{All-head, All-tail, Contains-append_cases, Contains-append_left, Contains-append_right}
 use Rattle.pot_bytes.proofs.Elements.{none_contained}
@@ -19,7 +19,7 @@ use Rattle.pot_shared.specs.Ready.{GroupPass, GroupPasses}
 use Rattle.pot_shared.specs.Catalogs.{IndexPasses}
 use Rattle.pot_store.specs.Works.{Known, gained}
 use Rattle.pot_store.proofs.NoteLemmas.{one_if}
-use Rattle.pot_commands.specs.Ends.{AllSole}
+use Rattle.pot_commands.specs.Going.{AllSole}
 use Rattle.pot_commands.specs.Holding.{times, AreOut, Untouched}
 use Rattle.pot_commands.specs.Taking.{Lending, Takes, Come, AreMarkedBy, AreUsed, marks_of}
 use Rattle.pot_commands.proofs.ArrivingLemmas.{arrived_used}

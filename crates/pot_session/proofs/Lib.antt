@@ -1,4 +1,5 @@
 pub mod ArchiveLemmas
+pub mod AuditLemmas
 pub mod BeginLemmas
 pub mod CloseImages
 pub mod CloseLemmas
@@ -26,3 +27,4 @@ pub mod StreamLemmas
 pub mod WordLemmas
 pub mod WorkLemmas
 pub mod TopLemmas
+pub mod GenerateLemmas

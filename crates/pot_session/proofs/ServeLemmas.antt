@@ -1,4 +1,4 @@
--- What passes know after commands, and how a session ends.
+-- What passes know after steps, and how a session ends.
 use Rattle.std.proofs.Common.{◌≡◌, ◌<◌, ◌++◌, ◌⊎◌, inl, inr, ℕ, zero, suc, Bool, true, false, cond, List, [], ◌∷◌, length, refl, sym, ap, subst, ◌∙◌, arith}
 use Rattle.std.specs.Prelude.{All, Contains, Option, Some, IfSome, Result, Ok, Err, IsErrOf, slice_index_or, flat_map}
 use Rattle.pot_bytes.specs.declared.rack.Rack.{Rack}
@@ -12,12 +12,12 @@ use Rattle.std.proofs.lemmas.Option.{slice_get_within}
 use Rattle.pot_machine.specs.Slot.{is_void}
 use Rattle.pot_machine.specs.Table.{Table, slot_at}
 use Rattle.pot_machine.specs.Making.{empty_table}
-use Rattle.pot_script.specs.declared.command.Command.{Command}
+use Rattle.pot_script.specs.declared.grouping.Step.{Step}
 use Rattle.pot_image.specs.Images.{Contents}
 use Rattle.pot_image.specs.Spelling.{image_bytes}
 use Rattle.pot_turn.specs.declared.name.TurnName.{TurnName}
 use Rattle.pot_turn.specs.Views.{spent_view}
-use Rattle.pot_rows.specs.Rows.{PassRow, view_at}
+use Rattle.pot_rows.specs.Rows.{HasMoreParts, PassRow, view_at}
 use Rattle.pot_rows.specs.Ends.{HasAllParts}
 use Rattle.pot_shared.specs.declared.member.GroupOrigin.{GroupOrigin}
 use Rattle.pot_shared.specs.Ready.{GroupPass, GroupPasses, AreReady}
@@ -27,7 +27,8 @@ use Rattle.pot_store.specs.Works.{Known, known, section_of}
 use Rattle.pot_commands.specs.declared.working.Ending.{Ending}
 use Rattle.pot_commands.specs.declared.working.Ending.TheVariants as ending
 use Rattle.pot_commands.specs.Rows.{HasFilled, IsSessionSetting}
-use Rattle.pot_commands.specs.Ends.{Stays, Ends}
+use Rattle.pot_commands.specs.Ends.{Ends}
+use Rattle.pot_commands.specs.Going.{Stays}
 use Rattle.pot_commands.proofs.Judging.{ends_over}
 use Rattle.pot_session.specs.declared.status.Status.{Status}
 use Rattle.pot_session.specs.declared.status.Status.TheVariants as status
@@ -120,10 +121,19 @@ has_filled seed first groups index fits f et er count s is r p read has =
     of_some : {X : Type 0} (y : Option X) (P : X → Type 0) (o : X) → y ≡ Some o → IfSome y P → P o
     of_some y P o e h = subst (λ z. IfSome z P) e h
 
+-- THE PARTS OF THE PASSES
+
+-- passes that have all parts but those of the kept ones have enough for a batch
+pub but_kept_parts : (row : GroupPasses) → HasAllButKept row → HasMoreParts 2048 row
+but_kept_parts row h at l = (let p = h at l in omega (arith, p))
+
+pub all_parts : (row : IndexPasses) → HasAllParts row → HasMoreParts 2048 row
+all_parts row h at l = (let p = h at l in omega (arith, p))
+
 -- THE END
 
--- a session that worked its commands and closed
-pub serves_closed : (seed : List ℕ) (first : Contents) (steps : List Command) (rooms : Rooms) (sink_told : Type 0) (before after : List ℕ) (desk_told : Type 0) (held holds : Option (List ℕ)) (rack : Rack) (session : ℕ) (old new : Known)
+-- a session that worked its steps and closed
+pub serves_closed : (seed : List ℕ) (first : Contents) (steps : List Step) (rooms : Rooms) (sink_told : Type 0) (before after : List ℕ) (desk_told : Type 0) (held holds : Option (List ℕ)) (rack : Rack) (session : ℕ) (old new : Known)
     (e : Ending) (closed : Result (Unit {0}) Stop) (answer : Status) → AreFirstPasses old.groups old.index → tables_read old.groups ≡ first.tables → records_read old.index ≡ first.records → rack ≡ first.rack → session ≡ first.session
     → Ends rack seed session sink_told before after steps old new e → Closes old new rooms (desk_told × (held ≡ Some (image_bytes first))) first holds closed → IsCloseStop closed → (desk_told → held ≡ Some (image_bytes first))
     → answer ≡ status_after e closed → FitsTogether first → Serves seed first steps rooms sink_told before after desk_told holds answer

@@ -1,7 +1,7 @@
 -- What a refusal and a session say of the failures of objects.
 use Rattle.std.proofs.Common.{◌≡◌, ◌++◌, inl, inr, ℕ, List, [], refl, sym, ap, subst, ◌∙◌}
 use Rattle.std.specs.Prelude.{Option, Result, Ok, Err, IfErr, flat_map}
-use Rattle.pot_script.specs.declared.command.Command.{Command}
+use Rattle.pot_script.specs.declared.grouping.Step.{Step}
 use Rattle.pot_machine.specs.Table.{archives_in}
 use Rattle.pot_image.specs.declared.image.Image.{Image}
 use Rattle.pot_image.specs.Images.{contents}
@@ -15,7 +15,8 @@ use Rattle.pot_options.specs.Options.{Text}
 use Rattle.pot_words.specs.Tasks.{SpellTask}
 use Rattle.pot_words.specs.declared.run.Run.{Run}
 use Rattle.pot_words.specs.declared.task.Task.TheVariants as task
-use Rattle.pot_session.specs.Runs.{IsPrepared, Seen, Holds, Served, Runs, Session}
+use Rattle.pot_session.specs.Runs.{IsPrepared, Seen, Holds, Served}
+use Rattle.pot_session.specs.Calls.{Runs, Session}
 use Rattle.pot_session.specs.Tasks.{seed_of}
 use Rattle.pot_session.specs.Making.{IsMakeStop, InitAnswers}
 use Rattle.pot_session.specs.Serving.{Serves, IsEnd, rooms_by}
@@ -74,7 +75,7 @@ init_room seen before after (Ok u) answer w (inr h) e = (let q : status.SinkFaul
 init_room seen before after (Err s) answer w r e = subst IsMakeStop (refused_room seen before after s answer r e) w
 
 -- a session that was prepared and served
-pub served : (seed : List ℕ) (seen : Seen) (answer : Status) (image : Image) (steps used : List Command) (now : Option (List ℕ)) → IsPrepared seen.source_told seen.input seen.desk_told seen.held now image steps
+pub served : (seed : List ℕ) (seen : Seen) (answer : Status) (image : Image) (steps used : List Step) (now : Option (List ℕ)) → IsPrepared seen.source_told seen.input seen.desk_told seen.held now image steps
     → (seen.source_told → seen.rest ≡ []) → used ≡ steps → Serves seed (contents image) used (rooms_by seen.room_told seen.meant seen.means) seen.sink_told seen.before seen.after seen.desk_told seen.holds answer → IsEnd answer
     → Untouched (flat_map archives_in image.tables.items ++ asked_by used) seen.meant seen.means → Holds seed seen answer
 served seed seen answer image steps used now p read same serves is untouched =

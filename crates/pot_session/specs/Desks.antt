@@ -54,6 +54,21 @@ abbrev pub OpensDesk : Type 0 → Option (List ℕ) → Result Image Stop → Ty
 OpensDesk told held (Ok i) = GoesOn i × (told → HoldsImage held i)
 OpensDesk told held (Err s) = told → RefusesDesk held s
 
+-- why no image was read, whatever its session
+abbrev pub IsImageStop : Stop → Type 0
+IsImageStop stop.Spent = ⊥
+IsImageStop s = IsDeskStop s
+
+-- the bytes are an image, or it is said why not
+abbrev pub IsImageIn : List ℕ → Result Image Stop → Type 0
+IsImageIn bytes (Ok i) = AnswersImage bytes (Ok i)
+IsImageIn bytes (Err s) = RefusesBytes bytes s
+
+-- The desk's image was read, whatever its session, or it is said why not.
+abbrev pub ReadsDesk : Type 0 → Option (List ℕ) → Result Image Stop → Type 0
+ReadsDesk told held (Ok i) = told → HoldsImage held i
+ReadsDesk told held (Err s) = told → RefusesDesk held s
+
 -- WHAT IS WRITTEN
 
 -- the image with which the session after this one begins

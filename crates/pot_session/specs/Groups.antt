@@ -17,7 +17,7 @@ use Rattle.pot_shared.specs.Members.{entries_of, mark_at}
 use Rattle.pot_shared.specs.Ready.{GroupPass, GroupPasses, IsTableOf}
 use Rattle.pot_shared.specs.Catalogs.{IndexPasses, records_in}
 use Rattle.pot_store.specs.Works.{Known, gained}
-use Rattle.pot_commands.specs.Ends.{AllSole, AllStay, AllWent}
+use Rattle.pot_commands.specs.Going.{AllSole, AllStay, AllWent}
 use Rattle.pot_commands.specs.Holding.{times}
 use Rattle.pot_commands.specs.Taking.{came_in, marks_of}
 

@@ -1,6 +1,9 @@
+pub mod Audits
+pub mod Calls
 pub mod Commands
 pub mod Desks
 pub mod Drills
+pub mod Generating
 pub mod Groups
 pub mod Listing
 pub mod Losses

@@ -1,33 +1,20 @@
--- What a call of the program comes to, by the words, the bytes of the source, what the sink got, what the desk held and holds, and what the
+-- What a session comes to that the words ask for, by the bytes of the source, what the sink got, what the desk held and holds, and what the
 -- room meant and means.
 use Rattle.std.specs.Prelude.{◌≡◌, ◌++◌, ℕ, List, [], Option, Some, Err, flat_map}
 use Rattle.pot_outside.specs.Archives.{Meaning}
-use Rattle.pot_bytes.specs.declared.rack.Rack.{Rack}
-use Rattle.pot_options.specs.Options.{Text}
-use Rattle.pot_script.specs.declared.command.Command.{Command}
-use Rattle.pot_words.specs.Tasks.{SpellTask}
-use Rattle.pot_words.specs.declared.drill.Drill.{Drill}
-use Rattle.pot_words.specs.declared.recover.Recover.{Recover}
-use Rattle.pot_words.specs.declared.run.Run.{Run}
-use Rattle.pot_words.specs.declared.task.Task.TheVariants as task
+use Rattle.pot_script.specs.declared.grouping.Step.{Step}
 use Rattle.pot_machine.specs.Table.{archives_in}
 use Rattle.pot_image.specs.declared.image.Image.{Image}
 use Rattle.pot_image.specs.Images.{contents}
 use Rattle.pot_image.specs.Spelling.{image_bytes}
 use Rattle.pot_session.specs.declared.status.Status.{Status}
-use Rattle.pot_session.specs.declared.status.Status.TheVariants as status
 use Rattle.pot_session.specs.declared.stop.Stop.{Stop}
-use Rattle.pot_session.specs.declared.stop.Stop.TheVariants as stop
 use Rattle.pot_session.specs.Commands.{IsRead, RefusesScript}
 use Rattle.pot_session.specs.Desks.{GoesOn, HoldsImage, RefusesDesk, IsDeskStop, Keeps, IsKeepStop, begun}
-use Rattle.pot_session.specs.Drills.{Drills}
 use Rattle.pot_commands.specs.Holding.{Untouched}
 use Rattle.pot_commands.specs.Taking.{asked_by}
-use Rattle.pot_session.specs.Making.{Inits}
-use Rattle.pot_session.specs.Recovering.{Recovers}
 use Rattle.pot_session.specs.Serving.{Serves, IsEnd, rooms_by}
 use Rattle.pot_session.specs.Stops.{Refuses}
-use Rattle.pot_session.specs.Tasks.{AsksNothing, seed_of}
 use Rattle.pot_image.specs.Rules.{FitsTogether}
 
 -- what the objects tell: whether they do, the bytes of the source before and what is left of them after, those of the sink before and after, the
@@ -75,16 +62,16 @@ SameDesk seen = seen.desk_told → seen.holds ≡ seen.held
 abbrev pub SameRoom : Seen → Type 0
 SameRoom seen = (n : ℕ) → seen.means n ≡ seen.meant n
 
--- BEFORE THE COMMANDS
+-- BEFORE THE STEPS
 
--- the desk held this image, from which a session may begin, and the source had these commands
-pub record IsOf (source_told : Type 0) (input : List ℕ) (desk_told : Type 0) (held : Option (List ℕ)) (i : Image) (steps : List Command) : Type 0 where
+-- the desk held this image, from which a session may begin, and the source had these steps
+pub record IsOf (source_told : Type 0) (input : List ℕ) (desk_told : Type 0) (held : Option (List ℕ)) (i : Image) (steps : List Step) : Type 0 where
   pub goes_on : GoesOn i
   pub image : desk_told → HoldsImage held i
   pub script : IsRead i.rack source_told input steps
 
--- a session may begin with this image and these commands: the image is on the desk, one session on from the one that was read
-pub record IsPrepared (source_told : Type 0) (input : List ℕ) (desk_told : Type 0) (held holds : Option (List ℕ)) (image : Image) (steps : List Command) : Type 0 where
+-- a session may begin with this image and these steps: the image is on the desk, one session on from the one that was read
+pub record IsPrepared (source_told : Type 0) (input : List ℕ) (desk_told : Type 0) (held holds : Option (List ℕ)) (image : Image) (steps : List Step) : Type 0 where
   pub read : Image
   pub of : IsOf source_told input desk_told held read steps
   pub is : contents image ≡ begun (contents read)
@@ -96,26 +83,15 @@ pub record IsPrepared (source_told : Type 0) (input : List ℕ) (desk_told : Typ
 pub data Stops (source_told : Type 0) (input : List ℕ) (desk_told : Type 0) (held holds : Option (List ℕ)) (s : Stop) : Type 0 where
   AtDesk : IsDeskStop s → (desk_told → RefusesDesk held s) → (desk_told → holds ≡ held) → Stops source_told input desk_told held holds s
   AtScript : (i : Image) → GoesOn i → (desk_told → HoldsImage held i) → RefusesScript i.rack source_told input s → (desk_told → holds ≡ held) → Stops source_told input desk_told held holds s
-  AtOpening : (i : Image) (steps : List Command) → IsOf source_told input desk_told held i steps → IsKeepStop s → (desk_told → Keeps held holds (image_bytes (begun (contents i))) (Err s)) → Stops source_told input desk_told held holds s
+  AtOpening : (i : Image) (steps : List Step) → IsOf source_told input desk_told held i steps → IsKeepStop s → (desk_told → Keeps held holds (image_bytes (begun (contents i))) (Err s)) → Stops source_told input desk_told held holds s
 
 -- THE WHOLE
 
 -- A session did not begin, and it is written why; or it began with the image that was read, and ended so. Archives that neither this
--- image names nor a command asks for were not touched.
+-- image names nor a step asks for were not touched.
 pub data Holds (seed : List ℕ) (seen : Seen) (answer : Status) : Type 0 where
   Stopped : (s : Stop) → Stops seen.source_told seen.input seen.desk_told seen.held seen.holds s
       → Refuses seen.sink_told seen.before seen.after s answer → SameRoom seen → Holds seed seen answer
-  Served : (i : Image) (steps : List Command) → IsOf seen.source_told seen.input seen.desk_told seen.held i steps → (seen.source_told → seen.rest ≡ [])
+  Served : (i : Image) (steps : List Step) → IsOf seen.source_told seen.input seen.desk_told seen.held i steps → (seen.source_told → seen.rest ≡ [])
       → Serves seed (begun (contents i)) steps (rooms_by seen.room_told seen.meant seen.means) seen.sink_told seen.before seen.after seen.desk_told seen.holds answer → IsEnd answer
       → Untouched (flat_map archives_in i.tables.items ++ asked_by steps) seen.meant seen.means → Holds seed seen answer
-
--- The words spell no task that is worked; or memory ran out over them; or they spell `init`; and the source was not read. Or they spell
--- `run` or `drill`, each with the seed that the words give, or else the drawn one. Or they spell `recover`, and neither the source nor the
--- desk was touched.
-pub data Runs (words : List Text) (drawn : List ℕ) (seen : Seen) (answer : Status) : Type 0 where
-  Nothing : AsksNothing words → Unread seen → Refuses seen.sink_told seen.before seen.after stop.Words answer → SameDesk seen → SameRoom seen → Runs words drawn seen answer
-  Short : answer ≡ status.NoMemory → Unread seen → (seen.sink_told → seen.after ≡ seen.before) → SameDesk seen → SameRoom seen → Runs words drawn seen answer
-  Makes : (rack : Rack) → SpellTask words (task.Init rack) → Unread seen → Inits rack seen.desk_told seen.held seen.holds seen.sink_told seen.before seen.after answer → SameRoom seen → Runs words drawn seen answer
-  Session : (run : Run) → SpellTask words (task.Run run) → Holds (seed_of run drawn) seen answer → Runs words drawn seen answer
-  Drilling : (d : Drill) → SpellTask words (task.Drill d) → Drills d drawn seen.source_told seen.input seen.rest seen.sink_told seen.before seen.after answer → SameDesk seen → SameRoom seen → Runs words drawn seen answer
-  Recovering : (r : Recover) → SpellTask words (task.Recover r) → Unread seen → Recovers r seen.room_told seen.meant seen.means seen.sink_told seen.before seen.after answer → SameDesk seen → Runs words drawn seen answer

@@ -1,4 +1,4 @@
--- What a session leaves: the replies of its commands, and the image of its close with the logs by which they have them.
+-- What a session leaves: the replies of its steps, and the image of its close with the logs by which they have them.
 use Rattle.std.specs.Prelude.{◌≡◌, ◌⊎◌, ◌<◌, ◌≤◌, ◌^◌, ◌++◌, All, Contains, ℕ, true, List, [], Option, Some, Result, Ok, Err, if◌then◌else◌, length, map, slice_get, slice_index_or}
 use Rattle.pot_outside.specs.Archives.{Meaning}
 use Rattle.pot_outside.specs.declared.archive.Shelf.{Shelf}
@@ -18,7 +18,7 @@ use Rattle.pot_index.specs.declared.entry.Logged.{Logged}
 use Rattle.pot_index.specs.Entries.{entries}
 use Rattle.pot_index.specs.Index.{Names, names_read}
 use Rattle.pot_index.specs.Index as names
-use Rattle.pot_script.specs.declared.command.Command.{Command}
+use Rattle.pot_script.specs.declared.grouping.Step.{Step}
 use Rattle.pot_image.specs.Images.{Contents}
 use Rattle.pot_image.specs.Spelling.{image_bytes}
 use Rattle.pot_replies.specs.Sections.{Section}
@@ -28,7 +28,8 @@ use Rattle.pot_store.specs.Drawing.{blocks_from}
 use Rattle.pot_store.specs.Works.{Known, section_of}
 use Rattle.pot_commands.specs.declared.working.Ending.{Ending}
 use Rattle.pot_commands.specs.declared.working.Ending.TheVariants as ending
-use Rattle.pot_commands.specs.Ends.{AllSole, EndsOver}
+use Rattle.pot_commands.specs.Ends.{EndsOver}
+use Rattle.pot_commands.specs.Going.{AllSole}
 use Rattle.pot_session.specs.declared.status.Status.{Status}
 use Rattle.pot_session.specs.declared.status.Status.TheVariants as status
 use Rattle.pot_session.specs.declared.stop.Stop.{Stop}
@@ -161,7 +162,7 @@ IsCloseStop (Err stop.DeskFault) = Unit {0}
 IsCloseStop (Err stop.NoMemory) = Unit {0}
 IsCloseStop (Err _) = ⊥
 
--- the status of a session, by how its commands and its close ended: the first failure gives it
+-- the status of a session, by how its steps and its close ended: the first failure gives it
 abbrev pub status_after : Ending → Result (Unit {0}) Stop → Status
 status_after ending.SinkFailed closed = status.SinkFault
 status_after ending.RoomFailed closed = status.RoomFault
@@ -182,8 +183,8 @@ setting_of seed first = record {
   mends = true;
 }
 
--- Commands were worked, and the session closed. The image of the close has the logs by which the commands have their replies.
-pub record IsClosed (seed : List ℕ) (first : Contents) (steps : List Command) (rooms : Rooms) (sink_told : Type 0) (before after : List ℕ) (desk_told : Type 0) (holds : Option (List ℕ)) (answer : Status) : Type 0 where
+-- Steps were worked, and the session closed. The image of the close has the logs by which the steps have their replies.
+pub record IsClosed (seed : List ℕ) (first : Contents) (steps : List Step) (rooms : Rooms) (sink_told : Type 0) (before after : List ℕ) (desk_told : Type 0) (holds : Option (List ℕ)) (answer : Status) : Type 0 where
   pub last : Contents
   pub story : Section
   pub ending : Ending
@@ -194,9 +195,9 @@ pub record IsClosed (seed : List ℕ) (first : Contents) (steps : List Command) 
   pub desk : desk_told → HoldsAfter first last holds closed
   pub status : answer ≡ status_after ending closed
 
--- What a session comes to that begins with this image: the room did not give its archives, or memory ran out, before any command was worked;
+-- What a session comes to that begins with this image: the room did not give its archives, or memory ran out, before any step was worked;
 -- or it closed.
-pub data Serves (seed : List ℕ) (first : Contents) (steps : List Command) (rooms : Rooms) (sink_told : Type 0) (before after : List ℕ) (desk_told : Type 0) (holds : Option (List ℕ)) (answer : Status) : Type 0 where
+pub data Serves (seed : List ℕ) (first : Contents) (steps : List Step) (rooms : Rooms) (sink_told : Type 0) (before after : List ℕ) (desk_told : Type 0) (holds : Option (List ℕ)) (answer : Status) : Type 0 where
   Unopened : (answer ≡ status.RoomFault) ⊎ (answer ≡ status.NoMemory) → (sink_told → after ≡ before) → (desk_told → holds ≡ Some (image_bytes first))
       → Serves seed first steps rooms sink_told before after desk_told holds answer
   Closed : IsClosed seed first steps rooms sink_told before after desk_told holds answer → Serves seed first steps rooms sink_told before after desk_told holds answer

@@ -5,7 +5,7 @@ ghost use Rattle.std.specs.String.{string_bytes};
 ghost use Rattle.pot_session.specs.Tasks.{Asks};
 
 use pot_bytes::{NoMemory, Rack};
-use pot_words::{Drill, Recover, Run, Task, read_words};
+use pot_words::{Audit, Drill, Recover, Run, Task, read_words};
 use std::alloc::Global;
 
 /// What is asked for.
@@ -19,7 +19,11 @@ pub enum Asked {
     Drill(Drill),
     /// What archives hold, without a desk.
     Recover(Recover),
-    /// Another task, which is not worked yet, or none.
+    /// What a coalition learns of the files.
+    Audit(Audit),
+    /// The script of this number, worked over archives in memory.
+    Generate(u32),
+    /// No task.
     Other,
 }
 
@@ -32,7 +36,8 @@ pub fn read_task(alloc: Global, words: &[String]) -> Result<Asked, NoMemory>
         Some(Task::Run(run)) => Ok(Asked::Run(run)),
         Some(Task::Drill(drill)) => Ok(Asked::Drill(drill)),
         Some(Task::Recover(recover)) => Ok(Asked::Recover(recover)),
-        Some(_) => Ok(Asked::Other),
+        Some(Task::Audit(audit)) => Ok(Asked::Audit(audit)),
+        Some(Task::Generate(number)) => Ok(Asked::Generate(number)),
         None => Ok(Asked::Other),
     }
 }

@@ -14,7 +14,7 @@ ghost use Rattle.pot_shared.specs.Catalogs.{IsIndexReady};
 ghost use Rattle.pot_shared.specs.Sharing.{HasAllButKept};
 ghost use Rattle.pot_store.specs.Works.{Known, known};
 ghost use Rattle.pot_session.specs.Groups.{AreServed, AreTakenAt, AreLow, HaveCome, tables_read, records_read};
-ghost use Rattle.pot_commands.specs.Ends.{AllSole};
+ghost use Rattle.pot_commands.specs.Going.{AllSole};
 ghost use Rattle.pot_commands.specs.Holding.{AreApart, AreMeant, AreOut, AreSame, Untouched};
 ghost use Rattle.pot_commands.specs.Taking.{AreMarkedBy};
 ghost use Rattle.pot_session.specs.Serving.{HasSpaces, AreShort, LeaveGroups, IsInHand, LeavesLogs, Closes, rooms_by, still, IsBegun, IsCloseStop, first_failure};
@@ -27,7 +27,7 @@ use pot_bytes::Rack;
 use pot_image::Image;
 use pot_index::{IndexEnded, IndexEntry, Record};
 use pot_outside::{Archive, Desk, Failed, Room, Shelf};
-use pot_shared::{Closed, Passes, Vault};
+use pot_shared::{Closed, Passes, Spaces, Vault};
 use std::alloc::Global;
 
 /// A session that was opened.
@@ -36,6 +36,7 @@ pub struct Opened<A: Archive> {
     pub rack: Rack,
     pub vault: Vault<A>,
     pub passes: Passes<A>,
+    pub spaces: Spaces<A>,
     /// Room for what remains at the end, and for all archives that a session can have.
     pub remains: Remains<A>,
 }
@@ -48,12 +49,17 @@ struct Ended<A: Archive> {
 }
 
 /// Ends a vault: its groups' tables, logs and archives come to what remains, those that came since its start too.
-fn end_vault<A: Archive>(vault: Vault<A>, passes: Passes<A>, remains: Remains<A>) -> Ended<A>
+fn end_vault<A: Archive>(
+    vault: Vault<A>,
+    passes: Passes<A>,
+    spaces: Spaces<A>,
+    remains: Remains<A>,
+) -> Ended<A>
     requires served { (old : Known) × (numbers : List ℕ) × AreServed old (known passes.groups passes.index) × HaveCome old (known passes.groups passes.index) numbers × AreApart numbers × AreLow numbers }
     requires ready { AreReady vault.rack vault.groups passes.groups }
     requires index { IsIndexReady vault.rack vault.groups vault.index passes.index }
     requires parts { HasAllButKept passes.groups × HasAllParts passes.index }
-    requires places { (vault.members.items ≡ []) × (length vault.groups ≤ vec_capacity vault.members) × (vault.catalogs.items ≡ []) × (1 ≤ vec_capacity vault.catalogs) }
+    requires places { length vault.groups ≤ spaces }
     requires fresh { (remains.tables.items ≡ []) × (remains.logs.items ≡ []) × (remains.hand.items ≡ []) }
     requires spaces { HasSpaces (length (tables_read passes.groups)) 512 (vec_capacity remains.tables) (vec_capacity remains.logs) (vec_capacity remains.hand) }
     ensures hand { (old : Known) (numbers : List ℕ) → AreServed old (known passes.groups passes.index) → HaveCome old (known passes.groups passes.index) numbers → AreSame (numbers_of result.remains.hand.items) numbers }
@@ -61,7 +67,7 @@ fn end_vault<A: Archive>(vault: Vault<A>, passes: Passes<A>, remains: Remains<A>
     ensures logs { (old : Known) → AreServed old (known passes.groups passes.index) → LeavesLogs old (known passes.groups passes.index) vault.rack (map (λ v. v.items) result.remains.logs.items) result.log.items result.records.items }
     ensures countable { (length result.records.items < 2 ^ 32) × AreShort (map (λ v. v.items) result.remains.logs.items) × (length result.log.items < 2 ^ 32) }
 {
-    let Closed { members, index } = vault.close(passes);
+    let Closed { members, index } = vault.close(passes, spaces);
     let mut remains = remains;
     end_groups(members, &mut remains);
     let IndexEnded { records, log } = index.end();
@@ -88,7 +94,7 @@ pub fn close_session<R: Room, D: Desk>(
     requires ready { AreReady opened.vault.rack opened.vault.groups opened.passes.groups }
     requires index { IsIndexReady opened.vault.rack opened.vault.groups opened.vault.index opened.passes.index }
     requires parts { HasAllButKept opened.passes.groups × HasAllParts opened.passes.index }
-    requires places { (opened.vault.members.items ≡ []) × (length opened.vault.groups ≤ vec_capacity opened.vault.members) × (opened.vault.catalogs.items ≡ []) × (1 ≤ vec_capacity opened.vault.catalogs) }
+    requires places { length opened.vault.groups ≤ opened.spaces }
     requires fresh { (opened.remains.tables.items ≡ []) × (opened.remains.logs.items ≡ []) × (opened.remains.hand.items ≡ []) }
     requires spaces { HasSpaces (length (tables_read opened.passes.groups)) 512 (vec_capacity opened.remains.tables) (vec_capacity opened.remains.logs) (vec_capacity opened.remains.hand) }
     requires rack { opened.rack ≡ opened.vault.rack }
@@ -104,13 +110,14 @@ pub fn close_session<R: Room, D: Desk>(
         rack,
         vault,
         passes,
+        spaces,
         remains,
     } = opened;
     let Ended {
         remains,
         records,
         log,
-    } = end_vault(vault, passes, remains);
+    } = end_vault(vault, passes, spaces, remains);
     let Remains { tables, logs, hand } = remains;
     let given = give_hand(room, hand);
     let image = Image {

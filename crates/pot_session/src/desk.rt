@@ -5,7 +5,7 @@ ghost use Rattle.pot_outside.specs.Counts.{Caused};
 ghost use Rattle.pot_image.specs.Images.{contents};
 ghost use Rattle.pot_image.specs.Spelling.{IsCountable, image_bytes};
 ghost use Rattle.pot_image.specs.Rules.{FitsTogether};
-ghost use Rattle.pot_session.specs.Desks.{Opens, OpensDesk, IsDeskStop, begun, Keeps, IsKeepStop};
+ghost use Rattle.pot_session.specs.Desks.{Opens, OpensDesk, ReadsDesk, IsImageIn, IsImageStop, IsDeskStop, begun, Keeps, IsKeepStop};
 
 use crate::stop::Stop;
 use pot_bytes::NoMemory;
@@ -14,21 +14,47 @@ use pot_machine::Entry;
 use pot_outside::{Desk, DeskFault, Failed};
 use std::alloc::Global;
 
+/// The image that the bytes are.
+fn image_in(alloc: Global, bytes: &[u8]) -> Result<Image, Stop>
+    ensures image { IsImageIn bytes.now result }
+    ensures fits { IfOk result (λ i. FitsTogether (contents i)) }
+    ensures which { IfErr result IsImageStop }
+{
+    match read_image(alloc, bytes) {
+        Ok(image) => Ok(image),
+        Err(ImageFault::Cut) => Err(Stop::Cut),
+        Err(ImageFault::Trailer { kept, computed }) => Err(Stop::Trailer { kept, computed }),
+        Err(ImageFault::Form { place }) => Err(Stop::Form { place }),
+        Err(ImageFault::NoMemory) => Err(Stop::NoMemory),
+    }
+}
+
+/// The image of the desk, whatever its session. The desk's image stays.
+///
+/// # Errors
+/// `DeskFault` only where the desk's count of faults rose; `NoImage` where the desk has none; else why its bytes are no image.
+pub fn read_desk<D: Desk>(alloc: Global, desk: &mut D) -> Result<Image, Stop>
+    ensures reads { ReadsDesk (IsTrue D.tells) (D.held desk.old) result }
+    ensures fits { IfOk result (λ i. FitsTogether (contents i)) }
+    ensures which { IfErr result IsImageStop }
+    ensures keeps { IsTrue D.tells → D.held desk.new ≡ D.held desk.old }
+    ensures cause { Caused (D.faults desk.old) (D.faults desk.new) (IsErrOf result Stop.DeskFault) }
+{
+    match desk.read() {
+        Ok(Some(bytes)) => image_in(alloc, &bytes),
+        Ok(None) => Err(Stop::NoImage),
+        Err(DeskFault::Failed) => Err(Stop::DeskFault),
+        Err(DeskFault::NoMemory) => Err(Stop::NoMemory),
+    }
+}
+
 /// The image that the bytes are, from which one more session may begin.
 fn open_image(alloc: Global, bytes: &[u8]) -> Result<Image, Stop>
     ensures opens { Opens bytes.now result }
     ensures fits { IfOk result (λ i. FitsTogether (contents i)) }
     ensures which { IfErr result IsDeskStop }
 {
-    let image = match read_image(alloc, bytes) {
-        Ok(image) => image,
-        Err(ImageFault::Cut) => return Err(Stop::Cut),
-        Err(ImageFault::Trailer { kept, computed }) => {
-            return Err(Stop::Trailer { kept, computed });
-        }
-        Err(ImageFault::Form { place }) => return Err(Stop::Form { place }),
-        Err(ImageFault::NoMemory) => return Err(Stop::NoMemory),
-    };
+    let image = image_in(alloc, bytes)?;
     if image.session == u32::MAX {
         return Err(Stop::Spent);
     }

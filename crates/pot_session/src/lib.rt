@@ -1,7 +1,7 @@
 //! The top call: all that the program does, over any source, sink, room of archives and desk.
 //!
-//! It works the words `init`, `run`, `drill` and `recover`, and within a session what the commands of the script ask for. It decides no reply and
-//! spells no image: these are the matter of the crates below. A batch line, and what `run` may do at the same time, are not worked.
+//! It works the words `init`, `run`, `drill`, `recover`, `audit` and `generate`, and within a session what the steps of the script ask for. It decides no
+//! reply and spells no image: these are the matter of the crates below.
 //!
 //! 1. A session keeps two images: the one with which it begins, before any archive is taken, and that of its close. Each has the number
 //!    one above that of the image that was read (`begun`).
@@ -14,10 +14,13 @@
 
 mod archives;
 mod asking;
+mod auditing;
 mod closing;
 mod desk;
 mod drilling;
+mod generating;
 mod groups;
+mod holding;
 mod intake;
 mod laws;
 mod listing;

@@ -47,7 +47,7 @@ fn empty_tables(alloc: Global, rack: &Rack) -> Result<Vec<GroupTable>, NoMemory>
 }
 
 /// Puts the image of a new archive on a desk that has none.
-fn make_image<D: Desk>(alloc: Global, rack: &Rack, desk: &mut D) -> Result<(), Stop>
+pub fn make_image<D: Desk>(alloc: Global, rack: &Rack, desk: &mut D) -> Result<(), Stop>
     requires { IsRack rack.now }
     ensures which { IfErr result IsMakeStop }
     ensures told { IsTrue D.tells → Makes rack.now (D.held desk.old) (D.held desk.new) result }

@@ -22,7 +22,7 @@ use pot_bytes::{NoMemory, Rack};
 use pot_index::{Index, IndexRefused, Record};
 use pot_machine::GroupTable;
 use pot_outside::{Archive, Shelf};
-use pot_shared::{Member, Passes, Vault, VaultRefused};
+use pot_shared::{Member, Passes, Spaces, Vault, VaultRefused};
 use std::alloc::Global;
 
 /// Starts the groups of these tables in order over the archives in the hand, which are those of the tables.
@@ -74,7 +74,7 @@ pub fn open_vault<A: Archive>(
     tables: Vec<GroupTable>,
     records: Vec<Record>,
     remains: &mut Remains<A>,
-) -> Result<(Vault<A>, Passes<A>), NoMemory>
+) -> Result<(Vault<A>, Passes<A>, Spaces<A>), NoMemory>
     requires rack { IsRack rack.now }
     requires tables { All (FitsTable rack.now) tables.items }
     requires count { length tables.items ≡ rack.now.groups }
@@ -90,7 +90,7 @@ pub fn open_vault<A: Archive>(
     ensures ready { IfOk result (λ p. AreReady p.0.rack p.0.groups p.1.groups × IsIndexReady p.0.rack p.0.groups p.0.index p.1.index) }
     ensures parts { IfOk result (λ p. HasAllButKept p.1.groups × HasAllParts p.1.index) }
     ensures count { IfOk result (λ p. length p.0.groups ≡ p.0.rack.groups) }
-    ensures places { IfOk result (λ p. (p.0.members.items ≡ []) × (length p.0.groups ≤ vec_capacity p.0.members) × (p.0.catalogs.items ≡ []) × (1 ≤ vec_capacity p.0.catalogs)) }
+    ensures places { IfOk result (λ p. length p.0.groups ≤ p.2) }
     ensures empty { OnOk result ((remains.new.hand.items ≡ []) × (remains.new.tables.items ≡ []) × (remains.new.logs.items ≡ [])) }
     ensures refused { OnErr result (AreSame (numbers_of remains.new.hand.items) (flat_map archives_in tables.items)) }
     ensures spaces { OnOk result ((vec_capacity remains.new.hand ≡ vec_capacity remains.old.hand) × (vec_capacity remains.new.tables ≡ vec_capacity remains.old.tables) × (vec_capacity remains.new.logs ≡ vec_capacity remains.old.logs)) }
@@ -117,7 +117,7 @@ fn share<A: Archive>(
     members: Vec<Member<A>>,
     records: Vec<Record>,
     remains: &mut Remains<A>,
-) -> Result<(Vault<A>, Passes<A>), NoMemory>
+) -> Result<(Vault<A>, Passes<A>, Spaces<A>), NoMemory>
     requires rack { IsRack rack.now }
     requires records { AreRead rack.now records.items }
     requires groups { AreOfRack (λ m. view_of A.account.meaning m.group) rack.now members.items }
@@ -132,7 +132,7 @@ fn share<A: Archive>(
     ensures ready { IfOk result (λ p. AreReady p.0.rack p.0.groups p.1.groups × IsIndexReady p.0.rack p.0.groups p.0.index p.1.index) }
     ensures count { IfOk result (λ p. length p.0.groups ≡ p.0.rack.groups) }
     ensures parts { IfOk result (λ p. HasAllButKept p.1.groups × HasAllParts p.1.index) }
-    ensures places { IfOk result (λ p. (p.0.members.items ≡ []) × (length p.0.groups ≤ vec_capacity p.0.members) × (p.0.catalogs.items ≡ []) × (1 ≤ vec_capacity p.0.catalogs)) }
+    ensures places { IfOk result (λ p. length p.0.groups ≤ p.2) }
     ensures same { OnOk result (remains.new ≡ remains.old) }
     ensures refused { OnErr result (numbers_of remains.new.hand.items ≡ numbers_of remains.old.hand.items ++ (flat_map (λ m. had_by (view_of A.account.meaning m.group)) members.items)) }
 {

@@ -1,22 +1,22 @@
-//! What stands before the commands of a session: its image, its script, and the image with which it begins.
+//! What stands before the steps of a session: its image, its script, and the image with which it begins.
 
 ghost use Rattle.std.specs.Prelude.{◌≡◌, [], IsTrue, IfOk, OnOk, IfErr, IsErrOf};
 ghost use Rattle.pot_outside.specs.Counts.{Caused};
 ghost use Rattle.pot_session.specs.Runs.{IsPrepared, Stops};
 
 use crate::desk::{begin, keep_image, open_desk};
-use crate::scripting::read_commands;
+use crate::scripting::read_steps;
 use crate::stop::Stop;
 use pot_image::Image;
 use pot_outside::{Desk, Source};
-use pot_script::Command;
+use pot_script::Step;
 use std::alloc::Global;
 
-/// The image with which a session begins, and its commands.
+/// The image with which a session begins, and its steps.
 #[derive(Drop)]
 pub struct Prepared {
     pub image: Image,
-    pub commands: Vec<Command>,
+    pub steps: Vec<Step>,
 }
 
 /// Reads the desk's image and the script, and puts the image with which the session begins in the place of the desk's.
@@ -28,7 +28,7 @@ pub fn prepare<S: Source, D: Desk>(
     source: &mut S,
     desk: &mut D,
 ) -> Result<Prepared, Stop>
-    ensures prepared { IfOk result (λ p. IsPrepared (IsTrue S.tells) (S.left source.old) (IsTrue D.tells) (D.held desk.old) (D.held desk.new) p.image p.commands.items) }
+    ensures prepared { IfOk result (λ p. IsPrepared (IsTrue S.tells) (S.left source.old) (IsTrue D.tells) (D.held desk.old) (D.held desk.new) p.image p.steps.items) }
     ensures read { IsTrue S.tells → OnOk result (S.left source.new ≡ []) }
     ensures stops { IfErr result (Stops (IsTrue S.tells) (S.left source.old) (IsTrue D.tells) (D.held desk.old) (D.held desk.new)) }
     ensures source { Caused (S.faults source.old) (S.faults source.new) (IsErrOf result Stop.SourceFault) }
@@ -38,13 +38,13 @@ pub fn prepare<S: Source, D: Desk>(
         Ok(read) => read,
         Err(stop) => return Err(stop),
     };
-    let commands = match read_commands(alloc, &read.rack, source) {
-        Ok(commands) => commands,
+    let steps = match read_steps(alloc, &read.rack, source) {
+        Ok(steps) => steps,
         Err(stop) => return Err(stop),
     };
     let image = begin(alloc, read)?;
     match keep_image(alloc, &image, desk) {
-        Ok(()) => Ok(Prepared { image, commands }),
+        Ok(()) => Ok(Prepared { image, steps }),
         Err(stop) => Err(stop),
     }
 }

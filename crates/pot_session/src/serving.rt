@@ -14,6 +14,7 @@ ghost use Rattle.pot_shared.specs.Catalogs.{IsIndexReady};
 ghost use Rattle.pot_shared.specs.Sharing.{HasAllButKept};
 ghost use Rattle.pot_session.specs.Commands.{IsStep};
 ghost use Rattle.pot_session.specs.Groups.{AreFirstPasses, AreLow, AreTakenAt, tables_read, records_read};
+ghost use Rattle.pot_commands.specs.Ends.{next_job};
 ghost use Rattle.pot_commands.specs.Taking.{asked_by};
 ghost use Rattle.pot_commands.specs.Holding.{AreApart, AreMeant, AreOut, Untouched};
 ghost use Rattle.pot_session.specs.Serving.{HasSpaces, Serves, IsEnd, rooms_by, status_after};
@@ -25,13 +26,14 @@ use crate::opening::open_vault;
 use crate::status::Status;
 use crate::stop::Stop;
 use pot_bytes::NoMemory;
-use pot_commands::{Ending, work};
+use pot_commands::{Ending, Terms, work};
 use pot_image::Image;
 use pot_machine::GroupTable;
-use pot_outside::{Desk, Failed, Room, RoomFault, Sink};
-use pot_script::Command;
+use pot_outside::{Desk, Failed, Gate, Room, RoomFault, Sink};
+use pot_script::Step;
 use std::alloc::Global;
 use std::sync::Wait;
+use std::thread::Threads;
 
 /// The most archives that a session can have, those that come in it among them: their numbers are at most 511.
 const MOST_ARCHIVES: usize = 512;
@@ -104,7 +106,7 @@ fn open_session<R: Room>(
     ensures ready { IfOk result (λ o. AreReady o.vault.rack o.vault.groups o.passes.groups × IsIndexReady o.vault.rack o.vault.groups o.vault.index o.passes.index) }
     ensures count { IfOk result (λ o. length o.vault.groups ≡ o.vault.rack.groups) }
     ensures parts { IfOk result (λ o. HasAllButKept o.passes.groups × HasAllParts o.passes.index) }
-    ensures places { IfOk result (λ o. (o.vault.members.items ≡ []) × (length o.vault.groups ≤ vec_capacity o.vault.members) × (o.vault.catalogs.items ≡ []) × (1 ≤ vec_capacity o.vault.catalogs)) }
+    ensures places { IfOk result (λ o. length o.vault.groups ≤ o.spaces) }
     ensures fresh { IfOk result (λ o. (o.remains.tables.items ≡ []) × (o.remains.logs.items ≡ []) × (o.remains.hand.items ≡ [])) }
     ensures spaces { IfOk result (λ o. HasSpaces (length image.tables.items) 512 (vec_capacity o.remains.tables) (vec_capacity o.remains.logs) (vec_capacity o.remains.hand)) }
     ensures out { OnOk result (AreOut (R.out room.new) (flat_map archives_in image.tables.items)) }
@@ -125,11 +127,12 @@ fn open_session<R: Room>(
         Err(fault) => return Err(fault),
     };
     match open_vault(alloc, &rack, tables, records, &mut remains) {
-        Ok((vault, passes)) => Ok(Opened {
+        Ok((vault, passes, spaces)) => Ok(Opened {
             session,
             rack,
             vault,
             passes,
+            spaces,
             remains,
         }),
         Err(NoMemory) => {
@@ -139,25 +142,28 @@ fn open_session<R: Room>(
     }
 }
 
-/// Works the commands of a session that begins with this image, and closes.
-pub fn serve<K: Sink, R: Room, D: Desk, X: Wait>(
+/// Works the steps of a session that begins with this image, a batch on so many workers, and closes.
+pub fn serve<K: Sink, R: Room, D: Desk, W: Gate, X: Threads + Wait + Sync>(
     rt: &X,
     alloc: Global,
     seed: &[u8; 32],
+    workers: u8,
     image: Image,
-    commands: &[Command],
+    steps: &[Step],
+    gate: &W,
     sink: &mut K,
     room: &mut R,
     desk: &mut D,
 ) -> Status
     requires together { FitsTogether (contents image) }
-    requires few { length commands.now < 2 ^ 31 }
-    requires worked { AllByRecursion (IsStep image.rack) commands.now }
+    requires few { next_job steps.now ≤ 2 ^ 31 }
+    requires workers { 0 < workers }
+    requires worked { AllByRecursion (IsStep image.rack) steps.now }
     requires home { (n : ℕ) → R.out room.old n ≡ false }
     requires kept { IsTrue D.tells → D.held desk.old ≡ Some (image_bytes (contents image)) }
     ensures home { (n : ℕ) → R.out room.new n ≡ false }
-    ensures untouched { Untouched (flat_map archives_in image.tables.items ++ asked_by commands.now) (R.means room.old) (R.means room.new) }
-    ensures serves { Serves seed.now (contents image) commands.now (rooms_by (IsTrue R.A.account.tells) (R.means room.old) (R.means room.new)) (IsTrue K.tells) (K.written sink.old) (K.written sink.new) (IsTrue D.tells) (D.held desk.new) result }
+    ensures untouched { Untouched (flat_map archives_in image.tables.items ++ asked_by steps.now) (R.means room.old) (R.means room.new) }
+    ensures serves { Serves seed.now (contents image) steps.now (rooms_by (IsTrue R.A.account.tells) (R.means room.old) (R.means room.new)) (IsTrue K.tells) (K.written sink.old) (K.written sink.new) (IsTrue D.tells) (D.held desk.new) result }
     ensures which { IsEnd result }
     ensures sink { Caused (K.faults sink.old) (K.faults sink.new) (result ≡ Status.SinkFault) }
     ensures room { Caused (R.faults room.old) (R.faults room.new) (result ≡ Status.RoomFault) }
@@ -168,14 +174,19 @@ pub fn serve<K: Sink, R: Room, D: Desk, X: Wait>(
         Err(RoomFault::Failed) => return Status::RoomFault,
         Err(RoomFault::NoMemory) => return Status::NoMemory,
     };
+    let terms = Terms {
+        seed,
+        session: opened.session,
+        workers,
+    };
     let ending = work(
         rt,
         alloc,
         &opened.vault,
         &mut opened.passes,
-        seed,
-        opened.session,
-        commands,
+        &terms,
+        steps,
+        gate,
         sink,
         room,
     );
@@ -183,7 +194,7 @@ pub fn serve<K: Sink, R: Room, D: Desk, X: Wait>(
     status_after(ending, closed)
 }
 
-/// The status of a session, by how its commands and its close ended.
+/// The status of a session, by how its steps and its close ended.
 fn status_after(ending: Ending, closed: Result<(), Stop>) -> Status
     ensures { result ≡ status_after ending closed }
 {

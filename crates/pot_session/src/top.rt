@@ -6,15 +6,17 @@ ghost use Rattle.pot_outside.specs.Counts.{Caused};
 ghost use Rattle.pot_session.specs.Stops.{code_of};
 ghost use Rattle.pot_session.specs.Tasks.{seed_of};
 ghost use Rattle.pot_session.specs.declared.status.Status.{Status};
-ghost use Rattle.pot_session.specs.Runs.{Holds, Runs, seen_by};
+ghost use Rattle.pot_session.specs.Runs.{seen_by};
+ghost use Rattle.pot_session.specs.Calls.{Runs};
 
 use crate::asking::{Asked, read_task};
+use crate::auditing::audit_files;
 use crate::drilling::drill_files;
+use crate::generating::generate;
+use crate::holding::hold;
 use crate::making::init;
-use crate::preparing::{Prepared, prepare};
 use crate::recovering::recover_files;
 use crate::refusing::refuse;
-use crate::serving::serve;
 use crate::status::Status;
 use crate::stop::Stop;
 use pot_bytes::NoMemory;
@@ -22,32 +24,7 @@ use pot_outside::{Desk, Gate, Room, Sink, Source};
 use pot_words::Run;
 use std::alloc::Global;
 use std::sync::Wait;
-
-/// Holds a session.
-fn hold<S: Source, K: Sink, R: Room, D: Desk, X: Wait>(
-    rt: &X,
-    alloc: Global,
-    seed: &[u8; 32],
-    source: &mut S,
-    sink: &mut K,
-    room: &mut R,
-    desk: &mut D,
-) -> Status
-    requires home { (n : ℕ) → R.out room.old n ≡ false }
-    ensures holds { Holds seed.now (seen_by (IsTrue S.tells) (S.left source.old) (S.left source.new) (IsTrue K.tells) (K.written sink.old) (K.written sink.new) (IsTrue D.tells) (D.held desk.old) (D.held desk.new) (IsTrue R.A.account.tells) (R.means room.old) (R.means room.new)) result }
-    ensures home { (n : ℕ) → R.out room.new n ≡ false }
-    ensures source { Caused (S.faults source.old) (S.faults source.new) (result ≡ Status.SourceFault) }
-    ensures sink { Caused (K.faults sink.old) (K.faults sink.new) (result ≡ Status.SinkFault) }
-    ensures room { Caused (R.faults room.old) (R.faults room.new) (result ≡ Status.RoomFault) }
-    ensures desk { Caused (D.faults desk.old) (D.faults desk.new) (result ≡ Status.DeskFault) }
-{
-    match prepare(alloc, source, desk) {
-        Ok(Prepared { image, commands }) => {
-            serve(rt, alloc, seed, image, &commands, sink, room, desk)
-        }
-        Err(stop) => refuse(alloc, stop, sink),
-    }
-}
+use std::thread::Threads;
 
 /// The seed of a session: the one that the words give, or else the drawn one.
 fn seed_of(run: &Run, drawn: [u8; 32]) -> [u8; 32]
@@ -60,11 +37,12 @@ fn seed_of(run: &Run, drawn: [u8; 32]) -> [u8; 32]
 }
 
 /// Does what the words ask for.
-fn answer<S: Source, K: Sink, R: Room, D: Desk, X: Wait>(
+fn answer<S: Source, K: Sink, R: Room, D: Desk, W: Gate, X: Threads + Wait + Sync>(
     rt: &X,
     alloc: Global,
     words: &[String],
     drawn: [u8; 32],
+    gate: &W,
     source: &mut S,
     sink: &mut K,
     room: &mut R,
@@ -82,10 +60,22 @@ fn answer<S: Source, K: Sink, R: Room, D: Desk, X: Wait>(
         Ok(Asked::Init(rack)) => init(alloc, &rack, sink, desk),
         Ok(Asked::Run(run)) => {
             let seed = seed_of(&run, drawn);
-            hold(rt, alloc, &seed, source, sink, room, desk)
+            hold(
+                rt,
+                alloc,
+                &seed,
+                run.workers,
+                gate,
+                source,
+                sink,
+                room,
+                desk,
+            )
         }
         Ok(Asked::Drill(task)) => drill_files(alloc, &task, drawn, source, sink),
         Ok(Asked::Recover(task)) => recover_files(alloc, &task, sink, room),
+        Ok(Asked::Audit(task)) => audit_files(alloc, &task, sink, desk),
+        Ok(Asked::Generate(number)) => generate(rt, alloc, number, sink),
         Ok(Asked::Other) => refuse(alloc, Stop::Words, sink),
         Err(NoMemory) => Status::NoMemory,
     }
@@ -94,14 +84,14 @@ fn answer<S: Source, K: Sink, R: Room, D: Desk, X: Wait>(
 /// The top call: all that the program does. It reads the words. `init` makes the image of a new archive. `run` reads the desk's
 /// image, reads the source to its end, puts the image with which the session begins in the place of the desk's, takes the archives of
 /// all columns, works the commands of the script in order and writes the replies of each after it, gives the archives back and puts the
-/// image of the close in the place of the desk's. `recover` reads the archives alone and lists what they give. The answer is the exit
-/// status.
+/// image of the close in the place of the desk's. `recover` reads the archives alone and lists what they give. `audit` reads the desk alone
+/// and tells what is exposed to a coalition. `generate` works a script of its own over objects in memory, and writes the digest of the replies. The answer is the exit status.
 ///
 /// 0 and 1 say that all commands were answered, and 1 that some reply is a refusal; 2 that the words spell no task that is
-/// worked; 3 that the script leaves its grammar, or has a line that is not worked; 4, 5, 6 and 8 that the source, the sink, the desk or the
+/// worked, or name a column that the rack has not; 3 that the script leaves its grammar, or has a line that is not worked; 4, 5, 6 and 8 that the source, the sink, the desk or the
 /// room failed; 7 that the desk holds no image from which a session may begin; 9 that no number of a session is left; 10 that `init` found an
-/// image; 11 that recovery is too wide; 70 that memory ran out. The gate is not used yet.
-pub fn run<S: Source, K: Sink, R: Room, D: Desk, W: Gate, X: Wait>(
+/// image; 11 that recovery is too wide; 70 that memory ran out. Each job of a batch passes the gate before it begins.
+pub fn run<S: Source, K: Sink, R: Room, D: Desk, W: Gate, X: Threads + Wait + Sync>(
     rt: &X,
     alloc: Global,
     words: &[String],
@@ -110,7 +100,7 @@ pub fn run<S: Source, K: Sink, R: Room, D: Desk, W: Gate, X: Wait>(
     sink: &mut K,
     room: &mut R,
     desk: &mut D,
-    _gate: &W,
+    gate: &W,
 ) -> u8
     requires home { (n : ℕ) → R.out room.old n ≡ false }
     ensures runs { (status : Status) × (result ≡ code_of status) × Runs (map string_bytes words.now) drawn (seen_by (IsTrue S.tells) (S.left source.old) (S.left source.new) (IsTrue K.tells) (K.written sink.old) (K.written sink.new) (IsTrue D.tells) (D.held desk.old) (D.held desk.new) (IsTrue R.A.account.tells) (R.means room.old) (R.means room.new)) status }
@@ -120,6 +110,6 @@ pub fn run<S: Source, K: Sink, R: Room, D: Desk, W: Gate, X: Wait>(
     ensures desk { Caused (D.faults desk.old) (D.faults desk.new) (result ≡ 6) }
     ensures room { Caused (R.faults room.old) (R.faults room.new) (result ≡ 8) }
 {
-    let status = answer(rt, alloc, words, drawn, source, sink, room, desk);
+    let status = answer(rt, alloc, words, drawn, gate, source, sink, room, desk);
     status.code()
 }

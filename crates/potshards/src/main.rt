@@ -13,6 +13,7 @@ use std::env;
 use std::io::ErrorKind;
 use std::process::ExitCode;
 use std::sync::Wait;
+use std::thread::Threads;
 
 /// The exit status where standard input, or the system's source of random bytes, failed.
 const SOURCE_FAULT: u8 = 4;
@@ -31,7 +32,7 @@ fn words(rt: &HostRuntime) -> Option<Vec<String>> {
 }
 
 /// One session on the real objects, and its exit status. `turns` is the handle for waiting.
-fn session<X: Wait>(rt: &HostRuntime, turns: &X) -> u8 {
+fn session<X: Threads + Wait + Sync>(rt: &HostRuntime, turns: &X) -> u8 {
     let Ok(seed) = drawn(rt) else {
         return SOURCE_FAULT;
     };

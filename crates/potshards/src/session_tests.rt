@@ -7,6 +7,7 @@ use pot_session::run;
 use std::alloc::Global;
 use std::sync::Wait;
 use std::test::Fail;
+use std::thread::Threads;
 
 /// A rack of 12 archives.
 const TWELVE: &str =
@@ -25,7 +26,7 @@ fn new_desk(alloc: Global) -> SafeDesk<MemDisk> {
 }
 
 /// Calls the program over this desk and empty archives, and gives the status and what was written.
-fn call<X: Wait>(
+fn call<X: Threads + Wait + Sync>(
     turns: &X,
     alloc: Global,
     words: &str,
@@ -54,7 +55,11 @@ fn call<X: Wait>(
 }
 
 /// A desk with the image of a new archive.
-fn made<X: Wait>(turns: &X, alloc: Global, words: &str) -> Result<SafeDesk<MemDisk>, Fail> {
+fn made<X: Threads + Wait + Sync>(
+    turns: &X,
+    alloc: Global,
+    words: &str,
+) -> Result<SafeDesk<MemDisk>, Fail> {
     let mut desk = new_desk(alloc);
     let (status, written) = call(turns, alloc, words, &mut desk)?;
     if status == 0 && written.as_slice() == b"ready\n".as_slice() {
@@ -65,7 +70,11 @@ fn made<X: Wait>(turns: &X, alloc: Global, words: &str) -> Result<SafeDesk<MemDi
 }
 
 /// What a session writes after the image of a new archive was changed to this.
-fn answer<X: Wait>(turns: &X, alloc: Global, image: &[u8]) -> Result<(u8, Vec<u8>), Fail> {
+fn answer<X: Threads + Wait + Sync>(
+    turns: &X,
+    alloc: Global,
+    image: &[u8],
+) -> Result<(u8, Vec<u8>), Fail> {
     let mut desk = made(turns, alloc, SIX)?;
     desk.replace(image).map_err(|_| "replace")?;
     call(turns, alloc, "run", &mut desk)

@@ -5,19 +5,19 @@ use Rattle.pot_bytes.specs.Rack.{IsRack}
 use Rattle.pot_bytes.specs.declared.rack.Rack.{Rack}
 use Rattle.pot_image.specs.Images.{contents}
 use Rattle.pot_machine.specs.Table.{archives_in}
-use Rattle.pot_shared.proofs.SharingLemmas.{more_parts}
 use Rattle.pot_store.specs.Works.{known}
-use Rattle.pot_commands.specs.Rows.{HasFilled, IsWorked}
+use Rattle.pot_commands.specs.Rows.{HasFilled}
+use Rattle.pot_commands.specs.Steps.{IsWorkedStep}
 use Rattle.pot_commands.specs.Taking.{asked_by, lending}
 use Rattle.pot_session.specs.Serving.{HasSpaces, IsEnd}
 use Rattle.pot_session.proofs.Counts.{caused_both, caused_second}
 use Rattle.pot_session.proofs.LendLemmas.{first_used, have_come, home_after, image_low, low_after, marks_before, means_after, none_before_asked, none_first, out_after}
 use Rattle.pot_session.proofs.WorkLemmas.{are_worked, asked_low}
-use Rattle.pot_session.proofs.ServeLemmas.{has_filled, same_read, same_records, still_but_kept, still_all, serves_closed, end_of, sink_failed, room_failed, desk_failed}
+use Rattle.pot_session.proofs.ServeLemmas.{but_kept_parts, all_parts, has_filled, same_read, same_records, still_but_kept, still_all, serves_closed, end_of, sink_failed, room_failed, desk_failed}
 use Rattle.pot_session.proofs.serving.serve.Goals as goal
 
 pub work-ending-requires-clause-parts : goal.work-ending-requires-clause-parts
-work-ending-requires-clause-parts g c = λ bounds within. more_parts _ c.in-Ok.ensures.parts.0
+work-ending-requires-clause-parts g c = λ bounds within. (but_kept_parts _ c.in-Ok.ensures.parts.0, all_parts _ c.in-Ok.ensures.parts.1)
 
 pub work-ending-requires-clause-rack : goal.work-ending-requires-clause-rack
 work-ending-requires-clause-rack g c = λ bounds within. subst IsRack (sym c.in-Ok.ensures.same.2) c.requires.together.rack
@@ -30,7 +30,7 @@ work-ending-requires-clause-filled g c = λ bounds within.
 
 pub work-ending-requires-clause-worked : goal.work-ending-requires-clause-worked
 work-ending-requires-clause-worked g c = λ bounds within.
-    subst (λ (r : Rack). AllByRecursion (IsWorked r.groups) c.args.commands.now) (sym c.in-Ok.ensures.same.2) (are_worked c.args.image.rack c.args.commands.now c.requires.worked)
+    subst (λ (r : Rack). AllByRecursion (IsWorkedStep r.groups) c.args.steps.now) (sym c.in-Ok.ensures.same.2) (are_worked c.args.image.rack c.args.steps.now c.requires.worked)
 
 pub work-ending-requires-clause-used : goal.work-ending-requires-clause-used
 work-ending-requires-clause-used g c = λ bounds within.
@@ -41,10 +41,10 @@ close_session-closed-requires-clause-served g c = λ bounds within. (
   known c.in-Ok.opened.passes.groups c.in-Ok.opened.passes.index,
   (flat_map archives_in c.args.image.tables.items) ++ c.work-ending.ensures.took.taken,
   record { opened = c.in-Ok.ensures.opened; went = c.work-ending.ensures.went; stays = c.work-ending.ensures.stays },
-  have_come (IsTrue g.R.A.Archive.account.tells) _ (asked_by c.args.commands.now) (lending (g.R.Room.out c.open_session.new.room) (g.R.Room.means c.open_session.new.room)) (lending (g.R.Room.out c.work-ending.new.room) (g.R.Room.means c.work-ending.new.room)) (known c.in-Ok.opened.passes.groups c.in-Ok.opened.passes.index) (known c.work-ending.new.passes.groups c.work-ending.new.passes.index) c.work-ending.ensures.took.taken c.work-ending.ensures.took.takes c.work-ending.ensures.took.come (flat_map archives_in c.args.image.tables.items) c.in-Ok.ensures.out
+  have_come (IsTrue g.R.A.Archive.account.tells) _ (asked_by c.args.steps.now) (lending (g.R.Room.out c.open_session.new.room) (g.R.Room.means c.open_session.new.room)) (lending (g.R.Room.out c.work-ending.new.room) (g.R.Room.means c.work-ending.new.room)) (known c.in-Ok.opened.passes.groups c.in-Ok.opened.passes.index) (known c.work-ending.new.passes.groups c.work-ending.new.passes.index) c.work-ending.ensures.took.taken c.work-ending.ensures.took.takes c.work-ending.ensures.took.come (flat_map archives_in c.args.image.tables.items) c.in-Ok.ensures.out
       (ap (flat_map archives_in) (same_read _ _ _ _ c.in-Ok.ensures.ready.0 c.work-ending.ensures.ready c.work-ending.ensures.stays.groups ∙ c.in-Ok.ensures.read.0)),
-  out_after (IsTrue g.R.A.Archive.account.tells) _ (asked_by c.args.commands.now) (lending (g.R.Room.out c.open_session.new.room) (g.R.Room.means c.open_session.new.room)) (lending (g.R.Room.out c.work-ending.new.room) (g.R.Room.means c.work-ending.new.room)) (known c.in-Ok.opened.passes.groups c.in-Ok.opened.passes.index) (known c.work-ending.new.passes.groups c.work-ending.new.passes.index) c.work-ending.ensures.took.taken c.work-ending.ensures.took.takes c.work-ending.ensures.took.come (flat_map archives_in c.args.image.tables.items) c.in-Ok.ensures.out,
-  low_after (IsTrue g.R.A.Archive.account.tells) _ (asked_by c.args.commands.now) (lending (g.R.Room.out c.open_session.new.room) (g.R.Room.means c.open_session.new.room)) (lending (g.R.Room.out c.work-ending.new.room) (g.R.Room.means c.work-ending.new.room)) (known c.in-Ok.opened.passes.groups c.in-Ok.opened.passes.index) (known c.work-ending.new.passes.groups c.work-ending.new.passes.index) c.work-ending.ensures.took.taken c.work-ending.ensures.took.takes c.work-ending.ensures.took.come (flat_map archives_in c.args.image.tables.items) c.in-Ok.ensures.out (image_low (contents c.args.image) c.requires.together) (asked_low c.args.image.rack c.args.commands.now c.requires.worked),
+  out_after (IsTrue g.R.A.Archive.account.tells) _ (asked_by c.args.steps.now) (lending (g.R.Room.out c.open_session.new.room) (g.R.Room.means c.open_session.new.room)) (lending (g.R.Room.out c.work-ending.new.room) (g.R.Room.means c.work-ending.new.room)) (known c.in-Ok.opened.passes.groups c.in-Ok.opened.passes.index) (known c.work-ending.new.passes.groups c.work-ending.new.passes.index) c.work-ending.ensures.took.taken c.work-ending.ensures.took.takes c.work-ending.ensures.took.come (flat_map archives_in c.args.image.tables.items) c.in-Ok.ensures.out,
+  low_after (IsTrue g.R.A.Archive.account.tells) _ (asked_by c.args.steps.now) (lending (g.R.Room.out c.open_session.new.room) (g.R.Room.means c.open_session.new.room)) (lending (g.R.Room.out c.work-ending.new.room) (g.R.Room.means c.work-ending.new.room)) (known c.in-Ok.opened.passes.groups c.in-Ok.opened.passes.index) (known c.work-ending.new.passes.groups c.work-ending.new.passes.index) c.work-ending.ensures.took.taken c.work-ending.ensures.took.takes c.work-ending.ensures.took.come (flat_map archives_in c.args.image.tables.items) c.in-Ok.ensures.out (image_low (contents c.args.image) c.requires.together) (asked_low c.args.image.rack c.args.steps.now c.requires.worked),
 )
 
 pub close_session-closed-requires-clause-parts : goal.close_session-closed-requires-clause-parts
@@ -61,16 +61,16 @@ close_session-closed-requires-clause-rack g c = λ bounds within. c.in-Ok.ensure
 
 pub returns-clause-untouched : goal.returns-clause-untouched
 returns-clause-untouched g c n none =
-    c.close_session-closed.ensures.untouched n (home_after (IsTrue g.R.A.Archive.account.tells) _ (asked_by c.args.commands.now) (lending (g.R.Room.out c.open_session.new.room) (g.R.Room.means c.open_session.new.room)) (lending (g.R.Room.out c.work-ending.new.room) (g.R.Room.means c.work-ending.new.room)) (known c.in-Ok.opened.passes.groups c.in-Ok.opened.passes.index) (known c.work-ending.new.passes.groups c.work-ending.new.passes.index) c.work-ending.ensures.took.taken c.work-ending.ensures.took.takes c.work-ending.ensures.took.come (flat_map archives_in c.args.image.tables.items) c.in-Ok.ensures.out n none)
-    ∙ (means_after (IsTrue g.R.A.Archive.account.tells) _ (asked_by c.args.commands.now) (lending (g.R.Room.out c.open_session.new.room) (g.R.Room.means c.open_session.new.room)) (lending (g.R.Room.out c.work-ending.new.room) (g.R.Room.means c.work-ending.new.room)) (known c.in-Ok.opened.passes.groups c.in-Ok.opened.passes.index) (known c.work-ending.new.passes.groups c.work-ending.new.passes.index) c.work-ending.ensures.took.taken c.work-ending.ensures.took.takes c.work-ending.ensures.took.come (flat_map archives_in c.args.image.tables.items) c.in-Ok.ensures.out n none
-    ∙ c.open_session.ensures.untouched n (none_first (IsTrue g.R.A.Archive.account.tells) _ (asked_by c.args.commands.now) (lending (g.R.Room.out c.open_session.new.room) (g.R.Room.means c.open_session.new.room)) (lending (g.R.Room.out c.work-ending.new.room) (g.R.Room.means c.work-ending.new.room)) (known c.in-Ok.opened.passes.groups c.in-Ok.opened.passes.index) (known c.work-ending.new.passes.groups c.work-ending.new.passes.index) c.work-ending.ensures.took.taken c.work-ending.ensures.took.takes c.work-ending.ensures.took.come (flat_map archives_in c.args.image.tables.items) c.in-Ok.ensures.out n none))
+    c.close_session-closed.ensures.untouched n (home_after (IsTrue g.R.A.Archive.account.tells) _ (asked_by c.args.steps.now) (lending (g.R.Room.out c.open_session.new.room) (g.R.Room.means c.open_session.new.room)) (lending (g.R.Room.out c.work-ending.new.room) (g.R.Room.means c.work-ending.new.room)) (known c.in-Ok.opened.passes.groups c.in-Ok.opened.passes.index) (known c.work-ending.new.passes.groups c.work-ending.new.passes.index) c.work-ending.ensures.took.taken c.work-ending.ensures.took.takes c.work-ending.ensures.took.come (flat_map archives_in c.args.image.tables.items) c.in-Ok.ensures.out n none)
+    ∙ (means_after (IsTrue g.R.A.Archive.account.tells) _ (asked_by c.args.steps.now) (lending (g.R.Room.out c.open_session.new.room) (g.R.Room.means c.open_session.new.room)) (lending (g.R.Room.out c.work-ending.new.room) (g.R.Room.means c.work-ending.new.room)) (known c.in-Ok.opened.passes.groups c.in-Ok.opened.passes.index) (known c.work-ending.new.passes.groups c.work-ending.new.passes.index) c.work-ending.ensures.took.taken c.work-ending.ensures.took.takes c.work-ending.ensures.took.come (flat_map archives_in c.args.image.tables.items) c.in-Ok.ensures.out n none
+    ∙ c.open_session.ensures.untouched n (none_first (IsTrue g.R.A.Archive.account.tells) _ (asked_by c.args.steps.now) (lending (g.R.Room.out c.open_session.new.room) (g.R.Room.means c.open_session.new.room)) (lending (g.R.Room.out c.work-ending.new.room) (g.R.Room.means c.work-ending.new.room)) (known c.in-Ok.opened.passes.groups c.in-Ok.opened.passes.index) (known c.work-ending.new.passes.groups c.work-ending.new.passes.index) c.work-ending.ensures.took.taken c.work-ending.ensures.took.takes c.work-ending.ensures.took.come (flat_map archives_in c.args.image.tables.items) c.in-Ok.ensures.out n none))
 
 pub returns-clause-serves : goal.returns-clause-serves
 returns-clause-serves g c =
-    serves_closed c.args.seed.now (contents c.args.image) c.args.commands.now _ _ _ _ (IsTrue g.D.Desk.tells) (g.D.Desk.held c.args.desk.now) _ _ _ (known c.in-Ok.opened.passes.groups c.in-Ok.opened.passes.index) _ c.work-ending.result
+    serves_closed c.args.seed.now (contents c.args.image) c.args.steps.now _ _ _ _ (IsTrue g.D.Desk.tells) (g.D.Desk.held c.args.desk.now) _ _ _ (known c.in-Ok.opened.passes.groups c.in-Ok.opened.passes.index) _ c.work-ending.result
     c.close_session-closed.result _ c.in-Ok.ensures.opened c.in-Ok.ensures.read.0 c.in-Ok.ensures.read.1 c.in-Ok.ensures.same.2 c.in-Ok.ensures.same.0 c.work-ending.ensures.ends
     (c.close_session-closed.ensures.closes _ (contents c.args.image) (g.R.Room.means c.args.room.now) (record { opened = c.in-Ok.ensures.opened; went = c.work-ending.ensures.went; stays = c.work-ending.ensures.stays }) c.in-Ok.ensures.marked
-    (marks_before (IsTrue g.R.A.Archive.account.tells) _ (asked_by c.args.commands.now) (lending (g.R.Room.out c.open_session.new.room) (g.R.Room.means c.open_session.new.room)) (lending (g.R.Room.out c.work-ending.new.room) (g.R.Room.means c.work-ending.new.room)) (known c.in-Ok.opened.passes.groups c.in-Ok.opened.passes.index) (known c.work-ending.new.passes.groups c.work-ending.new.passes.index) c.work-ending.ensures.took.taken c.work-ending.ensures.took.takes c.work-ending.ensures.took.come (flat_map archives_in c.args.image.tables.items) c.in-Ok.ensures.out (g.R.Room.means c.args.room.now) c.open_session.ensures.untouched) (record {
+    (marks_before (IsTrue g.R.A.Archive.account.tells) _ (asked_by c.args.steps.now) (lending (g.R.Room.out c.open_session.new.room) (g.R.Room.means c.open_session.new.room)) (lending (g.R.Room.out c.work-ending.new.room) (g.R.Room.means c.work-ending.new.room)) (known c.in-Ok.opened.passes.groups c.in-Ok.opened.passes.index) (known c.work-ending.new.passes.groups c.work-ending.new.passes.index) c.work-ending.ensures.took.taken c.work-ending.ensures.took.takes c.work-ending.ensures.took.come (flat_map archives_in c.args.image.tables.items) c.in-Ok.ensures.out (g.R.Room.means c.args.room.now) c.open_session.ensures.untouched) (record {
       is_session = sym c.in-Ok.ensures.same.0;
       is_rack = sym c.in-Ok.ensures.same.1;
       are_tables = sym (same_read _ _ _ _ c.in-Ok.ensures.ready.0 c.work-ending.ensures.ready c.work-ending.ensures.stays.groups ∙ c.in-Ok.ensures.read.0);
@@ -99,8 +99,8 @@ returns-clause-desk g c = record {
 
 pub returns-in-Err-Failed-clause-untouched : goal.returns-in-Err-Failed-clause-untouched
 returns-in-Err-Failed-clause-untouched g c n none =
-    c.open_session.ensures.untouched n (none_before_asked n (flat_map archives_in c.args.image.tables.items) (asked_by c.args.commands.now) none)
+    c.open_session.ensures.untouched n (none_before_asked n (flat_map archives_in c.args.image.tables.items) (asked_by c.args.steps.now) none)
 
 pub returns-in-Err-NoMemory-clause-untouched : goal.returns-in-Err-NoMemory-clause-untouched
 returns-in-Err-NoMemory-clause-untouched g c n none =
-    c.open_session.ensures.untouched n (none_before_asked n (flat_map archives_in c.args.image.tables.items) (asked_by c.args.commands.now) none)
+    c.open_session.ensures.untouched n (none_before_asked n (flat_map archives_in c.args.image.tables.items) (asked_by c.args.steps.now) none)

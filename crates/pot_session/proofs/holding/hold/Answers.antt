@@ -1,11 +1,13 @@
-use Rattle.std.proofs.Common.{refl, ap, sym, subst}
+use Rattle.std.proofs.Common.{◌≤◌, ◌^◌, refl, ap, sym, subst}
 use Rattle.std.specs.List.{AllByRecursion}
 use Rattle.pot_bytes.specs.declared.rack.Rack.{Rack}
 use Rattle.pot_image.specs.Images.{Contents}
+use Rattle.pot_commands.specs.Ends.{next_job}
 use Rattle.pot_session.specs.Commands.{IsStep}
 use Rattle.pot_session.specs.Runs.{Stopped}
+use Rattle.pot_session.proofs.ScriptLemmas.{jobs_numbered}
 use Rattle.pot_session.proofs.TopLemmas.{served}
-use Rattle.pot_session.proofs.top.hold.Goals as goal
+use Rattle.pot_session.proofs.holding.hold.Goals as goal
 
 pub returns-in-Ok-clause-holds : goal.returns-in-Ok-clause-holds
 returns-in-Ok-clause-holds g c =
@@ -18,4 +20,8 @@ pub serve-requires-clause-worked : goal.serve-requires-clause-worked
 serve-requires-clause-worked g c = λ bounds within.
     let p = c.in-Ok.ensures.prepared in
     subst (AllByRecursion (IsStep c.in-Ok.field-0.image.rack)) (sym c.deref.ensures.value)
-    (subst (λ (r : Rack). AllByRecursion (IsStep r) c.in-Ok.field-0.commands.items) (sym (ap (λ (v : Contents). v.rack) p.is)) p.of.script.goes_on)
+    (subst (λ (r : Rack). AllByRecursion (IsStep r) c.in-Ok.field-0.steps.items) (sym (ap (λ (v : Contents). v.rack) p.is)) p.of.script.goes_on)
+
+pub serve-requires-clause-few : goal.serve-requires-clause-few
+serve-requires-clause-few g c = λ bounds within.
+    subst (λ ss. next_job ss ≤ 2 ^ 31) (sym c.deref.ensures.value) (jobs_numbered c.in-Ok.field-0.steps.items c.in-Ok.ensures.prepared.of.script.few)

@@ -1,0 +1,82 @@
+-- The session of a generated script.
+use Rattle.std.proofs.Common.{◌≡◌, ℕ, true, List, [], Option, Some, None, ap, sym, subst, ◌∙◌}
+use Rattle.std.specs.Prelude.{IsTrue, Result, Ok, Err}
+use Rattle.std.specs.Result.{is_ok}
+use Rattle.pot_bytes.specs.declared.rack.Rack.{Rack}
+use Rattle.pot_outside.specs.Archives.{Meaning}
+use Rattle.pot_outside.specs.declared.archive.Shelf.{Shelf}
+use Rattle.pot_outside.specs.declared.faults.Failed.{Failed}
+use Rattle.pot_doubles.specs.declared.archive.LossyArchive.{LossyArchive}
+use Rattle.pot_doubles.specs.Rooms.{archive_of, meaning_of}
+use Rattle.pot_generator.specs.Generated.{generated}
+use Rattle.pot_generator.specs.Runs.{rack_of_runs, seed_of}
+use Rattle.pot_image.specs.Spelling.{image_bytes}
+use Rattle.pot_script.specs.Scripts.{script_text}
+use Rattle.pot_session.specs.declared.status.Status.{Status}
+use Rattle.pot_session.specs.declared.status.Status.TheVariants as status
+use Rattle.pot_session.specs.Generating.{Generates, IsGenerated, Told, Starved, answer_of, is_answered}
+use Rattle.pot_session.specs.declared.stop.Stop.{Stop}
+use Rattle.pot_session.specs.Making.{Makes, empty_contents}
+use Rattle.pot_session.specs.Runs.{Holds, seen_by}
+
+-- a session over these objects is one of the number
+pub is_generated : (number : ℕ) (rack : Rack) (seed input rest before bytes : List ℕ) (held holds : Option (List ℕ)) (meant means : ℕ → Meaning) (ended : Status)
+    → rack ≡ rack_of_runs → seed ≡ seed_of number → input ≡ script_text (generated number) → before ≡ [] → held ≡ Some (image_bytes (empty_contents rack))
+    → ((n : ℕ) → meant n ≡ meaning_of None)
+    → Holds seed (seen_by (IsTrue true) input rest (IsTrue true) before bytes (IsTrue true) held holds (IsTrue true) meant means) ended → IsGenerated number bytes ended
+is_generated number rack seed input rest before bytes held holds meant means ended same_rack same_seed same_input none is_held empty session = record {
+  rest = rest;
+  holds = holds;
+  meant = meant;
+  means = means;
+  empty = empty;
+  session =
+      subst (λ (r : Rack). Holds (seed_of number) (seen_by (IsTrue true) (script_text (generated number)) rest (IsTrue true) [] bytes (IsTrue true) (Some (image_bytes (empty_contents r))) holds (IsTrue true) meant means) ended) same_rack
+      (subst (λ h. Holds (seed_of number) (seen_by (IsTrue true) (script_text (generated number)) rest (IsTrue true) [] bytes (IsTrue true) h holds (IsTrue true) meant means) ended) is_held
+      (subst (λ b. Holds (seed_of number) (seen_by (IsTrue true) (script_text (generated number)) rest (IsTrue true) b bytes (IsTrue true) held holds (IsTrue true) meant means) ended) none
+      (subst (λ i. Holds (seed_of number) (seen_by (IsTrue true) i rest (IsTrue true) before bytes (IsTrue true) held holds (IsTrue true) meant means) ended) same_input
+      (subst (λ s. Holds s (seen_by (IsTrue true) input rest (IsTrue true) before bytes (IsTrue true) held holds (IsTrue true) meant means) ended) same_seed session))));
+}
+
+-- a new archive was made
+pub image_made : (rack : Rack) (before after : Option (List ℕ)) (r : Result (Unit {0}) Stop) → is_ok r ≡ true → Makes rack before after r → after ≡ Some (image_bytes (empty_contents rack))
+image_made rack before after (Ok u) h made = made.1
+image_made rack before after (Err e) h made = absurd (cc h)
+
+-- a room without archives means an empty one by each number
+pub meant_empty : (shelves : List (Shelf LossyArchive)) (n : ℕ) {m : Meaning} → shelves ≡ [] → m ≡ meaning_of (archive_of shelves n) → m ≡ meaning_of None
+meant_empty shelves n none is = is ∙ ap (λ s. meaning_of (archive_of s n)) none
+
+-- THE STATUS
+
+-- the statuses of `generate`
+abbrev IsGenerateStatus : Status → Type 0
+IsGenerateStatus status.Good = Unit {0}
+IsGenerateStatus status.Refusals = Unit {0}
+IsGenerateStatus status.SinkFault = Unit {0}
+IsGenerateStatus status.NoMemory = Unit {0}
+IsGenerateStatus _ = ⊥
+
+answered_status : (ended : Status) → is_answered ended ≡ true → IsGenerateStatus ended
+answered_status status.Good h = tt
+answered_status status.Refusals h = tt
+answered_status _ h = absurd (cc h)
+
+wrote_status : (ended : Status) (wrote : Result (Unit {0}) Failed) → is_answered ended ≡ true → IsGenerateStatus (answer_of ended wrote)
+wrote_status ended (Ok u) h = answered_status ended h
+wrote_status ended (Err e) h = tt
+
+module _ (number : ℕ) (sink_told : Type 0) (before after : List ℕ) (answer : Status) where
+  generate_status : Generates number sink_told before after answer → IsGenerateStatus answer
+  generate_status (Told bytes ended is answered wrote writes gives) = subst IsGenerateStatus (sym gives) (wrote_status ended wrote answered)
+  generate_status (Starved is same) = subst IsGenerateStatus (sym is) tt
+
+  -- it fails neither for the source, the room nor the desk
+  pub generate_source : Generates number sink_told before after answer → answer ≡ status.SourceFault → ⊥
+  generate_source h e = subst IsGenerateStatus e (generate_status h)
+
+  pub generate_room : Generates number sink_told before after answer → answer ≡ status.RoomFault → ⊥
+  generate_room h e = subst IsGenerateStatus e (generate_status h)
+
+  pub generate_desk : Generates number sink_told before after answer → answer ≡ status.DeskFault → ⊥
+  generate_desk h e = subst IsGenerateStatus e (generate_status h)

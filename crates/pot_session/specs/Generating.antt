@@ -1,0 +1,53 @@
+-- The generator: the script of a number, worked by a session over new archives in memory.
+use Rattle.std.specs.Prelude.{◌≡◌, ◌++◌, ℕ, Bool, true, false, IsTrue, List, [], Option, Some, None, Result, Ok, Err, codes}
+use Rattle.std.specs.List.{count_by}
+use Rattle.pot_bytes.specs.Digests.{digest_bytes}
+use Rattle.pot_outside.specs.Archives.{Meaning}
+use Rattle.pot_outside.specs.declared.faults.Failed.{Failed}
+use Rattle.pot_doubles.specs.Rooms.{meaning_of}
+use Rattle.pot_generator.specs.Generated.{generated}
+use Rattle.pot_generator.specs.Runs.{is_replied, rack_of_runs, seed_of}
+use Rattle.pot_image.specs.Spelling.{image_bytes}
+use Rattle.pot_script.specs.Replies.{in_hex, spaced}
+use Rattle.pot_script.specs.Scripts.{script_text}
+use Rattle.pot_commands.specs.Streams.{IsWritten}
+use Rattle.pot_session.specs.declared.status.Status.{Status}
+use Rattle.pot_session.specs.declared.status.Status.TheVariants as status
+use Rattle.pot_session.specs.Making.{empty_contents}
+use Rattle.pot_session.specs.Runs.{Holds, seen_by}
+
+-- A session wrote these bytes and ended so, that read the script of the number, over a desk with a new archive of the generator's rack
+-- and a room without blocks, with the generator's seed.
+pub record IsGenerated (number : ℕ) (bytes : List ℕ) (ended : Status) : Type 0 where
+  pub rest : List ℕ
+  pub holds : Option (List ℕ)
+  pub meant : ℕ → Meaning
+  pub means : ℕ → Meaning
+  pub empty : (n : ℕ) → meant n ≡ meaning_of None
+  pub session : Holds (seed_of number)
+      (seen_by (IsTrue true) (script_text (generated number)) rest (IsTrue true) [] bytes (IsTrue true)
+      (Some (image_bytes (empty_contents rack_of_runs))) holds (IsTrue true) meant means) ended
+
+-- all commands of such a session were answered
+abbrev pub is_answered : Status → Bool
+is_answered status.Good = true
+is_answered status.Refusals = true
+is_answered _ = false
+
+-- the number, how many replies its script has, and the digest of all that the session wrote
+abbrev pub summary : ℕ → List ℕ → List ℕ
+summary number bytes =
+    codes "generated" ++ spaced number ++ spaced (count_by is_replied (generated number)) ++ codes "\ndigest"
+    ++ in_hex (record { bytes = digest_bytes bytes }) ++ codes "\n"
+
+-- the status of the session, or the sink failed
+abbrev pub answer_of : Status → Result (Unit {0}) Failed → Status
+answer_of ended (Ok u) = ended
+answer_of ended (Err e) = status.SinkFault
+
+-- Such a session was held, and its summary was written; or memory ran out, and nothing was.
+pub data Generates (number : ℕ) (sink_told : Type 0) (before after : List ℕ) (answer : Status) : Type 0 where
+  Told : (bytes : List ℕ) (ended : Status) → IsGenerated number bytes ended → is_answered ended ≡ true
+      → (wrote : Result (Unit {0}) Failed) → (sink_told → IsWritten before after (summary number bytes) wrote)
+      → answer ≡ answer_of ended wrote → Generates number sink_told before after answer
+  Starved : answer ≡ status.NoMemory → (sink_told → after ≡ before) → Generates number sink_told before after answer

@@ -1,0 +1,187 @@
+//! An audit: how many points of each piece of each file of a desk are exposed to a coalition.
+
+ghost use Rattle.std.specs.Prelude.{◌≡◌, ◌++◌, List, All, IsTrue, IfOk, OnOk, IsErrOf};
+ghost use Rattle.std.specs.List.{list_any};
+ghost use Rattle.pot_bytes.specs.Rack.{IsRack};
+ghost use Rattle.pot_index.specs.Fits.{FitsRack};
+ghost use Rattle.pot_image.specs.Images.{contents};
+ghost use Rattle.pot_image.specs.Rules.{FitsTogether};
+ghost use Rattle.pot_outside.specs.Counts.{Caused};
+ghost use Rattle.pot_audit.specs.declared.veil.Veil.{Veil};
+ghost use Rattle.pot_audit.specs.Exposure.{AreSpots};
+ghost use Rattle.pot_audit.specs.Veils.{AreVeils};
+ghost use Rattle.pot_session.specs.Audits.{AuditAnswers, Audits, IsAudit, PutsAudit, are_of, is_bare, spots_of, veil_line, veil_lines};
+
+use crate::desk::read_desk;
+use crate::listing::ListFault;
+use crate::refusing::refuse;
+use crate::spelling::append_number;
+use crate::status::Status;
+use crate::stop::Stop;
+use crate::telling::Telling;
+use pot_audit::{Spot, Veil, audit_record};
+use pot_bytes::{Name, NoMemory, Rack};
+use pot_commands::write_out;
+use pot_image::Image;
+use pot_index::Record;
+use pot_outside::{Desk, Failed, Sink};
+use pot_words::Audit;
+use std::alloc::{AllocError, Global};
+
+// THE COALITION
+
+/// Whether the rack has all columns that the words name.
+fn are_of(task: &Audit, rack: &Rack) -> bool
+    requires { IsRack rack.now }
+    ensures { result ≡ are_of rack.now task.now }
+{
+    let columns = rack.columns + rack.parity;
+    task.seen
+        .as_slice()
+        .iter()
+        .all(|s| s.group < rack.groups && s.column < columns)
+}
+
+/// The columns that the words name.
+fn spots_of(alloc: Global, task: &Audit) -> Result<Vec<Spot>, AllocError>
+    ensures { IfOk result (λ v. v.items ≡ spots_of task.now) }
+{
+    task.seen
+        .as_slice()
+        .iter()
+        .map(|s| Spot {
+            group: s.group,
+            column: s.column,
+        })
+        .collect(alloc)
+}
+
+// LINES
+
+/// Adds the line of a piece.
+fn append_veil(text: &mut Vec<u8>, name: &Name, veil: Veil) -> Result<(), AllocError>
+    ensures { OnOk result (text.new.items ≡ text.old.items ++ veil_line name.now veil) }
+{
+    text.extend_from_slice(b"veil ")?;
+    text.extend_from_slice(name.bytes())?;
+    append_number(text, u64::from(veil.split))?;
+    append_number(text, u64::from(veil.piece))?;
+    append_number(text, u64::from(veil.fragment))?;
+    append_number(text, u64::from(veil.have))?;
+    append_number(text, u64::from(veil.need))?;
+    text.extend_from_slice(b"\n")
+}
+
+/// The lines of a record.
+fn veil_lines(alloc: Global, name: &Name, veils: &[Veil]) -> Result<Vec<u8>, AllocError>
+    ensures { IfOk result (λ v. v.items ≡ veil_lines name.now veils.now) }
+{
+    let mut text = Vec::new(alloc);
+    for veil in veils {
+        append_veil(&mut text, name, *veil)?;
+    }
+    Ok(text)
+}
+
+/// Whether some piece is bare: as many points of each of its fragments are exposed as give it back.
+fn has_bare(veils: &[Veil]) -> bool
+    ensures { result ≡ list_any is_bare veils.now }
+{
+    veils.iter().any(|v| v.need <= v.have)
+}
+
+/// The lines of a record, and whether some piece of it is bare.
+fn audit_text(
+    alloc: Global,
+    kept: &Record,
+    rack: &Rack,
+    spots: &[Spot],
+) -> Result<Telling, NoMemory>
+    requires rack { IsRack rack.now }
+    requires fits { FitsRack rack.now kept.now }
+    requires spots { AreSpots rack.now spots.now }
+    ensures { IfOk result (λ t. (veils : List Veil) × AreVeils rack.now spots.now kept.now veils
+        × (t.text.items ≡ veil_lines kept.now.name veils) × (t.refused ≡ list_any is_bare veils)) }
+{
+    let veils = audit_record(alloc, kept, rack, spots)?;
+    let text = veil_lines(alloc, &kept.name, veils.as_slice())?;
+    let refused = has_bare(veils.as_slice());
+    Ok(Telling { text, refused })
+}
+
+// THE WHOLE
+
+/// Writes the lines of all records. Answers whether some piece of one is bare.
+fn put_audit<K: Sink>(
+    alloc: Global,
+    records: &[Record],
+    rack: &Rack,
+    spots: &[Spot],
+    sink: &mut K,
+) -> Result<bool, ListFault>
+    requires rack { IsRack rack.now }
+    requires fits { All (FitsRack rack.now) records.now }
+    requires spots { AreSpots rack.now spots.now }
+    ensures puts { PutsAudit (IsTrue K.tells) (K.written sink.old) (K.written sink.new)
+        rack.now spots.now records.now result }
+    ensures cause { Caused (K.faults sink.old) (K.faults sink.new) (IsErrOf result ListFault.SinkFault) }
+{
+    let mut bare = false;
+    for kept in records {
+        let telling = match audit_text(alloc, kept, rack, spots) {
+            Ok(telling) => telling,
+            Err(NoMemory) => return Err(ListFault::NoMemory),
+        };
+        match write_out(sink, &telling.text) {
+            Ok(()) => bare |= telling.refused,
+            Err(Failed) => return Err(ListFault::SinkFault),
+        }
+    }
+    Ok(bare)
+}
+
+/// Tells the audit of an image whose rack has all columns that the words name.
+fn tell_audit<K: Sink>(alloc: Global, task: &Audit, image: &Image, sink: &mut K) -> Status
+    requires task { IsAudit task.now }
+    requires fits { FitsTogether (contents image.now) }
+    requires of { IsTrue (are_of image.now.rack task.now) }
+    ensures answers { AuditAnswers (IsTrue K.tells) (K.written sink.old) (K.written sink.new)
+        image.now.rack (spots_of task.now) image.now.records.items result }
+    ensures cause { Caused (K.faults sink.old) (K.faults sink.new) (result ≡ Status.SinkFault) }
+{
+    let Ok(spots) = spots_of(alloc, task) else {
+        return Status::NoMemory;
+    };
+    match put_audit(alloc, &image.records, &image.rack, &spots, sink) {
+        Ok(true) => Status::Refusals,
+        Ok(false) => Status::Good,
+        Err(ListFault::SinkFault) => Status::SinkFault,
+        Err(ListFault::NoMemory) => Status::NoMemory,
+    }
+}
+
+/// Tells how many points of each piece of each file of the desk are exposed to the coalition that the words name. The desk's image stays.
+pub fn audit_files<K: Sink, D: Desk>(
+    alloc: Global,
+    task: &Audit,
+    sink: &mut K,
+    desk: &mut D,
+) -> Status
+    requires task { IsAudit task.now }
+    ensures audits { Audits task.now (IsTrue D.tells) (D.held desk.old)
+        (IsTrue K.tells) (K.written sink.old) (K.written sink.new) result }
+    ensures keeps { IsTrue D.tells → D.held desk.new ≡ D.held desk.old }
+    ensures sink { Caused (K.faults sink.old) (K.faults sink.new) (result ≡ Status.SinkFault) }
+    ensures desk { Caused (D.faults desk.old) (D.faults desk.new) (result ≡ Status.DeskFault) }
+{
+    match read_desk(alloc, desk) {
+        Ok(image) => {
+            if are_of(task, &image.rack) {
+                tell_audit(alloc, task, &image, sink)
+            } else {
+                refuse(alloc, Stop::Words, sink)
+            }
+        }
+        Err(stop) => refuse(alloc, stop, sink),
+    }
+}

@@ -1,0 +1,106 @@
+//! The generator: the script of a number, worked by a session over new archives in memory.
+
+ghost use Rattle.std.specs.Prelude.{◌≡◌, ◌≤◌, IsTrue, IfOk};
+ghost use Rattle.pot_outside.specs.Counts.{Caused};
+ghost use Rattle.pot_doubles.specs.Streams.{written_to};
+ghost use Rattle.pot_session.specs.Generating.{Generates, IsGenerated, is_answered, summary};
+
+use crate::holding::hold;
+use crate::making::make_image;
+use crate::spelling::{append_digest, append_number};
+use crate::status::Status;
+use pot_bytes::{NoMemory, digest_of};
+use pot_commands::write_out;
+use pot_doubles::{MemDesk, MemRoom, MemSink, MemSource, OpenGate};
+use pot_generator::{
+    generate_script, generator_rack, generator_replies, generator_seed, generator_workers,
+};
+use pot_outside::{Failed, Sink};
+use std::alloc::{AllocError, Global};
+use std::sync::Wait;
+use std::thread::Threads;
+
+/// How a session ended, and the sink that it wrote to.
+#[derive(Drop)]
+struct Ran {
+    status: Status,
+    sink: MemSink,
+}
+
+/// Holds the session of a number.
+fn run_in_memory<X: Threads + Wait + Sync>(
+    rt: &X,
+    alloc: Global,
+    number: u32,
+) -> Result<Ran, NoMemory>
+    requires { (1 ≤ number) × (number ≤ 1000000) }
+    ensures { IfOk result (λ r. IsGenerated number (written_to r.sink) r.status) }
+{
+    let script = generate_script(alloc, number)?;
+    let mut desk = MemDesk::new(alloc, None, Vec::new(alloc));
+    if make_image(alloc, &generator_rack(), &mut desk).is_err() {
+        return Err(NoMemory);
+    }
+    let mut source = MemSource::new(script, Vec::new(alloc));
+    let mut sink = MemSink::new(alloc, Vec::new(alloc));
+    let mut room = MemRoom::new(alloc, Vec::new(alloc), Vec::new(alloc));
+    let status = hold(
+        rt,
+        alloc,
+        &generator_seed(number),
+        generator_workers(),
+        &OpenGate,
+        &mut source,
+        &mut sink,
+        &mut room,
+        &mut desk,
+    );
+    Ok(Ran { status, sink })
+}
+
+/// Whether all commands of a session that ended so were answered. Objects in memory fail for want of memory alone.
+fn is_answered(status: Status) -> bool
+    ensures { result ≡ is_answered status }
+{
+    matches!(status, Status::Good | Status::Refusals)
+}
+
+/// The lines of a run: how many replies its script has, and the digest of all that was written.
+fn summary(alloc: Global, number: u32, written: &[u8]) -> Result<Vec<u8>, AllocError>
+    ensures { IfOk result (λ v. v.items ≡ summary number written.now) }
+{
+    let mut text = Vec::new(alloc);
+    text.extend_from_slice(b"generated")?;
+    append_number(&mut text, u64::from(number))?;
+    append_number(&mut text, u64::from(generator_replies()))?;
+    text.extend_from_slice(b"\ndigest")?;
+    append_digest(&mut text, digest_of(written))?;
+    text.extend_from_slice(b"\n")?;
+    Ok(text)
+}
+
+/// Works the script of a number over objects in memory, and writes how many replies it has and the digest of all that was written.
+pub fn generate<K: Sink, X: Threads + Wait + Sync>(
+    rt: &X,
+    alloc: Global,
+    number: u32,
+    sink: &mut K,
+) -> Status
+    requires limits { (1 ≤ number) × (number ≤ 1000000) }
+    ensures generates { Generates number (IsTrue K.tells) (K.written sink.old) (K.written sink.new) result }
+    ensures sink { Caused (K.faults sink.old) (K.faults sink.new) (result ≡ Status.SinkFault) }
+{
+    let Ok(ran) = run_in_memory(rt, alloc, number) else {
+        return Status::NoMemory;
+    };
+    if !is_answered(ran.status) {
+        return Status::NoMemory;
+    }
+    let Ok(text) = summary(alloc, number, ran.sink.written()) else {
+        return Status::NoMemory;
+    };
+    match write_out(sink, &text) {
+        Ok(()) => ran.status,
+        Err(Failed) => Status::SinkFault,
+    }
+}
