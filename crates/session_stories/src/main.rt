@@ -16,6 +16,7 @@ mod outside;
 mod scene;
 mod scripts;
 mod story;
+mod stripes;
 mod told;
 mod turns;
 mod words;
@@ -27,6 +28,7 @@ use std::io;
 use std::io::Write;
 use std::process::ExitCode;
 use std::sync::Wait;
+use std::thread::Threads;
 use story::tell_in_turn;
 use told::Told;
 
@@ -53,7 +55,11 @@ fn starts_of(alloc: Global, lines: &[&str]) -> Result<Vec<usize>, AllocError> {
 }
 
 /// Tells the stories of these lines.
-fn tell_stories<X: Wait>(rt: &HostRuntime, turns: &X, lines: &[&str]) -> io::Result<bool> {
+fn tell_stories<X: Threads + Wait + Sync>(
+    rt: &HostRuntime,
+    turns: &X,
+    lines: &[&str],
+) -> io::Result<bool> {
     let alloc = rt.alloc();
     let starts = starts_of(alloc, lines)?;
     let mut output = io::writer(rt);
@@ -75,7 +81,7 @@ fn tell_stories<X: Wait>(rt: &HostRuntime, turns: &X, lines: &[&str]) -> io::Res
     Ok(true)
 }
 
-fn tell_input<X: Wait>(rt: &HostRuntime, turns: &X) -> io::Result<bool> {
+fn tell_input<X: Threads + Wait + Sync>(rt: &HostRuntime, turns: &X) -> io::Result<bool> {
     let input = io::read_to_string(rt.alloc(), rt.reader())?;
     let text = input.as_str();
     let whole = text.strip_suffix('\n').unwrap_or(text);

@@ -3,12 +3,15 @@ ghost use Rattle.std.specs.Prelude.{◌≡◌, ℕ, false};
 ghost use Rattle.pot_doubles.specs.Rooms.{is_out};
 
 use crate::fault::Fault;
-use pot_doubles::{Loss, LossyArchive, MemDesk, MemRoom, MemSink, MemSource, OpenGate};
-use pot_outside::{Desk, Shelf};
+use crate::words::{number_and_word, number_of};
+use pot_bytes::NoMemory;
+use pot_doubles::{Loss, LossyArchive, MemDesk, MemRoom, MemSink, MemSource};
+use pot_outside::{Desk, Gate, Shelf};
 use pot_session::run;
 use std::alloc::{AllocError, Global};
 use std::mem;
 use std::sync::Wait;
+use std::thread::Threads;
 
 /// One more than the greatest number of an archive.
 pub const ARCHIVES: u32 = 512;
@@ -33,6 +36,53 @@ pub struct Outside {
     pub sink_fails: Vec<u32>,
     pub desk_fails: Vec<u32>,
     ghost home: { (n : ℕ) → is_out room n ≡ false },
+}
+
+/// Lists so many calls, from this one on.
+pub fn list_calls(fails: &mut Vec<u32>, first: u32, count: u32) -> Result<(), AllocError> {
+    for call in first..first.saturating_add(count) {
+        fails.push(call)?;
+    }
+    Ok(())
+}
+
+impl Troubles {
+    /// Lists so many calls of the room, or of an archive, from one on, as the words behind `fail` or `stop` say.
+    pub fn list(&mut self, words: &str, count: u32) -> Result<(), Fault> {
+        match words.split_once(' ') {
+            Some(("room", call)) => list_calls(&mut self.room, number_of(call)?, count)?,
+            Some(("archive", words)) => {
+                let (archive, call) = number_and_word(words)?;
+                self.list_of_archive(archive, number_of(call)?, count)?;
+            }
+            _ => {}
+        }
+        Ok(())
+    }
+
+    /// Lists so many calls of an archive, from this one on.
+    pub fn list_of_archive(
+        &mut self,
+        archive: u32,
+        first: u32,
+        count: u32,
+    ) -> Result<(), AllocError> {
+        for call in first..first.saturating_add(count) {
+            self.archives.push((archive, call))?;
+        }
+        Ok(())
+    }
+}
+
+/// Lets so many calls of a room and of its archives pass, and fails all later ones.
+fn lay_fuse(room: &mut MemRoom, calls: u32) -> Result<(), Fault>
+    requires home { (n : ℕ) → is_out room.old n ≡ false }
+    ensures home { (n : ℕ) → is_out room.new n ≡ false }
+{
+    match room.fuse(u64::from(calls)) {
+        Ok(()) => Ok(()),
+        Err(NoMemory) => Err(Fault::NoMemory),
+    }
 }
 
 /// The archive of this number with what befalls it, if anything does.
@@ -99,13 +149,19 @@ impl Outside {
         })
     }
 
+    /// Lets so many calls of the room and of its archives pass, and fails all later ones.
+    pub fn fuse(&mut self, calls: u32) -> Result<(), Fault> {
+        lay_fuse(&mut self.room, calls)
+    }
+
     /// Calls the program, and gives its status and what it wrote.
-    pub fn call<X: Wait>(
+    pub fn call<W: Gate, X: Threads + Wait + Sync>(
         &mut self,
         rt: &X,
         alloc: Global,
         words: &str,
         script: Vec<u8>,
+        gate: &W,
     ) -> Result<(u8, Vec<u8>), Fault> {
         let owned = words_of(alloc, words)?;
         let desk_fails = mem::replace(&mut self.desk_fails, Vec::new(alloc));
@@ -126,7 +182,7 @@ impl Outside {
             &mut sink,
             &mut self.room,
             &mut desk,
-            &OpenGate,
+            gate,
         );
         self.image = image_of(&mut desk, fails)?;
         Ok((status, sink.written().to_vec(alloc)?))

@@ -4,16 +4,19 @@ use crate::changes::{change_image, cut};
 use crate::fault::Fault;
 use crate::images::tell_image;
 use crate::looks::tell_look;
-use crate::outside::{Outside, Troubles};
+use crate::outside::{Outside, Troubles, list_calls};
 use crate::scripts::{append, is_part, part_of};
+use crate::stripes::tell_stripes;
 use crate::told::Told;
-use crate::turns::{Event, turns_of};
-use crate::words::{byte_of, number_and_word, number_of, numbers_of};
+use crate::turns::{ALL_LATER, Event, turns_of};
+use crate::words::{byte_of, number_of, numbers_of};
 use crate::written::tell_written;
-use pot_doubles::Loss;
+use pot_doubles::{Loss, OpenGate, PairGate};
+use pot_outside::Gate;
 use std::alloc::Global;
 use std::mem;
 use std::sync::Wait;
+use std::thread::Threads;
 
 /// The line `each` of a story whose turn it is, by its place, and with which number.
 #[derive(Clone, Copy, PartialEq, Eq, Debug)]
@@ -21,6 +24,9 @@ pub struct Turn {
     pub at: usize,
     pub number: u32,
 }
+
+/// How many turns of a loop the first job of a batch waits for the second.
+const PATIENCE: u64 = 50_000_000;
 
 /// A call of the program that was not made yet: its words, and its script so far.
 #[derive(Drop)]
@@ -36,16 +42,17 @@ pub struct Scene {
     turn: Option<Turn>,
     outside: Outside,
     pending: Option<Pending>,
+    /// In the next call the first job of a batch waits for the second.
+    waits: bool,
 }
 
 /// Adds what a line says of the whole story.
 fn add_trouble(alloc: Global, line: &str, troubles: &mut Troubles) -> Result<(), Fault> {
-    if let Some(call) = line.strip_prefix("fail room ") {
-        troubles.room.push(number_of(call)?)?;
+    if let Some(words) = line.strip_prefix("fail ") {
+        troubles.list(words, 1)?;
     }
-    if let Some(words) = line.strip_prefix("fail archive ") {
-        let (archive, call) = number_and_word(words)?;
-        troubles.archives.push((archive, number_of(call)?))?;
+    if let Some(words) = line.strip_prefix("stop ") {
+        troubles.list(words, ALL_LATER)?;
     }
     if let Some(words) = line.strip_prefix("lose ") {
         if let [archive, call, slot] = numbers_of(alloc, words)?.as_slice() {
@@ -61,9 +68,12 @@ fn add_trouble(alloc: Global, line: &str, troubles: &mut Troubles) -> Result<(),
 
 /// Adds what the line `each` of this turn says of the whole story.
 fn add_turn(alloc: Global, words: &str, number: u32, troubles: &mut Troubles) -> Result<(), Fault> {
-    match turns_of(alloc, words)?.event {
-        Event::RoomFails => troubles.room.push(number)?,
-        Event::ArchiveFails(archive) => troubles.archives.push((archive, number))?,
+    let turns = turns_of(alloc, words)?;
+    match turns.event {
+        Event::RoomFails => list_calls(&mut troubles.room, number, turns.calls)?,
+        Event::ArchiveFails(archive) => {
+            troubles.list_of_archive(archive, number, turns.calls)?;
+        }
         _ => {}
     }
     Ok(())
@@ -97,6 +107,7 @@ impl Scene {
             turn,
             outside: Outside::new(alloc, troubles)?,
             pending: None,
+            waits: false,
         })
     }
 
@@ -110,18 +121,41 @@ impl Scene {
     }
 
     /// Makes the call that was not made yet, and tells what came of it.
-    pub fn make_call<X: Wait>(&mut self, rt: &X, told: &mut Told) -> Result<(), Fault> {
-        let alloc = self.alloc;
-        let Some(Pending { words, script }) = self.pending.take() else {
+    pub fn make_call<X: Threads + Wait + Sync>(
+        &mut self,
+        rt: &X,
+        told: &mut Told,
+    ) -> Result<(), Fault> {
+        let Some(pending) = self.pending.take() else {
             return Ok(());
         };
-        let (status, written) = self.outside.call(rt, alloc, &words, script)?;
+        if !self.waits {
+            return self.call(rt, pending, &OpenGate, told);
+        }
+        self.waits = false;
+        let gate = PairGate::new(PATIENCE);
+        self.call(rt, pending, &gate, told)?;
+        let met = if gate.met() { "met" } else { "not met" };
+        Ok(told.outcome(met)?)
+    }
+
+    /// Makes a call, and tells what came of it.
+    fn call<W: Gate, X: Threads + Wait + Sync>(
+        &mut self,
+        rt: &X,
+        pending: Pending,
+        gate: &W,
+        told: &mut Told,
+    ) -> Result<(), Fault> {
+        let alloc = self.alloc;
+        let Pending { words, script } = pending;
+        let (status, written) = self.outside.call(rt, alloc, &words, script, gate)?;
         told.outcome(&format!(in alloc; "status {status}")?)?;
         tell_written(alloc, &written, told)
     }
 
     /// Goes on by a line of the story.
-    pub fn go_on<X: Wait>(
+    pub fn go_on<X: Threads + Wait + Sync>(
         &mut self,
         rt: &X,
         at: usize,
@@ -147,13 +181,19 @@ impl Scene {
         match word {
             "$" => self.begin_call(rest),
             "each" => self.take_turn(at, rest, told),
+            "pair" => {
+                self.waits = true;
+                Ok(())
+            }
             "drawn" => {
                 self.outside.drawn = byte_of(rest)?;
                 Ok(())
             }
-            "fail" => self.fail(rest),
+            "fail" => self.fail(rest, 1),
+            "stop" => self.fail(rest, ALL_LATER),
+            "fuse" => self.outside.fuse(number_of(rest)?),
             "lose" | "empty" | "alter" | "crowd" => self.change_blocks(word, rest),
-            "fields" | "records" | "slots" | "logs" => self.look_into_image(word, told),
+            "fields" | "records" | "slots" | "stripes" | "logs" => self.look_into_image(word, told),
             "image" | "blocks" | "heard" | "room" => tell_look(alloc, &self.outside, word, told),
             "=" | "" => Ok(()),
             _ if line.starts_with('#') => Ok(()),
@@ -164,13 +204,14 @@ impl Scene {
         }
     }
 
-    /// A call of an object is to fail.
-    fn fail(&mut self, words: &str) -> Result<(), Fault> {
+    /// So many calls of an object are to fail.
+    fn fail(&mut self, words: &str, count: u32) -> Result<(), Fault> {
         let (object, call) = words.split_once(' ').unwrap_or((words, ""));
+        let outside = &mut self.outside;
         match object {
-            "source" => self.outside.source_fails.push(number_of(call)?)?,
-            "sink" => self.outside.sink_fails.push(number_of(call)?)?,
-            "desk" => self.outside.desk_fails.push(number_of(call)?)?,
+            "source" => list_calls(&mut outside.source_fails, number_of(call)?, count)?,
+            "sink" => list_calls(&mut outside.sink_fails, number_of(call)?, count)?,
+            "desk" => list_calls(&mut outside.desk_fails, number_of(call)?, count)?,
             "room" | "archive" => {}
             _ => return Err(Fault::NoStep),
         }
@@ -187,9 +228,14 @@ impl Scene {
 
     /// Tells what stands in the image.
     fn look_into_image(&mut self, word: &str, told: &mut Told) -> Result<(), Fault> {
-        match &self.outside.image {
-            Some(bytes) => tell_image(self.alloc, bytes, word, told),
-            None => told.outcome("no fields"),
+        let outside = &self.outside;
+        let Some(bytes) = &outside.image else {
+            return told.outcome("no fields");
+        };
+        if word == "stripes" {
+            tell_stripes(self.alloc, bytes, &outside.room, told)
+        } else {
+            tell_image(self.alloc, bytes, word, told)
         }
     }
 
@@ -204,17 +250,20 @@ impl Scene {
             return Ok(());
         }
         told.begin();
+        let outside = &mut self.outside;
+        let (number, calls) = (turn.number, turns.calls);
         match turns.event {
-            Event::SourceFails => self.outside.source_fails.push(turn.number)?,
-            Event::SinkFails => self.outside.sink_fails.push(turn.number)?,
-            Event::DeskFails => self.outside.desk_fails.push(turn.number)?,
+            Event::SourceFails => list_calls(&mut outside.source_fails, number, calls)?,
+            Event::SinkFails => list_calls(&mut outside.sink_fails, number, calls)?,
+            Event::DeskFails => list_calls(&mut outside.desk_fails, number, calls)?,
             Event::RoomFails | Event::ArchiveFails(_) => {}
+            Event::FuseIsLaid => outside.fuse(number)?,
             Event::ImageIsCut => {
-                self.outside.image = cut(alloc, &self.outside.image, turn.number)?;
+                outside.image = cut(alloc, &outside.image, number)?;
             }
             Event::ArchivesAreEmptied => {
-                let set = turns.set(alloc, turn.number)?;
-                empty_all(&mut self.outside, &set)?;
+                let set = turns.set(alloc, number)?;
+                empty_all(outside, &set)?;
             }
         }
         Ok(())

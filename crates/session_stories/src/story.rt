@@ -5,9 +5,10 @@ use crate::told::Told;
 use crate::turns::{Turns, turns_of};
 use std::alloc::Global;
 use std::sync::Wait;
+use std::thread::Threads;
 
 /// Tells a story, in which it is this turn of a line `each`, or none.
-fn tell<X: Wait>(
+fn tell<X: Threads + Wait + Sync>(
     rt: &X,
     alloc: Global,
     story: &[&str],
@@ -54,14 +55,19 @@ fn tell_stretch(
 }
 
 /// What comes of a story in a turn.
-fn outcome_of<X: Wait>(rt: &X, alloc: Global, story: &[&str], turn: Turn) -> Result<String, Stuck> {
+fn outcome_of<X: Threads + Wait + Sync>(
+    rt: &X,
+    alloc: Global,
+    story: &[&str],
+    turn: Turn,
+) -> Result<String, Stuck> {
     let mut told = Told::silent(alloc);
     tell(rt, alloc, story, Some(turn), &mut told)?;
     Ok(told.into_text())
 }
 
 /// Tells what comes of a story in each turn of the line `each` at this place.
-fn tell_turns<X: Wait>(
+fn tell_turns<X: Threads + Wait + Sync>(
     rt: &X,
     alloc: Global,
     story: &[&str],
@@ -112,7 +118,7 @@ fn joined(
 }
 
 /// Tells a story, and behind it what comes of it in each turn of its lines `each`.
-pub fn tell_in_turn<X: Wait>(
+pub fn tell_in_turn<X: Threads + Wait + Sync>(
     rt: &X,
     alloc: Global,
     story: &[&str],

@@ -11,6 +11,7 @@ pub enum Event {
     DeskFails,
     RoomFails,
     ArchiveFails(u32),
+    FuseIsLaid,
     ImageIsCut,
     ArchivesAreEmptied,
 }
@@ -18,10 +19,15 @@ pub enum Event {
 /// The most archives of which each set is emptied.
 const MOST_IN_SETS: usize = 16;
 
+/// How many calls fail of an object that stops: more than a story makes of it.
+pub const ALL_LATER: u32 = 100;
+
 /// What happens in turn, and the numbers with which it does.
 #[derive(Drop)]
 pub struct Turns {
     pub event: Event,
+    /// How many calls fail, where calls of an object do.
+    pub calls: u32,
     /// The first and the last number; of sets the fewest archives and the most.
     pub first: u32,
     pub last: u32,
@@ -39,6 +45,7 @@ fn event_of(words: &str) -> Result<(Event, &str), Fault> {
         "sink" => Ok((Event::SinkFails, rest)),
         "desk" => Ok((Event::DeskFails, rest)),
         "room" => Ok((Event::RoomFails, rest)),
+        "fuse" => Ok((Event::FuseIsLaid, rest)),
         "cut" => Ok((Event::ImageIsCut, rest)),
         "set" => Ok((Event::ArchivesAreEmptied, rest)),
         "archive" => match rest.split_once(' ') {
@@ -49,9 +56,31 @@ fn event_of(words: &str) -> Result<(Event, &str), Fault> {
     }
 }
 
+/// Whether it is calls of an object that fail.
+fn is_failing(event: Event) -> bool {
+    !matches!(
+        event,
+        Event::FuseIsLaid | Event::ImageIsCut | Event::ArchivesAreEmptied
+    )
+}
+
+/// The event of some words behind `each`, how many calls fail, and the numbers behind it.
+fn lasting_event_of(words: &str) -> Result<(Event, u32, &str), Fault> {
+    let Some(stopped) = words.strip_prefix("stop ") else {
+        let (event, rest) = event_of(words)?;
+        return Ok((event, 1, rest));
+    };
+    let (event, rest) = event_of(stopped)?;
+    if is_failing(event) {
+        Ok((event, ALL_LATER, rest))
+    } else {
+        Err(Fault::NoStep)
+    }
+}
+
 /// The turns that the words behind `each` say.
 pub fn turns_of(alloc: Global, words: &str) -> Result<Turns, Fault> {
-    let (event, rest) = event_of(words)?;
+    let (event, calls, rest) = lasting_event_of(words)?;
     let numbers = numbers_of(alloc, rest)?;
     let [first, last, archives @ ..] = numbers.as_slice() else {
         return Err(Fault::NoStep);
@@ -63,6 +92,7 @@ pub fn turns_of(alloc: Global, words: &str) -> Result<Turns, Fault> {
     }
     Ok(Turns {
         event,
+        calls,
         first: *first,
         last: *last,
         archives: archives.to_vec(alloc)?,
@@ -113,12 +143,14 @@ impl Turns {
     /// What a turn is called.
     pub fn name(&self, alloc: Global, number: u32) -> Result<String, Fault> {
         let name = self.number_name(alloc, number)?;
+        let stop = if self.calls == 1 { "" } else { "stop " };
         Ok(match self.event {
-            Event::SourceFails => format!(in alloc; "source {name}")?,
-            Event::SinkFails => format!(in alloc; "sink {name}")?,
-            Event::DeskFails => format!(in alloc; "desk {name}")?,
-            Event::RoomFails => format!(in alloc; "room {name}")?,
-            Event::ArchiveFails(archive) => format!(in alloc; "archive {archive} {name}")?,
+            Event::SourceFails => format!(in alloc; "{stop}source {name}")?,
+            Event::SinkFails => format!(in alloc; "{stop}sink {name}")?,
+            Event::DeskFails => format!(in alloc; "{stop}desk {name}")?,
+            Event::RoomFails => format!(in alloc; "{stop}room {name}")?,
+            Event::ArchiveFails(archive) => format!(in alloc; "{stop}archive {archive} {name}")?,
+            Event::FuseIsLaid => format!(in alloc; "fuse {name}")?,
             Event::ImageIsCut => format!(in alloc; "cut {name}")?,
             Event::ArchivesAreEmptied => format!(in alloc; "set {name}")?,
         })
