@@ -1,0 +1,12 @@
+pub mod SeatLemmas
+pub mod NameLemmas
+pub mod MoveLemmas
+pub mod JoinLemmas
+pub mod StepLemmas
+pub mod BlockLemmas
+pub mod StoreLemmas
+pub mod EndLemmas
+pub mod RunLemmas
+pub mod FetchLemmas
+pub mod PieceLemmas
+pub mod FirstLemmas

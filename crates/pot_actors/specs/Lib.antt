@@ -1,0 +1,9 @@
+pub mod Splits
+pub mod Seats
+pub mod Ends
+pub mod Gathers
+pub mod Joins
+pub mod Ledgers
+pub mod Worlds
+pub mod Steps
+pub mod Runs
