@@ -1,0 +1,73 @@
+//! The files that are kept, each once, whether in one piece of the script or in parts.
+
+use pot_bytes::Name;
+use pot_client::ends_as_part;
+use pot_image::Image;
+use std::alloc::{AllocError, Global};
+use std::collections::BTreeMap;
+use std::str::from_utf8;
+
+/// What is stored under a name and the names of its parts.
+#[derive(Clone, Copy, Debug, PartialEq, Eq)]
+pub struct Kept {
+    /// The length of the file of just this name.
+    pub direct: Option<u64>,
+    /// How many parts there are, and their bytes.
+    pub parts: u32,
+    pub length: u64,
+    /// Whether the list of parts is there, which is stored last.
+    pub complete: bool,
+}
+
+impl Kept {
+    fn none() -> Kept {
+        Kept {
+            direct: None,
+            parts: 0,
+            length: 0,
+            complete: false,
+        }
+    }
+
+    // One part more.
+    fn add(&mut self, number: u32, length: u64) {
+        if number == 0 {
+            self.complete = true;
+        } else {
+            self.parts = self.parts.saturating_add(1);
+            self.length = self.length.saturating_add(length);
+        }
+    }
+}
+
+/// The files of an image by name.
+pub fn kept_files(alloc: Global, image: &Image) -> Result<BTreeMap<Name, Kept>, AllocError> {
+    let mut files = BTreeMap::new(alloc);
+    for record in image.records.iter() {
+        add_record(&mut files, record.name, record.length)?;
+    }
+    Ok(files)
+}
+
+fn add_record(files: &mut BTreeMap<Name, Kept>, name: Name, length: u64) -> Result<(), AllocError> {
+    match stem_of(&name) {
+        Some((stem, number)) => files
+            .entry(stem)?
+            .or_insert(Kept::none())
+            .add(number, length),
+        None => files.entry(name)?.or_insert(Kept::none()).direct = Some(length),
+    }
+    Ok(())
+}
+
+// The name of which this is the name of a part, and the number of the part.
+fn stem_of(name: &Name) -> Option<(Name, u32)> {
+    if !ends_as_part(name) {
+        return None;
+    }
+    let bytes = name.bytes();
+    let (stem, suffix) = bytes.split_at_checked(bytes.len().checked_sub(6)?)?;
+    let (_, digits) = suffix.split_at_checked(2)?;
+    let number = from_utf8(digits).ok()?.parse::<u32>().ok()?;
+    Some((Name::read(stem)?, number))
+}

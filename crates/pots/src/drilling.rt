@@ -1,0 +1,78 @@
+//! A drill over two files of one length.
+
+use crate::looking::image;
+use crate::session::{call, ended, words_of};
+use crate::stop::Stop;
+use crate::visit::Visit;
+use clap::ArgMatches;
+use std::fs;
+use std::str::from_utf8;
+use std::sync::Wait;
+use std::thread::Threads;
+
+/// Shows that what some archives have of a file is what they would have of another.
+pub fn drill<X: Threads + Wait + Sync>(
+    turns: &X,
+    visit: &mut Visit,
+    words: &ArgMatches,
+) -> Result<u8, Stop> {
+    let line = drill_line(visit, words)?;
+    let input = two_files(visit, words)?;
+    let words = words_of(visit.alloc(), line.as_str())?;
+    let ran = call(turns, visit, &words, input)?;
+    if ran.status > 1 {
+        return Err(ended(visit, &ran));
+    }
+    let text = from_utf8(&ran.written).unwrap_or("");
+    let rt = &visit.rt;
+    print!(rt; "{text}")?;
+    Ok(ran.status)
+}
+
+// The command line of the drill, with the archive's way to split files.
+fn drill_line(visit: &mut Visit, words: &ArgMatches) -> Result<String, Stop> {
+    let geometry = image(visit)?.rack.geometry;
+    let fragments = geometry.fragments;
+    let need = geometry.need;
+    let shards = geometry.shards;
+    let blur = geometry.blur;
+    let hidden = words.get_str("hidden").unwrap_or("1");
+    let mut line = format!(in visit.alloc();
+        "drill --fragments {fragments} --need {need} --shards {shards} --blur {blur} --hidden {hidden}"
+    )?;
+    if let Some(seen) = words.get_str("seen") {
+        line.push_str(" --seen ")?;
+        line.push_str(seen)?;
+    }
+    Ok(line)
+}
+
+// The two files as a drill reads them.
+fn two_files(visit: &Visit, words: &ArgMatches) -> Result<Vec<u8>, Stop> {
+    let first = file_of(visit, words.get_str("FILE").unwrap_or(""))?;
+    let second = file_of(visit, words.get_str("OTHER").unwrap_or(""))?;
+    if first.len() != second.len() {
+        return Err(visit.refuse(3, "the two files have not one length: give two that have"));
+    }
+    let length = first.len();
+    let head = format!(in visit.alloc(); "{length}\n")?;
+    let mut input = Vec::new(visit.alloc());
+    input.extend_from_slice(head.as_bytes())?;
+    input.extend_from_slice(&first)?;
+    input.push(b'\n')?;
+    input.extend_from_slice(&second)?;
+    input.push(b'\n')?;
+    Ok(input)
+}
+
+fn file_of(visit: &Visit, path: &str) -> Result<Vec<u8>, Stop> {
+    match fs::read(&visit.rt, path) {
+        Ok(bytes) => Ok(bytes),
+        Err(_) => {
+            let line = format!(in visit.alloc();
+                "{path} could not be read: see that it is there and may be read"
+            )?;
+            Err(visit.refuse(4, line.as_str()))
+        }
+    }
+}

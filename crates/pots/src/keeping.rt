@@ -1,0 +1,121 @@
+//! Files that are put in their place whole, and the last images of the desk.
+
+use crate::stop::Stop;
+use crate::visit::Visit;
+use std::fs::{File, OpenOptions};
+use std::io::ErrorKind;
+use std::os::fd::AsRawFd;
+use std::os::unix::fs::FileExt;
+use std::path::Path;
+use std::{fs, io};
+
+/// How many images of the desk are kept.
+const KEPT: u32 = 10;
+
+/// How many names beside a file are tried.
+const TRIES: u32 = 100;
+
+/// Writes a file under a name that is free beside it, brings it to the disk, and then gives it its name. Where there is a
+/// file of that name it stays as it is, unless it may be replaced.
+pub fn put_file(rt: &HostRuntime, path: &str, bytes: &[u8], may_replace: bool) -> io::Result<()> {
+    let (file, beside) = open_beside(rt, path)?;
+    let done = match fill(&file, bytes) {
+        Ok(()) => settle(rt, beside.as_str(), path, may_replace),
+        Err(e) => Err(e),
+    };
+    if done.is_err() {
+        let _ = fs::remove_file(rt, beside.as_str());
+    }
+    done
+}
+
+// A new file beside the path, under a number that no standard stream has.
+fn open_beside(rt: &HostRuntime, path: &str) -> io::Result<(File, String)> {
+    let mut how = OpenOptions::new();
+    how.write(true).create_new(true);
+    for number in 0..TRIES {
+        let beside = format!(in rt.alloc(); "{path}.new-{number}")?;
+        match how.open(rt, beside.as_str()) {
+            Ok(file) => return Ok((apart(file)?, beside)),
+            Err(e) if e.kind() == ErrorKind::AlreadyExists => {}
+            Err(e) => return Err(e),
+        }
+    }
+    Err(ErrorKind::AlreadyExists.into())
+}
+
+// The file under a number that no standard stream has.
+fn apart(file: File) -> io::Result<File> {
+    if file.as_raw_fd() > 2 {
+        return Ok(file);
+    }
+    let other = file.try_clone()?;
+    if other.as_raw_fd() > 2 {
+        Ok(other)
+    } else {
+        Err(ErrorKind::Unsupported.into())
+    }
+}
+
+fn fill(file: &File, bytes: &[u8]) -> io::Result<()> {
+    file.write_all_at(bytes, 0)?;
+    file.sync_all()
+}
+
+// Gives the file its name, and brings that to the disk.
+fn settle(rt: &HostRuntime, beside: &str, path: &str, may_replace: bool) -> io::Result<()> {
+    if may_replace {
+        fs::rename(rt, beside, path)?;
+    } else {
+        name_once(rt, beside, path)?;
+    }
+    sync_folder_of(rt, path)
+}
+
+// Gives the file a name that no file has. Where the file system has no links, whether there is one is looked at first.
+fn name_once(rt: &HostRuntime, beside: &str, path: &str) -> io::Result<()> {
+    match fs::hard_link(rt, beside, path) {
+        Ok(()) => fs::remove_file(rt, beside),
+        Err(e) if e.kind() == ErrorKind::AlreadyExists => Err(e),
+        Err(_) => match fs::symlink_metadata(rt, path) {
+            Ok(_) => Err(ErrorKind::AlreadyExists.into()),
+            Err(e) if e.kind() == ErrorKind::NotFound => fs::rename(rt, beside, path),
+            Err(e) => Err(e),
+        },
+    }
+}
+
+/// Brings the names of the folder in which the path is to the disk.
+pub fn sync_folder_of(rt: &HostRuntime, path: &str) -> io::Result<()> {
+    let folder = match Path::new(path).parent() {
+        Some(parent) if !parent.as_str().is_empty() => parent.as_str(),
+        _ => ".",
+    };
+    fs::open(rt, folder)?.sync_all()
+}
+
+/// Keeps an image of the desk as `desk-NNNN.bak`, by the number of the session that wrote it, and forgets those of ten sessions before.
+pub fn keep_image(visit: &Visit, session: u32, image: &[u8]) -> Result<(), Stop> {
+    let rt = &visit.rt;
+    let name = format!(in visit.alloc(); "desk-{session:04}.bak")?;
+    if put_file(rt, name.as_str(), image, true).is_err() {
+        return Err(visit.refuse(
+            6,
+            "a copy of the desk could not be kept: see that files can be made in this folder and that its disk has room",
+        ));
+    }
+    forget_images(visit, session)
+}
+
+// Removes the images of sessions before the last ten.
+fn forget_images(visit: &Visit, session: u32) -> Result<(), Stop> {
+    let rt = &visit.rt;
+    let Some(newest) = session.checked_sub(KEPT) else {
+        return Ok(());
+    };
+    for old in newest.saturating_sub(KEPT)..=newest {
+        let name = format!(in visit.alloc(); "desk-{old:04}.bak")?;
+        let _ = fs::remove_file(rt, name.as_str());
+    }
+    Ok(())
+}

@@ -1,0 +1,185 @@
+//! Archives that are looked after.
+
+use crate::looking::image;
+use crate::making::geometry_of;
+use crate::numbers::{MOST_ARCHIVES, read_number};
+use crate::session::hold;
+use crate::shelving::tell_ailing;
+use crate::stop::Stop;
+use crate::visit::Visit;
+use clap::ArgMatches;
+use pot_bytes::{Geometry, Name};
+use pot_client::part_name;
+use pot_image::Image;
+use pot_report::{Kept, kept_files};
+use pot_script::Command;
+use std::alloc::AllocError;
+use std::sync::Wait;
+use std::thread::Threads;
+
+/// Looks at each block of the groups, and tells which archives are ailing and what mends them.
+pub fn check<X: Threads + Wait + Sync>(
+    turns: &X,
+    visit: &mut Visit,
+    words: &ArgMatches,
+) -> Result<u8, Stop> {
+    let groups = asked_groups(visit, words)?;
+    let mut commands = Vec::new(visit.alloc());
+    for group in groups.iter() {
+        commands.push(Command::Scrub { group: *group })?;
+    }
+    let replies = hold(turns, visit, &commands)?;
+    let status = visit.tell_all(&replies)?;
+    let image = image(visit)?;
+    if tell_ailing(visit, &image)? {
+        return Ok(1);
+    }
+    Ok(status)
+}
+
+/// Makes lost blocks of the groups anew.
+pub fn repair<X: Threads + Wait + Sync>(
+    turns: &X,
+    visit: &mut Visit,
+    words: &ArgMatches,
+) -> Result<u8, Stop> {
+    let groups = asked_groups(visit, words)?;
+    let mut commands = Vec::new(visit.alloc());
+    for group in groups.iter() {
+        commands.push(Command::Repair { group: *group })?;
+    }
+    let replies = hold(turns, visit, &commands)?;
+    visit.tell_all(&replies)
+}
+
+// The groups that the words name, and all where they name none.
+fn asked_groups(visit: &mut Visit, words: &ArgMatches) -> Result<Vec<u8>, Stop> {
+    let image = image(visit)?;
+    let count = image.rack.groups;
+    let mut groups = Vec::new(visit.alloc());
+    for text in words.get_strs("GROUP").unwrap_or(&[]) {
+        match read_number(text).and_then(|number| u8::try_from(number).ok()) {
+            Some(group) if group < count => groups.push(group)?,
+            _ => {
+                let line = format!(in visit.alloc();
+                    "{text} is no group: they are numbered from 0, and there are {count}"
+                )?;
+                return Err(visit.refuse(2, line.as_str()));
+            }
+        }
+    }
+    if groups.is_empty() {
+        for group in 0..count {
+            groups.push(group)?;
+        }
+    }
+    Ok(groups)
+}
+
+/// Puts a new archive in the place of one that is lost.
+pub fn replace<X: Threads + Wait + Sync>(
+    turns: &X,
+    visit: &mut Visit,
+    words: &ArgMatches,
+) -> Result<u8, Stop> {
+    let (from, to) = two_archives(visit, words)?;
+    work_one(turns, visit, Command::Replace { from, to })
+}
+
+/// Copies an archive to a new one.
+pub fn migrate<X: Threads + Wait + Sync>(
+    turns: &X,
+    visit: &mut Visit,
+    words: &ArgMatches,
+) -> Result<u8, Stop> {
+    let (from, to) = two_archives(visit, words)?;
+    work_one(turns, visit, Command::Migrate { from, to })
+}
+
+fn work_one<X: Threads + Wait + Sync>(
+    turns: &X,
+    visit: &mut Visit,
+    command: Command,
+) -> Result<u8, Stop> {
+    let mut commands = Vec::new(visit.alloc());
+    commands.push(command)?;
+    let replies = hold(turns, visit, &commands)?;
+    visit.tell_all(&replies)
+}
+
+// The numbers of the two archives that the words name.
+fn two_archives(visit: &Visit, words: &ArgMatches) -> Result<(u32, u32), Stop> {
+    let from = archive_of(visit, words, "OLD")?;
+    let to = archive_of(visit, words, "NEW")?;
+    Ok((from, to))
+}
+
+fn archive_of(visit: &Visit, words: &ArgMatches, id: &str) -> Result<u32, Stop> {
+    match words.get_str(id).and_then(read_number) {
+        Some(number) if number < MOST_ARCHIVES => Ok(number),
+        _ => Err(visit.refuse(2, "archives are given by their numbers, from 0 to 511")),
+    }
+}
+
+/// Splits files anew, with all their parts.
+pub fn renew<X: Threads + Wait + Sync>(
+    turns: &X,
+    visit: &mut Visit,
+    words: &ArgMatches,
+) -> Result<u8, Stop> {
+    let image = image(visit)?;
+    let geometry = geometry_of(visit, words, image.rack.geometry)?;
+    if !geometry.fits(image.rack.groups) {
+        return Err(visit.refuse(
+            2,
+            "no file is split so: see pots help renew, and the limits in potshards(1)",
+        ));
+    }
+    let names = names_of(visit, words, &image)?;
+    let mut status = 0;
+    for name in names.iter() {
+        if renew_one(turns, visit, *name, geometry)? != 0 {
+            status = 1;
+        }
+    }
+    Ok(status)
+}
+
+fn renew_one<X: Threads + Wait + Sync>(
+    turns: &X,
+    visit: &mut Visit,
+    name: Name,
+    geometry: Geometry,
+) -> Result<u8, Stop> {
+    work_one(turns, visit, Command::Renew { name, geometry })
+}
+
+// The names that the words give, and of a file in parts those of all its parts.
+fn names_of(visit: &Visit, words: &ArgMatches, image: &Image) -> Result<Vec<Name>, Stop> {
+    let files = kept_files(visit.alloc(), image)?;
+    let mut names = Vec::new(visit.alloc());
+    for text in words.get_strs("NAME").unwrap_or(&[]) {
+        let found = Name::read(text.as_bytes()).and_then(|name| files
+            .get(&name)
+            .map(|kept| (name, *kept)));
+        let Some((name, kept)) = found else {
+            let line = format!(in visit.alloc(); "{text} is not stored: pots list tells what is")?;
+            return Err(visit.refuse(1, line.as_str()));
+        };
+        append_names(&mut names, name, &kept)?;
+    }
+    Ok(names)
+}
+
+fn append_names(names: &mut Vec<Name>, name: Name, kept: &Kept) -> Result<(), AllocError> {
+    if kept.direct.is_some() {
+        names.push(name)?;
+        return Ok(());
+    }
+    for number in 0..=kept.parts {
+        if let Some(part) = part_name(&name, number) {
+            names.push(part)?;
+        }
+    }
+    Ok(())
+}

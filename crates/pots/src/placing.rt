@@ -1,0 +1,110 @@
+//! Where archives lie, and copies of the desk.
+
+use crate::keeping::{put_file, sync_folder_of};
+use crate::looking::{archive_name, image, image_bytes};
+use crate::stop::Stop;
+use crate::telling::tell_archives;
+use crate::visit::{Visit, listed_archives};
+use clap::ArgMatches;
+use std::io::ErrorKind;
+use std::os::unix::fs::symlink;
+use std::{fs, io};
+
+/// Tells where archives lie, or copies some of them to a folder and leaves links.
+pub fn place(visit: &mut Visit, words: &ArgMatches) -> Result<u8, Stop> {
+    let image = image(visit)?;
+    let (Some(archives), Some(folder)) = (words.get_str("ARCHIVES"), words.get_str("FOLDER")) else {
+        tell_archives(visit, &image)?;
+        return Ok(0);
+    };
+    let numbers = listed_archives(&visit.rt, archives)?;
+    if fs::create_dir_all(&visit.rt, folder).is_err() {
+        let line = format!(in visit.alloc();
+            "the folder {folder} could not be made: see that its disk is mounted and may be written"
+        )?;
+        return Err(visit.refuse(8, line.as_str()));
+    }
+    for number in numbers.iter() {
+        place_one(visit, *number, folder)?;
+    }
+    Ok(0)
+}
+
+// Copies an archive to a folder, and leaves a link.
+fn place_one(visit: &Visit, number: u32, folder: &str) -> Result<(), Stop> {
+    let rt = &visit.rt;
+    let name = archive_name(visit.alloc(), number)?;
+    let name = name.as_str();
+    let target = target_of(visit, folder, name)?;
+    let target = target.as_str();
+    match copy_and_link(rt, name, target) {
+        Ok(()) => {
+            println!(rt; "{name} lies at {target}")?;
+            Ok(())
+        }
+        Err(e) => {
+            let line = format!(in visit.alloc();
+                "{name} could not be brought to {target}, and stays where it is: {e}; see that there is no such file yet and that the disk has room"
+            )?;
+            Err(visit.refuse(8, line.as_str()))
+        }
+    }
+}
+
+// The path of an archive in a folder, which a link can hold wherever it is read from.
+fn target_of(visit: &Visit, folder: &str, name: &str) -> Result<String, Stop> {
+    match fs::canonicalize(&visit.rt, folder) {
+        Ok(whole) => {
+            let folder = whole.as_str();
+            Ok(format!(in visit.alloc(); "{folder}/{name}")?)
+        }
+        Err(_) => {
+            let line = format!(in visit.alloc();
+                "the folder {folder} could not be found: see that its disk is mounted"
+            )?;
+            Err(visit.refuse(8, line.as_str()))
+        }
+    }
+}
+
+// The archive as it is is copied, or an empty one made where there is none; then a link takes its place.
+fn copy_and_link(rt: &HostRuntime, name: &str, target: &str) -> io::Result<()> {
+    let bytes = match fs::read(rt, name) {
+        Ok(bytes) => bytes,
+        Err(e) if e.kind() == ErrorKind::NotFound && !is_link(rt, name) => Vec::new(rt.alloc()),
+        Err(e) => return Err(e),
+    };
+    put_file(rt, target, &bytes, false)?;
+    let link = format!(in rt.alloc(); "{name}.link")?;
+    symlink(rt, target, link.as_str())?;
+    fs::rename(rt, link.as_str(), name)?;
+    sync_folder_of(rt, name)
+}
+
+fn is_link(rt: &HostRuntime, name: &str) -> bool {
+    match fs::symlink_metadata(rt, name) {
+        Ok(file) => file.is_symlink(),
+        Err(_) => false,
+    }
+}
+
+/// Writes a copy of the desk's image.
+pub fn backup_desk(visit: &mut Visit, words: &ArgMatches) -> Result<u8, Stop> {
+    let bytes = image_bytes(visit)?;
+    let path = words.get_str("FILE").unwrap_or("desk.copy");
+    let rt = &visit.rt;
+    match put_file(rt, path, &bytes, false) {
+        Ok(()) => {
+            println!(rt;
+                "{path} has the desk as it is now: keep it at another place, where you would keep a list of names; to go back to it, put it as desk.psi into the archive's folder and take desk.pss away"
+            )?;
+            Ok(0)
+        }
+        Err(e) => {
+            let line = format!(in visit.alloc();
+                "{path} could not be written: {e}; see that there is no such file yet and that its disk has room"
+            )?;
+            Err(visit.refuse(5, line.as_str()))
+        }
+    }
+}

@@ -1,0 +1,106 @@
+//! Sessions: a script is given to `run`, and its replies are read.
+
+use crate::looking::image_for_session;
+use crate::stop::Stop;
+use crate::visit::Visit;
+use pot_client::{read_replies, write_script};
+use pot_doubles::{MemSink, MemSource};
+use pot_files::{Folder, NoGate, drawn};
+use pot_script::{Command, Reply};
+use pot_session::run;
+use std::alloc::{AllocError, Global};
+use std::sync::Wait;
+use std::thread::Threads;
+
+/// What a call of `run` wrote, and its status.
+#[derive(Drop)]
+pub struct Ran {
+    pub status: u8,
+    pub written: Vec<u8>,
+}
+
+/// Holds a session that works these commands, and answers its replies.
+pub fn hold<X: Threads + Wait + Sync>(
+    turns: &X,
+    visit: &mut Visit,
+    commands: &[Command],
+) -> Result<Vec<Reply>, Stop> {
+    let _ = image_for_session(visit)?;
+    let script = write_script(visit.alloc(), commands)?;
+    let words = words_of(visit.alloc(), "run")?;
+    let ran = call(turns, visit, &words, script)?;
+    if ran.status > 1 {
+        return Err(ended(visit, &ran));
+    }
+    match read_replies(visit.alloc(), &ran.written)? {
+        Some(replies) => Ok(replies),
+        None => Err(visit.refuse(
+            5,
+            "the replies of the session were not understood: pots and potshards are of different versions",
+        )),
+    }
+}
+
+/// The words of a command line, which stand between spaces.
+pub fn words_of(alloc: Global, line: &str) -> Result<Vec<String>, AllocError> {
+    let mut words = Vec::new(alloc);
+    for word in line.split(' ') {
+        words.push(String::from_str(alloc, word)?)?;
+    }
+    Ok(words)
+}
+
+/// Calls the program of sessions with these words and this input.
+pub fn call<X: Threads + Wait + Sync>(
+    turns: &X,
+    visit: &mut Visit,
+    words: &[String],
+    input: Vec<u8>,
+) -> Result<Ran, Stop> {
+    let alloc = visit.alloc();
+    let Ok(seed) = drawn(&visit.rt) else {
+        return Err(visit.refuse(4, "the system gave no random bytes: nothing was stored"));
+    };
+    let mut source = MemSource::new(input, Vec::new(alloc));
+    let mut sink = MemSink::new(alloc, Vec::new(alloc));
+    let mut room = Folder::new(&visit.rt);
+    let status = run(
+        turns,
+        alloc,
+        words,
+        seed,
+        &mut source,
+        &mut sink,
+        &mut room,
+        &mut visit.desk,
+        &NoGate,
+    );
+    let written = sink.written().to_vec(alloc)?;
+    Ok(Ran { status, written })
+}
+
+/// The end of a command whose session came to no replies.
+pub fn ended(visit: &Visit, ran: &Ran) -> Stop {
+    visit.refuse(ran.status, reason(ran.status))
+}
+
+// What failed at a status, and what to do next.
+fn reason(status: u8) -> &'static str {
+    match status {
+        2 => "these numbers are beyond the limits: see pots help, and the limits in potshards(1)",
+        3 =>
+            "the session refused its script: see that the numbers given are below those of pots status",
+        5 => "memory ran out for the replies: fetch or store less at a time",
+        6 =>
+            "the desk could not be locked, read or replaced: see that no other program works in this folder and that its disk has room; what was stored may have to be stored again",
+        7 => "no session can begin with the desk's image: see potshards-recovery(7)",
+        8 =>
+            "an archive could not be opened, read or synced: see that each archive-N can be read and written and that its disk has room; what was stored may have to be stored again",
+        9 => "the numbers of sessions are spent: fetch all files, and store them in a new archive",
+        10 =>
+            "there is an archive in this folder already, and it stays as it is: make the new one in another folder",
+        11 =>
+            "there are too many ways to read these blocks: potshards-recovery(7) tells what to leave out",
+        _ => "memory ran out: give it more, or less to do at a time",
+    }
+}
