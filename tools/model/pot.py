@@ -4,7 +4,7 @@
 import os
 import sys
 
-from potmodel import constants, files, group_stories, image, pieces, random_stories, recovery, session, session_stories
+from potmodel import constants, files, generator, group_stories, image, pieces, random_stories, recovery, session, session_stories
 from potmodel.devices import Sink, Source
 
 USAGE = """pot.py group < stories
@@ -16,6 +16,8 @@ pot.py recover FOLDER ARCHIVES STRIPES BLUR [robust]
 pot.py run FOLDER WORDS.. < source
 pot.py desk FOLDER FORMAT OUT
 pot.py random group|session SEED COUNT
+pot.py script NUMBER
+pot.py generate NUMBER
 """
 
 
@@ -94,12 +96,25 @@ def print_random(kind, seed, count):
     return 0
 
 
+def print_script(number):
+    """Prints the generator's script of a number."""
+    sys.stdout.buffer.write(generator.script(int(number)))
+    return 0
+
+
+def generate(number):
+    """Prints the summary of the replies to the generator's script of a number."""
+    sys.stdout.write(generator.summary(int(number)))
+    return 0
+
+
 def main(words):
     """Works one command and answers its status."""
     commands = {
         "group": lambda: tell_stories(group_stories), "session": lambda: tell_stories(session_stories),
         "constants": print_constants, "image": print_image, "block": print_block, "recover": recover, "run": run,
         "desk": write_desk, "random": print_random,
+        "script": print_script, "generate": generate,
     }
     if not words or words[0] not in commands:
         sys.stderr.write(USAGE)

@@ -1,4 +1,3 @@
 pub mod WholeRows
-pub mod Sizes
 pub mod Parts
 pub mod Members

@@ -28,8 +28,18 @@ impl PlainArchive {
         })
     }
 
+    /// Adds the blocks of the first slots.
+    pub fn add_blocks(&self, slots: u32, bytes: &mut Vec<u8>) -> Result<(), AllocError> {
+        for slot in 0..slots {
+            if let Some(block) = self.block(slot) {
+                bytes.extend_from_slice(block.bytes())?;
+            }
+        }
+        Ok(())
+    }
+
     /// The block of a slot.
-    pub fn block(&self, slot: u32) -> Option<&Block> {
+    fn block(&self, slot: u32) -> Option<&Block> {
         if self.held.get(slot as usize).copied().unwrap_or(false) {
             self.blocks.get(slot as usize)
         } else {

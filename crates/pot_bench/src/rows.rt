@@ -1,14 +1,12 @@
-ghost use Rattle.std.specs.Prelude.{◌≡◌, ◌*◌, length, IfOk};
+//! Loops over the bytes of a row, and over its blocks.
+ghost use Rattle.std.specs.Prelude.{◌≡◌, ◌<◌, ◌≤◌, ◌*◌, length, nat_eq, IfOk};
+ghost use Rattle.std.specs.List.{All, IsDistinct};
 ghost use Rattle.pot_bench.specs.declared.rows.TheConstants.{ROW};
 
-use crate::kernels::{
-    blocks_of, digest_rounds, fill_rounds, fold_blocks, generate_rounds, join_rounds,
-    share_three_rounds, share_two_rounds, xor_rounds,
-};
-use pot_bytes::Block;
+use pot_bytes::{Block, digest_of, fold_weighted, xor_into};
 use pot_pads::PadStream;
-use rand_chacha::ChaCha20Rng;
-use rand_core::SeedableRng;
+use pot_sealed::digests_of_four;
+use pot_split::{share_join, share_out};
 use std::alloc::{AllocError, Global};
 
 /// The bytes of a row, of which 16 are a megabyte.
@@ -17,49 +15,77 @@ pub const ROW: usize = 65_536;
 /// The seed of all that is computed.
 pub const SEED: [u8; 32] = [7; 32];
 
-/// As many zeros.
-pub fn zeros(alloc: Global, count: usize) -> Result<Vec<u8>, AllocError>
-    ensures { IfOk result (λ v. length v.items ≡ count) }
-{
-    vec![in alloc; 0u8; count]
+/// What one round of a loop does.
+#[derive(Clone, Copy)]
+pub enum Round {
+    /// XORs the content into the row.
+    XorInto,
+    /// Adds each block of the content, times a weight that is greater by one each round, to a block.
+    FoldWeighted,
+    /// The share at 3 of the content, where two of them give it.
+    ShareTwo,
+    /// The share at 5 of the content, where three of them give it.
+    ShareThree,
+    /// Joins the shares at 2 and 3.
+    JoinTwo,
+    /// Joins the shares at 3, 4 and 5.
+    JoinThree,
+    /// Digests the row, and makes the first byte of the digest the row's first.
+    Digest,
+    /// The digests of the blocks of the content, one at a time.
+    DigestBlocks,
+    /// The same digests, four at a time.
+    DigestFours,
+    /// Fills the row with the next bytes of a stream.
+    Fill,
 }
 
 /// The rows that the loops go over.
 #[derive(Drop)]
 pub struct Rows {
     content: Vec<u8>,
-    shares: Vec<u8>,
-    out: Vec<u8>,
+    one: Vec<u8>,
+    two: Vec<u8>,
+    three: Vec<u8>,
     blocks: Vec<Block>,
-    ghost content_len: { length content.items ≡ ROW },
-    ghost shares_len: { length shares.items ≡ 5 * ROW },
-    ghost out_len: { length out.items ≡ ROW },
+    out: Vec<u8>,
+    sum: Block,
+    weight: u8,
+    digests: Vec<u8>,
+    pads: PadStream,
+    ghost some: { 0 < length content.items },
+    ghost one_len: { length one.items ≡ length content.items },
+    ghost two_len: { length two.items ≡ 2 * length content.items },
+    ghost three_len: { length three.items ≡ 3 * length content.items },
+    ghost out_len: { length out.items ≡ length content.items },
 }
 
 impl Rows {
     ghost use Rattle.pot_bench.specs.Rows.{KeepsRows};
 
-    /// Random bytes for a content and for shares, and zeros for what is computed.
+    /// Random bytes for a content and for one, two and three rows, and zeros for what is computed.
     pub fn new(alloc: Global) -> Result<Rows, AllocError> {
-        let mut content = zeros(alloc, ROW)?;
-        let mut shares = zeros(alloc, 5 * ROW)?;
         let mut pads = PadStream::new(&SEED, 0, 0);
-        fill_rounds(&mut pads, &mut content, 1);
-        fill_rounds(&mut pads, &mut shares, 1);
-        let blocks = blocks_of(alloc, &content)?;
+        let content = drawn(alloc, &mut pads, 1)?;
+        let one = drawn(alloc, &mut pads, 1)?;
+        let two = drawn(alloc, &mut pads, 2)?;
+        let three = drawn(alloc, &mut pads, 3)?;
+        let mut blocks = Vec::new(alloc);
+        for front in content.chunks(1024) {
+            blocks.push(Block::padded(front))?;
+        }
         Ok(Rows {
             content,
-            shares,
-            out: zeros(alloc, ROW)?,
+            one,
+            two,
+            three,
             blocks,
+            out: vec![in alloc; 0u8; ROW]?,
+            sum: Block::zero(),
+            weight: 0,
+            digests: Vec::new(alloc),
+            pads: PadStream::new(&SEED, 0, 1),
         })
-    }
-
-    /// The last row that was computed.
-    pub fn out(&self) -> &[u8]
-        ensures { result.now ≡ self.now.out.items }
-    {
-        &self.out
     }
 
     /// The blocks of the content.
@@ -69,63 +95,165 @@ impl Rows {
         &self.blocks
     }
 
-    pub fn xor_into(&mut self, rounds: u32)
-        ensures { KeepsRows self.old self.new }
-    {
-        xor_rounds(&mut self.out, &self.content, rounds);
+    /// What the last round computed.
+    pub fn computed(&self, round: Round) -> &[u8] {
+        match round {
+            Round::FoldWeighted => self.sum.bytes(),
+            Round::DigestBlocks | Round::DigestFours => &self.digests,
+            _ => &self.out,
+        }
     }
 
-    pub fn fold_weighted(&self, rounds: u32) -> Block {
-        fold_blocks(&self.blocks, rounds)
-    }
-
-    pub fn share_two_of_three(&mut self, rounds: u32)
+    /// As many rounds.
+    pub fn repeat(&mut self, round: Round, times: u32) -> Result<(), AllocError>
         ensures { KeepsRows self.old self.new }
     {
-        let coefficients = &self.shares[ROW..2 * ROW];
-        share_two_rounds(&self.content, coefficients, &mut self.out, rounds);
+        for _ in 0..times {
+            self.go(round)?;
+        }
+        Ok(())
     }
 
-    pub fn share_three_of_five(&mut self, rounds: u32)
+    /// One round. Want of memory comes from the digests of blocks alone.
+    fn go(&mut self, round: Round) -> Result<(), AllocError>
         ensures { KeepsRows self.old self.new }
     {
-        let coefficients = &self.shares[ROW..3 * ROW];
-        share_three_rounds(&self.content, coefficients, &mut self.out, rounds);
+        match round {
+            Round::XorInto => xor_into(&mut self.out, &self.content),
+            Round::FoldWeighted => self.fold(),
+            Round::ShareTwo => self.share_two(),
+            Round::ShareThree => self.share_three(),
+            Round::JoinTwo => self.join_two(),
+            Round::JoinThree => self.join_three(),
+            Round::Digest => self.digest(),
+            Round::DigestBlocks => return self.digest_blocks(),
+            Round::DigestFours => return self.digest_fours(),
+            Round::Fill => self.pads.fill(&mut self.out),
+        }
+        Ok(())
     }
 
-    pub fn join_two_of_three(&mut self, rounds: u32)
+    fn share_two(&mut self)
         ensures { KeepsRows self.old self.new }
     {
-        let shares = &self.shares[ROW..3 * ROW];
-        join_rounds(&[2, 3], shares, &mut self.out, rounds);
+        share_at_three(&self.content, &self.one, &mut self.out);
     }
 
-    pub fn join_three_of_five(&mut self, rounds: u32)
+    fn share_three(&mut self)
         ensures { KeepsRows self.old self.new }
     {
-        let shares = &self.shares[2 * ROW..];
-        join_rounds(&[3, 4, 5], shares, &mut self.out, rounds);
+        share_at_five(&self.content, &self.two, &mut self.out);
     }
 
-    pub fn digest_of(&mut self, rounds: u32)
+    fn join_two(&mut self)
         ensures { KeepsRows self.old self.new }
     {
-        digest_rounds(&mut self.out, rounds);
+        join(&[2, 3], &self.two, &mut self.out);
     }
 
-    pub fn fill(&mut self, rounds: u32)
+    fn join_three(&mut self)
         ensures { KeepsRows self.old self.new }
     {
-        let mut pads = PadStream::new(&SEED, 0, 1);
-        fill_rounds(&mut pads, &mut self.out, rounds);
+        join(&[3, 4, 5], &self.three, &mut self.out);
     }
 
-    /// What the kit's own generator gives for the same stream.
-    pub fn fill_bytes(&mut self, rounds: u32)
+    fn digest(&mut self)
         ensures { KeepsRows self.old self.new }
     {
-        let mut generator = ChaCha20Rng::from_seed(SEED);
-        generator.set_stream(1);
-        generate_rounds(&mut generator, &mut self.out, rounds);
+        digest(&mut self.out);
     }
+
+    fn fold(&mut self)
+        ensures { KeepsRows self.old self.new }
+    {
+        self.weight = self.weight.wrapping_add(1);
+        for block in &self.blocks {
+            fold_weighted(&mut self.sum, self.weight, block);
+        }
+    }
+
+    fn digest_blocks(&mut self) -> Result<(), AllocError>
+        ensures { KeepsRows self.old self.new }
+    {
+        self.digests.clear();
+        for block in &self.blocks {
+            self.digests
+                .extend_from_slice(&digest_of(block.bytes()).bytes)?;
+        }
+        Ok(())
+    }
+
+    fn digest_fours(&mut self) -> Result<(), AllocError>
+        ensures { KeepsRows self.old self.new }
+    {
+        self.digests.clear();
+        for four in self.blocks.chunks(4) {
+            add_four(four, &mut self.digests)?;
+        }
+        Ok(())
+    }
+}
+
+/// The next bytes of a stream, so many rows.
+fn drawn(alloc: Global, pads: &mut PadStream, rows: usize) -> Result<Vec<u8>, AllocError>
+    requires { rows ≤ 3 }
+    ensures { IfOk result (λ v. length v.items ≡ rows * ROW) }
+{
+    let mut bytes = vec![in alloc; 0u8; rows * ROW]?;
+    pads.fill(&mut bytes);
+    Ok(bytes)
+}
+
+/// The share at 3, where two shares give the content.
+#[tactic(auto, using(crate::proofs::WholeRows::one_row))]
+fn share_at_three(content: &[u8], coefficients: &[u8], out: &mut [u8])
+    requires some { 0 < length content.now }
+    requires rows { length coefficients.now ≡ length content.now }
+    requires wide { length out.old ≡ length content.now }
+    ensures { length out.new ≡ length out.old }
+{
+    share_out(content, coefficients, 3, out);
+}
+
+/// The share at 5, where three shares give the content.
+#[tactic(auto, using(crate::proofs::WholeRows::two_rows))]
+fn share_at_five(content: &[u8], coefficients: &[u8], out: &mut [u8])
+    requires some { 0 < length content.now }
+    requires rows { length coefficients.now ≡ 2 * length content.now }
+    requires wide { length out.old ≡ length content.now }
+    ensures { length out.new ≡ length out.old }
+{
+    share_out(content, coefficients, 5, out);
+}
+
+/// Joins the shares at the points.
+fn join(points: &[u8], shares: &[u8], out: &mut [u8])
+    requires some { 0 < length points.now }
+    requires few { length points.now ≤ 16 }
+    requires distinct { IsDistinct nat_eq points.now }
+    requires not_zero { All (λ x. 0 < x) points.now }
+    requires rows { length shares.now ≡ length points.now * length out.old }
+    ensures { length out.new ≡ length out.old }
+{
+    share_join(points, shares, out);
+}
+
+/// Digests the row, and makes the first byte of the digest its first.
+fn digest(row: &mut [u8])
+    requires { 0 < length row.old }
+    ensures { length row.new ≡ length row.old }
+{
+    let digest = digest_of(row);
+    row[0] = digest.bytes[0];
+}
+
+/// Adds the digests of four blocks.
+fn add_four(blocks: &[Block], bytes: &mut Vec<u8>) -> Result<(), AllocError> {
+    let [a, b, c, d] = blocks else {
+        return Err(AllocError);
+    };
+    for digest in digests_of_four(a, b, c, d) {
+        bytes.extend_from_slice(&digest.bytes)?;
+    }
+    Ok(())
 }

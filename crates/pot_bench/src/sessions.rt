@@ -16,10 +16,10 @@ use pot_bytes::{Geometry, Name, Rack};
 use pot_group::{Ended, Group, StartRefused, are_homes};
 use pot_image::{Image, read_image, write_image};
 use pot_index::{Index, IndexEnded};
-use pot_machine::{Entry, GroupTable};
+use pot_machine::GroupTable;
 use pot_outside::Shelf;
 use pot_pads::PadStream;
-use pot_shared::{Closed, Member, Passes, Vault};
+use pot_shared::{Closed, Member, Passes, Spaces, Vault};
 use pot_store::{FetchFault, StoreFault, Stored, fetch_file, store_file};
 use std::alloc::{AllocError, Global};
 use std::sync::Wait;
@@ -44,8 +44,6 @@ pub struct Desk {
     image: Vec<u8>,
     /// The archives of each group, column by column.
     archives: Vec<Vec<Shelf<PlainArchive>>>,
-    /// Into how many stripes that session put blocks.
-    stripes: u32,
 }
 
 impl Desk {
@@ -63,20 +61,9 @@ impl Desk {
         left.keep(alloc)
     }
 
-    /// The bytes of the image of which its digest is taken: all but that digest.
-    pub fn text(&self) -> &[u8] {
-        let (text, _digest) = self.image.split_at(self.image.len().saturating_sub(32));
-        text
-    }
-
     /// Its image.
     pub fn image(&self) -> &[u8] {
         &self.image
-    }
-
-    /// How many stripes have blocks, where all were put by its session.
-    pub fn stripes(&self) -> u32 {
-        self.stripes
     }
 
     /// The same desk, with an archive without blocks in the place of the first of all.
@@ -93,11 +80,7 @@ impl Desk {
     /// What a session does before its first command: it reads the image, starts each group over its archives, which reads every
     /// block that the image names, and puts the groups and the index under turns.
     pub fn open(self, alloc: Global) -> Result<Session, AllocError> {
-        let Desk {
-            image,
-            archives,
-            stripes: _,
-        } = self;
+        let Desk { image, archives } = self;
         let Ok(
             Image {
                 session,
@@ -119,10 +102,11 @@ impl Desk {
             return Err(AllocError);
         };
         match Vault::start(alloc, &rack, members, index) {
-            Ok((vault, passes)) => Ok(Session {
+            Ok((vault, passes, spaces)) => Ok(Session {
                 number: session.wrapping_add(1),
                 vault,
                 passes,
+                spaces,
             }),
             Err(_) => Err(AllocError),
         }
@@ -206,13 +190,14 @@ pub struct Session {
     number: u32,
     vault: Vault<PlainArchive>,
     passes: Passes<PlainArchive>,
+    spaces: Spaces<PlainArchive>,
     ghost rack: { IsRack vault.rack },
     ghost parity: { vault.rack.parity ≡ 1 },
     ghost count: { length vault.groups ≡ vault.rack.groups },
     ghost ready: { AreReady vault.rack vault.groups passes.groups } by { Prim.hlevel props },
     ghost index: { IsIndexReady vault.rack vault.groups vault.index passes.index } by { Prim.hlevel props },
     ghost parts: { HasAllButKept passes.groups × HasAllParts passes.index },
-    ghost room: { (vault.members.items ≡ []) × (length vault.groups ≤ vec_capacity vault.members) × (vault.catalogs.items ≡ []) × (1 ≤ vec_capacity vault.catalogs) },
+    ghost room: { length vault.groups ≤ spaces },
 }
 
 impl Session {
@@ -292,9 +277,10 @@ impl Session {
             number,
             vault,
             passes,
+            spaces,
         } = self;
         let mut left = Left::new(alloc, number, vault.rack);
-        let Closed { members, index } = vault.close(passes);
+        let Closed { members, index } = vault.close(passes, spaces);
         let IndexEnded { records, log } = index.end();
         left.image.records = records;
         left.image.index_log = log;
@@ -310,7 +296,6 @@ impl Session {
 struct Left {
     image: Image,
     archives: Vec<Vec<Shelf<PlainArchive>>>,
-    stripes: u32,
 }
 
 impl Left {
@@ -326,49 +311,30 @@ impl Left {
                 index_log: Vec::new(alloc),
             },
             archives: Vec::new(alloc),
-            stripes: 0,
         }
     }
 
-    /// Ends a group, and counts the stripes that it began.
+    /// Ends a group.
     fn end_group(&mut self, group: Group<PlainArchive>) -> Result<(), AllocError> {
         let Ended {
             table,
             log,
             shelves,
         } = group.end();
-        for entry in &log {
-            self.count(entry);
-        }
         self.image.tables.push(table)?;
         self.image.group_logs.push(log)?;
         self.archives.push(shelves)?;
         Ok(())
     }
 
-    /// Counts an entry that is the put of a stripe's first block.
-    fn count(&mut self, entry: &Entry) {
-        if let Entry::Put { column: 0, .. } = entry {
-            self.stripes = self.stripes.saturating_add(1);
-        }
-    }
-
     /// The desk on which it is kept.
     fn keep(self, alloc: Global) -> Result<Desk, AllocError> {
-        let Left {
-            image,
-            archives,
-            stripes,
-        } = self;
+        let Left { image, archives } = self;
         if !image.is_countable() {
             return Err(AllocError);
         }
         match write_image(alloc, &image) {
-            Ok(image) => Ok(Desk {
-                image,
-                archives,
-                stripes,
-            }),
+            Ok(image) => Ok(Desk { image, archives }),
             Err(_) => Err(AllocError),
         }
     }

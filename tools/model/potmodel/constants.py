@@ -1,10 +1,12 @@
 """Values that the repository says were computed apart from the crates, each with a name and where it stands."""
 
-from . import field, pieces
+from . import bench, drill, field, generator, pieces
+from .entries import GROUP_KINDS, INDEX_KINDS, Entry
 from .image import Image, Rack, write_image
+from .index import Record, Split
 from .pieces import Geometry
 from .stream import Stream
-from .table import Relay, Table
+from .table import BROKEN, LIVE, LOST, VOID, Relay, Table
 
 
 def polynomial_at(coefficients, points):
@@ -56,30 +58,80 @@ def block_values():
     return [(name % ((len(data),) + geometry), "crates/pot_shard/src/block_tests.rt", block_digests(geometry, data)) for geometry, data in files]
 
 
-def bench_rows():
-    """Checksums of the loops of pot_bench over rows of 65,536 bytes: the first eight bytes of a digest."""
-    rows = [Stream(bytes([7]) * 32, 0, 0).take(at * 65536)[-65536:] for at in (1, 2, 3, 4)]
-    blocks = [rows[0][at:at + pieces.BLOCK] for at in range(0, 65536, pieces.BLOCK)]
-    folded = field.weighted_sum([(weight, block) for weight in range(1, 17) for block in blocks], pieces.BLOCK)
-    drawn = Stream(bytes([7]) * 32, 0, 1).take(16 * 65536)[-65536:]
-    made = [("xor_into", rows[0]), ("fold_weighted", folded), ("share_out 2 of 3", pieces.share_of(rows[0], rows[2:3], 3)),
-            ("share_out 3 of 5", pieces.share_of(rows[0], rows[2:4], 5)), ("share_join 2 of 3", pieces.joined([2, 3], rows[2:4])), ("fill", drawn)]
-    return [("checksum of " + name, "crates/pot_bench/stdout", f"{name} {pieces.digest(data)[:8].hex()}") for name, data in made]
+def bench_values():
+    """What `pot_bench` prints, and how many bytes SHA-256 is given for each byte of ten files."""
+    lines = [(f"{line.rsplit(' ', 1)[0]}, its checksum", "crates/pot_bench/stdout", line) for line in bench.lines()]
+    return lines + [(f"bytes for SHA-256 of a byte, {name}", "docs/PERFORMANCE.md", ratio) for name, ratio in bench.bytes_digested(10)]
 
 
-def bench_sessions():
-    """How many bytes are digested by the store, the opening and the fetch of a file of 800 KB over five groups of three data columns."""
-    length = 800 * 1024
-    count = pieces.count_pieces(length)
-    blocks, stripes = 6 * count, sum(-(-len([b for b in range(6 * count) if pieces.group_of(b, 3, 5) == g]) // 3) for g in range(5))
-    record = 2 + 8 + 32 + 1 + 4 + 6 * blocks
-    store = length + count * 896 + 2 * count * 960 + 2 * blocks * pieces.BLOCK + record
-    tables = 5 * (8 + 16 * 4 + 4096 * 4) + 32 * (blocks + stripes)
-    logs = 4 * 6 + blocks * (5 + 5 + 64 + 1) + (5 + 2) + (5 + 2 + 32)
-    opening = (4 * stripes + 5) * pieces.BLOCK + 32 + tables + 4 + record + logs
-    fetch = length + 4 * count * pieces.BLOCK
-    return [(f"bytes digested by {name}", "crates/pot_bench/stdout", f"{number} bytes digested")
-            for name, number in (("a store", store), ("an opening", opening), ("a fetch", fetch))]
+def full_tables(rack):
+    """The tables of `full_image`. The digest of a slot is that of its row, counted on over the groups, and its column: 0, 1, p or q."""
+    tables = [Table(2, rack.parity, 2, range(first, first + 2 + rack.parity)) for first in (0, 10)]
+    tables[0].cursor, tables[1].cursor = (1, 1), (2, 0)
+    tables[0].columns[0].to, tables[0].columns[0].upto = 500, 1
+    states = {(0, 0, 1): LOST, (0, 0, 3): LOST, (0, 1, 1): VOID, (0, 1, 2): BROKEN, (1, 1, 1): VOID}
+    for group, table in enumerate(tables):
+        for stripe in range(2):
+            for column in range(table.width):
+                state = states.get((group, stripe, column), LIVE)
+                named = f"{2 * group + stripe}{'01pq'[column]}".encode()
+                table.slots[stripe][column] = (state, None if state == VOID else pieces.digest(named))
+    return tables
+
+
+def full_records(rack, form):
+    """The records of `full_image`: of `hello` and, in format 2, of a file without bytes."""
+    alone = Geometry(2, 1, 1, 0)
+    splits = [Split(alone, [(0, 0, 1), (1, 0, 1)]), Split(rack.geometry, [(0, 0, 0), (1, 0, 0), (1, 1, 0), (0, 1, 0)])]
+    hello = Record(b"a", 5, pieces.digest(b"hello"), splits[2 - form:])
+    empty = Record(b"b.txt", 0, pieces.digest(b""), [Split(alone, [(0, 1, 0), (1, 1, 0)])])
+    return [hello, empty][:form]
+
+
+def full_image(form):
+    """An image of session 7 with slots of each state, a column that moves, and an entry of each kind of the format in its logs, all
+    of job 3: at stripe 1 and column 1, with other columns in those of three, and the digests of `x`, `y` and `z`."""
+    rack = Rack(2, 2, form, 2, Geometry(2, 1, 2, 8))
+    values = {"stripe": [1], "column": [1, 2], "digest": [pieces.digest(one) for one in (b"x", b"y", b"z")], "flag": [True, False], "name": [b"n"]}
+    own = {"Stuck": (1, 1, 0), "MoveBegin": (1, 511), "Moved": (1, 1, False), "MoveEnd": (2,), "Swapped": (0, 0)}
+    own["Renew"] = (b"n", pieces.digest(b"y"))
+    logs = []
+    for kinds, last in ((GROUP_KINDS, 16 + form), (INDEX_KINDS, 4 + 2 * form)):
+        logs.append([Entry(kind, 3, own.get(kind) or fields_of(sorts.split(), values)) for kind, (number, sorts) in kinds.items() if number <= last])
+    return write_image(Image(7, rack, full_tables(rack), full_records(rack, form), [logs[0], []], logs[1]), form)
+
+
+def fields_of(sorts, values):
+    """The fields of an entry: of each sort the values in their order."""
+    return tuple(values[sort][sorts[:at].count(sort)] for at, sort in enumerate(sorts))
+
+
+def rising_by_seven(length):
+    """Byte i is 7 (i modulo 256) + 3 modulo 256."""
+    return bytes((at * 7 + 3) % 256 for at in range(length))
+
+
+def start_of(data):
+    """The first eight bytes of a digest."""
+    return pieces.digest(data)[:8].hex()
+
+
+def veil_values():
+    """What explains another object, and what drills report, begin so; the random bytes are `rising_by_seven`."""
+    two, three = Geometry(2, 2, 3, 16), Geometry(3, 3, 5, 16)
+    objects = [pieces.object_of(bytes([5]) * 16, data, 0) for data in (b"hello", b"world")]
+    made = []
+    for geometry, hidden, seen in ((two, 1, [3]), (two, 2, [1]), (three, 2, [2, 5])):
+        random = rising_by_seven(pieces.piece_length(geometry))
+        found = drill.explained_piece(objects, geometry, hidden, seen, random)
+        made.append((f"random bytes that explain `world`, fragment {hidden} of {geometry.fragments} at {seen}", start_of(found)))
+    pairs = [(b"hello", b"world", two, 1, [3]), (rising_by_seven(1000), bytes(999) + bytes([1]), three, 2, [2, 5])]
+    for first, second, geometry, hidden, seen in pairs:
+        random = rising_by_seven(pieces.random_length(len(first), geometry))
+        blocks = drill.seen_blocks(first, geometry, hidden, seen, random)
+        made.append((f"the {len(blocks)} blocks that a drill sees", start_of(b"".join(blocks))))
+        made.append((f"the random bytes that a drill over {len(first)} bytes leaves", start_of(drill.explained(first, second, geometry, hidden, seen, random))))
+    return [(name, "crates/pot_veil/src/tests.rt", value) for name, value in made]
 
 
 def weights(target, skip):
@@ -90,22 +142,60 @@ def weights(target, skip):
 
 def relay_weights():
     """Rows of weights that a test has: the target, and the slot that is left out."""
-    rows = [(0, None), (0, 1), (1, 3), (2, 0), (3, 2), (4, None), (4, 1)]
-    return [(f"weights of a relay of column {target}, without {skip}", "crates/pot_steps/src/tests.rt", weights(target, skip)) for target, skip in rows]
+    rows = [(0, None), (1, 4), (3, None), (3, 4), (1, 3), (0, 1), (2, 0), (3, 2), (4, None), (4, 3), (4, 1)]
+    return relay_sums() + [(f"weights of a relay of column {target}, without {skip}", "crates/pot_steps/src/tests.rt", weights(target, skip)) for target, skip in rows]
+
+
+def relay_sums():
+    """The sums of a relay of column 0 of two, without column 1, over P and Q: of the blocks 57 and 13, and the blind 5a."""
+    table, total, sums = Table(2, 2, 1, range(4)), 0x5A, []
+    for column in (2, 3):
+        block = 0
+        for data, byte in enumerate((0x57, 0x13)):
+            block ^= field.times(table.coefficients(data)[column - 2], byte)
+        total ^= field.times(table.weight_of(Relay(0, 0, 1), column), block)
+        sums.append(total)
+    return [("sums of a relay without column 1", "crates/pot_steps/src/tests.rt", bytes(sums).hex())]
+
+
+def mark_values():
+    """The marks of the record of `hello` as `a`, with a split in stripe 3, and with one more in stripe 4."""
+    splits = [Split(Geometry(2, 1, 1, 16), [(0, 0, stripe), (0, 1, stripe)]) for stripe in (3, 4)]
+    marks = [Record(b"a", 5, pieces.digest(b"hello"), splits[:count]).mark().hex() for count in (1, 2)]
+    return [(f"mark of a record of {count} splits", "crates/pot_index/src/tests.rt", mark) for count, mark in enumerate(marks, 1)]
+
+
+def share_values():
+    """Shares that tests have: of 57 + 83 x, and of the content 00 ff with the rows 10 20 and 01 80, at 255, 1 and 5."""
+    two = [polynomial_at(row, [255, 1, 5]) for row in ([0x00, 0x10, 0x01], [0xFF, 0x20, 0x80])]
+    paired = "".join(a + b for a, b in zip(*[[row[at:at + 2] for at in (0, 2, 4)] for row in two]))
+    return [
+        ("57 + 83 x at 1, 2 and 3", "crates/pot_split/src/lib.rt", polynomial_at([0x57, 0x83], [1, 2, 3])),
+        ("57 + 83 x at 1, 2 and 3", "crates/pot_joins/src/lib.rt", polynomial_at([0x57, 0x83], [1, 2, 3])),
+        ("57 + 83 x at 1, 2, 3 and 4", "crates/pot_robust/src/tests.rt", polynomial_at([0x57, 0x83], [1, 2, 3, 4])),
+        ("shares of 00 ff at 255, 1 and 5", "crates/pot_split/src/lib.rt", paired),
+        ("10 x + x^2 at 255, 1 and 5", "crates/pot_joins/src/lib.rt", two[0]),
+    ]
+
+
+def generated():
+    """The script of the generator for 1."""
+    script = generator.script(1)
+    place = "crates/pot_generator/src/tests.rt"
+    return [("length of the generator's script for 1", place, f"{len(script):,}".replace(",", "_")), ("SHA-256 of it", place, pieces.digest(script).hex())]
 
 
 def values():
     """Name, file of the repository, and value: hexadecimal digits, or a text."""
     inverses = bytes(field.inverse(a) for a in range(1, 256)).hex()
     empty = write_image(Image.empty(Rack(3, 1, 1, 8, Geometry(2, 3, 3, 16))))
-    return relay_weights() + head_values() + block_values() + bench_rows() + bench_sessions() + [
+    return generated() + relay_weights() + mark_values() + share_values() + head_values() + block_values() + bench_values() + veil_values() + [
         ("bytes 301 to 308 of session 0 and job 1", "crates/pot_pads/src/tests.rt", stream_bytes(0, 1)),
         ("bytes 301 to 308 of session 1 and job 0", "crates/pot_pads/src/tests.rt", stream_bytes(1, 0)),
+        ("bytes 301 to 308 of session 01020304 and job 05060708", "crates/pot_pads/src/tests.rt", stream_bytes(0x01020304, 0x05060708)),
         ("product 57 83 and 57 13 (FIPS 197, 4.2)", "crates/pot_gf/src/tests.rt", bytes([field.times(0x57, 0x83), field.times(0x57, 0x13)]).hex()),
         ("inverses of 1 to 255", "crates/pot_gf/src/tests.rt", inverses),
         ("05 + 1f x + a0 x^2 at 1, 2, 3 and 80", "crates/pot_gf/src/tests.rt", polynomial_at([0x05, 0x1F, 0xA0], [1, 2, 3, 0x80])),
-        ("57 + 83 x at 1, 2 and 3", "crates/pot_split/src/lib.rt", polynomial_at([0x57, 0x83], [1, 2, 3])),
-        ("57 + 83 x at 1, 2 and 3", "crates/pot_joins/src/lib.rt", polynomial_at([0x57, 0x83], [1, 2, 3])),
         ("key stream of the key 0, block 0 (RFC 8439, A.1)", "crates/pot_pads/src/tests.rt", Stream(bytes(32), 0, 0).take(64).hex()),
         ("key stream of the key 0, block 1 (RFC 8439, A.1)", "crates/pot_pads/src/tests.rt", Stream(bytes(32), 0, 0).take(128)[64:].hex()),
         ("SHA-256 of `hello`", "crates/pot_object/src/tests.rt", pieces.digest(b"hello").hex()),
@@ -114,5 +204,7 @@ def values():
         ("image of 118 bytes, format 1", "docs/FORMATS.md", small_image(1).hex()),
         ("image of 118 bytes, format 2", "crates/pot_image/src/tests.rt", small_image(2).hex()),
         ("image of 118 bytes, format 1", "crates/pot_image/src/tests.rt", small_image(1).hex()),
+        ("full image of 1,325 bytes, format 2", "crates/pot_image/src/tests.rt", full_image(2).hex()),
+        ("full image of 923 bytes, format 1", "crates/pot_image/src/tests.rt", full_image(1).hex()),
         ("empty image of 252 bytes, its trailer", "crates/pot_image/src/tests.rt", empty[-32:].hex()),
     ]

@@ -10,17 +10,31 @@ class Failed(Exception):
     """A call of a device failed."""
 
 
+class Fuse:
+    """How many calls of several devices together may still pass. Once none is left, each call fails."""
+
+    def __init__(self, calls):
+        self.left = calls
+
+    def is_spent(self):
+        """Takes one off the calls that are left, and says whether there was none."""
+        spent = self.left == 0
+        self.left -= not spent
+        return spent
+
+
 class Device:
     """Something that numbers its calls, of which some fail."""
 
     def __init__(self, fails=()):
-        self.fails, self.calls, self.faults = set(fails), 0, 0
+        self.fails, self.calls, self.faults, self.fuse = set(fails), 0, 0, None
 
     def begin_call(self):
-        """Numbers a call, and lets it fail where it is listed."""
+        """Numbers a call, and lets it fail where it is listed or its fuse lets none pass."""
         called = self.calls
         self.calls += 1
-        if called in self.fails:
+        is_spent = self.fuse is not None and self.fuse.is_spent()
+        if called in self.fails or is_spent:
             self.faults += 1
             raise Failed()
 
@@ -63,7 +77,7 @@ class Archive(Device):
 
 
 class Room(Device):
-    """Archives by number. One that was never there is empty."""
+    """Archives by number. One that was never there is empty. One that is taken comes under the room's fuse."""
 
     def __init__(self, archives=None, fails=()):
         super().__init__(fails)
@@ -77,7 +91,8 @@ class Room(Device):
         """The archive of this number, which is then out."""
         self.begin_call()
         self.out.add(number)
-        self.archive(number)
+        archive = self.archive(number)
+        archive.fuse = self.fuse or archive.fuse
         return self.archives.pop(number)
 
     def give(self, number, archive):

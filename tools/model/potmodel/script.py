@@ -9,12 +9,12 @@ LONGEST_LINE = 4096
 NUMBER = re.compile(rb"0|[1-9][0-9]{0,8}")
 NAME = re.compile(rb"[a-z0-9._-]{1,64}")
 JOBS = ("store", "fetch", "scrub", "repair", "migrate", "renew")
-WORKED = ("store", "fetch", "list", "status", "scrub", "repair", "replace", "migrate", "renew", "quit")
+WORKED_IN_BATCH = ("store", "fetch", "scrub", "repair", "renew", "end")
 REFUSALS = ("long", "exists", "full", "absent", "lost", "odd", "fault", "logfull", "noarchive", "inuse", "often")
 
 
 class BadLine(Exception):
-    """A script leaves its grammar at the line of this number, or that line is not worked."""
+    """A script leaves its grammar at the line of this number, or that line is not worked: a `migrate` in a batch."""
 
 
 def read_number(word, least, most):
@@ -65,11 +65,11 @@ def jobs_left(command, left):
     return None if left is None or command[0] == "end" else left - 1
 
 
-def read_script(data, groups, worked=WORKED):
+def read_script(data, groups):
     """The commands of a script, in order; else BadLine with the number of the first line that leaves the grammar."""
     if len(data) > LONGEST_SCRIPT:
         raise BadLine(0)
-    commands, at, line, left = [], 0, 1, None
+    commands, unworked, at, line, left = [], [], 0, 1, None
     while True:
         stop = data.find(b"\n", at)
         if stop < 0 or stop - at > LONGEST_LINE:
@@ -80,17 +80,28 @@ def read_script(data, groups, worked=WORKED):
         at = stop + 1
         if command[0] == "store":
             at, command = read_stated(data, at, command, line)
-        commands.append((line, command))
+        commands.append(command)
+        if left is not None and command[0] not in WORKED_IN_BATCH:
+            unworked.append(line)
         left = jobs_left(command, left)
         line += 1
         if command[0] == "quit":
             break
     if at != len(data):
         raise BadLine(line)
-    unworked = [number for number, command in commands if command[0] not in worked]
     if unworked:
         raise BadLine(unworked[0])
-    return [command for _, command in commands]
+    return commands
+
+
+def steps_of(commands):
+    """The commands before `quit` as steps: lists of what is worked as one, a command alone or the jobs of a batch."""
+    steps, at = [], 0
+    while commands[at][0] != "quit":
+        count = commands[at][1] if commands[at][0] == "together" else 0
+        steps.append(commands[at + 1:at + 1 + count] if count else commands[at:at + 1])
+        at += count + 2 if count else 1
+    return steps
 
 
 def read_stated(data, at, command, line):

@@ -1,11 +1,11 @@
 """The program: from words to an exit status, over a source, a sink, a room of archives and a desk."""
 
-from . import drill, recovery
+from . import audit, drill, recovery
 from .devices import Failed
 from .group import Group
 from .image import Image, Refused, read_image, write_image
 from .index import Index
-from .script import LONGEST_SCRIPT, BadLine, is_refusal, read_script
+from .script import BadLine, LONGEST_SCRIPT, is_refusal, read_script, steps_of
 from .vault import RoomFailed, Vault
 from .words import read_words
 
@@ -41,6 +41,11 @@ def work_words(task, drawn, source, sink, room, desk):
         return serve(task[1] or drawn, source, sink, room, desk)
     if task[0] == "drill":
         return work_drill(task, drawn, source)
+    if task[0] == "audit":
+        return work_audit(task, sink, desk)
+    if task[0] == "generate":
+        from . import generator  # it runs this module's `run`
+        raise End(0, generator.summary(task[1]).encode())
     return recover(task, sink, room)
 
 
@@ -82,15 +87,20 @@ def read_source(source, most):
     return data
 
 
-def image_of(desk):
-    """The image from which a session begins."""
+def stands_on(desk):
+    """The image that stands on a desk."""
     data = read_desk(desk)
     if data is None:
         raise End(7, b"image refused none\n")
     try:
-        image = read_image(data)
+        return read_image(data)
     except Refused as refused:
         raise End(7, b"image refused " + refused.args[0].encode() + b"\n")
+
+
+def image_of(desk):
+    """The image from which a session begins."""
+    image = stands_on(desk)
     if image.session == LAST_SESSION:
         raise End(9, b"session spent\n")
     return image
@@ -143,11 +153,15 @@ def give_all(archives, room):
 
 
 def work_commands(vault, commands, sink):
-    """The commands in order, the replies of each written after it; answers 0 or 1, or the status of what failed."""
-    status = 0
-    for job, command in enumerate(commands[:-1], 1):
+    """The steps in order, the replies of each written after it; answers 0 or 1, or the status of what failed. The jobs of a batch are worked one
+    after another, as one worker does."""
+    status, job = 0, 1
+    for step in steps_of(commands):
         try:
-            replies = vault.work(job, command)
+            replies = []
+            for command in step:
+                replies += vault.work(job, command)
+                job += 1
             sink.write(b"".join(replies))
         except RoomFailed:
             return 8
@@ -180,6 +194,22 @@ def work_drill(task, drawn, source):
         raise End(3, b"bad line 0\n")
     status, text = drill.report(pair, geometry, hidden, seen, seed or drawn)
     raise End(status, text)
+
+
+def work_audit(task, sink, desk):
+    """An audit of the records of a desk; the lines of each are written before the next is looked at."""
+    image, spots = stands_on(desk), task[1]
+    rack, status = image.rack, 0
+    if any(group >= rack.groups or column >= rack.columns + rack.parity for group, column in spots):
+        raise End(2, b"words refused\n")
+    for record in image.records:
+        text, is_bare = audit.lines(rack, spots, record)
+        try:
+            sink.write(text)
+        except Failed:
+            return 5
+        status = 1 if is_bare else status
+    return status
 
 
 def recover(task, sink, room):

@@ -3,8 +3,8 @@
 import re
 import sys
 
-from . import session
-from .devices import Desk, Failed, Room, Sink, Source
+from . import field, session
+from .devices import Desk, Failed, Fuse, Room, Sink, Source
 from .image import Refused, read_image
 from .pieces import Shard, block_of, digest, number
 from .table import BROKEN, LIVE, LOST, VOID
@@ -12,13 +12,15 @@ from .table import BROKEN, LIVE, LOST, VOID
 NUMBER = "(?:0|[1-9][0-9]*)"
 HEX = "(?:[0-9a-f]{2})+"
 STEPS = re.compile("|".join([
-    rf"\$(?: [^ ]+)*", r"drawn [0-9a-f]{2}", rf"fail (?:source|sink|desk|room|archive {NUMBER}) {NUMBER}", rf"lose {NUMBER} {NUMBER}(?: {NUMBER})?",
+    rf"\$(?: [^ ]+)*", r"drawn [0-9a-f]{2}", rf"(?:fail|stop) (?:source|sink|desk|room|archive {NUMBER}) {NUMBER}", rf"lose {NUMBER} {NUMBER}(?: {NUMBER})?",
     rf"empty(?: {NUMBER})+", rf"alter {NUMBER} {NUMBER} {NUMBER} [0-9a-f]{{2}}", rf"crowd {NUMBER} {NUMBER}", "none", rf"(?:zeros|cut) {NUMBER}",
     rf"(?:set|insert) {NUMBER} {HEX}", rf"copy {NUMBER} {NUMBER} {NUMBER}", rf"flip {NUMBER}", "seal(?: more)?",
-    "image|fields|records|slots|logs|blocks|heard|room", rf"each (?:source|sink|desk|room|cut|archive {NUMBER}) {NUMBER} {NUMBER}",
+    "image|fields|records|slots|stripes|logs|blocks|heard|room|pair", rf"fuse {NUMBER}",
+    rf"each (?:(?:stop )?(?:source|sink|desk|room|archive {NUMBER})|fuse|cut) {NUMBER} {NUMBER}",
     rf"each set {NUMBER} {NUMBER}(?: {NUMBER})+",
 ]))
 SCRIPT = re.compile(rf"\|(?:-? .*)?|\+ {NUMBER} {NUMBER}|\* {NUMBER} {NUMBER}")
+ALL_LATER = 100
 LETTERS = {VOID: ".", LIVE: "L", LOST: "x", BROKEN: "B"}
 FILE = re.compile(rb"file [^ ]+ ([0-9]{1,9})")
 
@@ -76,7 +78,11 @@ class Scene:
     def __init__(self):
         self.room, self.image, self.drawn = Room(), None, bytes([7]) * 32
         self.next_fails = {"source": [], "sink": [], "desk": []}
-        self.outcomes = []
+        self.outcomes, self.waits = [], False
+
+    def step_pair(self):
+        """In the next call the first job of a batch waits for the second."""
+        self.waits = True
 
     def call(self, words, script):
         """A call of the program."""
@@ -85,7 +91,11 @@ class Scene:
         self.next_fails = {"source": [], "sink": [], "desk": []}
         status = session.run(words, self.drawn, source, sink, self.room, desk)
         self.image = desk.image
-        return [f"status {status}"] + [item_text(item) for item in items_of(bytes(sink.written))]
+        told = [f"status {status}"] + [item_text(item) for item in items_of(bytes(sink.written))]
+        if self.waits:
+            told.append("met" if "--workers 1" not in " ".join(words) else "not met")
+        self.waits = False
+        return told
 
     def archive(self, number_of):
         """An archive of the room."""
@@ -108,14 +118,23 @@ class Scene:
         """Another drawn seed."""
         self.drawn = bytes.fromhex(text) * 32
 
-    def step_fail(self, what, *numbers):
-        """A call that fails."""
+    def step_fail(self, what, *numbers, count=1):
+        """Calls that fail, from one on."""
+        calls = range(int(numbers[-1]), int(numbers[-1]) + count)
         if what == "archive":
-            self.archive(int(numbers[0])).fails.add(int(numbers[1]))
+            self.archive(int(numbers[0])).fails.update(calls)
         elif what == "room":
-            self.room.fails.add(int(numbers[0]))
+            self.room.fails.update(calls)
         else:
-            self.next_fails[what].append(int(numbers[0]))
+            self.next_fails[what].extend(calls)
+
+    def step_stop(self, what, *numbers):
+        """An object of which all calls fail, from one on: more than a story makes of it."""
+        self.step_fail(what, *numbers, count=ALL_LATER)
+
+    def step_fuse(self, calls):
+        """So many calls of the room and its archives pass, and all later ones fail."""
+        self.room.fuse = Fuse(int(calls))
 
     def step_lose(self, number_of, *rest):
         """A block is lost, at a call or at once."""
@@ -234,6 +253,33 @@ class Scene:
             lines.append(" ".join([f"group {group}"] + ["".join(LETTERS[state] for state, _ in row) for row in rows]))
         return lines
 
+    def step_stripes(self):
+        """What the blocks of each stripe up to the cursor's come to."""
+        image = self.read()
+        if image is None:
+            return ["no fields"]
+        words = ["".join(self.stripe_letter(table, stripe) for stripe in range(min(table.cursor[0] + 1, table.stripes))) for table in image.tables]
+        return [" ".join(["stripes"] + words)]
+
+    def stripe_letter(self, table, stripe):
+        """Whether the data blocks of a stripe and the first parity block sum to zeros; where one of them is missing, whether they tell it."""
+        total, missing, is_void = bytes(1024), [], True
+        for column in range(table.data + 1):
+            state, digest_of = table.slots[stripe][column]
+            if state == VOID:
+                continue
+            is_void = False
+            block = self.archive(table.archive_of(stripe, column)).blocks.get(stripe) if state == LIVE else None
+            if block is None or digest(block) != digest_of:
+                missing.append(("0123456789abcdefg"[column], digest_of))
+            else:
+                total = field.add(total, block)
+        if is_void or len(missing) > 1:
+            return "." if is_void else "-"
+        if missing:
+            return missing[0][0] if digest(total) == missing[0][1] else "!"
+        return "!" if any(total) else "="
+
     def step_logs(self):
         """The entries of all logs."""
         image = self.read()
@@ -338,7 +384,7 @@ class Story:
 
 def is_for_whole_story(words):
     """Whether a step holds from the story's beginning on, wherever it stands."""
-    is_one = words[:2] in (["fail", "room"], ["fail", "archive"]) or words[0] == "lose" and len(words) == 4
+    is_one = words[0] in ("fail", "stop") and words[1:2] in (["room"], ["archive"]) or words[0] == "lose" and len(words) == 4
     return is_one and STEPS.fullmatch(" ".join(words)) is not None
 
 
@@ -353,7 +399,8 @@ def meanings(words):
         return
     for number_of in range(int(words[-2]), int(words[-1]) + 1):
         label = " ".join(words[1:-2])
-        yield label, str(number_of), words[1:-2] + [str(number_of)] if words[1] == "cut" else ["fail"] + words[1:-2] + [str(number_of)]
+        meant = words[1:-2] + [str(number_of)]
+        yield label, str(number_of), meant if words[1] in ("cut", "fuse", "stop") else ["fail"] + meant
 
 
 def script_bytes(line):

@@ -111,7 +111,32 @@ def read_drill(words):
     return "drill", geometry, hidden, seen, seed
 
 
-READERS = {"init": read_init, "run": read_run, "recover": read_recover, "drill": read_drill}
+def read_spot(text):
+    """A group and a column, with a dot between them."""
+    group, _, column = text.partition(".")
+    spot = (read_number(group, 0, 15), read_number(column, 0, 17))
+    return None if None in spot else spot
+
+
+def read_audit(words):
+    """`audit`: the columns that are seen."""
+    reader = Reader(words, {"seen"})
+    if not reader.is_fine or "seen" not in reader.values:
+        return None
+    seen = [read_spot(text) for text in reader.values["seen"].split(",")]
+    if None in seen or sorted(set(seen)) != seen:
+        return None
+    return "audit", seen
+
+
+def read_generate(words):
+    """The number of `generate`."""
+    number = read_number(words[0], 1, 1000000) if len(words) == 1 else None
+    return ("generate", number) if number is not None else None
+
+
+READERS = {"init": read_init, "run": read_run, "recover": read_recover, "drill": read_drill, "audit": read_audit,
+           "generate": read_generate}
 
 
 def read_words(words):
