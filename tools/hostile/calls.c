@@ -26,6 +26,7 @@
 #include <sys/file.h>
 #include <sys/socket.h>
 #include <sys/stat.h>
+#include <sys/syscall.h>
 #include <sys/uio.h>
 #include <unistd.h>
 
@@ -317,7 +318,27 @@ extern void *__libc_calloc(size_t, size_t);
 void *malloc(size_t size) { return is_refused() ? (errno = ENOMEM, NULL) : __libc_malloc(size); }
 void *realloc(void *old, size_t size) { return is_refused() ? (errno = ENOMEM, NULL) : __libc_realloc(old, size); }
 
-__attribute__((destructor)) static void count(void) {
+static int feigns_calm(void) { return !strcmp(plant, "calm") && refused >= 0 && allocations >= refused; }
+
+static void leave(int status) {
+    for (;;) syscall(SYS_exit_group, status);
+}
+
+static void count(void) {
+    static int is_counted;
+    if (is_counted) return;
+    is_counted = 1;
     note("calls", "all", calls, allocations, NULL);
-    if (!strcmp(plant, "calm") && refused >= 0 && allocations >= refused) _exit(0);
+}
+
+/* A program with threads ends by a call, and one without by returning. */
+void _exit(int status) {
+    count();
+    leave(feigns_calm() ? 0 : status);
+    __builtin_unreachable();
+}
+
+__attribute__((destructor)) static void end(void) {
+    count();
+    if (feigns_calm()) leave(0);
 }

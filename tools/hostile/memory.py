@@ -13,6 +13,9 @@ SESSIONS = [
             script(store("b", b"world"), store("b", b"again"), "fetch a", "fetch none", "list", "status", "scrub 0", "repair 0",
                    "migrate 2 8", "migrate 4 8", "renew a 2 3 3 16", "replace 0 6", "repair 0", "fetch b"),
             files={"a": b"hello"}, new={"b": b"world"}),
+    Session("batch", RACK, 3, [script(store("a", b"hello"))],
+            script("together 3", store("b", b"world"), "fetch a", "repair 0", "end", "fetch b"),
+            files={"a": b"hello"}, new={"b": b"world"}),
 ]
 
 
