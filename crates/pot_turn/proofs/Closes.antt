@@ -23,12 +23,13 @@ only v u (suc k) e = absurd (some-ne-none u (sym e))
 module _ {T E O : Type 0} (log : T → List E) (origin : T → O) (opened : T) where
   -- the table of a new turn
   pub opens : (n : ℕ) → n ≡ length (log opened) → (items : List (Option T)) → items ≡ Some opened ∷ []
-      → Ruled log origin opened (opening (0 ∷ n ∷ []) items (first_sight (log opened) (origin opened)))
+      → Ruled log origin opened (opening (0 ∷ n ∷ 0 ∷ []) items (first_sight (log opened) (origin opened)))
   opens n is items one =
       let v : Sight E O = first_sight (log opened) (origin opened) in
       record {
         whole = log opened;
-        words = ap (λ k. 0 ∷ k ∷ []) is;
+        sleepers = 0;
+        words = ap (λ k. 0 ∷ k ∷ 0 ∷ []) is;
         one = omega arith;
         begins = starts_self (log opened);
         made = omega arith;

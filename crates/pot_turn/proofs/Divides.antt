@@ -32,7 +32,8 @@ module _ {T E O : Type 0} (log : T → List E) (origin : T → O) (opened : T) w
       let one = r.one in
       record {
         whole = r.whole;
-        words = r.words ∙ ap (λ k. k ∷ length r.whole ∷ []) (sym same);
+        sleepers = r.sleepers;
+        words = r.words ∙ ap (λ k. k ∷ length r.whole ∷ r.sleepers ∷ []) (sym same);
         one = omega (arith, same, one);
         begins = r.begins;
         made = ap (λ k. k + length (log opened)) made ∙ r.made;
@@ -110,7 +111,8 @@ module _ {T E O : Type 0} (log : T → List E) (origin : T → O) (opened : T) w
       let opening : v.view.opened ≡ w.view.opened = (mine.named some_parts).0 ∙ sym (its.named some_parts').0 in
       record {
         whole = r.whole;
-        words = r.words ∙ ap (λ k. k ∷ length r.whole ∷ []) (sym same);
+        sleepers = r.sleepers;
+        words = r.words ∙ ap (λ k. k ∷ length r.whole ∷ r.sleepers ∷ []) (sym same);
         one = omega (arith, same, one);
         begins = r.begins;
         made = ap (λ k. k + length (log opened)) made ∙ r.made;

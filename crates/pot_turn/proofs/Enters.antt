@@ -21,8 +21,28 @@ module _ {T E O : Type 0} (log : T → List E) (origin : T → O) (opened : T) w
       → Ruled log origin opened (stepped s 0 n id [] v keeps)
   same_state s r id v at n held =
       let views_same : set s.views id v ≡ s.views = set_again s.views id v at in
-      let words_same : set s.words 0 n ≡ s.words = ap (λ ws. set ws 0 n) r.words ∙ ap (λ k. k ∷ length r.whole ∷ []) (sym held) ∙ sym r.words in
+      let words_same : set s.words 0 n ≡ s.words = ap (λ ws. set ws 0 n) r.words ∙ ap (λ k. k ∷ length r.whole ∷ r.sleepers ∷ []) (sym held) ∙ sym r.words in
       subst (λ (x : List ℕ × List (Sight E O)). Ruled log origin opened (record { words = x.0; homes = s.homes; views = x.1 })) (λ i. (sym words_same i, sym views_same i)) r
+
+  -- the word of sleepers may become any number
+  pub sleeps : (id : ℕ) (m : Me (Option T) (Sight E O)) (f : ℕ → ℕ) → Allows (Ruled log origin opened) 1 id m 2 f (λ _ m'. m' ≡ m)
+  sleeps id m f s r slots at small =
+      let n = f (slice_index s.words 2) in
+      let after : Ruled log origin opened (record { words = set s.words 2 n; homes = s.homes; views = s.views }) = record {
+        whole = r.whole;
+        sleepers = n;
+        words = ap (λ ws. set ws 2 n) r.words;
+        one = r.one;
+        begins = r.begins;
+        made = r.made;
+        parts = r.parts;
+        once = r.once;
+        each = r.each;
+        home = r.home;
+        away = r.away;
+      } in
+      let same : set s.views id m.0 ≡ s.views = set_again s.views id m.0 at in
+      (m.0, keeps, tt, subst (λ (x : List (Sight E O)). Ruled log origin opened (record { words = set s.words 2 n; homes = s.homes; views = x })) (sym same) after, refl)
 
   abbrev Goes : State (Option T) (Sight E O) → ℕ → Sight E O → ℕ → Type 0
   Goes s id v n = (w : Sight E O) × (a : Act (Option T)) × Valid s.homes [] a × Ruled log origin opened (stepped s 0 (either (n == 0) 1 n) id [] w a) × Took log origin (v, []) n (w, carried_after [] a)
@@ -47,7 +67,8 @@ module _ {T E O : Type 0} (log : T → List E) (origin : T → O) (opened : T) w
         ap (λ h. get_elem? h 0) home.1,
         record {
           whole = r.whole;
-          words = ap (λ ws. set ws 0 1) r.words ∙ ap (λ k. k ∷ length r.whole ∷ []) (sym one_held);
+          sleepers = r.sleepers;
+          words = ap (λ ws. set ws 0 1) r.words ∙ ap (λ k. k ∷ length r.whole ∷ r.sleepers ∷ []) (sym one_held);
           one = omega (arith, one_held);
           begins = r.begins;
           made = omega (arith, made, r.made);

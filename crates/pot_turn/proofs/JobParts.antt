@@ -6,7 +6,7 @@ use Rattle.std.proofs.lemmas.List.Elements.{filter-append}
 use Rattle.pot_turn.specs.declared.view.View.{View}
 use Rattle.pot_turn.specs.declared.view.Stretch.{Stretch}
 use Rattle.pot_turn.specs.Logs.{StartsWith, longer}
-use Rattle.pot_turn.specs.Stretches.{stretch, between, times, size_of, Ascends, entries_in}
+use Rattle.pot_turn.specs.Stretches.{stretch, between, times, size_of, entries_in}
 use Rattle.pot_turn.specs.Jobs.{NoneIn, CarriesBetween}
 use Rattle.pot_turn.specs.JobLaws.{IdleLogsNothing, PartBegins, PartSplits, PartEnters, PartLogs, PartStays, PartsJoin, PartIsAll}
 use Rattle.pot_turn.specs.Views.{took_view, left_view, IsPass}

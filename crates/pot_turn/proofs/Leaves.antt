@@ -66,7 +66,8 @@ module _ {T E O : Type 0} (log : T → List E) (origin : T → O) (opened : T) w
         tt,
         record {
           whole = log x;
-          words = ap (λ ws. set ws 1 (length (log x))) r.words ∙ ap (λ k. k ∷ length (log x) ∷ []) (sym still);
+          sleepers = r.sleepers;
+          words = ap (λ ws. set ws 1 (length (log x))) r.words ∙ ap (λ k. k ∷ length (log x) ∷ r.sleepers ∷ []) (sym still);
           one = omega (arith, still, one);
           begins = starts_trans (log x) r.whole (log opened) longer r.begins;
           made = omega (arith, made1, made, old_length, fits_length);
@@ -137,7 +138,8 @@ module _ {T E O : Type 0} (log : T → List E) (origin : T → O) (opened : T) w
         tt,
         record {
           whole = r.whole;
-          words = ap (λ ws. set ws 0 0) r.words ∙ ap (λ k. k ∷ length r.whole ∷ []) (sym none_holds);
+          sleepers = r.sleepers;
+          words = ap (λ ws. set ws 0 0) r.words ∙ ap (λ k. k ∷ length r.whole ∷ r.sleepers ∷ []) (sym none_holds);
           one = omega (arith, none_holds);
           begins = r.begins;
           made = omega (arith, made, whole_made);

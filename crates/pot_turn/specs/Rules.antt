@@ -1,4 +1,4 @@
--- The rule of a turn, over one lock word, one count word and one slot, and what its steps tell.
+-- The rule of a turn, over a lock word, a count word, a word of sleepers and one slot, and what its steps tell.
 use Rattle.std.specs.Prelude.{◌≡◌, ℕ, zero, suc, ◌+◌, ◌^◌, ◌<◌, ◌≤◌, List, [], ◌∷◌, length, Bool, true, false, if◌then◌else◌}
 use Rattle.std.specs.Prelude.{Option}
 use Rattle.std.specs.Prelude.{Some, None}
@@ -92,10 +92,11 @@ module _ {T E O : Type 0} (log : T → List E) (origin : T → O) (opened : T) w
     pub lies : LieIn (length s.view.opened) (stretches_of s.view) (length s.view.seen)
     pub named : 0 < s.view.parts → (s.view.opened ≡ log opened) × (s.view.origin ≡ Some (origin opened))
 
-  -- The words are the number of holders and the length of one whole log. The numbers made add up to what was logged, the parts to all parts, and the stretches of all passes have each position logged just once. Where no pass holds the value it is at home, and its log is the whole one; and where no turn has ended it is the very value that the turn was made with
+  -- The words are the number of holders, the length of one whole log, and any number. The numbers made add up to what was logged, the parts to all parts, and the stretches of all passes have each position logged just once. Where no pass holds the value it is at home, and its log is the whole one; and where no turn has ended it is the very value that the turn was made with
   pub record Ruled (s : State (Option T) (Sight E O)) : Type 0 where
     pub whole : List E
-    pub words : s.words ≡ total holding s.views ∷ length whole ∷ []
+    pub sleepers : ℕ
+    pub words : s.words ≡ total holding s.views ∷ length whole ∷ sleepers ∷ []
     pub one : total holding s.views ≤ 1
     pub begins : StartsWith whole (log opened)
     pub made : total made_by s.views + length (log opened) ≡ length whole

@@ -49,6 +49,15 @@ impl<T, E, O> Play<Option<T>, Sight<E, O>> for Free {
     ghost then = { λ st m n m'. Freed m m' };
 }
 
+/// The step that counts who sleeps.
+pub struct Doze;
+
+impl<T, E, O> Play<Option<T>, Sight<E, O>> for Doze {
+    ghost use Rattle.std.specs.Prelude.{◌≡◌};
+
+    ghost then = { λ st m n m'. m' ≡ m };
+}
+
 /// The step that tells a pass what its last join left.
 pub struct Look;
 

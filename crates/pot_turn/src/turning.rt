@@ -5,7 +5,7 @@ ghost use Rattle.pot_turn.specs.Views.{IsPass, IsPass-prop};
 ghost use Rattle.std.specs.Coded.{Coded-set, coded_list};
 
 use crate::Kept;
-use crate::rule::{Cut, Free, Look, Pair, Parts, Raise, Take, TurnRule};
+use crate::rule::{Cut, Doze, Free, Look, Pair, Parts, Raise, Take, TurnRule};
 use crate::view::Sight;
 use atomic_table::{Refused, Seat, Table};
 use std::alloc::{AllocFailed, Global};
@@ -21,7 +21,7 @@ const LOOKS: u32 = 200;
 #[derive(Drop)]
 pub struct Turn<T: Kept> {
     table: Table<Option<T>, Sight<T::Entry, T::Origin>, Snapshot<T>, TurnRule<T>, Global>,
-    ghost shape: { (table.shared.table_id.words ≡ 2) × (table.shared.table_id.slots ≡ 1) },
+    ghost shape: { (table.shared.table_id.words ≡ 3) × (table.shared.table_id.slots ≡ 1) },
 }
 
 /// The leave to take the value of one turn. It has no bytes, and it may be dropped; but only all 2^62 parts together close the turn.
@@ -67,7 +67,7 @@ impl<T: Kept> Turn<T> {
             let Some(value) = back else { unreachable!() };
             return Err(TurnRefused { value });
         }
-        match Table::new(alloc, &[0, count], slots, &opened) {
+        match Table::new(alloc, &[0, count, 0], slots, &opened) {
             Ok((table, seat)) => Ok((Turn { table }, Pass { seat })),
             Err(refused) => {
                 let Refused { mut slots } = refused;
@@ -115,6 +115,18 @@ impl<T: Kept> Turn<T> {
         None
     }
 
+    /// Sleeps while another pass has the value, and is counted meanwhile, so that whoever gives it back wakes one that sleeps.
+    fn sleep<R: Wait>(&self, rt: &R, pass: &mut Pass<T>)
+        requires own { IsPassOf self.now pass.old }
+        ensures same { turn_of pass.new ≡ turn_of pass.old }
+        ensures view { view pass.new ≡ view pass.old }
+    {
+        let shared = &self.table.shared;
+        shared.fetch_add::<Doze>(&mut pass.seat, 2, 1);
+        shared.park(rt, 0, 1);
+        shared.fetch_sub::<Doze>(&mut pass.seat, 2, 1);
+    }
+
     /// Waits for the value and takes it. Its log begins with all that the pass had seen, and the pass has then seen that log.
     pub fn enter<R: Wait>(&self, rt: &R, pass: &mut Pass<T>) -> T
         requires own { IsPassOf self.now pass.old }
@@ -128,7 +140,7 @@ impl<T: Kept> Turn<T> {
             if let Some(value) = self.spin(pass) {
                 return value;
             }
-            self.table.shared.park(rt, 0, 1);
+            self.sleep(rt, pass);
         }
         unreachable!()
     }
@@ -148,7 +160,9 @@ impl<T: Kept> Turn<T> {
         let None = out else { unreachable!() };
         shared.store::<Raise<T>>(&mut pass.seat, 1, length);
         shared.store::<Free>(&mut pass.seat, 0, 0);
-        shared.wake_one(0);
+        if shared.peek(2) > 0 {
+            shared.wake_one(0);
+        }
     }
 
     /// As `split`, with the number of parts as a type too, since a split of a seat takes no operand.
