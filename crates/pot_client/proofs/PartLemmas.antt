@@ -1,9 +1,9 @@
 -- The parts of a file joined, and the names of parts.
-use Rattle.std.proofs.Common.{◌≡◌, ◌≤◌, ◌+◌, ◌*◌, ◌/◌, ℕ, List, [], ◌∷◌, ◌++◌, length, take, drop, refl, sym, ap, ◌∙◌, suc, zero, arith}
+use Rattle.std.proofs.Common.{◌≡◌, ◌≤◌, ◌+◌, ◌*◌, ℕ, List, ◌++◌, length, take, drop, sym, ap, ◌∙◌, suc, zero, arith}
 use Rattle.std.specs.Prelude.{flat_map}
 use Rattle.std.specs.List.{range_with_len}
 use Rattle.std.proofs.lemmas.List.{take-append-drop, drop-drop, drop_all}
-use Rattle.pot_client.specs.Parts.{part_size, part_count, part_of}
+use Rattle.pot_client.specs.Parts.{part_count, part_of}
 
 -- the parts from number a on are what stands from there on
 parts_from : (file : List ℕ) (n a : ℕ) → length file ≤ a * 884736 + n * 884736 → flat_map (part_of file) (range_with_len a n) ≡ drop (a * 884736) file

@@ -1,4 +1,5 @@
 pub mod Parts
 pub mod ReplyKinds
+pub mod ReplyTexts
 pub mod ReplyWords
 pub mod ScriptWords

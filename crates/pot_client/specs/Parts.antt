@@ -1,6 +1,6 @@
 -- The parts of a file that is longer than a session stores, and their names.
-use Rattle.std.specs.Prelude.{◌+◌, ◌*◌, ◌/◌, ◌%◌, ◌-◌, ◌≤◌, ◌<◌, ◌++◌, ◌∷◌, ◌&&◌, ◌==◌, [], ℕ, List, Bool, IsTrue, codes, length, take, drop, nat_le, if◌then◌else◌, true, false}
-use Rattle.std.specs.List.{list_all}
+use Rattle.std.specs.Prelude.{◌≡◌, ◌≢◌, ◌+◌, ◌*◌, ◌/◌, ◌%◌, ◌≤◌, ◌<◌, ◌++◌, ◌∷◌, [], ℕ, List, Option, MatchOption, take, drop}
+use Rattle.pot_bytes.specs.Names.{IsName}
 
 -- the most bytes of a part, which are the most of a stored file
 abbrev pub part_size : ℕ
@@ -18,18 +18,44 @@ part_of file number = take part_size (drop (number * part_size) file)
 abbrev pub digit : ℕ → ℕ
 digit n = 48 + n % 10
 
+-- the last four decimal digits
+abbrev pub four_digits : ℕ → List ℕ
+four_digits n = digit (n / 1000) ∷ digit (n / 100) ∷ digit (n / 10) ∷ digit n ∷ []
+
 -- what the name of a part has behind that of its file: `.p` and four decimal digits
 abbrev pub suffix : ℕ → List ℕ
-suffix n = 46 ∷ 112 ∷ digit (n / 1000) ∷ digit (n / 100) ∷ digit (n / 10) ∷ digit n ∷ []
+suffix n = 46 ∷ 112 ∷ four_digits n
 
-abbrev pub is_digit : ℕ → Bool
-is_digit b = nat_le 48 b && nat_le b 57
+-- this is the name of the part of this number, of a file of this name
+abbrev pub IsPartName : List ℕ → ℕ → List ℕ → Type 0
+IsPartName file number part = (number ≤ 9999) × IsName part × (part ≡ file ++ suffix number)
 
--- these bytes are `.p` and four decimal digits
-abbrev pub is_suffix : List ℕ → Bool
-is_suffix (a ∷ b ∷ c ∷ d ∷ e ∷ f ∷ []) = (a == 46) && (b == 112) && is_digit c && is_digit d && is_digit e && is_digit f
-is_suffix _ = false
+-- these bytes end as the name of a part does
+abbrev pub EndsAsPart : List ℕ → Type 0
+EndsAsPart bytes = (front : List ℕ) × (number : ℕ) × (number ≤ 9999) × (bytes ≡ front ++ suffix number)
 
--- the name ends as that of a part does
-abbrev pub ends_as_part : List ℕ → Bool
-ends_as_part name = is_suffix (drop (length name - 6) name)
+-- the name of the part of this number; None exactly where no name is that
+abbrev pub NamesPart : List ℕ → ℕ → Option (List ℕ) → Type 0
+NamesPart file number result =
+    MatchOption result ((part : List ℕ) → IsPartName file number part → ⊥) (IsPartName file number)
+
+-- the file and the number of the part that has this name; None exactly where no part of a file has it
+abbrev pub TellsPart : List ℕ → Option (List ℕ × ℕ) → Type 0
+TellsPart name result =
+    MatchOption result
+    ((file : List ℕ) (number : ℕ) → IsName file → IsPartName file number name → ⊥)
+    (λ x. IsName x.0 × IsPartName x.0 x.1 name)
+
+-- the number of which these bytes are the text; None exactly where they are that of no number of a part
+abbrev pub TellsNumber : (ℕ → List ℕ) → List ℕ → Option ℕ → Type 0
+TellsNumber text bytes result =
+    MatchOption result
+    ((n : ℕ) → n ≤ 9999 → bytes ≢ text n)
+    (λ n. (n ≤ 9999) × (bytes ≡ text n))
+
+-- the number below 100 of which these are the digits; None exactly where they are those of none
+abbrev pub TellsTwo : ℕ → ℕ → Option ℕ → Type 0
+TellsTwo high low result =
+    MatchOption result
+    ((n : ℕ) → n < 100 → high ≡ digit (n / 10) → low ≡ digit n → ⊥)
+    (λ n. (n < 100) × (high ≡ digit (n / 10)) × (low ≡ digit n))

@@ -1,6 +1,6 @@
 -- The words of a reply's first line, and what stands behind that line.
 use Rattle.std.specs.Prelude.{◌≡◌, ◌≤◌, ◌++◌, ◌∷◌, [], ℕ, List, Option, Some, None, length, codes, decimal, flat_map}
-use Rattle.std.specs.List.{AllByRecursion, join_with_byte}
+use Rattle.std.specs.List.{AllByRecursion}
 use Rattle.hex.specs.Hex.{IsBytes, encode_lower}
 use Rattle.pot_bytes.specs.Names.{IsName}
 use Rattle.pot_bytes.specs.declared.digest.Digest.{Digest}
@@ -8,10 +8,6 @@ use Rattle.pot_index.specs.declared.listed.Listed.{Listed}
 use Rattle.pot_script.specs.declared.reply.Reply.{Reply}
 use Rattle.pot_script.specs.declared.reply.Reply.TheVariants as replies
 use Rattle.pot_script.specs.Replies.{listed_text}
-use Rattle.pot_client.specs.declared.kind.ReplyKind.{ReplyKind}
-use Rattle.pot_client.specs.declared.start.Start.{Start}
-use Rattle.pot_client.specs.declared.start.Start.TheVariants as starts
-use Rattle.pot_client.specs.ReplyKinds.{keyword, kind_of}
 
 -- the numbers in decimal
 abbrev pub decimals : List ℕ → List (List ℕ)
@@ -92,17 +88,7 @@ IsReply (replies.InUse number) = IsNumber number
 IsReply (replies.Renewed name pieces shards) = IsName name × IsNumber pieces × IsNumber shards
 IsReply (replies.Often name) = IsName name
 
--- what the first line of a reply tells of it
-abbrev pub start_of : Reply → Start
-start_of (replies.File name bytes) = starts.File name (length bytes)
-start_of (replies.Names names) = starts.Names (length names)
-start_of r = starts.Whole r
-
 -- the only value of which P holds
 abbrev pub IsOnly : {T : Type 0} → (T → Type 0) → Option T → Type 0
 IsOnly {T} P None = (t : T) → P t → ⊥
 IsOnly {T} P (Some t) = P t × ((s : T) → P s → s ≡ t)
-
--- what is read of a first line of this kind that has these fields, if it is that of a reply
-abbrev pub ReadsStart : ReplyKind → List (List ℕ) → Option Start → Type 0
-ReadsStart kind words result = (r : Reply) → kind_of r ≡ kind → IsReply r → words ≡ fields r → result ≡ Some (start_of r)

@@ -1,10 +1,14 @@
 //! The line that says how a group stands.
 
-use crate::start::Start;
+ghost use Rattle.pot_client.specs.ReplyTexts.{ReadsLine, TakesCount};
+ghost use Rattle.pot_client.specs.declared.kind.ReplyKind.TheVariants as kinds;
+
 use pot_script::{Reply, Words};
 
 /// `group G live L lost O broken B cursor STRIPE COLUMN`, behind its first word.
-pub fn read_group(mut words: Words) -> Option<Start> {
+pub fn read_group(mut words: Words) -> Option<Reply>
+    ensures { ReadsLine kinds.Group words.entry result }
+{
     let group = words.next_number(255)? as u8;
     let live = next_count(&mut words, b"live")?;
     let lost = next_count(&mut words, b"lost")?;
@@ -12,18 +16,20 @@ pub fn read_group(mut words: Words) -> Option<Start> {
     let stripe = next_count(&mut words, b"cursor")?;
     let column = words.next_number(255)? as u8;
     words.end()?;
-    Some(Start::Whole(Reply::Group {
+    Some(Reply::Group {
         group,
         live,
         lost,
         broken,
         stripe,
         column,
-    }))
+    })
 }
 
 // The number behind this word, where the word is next.
-fn next_count(words: &mut Words, word: &[u8]) -> Option<u32> {
+fn next_count(words: &mut Words, word: &[u8]) -> Option<u32>
+    ensures { TakesCount word.now words.old words.new result }
+{
     if words.next()? != word {
         return None;
     }

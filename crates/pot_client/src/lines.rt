@@ -1,18 +1,25 @@
 //! The first lines of replies, each by the words behind its first.
 
+ghost use Rattle.std.specs.Prelude.{◌≢◌};
+ghost use Rattle.pot_client.specs.ReplyTexts.{ReadsLine};
+ghost use Rattle.pot_client.specs.declared.kind.ReplyKind.TheVariants as kinds;
+
 use crate::fields::{read_name, read_one, read_sized, read_split, read_three, read_two};
 use crate::groups::read_group;
 use crate::kind::ReplyKind;
 use crate::rare::{read_logfull, read_lost, read_odd};
-use crate::start::Start;
 use pot_script::{Reply, Words};
 
-/// What the first line of a reply of this kind tells that has these words behind its first.
-pub fn read_start(kind: ReplyKind, words: Words) -> Option<Start> {
+/// The reply of a line of this kind that has these words behind its first. What stands behind the line of a
+/// file or of names is no part of it, so those are read elsewhere.
+pub fn read_line(kind: ReplyKind, words: Words) -> Option<Reply>
+    requires file { kind ≢ kinds.File }
+    requires names { kind ≢ kinds.Names }
+    ensures { ReadsLine kind words.entry result }
+{
     match kind {
+        ReplyKind::File | ReplyKind::Names => unreachable!(),
         ReplyKind::Stored => read_stored(words),
-        ReplyKind::File => read_file(words),
-        ReplyKind::Names => read_names(words),
         ReplyKind::Group => read_group(words),
         ReplyKind::Scrubbed => read_scrubbed(words),
         ReplyKind::Repaired => read_repaired(words),
@@ -33,101 +40,119 @@ pub fn read_start(kind: ReplyKind, words: Words) -> Option<Start> {
     }
 }
 
-fn read_stored(words: Words) -> Option<Start> {
+fn read_stored(words: Words) -> Option<Reply>
+    ensures { ReadsLine kinds.Stored words.entry result }
+{
     let (name, pieces, shards) = read_split(words)?;
-    Some(Start::Whole(Reply::Stored {
+    Some(Reply::Stored {
         name,
         pieces,
         shards,
-    }))
+    })
 }
 
-fn read_file(words: Words) -> Option<Start> {
-    let (name, length) = read_sized(words)?;
-    Some(Start::File { name, length })
-}
-
-fn read_names(words: Words) -> Option<Start> {
-    let count = read_one(words, u32::MAX)?;
-    Some(Start::Names { count })
-}
-
-fn read_scrubbed(words: Words) -> Option<Start> {
+fn read_scrubbed(words: Words) -> Option<Reply>
+    ensures { ReadsLine kinds.Scrubbed words.entry result }
+{
     let (group, seen, gone) = read_three(words, 255)?;
-    Some(Start::Whole(Reply::Scrubbed {
+    Some(Reply::Scrubbed {
         group: group as u8,
         seen,
         gone,
-    }))
+    })
 }
 
-fn read_repaired(words: Words) -> Option<Start> {
+fn read_repaired(words: Words) -> Option<Reply>
+    ensures { ReadsLine kinds.Repaired words.entry result }
+{
     let (group, mended, left) = read_three(words, 255)?;
-    Some(Start::Whole(Reply::Repaired {
+    Some(Reply::Repaired {
         group: group as u8,
         mended,
         left,
-    }))
+    })
 }
 
-fn read_replaced(words: Words) -> Option<Start> {
+fn read_replaced(words: Words) -> Option<Reply>
+    ensures { ReadsLine kinds.Replaced words.entry result }
+{
     let (from, to, slots) = read_three(words, u32::MAX)?;
-    Some(Start::Whole(Reply::Replaced { from, to, slots }))
+    Some(Reply::Replaced { from, to, slots })
 }
 
-fn read_migrated(words: Words) -> Option<Start> {
+fn read_migrated(words: Words) -> Option<Reply>
+    ensures { ReadsLine kinds.Migrated words.entry result }
+{
     let (from, to, slots) = read_three(words, u32::MAX)?;
-    Some(Start::Whole(Reply::Migrated { from, to, slots }))
+    Some(Reply::Migrated { from, to, slots })
 }
 
-fn read_long(words: Words) -> Option<Start> {
+fn read_long(words: Words) -> Option<Reply>
+    ensures { ReadsLine kinds.Long words.entry result }
+{
     let (name, length) = read_sized(words)?;
-    Some(Start::Whole(Reply::Long {
+    Some(Reply::Long {
         name,
         length: u64::from(length),
-    }))
+    })
 }
 
-fn read_exists(words: Words) -> Option<Start> {
+fn read_exists(words: Words) -> Option<Reply>
+    ensures { ReadsLine kinds.Exists words.entry result }
+{
     let name = read_name(words)?;
-    Some(Start::Whole(Reply::Exists { name }))
+    Some(Reply::Exists { name })
 }
 
-fn read_full(words: Words) -> Option<Start> {
+fn read_full(words: Words) -> Option<Reply>
+    ensures { ReadsLine kinds.Full words.entry result }
+{
     let group = read_one(words, 255)?;
-    Some(Start::Whole(Reply::Full { group: group as u8 }))
+    Some(Reply::Full { group: group as u8 })
 }
 
-fn read_absent(words: Words) -> Option<Start> {
+fn read_absent(words: Words) -> Option<Reply>
+    ensures { ReadsLine kinds.Absent words.entry result }
+{
     let name = read_name(words)?;
-    Some(Start::Whole(Reply::Absent { name }))
+    Some(Reply::Absent { name })
 }
 
-fn read_fault(words: Words) -> Option<Start> {
+fn read_fault(words: Words) -> Option<Reply>
+    ensures { ReadsLine kinds.Fault words.entry result }
+{
     let (group, column) = read_two(words)?;
-    Some(Start::Whole(Reply::Fault { group, column }))
+    Some(Reply::Fault { group, column })
 }
 
-fn read_noarchive(words: Words) -> Option<Start> {
+fn read_noarchive(words: Words) -> Option<Reply>
+    ensures { ReadsLine kinds.NoArchive words.entry result }
+{
     let number = read_one(words, u32::MAX)?;
-    Some(Start::Whole(Reply::NoArchive { number }))
+    Some(Reply::NoArchive { number })
 }
 
-fn read_inuse(words: Words) -> Option<Start> {
+fn read_inuse(words: Words) -> Option<Reply>
+    ensures { ReadsLine kinds.InUse words.entry result }
+{
     let number = read_one(words, u32::MAX)?;
-    Some(Start::Whole(Reply::InUse { number }))
+    Some(Reply::InUse { number })
 }
 
-fn read_renewed(words: Words) -> Option<Start> {
+fn read_renewed(words: Words) -> Option<Reply>
+    ensures { ReadsLine kinds.Renewed words.entry result }
+{
     let (name, pieces, shards) = read_split(words)?;
-    Some(Start::Whole(Reply::Renewed {
+    Some(Reply::Renewed {
         name,
         pieces,
         shards,
-    }))
+    })
 }
 
-fn read_often(words: Words) -> Option<Start> {
+fn read_often(words: Words) -> Option<Reply>
+    ensures { ReadsLine kinds.Often words.entry result }
+{
     let name = read_name(words)?;
-    Some(Start::Whole(Reply::Often { name }))
+    Some(Reply::Often { name })
 }

@@ -74,6 +74,20 @@ fn each_reply_is_read_as_itself(rt: HostRuntime) -> Result<(), Fail> {
 }
 
 #[test]
+fn replies_are_taken_one_by_one(rt: HostRuntime) -> Result<(), Fail> {
+    let alloc = rt.alloc();
+    let mut text = Replies::of(b"full 7\nnames 1\nname a 5\nfull 300\n");
+    let first = text.next(alloc)?.ok_or("a first reply")?;
+    assert!(rt; matches!(&first, Reply::Full { group: 7 }));
+    assert!(rt; text.left() == b"names 1\nname a 5\nfull 300\n".as_slice());
+    let second = text.next(alloc)?.ok_or("a second reply")?;
+    assert!(rt; matches!(&second, Reply::Names { names } if names.as_slice().len() == 1));
+    assert!(rt; text.next(alloc)?.is_none());
+    assert!(rt; text.left() == b"full 300\n".as_slice());
+    Ok(())
+}
+
+#[test]
 fn what_is_no_reply_is_refused(rt: HostRuntime) -> Result<(), Fail> {
     let table: [&[u8]; 10] = [
         b"stored a 1",
@@ -116,6 +130,14 @@ fn a_script_is_read_as_its_commands(rt: HostRuntime) -> Result<(), Fail> {
 }
 
 #[test]
+fn digits_of_a_digest(rt: HostRuntime) -> Result<(), Fail> {
+    let digest = read_digest(&[b'a'; 64]).ok_or("a digest")?;
+    assert!(rt; digest.bytes == [0xaa; 32]);
+    assert!(rt; read_digest(&[b'A'; 64]).is_none() && read_digest(&[b'a'; 63]).is_none());
+    Ok(())
+}
+
+#[test]
 fn names_of_parts(rt: HostRuntime) -> Result<(), Fail> {
     let name = Name::read(b"a.txt").ok_or("a name")?;
     let table: [(u32, &[u8]); 3] = [
@@ -126,15 +148,21 @@ fn names_of_parts(rt: HostRuntime) -> Result<(), Fail> {
     for (number, text) in table {
         let part = part_name(&name, number).ok_or("a part")?;
         assert!(rt; part.bytes() == text && ends_as_part(&part));
+        let (file, read) = read_part_name(&part).ok_or("a file")?;
+        assert!(rt; file.bytes() == name.bytes() && read == number);
     }
     assert!(rt; part_name(&name, 10_000).is_none() && !ends_as_part(&name));
+    let short = Name::read(&[b'a'; 58]).ok_or("a name")?;
+    assert!(rt; part_name(&short, 1).is_some());
     let long = Name::read(&[b'a'; 59]).ok_or("a long name")?;
     assert!(rt; part_name(&long, 1).is_none());
     let whole: [&[u8]; 4] = [b"p0001", b"x.p001", b"x.q0001", b"x.p000a"];
     for text in whole {
         let name = Name::read(text).ok_or("a name")?;
-        assert!(rt; !ends_as_part(&name));
+        assert!(rt; !ends_as_part(&name) && read_part_name(&name).is_none());
     }
+    let suffix = Name::read(b".p0001").ok_or("a suffix alone")?;
+    assert!(rt; ends_as_part(&suffix) && read_part_name(&suffix).is_none());
     Ok(())
 }
 

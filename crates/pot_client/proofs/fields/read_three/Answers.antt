@@ -1,4 +1,4 @@
-use Rattle.std.proofs.Common.{◌≡◌, ◌≤◌, [], ◌∷◌, List, ℕ, decimal, refl, sym, ap, ◌∙◌, arith}
+use Rattle.std.proofs.Common.{[], ◌∷◌, List, ℕ, decimal, refl, sym, ap, ◌∙◌, arith}
 use Rattle.pot_client.proofs.FieldLemmas.{same_three, second_of, third_of}
 use Rattle.pot_client.proofs.fields.read_three.Goals as goal
 
