@@ -6,17 +6,17 @@ use Rattle.pot_replies.specs.Sections.{Section}
 use Rattle.pot_store.specs.Works.{Known, section_of}
 use Rattle.pot_commands.specs.Rows.{IsSessionSetting}
 use Rattle.pot_commands.specs.Going.{AllSole}
-use Rattle.pot_commands.specs.Steps.{IsBatched}
+use Rattle.pot_commands.specs.Begun.{HasTask}
 use Rattle.pot_commands.specs.Jobs.{Says}
 use Rattle.pot_commands.specs.Batches.{Line, KnownJoins, IsLine, AreLines, IsAmongLines, AllSay}
 use Rattle.pot_commands.proofs.Going.{setting_of_stays}
 use Rattle.pot_commands.proofs.BatchLemmas.{its_line, job_alone, job_widens}
 use Rattle.pot_commands.proofs.BatchStanding.{answers_widen}
 
--- each line may stand in a batch, and has its answer by this section
+-- each line has its task, and its answer by this section
 abbrev pub AnswersAll : Rack → Setting → List Line → Section → Type 0
 AnswersAll rack s [] w = Unit {0}
-AnswersAll rack s (c ∷ cs) w = (IsBatched rack.groups c.line × Says s c.job c.line c.answer w) × AnswersAll rack s cs w
+AnswersAll rack s (c ∷ cs) w = (HasTask rack c.line c.task × Says s c.job c.line c.task c.answer w) × AnswersAll rack s cs w
 
 -- the setting of the passes that a batch began with is that of a job's
 setting_given : (s : Setting) (rack : Rack) (seed : List ℕ) (session : ℕ) (v : Known) (c : Line) → IsLine v c → IsSessionSetting s rack seed session v → IsSessionSetting s rack seed session c.given
@@ -37,7 +37,7 @@ module _ (rack : Rack) (seed : List ℕ) (session : ℕ) (v x : Known) (from : �
       let alone = job_alone v x from cs jobs joins sole d here in
       let wide = job_widens v x from cs jobs joins sole d here in
       let row = say.0.1 alone s (setting_given s rack seed session v d its is) in (
-        (say.0.0, answers_widen s rack.groups d.job d.line d.answer (section_of d.given d.done) (section_of v x) say.0.0 wide row),
+        (say.0.0, answers_widen s rack d.job d.line d.task d.answer (section_of d.given d.done) (section_of v x) say.0.0 wide row),
         all_answer ds (λ c later. among c (inr later)) say.1,
       )
 

@@ -1,6 +1,13 @@
 -- The answer to a line of a batch stands when other jobs log more.
-use Rattle.std.proofs.Common.{◌≡◌, ℕ, inl, inr, List, [], ◌∷◌, ◌++◌, sym, ◌∙◌, subst}
-use Rattle.std.specs.Prelude.{Some, None, Ok, Err}
+use Rattle.std.proofs.Common.{◌≡◌, ℕ, inl, inr, List, [], ◌∷◌, ◌++◌, length, ap, sym, ◌∙◌, subst}
+use Rattle.std.specs.Prelude.{Option, Some, None, IsSome, Result, Ok, Err, Contains, filter}
+use Rattle.std.proofs.lemmas.List.Elements.{Contains-append_left}
+use Rattle.pot_bytes.specs.declared.rack.Rack.{Rack}
+use Rattle.pot_bytes.specs.declared.memory.NoMemory.{NoMemory}
+use Rattle.pot_machine.specs.declared.entry.Entry.{Entry}
+use Rattle.pot_machine.specs.declared.entry.Entry.TheVariants as entry
+use Rattle.pot_machine.specs.Logs.{own, replayed}
+use Rattle.pot_machine.specs.Table.{column_at}
 use Rattle.pot_bytes.specs.declared.rack.Geometry.{Geometry}
 use Rattle.pot_steps.specs.Stripe.{digest_of}
 use Rattle.pot_steps.specs.GroupStep.{skips, gone_entries}
@@ -10,7 +17,8 @@ use Rattle.pot_script.specs.declared.reply.Reply.{Reply}
 use Rattle.pot_script.specs.declared.reply.Reply.TheVariants as replies
 use Rattle.pot_shared.specs.Catalogs.{Publishes}
 use Rattle.pot_replies.specs.Settings.{Setting}
-use Rattle.pot_replies.specs.Sections.{Section, Mine, mine, Widens, IsSilent}
+use Rattle.pot_replies.specs.Jobs.{is_copied, is_move_of, EachIs}
+use Rattle.pot_replies.specs.Sections.{Section, Mine, mine, Widens, IsOnlyIn, IsSilent}
 use Rattle.pot_replies.specs.Stores.{Placed, IsLong, IsTaken, IsStored, IsStoreFault, IsFull, IsStoreLogFull, Stops}
 use Rattle.pot_replies.specs.Renewals.{AllPut}
 use Rattle.pot_replies.specs.Listings.{IsIndexFull}
@@ -22,8 +30,13 @@ use Rattle.pot_replies.proofs.RenewStanding.{renewed_stands, often_stands, often
 use Rattle.pot_replies.proofs.ScrubStanding.{scrubbed_stands, scrub_log_full_stands, repaired_stands, repair_fault_stands, repair_log_full_stands}
 use Rattle.pot_store.specs.Fetches.{IsUnfinished}
 use Rattle.pot_store.specs.Stored.{GivesOf}
+use Rattle.pot_mend.specs.Moves.{EndsMove, MoveRow}
+use Rattle.pot_mend.specs.declared.fault.MendFault.{MendFault}
+use Rattle.pot_mend.specs.declared.fault.MendFault.TheVariants as fault
+use Rattle.pot_commands.specs.declared.beginning.Task.TheVariants as task
+use Rattle.pot_commands.specs.Jobs.{SaysStill}
 use Rattle.pot_commands.specs.Rows.{IsStoreReply, IsFetchReply, IsRenewReply, IsScrubReply, IsRepairReply, AreReplies, IsUnrenewed, IsIdle}
-use Rattle.pot_commands.specs.Steps.{IsBatched}
+use Rattle.pot_commands.specs.Steps.{IsStill}
 use Rattle.pot_commands.specs.Batches.{AnswersWiden}
 
 module _ (s : Setting) (job : ℕ) (w w' : Section) (wide : Widens job w w') where
@@ -124,7 +137,7 @@ module _ (s : Setting) (job : ℕ) (w w' : Section) (wide : Widens job w w') whe
   repair_stands g (replies.LogFull group) row = (row.0, repair_log_full_stands s job g w w' wide row.1)
   repair_stands g _ row = absurd row
 
-  replies_stand : (groups : ℕ) (c : Command) (r : Reply) → IsBatched groups c → AreReplies s job c (r ∷ []) w → AreReplies s job c (r ∷ []) w'
+  replies_stand : (groups : ℕ) (c : Command) (r : Reply) → IsStill groups c → AreReplies s job c (r ∷ []) w → AreReplies s job c (r ∷ []) w'
   replies_stand groups (commands.Store name file) r batched row = store_stands name file r row
   replies_stand groups (commands.Fetch name) r batched row = fetch_stands name r row
   replies_stand groups (commands.Renew name geometry) r batched row = renew_stands name geometry r row
@@ -163,7 +176,7 @@ module _ (s : Setting) (job : ℕ) (w w' : Section) (wide : Widens job w w') whe
   unrenewed_stands name geometry (inl is) = inl (unfinished_stands name is)
   unrenewed_stands name geometry (inr (placed, is)) = inr (placed, put_stands name geometry placed is)
 
-  idle_stands : (groups : ℕ) (c : Command) → IsBatched groups c → IsIdle s job c w → IsIdle s job c w'
+  idle_stands : (groups : ℕ) (c : Command) → IsStill groups c → IsIdle s job c w → IsIdle s job c w'
   idle_stands groups (commands.Store name file) batched is = silent_stands is
   idle_stands groups (commands.Fetch name) batched is = unfinished_stands name is
   idle_stands groups (commands.Renew name geometry) batched is = unrenewed_stands name geometry is
@@ -171,7 +184,55 @@ module _ (s : Setting) (job : ℕ) (w w' : Section) (wide : Widens job w w') whe
   idle_stands groups (commands.Repair group) batched is = silent_stands is
   idle_stands groups _ batched is = absurd batched
 
+-- A MOVE
+
+ends_on : (c : ℕ) (es more : List Entry) → EndsMove c es → EndsMove c (es ++ more)
+ends_on c es more (inl (by, has)) = inl (by, Contains-append_left es more (entry.MoveEnd by c) has)
+ends_on c es more (inr (by, to, has)) = inr (by, to, Contains-append_left es more (entry.Swapped by c to) has)
+
+module _ (s : Setting) (job g c : ℕ) (w w' : Section) (wide : Widens job w w') where
+  only_stands : IsOnlyIn g (mine job w) → IsOnlyIn g (mine job w')
+  only_stands is = subst (λ (m : Mine). IsOnlyIn g m) (sym (mine_stays job w w' wide)) is
+
+  own_stands : own job (w'.added g) ≡ own job (w.added g)
+  own_stands = same_own job w w' wide g
+
+  move_stands : (result : Result ℕ MendFault) → MoveRow s job g c result w → MoveRow s job g c result w'
+  move_stands (Ok slots) row = record {
+    only = only_stands row.only;
+    moves = subst (λ es. EachIs (is_move_of c) es) (sym own_stands) row.moves;
+    slots_is = row.slots_is ∙ ap (λ es. length (filter is_copied es)) (sym own_stands);
+    ends = λ moving. subst (λ es. EndsMove c es) (sym (wide.added g)) (ends_on c (w.added g) (wide.more g)
+        (row.ends (subst (λ l. IsSome (column_at (replayed (s.first g) l) c).moving) (wide.before g) moving)));
+  }
+  move_stands (Err (fault.Faulted group column)) row = (
+    row.0,
+    row.1,
+    record { only = only_stands row.2.only; sofar = row.2.sofar; stripe = row.2.stripe; own_is = own_stands ∙ row.2.own_is; moves = row.2.moves },
+  )
+  move_stands (Err (fault.LogFull group)) row = (
+    row.0,
+    record {
+      only = only_stands row.1.only;
+      moves = subst (λ es. EachIs (is_move_of c) es) (sym own_stands) row.1.moves;
+      unended = λ has. row.1.unended (subst (λ es. Contains es (entry.MoveEnd job c)) own_stands has);
+      log = row.1.log;
+      moment = moment_stands job w w' wide g row.1.log row.1.moment;
+      full = row.1.full;
+    },
+  )
+
+-- EACH LINE
+
+still_widens : (s : Setting) (groups job : ℕ) (c : Command) (answer : Option (Result Reply NoMemory)) (w w' : Section) → IsStill groups c → Widens job w w' → SaysStill s job c answer w → SaysStill s job c answer w'
+still_widens s groups job c None w w' still wide says = absurd says
+still_widens s groups job c (Some (Ok r)) w w' still wide says = replies_stand s job w w' wide groups c r still says
+still_widens s groups job c (Some (Err e)) w w' still wide says = idle_stands s job w w' wide groups c still says
+
 pub answers_widen : AnswersWiden
-answers_widen s groups job c None w w' batched wide says = absurd says
-answers_widen s groups job c (Some (Ok r)) w w' batched wide says = replies_stand s job w w' wide groups c r batched says
-answers_widen s groups job c (Some (Err e)) w w' batched wide says = idle_stands s job w w' wide groups c batched says
+answers_widen s rack job c task.Line answer w w' fits wide says = still_widens s rack.groups job c answer w w' fits wide says
+answers_widen s rack job (commands.Migrate from to) (task.Move at) None w w' fits wide says = absurd says
+answers_widen s rack job (commands.Migrate from to) (task.Move at) (Some (Ok r)) w w' fits wide says = (says.0, says.1, move_stands s job at.group at.column w w' wide says.0 says.2)
+answers_widen s rack job (commands.Migrate from to) (task.Move at) (Some (Err e)) w w' fits wide says = absurd says
+answers_widen s rack job c (task.Told r) answer w w' fits wide says = (says.0, subst IsSilent (same s job w w' wide) says.1)
+answers_widen s rack job _ (task.Move at) answer w w' fits wide says = absurd fits

@@ -21,6 +21,7 @@ use Rattle.pot_shared.specs.contracts.catalog.CatalogOrigin as catalog_origin
 use Rattle.pot_shared.specs.contracts.catalog.CatalogKept.TheImpl as catalog_kept
 use Rattle.pot_shared.specs.contracts.vault.Passes as all_passes
 use Rattle.pot_shared.specs.contracts.vault.Vault as vault
+use Rattle.pot_commands.specs.contracts.beginning.Task as task
 use Rattle.pot_commands.specs.contracts.line_job.LineJob as line_job
 use Rattle.pot_commands.specs.contracts.line_job.LineJob.TheInside as line_inside
 use Rattle.pot_shared.proofs.member.Member.TheSendSync as send_member
@@ -64,6 +65,9 @@ sync_command = search (sendable, crosses) depth 60 fits 200000
 send_reply : IsSend reply.the_row
 send_reply = search (sendable, crosses) depth 60 fits 200000
 
+send_task : IsSend (task.the_field).row
+send_task = search (sendable, crosses) depth 60 fits 200000
+
 -- a job of a line, where archives may cross and the handle may be shared
 pub send_line : (a : NamedLft) (A X : RattleType) (g : Ghosts A.Denot) → IsSend A → IsSync X → IsSend (line_job.the_row a A X g)
 send_line a A X g s x =
@@ -83,7 +87,7 @@ send_line a A X g s x =
                   search (sendable, crosses) depth 20,
                   (
                     shr_send a.mir a.lft command.the_row sync_command,
-                    (search (sendable, crosses, send_reply) depth 20, tt),
+                    (send_task, (search (sendable, crosses, send_reply) depth 20, tt)),
                   ),
                 ),
               ),

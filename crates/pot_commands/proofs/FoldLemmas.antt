@@ -13,8 +13,8 @@ use Rattle.pot_shared.specs.Members.{entries_of}
 use Rattle.pot_store.specs.Works.{Known, section_of}
 use Rattle.pot_commands.specs.Rows.{Row}
 use Rattle.pot_commands.specs.Going.{AllWent, AllStay}
-use Rattle.pot_commands.specs.Steps.{step_of, steps_of, StepGives, StepLeaves}
-use Rattle.pot_commands.specs.Ends.{next_job, AreReplied, AreLeft, AreNext}
+use Rattle.pot_commands.specs.Steps.{step_of, steps_of, StepGives, StepLeaves, StepHalts}
+use Rattle.pot_commands.specs.Ends.{next_job, AreReplied, AreLeft, AreHalted, AreNext}
 use Rattle.pot_commands.proofs.Going.{sole_parts, known_follows, setting_stays}
 
 pub steps_more : (ss : List Step) (d : Step) → steps_of (ss ++ d ∷ []) ≡ steps_of ss ++ step_of d ∷ []
@@ -62,6 +62,19 @@ module _ (rack : Rack) (seed : List ℕ) (session : ℕ) where
           follows = known_follows old mid new went then;
           its = left.0;
           left = left.1;
+        }
+
+    pub halted_on : StepHalts rack seed session job (step_of d) mid new → AreHalted rack seed session ss d rs old new
+    halted_on halts sole s setting =
+        let parts = sole_parts old mid new went then sole in
+        let halted = halts parts.1 s (setting_stays s rack seed session old mid stays setting) in
+        record {
+          done = section_of old mid;
+          last = section_of mid new;
+          replied = sofar parts.0 s setting;
+          follows = known_follows old mid new went then;
+          its = halted.0;
+          left = halted.1;
         }
 
     pub next_on : (its : List Reply) → StepGives rack seed session job (step_of d) mid new its → AreNext rack seed session ss d rs its old new

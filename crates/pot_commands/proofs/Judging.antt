@@ -10,19 +10,6 @@ use Rattle.pot_commands.specs.Rows.{IsSessionSetting}
 use Rattle.pot_commands.specs.Ends.{Ends, EndsOver}
 use Rattle.pot_commands.specs.Going.{AllSole}
 
--- with a step that was left
-short_over : (rack : Rack) (seed : List ℕ) (session : ℕ) (told : Type 0) (before after : List ℕ) (ss : List Step) (old new : Known) → Ends rack seed session told before after ss old new ending.NoMemory
-    → AllSole old new → (s : Setting) → IsSessionSetting s rack seed session old → EndsOver s (section_of old new) told before after ss ending.NoMemory
-short_over rack seed session told before after ss old new e sole s is = record {
-  first = e.first;
-  next = e.next;
-  rest = e.rest;
-  parts = e.parts;
-  replies = e.replies;
-  replied = e.replied sole s is;
-  written = e.written;
-}
-
 pub ends_over : (rack : Rack) (seed : List ℕ) (session : ℕ) (told : Type 0) (before after : List ℕ) (ss : List Step) (old new : Known) (e : Ending) → Ends rack seed session told before after ss old new e
     → AllSole old new → (s : Setting) → IsSessionSetting s rack seed session old → EndsOver s (section_of old new) told before after ss e
 ends_over rack seed session told before after ss old new (ending.Done refused) e sole s is = record {
@@ -42,5 +29,21 @@ ends_over rack seed session told before after ss old new ending.SinkFailed e sol
   replied = e.replied sole s is;
   written = e.written;
 }
-ends_over rack seed session told before after ss old new ending.NoMemory e sole s is = short_over rack seed session told before after ss old new e sole s is
-ends_over rack seed session told before after ss old new ending.RoomFailed e sole s is = short_over rack seed session told before after ss old new e sole s is
+ends_over rack seed session told before after ss old new ending.NoMemory e sole s is = record {
+  first = e.first;
+  next = e.next;
+  rest = e.rest;
+  parts = e.parts;
+  replies = e.replies;
+  replied = e.replied sole s is;
+  written = e.written;
+}
+ends_over rack seed session told before after ss old new ending.RoomFailed e sole s is = record {
+  first = e.first;
+  next = e.next;
+  rest = e.rest;
+  parts = e.parts;
+  replies = e.replies;
+  replied = e.replied sole s is;
+  written = e.written;
+}

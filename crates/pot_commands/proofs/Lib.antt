@@ -18,6 +18,8 @@ pub mod StreamLemmas
 pub mod WorkingLemmas
 pub mod Judging
 pub mod Crossing
+pub mod BegunLemmas
+pub mod BeginLemmas
 pub mod BatchLemmas
 pub mod BatchStanding
 pub mod BatchAnswers

@@ -37,15 +37,10 @@ use Rattle.pot_mend.specs.Moves.{IsAsked, MayMove, MigrateChecked, seen_in}
 use Rattle.pot_mend.specs.declared.checking.UseFault.{UseFault}
 use Rattle.pot_mend.specs.declared.checking.UseFault.TheVariants as used
 use Rattle.pot_commands.specs.declared.arriving.Unanswered.{Unanswered}
-use Rattle.pot_commands.specs.Arriving.{HandsBack, HasBegun, Unbegins, use_reply}
-use Rattle.pot_commands.specs.Rows.{IsMigrateReply}
+use Rattle.pot_commands.specs.Arriving.{HandsBack, HasBegun, IsUnbegun, Unbegins, use_reply}
 use Rattle.pot_commands.proofs.ArrivingLemmas.{back_all, back_silent, came_all, checked_silent, group_used, its_first, logs_met, met_log, met_logs, met_table, of_jobs, only_here, own_each, own_here, table_now, whole_work}
 
 -- LOGS AT A CHECK
-
--- a line that began nothing was checked over the logs before
-unchanged : (before : ℕ → List Entry) (job : ℕ) → checked before (λ g. []) job ≡ before
-unchanged before job = fun_ext (λ g. append-nil (before g))
 
 not_less : (job : ℕ) (e : Entry) → is_of job e ≡ true → nat_lt (job_of e) job ≡ false
 not_less job e is = grind (arith, nat_tests, is)
@@ -69,16 +64,9 @@ module _ {rack : Rack} {names turn : List TurnName} (job from to : ℕ) {row0 ro
 
   -- A CHECK REFUSED IT
 
-  refused_row : (s : Setting) (fault : UseFault) (w : Section) → w.before ≡ seen_in row1 → IsSilent (mine job w) → MigrateChecked s (seen_in row1) from to (Err fault) → IsMigrateReply s w.before (λ g. []) job from to (use_reply fault) w
-  refused_row s (used.NoSuchArchive n) w met silent says = (says.0, (subst (λ logs. NoHome s logs from) (sym (unchanged w.before job ∙ met)) says.1, (λ g. refl), silent))
-  refused_row s (used.InUse n) w met silent says = (
-    ⊎_elim
-        (λ (h : (n ≡ from) × GoesElsewhere s (seen_in row1) from to). inl (h.0, subst (λ logs. GoesElsewhere s logs from to) (sym (unchanged w.before job ∙ met)) h.1))
-        (λ (h : (n ≡ to) × IsTakenTo s (seen_in row1) from to). inr (h.0, subst (λ logs. IsTakenTo s logs from to) (sym (unchanged w.before job ∙ met)) h.1))
-        says,
-    (λ g. refl),
-    silent,
-  )
+  refused_row : (s : Setting) (logs : ℕ → List Entry) (fault : UseFault) → MigrateChecked s logs from to (Err fault) → IsUnbegun s logs from to (use_reply fault)
+  refused_row s logs (used.NoSuchArchive n) says = says
+  refused_row s logs (used.InUse n) says = says
 
   abbrev asked_section : Section
   asked_section = section_of first (known row1 i1)
@@ -87,8 +75,8 @@ module _ {rack : Rack} {names turn : List TurnName} (job from to : ℕ) {row0 ro
       → (s : Setting) → IsSettingOf s rack first → Unbegins s job from to (Ok reply) asked_section
   refused_begins fault reply is says alone s set = λ its.
       let silent = checked_silent job ready ready1 iready same asked alone in (
-        subst (λ r. IsMigrateReply s asked_section.before (λ g. []) job from to r asked_section) (sym is)
-            (refused_row s fault asked_section (sym (met_logs job ready ready1 iready same asked alone (of_jobs job asked_section its))) silent (says s set)),
+        subst (λ r. IsUnbegun s (seen_in row0) from to r) (sym is)
+            (subst (λ logs. IsUnbegun s logs from to (use_reply fault)) (met_logs job ready ready1 iready same asked alone (of_jobs job asked_section its)) (refused_row s (seen_in row1) fault (says s set))),
         silent,
       )
 
@@ -170,15 +158,12 @@ module _ {rack : Rack} {names turn : List TurnName} (job from to : ℕ) {row0 ro
         met : seen_in row1 ≡ seen_in row0
         met = logs_met job ready ready1 iready same asked same2 ready2 within call back_own alone all
 
-        full_row : (why : ShelfCause) → RefusesMove call.turn.old c shelf.number why → (reply : Reply) → HandsBack group why (Ok reply) → IsMigrateReply s (seen_in row0) (λ g. []) job from to reply (section_of first last)
-        full_row cause.LogFull why (replies.LogFull g) e = subst (λ k. IsMigrateReply s (seen_in row0) (λ h. []) job from to (replies.LogFull k) (section_of first last)) (sym e) (inl (record {
-          column = c;
-          may = subst (λ logs. MayBegin s logs from to group c) (met ∙ sym (unchanged (seen_in row0) job)) may;
-          none = λ h. refl;
-          silent = silent;
-          full = ap (λ f. length (f group)) (unchanged (seen_in row0) job)
-              ∙ (ap length (sym (met_log job ready ready1 iready same asked same2 ready2 within call back_own alone all)) ∙ why);
-        }))
+        full_row : (why : ShelfCause) → RefusesMove call.turn.old c shelf.number why → (reply : Reply) → HandsBack group why (Ok reply) → IsUnbegun s (seen_in row0) from to reply
+        full_row cause.LogFull why (replies.LogFull g) e = subst (λ k. IsUnbegun s (seen_in row0) from to (replies.LogFull k)) (sym e) (
+          c,
+          subst (λ logs. MayBegin s logs from to group c) met may,
+          ap length (sym (met_log job ready ready1 iready same asked same2 ready2 within call back_own alone all)) ∙ why,
+        )
         full_row (cause.InUse n) why (replies.InUse k) e = absurd (⊎_elim
             (λ (h : IsSome (column_at call.turn.old.table c).moving × (n ≡ (column_at call.turn.old.table c).home)).
             no_move (column_at call.turn.old.table c).moving

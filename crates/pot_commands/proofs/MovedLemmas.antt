@@ -19,8 +19,8 @@ use Rattle.pot_script.specs.declared.reply.Reply.{Reply}
 use Rattle.pot_script.specs.declared.reply.Reply.TheVariants as replies
 use Rattle.pot_replies.specs.Jobs.{is_move_begin, is_move_of, EachIs}
 use Rattle.pot_replies.specs.Settings.{Setting}
-use Rattle.pot_replies.specs.Sections.{Section, Halves, JobsAscend, mine, work_of, IsSilent, IsOfJobs}
-use Rattle.pot_replies.specs.Moves.{MayBegin, MayGoOn, Begins, moving_at}
+use Rattle.pot_replies.specs.Sections.{Section, Halves, JobsAscend, checked, mine, work_of, IsSilent, IsOfJobs}
+use Rattle.pot_replies.specs.Moves.{BeganNone, MayBegin, MayGoOn, Begins, moving_at}
 use Rattle.pot_shared.specs.Catalogs.{IndexPasses, IsIndexReady}
 use Rattle.pot_shared.specs.Members.{entries_of}
 use Rattle.pot_shared.specs.Ready.{AreReady, GroupPasses}
@@ -30,7 +30,7 @@ use Rattle.pot_store.proofs.WorkLemmas.{alone_parts, index_idle, row_stays, work
 use Rattle.pot_mend.specs.Moves.{EndsMove, MoveRow, seen_in}
 use Rattle.pot_mend.specs.declared.fault.MendFault.{MendFault}
 use Rattle.pot_mend.specs.declared.fault.MendFault.TheVariants as fault
-use Rattle.pot_commands.specs.Arriving.{HasBegun, Unbegins, move_reply}
+use Rattle.pot_commands.specs.Arriving.{HasBegun, IsUnbegun, Unbegins, move_reply}
 use Rattle.pot_commands.specs.declared.arriving.Unanswered.{Unanswered}
 use Rattle.pot_commands.specs.Going.{AllSole}
 use Rattle.pot_commands.specs.Rows.{IsMigrateReply}
@@ -39,8 +39,8 @@ use Rattle.pot_commands.proofs.ArrivingLemmas.{front_jobs, of_jobs, own_each}
 use Rattle.pot_commands.proofs.Brought.{its_setting, is_its}
 use Rattle.pot_commands.proofs.Going.{setting_of_stays, sole_alone, work_all_went}
 use Rattle.pot_commands.proofs.MigrateLemmas.{none_before}
-use Rattle.pot_commands.proofs.NoMoves.{brings, no_arrivals, no_begin, none_of_each, none_both}
-use Rattle.pot_commands.proofs.TakingLemmas.{took_more, took_none, took_wider, use_more}
+use Rattle.pot_commands.proofs.NoMoves.{brings, no_arrivals, no_begin, none_of_each, none_both, not_among}
+use Rattle.pot_commands.proofs.TakingLemmas.{took_on, use_more}
 use Rattle.pot_commands.proofs.Whose.{its_jobs, own_all}
 
 -- STEPS OF A MOVE
@@ -71,15 +71,15 @@ moved_brings s job g c result w row h = ⊎_elim
     (λ (ne : h ≢ g). ap (filter brings) (there_silent s job g c result w row h ne))
     (cases_eq h g)
 
--- where all that was logged is of the move, its end is a MoveEnd
-ends_by : (c : ℕ) (es : List Entry) → EachIs (is_move_of c) es → EndsMove c es → (by : ℕ) × Contains es (entry.MoveEnd by c)
-ends_by c es each (inl h) = h
-ends_by c es each (inr (by, to, has)) = absurd (let e : false ≡ true = each (entry.Swapped by c to) has in cc e)
+-- where no archive came, the end of a move is a MoveEnd
+ends_by : (c : ℕ) (es : List Entry) → filter brings es ≡ [] → EndsMove c es → (by : ℕ) × Contains es (entry.MoveEnd by c)
+ends_by c es none (inl h) = h
+ends_by c es none (inr (by, to, has)) = absurd (let e : true ≡ false = not_among brings es none (entry.Swapped by c to) has in cc e)
 
 -- THE REPLY
 
 module _ (s : Setting) (before begun : ℕ → List Entry) (job from to g c : ℕ) (w : Section) (begins : Begins s before begun job from to g c) (elsewhere : (h : ℕ) → h ≢ g → own job (begun h) ≡ [])
-    (all : own job (w.added g) ≡ w.added g) (moves : IsSome (moving_at s w.before g c)) where
+    (none : filter brings (w.added g) ≡ []) (moves : IsSome (moving_at s w.before g c)) where
   pub moved_reply : (result : Result ℕ MendFault) → MoveRow s job g c result w → IsMigrateReply s before begun job from to (move_reply from to result) w
   moved_reply (Ok slots) row = (
     refl,
@@ -92,7 +92,7 @@ module _ (s : Setting) (before begun : ℕ → List Entry) (job from to g c : �
       only = row.only;
       moves = row.moves;
       slots_is = row.slots_is;
-      ends = ends_by c (w.added g) (subst (λ es. EachIs (is_move_of c) es) all row.moves) (row.ends moves);
+      ends = ends_by c (w.added g) none (row.ends moves);
     },
   )
   moved_reply (Err (fault.Faulted group column)) row =
@@ -117,6 +117,14 @@ module _ (s : Setting) (before begun : ℕ → List Entry) (job from to g c : �
     moment = row.1.moment;
     full = row.1.full;
   }))
+
+-- the reply to a line that began no move, by the logs when it was checked
+pub unbegun_row : (s : Setting) (before begun : ℕ → List Entry) (job from to : ℕ) (w : Section) → IsSilent (mine job w) → BeganNone s before begun job from to → (reply : Reply)
+    → IsUnbegun s (checked before begun job) from to reply → IsMigrateReply s before begun job from to reply w
+unbegun_row s before begun job from to w silent none (replies.NoArchive number) row = (row.0, (row.1, none, silent))
+unbegun_row s before begun job from to w silent none (replies.InUse number) row = (row, none, silent)
+unbegun_row s before begun job from to w silent none (replies.LogFull g) row = inl (record { column = row.0; may = row.1; none = none; silent = silent; full = row.2 })
+unbegun_row s before begun job from to w silent none _ row = absurd row
 
 -- one entry ascends, and none
 ascend_one : (job : ℕ) (es : List Entry) (e : Entry) → (es ≡ []) ⊎ (es ≡ e ∷ []) → JobsAscend es
@@ -175,10 +183,7 @@ module _ (rack : Rack) (names turn : List TurnName) (job from to g c : ℕ) (row
 
     pub both_took : (told well : Type 0) (ns : List ℕ) (r r' : Lending) → well → Took told well ns r r' k0 k1 → (then : Type 0) → Took told then ns r r' k0 k2
     both_took told well ns r r' is took then =
-        subst (λ l. Took told then l r r' k0 k2) (append-nil ns)
-        (took_more told then ns [] r r' r' k0 k1 k2 (work_all_went job k0 k1 begun) (work_all_went job k1 k2 moves_work) (ready1.of.0 ∙ sym ready.of.0)
-        (took_wider told well (Unit {0}) ns ns r r' k0 k1 (λ n. omega arith) (λ u. is) took)
-        (took_none told then [] r' r' k1 k2 (λ n. refl) (λ n. refl) none_came))
+        took_on told well then ns r r' k0 k1 k2 (work_all_went job k0 k1 begun) (work_all_went job k1 k2 moves_work) (ready1.of.0 ∙ sym ready.of.0) is took none_came
 
     module _ (alone : JobAlone job k0 k2) (s : Setting) (set : IsSettingOf s rack k0) (its : IsOfJobs job 1 (section_of k0 k2))
         (has : JobAlone job k0 k1 → (s : Setting) → IsSettingOf s rack k0 → IsOfJobs job 1 (section_of k0 k1) → HasBegun s job from to g c (section_of k0 k1)) where
@@ -259,7 +264,7 @@ module _ (rack : Rack) (names turn : List TurnName) (job from to g c : ℕ) (row
       both_says = (
         halves,
         subst (λ w. IsMigrateReply s (seen_in row0) (gained row0 row1) job from to (move_reply from to result) w) whole
-            (moved_reply s (seen_in row0) (gained row0 row1) job from to g c (section_of k1 k2) began here.only.0 (own_back g)
+            (moved_reply s (seen_in row0) (gained row0 row1) job from to g c (section_of k1 k2) began here.only.0 (ap (filter brings) (sym (own_back g)) ∙ moved_brings s job g c result (section_of k1 k2) row g)
             (subst (λ logs. IsSome (moving_at s logs g c)) befores here.moves) result row),
       )
 
@@ -277,6 +282,5 @@ unbegun_answer s job from to (Ok reply) w begins = λ its.
       no_more = λ g. ap (filter is_move_begin) (sym (own_all job (w.added g) (its.groups g)) ∙ row.1.0 g);
       in_order = λ g. tt;
     } in
-    let befores : (λ g. w.before g ++ []) ≡ w.before = fun_ext (λ g. append-nil (w.before g)) in
-    let whole : work_of w h ≡ w = λ i. record { before = befores i; added = w.added; index_before = w.index_before; index_added = w.index_added } in
-    (h, subst (λ x. IsMigrateReply s w.before (λ g. []) job from to reply x) (sym whole) row.0)
+    let unchanged : checked w.before (λ g. []) job ≡ w.before = fun_ext (λ g. append-nil (w.before g)) in
+    (h, unbegun_row s w.before (λ g. []) job from to (work_of w h) row.1 (λ g. refl) reply (subst (λ logs. IsUnbegun s logs from to reply) (sym unchanged) row.0))

@@ -1,9 +1,12 @@
 -- Passes that are shared out to the lines of a batch.
-use Rattle.std.proofs.Common.{◌≡◌, ◌<◌, ◌≤◌, ◌+◌, ◌-◌, ◌*◌, ℕ, zero, suc, List, [], ◌∷◌, ◌++◌, length, take, get_or, refl, ap, sym, ◌∙◌, subst, arith, length-append}
-use Rattle.std.specs.Prelude.{None, Result, Ok, Err, Vec, IfOk, IfErr, MatchResult}
+use Rattle.std.proofs.Common.{◌≡◌, ◌<◌, ◌≤◌, ◌+◌, ◌-◌, ◌*◌, ℕ, zero, suc, List, [], ◌∷◌, ◌++◌, length, take, get_or, refl, ap, sym, ◌∙◌, subst, arith, append-nil, append_assoc, length-append}
+use Rattle.std.specs.Prelude.{slice_get, None, Result, Ok, Err, Vec, IfOk, IfErr, MatchResult}
 use Rattle.std.specs.Global.{Global}
 use Rattle.std.proofs.Math.Seq.{take-length}
+use Rattle.std.proofs.lemmas.List.{map-append}
 use Rattle.std.proofs.lemmas.Option.{slice_get_read}
+use Rattle.pot_bytes.specs.declared.rack.Rack.{Rack}
+use Rattle.pot_turn.proofs.LogLemmas.{get_back}
 use Rattle.pot_turn.specs.declared.name.TurnName.{TurnName}
 use Rattle.pot_turn.specs.declared.view.View.{View}
 use Rattle.pot_turn.specs.Views.{cut_view, new_view}
@@ -16,9 +19,9 @@ use Rattle.pot_shared.specs.Sharing.{SameAt}
 use Rattle.pot_store.specs.Works.{Known}
 use Rattle.pot_work.specs.Works.{AreFresh, AreWorked}
 use Rattle.pot_work.specs.declared.JobsRefused.{JobsRefused}
-use Rattle.pot_commands.specs.Rows.{IsSingle}
-use Rattle.pot_commands.specs.Steps.{IsBatched}
-use Rattle.pot_commands.specs.Jobs.{Common, JobView, CanCall, IsDone, Did, IsGiven, AreGiven, AreShared}
+use Rattle.pot_commands.specs.declared.beginning.Task.{Task}
+use Rattle.pot_commands.specs.Begun.{HasTask, HaveTasks}
+use Rattle.pot_commands.specs.Jobs.{Common, JobView, CanCall, IsDone, Did, IsGiven, AreGiven, AreShared, tasks_in}
 
 -- PARTS THAT ARE GIVEN AWAY
 
@@ -58,18 +61,6 @@ module _ {E O : Type 0} where
       let within : at < length old.names = (let a = ap length o.0 in let b = ap length m.0 in omega (arith, lt, a, b)) in
       let c = ap (λ (v : View E O). v.parts) (new at within) in
       omega (arith, c)
-
--- A LINE OF A BATCH
-
--- it has one reply
-pub batched_single : (groups : ℕ) (c : Command) → IsBatched groups c → IsSingle groups c
-batched_single groups commands.List batched = absurd batched
-batched_single groups (commands.Store name file) batched = batched
-batched_single groups (commands.Fetch name) batched = batched
-batched_single groups (commands.Renew name geometry) batched = batched
-batched_single groups (commands.Scrub group) batched = batched
-batched_single groups (commands.Repair group) batched = batched
-batched_single groups _ batched = batched
 
 -- THE JOBS SO FAR
 
@@ -132,6 +123,7 @@ module _ (b : Common) (old : Known) (from : ℕ) (lines : List Command) (n : ℕ
         common = given.common;
         number = given.number ∙ ap (λ k. from + k) (sym is.count);
         line = given.line;
+        fits = given.fits;
         answer = given.answer;
         passes = given.passes;
         groups = new_then b.vault.groups (2 * length js) old.groups now.groups can.ready.of is.can.ready.of is.shared.groups j.passes.groups given.groups;
@@ -170,9 +162,47 @@ back_shared b old from lines js ks now is same =
     subst (λ is. AreShared b old from (take (length is) lines) is now) (sym same) (subst (λ cs. AreShared b old from cs js now) (sym whole) is)
 
 -- so the jobs of all lines were worked, or none was
-pub lines_worked : (b : Common) (old : Known) (from : ℕ) (lines : List Command) (js : List JobView) (now : Known) (result : Result (Vec JobView Global) (JobsRefused JobView)) → AreShared b old from lines js now
-    → IfOk result (λ back. AreWorked IsDone Did js back.items) → IfErr result (λ refused. refused.jobs.items ≡ js)
-    → MatchResult result (λ back. (ks : List JobView) × AreShared b old from lines ks now × AreWorked IsDone Did ks back.items)
+pub lines_worked : (b : Common) (old : Known) (from : ℕ) (lines : List Command) (tasks : List Task) (js : List JobView) (now : Known) (result : Result (Vec JobView Global) (JobsRefused JobView)) → AreShared b old from lines js now
+    → tasks_in js ≡ tasks → IfOk result (λ back. AreWorked IsDone Did js back.items) → IfErr result (λ refused. refused.jobs.items ≡ js)
+    → MatchResult result (λ back. (ks : List JobView) × AreShared b old from lines ks now × (tasks_in ks ≡ tasks) × AreWorked IsDone Did ks back.items)
     (λ refused. AreShared b old from (take (length refused.jobs.items) lines) refused.jobs.items now)
-lines_worked b old from lines js now (Ok back) shared worked refused = (js, shared, worked)
-lines_worked b old from lines js now (Err r) shared worked refused = back_shared b old from lines js r.jobs.items now shared refused
+lines_worked b old from lines tasks js now (Ok back) shared same worked refused = (js, shared, same, worked)
+lines_worked b old from lines tasks js now (Err r) shared same worked refused = back_shared b old from lines js r.jobs.items now shared refused
+
+-- TASKS
+
+many_tasks : (js : List JobView) → length (tasks_in js) ≡ length js
+many_tasks [] = refl
+many_tasks (j ∷ js) = let n = many_tasks js in omega (arith, n)
+
+tasks_append : (js : List JobView) (j : JobView) → tasks_in (js ++ j ∷ []) ≡ tasks_in js ++ j.task ∷ []
+tasks_append js j = map-append (λ (k : JobView). k.task) js (j ∷ [])
+
+-- the jobs so far have the first tasks, and these are left
+module _ (rack : Rack) (lines : List Command) (tasks : List Task) (have : HaveTasks rack lines tasks) (js : List JobView) (n : ℕ) (count : length js ≡ n) (left : List Task) (so : tasks_in js ++ left ≡ tasks) where
+  how_many : n + length left ≡ length lines
+  how_many = let c = count in let t = have.count in let m = many_tasks js in let a = length-append (tasks_in js) left in let w = ap length so in omega (arith, c, t, m, a, w)
+
+  -- while lines are left, tasks are
+  pub more_tasks : n < length lines → left ≡ [] → ⊥
+  more_tasks within none = let h = how_many in let z = ap length none in absurd (omega (arith, h, z, within))
+
+  pub all_tasks_in : n ≡ length lines → tasks_in js ≡ tasks
+  all_tasks_in all = sym (append-nil (tasks_in js)) ∙ (ap (λ l. tasks_in js ++ l) (sym (empty left (let h = how_many in omega (arith, h, all)))) ∙ so)
+    where
+      empty : (ts : List Task) → length ts ≡ 0 → ts ≡ []
+      empty [] z = refl
+      empty (t ∷ ts) z = absurd (omega (arith, z))
+
+  module _ (t : Task) (rest : List Task) (next : left ≡ t ∷ rest) where
+    -- the next line can have the next task
+    pub next_fits : (c : Command) → n < length lines → c ≡ get_or lines n c → HasTask rack c t
+    next_fits c within at =
+        have.each n c t (slice_get_read lines (length lines) n c refl within at)
+        (ap (slice_get tasks) (let m = many_tasks js in let k = count in let e : n ≡ length (tasks_in js) + 0 = omega (arith, m, k) in e)
+        ∙ (ap (λ ts. slice_get ts (length (tasks_in js) + 0)) (sym so ∙ ap (λ l. tasks_in js ++ l) next) ∙ get_back (tasks_in js) (t ∷ rest) 0))
+
+    pub tasks_more : (j : JobView) → j.task ≡ t → tasks_in (js ++ j ∷ []) ++ rest ≡ tasks
+    tasks_more j same =
+        ap (λ l. l ++ rest) (tasks_append js j ∙ ap (λ u. tasks_in js ++ u ∷ []) same)
+        ∙ (append_assoc (tasks_in js) (t ∷ []) rest ∙ (ap (λ l. tasks_in js ++ l) (sym next) ∙ so))

@@ -2,7 +2,7 @@
 use Rattle.std.proofs.Common.{◌≡◌, ◌<◌, ◌≤◌, ◌+◌, ◌*◌, ◌^◌, ℕ, suc, inl, inr, List, [], ◌∷◌, length, refl, ap, sym, ◌∙◌, subst, arith}
 use Rattle.std.specs.Prelude.{Result, Ok, Err, Vec, MatchResult}
 use Rattle.std.specs.Global.{Global}
-use Rattle.std.specs.List.{AllByRecursion}
+use Rattle.std.specs.List.{AllByRecursion, flat_map}
 use Rattle.pot_bytes.specs.declared.rack.Rack.{Rack}
 use Rattle.pot_script.specs.declared.command.Command.{Command}
 use Rattle.pot_script.specs.declared.grouping.Step as script
@@ -19,7 +19,8 @@ use Rattle.pot_store.specs.Works.{Known, known, JobWorked, JobAlone, section_of}
 use Rattle.pot_commands.specs.Rows.{IsSessionSetting, AreReplies, IsIdle, IsWorked, Row}
 use Rattle.pot_commands.specs.Going.{AllStay}
 use Rattle.pot_commands.specs.declared.arriving.Unanswered.{Unanswered}
-use Rattle.pot_commands.specs.Steps.{IsBatched, IsWorkedStep, StepGives, StepLeaves, AreLinesLeft, step_of}
+use Rattle.pot_commands.specs.declared.arriving.Unanswered.TheVariants as unanswered
+use Rattle.pot_commands.specs.Steps.{IsBatched, IsWorkedStep, StepGives, StepLeaves, StepStops, AreLinesLeft, step_of}
 use Rattle.pot_commands.specs.Taking.{Lending, Took, asks, asks_in}
 use Rattle.pot_commands.proofs.Going.{sole_alone}
 use Rattle.pot_commands.proofs.Whose.{its_jobs, judged}
@@ -44,6 +45,10 @@ module _ (rack : Rack) (seed : List ℕ) (session job : ℕ) (c : Command) (old 
   -- or it has none
   pub one_leaves : (JobAlone job old new → (s : Setting) → IsSessionSetting s rack seed session old → IsIdle s job c (section_of old new)) → StepLeaves rack seed session job (One c) old new
   one_leaves says sole s setting = (its_jobs job old new worked sole, inl (says (sole_alone job old new worked sole) s setting))
+
+  pub one_stops : (e : Unanswered) → (JobAlone job old new → (s : Setting) → IsSessionSetting s rack seed session old → IsIdle s job c (section_of old new)) → StepStops rack seed session job (One c) old new e
+  one_stops unanswered.RoomFailed says = λ sole s setting. (its_jobs job old new worked sole, says (sole_alone job old new worked sole) s setting)
+  one_stops unanswered.NoMemory says = one_leaves says
 
 -- lines that have their replies
 rows_left : (s : Setting) (job : ℕ) (lines : List Command) (rs : List Reply) (w : Section) (h : Halves w) → Rows (Row s) job lines rs w h → AreLinesLeft s job lines w h
@@ -75,14 +80,14 @@ module _ (step : script.Step) (c : Command) (is : step ≡ steps.One c) where
 
   pub one_says : (rack : Rack) (seed : List ℕ) (session job : ℕ) (old new : Known) → JobWorked job old new → (result : Result (Vec Reply Global) Unanswered)
       → (JobAlone job old new → (s : Setting) → IsSessionSetting s rack seed session old → MatchResult result (λ replies. AreReplies s job c replies.items (section_of old new)) (λ e. IsIdle s job c (section_of old new)))
-      → MatchResult result (λ replies. StepGives rack seed session job (step_of step) old new replies.items) (λ e. StepLeaves rack seed session job (step_of step) old new)
+      → MatchResult result (λ replies. StepGives rack seed session job (step_of step) old new replies.items) (λ e. StepStops rack seed session job (step_of step) old new e)
   one_says rack seed session job old new worked (Ok replies) says =
       subst (λ d. StepGives rack seed session job (step_of d) old new replies.items) (sym is) (one_gives rack seed session job c old new worked replies.items says)
   one_says rack seed session job old new worked (Err e) says =
-      subst (λ d. StepLeaves rack seed session job (step_of d) old new) (sym is) (one_leaves rack seed session job c old new worked says)
+      subst (λ d. StepStops rack seed session job (step_of d) old new e) (sym is) (one_stops rack seed session job c old new worked e says)
 
 module _ (step : script.Step) (lines now : List Command) (is : step ≡ steps.Together lines) (same : now ≡ lines) where
-  pub together_is : Together now ≡ step_of step
+  together_is : Together now ≡ step_of step
   together_is = ap (λ ls. Together ls) same ∙ ap step_of (sym is)
 
   together_at : step ≡ steps.Together now
@@ -93,3 +98,12 @@ module _ (step : script.Step) (lines now : List Command) (is : step ≡ steps.To
 
   pub together_jobs : (job : ℕ) → job + jobs_in (step_of step) ≤ 2 ^ 31 → job + length now ≤ 2 ^ 31
   together_jobs job fits = subst (λ d. job + jobs_in (step_of d) ≤ 2 ^ 31) together_at fits
+
+  pub together_took : (told well : Type 0) (r r' : Lending) (old new : Known) → Took told well (flat_map asks now) r r' old new → Took told well (asks_in step) r r' old new
+  together_took told well r r' old new took = subst (λ d. Took told well (asks_in d) r r' old new) (sym together_at) took
+
+  pub together_says : (rack : Rack) (seed : List ℕ) (session job : ℕ) (old new : Known) (result : Result (Vec Reply Global) Unanswered)
+      → MatchResult result (λ replies. StepGives rack seed session job (Together now) old new replies.items) (λ e. StepStops rack seed session job (Together now) old new e)
+      → MatchResult result (λ replies. StepGives rack seed session job (step_of step) old new replies.items) (λ e. StepStops rack seed session job (step_of step) old new e)
+  together_says rack seed session job old new (Ok replies) says = subst (λ d. StepGives rack seed session job d old new replies.items) together_is says
+  together_says rack seed session job old new (Err e) says = subst (λ d. StepStops rack seed session job d old new e) together_is says

@@ -273,6 +273,13 @@ took_wider told well then asked more r r' old new le from p = record {
   come = p.come;
 }
 
+-- what was taken stays so where no more archives come
+pub took_on : (told well then : Type 0) (ns : List ℕ) (r r' : Lending) (k0 k1 k2 : Known) → AllWent k0 k1 → AllWent k1 k2 → k1.groups.names ≡ k0.groups.names → well → Took told well ns r r' k0 k1
+    → (AllSole k1 k2 → (g : ℕ) → arrivals (gained k1.groups k2.groups g) ≡ []) → Took told then ns r r' k0 k2
+took_on told well then ns r r' k0 k1 k2 went next names is took none =
+    subst (λ l. Took told then l r r' k0 k2) (append-nil ns)
+    (took_more told then ns [] r r' r' k0 k1 k2 went next names (took_wider told well (Unit {0}) ns ns r r' k0 k1 (λ n. omega arith) (λ u. is) took) (took_none told then [] r' r' k1 k2 (λ n. refl) (λ n. refl) none))
+
 -- USES
 
 some_more : {X : Type 0} (o q : Option X) (P Q : X → Type 0) → q ≡ o → ((x : X) → P x → Q x) → IsSomeAnd o P → IsSomeAnd q Q

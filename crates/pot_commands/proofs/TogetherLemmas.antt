@@ -18,15 +18,17 @@ use Rattle.pot_script.specs.declared.command.Command.{Command}
 use Rattle.pot_script.specs.declared.reply.Reply.{Reply}
 use Rattle.pot_shared.specs.Members.{entries_of}
 use Rattle.pot_replies.specs.Settings.{Setting}
-use Rattle.pot_replies.specs.Sections.{Section, Halves, IsOfJobs}
-use Rattle.pot_replies.specs.Sessions.{Together, Answered}
+use Rattle.pot_replies.specs.Sections.{Section, Halves, Follows, IsOfJobs}
+use Rattle.pot_replies.specs.Sessions.{Together, Rows}
 use Rattle.pot_store.specs.Works.{Known, section_of, gained}
 use Rattle.pot_commands.specs.Rows.{IsSessionSetting, HasFilled, Row}
 use Rattle.pot_commands.specs.Going.{Stays, AllSole, AllStay, AllWent}
-use Rattle.pot_commands.specs.Steps.{IsBatched, StepGives, StepLeaves, IsStepLeft}
-use Rattle.pot_commands.specs.Jobs.{Common, JobView, HasPasses, CanCall, IsDone, Did, AreGiven, AreShared, AllJoined, reply_in, has_reply, replies_in, all_replied}
-use Rattle.pot_commands.specs.Batches.{Line, group_rows, index_rows, KnownJoins, IsGivenOf, AreLines, AllSay, lines_of, replies_of, have_replies, BringsNone}
-use Rattle.pot_commands.proofs.Going.{setting_of_stays}
+use Rattle.pot_commands.specs.declared.beginning.Task.{Task}
+use Rattle.pot_commands.specs.Begun.{HasTask, HaveBegun, AreMovesBegun}
+use Rattle.pot_commands.specs.Steps.{StepGives, StepLeaves, AreLinesLeft}
+use Rattle.pot_commands.specs.Jobs.{Common, JobView, HasPasses, CanCall, IsDone, Did, AreGiven, AreShared, AllJoined, reply_in, has_reply, replies_in, all_replied, tasks_in}
+use Rattle.pot_commands.specs.Batches.{Line, group_rows, index_rows, KnownJoins, IsGivenOf, AreLines, AllSay, lines_of, tasks_of, replies_of, have_replies, BringsNone}
+use Rattle.pot_commands.proofs.Going.{known_follows, setting_of_stays, setting_stays, sole_parts}
 use Rattle.pot_commands.proofs.Brought.{its_setting, is_setting}
 use Rattle.pot_commands.proofs.SharedLemmas.{given_count}
 use Rattle.pot_commands.proofs.BatchLemmas.{batch_all_went}
@@ -140,7 +142,7 @@ are_did (j ∷ js) (k ∷ ks) is = (
 abbrev pub zipped : List JobView → List JobView → List Line
 zipped [] ks = []
 zipped (j ∷ js) [] = []
-zipped (j ∷ js) (k ∷ ks) = record { job = j.job; line = j.line; answer = k.answer; given = j.passes; done = k.passes } ∷ zipped js ks
+zipped (j ∷ js) (k ∷ ks) = record { job = j.job; line = j.line; task = j.task; answer = k.answer; given = j.passes; done = k.passes } ∷ zipped js ks
 
 module _ (b : Common) (old : Known) where
   zip_lines : (from : ℕ) (cs : List Command) (js ks : List JobView) → AreGiven b old from cs js → AreDid js ks → lines_of (zipped js ks) ≡ cs
@@ -153,6 +155,11 @@ module _ (b : Common) (old : Known) where
       let head = given.0.line in
       let rest = zip_lines (suc from) cs js ks given.1 did.1 in
       cc (head, rest)
+
+  zip_tasks : (js ks : List JobView) → AreDid js ks → tasks_of (zipped js ks) ≡ tasks_in js
+  zip_tasks [] ks did = refl
+  zip_tasks (j ∷ js) [] did = absurd did
+  zip_tasks (j ∷ js) (k ∷ ks) did = ap (λ ts. j.task ∷ ts) (zip_tasks js ks did.1)
 
   zip_count : (js ks : List JobView) → AreDid js ks → length (zipped js ks) ≡ length js
   zip_count [] ks did = refl
@@ -171,19 +178,18 @@ module _ (b : Common) (old : Known) where
   zip_have (j ∷ js) [] did = absurd did
   zip_have (j ∷ js) (k ∷ ks) did = ap (λ h. has_reply k.answer && h) (zip_have js ks did.1)
 
-  zip_say : (from : ℕ) (cs : List Command) (js ks : List JobView) → AreGiven b old from cs js → AreDid js ks → AllByRecursion (IsBatched b.vault.rack.groups) cs
-      → AllSay b.vault.rack b.seed b.session (zipped js ks)
-  zip_say from [] [] [] given did batched = tt
-  zip_say from [] [] (k ∷ ks) given did batched = absurd did
-  zip_say from [] (j ∷ js) ks given did batched = absurd given
-  zip_say from (c ∷ cs) [] ks given did batched = absurd given
-  zip_say from (c ∷ cs) (j ∷ js) [] given did batched = absurd did
-  zip_say from (c ∷ cs) (j ∷ js) (k ∷ ks) given did batched = (
+  zip_say : (from : ℕ) (cs : List Command) (js ks : List JobView) → AreGiven b old from cs js → AreDid js ks → AllSay b.vault.rack b.seed b.session (zipped js ks)
+  zip_say from [] [] [] given did = tt
+  zip_say from [] [] (k ∷ ks) given did = absurd did
+  zip_say from [] (j ∷ js) ks given did = absurd given
+  zip_say from (c ∷ cs) [] ks given did = absurd given
+  zip_say from (c ∷ cs) (j ∷ js) [] given did = absurd did
+  zip_say from (c ∷ cs) (j ∷ js) (k ∷ ks) given did = (
     (
-      subst (IsBatched b.vault.rack.groups) (sym given.0.line) batched.0,
+      subst (λ d. HasTask b.vault.rack d j.task) (sym given.0.line) given.0.fits,
       λ alone s is. did.0.says alone s (subst (λ (a : Common). IsSessionSetting s a.vault.rack a.seed a.session j.passes) (sym given.0.common) is),
     ),
-    zip_say (suc from) cs js ks given.1 did.1 batched.1,
+    zip_say (suc from) cs js ks given.1 did.1,
   )
 
   zip_joins : (js ks : List JobView) (v x : Known) → AreDid js ks → AllJoined v ks x → KnownJoins v (zipped js ks) x
@@ -256,7 +262,7 @@ module _ (b : Common) (old : Known) where
 -- THE STEP
 
 module _ (b : Common) (old v x : Known) (from : ℕ) (cs : List Command) (js ks : List JobView) (can : CanCall b.vault old) (can_v : CanCall b.vault v) (can_x : CanCall b.vault x)
-    (more : HasMoreParts (2 * length cs) old.groups) (more_index : HasMoreParts (2 * length cs) old.index) (batched : AllByRecursion (IsBatched b.vault.rack.groups) cs)
+    (more : HasMoreParts (2 * length cs) old.groups) (more_index : HasMoreParts (2 * length cs) old.index)
     (shared : AreShared b old from cs js v) (did : AreDid js ks) (joined : AllJoined v ks x) where
   abbrev zs : List Line
   zs = zipped js ks
@@ -271,7 +277,7 @@ module _ (b : Common) (old v x : Known) (from : ℕ) (cs : List Command) (js ks 
   joins = zip_joins b old js ks v x did joined
 
   say : AllSay b.vault.rack b.seed b.session zs
-  say = zip_say b old from cs js ks shared.given did batched
+  say = zip_say b old from cs js ks shared.given did
 
   lines : lines_of zs ≡ cs
   lines = zip_lines b old from cs js ks shared.given did
@@ -338,18 +344,38 @@ module _ (b : Common) (old v x : Known) (from : ℕ) (cs : List Command) (js ks 
         (subst (λ k. RowCut k old.index v.index) twice shared.index) (subst (λ k. HasMoreParts k old.index) twice_more more_index) (zip_index_two b old can from cs js ks shared.given did) joins.index;
   }
 
-  pub together_gives : all_replied ks ≡ true → StepGives b.vault.rack b.seed b.session from (Together cs) old x (replies_in ks)
-  together_gives all s_old s is =
-      let gives = batch_gives b.vault.rack b.seed b.session v x from zs are joins say (zip_have b old js ks did ∙ all) (sole s_old) s (setting s is) in
-      let of_lines = subst (λ ls. IsOfJobs from (length ls) (section_of v x) × ((h : Halves (section_of v x)) × Answered (Row s) from (Together ls) (replies_of zs) (section_of v x) h)) lines gives in
-      let of_replies = subst (λ rs. IsOfJobs from (length cs) (section_of v x) × ((h : Halves (section_of v x)) × Answered (Row s) from (Together cs) rs (section_of v x) h)) (zip_replies b old js ks did) of_lines in
-      subst (λ (w : Section). IsOfJobs from (length cs) w × ((h : Halves w) × Answered (Row s) from (Together cs) (replies_in ks) w h)) section of_replies
+  -- the moves of the lines began before
+  module _ (start : Known) (tasks : List Task) (same_tasks : tasks_in js ≡ tasks) (moves : AreMovesBegun b.vault.rack from cs tasks start old) where
+    module _ (s_start : AllSole start x) (s : Setting) (is : IsSessionSetting s b.vault.rack b.seed b.session start) where
+      soles : AllSole start old × AllSole old x
+      soles = sole_parts start old x moves.went together_went s_start
 
-  pub together_leaves : StepLeaves b.vault.rack b.seed b.session from (Together cs) old x
-  together_leaves s_old s is =
-      let leaves = batch_leaves b.vault.rack b.seed b.session v x from zs are joins say (sole s_old) s (setting s is) in
-      let of_lines = subst (λ ls. IsOfJobs from (length ls) (section_of v x) × IsStepLeft s from (Together ls) (section_of v x)) lines leaves in
-      subst (λ (w : Section). IsOfJobs from (length cs) w × IsStepLeft s from (Together cs) w) section of_lines
+      setting_old : IsSessionSetting s b.vault.rack b.seed b.session old
+      setting_old = setting_stays s b.vault.rack b.seed b.session start old moves.stays is
+
+      begun : HaveBegun s from (lines_of zs) (tasks_of zs) (section_of start old)
+      begun = subst (λ ls. HaveBegun s from ls (tasks_of zs) (section_of start old)) (sym lines)
+          (subst (λ ts. HaveBegun s from cs ts (section_of start old)) (sym (zip_tasks b old js ks did ∙ same_tasks)) (moves.begun soles.0 s is.setting))
+
+      follows : Follows (section_of start old) (section_of v x) (section_of start x)
+      follows = subst (λ (u : Section). Follows (section_of start old) u (section_of start x)) (sym section) (known_follows start old x moves.went together_went)
+
+      its_gives : all_replied ks ≡ true → IsOfJobs from (length cs) (section_of start x) × ((h : Halves (section_of start x)) × Rows (Row s) from cs (replies_in ks) (section_of start x) h)
+      its_gives all =
+          let gives = batch_gives b.vault.rack b.seed b.session v x from zs are joins say (zip_have b old js ks did ∙ all) (sole soles.1) s (setting s setting_old) (section_of start old) (section_of start x) begun follows in
+          subst (λ rs. IsOfJobs from (length cs) (section_of start x) × ((h : Halves (section_of start x)) × Rows (Row s) from cs rs (section_of start x) h)) (zip_replies b old js ks did)
+          (subst (λ ls. IsOfJobs from (length ls) (section_of start x) × ((h : Halves (section_of start x)) × Rows (Row s) from ls (replies_of zs) (section_of start x) h)) lines gives)
+
+      its_leaves : IsOfJobs from (length cs) (section_of start x) × ((h : Halves (section_of start x)) × AreLinesLeft s from cs (section_of start x) h)
+      its_leaves =
+          subst (λ ls. IsOfJobs from (length ls) (section_of start x) × ((h : Halves (section_of start x)) × AreLinesLeft s from ls (section_of start x) h)) lines
+          (batch_leaves b.vault.rack b.seed b.session v x from zs are joins say (sole soles.1) s (setting s setting_old) (section_of start old) (section_of start x) begun follows)
+
+    pub together_gives : all_replied ks ≡ true → StepGives b.vault.rack b.seed b.session from (Together cs) start x (replies_in ks)
+    together_gives all s_start s is = its_gives s_start s is all
+
+    pub together_leaves : StepLeaves b.vault.rack b.seed b.session from (Together cs) start x
+    together_leaves s_start s is = its_leaves s_start s is
 
   pub together_none : HasFilled b.vault.rack old → BringsNone old x
   together_none filled s_old g =
@@ -357,41 +383,51 @@ module _ (b : Common) (old v x : Known) (from : ℕ) (cs : List Command) (js ks 
       let none = batch_brings_none b.vault.rack b.seed b.session v x from zs are joins say s (setting s (is_setting b.vault.rack b.seed b.session old filled)) (sole s_old) g in
       ap arrivals (sym (same_gain g)) ∙ none
 
+-- The jobs of a batch were worked.
+pub record AreLinesWorked (b : Common) (old v : Known) (from : ℕ) (cs : List Command) (tasks : List Task) (ks : List JobView) : Type 0 where
+  pub given : List JobView
+  pub shared : AreShared b old from cs given v
+  pub tasks_are : tasks_in given ≡ tasks
+  pub are_worked : AreWorked IsDone Did given ks
+
+pub lines_worked_are : (b : Common) (old v : Known) (from : ℕ) (cs : List Command) (tasks : List Task) (ks : List JobView)
+    → ((js : List JobView) × AreShared b old from cs js v × (tasks_in js ≡ tasks) × AreWorked IsDone Did js ks) → AreLinesWorked b old v from cs tasks ks
+lines_worked_are b old v from cs tasks ks (js, shared, same, worked) = record { given = js; shared = shared; tasks_are = same; are_worked = worked }
+
 -- A batch was worked, and the passes of its jobs were taken back.
-pub record IsTaken (b : Common) (old v x : Known) (from : ℕ) (cs : List Command) (ks : List JobView) : Type 0 where
+pub record IsTaken (b : Common) (old v x : Known) (from : ℕ) (cs : List Command) (tasks : List Task) (ks : List JobView) : Type 0 where
   pub can : CanCall b.vault old
   pub can_v : CanCall b.vault v
   pub can_x : CanCall b.vault x
   pub parts : HasMoreParts (2 * length cs) old.groups × HasMoreParts (2 * length cs) old.index
-  pub batched : AllByRecursion (IsBatched b.vault.rack.groups) cs
-  pub worked : (js : List JobView) × AreShared b old from cs js v × AreWorked IsDone Did js ks
+  pub worked : AreLinesWorked b old v from cs tasks ks
   pub joined : AllJoined v ks x
 
-module _ (b : Common) (old v : Known) (from : ℕ) (cs : List Command) (ks : List JobView) (worked : (js : List JobView) × AreShared b old from cs js v × AreWorked IsDone Did js ks) where
+module _ (b : Common) (old v : Known) (from : ℕ) (cs : List Command) (tasks : List Task) (ks : List JobView) (worked : AreLinesWorked b old v from cs tasks ks) where
   -- its jobs are of the vault, one for each line
   pub worked_have : AllByRecursion (HasPasses b.vault) ks
-  worked_have = did_have b old from cs worked.0 ks worked.1.given (are_did worked.0 ks worked.2)
+  worked_have = did_have b old from cs worked.given ks worked.shared.given (are_did worked.given ks worked.are_worked)
 
   pub worked_count : length ks ≡ length cs
-  worked_count = worked.2.count ∙ given_count b old from cs worked.0 worked.1.given
+  worked_count = worked.are_worked.count ∙ given_count b old from cs worked.given worked.shared.given
 
-module _ (b : Common) (old v x : Known) (from : ℕ) (cs : List Command) (ks : List JobView) (is : IsTaken b old v x from cs ks) where
-  did : AreDid is.worked.0 ks
-  did = are_did is.worked.0 ks is.worked.2
+module _ (b : Common) (old v x : Known) (from : ℕ) (cs : List Command) (tasks : List Task) (ks : List JobView) (is : IsTaken b old v x from cs tasks ks) where
+  did : AreDid is.worked.given ks
+  did = are_did is.worked.given ks is.worked.are_worked
 
   pub taken_went : AllWent old x
-  taken_went = together_went b old v x from cs is.worked.0 ks is.can is.can_v is.can_x is.parts.0 is.parts.1 is.batched is.worked.1 did is.joined
+  taken_went = together_went b old v x from cs is.worked.given ks is.can is.can_v is.can_x is.parts.0 is.parts.1 is.worked.shared did is.joined
 
   pub taken_stays : AllStay old x
-  taken_stays = together_stays b old v x from cs is.worked.0 ks is.can is.can_v is.can_x is.parts.0 is.parts.1 is.batched is.worked.1 did is.joined
+  taken_stays = together_stays b old v x from cs is.worked.given ks is.can is.can_v is.can_x is.parts.0 is.parts.1 is.worked.shared did is.joined
 
-  pub taken_gives : (rs : List Reply) → rs ≡ replies_in ks → all_replied ks ≡ true → StepGives b.vault.rack b.seed b.session from (Together cs) old x rs
-  taken_gives rs same all =
-      subst (λ ls. StepGives b.vault.rack b.seed b.session from (Together cs) old x ls) (sym same)
-      (together_gives b old v x from cs is.worked.0 ks is.can is.can_v is.can_x is.parts.0 is.parts.1 is.batched is.worked.1 did is.joined all)
+  pub taken_gives : (rs : List Reply) → rs ≡ replies_in ks → all_replied ks ≡ true → (start : Known) → AreMovesBegun b.vault.rack from cs tasks start old → StepGives b.vault.rack b.seed b.session from (Together cs) start x rs
+  taken_gives rs same all start moves =
+      subst (λ ls. StepGives b.vault.rack b.seed b.session from (Together cs) start x ls) (sym same)
+      (together_gives b old v x from cs is.worked.given ks is.can is.can_v is.can_x is.parts.0 is.parts.1 is.worked.shared did is.joined start tasks is.worked.tasks_are moves all)
 
-  pub taken_leaves : StepLeaves b.vault.rack b.seed b.session from (Together cs) old x
-  taken_leaves = together_leaves b old v x from cs is.worked.0 ks is.can is.can_v is.can_x is.parts.0 is.parts.1 is.batched is.worked.1 did is.joined
+  pub taken_leaves : (start : Known) → AreMovesBegun b.vault.rack from cs tasks start old → StepLeaves b.vault.rack b.seed b.session from (Together cs) start x
+  taken_leaves start moves = together_leaves b old v x from cs is.worked.given ks is.can is.can_v is.can_x is.parts.0 is.parts.1 is.worked.shared did is.joined start tasks is.worked.tasks_are moves
 
   pub taken_none : HasFilled b.vault.rack old → BringsNone old x
-  taken_none = together_none b old v x from cs is.worked.0 ks is.can is.can_v is.can_x is.parts.0 is.parts.1 is.batched is.worked.1 did is.joined
+  taken_none = together_none b old v x from cs is.worked.given ks is.can is.can_v is.can_x is.parts.0 is.parts.1 is.worked.shared did is.joined

@@ -3,6 +3,7 @@ use Rattle.std.proofs.Common.{◌≡◌, ◌<◌, ◌≤◌, ◌+◌, ◌-◌, �
 use Rattle.std.specs.Prelude.{if◌then◌else◌, nat_lt, filter}
 use Rattle.std.proofs.lemmas.Bool.{cases_lt}
 use lib.Seq.{drop-length}
+use mathlib.Core.Path.{fun_ext}
 use Rattle.pot_machine.specs.Logs.{own}
 use Rattle.pot_index.specs.Entries as index
 use Rattle.pot_group.specs.Arrivals.{arrivals}
@@ -11,7 +12,7 @@ use Rattle.pot_turn.specs.declared.view.View.{View}
 use Rattle.pot_turn.specs.Logs.{longer}
 use Rattle.pot_turn.specs.Views.{cut_view, new_view, both_views}
 use Rattle.pot_worked.specs.Worked.{added}
-use Rattle.pot_worked.specs.Sole.{Went}
+use Rattle.pot_worked.specs.Sole.{Went, Sole}
 use Rattle.pot_rows.specs.Rows.{PassRow, AreOf, HasMoreParts, view_at}
 use Rattle.pot_rows.specs.Parts.{RowCut, RowJoined}
 use Rattle.pot_rows.proofs.RowLemmas.{at_past}
@@ -20,14 +21,17 @@ use Rattle.pot_shared.specs.Members.{entries_of}
 use Rattle.pot_shared.specs.Sharing.{SameAt}
 use Rattle.pot_replies.specs.Jobs.{is_move_begin}
 use Rattle.pot_replies.specs.Settings.{Setting}
-use Rattle.pot_replies.specs.Sections.{Section, Halves, IsOfJobs, IsEmpty, IsSilent, mine, work_of}
+use Rattle.pot_replies.specs.Sections.{Section, IsOfJobs}
 use Rattle.pot_replies.specs.Sessions.{Together}
 use Rattle.pot_store.specs.Works.{Known, section_of, gained}
-use Rattle.pot_commands.specs.Going.{AllStay, AllWent}
-use Rattle.pot_commands.specs.Steps.{StepLeaves, IsStepLeft, AreLinesLeft}
+use Rattle.pot_commands.specs.declared.beginning.Task.{Task}
+use Rattle.pot_commands.specs.Begun.{AreMovesBegun}
+use Rattle.pot_commands.specs.Going.{AllSole, AllStay, AllWent}
+use Rattle.pot_commands.specs.Steps.{StepLeaves, IsStepLeft}
 use Rattle.pot_commands.specs.Jobs.{Common, JobView, CanCall, AreGiven, AreShared, AllJoined}
 use Rattle.pot_commands.specs.Batches.{BringsNone}
-use Rattle.pot_commands.proofs.AnswerLemmas.{stayed_worked, idle_silent}
+use Rattle.pot_commands.proofs.AnswerLemmas.{stayed_worked}
+use Rattle.pot_commands.proofs.BeginLemmas.{moves_leave}
 use Rattle.pot_commands.proofs.Going.{work_all_went}
 use Rattle.pot_commands.proofs.SharedLemmas.{given_count}
 
@@ -126,34 +130,6 @@ unbegun b old v x from cs js can can_x more more_index shared joined =
 
 -- NOTHING WAS LOGGED
 
-no_entry : {X : Type 0} (ls xs ys : List X) (x : X) → ls ≡ [] → ls ≡ xs ++ x ∷ ys → ⊥
-no_entry ls [] ys x none at = cc (none, at)
-no_entry ls (z ∷ xs) ys x none at = cc (none, at)
-
-module _ (s : Setting) (w : Section) (none : IsEmpty w) where
-  abbrev nothing : Halves w
-  nothing = record {
-    begun = λ g. [];
-    worked = w.added;
-    parts = λ g. refl;
-    begins = λ g e (k, lt, at). absurd (omega (arith, lt));
-    no_more = λ g. ap (filter is_move_begin) (none.0 g);
-    in_order = λ g. tt;
-  }
-
-  silent : (job : ℕ) → IsSilent (mine job (work_of w nothing))
-  silent job = ((λ g. ap (own job) (none.0 g)), ap (index.own job) none.1)
-
-  all_left : (job : ℕ) (lines : List Command) → AreLinesLeft s job lines w nothing
-  all_left job [] = tt
-  all_left job (c ∷ lines) = (inr ((λ g. refl), idle_silent s job c (work_of w nothing) (silent job)), all_left (suc job) lines)
-
-  empty_left : (job : ℕ) (lines : List Command) → IsOfJobs job (length lines) w × IsStepLeft s job (Together lines) w
-  empty_left job lines = (
-    record { groups = λ g x y e at. absurd (no_entry (w.added g) x y e (none.0 g) at); index = λ x y e at. absurd (no_entry w.index_added x y e none.1 at) },
-    (nothing, all_left job lines),
-  )
-
 module _ (b : Common) (old x : Known) (can : CanCall b.vault old) (can_x : CanCall b.vault x) (same : SameAt old.groups x.groups) (same_index : SameAt old.index x.index) where
   pub unbegun_went : AllWent old x
   unbegun_went =
@@ -185,8 +161,28 @@ module _ (b : Common) (old x : Known) (can : CanCall b.vault old) (can_x : CanCa
   none_index : added (view_at old.index 0) (view_at x.index 0) ≡ []
   none_index = ap (λ (u : View _ _). drop (length (view_at old.index 0).seen) u.seen) (same_index 0) ∙ drop-length (view_at old.index 0).seen
 
-  pub unbegun_leaves : (job : ℕ) (lines : List Command) → StepLeaves b.vault.rack b.seed b.session job (Together lines) old x
-  unbegun_leaves job lines sole s is = empty_left s (section_of old x) (none_gained, none_index) job lines
+  -- the moves that began before are all that was logged
+  module _ (start : Known) where
+    gain_since : (g : ℕ) → gained start.groups x.groups g ≡ gained start.groups old.groups g
+    gain_since g = ap (λ (u : View _ _). entries_of (drop (length (view_at start.groups g).seen) u.seen)) (same g)
+
+    section_since : section_of start x ≡ section_of start old
+    section_since =
+        let addeds : gained start.groups x.groups ≡ gained start.groups old.groups = fun_ext gain_since in
+        let index_addeds : added (view_at start.index 0) (view_at x.index 0) ≡ added (view_at start.index 0) (view_at old.index 0) =
+        ap (λ (u : View _ _). drop (length (view_at start.index 0).seen) u.seen) (same_index 0) in
+        λ i. record { before = (section_of start old).before; added = addeds i; index_before = (section_of start old).index_before; index_added = index_addeds i }
+
+    sole_since : AllSole start x → AllSole start old
+    sole_since sole = record {
+      groups = λ at. subst (λ (u : View _ _). Sole (view_at start.groups at) u) (same at) (sole.groups at);
+      index = λ at. subst (λ (u : View _ _). Sole (view_at start.index at) u) (same_index at) (sole.index at);
+    }
+
+    pub unbegun_leaves : (from : ℕ) (lines : List Command) (tasks : List Task) → AreMovesBegun b.vault.rack from lines tasks start old → StepLeaves b.vault.rack b.seed b.session from (Together lines) start x
+    unbegun_leaves from lines tasks moves sole s is =
+        subst (λ (w : Section). IsOfJobs from (length lines) w × IsStepLeft s from (Together lines) w) (sym section_since)
+        (moves_leave b.vault.rack b.seed b.session from lines tasks start old moves (sole_since sole) s is)
 
   pub unbegun_none : BringsNone old x
   unbegun_none sole g = ap arrivals (none_gained g)
@@ -209,8 +205,8 @@ module _ (b : Common) (old v x : Known) (from : ℕ) (cs : List Command) (js : L
   pub back_stays : AllStay old x
   back_stays = unbegun_stays b old x is.can is.can_x same_both.0 same_both.1
 
-  pub back_leaves : StepLeaves b.vault.rack b.seed b.session from (Together cs) old x
-  back_leaves = unbegun_leaves b old x is.can is.can_x same_both.0 same_both.1 from cs
+  pub back_leaves : (tasks : List Task) (start : Known) → AreMovesBegun b.vault.rack from cs tasks start old → StepLeaves b.vault.rack b.seed b.session from (Together cs) start x
+  back_leaves tasks start moves = unbegun_leaves b old x is.can is.can_x same_both.0 same_both.1 start from cs tasks moves
 
   pub back_none : BringsNone old x
   back_none = unbegun_none b old x is.can is.can_x same_both.0 same_both.1

@@ -22,7 +22,7 @@ use Rattle.pot_commands.specs.Rows.{HasFilled}
 use Rattle.pot_commands.specs.declared.working.Ending.{Ending}
 use Rattle.pot_commands.specs.declared.working.Ending.TheVariants as ending
 use Rattle.pot_commands.specs.Ones.{OneEnds}
-use Rattle.pot_commands.specs.Steps.{step_of, steps_of, StepGives, StepLeaves}
+use Rattle.pot_commands.specs.Steps.{step_of, steps_of, StepGives, StepLeaves, StepHalts}
 use Rattle.pot_commands.specs.Ends.{next_job, texts_of, any_refusal, AreReplied, Ends}
 use Rattle.pot_commands.specs.Going.{AllStay, AllWent}
 use Rattle.pot_commands.specs.Holding.{times}
@@ -30,7 +30,7 @@ use Rattle.pot_commands.specs.Taking.{Lending, Took, asks_in, asked_by}
 use Rattle.pot_commands.proofs.AnswerLemmas.{stayed_worked}
 use Rattle.pot_commands.proofs.Going.{filled_stays, work_all_went, went_more, stays_more}
 use Rattle.pot_commands.proofs.TakingLemmas.{took_none, took_more, took_wider, times-append}
-use Rattle.pot_commands.proofs.FoldLemmas.{jobs_append, jobs_more, none_replied, replied_on, left_on, next_on}
+use Rattle.pot_commands.proofs.FoldLemmas.{jobs_append, jobs_more, none_replied, replied_on, left_on, halted_on, next_on}
 
 -- THE PASSES
 
@@ -175,6 +175,17 @@ module _ (told tells : Type 0) (rack : Rack) (seed : List ℕ) (session : ℕ) (
     written = λ t. writes t ∙ so.written t;
   }
 
+  halted_short : (after : List ℕ) → StepHalts rack seed session job (step_of d) mid new → (told → after ≡ now) → Ends rack seed session told before after ss old new ending.RoomFailed
+  halted_short after halts writes = record {
+    first = take n ss;
+    next = d;
+    rest = drop (suc n) ss;
+    parts = whole;
+    replies = so.replies;
+    replied = halted_on rack seed session (take n ss) so.replies d old mid new so.went so.stays so.replied went (subst (λ j. StepHalts rack seed session j (step_of d) mid new) so.number halts);
+    written = λ t. writes t ∙ so.written t;
+  }
+
   pub working_ends : (after : List ℕ) (end : Ending) → OneEnds rack seed session job (step_of d) mid new told now after (Err end) → Ends rack seed session told before after ss old new end
   working_ends after ending.SinkFailed (its, gives, writes) = record {
     first = take n ss;
@@ -192,7 +203,7 @@ module _ (told tells : Type 0) (rack : Rack) (seed : List ℕ) (session : ℕ) (
       cut.2 ∙ (ap (λ l. l ++ take cut.0 (texts_of its)) (so.written t) ∙ append_assoc before (texts_of so.replies) (take cut.0 (texts_of its))),
     );
   }
-  working_ends after ending.RoomFailed (leaves, writes) = left_short after leaves writes
+  working_ends after ending.RoomFailed (halts, writes) = halted_short after halts writes
   working_ends after ending.NoMemory (leaves, writes) = left_short after leaves writes
   working_ends after (ending.Done refused) none = absurd none
 

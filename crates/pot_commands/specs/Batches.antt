@@ -1,6 +1,6 @@
 -- A batch: its lines are worked at once, each as a job with passes of its own, and the passes are joined in the
 -- order of the lines.
-use Rattle.std.specs.Prelude.{◌≡◌, ◌⊎◌, ◌&&◌, ◌∷◌, ◌++◌, ℕ, suc, Bool, true, List, [], Option, Result, map}
+use Rattle.std.specs.Prelude.{◌≡◌, ◌⊎◌, ◌&&◌, ◌∷◌, ◌++◌, ℕ, suc, Bool, true, List, [], Option, Result, length, map}
 use Rattle.pot_bytes.specs.declared.rack.Rack.{Rack}
 use Rattle.pot_bytes.specs.declared.memory.NoMemory.{NoMemory}
 use Rattle.pot_script.specs.declared.command.Command.{Command}
@@ -13,19 +13,22 @@ use Rattle.pot_shared.specs.declared.catalog.CatalogOrigin.{CatalogOrigin}
 use Rattle.pot_shared.specs.declared.member.Logged.{Logged}
 use Rattle.pot_shared.specs.declared.member.GroupOrigin.{GroupOrigin}
 use Rattle.pot_replies.specs.Settings.{Setting}
-use Rattle.pot_replies.specs.Sections.{Section, Widens}
-use Rattle.pot_replies.specs.Sessions.{Together}
+use Rattle.pot_replies.specs.Sections.{Section, Halves, Follows, IsOfJobs, Widens}
+use Rattle.pot_replies.specs.Sessions.{Rows}
 use Rattle.pot_store.specs.Works.{Known, JobWorked, JobAlone, section_of, gained}
-use Rattle.pot_commands.specs.Rows.{IsSessionSetting}
+use Rattle.pot_commands.specs.declared.beginning.Task.{Task}
+use Rattle.pot_commands.specs.Rows.{IsSessionSetting, Row}
+use Rattle.pot_commands.specs.Begun.{HasTask, HaveBegun}
 use Rattle.pot_commands.specs.Going.{AllSole}
-use Rattle.pot_commands.specs.Steps.{IsBatched, StepGives, StepLeaves}
+use Rattle.pot_commands.specs.Steps.{AreLinesLeft}
 use Rattle.pot_commands.specs.Jobs.{Says, reply_in, has_reply}
 
--- a job of a batch: its number, its line and its answer, what the passes that it was given knew, and what they
--- knew when it was done
+-- a job of a batch: its number, its line, its task and its answer, what the passes that it was given knew, and what
+-- they knew when it was done
 pub record Line : Type 0 where
   pub job : ℕ
   pub line : Command
+  pub task : Task
   pub answer : Option (Result Reply NoMemory)
   pub given : Known
   pub done : Known
@@ -63,12 +66,12 @@ abbrev pub AreLines : Known → ℕ → List Line → Type 0
 AreLines start from [] = Unit {0}
 AreLines start from (c ∷ cs) = (c.job ≡ from) × IsLine start c × AreLines start (suc from) cs
 
--- the line may stand in a batch, and the job's entries give its answer, if nobody else logged an entry of it
+-- the line can have its task, and the job's entries give its answer, if nobody else logged an entry of it
 abbrev pub SaysIts : Rack → List ℕ → ℕ → Line → Type 0
 SaysIts rack seed session c =
-    IsBatched rack.groups c.line
+    HasTask rack c.line c.task
     × (JobAlone c.job c.given c.done → (s : Setting) → IsSessionSetting s rack seed session c.given
-    → Says s c.job c.line c.answer (section_of c.given c.done))
+    → Says s c.job c.line c.task c.answer (section_of c.given c.done))
 
 abbrev pub AllSay : Rack → List ℕ → ℕ → List Line → Type 0
 AllSay rack seed session [] = Unit {0}
@@ -78,9 +81,12 @@ abbrev pub IsAmongLines : Line → List Line → Type 0
 IsAmongLines c [] = ⊥
 IsAmongLines c (d ∷ ds) = (d ≡ c) ⊎ IsAmongLines c ds
 
--- the lines, their replies, and whether each has one
+-- the lines, their tasks, their replies, and whether each has one
 abbrev pub lines_of : List Line → List Command
 lines_of cs = map (λ c. c.line) cs
+
+abbrev pub tasks_of : List Line → List Task
+tasks_of cs = map (λ c. c.task) cs
 
 abbrev pub replies_of : List Line → List Reply
 replies_of [] = []
@@ -106,19 +112,29 @@ JobsWiden =
 -- an answer to a line of a batch stands when others log more
 abbrev pub AnswersWiden : Type 0
 AnswersWiden =
-    (s : Setting) (groups job : ℕ) (c : Command) (answer : Option (Result Reply NoMemory)) (w w' : Section)
-    → IsBatched groups c → Widens job w w' → Says s job c answer w → Says s job c answer w'
+    (s : Setting) (rack : Rack) (job : ℕ) (c : Command) (t : Task)
+    (answer : Option (Result Reply NoMemory)) (w w' : Section) → HasTask rack c t → Widens job w w'
+    → Says s job c t answer w → Says s job c t answer w'
 
--- What a batch logged is of its jobs alone, and where each line has its reply, they have these as a step of a session.
+-- The moves that the lines began, and then what their jobs logged, are of the jobs alone; and where each line has its
+-- reply, they have these by the section of both.
 abbrev pub BatchGives : Type 0
 BatchGives =
     (rack : Rack) (seed : List ℕ) (session : ℕ) (v x : Known) (from : ℕ) (cs : List Line)
     → AreLines v from cs → KnownJoins v cs x → AllSay rack seed session cs → have_replies cs ≡ true
-    → StepGives rack seed session from (Together (lines_of cs)) v x (replies_of cs)
+    → AllSole v x → (s : Setting) → IsSessionSetting s rack seed session v
+    → (moves whole : Section) → HaveBegun s from (lines_of cs) (tasks_of cs) moves
+    → Follows moves (section_of v x) whole
+    → IsOfJobs from (length (lines_of cs)) whole
+    × ((h : Halves whole) × Rows (Row s) from (lines_of cs) (replies_of cs) whole h)
 
--- and where some line has none, the step was left
+-- and where some line has none, they were left
 abbrev pub BatchLeaves : Type 0
 BatchLeaves =
     (rack : Rack) (seed : List ℕ) (session : ℕ) (v x : Known) (from : ℕ) (cs : List Line)
     → AreLines v from cs → KnownJoins v cs x → AllSay rack seed session cs
-    → StepLeaves rack seed session from (Together (lines_of cs)) v x
+    → AllSole v x → (s : Setting) → IsSessionSetting s rack seed session v
+    → (moves whole : Section) → HaveBegun s from (lines_of cs) (tasks_of cs) moves
+    → Follows moves (section_of v x) whole
+    → IsOfJobs from (length (lines_of cs)) whole
+    × ((h : Halves whole) × AreLinesLeft s from (lines_of cs) whole h)

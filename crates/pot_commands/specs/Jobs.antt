@@ -1,6 +1,6 @@
 -- A line of a batch as a job: what it has, what it is given, and what its work leaves of it.
 use Rattle.std.specs.Prelude.{◌≡◌, ◌<◌, ◌^◌, ◌*◌, ◌&&◌, ◌∷◌, ◌++◌, ℕ, suc, Bool, true, false, List, []}
-use Rattle.std.specs.Prelude.{Option, Some, None, Result, Ok, Err, IsSome, length}
+use Rattle.std.specs.Prelude.{Option, Some, None, Result, Ok, Err, IsSome, length, map}
 use Rattle.pot_bytes.specs.Rack.{IsRack}
 use Rattle.pot_bytes.specs.declared.rack.Rack.{Rack}
 use Rattle.pot_bytes.specs.declared.memory.NoMemory.{NoMemory}
@@ -8,13 +8,21 @@ use Rattle.pot_turn.specs.declared.name.TurnName.{TurnName}
 use Rattle.pot_rows.specs.Rows.{HasMoreParts}
 use Rattle.pot_rows.specs.Parts.{RowCut, RowNew, RowJoined}
 use Rattle.pot_script.specs.declared.command.Command.{Command}
+use Rattle.pot_script.specs.declared.command.Command.TheVariants as commands
 use Rattle.pot_script.specs.declared.reply.Reply.{Reply}
 use Rattle.pot_shared.specs.Ready.{AreReady}
 use Rattle.pot_shared.specs.Catalogs.{IsIndexReady}
+use Rattle.pot_mend.specs.Moves.{MoveRow}
+use Rattle.pot_mend.specs.declared.fault.MendFault.{MendFault}
+use Rattle.pot_mend.specs.declared.checking.MoveAt.{MoveAt}
 use Rattle.pot_replies.specs.Settings.{Setting}
-use Rattle.pot_replies.specs.Sections.{Section}
+use Rattle.pot_replies.specs.Sections.{Section, mine, IsSilent}
 use Rattle.pot_store.specs.Works.{Known, JobWorked, JobAlone, section_of}
-use Rattle.pot_commands.specs.Rows.{IsSessionSetting, AreReplies, IsIdle, IsSingle}
+use Rattle.pot_commands.specs.declared.beginning.Task.{Task}
+use Rattle.pot_commands.specs.declared.beginning.Task.TheVariants as task
+use Rattle.pot_commands.specs.Arriving.{move_reply}
+use Rattle.pot_commands.specs.Begun.{HasTask}
+use Rattle.pot_commands.specs.Rows.{IsSessionSetting, AreReplies, IsIdle}
 
 -- the rack of a vault, and its turns
 pub record VaultView : Type 0 where
@@ -34,16 +42,18 @@ pub record Common : Type 0 where
 abbrev pub common : VaultView → List ℕ → ℕ → Common
 common vault seed session = record { vault = vault; seed = seed; session = session }
 
--- a job: what its passes know, its line with its number, and its answer once it is done
+-- a job: what its passes know, its line with its number and its task, and its answer once it is done
 pub record JobView : Type 0 where
   pub common : Common
   pub passes : Known
   pub job : ℕ
   pub line : Command
+  pub task : Task
   pub answer : Option (Result Reply NoMemory)
 
-abbrev pub job_view : Common → Known → ℕ → Command → Option (Result Reply NoMemory) → JobView
-job_view b passes job line answer = record { common = b; passes = passes; job = job; line = line; answer = answer }
+abbrev pub job_view : Common → Known → ℕ → Command → Task → Option (Result Reply NoMemory) → JobView
+job_view b passes job line task answer =
+    record { common = b; passes = passes; job = job; line = line; task = task; answer = answer }
 
 -- passes of a vault that can call
 pub record CanCall (v : VaultView) (k : Known) : Type 0 where
@@ -61,7 +71,7 @@ pub record CanBegin (j : JobView) : Type 0 where
   pub is_rack : IsRack j.common.vault.rack
   pub count : length j.common.vault.groups ≡ j.common.vault.rack.groups
   pub number : (0 < j.job) × (j.job < 2 ^ 31)
-  pub single : IsSingle j.common.vault.rack.groups j.line
+  pub fits : HasTask j.common.vault.rack j.line j.task
 
 -- a job that is not done can be worked
 abbrev pub CanWork : JobView → Type 0
@@ -70,11 +80,25 @@ CanWork j = j.answer ≡ None → CanBegin j
 abbrev pub IsDone : JobView → Type 0
 IsDone j = IsSome j.answer
 
--- what is told of a section by the answer of a line, which is its reply or that memory ran out
-abbrev pub Says : Setting → ℕ → Command → Option (Result Reply NoMemory) → Section → Type 0
-Says s job c None w = ⊥
-Says s job c (Some (Ok reply)) w = AreReplies s job c (reply ∷ []) w
-Says s job c (Some (Err e)) w = IsIdle s job c w
+-- what is told of a section by the answer of a line that moves nothing, which is its reply or that memory ran out
+abbrev pub SaysStill : Setting → ℕ → Command → Option (Result Reply NoMemory) → Section → Type 0
+SaysStill s job c None w = ⊥
+SaysStill s job c (Some (Ok reply)) w = AreReplies s job c (reply ∷ []) w
+SaysStill s job c (Some (Err e)) w = IsIdle s job c w
+
+-- of a `migrate` whose column moves: how far the move came, which is its reply
+abbrev pub SaysMove : Setting → ℕ → Command → MoveAt → Option (Result Reply NoMemory) → Section
+    → Type 0
+SaysMove s job (commands.Migrate from to) at (Some (Ok reply)) w =
+    (result : Result ℕ MendFault) × (reply ≡ move_reply from to result)
+    × MoveRow s job at.group at.column result w
+SaysMove s job c at _ w = ⊥
+
+-- of a line by its task; one that has its reply logs nothing
+abbrev pub Says : Setting → ℕ → Command → Task → Option (Result Reply NoMemory) → Section → Type 0
+Says s job c task.Line answer w = SaysStill s job c answer w
+Says s job c (task.Move at) answer w = SaysMove s job c at answer w
+Says s job c (task.Told reply) answer w = (answer ≡ Some (Ok reply)) × IsSilent (mine job w)
 
 -- The job that was handed in, and what its work leaves of it: it worked for itself alone, and its entries give
 -- its answer, if nobody else logged an entry of it.
@@ -86,7 +110,7 @@ pub record Did (j k : JobView) : Type 0 where
   pub worked : JobWorked j.job j.passes k.passes
   pub says : JobAlone j.job j.passes k.passes → (s : Setting)
       → IsSessionSetting s j.common.vault.rack j.common.seed j.common.session j.passes
-      → Says s j.job j.line k.answer (section_of j.passes k.passes)
+      → Says s j.job j.line j.task k.answer (section_of j.passes k.passes)
 
 -- SHARED OUT
 
@@ -95,6 +119,7 @@ pub record IsGiven (b : Common) (start : Known) (job : ℕ) (c : Command) (j : J
   pub common : j.common ≡ b
   pub number : j.job ≡ job
   pub line : j.line ≡ c
+  pub fits : HasTask b.vault.rack c j.task
   pub answer : j.answer ≡ None
   pub passes : CanCall b.vault j.passes
   pub groups : RowNew 2 start.groups j.passes.groups
@@ -112,6 +137,10 @@ pub record AreShared (b : Common) (old : Known) (from : ℕ) (lines : List Comma
   pub given : AreGiven b old from lines js
   pub groups : RowCut (2 * length js) old.groups new.groups
   pub index : RowCut (2 * length js) old.index new.index
+
+-- the tasks of jobs
+abbrev pub tasks_in : List JobView → List Task
+tasks_in js = map (λ j. j.task) js
 
 -- TAKEN BACK
 

@@ -10,9 +10,12 @@ use Rattle.pot_script.specs.declared.grouping.Step as script
 use Rattle.pot_script.specs.declared.grouping.Step.TheVariants as steps
 use Rattle.pot_script.specs.declared.reply.Reply.{Reply}
 use Rattle.pot_replies.specs.Settings.{Setting}
-use Rattle.pot_replies.specs.Sections.{Section, Halves, IsOfJobs, work_of}
+use Rattle.pot_replies.specs.Moves.{BeganNone, Begins, BeganElsewhere}
+use Rattle.pot_replies.specs.Sections.{Section, Halves, mine, IsEmpty, IsOfJobs, IsSilent, work_of}
 use Rattle.pot_replies.specs.Sessions.{Step, One, Together, Answered, jobs_in}
 use Rattle.pot_store.specs.Works.{Known, section_of}
+use Rattle.pot_commands.specs.declared.arriving.Unanswered.{Unanswered}
+use Rattle.pot_commands.specs.declared.arriving.Unanswered.TheVariants as unanswered
 use Rattle.pot_commands.specs.Rows.{IsSessionSetting, Row, IsIdle, IsSingle, IsWorked}
 use Rattle.pot_commands.specs.Going.{AllSole}
 
@@ -24,10 +27,15 @@ step_of (steps.Together lines) = Together lines
 abbrev pub steps_of : List script.Step → List (Step Command)
 steps_of ss = map step_of ss
 
--- the lines that are worked in a batch over so many groups: they have one reply, and take no archive
+-- the lines of a batch that move nothing, over so many groups: they have one reply, and take no archive
+abbrev pub IsStill : ℕ → Command → Type 0
+IsStill groups commands.List = ⊥
+IsStill groups c = IsSingle groups c
+
+-- the lines that are worked in a batch
 abbrev pub IsBatched : ℕ → Command → Type 0
-IsBatched groups commands.List = ⊥
-IsBatched groups c = IsSingle groups c
+IsBatched groups (commands.Migrate from to) = Unit {0}
+IsBatched groups c = IsStill groups c
 
 -- the steps that are worked over so many groups
 abbrev pub IsWorkedStep : ℕ → script.Step → Type 0
@@ -37,11 +45,19 @@ IsWorkedStep groups (steps.Together lines) =
 
 -- WITHOUT REPLIES
 
+-- A line of a batch without a reply. A `migrate` began no move, or began that of its column or found it begun; and
+-- its job logged nothing else.
+abbrev pub IsLineIdle : Setting → ℕ → Command → (w : Section) → Halves w → Type 0
+IsLineIdle s job (commands.Migrate from to) w h =
+    (BeganNone s w.before h.begun job from to
+    ⊎ ((g : ℕ) × (c : ℕ) × Begins s w.before h.begun job from to g c
+    × BeganElsewhere s w.before h.begun job from to g))
+    × IsSilent (mine job (work_of w h))
+IsLineIdle s job c w h = ((g : ℕ) → own job (h.begun g) ≡ []) × IsIdle s job c (work_of w h)
+
 -- A line of a batch that ended early: it has a reply which was not written, or has none.
 abbrev pub IsLineLeft : Setting → ℕ → Command → (w : Section) → Halves w → Type 0
-IsLineLeft s job c w h =
-    ((r : Reply) × Row s job c (r ∷ []) w h)
-    ⊎ (((g : ℕ) → own job (h.begun g) ≡ []) × IsIdle s job c (work_of w h))
+IsLineLeft s job c w h = ((r : Reply) × Row s job c (r ∷ []) w h) ⊎ IsLineIdle s job c w h
 
 abbrev pub AreLinesLeft : Setting → ℕ → List Command → (w : Section) → Halves w → Type 0
 AreLinesLeft s job [] w h = Unit {0}
@@ -51,6 +67,12 @@ AreLinesLeft s job (c ∷ cs) w h = IsLineLeft s job c w h × AreLinesLeft s (su
 abbrev pub IsStepLeft : Setting → ℕ → Step Command → Section → Type 0
 IsStepLeft s job (One c) w = IsIdle s job c w ⊎ ((rs : List Reply) × (h : Halves w) × Row s job c rs w h)
 IsStepLeft s job (Together lines) w = (h : Halves w) × AreLinesLeft s job lines w h
+
+-- a step at which the room failed: of a batch no line was worked, and all that was logged are the moves that began
+abbrev pub IsStepHalted : Setting → ℕ → Step Command → Section → Type 0
+IsStepHalted s job (One c) w = IsIdle s job c w
+IsStepHalted s job (Together lines) w =
+    (h : Halves w) × AreLinesLeft s job lines w h × IsEmpty (work_of w h)
 
 -- WHERE NOBODY ELSE LOGGED ANYTHING
 
@@ -67,3 +89,15 @@ module _ (rack : Rack) (seed : List ℕ) (session job : ℕ) (step : Step Comman
   StepLeaves =
       AllSole old new → (s : Setting) → IsSessionSetting s rack seed session old
       → IsOfJobs job (jobs_in step) (section_of old new) × IsStepLeft s job step (section_of old new)
+
+  -- what was logged is of the step's jobs alone, and the room failed at the step
+  abbrev pub StepHalts : Type 0
+  StepHalts =
+      AllSole old new → (s : Setting) → IsSessionSetting s rack seed session old
+      → IsOfJobs job (jobs_in step) (section_of old new)
+      × IsStepHalted s job step (section_of old new)
+
+  -- so it was, by why it has no replies
+  abbrev pub StepStops : Unanswered → Type 0
+  StepStops unanswered.RoomFailed = StepHalts
+  StepStops unanswered.NoMemory = StepLeaves

@@ -15,6 +15,7 @@ ghost use Rattle.pot_store.specs.Stored.{FetchGives};
 ghost use Rattle.pot_store.specs.Renewals.{RenewRow};
 ghost use Rattle.pot_mend.specs.Scrubs.{ScrubRow};
 ghost use Rattle.pot_mend.specs.Repairs.{RepairRow};
+ghost use Rattle.pot_commands.specs.Failures.{Fails};
 ghost use Rattle.pot_commands.specs.Rows.{HasFilled, IsSessionSetting, IsStoreReply, IsFetchReply, IsRenewReply, IsUnrenewed, IsScrubReply, IsRepairReply, AreReplies, IsIdle, IsPlain, IsSingle, IsWorked};
 ghost use Rattle.pot_commands.specs.Taking.{AreUsed, Took, asks, lending};
 
@@ -273,7 +274,7 @@ fn answer_plain<A: Archive, R: Wait>(
 /// from the room.
 ///
 /// # Errors
-/// `RoomFailed` only where the room's count of faults rose, or `NoMemory`, each with what a command logs then.
+/// `RoomFailed` exactly where the room itself failed, or `NoMemory`, each with what a command logs then.
 pub fn answer<R: Room, X: Wait>(
     rt: &X,
     alloc: Global,
@@ -301,6 +302,7 @@ pub fn answer<R: Room, X: Wait>(
     ensures used { AreUsed (R.out room.new) passes.new.groups }
     ensures took { Took (IsTrue R.A.account.tells) (result ≢ Err Unanswered.RoomFailed) (asks command.now) (lending (R.out room.old) (R.means room.old)) (lending (R.out room.new) (R.means room.new)) (known passes.old.groups passes.old.index) (known passes.new.groups passes.new.index) }
     ensures cause { Caused (R.faults room.old) (R.faults room.new) (IsErrOf result Unanswered.RoomFailed) }
+    ensures own { Fails (R.failures room.old) (R.failures room.new) (IsErrOf result Unanswered.RoomFailed) }
 {
     match command {
         Command::Replace { from, to } => {

@@ -7,6 +7,7 @@ ghost use Rattle.pot_replies.specs.Sections.{mine, IsOfJobs, IsSilent};
 ghost use Rattle.pot_shared.specs.Ready.{AreReady};
 ghost use Rattle.pot_shared.specs.Catalogs.{IsIndexReady};
 ghost use Rattle.pot_store.specs.Works.{JobWorked, JobAlone, IsSettingOf, known, section_of};
+ghost use Rattle.pot_commands.specs.Failures.{Fails};
 ghost use Rattle.pot_commands.specs.Arriving.{HandsBack, use_reply};
 ghost use Rattle.pot_commands.specs.Rows.{IsReplaceReply};
 ghost use Rattle.pot_commands.specs.Taking.{AreUsed, Took, lending};
@@ -30,7 +31,7 @@ pub enum Unanswered {
 /// room at once.
 ///
 /// # Errors
-/// `RoomFailed` only where the room's count of faults rose, or `NoMemory`. Nothing was logged then.
+/// `RoomFailed` exactly where the room itself failed, or `NoMemory`. Nothing was logged then.
 pub fn replace_archive<R: Room, X: Wait>(
     rt: &X,
     vault: &Vault<R::A>,
@@ -52,6 +53,7 @@ pub fn replace_archive<R: Room, X: Wait>(
     ensures used { AreUsed (R.out room.new) passes.new.groups }
     ensures took { Took (IsTrue R.A.account.tells) (result ≢ Err Unanswered.RoomFailed) (to ∷ []) (lending (R.out room.old) (R.means room.old)) (lending (R.out room.new) (R.means room.new)) (known passes.old.groups passes.old.index) (known passes.new.groups passes.new.index) }
     ensures cause { Caused (R.faults room.old) (R.faults room.new) (IsErrOf result Unanswered.RoomFailed) }
+    ensures own { Fails (R.failures room.old) (R.failures room.new) (IsErrOf result Unanswered.RoomFailed) }
 {
     let at = match check_replace(rt, vault, passes, from, to) {
         Ok(at) => at,
@@ -77,7 +79,7 @@ pub(crate) fn use_reply(fault: UseFault) -> Reply
 /// Takes the archive of a number from the room as a shelf.
 ///
 /// # Errors
-/// `RoomFailed` only where the room's count of faults rose, or `NoMemory`. The room then lends and means what it did.
+/// `RoomFailed` exactly where the room itself failed, or `NoMemory`. The room then lends and means what it did.
 pub(crate) fn take_shelf<R: Room>(room: &mut R, number: u32) -> Result<Shelf<R::A>, Unanswered>
     requires home { R.out room.old number ≡ false }
     ensures number { IfOk result (λ shelf. shelf.number ≡ number) }
@@ -86,6 +88,7 @@ pub(crate) fn take_shelf<R: Room>(room: &mut R, number: u32) -> Result<Shelf<R::
     ensures stays { OnErr result ((n : ℕ) → (R.means room.new n ≡ R.means room.old n) × (R.out room.new n ≡ R.out room.old n)) }
     ensures others { (n : ℕ) → n ≢ number → (R.means room.new n ≡ R.means room.old n) × (R.out room.new n ≡ R.out room.old n) }
     ensures cause { Caused (R.faults room.old) (R.faults room.new) (IsErrOf result Unanswered.RoomFailed) }
+    ensures own { Fails (R.failures room.old) (R.failures room.new) (IsErrOf result Unanswered.RoomFailed) }
 {
     match room.take(number) {
         Ok(archive) => Ok(Shelf { number, archive }),
@@ -97,7 +100,7 @@ pub(crate) fn take_shelf<R: Room>(room: &mut R, number: u32) -> Result<Shelf<R::
 /// Gives a shelf that a group refused back to the room, and answers why it was refused.
 ///
 /// # Errors
-/// `RoomFailed` only where the room's count of faults rose; the archive may be lost then. `NoMemory` where the group had none.
+/// `RoomFailed` exactly where the room itself failed; the archive may be lost then. `NoMemory` where the group had none.
 pub(crate) fn hand_back<R: Room>(
     room: &mut R,
     group: u8,
@@ -109,6 +112,7 @@ pub(crate) fn hand_back<R: Room>(
     ensures told { (result ≢ Err Unanswered.RoomFailed) → IsTrue R.A.account.tells → IsMeant (R.means room.new refused.shelf.number) (R.A.account.meaning refused.shelf.archive) }
     ensures answer { HandsBack group refused.cause result }
     ensures cause { Caused (R.faults room.old) (R.faults room.new) (IsErrOf result Unanswered.RoomFailed) }
+    ensures own { Fails (R.failures room.old) (R.failures room.new) (IsErrOf result Unanswered.RoomFailed) }
 {
     let ShelfRefused { shelf, cause } = refused;
     let Shelf { number, archive } = shelf;

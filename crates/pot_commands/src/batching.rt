@@ -1,76 +1,89 @@
 //! The lines of a batch, worked at once.
 //!
-//! 1. Each line is a job with passes of its own (`share_out`): jobs wait for one another at turns.
-//! 2. The jobs come back in their order, whichever was done first, and so stand their replies.
-//! 3. All passes are joined again, also where memory was short (`take_back`).
-ghost use Rattle.std.specs.Prelude.{◌≡◌, ◌<◌, ◌≤◌, ◌+◌, ◌*◌, ◌^◌, ◌++◌, List, MatchResult};
-ghost use Rattle.std.specs.Prelude.{length, take};
+//! 1. Its moves have begun in the order of the lines (`begin_lines`), before any job does.
+//! 2. Each line is a job with passes of its own (`share_out`): jobs wait for one another at turns.
+//! 3. The jobs come back in their order, whichever was done first, and so stand their replies.
+//! 4. All passes are joined again, also where memory was short (`take_back`).
+ghost use Rattle.std.specs.Prelude.{◌≡◌, ◌≢◌, ◌<◌, ◌≤◌, ◌+◌, ◌*◌, ◌^◌, ◌++◌, List, Err};
+ghost use Rattle.std.specs.Prelude.{IsTrue, IsErrOf, MatchResult, flat_map, length, take};
 ghost use Rattle.std.specs.List.{AllByRecursion};
 ghost use Rattle.std.specs.Vec.{vec_capacity};
 ghost use Rattle.pot_bytes.specs.Rack.{IsRack};
+ghost use Rattle.pot_outside.specs.Counts.{Caused};
 ghost use Rattle.pot_replies.specs.Sessions.{Together};
 ghost use Rattle.pot_rows.specs.Rows.{HasMoreParts};
 ghost use Rattle.pot_shared.specs.Ready.{AreReady};
 ghost use Rattle.pot_shared.specs.Catalogs.{IsIndexReady};
-ghost use Rattle.pot_store.specs.Works.{known};
+ghost use Rattle.pot_store.specs.Works.{Known, known};
 ghost use Rattle.pot_work.specs.Works.{AreWorked};
 ghost use Rattle.pot_commands.specs.Rows.{HasFilled};
 ghost use Rattle.pot_commands.specs.Going.{AllWent, AllStay};
-ghost use Rattle.pot_commands.specs.Steps.{IsBatched, StepGives, StepLeaves};
+ghost use Rattle.pot_commands.specs.Failures.{Fails};
+ghost use Rattle.pot_commands.specs.Steps.{IsBatched, StepGives, StepLeaves, StepStops};
+ghost use Rattle.pot_commands.specs.Begun.{HaveTasks, AreMovesBegun};
 ghost use Rattle.pot_commands.specs.Jobs.{JobView, HasPasses, CanCall, IsDone, Did};
-ghost use Rattle.pot_commands.specs.Jobs.{AreShared, AllJoined, all_replied, replies_in};
+ghost use Rattle.pot_commands.specs.Jobs.{AreShared, AllJoined, all_replied, replies_in, tasks_in};
 ghost use Rattle.pot_commands.specs.Jobs.{common, vault_view};
 ghost use Rattle.pot_commands.specs.Batches.{BringsNone};
+ghost use Rattle.pot_commands.specs.Taking.{AreUsed, Took, asks, lending};
 
-use crate::line_job::{LineJob, give_line};
+use crate::arriving::Unanswered;
+use crate::beginning::{Task, begin_lines};
+use crate::line_job::{LineJob, Shared, give_line};
 use pot_bytes::NoMemory;
-use pot_outside::{Archive, Gate};
+use pot_outside::{Archive, Gate, Room};
 use pot_script::{Command, Reply};
 use pot_shared::{Passes, Vault};
 use pot_work::{JobsRefused, together};
-use std::alloc::Global;
 use std::sync::Wait;
 use std::thread::Threads;
 
-/// Shares the passes out to the lines, each of which is a job.
+/// Shares the passes out to the lines, each of which is a job with its task.
 ///
 /// # Errors
 /// Want of memory: the jobs of the first lines come back, not begun.
 fn share_out<'a, A: Archive, X>(
-    rt: &'a X,
-    alloc: Global,
-    vault: &'a Vault<A>,
+    shared: &Shared<'a, A, X>,
     passes: &mut Passes<A>,
-    seed: &'a [u8; 32],
-    session: u32,
     job: u32,
     lines: &'a [Command],
+    tasks: Vec<Task>,
 ) -> Result<Vec<LineJob<'a, A, X>>, JobsRefused<LineJob<'a, A, X>>>
-    requires ready { AreReady vault.now.rack vault.now.groups passes.old.groups }
-    requires index { IsIndexReady vault.now.rack vault.now.groups vault.now.index passes.old.index }
+    requires ready { AreReady shared.now.vault.now.rack shared.now.vault.now.groups
+        passes.old.groups }
+    requires index { IsIndexReady shared.now.vault.now.rack shared.now.vault.now.groups
+        shared.now.vault.now.index passes.old.index }
     requires parts { HasMoreParts (2 * length lines.now) passes.old.groups
         × HasMoreParts (2 * length lines.now) passes.old.index }
-    requires rack { IsRack vault.now.rack }
-    requires count { length vault.now.groups ≡ vault.now.rack.groups }
+    requires rack { IsRack shared.now.vault.now.rack }
+    requires count { length shared.now.vault.now.groups ≡ shared.now.vault.now.rack.groups }
     requires job { (0 < job) × (job + length lines.now ≤ 2 ^ 31) }
-    requires batched { AllByRecursion (IsBatched vault.now.rack.groups) lines.now }
-    ensures ready { AreReady vault.now.rack vault.now.groups passes.new.groups }
-    ensures index { IsIndexReady vault.now.rack vault.now.groups vault.now.index passes.new.index }
-    ensures shared { let v = vault_view vault.now.rack vault.now.groups vault.now.index in
-        let b = common v seed.now session in
+    requires tasks { HaveTasks shared.now.vault.now.rack lines.now tasks.items }
+    ensures ready { AreReady shared.now.vault.now.rack shared.now.vault.now.groups
+        passes.new.groups }
+    ensures index { IsIndexReady shared.now.vault.now.rack shared.now.vault.now.groups
+        shared.now.vault.now.index passes.new.index }
+    ensures shared { let v = vault_view shared.now.vault.now.rack shared.now.vault.now.groups
+        shared.now.vault.now.index in
+        let b = common v shared.now.seed.now shared.now.session in
         let old = known passes.old.groups passes.old.index in
         let new = known passes.new.groups passes.new.index in
-        MatchResult result (λ jobs. AreShared b old job lines.now jobs.items new)
+        MatchResult result (λ jobs. AreShared b old job lines.now jobs.items new
+        × (tasks_in jobs.items ≡ tasks.items))
         (λ r. AreShared b old job (take (length r.jobs.items) lines.now) r.jobs.items new) }
 {
-    let Ok(mut jobs) = Vec::with_capacity(alloc, lines.len()) else {
+    let Ok(mut jobs) = Vec::with_capacity(shared.alloc, lines.len()) else {
         return Err(JobsRefused {
-            jobs: Vec::new(alloc),
+            jobs: Vec::new(shared.alloc),
         });
     };
+    let mut tasks = tasks.into_iter();
     for (index, line) in lines.iter().enumerate() {
         let number = job + index as u32;
-        match give_line(rt, alloc, vault, passes, seed, session, number, line) {
+        let Some(task) = tasks.next() else {
+            unreachable!()
+        };
+        match give_line(shared, passes, number, line, task) {
             Ok(given) => jobs.push_reserved(given),
             Err(NoMemory) => return Err(JobsRefused { jobs }),
         }
@@ -83,39 +96,41 @@ fn share_out<'a, A: Archive, X>(
 /// # Errors
 /// Want of memory, before a job began: the jobs of the first lines come back.
 fn work_lines<'a, A: Archive + Send, W: Gate, X: Threads + Wait + Sync>(
-    rt: &'a X,
-    alloc: Global,
-    vault: &'a Vault<A>,
+    shared: &Shared<'a, A, X>,
     passes: &mut Passes<A>,
-    seed: &'a [u8; 32],
-    session: u32,
     job: u32,
     lines: &'a [Command],
+    tasks: Vec<Task>,
     workers: u8,
     gate: &W,
 ) -> Result<Vec<LineJob<'a, A, X>>, JobsRefused<LineJob<'a, A, X>>>
-    requires ready { AreReady vault.now.rack vault.now.groups passes.old.groups }
-    requires index { IsIndexReady vault.now.rack vault.now.groups vault.now.index passes.old.index }
+    requires ready { AreReady shared.now.vault.now.rack shared.now.vault.now.groups
+        passes.old.groups }
+    requires index { IsIndexReady shared.now.vault.now.rack shared.now.vault.now.groups
+        shared.now.vault.now.index passes.old.index }
     requires parts { HasMoreParts (2 * length lines.now) passes.old.groups
         × HasMoreParts (2 * length lines.now) passes.old.index }
-    requires rack { IsRack vault.now.rack }
-    requires count { length vault.now.groups ≡ vault.now.rack.groups }
+    requires rack { IsRack shared.now.vault.now.rack }
+    requires count { length shared.now.vault.now.groups ≡ shared.now.vault.now.rack.groups }
     requires job { (0 < job) × (job + length lines.now ≤ 2 ^ 31) }
-    requires batched { AllByRecursion (IsBatched vault.now.rack.groups) lines.now }
+    requires tasks { HaveTasks shared.now.vault.now.rack lines.now tasks.items }
     requires workers { 0 < workers }
-    ensures ready { AreReady vault.now.rack vault.now.groups passes.new.groups }
-    ensures index { IsIndexReady vault.now.rack vault.now.groups vault.now.index passes.new.index }
-    ensures worked { let v = vault_view vault.now.rack vault.now.groups vault.now.index in
-        let b = common v seed.now session in
+    ensures ready { AreReady shared.now.vault.now.rack shared.now.vault.now.groups
+        passes.new.groups }
+    ensures index { IsIndexReady shared.now.vault.now.rack shared.now.vault.now.groups
+        shared.now.vault.now.index passes.new.index }
+    ensures worked { let v = vault_view shared.now.vault.now.rack shared.now.vault.now.groups
+        shared.now.vault.now.index in
+        let b = common v shared.now.seed.now shared.now.session in
         let old = known passes.old.groups passes.old.index in
         let new = known passes.new.groups passes.new.index in
         MatchResult result
         (λ back. (js : List JobView) × AreShared b old job lines.now js new
-        × AreWorked IsDone Did js back.items)
+        × (tasks_in js ≡ tasks.items) × AreWorked IsDone Did js back.items)
         (λ r. AreShared b old job (take (length r.jobs.items) lines.now) r.jobs.items new) }
 {
-    match share_out(rt, alloc, vault, passes, seed, session, job, lines) {
-        Ok(jobs) => together(rt, alloc, jobs, workers, gate),
+    match share_out(shared, passes, job, lines, tasks) {
+        Ok(jobs) => together(shared.rt, shared.alloc, jobs, workers, gate),
         Err(refused) => Err(refused),
     }
 }
@@ -152,35 +167,37 @@ fn take_back<'a, A: Archive, X>(
     whole
 }
 
-/// Works the lines of a batch at once, on so many workers, as jobs numbered from this one on, and
-/// answers their replies in the order of the lines. No archive comes.
+/// Works the lines of a batch, whose moves have begun, at once and on so many workers, and answers
+/// their replies in the order of the lines. No archive comes.
 ///
 /// # Errors
 /// `NoMemory`, with what each job logs then.
-pub fn answer_together<A: Archive + Send, W: Gate, X: Threads + Wait + Sync>(
-    rt: &X,
-    alloc: Global,
-    vault: &Vault<A>,
+fn work_begun<A: Archive + Send, W: Gate, X: Threads + Wait + Sync>(
+    shared: &Shared<'_, A, X>,
     passes: &mut Passes<A>,
-    seed: &[u8; 32],
-    session: u32,
     job: u32,
     lines: &[Command],
+    tasks: Vec<Task>,
     workers: u8,
     gate: &W,
 ) -> Result<Vec<Reply>, NoMemory>
-    requires ready { AreReady vault.now.rack vault.now.groups passes.old.groups }
-    requires index { IsIndexReady vault.now.rack vault.now.groups vault.now.index passes.old.index }
+    requires ready { AreReady shared.now.vault.now.rack shared.now.vault.now.groups
+        passes.old.groups }
+    requires index { IsIndexReady shared.now.vault.now.rack shared.now.vault.now.groups
+        shared.now.vault.now.index passes.old.index }
     requires parts { HasMoreParts (2 * length lines.now) passes.old.groups
         × HasMoreParts (2 * length lines.now) passes.old.index }
-    requires rack { IsRack vault.now.rack }
-    requires count { length vault.now.groups ≡ vault.now.rack.groups }
+    requires rack { IsRack shared.now.vault.now.rack }
+    requires count { length shared.now.vault.now.groups ≡ shared.now.vault.now.rack.groups }
     requires job { (0 < job) × (job + length lines.now ≤ 2 ^ 31) }
-    requires batched { AllByRecursion (IsBatched vault.now.rack.groups) lines.now }
+    requires tasks { HaveTasks shared.now.vault.now.rack lines.now tasks.items }
     requires workers { 0 < workers }
-    requires filled { HasFilled vault.now.rack (known passes.old.groups passes.old.index) }
-    ensures ready { AreReady vault.now.rack vault.now.groups passes.new.groups }
-    ensures index { IsIndexReady vault.now.rack vault.now.groups vault.now.index passes.new.index }
+    requires filled { HasFilled shared.now.vault.now.rack
+        (known passes.old.groups passes.old.index) }
+    ensures ready { AreReady shared.now.vault.now.rack shared.now.vault.now.groups
+        passes.new.groups }
+    ensures index { IsIndexReady shared.now.vault.now.rack shared.now.vault.now.groups
+        shared.now.vault.now.index passes.new.index }
     ensures went { AllWent (known passes.old.groups passes.old.index)
         (known passes.new.groups passes.new.index) }
     ensures stays { AllStay (known passes.old.groups passes.old.index)
@@ -188,28 +205,101 @@ pub fn answer_together<A: Archive + Send, W: Gate, X: Threads + Wait + Sync>(
     ensures says { let old = known passes.old.groups passes.old.index in
         let new = known passes.new.groups passes.new.index in
         let batch = Together lines.now in
-        MatchResult result
-        (λ replies. StepGives vault.now.rack seed.now session job batch old new replies.items)
-        (λ e. StepLeaves vault.now.rack seed.now session job batch old new) }
+        let rack = shared.now.vault.now.rack in
+        let seed = shared.now.seed.now in
+        (start : Known) → AreMovesBegun rack job lines.now tasks.items start old
+        → MatchResult result
+        (λ replies. StepGives rack seed shared.now.session job batch start new replies.items)
+        (λ e. StepLeaves rack seed shared.now.session job batch start new) }
     ensures none { BringsNone (known passes.old.groups passes.old.index)
         (known passes.new.groups passes.new.index) }
 {
-    let Ok(mut replies) = Vec::with_capacity(alloc, lines.len()) else {
+    let Ok(mut replies) = Vec::with_capacity(shared.alloc, lines.len()) else {
         return Err(NoMemory);
     };
-    match work_lines(
-        rt, alloc, vault, passes, seed, session, job, lines, workers, gate,
-    ) {
+    match work_lines(shared, passes, job, lines, tasks, workers, gate) {
         Ok(jobs) => {
-            if take_back(vault, passes, jobs, &mut replies) {
+            if take_back(shared.vault, passes, jobs, &mut replies) {
                 Ok(replies)
             } else {
                 Err(NoMemory)
             }
         }
         Err(JobsRefused { jobs }) => {
-            take_back(vault, passes, jobs, &mut replies);
+            take_back(shared.vault, passes, jobs, &mut replies);
             Err(NoMemory)
         }
+    }
+}
+
+/// Works the lines of a batch as jobs numbered from this one on, and answers their replies in the
+/// order of the lines. Its moves begin first, in that order, with archives that are taken from the
+/// room; then the lines are worked at once, on so many workers.
+///
+/// # Errors
+/// `RoomFailed` exactly where the room failed itself: the moves before have begun then, and nothing
+/// else was logged. Or `NoMemory`, with what each job logs then.
+pub(crate) fn answer_together<R: Room, W: Gate, X: Threads + Wait + Sync>(
+    shared: &Shared<'_, R::A, X>,
+    passes: &mut Passes<R::A>,
+    job: u32,
+    lines: &[Command],
+    workers: u8,
+    gate: &W,
+    room: &mut R,
+) -> Result<Vec<Reply>, Unanswered>
+    requires ready { AreReady shared.now.vault.now.rack shared.now.vault.now.groups
+        passes.old.groups }
+    requires index { IsIndexReady shared.now.vault.now.rack shared.now.vault.now.groups
+        shared.now.vault.now.index passes.old.index }
+    requires parts { HasMoreParts (2 * length lines.now) passes.old.groups
+        × HasMoreParts (2 * length lines.now) passes.old.index }
+    requires rack { IsRack shared.now.vault.now.rack }
+    requires count { length shared.now.vault.now.groups ≡ shared.now.vault.now.rack.groups }
+    requires job { (0 < job) × (job + length lines.now ≤ 2 ^ 31) }
+    requires batched { AllByRecursion (IsBatched shared.now.vault.now.rack.groups) lines.now }
+    requires workers { 0 < workers }
+    requires filled { HasFilled shared.now.vault.now.rack
+        (known passes.old.groups passes.old.index) }
+    requires used { AreUsed (R.out room.old) passes.old.groups }
+    ensures ready { AreReady shared.now.vault.now.rack shared.now.vault.now.groups
+        passes.new.groups }
+    ensures index { IsIndexReady shared.now.vault.now.rack shared.now.vault.now.groups
+        shared.now.vault.now.index passes.new.index }
+    ensures went { AllWent (known passes.old.groups passes.old.index)
+        (known passes.new.groups passes.new.index) }
+    ensures stays { AllStay (known passes.old.groups passes.old.index)
+        (known passes.new.groups passes.new.index) }
+    ensures says { let old = known passes.old.groups passes.old.index in
+        let new = known passes.new.groups passes.new.index in
+        let batch = Together lines.now in
+        let rack = shared.now.vault.now.rack in
+        let seed = shared.now.seed.now in
+        MatchResult result
+        (λ replies. StepGives rack seed shared.now.session job batch old new replies.items)
+        (λ e. StepStops rack seed shared.now.session job batch old new e) }
+    ensures used { AreUsed (R.out room.new) passes.new.groups }
+    ensures took { Took (IsTrue R.A.account.tells) (result ≢ Err Unanswered.RoomFailed)
+        (flat_map asks lines.now)
+        (lending (R.out room.old) (R.means room.old)) (lending (R.out room.new) (R.means room.new))
+        (known passes.old.groups passes.old.index) (known passes.new.groups passes.new.index) }
+    ensures cause { Caused (R.faults room.old) (R.faults room.new)
+        (IsErrOf result Unanswered.RoomFailed) }
+    ensures own { Fails (R.failures room.old) (R.failures room.new)
+        (IsErrOf result Unanswered.RoomFailed) }
+{
+    let Shared {
+        rt,
+        alloc,
+        vault,
+        ..
+    } = *shared;
+    let tasks = match begin_lines(rt, alloc, vault, passes, job, lines, room) {
+        Ok(tasks) => tasks,
+        Err(unanswered) => return Err(unanswered),
+    };
+    match work_begun(shared, passes, job, lines, tasks, workers, gate) {
+        Ok(replies) => Ok(replies),
+        Err(NoMemory) => Err(Unanswered::NoMemory),
     }
 }

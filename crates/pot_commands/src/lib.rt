@@ -9,13 +9,15 @@
 //!    (`Took`). Who closes the vault gives back those that came.
 //! 4. The replies of a command are written after it, and in order. What is written is their text; where the sink failed or
 //!    memory ran out, specs/Ends.antt says how far it came.
-//! 5. The lines of a batch are worked at once, each as a job with passes of its own, and their replies stand in the order of
-//!    the lines (`answer_together`). Each is judged on what all of them logged (`batch_laws`).
+//! 5. The moves of a batch begin in the order of its lines, before any of its jobs (`begin_lines`).
+//! 6. The lines of a batch are then worked at once, each as a job with passes of its own, and their replies stand in the
+//!    order of the lines (`answer_together`). Each is judged on what all of them logged (`batch_laws`).
 #![tactic(auto)]
 
 mod answering;
 mod arriving;
 mod batching;
+mod beginning;
 mod laws;
 mod line_job;
 mod listing;

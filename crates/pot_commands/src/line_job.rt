@@ -1,5 +1,5 @@
 //! A line of a batch, as a job for a worker.
-ghost use Rattle.std.specs.Prelude.{◌≡◌, ◌<◌, ◌^◌, IfOk, IfErr, length};
+ghost use Rattle.std.specs.Prelude.{◌≡◌, ◌<◌, ◌^◌, IfOk, IfErr, Some, length};
 ghost use Rattle.pot_bytes.specs.Rack.{IsRack};
 ghost use Rattle.pot_rows.specs.Rows.{HasMoreParts};
 ghost use Rattle.pot_rows.specs.Parts.{RowCut};
@@ -7,21 +7,38 @@ ghost use Rattle.pot_shared.specs.Ready.{AreReady};
 ghost use Rattle.pot_shared.specs.Catalogs.{IsIndexReady};
 ghost use Rattle.pot_shared.specs.Sharing.{SameAt};
 ghost use Rattle.pot_store.specs.Works.{known};
-ghost use Rattle.pot_commands.specs.Steps.{IsBatched};
-ghost use Rattle.pot_commands.specs.Jobs.{IsGiven, common, vault_view};
+ghost use Rattle.pot_replies.specs.Settings.{Setting};
+ghost use Rattle.pot_store.specs.Works.{JobWorked, JobAlone, section_of};
+ghost use Rattle.pot_commands.specs.Begun.{HasTask};
+ghost use Rattle.pot_commands.specs.Rows.{IsSessionSetting};
+ghost use Rattle.pot_commands.specs.Jobs.{IsGiven, Says, common, vault_view};
 
 use crate::answering::answer_one;
+use crate::beginning::Task;
+use crate::moving::move_reply;
 use pot_bytes::NoMemory;
+use pot_mend::migrate;
 use pot_outside::Archive;
 use pot_script::{Command, Reply};
 use pot_shared::{Passes, Vault};
 use pot_work::Job;
 use std::alloc::Global;
 use std::marker::Model;
+use std::mem::replace;
 use std::sync::Wait;
 
-/// A line with passes of its own, and its answer once it is worked. What is not worked yet can be: its
-/// type keeps that.
+/// What the jobs of a batch share: the handle, the vault, and what their random bytes come from.
+#[derive(Drop)]
+pub(crate) struct Shared<'a, A: Archive, R> {
+    pub rt: &'a R,
+    pub alloc: Global,
+    pub vault: &'a Vault<A>,
+    pub seed: &'a [u8; 32],
+    pub session: u32,
+}
+
+/// A line with its task and passes of its own, and its answer once it is worked. What is not worked
+/// yet can be: its type keeps that.
 #[derive(Drop)]
 pub struct LineJob<'a, A: Archive, R> {
     rt: &'a R,
@@ -32,6 +49,7 @@ pub struct LineJob<'a, A: Archive, R> {
     session: u32,
     job: u32,
     line: &'a Command,
+    task: Task,
     answer: Option<Result<Reply, NoMemory>>,
 }
 
@@ -42,12 +60,14 @@ impl<'a, A: Archive, R> Model for LineJob<'a, A, R> {
     ghost Value = { JobView };
 
     ghost view = { λ j. job_view
-        (common (vault_view j.vault.now.rack j.vault.now.groups j.vault.now.index) j.seed.now j.session)
-        (known j.passes.groups j.passes.index) j.job j.line.now j.answer };
+        (common (vault_view j.vault.now.rack j.vault.now.groups j.vault.now.index)
+        j.seed.now j.session)
+        (known j.passes.groups j.passes.index) j.job j.line.now j.task j.answer };
 
     ghost invariant = { λ j. CanWork (job_view
-        (common (vault_view j.vault.now.rack j.vault.now.groups j.vault.now.index) j.seed.now j.session)
-        (known j.passes.groups j.passes.index) j.job j.line.now j.answer) };
+        (common (vault_view j.vault.now.rack j.vault.now.groups j.vault.now.index)
+        j.seed.now j.session)
+        (known j.passes.groups j.passes.index) j.job j.line.now j.task j.answer) };
 }
 
 impl<'a, A: Archive, R: Wait> Job for LineJob<'a, A, R> {
@@ -58,17 +78,68 @@ impl<'a, A: Archive, R: Wait> Job for LineJob<'a, A, R> {
     ghost related = { Did };
 
     fn work(&mut self) {
-        let answer = answer_one(
-            self.rt,
-            self.alloc,
-            self.vault,
-            &mut self.passes,
-            self.seed,
-            self.session,
-            self.job,
-            self.line,
-        );
+        let task = replace(&mut self.task, Task::Line);
+        let shared = Shared {
+            rt: self.rt,
+            alloc: self.alloc,
+            vault: self.vault,
+            seed: self.seed,
+            session: self.session,
+        };
+        let answer = answer_task(&shared, &mut self.passes, self.job, self.line, task);
         self.answer = Some(answer);
+    }
+}
+
+/// Does the task of a line: works it, or carries its move on to the end, or has its reply.
+///
+/// # Errors
+/// Want of memory, at a line that moves nothing, with what it logs then.
+fn answer_task<A: Archive, X: Wait>(
+    shared: &Shared<'_, A, X>,
+    passes: &mut Passes<A>,
+    job: u32,
+    line: &Command,
+    task: Task,
+) -> Result<Reply, NoMemory>
+    requires ready { AreReady shared.now.vault.now.rack shared.now.vault.now.groups
+        passes.old.groups }
+    requires index { IsIndexReady shared.now.vault.now.rack shared.now.vault.now.groups
+        shared.now.vault.now.index passes.old.index }
+    requires parts { HasMoreParts 1 passes.old.groups }
+    requires rack { IsRack shared.now.vault.now.rack }
+    requires count { length shared.now.vault.now.groups ≡ shared.now.vault.now.rack.groups }
+    requires job { (0 < job) × (job < 2 ^ 31) }
+    requires fits { HasTask shared.now.vault.now.rack line.now task }
+    ensures ready { AreReady shared.now.vault.now.rack shared.now.vault.now.groups
+        passes.new.groups }
+    ensures index { IsIndexReady shared.now.vault.now.rack shared.now.vault.now.groups
+        shared.now.vault.now.index passes.new.index }
+    ensures worked { JobWorked job (known passes.old.groups passes.old.index)
+        (known passes.new.groups passes.new.index) }
+    ensures says { let old = known passes.old.groups passes.old.index in
+        let new = known passes.new.groups passes.new.index in
+        JobAlone job old new → (s : Setting)
+        → IsSessionSetting s shared.now.vault.now.rack shared.now.seed.now shared.now.session old
+        → Says s job line.now task (Some result) (section_of old new) }
+{
+    let Shared {
+        rt,
+        alloc,
+        vault,
+        seed,
+        session,
+    } = *shared;
+    match task {
+        Task::Line => answer_one(rt, alloc, vault, passes, seed, session, job, line),
+        Task::Move { at } => {
+            let Command::Migrate { from, to } = line else {
+                unreachable!()
+            };
+            let moved = migrate(rt, vault, passes, at.group, job, at.column);
+            Ok(move_reply(*from, *to, moved))
+        }
+        Task::Told { reply } => Ok(reply),
     }
 }
 
@@ -98,47 +169,52 @@ impl<'a, A: Archive, R> LineJob<'a, A, R> {
     }
 }
 
-/// The job of a line. Its passes have two parts of each turn, one of which a tie may lend.
+/// The job of a line with its task. Its passes have two parts of each turn, one of which a tie may
+/// lend.
 ///
 /// # Errors
 /// Want of memory alone; each pass is then as it was.
 pub(crate) fn give_line<'a, A: Archive, X>(
-    rt: &'a X,
-    alloc: Global,
-    vault: &'a Vault<A>,
+    shared: &Shared<'a, A, X>,
     passes: &mut Passes<A>,
-    seed: &'a [u8; 32],
-    session: u32,
     job: u32,
     line: &'a Command,
+    task: Task,
 ) -> Result<LineJob<'a, A, X>, NoMemory>
-    requires ready { AreReady vault.now.rack vault.now.groups passes.old.groups }
-    requires index { IsIndexReady vault.now.rack vault.now.groups vault.now.index passes.old.index }
+    requires ready { AreReady shared.now.vault.now.rack shared.now.vault.now.groups
+        passes.old.groups }
+    requires index { IsIndexReady shared.now.vault.now.rack shared.now.vault.now.groups
+        shared.now.vault.now.index passes.old.index }
     requires parts { HasMoreParts 2 passes.old.groups × HasMoreParts 2 passes.old.index }
-    requires rack { IsRack vault.now.rack }
-    requires count { length vault.now.groups ≡ vault.now.rack.groups }
+    requires rack { IsRack shared.now.vault.now.rack }
+    requires count { length shared.now.vault.now.groups ≡ shared.now.vault.now.rack.groups }
     requires job { (0 < job) × (job < 2 ^ 31) }
-    requires batched { IsBatched vault.now.rack.groups line.now }
-    ensures ready { AreReady vault.now.rack vault.now.groups passes.new.groups }
-    ensures index { IsIndexReady vault.now.rack vault.now.groups vault.now.index passes.new.index }
-    ensures given { let v = vault_view vault.now.rack vault.now.groups vault.now.index in
-        let b = common v seed.now session in
+    requires fits { HasTask shared.now.vault.now.rack line.now task }
+    ensures ready { AreReady shared.now.vault.now.rack shared.now.vault.now.groups
+        passes.new.groups }
+    ensures index { IsIndexReady shared.now.vault.now.rack shared.now.vault.now.groups
+        shared.now.vault.now.index passes.new.index }
+    ensures given { let v = vault_view shared.now.vault.now.rack shared.now.vault.now.groups
+        shared.now.vault.now.index in
+        let b = common v shared.now.seed.now shared.now.session in
         IfOk result (λ j. IsGiven b (known passes.old.groups passes.old.index) job line.now j) }
+    ensures task { IfOk result (λ j. j.task ≡ task) }
     ensures left { IfOk result (λ _. RowCut 2 passes.old.groups passes.new.groups
         × RowCut 2 passes.old.index passes.new.index) }
     ensures refused { IfErr result (λ _. SameAt passes.old.groups passes.new.groups
         × SameAt passes.old.index passes.new.index) }
 {
-    match vault.split(alloc, passes, 2) {
+    match shared.vault.split(shared.alloc, passes, 2) {
         Ok(given) => Ok(LineJob {
-            rt,
-            alloc,
-            vault,
+            rt: shared.rt,
+            alloc: shared.alloc,
+            vault: shared.vault,
             passes: given,
-            seed,
-            session,
+            seed: shared.seed,
+            session: shared.session,
             job,
             line,
+            task,
             answer: None,
         }),
         Err(_) => Err(NoMemory),

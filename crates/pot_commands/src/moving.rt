@@ -6,6 +6,7 @@ ghost use Rattle.pot_replies.specs.Sections.{mine, work_of, Halves, IsOfJobs, Is
 ghost use Rattle.pot_shared.specs.Ready.{AreReady};
 ghost use Rattle.pot_shared.specs.Catalogs.{IsIndexReady};
 ghost use Rattle.pot_store.specs.Works.{JobWorked, JobAlone, IsSettingOf, known, section_of};
+ghost use Rattle.pot_commands.specs.Failures.{Fails};
 ghost use Rattle.pot_commands.specs.Arriving.{HasBegun, Unbegins, move_reply};
 ghost use Rattle.pot_commands.specs.Rows.{IsMigrateReply};
 ghost use Rattle.pot_commands.specs.Taking.{AreUsed, Took, lending};
@@ -21,7 +22,7 @@ use std::sync::Wait;
 /// already, and then moves to its end. A shelf that the group refuses is given back to the room at once.
 ///
 /// # Errors
-/// `RoomFailed` only where the room's count of faults rose, or `NoMemory`. Nothing was logged then.
+/// `RoomFailed` exactly where the room itself failed, or `NoMemory`. Nothing was logged then.
 pub fn migrate_archive<R: Room, X: Wait>(
     rt: &X,
     vault: &Vault<R::A>,
@@ -43,6 +44,7 @@ pub fn migrate_archive<R: Room, X: Wait>(
     ensures used { AreUsed (R.out room.new) passes.new.groups }
     ensures took { Took (IsTrue R.A.account.tells) (result ≢ Err Unanswered.RoomFailed) (to ∷ []) (lending (R.out room.old) (R.means room.old)) (lending (R.out room.new) (R.means room.new)) (known passes.old.groups passes.old.index) (known passes.new.groups passes.new.index) }
     ensures cause { Caused (R.faults room.old) (R.faults room.new) (IsErrOf result Unanswered.RoomFailed) }
+    ensures own { Fails (R.failures room.old) (R.failures room.new) (IsErrOf result Unanswered.RoomFailed) }
 {
     let at = match begin_move(rt, vault, passes, job, from, to, room) {
         Ok(at) => at,
@@ -56,7 +58,7 @@ pub fn migrate_archive<R: Room, X: Wait>(
 ///
 /// # Errors
 /// The answer to the line, where no move began. Nothing was logged then.
-fn begin_move<R: Room, X: Wait>(
+pub(crate) fn begin_move<R: Room, X: Wait>(
     rt: &X,
     vault: &Vault<R::A>,
     passes: &mut Passes<R::A>,
@@ -78,6 +80,7 @@ fn begin_move<R: Room, X: Wait>(
     ensures used { AreUsed (R.out room.new) passes.new.groups }
     ensures took { Took (IsTrue R.A.account.tells) (result ≢ Err (Err Unanswered.RoomFailed)) (to ∷ []) (lending (R.out room.old) (R.means room.old)) (lending (R.out room.new) (R.means room.new)) (known passes.old.groups passes.old.index) (known passes.new.groups passes.new.index) }
     ensures cause { Caused (R.faults room.old) (R.faults room.new) (IsErrOf result (Err Unanswered.RoomFailed)) }
+    ensures own { Fails (R.failures room.old) (R.failures room.new) (IsErrOf result (Err Unanswered.RoomFailed)) }
 {
     let at = match check_migrate(rt, vault, passes, from, to) {
         Ok(at) => at,
@@ -97,7 +100,7 @@ fn begin_move<R: Room, X: Wait>(
 }
 
 /// The reply to a line whose column moves, by how far the move came.
-fn move_reply(from: u32, to: u32, moved: Result<u32, MendFault>) -> Reply
+pub(crate) fn move_reply(from: u32, to: u32, moved: Result<u32, MendFault>) -> Reply
     ensures { result ≡ move_reply from to moved }
 {
     match moved {

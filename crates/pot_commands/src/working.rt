@@ -8,16 +8,18 @@ ghost use Rattle.pot_rows.specs.Rows.{HasMoreParts};
 ghost use Rattle.pot_shared.specs.Ready.{AreReady};
 ghost use Rattle.pot_shared.specs.Catalogs.{IsIndexReady};
 ghost use Rattle.pot_store.specs.Works.{known};
+ghost use Rattle.pot_commands.specs.Failures.{Fails};
 ghost use Rattle.pot_commands.specs.Rows.{HasFilled};
 ghost use Rattle.pot_commands.specs.Ones.{OneEnds};
 ghost use Rattle.pot_commands.specs.Going.{AllWent, AllStay};
-ghost use Rattle.pot_commands.specs.Steps.{IsWorkedStep, StepGives, StepLeaves, step_of};
+ghost use Rattle.pot_commands.specs.Steps.{IsWorkedStep, StepGives, StepStops, step_of};
 ghost use Rattle.pot_commands.specs.Ends.{Ends, next_job};
 ghost use Rattle.pot_commands.specs.Taking.{AreUsed, Took, asked_by, asks_in, lending};
 
 use crate::answering::answer;
 use crate::arriving::Unanswered;
 use crate::batching::answer_together;
+use crate::line_job::Shared;
 use crate::output::{has_refusal, print_replies, write_out};
 use pot_bytes::NoMemory;
 use pot_outside::{Failed, Gate, Room, Sink};
@@ -75,13 +77,14 @@ fn answer_step<R: Room, W: Gate, X: Threads + Wait + Sync>(
     ensures says { MatchResult result
         (λ replies. StepGives vault.now.rack terms.now.seed.now terms.now.session job (step_of step.now)
         (known passes.old.groups passes.old.index) (known passes.new.groups passes.new.index) replies.items)
-        (λ e. StepLeaves vault.now.rack terms.now.seed.now terms.now.session job (step_of step.now)
-        (known passes.old.groups passes.old.index) (known passes.new.groups passes.new.index)) }
+        (λ e. StepStops vault.now.rack terms.now.seed.now terms.now.session job (step_of step.now)
+        (known passes.old.groups passes.old.index) (known passes.new.groups passes.new.index) e) }
     ensures used { AreUsed (R.out room.new) passes.new.groups }
     ensures took { Took (IsTrue R.A.account.tells) (result ≢ Err Unanswered.RoomFailed) (asks_in step.now)
         (lending (R.out room.old) (R.means room.old)) (lending (R.out room.new) (R.means room.new))
         (known passes.old.groups passes.old.index) (known passes.new.groups passes.new.index) }
     ensures cause { Caused (R.faults room.old) (R.faults room.new) (IsErrOf result Unanswered.RoomFailed) }
+    ensures own { Fails (R.failures room.old) (R.failures room.new) (IsErrOf result Unanswered.RoomFailed) }
 {
     let Terms {
         seed,
@@ -91,13 +94,14 @@ fn answer_step<R: Room, W: Gate, X: Threads + Wait + Sync>(
     match step {
         Step::One(command) => answer(rt, alloc, vault, passes, seed, session, job, command, room),
         Step::Together(lines) => {
-            let lines = lines.as_slice();
-            match answer_together(
-                rt, alloc, vault, passes, seed, session, job, lines, workers, gate,
-            ) {
-                Ok(replies) => Ok(replies),
-                Err(NoMemory) => Err(Unanswered::NoMemory),
-            }
+            let shared = Shared {
+                rt,
+                alloc,
+                vault,
+                seed,
+                session,
+            };
+            answer_together(&shared, passes, job, lines.as_slice(), workers, gate, room)
         }
     }
 }
@@ -138,6 +142,7 @@ fn work_one<K: Sink, R: Room, W: Gate, X: Threads + Wait + Sync>(
         (known passes.old.groups passes.old.index) (known passes.new.groups passes.new.index) }
     ensures sink { Caused (K.faults sink.old) (K.faults sink.new) (IsErrOf result Ending.SinkFailed) }
     ensures room { Caused (R.faults room.old) (R.faults room.new) (IsErrOf result Ending.RoomFailed) }
+    ensures own { Fails (R.failures room.old) (R.failures room.new) (IsErrOf result Ending.RoomFailed) }
 {
     let answered = answer_step(rt, alloc, vault, passes, terms, job, step, gate, room);
     let replies = match answered {
@@ -202,6 +207,7 @@ pub fn work<K: Sink, R: Room, W: Gate, X: Threads + Wait + Sync>(
         (known passes.old.groups passes.old.index) (known passes.new.groups passes.new.index) result }
     ensures sink { Caused (K.faults sink.old) (K.faults sink.new) (result ≡ Ending.SinkFailed) }
     ensures room { Caused (R.faults room.old) (R.faults room.new) (result ≡ Ending.RoomFailed) }
+    ensures own { Fails (R.failures room.old) (R.failures room.new) (result ≡ Ending.RoomFailed) }
 {
     let mut refused = false;
     let mut job = 1;

@@ -37,6 +37,7 @@ returns-in-Ok-answer_plain g c =
           (answered_none c.args.vault.now.rack c.args.seed.now c.args.session c.args.job c.args.command.now (asks_none c.args.command.now c.in_default.not-Replace c.in_default.not-Migrate)
           (known c.args.passes.now.groups c.args.passes.now.index) (known c.answer_plain.new.passes.groups c.answer_plain.new.passes.index) c.requires.filled c.answer_plain.ensures.worked c.answer_plain.result c.answer_plain.ensures.says);
       cause = record { later = omega arith; rose = λ e. absurd (cc) };
+      own = record { later = omega arith; rose = λ e. absurd (cc); still = λ none. refl };
     }
 
 pub returns-in-Err : goal.returns-in-Err
@@ -52,4 +53,5 @@ returns-in-Err g c =
           (answered_none c.args.vault.now.rack c.args.seed.now c.args.session c.args.job c.args.command.now (asks_none c.args.command.now c.in_default.not-Replace c.in_default.not-Migrate)
           (known c.args.passes.now.groups c.args.passes.now.index) (known c.answer_plain.new.passes.groups c.answer_plain.new.passes.index) c.requires.filled c.answer_plain.ensures.worked c.answer_plain.result c.answer_plain.ensures.says);
       cause = record { later = omega arith; rose = λ e. absurd (cc) };
+      own = record { later = omega arith; rose = λ e. absurd (cc); still = λ none. refl };
     }

@@ -1,164 +1,42 @@
-use Rattle.std.proofs.Common.{◌++◌, length, refl, ap, sym, ◌∙◌, arith}
+use Rattle.std.proofs.Common.{refl}
 use Rattle.pot_store.specs.Works.{known}
-use Rattle.pot_commands.specs.Jobs.{common, vault_view, replies_in}
-use Rattle.pot_commands.proofs.TogetherLemmas.{given_have, worked_have, worked_count, taken_went, taken_stays, taken_gives, taken_leaves, taken_none}
-use Rattle.pot_commands.proofs.UnbegunLemmas.{fewer_jobs, unbegun_leaves, back_went, back_stays, back_leaves, back_none}
+use Rattle.pot_commands.proofs.BeginLemmas.{moves_stop}
+use Rattle.pot_commands.proofs.Going.{filled_stays, went_more}
+use Rattle.pot_commands.proofs.TakingLemmas.{took_on, used_on}
 use Rattle.pot_commands.proofs.batching.answer_together.Goals as goal
 
-pub returns-in_default-clause-says : goal.returns-in_default-clause-says
-returns-in_default-clause-says g c =
-    unbegun_leaves (common (vault_view c.args.vault.now.rack c.args.vault.now.groups c.args.vault.now.index) c.args.seed.now c.args.session) (known c.args.passes.now.groups c.args.passes.now.index) (known c.args.passes.now.groups c.args.passes.now.index) (record { ready = c.requires.ready; index_ready = c.requires.index }) (record { ready = c.requires.ready; index_ready = c.requires.index }) (λ at. refl) (λ at. refl) c.args.job c.args.lines.now
-
-pub take_back-requires-clause-its : goal.take_back-requires-clause-its
-take_back-requires-clause-its g c = worked_have (common (vault_view c.args.vault.now.rack c.args.vault.now.groups c.args.vault.now.index) c.args.seed.now c.args.session) _ _ _ _ _ c.in-Ok-work_lines.ensures.worked
-
-pub take_back-requires-clause-room : goal.take_back-requires-clause-room
-take_back-requires-clause-room g c =
-    let n = worked_count (common (vault_view c.args.vault.now.rack c.args.vault.now.groups c.args.vault.now.index) c.args.seed.now c.args.session) _ _ _ _ _ c.in-Ok-work_lines.ensures.worked in
-    let none = ap length c.in-Ok.ensures.items in
-    omega (arith, n, none, c.in-Ok.ensures.capacity)
-
-pub take_back-requires-in-Err-clause-its : goal.take_back-requires-in-Err-clause-its
-take_back-requires-in-Err-clause-its g c = given_have (common (vault_view c.args.vault.now.rack c.args.vault.now.groups c.args.vault.now.index) c.args.seed.now c.args.session) _ _ _ _ c.in-Err.ensures.worked.given
-
-pub take_back-requires-in-Err-clause-room : goal.take_back-requires-in-Err-clause-room
-take_back-requires-in-Err-clause-room g c =
-    let n = fewer_jobs (common (vault_view c.args.vault.now.rack c.args.vault.now.groups c.args.vault.now.index) c.args.seed.now c.args.session) _ _ _ _ _ c.in-Err.ensures.worked in
-    let none = ap length c.in-Ok.ensures.items in
-    omega (arith, n, none, c.in-Ok.ensures.capacity)
-
-pub returns-then-take_back-clause-went : goal.returns-then-take_back-clause-went
-returns-then-take_back-clause-went g c =
-    taken_went (common (vault_view c.args.vault.now.rack c.args.vault.now.groups c.args.vault.now.index) c.args.seed.now c.args.session) (known c.args.passes.now.groups c.args.passes.now.index) (known c.work_lines.new.passes.groups c.work_lines.new.passes.index) (known c.take_back.new.passes.groups c.take_back.new.passes.index) c.args.job c.args.lines.now c.in-Ok-work_lines.jobs.items (record {
-      can = record { ready = c.requires.ready; index_ready = c.requires.index };
-      can_v = record { ready = c.in-Ok-work_lines.ensures.ready; index_ready = c.in-Ok-work_lines.ensures.index };
-      can_x = c.take_back.ensures.can;
-      parts = c.requires.parts;
-      batched = c.requires.batched;
-      worked = c.in-Ok-work_lines.ensures.worked;
-      joined = c.take_back.ensures.joined;
-    })
-
-pub returns-then-take_back-clause-stays : goal.returns-then-take_back-clause-stays
-returns-then-take_back-clause-stays g c =
-    taken_stays (common (vault_view c.args.vault.now.rack c.args.vault.now.groups c.args.vault.now.index) c.args.seed.now c.args.session) (known c.args.passes.now.groups c.args.passes.now.index) (known c.work_lines.new.passes.groups c.work_lines.new.passes.index) (known c.take_back.new.passes.groups c.take_back.new.passes.index) c.args.job c.args.lines.now c.in-Ok-work_lines.jobs.items (record {
-      can = record { ready = c.requires.ready; index_ready = c.requires.index };
-      can_v = record { ready = c.in-Ok-work_lines.ensures.ready; index_ready = c.in-Ok-work_lines.ensures.index };
-      can_x = c.take_back.ensures.can;
-      parts = c.requires.parts;
-      batched = c.requires.batched;
-      worked = c.in-Ok-work_lines.ensures.worked;
-      joined = c.take_back.ensures.joined;
-    })
-
-pub returns-then-take_back-clause-says : goal.returns-then-take_back-clause-says
-returns-then-take_back-clause-says g c =
-    taken_gives (common (vault_view c.args.vault.now.rack c.args.vault.now.groups c.args.vault.now.index) c.args.seed.now c.args.session) (known c.args.passes.now.groups c.args.passes.now.index) (known c.work_lines.new.passes.groups c.work_lines.new.passes.index) (known c.take_back.new.passes.groups c.take_back.new.passes.index) c.args.job c.args.lines.now c.in-Ok-work_lines.jobs.items (record {
-      can = record { ready = c.requires.ready; index_ready = c.requires.index };
-      can_v = record { ready = c.in-Ok-work_lines.ensures.ready; index_ready = c.in-Ok-work_lines.ensures.index };
-      can_x = c.take_back.ensures.can;
-      parts = c.requires.parts;
-      batched = c.requires.batched;
-      worked = c.in-Ok-work_lines.ensures.worked;
-      joined = c.take_back.ensures.joined;
-    }) _ (c.take_back.ensures.replies ∙ ap (λ l. l ++ replies_in c.in-Ok-work_lines.jobs.items) c.in-Ok.ensures.items) (sym c.take_back.ensures.whole ∙ c.if-take_back.true)
-
-pub returns-then-take_back-clause-none : goal.returns-then-take_back-clause-none
-returns-then-take_back-clause-none g c =
-    taken_none (common (vault_view c.args.vault.now.rack c.args.vault.now.groups c.args.vault.now.index) c.args.seed.now c.args.session) (known c.args.passes.now.groups c.args.passes.now.index) (known c.work_lines.new.passes.groups c.work_lines.new.passes.index) (known c.take_back.new.passes.groups c.take_back.new.passes.index) c.args.job c.args.lines.now c.in-Ok-work_lines.jobs.items (record {
-      can = record { ready = c.requires.ready; index_ready = c.requires.index };
-      can_v = record { ready = c.in-Ok-work_lines.ensures.ready; index_ready = c.in-Ok-work_lines.ensures.index };
-      can_x = c.take_back.ensures.can;
-      parts = c.requires.parts;
-      batched = c.requires.batched;
-      worked = c.in-Ok-work_lines.ensures.worked;
-      joined = c.take_back.ensures.joined;
-    }) c.requires.filled
-
-pub returns-else-take_back-clause-went : goal.returns-else-take_back-clause-went
-returns-else-take_back-clause-went g c =
-    taken_went (common (vault_view c.args.vault.now.rack c.args.vault.now.groups c.args.vault.now.index) c.args.seed.now c.args.session) (known c.args.passes.now.groups c.args.passes.now.index) (known c.work_lines.new.passes.groups c.work_lines.new.passes.index) (known c.take_back.new.passes.groups c.take_back.new.passes.index) c.args.job c.args.lines.now c.in-Ok-work_lines.jobs.items (record {
-      can = record { ready = c.requires.ready; index_ready = c.requires.index };
-      can_v = record { ready = c.in-Ok-work_lines.ensures.ready; index_ready = c.in-Ok-work_lines.ensures.index };
-      can_x = c.take_back.ensures.can;
-      parts = c.requires.parts;
-      batched = c.requires.batched;
-      worked = c.in-Ok-work_lines.ensures.worked;
-      joined = c.take_back.ensures.joined;
-    })
-
-pub returns-else-take_back-clause-stays : goal.returns-else-take_back-clause-stays
-returns-else-take_back-clause-stays g c =
-    taken_stays (common (vault_view c.args.vault.now.rack c.args.vault.now.groups c.args.vault.now.index) c.args.seed.now c.args.session) (known c.args.passes.now.groups c.args.passes.now.index) (known c.work_lines.new.passes.groups c.work_lines.new.passes.index) (known c.take_back.new.passes.groups c.take_back.new.passes.index) c.args.job c.args.lines.now c.in-Ok-work_lines.jobs.items (record {
-      can = record { ready = c.requires.ready; index_ready = c.requires.index };
-      can_v = record { ready = c.in-Ok-work_lines.ensures.ready; index_ready = c.in-Ok-work_lines.ensures.index };
-      can_x = c.take_back.ensures.can;
-      parts = c.requires.parts;
-      batched = c.requires.batched;
-      worked = c.in-Ok-work_lines.ensures.worked;
-      joined = c.take_back.ensures.joined;
-    })
-
-pub returns-else-take_back-clause-says : goal.returns-else-take_back-clause-says
-returns-else-take_back-clause-says g c =
-    taken_leaves (common (vault_view c.args.vault.now.rack c.args.vault.now.groups c.args.vault.now.index) c.args.seed.now c.args.session) (known c.args.passes.now.groups c.args.passes.now.index) (known c.work_lines.new.passes.groups c.work_lines.new.passes.index) (known c.take_back.new.passes.groups c.take_back.new.passes.index) c.args.job c.args.lines.now c.in-Ok-work_lines.jobs.items (record {
-      can = record { ready = c.requires.ready; index_ready = c.requires.index };
-      can_v = record { ready = c.in-Ok-work_lines.ensures.ready; index_ready = c.in-Ok-work_lines.ensures.index };
-      can_x = c.take_back.ensures.can;
-      parts = c.requires.parts;
-      batched = c.requires.batched;
-      worked = c.in-Ok-work_lines.ensures.worked;
-      joined = c.take_back.ensures.joined;
-    })
-
-pub returns-else-take_back-clause-none : goal.returns-else-take_back-clause-none
-returns-else-take_back-clause-none g c =
-    taken_none (common (vault_view c.args.vault.now.rack c.args.vault.now.groups c.args.vault.now.index) c.args.seed.now c.args.session) (known c.args.passes.now.groups c.args.passes.now.index) (known c.work_lines.new.passes.groups c.work_lines.new.passes.index) (known c.take_back.new.passes.groups c.take_back.new.passes.index) c.args.job c.args.lines.now c.in-Ok-work_lines.jobs.items (record {
-      can = record { ready = c.requires.ready; index_ready = c.requires.index };
-      can_v = record { ready = c.in-Ok-work_lines.ensures.ready; index_ready = c.in-Ok-work_lines.ensures.index };
-      can_x = c.take_back.ensures.can;
-      parts = c.requires.parts;
-      batched = c.requires.batched;
-      worked = c.in-Ok-work_lines.ensures.worked;
-      joined = c.take_back.ensures.joined;
-    }) c.requires.filled
-
-pub returns-in-Err-clause-went : goal.returns-in-Err-clause-went
-returns-in-Err-clause-went g c =
-    back_went (common (vault_view c.args.vault.now.rack c.args.vault.now.groups c.args.vault.now.index) c.args.seed.now c.args.session) (known c.args.passes.now.groups c.args.passes.now.index) (known c.work_lines.new.passes.groups c.work_lines.new.passes.index) (known c.take_back-in-Err.new.passes.groups c.take_back-in-Err.new.passes.index) c.args.job c.args.lines.now c.in-Err.field-0.jobs.items (record {
-      can = record { ready = c.requires.ready; index_ready = c.requires.index };
-      can_x = c.take_back-in-Err.ensures.can;
-      parts = c.requires.parts;
-      shared = c.in-Err.ensures.worked;
-      joined = c.take_back-in-Err.ensures.joined;
-    })
-
-pub returns-in-Err-clause-stays : goal.returns-in-Err-clause-stays
-returns-in-Err-clause-stays g c =
-    back_stays (common (vault_view c.args.vault.now.rack c.args.vault.now.groups c.args.vault.now.index) c.args.seed.now c.args.session) (known c.args.passes.now.groups c.args.passes.now.index) (known c.work_lines.new.passes.groups c.work_lines.new.passes.index) (known c.take_back-in-Err.new.passes.groups c.take_back-in-Err.new.passes.index) c.args.job c.args.lines.now c.in-Err.field-0.jobs.items (record {
-      can = record { ready = c.requires.ready; index_ready = c.requires.index };
-      can_x = c.take_back-in-Err.ensures.can;
-      parts = c.requires.parts;
-      shared = c.in-Err.ensures.worked;
-      joined = c.take_back-in-Err.ensures.joined;
-    })
-
 pub returns-in-Err-clause-says : goal.returns-in-Err-clause-says
-returns-in-Err-clause-says g c =
-    back_leaves (common (vault_view c.args.vault.now.rack c.args.vault.now.groups c.args.vault.now.index) c.args.seed.now c.args.session) (known c.args.passes.now.groups c.args.passes.now.index) (known c.work_lines.new.passes.groups c.work_lines.new.passes.index) (known c.take_back-in-Err.new.passes.groups c.take_back-in-Err.new.passes.index) c.args.job c.args.lines.now c.in-Err.field-0.jobs.items (record {
-      can = record { ready = c.requires.ready; index_ready = c.requires.index };
-      can_x = c.take_back-in-Err.ensures.can;
-      parts = c.requires.parts;
-      shared = c.in-Err.ensures.worked;
-      joined = c.take_back-in-Err.ensures.joined;
-    })
+returns-in-Err-clause-says g c = moves_stop _ _ _ _ _ _ _ _ c.in-Err.unanswered c.in-Err.ensures.begun.1
 
-pub returns-in-Err-clause-none : goal.returns-in-Err-clause-none
-returns-in-Err-clause-none g c =
-    back_none (common (vault_view c.args.vault.now.rack c.args.vault.now.groups c.args.vault.now.index) c.args.seed.now c.args.session) (known c.args.passes.now.groups c.args.passes.now.index) (known c.work_lines.new.passes.groups c.work_lines.new.passes.index) (known c.take_back-in-Err.new.passes.groups c.take_back-in-Err.new.passes.index) c.args.job c.args.lines.now c.in-Err.field-0.jobs.items (record {
-      can = record { ready = c.requires.ready; index_ready = c.requires.index };
-      can_x = c.take_back-in-Err.ensures.can;
-      parts = c.requires.parts;
-      shared = c.in-Err.ensures.worked;
-      joined = c.take_back-in-Err.ensures.joined;
-    })
+pub work_begun-requires-clause-filled : goal.work_begun-requires-clause-filled
+work_begun-requires-clause-filled g c κs within = filled_stays _ _ _ c.in-Ok.ensures.begun.stays c.requires.filled
+
+pub returns-in-Ok-work_begun-clause-went : goal.returns-in-Ok-work_begun-clause-went
+returns-in-Ok-work_begun-clause-went g c = went_more _ _ _ c.in-Ok.ensures.begun.went c.work_begun.ensures.went
+
+pub returns-in-Ok-work_begun-clause-says : goal.returns-in-Ok-work_begun-clause-says
+returns-in-Ok-work_begun-clause-says g c = c.in-Ok-work_begun.ensures.says _ c.in-Ok.ensures.begun
+
+pub returns-in-Ok-work_begun-clause-used : goal.returns-in-Ok-work_begun-clause-used
+returns-in-Ok-work_begun-clause-used g c =
+    used_on (g.R.Room.out c.begin_lines.new.room) (g.R.Room.out c.begin_lines.new.room) (known c.begin_lines.new.passes.groups c.begin_lines.new.passes.index) (known c.work_begun.new.passes.groups c.work_begun.new.passes.index)
+    c.work_begun.ensures.went c.work_begun.ensures.stays (λ n. refl) c.begin_lines.ensures.used
+
+pub returns-in-Ok-work_begun-clause-took : goal.returns-in-Ok-work_begun-clause-took
+returns-in-Ok-work_begun-clause-took g c =
+    took_on _ _ _ _ _ _ _ _ _ c.in-Ok.ensures.begun.went c.work_begun.ensures.went c.in-Ok.ensures.begun.stays.groups.names (λ e. cc e) c.in-Ok.ensures.took c.work_begun.ensures.none
+
+pub returns-in-Err-work_begun-clause-went : goal.returns-in-Err-work_begun-clause-went
+returns-in-Err-work_begun-clause-went g c = went_more _ _ _ c.in-Ok.ensures.begun.went c.work_begun.ensures.went
+
+pub returns-in-Err-work_begun-clause-says : goal.returns-in-Err-work_begun-clause-says
+returns-in-Err-work_begun-clause-says g c = c.in-Err-work_begun.ensures.says _ c.in-Ok.ensures.begun
+
+pub returns-in-Err-work_begun-clause-used : goal.returns-in-Err-work_begun-clause-used
+returns-in-Err-work_begun-clause-used g c =
+    used_on (g.R.Room.out c.begin_lines.new.room) (g.R.Room.out c.begin_lines.new.room) (known c.begin_lines.new.passes.groups c.begin_lines.new.passes.index) (known c.work_begun.new.passes.groups c.work_begun.new.passes.index)
+    c.work_begun.ensures.went c.work_begun.ensures.stays (λ n. refl) c.begin_lines.ensures.used
+
+pub returns-in-Err-work_begun-clause-took : goal.returns-in-Err-work_begun-clause-took
+returns-in-Err-work_begun-clause-took g c =
+    took_on _ _ _ _ _ _ _ _ _ c.in-Ok.ensures.begun.went c.work_begun.ensures.went c.in-Ok.ensures.begun.stays.groups.names (λ e. cc e) c.in-Ok.ensures.took c.work_begun.ensures.none

@@ -11,10 +11,10 @@ together-requires-send-J g c κs within = param_send 0 _ (arg_send _ no _ (send_
 
 pub together-requires-clause-few : goal.together-requires-clause-few
 together-requires-clause-few g c κs within =
-    let n = given_count _ _ _ _ _ c.in-Ok.ensures.shared.given in omega (arith, n, c.requires.job.1)
+    let n = given_count _ _ _ _ _ c.in-Ok.ensures.shared.0.given in omega (arith, n, c.requires.job.1)
 
 pub together-requires-clause-fresh : goal.together-requires-clause-fresh
-together-requires-clause-fresh g c κs within = given_fresh _ _ _ _ _ c.in-Ok.ensures.shared.given
+together-requires-clause-fresh g c κs within = given_fresh _ _ _ _ _ c.in-Ok.ensures.shared.0.given
 
 pub returns-in-Ok-clause-worked : goal.returns-in-Ok-clause-worked
-returns-in-Ok-clause-worked g c = lines_worked _ _ _ _ _ _ _ c.in-Ok.ensures.shared c.together.ensures.worked c.together.ensures.refused
+returns-in-Ok-clause-worked g c = lines_worked _ _ _ _ _ _ _ _ c.in-Ok.ensures.shared.0 c.in-Ok.ensures.shared.1 c.together.ensures.worked c.together.ensures.refused

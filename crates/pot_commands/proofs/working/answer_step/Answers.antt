@@ -1,10 +1,7 @@
 use Rattle.std.proofs.Common.{◌*◌, refl, subst, arith}
 use Rattle.pot_store.specs.Works.{known}
-use Rattle.pot_commands.specs.Taking.{asks_in}
-use Rattle.pot_commands.specs.Steps.{StepGives, StepLeaves}
 use Rattle.pot_commands.proofs.Going.{work_all_went}
-use Rattle.pot_commands.proofs.StepLemmas.{fewer_parts, one_job, one_says, one_took, one_worked, together_is, together_jobs, together_worked, work_stays}
-use Rattle.pot_commands.proofs.TakingLemmas.{took_none, used_on}
+use Rattle.pot_commands.proofs.StepLemmas.{fewer_parts, one_job, one_says, one_took, one_worked, together_jobs, together_says, together_took, together_worked, work_stays}
 use Rattle.pot_commands.proofs.working.answer_step.Goals as goal
 
 pub answer-requires-clause-parts : goal.answer-requires-clause-parts
@@ -33,41 +30,21 @@ returns-in-One-clause-took g c =
 
 pub answer_together-requires-clause-parts : goal.answer_together-requires-clause-parts
 answer_together-requires-clause-parts g c = λ κs within.
-    let most = (together_worked c.args.step.now c.in-Together.lines _ c.in-Together.is c.as_slice-lines.ensures _ c.requires.worked).1 in
+    let most = (together_worked c.args.step.now c.in-Together.lines _ c.in-Together.is c.as_slice.ensures _ c.requires.worked).1 in
     (fewer_parts _ 2048 _ (omega (arith, most)) c.requires.parts.0, fewer_parts _ 2048 _ (omega (arith, most)) c.requires.parts.1)
 
 pub answer_together-requires-clause-job : goal.answer_together-requires-clause-job
 answer_together-requires-clause-job g c = λ κs within.
-    (c.requires.job.0, together_jobs c.args.step.now c.in-Together.lines _ c.in-Together.is c.as_slice-lines.ensures c.args.job c.requires.job.1)
+    (c.requires.job.0, together_jobs c.args.step.now c.in-Together.lines _ c.in-Together.is c.as_slice.ensures c.args.job c.requires.job.1)
 
 pub answer_together-requires-clause-batched : goal.answer_together-requires-clause-batched
 answer_together-requires-clause-batched g c = λ κs within.
-    (together_worked c.args.step.now c.in-Together.lines _ c.in-Together.is c.as_slice-lines.ensures _ c.requires.worked).2
+    (together_worked c.args.step.now c.in-Together.lines _ c.in-Together.is c.as_slice.ensures _ c.requires.worked).2
 
-pub returns-in-Ok-clause-says : goal.returns-in-Ok-clause-says
-returns-in-Ok-clause-says g c =
-    subst (λ d. StepGives c.args.vault.now.rack c.args.terms.now.seed.now c.args.terms.now.session c.args.job d (known c.args.passes.now.groups c.args.passes.now.index)
-    (known c.answer_together.new.passes.groups c.answer_together.new.passes.index) c.in-Ok.replies.items)
-    (together_is c.args.step.now c.in-Together.lines _ c.in-Together.is c.as_slice-lines.ensures) c.in-Ok.ensures.says
+pub returns-in-Together-clause-says : goal.returns-in-Together-clause-says
+returns-in-Together-clause-says g c =
+    together_says c.args.step.now c.in-Together.lines _ c.in-Together.is c.as_slice.ensures c.args.vault.now.rack c.args.terms.now.seed.now c.args.terms.now.session c.args.job
+    (known c.args.passes.now.groups c.args.passes.now.index) (known c.answer_together.new.passes.groups c.answer_together.new.passes.index) c.answer_together.result c.answer_together.ensures.says
 
-pub returns-in-Ok-clause-used : goal.returns-in-Ok-clause-used
-returns-in-Ok-clause-used g c =
-    used_on (g.R.Room.out c.args.room.now) (g.R.Room.out c.args.room.now) (known c.args.passes.now.groups c.args.passes.now.index) (known c.answer_together.new.passes.groups c.answer_together.new.passes.index)
-    c.answer_together.ensures.went c.answer_together.ensures.stays (λ n. refl) c.requires.used
-
-pub returns-in-Ok-clause-took : goal.returns-in-Ok-clause-took
-returns-in-Ok-clause-took g c = took_none _ _ (asks_in c.args.step.now) _ _ _ _ (λ n. refl) (λ n. refl) c.answer_together.ensures.none
-
-pub returns-in-Err-clause-says : goal.returns-in-Err-clause-says
-returns-in-Err-clause-says g c =
-    subst (λ d. StepLeaves c.args.vault.now.rack c.args.terms.now.seed.now c.args.terms.now.session c.args.job d (known c.args.passes.now.groups c.args.passes.now.index)
-    (known c.answer_together.new.passes.groups c.answer_together.new.passes.index))
-    (together_is c.args.step.now c.in-Together.lines _ c.in-Together.is c.as_slice-lines.ensures) c.in-Err.ensures.says
-
-pub returns-in-Err-clause-used : goal.returns-in-Err-clause-used
-returns-in-Err-clause-used g c =
-    used_on (g.R.Room.out c.args.room.now) (g.R.Room.out c.args.room.now) (known c.args.passes.now.groups c.args.passes.now.index) (known c.answer_together.new.passes.groups c.answer_together.new.passes.index)
-    c.answer_together.ensures.went c.answer_together.ensures.stays (λ n. refl) c.requires.used
-
-pub returns-in-Err-clause-took : goal.returns-in-Err-clause-took
-returns-in-Err-clause-took g c = took_none _ _ (asks_in c.args.step.now) _ _ _ _ (λ n. refl) (λ n. refl) c.answer_together.ensures.none
+pub returns-in-Together-clause-took : goal.returns-in-Together-clause-took
+returns-in-Together-clause-took g c = together_took c.args.step.now c.in-Together.lines _ c.in-Together.is c.as_slice.ensures _ _ _ _ _ _ c.answer_together.ensures.took

@@ -1,4 +1,4 @@
-use Rattle.std.proofs.Common.{◌≡◌, ◌+◌, ◌^◌, length, take, ap, ◌∙◌, arith}
+use Rattle.std.proofs.Common.{◌≡◌, ◌+◌, ◌^◌, length, take, refl, ap, ◌∙◌, arith}
 use Rattle.std.proofs.Math.Seq.{take-length}
 use Rattle.pot_commands.specs.Taking.{lending}
 use Rattle.pot_commands.proofs.WorkingLemmas.{begins_working, all_took, ends_took, holds_at, index_parts_stay, jobs_fit, new_stays, new_went, parts_stay, working_ends, working_more}
@@ -11,6 +11,7 @@ loop-step-init g c = record {
   index = c.requires.index;
   used = c.requires.used;
   room_later = omega arith;
+  room_own = refl;
   later = omega arith;
 }
 
@@ -47,6 +48,7 @@ loop-step-preserved g c =
       index = c.work_one.ensures.index;
       used = c.work_one.ensures.used;
       room_later = omega (arith, i.room_later, c.work_one.ensures.room.later);
+      room_own = c.work_one.ensures.own.still (λ e. cc) ∙ i.room_own;
       later = omega (arith, i.later, c.work_one.ensures.sink.later);
     }
 

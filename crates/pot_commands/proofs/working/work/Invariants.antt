@@ -1,4 +1,4 @@
-use Rattle.std.proofs.Common.{◌≤◌, IsTrue}
+use Rattle.std.proofs.Common.{◌≡◌, ◌≤◌, IsTrue}
 use Rattle.pot_shared.specs.Ready.{AreReady}
 use Rattle.pot_shared.specs.Catalogs.{IsIndexReady}
 use Rattle.pot_store.specs.Works.{known}
@@ -14,5 +14,6 @@ invariant-loop-step g l = record {
   index : IsIndexReady l.vault.rack l.vault.groups l.vault.index l.passes.index;
   used : AreUsed (g.R.Room.out l.room) l.passes.groups;
   room_later : g.R.Room.faults l.initial.room ≤ g.R.Room.faults l.room;
+  room_own : g.R.Room.failures l.room ≡ g.R.Room.failures l.initial.room;
   later : g.K.Sink.faults l.initial.sink ≤ g.K.Sink.faults l.sink;
 }
