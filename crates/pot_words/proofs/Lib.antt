@@ -5,3 +5,4 @@ pub mod ValueLemmas
 pub mod TaskLemmas
 pub mod CommandLemmas
 pub mod LimitLemmas
+pub mod KindLemmas
