@@ -1,6 +1,6 @@
 -- The image of a close.
-use Rattle.std.proofs.Common.{◌≡◌, ◌+◌, ◌++◌, inl, inr, ℕ, List, [], ◌∷◌, length, map, refl, sym, ap, subst, ◌∙◌}
-use Rattle.std.specs.Prelude.{Option, Some, Result, Ok, Err, IfErr, OnOk, IsErr, IsErrOf, slice_get, flat_map}
+use Rattle.std.proofs.Common.{◌≡◌, ◌+◌, ◌++◌, inl, inr, ℕ, List, [], ◌∷◌, length, map, refl, sym, ap, subst, ◌∙◌, arith}
+use Rattle.std.specs.Prelude.{Option, Some, Result, Ok, Err, IfErr, IsErr, IsErrOf, slice_get, flat_map}
 use Rattle.std.proofs.lemmas.List.{length-map}
 use Rattle.std.proofs.lemmas.Option.{same_Some}
 use Rattle.std.proofs.lemmas.Bool.{cases_lt}
@@ -8,8 +8,8 @@ use Rattle.byteorder.specs.Endian.{big_bytes}
 use Rattle.pot_bytes.specs.Digests.{digest_bytes}
 use Rattle.pot_bytes.specs.declared.rack.Rack.{Rack}
 use Rattle.pot_bytes.proofs.Elements.{element_of_map}
-use Rattle.pot_outside.specs.Failing.{MayLeave}
-use Rattle.pot_outside.specs.Archives.{Meaning}
+use Rattle.pot_outside.specs.Archives.{Meaning, IsMeant}
+use Rattle.pot_outside.specs.Counts.{Caused}
 use Rattle.pot_outside.specs.declared.archive.Shelf.{Shelf}
 use Rattle.pot_outside.specs.declared.faults.Failed.{Failed}
 use Rattle.pot_machine.specs.declared.entry.Entry.{Entry}
@@ -29,9 +29,10 @@ use Rattle.pot_shared.specs.Members.{entries_of}
 use Rattle.pot_shared.specs.Ready.{GroupPass}
 use Rattle.pot_shared.specs.Catalogs.{IndexPass}
 use Rattle.pot_store.specs.Works.{Known, section_of}
-use Rattle.pot_session.specs.Groups.{AreFirstPasses, records_read}
-use Rattle.pot_commands.specs.Holding.{AreMeant}
-use Rattle.pot_session.specs.Serving.{still, Shows, Rooms, IsInHand, IsInRoom, IsBack, LeavesGroup, LeaveGroups, LeavesRecords, LeavesLogs, Leaves, IsBegun, IsCloseStop, Closes, HoldsAfter, first_failure}
+use Rattle.pot_session.specs.Giving.{AnswersFor, GivesBack}
+use Rattle.pot_session.specs.Groups.{AreFirstPasses, IsOpened, records_read}
+use Rattle.pot_commands.specs.Holding.{times}
+use Rattle.pot_session.specs.Serving.{still, Shows, Desks, Rooms, IsInHand, IsInRoom, LeavesGroup, LeaveGroups, LeavesRecords, LeavesLogs, Leaves, IsBegun, IsCloseStop, Closes, close_answer, first_failure}
 
 -- RELAYS ARE NOT WRITTEN
 
@@ -88,35 +89,24 @@ other_groups told meant Has Is read logs written is l = record {
   });
 }
 
--- archives that were in the hand are in the room, where it took all back
-in_room : {A : Type 0} (meaning : A → Meaning) (hand : List (Shelf A)) (rooms : Rooms) (given : Result (Unit {0}) Failed) (kept : Result (Unit {0}) Stop) → (rooms.told → OnOk given (AreMeant meaning rooms.means hand))
-    → (s : Shelves) (n : ℕ) → IsInHand meaning hand s n → IsInRoom rooms (IsBack (first_failure given kept)) s n
-in_room meaning hand rooms (Ok u) kept are s n (x, has, e, shows) told back = subst (λ k. Shows s n (rooms.means k)) e (record {
-  blocks = λ slot. shows.blocks slot ∙ (are told x has).blocks slot;
-  sums = shows.sums ∙ (are told x has).sums;
-  faults = shows.faults ∙ (are told x has).faulted;
-  losses = shows.losses ∙ (are told x has).lost;
-})
-in_room meaning hand rooms (Err f) kept are s n has told back = absurd (back refl)
+-- archives that were in the hand are in the room, where it took them back
+in_room : {A : Type 0} (told : Type 0) (meaning : A → Meaning) (hand : List (Shelf A)) (means : ℕ → Meaning) (before now : ℕ) (given : Result (Unit {0}) Failed) (b : GivesBack told meaning hand means before now given)
+    → (s : Shelves) (n : ℕ) → IsInHand meaning hand s n → IsInRoom told means b.missing s n
+in_room told meaning hand means before now given b s n (x, has, e, shows) t back =
+    let is : IsMeant (means x.number) (meaning x.archive) = b.back t x has (subst (λ k. times k b.missing ≡ 0) (sym e) back) in
+    subst (λ k. Shows s n (means k)) e (record {
+      blocks = λ slot. shows.blocks slot ∙ is.blocks slot;
+      sums = shows.sums ∙ is.sums;
+      faults = shows.faults ∙ is.faulted;
+      losses = shows.losses ∙ is.lost;
+    })
 
 -- THE ANSWER
 
-holds_after : (first last left : Contents) (holds : Option (List ℕ)) (given : Result (Unit {0}) Failed) (kept : Result (Unit {0}) Stop) → image_bytes left ≡ image_bytes last
-    → Keeps (Some (image_bytes first)) holds (image_bytes last) kept → HoldsAfter first left holds (first_failure given kept)
-holds_after first last left holds given kept e k = by_both given kept k
-  where
-    at_bytes : MayLeave (Some (image_bytes first)) (image_bytes last) holds → MayLeave (Some (image_bytes first)) (image_bytes left) holds
-    at_bytes l = subst (λ b. MayLeave (Some (image_bytes first)) b holds) (sym e) l
-
-    by_both : (given : Result (Unit {0}) Failed) (kept : Result (Unit {0}) Stop) → Keeps (Some (image_bytes first)) holds (image_bytes last) kept → HoldsAfter first left holds (first_failure given kept)
-    by_both (Ok u) (Ok v) k = k ∙ ap (λ b. Some b) (sym e)
-    by_both (Ok u) (Err stop.DeskFault) k = at_bytes k
-    by_both (Ok u) (Err stop.NoMemory) k = inl k
-    by_both (Ok u) (Err _) k = absurd k
-    by_both (Err f) (Ok v) k = inr (inl (k ∙ ap (λ b. Some b) (sym e)))
-    by_both (Err f) (Err stop.DeskFault) k = at_bytes k
-    by_both (Err f) (Err stop.NoMemory) k = inl k
-    by_both (Err f) (Err _) k = absurd k
+failure_is : (missing : List ℕ) (given : Result (Unit {0}) Failed) (kept : Result (Unit {0}) Stop) → AnswersFor missing given → first_failure given kept ≡ close_answer missing kept
+failure_is missing (Ok u) kept none = sym (ap (λ m. close_answer m kept) none)
+failure_is [] (Err f) kept some = absurd (omega (arith, some))
+failure_is (n ∷ missing) (Err f) kept some = refl
 
 -- what was seen at the start of a session: what the openings logged, which is of no job, and nothing of the index
 opened_by : (old : Known) → AreFirstPasses old.groups old.index → (g : ℕ) → ByNobody (entries_of (view_at old.groups g).seen)
@@ -130,17 +120,19 @@ opened_by old first g = elim (cases_lt g (length old.groups.names)) [
     of_none (x ∷ xs) y e q = absurd (cc q)
 
 -- what the image of a close is, from its parts
-leaves_of : (read : List Table) (old new : Known) (rooms : Rooms) (back : Type 0) (first last : Contents) → AreFirstPasses old.groups old.index → IsBegun first last.session last.rack read (records_read new.index)
-    → LeaveGroups rooms.told rooms.meant (IsInRoom rooms back) read last.group_logs (map still last.tables) → LeavesLogs old new last.rack last.group_logs last.index_log last.records
-    → Leaves rooms back first (record last { tables = map still last.tables }) (section_of old new)
-leaves_of read old new rooms back first last opened b groups left = record {
+leaves_of : (read : List Table) (old new : Known) (rooms : Rooms) (missing : List ℕ) (first last : Contents) → AreFirstPasses old.groups old.index → IsBegun first last.session last.rack read (records_read new.index)
+    → LeaveGroups rooms.told rooms.meant (IsInRoom rooms.told rooms.means missing) read last.group_logs (map still last.tables) → LeavesLogs old new last.rack last.group_logs last.index_log last.records
+    → (rooms.told → (g : ℕ) (t : Table) → slice_get first.tables g ≡ Some t → IsOpened rooms.meant t ((section_of old new).before g))
+    → Leaves rooms missing first (record last { tables = map still last.tables }) (section_of old new)
+leaves_of read old new rooms missing first last opened b groups left found = record {
   session = sym b.is_session;
   rack = sym b.is_rack;
-  groups = subst (λ ts. LeaveGroups rooms.told rooms.meant (IsInRoom rooms back) ts last.group_logs (map still last.tables)) (sym b.are_tables) groups;
+  groups = subst (λ ts. LeaveGroups rooms.told rooms.meant (IsInRoom rooms.told rooms.means missing) ts last.group_logs (map still last.tables)) (sym b.are_tables) groups;
   records = subst (λ r. LeavesRecords r first.records (section_of old new).index_added last.index_log last.records) (sym b.is_rack)
       (subst (λ rs. LeavesRecords last.rack rs (section_of old new).index_added last.index_log last.records) (sym b.are_records) left.records);
   logs = left.are_logs;
   opened = opened_by old opened;
+  found = found;
   index_opened = ap (λ (v : IndexPass). v.seen) opened.index_first;
 }
 
@@ -163,15 +155,27 @@ desk_failure (Err f) kept e = absurd (cc)
 desk_failure (Ok u) kept e = e
 
 -- a close leaves the image of what its vault left
-pub closes : {A : Type 0} (meaning : A → Meaning) (hand : List (Shelf A)) (rooms : Rooms) (read : List Table) (old new : Known) (rack : Rack) (told : Type 0) (first last : Contents) (before holds : Option (List ℕ))
-    (given : Result (Unit {0}) Failed) (kept : Result (Unit {0}) Stop) → (told → Keeps before holds (image_bytes last) kept) → (rooms.told → OnOk given (AreMeant meaning rooms.means hand)) → AreFirstPasses old.groups old.index
+pub closes : {A : Type 0} (meaning : A → Meaning) (hand : List (Shelf A)) (rooms : Rooms) (worked : ℕ) (read : List Table) (old new : Known) (rack : Rack) (desk : Desks) (first last : Contents) (before : Option (List ℕ))
+    (given : Result (Unit {0}) Failed) (kept closed : Result (Unit {0}) Stop) → (desk.told → Keeps before desk.holds (image_bytes last) kept) → IfErr kept IsKeepStop → Caused desk.failed desk.fails (kept ≡ Err stop.DeskFault)
+    → GivesBack rooms.told meaning hand rooms.means worked rooms.fails given → AreFirstPasses old.groups old.index
     → IsBegun first last.session last.rack read (records_read new.index) → last.rack ≡ rack → LeaveGroups rooms.told rooms.meant (IsInHand meaning hand) read last.group_logs (map still last.tables)
-    → LeavesLogs old new rack last.group_logs last.index_log last.records → Closes old new rooms (told × (before ≡ Some (image_bytes first))) first holds (first_failure given kept)
-closes meaning hand rooms read old new rack told first last before holds given kept k are opened b same groups left = record {
+    → LeavesLogs old new rack last.group_logs last.index_log last.records
+    → (rooms.told → (g : ℕ) (t : Table) → slice_get first.tables g ≡ Some t → IsOpened rooms.meant t ((section_of old new).before g))
+    → closed ≡ first_failure given kept → Closes old new rooms worked (before ≡ Some (image_bytes first)) desk first closed
+closes meaning hand rooms worked read old new rack desk first last before given kept closed k which cause back opened b same groups left found is = record {
   last = record last { tables = map still last.tables };
   sole = left.sole;
-  leaves = leaves_of read old new rooms (IsBack (first_failure given kept)) first last opened b
-      (other_groups rooms.told rooms.meant (IsInHand meaning hand) (IsInRoom rooms (IsBack (first_failure given kept))) read last.group_logs (map still last.tables) (in_room meaning hand rooms given kept are) groups)
-      (subst (λ r. LeavesLogs old new r last.group_logs last.index_log last.records) (sym same) left);
-  desk = λ t. holds_after first last (record last { tables = map still last.tables }) holds given kept (same_image last) (subst (λ h. Keeps h holds (image_bytes last) kept) t.1 (k t.0));
+  missing = back.missing;
+  failed_at = back.failed_at;
+  leaves = leaves_of read old new rooms back.missing first last opened b
+      (other_groups rooms.told rooms.meant (IsInHand meaning hand) (IsInRoom rooms.told rooms.means back.missing) read last.group_logs (map still last.tables)
+      (in_room rooms.told meaning hand rooms.means worked rooms.fails given back) groups)
+      (subst (λ r. LeavesLogs old new r last.group_logs last.index_log last.records) (sym same) left) found;
+  kept = kept;
+  keeps = λ held. record {
+    holds = λ t. subst (λ b. Keeps (Some (image_bytes first)) desk.holds b kept) (sym (same_image last)) (subst (λ h. Keeps h desk.holds (image_bytes last) kept) (held t) (k t));
+    which = which;
+    cause = cause;
+  };
+  is = is ∙ failure_is back.missing given kept back.answers;
 }

@@ -119,7 +119,7 @@ module _ {A M : Type 0} (told : Type 0) (meaning : A → Meaning) (parts : M →
   marked n m q t k has = ⊎_elim
       (λ (h : Contains (archives_in (parts m).first) k).
       same_at (mark_at (plain meaning (parts m).shelves)) (λ x. marks_of (meant x)) (archives_in (parts m).first) k
-      (taken t n (origin_of (view_of meaning (parts m))) (sym (s.stays.groups.origin n) ∙ (sym (ap (λ (v : GroupPass). v.origin) (e.joined n).both) ∙ sym (e.closed.each n m q).named))) h)
+      (taken t n (origin_of (view_of meaning (parts m))) (sym (s.stays.groups.origin n) ∙ (sym (ap (λ (v : GroupPass). v.origin) (e.joined n).both) ∙ sym (e.closed.each n m q).named))).0 h)
       (λ (h : Contains (arrivals (parts m).log) k).
       came_marked meant (plain meaning (parts m).shelves) (parts m).log (view_at old.groups n).seen (added (view_at old.groups n) (view_at groups n))
       (closed_kept (λ x. view_of meaning (parts x)) rack names turn groups passes ms ended ready index_ready old s e n m q)

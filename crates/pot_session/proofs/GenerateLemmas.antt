@@ -1,5 +1,6 @@
 -- The session of a generated script.
-use Rattle.std.proofs.Common.{◌≡◌, ℕ, true, List, [], Option, Some, None, ap, sym, subst, ◌∙◌}
+use Rattle.std.proofs.lemmas.Bool.{cases_lt}
+use Rattle.std.proofs.Common.{◌≡◌, ◌<◌, ◌+◌, ℕ, inl, inr, arith, true, List, [], Option, Some, None, ap, sym, subst, ◌∙◌}
 use Rattle.std.specs.Prelude.{IsTrue, Result, Ok, Err}
 use Rattle.std.specs.Result.{is_ok}
 use Rattle.pot_bytes.specs.declared.rack.Rack.{Rack}
@@ -14,28 +15,33 @@ use Rattle.pot_image.specs.Spelling.{image_bytes}
 use Rattle.pot_script.specs.Scripts.{script_text}
 use Rattle.pot_session.specs.declared.status.Status.{Status}
 use Rattle.pot_session.specs.declared.status.Status.TheVariants as status
-use Rattle.pot_session.specs.Generating.{Generates, IsGenerated, Told, Starved, answer_of, is_answered}
+use Rattle.pot_session.specs.Generating.{AreSound, Generates, IsGenerated, Told, Starved, answer_of, is_answered}
 use Rattle.pot_session.specs.declared.stop.Stop.{Stop}
 use Rattle.pot_session.specs.Making.{Makes, empty_contents}
 use Rattle.pot_session.specs.Runs.{Holds, seen_by}
 
 -- a session over these objects is one of the number
-pub is_generated : (number : ℕ) (rack : Rack) (seed input rest before bytes : List ℕ) (held holds : Option (List ℕ)) (meant means : ℕ → Meaning) (ended : Status)
+pub is_generated : (number : ℕ) (rack : Rack) (seed input rest before bytes : List ℕ) (held holds : Option (List ℕ)) (meant means : ℕ → Meaning) (failed fails desk_failed desk_fails : ℕ) (ended : Status)
     → rack ≡ rack_of_runs → seed ≡ seed_of number → input ≡ script_text (generated number) → before ≡ [] → held ≡ Some (image_bytes (empty_contents rack))
-    → ((n : ℕ) → meant n ≡ meaning_of None)
-    → Holds seed (seen_by (IsTrue true) input rest (IsTrue true) before bytes (IsTrue true) held holds (IsTrue true) meant means) ended → IsGenerated number bytes ended
-is_generated number rack seed input rest before bytes held holds meant means ended same_rack same_seed same_input none is_held empty session = record {
+    → ((n : ℕ) → meant n ≡ meaning_of None) → AreSound means → failed ≡ 0
+    → Holds seed (seen_by (IsTrue true) input rest (IsTrue true) before bytes (IsTrue true) held holds (IsTrue true) meant means failed fails desk_failed desk_fails) ended → IsGenerated number bytes ended
+is_generated number rack seed input rest before bytes held holds meant means failed fails desk_failed desk_fails ended same_rack same_seed same_input none is_held empty are_sound none_failed session = record {
   rest = rest;
   holds = holds;
   meant = meant;
   means = means;
+  fails = fails;
+  desk_failed = desk_failed;
+  desk_fails = desk_fails;
   empty = empty;
+  sound = are_sound;
   session =
-      subst (λ (r : Rack). Holds (seed_of number) (seen_by (IsTrue true) (script_text (generated number)) rest (IsTrue true) [] bytes (IsTrue true) (Some (image_bytes (empty_contents r))) holds (IsTrue true) meant means) ended) same_rack
-      (subst (λ h. Holds (seed_of number) (seen_by (IsTrue true) (script_text (generated number)) rest (IsTrue true) [] bytes (IsTrue true) h holds (IsTrue true) meant means) ended) is_held
-      (subst (λ b. Holds (seed_of number) (seen_by (IsTrue true) (script_text (generated number)) rest (IsTrue true) b bytes (IsTrue true) held holds (IsTrue true) meant means) ended) none
-      (subst (λ i. Holds (seed_of number) (seen_by (IsTrue true) i rest (IsTrue true) before bytes (IsTrue true) held holds (IsTrue true) meant means) ended) same_input
-      (subst (λ s. Holds s (seen_by (IsTrue true) input rest (IsTrue true) before bytes (IsTrue true) held holds (IsTrue true) meant means) ended) same_seed session))));
+      subst (λ k. Holds (seed_of number) (seen_by (IsTrue true) (script_text (generated number)) rest (IsTrue true) [] bytes (IsTrue true) (Some (image_bytes (empty_contents rack_of_runs))) holds (IsTrue true) meant means k fails desk_failed desk_fails) ended) none_failed
+      (subst (λ (r : Rack). Holds (seed_of number) (seen_by (IsTrue true) (script_text (generated number)) rest (IsTrue true) [] bytes (IsTrue true) (Some (image_bytes (empty_contents r))) holds (IsTrue true) meant means failed fails desk_failed desk_fails) ended) same_rack
+      (subst (λ h. Holds (seed_of number) (seen_by (IsTrue true) (script_text (generated number)) rest (IsTrue true) [] bytes (IsTrue true) h holds (IsTrue true) meant means failed fails desk_failed desk_fails) ended) is_held
+      (subst (λ b. Holds (seed_of number) (seen_by (IsTrue true) (script_text (generated number)) rest (IsTrue true) b bytes (IsTrue true) held holds (IsTrue true) meant means failed fails desk_failed desk_fails) ended) none
+      (subst (λ i. Holds (seed_of number) (seen_by (IsTrue true) i rest (IsTrue true) before bytes (IsTrue true) held holds (IsTrue true) meant means failed fails desk_failed desk_fails) ended) same_input
+      (subst (λ s. Holds s (seen_by (IsTrue true) input rest (IsTrue true) before bytes (IsTrue true) held holds (IsTrue true) meant means failed fails desk_failed desk_fails) ended) same_seed session)))));
 }
 
 -- a new archive was made
@@ -46,6 +52,14 @@ image_made rack before after (Err e) h made = absurd (cc h)
 -- a room without archives means an empty one by each number
 pub meant_empty : (shelves : List (Shelf LossyArchive)) (n : ℕ) {m : Meaning} → shelves ≡ [] → m ≡ meaning_of (archive_of shelves n) → m ≡ meaning_of None
 meant_empty shelves n none is = is ∙ ap (λ s. meaning_of (archive_of s n)) none
+
+-- one archive more made no failing call
+pub sound_more : (means : ℕ → Meaning) (number : ℕ) → ((q : ℕ) → q < number → (means q).faults ≡ 0)
+    → (means number).faults ≡ 0 → (q : ℕ) → q < number + 1 → (means q).faults ≡ 0
+sound_more means number before now q l = elim (cases_lt q number) [
+  | inl less ↦ before q less
+  | inr le ↦ subst (λ k. (means k).faults ≡ 0) (let e : number ≡ q = omega (arith, l, le) in e) now
+]
 
 -- THE STATUS
 

@@ -1,6 +1,6 @@
 -- Groups that were started, and that end one by one.
 use Rattle.std.proofs.Common.{◌≡◌, ◌≤◌, ◌+◌, ◌++◌, inl, inr, ℕ, zero, suc, List, [], ◌∷◌, length, take, drop, map, refl, sym, ap, subst, ◌∙◌, arith, append_assoc, append-nil, length-append}
-use Rattle.std.specs.Prelude.{Some, All, Contains, slice_get, flat_map}
+use Rattle.std.specs.Prelude.{Some, None, All, Contains, slice_get, flat_map}
 use Rattle.std.proofs.Math.Seq.{take-append_seam, drop-append_seam}
 use Rattle.std.proofs.lemmas.Grind.{flat_map-append}
 use Rattle.std.proofs.lemmas.List.Elements.{All-head, All-tail}
@@ -14,7 +14,7 @@ use Rattle.pot_outside.specs.declared.archive.Marks.{Marks}
 use Rattle.pot_outside.specs.declared.archive.Shelf.{Shelf}
 use Rattle.pot_machine.specs.declared.entry.Entry.{Entry}
 use Rattle.pot_machine.specs.declared.entry.Entry.TheVariants.{Gone, Broke}
-use Rattle.pot_machine.specs.Table.{Table, width, archives_in}
+use Rattle.pot_machine.specs.Table.{Table, width, archives_in, serving_at}
 use Rattle.pot_machine.specs.Logs.{job_of}
 use Rattle.pot_group.specs.Arrivals.{arrivals, HasArrived}
 use Rattle.pot_group.specs.Beginning.{Begins}
@@ -23,7 +23,7 @@ use Rattle.pot_shelves.specs.Shelves.{numbers_of, shelf_of, given, plain}
 use Rattle.pot_group.proofs.CauseLemmas.{OfOpening, opening_entries}
 use Rattle.pot_shared.specs.Members.{mark_at}
 use Rattle.pot_commands.specs.Taking.{marks_of}
-use Rattle.pot_session.specs.Groups.{IsStarted, IsEnded, AreStarted, AreMarked, AreEnded, had_by}
+use Rattle.pot_session.specs.Groups.{IsOpened, IsStarted, IsEnded, AreStarted, AreMarked, AreEnded, had_by}
 use Rattle.pot_commands.specs.Holding.{times, AreSame, AreMeant}
 use Rattle.pot_session.proofs.Lists.{each_more, pair_more, same_flat, flat_snoc, flat_parts, grown, all_at}
 use Rattle.pot_commands.proofs.TakingLemmas.{times-append}
@@ -83,6 +83,32 @@ marked_of {A} told meaning meant number t handed g tells b e are n has = same
 
     same : mark_at (plain meaning g.shelves) n ≡ marks_of (meant n)
     same = ap (λ f. marks f ((plain meaning g.shelves).losses_taken n)) faulted ∙ ap (λ l. marks (meant n).faults l) lost
+
+-- what an archive holds, the room meant
+held_meant : {A : Type 0} (meaning : A → Meaning) (meant : ℕ → Meaning) (ss : List (Shelf A)) → AreMeant meaning meant ss → (n slot : ℕ) (block : List ℕ)
+    → given (λ x. (meaning x).held slot) None (shelf_of ss n) ≡ Some block → (meant n).held slot ≡ Some block
+held_meant meaning meant [] are n slot block e = absurd (cc e)
+held_meant meaning meant (x ∷ xs) are n slot block e = elim (eqb_tells x.number n) [
+  | inl t ↦ (let here : shelf_of (x ∷ xs) n ≡ Some x = rw t.0 refl in
+      let is : IsMeant (meant x.number) (meaning x.archive) = are x (0, omega arith, refl) in
+      subst (λ k. (meant k).held slot ≡ Some block) t.1 (sym (is.blocks slot) ∙ (sym (ap (λ o. given (λ y. (meaning y).held slot) None o) here) ∙ e)))
+  | inr t ↦ (let there : shelf_of (x ∷ xs) n ≡ shelf_of xs n = rw t.0 refl in
+      held_meant meaning meant xs (λ s has. are s (suc has.0, (let l = has.1 in omega (arith, l)), has.2)) n slot block (sym (ap (λ o. given (λ y. (meaning y).held slot) None o) there) ∙ e))
+]
+
+-- its opening rests on blocks that the room meant
+pub opened_of : {A : Type 0} (told : Type 0) (meaning : A → Meaning) (meant : ℕ → Meaning) (number : ℕ) (t : Table) (handed : List (Shelf A)) (g : GroupParts A) → told → Begins told meaning number t handed g
+    → AreMeant meaning meant handed → IsOpened meant t g.log
+opened_of told meaning meant number t handed g tells b are = record {
+  read = b.opens.read;
+  gone = b.opens.gone;
+  broke = b.opens.broke;
+  found = λ s c block ls lc e.
+      held_meant meaning meant b.taken.shelves (λ x has. are x (subst (λ ss. Contains ss x) b.shelves has)) (serving_at t s c) s block (b.opens.reads tells s c block ls lc e);
+  finds = b.opens.finds;
+  breaks = b.opens.breaks;
+  is = b.opens.log;
+}
 
 -- the archives of a group that was started are those of its table
 pub had_started : (number : ℕ) (t : Table) (g : GroupView) → IsStarted number t g → had_by g ≡ archives_in t

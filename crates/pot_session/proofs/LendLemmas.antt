@@ -3,7 +3,7 @@ use Rattle.std.proofs.Common.{◌≡◌, ◌<◌, ◌≤◌, ◌++◌, ⊎_elim,
 use Rattle.std.specs.Prelude.{Option, Some, None, All, Contains, IsSome, IsSomeAnd, slice_index_or, flat_map}
 use Rattle.std.proofs.lemmas.List.Elements.{All-head, All-tail, Contains-append_cases, Contains-append_left, Contains-append_right}
 use Rattle.pot_bytes.proofs.Elements.{none_contained}
-use Rattle.pot_outside.specs.Archives.{Meaning}
+use Rattle.pot_outside.specs.Archives.{Meaning, IsMeant}
 use Rattle.pot_machine.specs.declared.entry.Entry.{Entry}
 use Rattle.pot_machine.specs.Rules.{IsTable}
 use Rattle.pot_machine.specs.Table.{Table, holder_of, archives_in}
@@ -21,7 +21,7 @@ use Rattle.pot_store.specs.Works.{Known, gained}
 use Rattle.pot_store.proofs.NoteLemmas.{one_if}
 use Rattle.pot_commands.specs.Going.{AllSole}
 use Rattle.pot_commands.specs.Holding.{times, AreOut, Untouched}
-use Rattle.pot_commands.specs.Taking.{Lending, Takes, Come, AreMarkedBy, AreUsed, marks_of}
+use Rattle.pot_commands.specs.Taking.{Lending, Takes, Come, AreMarkedBy, AreUsed, came_in, marks_of}
 use Rattle.pot_commands.proofs.ArrivingLemmas.{arrived_used}
 use Rattle.pot_commands.proofs.TakingLemmas.{arrival_in, came_within, times-append, times_there}
 use Rattle.pot_session.specs.Groups.{AreFirstPasses, AreLow, HaveCome, table_read, tables_read}
@@ -132,3 +132,15 @@ module _ (told well : Type 0) (asked : List ℕ) (r r' : Lending) (old new : Kno
 
   pub none_first : (n : ℕ) → times n (ns ++ asked) ≡ 0 → times n ns ≡ 0
   none_first n none = none_before_asked n ns asked none
+
+  -- a number that was not out, and that no log brought, is home and means what it meant
+  pub still_meant : told → well → AllSole old new → (n : ℕ) → times n ns ≡ 0 → times n (came_in (length old.groups.names) (gained old.groups new.groups)) ≡ 0
+      → (r'.out n ≡ false) × IsMeant (r.means n) (r'.means n)
+  still_meant tells it sole n none unbrought = (home, takes.still tells it n home)
+    where
+      by : (b : Bool) → one_if b ≡ 0 → b ≡ false
+      by true e = absurd (omega (arith, e))
+      by false e = refl
+
+      home : r'.out n ≡ false
+      home = by (r'.out n) (let a = come.are sole n in let b = outs n in let c = takes.out n in omega (arith, none, unbrought, a, b, c))

@@ -28,3 +28,6 @@ pub mod WordLemmas
 pub mod WorkLemmas
 pub mod TopLemmas
 pub mod GenerateLemmas
+pub mod GivingLemmas
+pub mod FoundLemmas
+pub mod StripeLemmas

@@ -1,6 +1,6 @@
 -- Where no archive lost a block, a job that could not have a block found its slot not Live.
 use Rattle.std.proofs.Common.{◌≡◌, ◌<◌, inl, inr, ℕ, zero, suc, ◌+◌, ◌*◌, Bool, true, false, Option, Some, None, IsSomeAnd, List, [], ◌∷◌, ◌++◌, length, refl, ap, sym, ◌∙◌, subst, arith, append_assoc, IsTrue}
-use Rattle.std.specs.Prelude.{◌==◌, Contains, Result, filter, slice_get}
+use Rattle.std.specs.Prelude.{◌==◌, Contains, filter, slice_get}
 use Rattle.std.proofs.lemmas.List.Elements.{Contains-append_left}
 use Rattle.std.proofs.lemmas.Bool.{false_from_ne_true}
 use Rattle.pot_bytes.specs.declared.digest.Digest.{Digest}
@@ -38,9 +38,8 @@ use Rattle.pot_store.specs.Visits.{place_in}
 use Rattle.pot_store.proofs.FitLemmas.{current_fits, fits_place, fragment_within, point_within}
 use Rattle.pot_commands.specs.Ends.{brings_none}
 use Rattle.pot_session.specs.Groups.{had_by}
-use Rattle.pot_session.specs.declared.stop.Stop.{Stop}
-use Rattle.pot_session.specs.Serving.{IsBack, IsInRoom, LeavesGroup, LeaveGroups, rooms_by, setting_of}
-use Rattle.pot_session.specs.Losses.{LostNone, BroughtNone, BeginWith, IsInVain, WasNotLive, FewAreLive, LostWhereFew}
+use Rattle.pot_session.specs.Serving.{IsInRoom, LeavesGroup, LeaveGroups, setting_of}
+use Rattle.pot_session.specs.Losses.{AreBack, LostNone, BroughtNone, BeginWith, IsInVain, WasNotLive, FewAreLive, LostWhereFew}
 use Rattle.pot_session.proofs.Lists.{at_same, all_at_place, flat_contains}
 
 -- THE LAST OF SOME ELEMENTS
@@ -115,7 +114,7 @@ column_archives t log c n lt none has =
         nil_right [] = refl
         nil_right (x ∷ xs) = ap (λ l. x ∷ l) (nil_right xs)
 
-get_within : {X : Type 0} (xs : List X) (n : ℕ) (x : X) → slice_get xs n ≡ Some x → n < length xs
+pub get_within : {X : Type 0} (xs : List X) (n : ℕ) (x : X) → slice_get xs n ≡ Some x → n < length xs
 get_within [] n x e = absurd (cc)
 get_within (y ∷ ys) zero x e = omega arith
 get_within (y ∷ ys) (suc n) x e = (let l = get_within ys n x e in omega (arith, l))
@@ -141,8 +140,8 @@ group_within rack kept room b lt =
 
 -- THE LAW
 
-module _ (told : Type 0) (seed : List ℕ) (first last : Contents) (meant means : ℕ → Meaning) (closed : Result (Unit {0}) Stop) (is_told : told) (back : IsBack closed)
-    (fits : FitsTogether first) (groups : LeaveGroups told meant (IsInRoom (rooms_by told meant means) (IsBack closed)) first.tables last.group_logs last.tables)
+module _ (told : Type 0) (seed : List ℕ) (first last : Contents) (meant means : ℕ → Meaning) (missing : List ℕ) (is_told : told) (back : AreBack missing first.tables)
+    (fits : FitsTogether first) (groups : LeaveGroups told meant (IsInRoom told means missing) first.tables last.group_logs last.tables)
     (kept_all : LostNone meant means first.tables) (none : BroughtNone last.group_logs) where
   -- a Gone of a job in the log of a group
   gone_at : (g s c job : ℕ) (t : Table) (log x y : List Entry) → slice_get first.tables g ≡ Some t → slice_get last.group_logs g ≡ Some log
@@ -150,7 +149,7 @@ module _ (told : Type 0) (seed : List ℕ) (first last : Contents) (meant means 
   gone_at g s c job t log x y is_table is_log parts lt some =
       let in_last : g < length last.tables = (let a = groups.count in let b = get_within first.tables g t is_table in omega (arith, a, b)) in
       let written = element_at last.tables g in_last in
-      let left : LeavesGroup told meant (IsInRoom (rooms_by told meant means) (IsBack closed)) t log written.0 = groups.each g t written.0 log is_table written.1 is_log in
+      let left : LeavesGroup told meant (IsInRoom told means missing) t log written.0 = groups.each g t written.0 log is_table written.1 is_log in
       let view = left.view in
       let rules : FitsTable first.rack t = all_at_place (FitsTable first.rack) first.tables g t fits.tables.fits is_table in
       let lt_columns : c < length t.columns = (let a = rules.rules.size.columns in omega (arith, lt, a)) in
@@ -163,7 +162,7 @@ module _ (told : Type 0) (seed : List ℕ) (first last : Contents) (meant means 
       (let among : Contains (archives_in t) h.0 = column_archives t log c h.0 lt_columns brought_none h.1 in
       let had : Contains (had_by view) h.0 = Contains-append_left (archives_in view.first) (arrivals view.log) h.0 (subst (λ f. Contains (archives_in f) h.0) (sym left.first) among) in
       let marks : view.shelves.losses_taken h.0 ≡ (meant h.0).losses = ap (λ (m : Marks). m.losses) (left.marked is_told h.0 had) in
-      let shows = left.archives h.0 had is_told back in
+      let shows = left.archives h.0 had is_told (back h.0 (flat_contains archives_in first.tables g t h.0 is_table among)) in
       kept_all h.0 (flat_contains archives_in first.tables g t h.0 is_table among)
       (subst (λ n. Rose n (means h.0).losses) marks (subst (λ n. Rose (view.shelves.losses_taken h.0) n) shows.losses h.2))) in
       false_from_ne_true (is_live (slot_at (replayed t x) s c)) (λ live.
@@ -175,7 +174,7 @@ module _ (told : Type 0) (seed : List ℕ) (first last : Contents) (meant means 
   its_log g t log is_table is_log =
       let in_last : g < length last.tables = (let a = groups.count in let b = get_within first.tables g t is_table in omega (arith, a, b)) in
       let written = element_at last.tables g in_last in
-      let left : LeavesGroup told meant (IsInRoom (rooms_by told meant means) (IsBack closed)) t log written.0 = groups.each g t written.0 log is_table written.1 is_log in
+      let left : LeavesGroup told meant (IsInRoom told means missing) t log written.0 = groups.each g t written.0 log is_table written.1 is_log in
       (left.view.table, subst (λ l. Replays t l left.view.table) left.is_log (subst (λ f. Replays f left.view.log left.view.table) left.first left.settled.replay))
 
   -- an entry of a job that says that a slot gave nothing, or could not be mended
@@ -252,5 +251,5 @@ module _ (told : Type 0) (seed : List ℕ) (first last : Contents) (meant means 
     }
 
 pub lost_where_few : (told : Type 0) → LostWhereFew told
-lost_where_few told seed first last meant means closed job name piece fragment have need w is_told back fits groups kept_all none begin some lost room =
-    few_are_live told seed first last meant means closed is_told back fits groups kept_all none job name piece fragment have need w begin some lost room
+lost_where_few told seed first last meant means missing job name piece fragment have need w is_told back fits groups kept_all none begin some lost room =
+    few_are_live told seed first last meant means missing is_told back fits groups kept_all none job name piece fragment have need w begin some lost room

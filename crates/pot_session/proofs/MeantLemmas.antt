@@ -35,10 +35,10 @@ module _ {A : Type 0} (meaning : A → Meaning) where
   HeldOrGiven told out means hand s = Contains hand s ⊎ ((out s.number ≡ false) × (told → IsMeant (means s.number) (meaning s.archive)))
 
   pub given_more : (told now : Type 0) (out new : ℕ → Bool) (means after : ℕ → Meaning) (hand : List (Shelf A)) (p : ℕ) (x s : Shelf A) → p < length hand → x ≡ slice_index_or hand p x
-      → out x.number ≡ true → new x.number ≡ false → (now → told) → (now → IsMeant (after x.number) (meaning x.archive))
+      → out x.number ≡ true → new x.number ≡ false → (now → told) → (s ≡ x → now → IsMeant (after x.number) (meaning x.archive))
       → ((n : ℕ) → n ≢ x.number → (after n ≡ means n) × (new n ≡ out n)) → HeldOrGiven told out means hand s → HeldOrGiven now new after (remove hand p) s
   given_more told now out new means after hand p x s l e was back then its others (inl c) = elim (remove_contains hand p x s l e c) [
-    | inl h ↦ inr (subst (λ (y : Shelf A). new y.number ≡ false) (sym h) back, λ t. subst (λ (y : Shelf A). IsMeant (after y.number) (meaning y.archive)) (sym h) (its t))
+    | inl h ↦ inr (subst (λ (y : Shelf A). new y.number ≡ false) (sym h) back, λ t. subst (λ (y : Shelf A). IsMeant (after y.number) (meaning y.archive)) (sym h) (its h t))
     | inr h ↦ inl h
   ]
   given_more told now out new means after hand p x s l e was back then its others (inr g) =

@@ -23,7 +23,7 @@ use Rattle.pot_shared.specs.Sharing.{AreFirst, HaveLogs}
 use Rattle.pot_replies.specs.Sessions.{ByNobody}
 use Rattle.pot_shared.proofs.MemberLemmas.{entries_all}
 use Rattle.pot_commands.specs.Taking.{marks_of}
-use Rattle.pot_session.specs.Groups.{AreStarted, AreOfRack, AreAllMarked, AreFirstPasses, AreTakenAt, IsFirstPass, had_by, table_read, tables_read}
+use Rattle.pot_session.specs.Groups.{AreStarted, AreOfRack, AreTakenFrom, AreFirstPasses, AreTakenAt, IsFirstPass, IsOpened, had_by, table_read, tables_read}
 use Rattle.pot_session.proofs.Lists.{same_maps, same_flat, same_on, all_at_place}
 
 -- the first tables are those that the groups were started over
@@ -88,14 +88,21 @@ same_had see ms hs h = same_flat (λ m. had_by (see m)) (λ m. had_by (see m)) h
         ap (λ o. archives_in o.first ++ arrivals (see y).log) e.1
         ∙ ap (λ l. archives_in (see m).first ++ arrivals l) (sym (entries_all (see y).shelves (see y).log) ∙ (ap entries_of e.0 ∙ entries_all (see m).shelves (see m).log))
 
--- the marks of the archives that the first passes know are those of the groups
-pub taken_at : {M : Type 0} (see : M → GroupView) (ms : List M) (names : List TurnName) (row : GroupPasses) (meant : ℕ → Meaning) → AreFirst see ms row → AreOf names row → length names ≡ length ms → AreAllMarked meant see ms
+-- what the first passes know of the archives and of the openings is so of the groups
+pub taken_at : {M : Type 0} (see : M → GroupView) (ms : List M) (names : List TurnName) (row : GroupPasses) (meant : ℕ → Meaning) → AreFirst see ms row → AreOf names row → length names ≡ length ms → AreTakenFrom meant see ms
     → AreTakenAt meant row
 taken_at {M} see ms names row meant first of long marked g o e = elim (cases_lt g (length names)) [
   | inl l ↦ (let m = element_at ms g (let n = long in omega (arith, l, n)) in at m.0 m.1)
   | inr l ↦ absurd (let q = sym e ∙ ap (λ (v : GroupPass). v.origin) (at_past names row g of l) in cc)
 ]
   where
-    at : (m : M) → slice_get ms g ≡ Some m → o.taken ≡ map (λ n. marks_of (meant n)) (archives_in o.first)
-    at m q = subst (λ (p : GroupOrigin). p.taken ≡ map (λ n. marks_of (meant n)) (archives_in p.first)) (same_Some (origin_of (see m)) o (sym (ap (λ (v : GroupPass). v.origin) (first g m q)) ∙ e))
-        (same_on (mark_at (see m).shelves) (λ n. marks_of (meant n)) (archives_in (see m).first) (marked g m q))
+    at : (m : M) → slice_get ms g ≡ Some m → (o.taken ≡ map (λ n. marks_of (meant n)) (archives_in o.first)) × IsOpened meant o.first (entries_of (view_at row g).seen)
+    at m q = (
+      subst (λ (p : GroupOrigin). p.taken ≡ map (λ n. marks_of (meant n)) (archives_in p.first)) same
+          (same_on (mark_at (see m).shelves) (λ n. marks_of (meant n)) (archives_in (see m).first) (marked g m q).marked),
+      subst (λ (p : GroupOrigin). IsOpened meant p.first (entries_of (view_at row g).seen)) same
+          (subst (λ l. IsOpened meant (see m).first l) (sym (ap (λ (v : GroupPass). entries_of v.seen) (first g m q) ∙ entries_all (see m).shelves (see m).log)) (marked g m q).opened),
+    )
+      where
+        same : origin_of (see m) ≡ o
+        same = same_Some (origin_of (see m)) o (sym (ap (λ (v : GroupPass). v.origin) (first g m q)) ∙ e)

@@ -1,9 +1,12 @@
 -- The blocks that are read from archives.
-use Rattle.std.proofs.Common.{◌≡◌, ◌≢◌, ◌<◌, ◌≤◌, ◌+◌, ◌-◌, ◌^◌, inl, inr, ℕ, Bool, true, false, List, sym, ap, subst, ◌∙◌, arith}
-use Rattle.std.specs.Prelude.{Some, Result, Ok, Err, IsOk, OnOk}
+use Rattle.std.proofs.Common.{◌≡◌, ◌≢◌, ◌<◌, ◌≤◌, ◌+◌, ◌-◌, ◌^◌, ◌⊎◌, inl, inr, ℕ, Bool, true, false, List, refl, sym, ap, subst, ◌∙◌, arith}
+use Rattle.std.specs.Prelude.{Some, Result, Ok, Err, IsErr, IsOk, OnOk}
 use Rattle.std.proofs.lemmas.Bool.{cases_lt}
 use Rattle.pot_outside.specs.Archives.{Meaning, IsMeant}
+use Rattle.pot_outside.specs.Counts.{Caused, Rose}
+use Rattle.pot_outside.specs.declared.faults.Failed.{Failed}
 use Rattle.pot_outside.proofs.LossLemmas.{loses_more}
+use Rattle.pot_doubles.proofs.CallLemmas.{rose_later}
 use Rattle.pot_words.specs.Limits.{IsWithinLimits}
 use Rattle.pot_words.specs.declared.recover.Recover.{Recover}
 use Rattle.pot_words.specs.declared.task.Task.TheVariants as task
@@ -12,7 +15,7 @@ use Rattle.pot_session.specs.declared.status.Status.TheVariants as status
 use Rattle.pot_session.specs.declared.stop.Stop.{Stop}
 use Rattle.pot_session.specs.declared.stop.Stop.TheVariants as stop
 use Rattle.pot_session.specs.Listing.{has_partial}
-use Rattle.pot_session.specs.Recovering.{Adds, AreHeldIn, FindsObjects, Gathers, IsHeldIn, IsRecovery, ListAnswers, Recovers, WasRead}
+use Rattle.pot_session.specs.Recovering.{Adds, AreHeldIn, FindsObjects, Gathers, HasFailed, IsHeldIn, IsRecovery, ListAnswers, Recovers, SomeFailed, WasRead}
 use Rattle.pot_session.specs.Stops.{status_of}
 use Rattle.pot_session.specs.Telling.{told_status}
 
@@ -104,6 +107,21 @@ held_more number stripes meant middle means before after h untouched g others = 
 pub ok_gives : {E : Type 0} (r : Result (Unit {0}) E) (P : Type 0) → IsOk r → OnOk r P → P
 ok_gives (Ok u) P ok p = p
 ok_gives (Err e) P ok p = absurd (cc)
+
+-- FAILURES
+
+-- a read that failed at an archive which was then given back: the archive failed, or the room did
+pub why_failed : (told : Type 0) (a b d : ℕ) (given : Result (Unit {0}) Failed) (meant means old new : Meaning) → a ≤ b → Caused b d (IsErr given) → OnOk given (told → IsMeant means new)
+    → (told → IsMeant meant old) → Rose old.faults new.faults → Rose a d ⊎ (told → HasFailed meant means)
+why_failed told a b d (Ok u) meant means old new le cause back took rose =
+    inr (λ t. subst (λ k. Rose k means.faults) (took t).faulted (subst (λ k. Rose old.faults k) (back t).faulted rose))
+why_failed told a b d (Err e) meant means old new le cause back took rose = inl (rose_later a b d le (cause.rose refl))
+
+-- so one of the first archives did
+pub some_failed : (told : Type 0) (archives number : ℕ) (meant middle means : ℕ → Meaning) (a b d : ℕ) → number < archives → a ≤ b → middle number ≡ meant number
+    → Rose b d ⊎ (told → HasFailed (middle number) (means number)) → Rose a d ⊎ (told → SomeFailed archives meant means)
+some_failed told archives number meant middle means a b d lt le same (inl r) = inl (rose_later a b d le r)
+some_failed told archives number meant middle means a b d lt le same (inr h) = inr (λ t. (number, lt, subst (λ m. HasFailed m (means number)) same (h t)))
 
 -- THE WORD
 

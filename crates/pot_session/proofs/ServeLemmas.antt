@@ -14,7 +14,6 @@ use Rattle.pot_machine.specs.Table.{Table, slot_at}
 use Rattle.pot_machine.specs.Making.{empty_table}
 use Rattle.pot_script.specs.declared.grouping.Step.{Step}
 use Rattle.pot_image.specs.Images.{Contents}
-use Rattle.pot_image.specs.Spelling.{image_bytes}
 use Rattle.pot_turn.specs.declared.name.TurnName.{TurnName}
 use Rattle.pot_turn.specs.Views.{spent_view}
 use Rattle.pot_rows.specs.Rows.{HasMoreParts, PassRow, view_at}
@@ -28,6 +27,7 @@ use Rattle.pot_commands.specs.declared.working.Ending.{Ending}
 use Rattle.pot_commands.specs.declared.working.Ending.TheVariants as ending
 use Rattle.pot_commands.specs.Rows.{HasFilled, IsSessionSetting}
 use Rattle.pot_commands.specs.Ends.{Ends}
+use Rattle.pot_commands.specs.Failures.{Fails}
 use Rattle.pot_commands.specs.Going.{Stays}
 use Rattle.pot_commands.proofs.Judging.{ends_over}
 use Rattle.pot_session.specs.declared.status.Status.{Status}
@@ -36,7 +36,7 @@ use Rattle.pot_session.specs.declared.stop.Stop.{Stop}
 use Rattle.pot_session.specs.declared.stop.Stop.TheVariants as stop
 use Rattle.pot_session.specs.Groups.{AreFirstPasses, table_read, tables_read, records_read}
 use Rattle.pot_session.proofs.Lists.{at_same}
-use Rattle.pot_session.specs.Serving.{Rooms, Serves, Closed, Closes, IsCloseStop, IsEnd, setting_of, status_after}
+use Rattle.pot_session.specs.Serving.{Desks, Rooms, Serves, Closed, Closes, IsCloseStop, IsEnd, OthersStay, setting_of, status_after}
 
 -- WHAT STAYS
 
@@ -50,6 +50,10 @@ reads (v ∷ vs) (w ∷ ws) long e =
 
 pub same_read : (rack : Rack) (names : List TurnName) (old new : GroupPasses) → AreReady rack names old → AreReady rack names new → Stays old new → tables_read new ≡ tables_read old
 same_read rack names old new a b s = reads old.views new.views (b.of.1 ∙ sym a.of.1) s.origin
+
+-- the tables that the first passes read
+pub first_tables : (rack : Rack) (names : List TurnName) (old new : GroupPasses) {index : IndexPasses} → AreFirstPasses old index → AreReady rack names new → Stays old new → tables_read new ≡ tables_read old
+first_tables rack names old new f b s = reads old.views new.views (b.of.1 ∙ (ap length (sym b.of.0) ∙ (ap length s.names ∙ sym f.count))) s.origin
 
 pub same_records : (old new : IndexPasses) → Stays old new → records_read new ≡ records_read old
 same_records old new s = ap records_in (s.origin 0)
@@ -133,22 +137,27 @@ all_parts row h at l = (let p = h at l in omega (arith, p))
 -- THE END
 
 -- a session that worked its steps and closed
-pub serves_closed : (seed : List ℕ) (first : Contents) (steps : List Step) (rooms : Rooms) (sink_told : Type 0) (before after : List ℕ) (desk_told : Type 0) (held holds : Option (List ℕ)) (rack : Rack) (session : ℕ) (old new : Known)
-    (e : Ending) (closed : Result (Unit {0}) Stop) (answer : Status) → AreFirstPasses old.groups old.index → tables_read old.groups ≡ first.tables → records_read old.index ≡ first.records → rack ≡ first.rack → session ≡ first.session
-    → Ends rack seed session sink_told before after steps old new e → Closes old new rooms (desk_told × (held ≡ Some (image_bytes first))) first holds closed → IsCloseStop closed → (desk_told → held ≡ Some (image_bytes first))
-    → answer ≡ status_after e closed → FitsTogether first → Serves seed first steps rooms sink_told before after desk_told holds answer
-serves_closed seed first steps rooms sink_told before after desk_told held holds rack session old new e closed answer opened tables records same number ends closes is kept status fits = Closed (record {
+pub serves_closed : (seed : List ℕ) (first : Contents) (steps : List Step) (rooms : Rooms) (sink_told : Type 0) (before after : List ℕ) (desk : Desks) (held : Type 0) (rack : Rack) (session : ℕ) (old new : Known)
+    (e : Ending) (worked : ℕ) (closed : Result (Unit {0}) Stop) (answer : Status) → AreFirstPasses old.groups old.index → tables_read old.groups ≡ first.tables → records_read old.index ≡ first.records → rack ≡ first.rack
+    → session ≡ first.session → Ends rack seed session sink_told before after steps old new e → Fails rooms.failed worked (e ≡ ending.RoomFailed) → (closes : Closes old new rooms worked held desk first closed)
+    → (desk.told → held) → (rooms.told → (e ≡ ending.RoomFailed → ⊥) → OthersStay first.tables closes.last.group_logs rooms.meant rooms.means)
+    → answer ≡ status_after e closed → FitsTogether first → Serves seed first steps rooms sink_told before after desk answer
+serves_closed seed first steps rooms sink_told before after desk held rack session old new e worked closed answer opened tables records same number ends fails closes kept others status fits = Closed (record {
   last = closes.last;
   story = section_of old new;
-  leaves = closes.leaves;
   ending = e;
   ends = ends_over rack seed session sink_told before after steps old new e ends closes.sole (setting_of seed first)
       (subst (λ r. IsSessionSetting (setting_of seed first) r seed session old) (sym same) (subst (λ n. IsSessionSetting (setting_of seed first) first.rack seed n old) (sym number)
       (session_setting seed first old.groups old.index fits opened tables records)));
-  closed = closed;
-  is_stop = is;
-  desk = λ t. closes.desk (t, kept t);
-  status = status;
+  worked = worked;
+  fails = fails;
+  missing = closes.missing;
+  failed_at = closes.failed_at;
+  leaves = closes.leaves;
+  others = others;
+  kept = closes.kept;
+  keeps = closes.keeps kept;
+  status = status ∙ ap (λ r. status_after e r) closes.is;
 })
 
 end_by : (refused : Bool) → IsEnd (cond refused status.Refusals status.Good)

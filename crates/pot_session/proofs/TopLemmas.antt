@@ -1,10 +1,11 @@
 -- What a refusal and a session say of the failures of objects.
-use Rattle.std.proofs.Common.{◌≡◌, ◌++◌, inl, inr, ℕ, List, [], refl, sym, ap, subst, ◌∙◌}
+use Rattle.std.proofs.Common.{◌≡◌, ◌≤◌, ◌++◌, inl, inr, ℕ, List, [], refl, sym, ap, subst, ◌∙◌, arith}
 use Rattle.std.specs.Prelude.{Option, Result, Ok, Err, IfErr, flat_map}
+use Rattle.pot_doubles.proofs.CallLemmas.{rose_later}
 use Rattle.pot_script.specs.declared.grouping.Step.{Step}
 use Rattle.pot_machine.specs.Table.{archives_in}
 use Rattle.pot_image.specs.declared.image.Image.{Image}
-use Rattle.pot_image.specs.Images.{contents}
+use Rattle.pot_image.specs.Images.{Contents, contents}
 use Rattle.pot_session.specs.declared.status.Status.{Status}
 use Rattle.pot_session.specs.declared.status.Status.TheVariants as status
 use Rattle.pot_session.specs.declared.stop.Stop.{Stop}
@@ -15,11 +16,11 @@ use Rattle.pot_options.specs.Options.{Text}
 use Rattle.pot_words.specs.Tasks.{SpellTask}
 use Rattle.pot_words.specs.declared.run.Run.{Run}
 use Rattle.pot_words.specs.declared.task.Task.TheVariants as task
-use Rattle.pot_session.specs.Runs.{IsPrepared, Seen, Holds, Served}
+use Rattle.pot_session.specs.Runs.{IsPrepared, Seen, Holds, Served, desk_in, room_in}
 use Rattle.pot_session.specs.Calls.{Runs, Session}
 use Rattle.pot_session.specs.Tasks.{seed_of}
 use Rattle.pot_session.specs.Making.{IsMakeStop, InitAnswers}
-use Rattle.pot_session.specs.Serving.{Serves, IsEnd, rooms_by}
+use Rattle.pot_session.specs.Serving.{Closed, Rooms, Serves, Unlent, Unopened, IsEnd, desks_by}
 use Rattle.pot_session.specs.Stops.{Refuses, status_of}
 
 by_status : (told : Type 0) (before after : List ℕ) (s : Stop) (answer x : Status) → Refuses told before after s answer → answer ≡ x → (x ≡ status.SinkFault → ⊥) → (x ≡ status.NoMemory → ⊥) → status_of s ≡ x
@@ -74,13 +75,42 @@ init_room seen before after (Ok u) answer w (inl h) e = (let q : status.Good ≡
 init_room seen before after (Ok u) answer w (inr h) e = (let q : status.SinkFault ≡ status.RoomFault = sym h.0 ∙ e in (cc))
 init_room seen before after (Err s) answer w r e = subst IsMakeStop (refused_room seen before after s answer r e) w
 
+-- a session over a desk that failed before it too
+longer : (seed : List ℕ) (first : Contents) (steps : List Step) (rooms : Rooms) (sink_told : Type 0) (before after : List ℕ) (desk_told : Type 0) (holds : Option (List ℕ)) (a b n : ℕ) (answer : Status) → a ≤ b
+    → Serves seed first steps rooms sink_told before after (desks_by desk_told holds b n) answer → Serves seed first steps rooms sink_told before after (desks_by desk_told holds a n) answer
+longer seed first steps rooms sink_told before after desk_told holds a b n answer le (Unlent why sink desk room) = Unlent why sink desk room
+longer seed first steps rooms sink_told before after desk_told holds a b n answer le (Unopened why sink desk) = Unopened why sink desk
+longer seed first steps rooms sink_told before after desk_told holds a b n answer le (Closed c) = Closed (record {
+  last = c.last;
+  story = c.story;
+  ending = c.ending;
+  ends = c.ends;
+  worked = c.worked;
+  fails = c.fails;
+  missing = c.missing;
+  failed_at = c.failed_at;
+  leaves = c.leaves;
+  others = c.others;
+  kept = c.kept;
+  keeps = record {
+    holds = c.keeps.holds;
+    which = c.keeps.which;
+    cause = record {
+      later = (let k = c.keeps.cause.later in omega (arith, le, k));
+      rose = λ e. rose_later a b n le (c.keeps.cause.rose e);
+    };
+  };
+  status = c.status;
+})
+
 -- a session that was prepared and served
-pub served : (seed : List ℕ) (seen : Seen) (answer : Status) (image : Image) (steps used : List Step) (now : Option (List ℕ)) → IsPrepared seen.source_told seen.input seen.desk_told seen.held now image steps
-    → (seen.source_told → seen.rest ≡ []) → used ≡ steps → Serves seed (contents image) used (rooms_by seen.room_told seen.meant seen.means) seen.sink_told seen.before seen.after seen.desk_told seen.holds answer → IsEnd answer
-    → Untouched (flat_map archives_in image.tables.items ++ asked_by used) seen.meant seen.means → Holds seed seen answer
-served seed seen answer image steps used now p read same serves is untouched =
-    Served p.read steps p.of read (subst (λ v. Serves seed v steps (rooms_by seen.room_told seen.meant seen.means) seen.sink_told seen.before seen.after seen.desk_told seen.holds answer) p.is
-    (subst (λ cs. Serves seed (contents image) cs (rooms_by seen.room_told seen.meant seen.means) seen.sink_told seen.before seen.after seen.desk_told seen.holds answer) same serves)) is
+pub served : (seed : List ℕ) (seen : Seen) (answer : Status) (image : Image) (steps used : List Step) (now : Option (List ℕ)) (mid : ℕ) → IsPrepared seen.source_told seen.input seen.desk_told seen.held now image steps
+    → (seen.source_told → seen.rest ≡ []) → used ≡ steps → Serves seed (contents image) used (room_in seen) seen.sink_told seen.before seen.after (desks_by seen.desk_told seen.holds mid seen.desk_fails) answer → IsEnd answer
+    → Untouched (flat_map archives_in image.tables.items ++ asked_by used) seen.meant seen.means → seen.desk_failed ≤ mid → Holds seed seen answer
+served seed seen answer image steps used now mid p read same serves is untouched le =
+    Served p.read steps p.of read (subst (λ v. Serves seed v steps (room_in seen) seen.sink_told seen.before seen.after (desk_in seen) answer) p.is
+    (subst (λ cs. Serves seed (contents image) cs (room_in seen) seen.sink_told seen.before seen.after (desk_in seen) answer) same
+    (longer seed (contents image) used (room_in seen) seen.sink_told seen.before seen.after seen.desk_told seen.holds seen.desk_failed mid seen.desk_fails answer le serves))) is
     (λ n none. untouched n (ap (λ ts. times n (flat_map archives_in ts ++ asked_by used)) (ap (λ v. v.tables) p.is) ∙ (ap (λ cs. times n (flat_map archives_in p.read.tables.items ++ asked_by cs)) same ∙ none)))
 
 -- a session with the seed of its words

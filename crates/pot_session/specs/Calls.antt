@@ -1,6 +1,8 @@
 -- What a call of the program comes to, by the words, the bytes of the source, what the sink got, what the desk held and holds, and what the
 -- room meant and means.
-use Rattle.std.specs.Prelude.{◌≡◌, ℕ, List}
+use Rattle.std.specs.Prelude.{◌≡◌, ◌⊎◌, ℕ, List}
+use Rattle.pot_outside.specs.Archives.{Meaning}
+use Rattle.pot_outside.specs.Counts.{Rose}
 use Rattle.pot_bytes.specs.declared.rack.Rack.{Rack}
 use Rattle.pot_options.specs.Options.{Text}
 use Rattle.pot_words.specs.Tasks.{SpellTask}
@@ -15,7 +17,7 @@ use Rattle.pot_session.specs.declared.stop.Stop.TheVariants as stop
 use Rattle.pot_session.specs.Audits.{Audits}
 use Rattle.pot_session.specs.Drills.{Drills}
 use Rattle.pot_session.specs.Making.{Inits}
-use Rattle.pot_session.specs.Recovering.{Recovers}
+use Rattle.pot_session.specs.Recovering.{Recovers, SomeFailed}
 use Rattle.pot_session.specs.Stops.{Refuses}
 use Rattle.pot_session.specs.Tasks.{AsksNothing, seed_of}
 use Rattle.pot_session.specs.Generating.{Generates}
@@ -34,3 +36,9 @@ pub data Runs (words : List Text) (drawn : List ℕ) (seen : Seen) (answer : Sta
   Recovering : (r : Recover) → SpellTask words (task.Recover r) → Unread seen → Recovers r seen.room_told seen.meant seen.means seen.sink_told seen.before seen.after answer → SameDesk seen → Runs words drawn seen answer
   Auditing : (a : Audit) → SpellTask words (task.Audit a) → Unread seen → Audits a seen.desk_told seen.held seen.sink_told seen.before seen.after answer → SameDesk seen → SameRoom seen → Runs words drawn seen answer
   Generating : (n : ℕ) → SpellTask words (task.Generate n) → Unread seen → Generates n seen.sink_told seen.before seen.after answer → SameDesk seen → SameRoom seen → Runs words drawn seen answer
+
+-- Why a call fails at the room: the room failed itself, and not an archive that it lent; or the words spell `recover`, and one of the
+-- archives that it read failed, by what the room means of it.
+abbrev pub RoomFails : List Text → Type 0 → (ℕ → Meaning) → (ℕ → Meaning) → ℕ → ℕ → Type 0
+RoomFails words told meant means failed fails =
+    Rose failed fails ⊎ ((r : Recover) × SpellTask words (task.Recover r) × (told → SomeFailed r.archives meant means))

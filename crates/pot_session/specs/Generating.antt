@@ -1,5 +1,5 @@
 -- The generator: the script of a number, worked by a session over new archives in memory.
-use Rattle.std.specs.Prelude.{◌≡◌, ◌++◌, ℕ, Bool, true, false, IsTrue, List, [], Option, Some, None, Result, Ok, Err, codes}
+use Rattle.std.specs.Prelude.{◌≡◌, ◌<◌, ◌+◌, ◌*◌, ◌++◌, ℕ, Bool, true, false, IsTrue, List, [], Option, Some, None, Result, Ok, Err, codes}
 use Rattle.std.specs.List.{count_by}
 use Rattle.pot_bytes.specs.Digests.{digest_bytes}
 use Rattle.pot_outside.specs.Archives.{Meaning}
@@ -16,17 +16,29 @@ use Rattle.pot_session.specs.declared.status.Status.TheVariants as status
 use Rattle.pot_session.specs.Making.{empty_contents}
 use Rattle.pot_session.specs.Runs.{Holds, seen_by}
 
+-- how many archives a run has: those of the rack, and the one that stands in for a replaced one
+abbrev pub archives_of_runs : ℕ
+archives_of_runs = rack_of_runs.groups * (rack_of_runs.columns + rack_of_runs.parity) + 1
+
+-- no call of these archives failed
+abbrev pub AreSound : (ℕ → Meaning) → Type 0
+AreSound means = (n : ℕ) → n < archives_of_runs → (means n).faults ≡ 0
+
 -- A session wrote these bytes and ended so, that read the script of the number, over a desk with a new archive of the generator's rack
--- and a room without blocks, with the generator's seed.
+-- and a room without blocks, with the generator's seed. No call of an archive failed.
 pub record IsGenerated (number : ℕ) (bytes : List ℕ) (ended : Status) : Type 0 where
   pub rest : List ℕ
   pub holds : Option (List ℕ)
   pub meant : ℕ → Meaning
   pub means : ℕ → Meaning
+  pub fails : ℕ
+  pub desk_failed : ℕ
+  pub desk_fails : ℕ
   pub empty : (n : ℕ) → meant n ≡ meaning_of None
+  pub sound : AreSound means
   pub session : Holds (seed_of number)
       (seen_by (IsTrue true) (script_text (generated number)) rest (IsTrue true) [] bytes (IsTrue true)
-      (Some (image_bytes (empty_contents rack_of_runs))) holds (IsTrue true) meant means) ended
+      (Some (image_bytes (empty_contents rack_of_runs))) holds (IsTrue true) meant means 0 fails desk_failed desk_fails) ended
 
 -- all commands of such a session were answered
 abbrev pub is_answered : Status → Bool

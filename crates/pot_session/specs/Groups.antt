@@ -1,8 +1,10 @@
 -- The groups of a session, from their start to their end.
-use Rattle.std.specs.Prelude.{◌≡◌, ◌<◌, ◌+◌, ◌++◌, ℕ, List, [], ◌∷◌, Option, Some, None, Contains, length, map, slice_get, flat_map}
+use Rattle.std.specs.Prelude.{◌≡◌, ◌⊎◌, ◌<◌, ◌+◌, ◌++◌, ℕ, Bool, List, [], ◌∷◌, Option, Some, None, Contains, length, map, slice_get, flat_map}
 use Rattle.pot_outside.specs.Archives.{Meaning}
 use Rattle.pot_bytes.specs.declared.rack.Rack.{Rack}
-use Rattle.pot_machine.specs.Table.{Table, archives_in}
+use Rattle.pot_machine.specs.declared.entry.Entry.{Entry}
+use Rattle.pot_machine.specs.Table.{Table, archives_in, serving_at, width}
+use Rattle.pot_steps.specs.GroupStep.{Breaks, FindsGone, Spared, as_read, opening}
 use Rattle.pot_index.specs.declared.record.Record.{Record}
 use Rattle.pot_group.specs.Arrivals.{arrivals, HasArrived}
 use Rattle.pot_group.specs.Group.{GroupView, IsSettled}
@@ -55,9 +57,27 @@ AreMarked meant t s = (n : ℕ) → Contains (archives_in t) n → mark_at s n �
 abbrev pub HasMarks : (ℕ → Meaning) → GroupView → Type 0
 HasMarks meant g = (n : ℕ) → Contains (had_by g) n → mark_at g.shelves n ≡ marks_of (meant n)
 
--- the marks of the archives of the first table of each group are such
-abbrev pub AreAllMarked : {M : Type 0} → (ℕ → Meaning) → (M → GroupView) → List M → Type 0
-AreAllMarked {M} meant see members = (n : ℕ) (m : M) → slice_get members n ≡ Some m → AreMarked meant (see m).first (see m).shelves
+-- What the opening of a table logged: each block that it found is one that the room meant. A Live slot of which it found no block of its
+-- digest is Gone, and no other is; and by the blocks that it found it says of each stripe whether it fits.
+pub record IsOpened (meant : ℕ → Meaning) (t : Table) (log : List Entry) : Type 0 where
+  pub read : ℕ → ℕ → Option (List ℕ)
+  pub gone : ℕ → ℕ → Bool
+  pub broke : ℕ → ℕ → Bool
+  pub found : (s c : ℕ) (b : List ℕ) → s < t.stripes → c < width t → read s c ≡ Some b
+      → (meant (serving_at t s c)).held s ≡ Some b
+  pub finds : (s : ℕ) → s < t.stripes → FindsGone (width t) (as_read t read s) (gone s)
+  pub breaks : (s : ℕ) → s < t.stripes
+      → Breaks t.data_columns t.parity (as_read t read s) (broke s) ⊎ Spared t.data_columns t.parity (as_read t read s) (broke s)
+  pub is : log ≡ opening (width t) t.stripes gone broke
+
+-- a group was started over archives as the room meant them
+pub record IsTakenFrom (meant : ℕ → Meaning) (g : GroupView) : Type 0 where
+  pub marked : AreMarked meant g.first g.shelves
+  pub opened : IsOpened meant g.first g.log
+
+-- and so was each
+abbrev pub AreTakenFrom : {M : Type 0} → (ℕ → Meaning) → (M → GroupView) → List M → Type 0
+AreTakenFrom {M} meant see members = (n : ℕ) (m : M) → slice_get members n ≡ Some m → IsTakenFrom meant (see m)
 
 -- WHAT PASSES KNOW OF THE START
 
@@ -73,9 +93,12 @@ tables_read row = flat_map (λ (v : GroupPass). table_read v.origin) row.views
 abbrev pub records_read : IndexPasses → List Record
 records_read row = records_in (view_at row 0).origin
 
--- the marks at the taking of the archives of each group are the counts of what the numbers meant
+-- The marks at the taking of the archives of each group are the counts of what the numbers meant, and what its pass has seen is what
+-- the opening logged over them.
 abbrev pub AreTakenAt : (ℕ → Meaning) → GroupPasses → Type 0
-AreTakenAt meant row = (g : ℕ) (o : GroupOrigin) → (view_at row g).origin ≡ Some o → o.taken ≡ map (λ n. marks_of (meant n)) (archives_in o.first)
+AreTakenAt meant row =
+    (g : ℕ) (o : GroupOrigin) → (view_at row g).origin ≡ Some o
+    → (o.taken ≡ map (λ n. marks_of (meant n)) (archives_in o.first)) × IsOpened meant o.first (entries_of (view_at row g).seen)
 
 -- the first pass of a group of this number, whose opening brought no archive and is of no job
 pub record IsFirstPass (number : ℕ) (v : GroupPass) : Type 0 where

@@ -4,6 +4,7 @@ pub mod Commands
 pub mod Desks
 pub mod Drills
 pub mod Generating
+pub mod Giving
 pub mod Groups
 pub mod Listing
 pub mod Losses
@@ -12,6 +13,7 @@ pub mod Recovering
 pub mod Runs
 pub mod Serving
 pub mod Stops
+pub mod Stripes
 pub mod Streams
 pub mod Tasks
 pub mod Telling

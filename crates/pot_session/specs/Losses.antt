@@ -1,5 +1,5 @@
 -- When a session answers `lost`, where no archive lost a block.
-use Rattle.std.specs.Prelude.{◌≡◌, ◌⊎◌, ◌<◌, ◌++◌, ℕ, false, All, Contains, List, [], ◌∷◌, Some, Result, flat_map, slice_get}
+use Rattle.std.specs.Prelude.{◌≡◌, ◌⊎◌, ◌<◌, ◌++◌, ℕ, false, All, Contains, List, [], ◌∷◌, Some, flat_map, slice_get}
 use Rattle.pot_bytes.specs.declared.digest.Digest.{Digest}
 use Rattle.pot_bytes.specs.declared.rack.Place.{Place}
 use Rattle.pot_outside.specs.Archives.{Meaning}
@@ -19,12 +19,16 @@ use Rattle.pot_replies.specs.Sections.{Section, mine}
 use Rattle.pot_replies.specs.Settings.{Setting}
 use Rattle.pot_replies.specs.Fetches.{IsLost, IsUnseen, seen_of}
 use Rattle.pot_commands.specs.Ends.{brings_none}
-use Rattle.pot_session.specs.declared.stop.Stop.{Stop}
-use Rattle.pot_session.specs.Serving.{IsBack, IsInRoom, LeaveGroups, rooms_by, setting_of}
+use Rattle.pot_commands.specs.Holding.{times}
+use Rattle.pot_session.specs.Serving.{IsInRoom, LeaveGroups, setting_of}
 
 -- no archive of these tables lost a block, by what its number meant and means
 abbrev pub LostNone : (ℕ → Meaning) → (ℕ → Meaning) → List Table → Type 0
 LostNone meant means read = (n : ℕ) → Contains (flat_map archives_in read) n → Rose (meant n).losses (means n).losses → ⊥
+
+-- none of their archives is missing
+abbrev pub AreBack : List ℕ → List Table → Type 0
+AreBack missing read = (n : ℕ) → Contains (flat_map archives_in read) n → times n missing ≡ 0
 
 -- no entry of these logs brought an archive
 abbrev pub BroughtNone : List (List Entry) → Type 0
@@ -50,13 +54,13 @@ pub record FewAreLive (s : Setting) (job : ℕ) (kept : Record) (piece fragment 
   pub few : seen_of (mine job w).own kept piece fragment < kept.geometry.need
   pub others : (x : ℕ) → IsUnseen kept piece fragment (mine job w) x → WasNotLive s job w (place_at kept.geometry kept.places piece fragment x)
 
--- `lost` comes only so in a session that took no archive beside those of the image that it began with, where the room tells, took all
--- archives back, and none of them lost a block. The record is one that the rack has room for, as each is that a session reads or publishes.
+-- `lost` comes only so in a session that took no archive beside those of the image that it began with, where the room tells, took these
+-- back, and none of them lost a block. The record is one that the rack has room for, as each is that a session reads or publishes.
 abbrev pub LostWhereFew : Type 0 → Type 0
 LostWhereFew told =
-    (seed : List ℕ) (first last : Contents) (meant means : ℕ → Meaning) (closed : Result (Unit {0}) Stop) (job : ℕ) (name : List ℕ) (piece fragment have need : ℕ) (w : Section)
-    → told → IsBack closed → FitsTogether first
-    → LeaveGroups told meant (IsInRoom (rooms_by told meant means) (IsBack closed)) first.tables last.group_logs last.tables
+    (seed : List ℕ) (first last : Contents) (meant means : ℕ → Meaning) (missing : List ℕ) (job : ℕ) (name : List ℕ) (piece fragment have need : ℕ) (w : Section)
+    → told → AreBack missing first.tables → FitsTogether first
+    → LeaveGroups told meant (IsInRoom told means missing) first.tables last.group_logs last.tables
     → LostNone meant means first.tables → BroughtNone last.group_logs → BeginWith w last.group_logs → 0 < job
     → (lost : IsLost (setting_of seed first) job name piece fragment have need w) → FitsRack first.rack lost.kept
     → FewAreLive (setting_of seed first) job lost.kept piece fragment w

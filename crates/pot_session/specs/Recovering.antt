@@ -1,6 +1,7 @@
 -- The blocks that are read from archives without a desk, the objects that they give, and what `recover` comes to.
 use Rattle.std.specs.Prelude.{◌≡◌, ◌<◌, ◌≤◌, ◌-◌, ◌^◌, ◌⊎◌, ℕ, Bool, true, false, List, Some, Result, Ok, Err, Contains}
 use Rattle.pot_outside.specs.Archives.{Meaning, OnlyLoses}
+use Rattle.pot_outside.specs.Counts.{Rose}
 use Rattle.pot_recover.specs.Recovered.{AreRecovered}
 use Rattle.pot_recover.specs.Robust.{AreRobustlyRecovered, IsRobustlyTooWide, IsRobustlyWithin}
 use Rattle.pot_recover.specs.Wide.{IsTooWide, IsWithin}
@@ -55,6 +56,21 @@ pub record AreHeldIn (archives stripes : ℕ) (meant means : ℕ → Meaning) (b
   pub all : (n : ℕ) → n < archives → (means n).losses ≡ (meant n).losses → (means n).losses < 2 ^ 64 - 1
       → (b : List ℕ) → IsHeldIn stripes (meant n) b → Contains blocks b
   pub read : (n : ℕ) → n < archives → WasRead (meant n) (means n)
+
+-- FAILURES
+
+-- an archive failed, by what its number meant and means
+abbrev pub HasFailed : Meaning → Meaning → Type 0
+HasFailed old new = Rose old.faults new.faults
+
+-- one of the first archives did
+abbrev pub SomeFailed : ℕ → (ℕ → Meaning) → (ℕ → Meaning) → Type 0
+SomeFailed archives meant means = (n : ℕ) × (n < archives) × HasFailed (meant n) (means n)
+
+-- The room failed itself, by its count of own failures; or, where it tells, an archive of its did.
+pub record FailsOr (told : Type 0) (before now : ℕ) (archive : Type 0) (failed : Type 0) : Type 0 where
+  pub later : before ≤ now
+  pub why : failed → Rose before now ⊎ (told → archive)
 
 -- THE WHOLE
 

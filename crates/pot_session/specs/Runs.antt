@@ -13,12 +13,13 @@ use Rattle.pot_session.specs.Commands.{IsRead, RefusesScript}
 use Rattle.pot_session.specs.Desks.{GoesOn, HoldsImage, RefusesDesk, IsDeskStop, Keeps, IsKeepStop, begun}
 use Rattle.pot_commands.specs.Holding.{Untouched}
 use Rattle.pot_commands.specs.Taking.{asked_by}
-use Rattle.pot_session.specs.Serving.{Serves, IsEnd, rooms_by}
+use Rattle.pot_session.specs.Serving.{Desks, IsEnd, Rooms, Serves, desks_by, rooms_by}
 use Rattle.pot_session.specs.Stops.{Refuses}
 use Rattle.pot_image.specs.Rules.{FitsTogether}
 
 -- what the objects tell: whether they do, the bytes of the source before and what is left of them after, those of the sink before and after, the
--- desk's image before and after, and what the room means by each number before and after
+-- desk's image before and after, what the room means by each number before and after, how often it failed itself before and after, and how
+-- often the desk did
 pub record Seen : Type 1 where
   pub source_told : Type 0
   pub input : List ℕ
@@ -32,10 +33,14 @@ pub record Seen : Type 1 where
   pub room_told : Type 0
   pub meant : ℕ → Meaning
   pub means : ℕ → Meaning
+  pub failed : ℕ
+  pub fails : ℕ
+  pub desk_failed : ℕ
+  pub desk_fails : ℕ
 
 -- what was seen, from its parts
-abbrev pub seen_by : Type 0 → List ℕ → List ℕ → Type 0 → List ℕ → List ℕ → Type 0 → Option (List ℕ) → Option (List ℕ) → Type 0 → (ℕ → Meaning) → (ℕ → Meaning) → Seen
-seen_by source_told input rest sink_told before after desk_told held holds room_told meant means = record {
+abbrev pub seen_by : Type 0 → List ℕ → List ℕ → Type 0 → List ℕ → List ℕ → Type 0 → Option (List ℕ) → Option (List ℕ) → Type 0 → (ℕ → Meaning) → (ℕ → Meaning) → ℕ → ℕ → ℕ → ℕ → Seen
+seen_by source_told input rest sink_told before after desk_told held holds room_told meant means failed fails desk_failed desk_fails = record {
   source_told = source_told;
   input = input;
   rest = rest;
@@ -48,7 +53,18 @@ seen_by source_told input rest sink_told before after desk_told held holds room_
   room_told = room_told;
   meant = meant;
   means = means;
+  failed = failed;
+  fails = fails;
+  desk_failed = desk_failed;
+  desk_fails = desk_fails;
 }
+
+-- of the room, and of the desk
+abbrev pub room_in : Seen → Rooms
+room_in seen = rooms_by seen.room_told seen.meant seen.means seen.failed seen.fails
+
+abbrev pub desk_in : Seen → Desks
+desk_in seen = desks_by seen.desk_told seen.holds seen.desk_failed seen.desk_fails
 
 -- nothing was read
 abbrev pub Unread : Seen → Type 0
@@ -93,5 +109,5 @@ pub data Holds (seed : List ℕ) (seen : Seen) (answer : Status) : Type 0 where
   Stopped : (s : Stop) → Stops seen.source_told seen.input seen.desk_told seen.held seen.holds s
       → Refuses seen.sink_told seen.before seen.after s answer → SameRoom seen → Holds seed seen answer
   Served : (i : Image) (steps : List Step) → IsOf seen.source_told seen.input seen.desk_told seen.held i steps → (seen.source_told → seen.rest ≡ [])
-      → Serves seed (begun (contents i)) steps (rooms_by seen.room_told seen.meant seen.means) seen.sink_told seen.before seen.after seen.desk_told seen.holds answer → IsEnd answer
+      → Serves seed (begun (contents i)) steps (room_in seen) seen.sink_told seen.before seen.after (desk_in seen) answer → IsEnd answer
       → Untouched (flat_map archives_in i.tables.items ++ asked_by steps) seen.meant seen.means → Holds seed seen answer

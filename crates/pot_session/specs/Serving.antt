@@ -1,15 +1,16 @@
 -- What a session leaves: the replies of its steps, and the image of its close with the logs by which they have them.
-use Rattle.std.specs.Prelude.{◌≡◌, ◌⊎◌, ◌<◌, ◌≤◌, ◌^◌, ◌++◌, All, Contains, ℕ, true, List, [], Option, Some, Result, Ok, Err, if◌then◌else◌, length, map, slice_get, slice_index_or}
-use Rattle.pot_outside.specs.Archives.{Meaning}
+use Rattle.std.specs.Prelude.{◌≡◌, ◌<◌, ◌≤◌, ◌^◌, ◌++◌, All, Contains, ℕ, true, List, [], ◌∷◌, Option, Some, Result, Ok, Err, IfErr, flat_map, if◌then◌else◌, length, map, slice_get, slice_index_or}
+use Rattle.pot_outside.specs.Archives.{Meaning, IsMeant}
+use Rattle.pot_outside.specs.Counts.{Caused}
 use Rattle.pot_outside.specs.declared.archive.Shelf.{Shelf}
 use Rattle.pot_outside.specs.declared.faults.Failed.{Failed}
 use Rattle.pot_bytes.specs.declared.rack.Rack.{Rack}
-use Rattle.pot_outside.specs.Failing.{MayLeave}
 use Rattle.pot_pads.specs.Pads.{pads_of}
 use Rattle.pot_machine.specs.declared.entry.Entry.{Entry}
-use Rattle.pot_machine.specs.Table.{Table}
+use Rattle.pot_machine.specs.Table.{Table, archives_in}
 use Rattle.pot_machine.specs.Making.{empty_table}
 use Rattle.pot_steps.specs.Stripe.{digest_of}
+use Rattle.pot_group.specs.Arrivals.{arrivals}
 use Rattle.pot_group.specs.Group.{GroupView, IsSettled}
 use Rattle.pot_shelves.specs.Shelves.{Shelves}
 use Rattle.pot_index.specs.declared.record.Record.{Record}
@@ -28,13 +29,18 @@ use Rattle.pot_store.specs.Drawing.{blocks_from}
 use Rattle.pot_store.specs.Works.{Known, section_of}
 use Rattle.pot_commands.specs.declared.working.Ending.{Ending}
 use Rattle.pot_commands.specs.declared.working.Ending.TheVariants as ending
+use Rattle.pot_commands.specs.declared.working.Ending.TheVariants.{RoomFailed}
 use Rattle.pot_commands.specs.Ends.{EndsOver}
+use Rattle.pot_commands.specs.Failures.{Fails}
 use Rattle.pot_commands.specs.Going.{AllSole}
+use Rattle.pot_commands.specs.Holding.{times}
 use Rattle.pot_session.specs.declared.status.Status.{Status}
 use Rattle.pot_session.specs.declared.status.Status.TheVariants as status
 use Rattle.pot_session.specs.declared.stop.Stop.{Stop}
 use Rattle.pot_session.specs.declared.stop.Stop.TheVariants as stop
-use Rattle.pot_session.specs.Groups.{HasMarks, had_by, records_read}
+use Rattle.pot_session.specs.Desks.{IsKeepStop, Keeps}
+use Rattle.pot_session.specs.Giving.{FailsAt, IsUnlent}
+use Rattle.pot_session.specs.Groups.{HasMarks, IsOpened, had_by, records_read}
 use Rattle.pot_session.specs.Stops.{status_of}
 
 -- room for the tables and the logs of so many groups, and for so many archives
@@ -83,18 +89,31 @@ pub record LeaveGroups (told : Type 0) (meant : ℕ → Meaning) (Has : Shelves 
   pub count_logs : length logs ≡ length read
   pub each : (g : ℕ) (t u : Table) (log : List Entry) → slice_get read g ≡ Some t → slice_get written g ≡ Some u → slice_get logs g ≡ Some log → LeavesGroup told meant Has t log u
 
--- whether a room tells what its archives hold, and what it meant by each number before a session and means after it
+-- whether a room tells what its archives hold, what it meant by each number before a session and means after it, and how often it had
+-- failed itself before and has after
 pub record Rooms : Type 1 where
   pub told : Type 0
   pub meant : ℕ → Meaning
   pub means : ℕ → Meaning
+  pub failed : ℕ
+  pub fails : ℕ
 
-abbrev pub rooms_by : Type 0 → (ℕ → Meaning) → (ℕ → Meaning) → Rooms
-rooms_by told meant means = record { told = told; meant = meant; means = means }
+abbrev pub rooms_by : Type 0 → (ℕ → Meaning) → (ℕ → Meaning) → ℕ → ℕ → Rooms
+rooms_by told meant means failed fails = record { told = told; meant = meant; means = means; failed = failed; fails = fails }
 
--- the room means what is seen of the archive, where it tells and took all archives back
-abbrev pub IsInRoom : Rooms → Type 0 → Shelves → ℕ → Type 0
-IsInRoom rooms back s n = rooms.told → back → Shows s n (rooms.means n)
+-- whether a desk tells its image, the image that it holds after a session, and how often it had failed before and has after
+pub record Desks : Type 1 where
+  pub told : Type 0
+  pub holds : Option (List ℕ)
+  pub failed : ℕ
+  pub fails : ℕ
+
+abbrev pub desks_by : Type 0 → Option (List ℕ) → ℕ → ℕ → Desks
+desks_by told holds failed fails = record { told = told; holds = holds; failed = failed; fails = fails }
+
+-- The room means what is seen of the archive, where it tells and took that archive back.
+abbrev pub IsInRoom : Type 0 → (ℕ → Meaning) → List ℕ → Shelves → ℕ → Type 0
+IsInRoom told means missing s n = told → times n missing ≡ 0 → Shows s n (means n)
 
 -- the log of the index, which is of these entries with what they brought, leads from the records read to those written
 pub record LeavesRecords (rack : Rack) (read : List Record) (story : List Logged) (log : List IndexEntry) (written : List Record) : Type 0 where
@@ -107,15 +126,16 @@ pub record LeavesRecords (rack : Rack) (read : List Record) (story : List Logged
 abbrev pub AreLogs : List (List Entry) → Section → Type 0
 AreLogs logs w = (g : ℕ) (log : List Entry) → slice_get logs g ≡ Some log → log ≡ w.before g ++ w.added g
 
--- The image that a session which began with the first one leaves. Its logs are those of the openings, which are of no job, and then
--- this section. `back` is whether the room took all archives back.
-pub record Leaves (rooms : Rooms) (back : Type 0) (first last : Contents) (w : Section) : Type 0 where
+-- The image that a session which began with the first one leaves. Its logs are those of the openings, which are of no job and rest on
+-- blocks that the room meant, and then this section. `missing` has the archives that the room did not take back.
+pub record Leaves (rooms : Rooms) (missing : List ℕ) (first last : Contents) (w : Section) : Type 0 where
   pub session : last.session ≡ first.session
   pub rack : last.rack ≡ first.rack
-  pub groups : LeaveGroups rooms.told rooms.meant (IsInRoom rooms back) first.tables last.group_logs last.tables
+  pub groups : LeaveGroups rooms.told rooms.meant (IsInRoom rooms.told rooms.means missing) first.tables last.group_logs last.tables
   pub records : LeavesRecords first.rack first.records w.index_added last.index_log last.records
   pub logs : AreLogs last.group_logs w
   pub opened : (g : ℕ) → ByNobody (w.before g)
+  pub found : rooms.told → (g : ℕ) (t : Table) → slice_get first.tables g ≡ Some t → IsOpened rooms.meant t (w.before g)
   pub index_opened : w.index_before ≡ []
 
 -- an image of this session, this rack, these tables and these records
@@ -125,31 +145,41 @@ pub record IsBegun (first : Contents) (session : ℕ) (rack : Rack) (tables : Li
   pub are_tables : first.tables ≡ tables
   pub are_records : first.records ≡ records
 
--- what a desk that held the first image holds after a close that leaves the last one, by the close's answer
-abbrev pub HoldsAfter : Contents → Contents → Option (List ℕ) → Result (Unit {0}) Stop → Type 0
-HoldsAfter first last holds (Ok u) = holds ≡ Some (image_bytes last)
-HoldsAfter first last holds (Err s) = MayLeave (Some (image_bytes first)) (image_bytes last) holds
-
 -- What a vault leaves whose passes knew and know this: nobody else logged anything meanwhile, and its logs are what the passes saw.
 pub record LeavesLogs (old new : Known) (rack : Rack) (logs : List (List Entry)) (log : List IndexEntry) (written : List Record) : Type 0 where
   pub sole : AllSole old new
   pub are_logs : AreLogs logs (section_of old new)
   pub records : LeavesRecords rack (records_read new.index) (section_of old new).index_added log written
 
--- the room took all archives back, by the answer of a close
-abbrev pub IsBack : Result (Unit {0}) Stop → Type 0
-IsBack closed = closed ≡ Err stop.RoomFault → ⊥
+-- THE CLOSE
 
--- A close leaves this image: nobody else logged anything since the passes knew the first, and its logs are what they saw.
-pub record Closes (old new : Known) (rooms : Rooms) (told : Type 0) (first : Contents) (holds : Option (List ℕ)) (closed : Result (Unit {0}) Stop) : Type 0 where
+-- The first failure of a close: of the room, where an archive is missing, or of what came after it.
+abbrev pub close_answer : List ℕ → Result (Unit {0}) Stop → Result (Unit {0}) Stop
+close_answer [] kept = kept
+close_answer (n ∷ missing) kept = Err stop.RoomFault
+
+-- The desk holds the image that a session left. Where it failed, which its count shows, it holds that one, the one with which the session
+-- began or none, and for want of memory the one with which it began.
+pub record KeepsLast (desk : Desks) (first last : Contents) (kept : Result (Unit {0}) Stop) : Type 0 where
+  pub holds : desk.told → Keeps (Some (image_bytes first)) desk.holds (image_bytes last) kept
+  pub which : IfErr kept IsKeepStop
+  pub cause : Caused desk.failed desk.fails (kept ≡ Err stop.DeskFault)
+
+-- A close leaves this image: nobody else logged anything since the passes knew the first, and its logs are what they saw. `before` is
+-- how often the room had failed itself before the close.
+pub record Closes (old new : Known) (rooms : Rooms) (before : ℕ) (held : Type 0) (desk : Desks) (first : Contents) (closed : Result (Unit {0}) Stop) : Type 0 where
   pub last : Contents
   pub sole : AllSole old new
-  pub leaves : Leaves rooms (IsBack closed) first last (section_of old new)
-  pub desk : told → HoldsAfter first last holds closed
+  pub missing : List ℕ
+  pub failed_at : FailsAt before rooms.fails missing
+  pub leaves : Leaves rooms missing first last (section_of old new)
+  pub kept : Result (Unit {0}) Stop
+  pub keeps : (desk.told → held) → KeepsLast desk first last kept
+  pub is : closed ≡ close_answer missing kept
 
 -- THE ANSWER
 
--- the first failure of a close: of the room, or of what came after it
+-- the first failure of two calls: of the room, or of what came after it
 abbrev pub first_failure : Result (Unit {0}) Failed → Result (Unit {0}) Stop → Result (Unit {0}) Stop
 first_failure (Ok u) kept = kept
 first_failure (Err e) kept = Err stop.RoomFault
@@ -183,24 +213,41 @@ setting_of seed first = record {
   mends = true;
 }
 
--- Steps were worked, and the session closed. The image of the close has the logs by which the steps have their replies.
-pub record IsClosed (seed : List ℕ) (first : Contents) (steps : List Step) (rooms : Rooms) (sink_told : Type 0) (before after : List ℕ) (desk_told : Type 0) (holds : Option (List ℕ)) (answer : Status) : Type 0 where
+-- the archives that came in a session, by the logs that it left
+abbrev pub came_by : List (List Entry) → List ℕ
+came_by logs = flat_map arrivals logs
+
+-- An archive that no table named with which the session began, and that none of its logs brought, is as it was.
+abbrev pub OthersStay : List Table → List (List Entry) → (ℕ → Meaning) → (ℕ → Meaning) → Type 0
+OthersStay read logs meant means =
+    (n : ℕ) → times n (flat_map archives_in read) ≡ 0 → times n (came_by logs) ≡ 0 → IsMeant (meant n) (means n)
+
+-- Steps were worked, and the session closed, whatever became of the steps. The image of the close has the logs by which the steps have
+-- their replies. The room failed itself at the steps exactly where they ended so, and in the close at each archive that is missing and
+-- at no other; `worked` is how often it had failed once the steps had ended.
+pub record IsClosed (seed : List ℕ) (first : Contents) (steps : List Step) (rooms : Rooms) (sink_told : Type 0) (before after : List ℕ) (desk : Desks) (answer : Status) : Type 0 where
   pub last : Contents
   pub story : Section
   pub ending : Ending
   pub ends : EndsOver (setting_of seed first) story sink_told before after steps ending
-  pub closed : Result (Unit {0}) Stop
-  pub is_stop : IsCloseStop closed
-  pub leaves : Leaves rooms (IsBack closed) first last story
-  pub desk : desk_told → HoldsAfter first last holds closed
-  pub status : answer ≡ status_after ending closed
+  pub worked : ℕ
+  pub fails : Fails rooms.failed worked (ending ≡ RoomFailed)
+  pub missing : List ℕ
+  pub failed_at : FailsAt worked rooms.fails missing
+  pub leaves : Leaves rooms missing first last story
+  pub others : rooms.told → (ending ≡ RoomFailed → ⊥) → OthersStay first.tables last.group_logs rooms.meant rooms.means
+  pub kept : Result (Unit {0}) Stop
+  pub keeps : KeepsLast desk first last kept
+  pub status : answer ≡ status_after ending (close_answer missing kept)
 
--- What a session comes to that begins with this image: the room did not give its archives, or memory ran out, before any step was worked;
--- or it closed.
-pub data Serves (seed : List ℕ) (first : Contents) (steps : List Step) (rooms : Rooms) (sink_told : Type 0) (before after : List ℕ) (desk_told : Type 0) (holds : Option (List ℕ)) (answer : Status) : Type 0 where
-  Unopened : (answer ≡ status.RoomFault) ⊎ (answer ≡ status.NoMemory) → (sink_told → after ≡ before) → (desk_told → holds ≡ Some (image_bytes first))
-      → Serves seed first steps rooms sink_told before after desk_told holds answer
-  Closed : IsClosed seed first steps rooms sink_told before after desk_told holds answer → Serves seed first steps rooms sink_told before after desk_told holds answer
+-- What a session comes to that begins with this image: before any step was worked the room did not give its archives, which are as they
+-- were, or memory ran out; or it closed.
+pub data Serves (seed : List ℕ) (first : Contents) (steps : List Step) (rooms : Rooms) (sink_told : Type 0) (before after : List ℕ) (desk : Desks) (answer : Status) : Type 0 where
+  Unlent : answer ≡ status.RoomFault → (sink_told → after ≡ before) → (desk.told → desk.holds ≡ Some (image_bytes first))
+      → IsUnlent rooms.told rooms.meant rooms.means rooms.failed rooms.fails → Serves seed first steps rooms sink_told before after desk answer
+  Unopened : answer ≡ status.NoMemory → (sink_told → after ≡ before) → (desk.told → desk.holds ≡ Some (image_bytes first))
+      → Serves seed first steps rooms sink_told before after desk answer
+  Closed : IsClosed seed first steps rooms sink_told before after desk answer → Serves seed first steps rooms sink_told before after desk answer
 
 -- how a session may end
 abbrev pub IsEnd : Status → Type 0

@@ -6,6 +6,7 @@ ghost use Rattle.pot_machine.specs.Table.{archives_in};
 ghost use Rattle.pot_machine.specs.Column.{homes_of};
 ghost use Rattle.pot_shelves.specs.Shelves.{numbers_of};
 ghost use Rattle.pot_commands.specs.Holding.{AreApart, AreMeant, AreOut, Untouched};
+ghost use Rattle.pot_session.specs.Giving.{GivesBack, IsUnlent};
 
 use pot_machine::{Column, GroupTable};
 use pot_outside::{Failed, Room, RoomFault, Shelf};
@@ -46,7 +47,7 @@ pub fn numbers_in(alloc: Global, tables: &[GroupTable]) -> Result<Vec<u32>, Allo
 /// Takes the archives of these numbers, in order.
 ///
 /// # Errors
-/// `Failed` only where the room's count of faults rose, or `NoMemory`. No archive is out then.
+/// `Failed` only where the room itself failed, or `NoMemory`. No archive is out then.
 pub fn take_all<R: Room>(
     room: &mut R,
     numbers: &[u32],
@@ -64,6 +65,10 @@ pub fn take_all<R: Room>(
     ensures untouched { Untouched numbers.now (R.means room.old) (R.means room.new) }
     ensures meant { IsTrue R.A.account.tells → OnOk result (AreMeant R.A.account.meaning (R.means room.old) hand.new.items) }
     ensures cause { Caused (R.faults room.old) (R.faults room.new) (IsErrOf result RoomFault.Failed) }
+    ensures own { Caused (R.failures room.old) (R.failures room.new) (IsErrOf result RoomFault.Failed) }
+    ensures sound { OnOk result (R.failures room.new ≡ R.failures room.old) }
+    ensures unlent { IsErrOf result RoomFault.Failed → IsUnlent (IsTrue R.A.account.tells) (R.means room.old) (R.means room.new)
+        (R.failures room.old) (R.failures room.new) }
 {
     for number in numbers {
         match room.take(*number) {
@@ -97,14 +102,15 @@ fn least_place<A>(shelves: &[Shelf<A>]) -> usize
 /// Gives archives back that are out, in ascending number. Each is tried, whatever became of those before.
 ///
 /// # Errors
-/// `Failed` only where the room's count of faults rose. No archive is out then either.
+/// `Failed` exactly where the room itself failed at one of them. No archive is out then either, and those at which it did not fail are as they were.
 pub fn give_all<R: Room>(room: &mut R, hand: &mut Vec<Shelf<R::A>>) -> Result<(), Failed>
     requires { AreOut (R.out room.old) (numbers_of hand.old.items) }
     ensures home { (n : ℕ) → R.out room.new n ≡ false }
     ensures empty { hand.new.items ≡ [] }
     ensures space { vec_capacity hand.new ≡ vec_capacity hand.old }
     ensures untouched { Untouched (numbers_of hand.old.items) (R.means room.old) (R.means room.new) }
-    ensures meant { IsTrue R.A.account.tells → OnOk result (AreMeant R.A.account.meaning (R.means room.new) hand.old.items) }
+    ensures back { GivesBack (IsTrue R.A.account.tells) R.A.account.meaning hand.old.items (R.means room.new)
+        (R.failures room.old) (R.failures room.new) result }
     ensures cause { Caused (R.faults room.old) (R.faults room.new) (IsErr result) }
 {
     let mut answer = Ok(());

@@ -1,6 +1,6 @@
 //! How a session closes.
 
-ghost use Rattle.std.specs.Prelude.{◌≡◌, ◌<◌, ◌≤◌, ◌^◌, ℕ, List, [], IsTrue, OnOk, IsErr, IsErrOf, false, length, vec_capacity, map, Some};
+ghost use Rattle.std.specs.Prelude.{◌≡◌, ◌<◌, ◌≤◌, ◌^◌, ℕ, List, [], IsTrue, IsErr, IsErrOf, false, length, vec_capacity, map, Some};
 ghost use Rattle.pot_outside.specs.Counts.{Caused};
 ghost use Rattle.pot_outside.specs.Archives.{Meaning};
 ghost use Rattle.pot_image.specs.Images.{Contents};
@@ -15,9 +15,10 @@ ghost use Rattle.pot_shared.specs.Sharing.{HasAllButKept};
 ghost use Rattle.pot_store.specs.Works.{Known, known};
 ghost use Rattle.pot_session.specs.Groups.{AreServed, AreTakenAt, AreLow, HaveCome, tables_read, records_read};
 ghost use Rattle.pot_commands.specs.Going.{AllSole};
-ghost use Rattle.pot_commands.specs.Holding.{AreApart, AreMeant, AreOut, AreSame, Untouched};
+ghost use Rattle.pot_commands.specs.Holding.{AreApart, AreOut, AreSame, Untouched};
 ghost use Rattle.pot_commands.specs.Taking.{AreMarkedBy};
-ghost use Rattle.pot_session.specs.Serving.{HasSpaces, AreShort, LeaveGroups, IsInHand, LeavesLogs, Closes, rooms_by, still, IsBegun, IsCloseStop, first_failure};
+ghost use Rattle.pot_session.specs.Serving.{HasSpaces, AreShort, LeaveGroups, IsInHand, LeavesLogs, Closes, rooms_by, desks_by, still, IsBegun, IsCloseStop, first_failure};
+ghost use Rattle.pot_session.specs.Giving.{GivesBack};
 
 use crate::archives::give_all;
 use crate::desk::keep_image;
@@ -82,8 +83,8 @@ fn end_vault<A: Archive>(
 /// tried, whatever became of those before.
 ///
 /// # Errors
-/// The first failure: `RoomFault` or `DeskFault` only where that object's count of faults rose, or `NoMemory`. No archive is out
-/// then either.
+/// The first failure: `RoomFault` exactly where the room itself failed at an archive, `DeskFault` only where the desk's count of faults rose,
+/// or `NoMemory`. No archive is out then either, and those at which the room did not fail are in it.
 pub fn close_session<R: Room, D: Desk>(
     alloc: Global,
     opened: Opened<R::A>,
@@ -100,9 +101,22 @@ pub fn close_session<R: Room, D: Desk>(
     requires rack { opened.rack ≡ opened.vault.rack }
     ensures home { (n : ℕ) → R.out room.new n ≡ false }
     ensures untouched { (n : ℕ) → R.out room.old n ≡ false → R.means room.new n ≡ R.means room.old n }
-    ensures closes { (old : Known) (first : Contents) (meant : ℕ → Meaning) → AreServed old (known opened.passes.groups opened.passes.index) → (IsTrue R.A.account.tells → AreTakenAt meant old.groups) → (IsTrue R.A.account.tells → AllSole old (known opened.passes.groups opened.passes.index) → (g : ℕ) → g < length old.groups.names → AreMarkedBy meant (added (view_at old.groups g) (view_at opened.passes.groups g))) → IsBegun first opened.session opened.rack (tables_read opened.passes.groups) (records_read opened.passes.index) → Closes old (known opened.passes.groups opened.passes.index) (rooms_by (IsTrue R.A.account.tells) meant (R.means room.new)) (IsTrue D.tells × (D.held desk.old ≡ Some (image_bytes first))) first (D.held desk.new) result }
+    ensures closes { (old : Known) (first : Contents) (meant : ℕ → Meaning) (failed : ℕ) →
+        let new = known opened.passes.groups opened.passes.index in
+        AreServed old new
+        → (IsTrue R.A.account.tells → AreTakenAt meant old.groups)
+        → (IsTrue R.A.account.tells → AllSole old new → (g : ℕ) → g < length old.groups.names
+        → AreMarkedBy meant (added (view_at old.groups g) (view_at opened.passes.groups g)))
+        → IsBegun first opened.session opened.rack (tables_read opened.passes.groups)
+        (records_read opened.passes.index)
+        → Closes old new
+        (rooms_by (IsTrue R.A.account.tells) meant (R.means room.new) failed (R.failures room.new))
+        (R.failures room.old) (D.held desk.old ≡ Some (image_bytes first))
+        (desks_by (IsTrue D.tells) (D.held desk.new) (D.faults desk.old) (D.faults desk.new))
+        first result }
     ensures which { IsCloseStop result }
     ensures room { Caused (R.faults room.old) (R.faults room.new) (IsErrOf result Stop.RoomFault) }
+    ensures own { Caused (R.failures room.old) (R.failures room.new) (IsErrOf result Stop.RoomFault) }
     ensures desk { Caused (D.faults desk.old) (D.faults desk.new) (IsErrOf result Stop.DeskFault) }
 {
     let Opened {
@@ -137,7 +151,8 @@ fn give_hand<R: Room>(room: &mut R, hand: Vec<Shelf<R::A>>) -> Result<(), Failed
     requires { AreOut (R.out room.old) (numbers_of hand.items) }
     ensures home { (n : ℕ) → R.out room.new n ≡ false }
     ensures untouched { Untouched (numbers_of hand.items) (R.means room.old) (R.means room.new) }
-    ensures meant { IsTrue R.A.account.tells → OnOk result (AreMeant R.A.account.meaning (R.means room.new) hand.items) }
+    ensures back { GivesBack (IsTrue R.A.account.tells) R.A.account.meaning hand.items (R.means room.new)
+        (R.failures room.old) (R.failures room.new) result }
     ensures cause { Caused (R.faults room.old) (R.faults room.new) (IsErr result) }
 {
     let mut hand = hand;

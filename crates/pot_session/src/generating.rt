@@ -2,8 +2,9 @@
 
 ghost use Rattle.std.specs.Prelude.{◌≡◌, ◌≤◌, IsTrue, IfOk};
 ghost use Rattle.pot_outside.specs.Counts.{Caused};
+ghost use Rattle.pot_doubles.specs.Rooms.{means_in};
 ghost use Rattle.pot_doubles.specs.Streams.{written_to};
-ghost use Rattle.pot_session.specs.Generating.{Generates, IsGenerated, is_answered, summary};
+ghost use Rattle.pot_session.specs.Generating.{AreSound, Generates, IsGenerated, is_answered, summary};
 
 use crate::holding::hold;
 use crate::making::make_image;
@@ -15,10 +16,13 @@ use pot_doubles::{MemDesk, MemRoom, MemSink, MemSource, OpenGate};
 use pot_generator::{
     generate_script, generator_rack, generator_replies, generator_seed, generator_workers,
 };
-use pot_outside::{Failed, Sink};
+use pot_outside::{Archive, Failed, Sink};
 use std::alloc::{AllocError, Global};
 use std::sync::Wait;
 use std::thread::Threads;
+
+/// How many archives a run has: those of the rack, and the one that stands in for a replaced one.
+const ARCHIVES: u32 = 17;
 
 /// How a session ended, and the sink that it wrote to.
 #[derive(Drop)]
@@ -27,7 +31,32 @@ struct Ran {
     sink: MemSink,
 }
 
+/// How often calls of the archive of a number failed.
+fn faults_of(room: &MemRoom, number: u32) -> u64
+    ensures { result ≡ (means_in room.now number).faults }
+{
+    match room.archive(number) {
+        Some(archive) => archive.marks().faults,
+        None => 0,
+    }
+}
+
+/// Whether no call of a run's archives failed. Archives in memory fail for want of memory alone.
+fn are_sound(room: &MemRoom) -> bool
+    ensures { IsTrue result → AreSound (means_in room.now) }
+{
+    for number in 0..ARCHIVES {
+        if faults_of(room, number) > 0 {
+            return false;
+        }
+    }
+    true
+}
+
 /// Holds the session of a number.
+///
+/// # Errors
+/// Want of memory, also where an archive found none for a call of its own.
 fn run_in_memory<X: Threads + Wait + Sync>(
     rt: &X,
     alloc: Global,
@@ -55,6 +84,9 @@ fn run_in_memory<X: Threads + Wait + Sync>(
         &mut room,
         &mut desk,
     );
+    if !are_sound(&room) {
+        return Err(NoMemory);
+    }
     Ok(Ran { status, sink })
 }
 

@@ -5,7 +5,7 @@ ghost use Rattle.pot_outside.specs.Archives.{Meaning};
 ghost use Rattle.pot_machine.specs.Table.{archives_in};
 ghost use Rattle.pot_group.specs.Group.{view_of};
 ghost use Rattle.pot_shelves.specs.Shelves.{numbers_of};
-ghost use Rattle.pot_session.specs.Groups.{IsStarted, IsEnded, AreMarked, AreEnded, had_by};
+ghost use Rattle.pot_session.specs.Groups.{IsOpened, IsStarted, IsEnded, AreMarked, AreEnded, had_by};
 ghost use Rattle.pot_commands.specs.Holding.{AreMeant, AreSame};
 
 use crate::archives::append_table;
@@ -114,6 +114,8 @@ pub fn start_group<A: Archive>(
     requires space { length hand.old.items ≤ vec_capacity hand.old }
     ensures started { IfOk result (λ m. IsStarted number table (view_of A.account.meaning m.group)) }
     ensures marked { (meant : ℕ → Meaning) → IsTrue A.account.tells → AreMeant A.account.meaning meant hand.old.items → IfOk result (λ m. AreMarked meant table (view_of A.account.meaning m.group).shelves) }
+    ensures opened { (meant : ℕ → Meaning) → IsTrue A.account.tells → AreMeant A.account.meaning meant hand.old.items
+        → IfOk result (λ m. IsOpened meant table (view_of A.account.meaning m.group).log) }
     ensures rest { OnOk result (hand.new.items ≡ drop (length (archives_in table)) hand.old.items) }
     ensures refused { OnErr result (AreSame (numbers_of hand.new.items) (numbers_of hand.old.items)) }
     ensures count { OnErr result (length hand.new.items ≡ length hand.old.items) }

@@ -27,11 +27,17 @@ pub fn hold<S: Source, K: Sink, R: Room, D: Desk, W: Gate, X: Threads + Wait + S
 ) -> Status
     requires home { (n : ℕ) → R.out room.old n ≡ false }
     requires workers { 0 < workers }
-    ensures holds { Holds seed.now (seen_by (IsTrue S.tells) (S.left source.old) (S.left source.new) (IsTrue K.tells) (K.written sink.old) (K.written sink.new) (IsTrue D.tells) (D.held desk.old) (D.held desk.new) (IsTrue R.A.account.tells) (R.means room.old) (R.means room.new)) result }
+    ensures holds { Holds seed.now
+        (seen_by (IsTrue S.tells) (S.left source.old) (S.left source.new)
+        (IsTrue K.tells) (K.written sink.old) (K.written sink.new)
+        (IsTrue D.tells) (D.held desk.old) (D.held desk.new)
+        (IsTrue R.A.account.tells) (R.means room.old) (R.means room.new)
+        (R.failures room.old) (R.failures room.new) (D.faults desk.old) (D.faults desk.new)) result }
     ensures home { (n : ℕ) → R.out room.new n ≡ false }
     ensures source { Caused (S.faults source.old) (S.faults source.new) (result ≡ Status.SourceFault) }
     ensures sink { Caused (K.faults sink.old) (K.faults sink.new) (result ≡ Status.SinkFault) }
     ensures room { Caused (R.faults room.old) (R.faults room.new) (result ≡ Status.RoomFault) }
+    ensures own { Caused (R.failures room.old) (R.failures room.new) (result ≡ Status.RoomFault) }
     ensures desk { Caused (D.faults desk.old) (D.faults desk.new) (result ≡ Status.DeskFault) }
 {
     match prepare(alloc, source, desk) {

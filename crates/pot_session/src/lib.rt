@@ -9,7 +9,8 @@
 //!    the call returns (`AreOut`).
 //! 3. What a session leaves is tried to its end: a failure of the sink or want of memory ends the commands, and the close follows.
 //! 4. A status that names an object comes only where that object's count of faults rose in this call (`Caused`), and the first failure
-//!    gives it.
+//!    gives it. For the room it is the count of its own failures: an archive that fails while it is out is none of them (`RoomFails`).
+//! 5. What the close says of an archive it says of each that came back, and as many at most are missing as the room failed (`FailsAt`).
 #![tactic(auto)]
 
 mod archives;
@@ -38,7 +39,7 @@ mod stop;
 mod telling;
 mod top;
 
-pub use laws::loss_laws;
+pub use laws::{loss_laws, stripe_laws};
 pub use status::Status;
 pub use stop::Stop;
 pub use top::run;

@@ -14,7 +14,7 @@ ghost use Rattle.pot_rows.specs.Ends.{HasAllParts};
 ghost use Rattle.pot_shared.specs.Ready.{AreReady};
 ghost use Rattle.pot_shared.specs.Catalogs.{IsIndexReady};
 ghost use Rattle.pot_shared.specs.Sharing.{HasAllButKept};
-ghost use Rattle.pot_session.specs.Groups.{AreStarted, AreOfRack, AreAllMarked, AreFirstPasses, AreTakenAt, had_by, tables_read, records_read};
+ghost use Rattle.pot_session.specs.Groups.{AreStarted, AreOfRack, AreTakenFrom, AreFirstPasses, AreTakenAt, had_by, tables_read, records_read};
 ghost use Rattle.pot_commands.specs.Holding.{AreMeant, AreSame};
 
 use crate::groups::{Remains, end_groups, start_group};
@@ -43,7 +43,7 @@ fn start_groups<A: Archive>(
     requires none { members.old.items ≡ [] }
     requires places { length tables.items ≤ vec_capacity members.old }
     ensures started { OnOk result (AreStarted (λ m. view_of A.account.meaning m.group) tables.items members.new.items) }
-    ensures marked { (meant : ℕ → Meaning) → IsTrue A.account.tells → AreMeant A.account.meaning meant hand.old.items → OnOk result (AreAllMarked meant (λ m. view_of A.account.meaning m.group) members.new.items) }
+    ensures marked { (meant : ℕ → Meaning) → IsTrue A.account.tells → AreMeant A.account.meaning meant hand.old.items → OnOk result (AreTakenFrom meant (λ m. view_of A.account.meaning m.group) members.new.items) }
     ensures empty { OnOk result (hand.new.items ≡ []) }
     ensures refused { OnErr result (AreSame (numbers_of hand.new.items ++ flat_map (λ m. had_by (view_of A.account.meaning m.group)) members.new.items) (flat_map archives_in tables.items)) }
     ensures few { OnErr result (length members.new.items ≤ length tables.items) }
@@ -125,7 +125,7 @@ fn share<A: Archive>(
     requires logs { length remains.old.logs.items + length members.items ≤ vec_capacity remains.old.logs }
     requires hand { length remains.old.hand.items + length (flat_map (λ m. had_by (view_of A.account.meaning m.group)) members.items) ≤ vec_capacity remains.old.hand }
     ensures opened { IfOk result (λ p. AreFirstPasses p.1.groups p.1.index) }
-    ensures marked { (meant : ℕ → Meaning) → AreAllMarked meant (λ m. view_of A.account.meaning m.group) members.items → IfOk result (λ p. AreTakenAt meant p.1.groups) }
+    ensures marked { (meant : ℕ → Meaning) → AreTakenFrom meant (λ m. view_of A.account.meaning m.group) members.items → IfOk result (λ p. AreTakenAt meant p.1.groups) }
     ensures tables { IfOk result (λ p. tables_read p.1.groups ≡ map (λ m. (view_of A.account.meaning m.group).first) members.items) }
     ensures records { IfOk result (λ p. records_read p.1.index ≡ records.items) }
     ensures rack { IfOk result (λ p. p.0.rack ≡ rack.now) }

@@ -2,7 +2,7 @@
 
 ghost use Rattle.std.specs.Prelude.{◌≡◌, ◌≢◌, ◌<◌, ◌≤◌, ◌+◌, ◌*◌, ◌^◌, ℕ, IsTrue, IfOk, OnOk, IfErr, IsErr, IsErrOf, IsOk, ◌⊎◌, false, length};
 ghost use Rattle.pot_outside.specs.Counts.{Caused};
-ghost use Rattle.pot_session.specs.Recovering.{Adds, AreHeldIn, FindsObjects, Gathers, GiveObjects, GiveTooMany, IsRecovery, Recovers};
+ghost use Rattle.pot_session.specs.Recovering.{Adds, AreHeldIn, FailsOr, FindsObjects, Gathers, GiveObjects, GiveTooMany, HasFailed, IsRecovery, Recovers, SomeFailed};
 
 use crate::listing::list_objects;
 use crate::refusing::refuse;
@@ -77,7 +77,7 @@ fn first_fault(read: Result<(), RoomFault>, given: Result<(), Failed>) -> Result
 /// Takes an archive, reads its first slots, and gives it back whatever became of that.
 ///
 /// # Errors
-/// `Failed` only where the room's count of faults rose: it rises too where the archive failed.
+/// `Failed` only where the room itself failed or the archive did. The room's count of faults rises for both.
 fn read_archive<R: Room>(
     room: &mut R,
     number: u32,
@@ -90,6 +90,8 @@ fn read_archive<R: Room>(
     ensures home { R.out room.new number ≡ false }
     ensures others { (n : ℕ) → n ≢ number → (R.means room.new n ≡ R.means room.old n) × (R.out room.new n ≡ R.out room.old n) }
     ensures cause { Caused (R.faults room.old) (R.faults room.new) (IsErrOf result RoomFault.Failed) }
+    ensures own { FailsOr (IsTrue R.A.account.tells) (R.failures room.old) (R.failures room.new)
+        (HasFailed (R.means room.old number) (R.means room.new number)) (IsErrOf result RoomFault.Failed) }
 {
     match room.take(number) {
         Ok(archive) => {
@@ -105,7 +107,7 @@ fn read_archive<R: Room>(
 /// The blocks of the first slots of the first archives. Each archive is taken, read and given back, one after another.
 ///
 /// # Errors
-/// `Failed` only where the room's count of faults rose.
+/// `Failed` only where the room itself failed or one of the archives did.
 fn read_archives<R: Room>(
     alloc: Global,
     task: &Recover,
@@ -118,6 +120,8 @@ fn read_archives<R: Room>(
     ensures home { (n : ℕ) → R.out room.new n ≡ false }
     ensures others { (n : ℕ) → task.now.archives ≤ n → R.means room.new n ≡ R.means room.old n }
     ensures cause { Caused (R.faults room.old) (R.faults room.new) (IsErrOf result RoomFault.Failed) }
+    ensures own { FailsOr (IsTrue R.A.account.tells) (R.failures room.old) (R.failures room.new)
+        (SomeFailed task.now.archives (R.means room.old) (R.means room.new)) (IsErrOf result RoomFault.Failed) }
 {
     let mut blocks = Vec::new(alloc);
     for number in 0..task.archives {
@@ -151,7 +155,7 @@ fn objects_in(
 /// The objects that the archives give. No block is left in memory then.
 ///
 /// # Errors
-/// `RoomFault` only where the room's count of faults rose.
+/// `RoomFault` only where the room itself failed or one of the archives did.
 fn find_objects<R: Room>(alloc: Global, task: &Recover, room: &mut R) -> Result<Recovered, Stop>
     requires task { IsRecovery task.now }
     requires home { (n : ℕ) → R.out room.old n ≡ false }
@@ -159,6 +163,8 @@ fn find_objects<R: Room>(alloc: Global, task: &Recover, room: &mut R) -> Result<
     ensures home { (n : ℕ) → R.out room.new n ≡ false }
     ensures others { (n : ℕ) → task.now.archives ≤ n → R.means room.new n ≡ R.means room.old n }
     ensures cause { Caused (R.faults room.old) (R.faults room.new) (IsErrOf result Stop.RoomFault) }
+    ensures own { FailsOr (IsTrue R.A.account.tells) (R.failures room.old) (R.failures room.new)
+        (SomeFailed task.now.archives (R.means room.old) (R.means room.new)) (IsErrOf result Stop.RoomFault) }
 {
     match read_archives(alloc, task, room) {
         Ok(blocks) => match objects_in(alloc, &blocks, task.blur, task.robust) {
@@ -187,6 +193,8 @@ pub fn recover_files<K: Sink, R: Room>(
     ensures home { (n : ℕ) → R.out room.new n ≡ false }
     ensures sink { Caused (K.faults sink.old) (K.faults sink.new) (result ≡ Status.SinkFault) }
     ensures room { Caused (R.faults room.old) (R.faults room.new) (result ≡ Status.RoomFault) }
+    ensures own { FailsOr (IsTrue R.A.account.tells) (R.failures room.old) (R.failures room.new)
+        (SomeFailed task.now.archives (R.means room.old) (R.means room.new)) (result ≡ Status.RoomFault) }
 {
     match find_objects(alloc, task, room) {
         Ok(objects) => list_objects(alloc, &objects, sink),

@@ -12,12 +12,13 @@ ghost use Rattle.pot_rows.specs.Ends.{HasAllParts};
 ghost use Rattle.pot_shared.specs.Ready.{AreReady};
 ghost use Rattle.pot_shared.specs.Catalogs.{IsIndexReady};
 ghost use Rattle.pot_shared.specs.Sharing.{HasAllButKept};
-ghost use Rattle.pot_session.specs.Commands.{IsStep};
+ghost use Rattle.pot_script.specs.Steps.{IsWholeStep};
 ghost use Rattle.pot_session.specs.Groups.{AreFirstPasses, AreLow, AreTakenAt, tables_read, records_read};
 ghost use Rattle.pot_commands.specs.Ends.{next_job};
 ghost use Rattle.pot_commands.specs.Taking.{asked_by};
 ghost use Rattle.pot_commands.specs.Holding.{AreApart, AreMeant, AreOut, Untouched};
-ghost use Rattle.pot_session.specs.Serving.{HasSpaces, Serves, IsEnd, rooms_by, status_after};
+ghost use Rattle.pot_session.specs.Giving.{IsUnlent};
+ghost use Rattle.pot_session.specs.Serving.{HasSpaces, Serves, IsEnd, rooms_by, desks_by, status_after};
 
 use crate::archives::{give_all, numbers_in, take_all};
 use crate::closing::{Opened, close_session};
@@ -41,7 +42,7 @@ const MOST_ARCHIVES: usize = 512;
 /// Takes all archives of the tables from the room.
 ///
 /// # Errors
-/// `Failed` only where the room's count of faults rose, or `NoMemory`. No archive is out then.
+/// `Failed` only where the room itself failed, or `NoMemory`. No archive is out then.
 fn take_archives<R: Room>(
     alloc: Global,
     tables: &[GroupTable],
@@ -59,6 +60,10 @@ fn take_archives<R: Room>(
     ensures home { OnErr result ((n : ℕ) → R.out room.new n ≡ false) }
     ensures untouched { Untouched (flat_map archives_in tables.now) (R.means room.old) (R.means room.new) }
     ensures cause { Caused (R.faults room.old) (R.faults room.new) (IsErrOf result RoomFault.Failed) }
+    ensures own { Caused (R.failures room.old) (R.failures room.new) (IsErrOf result RoomFault.Failed) }
+    ensures sound { OnOk result (R.failures room.new ≡ R.failures room.old) }
+    ensures unlent { IsErrOf result RoomFault.Failed → IsUnlent (IsTrue R.A.account.tells) (R.means room.old) (R.means room.new)
+        (R.failures room.old) (R.failures room.new) }
 {
     let Ok(numbers) = numbers_in(alloc, tables) else {
         return Err(RoomFault::NoMemory);
@@ -81,6 +86,7 @@ fn give_back<R: Room>(room: &mut R, remains: Remains<R::A>) -> Result<(), Failed
     ensures home { (n : ℕ) → R.out room.new n ≡ false }
     ensures untouched { Untouched (numbers_of remains.hand.items) (R.means room.old) (R.means room.new) }
     ensures cause { Caused (R.faults room.old) (R.faults room.new) (IsErr result) }
+    ensures own { Caused (R.failures room.old) (R.failures room.new) (IsErr result) }
 {
     let mut remains = remains;
     let given = give_all(room, &mut remains.hand);
@@ -91,7 +97,7 @@ fn give_back<R: Room>(room: &mut R, remains: Remains<R::A>) -> Result<(), Failed
 /// Takes the archives of the tables of an image from the room, and opens a vault over them.
 ///
 /// # Errors
-/// `Failed` only where the room's count of faults rose, or `NoMemory`. No archive is out then.
+/// `Failed` only where the room itself failed, or `NoMemory`. No archive is out then.
 fn open_session<R: Room>(
     alloc: Global,
     image: Image,
@@ -113,6 +119,10 @@ fn open_session<R: Room>(
     ensures home { OnErr result ((n : ℕ) → R.out room.new n ≡ false) }
     ensures untouched { Untouched (flat_map archives_in image.tables.items) (R.means room.old) (R.means room.new) }
     ensures cause { Caused (R.faults room.old) (R.faults room.new) (IsErrOf result RoomFault.Failed) }
+    ensures own { Caused (R.failures room.old) (R.failures room.new) (IsErrOf result RoomFault.Failed) }
+    ensures sound { OnOk result (R.failures room.new ≡ R.failures room.old) }
+    ensures unlent { IsErrOf result RoomFault.Failed → IsUnlent (IsTrue R.A.account.tells) (R.means room.old) (R.means room.new)
+        (R.failures room.old) (R.failures room.new) }
 {
     let Image {
         session,
@@ -158,15 +168,20 @@ pub fn serve<K: Sink, R: Room, D: Desk, W: Gate, X: Threads + Wait + Sync>(
     requires together { FitsTogether (contents image) }
     requires few { next_job steps.now ≤ 2 ^ 31 }
     requires workers { 0 < workers }
-    requires worked { AllByRecursion (IsStep image.rack) steps.now }
+    requires worked { AllByRecursion (IsWholeStep image.rack) steps.now }
     requires home { (n : ℕ) → R.out room.old n ≡ false }
     requires kept { IsTrue D.tells → D.held desk.old ≡ Some (image_bytes (contents image)) }
     ensures home { (n : ℕ) → R.out room.new n ≡ false }
     ensures untouched { Untouched (flat_map archives_in image.tables.items ++ asked_by steps.now) (R.means room.old) (R.means room.new) }
-    ensures serves { Serves seed.now (contents image) steps.now (rooms_by (IsTrue R.A.account.tells) (R.means room.old) (R.means room.new)) (IsTrue K.tells) (K.written sink.old) (K.written sink.new) (IsTrue D.tells) (D.held desk.new) result }
+    ensures serves { Serves seed.now (contents image) steps.now
+        (rooms_by (IsTrue R.A.account.tells) (R.means room.old) (R.means room.new)
+        (R.failures room.old) (R.failures room.new))
+        (IsTrue K.tells) (K.written sink.old) (K.written sink.new)
+        (desks_by (IsTrue D.tells) (D.held desk.new) (D.faults desk.old) (D.faults desk.new)) result }
     ensures which { IsEnd result }
     ensures sink { Caused (K.faults sink.old) (K.faults sink.new) (result ≡ Status.SinkFault) }
     ensures room { Caused (R.faults room.old) (R.faults room.new) (result ≡ Status.RoomFault) }
+    ensures own { Caused (R.failures room.old) (R.failures room.new) (result ≡ Status.RoomFault) }
     ensures desk { Caused (D.faults desk.old) (D.faults desk.new) (result ≡ Status.DeskFault) }
 {
     let mut opened = match open_session(alloc, image, room) {

@@ -16,7 +16,7 @@ pub enum Stop {
     Words,
     /// The source failed.
     SourceFault,
-    /// The script leaves its grammar at this line, or the line is not worked yet.
+    /// The script leaves its grammar at this line.
     BadLine { number: u32 },
     /// The desk failed.
     DeskFault,

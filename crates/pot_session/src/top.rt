@@ -7,7 +7,7 @@ ghost use Rattle.pot_session.specs.Stops.{code_of};
 ghost use Rattle.pot_session.specs.Tasks.{seed_of};
 ghost use Rattle.pot_session.specs.declared.status.Status.{Status};
 ghost use Rattle.pot_session.specs.Runs.{seen_by};
-ghost use Rattle.pot_session.specs.Calls.{Runs};
+ghost use Rattle.pot_session.specs.Calls.{RoomFails, Runs};
 
 use crate::asking::{Asked, read_task};
 use crate::auditing::audit_files;
@@ -49,11 +49,18 @@ fn answer<S: Source, K: Sink, R: Room, D: Desk, W: Gate, X: Threads + Wait + Syn
     desk: &mut D,
 ) -> Status
     requires home { (n : ℕ) → R.out room.old n ≡ false }
-    ensures runs { Runs (map string_bytes words.now) drawn (seen_by (IsTrue S.tells) (S.left source.old) (S.left source.new) (IsTrue K.tells) (K.written sink.old) (K.written sink.new) (IsTrue D.tells) (D.held desk.old) (D.held desk.new) (IsTrue R.A.account.tells) (R.means room.old) (R.means room.new)) result }
+    ensures runs { Runs (map string_bytes words.now) drawn
+        (seen_by (IsTrue S.tells) (S.left source.old) (S.left source.new)
+        (IsTrue K.tells) (K.written sink.old) (K.written sink.new)
+        (IsTrue D.tells) (D.held desk.old) (D.held desk.new)
+        (IsTrue R.A.account.tells) (R.means room.old) (R.means room.new)
+        (R.failures room.old) (R.failures room.new) (D.faults desk.old) (D.faults desk.new)) result }
     ensures home { (n : ℕ) → R.out room.new n ≡ false }
     ensures source { Caused (S.faults source.old) (S.faults source.new) (result ≡ Status.SourceFault) }
     ensures sink { Caused (K.faults sink.old) (K.faults sink.new) (result ≡ Status.SinkFault) }
     ensures room { Caused (R.faults room.old) (R.faults room.new) (result ≡ Status.RoomFault) }
+    ensures own { result ≡ Status.RoomFault → RoomFails (map string_bytes words.now) (IsTrue R.A.account.tells)
+        (R.means room.old) (R.means room.new) (R.failures room.old) (R.failures room.new) }
     ensures desk { Caused (D.faults desk.old) (D.faults desk.new) (result ≡ Status.DeskFault) }
 {
     match read_task(alloc, words) {
@@ -88,7 +95,7 @@ fn answer<S: Source, K: Sink, R: Room, D: Desk, W: Gate, X: Threads + Wait + Syn
 /// and tells what is exposed to a coalition. `generate` works a script of its own over objects in memory, and writes the digest of the replies. The answer is the exit status.
 ///
 /// 0 and 1 say that all commands were answered, and 1 that some reply is a refusal; 2 that the words spell no task that is
-/// worked, or name a column that the rack has not; 3 that the script leaves its grammar, or has a line that is not worked; 4, 5, 6 and 8 that the source, the sink, the desk or the
+/// worked, or name a column that the rack has not; 3 that the script leaves its grammar; 4, 5, 6 and 8 that the source, the sink, the desk or the
 /// room failed; 7 that the desk holds no image from which a session may begin; 9 that no number of a session is left; 10 that `init` found an
 /// image; 11 that recovery is too wide; 70 that memory ran out. Each job of a batch passes the gate before it begins.
 pub fn run<S: Source, K: Sink, R: Room, D: Desk, W: Gate, X: Threads + Wait + Sync>(
@@ -103,12 +110,19 @@ pub fn run<S: Source, K: Sink, R: Room, D: Desk, W: Gate, X: Threads + Wait + Sy
     gate: &W,
 ) -> u8
     requires home { (n : ℕ) → R.out room.old n ≡ false }
-    ensures runs { (status : Status) × (result ≡ code_of status) × Runs (map string_bytes words.now) drawn (seen_by (IsTrue S.tells) (S.left source.old) (S.left source.new) (IsTrue K.tells) (K.written sink.old) (K.written sink.new) (IsTrue D.tells) (D.held desk.old) (D.held desk.new) (IsTrue R.A.account.tells) (R.means room.old) (R.means room.new)) status }
+    ensures runs { (status : Status) × (result ≡ code_of status) × Runs (map string_bytes words.now) drawn
+        (seen_by (IsTrue S.tells) (S.left source.old) (S.left source.new)
+        (IsTrue K.tells) (K.written sink.old) (K.written sink.new)
+        (IsTrue D.tells) (D.held desk.old) (D.held desk.new)
+        (IsTrue R.A.account.tells) (R.means room.old) (R.means room.new)
+        (R.failures room.old) (R.failures room.new) (D.faults desk.old) (D.faults desk.new)) status }
     ensures home { (n : ℕ) → R.out room.new n ≡ false }
     ensures source { Caused (S.faults source.old) (S.faults source.new) (result ≡ 4) }
     ensures sink { Caused (K.faults sink.old) (K.faults sink.new) (result ≡ 5) }
     ensures desk { Caused (D.faults desk.old) (D.faults desk.new) (result ≡ 6) }
     ensures room { Caused (R.faults room.old) (R.faults room.new) (result ≡ 8) }
+    ensures own { result ≡ 8 → RoomFails (map string_bytes words.now) (IsTrue R.A.account.tells)
+        (R.means room.old) (R.means room.new) (R.failures room.old) (R.failures room.new) }
 {
     let status = answer(rt, alloc, words, drawn, gate, source, sink, room, desk);
     status.code()

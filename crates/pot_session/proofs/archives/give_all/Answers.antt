@@ -1,20 +1,15 @@
-use Rattle.std.proofs.Common.{◌≡◌, ◌<◌, inl, inr, IsTrue, true, false, length, refl, sym, ap, subst, ◌∙◌, arith}
-use Rattle.std.specs.Prelude.{[], Contains, Result, Ok, Err, IsErr, OnOk}
+use Rattle.std.proofs.Common.{◌≡◌, ◌<◌, IsTrue, true, false, length, refl, sym, ap, subst, ◌∙◌, arith}
+use Rattle.std.specs.Prelude.{[]}
 use Rattle.std.proofs.lemmas.List.{nil_from_length}
-use Rattle.pot_bytes.proofs.Elements.{none_contained}
 use Rattle.pot_shelves.specs.Shelves.{numbers_of}
 use Rattle.pot_commands.specs.Holding.{times, AreOut}
 use Rattle.pot_session.proofs.Counts.{caused_both}
 use Rattle.pot_session.proofs.OutLemmas.{times-removed, is_out, out_less, is_another, all_home, is_zero}
-use Rattle.pot_session.proofs.MeantLemmas.{HeldOrGiven, given_more, got_ok}
+use Rattle.pot_session.proofs.GivingLemmas.{GivenSofar, all_given, none_given, one_given}
 use Rattle.pot_session.proofs.archives.give_all.Goals as goal
 
 apart : {X : Type 0} → false ≡ true → X
 apart e = absurd (cc)
-
-all_given : {E : Type 0} (r : Result (Unit {0}) E) {P : Type 0} → ((IsErr r → ⊥) → P) → OnOk r P
-all_given (Ok u) p = p (λ e. cc)
-all_given (Err e) p = tt
 
 pub give-requires : goal.give-requires
 give-requires g c =
@@ -26,7 +21,7 @@ loop-hand-init g c = record {
   out = c.requires;
   fewer = λ n. omega arith;
   untouched = λ n e. refl;
-  given = λ s has. inl has;
+  given = none_given g.R.A.Archive.account.meaning (IsTrue g.R.A.Archive.account.tells) c.args.hand.now.items (g.R.Room.out c.args.room.now) (g.R.Room.means c.args.room.now) (g.R.Room.failures c.args.room.now);
   space = refl;
   cause = record { later = omega arith; rose = λ e. apart e };
 }
@@ -48,13 +43,15 @@ loop-hand-preserved g c =
           let z : times n (numbers_of c.loop-hand.hand.items) ≡ 0 = omega (arith, f, none) in
           (c.give.ensures.others n (is_another n c.loop-hand.hand.items c.least_place-place.result c.remove-number.result lt c.remove-number.ensures.value z)).0
           ∙ c.loop-hand.invariant.untouched n none;
-      given = λ s has. subst (λ ss. HeldOrGiven g.R.A.Archive.account.meaning (IsTrue g.R.A.Archive.account.tells × (IsErr c.either-answer.result → ⊥)) (g.R.Room.out c.give.new.self) (g.R.Room.means c.give.new.self) ss s)
+      given = subst (λ ss. GivenSofar g.R.A.Archive.account.meaning (IsTrue g.R.A.Archive.account.tells) c.args.hand.now.items ss (g.R.Room.out c.give.new.self) (g.R.Room.means c.give.new.self)
+          (g.R.Room.failures c.args.room.now) (g.R.Room.failures c.give.new.self) c.either-answer.result)
           (sym c.remove-number.ensures.items)
-          (given_more g.R.A.Archive.account.meaning (IsTrue g.R.A.Archive.account.tells × (IsErr c.loop-hand.answer → ⊥)) (IsTrue g.R.A.Archive.account.tells × (IsErr c.either-answer.result → ⊥))
-          (g.R.Room.out c.loop-hand.room) (g.R.Room.out c.give.new.self) (g.R.Room.means c.loop-hand.room) (g.R.Room.means c.give.new.self) c.loop-hand.hand.items c.least_place-place.result c.remove-number.result s lt c.remove-number.ensures.value
+          (one_given g.R.A.Archive.account.meaning (IsTrue g.R.A.Archive.account.tells) c.args.hand.now.items c.loop-hand.hand.items (g.R.Room.out c.loop-hand.room) (g.R.Room.out c.give.new.self) (g.R.Room.means c.loop-hand.room) (g.R.Room.means c.give.new.self)
+          (g.R.Room.failures c.args.room.now) (g.R.Room.failures c.loop-hand.room) (g.R.Room.failures c.give.new.self) c.least_place-place.result c.remove-number.result c.loop-hand.answer c.either-answer.result
+          c.loop-hand.invariant.given lt c.remove-number.ensures.value
           (is_out (g.R.Room.out c.loop-hand.room) c.loop-hand.hand.items c.least_place-place.result c.remove-number.result c.loop-hand.invariant.out lt c.remove-number.ensures.value) c.give.ensures.back
-          (λ t. (t.0, λ e. t.1 (c.either-answer.ensures.first e))) (λ t. got_ok c.give.result _ c.give.ensures.told (λ e. t.1 (c.either-answer.ensures.second e)) t.0)
-          (λ n ne. ((c.give.ensures.others n ne).0, (c.give.ensures.others n ne).1)) (c.loop-hand.invariant.given s has));
+          (λ n ne. ((c.give.ensures.others n ne).0, (c.give.ensures.others n ne).1))
+          c.give.result c.give.ensures.told c.give.ensures.own c.give.ensures.sound c.either-answer.ensures.some c.either-answer.ensures.first c.either-answer.ensures.second);
       space = c.remove-number.ensures.capacity ∙ c.loop-hand.invariant.space;
       cause = caused_both _ _ _ c.loop-hand.invariant.cause c.give.ensures.cause c.either-answer.ensures.some;
     }
@@ -68,9 +65,7 @@ returns g c =
       empty = none;
       space = c.loop-hand.invariant.space;
       untouched = c.loop-hand.invariant.untouched;
-      meant = λ told. all_given c.loop-hand.answer (λ ok s has. elim (c.loop-hand.invariant.given s has) [
-        | inl h ↦ absurd (none_contained s (subst (λ ss. Contains ss s) none h))
-        | inr h ↦ h.1 (told, ok)
-      ]);
+      back = all_given g.R.A.Archive.account.meaning (IsTrue g.R.A.Archive.account.tells) c.args.hand.now.items c.loop-hand.hand.items (g.R.Room.out c.loop-hand.room) (g.R.Room.means c.loop-hand.room)
+          (g.R.Room.failures c.args.room.now) (g.R.Room.failures c.loop-hand.room) c.loop-hand.answer c.loop-hand.invariant.given none;
       cause = c.loop-hand.invariant.cause;
     }

@@ -1,13 +1,16 @@
-use Rattle.std.proofs.Common.{◌≡◌, length, take, get_or, refl, sym, ap, subst, ◌∙◌, arith}
+use Rattle.std.proofs.Common.{◌≡◌, IsTrue, length, take, get_or, refl, sym, ap, subst, ◌∙◌, arith}
 use Rattle.std.proofs.lemmas.List.{take_more}
 use Rattle.std.proofs.Math.Seq.{take-length}
 use Rattle.pot_shelves.specs.Shelves.{numbers_of}
 use Rattle.std.specs.Prelude.{Contains}
 use Rattle.pot_bytes.proofs.Elements.{none_contained}
 use Rattle.pot_outside.specs.Archives.{IsMeant}
+use Rattle.pot_outside.specs.Counts.{Rose}
 use Rattle.pot_doubles.proofs.CallLemmas.{rose_later}
 use Rattle.pot_commands.specs.Holding.{times, AreMeant, AreOut}
+use Rattle.pot_commands.proofs.ArrivingLemmas.{same_at}
 use Rattle.pot_session.proofs.Counts.{rose_before, err_again}
+use Rattle.pot_session.proofs.GivingLemmas.{is_unlent}
 use Rattle.pot_session.proofs.OutLemmas.{none_out, is_home, out_more, out_same, apart_before, apart_from, apart_next, none_before, times-next, numbers-snoc, numbers-length}
 use Rattle.pot_session.proofs.MeantLemmas.{meant_more}
 use Rattle.pot_session.proofs.archives.take_all.Goals as goal
@@ -37,6 +40,7 @@ loop-number-init g c = record {
   untouched = λ n e. refl;
   space = refl;
   later = omega arith;
+  own = refl;
 }
 
 pub loop-number-preserved : goal.loop-number-preserved
@@ -59,6 +63,7 @@ loop-number-preserved g c =
           (c.take.ensures.others n (apart_next c.args.numbers.now c.loop-number.number-index n c.loop-number-test.true none)).0 ∙ c.loop-number.invariant.untouched n before);
       space = c.push_reserved.ensures.capacity ∙ c.loop-number.invariant.space;
       later = omega (arith, c.loop-number.invariant.later, c.take.ensures.cause.later);
+      own = c.in-Ok.ensures.sound ∙ c.loop-number.invariant.own;
     }
 
 pub returns-in-Err : goal.returns-in-Err
@@ -77,6 +82,19 @@ returns-in-Err g c = record {
     later = omega (arith, c.loop-number.invariant.later, c.take.ensures.cause.later, c.give_all-given.ensures.cause.later);
     rose = λ e. rose_before _ _ _ c.give_all-given.ensures.cause.later (rose_later _ _ _ c.loop-number.invariant.later (c.in-Err.ensures.cause.rose (err_again _ _ e)));
   };
+  own = record {
+    later = (let a = c.loop-number.invariant.own in let b = c.take.ensures.own.later in let d = c.give_all-given.ensures.back.failed_at.later in omega (arith, a, b, d));
+    rose = λ e. rose_before _ _ _ c.give_all-given.ensures.back.failed_at.later
+        (subst (λ k. Rose k (g.R.Room.failures c.take.new.self)) c.loop-number.invariant.own (c.in-Err.ensures.own.rose (err_again _ _ e)));
+  };
+  sound = tt;
+  unlent = λ e. is_unlent (IsTrue g.R.A.Archive.account.tells) g.R.A.Archive.account.meaning c.loop-number.hand.items (g.R.Room.means c.args.room.now) (g.R.Room.means c.give_all-given.new.room)
+      (g.R.Room.failures c.args.room.now) (g.R.Room.failures c.take.new.self) (g.R.Room.failures c.give_all-given.new.room) c.give_all-given.result
+      (subst (λ k. Rose k (g.R.Room.failures c.take.new.self)) c.loop-number.invariant.own (c.in-Err.ensures.own.rose (err_again _ _ e)))
+      c.give_all-given.ensures.back c.loop-number.invariant.meant
+      (λ n none. c.give_all-given.ensures.untouched n none
+      ∙ (same_at (g.R.Room.means c.loop-number.room) (g.R.Room.means c.take.new.self) (get_or c.args.numbers.now c.loop-number.number-index 0) c.in-Err.ensures.unchanged (λ m ne. (c.take.ensures.others m ne).0) n
+      ∙ c.loop-number.invariant.untouched n (sym (ap (times n) c.loop-number.invariant.taken) ∙ none)));
 }
 
 pub returns : goal.returns
@@ -92,4 +110,7 @@ returns g c =
       untouched = λ n none. c.loop-number.invariant.untouched n (none_before n c.args.numbers.now c.loop-number.number-index none);
       meant = c.loop-number.invariant.meant;
       cause = record { later = c.loop-number.invariant.later; rose = λ e. absurd (cc) };
+      own = record { later = (let a = c.loop-number.invariant.own in omega (arith, a)); rose = λ e. absurd (cc) };
+      sound = c.loop-number.invariant.own;
+      unlent = λ e. absurd (cc);
     }

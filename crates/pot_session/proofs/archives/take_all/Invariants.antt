@@ -12,4 +12,5 @@ invariant-loop-number g l = record {
   untouched : Untouched (take l.number-index l.numbers) (g.R.Room.means l.initial.room) (g.R.Room.means l.room);
   space : vec_capacity l.hand ≡ vec_capacity l.initial.hand;
   later : g.R.Room.faults l.initial.room ≤ g.R.Room.faults l.room;
+  own : g.R.Room.failures l.room ≡ g.R.Room.failures l.initial.room;
 }

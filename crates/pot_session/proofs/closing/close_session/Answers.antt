@@ -1,10 +1,11 @@
-use Rattle.std.proofs.Common.{◌≡◌, IsTrue, refl, sym, subst, ◌∙◌}
-use Rattle.std.specs.Prelude.{Some}
-use Rattle.pot_image.specs.Spelling.{image_bytes}
+use Rattle.std.proofs.Common.{IsTrue, refl, sym, subst, ◌∙◌}
 use Rattle.pot_store.specs.Works.{known}
-use Rattle.pot_session.specs.Serving.{Closes, IsCloseStop, rooms_by}
+use Rattle.pot_session.specs.Serving.{IsCloseStop, desks_by, rooms_by}
 use Rattle.pot_session.proofs.OutLemmas.{none_out_of, out_apart}
 use Rattle.pot_session.proofs.Countable.{countable}
+use Rattle.pot_session.proofs.FoundLemmas.{found_at}
+use Rattle.pot_session.proofs.GivingLemmas.{missed}
+use Rattle.pot_session.proofs.ServeLemmas.{first_tables}
 use Rattle.pot_session.proofs.CloseImages.{closes, close_stop, room_failure, desk_failure}
 use Rattle.pot_session.proofs.closing.close_session.Goals as goal
 
@@ -32,12 +33,15 @@ returns-clause-untouched g c n home =
     (c.end_vault-remains.ensures.hand c.requires.served.0 c.requires.served.1 c.requires.served.2 c.requires.served.3 n ∙ none_out_of (g.R.Room.out c.args.room.now) c.requires.served.1 n c.requires.served.4 home)
 
 pub returns-clause-closes : goal.returns-clause-closes
-returns-clause-closes g c old first meant served taken marks begun =
-    let rooms = rooms_by (IsTrue g.R.A.Archive.account.tells) meant (g.R.Room.means c.give_hand-given.new.room) in
-    subst (λ r. Closes old (known c.args.opened.passes.groups c.args.opened.passes.index) rooms (IsTrue g.D.Desk.tells × (g.D.Desk.held c.args.desk.now ≡ Some (image_bytes first))) first (g.D.Desk.held c.keep_image-kept.new.desk) r)
-    (sym c.first_failure.ensures)
-    (closes g.R.A.Archive.account.meaning _ rooms _ old _ _ _ first _ _ _ c.give_hand-given.result c.keep_image-kept.result c.keep_image-kept.ensures.told c.give_hand-given.ensures.meant served.opened begun c.requires.rack
-    (c.end_vault-remains.ensures.groups old meant served taken marks) (c.end_vault-remains.ensures.logs old served))
+returns-clause-closes g c old first meant failed served taken marks begun =
+    closes g.R.A.Archive.account.meaning _ (rooms_by (IsTrue g.R.A.Archive.account.tells) meant (g.R.Room.means c.give_hand-given.new.room) failed (g.R.Room.failures c.give_hand-given.new.room))
+    (g.R.Room.failures c.args.room.now) _ old (known c.args.opened.passes.groups c.args.opened.passes.index) _
+    (desks_by (IsTrue g.D.Desk.tells) (g.D.Desk.held c.keep_image-kept.new.desk) (g.D.Desk.faults c.args.desk.now) (g.D.Desk.faults c.keep_image-kept.new.desk)) first _ (g.D.Desk.held c.args.desk.now)
+    c.give_hand-given.result c.keep_image-kept.result _ c.keep_image-kept.ensures.told c.keep_image-kept.ensures.which c.keep_image-kept.ensures.cause c.give_hand-given.ensures.back served.opened begun c.requires.rack
+    (c.end_vault-remains.ensures.groups old meant served taken marks) (c.end_vault-remains.ensures.logs old served)
+    (λ told. found_at meant old (known c.args.opened.passes.groups c.args.opened.passes.index) first.tables served.opened
+    (sym (first_tables _ _ old.groups c.args.opened.passes.groups served.opened c.requires.ready served.stays.groups) ∙ sym begun.are_tables) (taken told))
+    c.first_failure.ensures
 
 pub returns-clause-which : goal.returns-clause-which
 returns-clause-which g c = subst IsCloseStop (sym c.first_failure.ensures) (close_stop c.give_hand-given.result c.keep_image-kept.result c.keep_image-kept.ensures.which)
@@ -52,4 +56,10 @@ pub returns-clause-desk : goal.returns-clause-desk
 returns-clause-desk g c = record {
   later = c.keep_image-kept.ensures.cause.later;
   rose = λ e. c.keep_image-kept.ensures.cause.rose (desk_failure c.give_hand-given.result c.keep_image-kept.result (sym c.first_failure.ensures ∙ e));
+}
+
+pub returns-clause-own : goal.returns-clause-own
+returns-clause-own g c = record {
+  later = c.give_hand-given.ensures.back.failed_at.later;
+  rose = λ e. missed _ c.give_hand-given.ensures.back (room_failure c.give_hand-given.result c.keep_image-kept.result c.keep_image-kept.ensures.which (sym c.first_failure.ensures ∙ e));
 }

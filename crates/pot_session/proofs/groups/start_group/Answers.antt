@@ -5,7 +5,7 @@ use Rattle.pot_outside.specs.declared.archive.Shelf.{Shelf}
 use Rattle.pot_machine.specs.Table.{archives_in}
 use Rattle.pot_shelves.specs.Shelves.{numbers_of}
 use Rattle.pot_commands.specs.Holding.{AreSame}
-use Rattle.pot_session.proofs.GroupLemmas.{started_of, marked_of, same_parts, long_parts}
+use Rattle.pot_session.proofs.GroupLemmas.{opened_of, started_of, marked_of, same_parts, long_parts}
 use Rattle.pot_session.proofs.Lists.{take_contains}
 use Rattle.pot_session.proofs.groups.start_group.Goals as goal
 
@@ -23,6 +23,11 @@ pub returns-in-Ok-clause-marked : goal.returns-in-Ok-clause-marked
 returns-in-Ok-clause-marked g c meant told are =
     marked_of (IsTrue g.A.Archive.account.tells) g.A.Archive.account.meaning meant c.args.number c.args.table c.in_ok-shelves.shelves.items c.in-Ok.group told c.in-Ok.ensures.begins
     (ap numbers_of c.in_ok-shelves.ensures.front ∙ (sym (take-map (λ (s : Shelf _). s.number) (length (archives_in c.args.table)) c.args.hand.now.items) ∙ c.requires.hand))
+    (λ s has. are s (take_contains c.args.hand.now.items (length (archives_in c.args.table)) s (subst (λ ss. Contains ss s) c.in_ok-shelves.ensures.front has)))
+
+pub returns-in-Ok-clause-opened : goal.returns-in-Ok-clause-opened
+returns-in-Ok-clause-opened g c meant told are =
+    opened_of (IsTrue g.A.Archive.account.tells) g.A.Archive.account.meaning meant c.args.number c.args.table c.in_ok-shelves.shelves.items c.in-Ok.group told c.in-Ok.ensures.begins
     (λ s has. are s (take_contains c.args.hand.now.items (length (archives_in c.args.table)) s (subst (λ ss. Contains ss s) c.in_ok-shelves.ensures.front has)))
 
 pub put_back-requires : goal.put_back-requires

@@ -1,6 +1,7 @@
-use Rattle.std.proofs.Common.{◌≡◌, inl, inr, false, subst, ◌∙◌, arith}
+use Rattle.std.proofs.Common.{◌≡◌, IsTrue, inl, inr, false, subst, ◌∙◌, arith}
 use Rattle.std.proofs.lemmas.Bool.{cases_lt}
-use Rattle.pot_session.proofs.RecoveringLemmas.{held_more}
+use Rattle.pot_session.proofs.RecoveringLemmas.{held_more, some_failed}
+use Rattle.pot_session.proofs.Counts.{err_again}
 use Rattle.pot_session.proofs.recovering.read_archives.Goals as goal
 
 pub loop-number-preserved : goal.loop-number-preserved
@@ -20,4 +21,12 @@ loop-number-preserved g c =
       ];
       others = λ n le. (others n (λ e. omega (arith, le, e))).0 ∙ c.loop-number.invariant.others n (omega (arith, le));
       later = (let a = c.loop-number.invariant.later in let b = c.in-Ok.ensures.cause.later in omega (arith, a, b));
+      own = (let a = c.loop-number.invariant.own in let b = c.read_archive.ensures.own.later in omega (arith, a, b));
     }
+
+pub returns-in-Err-clause-own : goal.returns-in-Err-clause-own
+returns-in-Err-clause-own g c = record {
+  later = (let a = c.loop-number.invariant.own in let b = c.read_archive.ensures.own.later in omega (arith, a, b));
+  why = λ e. some_failed (IsTrue g.R.A.Archive.account.tells) c.args.task.now.archives c.loop-number.number (g.R.Room.means c.args.room.now) (g.R.Room.means c.loop-number.room) (g.R.Room.means c.read_archive.new.room) _ _ _
+      c.loop-number-test.true c.loop-number.invariant.own (c.loop-number.invariant.others c.loop-number.number (omega arith)) (c.in-Err.ensures.own.why (err_again _ _ e));
+}

@@ -9,4 +9,5 @@ invariant-loop-number g l = record {
   home : (n : ℕ) → g.R.Room.out l.room n ≡ false;
   others : (n : ℕ) → l.number ≤ n → g.R.Room.means l.room n ≡ g.R.Room.means l.initial.room n;
   later : g.R.Room.faults l.initial.room ≤ g.R.Room.faults l.room;
+  own : g.R.Room.failures l.initial.room ≤ g.R.Room.failures l.room;
 }

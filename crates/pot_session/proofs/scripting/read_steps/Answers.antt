@@ -1,21 +1,8 @@
 use Rattle.std.proofs.Common.{◌≡◌, ◌-◌, length, take, arith, sym, ap, subst, ◌∙◌, false, IsTrue}
 use Rattle.std.specs.Prelude.{vec_len}
-use Rattle.pot_session.specs.Commands.{LeavesWorked, Other, other_line}
 use Rattle.pot_session.proofs.ScriptLemmas.{before_quit, few_commands, steps_closed, steps_each, is_read}
 use Rattle.pot_session.proofs.StreamLemmas.{whole_source}
 use Rattle.pot_session.proofs.scripting.read_steps.Goals as goal
-
-pub first_other-requires : goal.first_other-requires
-first_other-requires g c =
-    let few = few_commands c.args.rack.now c.deref.result.now c.in-Ok-read_script.commands.items c.in-Ok-read_script.ensures.ok in
-    rw c.deref-2.ensures.value (omega (arith, few))
-
-pub returns-in-Some-clause-bad : goal.returns-in-Some-clause-bad
-returns-in-Some-clause-bad g c = λ t.
-    let script = c.in-Ok-read_script.ensures.ok in
-    let whole = whole_source _ _ c.in-Ok.bytes.items 67108864 (c.in-Ok.ensures.told t) (omega (arith, script.short, ap length c.deref.ensures.value)) in
-    subst (λ b. LeavesWorked c.args.rack.now b c.in-Some.number) (c.deref.ensures.value ∙ sym whole)
-    (Other c.in-Ok-read_script.commands.items script (ap (other_line 1 false) (sym c.deref-2.ensures.value) ∙ sym c.in-Some.ensures))
 
 pub group_steps-requires : goal.group_steps-requires
 group_steps-requires g c =
@@ -33,7 +20,7 @@ returns-in-Ok-group_steps-clause-script g c =
     let same = before_quit c.args.rack.now c.deref.result.now cs.items c.pop-quit.new.self.items script (c.pop-quit.ensures.rest ∙ ap (λ n. take (n - 1) cs.items) long) in
     is_read c.args.rack.now (IsTrue g.S.Source.tells) (g.S.Source.left c.args.source.now) c.deref.result.now cs.items c.in-Ok-group_steps.steps.items
     (λ t. whole_source _ _ c.in-Ok.bytes.items 67108864 (c.in-Ok.ensures.told t) (omega (arith, script.short, ap length c.deref.ensures.value)) ∙ sym c.deref.ensures.value)
-    script (ap (other_line 1 false) (sym c.deref-2.ensures.value) ∙ sym c.in_default.ensures)
+    script
     (c.in-Ok-group_steps.ensures.spelled ∙ same)
     (c.in-Ok-group_steps.ensures.whole c.args.rack.now (steps_each c.args.rack.now _ c.pop-quit.new.self.items _ script same))
 

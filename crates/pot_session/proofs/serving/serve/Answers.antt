@@ -1,17 +1,22 @@
-use Rattle.std.proofs.Common.{◌++◌, IsTrue, length, sym, ap, subst, ◌∙◌}
-use Rattle.std.specs.Prelude.{flat_map, vec_capacity}
+use Rattle.std.proofs.Common.{◌≡◌, ◌++◌, IsTrue, length, sym, ap, subst, ◌∙◌}
+use Rattle.std.specs.Prelude.{Some, flat_map, vec_capacity}
 use Rattle.std.specs.List.{AllByRecursion}
 use Rattle.pot_bytes.specs.Rack.{IsRack}
 use Rattle.pot_bytes.specs.declared.rack.Rack.{Rack}
+use Rattle.pot_outside.specs.Archives.{IsMeant}
 use Rattle.pot_image.specs.Images.{contents}
+use Rattle.pot_image.specs.Spelling.{image_bytes}
 use Rattle.pot_machine.specs.Table.{archives_in}
 use Rattle.pot_store.specs.Works.{known}
+use Rattle.pot_commands.specs.declared.working.Ending.TheVariants as ending
+use Rattle.pot_commands.specs.Failures.{Fails}
 use Rattle.pot_commands.specs.Rows.{HasFilled}
 use Rattle.pot_commands.specs.Steps.{IsWorkedStep}
 use Rattle.pot_commands.specs.Taking.{asked_by, lending}
-use Rattle.pot_session.specs.Serving.{HasSpaces, IsEnd}
-use Rattle.pot_session.proofs.Counts.{caused_both, caused_second}
-use Rattle.pot_session.proofs.LendLemmas.{first_used, have_come, home_after, image_low, low_after, marks_before, means_after, none_before_asked, none_first, out_after}
+use Rattle.pot_session.specs.Serving.{HasSpaces, IsEnd, desks_by, rooms_by}
+use Rattle.pot_session.proofs.Counts.{caused_both, caused_fails, caused_second}
+use Rattle.pot_session.proofs.FoundLemmas.{came_since}
+use Rattle.pot_session.proofs.LendLemmas.{first_used, have_come, home_after, image_low, low_after, marks_before, means_after, none_before_asked, none_first, out_after, still_meant}
 use Rattle.pot_session.proofs.WorkLemmas.{are_worked, asked_low}
 use Rattle.pot_session.proofs.ServeLemmas.{but_kept_parts, all_parts, has_filled, same_read, same_records, still_but_kept, still_all, serves_closed, end_of, sink_failed, room_failed, desk_failed}
 use Rattle.pot_session.proofs.serving.serve.Goals as goal
@@ -67,15 +72,28 @@ returns-clause-untouched g c n none =
 
 pub returns-clause-serves : goal.returns-clause-serves
 returns-clause-serves g c =
-    serves_closed c.args.seed.now (contents c.args.image) c.args.steps.now _ _ _ _ (IsTrue g.D.Desk.tells) (g.D.Desk.held c.args.desk.now) _ _ _ (known c.in-Ok.opened.passes.groups c.in-Ok.opened.passes.index) _ c.work-ending.result
-    c.close_session-closed.result _ c.in-Ok.ensures.opened c.in-Ok.ensures.read.0 c.in-Ok.ensures.read.1 c.in-Ok.ensures.same.2 c.in-Ok.ensures.same.0 c.work-ending.ensures.ends
-    (c.close_session-closed.ensures.closes _ (contents c.args.image) (g.R.Room.means c.args.room.now) (record { opened = c.in-Ok.ensures.opened; went = c.work-ending.ensures.went; stays = c.work-ending.ensures.stays }) c.in-Ok.ensures.marked
+    let closes = c.close_session-closed.ensures.closes (known c.in-Ok.opened.passes.groups c.in-Ok.opened.passes.index) (contents c.args.image) (g.R.Room.means c.args.room.now) (g.R.Room.failures c.args.room.now)
+    (record { opened = c.in-Ok.ensures.opened; went = c.work-ending.ensures.went; stays = c.work-ending.ensures.stays }) c.in-Ok.ensures.marked
     (marks_before (IsTrue g.R.A.Archive.account.tells) _ (asked_by c.args.steps.now) (lending (g.R.Room.out c.open_session.new.room) (g.R.Room.means c.open_session.new.room)) (lending (g.R.Room.out c.work-ending.new.room) (g.R.Room.means c.work-ending.new.room)) (known c.in-Ok.opened.passes.groups c.in-Ok.opened.passes.index) (known c.work-ending.new.passes.groups c.work-ending.new.passes.index) c.work-ending.ensures.took.taken c.work-ending.ensures.took.takes c.work-ending.ensures.took.come (flat_map archives_in c.args.image.tables.items) c.in-Ok.ensures.out (g.R.Room.means c.args.room.now) c.open_session.ensures.untouched) (record {
       is_session = sym c.in-Ok.ensures.same.0;
       is_rack = sym c.in-Ok.ensures.same.1;
       are_tables = sym (same_read _ _ _ _ c.in-Ok.ensures.ready.0 c.work-ending.ensures.ready c.work-ending.ensures.stays.groups ∙ c.in-Ok.ensures.read.0);
       are_records = sym (same_records _ _ c.work-ending.ensures.stays.index ∙ c.in-Ok.ensures.read.1);
-    })) c.close_session-closed.ensures.which c.requires.kept c.status_after.ensures c.requires.together
+    }) in
+    let names : length c.in-Ok.opened.passes.groups.names ≡ c.args.image.rack.groups =
+    ap length c.in-Ok.ensures.ready.0.of.0 ∙ (c.in-Ok.ensures.count ∙ ap (λ (r : Rack). r.groups) c.in-Ok.ensures.same.2) in
+    let long : length closes.last.group_logs ≡ length c.in-Ok.opened.passes.groups.names = closes.leaves.groups.count_logs ∙ (c.requires.together.tables.count ∙ sym names) in
+    serves_closed c.args.seed.now (contents c.args.image) c.args.steps.now
+    (rooms_by (IsTrue g.R.A.Archive.account.tells) (g.R.Room.means c.args.room.now) (g.R.Room.means c.close_session-closed.new.room) (g.R.Room.failures c.args.room.now) (g.R.Room.failures c.close_session-closed.new.room)) _ _ _
+    (desks_by (IsTrue g.D.Desk.tells) (g.D.Desk.held c.close_session-closed.new.desk) (g.D.Desk.faults c.args.desk.now) (g.D.Desk.faults c.close_session-closed.new.desk))
+    (g.D.Desk.held c.args.desk.now ≡ Some (image_bytes (contents c.args.image))) _ _ (known c.in-Ok.opened.passes.groups c.in-Ok.opened.passes.index) (known c.work-ending.new.passes.groups c.work-ending.new.passes.index) c.work-ending.result
+    (g.R.Room.failures c.work-ending.new.room) c.close_session-closed.result _ c.in-Ok.ensures.opened c.in-Ok.ensures.read.0 c.in-Ok.ensures.read.1 c.in-Ok.ensures.same.2 c.in-Ok.ensures.same.0 c.work-ending.ensures.ends
+    (subst (λ k. Fails k (g.R.Room.failures c.work-ending.new.room) (c.work-ending.result ≡ ending.RoomFailed)) c.in-Ok.ensures.sound c.work-ending.ensures.own) closes c.requires.kept
+    (λ told well n none unbrought. (let still = still_meant (IsTrue g.R.A.Archive.account.tells) _ (asked_by c.args.steps.now) (lending (g.R.Room.out c.open_session.new.room) (g.R.Room.means c.open_session.new.room)) (lending (g.R.Room.out c.work-ending.new.room) (g.R.Room.means c.work-ending.new.room)) (known c.in-Ok.opened.passes.groups c.in-Ok.opened.passes.index) (known c.work-ending.new.passes.groups c.work-ending.new.passes.index) c.work-ending.ensures.took.taken c.work-ending.ensures.took.takes c.work-ending.ensures.took.come (flat_map archives_in c.args.image.tables.items) c.in-Ok.ensures.out
+    told well closes.sole n none (sym (came_since (known c.in-Ok.opened.passes.groups c.in-Ok.opened.passes.index) (known c.work-ending.new.passes.groups c.work-ending.new.passes.index) closes.last.group_logs c.in-Ok.ensures.opened closes.leaves.logs long n) ∙ unbrought) in
+    subst (λ m. IsMeant m (g.R.Room.means c.close_session-closed.new.room n)) (c.open_session.ensures.untouched n none)
+    (subst (λ m. IsMeant (g.R.Room.means c.open_session.new.room n) m) (sym (c.close_session-closed.ensures.untouched n still.0)) still.1)))
+    c.status_after.ensures c.requires.together
 
 pub returns-clause-which : goal.returns-clause-which
 returns-clause-which g c = subst IsEnd (sym c.status_after.ensures) (end_of c.work-ending.result c.close_session-closed.result c.close_session-closed.ensures.which)
@@ -89,6 +107,11 @@ returns-clause-sink g c = record {
 pub returns-clause-room : goal.returns-clause-room
 returns-clause-room g c =
     caused_second _ _ _ c.open_session.ensures.cause (caused_both _ _ _ c.work-ending.ensures.room c.close_session-closed.ensures.room (λ h. h))
+    (λ e. room_failed c.work-ending.result c.close_session-closed.result c.close_session-closed.ensures.which (sym c.status_after.ensures ∙ e))
+
+pub returns-clause-own : goal.returns-clause-own
+returns-clause-own g c =
+    caused_second _ _ _ c.open_session.ensures.own (caused_both _ _ _ (caused_fails _ _ c.work-ending.ensures.own) c.close_session-closed.ensures.own (λ h. h))
     (λ e. room_failed c.work-ending.result c.close_session-closed.result c.close_session-closed.ensures.which (sym c.status_after.ensures ∙ e))
 
 pub returns-clause-desk : goal.returns-clause-desk

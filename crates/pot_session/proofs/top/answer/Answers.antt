@@ -1,4 +1,4 @@
-use Rattle.std.proofs.Common.{refl, map, subst, arith}
+use Rattle.std.proofs.Common.{inl, inr, refl, map, subst, arith}
 use Rattle.std.specs.String.{string_bytes}
 use Rattle.pot_session.specs.Tasks.{Asks}
 use Rattle.pot_session.specs.Calls.{Auditing, Generating, Makes, Drilling, Recovering}
@@ -103,3 +103,24 @@ returns-in-Ok-Generate-clause-desk g c = record {
   later = omega arith;
   rose = λ e. absurd (generate_desk _ _ _ _ c.generate.result c.generate.ensures.generates e);
 }
+
+pub returns-in-Ok-Init-clause-own : goal.returns-in-Ok-Init-clause-own
+returns-in-Ok-Init-clause-own g c e = absurd (init_room _ _ _ c.init.ensures.inits.made c.init.result c.init.ensures.inits.which c.init.ensures.inits.answers e)
+
+pub returns-in-Ok-Run-clause-own : goal.returns-in-Ok-Run-clause-own
+returns-in-Ok-Run-clause-own g c e = inl (c.hold.ensures.own.rose e)
+
+pub returns-in-Ok-Drill-clause-own : goal.returns-in-Ok-Drill-clause-own
+returns-in-Ok-Drill-clause-own g c e = absurd (drill_room _ _ _ _ _ _ _ _ c.drill_files.result c.drill_files.ensures.drills e)
+
+pub returns-in-Ok-Recover-clause-own : goal.returns-in-Ok-Recover-clause-own
+returns-in-Ok-Recover-clause-own g c e = elim (c.recover_files.ensures.own.why e) [
+  | inl rose ↦ inl rose
+  | inr archive ↦ inr (_, (subst (Asks (map string_bytes c.args.words.now)) c.in-Ok-Recover.field-0-is c.in-Ok-Recover.ensures).0, archive)
+]
+
+pub returns-in-Ok-Audit-clause-own : goal.returns-in-Ok-Audit-clause-own
+returns-in-Ok-Audit-clause-own g c e = absurd (audit_room _ _ _ _ _ _ c.audit_files.result c.audit_files.ensures.audits e)
+
+pub returns-in-Ok-Generate-clause-own : goal.returns-in-Ok-Generate-clause-own
+returns-in-Ok-Generate-clause-own g c e = absurd (generate_room _ _ _ _ c.generate.result c.generate.ensures.generates e)

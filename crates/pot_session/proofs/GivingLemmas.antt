@@ -1,0 +1,141 @@
+-- Archives that are given back one by one, and those that the room does not take back.
+use Rattle.std.proofs.Common.{◌≡◌, ◌≢◌, ◌<◌, ◌≤◌, ◌⊎◌, inl, inr, ℕ, Bool, true, false, cond, List, [], ◌∷◌, length, refl, sym, ap, subst, arith, eqb}
+use Rattle.std.specs.Prelude.{Contains, Some, Result, Ok, Err, IsErr, OnOk, slice_index_or}
+use Rattle.std.specs.List.{remove}
+use Rattle.std.proofs.lemmas.Bool.{cases_lt}
+use Rattle.std.proofs.lemmas.Bool.Decides.{eqb_tells}
+use Rattle.pot_bytes.proofs.Elements.{none_contained}
+use Rattle.pot_outside.specs.Archives.{Meaning, IsMeant}
+use Rattle.pot_outside.specs.Counts.{Rose, Caused}
+use Rattle.pot_outside.specs.declared.archive.Shelf.{Shelf}
+use Rattle.pot_outside.specs.declared.faults.Failed.{Failed}
+use Rattle.pot_store.proofs.NoteLemmas.{one_if}
+use Rattle.pot_shelves.specs.Shelves.{numbers_of, shelf_of}
+use Rattle.pot_commands.specs.Holding.{AreMeant, times}
+use Rattle.pot_commands.proofs.TakingLemmas.{meant_by}
+use Rattle.pot_session.specs.Giving.{AnswersFor, FailsAt, GivesBack, IsUnlent}
+use Rattle.pot_session.proofs.ComingLemmas.{times_contains}
+use Rattle.pot_session.proofs.GroupLemmas.{find_shelf}
+use Rattle.pot_session.proofs.MeantLemmas.{HeldOrGiven, given_more}
+
+-- a number stands in a list that it heads
+own_time : (n : ℕ) (ns : List ℕ) → times n (n ∷ ns) ≡ 0 → ⊥
+own_time n ns e = elim (eqb_tells n n) [
+  | inl t ↦ (let o : cond (eqb n n) 1 0 ≡ 1 = ap one_if t.0 in omega (arith, e, o))
+  | inr t ↦ t.1 refl
+]
+
+tail_time : (n m : ℕ) (ns : List ℕ) → times n (m ∷ ns) ≡ 0 → times n ns ≡ 0
+tail_time n m ns e = omega (arith, e)
+
+-- THE ANSWER
+
+answers_same : (missing : List ℕ) (answer given result : Result (Unit {0}) Failed) → AnswersFor missing answer → (IsErr given → ⊥)
+    → (IsErr result → IsErr answer ⊎ IsErr given) → (IsErr answer → IsErr result) → AnswersFor missing result
+answers_same missing (Ok u) given (Ok v) h none some first = h
+answers_same missing (Ok u) given (Err e) h none some first = elim (some refl) [ inl x ↦ absurd (cc x) | inr x ↦ absurd (none x) ]
+answers_same missing (Err e) given (Ok v) h none some first = absurd (cc (first refl))
+answers_same missing (Err e) given (Err f) h none some first = h
+
+answers_more : (n : ℕ) (missing : List ℕ) (result : Result (Unit {0}) Failed) → IsErr result → AnswersFor (n ∷ missing) result
+answers_more n missing (Ok u) e = absurd (cc e)
+answers_more n missing (Err f) e = omega arith
+
+-- so many are missing, one call on
+failed_same : (before mid now : ℕ) (missing : List ℕ) → FailsAt before mid missing → now ≡ mid → FailsAt before now missing
+failed_same before mid now missing m e = subst (λ k. FailsAt before k missing) (sym e) m
+
+failed_more : (before mid now n : ℕ) (missing : List ℕ) → FailsAt before mid missing → mid ≤ now → Rose mid now → FailsAt before now (n ∷ missing)
+failed_more before mid now n missing m le rose = record {
+  later = (let a = m.later in omega (arith, a, le));
+  counted = elim m.counted [
+    | inl a ↦ elim rose [
+      | inl r ↦ inl (omega (arith, a, r))
+      | inr top ↦ inr top
+    ]
+    | inr top ↦ inr (omega (arith, top, le))
+  ];
+  still = λ e. absurd (cc e);
+}
+
+pub failed_none : (n : ℕ) → FailsAt n n []
+failed_none n = record { later = omega arith; counted = inl (omega arith); still = λ e. refl }
+
+-- ONE BY ONE
+
+module _ {A : Type 0} (meaning : A → Meaning) where
+  -- some of these archives are still in the hand, and the others were given back
+  pub record GivenSofar (told : Type 0) (all hand : List (Shelf A)) (out : ℕ → Bool) (means : ℕ → Meaning) (before now : ℕ) (answer : Result (Unit {0}) Failed) : Type 0 where
+    pub missing : List ℕ
+    pub failed_at : FailsAt before now missing
+    pub answers : AnswersFor missing answer
+    pub each : (s : Shelf A) → Contains all s → HeldOrGiven meaning (told × (times s.number missing ≡ 0)) out means hand s
+
+  pub none_given : (told : Type 0) (all : List (Shelf A)) (out : ℕ → Bool) (means : ℕ → Meaning) (n : ℕ) → GivenSofar told all all out means n n (Ok tt)
+  none_given told all out means n = record {
+    missing = [];
+    failed_at = failed_none n;
+    answers = refl;
+    each = λ s has. inl has;
+  }
+
+  module _ (told : Type 0) (all hand : List (Shelf A)) (out new : ℕ → Bool) (means after : ℕ → Meaning) (before mid now p : ℕ) (x : Shelf A) (answer result : Result (Unit {0}) Failed)
+      (g : GivenSofar told all hand out means before mid answer) (l : p < length hand) (e : x ≡ slice_index_or hand p x) (was : out x.number ≡ true) (back : new x.number ≡ false)
+      (others : (n : ℕ) → n ≢ x.number → (after n ≡ means n) × (new n ≡ out n)) where
+    pub one_given : (given : Result (Unit {0}) Failed) → OnOk given (told → IsMeant (after x.number) (meaning x.archive)) → Caused mid now (IsErr given) → OnOk given (now ≡ mid)
+        → (IsErr result → IsErr answer ⊎ IsErr given) → (IsErr answer → IsErr result) → (IsErr given → IsErr result) → GivenSofar told all (remove hand p) new after before now result
+    one_given (Ok u) its cause same some first second = record {
+      missing = g.missing;
+      failed_at = failed_same before mid now g.missing g.failed_at same;
+      answers = answers_same g.missing answer (Ok u) result g.answers (λ q. cc q) some first;
+      each = λ s has. given_more meaning (told × (times s.number g.missing ≡ 0)) (told × (times s.number g.missing ≡ 0)) out new means after hand p x s l e was back (λ t. t) (λ is t. its t.0) others (g.each s has);
+    }
+    one_given (Err f) its cause same some first second = record {
+      missing = x.number ∷ g.missing;
+      failed_at = failed_more before mid now x.number g.missing g.failed_at cause.later (cause.rose refl);
+      answers = answers_more x.number g.missing result (second refl);
+      each = λ s has. given_more meaning (told × (times s.number g.missing ≡ 0)) (told × (times s.number (x.number ∷ g.missing) ≡ 0)) out new means after hand p x s l e was back
+          (λ t. (t.0, tail_time s.number x.number g.missing t.1))
+          (λ is t. absurd (own_time x.number g.missing (subst (λ (y : Shelf A). times y.number (x.number ∷ g.missing) ≡ 0) is t.1))) others (g.each s has);
+    }
+
+  -- all of them were
+  pub all_given : (told : Type 0) (all hand : List (Shelf A)) (out : ℕ → Bool) (means : ℕ → Meaning) (before now : ℕ) (answer : Result (Unit {0}) Failed) → GivenSofar told all hand out means before now answer → hand ≡ []
+      → GivesBack told meaning all means before now answer
+  all_given told all hand out means before now answer g none = record {
+    missing = g.missing;
+    failed_at = g.failed_at;
+    answers = g.answers;
+    back = λ t s has there. elim (g.each s has) [
+      | inl h ↦ absurd (none_contained s (subst (λ ss. Contains ss s) none h))
+      | inr h ↦ h.1 (t, there)
+    ];
+  }
+
+-- where the giving back failed, the room did
+pub missed : {A : Type 0} {told : Type 0} {meaning : A → Meaning} {hand : List (Shelf A)} {means : ℕ → Meaning} {before now : ℕ} (answer : Result (Unit {0}) Failed)
+    → GivesBack told meaning hand means before now answer → IsErr answer → Rose before now
+missed (Ok u) g e = absurd (cc e)
+missed (Err f) g e = (let some : 0 < length g.missing = g.answers in elim g.failed_at.counted [ inl a ↦ inl (omega (arith, a, some)) | inr top ↦ inr top ])
+
+-- the room failed itself, and the archives that it had given were given back
+pub is_unlent : {A : Type 0} (told : Type 0) (meaning : A → Meaning) (hand : List (Shelf A)) (meant means : ℕ → Meaning) (before worked now : ℕ) (answer : Result (Unit {0}) Failed) → Rose before worked
+    → GivesBack told meaning hand means worked now answer → (told → AreMeant meaning meant hand) → ((n : ℕ) → times n (numbers_of hand) ≡ 0 → means n ≡ meant n) → IsUnlent told meant means before now
+is_unlent {A} told meaning hand meant means before worked now answer rose g are stay = record {
+  worked = worked;
+  rose = rose;
+  missing = g.missing;
+  failed_at = g.failed_at;
+  others = λ t n none. elim (cases_lt 0 (times n (numbers_of hand))) [
+    | inl some ↦ there t n none (find_shelf hand n (times_contains (numbers_of hand) n some))
+    | inr le ↦ subst (λ m. IsMeant (meant n) m) (sym (stay n (omega (arith, le)))) (same (meant n))
+  ];
+}
+  where
+    same : (m : Meaning) → IsMeant m m
+    same m = record { blocks = λ k. refl; past = refl; sums = refl; faulted = refl; lost = refl }
+
+    there : told → (n : ℕ) → times n g.missing ≡ 0 → (s : Shelf A) × (shelf_of hand n ≡ Some s) × (s.number ≡ n) × Contains hand s → IsMeant (meant n) (means n)
+    there t n none (s, is, number, has) =
+        meant_by (meant n) (means n) (meaning s.archive) (subst (λ k. IsMeant (meant k) (meaning s.archive)) number (are t s has))
+        (subst (λ k. IsMeant (means k) (meaning s.archive)) number (g.back t s has (subst (λ k. times k g.missing ≡ 0) (sym number) none)))
