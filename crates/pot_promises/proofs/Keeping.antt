@@ -1,17 +1,20 @@
 -- The record of a name keeps its digest, however the log of the index goes on.
-use Rattle.std.proofs.Common.{◌≡◌, ℕ, List, ◌∷◌, refl, ap, sym, ◌∙◌, subst}
+use Rattle.std.proofs.Common.{◌≡◌, ℕ, List, ◌∷◌, ap, sym, ◌∙◌, subst}
 use Rattle.std.specs.Prelude.{Contains}
 use Rattle.pot_bytes.specs.declared.digest.Digest.{Digest}
 use Rattle.pot_bytes.specs.declared.rack.Rack.{Rack}
-use Rattle.pot_bytes.proofs.Elements.{parted_at}
+use Rattle.pot_bytes.proofs.Elements.{contains_back, contains_later, parted_at}
 use Rattle.pot_index.specs.declared.entry.IndexEntry.TheVariants.{Publish}
 use Rattle.pot_index.specs.declared.entry.Logged.{Logged}
 use Rattle.pot_index.specs.declared.record.Record.{Record}
 use Rattle.pot_index.specs.Entries.{bringing}
+use Rattle.pot_index.specs.Fits.{FitsRack}
 use Rattle.pot_index.specs.Index.{Names, IsRecordOf, AreNames, Replays, after}
+use Rattle.pot_index.specs.Laws.{GoesOn}
 use Rattle.pot_index.proofs.NamesKept.{replay_keeps, went_on, after_keeps}
-use Rattle.pot_index.proofs.RecordLaws.{one_record, splits_stay}
+use Rattle.pot_index.proofs.RecordLaws.{one_record, records_stay, splits_stay}
 use Rattle.pot_index.proofs.RecordLemmas.{inserted_has}
+use Rattle.pot_promises.proofs.Quiet.{Quiet, all_quiet}
 
 -- a record of this name and this digest is published
 pub record Has (n : Names) (name : List ℕ) (d : Digest) : Type 0 where
@@ -25,18 +28,39 @@ still_has rack n m log name d a rep h =
     let o = splits_stay rack n m log h.its a rep h.there in
     record { its = o.0; there = o.1; named = o.2.name ∙ h.named; digest = o.2.digest ∙ h.digest }
 
--- a record that an entry published stays
-pub published_has : (rack : Rack) (n m : Names) (log : List Logged) (job : ℕ) (name : List ℕ) (mark : Digest) (kept : Record) → AreNames rack n → Replays rack n log m
-    → Contains log (bringing (Publish job name mark) kept) → Has m name kept.digest
-published_has rack n m log job name mark kept a rep there =
+-- a record that an entry published stays, or goes on
+pub published_goes : (rack : Rack) (n m : Names) (log : List Logged) (job : ℕ) (name : List ℕ) (mark : Digest) (kept : Record) → AreNames rack n → Replays rack n log m
+    → Contains log (bringing (Publish job name mark) kept) → (o : Record) × Contains m.published o × GoesOn kept o × (kept.name ≡ name) × FitsRack rack kept
+published_goes rack n m log job name mark kept a rep there =
     let x : Logged = bringing (Publish job name mark) kept in
     let cut = parted_at log x there in
     let parts = went_on rack n m cut.0 (x ∷ cut.1) (subst (λ l. Replays rack n l m) cut.2 rep) in
     let k : Names = parts.0 in
     let legal = parts.2.0 in
     let at : AreNames rack k = replay_keeps rack n k cut.0 a parts.1 in
-    let new : Has (after k x) name kept.digest = record { its = kept; there = inserted_has kept k.published; named = legal.0; digest = refl } in
-    still_has rack (after k x) m cut.1 name kept.digest (after_keeps rack k x at legal) parts.2.1 new
+    let o = splits_stay rack (after k x) m cut.1 kept (after_keeps rack k x at legal) parts.2.1 (inserted_has kept k.published) in
+    (o.0, o.1, o.2, legal.0, legal.3)
+
+-- and stays as it is where no entry renews its name
+pub published_stays : (rack : Rack) (n m : Names) (log : List Logged) (job : ℕ) (name : List ℕ) (mark : Digest) (kept : Record) → AreNames rack n → Replays rack n log m
+    → Contains log (bringing (Publish job name mark) kept) → Quiet name log → Contains m.published kept
+published_stays rack n m log job name mark kept a rep there quiet =
+    let x : Logged = bringing (Publish job name mark) kept in
+    let cut = parted_at log x there in
+    let parts = went_on rack n m cut.0 (x ∷ cut.1) (subst (λ l. Replays rack n l m) cut.2 rep) in
+    let k : Names = parts.0 in
+    let legal = parts.2.0 in
+    let at : AreNames rack k = replay_keeps rack n k cut.0 a parts.1 in
+    let rest : Quiet kept.name cut.1 =
+    subst (λ l. Quiet l cut.1) (sym legal.0)
+    (λ y has. quiet y (subst (λ l. Contains l y) (sym cut.2) (contains_back cut.0 (x ∷ cut.1) y (contains_later x y cut.1 has)))) in
+    records_stay rack (after k x) m cut.1 kept (after_keeps rack k x at legal) parts.2.1 (inserted_has kept k.published) (all_quiet kept.name cut.1 rest)
+
+pub published_has : (rack : Rack) (n m : Names) (log : List Logged) (job : ℕ) (name : List ℕ) (mark : Digest) (kept : Record) → AreNames rack n → Replays rack n log m
+    → Contains log (bringing (Publish job name mark) kept) → Has m name kept.digest
+published_has rack n m log job name mark kept a rep there =
+    let o = published_goes rack n m log job name mark kept a rep there in
+    record { its = o.0; there = o.1; named = o.2.name ∙ o.3; digest = o.2.digest }
 
 -- what is found under the name has the digest
 pub found_digest : (rack : Rack) (n : Names) (name : List ℕ) (d : Digest) (kept : Record) → AreNames rack n → Has n name d → IsRecordOf n name kept → kept.digest ≡ d

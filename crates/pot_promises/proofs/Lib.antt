@@ -1,4 +1,11 @@
-pub mod Keeping
-pub mod Replying
+pub mod Answering
+pub mod Faulting
+pub mod FirstReplies
 pub mod Giving
+pub mod Keeping
+pub mod Odds
+pub mod Quiet
+pub mod Replying
 pub mod Running
+pub mod Veils
+pub mod Walking

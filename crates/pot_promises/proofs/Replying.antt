@@ -1,11 +1,6 @@
 -- How many replies a command has, and what its first reply says.
-use Rattle.std.proofs.Common.{◌≡◌, ◌+◌, ℕ, suc, Bool, true, false, List, [], ◌∷◌, ◌++◌, length, Some, refl, ap, ◌∙◌, subst, arith, ◌⊎◌, inl, inr}
-use Rattle.std.specs.Prelude.{Contains, slice_get, if◌then◌else◌}
-use Rattle.pot_bytes.proofs.Elements.{none_contained}
-use Rattle.pot_index.specs.declared.entry.Logged.{Logged}
-use Rattle.pot_index.specs.Entries.{own, is_of}
-use Rattle.pot_index.proofs.NameLemmas.{contains_here, contains_cases}
-use Rattle.pot_bytes.proofs.Elements.{contains_later}
+use Rattle.std.proofs.Common.{◌≡◌, ◌+◌, ℕ, zero, suc, List, [], ◌∷◌, ◌++◌, length, Some, refl, ap, ◌∙◌, subst, arith}
+use Rattle.std.specs.Prelude.{slice_get}
 use Rattle.pot_script.specs.declared.command.Command.{Command}
 use Rattle.pot_script.specs.declared.command.Command.TheVariants as commands
 use Rattle.pot_script.specs.declared.reply.Reply.{Reply}
@@ -57,15 +52,13 @@ element_behind [] ys k x at = subst (λ n. slice_get ys n ≡ Some x) (let e : 0
 element_behind (z ∷ zs) ys k x at =
     element_behind zs ys k x (subst (λ n. slice_get (z ∷ (zs ++ ys)) n ≡ Some x) (let e : suc (length zs) + k ≡ suc (length zs + k) = omega arith in e) at)
 
--- a job's own entry is one of the log
-pub own_entry : (job : ℕ) (log : List Logged) (x : Logged) → Contains (own job log) x → Contains log x
-own_entry job [] x there = absurd (none_contained x there)
-own_entry job (y ∷ ys) x there = by (is_of job y) there (own_entry job ys x)
-  where
-    by : (b : Bool) → Contains (if b then y ∷ own job ys else own job ys) x → (Contains (own job ys) x → Contains ys x) → Contains (y ∷ ys) x
-    by true at again = here (contains_cases y x (own job ys) at)
-      where
-        here : (y ≡ x) ⊎ Contains (own job ys) x → Contains (y ∷ ys) x
-        here (inl is) = subst (λ z. Contains (y ∷ ys) z) is (contains_here y ys)
-        here (inr more) = contains_later y x ys (again more)
-    by false at again = contains_later y x ys (again at)
+pub element_pushed : {X : Type 0} (xs ys : List X) (k : ℕ) (x : X) → slice_get ys k ≡ Some x → slice_get (xs ++ ys) (length xs + k) ≡ Some x
+element_pushed [] ys k x at = subst (λ n. slice_get ys n ≡ Some x) (let e : k ≡ 0 + k = omega arith in e) at
+element_pushed (z ∷ zs) ys k x at =
+    subst (λ n. slice_get (z ∷ (zs ++ ys)) n ≡ Some x) (let e : suc (length zs + k) ≡ suc (length zs) + k = omega arith in e) (element_pushed zs ys k x at)
+
+-- and before others
+pub element_in_front : {X : Type 0} (xs ys : List X) (k : ℕ) (x : X) → slice_get xs k ≡ Some x → slice_get (xs ++ ys) k ≡ Some x
+element_in_front [] ys k x at = absurd (cc at)
+element_in_front (z ∷ zs) ys zero x at = at
+element_in_front (z ∷ zs) ys (suc k) x at = element_in_front zs ys k x at

@@ -1,5 +1,5 @@
 -- A run that ends well is a session.
-use Rattle.std.proofs.Common.{◌≡◌, inl, inr, ℕ, List, [], ◌++◌, Option, Result, Ok, Err, Bool, refl, ap, sym, ◌∙◌, subst, append-nil}
+use Rattle.std.proofs.Common.{◌≡◌, inl, inr, ℕ, List, [], ◌∷◌, ◌++◌, Option, Some, Result, Ok, Err, Bool, refl, ap, sym, ◌∙◌, subst, append-nil, arith}
 use Rattle.std.specs.Prelude.{IsTrue}
 use Rattle.pot_outside.specs.Archives.{Meaning}
 use Rattle.pot_script.specs.declared.grouping.Step.{Step}
@@ -16,12 +16,15 @@ use Rattle.pot_session.specs.declared.status.Status.{Status}
 use Rattle.pot_session.specs.declared.stop.Stop.{Stop}
 use Rattle.pot_session.specs.declared.stop.Stop.TheVariants as stop
 use Rattle.pot_session.specs.Commands.{IsRead}
-use Rattle.pot_session.specs.Desks.{HoldsImage, begun}
+use Rattle.pot_session.specs.Desks.{HoldsImage, Keeps, begun}
 use Rattle.pot_session.specs.Runs.{Holds, Stopped, Served, seen_by}
-use Rattle.pot_session.specs.Serving.{Serves, Unopened, Closed, IsClosed, Rooms, rooms_by, Leaves, IsBack, HoldsAfter, setting_of, status_after}
+use Rattle.pot_session.specs.Serving.{Serves, Unlent, Unopened, Closed, IsClosed, Desks, Rooms, desks_by, rooms_by, Leaves, close_answer, setting_of, status_after}
 use Rattle.pot_session.specs.Stops.{Refuses, status_of}
 use Rattle.pot_session.proofs.BeginLemmas.{begun_fits}
-use Rattle.std.proofs.lemmas.Option.{same_Some}
+use Rattle.std.proofs.lemmas.Option.{same_Some, slice_get_within}
+use Rattle.pot_bytes.proofs.Elements.{element_at}
+use Rattle.pot_machine.specs.Machine.{Replays}
+use Rattle.pot_promises.specs.Chains.{AllLead}
 use Rattle.pot_image.specs.Spelling.{image_bytes}
 use Rattle.pot_promises.specs.Runs.{IsDone, RanAs, RunsAreSessions, RunsGoOn}
 
@@ -75,23 +78,37 @@ whole_follows w = record {
   index_goes_on = refl;
 }
 
+-- the log of each group of a session that closed leads from its first table
+all_lead : (rooms : Rooms) (missing : List ℕ) (first last : Contents) (w : Section) → Leaves rooms missing first last w → AllLead first.tables w
+all_lead rooms missing first last w leaves g t at =
+    let lt = slice_get_within first.tables g t at in
+    let many = leaves.groups.count in
+    let logs = leaves.groups.count_logs in
+    let u = element_at last.tables g (omega (arith, lt, many)) in
+    let log = element_at last.group_logs g (omega (arith, lt, logs)) in
+    let left = leaves.groups.each g t u.0 log.0 at u.1 log.1 in
+    (left.view.table, subst (λ l. Replays t l left.view.table) (left.is_log ∙ leaves.logs g log.0 log.1) (subst (λ f. Replays f left.view.log left.view.table) left.first left.settled.replay))
+
 module _ (seed : List ℕ) (source_tells sink_tells desk_tells room_tells : Bool) (input rest before after : List ℕ) (held holds : Option (List ℕ))
-    (meant means : ℕ → Meaning) (answer : Status) (done : IsDone answer) (told : IsTrue desk_tells) where
+    (meant means : ℕ → Meaning) (failed fails desk_failed desk_fails : ℕ) (answer : Status) (done : IsDone answer) (told : IsTrue desk_tells) where
   abbrev rooms : Rooms
-  rooms = rooms_by (IsTrue room_tells) meant means
+  rooms = rooms_by (IsTrue room_tells) meant means failed fails
+
+  abbrev desk : Desks
+  desk = desks_by (IsTrue desk_tells) holds desk_failed desk_fails
 
   abbrev Ran : Type 0
   Ran = RanAs seed (IsTrue source_tells) input (IsTrue sink_tells) before after held holds
 
   -- a session that closed, by how its steps and its close ended
   closed : (i : Image) (steps : List Step) → HoldsImage held i → IsRead i.rack (IsTrue source_tells) input steps
-      → IsClosed seed (begun (contents i)) steps rooms (IsTrue sink_tells) before after (IsTrue desk_tells) holds answer → Ran
-  closed i steps was_held script c = by c.ending c.ends c.closed c.leaves c.desk c.status
+      → IsClosed seed (begun (contents i)) steps rooms (IsTrue sink_tells) before after desk answer → Ran
+  closed i steps was_held script c = by c.ending c.ends c.missing c.kept c.leaves c.keeps.holds c.status
     where
       by : (e : Ending) → EndsOver (setting_of seed (begun (contents i))) c.story (IsTrue sink_tells) before after steps e
-          → (r : Result (Unit {0}) Stop) → Leaves rooms (IsBack r) (begun (contents i)) c.last c.story
-          → (IsTrue desk_tells → HoldsAfter (begun (contents i)) c.last holds r) → answer ≡ status_after e r → Ran
-      by (ending.Done refused) ends (Ok u) leaves desk is = record {
+          → (missing : List ℕ) (r : Result (Unit {0}) Stop) → Leaves rooms missing (begun (contents i)) c.last c.story
+          → (IsTrue desk_tells → Keeps (Some (image_bytes (begun (contents i)))) holds (image_bytes c.last) r) → answer ≡ status_after e (close_answer missing r) → Ran
+      by (ending.Done refused) ends [] (Ok u) leaves kept is = record {
         read = i;
         was_held = was_held;
         fits = begun_fits (contents i) (begun (contents i)) refl (image_fits held i was_held);
@@ -104,31 +121,33 @@ module _ (seed : List ℕ) (source_tells sink_tells desk_tells room_tells : Bool
           opened = leaves.index_opened;
           rack = leaves.rack;
           records = leaves.records;
+          groups = all_lead rooms [] (begun (contents i)) c.last c.story leaves;
           done = c.story;
           later = none_behind c.story;
           follows = whole_follows c.story;
           replied = ends.replied;
         };
         written = ends.written;
-        left = desk told;
+        left = kept told;
       }
-      by (ending.Done refused) ends (Err s) leaves desk is = absurd (not_done s (subst IsDone is done))
-      by ending.SinkFailed ends r leaves desk is = absurd (subst IsDone is done)
-      by ending.RoomFailed ends r leaves desk is = absurd (subst IsDone is done)
-      by ending.NoMemory ends r leaves desk is = absurd (subst IsDone is done)
+      by (ending.Done refused) ends [] (Err s) leaves kept is = absurd (not_done s (subst IsDone is done))
+      by (ending.Done refused) ends (n ∷ missing) r leaves kept is = absurd (subst IsDone is done)
+      by ending.SinkFailed ends missing r leaves kept is = absurd (subst IsDone is done)
+      by ending.RoomFailed ends missing r leaves kept is = absurd (subst IsDone is done)
+      by ending.NoMemory ends missing r leaves kept is = absurd (subst IsDone is done)
 
-  held_as : Holds seed (seen_by (IsTrue source_tells) input rest (IsTrue sink_tells) before after (IsTrue desk_tells) held holds (IsTrue room_tells) meant means) answer → Ran
+  held_as : Holds seed (seen_by (IsTrue source_tells) input rest (IsTrue sink_tells) before after (IsTrue desk_tells) held holds (IsTrue room_tells) meant means failed fails desk_failed desk_fails) answer → Ran
   held_as (Stopped s stops refuses same) = absurd (refused_not (IsTrue sink_tells) before after s answer refuses done)
   held_as (Served i steps of whole serves ends untouched) = by serves
     where
-      by : Serves seed (begun (contents i)) steps rooms (IsTrue sink_tells) before after (IsTrue desk_tells) holds answer → Ran
-      by (Unopened (inl is) sink desk) = absurd (subst IsDone is done)
-      by (Unopened (inr is) sink desk) = absurd (subst IsDone is done)
+      by : Serves seed (begun (contents i)) steps rooms (IsTrue sink_tells) before after desk answer → Ran
+      by (Unlent is sink kept room) = absurd (subst IsDone is done)
+      by (Unopened is sink kept) = absurd (subst IsDone is done)
       by (Closed c) = closed i steps (of.image told) of.script c
 
 pub runs_are_sessions : RunsAreSessions
-runs_are_sessions seed source_tells sink_tells desk_tells room_tells input rest before after held holds meant means answer it done told =
-    held_as seed source_tells sink_tells desk_tells room_tells input rest before after held holds meant means answer done told it
+runs_are_sessions seed source_tells sink_tells desk_tells room_tells input rest before after held holds meant means failed fails desk_failed desk_fails answer it done told =
+    held_as seed source_tells sink_tells desk_tells room_tells input rest before after held holds meant means failed fails desk_failed desk_fails answer done told it
 
 -- THE NEXT RUN
 

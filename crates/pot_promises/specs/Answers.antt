@@ -1,11 +1,12 @@
--- Which reply a command has, by its place in the script.
-use Rattle.std.specs.Prelude.{◌≡◌, ◌+◌, ℕ, zero, suc, List, [], ◌∷◌, Some, length, slice_get}
+-- Which reply and which job a command has, by its place in the script.
+use Rattle.std.specs.Prelude.{◌≡◌, ◌+◌, ℕ, zero, suc, List, [], ◌∷◌, Some, length, slice_get, take}
 use Rattle.pot_bytes.specs.declared.rack.Rack.{Rack}
 use Rattle.pot_script.specs.declared.command.Command.{Command}
 use Rattle.pot_script.specs.declared.command.Command.TheVariants as commands
 use Rattle.pot_script.specs.declared.grouping.Step.{Step}
 use Rattle.pot_script.specs.declared.grouping.Step.TheVariants as steps
 use Rattle.pot_script.specs.declared.reply.Reply.{Reply}
+use Rattle.pot_commands.specs.Ends.{next_job}
 
 -- how many replies a command has that stands alone: `status` one for each group, and each other command one
 abbrev pub count_replies : Rack → Command → ℕ
@@ -34,3 +35,8 @@ pub record IsAnswered (rack : Rack) (ss : List Step) (rs : List Reply) (k i : �
   pub there : slice_get ss k ≡ Some step
   pub command : StandsAt step i c
   pub reply : slice_get rs (reply_place rack ss k + i) ≡ Some r
+
+-- The number of the job of the command at a place of a step: the jobs of a session are numbered from
+-- 1, one for each command alone and each line of a batch.
+abbrev pub job_at : List Step → ℕ → ℕ → ℕ
+job_at ss k i = next_job (take k ss) + i

@@ -1,5 +1,7 @@
 -- Sessions, each of which begins with the image that the one before left.
-use Rattle.std.specs.Prelude.{◌≡◌, ℕ, List, []}
+use Rattle.std.specs.Prelude.{◌≡◌, ◌++◌, ℕ, List, [], Some, slice_get}
+use Rattle.pot_machine.specs.Table.{Table}
+use Rattle.pot_machine.specs.Machine.{Replays}
 use Rattle.pot_index.specs.declared.entry.Logged.{Logged}
 use Rattle.pot_script.specs.declared.grouping.Step.{Step}
 use Rattle.pot_script.specs.declared.reply.Reply.{Reply}
@@ -17,6 +19,11 @@ pub record Leaves (first last : Contents) : Type 0 where
   pub rack : last.rack ≡ first.rack
   pub records : LeavesRecords first.rack first.records story last.index_log last.records
 
+-- the log of each group leads from the table that the group began with, each entry legal in turn
+abbrev pub AllLead : List Table → Section → Type 0
+AllLead tables w =
+    (g : ℕ) (t : Table) → slice_get tables g ≡ Some t → (u : Table) × Replays t (w.before g ++ w.added g) u
+
 -- A session that began with this image, as its logs and its close tell: these steps, the first of its script, have these
 -- replies by what its logs had gained when the last of them was answered.
 pub record IsSession (seed : List ℕ) (first last : Contents) (ss : List Step) (rs : List Reply) : Type 0 where
@@ -24,6 +31,7 @@ pub record IsSession (seed : List ℕ) (first last : Contents) (ss : List Step) 
   pub opened : story.index_before ≡ []
   pub rack : last.rack ≡ first.rack
   pub records : LeavesRecords first.rack first.records story.index_added last.index_log last.records
+  pub groups : AllLead first.tables story
   pub done : Section
   pub later : Section
   pub follows : Follows done later story

@@ -40,8 +40,8 @@ pub record RanAs (seed : List ℕ) (source_told : Type 0) (input : List ℕ) (si
 abbrev pub RunsAreSessions : Type 0
 RunsAreSessions =
     (seed : List ℕ) (source_tells sink_tells desk_tells room_tells : Bool) (input rest before after : List ℕ) (held holds : Option (List ℕ)) (meant means : ℕ → Meaning)
-    (answer : Status)
-    → Holds seed (seen_by (IsTrue source_tells) input rest (IsTrue sink_tells) before after (IsTrue desk_tells) held holds (IsTrue room_tells) meant means) answer
+    (failed fails desk_failed desk_fails : ℕ) (answer : Status)
+    → Holds seed (seen_by (IsTrue source_tells) input rest (IsTrue sink_tells) before after (IsTrue desk_tells) held holds (IsTrue room_tells) meant means failed fails desk_failed desk_fails) answer
     → IsDone answer → IsTrue desk_tells
     → RanAs seed (IsTrue source_tells) input (IsTrue sink_tells) before after held holds
 

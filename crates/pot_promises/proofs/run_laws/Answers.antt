@@ -1,5 +1,6 @@
+use Rattle.pot_promises.proofs.Answering.{runs_are_answered}
 use Rattle.pot_promises.proofs.Running.{runs_are_sessions, runs_go_on}
 use Rattle.pot_promises.proofs.run_laws.Goals as goal
 
 pub returns : goal.returns
-returns c = record { sessions = runs_are_sessions; go_on = runs_go_on }
+returns c = record { sessions = runs_are_sessions; go_on = runs_go_on; answered = runs_are_answered }

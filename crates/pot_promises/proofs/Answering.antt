@@ -1,0 +1,233 @@
+-- A run whose words, image and script are in their grammars answers all commands.
+use Rattle.std.proofs.Common.{◌≡◌, inl, inr, ℕ, List, Option, Some, Result, Ok, Err, Bool, false, refl, ap, sym, ◌∙◌, subst, arith, MatchResult}
+use Rattle.std.specs.Prelude.{IsTrue}
+use Rattle.std.proofs.lemmas.Option.{same_Some}
+use Rattle.pot_outside.specs.Archives.{Meaning}
+use Rattle.pot_bytes.specs.declared.rack.Rack.{Rack}
+use Rattle.pot_options.specs.Options.{Text}
+use Rattle.pot_script.specs.declared.grouping.Step.{Step}
+use Rattle.pot_script.proofs.ScriptLemmas.{no_fault}
+use Rattle.pot_script.specs.Scripts.{LeavesAt}
+use Rattle.pot_words.specs.Tasks.{SpellTask}
+use Rattle.pot_words.specs.declared.run.Run.{Run}
+use Rattle.pot_words.proofs.KindLemmas.{one_kind}
+use Rattle.pot_words.specs.declared.task.Task.TheVariants as task
+use Rattle.pot_image.specs.declared.fault.ImageFault.{ImageFault}
+use Rattle.pot_image.specs.declared.fault.ImageFault.TheVariants as faults
+use Rattle.pot_image.specs.declared.image.Image.{Image}
+use Rattle.pot_image.specs.Images.{Contents, contents, image, Answered, Trailed, Measured, Numbered, Marked, AnswersImage}
+use Rattle.pot_image.specs.Fields.{IsOf}
+use Rattle.pot_image.proofs.Once.{once_value, never_both}
+use Rattle.pot_session.specs.declared.status.Status.{Status}
+use Rattle.pot_session.specs.declared.status.Status.TheVariants as status
+use Rattle.pot_session.specs.declared.stop.Stop.{Stop}
+use Rattle.pot_session.specs.declared.stop.Stop.TheVariants as stop
+use Rattle.pot_session.specs.Calls.{Runs, Nothing, Short, Makes, Session, Drilling, Recovering, Auditing, Generating}
+use Rattle.pot_session.specs.Commands.{IsRead, RefusesScript}
+use Rattle.pot_session.specs.Desks.{GoesOn, HoldsImage, RefusesBytes, RefusesDesk, IsDeskStop, IsKeepStop}
+use Rattle.pot_session.specs.Runs.{Holds, Stopped, Served, Stops, AtDesk, AtScript, AtOpening, seen_by}
+use Rattle.pot_session.specs.Serving.{IsEnd}
+use Rattle.pot_session.specs.Stops.{Refuses, status_of}
+use Rattle.pot_session.specs.Tasks.{seed_of}
+use Rattle.pot_promises.specs.Complete.{AsksSession, IsFault, RunsAreAnswered}
+use Rattle.pot_promises.specs.Runs.{IsDone, RanAs}
+use Rattle.pot_promises.proofs.Running.{runs_are_sessions}
+
+-- BYTES ARE ANSWERED IN ONE WAY, BUT FOR WANT OF MEMORY
+
+-- the image of these contents is answered, or memory ran out
+abbrev IsThat : Contents → Result Image ImageFault → Type 0
+IsThat v r = MatchResult r (λ i. contents i ≡ v) (λ e. e ≡ faults.NoMemory)
+
+module _ (i : Image) where
+  by_fault : (format : _) (body : List ℕ) → IsOf (image format) body (contents i) → (e : ImageFault) → Answered format body (Err e) → e ≡ faults.NoMemory
+  by_fault format body is (faults.Form place) a = absurd (never_both (image format) body (contents i) a.0 is a.2)
+  by_fault format body is faults.NoMemory a = refl
+  by_fault format body is faults.Cut a = absurd a
+  by_fault format body is (faults.Trailer kept computed) a = absurd a
+
+  by_fields : (format : _) (body : List ℕ) → Answered format body (Ok i) → (r : Result Image ImageFault) → Answered format body r → IsThat (contents i) r
+  by_fields format body is (Ok j) a = once_value (image format) body (contents j) (contents i) a is
+  by_fields format body is (Err e) a = by_fault format body is e a
+
+  by_trailer : (format : _) (bytes : List ℕ) → Trailed format bytes (Ok i) → (r : Result Image ImageFault) → Trailed format bytes r → IsThat (contents i) r
+  by_trailer format bytes (inl p) r t = absurd (cc (p.1))
+  by_trailer format bytes (inr p) r (inl t) = absurd (t.0 p.0)
+  by_trailer format bytes (inr p) r (inr t) = by_fields format _ p.1 r t.1
+
+  by_length : (format : _) (bytes : List ℕ) → Measured format bytes (Ok i) → (r : Result Image ImageFault) → Measured format bytes r → IsThat (contents i) r
+  by_length format bytes (inl p) r t = absurd (cc (p.1))
+  by_length format bytes (inr (inl p)) r t = absurd (cc (p.1))
+  by_length format bytes (inr (inr p)) r (inl t) = absurd (let a = p.0 in let b = t.0 in omega (arith, a, b))
+  by_length format bytes (inr (inr p)) r (inr (inl t)) = absurd (let a = p.0 in let b = t.0 in omega (arith, a, b))
+  by_length format bytes (inr (inr p)) r (inr (inr t)) = by_trailer format bytes p.1 r t.1
+
+  by_number : (bytes : List ℕ) → Numbered bytes (Ok i) → (r : Result Image ImageFault) → Numbered bytes r → IsThat (contents i) r
+  by_number bytes (inl p) r t = absurd (cc (p.2))
+  by_number bytes (inr (inl p)) r (inl t) = absurd (t.0 p.0)
+  by_number bytes (inr (inl p)) r (inr (inl t)) = by_length _ bytes p.1 r t.1
+  by_number bytes (inr (inl p)) r (inr (inr t)) = absurd (let a = p.0 in let b = t.0 in omega (arith, a, b))
+  by_number bytes (inr (inr p)) r (inl t) = absurd (t.1 p.0)
+  by_number bytes (inr (inr p)) r (inr (inl t)) = absurd (let a = p.0 in let b = t.0 in omega (arith, a, b))
+  by_number bytes (inr (inr p)) r (inr (inr t)) = by_length _ bytes p.1 r t.1
+
+  by_front : (bytes : List ℕ) → Marked bytes (Ok i) → (r : Result Image ImageFault) → Marked bytes r → IsThat (contents i) r
+  by_front bytes (inl p) r t = absurd (cc (p.1))
+  by_front bytes (inr p) r (inl t) = absurd (t.0 p.0)
+  by_front bytes (inr p) r (inr t) = by_number bytes p.1 r t.1
+
+  one_answer : (bytes : List ℕ) → AnswersImage bytes (Ok i) → (r : Result Image ImageFault) → AnswersImage bytes r → IsThat (contents i) r
+  one_answer bytes (inl p) r t = absurd (cc (p.1))
+  one_answer bytes (inr p) r (inl t) = absurd (let a = p.0 in let b = t.0 in omega (arith, a, b))
+  one_answer bytes (inr p) r (inr t) = by_front bytes p.1 r t.1
+
+-- a desk holds one image
+one_held : (held : Option (List ℕ)) (i j : Image) → HoldsImage held i → HoldsImage held j → contents j ≡ contents i
+one_held held i j (bytes, is, answers) (others, are, given) =
+    one_answer i bytes answers (Ok j) (subst (λ b. AnswersImage b (Ok j)) (same_Some others bytes (sym are ∙ is)) given)
+
+-- NO REFUSAL OF WHAT IS IN ITS GRAMMAR
+
+module _ (answer : Status) (no_fault_said : IsFault answer → ⊥) (had_memory : answer ≡ status.NoMemory → ⊥) where
+  -- the status of a fault or of want of memory is none of this answer
+  no_source : answer ≡ status.SourceFault → ⊥
+  no_source is = no_fault_said (subst IsFault (sym is) tt)
+
+  no_sink : answer ≡ status.SinkFault → ⊥
+  no_sink is = no_fault_said (subst IsFault (sym is) tt)
+
+  no_desk : answer ≡ status.DeskFault → ⊥
+  no_desk is = no_fault_said (subst IsFault (sym is) tt)
+
+  module _ (held : Option (List ℕ)) (i : Image) (holds_it : HoldsImage held i) (goes_on : GoesOn i) where
+    -- the bytes of the desk are not refused by this fault
+    not_by : (e : ImageFault) → (e ≡ faults.NoMemory → ⊥) → (bytes : List ℕ) → held ≡ Some bytes → AnswersImage bytes (Err e) → ⊥
+    not_by e other bytes is refused = by holds_it
+      where
+        by : HoldsImage held i → ⊥
+        by (others, are, answers) = other (one_answer i others answers (Err e) (subst (λ b. AnswersImage b (Err e)) (same_Some bytes others (sym is ∙ are)) refused))
+
+    not_spent : (bytes : List ℕ) → held ≡ Some bytes → RefusesBytes bytes stop.Spent → ⊥
+    not_spent bytes is (j, answers, last) =
+        let same : j.session ≡ i.session = ap (λ (v : Contents). v.session) (one_held held i j holds_it (bytes, is, answers)) in
+        omega (arith, goes_on, last, same)
+
+    at_desk : (s : Stop) → IsDeskStop s → RefusesDesk held s → answer ≡ status_of s → ⊥
+    at_desk stop.NoImage d none is = by holds_it
+      where
+        by : HoldsImage held i → ⊥
+        by (bytes, are, answers) = absurd (cc (none, are))
+    at_desk stop.Cut d (bytes, is, refused) _ = not_by faults.Cut (λ e. absurd (cc e)) bytes is refused
+    at_desk (stop.Trailer kept computed) d (bytes, is, refused) _ = not_by (faults.Trailer kept computed) (λ e. absurd (cc e)) bytes is refused
+    at_desk (stop.Form place) d (bytes, is, refused) _ = not_by (faults.Form place) (λ e. absurd (cc e)) bytes is refused
+    at_desk stop.Spent d (bytes, is, refused) _ = not_spent bytes is refused
+    at_desk stop.DeskFault d refused is = no_desk is
+    at_desk stop.NoMemory d refused is = had_memory is
+    at_desk stop.Words d refused is = d
+    at_desk stop.SourceFault d refused is = d
+    at_desk (stop.BadLine number) d refused is = d
+    at_desk stop.Exists d refused is = d
+    at_desk stop.RoomFault d refused is = d
+    at_desk stop.TooWide d refused is = d
+
+  at_script : (rack : Rack) (told : Type 0) (t : told) (input : List ℕ) (steps : List Step) → IsRead rack told input steps
+      → (s : Stop) → RefusesScript rack told input s → answer ≡ status_of s → ⊥
+  at_script rack told t input steps read (stop.BadLine number) refused is =
+      no_fault read.script (subst (λ b. LeavesAt rack b number) (read.read t) (refused t))
+  at_script rack told t input steps read stop.SourceFault refused is = no_source is
+  at_script rack told t input steps read stop.NoMemory refused is = had_memory is
+  at_script rack told t input steps read stop.Words refused is = refused
+  at_script rack told t input steps read stop.DeskFault refused is = refused
+  at_script rack told t input steps read stop.NoImage refused is = refused
+  at_script rack told t input steps read stop.Cut refused is = refused
+  at_script rack told t input steps read (stop.Trailer kept computed) refused is = refused
+  at_script rack told t input steps read (stop.Form place) refused is = refused
+  at_script rack told t input steps read stop.Spent refused is = refused
+  at_script rack told t input steps read stop.Exists refused is = refused
+  at_script rack told t input steps read stop.RoomFault refused is = refused
+  at_script rack told t input steps read stop.TooWide refused is = refused
+
+  at_keeping : (s : Stop) → IsKeepStop s → answer ≡ status_of s → ⊥
+  at_keeping stop.DeskFault k is = no_desk is
+  at_keeping stop.NoMemory k is = had_memory is
+  at_keeping stop.Words k is = k
+  at_keeping stop.SourceFault k is = k
+  at_keeping (stop.BadLine number) k is = k
+  at_keeping stop.NoImage k is = k
+  at_keeping stop.Cut k is = k
+  at_keeping (stop.Trailer kept computed) k is = k
+  at_keeping (stop.Form place) k is = k
+  at_keeping stop.Spent k is = k
+  at_keeping stop.Exists k is = k
+  at_keeping stop.RoomFault k is = k
+  at_keeping stop.TooWide k is = k
+
+  -- so what did not stop before its steps ended well
+  refused_so : (told : Type 0) (before after : List ℕ) (s : Stop) → Refuses told before after s answer → (answer ≡ status_of s → ⊥) → ⊥
+  refused_so told before after s (inl p) never = never p.0
+  refused_so told before after s (inr (inl p)) never = no_sink p.0
+  refused_so told before after s (inr (inr p)) never = had_memory p.0
+
+-- how a session ends in which no object failed and that found memory
+ended_well : (answer : Status) → IsEnd answer → (IsFault answer → ⊥) → (answer ≡ status.NoMemory → ⊥) → IsDone answer
+ended_well status.Good e f m = tt
+ended_well status.Refusals e f m = tt
+ended_well status.SinkFault e f m = absurd (f tt)
+ended_well status.DeskFault e f m = absurd (f tt)
+ended_well status.RoomFault e f m = absurd (f tt)
+ended_well status.NoMemory e f m = absurd (m refl)
+ended_well status.WordsRefused e f m = absurd e
+ended_well status.ScriptRefused e f m = absurd e
+ended_well status.SourceFault e f m = absurd e
+ended_well status.ImageRefused e f m = absurd e
+ended_well status.SessionSpent e f m = absurd e
+ended_well status.ImageExists e f m = absurd e
+ended_well status.TooWide e f m = absurd e
+
+-- THE WHOLE
+
+module _ (words : List Text) (drawn : List ℕ) (source_tells sink_tells desk_tells room_tells : Bool) (input rest before after : List ℕ)
+    (held holds : Option (List ℕ)) (meant means : ℕ → Meaning) (failed fails desk_failed desk_fails : ℕ) (answer : Status) (source_told : IsTrue source_tells) (desk_told : IsTrue desk_tells)
+    (i : Image) (holds_it : HoldsImage held i) (goes_on : GoesOn i) (steps : List Step) (read : IsRead i.rack (IsTrue source_tells) input steps)
+    (no_fault_said : IsFault answer → ⊥) (had_memory : answer ≡ status.NoMemory → ⊥) where
+  stops_not : (s : Stop) → Stops (IsTrue source_tells) input (IsTrue desk_tells) held holds s → answer ≡ status_of s → ⊥
+  stops_not s (AtDesk d refused same) is = at_desk answer no_fault_said had_memory held i holds_it goes_on s d (refused desk_told) is
+  stops_not s (AtScript j goes holds_that refused same) is =
+      let rack : j.rack ≡ i.rack = ap (λ (v : Contents). v.rack) (one_held held i j holds_it (holds_that desk_told)) in
+      at_script answer no_fault_said had_memory i.rack (IsTrue source_tells) source_told input steps read s
+      (subst (λ r. RefusesScript r (IsTrue source_tells) input s) rack refused) is
+  stops_not s (AtOpening j others of k keeps) is = at_keeping answer no_fault_said had_memory s k is
+
+  held_well : (seed : List ℕ)
+      → Holds seed (seen_by (IsTrue source_tells) input rest (IsTrue sink_tells) before after (IsTrue desk_tells) held holds (IsTrue room_tells) meant means failed fails desk_failed desk_fails) answer → IsDone answer
+  held_well seed (Stopped s stops refuses same) = absurd (refused_so answer no_fault_said had_memory (IsTrue sink_tells) before after s refuses (stops_not s stops))
+  held_well seed (Served j others of whole serves ends untouched) = ended_well answer ends no_fault_said had_memory
+
+  abbrev Answers : Type 0
+  Answers = IsDone answer × ((seed : List ℕ) × AsksSession words drawn seed
+      × RanAs seed (IsTrue source_tells) input (IsTrue sink_tells) before after held holds)
+
+  answered : (run : Run) → SpellTask words (task.Run run)
+      → Runs words drawn (seen_by (IsTrue source_tells) input rest (IsTrue sink_tells) before after (IsTrue desk_tells) held holds (IsTrue room_tells) meant means failed fails desk_failed desk_fails) answer → Answers
+  answered run spells (Nothing none unread refuses same room) = absurd (none (task.Run run) spells)
+  answered run spells (Short is unread sink same room) = absurd (had_memory is)
+  answered run spells (Makes rack other unread inits room) = absurd (cc (one_kind words (task.Run run) (task.Init rack) spells other))
+  answered run spells (Drilling d other drills same room) = absurd (cc (one_kind words (task.Run run) (task.Drill d) spells other))
+  answered run spells (Recovering r other unread recovers same) = absurd (cc (one_kind words (task.Run run) (task.Recover r) spells other))
+  answered run spells (Auditing a other unread audits same room) = absurd (cc (one_kind words (task.Run run) (task.Audit a) spells other))
+  answered run spells (Generating n other unread generates same room) = absurd (cc (one_kind words (task.Run run) (task.Generate n) spells other))
+  answered run spells (Session that spelled it) =
+      let done = held_well (seed_of that drawn) it in (
+        done,
+        (
+          seed_of that drawn,
+          (that, spelled, refl),
+          runs_are_sessions (seed_of that drawn) source_tells sink_tells desk_tells room_tells input rest before after held holds meant means failed fails desk_failed desk_fails answer it done desk_told,
+        ),
+      )
+
+pub runs_are_answered : RunsAreAnswered
+runs_are_answered words drawn source_tells sink_tells desk_tells room_tells input rest before after held holds meant means failed fails desk_failed desk_fails answer it source_told desk_told
+    given (run, spells, is) i holds_it goes_on steps read no_fault_said had_memory =
+    answered words drawn source_tells sink_tells desk_tells room_tells input rest before after held holds meant means failed fails desk_failed desk_fails answer source_told desk_told
+    i holds_it goes_on steps read no_fault_said had_memory run spells it

@@ -1,0 +1,5 @@
+use Rattle.pot_promises.proofs.Odds.{never_odd, odd_reads}
+use Rattle.pot_promises.proofs.odd_laws.Goals as goal
+
+pub returns : goal.returns
+returns c = record { odd_reads = odd_reads; never_odd = never_odd }
