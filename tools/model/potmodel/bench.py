@@ -10,6 +10,7 @@ ROW = 65536
 ROUNDS = 17
 SEED = bytes([7]) * 32
 FILE = 800 * 1024
+BATCH_FILE = 100_000
 INIT = "init --groups 5 --columns 3 --stripes 4096 --fragments 2 --need 2 --shards 3 --blur 16"
 
 
@@ -85,6 +86,16 @@ def sessions():
     return lines + [checksum("close", desk.image)]
 
 
+def batches():
+    """A batch that stores a file, and one that fetches it, on one worker, on two and on four."""
+    data = Stream(SEED, 0, 6).take(BATCH_FILE)
+    pieces_of, made = pieces.count_pieces(BATCH_FILE), []
+    for workers in (1, 2, 4):
+        made.append(checksum(f"stores on {workers}", b"stored f0 %d %d\n" % (pieces_of, 6 * pieces_of)))
+        made.append(checksum(f"fetches on {workers}", b"file f0 %d\n%s\n" % (BATCH_FILE, data)))
+    return made
+
+
 def fetched(room, desk):
     """The bytes of the file as a session of its own fetches them."""
     line, _, rest = work("run", b"fetch b\nquit\n", room, desk).partition(b"\n")
@@ -100,7 +111,7 @@ def work(words, script, room, desk):
 
 def lines():
     """All lines."""
-    return loops() + [group_line()] + sessions()
+    return loops() + [group_line()] + sessions() + batches()
 
 
 def bytes_digested(files):

@@ -9,12 +9,11 @@ LONGEST_LINE = 4096
 NUMBER = re.compile(rb"0|[1-9][0-9]{0,8}")
 NAME = re.compile(rb"[a-z0-9._-]{1,64}")
 JOBS = ("store", "fetch", "scrub", "repair", "migrate", "renew")
-WORKED_IN_BATCH = ("store", "fetch", "scrub", "repair", "renew", "end")
 REFUSALS = ("long", "exists", "full", "absent", "lost", "odd", "fault", "logfull", "noarchive", "inuse", "often")
 
 
 class BadLine(Exception):
-    """A script leaves its grammar at the line of this number, or that line is not worked: a `migrate` in a batch."""
+    """A script leaves its grammar at the line of this number."""
 
 
 def read_number(word, least, most):
@@ -69,7 +68,7 @@ def read_script(data, groups):
     """The commands of a script, in order; else BadLine with the number of the first line that leaves the grammar."""
     if len(data) > LONGEST_SCRIPT:
         raise BadLine(0)
-    commands, unworked, at, line, left = [], [], 0, 1, None
+    commands, at, line, left = [], 0, 1, None
     while True:
         stop = data.find(b"\n", at)
         if stop < 0 or stop - at > LONGEST_LINE:
@@ -81,21 +80,18 @@ def read_script(data, groups):
         if command[0] == "store":
             at, command = read_stated(data, at, command, line)
         commands.append(command)
-        if left is not None and command[0] not in WORKED_IN_BATCH:
-            unworked.append(line)
         left = jobs_left(command, left)
         line += 1
         if command[0] == "quit":
             break
     if at != len(data):
         raise BadLine(line)
-    if unworked:
-        raise BadLine(unworked[0])
     return commands
 
 
 def steps_of(commands):
-    """The commands before `quit` as steps: lists of what is worked as one, a command alone or the jobs of a batch."""
+    """The commands before `quit` as steps: lists of what is worked as one, a command alone or the jobs of a batch. A batch of one job gives
+    what its line alone does."""
     steps, at = [], 0
     while commands[at][0] != "quit":
         count = commands[at][1] if commands[at][0] == "together" else 0

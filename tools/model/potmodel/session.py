@@ -153,15 +153,12 @@ def give_all(archives, room):
 
 
 def work_commands(vault, commands, sink):
-    """The steps in order, the replies of each written after it; answers 0 or 1, or the status of what failed. The jobs of a batch are worked one
-    after another, as one worker does."""
+    """The steps in order, the replies of each written after it; answers 0 or 1, or the status of what failed."""
     status, job = 0, 1
     for step in steps_of(commands):
         try:
-            replies = []
-            for command in step:
-                replies += vault.work(job, command)
-                job += 1
+            replies = vault.work_step(job, step)
+            job += len(step)
             sink.write(b"".join(replies))
         except RoomFailed:
             return 8

@@ -29,9 +29,31 @@ class Vault:
         """The random bytes of a job."""
         return Stream(self.seed, self.session, job)
 
-    def work(self, job, command):
-        """The replies of a command, as one text for each line or line with bytes."""
+    def work_step(self, job, commands):
+        """The replies of a command alone, or of the jobs of a batch, the first of which has this number: the moves of a batch begin in the
+        order of its lines, and then its jobs are worked one after another, as one worker does."""
+        begun = [self.begin_line(job + line, command) for line, command in enumerate(commands)]
+        replies = []
+        for line, command in enumerate(commands):
+            replies += self.work(job + line, command, begun[line])
+        return replies
+
+    def begin_line(self, job, command):
+        """The group and the column of a move that began or stood, the reply to a `migrate` that began none, or None."""
+        if command[0] != "migrate":
+            return None
         try:
+            return self.begin_move(job, *command[1:])
+        except Stopped as stop:
+            return stop.args[0]
+
+    def work(self, job, command, begun):
+        """The replies of a command, as one text for each line or line with bytes; of a `migrate`, by what it began."""
+        if isinstance(begun, bytes):
+            return [begun]
+        try:
+            if command[0] == "migrate":
+                return self.move_to_end(job, *command[1:], *begun)
             return getattr(self, "work_" + command[0])(job, *command[1:])
         except IndexFull:
             return [reply("logfull", "index")]
@@ -222,7 +244,7 @@ class Vault:
             self.room.give(number, archive)
         except Failed:
             raise RoomFailed()
-        return [reply("inuse", *answer.fields) if answer.kind == "InUse" else reply("logfull", group)]
+        return reply("inuse", *answer.fields) if answer.kind == "InUse" else reply("logfull", group)
 
     def work_replace(self, job, first, second):
         """Puts an archive in the place of a column's home."""
@@ -232,23 +254,23 @@ class Vault:
         archive = self.take(second)
         answer = self.groups[group].swap(job, column, second, archive)
         if answer.kind != "Ok":
-            return self.hand_back(second, archive, group, answer)
+            return [self.hand_back(second, archive, group, answer)]
         return [reply("replaced", first, second, answer.fields[0])]
 
-    def work_migrate(self, job, first, second):
-        """Copies a column to another archive, or goes on with a move to it that stands."""
+    def begin_move(self, job, first, second):
+        """The column of an archive begins to move to another, or moves there already; else the command stops."""
         group, column = self.home_of(first)
         to = self.groups[group].table.columns[column].to
         if to is not None and to != second:
-            return [reply("inuse", first)]
+            raise Stopped(reply("inuse", first))
         if to is None:
             if self.is_in_use(second):
-                return [reply("inuse", second)]
+                raise Stopped(reply("inuse", second))
             archive = self.take(second)
             answer = self.groups[group].move_begin(job, column, second, archive)
             if answer.kind != "Ok":
-                return self.hand_back(second, archive, group, answer)
-        return self.move_to_end(job, first, second, group, column)
+                raise Stopped(self.hand_back(second, archive, group, answer))
+        return group, column
 
     def move_to_end(self, job, first, second, group, column):
         """Steps of a move until its end."""
