@@ -26,5 +26,5 @@ pub use parting::{Manifest, PartList};
 pub use planning::{Plan, Unplanned, Wish, place_of, places_of};
 pub use recovered::{Found, read_found};
 pub use sizes::{Size, read_size};
-pub use texts::{digest_text, name_text};
+pub use texts::{digest_text, name_text, spoken_name};
 pub use wording::reply_line;

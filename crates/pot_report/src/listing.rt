@@ -29,6 +29,11 @@ impl Kept {
         }
     }
 
+    /// Whether the file is there to its end.
+    pub fn is_whole(&self) -> bool {
+        self.direct.is_some() || self.complete
+    }
+
     // One part more.
     fn add(&mut self, number: u32, length: u64) {
         if number == 0 {
@@ -60,8 +65,8 @@ fn add_record(files: &mut BTreeMap<Name, Kept>, name: Name, length: u64) -> Resu
     Ok(())
 }
 
-// The name of which this is the name of a part, and the number of the part.
-fn stem_of(name: &Name) -> Option<(Name, u32)> {
+/// The name of which this is the name of a part, and the number of the part.
+pub fn stem_of(name: &Name) -> Option<(Name, u32)> {
     if !ends_as_part(name) {
         return None;
     }

@@ -1,7 +1,7 @@
 //! Refusals as lines that say what failed and what to do next.
 
 use crate::sizes::Size;
-use crate::texts::name_text;
+use crate::texts::spoken_name;
 use pot_bytes::Name;
 use pot_script::Reply;
 use std::alloc::{AllocError, Global};
@@ -48,7 +48,7 @@ fn of_archives(alloc: Global, reply: &Reply) -> Result<String, AllocError> {
 }
 
 fn long(alloc: Global, name: &Name, length: u64) -> Result<String, AllocError> {
-    let name = name_text(name);
+    let name = spoken_name(alloc, name)?;
     let length = Size(length);
     format!(in alloc;
         "{name} has {length} and was not stored: no part may have more than 884736 bytes"
@@ -56,7 +56,7 @@ fn long(alloc: Global, name: &Name, length: u64) -> Result<String, AllocError> {
 }
 
 fn exists(alloc: Global, name: &Name) -> Result<String, AllocError> {
-    let name = name_text(name);
+    let name = spoken_name(alloc, name)?;
     format!(in alloc;
         "{name} is stored already, and stays as it is: store it under another name with --as"
     )
@@ -69,21 +69,21 @@ fn full(alloc: Global, group: u8) -> Result<String, AllocError> {
 }
 
 fn absent(alloc: Global, name: &Name) -> Result<String, AllocError> {
-    let name = name_text(name);
+    let name = spoken_name(alloc, name)?;
     format!(in alloc; "{name} is not stored: pots list tells what is")
 }
 
 fn lost(alloc: Global, name: &Name, at: (u32, u8), count: (u8, u8)) -> Result<String, AllocError> {
-    let name = name_text(name);
+    let name = spoken_name(alloc, name)?;
     let (piece, fragment) = at;
     let (have, need) = count;
     format!(in alloc;
-        "{name} is not there as a whole: of fragment {fragment} of piece {piece} only {have} shards of {need} were found; bring back the archives that are missing, and give the command once more"
+        "{name} is not there as a whole: of fragment {fragment} of piece {piece} only {have} of {need} shards were found; bring back the archives that are missing, and give the command once more"
     )
 }
 
 fn odd(alloc: Global, name: &Name) -> Result<String, AllocError> {
-    let name = name_text(name);
+    let name = spoken_name(alloc, name)?;
     format!(in alloc;
         "{name} came back with other bytes than were stored, and was not written: pots check tells which archive is ailing"
     )
@@ -96,7 +96,7 @@ fn fault(alloc: Global, group: u8, column: u8) -> Result<String, AllocError> {
 }
 
 fn often(alloc: Global, name: &Name) -> Result<String, AllocError> {
-    let name = name_text(name);
+    let name = spoken_name(alloc, name)?;
     format!(in alloc;
         "{name} was split anew as often as a file may be: fetch it, and store it under another name"
     )

@@ -1,5 +1,5 @@
 use super::*;
-use pot_bytes::{Name, digest_of};
+use pot_bytes::{Geometry, Name, Rack, digest_of};
 use pot_client::read_replies;
 use std::alloc::Global;
 use std::test::Fail;
@@ -81,8 +81,41 @@ fn what_follows_from_a_wish(rt: HostRuntime) -> Result<(), Fail> {
     Ok(())
 }
 
+/// Files of so many bytes, and the blocks that they put into each of twelve groups where each of two fragments has three shards.
+const TAKEN: [(u64, [u64; 12]); 4] = [
+    (0, [1, 2, 2, 1, 0, 0, 0, 0, 0, 0, 0, 0]),
+    (864, [1, 2, 2, 1, 0, 0, 0, 0, 0, 0, 0, 0]),
+    (865, [1, 2, 3, 3, 2, 1, 0, 0, 0, 0, 0, 0]),
+    (5185, [4, 5, 5, 4, 3, 3, 3, 3, 3, 3, 3, 3]),
+];
+
+#[test]
+fn blocks_that_a_file_puts_into_each_group(rt: HostRuntime) -> Result<(), Fail> {
+    let rack = Rack {
+        groups: 12,
+        columns: 3,
+        parity: 1,
+        stripes: 9,
+        geometry: Geometry {
+            fragments: 2,
+            need: 2,
+            shards: 3,
+            blur: 16,
+        },
+    };
+    for (length, blocks) in TAKEN {
+        for (group, wanted) in (0u8..12).zip(blocks) {
+            assert!(rt;
+                blocks_of(&rack, length, group) == wanted,
+                "{length} bytes, group {group}"
+            );
+        }
+    }
+    Ok(())
+}
+
 /// Replies as a session writes them, each with its line and its JSON.
-const TOLD: [(&[u8], &str, &str); 5] = [
+const TOLD: [(&[u8], &str, &str); 6] = [
     (
         b"stored a 1 6\n",
         "stored a",
@@ -102,6 +135,11 @@ const TOLD: [(&[u8], &str, &str); 5] = [
         b"migrated 1 9 4\n",
         "archive 9 has what archive 1 held: 4 blocks were copied",
         r#"{"from":1,"reply":"migrated","slots":4,"to":9}"#,
+    ),
+    (
+        b"lost film.p0003 5 1 1 2\n",
+        "part 3 of film is not there as a whole: of fragment 1 of piece 5 only 1 of 2 shards were found; bring back the archives that are missing, and give the command once more",
+        r#"{"fragment":1,"have":1,"name":"film.p0003","need":2,"piece":5,"reply":"lost"}"#,
     ),
     (
         b"logfull index\n",

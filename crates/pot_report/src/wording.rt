@@ -2,7 +2,7 @@
 
 use crate::refusals::refusal_line;
 use crate::sizes::Size;
-use crate::texts::name_text;
+use crate::texts::spoken_name;
 use pot_script::Reply;
 use std::alloc::{AllocError, Global};
 
@@ -10,15 +10,15 @@ use std::alloc::{AllocError, Global};
 pub fn reply_line(alloc: Global, reply: &Reply) -> Result<String, AllocError> {
     match reply {
         Reply::Stored { name, .. } => {
-            let name = name_text(name);
+            let name = spoken_name(alloc, name)?;
             format!(in alloc; "stored {name}")
         }
         Reply::Renewed { name, shards, .. } => {
-            let name = name_text(name);
+            let name = spoken_name(alloc, name)?;
             format!(in alloc; "{name} has a new split of {shards} shards; its older blocks stay")
         }
         Reply::File { name, bytes } => {
-            let name = name_text(name);
+            let name = spoken_name(alloc, name)?;
             let size = Size(bytes.as_slice().len() as u64);
             format!(in alloc; "{name} has {size}")
         }

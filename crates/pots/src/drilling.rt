@@ -1,10 +1,13 @@
 //! A drill over two files of one length.
 
 use crate::looking::image;
+use crate::numbers::read_number;
 use crate::session::{call, ended, words_of};
 use crate::stop::Stop;
 use crate::visit::Visit;
 use clap::ArgMatches;
+use pot_client::PART_SIZE;
+use serde_json::json;
 use std::fs;
 use std::str::from_utf8;
 use std::sync::Wait;
@@ -23,10 +26,44 @@ pub fn drill<X: Threads + Wait + Sync>(
     if ran.status > 1 {
         return Err(ended(visit, &ran));
     }
-    let text = from_utf8(&ran.written).unwrap_or("");
-    let rt = &visit.rt;
-    print!(rt; "{text}")?;
+    tell_drill(visit, from_utf8(&ran.written).unwrap_or(""))?;
     Ok(ran.status)
+}
+
+// Tells what the first line of a drill says: `explained LEN PIECES BLOCKS`, or `exposed HIDDEN HAVE NEED`.
+fn tell_drill(visit: &Visit, text: &str) -> Result<(), Stop> {
+    let rt = &visit.rt;
+    let mut words = text.lines().next().unwrap_or("").split(' ');
+    let explained = words.next() == Some("explained");
+    let _ = words.next();
+    let first = words.next().and_then(read_number).unwrap_or(0);
+    let second = words.next().and_then(read_number).unwrap_or(0);
+    if visit.json {
+        return tell_drill_json(visit, explained, (first, second));
+    }
+    if explained {
+        println!(rt;
+            "explained: the {second} blocks that are seen, of {first} pieces of the one file, are those of the other under other random bytes: who has them cannot tell the two apart"
+        )?;
+    } else {
+        println!(rt;
+            "exposed: {first} points of the fragment are seen, and {second} give it: who has them has the file"
+        )?;
+    }
+    Ok(())
+}
+
+fn tell_drill_json(visit: &Visit, explained: bool, numbers: (u32, u32)) -> Result<(), Stop> {
+    let rt = &visit.rt;
+    let (first, second) = numbers;
+    let line = if explained {
+        json!(in visit.alloc(); {"drill": "explained", "pieces": first, "blocks": second})?
+    } else {
+        json!(in visit.alloc(); {"drill": "exposed", "have": first, "need": second})?
+    };
+    let line = line.to_string(visit.alloc())?;
+    println!(rt; "{line}")?;
+    Ok(())
 }
 
 // The command line of the drill, with the archive's way to split files.
@@ -53,6 +90,12 @@ fn two_files(visit: &Visit, words: &ArgMatches) -> Result<Vec<u8>, Stop> {
     let second = file_of(visit, words.get_str("OTHER").unwrap_or(""))?;
     if first.len() != second.len() {
         return Err(visit.refuse(3, "the two files have not one length: give two that have"));
+    }
+    if first.len() > PART_SIZE {
+        return Err(visit.refuse(
+            3,
+            "a drill is over files of at most 884,736 bytes: give the front of each",
+        ));
     }
     let length = first.len();
     let head = format!(in visit.alloc(); "{length}\n")?;

@@ -3,7 +3,7 @@
 use crate::keeping::put_file;
 use crate::looking::image;
 use crate::progress::Progress;
-use crate::session::hold;
+use crate::session::{MOST_TOGETHER, hold_together};
 use crate::stop::Stop;
 use crate::visit::Visit;
 use clap::ArgMatches;
@@ -95,12 +95,17 @@ impl Waiting {
         }
         let length = bytes_of(&file.kept);
         let mut good = true;
-        if self.bytes.saturating_add(length) > MOST_BYTES {
+        if self.is_full(length) {
             good = self.flush(turns, visit, goal)?;
         }
         self.bytes = self.bytes.saturating_add(length);
         self.files.push(file)?;
         Ok(good)
+    }
+
+    // Whether a file of so many bytes would be too much for the session.
+    fn is_full(&self, length: u64) -> bool {
+        self.files.len() >= MOST_TOGETHER || self.bytes.saturating_add(length) > MOST_BYTES
     }
 
     // Fetches what waits. Answers whether all of it is there.
@@ -251,14 +256,11 @@ fn fetched<X: Threads + Wait + Sync>(
     names: &[Name],
 ) -> Result<Vec<Option<Vec<u8>>>, Stop> {
     let mut files = Vec::new(visit.alloc());
-    if names.is_empty() {
-        return Ok(files);
-    }
     let mut commands = Vec::new(visit.alloc());
     for name in names {
         commands.push(Command::Fetch { name: *name })?;
     }
-    for reply in hold(turns, visit, &commands)? {
+    for reply in hold_together(turns, visit, commands)? {
         files.push(bytes_in(visit, reply)?)?;
     }
     Ok(files)
@@ -275,7 +277,7 @@ fn bytes_in(visit: &Visit, reply: Reply) -> Result<Option<Vec<u8>>, Stop> {
     }
 }
 
-// The bytes of a file in parts. None where a part is refused, which is told.
+// The bytes of a file in parts. None where some part is not there: each such part is told.
 fn joined<X: Threads + Wait + Sync>(
     turns: &X,
     visit: &mut Visit,
@@ -289,10 +291,12 @@ fn joined<X: Threads + Wait + Sync>(
     };
     let names = part_names(visit, &list)?;
     let mut whole = Vec::new(visit.alloc());
+    let mut lost = 0usize;
     for names in names.chunks(MOST_PARTS) {
-        if !append_parts(turns, visit, names, &mut whole)? {
-            return Ok(None);
-        }
+        lost = lost.saturating_add(append_parts(turns, visit, names, &mut whole)?);
+    }
+    if lost > 0 {
+        return Ok(told_lost(visit, &list, lost));
     }
     checked(visit, &list, whole)
 }
@@ -309,20 +313,31 @@ fn part_names(visit: &Visit, list: &Manifest) -> Result<Vec<Name>, Stop> {
     Ok(names)
 }
 
-// Appends some parts, in order. Answers whether all are there.
+// Appends some parts, in order. Answers how many are not there, which are told.
 fn append_parts<X: Threads + Wait + Sync>(
     turns: &X,
     visit: &mut Visit,
     names: &[Name],
     whole: &mut Vec<u8>,
-) -> Result<bool, Stop> {
+) -> Result<usize, Stop> {
+    let mut lost = 0usize;
     for bytes in fetched(turns, visit, names)? {
-        let Some(bytes) = bytes else {
-            return Ok(false);
-        };
-        whole.extend_from_slice(&bytes)?;
+        match bytes {
+            Some(bytes) => whole.extend_from_slice(&bytes)?,
+            None => lost = lost.saturating_add(1),
+        }
     }
-    Ok(true)
+    Ok(lost)
+}
+
+fn told_lost(visit: &Visit, list: &Manifest, lost: usize) -> Option<Vec<u8>> {
+    let rt = &visit.rt;
+    let text = name_text(&list.name);
+    let count = list.parts.len();
+    let _ = eprintln!(rt;
+        "pots: {text} was not written: of its {count} parts {lost} could not be fetched"
+    );
+    None
 }
 
 fn told_incomplete(visit: &Visit, name: &Name) -> Result<Option<Vec<u8>>, Stop> {
@@ -344,7 +359,7 @@ fn part_list<X: Threads + Wait + Sync>(
         return Ok(None);
     };
     let mut bytes = Vec::new(visit.alloc());
-    if !append_parts(turns, visit, &[own], &mut bytes)? {
+    if append_parts(turns, visit, &[own], &mut bytes)? > 0 {
         return Ok(None);
     }
     match Manifest::read(visit.alloc(), &bytes)? {
@@ -382,6 +397,6 @@ fn write_file(visit: &Visit, goal: &Goal, name: &Name, bytes: &[u8]) -> Result<b
         );
         return Ok(false);
     }
-    println!(rt; "fetched {path}")?;
+    visit.tell_file("fetched", path.as_str())?;
     Ok(true)
 }

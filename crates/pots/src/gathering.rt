@@ -1,14 +1,15 @@
-//! Commands that are gathered until there is enough for a session.
+//! Files that are gathered until there is enough for a session.
 
 use crate::progress::Progress;
-use crate::session::hold;
+use crate::session::{MOST_TOGETHER, hold_together};
 use crate::stop::Stop;
 use crate::visit::Visit;
 use pot_bytes::{Bytes, Name};
 use pot_client::ends_as_part;
-use pot_report::name_text;
+use pot_report::{name_text, spoken_name};
 use pot_script::{Command, Reply};
 use std::alloc::Global;
+use std::mem;
 use std::sync::Wait;
 use std::thread::Threads;
 
@@ -19,6 +20,7 @@ const MOST_BYTES: usize = 16_000_000;
 #[derive(Drop)]
 pub struct Gathered {
     commands: Vec<Command>,
+    names: Vec<Name>,
     bytes: usize,
     pub progress: Progress,
 }
@@ -27,6 +29,7 @@ impl Gathered {
     pub fn new(alloc: Global, progress: Progress) -> Gathered {
         Gathered {
             commands: Vec::new(alloc),
+            names: Vec::new(alloc),
             bytes: 0,
             progress,
         }
@@ -40,41 +43,47 @@ impl Gathered {
         name: Name,
         file: &[u8],
     ) -> Result<bool, Stop> {
-        if self.bytes.saturating_add(file.len()) > MOST_BYTES && !self.flush(turns, visit)? {
+        if self.is_full(file.len()) && !self.flush(turns, visit)? {
             return Ok(false);
         }
         let file = Bytes::from_vec(Vec::from_slice(visit.alloc(), file)?);
         self.bytes = self.bytes.saturating_add(file.as_slice().len());
         self.commands.push(Command::Store { name, file })?;
+        self.names.push(name)?;
         Ok(true)
     }
 
-    /// Holds a session over what waits, and answers whether nothing was refused.
+    // Whether a file of so many bytes would be too much for the session.
+    fn is_full(&self, length: usize) -> bool {
+        self.names.len() >= MOST_TOGETHER || self.bytes.saturating_add(length) > MOST_BYTES
+    }
+
+    /// Holds a session that stores what waits, and answers whether nothing was refused.
     pub fn flush<X: Threads + Wait + Sync>(
         &mut self,
         turns: &X,
         visit: &mut Visit,
     ) -> Result<bool, Stop> {
-        if self.commands.is_empty() {
-            return Ok(true);
-        }
-        let replies = hold(turns, visit, &self.commands)?;
+        let commands = mem::replace(&mut self.commands, Vec::new(visit.alloc()));
+        let replies = hold_together(turns, visit, commands)?;
         self.progress.add(&visit.rt, self.bytes as u64);
-        self.commands.clear();
+        let good = tell_stored(visit, &self.names, &replies)?;
+        self.names.clear();
         self.bytes = 0;
-        tell_stored(visit, &replies)
+        Ok(good)
     }
 }
 
-// Tells what was stored, parts of a file alone by its list of parts. Answers whether nothing was refused.
-fn tell_stored(visit: &Visit, replies: &[Reply]) -> Result<bool, Stop> {
+// Tells of each file what came of it, of parts alone by the list of parts. Answers whether nothing was refused.
+fn tell_stored(visit: &Visit, names: &[Name], replies: &[Reply]) -> Result<bool, Stop> {
     let mut good = true;
-    for reply in replies {
+    for (name, reply) in names.iter().zip(replies.iter()) {
         match reply {
-            Reply::Stored { name, .. } if !visit.json => tell_name(visit, name)?,
+            Reply::Stored { .. } if !visit.json => tell_name(visit, name)?,
             _ => {
                 if visit.tell(reply)? {
                     good = false;
+                    tell_refused(visit, name)?;
                 }
             }
         }
@@ -90,5 +99,13 @@ fn tell_name(visit: &Visit, name: &Name) -> Result<(), Stop> {
     } else if let Some(stem) = text.strip_suffix(".p0000") {
         println!(rt; "stored {stem} in parts")?;
     }
+    Ok(())
+}
+
+// Tells which file a refusal was of.
+fn tell_refused(visit: &Visit, name: &Name) -> Result<(), Stop> {
+    let rt = &visit.rt;
+    let text = spoken_name(visit.alloc(), name)?;
+    let _ = eprintln!(rt; "pots: {text} was not stored");
     Ok(())
 }

@@ -81,8 +81,10 @@ pub fn look_at(rt: &HostRuntime, holding: &Holding) -> Result<Standing, AllocErr
     }
 }
 
-// Ends the command where archives are missing or too short that it was not asked to go on without.
+// Ends the command where archives are missing or too short that it was not asked to go on without, or where no session can begin
+// without one.
 fn look_at_archives(visit: &Visit, image: &Image) -> Result<(), Stop> {
+    look_at_links(visit)?;
     let mut list = String::new(visit.alloc());
     for holding in holdings(visit.alloc(), image)?.iter() {
         if visit.without.contains(&holding.archive) {
@@ -94,7 +96,27 @@ fn look_at_archives(visit: &Visit, image: &Image) -> Result<(), Stop> {
         return Ok(());
     }
     let line = format!(in visit.alloc();
-        "see that all disks are mounted and all archives are in their places; to go on without these, give --without {list}, and what they held counts as lost until it is mended; a link that leads nowhere is first to be taken away, or an empty file made there"
+        "see that all disks are mounted and all archives are in their places; to go on without these, give --without {list}, and what they held counts as lost until it is mended"
+    )?;
+    Err(visit.refuse(8, line.as_str()))
+}
+
+// Ends the command where archives that it was asked to go on without are links that lead nowhere: no session makes their files.
+fn look_at_links(visit: &Visit) -> Result<(), Stop> {
+    let mut links = String::new(visit.alloc());
+    for number in visit.without.iter() {
+        let name = archive_name(visit.alloc(), *number)?;
+        let name = name.as_str();
+        if fs::read_link(&visit.rt, name).is_ok() && fs::metadata(&visit.rt, name).is_err() {
+            links.push_str(" ")?;
+            links.push_str(name)?;
+        }
+    }
+    if links.is_empty() {
+        return Ok(());
+    }
+    let line = format!(in visit.alloc();
+        "these lead nowhere:{links}; take the links away, with rm{links}, or make empty files where they lead, and give the command once more"
     )?;
     Err(visit.refuse(8, line.as_str()))
 }

@@ -11,6 +11,7 @@ mod fetching;
 mod gathering;
 mod init_words;
 mod keeping;
+mod known;
 mod looking;
 mod making;
 mod mending;

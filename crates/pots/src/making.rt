@@ -1,6 +1,7 @@
 //! An archive that is made.
 
-use crate::numbers::read_number;
+use crate::looking::archive_name;
+use crate::numbers::{MOST_ARCHIVES, read_number};
 use crate::session::{call, ended, words_of};
 use crate::stop::Stop;
 use crate::visit::Visit;
@@ -8,6 +9,7 @@ use clap::ArgMatches;
 use pot_bytes::{Geometry, Rack};
 use pot_report::{Plan, Wish, read_size};
 use serde_json::json;
+use std::fs;
 use std::sync::Wait;
 use std::thread::Threads;
 
@@ -19,10 +21,29 @@ pub fn init<X: Threads + Wait + Sync>(
 ) -> Result<u8, Stop> {
     let plan = planned(visit, words)?;
     if !words.get_flag("dry-run") {
+        look_for_archives(visit)?;
         make(turns, visit, &plan.rack)?;
     }
     tell_plan(visit, &plan)?;
     Ok(0)
+}
+
+// Ends the command where an archive of this folder has blocks: a new desk would let them be written over.
+fn look_for_archives(visit: &Visit) -> Result<(), Stop> {
+    for number in 0..MOST_ARCHIVES {
+        let name = archive_name(visit.alloc(), number)?;
+        let name = name.as_str();
+        match fs::metadata(&visit.rt, name) {
+            Ok(file) if file.len() > 0 => {
+                let line = format!(in visit.alloc();
+                    "there is an archive in this folder already, with blocks in {name}, and it stays as it is: make the new one in another folder; where the desk is gone, pots recover gets files back"
+                )?;
+                return Err(visit.refuse(10, line.as_str()));
+            }
+            _ => {}
+        }
+    }
+    Ok(())
 }
 
 // The shape that is asked for.

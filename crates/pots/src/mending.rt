@@ -3,7 +3,7 @@
 use crate::looking::image;
 use crate::making::geometry_of;
 use crate::numbers::{MOST_ARCHIVES, read_number};
-use crate::session::hold;
+use crate::session::{hold, hold_together};
 use crate::shelving::tell_ailing;
 use crate::stop::Stop;
 use crate::visit::Visit;
@@ -12,10 +12,13 @@ use pot_bytes::{Geometry, Name};
 use pot_client::part_name;
 use pot_image::Image;
 use pot_report::{Kept, kept_files};
-use pot_script::Command;
+use pot_script::{Command, Reply};
 use std::alloc::AllocError;
 use std::sync::Wait;
 use std::thread::Threads;
+
+/// How many files, or parts of files, a session splits anew at most.
+const MOST_RENEWED: usize = 16;
 
 /// Looks at each block of the groups, and tells which archives are ailing and what mends them.
 pub fn check<X: Threads + Wait + Sync>(
@@ -28,7 +31,7 @@ pub fn check<X: Threads + Wait + Sync>(
     for group in groups.iter() {
         commands.push(Command::Scrub { group: *group })?;
     }
-    let replies = hold(turns, visit, &commands)?;
+    let replies = hold_together(turns, visit, commands)?;
     let status = visit.tell_all(&replies)?;
     let image = image(visit)?;
     if tell_ailing(visit, &image)? {
@@ -48,8 +51,27 @@ pub fn repair<X: Threads + Wait + Sync>(
     for group in groups.iter() {
         commands.push(Command::Repair { group: *group })?;
     }
-    let replies = hold(turns, visit, &commands)?;
-    visit.tell_all(&replies)
+    let replies = hold_together(turns, visit, commands)?;
+    let status = visit.tell_all(&replies)?;
+    let left = replies
+        .iter()
+        .fold(0u64, |sum, reply| { sum.saturating_add(left_in(reply)) });
+    if left > 0 {
+        let rt = &visit.rt;
+        let _ = eprintln!(rt;
+            "pots: {left} blocks are not given back by parity: pots fetch --all while the other places have every file, and pots renew for each that it gives"
+        );
+        return Ok(1);
+    }
+    Ok(status)
+}
+
+// How many blocks a repair left as they were.
+fn left_in(reply: &Reply) -> u64 {
+    match reply {
+        Reply::Repaired { left, .. } => u64::from(*left),
+        _ => 0,
+    }
 }
 
 // The groups that the words name, and all where they name none.
@@ -76,13 +98,14 @@ fn asked_groups(visit: &mut Visit, words: &ArgMatches) -> Result<Vec<u8>, Stop> 
     Ok(groups)
 }
 
-/// Puts a new archive in the place of one that is lost.
+/// Puts a new archive in the place of one that is lost, and need not be there.
 pub fn replace<X: Threads + Wait + Sync>(
     turns: &X,
     visit: &mut Visit,
     words: &ArgMatches,
 ) -> Result<u8, Stop> {
     let (from, to) = two_archives(visit, words)?;
+    visit.without.push(from)?;
     work_one(turns, visit, Command::Replace { from, to })
 }
 
@@ -137,21 +160,29 @@ pub fn renew<X: Threads + Wait + Sync>(
     }
     let names = names_of(visit, words, &image)?;
     let mut status = 0;
-    for name in names.iter() {
-        if renew_one(turns, visit, *name, geometry)? != 0 {
+    for names in names.chunks(MOST_RENEWED) {
+        if renew_some(turns, visit, names, geometry)? != 0 {
             status = 1;
         }
     }
     Ok(status)
 }
 
-fn renew_one<X: Threads + Wait + Sync>(
+fn renew_some<X: Threads + Wait + Sync>(
     turns: &X,
     visit: &mut Visit,
-    name: Name,
+    names: &[Name],
     geometry: Geometry,
 ) -> Result<u8, Stop> {
-    work_one(turns, visit, Command::Renew { name, geometry })
+    let mut commands = Vec::new(visit.alloc());
+    for name in names {
+        commands.push(Command::Renew {
+            name: *name,
+            geometry,
+        })?;
+    }
+    let replies = hold_together(turns, visit, commands)?;
+    visit.tell_all(&replies)
 }
 
 // The names that the words give, and of a file in parts those of all its parts.

@@ -39,6 +39,9 @@ fn place_one(visit: &Visit, number: u32, folder: &str) -> Result<(), Stop> {
     let target = target.as_str();
     match copy_and_link(rt, name, target) {
         Ok(()) => {
+            if visit.json {
+                return visit.tell_file("placed", target);
+            }
             println!(rt; "{name} lies at {target}")?;
             Ok(())
         }
@@ -95,6 +98,10 @@ pub fn backup_desk(visit: &mut Visit, words: &ArgMatches) -> Result<u8, Stop> {
     let rt = &visit.rt;
     match put_file(rt, path, &bytes, false) {
         Ok(()) => {
+            if visit.json {
+                visit.tell_file("kept", path)?;
+                return Ok(0);
+            }
             println!(rt;
                 "{path} has the desk as it is now: keep it at another place, where you would keep a list of names; to go back to it, put it as desk.psi into the archive's folder and take desk.pss away"
             )?;

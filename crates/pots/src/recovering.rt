@@ -281,6 +281,6 @@ fn write_under(visit: &Visit, folder: &str, name: &str, bytes: &[u8]) -> Result<
         );
         return Ok(false);
     }
-    println!(rt; "recovered {path}")?;
+    visit.tell_file("recovered", path.as_str())?;
     Ok(true)
 }

@@ -41,6 +41,33 @@ pub fn hold<X: Threads + Wait + Sync>(
     }
 }
 
+/// How many commands are worked side by side at most.
+pub const MOST_TOGETHER: usize = 1024;
+
+/// Holds a session that works these commands side by side, where there are several, and answers their replies in order. Where there
+/// are none it holds no session.
+pub fn hold_together<X: Threads + Wait + Sync>(
+    turns: &X,
+    visit: &mut Visit,
+    commands: Vec<Command>,
+) -> Result<Vec<Reply>, Stop> {
+    let count = commands.len();
+    if count == 0 {
+        return Ok(Vec::new(visit.alloc()));
+    }
+    if count == 1 || count > MOST_TOGETHER {
+        return hold(turns, visit, &commands);
+    }
+    let count = u32::try_from(count).unwrap_or(u32::MAX);
+    let mut batch = Vec::new(visit.alloc());
+    batch.push(Command::Together { count })?;
+    for command in commands {
+        batch.push(command)?;
+    }
+    batch.push(Command::End)?;
+    hold(turns, visit, &batch)
+}
+
 /// The words of a command line, which stand between spaces.
 pub fn words_of(alloc: Global, line: &str) -> Result<Vec<String>, AllocError> {
     let mut words = Vec::new(alloc);

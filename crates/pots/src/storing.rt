@@ -1,17 +1,17 @@
 //! Files that are stored.
 
 use crate::gathering::Gathered;
+use crate::known::Known;
 use crate::looking::image;
 use crate::progress::Progress;
 use crate::stop::Stop;
 use crate::visit::Visit;
 use clap::ArgMatches;
-use pot_bytes::{Digest, Name, digest_of};
+use pot_bytes::{Name, digest_of};
 use pot_client::{PART_SIZE, count_parts, ends_as_part, part, part_name};
-use pot_image::Image;
-use pot_index::Record;
-use pot_report::{Manifest, Room, Size, blocks_of, name_text};
+use pot_report::{Manifest, Size, name_text, spoken_name};
 use std::alloc::Global;
+use std::collections::BTreeSet;
 use std::fs;
 use std::path::Path;
 use std::sync::Wait;
@@ -33,23 +33,34 @@ pub fn store<X: Threads + Wait + Sync>(
 ) -> Result<u8, Stop> {
     let items = asked(visit, words)?;
     let image = image(visit)?;
-    judge_room(visit, &image, &items)?;
+    let known = Known::of(visit.alloc(), image)?;
+    judge_room(visit, &known, &items)?;
     let all = items
         .iter()
         .fold(0u64, |sum, item| sum.saturating_add(item.length));
     let mut gathered = Gathered::new(visit.alloc(), Progress::begin(&visit.rt, all));
     let mut status = 0;
     for item in items.iter() {
-        match store_item(turns, visit, &image, item, &mut gathered)? {
+        match store_item(turns, visit, &known, item, &mut gathered)? {
             Outcome::Good => {}
             Outcome::Refused => status = 1,
-            Outcome::Ended => return Ok(1),
+            Outcome::Ended => return Ok(told_ended(visit, &item.name)),
         }
     }
     if !gathered.flush(turns, visit)? {
         status = 1;
     }
     Ok(status)
+}
+
+// Tells where the command ended, and answers its status.
+fn told_ended(visit: &Visit, name: &Name) -> u8 {
+    let rt = &visit.rt;
+    let text = name_text(name);
+    let _ = eprintln!(rt;
+        "pots: {text} and the files behind it were not stored to their end: once what was refused can be stored, the same command goes on"
+    );
+    1
 }
 
 /// What came of a file.
@@ -70,10 +81,24 @@ fn asked(visit: &Visit, words: &ArgMatches) -> Result<Vec<Item>, Stop> {
         return Err(visit.refuse(2, "--as names one file: give one, or leave it out"));
     }
     let mut items = Vec::new(visit.alloc());
+    let mut names = BTreeSet::new(visit.alloc());
     for path in paths {
-        items.push(item_of(visit, path, given)?)?;
+        let item = item_of(visit, path, given)?;
+        if !names.insert(item.name)? {
+            return Err(named_twice(visit, &item.name)?);
+        }
+        items.push(item)?;
     }
     Ok(items)
+}
+
+// The end of the command where two files have one name.
+fn named_twice(visit: &Visit, name: &Name) -> Result<Stop, Stop> {
+    let name = name_text(name);
+    let line = format!(in visit.alloc();
+        "two of these files have the name {name}, and nothing was stored: store one of them by itself, with --as"
+    )?;
+    Ok(visit.refuse(2, line.as_str()))
 }
 
 fn item_of(visit: &Visit, path: &str, given: Option<&str>) -> Result<Item, Stop> {
@@ -135,55 +160,29 @@ fn close_name(alloc: Global, text: &str) -> Result<String, Stop> {
     Ok(name)
 }
 
-// Ends the command where there is not room for all files.
-fn judge_room(visit: &Visit, image: &Image, items: &[Item]) -> Result<(), Stop> {
-    let mut blocks = 0u64;
+// Ends the command where there is not room for all that is not stored yet.
+fn judge_room(visit: &Visit, known: &Known, items: &[Item]) -> Result<(), Stop> {
+    let mut room = known.room(visit.alloc())?;
+    let left = Size(room.bytes());
+    let mut fits = true;
     for item in items {
-        if record_of(image, &item.name).is_none() {
-            blocks = blocks.saturating_add(blocks_of_item(image, item.length));
+        if !known.take_room(&mut room, &item.name, item.length) {
+            fits = false;
         }
     }
-    let room = Room::left(image);
-    if blocks <= room.blocks {
+    if fits {
         return Ok(());
     }
-    let left = Size(room.bytes);
     let line = format!(in visit.alloc();
         "there is no room for these files, and nothing was stored: {left} is left; store fewer, or make a second archive in another folder, with pots init"
     )?;
     Err(visit.refuse(1, line.as_str()))
 }
 
-// The blocks of each group that a file takes, with its list of parts.
-fn blocks_of_item(image: &Image, length: u64) -> u64 {
-    let whole = blocks_of(&image.rack, length);
-    if length <= PART_SIZE as u64 {
-        return whole;
-    }
-    let parts = length.div_ceil(PART_SIZE as u64);
-    let list = blocks_of(&image.rack, parts.saturating_mul(70).saturating_add(256));
-    // Each part may end in a piece that is not full.
-    whole
-        .saturating_add(list)
-        .saturating_add(parts.saturating_mul(blocks_of(&image.rack, 0)))
-}
-
-fn record_of<'a>(image: &'a Image, name: &Name) -> Option<&'a Record> {
-    image.records.iter().find(|record| record.name == *name)
-}
-
-// Whether a file of this name and digest is stored.
-fn is_stored(image: &Image, name: &Name, digest: Digest) -> bool {
-    match record_of(image, name) {
-        Some(record) => record.digest == digest,
-        None => false,
-    }
-}
-
 fn store_item<X: Threads + Wait + Sync>(
     turns: &X,
     visit: &mut Visit,
-    image: &Image,
+    known: &Known,
     item: &Item,
     gathered: &mut Gathered,
 ) -> Result<Outcome, Stop> {
@@ -191,105 +190,115 @@ fn store_item<X: Threads + Wait + Sync>(
         return Err(unread(visit, item.path.as_str())?);
     };
     if file.len() > PART_SIZE {
-        return store_parts(turns, visit, image, (item.name, &file), gathered);
+        return store_long(turns, visit, known, (&item.name, &file), gathered);
     }
-    if record_of(image, &item.name).is_some() {
-        return told_stored(visit, image, &item.name, digest_of(&file));
+    if known.kept(&item.name).is_some() {
+        let same = known.digest(&item.name) == Some(digest_of(&file));
+        return Ok(told_stored(visit, &item.name, same));
     }
-    if gathered.add(turns, visit, item.name, &file)? {
-        Ok(Outcome::Good)
+    Ok(added(gathered.add(turns, visit, item.name, &file)?))
+}
+
+// What came of a file that was added, or was not.
+fn added(is_added: bool) -> Outcome {
+    if is_added {
+        Outcome::Good
     } else {
-        Ok(Outcome::Ended)
+        Outcome::Ended
     }
 }
 
 // Tells that a name is taken, by just this file or by another.
-fn told_stored(visit: &Visit, image: &Image, name: &Name, digest: Digest) -> Result<Outcome, Stop> {
+fn told_stored(visit: &Visit, name: &Name, same: bool) -> Outcome {
     let rt = &visit.rt;
     let text = name_text(name);
-    if is_stored(image, name, digest) {
+    if same {
         let _ = eprintln!(rt; "pots: {text} is stored already, with just these bytes");
-        Ok(Outcome::Good)
+        Outcome::Good
     } else {
         let _ = eprintln!(rt;
             "pots: {text} is stored already, with other bytes, and stays as it is: store it under another name with --as"
         );
-        Ok(Outcome::Refused)
+        Outcome::Refused
     }
 }
 
-// Stores a file in parts, those that are not there yet, and its list of parts last, in a session of its own.
+// Stores a file of several parts, unless it is stored already.
+fn store_long<X: Threads + Wait + Sync>(
+    turns: &X,
+    visit: &mut Visit,
+    known: &Known,
+    (name, file): (&Name, &[u8]),
+    gathered: &mut Gathered,
+) -> Result<Outcome, Stop> {
+    let Some(list_name) = part_name(name, 0) else {
+        return Ok(too_long(visit, name));
+    };
+    let list = Manifest::of(visit.alloc(), *name, file)?.text(visit.alloc())?;
+    let list = list.as_bytes();
+    if known.kept(name).is_some_and(|kept| kept.is_whole()) {
+        let same = known.digest(&list_name) == Some(digest_of(list));
+        return Ok(told_stored(visit, name, same));
+    }
+    match store_parts(turns, visit, known, (name, file), gathered)? {
+        Outcome::Good => {}
+        outcome => return Ok(outcome),
+    }
+    let is_added = gathered.flush(turns, visit)? && gathered.add(turns, visit, list_name, list)?;
+    Ok(added(is_added))
+}
+
+// Stores the parts of a file that are not there yet. Its list of parts comes last, in a session of its own.
 fn store_parts<X: Threads + Wait + Sync>(
     turns: &X,
     visit: &mut Visit,
-    image: &Image,
-    named: (Name, &[u8]),
+    known: &Known,
+    (name, file): (&Name, &[u8]),
     gathered: &mut Gathered,
 ) -> Result<Outcome, Stop> {
-    let (name, file) = named;
-    let list = Manifest::of(visit.alloc(), name, file)?;
-    let text = list.text(visit.alloc())?;
-    let Some(list_name) = part_name(&name, 0) else {
-        return too_long(visit, &name);
-    };
-    if record_of(image, &list_name).is_some() || record_of(image, &name).is_some() {
-        return told_stored(visit, image, &list_name, digest_of(text.as_bytes()));
-    }
     for number in 0..count_parts(file.len()) {
         let bytes = part(file, number);
-        match store_part(turns, visit, image, (&name, number, bytes), gathered)? {
+        let number = u32::try_from(number).unwrap_or(u32::MAX).saturating_add(1);
+        let Some(own) = part_name(name, number) else {
+            return Ok(too_long(visit, name));
+        };
+        match store_part(turns, visit, known, (own, bytes), gathered)? {
             Outcome::Good => {}
             outcome => return Ok(outcome),
         }
     }
-    if gathered.flush(turns, visit)? && gathered.add(turns, visit, list_name, text.as_bytes())? {
-        Ok(Outcome::Good)
-    } else {
-        Ok(Outcome::Ended)
-    }
+    Ok(Outcome::Good)
 }
 
-// Stores a part, unless it is there already.
+// Stores a part, unless it is there already: of this file, or of another of its name that was not stored to its end.
 fn store_part<X: Threads + Wait + Sync>(
     turns: &X,
     visit: &mut Visit,
-    image: &Image,
-    named: (&Name, usize, &[u8]),
+    known: &Known,
+    (own, bytes): (Name, &[u8]),
     gathered: &mut Gathered,
 ) -> Result<Outcome, Stop> {
-    let (name, number, bytes) = named;
-    let number = u32::try_from(number).unwrap_or(u32::MAX).saturating_add(1);
-    let Some(own) = part_name(name, number) else {
-        return too_long(visit, name);
-    };
-    if record_of(image, &own).is_some() {
-        return told_part(visit, image, &own, digest_of(bytes));
-    }
-    if gathered.add(turns, visit, own, bytes)? {
-        Ok(Outcome::Good)
-    } else {
-        Ok(Outcome::Ended)
+    match known.digest(&own) {
+        None => Ok(added(gathered.add(turns, visit, own, bytes)?)),
+        Some(digest) if digest == digest_of(bytes) => Ok(Outcome::Good),
+        Some(_) => told_part(visit, &own),
     }
 }
 
-// A part that is there: of this file, or of another of its name that was not stored to its end.
-fn told_part(visit: &Visit, image: &Image, own: &Name, digest: Digest) -> Result<Outcome, Stop> {
-    if is_stored(image, own, digest) {
-        return Ok(Outcome::Good);
-    }
+fn told_part(visit: &Visit, own: &Name) -> Result<Outcome, Stop> {
     let rt = &visit.rt;
-    let text = name_text(own);
+    let text = spoken_name(visit.alloc(), own)?;
     let _ = eprintln!(rt;
-        "pots: {text} is stored already, of another file: store this one under another name with --as"
+        "pots: {text} is stored already, with other bytes: store this file under another name with --as"
     );
     Ok(Outcome::Refused)
 }
 
-fn too_long(visit: &Visit, name: &Name) -> Result<Outcome, Stop> {
+fn too_long(visit: &Visit, name: &Name) -> Outcome {
     let rt = &visit.rt;
     let text = name_text(name);
     let _ = eprintln!(rt;
         "pots: {text} is too long a name for a file in parts: store it under one of at most 58 bytes with --as"
     );
-    Ok(Outcome::Refused)
+    Outcome::Refused
 }

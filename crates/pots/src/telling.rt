@@ -12,6 +12,10 @@ use std::fs;
 /// Lists the files that are stored.
 pub fn list(visit: &mut Visit) -> Result<u8, Stop> {
     let image = image(visit)?;
+    let rt = &visit.rt;
+    if image.records.is_empty() {
+        let _ = eprintln!(rt; "pots: nothing is stored yet");
+    }
     for (name, kept) in kept_files(visit.alloc(), &image)?.iter() {
         if visit.json {
             tell_file_json(visit, name, kept)?;
@@ -42,7 +46,7 @@ fn tell_file(visit: &Visit, name: &Name, kept: &Kept) -> Result<(), Stop> {
 fn tell_file_json(visit: &Visit, name: &Name, kept: &Kept) -> Result<(), Stop> {
     let rt = &visit.rt;
     let length = kept.direct.unwrap_or(kept.length);
-    let whole = kept.direct.is_some() || kept.complete;
+    let whole = kept.is_whole();
     let line =
         json!(in visit.alloc(); {"name": name_text(name), "length": length, "parts": kept.parts, "whole": whole})?;
     let line = line.to_string(visit.alloc())?;
@@ -54,15 +58,15 @@ fn tell_file_json(visit: &Visit, name: &Name, kept: &Kept) -> Result<(), Stop> {
 pub fn status(visit: &mut Visit) -> Result<u8, Stop> {
     let image = image(visit)?;
     tell_archives(visit, &image)?;
-    let room = Room::left(&image);
+    let room = Room::left(visit.alloc(), &image)?.bytes();
     let rt = &visit.rt;
     if visit.json {
         let line =
-            json!(in visit.alloc(); {"session": image.session, "files": image.records.len() as u64, "room": room.bytes})?;
+            json!(in visit.alloc(); {"session": image.session, "files": image.records.len() as u64, "room": room})?;
         let line = line.to_string(visit.alloc())?;
         println!(rt; "{line}")?;
     } else {
-        let left = Size(room.bytes);
+        let left = Size(room);
         println!(rt; "room for {left} more")?;
     }
     Ok(0)

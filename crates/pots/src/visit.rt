@@ -6,6 +6,7 @@ use clap::ArgMatches;
 use pot_files::DeskFile;
 use pot_report::{reply_json, reply_line};
 use pot_script::Reply;
+use serde_json::json;
 use std::alloc::Global;
 
 /// A visit to the archive of the working folder.
@@ -44,6 +45,19 @@ impl Visit {
     /// Ends the command with a line that says what failed and what to do next.
     pub fn refuse(&self, status: u8, line: &str) -> Stop {
         refuse(&self.rt, status, line)
+    }
+
+    /// Tells what was done, in a word, to the file of a path.
+    pub fn tell_file(&self, word: &str, path: &str) -> Result<(), Stop> {
+        let rt = &self.rt;
+        if self.json {
+            let line = json!(in self.alloc(); {"did": word, "path": path})?;
+            let line = line.to_string(self.alloc())?;
+            println!(rt; "{line}")?;
+        } else {
+            println!(rt; "{word} {path}")?;
+        }
+        Ok(())
     }
 
     /// Tells a reply, and answers whether it is a refusal.
