@@ -1,4 +1,5 @@
 //! How long the loops, the calls of a group and those of sessions take.
+use crate::batches::{BATCH_FILE, time_batch};
 use crate::groups::{Call, Trial};
 use crate::report::{Timing, tell};
 use crate::rows::{ROW, Round, Rows, SEED};
@@ -9,6 +10,7 @@ use std::alloc::{AllocError, Global};
 use std::io;
 use std::rt::Clock;
 use std::sync::Wait;
+use std::thread::Threads;
 
 /// The loops, each with how many rows it reads in a round.
 const LOOPS: [(&str, Round, u8); 10] = [
@@ -96,6 +98,21 @@ pub fn time_sessions<R: Clock + Wait + Print + Eprint>(
     let session = desk.with_one_gone(alloc)?.open(alloc)?;
     let desk = time_fetches(rt, alloc, session, "fetch, an archive gone", count.min(10))?;
     tell(rt, "close", desk.image())
+}
+
+/// Batches of so many stores and fetches, 64 at most, on one worker, on two and on four, each over new archives.
+pub fn time_batches<R: Clock + Threads + Wait + Sync + Print + Eprint>(
+    rt: &R,
+    alloc: Global,
+    count: u16,
+) -> io::Result<()> {
+    let count = usize::from(count.min(64));
+    let mut files = vec![in alloc; 0u8; count * BATCH_FILE]?;
+    PadStream::new(&SEED, 0, 6).fill(&mut files);
+    for workers in [1, 2, 4] {
+        time_batch(rt, alloc, &files, workers)?;
+    }
+    Ok(())
 }
 
 /// The megabytes of so many files.
