@@ -2,7 +2,7 @@
 the run writes, or just what it writes. Afterwards every file of an ended session comes back."""
 
 from program import NARROW, RACK, Folder, script, store
-from sessions import OTHER_RUNS, Session
+from sessions import OTHER_RUNS, OtherRun, Session
 
 SESSIONS = [
     Session("store-and-fetch", RACK, 3, [], script(store("a", b"hello"), "fetch a"), new={"a": b"hello"}),
@@ -17,6 +17,9 @@ SESSIONS = [
             script("together 3", store("b", b"world"), "fetch a", "repair 0", "end", "fetch b"),
             files={"a": b"hello"}, new={"b": b"world"}),
 ]
+
+# The session of a number over objects in memory, of whose archives one may find no memory.
+GENERATED = OtherRun("generate", ["generate", "1"], b"generated 1 76\n")
 
 
 def asked_for(lines):
@@ -50,5 +53,5 @@ def sweep(run, rest, base):
 
 def rows(base):
     for rest, text in ((None, "one"), (1, "all-from")):
-        for run in [*SESSIONS, *OTHER_RUNS]:
+        for run in [*SESSIONS, *OTHER_RUNS, GENERATED]:
             yield f"memory {run.name} {text}", lambda it=run, by=rest: sweep(it, by, base)
