@@ -73,6 +73,14 @@ module _ (told : Type 0) (g : GroupView) (number : ℕ) (meant : Meaning) (s : S
       | inl e ↦ subst (λ m. s.losses_taken m ≤ s.losses m) (sym e) (subst (λ x. x ≤ s.losses number) (sym (b.marked_losses t)) (omega arith))
       | inr ne ↦ omega (arith, settled.losses t n, (b.same_losses n ne).0, (b.same_losses n ne).1)
     ]);
+    opened_faults = (λ n. elim (cases_eq n number) [
+      | inl e ↦ subst (λ m. s.faults_opened m ≤ s.faults m) (sym e) (subst (λ x. x ≤ s.faults number) (sym b.opened) (omega arith))
+      | inr ne ↦ omega (arith, settled.opened_faults n, (b.same_faults n ne).0, (b.same_opened n ne).0)
+    ]);
+    opened_losses = (λ t n. elim (cases_eq n number) [
+      | inl e ↦ subst (λ m. s.losses_opened m ≤ s.losses m) (sym e) (subst (λ x. x ≤ s.losses number) (sym (b.opened_losses t)) (omega arith))
+      | inr ne ↦ omega (arith, settled.opened_losses t n, (b.same_losses n ne).0, (b.same_opened n ne).1)
+    ]);
     holds = (λ t. (stands_on t).holds);
     flying = (λ t. (stands_on t).flying);
     live = (λ t. losses_keep_live (LostSince g.shelves) (LostSince s) g.table g.shelves.held s.held rose_on (record { keeps = (λ n c x ln lc nv e. inl (held_same n c lc ∙ e)) }) (settled.live t));

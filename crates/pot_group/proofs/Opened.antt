@@ -7,6 +7,7 @@ use Rattle.std.proofs.lemmas.List.Elements.{Contains-append_left, Contains-appen
 use Rattle.pot_bytes.specs.Rack.{log_bound}
 use Rattle.pot_outside.specs.Archives.{Meaning}
 use Rattle.pot_outside.specs.Counts.{Rose}
+use Rattle.pot_outside.specs.declared.archive.Marks.{Marks}
 use Rattle.pot_machine.specs.declared.column.Column.{Column}
 use Rattle.pot_machine.specs.declared.column.Moving.{Moving}
 use Rattle.pot_machine.specs.declared.entry.Entry.{Entry}
@@ -19,11 +20,12 @@ use Rattle.pot_machine.proofs.LeftAlone.{rules_stay}
 use Rattle.pot_steps.specs.GroupStep.{StartStep}
 use Rattle.pot_steps.proofs.Opening.{start_makes}
 use Rattle.pot_steps.proofs.Losses.{start_makes_live}
-use Rattle.pot_shelves.specs.Shelves.{Shelves, Shelved, IsTaken, plain}
+use Rattle.pot_shelves.specs.Shelves.{Shelves, Shelved, IsOpenedNow, IsTaken, plain}
 use Rattle.pot_group.specs.Causes.{HasLost, risen, archives_of}
 use Rattle.pot_shelves.specs.Opening.{HasArchives, Opens}
-use Rattle.pot_group.specs.Group.{GroupParts, GroupView, IsSettled, LostSince, state_of, view_of}
+use Rattle.pot_group.specs.Group.{GroupParts, GroupView, IsSettled, LostSince, RoseInOpening, state_of, view_of}
 use Rattle.pot_group.specs.Beginning.{Begins, unopened}
+use Rattle.pot_shelves.proofs.OpeningCauses.{gone_rose}
 use Rattle.pot_shelves.proofs.ShelfLemmas.{lost_rose}
 use Rattle.pot_group.proofs.CauseLemmas.{OfOpening, opening_entries, faults_in-opening, WhereMissed-opening, archives_of-opening}
 
@@ -80,17 +82,18 @@ shape (e ∷ log) t u h r =
 
 -- A GROUP THAT WAS OPENED
 
-module _ {A : Type 0} (told : Type 0) (meaning : A → Meaning) (number : ℕ) (t u : Table) (log : List Entry) (a b : Shelved A)
+module _ {A : Type 0} (told : Type 0) (meaning : A → Meaning) (number : ℕ) (t u : Table) (log : List Entry) (a b : Shelved A) (marks : List Marks)
     (table : IsTable t) (relays : t.relays ≡ []) (taken : IsTaken told (plain meaning a)) (handed : HasArchives t (plain meaning a).numbers)
-    (o : Opens told t.stripes t u log (plain meaning a) (plain meaning b)) (bound : length log ≤ log_bound) where
+    (o : Opens told t.stripes t u log (plain meaning a) (plain meaning b)) (bound : length log ≤ log_bound)
+    (opened : IsOpenedNow told (plain meaning (record b { opened = marks }))) where
   abbrev old : Shelves
   old = plain meaning a
 
   abbrev now : Shelves
-  now = plain meaning b
+  now = plain meaning (record b { opened = marks })
 
   abbrev group : GroupParts A
-  group = record { number = number; first = t; table = u; log = log; flights = []; shelves = b }
+  group = record { number = number; first = t; table = u; log = log; flights = []; shelves = record b { opened = marks } }
 
   abbrev view : GroupParts A → GroupView
   view g = view_of meaning g
@@ -154,6 +157,8 @@ module _ {A : Type 0} (told : Type 0) (meaning : A → Meaning) (number : ℕ) (
     sizes = (ap (λ (x : Table). x.data_columns) is_shape, ap (λ (x : Table). x.parity) is_shape, ap (λ (x : Table). x.stripes) is_shape);
     faults = (λ n. omega (arith, o.stays.keeps.faults_taken n, taken.faults n, o.stays.keeps.later n));
     losses = (λ k n. omega (arith, o.stays.keeps.losses_taken n, taken.losses k n, (o.stays.loses k n).later));
+    opened_faults = (λ n. let e : now.faults_opened n ≡ now.faults n = opened.faults n in omega (arith, e));
+    opened_losses = (λ k n. let e : now.losses_opened n ≡ now.losses n = opened.losses k n in omega (arith, e));
     holds = (λ k. (start_makes (state_of (view (unopened number t a))) (state_of (view group)) (start_step k) table).holds);
     flying = (λ k s ls. tt);
     live = (λ k. start_makes_live (LostSince now) (state_of (view (unopened number t a))) (state_of (view group)) (start_step k) table
@@ -164,5 +169,42 @@ module _ {A : Type 0} (told : Type 0) (meaning : A → Meaning) (number : ℕ) (
     };
   }
 
+  -- the counts that rose in the opening are those that rose between the marks
+  rose_in : told → (k : ℕ) → Rose (old.faults k) ((plain meaning b).faults k) ⊎ Rose (old.losses k) ((plain meaning b).losses k) → RoseInOpening now k
+  rose_in z k (inl r) = inl (subst (λ x. Rose x (now.faults_opened k)) (sym (o.stays.keeps.faults_taken k ∙ taken.faults k)) (subst (λ y. Rose (old.faults k) y) (sym (opened.faults k)) r))
+  rose_in z k (inr r) = inr (subst (λ x. Rose x (now.losses_opened k)) (sym (o.stays.keeps.losses_taken k ∙ taken.losses z k)) (subst (λ y. Rose (old.losses k) y) (sym (opened.losses z k)) r))
+
   pub opened_begins : Begins told meaning number t a.shelves group
-  opened_begins = record { taken = a; shelves = refl; marks = taken; is_number = refl; first = refl; opens = o; step = start_step }
+  opened_begins = record {
+    taken = a;
+    shelves = refl;
+    marks = taken;
+    is_number = refl;
+    first = refl;
+    read = b;
+    opens = o;
+    marked = refl;
+    opened = opened;
+    rose = (λ z s c ls lc is sound. rose_in z (serving_at t s c) (gone_rose told t.stripes t u log old (plain meaning b) o z s c ls lc is sound));
+    step = start_step;
+  }
+
+-- THE ARCHIVES ONCE THEY ARE MARKED
+
+module _ {A : Type 0} (told : Type 0) (meaning : A → Meaning) (number : ℕ) (t u : Table) (log : List Entry) (a b after : Shelved A)
+    (table : IsTable t) (relays : t.relays ≡ []) (taken : IsTaken told (plain meaning a)) (handed : HasArchives t (plain meaning a).numbers)
+    (o : Opens told t.stripes t u log (plain meaning a) (plain meaning b)) (bound : length log ≤ log_bound)
+    (same : after ≡ record b { opened = after.opened }) (opened : IsOpenedNow told (plain meaning after)) where
+  abbrev over : Shelved A → GroupParts A
+  over s = record { number = number; first = t; table = u; log = log; flights = []; shelves = s }
+
+  now_opened : IsOpenedNow told (plain meaning (record b { opened = after.opened }))
+  now_opened = subst (λ s. IsOpenedNow told (plain meaning s)) same opened
+
+  pub after_settled : IsSettled told (view_of meaning (over after))
+  after_settled = subst (λ s. IsSettled told (view_of meaning (over s))) (sym same)
+      (opened_settled told meaning number t u log a b after.opened table relays taken handed o bound now_opened)
+
+  pub after_begins : Begins told meaning number t a.shelves (over after)
+  after_begins = subst (λ s. Begins told meaning number t a.shelves (over s)) (sym same)
+      (opened_begins told meaning number t u log a b after.opened table relays taken handed o bound now_opened)

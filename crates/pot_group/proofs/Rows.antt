@@ -41,6 +41,8 @@ grows_keeps old new entries number first log keeps = record {
   log = log;
   faults_taken = λ n c. keeps.faults_taken n;
   losses_taken = λ n c. keeps.losses_taken n;
+  faults_opened = λ n c. keeps.faults_opened n;
+  losses_opened = λ n c. keeps.losses_opened n;
 }
 
 pub grows_same : (old new : GroupView) → new ≡ old → Grows old new []
@@ -60,6 +62,8 @@ brings_grow told to m e old new acts brings fresh =
       log = acts.log;
       faults_taken = λ n c. (brings.same_faults n (other n c)).1;
       losses_taken = λ n c. (brings.same_losses n (other n c)).1;
+      faults_opened = λ n c. (brings.same_opened n (other n c)).0;
+      losses_opened = λ n c. (brings.same_opened n (other n c)).1;
     }
 
 -- A PUT

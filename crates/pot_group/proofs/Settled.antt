@@ -50,6 +50,12 @@ module _ (told : Type 0) (g : GroupView) (s : Shelves) (h : told → Holdings) (
   marked_faults : (n : ℕ) → s.faults_taken n ≤ s.faults n
   marked_faults n = omega (arith, settled.faults n, keeps.faults_taken n, keeps.later n)
 
+  opened_faults_on : (n : ℕ) → s.faults_opened n ≤ s.faults n
+  opened_faults_on n = omega (arith, settled.opened_faults n, keeps.faults_opened n, keeps.later n)
+
+  opened_losses_on : told → (n : ℕ) → s.losses_opened n ≤ s.losses n
+  opened_losses_on t n = omega (arith, settled.opened_losses t n, keeps.losses_opened n, (loses t n).later)
+
   marked_losses : told → (n : ℕ) → s.losses_taken n ≤ s.losses n
   marked_losses t n = omega (arith, settled.losses t n, keeps.losses_taken n, (loses t n).later)
 
@@ -86,6 +92,8 @@ settled_loses told g s settled keeps loses = record {
   sizes = settled.sizes;
   faults = marked_faults told g s (λ t. g.shelves.held) settled keeps loses;
   losses = marked_losses told g s (λ t. g.shelves.held) settled keeps loses;
+  opened_faults = opened_faults_on told g s (λ t. g.shelves.held) settled keeps loses;
+  opened_losses = opened_losses_on told g s (λ t. g.shelves.held) settled keeps loses;
   holds = (λ t. (stands_on told g s (λ t. g.shelves.held) settled keeps loses t g.table g.flights (stands_in told g settled t)).holds);
   flying = (λ t. (stands_on told g s (λ t. g.shelves.held) settled keeps loses t g.table g.flights (stands_in told g settled t)).flying);
   live = (λ t. losses_keep_live (LostSince g.shelves) (LostSince s) g.table g.shelves.held s.held
@@ -126,6 +134,8 @@ settled_act told g e given s h settled legal room keeps columns loses acts kept 
   sizes = (size.0 ∙ settled.sizes.0, size.1 ∙ settled.sizes.1, size.2 ∙ settled.sizes.2);
   faults = marked_faults told g s h settled keeps loses;
   losses = marked_losses told g s h settled keeps loses;
+  opened_faults = opened_faults_on told g s h settled keeps loses;
+  opened_losses = opened_losses_on told g s h settled keeps loses;
   holds = (λ t. (stands_then t).holds);
   flying = (λ t. (stands_then t).flying);
   live = (λ t. live_on told g s h settled keeps loses t (after g.table e)
@@ -184,6 +194,8 @@ settled_entry told g e s h settled shape legal room keeps loses enters kept cove
   sizes = (shape.data_columns ∙ settled.sizes.0, shape.parity ∙ settled.sizes.1, shape.stripes ∙ settled.sizes.2);
   faults = marked_faults told g s h settled keeps loses;
   losses = marked_losses told g s h settled keeps loses;
+  opened_faults = opened_faults_on told g s h settled keeps loses;
+  opened_losses = opened_losses_on told g s h settled keeps loses;
   holds = (λ t. (stands_then t).holds);
   flying = (λ t. (stands_then t).flying);
   live = (λ t. live_on told g s h settled keeps loses t (after g.table e)

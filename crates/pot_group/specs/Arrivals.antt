@@ -15,6 +15,7 @@ abbrev pub arrivals : List Entry → List ℕ
 arrivals [] = []
 arrivals (e ∷ log) = arrival e ++ arrivals log
 
--- The archives of a group are those of the table that it began with, and then those that its log brought. It hands out all of them at its end.
+-- The archives of a group are those of the table that it began with, and then those that its log
+-- brought. It hands out all of them at its end.
 abbrev pub HasArrived : Table → List Entry → List ℕ → Type 0
 HasArrived first log numbers = numbers ≡ archives_in first ++ arrivals log

@@ -21,7 +21,8 @@ Before s c n k = (s < n) ⊎ ((s ≡ n) × (c < k))
 abbrev pub IsFrom : Table → ℕ → ℕ → ℕ → ℕ → Type 0
 IsFrom t s c n k = InRange t n k × ((s < n) ⊎ ((s ≡ n) × (c ≤ k)))
 
--- Some: a place at or after the first one whose slot passes, where no place between passes. None: no place at or after passes
+-- Some: a place at or after the first one whose slot passes, where no place between passes. None:
+-- no place at or after passes
 abbrev pub IsNext : Table → (SlotState → Bool) → ℕ → ℕ → Option (ℕ × ℕ) → Type 0
 IsNext t test s c (Some p) =
     IsFrom t s c p.0 p.1
@@ -32,10 +33,12 @@ IsNext t test s c None = (n k : ℕ) → IsFrom t s c n k → test (slot_at t n 
 -- the same in one stripe
 abbrev pub IsNextColumn : Table → (SlotState → Bool) → ℕ → ℕ → Option ℕ → Type 0
 IsNextColumn t test s c (Some p) =
-    (c ≤ p) × (p < width t) × IsTrue (test (slot_at t s p)) × ((k : ℕ) → c ≤ k → k < p → test (slot_at t s k) ≡ false)
+    (c ≤ p) × (p < width t) × IsTrue (test (slot_at t s p))
+    × ((k : ℕ) → c ≤ k → k < p → test (slot_at t s k) ≡ false)
 IsNextColumn t test s c None = (k : ℕ) → c ≤ k → k < width t → test (slot_at t s k) ≡ false
 
 -- and in a group of this number
 abbrev pub IsPlace : ℕ → Table → (SlotState → Bool) → ℕ → ℕ → Option Place → Type 0
-IsPlace number t test s c (Some p) = (p.group ≡ number) × IsNext t test s c (Some (p.stripe, p.column))
+IsPlace number t test s c (Some p) =
+    (p.group ≡ number) × IsNext t test s c (Some (p.stripe, p.column))
 IsPlace number t test s c None = IsNext t test s c None

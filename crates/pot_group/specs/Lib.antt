@@ -6,6 +6,7 @@ pub mod Beginning
 pub mod Looking
 pub mod Putting
 pub mod Counting
+pub mod Standing
 pub mod Finding
 pub mod Relaying
 pub mod Moving

@@ -1,5 +1,7 @@
 -- What a relay does to a group: its beginning, its hops and its ends.
-use Rattle.std.specs.Prelude.{◌≡◌, ◌≢◌, ◌⊎◌, ℕ, ◌<◌, ◌++◌, ◌↔◌, List, [], ◌∷◌, Option, Some, None, IsSomeAnd, IsTrue, Bool, false, Result, Ok, Err, length, ◌==◌, if◌then◌else◌}
+use Rattle.std.specs.Prelude.{◌≡◌, ◌≢◌, ◌⊎◌, ℕ, ◌<◌, ◌++◌, ◌↔◌, List, [], ◌∷◌, Option, Some, None}
+use Rattle.std.specs.Prelude.{IsSomeAnd, IsTrue, Bool, false, Result, Ok, Err, length, ◌==◌}
+use Rattle.std.specs.Prelude.{if◌then◌else◌}
 use Rattle.pot_bytes.specs.Rack.{log_bound}
 use Rattle.pot_machine.specs.declared.entry.Entry.{Entry}
 use Rattle.pot_machine.specs.declared.entry.Entry.TheVariants as entry
@@ -26,7 +28,13 @@ use Rattle.pot_group.specs.Group.{GroupParts, GroupView, FailedAt, noted, state_
 
 -- an entry is logged, and does in the table and to the flights what it says
 abbrev pub acted : {A : Type 0} → GroupParts A → Entry → List ℕ → GroupParts A
-acted g e given = record g { table = after g.table e; log = g.log ++ e ∷ []; flights = flights_after g.table e given g.flights }
+acted g e given =
+    record g {
+      table = after g.table e;
+      log = g.log
+          ++ e ∷ [];
+      flights = flights_after g.table e given g.flights;
+    }
 
 -- the answer of a begin as the steps of a group name it
 abbrev pub begin_as : Result (Unit {0}) BeginFault → step.BeginAnswer
@@ -38,30 +46,46 @@ begin_as (Err (fault.TwoGone first second)) = step.TwoGone first second
 begin_as (Err fault.Crowded) = step.Crowded
 
 -- What a begin does to a group, whether or not archives tell.
-abbrev pub BeginMeans : {A : Type 0} → ℕ → ℕ → ℕ → List ℕ → Result (Unit {0}) BeginFault → GroupParts A → GroupParts A → Type 0
-BeginMeans job s c blind (Ok u) old new = (length old.log < log_bound) × Legal old.table (entry.Begin job s c) × (new ≡ acted old (entry.Begin job s c) blind)
+abbrev pub BeginMeans : {A : Type 0} → ℕ → ℕ → ℕ → List ℕ → Result (Unit {0}) BeginFault
+    → GroupParts A → GroupParts A → Type 0
+BeginMeans job s c blind (Ok u) old new =
+    (length old.log < log_bound) × Legal old.table (entry.Begin job s c)
+    × (new ≡ acted old (entry.Begin job s c) blind)
 BeginMeans job s c blind (Err fault.LogFull) old new = (new ≡ old) × (length old.log ≡ log_bound)
-BeginMeans job s c blind (Err fault.Whole) old new = (length old.log < log_bound) × (new ≡ old) × (is_unsound (slot_at old.table s c) ≡ false)
+BeginMeans job s c blind (Err fault.Whole) old new =
+    (length old.log < log_bound) × (new ≡ old) × (is_unsound (slot_at old.table s c) ≡ false)
 BeginMeans job s c blind (Err (fault.Standing column)) old new =
-    (length old.log < log_bound) × (new ≡ old) × IsTrue (is_unsound (slot_at old.table s c)) × IsSomeAnd (relay_at old.table s) (λ r. r.target ≡ column)
+    (length old.log < log_bound) × (new ≡ old) × IsTrue (is_unsound (slot_at old.table s c))
+    × IsSomeAnd (relay_at old.table s) (λ r. r.target ≡ column)
 BeginMeans job s c blind (Err (fault.TwoGone first second)) old new =
-    (length old.log < log_bound) × (first ≡ c) × Legal old.table (entry.Stuck job s c second) × (new ≡ noted old (entry.Stuck job s c second))
+    (length old.log < log_bound) × (first ≡ c) × Legal old.table (entry.Stuck job s c second)
+    × (new ≡ noted old (entry.Stuck job s c second))
 BeginMeans job s c blind (Err fault.Crowded) old new =
-    (length old.log < log_bound) × (new ≡ old) × IsTrue (is_unsound (slot_at old.table s c)) × (relay_at old.table s ≡ None) × (stuck_by old.table s c ≡ None) × (Legal old.table (entry.Begin job s c) → ⊥)
+    (length old.log < log_bound) × (new ≡ old) × IsTrue (is_unsound (slot_at old.table s c))
+    × (relay_at old.table s ≡ None) × (stuck_by old.table s c ≡ None)
+    × (Legal old.table (entry.Begin job s c) → ⊥)
 
 -- a flight over this stripe comes to a column and has this sum
 abbrev pub flown_to : ℕ → Option ℕ → List ℕ → Flight → Flight
-flown_to s last sum f = record { relay = record f.relay { last = if f.relay.stripe == s then last else f.relay.last }; blind = f.blind; sum = if f.relay.stripe == s then sum else f.sum }
+flown_to s last sum f =
+    record {
+      relay = record f.relay { last = if f.relay.stripe == s then last else f.relay.last };
+      blind = f.blind;
+      sum = if f.relay.stripe == s then sum else f.sum;
+    }
 
 -- What is done with a fold over a flight's next column.
-abbrev pub HopsOver : {A : Type 0} → ℕ → List ℕ → Advanced → Flight → GroupParts A → GroupParts A → Type 0
+abbrev pub HopsOver : {A : Type 0} → ℕ → List ℕ → Advanced → Flight → GroupParts A → GroupParts A
+    → Type 0
 HopsOver job sum advanced.Hopped f old new =
     IsSomeAnd (next_column old.table f.relay) (λ c.
-    (digest_in (slot_at old.table f.relay.stripe c) ≡ Some (digest_of (unfolded (weight_in old.table.data_columns f.relay c) f.sum sum)))
+    (digest_in (slot_at old.table f.relay.stripe c)
+    ≡ Some (digest_of (unfolded (weight_in old.table.data_columns f.relay c) f.sum sum)))
     × (new ≡ acted old (entry.Hop job f.relay.stripe c) sum))
 HopsOver job sum advanced.Ended f old new =
     IsSomeAnd (next_column old.table f.relay) (λ c.
-    (digest_in (slot_at old.table f.relay.stripe c) ≢ Some (digest_of (unfolded (weight_in old.table.data_columns f.relay c) f.sum sum)))
+    (digest_in (slot_at old.table f.relay.stripe c)
+    ≢ Some (digest_of (unfolded (weight_in old.table.data_columns f.relay c) f.sum sum)))
     × (new ≡ acted old (entry.GaveUp job f.relay.stripe f.relay.target c) []))
 HopsOver job sum advanced.Mended f old new = ⊥
 
@@ -85,15 +109,19 @@ advance_as (Err (failed.Faulted column)) = step.Faulted column
 advance_as (Err (failed.Odd wanted found)) = step.Odd wanted found
 
 -- A relay that went over all its columns, and had a block of the target's digest.
-abbrev pub EndsWell : Type 0 → ℕ → List ℕ → Flight → Result Advanced AdvanceFault → GroupView → GroupView → Type 0
+abbrev pub EndsWell : Type 0 → ℕ → List ℕ → Flight → Result Advanced AdvanceFault → GroupView
+    → GroupView → Type 0
 EndsWell told job block f (Ok advanced.Mended) old new =
     Acts (entry.Mended job f.relay.stripe f.relay.target) [] old new
-    × WritesAt told (serving_at old.table f.relay.stripe f.relay.target) f.relay.stripe block (Ok (tt)) old.shelves new.shelves
+    × WritesAt told (serving_at old.table f.relay.stripe f.relay.target) f.relay.stripe block
+    (Ok (tt)) old.shelves new.shelves
 EndsWell told job block f (Ok advanced.Hopped) old new = ⊥
 EndsWell told job block f (Ok advanced.Ended) old new = ⊥
 EndsWell told job block f (Err (failed.Faulted column)) old new =
     (column ≡ f.relay.target) × Acts (entry.Fault job f.relay.stripe column) [] old new
-    × ((e : Failed) × WritesAt told (serving_at old.table f.relay.stripe f.relay.target) f.relay.stripe block (Err e) old.shelves new.shelves)
+    × ((e : Failed)
+    × WritesAt told (serving_at old.table f.relay.stripe f.relay.target) f.relay.stripe block
+    (Err e) old.shelves new.shelves)
 EndsWell told job block f (Err failed.LogFull) old new = ⊥
 EndsWell told job block f (Err failed.Idle) old new = ⊥
 EndsWell told job block f (Err (failed.Odd wanted found)) old new = ⊥
@@ -108,42 +136,63 @@ OnWay g s P = IsSomeAnd (flight_in g.flights s) (λ f. IsSomeAnd (next_column g.
 abbrev pub AtEnd : GroupView → ℕ → (Flight → Type 0) → Type 0
 AtEnd g s P = IsSomeAnd (flight_in g.flights s) (λ f. (next_column g.table f.relay ≡ None) × P f)
 
--- The step of a stripe's relay. Hopped: what was added to the sum is a block of the digest of the next column's slot. Faulted:
--- that column's archive failed, or the target's where no column is left.
+-- The step of a stripe's relay. Hopped: what was added to the sum is a block of the digest of the
+-- next column's slot. Faulted: that column's archive failed, or the target's where no column is
+-- left.
 abbrev pub Moves : ℕ → ℕ → Result Advanced AdvanceFault → GroupView → GroupView → Type 0
 Moves job s (Ok advanced.Hopped) old new =
     OnWay old s (λ f c. (sum : List ℕ) × IsTrue (is_live (slot_at old.table s c))
-    × (digest_in (slot_at old.table s c) ≡ Some (digest_of (unfolded (weight_in old.table.data_columns f.relay c) f.sum sum)))
+    × (digest_in (slot_at old.table s c)
+    ≡ Some (digest_of (unfolded (weight_in old.table.data_columns f.relay c) f.sum sum)))
     × Acts (entry.Hop job s c) sum old new)
-Moves job s (Ok advanced.Ended) old new = OnWay old s (λ f c. Acts (entry.GaveUp job s f.relay.target c) [] old new)
+Moves job s (Ok advanced.Ended) old new =
+    OnWay old s (λ f c. Acts (entry.GaveUp job s f.relay.target c) [] old new)
 Moves job s (Ok advanced.Mended) old new =
-    AtEnd old s (λ f. (digest_in (slot_at old.table s f.relay.target) ≡ Some (digest_of (partial_of f))) × Acts (entry.Mended job s f.relay.target) [] old new)
+    AtEnd old s
+    (λ f.
+    (digest_in (slot_at old.table s f.relay.target) ≡ Some (digest_of (partial_of f)))
+    × Acts (entry.Mended job s f.relay.target) [] old new)
 Moves job s (Err (failed.Odd wanted found)) old new =
-    AtEnd old s (λ f. (digest_in (slot_at old.table s f.relay.target) ≡ Some wanted) × (found ≡ digest_of (partial_of f)) × (wanted ≢ found)
+    AtEnd old s
+    (λ f.
+    (digest_in (slot_at old.table s f.relay.target) ≡ Some wanted)
+    × (found ≡ digest_of (partial_of f)) × (wanted ≢ found)
     × Acts (entry.Oddly job s f.relay.target found) [] old new)
 Moves job s (Err (failed.Faulted column)) old new =
     FailedAt old new s column × Acts (entry.Fault job s column) [] old new
-    × (OnWay old s (λ f c. (c ≡ column) × IsTrue (is_live (slot_at old.table s c))) ⊎ AtEnd old s (λ f. f.relay.target ≡ column))
+    × (OnWay old s (λ f c. (c ≡ column) × IsTrue (is_live (slot_at old.table s c)))
+    ⊎ AtEnd old s (λ f. f.relay.target ≡ column))
 Moves job s (Err failed.LogFull) old new = ⊥
 Moves job s (Err failed.Idle) old new = ⊥
 
--- What an advance writes, said of archives that tell. Mended: the partial, into the target's slot. Faulted: nothing on the way, and
--- behind the last column what a failed write of the partial may leave in that slot. Else nothing. Blocks may be lost besides.
+-- What an advance writes, said of archives that tell. Mended: the partial, into the target's slot.
+-- Faulted: nothing on the way, and behind the last column what a failed write of the partial may
+-- leave in that slot. Else nothing. Blocks may be lost besides.
 abbrev pub AdvanceWrites : ℕ → Result Advanced AdvanceFault → GroupView → GroupView → Type 0
 AdvanceWrites s (Ok advanced.Mended) old new =
-    AtEnd old s (λ f. WritesInto (serving_at old.table s f.relay.target) s (partial_of f) (Ok (tt)) old.shelves new.shelves)
+    AtEnd old s
+    (λ f.
+    WritesInto (serving_at old.table s f.relay.target) s (partial_of f) (Ok (tt))
+    old.shelves new.shelves)
 AdvanceWrites s (Err (failed.Faulted column)) old new =
     OnWay old s (λ f c. LosesByCount old.shelves.held old.shelves new.shelves)
-    ⊎ AtEnd old s (λ f. (e : Failed) × WritesInto (serving_at old.table s f.relay.target) s (partial_of f) (Err e) old.shelves new.shelves)
+    ⊎ AtEnd old s
+    (λ f.
+    (e : Failed)
+    × WritesInto (serving_at old.table s f.relay.target) s (partial_of f) (Err e)
+    old.shelves new.shelves)
 AdvanceWrites s answer old new = LosesByCount old.shelves.held old.shelves new.shelves
 
--- A step of the stripe's relay: what it does, that the archives stay with their marks, and, where they tell, the step of a group,
--- that no block is lost where no count of losses rose, and what was written.
-pub record Advances (told : Type 0) (job s : ℕ) (result : Result Advanced AdvanceFault) (old new : GroupView) : Type 0 where
+-- A step of the stripe's relay: what it does, that the archives stay with their marks, and, where
+-- they tell, the step of a group, that no block is lost where no count of losses rose, and what was
+-- written.
+pub record Advances (told : Type 0) (job s : ℕ) (result : Result Advanced AdvanceFault)
+    (old new : GroupView) : Type 0 where
   pub moves : Moves job s result old new
   pub keeps : Keeps old.shelves new.shelves
   pub steps : told → step.AdvanceStep job s (advance_as result) (state_of old) (state_of new)
-  pub lossless : told → NoneLost old.shelves new.shelves → LosesNothing (state_of old) (state_of new)
+  pub lossless : told → NoneLost old.shelves new.shelves
+      → LosesNothing (state_of old) (state_of new)
   pub writes : told → AdvanceWrites s result old new
 
 -- A MEND
@@ -170,7 +219,8 @@ answered own (Err failed.Idle) = mend.LogFull
 abbrev pub Owns : Table → ℕ → ℕ → ℕ → Type 0
 Owns t n s c = IsSomeAnd (relay_at t n) (λ r. (n ≡ s) × (r.target ≡ c))
 
--- A mend that makes an advance: of its stripe's relay, and where none stands there and 16 stand, of the first of all.
+-- A mend that makes an advance: of its stripe's relay, and where none stands there and 16 stand, of
+-- the first of all.
 pub record Drives (job s c : ℕ) (answer : Mend) (old new : GroupView) : Type 0 where
   pub unsound : IsTrue (is_unsound (slot_at old.table s c))
   pub stripe : ℕ
@@ -181,11 +231,14 @@ pub record Drives (job s c : ℕ) (answer : Mend) (old new : GroupView) : Type 0
   pub is : answer ≡ answered own result
   pub moves : Moves job stripe result old new
 
--- What a mend writes, said of archives that tell: what the advance that it makes writes, and where it makes none, nothing.
+-- What a mend writes, said of archives that tell: what the advance that it makes writes, and where
+-- it makes none, nothing.
 abbrev pub MendWrites : ℕ → ℕ → ℕ → Mend → GroupView → GroupView → Type 0
 MendWrites job s c mend.Whole old new = LosesByCount old.shelves.held old.shelves new.shelves
 MendWrites job s c mend.Began old new = LosesByCount old.shelves.held old.shelves new.shelves
-MendWrites job s c (mend.TwoGone first second) old new = LosesByCount old.shelves.held old.shelves new.shelves
+MendWrites job s c (mend.TwoGone first second) old new =
+    LosesByCount old.shelves.held old.shelves new.shelves
 MendWrites job s c mend.LogFull old new = LosesByCount old.shelves.held old.shelves new.shelves
 MendWrites job s c answer old new =
-    (n : ℕ) × (result : Result Advanced AdvanceFault) × step.MovesRelay old.table s c n × Moves job n result old new × AdvanceWrites n result old new
+    (n : ℕ) × (result : Result Advanced AdvanceFault) × step.MovesRelay old.table s c n
+    × Moves job n result old new × AdvanceWrites n result old new

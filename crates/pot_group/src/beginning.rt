@@ -56,7 +56,8 @@ impl<A: Archive> Group<A> {
     ) -> Result<Group<A>, StartRefused<A>>
         requires relays { table.relays ≡ [] }
         requires shelves { map (λ s. s.number) shelves.items ≡ archives_in table }
-        ensures begins { IfOk result (Begins (IsTrue A.account.tells) A.account.meaning number table shelves.items) }
+        ensures begins { IfOk result
+            (Begins (IsTrue A.account.tells) A.account.meaning number table shelves.items) }
         ensures refused { IfErr result (λ r. (r.table ≡ table) × (r.shelves ≡ shelves)) }
     {
         let Ok(log) = Vec::with_capacity(alloc, LOG_BOUND) else {
@@ -91,7 +92,8 @@ impl<A: Archive> Group<A> {
         requires places { 16 ≤ vec_capacity flights }
         requires taken { IsTaken (IsTrue A.account.tells) (plain A.account.meaning archives) }
         requires archives { map (λ s. s.number) archives.shelves ≡ archives_in table }
-        ensures { Begins (IsTrue A.account.tells) A.account.meaning number table archives.shelves result }
+        ensures { Begins (IsTrue A.account.tells) A.account.meaning number table archives.shelves
+            result }
     {
         let mut table = table;
         let mut log = log;
@@ -99,6 +101,7 @@ impl<A: Archive> Group<A> {
         let _rules = table.cursor();
         let known = Known::nothing();
         open_all(&mut table, &mut log, &mut archives);
+        archives.mark_opened();
         Group {
             number,
             first,

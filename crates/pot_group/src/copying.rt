@@ -53,7 +53,8 @@ impl<A: Archive> Group<A> {
     pub fn move_step(&mut self, job: u32, column: u8) -> Result<MoveStep, MoveFault>
         requires job { 0 < job }
         requires column { column < width self.old.table }
-        ensures moves { Makes A.account (λ told. MoveStepCall told job column result) self.old self.new }
+        ensures moves { Makes A.account (λ told. MoveStepCall told job column result) self.old
+            self.new }
     {
         if self.log.len() >= LOG_BOUND {
             return Err(MoveFault::LogFull);
@@ -130,7 +131,8 @@ impl<A: Archive> Group<A> {
         requires moves { (column_at self.old.table column).moving ≡ Some moving }
         requires stripe { moving.upto < self.old.table.stripes }
         requires live { IsTrue (is_live (slot_at self.old.table moving.upto column)) }
-        requires sound { IsTrue A.account.tells → IsSound (stripe_in A.account self.old moving.upto) column block.now }
+        requires sound { IsTrue A.account.tells
+            → IsSound (stripe_in A.account self.old moving.upto) column block.now }
         requires room { length self.old.log < log_bound }
         ensures { OnGroup A.account (λ told. Steps told job column result) self.old self.new }
     {
@@ -160,7 +162,8 @@ impl<A: Archive> Group<A> {
         requires column { column < width self.old.table }
         requires moves { (column_at self.old.table column).moving ≡ Some moving }
         requires stripe { moving.upto < self.old.table.stripes }
-        requires missing { IsTrue A.account.tells → Sound (stripe_in A.account self.old moving.upto) column → ⊥ }
+        requires missing { IsTrue A.account.tells
+            → Sound (stripe_in A.account self.old moving.upto) column → ⊥ }
         requires room { length self.old.log < log_bound }
         ensures { self.new ≡ acted self.old (Moved job moving.upto column false) [] }
     {

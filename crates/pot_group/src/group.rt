@@ -74,7 +74,8 @@ impl<A: Archive> Group<A> {
     ghost use Rattle.pot_machine.specs.Rules.{IsTable};
     ghost use Rattle.pot_shelves.specs.Shelves.{OnShelves};
     ghost use Rattle.pot_group.specs.Reads.{ReadsByDigest};
-    ghost use Rattle.pot_group.specs.Group.{view_of, noted, with_archives, IsQuiet, IsSettled, CoversIfNotRead};
+    ghost use Rattle.pot_group.specs.Group.{view_of, noted, with_archives, IsQuiet, IsSettled};
+    ghost use Rattle.pot_group.specs.Group.{CoversIfNotRead};
     ghost use Rattle.pot_shelves.specs.Shelves.{numbers_of};
     ghost use Rattle.pot_group.specs.Arrivals.{HasArrived};
 
@@ -89,7 +90,9 @@ impl<A: Archive> Group<A> {
         requires { column < width self.old.table }
         ensures same { self.new ≡ with_archives self.old self.new.shelves }
         ensures finds { OnShelves A.account
-            (λ told. ReadsByDigest told (serving_at self.old.table stripe column) stripe digest into.new result)
+            (λ told.
+            ReadsByDigest told (serving_at self.old.table stripe column) stripe digest into.new
+            result)
             self.old.shelves self.new.shelves }
         ensures covers { CoversIfNotRead result (view_of A.account.meaning self.new) column }
     {
@@ -108,7 +111,8 @@ impl<A: Archive> Group<A> {
     pub(crate) fn note(&mut self, entry: Entry)
         requires legal { Legal self.old.table entry }
         requires room { length self.old.log < log_bound }
-        requires quiet { IsQuiet (IsTrue A.account.tells) (view_of A.account.meaning self.old) entry }
+        requires quiet { IsQuiet (IsTrue A.account.tells) (view_of A.account.meaning self.old)
+            entry }
         ensures { self.new ≡ noted self.old entry }
     {
         note(&mut self.table, &mut self.log, entry);
@@ -128,7 +132,8 @@ impl<A: Archive> Group<A> {
         ensures bound { result ≤ log_bound }
         ensures settled { IsSettled (IsTrue A.account.tells) (view_of A.account.meaning self.now) }
         ensures first { IsTable self.now.first }
-        ensures arrived { HasArrived self.now.first self.now.log (numbers_of self.now.shelves.shelves) }
+        ensures arrived { HasArrived self.now.first self.now.log
+            (numbers_of self.now.shelves.shelves) }
     {
         let _rules = self.first.cursor();
         self.log.len() as u64

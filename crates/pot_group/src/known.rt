@@ -33,6 +33,11 @@ impl Known {
         self.parity = *parity;
     }
 
+    /// The parity block that was written last.
+    pub(crate) fn last(&self) -> Block {
+        *self.last.block()
+    }
+
     /// The digest of a block.
     #[tactic(auto, unfolding(pot_steps::specs::Stripe::digest_of))]
     pub(crate) fn digest(&self, block: &Block) -> Digest

@@ -26,7 +26,8 @@
 //! 5. Each home and each target of a column is an archive of the group (`shelves`; `start` asks for it), and one that this
 //!    column has had (`serves`). An archive that was retired stays, and serves no slot.
 //! 6. No count of faults or losses is below its mark, which the `Archives` of `pot_shelves` note when the archive comes
-//!    (`faults`, `losses`).
+//!    (`faults`, `losses`), nor below the one that they note when the table has been opened (`opened_faults`,
+//!    `opened_losses`).
 //! 7. The law of every stripe: where no slot is Broken and a relay stands or no more slots are Lost than there are parity columns,
 //!    there is a filling, which gives each slot a block of its digest, the one held where the slot is sound, and adds up to zeros
 //!    (`holds`, by `HoldsUp` of `pot_steps`). `start` makes it hold, every entry keeps it, and a loss breaks none.
@@ -40,7 +41,9 @@
 //!
 //! `flying`, 7, 8 and the losses of 6 and 9 are said of archives that tell what they hold, and all else always.
 //!
-//! `start` opens the table by `open_all` of `pot_shelves`, whose page tells what it makes of a stripe.
+//! `start` opens the table by `open_all` of `pot_shelves`, whose page tells what it makes of a stripe, and marks the counts
+//! once more. A slot is Gone that was sound before only where a count of its archive rose between its two marks (`rose` of
+//! `Begins`).
 //!
 //! What the other calls log. LogFull comes first, with no entry, where the log is full:
 //!
@@ -60,7 +63,7 @@
 //! | `move_begin` | MoveBegin, or none | whether the archive was taken, and why not |
 //! | `move_step` | Moved, MoveEnd, Fault, or none where the column does not move | what it came to |
 //! | `swap` | Swapped, or none | how many slots were Live, or why the archive was not taken |
-//! | `next`, `has_slot`, `use_of`, `trace`, `logged`, `end`, `expect` | none | what they read |
+//! | `next`, `has_slot`, `use_of`, `trace`, `standing`, `logged`, `end`, `expect` | none | what they read |
 #![tactic(auto)]
 
 mod answers;
@@ -76,6 +79,7 @@ mod parities;
 mod putting;
 mod reads;
 mod relaying;
+mod standing;
 mod telling;
 mod uses;
 
@@ -87,5 +91,6 @@ pub use finding::Kind;
 pub use group::{Ended, Group};
 pub use moving::{ShelfCause, ShelfRefused};
 pub use relaying::{AdvanceFault, Advanced, BeginFault, Mend};
+pub use standing::Standing;
 pub use telling::LogFull;
 pub use uses::{HomeAt, Role, Trace, Use};

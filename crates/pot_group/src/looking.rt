@@ -23,7 +23,8 @@ impl<A: Archive> Group<A> {
         requires job { 0 < job }
         requires stripe { place.stripe < self.old.table.stripes }
         requires column { place.column < width self.old.table }
-        ensures looks { Makes A.account (λ told. LookCall told job place into.new result) self.old self.new }
+        ensures looks { Makes A.account (λ told. LookCall told job place into.new result) self.old
+            self.new }
     {
         if self.log.len() >= LOG_BOUND {
             return Looked::LogFull;
@@ -65,7 +66,8 @@ impl<A: Archive> Group<A> {
     fn look_slot(&mut self, stripe: u32, column: u8, into: &mut Block) -> Found
         requires stripe { stripe < self.old.table.stripes }
         requires column { column < width self.old.table }
-        ensures looks { OnGroup A.account (λ told. Looks told stripe column into.new result) self.old self.new }
+        ensures looks { OnGroup A.account (λ told. Looks told stripe column into.new result)
+            self.old self.new }
         ensures same { self.new ≡ with_archives self.old self.new.shelves }
     {
         match self.table.slot(stripe, column) {

@@ -52,7 +52,8 @@ impl<A: Archive> Group<A> {
         requires job { 0 < job }
         requires column { column < width self.old.table }
         ensures moves { Makes A.account
-            (λ told. MoveBeginCall told A.account.meaning job column shelf result) self.old self.new }
+            (λ told. MoveBeginCall told A.account.meaning job column shelf result) self.old
+            self.new }
     {
         if self.log.len() >= LOG_BOUND {
             return Err(ShelfRefused {
@@ -129,12 +130,16 @@ impl<A: Archive> Group<A> {
 
     /// An archive comes, and a column begins to move to it. Where memory is short the archive comes back.
     pub(crate) fn go_to(&mut self, job: u32, column: u8, shelf: Shelf<A>) -> Result<(), Shelf<A>>
-        requires fresh { Contains (plain A.account.meaning self.old.shelves).numbers shelf.number → ⊥ }
+        requires fresh { Contains (plain A.account.meaning self.old.shelves).numbers shelf.number
+            → ⊥ }
         requires legal { Legal self.old.table (MoveBegin job column shelf.number) }
         requires room { length self.old.log < log_bound }
         ensures came { IfOk result (λ u.
-            (self.new ≡ acted (with_archives self.old self.new.shelves) (MoveBegin job column shelf.number) [])
-            × OnShelves A.account (λ told. Brings told shelf.number (A.account.meaning shelf.archive))
+            (self.new
+            ≡ acted (with_archives self.old self.new.shelves)
+            (MoveBegin job column shelf.number) [])
+            × OnShelves A.account
+            (λ told. Brings told shelf.number (A.account.meaning shelf.archive))
             self.old.shelves self.new.shelves) }
         ensures refused { IfErr result (λ s. (s ≡ shelf) × (self.new ≡ self.old)) }
     {
@@ -151,12 +156,16 @@ impl<A: Archive> Group<A> {
 
     /// An archive comes, and is the home of a column. Where memory is short the archive comes back.
     fn swap_to(&mut self, job: u32, column: u8, shelf: Shelf<A>) -> Result<(), Shelf<A>>
-        requires fresh { Contains (plain A.account.meaning self.old.shelves).numbers shelf.number → ⊥ }
+        requires fresh { Contains (plain A.account.meaning self.old.shelves).numbers shelf.number
+            → ⊥ }
         requires legal { Legal self.old.table (Swapped job column shelf.number) }
         requires room { length self.old.log < log_bound }
         ensures came { IfOk result (λ u.
-            (self.new ≡ acted (with_archives self.old self.new.shelves) (Swapped job column shelf.number) [])
-            × OnShelves A.account (λ told. Brings told shelf.number (A.account.meaning shelf.archive))
+            (self.new
+            ≡ acted (with_archives self.old self.new.shelves) (Swapped job column shelf.number)
+            [])
+            × OnShelves A.account
+            (λ told. Brings told shelf.number (A.account.meaning shelf.archive))
             self.old.shelves self.new.shelves) }
         ensures refused { IfErr result (λ s. (s ≡ shelf) × (self.new ≡ self.old)) }
     {

@@ -43,7 +43,8 @@ impl<A: Archive> Group<A> {
         requires stripe { stripe < self.old.table.stripes }
         ensures same { self.new ≡ with_archives self.old self.new.shelves }
         ensures reads { OnGroup A.account
-            (λ told. ReadsParity told stripe old.new.first old.new.second result) self.old self.new }
+            (λ told. ReadsParity told stripe old.new.first old.new.second result) self.old
+            self.new }
     {
         let column = self.table.data_columns();
         match self.read_old(stripe, column, &mut old.first) {
@@ -57,7 +58,8 @@ impl<A: Archive> Group<A> {
     fn read_second(&mut self, stripe: u32, old: &mut Block) -> Checked
         requires stripe { stripe < self.old.table.stripes }
         ensures same { self.new ≡ with_archives self.old self.new.shelves }
-        ensures reads { OnGroup A.account (λ told. ReadsSecond told stripe old.new result) self.old self.new }
+        ensures reads { OnGroup A.account (λ told. ReadsSecond told stripe old.new result) self.old
+            self.new }
     {
         if self.table.parity() == 1 {
             return Checked::Sound;
@@ -75,7 +77,8 @@ impl<A: Archive> Group<A> {
         requires stripe { stripe < self.old.table.stripes }
         requires column { column < width self.old.table }
         ensures same { self.new ≡ with_archives self.old self.new.shelves }
-        ensures reads { OnGroup A.account (λ told. ReadsOld told stripe column old.new result) self.old self.new }
+        ensures reads { OnGroup A.account (λ told. ReadsOld told stripe column old.new result)
+            self.old self.new }
     {
         match self.table.slot(stripe, column) {
             SlotState::Void => {
@@ -92,7 +95,8 @@ impl<A: Archive> Group<A> {
 /// The parity blocks after a put of a block at a data column of a stripe with so many parity columns.
 pub(crate) fn after_put(old: &Parity, block: &Block, column: u8, parity_columns: u8) -> Parity
     ensures first { result.first ≡ xor old.now.first block.now }
-    ensures second { parity_columns ≡ 2 → result.second ≡ xor old.now.second (scaled (power 3 column) block.now) }
+    ensures second { parity_columns ≡ 2
+        → result.second ≡ xor old.now.second (scaled (power 3 column) block.now) }
 {
     let mut new = *old;
     new.first.xor(block);
@@ -111,7 +115,8 @@ pub(crate) fn write_put<A: Archive>(
     parity: &Parity,
 ) -> Option<Kept>
     requires served { (c : ℕ) → c < width table.now
-        → Contains (plain A.account.meaning archives.old).numbers (serving_at table.now table.now.cursor.stripe c) }
+        → Contains (plain A.account.meaning archives.old).numbers
+        (serving_at table.now table.now.cursor.stripe c) }
     ensures { OnShelves A.account
         (λ told. WritesPut told table.now block.now parity.now.first parity.now.second result)
         archives.old archives.new }

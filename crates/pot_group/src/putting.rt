@@ -48,7 +48,8 @@ impl<A: Archive> Group<A> {
     /// first whose block was not written.
     pub fn put(&mut self, job: u32, block: &Block) -> Result<Place, PutFault>
         requires job { 0 < job }
-        ensures puts { Makes A.account (λ told. PutCall told job block.now result) self.old self.new }
+        ensures puts { Makes A.account (λ told. PutCall told job block.now result) self.old
+            self.new }
     {
         if self.log.len() >= LOG_BOUND {
             return Err(PutFault::LogFull);
@@ -67,7 +68,8 @@ impl<A: Archive> Group<A> {
     /// Passes stripes until one takes a block, and reads its old parity blocks.
     fn find_stripe(&mut self, job: u32, parity: &mut Parity) -> Stop
         ensures { OnGroup A.account
-            (λ told. FindsStripe told job parity.new.first parity.new.second result) self.old self.new }
+            (λ told. FindsStripe told job parity.new.first parity.new.second result) self.old
+            self.new }
     {
         loop {
             if let Some(stop) = self.pass(job, parity) {
@@ -116,10 +118,12 @@ impl<A: Archive> Group<A> {
         requires parity { self.old.table.data_columns ≤ column }
         requires column { column < width self.old.table }
         requires void { slot_at self.old.table stripe column ≢ Void }
-        requires gone { IsTrue A.account.tells → Sound (stripe_in A.account self.old stripe) column → ⊥ }
+        requires gone { IsTrue A.account.tells → Sound (stripe_in A.account self.old stripe) column
+            → ⊥ }
         requires least { IsTrue A.account.tells → column ≡ self.old.table.data_columns + 1
             → Sound (stripe_in A.account self.old stripe) self.old.table.data_columns }
-        ensures passes { OnGroup A.account (λ told. Passes told job [] [] result) self.old self.new }
+        ensures passes { OnGroup A.account (λ told. Passes told job [] [] result) self.old
+            self.new }
         ensures left { (result ≡ None) ⊎ (result ≡ Some Stop.LogFull) }
     {
         self.note(Entry::Gone {
@@ -139,10 +143,12 @@ impl<A: Archive> Group<A> {
         requires cursor { AtCursor self.old.table self.old.table.cursor.stripe }
         requires takes { TakesBlocks self.old.table self.old.table.cursor.stripe }
         requires room { length self.old.log < log_bound }
-        requires old { HasOld (IsTrue A.account.tells) self.old.table (plain A.account.meaning self.old.shelves).held
+        requires old { HasOld (IsTrue A.account.tells) self.old.table
+            (plain A.account.meaning self.old.shelves).held
             self.old.table.cursor.stripe old.now.first old.now.second }
         ensures { OnGroup A.account
-            (λ told. BlockMeans told job block.now old.now.first old.now.second result) self.old self.new }
+            (λ told. BlockMeans told job block.now old.now.first old.now.second result) self.old
+            self.new }
     {
         let cursor = self.table.cursor();
         let Cursor { stripe, column } = cursor;

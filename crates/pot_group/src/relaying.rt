@@ -102,7 +102,8 @@ impl<A: Archive> Group<A> {
         requires job { 0 < job }
         requires stripe { place.stripe < self.old.table.stripes }
         requires column { place.column < width self.old.table }
-        ensures begins { Makes A.account (λ told. BeginCall told job place blind.now result) self.old self.new }
+        ensures begins { Makes A.account (λ told. BeginCall told job place blind.now result)
+            self.old self.new }
     {
         block_law(blind);
         let _settled = self.logged();
@@ -198,7 +199,8 @@ impl<A: Archive> Group<A> {
     pub fn advance(&mut self, job: u32, stripe: u32) -> Result<Advanced, AdvanceFault>
         requires job { 0 < job }
         requires stripe { stripe < self.old.table.stripes }
-        ensures advances { Makes A.account (λ told. AdvanceCall told job stripe result) self.old self.new }
+        ensures advances { Makes A.account (λ told. AdvanceCall told job stripe result) self.old
+            self.new }
     {
         if self.log.len() >= LOG_BOUND {
             return Err(AdvanceFault::LogFull);
@@ -219,7 +221,8 @@ impl<A: Archive> Group<A> {
         requires next { next_column self.old.table flight.relay ≡ Some column }
         requires within { flight.relay.stripe < self.old.table.stripes }
         requires room { length self.old.log < log_bound }
-        ensures { OnGroup A.account (λ told. Advances told job flight.relay.stripe result) self.old self.new }
+        ensures { OnGroup A.account (λ told. Advances told job flight.relay.stripe result) self.old
+            self.new }
     {
         let stripe = flight.relay.stripe;
         let _settled = self.logged();
@@ -255,7 +258,8 @@ impl<A: Archive> Group<A> {
         requires job { 0 < job }
         requires stripe { place.stripe < self.old.table.stripes }
         requires column { place.column < width self.old.table }
-        ensures mends { Makes A.account (λ told. MendCall told job place blind.now result) self.old self.new }
+        ensures mends { Makes A.account (λ told. MendCall told job place blind.now result) self.old
+            self.new }
     {
         let _settled = self.logged();
         match self.begin(job, place, blind) {
@@ -302,7 +306,8 @@ impl<A: Archive> Group<A> {
         requires here { flight_in self.old.flights flight.relay.stripe ≡ Some flight }
         requires next { next_column self.old.table flight.relay ≡ None }
         requires room { length self.old.log < log_bound }
-        ensures { OnGroup A.account (λ told. Advances told job flight.relay.stripe result) self.old self.new }
+        ensures { OnGroup A.account (λ told. Advances told job flight.relay.stripe result) self.old
+            self.new }
     {
         match finish(&mut self.table, &flight, job) {
             Finished::Ready(block) => self.write_back(job, flight, &block),
@@ -326,7 +331,9 @@ impl<A: Archive> Group<A> {
         ensures same { self.new ≡ with_archives self.old self.new.shelves }
         ensures covers { IsErr result → CoversOne (view_of A.account.meaning self.new) column }
         ensures folds { OnShelves A.account
-            (λ told. FoldsAt told (serving_at self.old.table flight.now.relay.stripe column) flight.now.relay.stripe
+            (λ told.
+            FoldsAt told (serving_at self.old.table flight.now.relay.stripe column)
+            flight.now.relay.stripe
             (weight_in self.old.table.data_columns flight.now.relay column) sum.old sum.new result)
             self.old.shelves self.new.shelves }
     {
@@ -343,8 +350,10 @@ impl<A: Archive> Group<A> {
         requires next { IsSomeAnd (next_column self.old.table flight.relay) (λ c.
             IsTrue (is_live (slot_at self.old.table flight.relay.stripe c))
             × (IsTrue A.account.tells → FoldTells
-            ((plain A.account.meaning self.old.shelves).held (serving_at self.old.table flight.relay.stripe c))
-            flight.relay.stripe (weight_in self.old.table.data_columns flight.relay c) flight.sum sum.now
+            ((plain A.account.meaning self.old.shelves).held
+            (serving_at self.old.table flight.relay.stripe c))
+            flight.relay.stripe (weight_in self.old.table.data_columns flight.relay c) flight.sum
+            sum.now
             (Ok Held.Held))) }
         requires within { flight.relay.stripe < self.old.table.stripes }
         requires room { length self.old.log < log_bound }
@@ -370,7 +379,8 @@ impl<A: Archive> Group<A> {
     fn leave_flight(&mut self, job: u32, flight: Flight)
         requires here { flight_in self.old.flights flight.relay.stripe ≡ Some flight }
         requires next { IsSomeAnd (next_column self.old.table flight.relay) (λ c.
-            IsTrue A.account.tells → Sound (stripe_in A.account self.old flight.relay.stripe) c → ⊥) }
+            IsTrue A.account.tells → Sound (stripe_in A.account self.old flight.relay.stripe) c
+            → ⊥) }
         requires within { flight.relay.stripe < self.old.table.stripes }
         requires room { length self.old.log < log_bound }
         ensures { IsSomeAnd (next_column self.old.table flight.relay) (λ c.
@@ -395,7 +405,8 @@ impl<A: Archive> Group<A> {
         requires digest { digest_in (slot_at self.old.table flight.relay.stripe flight.relay.target)
             ≡ Some (digest_of block.now) }
         requires room { length self.old.log < log_bound }
-        ensures { OnGroup A.account (λ told. EndsWell told job block.now flight result) self.old self.new }
+        ensures { OnGroup A.account (λ told. EndsWell told job block.now flight result) self.old
+            self.new }
     {
         let stripe = flight.relay.stripe;
         let column = flight.relay.target;

@@ -35,7 +35,8 @@ impl<A: Archive> Group<A> {
 
     /// Whether it has a slot of this stripe and this column.
     pub fn has_slot(&self, stripe: u32, column: u8) -> bool
-        ensures { IsTrue result ↔ (stripe < self.now.table.stripes) × (column < width self.now.table) }
+        ensures { IsTrue result ↔ (stripe < self.now.table.stripes)
+            × (column < width self.now.table) }
     {
         stripe < self.table.stripes() && column < self.table.data_columns() + self.table.parity()
     }

@@ -1,5 +1,6 @@
 -- What the contracts see of an index under its turn, with the passes that it keeps.
-use Rattle.std.specs.Prelude.{◌≡◌, ◌<◌, ◌⊎◌, ℕ, List, [], false, Option, IfSome, Contains, length, Some, None}
+use Rattle.std.specs.Prelude.{◌≡◌, ◌<◌, ◌⊎◌, ℕ, List, [], false, Option, IfSome, Contains, length}
+use Rattle.std.specs.Prelude.{Some, None}
 use Rattle.pot_bytes.specs.declared.rack.Rack.{Rack}
 use Rattle.pot_index.specs.declared.entry.IndexEntry.{IndexEntry}
 use Rattle.pot_index.specs.declared.entry.Logged.{Logged}
@@ -17,7 +18,8 @@ pub record CatalogView : Type 0 where
   pub index : IndexView
   pub kept : GroupPasses
 
--- an entry of the log of an index brings this record: it is published, or has this current split from then on
+-- an entry of the log of an index brings this record: it is published, or has this current split
+-- from then on
 abbrev pub Publishes : List Logged → Record → Type 0
 Publishes log r = (e : IndexEntry) × Contains log (bringing e r)
 
@@ -29,8 +31,8 @@ AreTold s = (r : Record) → Contains s.now.published r → Contains s.read r �
 abbrev pub IsKept : GroupPass → Type 0
 IsKept v = (v.parts ≡ 2) × (v.turns ≡ []) × (v.joined ≡ []) × (v.made ≡ 0)
 
--- The kept passes are of all groups, have two parts and never called, and have seen the puts of the current split of each record
--- that an entry brought; every other record was read.
+-- The kept passes are of all groups, have two parts and never called, and have seen the puts of the
+-- current split of each record that an entry brought; every other record was read.
 pub record KeepsSeen (c : CatalogView) : Type 0 where
   pub groups : length c.kept.names ≡ c.index.rack.groups
   pub ready : AreReady c.index.rack c.kept.names c.kept
@@ -59,7 +61,8 @@ abbrev pub IsIndexOf : Rack → List TurnName → Option CatalogOrigin → Type 
 IsIndexOf rack names origin = IfSome origin (λ o. (o.rack ≡ rack) × (o.names ≡ names))
 
 -- the one pass is of the index's turn, holds nothing, and is of that index
-pub record IsIndexReady (rack : Rack) (names turn : List TurnName) (row : IndexPasses) : Type 0 where
+pub record IsIndexReady (rack : Rack) (names turn : List TurnName)
+    (row : IndexPasses) : Type 0 where
   pub of : AreOf turn row
   pub one : length turn ≡ 1
   pub idle : (at : ℕ) → at < length turn → (view_at row at).holds ≡ false

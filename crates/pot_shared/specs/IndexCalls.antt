@@ -15,7 +15,8 @@ use Rattle.pot_index.specs.Calls.{Reserves, Finds, ListsNames, Renews, published
 use Rattle.pot_index.specs.Ending.{EndsAt}
 use Rattle.pot_index.specs.Entries.{entries, IsReserving}
 use Rattle.pot_index.specs.Fits.{FitsSplit}
-use Rattle.pot_index.specs.Index.{IndexView, IsIndex, IsRecordOf, IsReservedBy, Names, Replays, names_read}
+use Rattle.pot_index.specs.Index.{IndexView, IsIndex, IsRecordOf, IsReservedBy, Names, Replays}
+use Rattle.pot_index.specs.Index.{names_read}
 use Rattle.pot_index.specs.Records.{renewed}
 use Rattle.pot_turn.specs.declared.name.TurnName.{TurnName}
 use Rattle.pot_worked.specs.Worked.{IsTurn}
@@ -25,8 +26,8 @@ use Rattle.pot_shared.specs.Ready.{GroupPasses}
 use Rattle.pot_shared.specs.Seen.{SeesFile}
 use Rattle.pot_shared.specs.Catalogs.{AreTold, IndexPass, IndexPasses, Publishes, records_in}
 
--- One turn of a pass: the index was so when it came, others having logged some entries since; the call added these entries, and is
--- what `R` says.
+-- One turn of a pass: the index was so when it came, others having logged some entries since; the
+-- call added these entries, and is what `R` says.
 pub record IndexTurn (R : IndexView → IndexView → Type 0) (v w : IndexPass) : Type 0 where
   pub old : IndexView
   pub new : IndexView
@@ -37,7 +38,8 @@ pub record IndexTurn (R : IndexView → IndexView → Type 0) (v w : IndexPass) 
   pub is_new : IsIndex new
   pub read : new.read ≡ old.read
   pub rack : new.rack ≡ old.rack
-  pub origin : (names : List TurnName) × (Some (record { rack = old.rack; read = old.read; names = names }) ≡ v.origin)
+  pub origin : (names : List TurnName)
+      × (Some (record { rack = old.rack; read = old.read; names = names }) ≡ v.origin)
   pub log : new.log ≡ old.log ++ entries
   pub turn : IsTurn others entries v w
   pub call : R old new
@@ -49,23 +51,29 @@ pub record IndexCall (R : IndexView → IndexView → Type 0) (old new : IndexPa
   pub turn : IndexTurn R (view_at old 0) pass
 
 -- the answers of the calls, between the index before and after
-abbrev pub ReservesName : ℕ → List ℕ → Result (Unit {0}) ReserveFault → IndexView → IndexView → Type 0
+abbrev pub ReservesName : ℕ → List ℕ → Result (Unit {0}) ReserveFault → IndexView → IndexView
+    → Type 0
 ReservesName job name result s t = Reserves job name s t result
 
 abbrev pub ListsAll : ℕ → Result (Vec Listed Global) ListFault → IndexView → IndexView → Type 0
 ListsAll job result s t = ListsNames job s t result
 
--- a record that an entry brought since the index began is one whose puts the passes have seen, and every other one was read
-abbrev pub FindsRecord : ℕ → List ℕ → Result Record FindFault → GroupPasses → IndexView → IndexView → Type 0
-FindsRecord job name result row s t = Finds job name s t result × ((r : Record) → Publishes s.log r → SeesFile row r) × AreTold s
+-- a record that an entry brought since the index began is one whose puts the passes have seen, and
+-- every other one was read
+abbrev pub FindsRecord : ℕ → List ℕ → Result Record FindFault → GroupPasses → IndexView → IndexView
+    → Type 0
+FindsRecord job name result row s t =
+    Finds job name s t result × ((r : Record) → Publishes s.log r → SeesFile row r) × AreTold s
 
 -- the pass of the index has seen that the job reserved the name
 abbrev pub HasReserved : ℕ → List ℕ → IndexPasses → Type 0
 HasReserved job name row = Any (IsReserving job name) (entries (view_at row 0).seen)
 
--- the name that the job reserved is not reserved by it any more: another pass logged the entry that ended it
+-- the name that the job reserved is not reserved by it any more: another pass logged the entry that
+-- ended it
 abbrev pub EndsStrangely : ℕ → List ℕ → ℕ → IndexView → IndexView → Type 0
-EndsStrangely job name at s t = (t ≡ s) × (IsReservedBy s.now job name → ⊥) × EndsAt job name (entries s.log) at
+EndsStrangely job name at s t =
+    (t ≡ s) × (IsReservedBy s.now job name → ⊥) × EndsAt job name (entries s.log) at
 
 abbrev pub Abandons : ℕ → List ℕ → Result (Unit {0}) Strange → IndexView → IndexView → Type 0
 Abandons job name (Ok u) s t = IsReservedBy s.now job name × (t ≡ abandoned_by s job name)
@@ -77,17 +85,20 @@ PublishesRecord job r (Err e) s t = EndsStrangely job r.name e.at s t
 
 -- WHICH SPLITS A RECORD MAY GET
 
--- a record is published under the name, the split fits its file, and the passes have seen the puts of that
--- file at the split's places
+-- a record is published under the name, the split fits its file, and the passes have seen the puts
+-- of that file at the split's places
 abbrev pub MayRenew : Rack → Names → List ℕ → Split → GroupPasses → Type 0
 MayRenew rack n name split row =
-    (r : Record) × IsRecordOf n name r × FitsSplit rack (pieces_of r.length) split × SeesFile row (renewed r split)
+    (r : Record) × IsRecordOf n name r × FitsSplit rack (pieces_of r.length) split
+    × SeesFile row (renewed r split)
 
 -- so it is of the names to which the log leads that the pass of the index has seen
 abbrev pub MayRenewBy : Rack → List ℕ → Split → GroupPasses → IndexPasses → Type 0
 MayRenewBy rack name split row index =
-    (n : Names) × Replays rack (names_read (records_in (view_at index 0).origin)) (view_at index 0).seen n
+    (n : Names)
+    × Replays rack (names_read (records_in (view_at index 0).origin)) (view_at index 0).seen n
     × MayRenew rack n name split row
 
-abbrev pub RenewsSplit : ℕ → List ℕ → Split → Result (Unit {0}) RenewFault → IndexView → IndexView → Type 0
+abbrev pub RenewsSplit : ℕ → List ℕ → Split → Result (Unit {0}) RenewFault → IndexView → IndexView
+    → Type 0
 RenewsSplit job name split result s t = Renews job name split s t result

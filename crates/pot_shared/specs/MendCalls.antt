@@ -32,16 +32,18 @@ abbrev pub begun : List Mend → ℕ
 begun [] = 0
 begun (answer ∷ more) = begins answer + begun more
 
--- One turn for each of these answers, from a pass that knew v to one that knows w. Each has the blind whose number is that of the
--- relays that began before it.
+-- One turn for each of these answers, from a pass that knew v to one that knows w. Each has the
+-- blind whose number is that of the relays that began before it.
 abbrev pub MendTurns : Type 0 → ℕ → Place → Pads → ℕ → List Mend → GroupPass → GroupPass → Type 0
 MendTurns told job place pads n [] v w = w ≡ v
 MendTurns told job place pads n (answer ∷ more) v w =
-    (u : GroupPass) × CallTurn told (MendCall told job place (blind_at pads n) answer) v u × MendTurns told job place pads (n + begins answer) more u w
+    (u : GroupPass) × CallTurn told (MendCall told job place (blind_at pads n) answer) v u
+    × MendTurns told job place pads (n + begins answer) more u w
 
--- The place was mended step by step, up to the first answer after which that does not go on. A blind was drawn before the first step, and
--- one after each relay that began.
-pub record MendsPlace (told : Type 0) (job : ℕ) (place : Place) (pads after : Pads) (result : Mend) (old new : GroupPasses) : Type 0 where
+-- The place was mended step by step, up to the first answer after which that does not go on. A
+-- blind was drawn before the first step, and one after each relay that began.
+pub record MendsPlace (told : Type 0) (job : ℕ) (place : Place) (pads after : Pads) (result : Mend)
+    (old new : GroupPasses) : Type 0 where
   pub before : List Mend
   pub go_on : All GoesOn before
   pub ends : GoesOn result → ⊥

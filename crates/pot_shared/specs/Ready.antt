@@ -1,4 +1,5 @@
--- Passes that can call: those of the turns of a vault, each of which holds nothing and is of the group of its number.
+-- Passes that can call: those of the turns of a vault, each of which holds nothing and is of the
+-- group of its number.
 use Rattle.std.specs.Prelude.{◌≡◌, ◌<◌, ◌+◌, ℕ, List, false, Option, IfSome, length}
 use Rattle.pot_bytes.specs.declared.rack.Place.{Place}
 use Rattle.pot_bytes.specs.declared.rack.Rack.{Rack}
@@ -19,7 +20,8 @@ GroupPasses = PassRow Logged GroupOrigin
 
 -- a table of a group of the rack
 abbrev pub IsTableOf : Rack → Table → Type 0
-IsTableOf rack t = (t.data_columns ≡ rack.columns) × (t.parity ≡ rack.parity) × (t.stripes ≡ rack.stripes)
+IsTableOf rack t =
+    (t.data_columns ≡ rack.columns) × (t.parity ≡ rack.parity) × (t.stripes ≡ rack.stripes)
 
 -- the origin of the group of this number
 abbrev pub IsOrigin : Rack → ℕ → Option GroupOrigin → Type 0
@@ -33,4 +35,6 @@ pub record AreReady (rack : Rack) (names : List TurnName) (row : GroupPasses) : 
 
 -- a slot of the rack, in a group that has a turn
 abbrev pub HasSlot : Rack → List TurnName → Place → Type 0
-HasSlot rack names place = (place.group < length names) × (place.stripe < rack.stripes) × (place.column < rack.columns + rack.parity)
+HasSlot rack names place =
+    (place.group < length names) × (place.stripe < rack.stripes)
+    × (place.column < rack.columns + rack.parity)

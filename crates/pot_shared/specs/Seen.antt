@@ -1,5 +1,6 @@
 -- Which puts passes have seen.
-use Rattle.std.specs.Prelude.{◌≡◌, ◌<◌, ℕ, List, [], Some, Contains, length, slice_get, slice_index_or}
+use Rattle.std.specs.Prelude.{◌≡◌, ◌<◌, ℕ, List, [], Some, Contains, length, slice_get}
+use Rattle.std.specs.Prelude.{slice_index_or}
 use Rattle.pot_bytes.specs.Digests.{digest_bytes}
 use Rattle.pot_bytes.specs.declared.digest.Digest.{Digest}
 use Rattle.pot_bytes.specs.declared.rack.Place.{Place}
@@ -18,7 +19,8 @@ use Rattle.pot_shared.specs.Ready.{GroupPasses}
 abbrev pub SeesPut : GroupPasses → Place → Digest → Type 0
 SeesPut row p d =
     (p.group < length row.names)
-    × ((job : ℕ) × (e : Entry) × IsKeptPut job p.stripe p.column d e × Contains (entries_of (view_at row p.group).seen) e)
+    × ((job : ℕ) × (e : Entry) × IsKeptPut job p.stripe p.column d e
+    × Contains (entries_of (view_at row p.group).seen) e)
 
 -- Such Puts of the blocks of one file, in order at the places of its record.
 pub record SeesFile (row : GroupPasses) (r : Record) : Type 0 where
@@ -32,4 +34,6 @@ pub record SeesFile (row : GroupPasses) (r : Record) : Type 0 where
 
 -- the passes have seen more, and nothing else of them changed
 abbrev pub RowKnowsMore : GroupPasses → GroupPasses → Type 0
-RowKnowsMore old new = (new.names ≡ old.names) × (length new.views ≡ length old.views) × ((g : ℕ) → g < length old.names → KnowsMore (view_at old g) (view_at new g))
+RowKnowsMore old new =
+    (new.names ≡ old.names) × (length new.views ≡ length old.views)
+    × ((g : ℕ) → g < length old.names → KnowsMore (view_at old g) (view_at new g))

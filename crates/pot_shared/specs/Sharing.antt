@@ -28,9 +28,10 @@ HasAllButKept row = (g : ℕ) → g < length row.names → (view_at row g).parts
 abbrev pub AreKept : GroupPasses → Type 0
 AreKept row = (g : ℕ) → g < length row.names → IsKept (view_at row g)
 
--- A vault ended. The passes took in those that the index kept, one for each group, and each group and the index are as a turn's
--- close says.
-pub record Ends {A : Type 0} (log_of : A → List Logged) (origin_of_group : A → GroupOrigin) (rack : Rack) (names : List TurnName) (groups : GroupPasses)
+-- A vault ended. The passes took in those that the index kept, one for each group, and each group
+-- and the index are as a turn's close says.
+pub record Ends {A : Type 0} (log_of : A → List Logged) (origin_of_group : A → GroupOrigin)
+    (rack : Rack) (names : List TurnName) (groups : GroupPasses)
     (index : IndexPass) (members : List A) (ended : IndexView) : Type 0 where
   pub kept : GroupPasses
   pub kept_names : kept.names ≡ names
@@ -42,18 +43,22 @@ pub record Ends {A : Type 0} (log_of : A → List Logged) (origin_of_group : A �
   pub seen : (r : Record) → Publishes ended.log r → SeesFile kept r
   pub is_index : IsIndex ended
   pub index_rack : ended.rack ≡ rack
-  pub index_closed : Closed ended.log (record { rack = rack; read = ended.read; names = names }) index
+  pub index_closed : Closed ended.log (record { rack = rack; read = ended.read; names = names })
+      index
 
 -- a group of the rack, of this number
 abbrev pub IsGroupOf : Rack → ℕ → GroupView → Type 0
 IsGroupOf rack number g = (g.number ≡ number) × IsTableOf rack g.first
 
--- The first passes of these groups, each of which has seen its group's log and has all parts but the two that the index keeps.
+-- The first passes of these groups, each of which has seen its group's log and has all parts but
+-- the two that the index keeps.
 abbrev pub AreFirst : {M : Type 0} → (M → GroupView) → List M → GroupPasses → Type 0
 AreFirst {M} see members row =
-    (n : ℕ) (m : M) → slice_get members n ≡ Some m → view_at row n ≡ cut_view 2 (first_view (kept_log (see m)) (group_origin (see m)))
+    (n : ℕ) (m : M) → slice_get members n ≡ Some m
+    → view_at row n ≡ cut_view 2 (first_view (kept_log (see m)) (group_origin (see m)))
 
 -- as many groups, each with the log and the origin of the one at its place
 abbrev pub HaveLogs : {M : Type 0} → (M → GroupView) → List M → List M → Type 0
 HaveLogs {M} see old new = (length new ≡ length old)
-    × ((n : ℕ) (m h : M) → slice_get old n ≡ Some m → slice_get new n ≡ Some h → (kept_log (see h) ≡ kept_log (see m)) × (group_origin (see h) ≡ group_origin (see m)))
+    × ((n : ℕ) (m h : M) → slice_get old n ≡ Some m → slice_get new n ≡ Some h
+    → (kept_log (see h) ≡ kept_log (see m)) × (group_origin (see h) ≡ group_origin (see m)))

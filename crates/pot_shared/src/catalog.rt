@@ -175,7 +175,8 @@ impl<A: Archive> Catalog<A> {
         requires parts { HasMoreParts 1 passes.old }
         requires names { self.old.kept.names ≡ groups.now }
         requires rules { IsIndex self.old.index }
-        requires renews { MayRenew self.old.index.rack self.old.index.now name.now split passes.old }
+        requires renews { MayRenew self.old.index.rack self.old.index.now name.now split
+            passes.old }
         ensures call { Renews job name.now split self.old.index self.new.index result }
         ensures names { self.new.kept.names ≡ self.old.kept.names }
         ensures tied { RowKnowsMore passes.old passes.new }

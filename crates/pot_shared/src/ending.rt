@@ -30,7 +30,9 @@ impl<A: Archive> Vault<A> {
         requires index { IsIndexReady self.rack self.groups self.index passes.index }
         requires parts { HasAllButKept passes.groups × HasAllParts passes.index }
         requires room { length self.groups ≤ spaces }
-        ensures { Ends (λ m. kept_log (view_of A.account.meaning m.group)) (λ m. origin_of (view_of A.account.meaning m.group)) self.rack self.groups passes.groups (view_at passes.index 0) result.members.items result.index }
+        ensures { Ends (λ m. kept_log (view_of A.account.meaning m.group))
+            (λ m. origin_of (view_of A.account.meaning m.group)) self.rack self.groups passes.groups
+            (view_at passes.index 0) result.members.items result.index }
     {
         let Vault {
             rack: _,

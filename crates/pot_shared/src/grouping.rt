@@ -3,7 +3,7 @@ ghost use Rattle.std.specs.Prelude.{◌<◌, ◌≡◌, length};
 
 use crate::vault::{Passes, Vault};
 use pot_bytes::{Block, Place};
-use pot_group::{Counts, Kind, LogFull, Looked, PutFault};
+use pot_group::{Counts, Kind, LogFull, Looked, PutFault, Standing};
 use pot_outside::Archive;
 use pot_sealed::Sealed;
 use std::sync::Wait;
@@ -11,7 +11,7 @@ use std::sync::Wait;
 impl<A: Archive> Vault<A> {
     ghost use Rattle.pot_shared.specs.Ready.{AreReady, HasSlot};
     ghost use Rattle.pot_group.specs.Calls.{PutCall, LookCall, CountCall};
-    ghost use Rattle.pot_shared.specs.Calls.{MakesAt, NextCall};
+    ghost use Rattle.pot_shared.specs.Calls.{MakesAt, NextCall, StandingCall};
 
     /// Puts a block into a group, in one turn of it, as `Group::put`. The group takes over the block's digest, and that of `parity`
     /// where this is the parity block that it writes: another one changes no answer.
@@ -124,5 +124,22 @@ impl<A: Archive> Vault<A> {
         self.groups
             .leave(&mut passes.groups, group as usize, member);
         found
+    }
+
+    /// Where a group stands, in one turn of it, as `Group::standing`. Others may put into it as soon as the turn ends.
+    pub fn standing<R: Wait>(&self, rt: &R, passes: &mut Passes<A>, group: u8) -> Standing
+        requires ready { AreReady self.now.rack self.now.groups passes.old.groups }
+        requires group { group < length self.now.groups }
+        ensures ready { AreReady self.now.rack self.now.groups passes.new.groups }
+        ensures index { passes.new.index ≡ passes.old.index }
+        ensures call { MakesAt A.account (λ _. StandingCall result)
+            group passes.old.groups passes.new.groups }
+    {
+        let member = self.groups.enter(rt, &mut passes.groups, group as usize);
+        let _before = member.group.logged();
+        let standing = member.group.standing();
+        self.groups
+            .leave(&mut passes.groups, group as usize, member);
+        standing
     }
 }

@@ -15,7 +15,9 @@ impl<A: Archive> Vault<A> {
     ghost use Rattle.pot_shared.specs.Ready.{AreReady};
     ghost use Rattle.pot_shared.specs.Seen.{RowKnowsMore, SeesFile};
     ghost use Rattle.pot_shared.specs.Catalogs.{IsIndexReady};
-    ghost use Rattle.pot_shared.specs.IndexCalls.{IndexCall, HasReserved, ReservesName, ListsAll, FindsRecord, Abandons, PublishesRecord, MayRenewBy, RenewsSplit};
+    ghost use Rattle.pot_shared.specs.IndexCalls.{IndexCall, HasReserved, ReservesName, ListsAll};
+    ghost use Rattle.pot_shared.specs.IndexCalls.{FindsRecord, Abandons, PublishesRecord};
+    ghost use Rattle.pot_shared.specs.IndexCalls.{MayRenewBy, RenewsSplit};
 
     /// Reserves a name, in one turn of the index, as `Index::reserve`.
     pub fn reserve<R: Wait>(
@@ -25,10 +27,12 @@ impl<A: Archive> Vault<A> {
         job: u32,
         name: &Name,
     ) -> Result<(), ReserveFault>
-        requires index { IsIndexReady self.now.rack self.now.groups self.now.index passes.old.index }
+        requires index { IsIndexReady self.now.rack self.now.groups self.now.index
+            passes.old.index }
         ensures index { IsIndexReady self.now.rack self.now.groups self.now.index passes.new.index }
         ensures groups { passes.new.groups ≡ passes.old.groups }
-        ensures call { IndexCall (ReservesName job name.now result) passes.old.index passes.new.index }
+        ensures call { IndexCall (ReservesName job name.now result) passes.old.index
+            passes.new.index }
     {
         let mut catalog = self.index.enter(rt, &mut passes.index, 0);
         catalog.rules();
@@ -46,7 +50,8 @@ impl<A: Archive> Vault<A> {
         passes: &mut Passes<A>,
         job: u32,
     ) -> Result<Vec<Listed>, ListFault>
-        requires index { IsIndexReady self.now.rack self.now.groups self.now.index passes.old.index }
+        requires index { IsIndexReady self.now.rack self.now.groups self.now.index
+            passes.old.index }
         ensures index { IsIndexReady self.now.rack self.now.groups self.now.index passes.new.index }
         ensures groups { passes.new.groups ≡ passes.old.groups }
         ensures call { IndexCall (ListsAll job result) passes.old.index passes.new.index }
@@ -70,7 +75,8 @@ impl<A: Archive> Vault<A> {
         job: u32,
         name: &Name,
     ) -> Result<(), Strange>
-        requires index { IsIndexReady self.now.rack self.now.groups self.now.index passes.old.index }
+        requires index { IsIndexReady self.now.rack self.now.groups self.now.index
+            passes.old.index }
         requires reserved { HasReserved job name.now passes.old.index }
         ensures index { IsIndexReady self.now.rack self.now.groups self.now.index passes.new.index }
         ensures groups { passes.new.groups ≡ passes.old.groups }
@@ -97,14 +103,16 @@ impl<A: Archive> Vault<A> {
     ) -> Result<(), Strange>
         requires ready { AreReady self.now.rack self.now.groups passes.old.groups }
         requires parts { HasMoreParts 1 passes.old.groups }
-        requires index { IsIndexReady self.now.rack self.now.groups self.now.index passes.old.index }
+        requires index { IsIndexReady self.now.rack self.now.groups self.now.index
+            passes.old.index }
         requires reserved { HasReserved job kept.name passes.old.index }
         requires fits { FitsRack self.now.rack kept }
         requires seen { SeesFile passes.old.groups kept }
         ensures index { IsIndexReady self.now.rack self.now.groups self.now.index passes.new.index }
         ensures ready { AreReady self.now.rack self.now.groups passes.new.groups }
         ensures groups { RowKnowsMore passes.old.groups passes.new.groups }
-        ensures call { IndexCall (PublishesRecord job kept result) passes.old.index passes.new.index }
+        ensures call { IndexCall (PublishesRecord job kept result) passes.old.index
+            passes.new.index }
     {
         let mut catalog = self.index.enter(rt, &mut passes.index, 0);
         catalog.rules();
@@ -126,8 +134,10 @@ impl<A: Archive> Vault<A> {
     ) -> Result<(), RenewFault>
         requires ready { AreReady self.now.rack self.now.groups passes.old.groups }
         requires parts { HasMoreParts 1 passes.old.groups }
-        requires index { IsIndexReady self.now.rack self.now.groups self.now.index passes.old.index }
-        requires renews { MayRenewBy self.now.rack name.now split passes.old.groups passes.old.index }
+        requires index { IsIndexReady self.now.rack self.now.groups self.now.index
+            passes.old.index }
+        requires renews { MayRenewBy self.now.rack name.now split passes.old.groups
+            passes.old.index }
         ensures index { IsIndexReady self.now.rack self.now.groups self.now.index passes.new.index }
         ensures ready { AreReady self.now.rack self.now.groups passes.new.groups }
         ensures groups { RowKnowsMore passes.old.groups passes.new.groups }
@@ -154,11 +164,13 @@ impl<A: Archive> Vault<A> {
     ) -> Result<Record, FindFault>
         requires ready { AreReady self.now.rack self.now.groups passes.old.groups }
         requires parts { HasMoreParts 1 passes.old.groups }
-        requires index { IsIndexReady self.now.rack self.now.groups self.now.index passes.old.index }
+        requires index { IsIndexReady self.now.rack self.now.groups self.now.index
+            passes.old.index }
         ensures index { IsIndexReady self.now.rack self.now.groups self.now.index passes.new.index }
         ensures ready { AreReady self.now.rack self.now.groups passes.new.groups }
         ensures groups { RowKnowsMore passes.old.groups passes.new.groups }
-        ensures call { IndexCall (FindsRecord job name.now result passes.new.groups) passes.old.index passes.new.index }
+        ensures call { IndexCall (FindsRecord job name.now result passes.new.groups)
+            passes.old.index passes.new.index }
     {
         let mut catalog = self.index.enter(rt, &mut passes.index, 0);
         catalog.rules();

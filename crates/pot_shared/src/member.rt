@@ -12,11 +12,12 @@ pub struct Logged {
 }
 
 /// What never changes of a group: its number, the table that was read, and the marks of the archives that it began with, at
-/// their taking. No value of it is made.
+/// their taking and when the table had been opened. No value of it is made.
 pub struct GroupOrigin {
     pub number: u8,
     pub first: GroupTable,
     pub taken: LinkedList<Marks>,
+    pub opened: LinkedList<Marks>,
 }
 
 /// A group under a turn.

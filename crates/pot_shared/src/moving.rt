@@ -30,7 +30,8 @@ impl<A: Archive> Vault<A> {
         requires job { 0 < job }
         ensures ready { AreReady self.now.rack self.now.groups passes.new.groups }
         ensures index { passes.new.index ≡ passes.old.index }
-        ensures call { MakesAt A.account (λ told. MoveBeginCall told A.account.meaning job column shelf result)
+        ensures call { MakesAt A.account
+            (λ told. MoveBeginCall told A.account.meaning job column shelf result)
             group passes.old.groups passes.new.groups }
     {
         let mut member = self.groups.enter(rt, &mut passes.groups, group as usize);
@@ -91,7 +92,8 @@ impl<A: Archive> Vault<A> {
         requires job { 0 < job }
         ensures ready { AreReady self.now.rack self.now.groups passes.new.groups }
         ensures index { passes.new.index ≡ passes.old.index }
-        ensures call { MakesAt A.account (λ told. SwapCall told A.account.meaning job column shelf result)
+        ensures call { MakesAt A.account
+            (λ told. SwapCall told A.account.meaning job column shelf result)
             group passes.old.groups passes.new.groups }
     {
         let mut member = self.groups.enter(rt, &mut passes.groups, group as usize);

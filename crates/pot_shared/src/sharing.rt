@@ -24,15 +24,27 @@ impl<A: Archive> Vault<A> {
         parts: u64,
     ) -> Result<Passes<A>, NoMemory>
         requires ready { AreReady self.now.rack self.now.groups passes.old.groups }
-        requires index { IsIndexReady self.now.rack self.now.groups self.now.index passes.old.index }
+        requires index { IsIndexReady self.now.rack self.now.groups self.now.index
+            passes.old.index }
         requires some { 0 < parts }
-        requires parts { HasMoreParts parts passes.old.groups × HasMoreParts parts passes.old.index }
+        requires parts { HasMoreParts parts passes.old.groups
+            × HasMoreParts parts passes.old.index }
         ensures ready { AreReady self.now.rack self.now.groups passes.new.groups }
         ensures index { IsIndexReady self.now.rack self.now.groups self.now.index passes.new.index }
-        ensures left { IfOk result (λ p. RowCut parts passes.old.groups passes.new.groups × RowCut parts passes.old.index passes.new.index) }
-        ensures given { IfOk result (λ p. RowNew parts passes.old.groups p.groups × RowNew parts passes.old.index p.index) }
-        ensures given_ready { IfOk result (λ p. AreReady self.now.rack self.now.groups p.groups × IsIndexReady self.now.rack self.now.groups self.now.index p.index) }
-        ensures refused { IfErr result (λ _. SameAt passes.old.groups passes.new.groups × SameAt passes.old.index passes.new.index) }
+        ensures left { IfOk result
+            (λ p.
+            RowCut parts passes.old.groups passes.new.groups
+            × RowCut parts passes.old.index passes.new.index) }
+        ensures given { IfOk result
+            (λ p. RowNew parts passes.old.groups p.groups × RowNew parts passes.old.index p.index) }
+        ensures given_ready { IfOk result
+            (λ p.
+            AreReady self.now.rack self.now.groups p.groups
+            × IsIndexReady self.now.rack self.now.groups self.now.index p.index) }
+        ensures refused { IfErr result
+            (λ _.
+            SameAt passes.old.groups passes.new.groups
+            × SameAt passes.old.index passes.new.index) }
     {
         let index = self.index.split(alloc, &mut passes.index, parts)?;
         match self.groups.split(alloc, &mut passes.groups, parts) {
@@ -47,9 +59,11 @@ impl<A: Archive> Vault<A> {
     /// Takes in the passes of another job: each pass has then seen what either had, and has the parts of both.
     pub fn join(&self, passes: &mut Passes<A>, other: Passes<A>)
         requires ready { AreReady self.now.rack self.now.groups passes.old.groups }
-        requires index { IsIndexReady self.now.rack self.now.groups self.now.index passes.old.index }
+        requires index { IsIndexReady self.now.rack self.now.groups self.now.index
+            passes.old.index }
         requires other { AreReady self.now.rack self.now.groups other.groups }
-        requires other_index { IsIndexReady self.now.rack self.now.groups self.now.index other.index }
+        requires other_index { IsIndexReady self.now.rack self.now.groups self.now.index
+            other.index }
         ensures ready { AreReady self.now.rack self.now.groups passes.new.groups }
         ensures index { IsIndexReady self.now.rack self.now.groups self.now.index passes.new.index }
         ensures joined { RowJoined passes.old.groups other.groups passes.new.groups }

@@ -43,9 +43,16 @@ fn share_index<A: Archive>(
     requires room { (catalogs.old.items ≡ []) × (1 ≤ vec_capacity catalogs.old) }
     ensures own { AreOf groups.now passes.new }
     ensures left { IfOk result (λ p. RowCut 2 passes.old passes.new) }
-    ensures made { IfOk result (λ p. AreOf p.0 p.1 × (p.1.views ≡ first_view [] (record { rack = rack.now; read = index.read; names = groups.now }) ∷ [])) }
+    ensures made { IfOk result
+        (λ p.
+        AreOf p.0 p.1
+        × (p.1.views
+        ≡ first_view []
+        (record { rack = rack.now; read = index.read; names = groups.now })
+        ∷ [])) }
     ensures refused { IfErr result (λ i. (i ≡ index) × SameAt passes.old passes.new) }
-    ensures room { (catalogs.new.items ≡ []) × (vec_capacity catalogs.new ≡ vec_capacity catalogs.old) }
+    ensures room { (catalogs.new.items ≡ [])
+        × (vec_capacity catalogs.new ≡ vec_capacity catalogs.old) }
 {
     let kept = match groups.split(alloc, passes, 2) {
         Ok(kept) => kept,
@@ -82,17 +89,31 @@ impl<A: Archive> Vault<A> {
         index: Index,
     ) -> Result<(Vault<A>, Passes<A>, Spaces<A>), VaultRefused<A>>
         requires count { length members.items ≡ rack.now.groups }
-        requires groups { (n : ℕ) (m : _) → slice_get members.items n ≡ Some m → IsGroupOf rack.now n (view_of A.account.meaning m.group) }
+        requires groups { (n : ℕ) (m : _) → slice_get members.items n ≡ Some m
+            → IsGroupOf rack.now n (view_of A.account.meaning m.group) }
         requires rack { index.rack ≡ rack.now }
         requires log { index.log ≡ [] }
         ensures rack { IfOk result (λ p. p.0.rack ≡ rack.now) }
         ensures count { IfOk result (λ p. length p.0.groups ≡ rack.now.groups) }
-        ensures ready { IfOk result (λ p. AreReady rack.now p.0.groups p.1.groups × IsIndexReady rack.now p.0.groups p.0.index p.1.index) }
+        ensures ready { IfOk result
+            (λ p.
+            AreReady rack.now p.0.groups p.1.groups
+            × IsIndexReady rack.now p.0.groups p.0.index p.1.index) }
         ensures parts { IfOk result (λ p. HasAllButKept p.1.groups × HasAllParts p.1.index) }
-        ensures first { IfOk result (λ p. AreFirst (λ m. view_of A.account.meaning m.group) members.items p.1.groups) }
-        ensures index { IfOk result (λ p. p.1.index.views ≡ first_view [] (record { rack = rack.now; read = index.read; names = p.0.groups }) ∷ []) }
+        ensures first { IfOk result
+            (λ p. AreFirst (λ m. view_of A.account.meaning m.group) members.items p.1.groups) }
+        ensures index { IfOk result
+            (λ p.
+            p.1.index.views
+            ≡ first_view []
+            (record { rack = rack.now; read = index.read; names = p.0.groups })
+            ∷ []) }
         ensures room { IfOk result (λ p. length p.0.groups ≤ p.2) }
-        ensures refused { IfErr result (λ r. (r.index ≡ index) × HaveLogs (λ m. view_of A.account.meaning m.group) members.items r.members.items) }
+        ensures refused { IfErr result
+            (λ r.
+            (r.index ≡ index)
+            × HaveLogs (λ m. view_of A.account.meaning m.group) members.items
+            r.members.items) }
     {
         let mut members = members;
         let Ok(mut catalogs) = Vec::with_capacity(alloc, 1) else {

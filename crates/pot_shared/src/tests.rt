@@ -77,7 +77,10 @@ fn vault(
     requires parity { rack.now.parity ≡ 1 }
     ensures rack { IfOk result (λ p. p.0.rack ≡ rack.now) }
     ensures count { IfOk result (λ p. length p.0.groups ≡ rack.now.groups) }
-    ensures ready { IfOk result (λ p. AreReady rack.now p.0.groups p.1.groups × IsIndexReady rack.now p.0.groups p.0.index p.1.index) }
+    ensures ready { IfOk result
+        (λ p.
+        AreReady rack.now p.0.groups p.1.groups
+        × IsIndexReady rack.now p.0.groups p.0.index p.1.index) }
     ensures parts { IfOk result (λ p. HasAllButKept p.1.groups × HasAllParts p.1.index) }
     ensures room { IfOk result (λ p. length p.0.groups ≤ p.2) }
 {
@@ -210,6 +213,28 @@ fn filled<R: Wait>(
     }
 }
 
+#[test]
+fn where_a_group_stands(rt: HostRuntime) -> Result<(), Fail> {
+    let rack = rack()?;
+    let (vault, mut passes) = filled(&rt, rt.alloc(), &rack, &[])?;
+    assert_eq!(rt; cursor(&rt, &vault, &mut passes), (1, 0));
+    Ok(())
+}
+
+/// The stripe and the column at which the first group stands.
+fn cursor<R: Wait>(
+    rt: &R,
+    vault: &Vault<LossyArchive>,
+    passes: &mut Passes<LossyArchive>,
+) -> (u32, u8)
+    requires ready { AreReady vault.now.rack vault.now.groups passes.old.groups }
+    requires group { 0 < length vault.now.groups }
+    ensures ready { AreReady vault.now.rack vault.now.groups passes.new.groups }
+{
+    let cursor = vault.standing(rt, passes, 0).cursor;
+    (cursor.stripe, cursor.column)
+}
+
 /// Looks at the first slot: whether it is seen, with its first byte.
 fn look<R: Wait>(
     rt: &R,
@@ -217,7 +242,8 @@ fn look<R: Wait>(
     passes: &mut Passes<LossyArchive>,
 ) -> (Looked, u8)
     requires ready { AreReady vault.now.rack vault.now.groups passes.old.groups }
-    requires place { HasSlot vault.now.rack vault.now.groups (record { group = 0; column = 0; stripe = 0 }) }
+    requires place { HasSlot vault.now.rack vault.now.groups
+        (record { group = 0; column = 0; stripe = 0 }) }
     ensures ready { AreReady vault.now.rack vault.now.groups passes.new.groups }
 {
     let mut into = Block::zero();
@@ -228,7 +254,8 @@ fn look<R: Wait>(
 /// Mends the first slot.
 fn mend<R: Wait>(rt: &R, vault: &Vault<LossyArchive>, passes: &mut Passes<LossyArchive>) -> Mend
     requires ready { AreReady vault.now.rack vault.now.groups passes.old.groups }
-    requires place { HasSlot vault.now.rack vault.now.groups (record { group = 0; column = 0; stripe = 0 }) }
+    requires place { HasSlot vault.now.rack vault.now.groups
+        (record { group = 0; column = 0; stripe = 0 }) }
     ensures ready { AreReady vault.now.rack vault.now.groups passes.new.groups }
 {
     let mut pads = PadStream::new(&[0; 32], 0, 2);

@@ -42,5 +42,6 @@ impl<A: Archive> Model for Spaces<A> {
 
     ghost view = { λ s. vec_capacity s.members };
 
-    ghost invariant = { λ s. (s.members.items ≡ []) × (s.catalogs.items ≡ []) × (1 ≤ vec_capacity s.catalogs) };
+    ghost invariant = { λ s.
+        (s.members.items ≡ []) × (s.catalogs.items ≡ []) × (1 ≤ vec_capacity s.catalogs) };
 }

@@ -58,12 +58,14 @@ mark_none f (x ∷ ns) (y ∷ ms) k none = elim (eqb_tells x k) [
 ]
 
 -- an archive at the end of the list, with its marks
-pub brings_one : {A : Type 0} (told : Type 0) (meaning : A → Meaning) (xs : List (Shelf A)) (ms : List Marks) (s : Shelf A) (m : Marks)
-    → length xs ≡ length ms → (Contains (numbers_of xs) s.number → ⊥) → m.faults ≡ (meaning s.archive).faults → (told → m.losses ≡ (meaning s.archive).losses)
-    → Brings told s.number (meaning s.archive) (plain meaning (record { shelves = xs; marks = ms })) (plain meaning (record { shelves = xs ++ s ∷ []; marks = ms ++ m ∷ [] }))
-brings_one told meaning xs ms s m l none mf ml =
+pub brings_one : {A : Type 0} (told : Type 0) (meaning : A → Meaning) (xs : List (Shelf A)) (ms os : List Marks) (s : Shelf A) (m : Marks)
+    → length xs ≡ length ms → length xs ≡ length os → (Contains (numbers_of xs) s.number → ⊥) → m.faults ≡ (meaning s.archive).faults → (told → m.losses ≡ (meaning s.archive).losses)
+    → Brings told s.number (meaning s.archive) (plain meaning (record { shelves = xs; marks = ms; opened = os }))
+    (plain meaning (record { shelves = xs ++ s ∷ []; marks = ms ++ m ∷ []; opened = os ++ m ∷ [] }))
+brings_one told meaning xs ms os s m l k none mf ml =
     let all : numbers_of (xs ++ s ∷ []) ≡ numbers_of xs ++ s.number ∷ [] = map-append (λ s. s.number) xs (s ∷ []) in
     let lens : length (numbers_of xs) ≡ length ms = length-map xs (λ s. s.number) ∙ l in
+    let opened_lens : length (numbers_of xs) ≡ length os = length-map xs (λ s. s.number) ∙ k in
     record {
       numbers = all;
       blocks = (λ slot. ap (given (λ x. (meaning x).held slot) None) (find_new xs s none));
@@ -71,6 +73,8 @@ brings_one told meaning xs ms s m l none mf ml =
       counts = (ap (given (λ x. (meaning x).faults) 0) (find_new xs s none), ap (given (λ x. (meaning x).losses) 0) (find_new xs s none));
       marked = ap (λ ns. mark_of (λ m. m.faults) ns (ms ++ m ∷ []) s.number) all ∙ mark_new (λ m. m.faults) (numbers_of xs) ms s.number m lens none ∙ mf ∙ sym (ap (given (λ x. (meaning x).faults) 0) (find_new xs s none));
       marked_losses = (λ t. ap (λ ns. mark_of (λ m. m.losses) ns (ms ++ m ∷ []) s.number) all ∙ mark_new (λ m. m.losses) (numbers_of xs) ms s.number m lens none ∙ ml t ∙ sym (ap (given (λ x. (meaning x).losses) 0) (find_new xs s none)));
+      opened = ap (λ ns. mark_of (λ m. m.faults) ns (os ++ m ∷ []) s.number) all ∙ mark_new (λ m. m.faults) (numbers_of xs) os s.number m opened_lens none ∙ mf ∙ sym (ap (given (λ x. (meaning x).faults) 0) (find_new xs s none));
+      opened_losses = (λ t. ap (λ ns. mark_of (λ m. m.losses) ns (os ++ m ∷ []) s.number) all ∙ mark_new (λ m. m.losses) (numbers_of xs) os s.number m opened_lens none ∙ ml t ∙ sym (ap (given (λ x. (meaning x).losses) 0) (find_new xs s none)));
       absent = (
         ap (given (λ x. (meaning x).faults) 0) (find_none xs s.number none),
         mark_none (λ m. m.faults) (numbers_of xs) ms s.number none,
@@ -80,5 +84,9 @@ brings_one told meaning xs ms s m l none mf ml =
       same_held = (λ n slot ne. ap (given (λ x. (meaning x).held slot) None) (find_other xs s n ne));
       same_heard = (λ n ne. ap (given (λ x. (meaning x).heard) []) (find_other xs s n ne));
       same_faults = (λ n ne. (ap (given (λ x. (meaning x).faults) 0) (find_other xs s n ne), ap (λ ns. mark_of (λ m. m.faults) ns (ms ++ m ∷ []) n) all ∙ mark_other (λ m. m.faults) (numbers_of xs) ms s.number m n lens ne));
+      same_opened = (λ n ne. (
+        ap (λ ns. mark_of (λ m. m.faults) ns (os ++ m ∷ []) n) all ∙ mark_other (λ m. m.faults) (numbers_of xs) os s.number m n opened_lens ne,
+        ap (λ ns. mark_of (λ m. m.losses) ns (os ++ m ∷ []) n) all ∙ mark_other (λ m. m.losses) (numbers_of xs) os s.number m n opened_lens ne,
+      ));
       same_losses = (λ n ne. (ap (given (λ x. (meaning x).losses) 0) (find_other xs s n ne), ap (λ ns. mark_of (λ m. m.losses) ns (ms ++ m ∷ []) n) all ∙ mark_other (λ m. m.losses) (numbers_of xs) ms s.number m n lens ne));
     }

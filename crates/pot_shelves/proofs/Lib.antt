@@ -7,3 +7,4 @@ pub mod OpeningLogs
 pub mod OpeningColumns
 pub mod SlotReads
 pub mod OpeningAll
+pub mod OpeningCauses

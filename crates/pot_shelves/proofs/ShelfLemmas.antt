@@ -13,13 +13,22 @@ use Rattle.pot_shelves.specs.Shelves.{Shelves, Keeps, LosesByCount, Stays, Write
 -- ONE CALL AFTER ANOTHER
 
 pub keeps_refl : (s : Shelves) → Keeps s s
-keeps_refl s = record { numbers = refl; faults_taken = (λ n. refl); losses_taken = (λ n. refl); later = (λ n. omega arith) }
+keeps_refl s = record {
+  numbers = refl;
+  faults_taken = (λ n. refl);
+  losses_taken = (λ n. refl);
+  faults_opened = (λ n. refl);
+  losses_opened = (λ n. refl);
+  later = (λ n. omega arith);
+}
 
 pub keeps_then : (a b c : Shelves) → Keeps a b → Keeps b c → Keeps a c
 keeps_then a b c o p = record {
   numbers = p.numbers ∙ o.numbers;
   faults_taken = (λ n. p.faults_taken n ∙ o.faults_taken n);
   losses_taken = (λ n. p.losses_taken n ∙ o.losses_taken n);
+  faults_opened = (λ n. p.faults_opened n ∙ o.faults_opened n);
+  losses_opened = (λ n. p.losses_opened n ∙ o.losses_opened n);
   later = (λ n. omega (arith, o.later n, p.later n));
 }
 

@@ -23,7 +23,7 @@ use Rattle.pot_outside.specs.declared.archive.Held.{Held as IsHeld}
 use Rattle.pot_outside.specs.declared.faults.Failed.{Failed}
 use Rattle.pot_outside.proofs.LossLemmas.{loses_nothing}
 use Rattle.pot_steps.specs.Stripe.{digest_of}
-use Rattle.pot_shelves.specs.Shelves.{Shelves, numbers_of, shelf_of, given, mark_of, plain, put_at, Touches, Calls, Keeps, LosesByCount, IsTaken, WriteLeaves, WritesAt, FoldsAt, Stays, ReadsAt}
+use Rattle.pot_shelves.specs.Shelves.{Shelves, numbers_of, shelf_of, given, mark_of, plain, put_at, Touches, Calls, Keeps, LosesByCount, IsTaken, IsOpenedNow, WriteLeaves, WritesAt, FoldsAt, Stays, ReadsAt}
 
 -- what `==` of digests says of a block
 pub digest_tells : (block now bytes : List ℕ) (d : Digest) (r : Bool) → now ≡ block → bytes ≡ digest_bytes now
@@ -120,10 +120,10 @@ mark_is f count (s ∷ shelves) (m ∷ marks) e n =
       | inr t ↦ rw t.0 (mark_is f count shelves marks (let tail : map f marks ≡ map (λ s. count s.archive) shelves = cc in tail) n)
     ]
 
-module _ {A : Type 0} (told : Type 0) (meaning : A → Meaning) (marks : List Marks) where
+module _ {A : Type 0} (told : Type 0) (meaning : A → Meaning) (marks opened : List Marks) where
   -- these archives as plain data
   abbrev pub data_of : List (Shelf A) → Shelves
-  data_of shelves = plain meaning (record { shelves = shelves; marks = marks })
+  data_of shelves = plain meaning (record { shelves = shelves; marks = marks; opened = opened })
 
   -- what holds where an archive stays and of the archive that was called holds at each number
   by_number : (number : ℕ) (R : A → A → Type 0) (old new : List (Shelf A)) (t : Touches number R old new)
@@ -147,6 +147,8 @@ module _ {A : Type 0} (told : Type 0) (meaning : A → Meaning) (marks : List Ma
     numbers = t.numbers;
     faults_taken = (λ n. ap (λ ns. mark_of (λ m. m.faults) ns marks n) t.numbers);
     losses_taken = (λ n. ap (λ ns. mark_of (λ m. m.losses) ns marks n) t.numbers);
+    faults_opened = (λ n. ap (λ ns. mark_of (λ m. m.faults) ns opened n) t.numbers);
+    losses_opened = (λ n. ap (λ ns. mark_of (λ m. m.losses) ns opened n) t.numbers);
     later = by_number number R old new t (λ k o w. given (λ x. (meaning x).faults) 0 o ≤ given (λ x. (meaning x).faults) 0 w) (λ k s ne. omega arith) l;
   }
 
@@ -239,10 +241,22 @@ module _ {A : Type 0} (told : Type 0) (meaning : A → Meaning) (marks : List Ma
 
   -- MARKS
 
+  -- marks that are counts now
+  abbrev pub AreCounts : List Marks → List (Shelf A) → Type 0
+  AreCounts ms shelves = (map (λ m. m.faults) ms ≡ map (λ s. (meaning s.archive).faults) shelves)
+      × (told → map (λ m. m.losses) ms ≡ map (λ s. (meaning s.archive).losses) shelves)
+
+  -- archives whose table has been opened now
+  pub is_opened : (same shelves : List (Shelf A)) → same ≡ shelves → AreCounts opened same → IsOpenedNow told (data_of shelves)
+  is_opened same shelves v (f, l) = subst (λ ss. IsOpenedNow told (data_of ss)) v (record {
+    faults = mark_is (λ m. m.faults) (λ x. (meaning x).faults) same opened f;
+    losses = (λ z. mark_is (λ m. m.losses) (λ x. (meaning x).losses) same opened (l z));
+  })
+
   -- archives with their marks now
-  pub is_taken : (same shelves : List (Shelf A)) → same ≡ shelves → map (λ m. m.faults) marks ≡ map (λ s. (meaning s.archive).faults) same
-      → (told → map (λ m. m.losses) marks ≡ map (λ s. (meaning s.archive).losses) same) → IsTaken told (data_of shelves)
-  is_taken same shelves v f l = record {
-    faults = mark_is (λ m. m.faults) (λ x. (meaning x).faults) shelves marks (f ∙ ap (map (λ s. (meaning s.archive).faults)) v);
-    losses = (λ z. mark_is (λ m. m.losses) (λ x. (meaning x).losses) shelves marks (l z ∙ ap (map (λ s. (meaning s.archive).losses)) v));
-  }
+  pub is_taken : (same other shelves : List (Shelf A)) → same ≡ shelves → other ≡ shelves → AreCounts marks same → AreCounts opened other → IsTaken told (data_of shelves)
+  is_taken same other shelves v w (f, l) now = subst (λ ss. IsTaken told (data_of ss)) v (record {
+    faults = mark_is (λ m. m.faults) (λ x. (meaning x).faults) same marks f;
+    losses = (λ z. mark_is (λ m. m.losses) (λ x. (meaning x).losses) same marks (l z));
+    opened = is_opened other same (w ∙ sym v) now;
+  })

@@ -1,5 +1,8 @@
 -- The opening of a group: what it reads, what it logs of it, and what the archives do meanwhile.
-use Rattle.std.specs.Prelude.{◌≡◌, ◌≢◌, ◌⊎◌, ◌≤◌, ◌<◌, ◌+◌, ◌-◌, ◌^◌, ◌==◌, ◌&&◌, ◌++◌, ℕ, zero, suc, nat_le, Bool, true, false, IsTrue, List, [], ◌∷◌, Option, Some, None, Result, Ok, Err, IsErr, Contains, length, slice_get, slice_index, if◌then◌else◌}
+use Rattle.std.specs.Prelude.{◌≡◌, ◌≢◌, ◌⊎◌, ◌≤◌, ◌<◌, ◌+◌, ◌-◌, ◌^◌, ◌==◌, ◌&&◌, ◌++◌, ℕ, zero}
+use Rattle.std.specs.Prelude.{suc, nat_le, Bool, true, false, IsTrue, List, [], ◌∷◌, Option, Some}
+use Rattle.std.specs.Prelude.{None, Result, Ok, Err, IsErr, Contains, length, slice_get}
+use Rattle.std.specs.Prelude.{slice_index, if◌then◌else◌}
 use Rattle.pot_bytes.specs.declared.digest.Digest.{Digest}
 use Rattle.pot_bytes.specs.Sums.{xor, zero_block}
 use Rattle.pot_bytes.specs.Weighted.{scaled}
@@ -30,7 +33,8 @@ use Rattle.pot_shelves.specs.Shelves.{Shelves, Stays}
 
 -- each home and each target of the table is one of these archives
 abbrev pub HasArchives : Table → List ℕ → Type 0
-HasArchives t numbers = (c number : ℕ) → c < width t → IsTrue (names (column_at t c) number) → Contains numbers number
+HasArchives t numbers =
+    (c number : ℕ) → c < width t → IsTrue (names (column_at t c) number) → Contains numbers number
 
 -- how many reads of one stripe failed at the archive of a number
 abbrev pub failures_at : Table → (ℕ → Bool) → ℕ → ℕ → ℕ
@@ -43,7 +47,8 @@ failures t failed (suc n) number = failures t failed n number + failures_at t (f
 
 -- so often did the archive of this number fail, unless its count stands at its last value
 abbrev pub FailedSo : Shelves → Shelves → ℕ → ℕ → Type 0
-FailedSo old new number times = (2 ^ 64 - 1 ≤ new.faults number) ⊎ (old.faults number + times ≤ new.faults number)
+FailedSo old new number times =
+    (2 ^ 64 - 1 ≤ new.faults number) ⊎ (old.faults number + times ≤ new.faults number)
 
 -- only slots of this stripe changed
 pub record ChangesStripe (s : ℕ) (t u : Table) : Type 0 where
@@ -59,28 +64,37 @@ is_held (Some (Ok Held)) = true
 is_held (Some (Ok Absent)) = false
 is_held (Some (Err e)) = false
 
--- what an answer says of a slot in this state, which the archive of this number serves; a slot that is not Live is not read
-abbrev pub AnswerMeans : Type 0 → SlotState → ℕ → ℕ → List ℕ → Option (Result IsHeld Failed) → Shelves → Shelves → Type 0
+-- what an answer says of a slot in this state, which the archive of this number serves; a slot that
+-- is not Live is not read
+abbrev pub AnswerMeans : Type 0 → SlotState → ℕ → ℕ → List ℕ → Option (Result IsHeld Failed)
+    → Shelves → Shelves → Type 0
 AnswerMeans told x number slot block None old new = is_live x ≡ false
-AnswerMeans told x number slot block (Some r) old new = (told → ReadTells (new.held number) slot block r) × (IsErr r → Rose (old.faults number) (new.faults number))
+AnswerMeans told x number slot block (Some r) old new =
+    (told → ReadTells (new.held number) slot block r)
+    × (IsErr r → Rose (old.faults number) (new.faults number))
 
 -- One slot is read where it is Live.
-pub record ReadsSlot (told : Type 0) (s c : ℕ) (t : Table) (r : Reading) (old new : Shelves) : Type 0 where
+pub record ReadsSlot (told : Type 0) (s c : ℕ) (t : Table) (r : Reading)
+    (old new : Shelves) : Type 0 where
   pub stays : Stays told old new
   pub means : AnswerMeans told (slot_at t s c) (serving_at t s c) s r.block r.answer old new
 
--- The first `n` columns of a stripe are read, one after the other: the archives before and after each. There are 20 places for the reads.
-pub record ReadsColumns (told : Type 0) (n s : ℕ) (t : Table) (readings : List Reading) (old new : Shelves) : Type 0 where
+-- The first `n` columns of a stripe are read, one after the other: the archives before and after
+-- each. There are 20 places for the reads.
+pub record ReadsColumns (told : Type 0) (n s : ℕ) (t : Table) (readings : List Reading)
+    (old new : Shelves) : Type 0 where
   pub places : length readings ≡ 20
   pub at : ℕ → Shelves
   pub begins : at 0 ≡ old
   pub ends : at n ≡ new
-  pub reads : (c : ℕ) (r : Reading) → c < n → slice_get readings c ≡ Some r → ReadsSlot told s c t r (at c) (at (suc c))
+  pub reads : (c : ℕ) (r : Reading) → c < n → slice_get readings c ≡ Some r
+      → ReadsSlot told s c t r (at c) (at (suc c))
 
 -- The digests of the first `n` blocks, of those that were read. There are 20 places for them too.
 pub record AreDigests (n : ℕ) (readings : List Reading) (digests : List Digest) : Type 0 where
   pub places : length digests ≡ 20
-  pub right : (c : ℕ) (r : Reading) (d : Digest) → c < n → slice_get readings c ≡ Some r → slice_get digests c ≡ Some d → IsTrue (is_held r.answer) → d ≡ digest_of r.block
+  pub right : (c : ℕ) (r : Reading) (d : Digest) → c < n → slice_get readings c ≡ Some r
+      → slice_get digests c ≡ Some d → IsTrue (is_held r.answer) → d ≡ digest_of r.block
 
 -- ONE SLOT
 
@@ -109,7 +123,8 @@ abbrev pub gone_entry : Bool → ℕ → ℕ → List Entry
 gone_entry gone s c = if gone then Gone 0 s c ∷ [] else []
 
 -- One slot is opened. `failed` is true where its read failed.
-pub record OpensSlot (told : Type 0) (s c : ℕ) (t u : Table) (before now : List Entry) (part : Part) (into : List ℕ) (old new : Shelves) : Type 0 where
+pub record OpensSlot (told : Type 0) (s c : ℕ) (t u : Table) (before now : List Entry) (part : Part)
+    (into : List ℕ) (old new : Shelves) : Type 0 where
   pub gone : Bool
   pub failed : Bool
   pub is : IsPart (slot_at t s c) into part
@@ -118,7 +133,8 @@ pub record OpensSlot (told : Type 0) (s c : ℕ) (t u : Table) (before now : Lis
   pub reads : told → part ≡ Present → new.held (serving_at t s c) s ≡ Some into
   pub log : now ≡ before ++ gone_entry gone s c
   pub replay : Replays t (gone_entry gone s c) u
-  pub few : (number : ℕ) → FailedSo old new number (if failed && (serving_at t s c == number) then 1 else 0)
+  pub few : (number : ℕ)
+      → FailedSo old new number (if failed && (serving_at t s c == number) then 1 else 0)
   pub stays : Stays told old new
 
 -- THE COLUMNS OF ONE STRIPE
@@ -172,10 +188,13 @@ IsAbsent s c d = ((s.slots c ≡ slot.Live d) ⊎ (s.slots c ≡ slot.Lost d)) �
 abbrev pub IsShort : ℕ → Stripe → Shortage → Type 0
 IsShort n s Nothing = (c : ℕ) → c < n → IsWell s c
 IsShort n s (One u d) = (u < n) × IsAbsent s u d × ((c : ℕ) → c < n → c ≢ u → IsWell s c)
-IsShort n s (Two u d k e) = (u < k) × (k < n) × IsAbsent s u d × IsAbsent s k e × ((c : ℕ) → c < n → c ≢ u → c ≢ k → IsWell s c)
+IsShort n s (Two u d k e) =
+    (u < k) × (k < n) × IsAbsent s u d × IsAbsent s k e
+    × ((c : ℕ) → c < n → c ≢ u → c ≢ k → IsWell s c)
 IsShort n s More =
     ((c : ℕ) × (d : Digest) × (c < n) × (s.slots c ≡ slot.Broken d))
-    ⊎ ((c : ℕ) × (j : ℕ) × (k : ℕ) × (c < j) × (j < k) × (k < n) × IsUnwell s c × IsUnwell s j × IsUnwell s k)
+    ⊎ ((c : ℕ) × (j : ℕ) × (k : ℕ) × (c < j) × (j < k) × (k < n) × IsUnwell s c × IsUnwell s j
+    × IsUnwell s k)
 
 -- the sum of weight times block over the blocks that were read of the first `n` columns
 pub record IsSum (n : ℕ) (weight : ℕ → ℕ) (read : ℕ → Option (List ℕ)) (sum : List ℕ) : Type 0 where
@@ -183,25 +202,31 @@ pub record IsSum (n : ℕ) (weight : ℕ → ℕ) (read : ℕ → Option (List �
   pub bytes : (k : ℕ) → slice_index sum k ≡ sum_at n weight (λ c. or_zeros (read c)) k
 
 -- the sums of both equations, that of Q where there are two parity columns
-pub record AreSums (data_columns parity n : ℕ) (read : ℕ → Option (List ℕ)) (p q : List ℕ) : Type 0 where
+pub record AreSums (data_columns parity n : ℕ) (read : ℕ → Option (List ℕ))
+    (p q : List ℕ) : Type 0 where
   pub blocks : (c : ℕ) → c < n → IsBlock (or_zeros (read c))
   pub first : IsSum n (p_weight data_columns) read p
   pub second : parity ≡ 2 → IsSum n (q_weight data_columns) read q
 
 -- The first `n` columns of a stripe are opened.
-pub record OpensColumns (told : Type 0) (n s : ℕ) (t u : Table) (before now : List Entry) (shortage : Shortage) (p q : List ℕ) (old new : Shelves) : Type 0 where
+pub record OpensColumns (told : Type 0) (n s : ℕ) (t u : Table) (before now : List Entry)
+    (shortage : Shortage) (p q : List ℕ) (old new : Shelves) : Type 0 where
   pub read : ℕ → Option (List ℕ)
   pub gone : ℕ → Bool
   pub failed : ℕ → Bool
-  pub missing : told → (c : ℕ) → c < n → gone c ≡ true → failed c ≡ false → Sound (stripe_of t new.held s) c → ⊥
-  pub reads : told → (c : ℕ) (b : List ℕ) → c < n → read c ≡ Some b → old.held (serving_at t s c) s ≡ Some b
-  pub lives : (c : ℕ) (b : List ℕ) → c < n → read c ≡ Some b → slot_at t s c ≡ slot.Live (digest_of b)
+  pub missing : told → (c : ℕ) → c < n → gone c ≡ true → failed c ≡ false
+      → Sound (stripe_of t new.held s) c → ⊥
+  pub reads : told → (c : ℕ) (b : List ℕ) → c < n → read c ≡ Some b
+      → old.held (serving_at t s c) s ≡ Some b
+  pub lives : (c : ℕ) (b : List ℕ) → c < n → read c ≡ Some b
+      → slot_at t s c ≡ slot.Live (digest_of b)
   pub finds : FindsGone n (as_read t (λ _ c. read c) s) gone
   pub short : IsShort n (as_read t (λ _ c. read c) s) shortage
   pub adds : AreSums t.data_columns t.parity n read p q
   pub log : now ≡ before ++ entries_where n gone (Gone 0 s)
   pub replay : Replays t (entries_where n gone (Gone 0 s)) u
-  pub few : (number : ℕ) → FailedSo old new number (count n (λ c. failed c && (serving_at t s c == number)))
+  pub few : (number : ℕ)
+      → FailedSo old new number (count n (λ c. failed c && (serving_at t s c == number)))
   pub changes : ChangesStripe s t u
   pub takes : (k : ℕ) → k < width t → TakesBroke t s k → TakesBroke u s k
   pub later : (k : ℕ) → n ≤ k → k < width t → slot_at u s k ≡ slot_at t s k
@@ -209,18 +234,26 @@ pub record OpensColumns (told : Type 0) (n s : ℕ) (t u : Table) (before now : 
 
 -- ONE STRIPE
 
--- One stripe is opened. `read` has the block of each place that gave one of its digest, and `failed` is true where a read failed.
-pub record OpensStripe (told : Type 0) (s : ℕ) (t u : Table) (before now : List Entry) (old new : Shelves) : Type 0 where
+-- One stripe is opened. `read` has the block of each place that gave one of its digest, and
+-- `failed` is true where a read failed.
+pub record OpensStripe (told : Type 0) (s : ℕ) (t u : Table) (before now : List Entry)
+    (old new : Shelves) : Type 0 where
   pub read : ℕ → Option (List ℕ)
   pub gone : ℕ → Bool
   pub broke : ℕ → Bool
   pub failed : ℕ → Bool
-  pub missing : told → (c : ℕ) → c < width t → gone c ≡ true → failed c ≡ false → Sound (stripe_of t new.held s) c → ⊥
-  pub reads : told → (c : ℕ) (b : List ℕ) → c < width t → read c ≡ Some b → old.held (serving_at t s c) s ≡ Some b
+  pub missing : told → (c : ℕ) → c < width t → gone c ≡ true → failed c ≡ false
+      → Sound (stripe_of t new.held s) c → ⊥
+  pub reads : told → (c : ℕ) (b : List ℕ) → c < width t → read c ≡ Some b
+      → old.held (serving_at t s c) s ≡ Some b
   pub finds : FindsGone (width t) (as_read t (λ _ c. read c) s) gone
-  pub breaks : Breaks t.data_columns t.parity (as_read t (λ _ c. read c) s) broke ⊎ Spared t.data_columns t.parity (as_read t (λ _ c. read c) s) broke
-  pub log : now ≡ before ++ (entries_where (width t) gone (Gone 0 s) ++ entries_where (width t) broke (Broke 0 s))
-  pub replay : Replays t (entries_where (width t) gone (Gone 0 s) ++ entries_where (width t) broke (Broke 0 s)) u
+  pub breaks : Breaks t.data_columns t.parity (as_read t (λ _ c. read c) s) broke
+      ⊎ Spared t.data_columns t.parity (as_read t (λ _ c. read c) s) broke
+  pub log : now
+      ≡ before
+      ++ (entries_where (width t) gone (Gone 0 s) ++ entries_where (width t) broke (Broke 0 s))
+  pub replay : Replays t
+      (entries_where (width t) gone (Gone 0 s) ++ entries_where (width t) broke (Broke 0 s)) u
   pub few : (number : ℕ) → FailedSo old new number (failures_at t failed s number)
   pub changes : ChangesStripe s t u
   pub stays : Stays told old new
@@ -228,15 +261,20 @@ pub record OpensStripe (told : Type 0) (s : ℕ) (t u : Table) (before now : Lis
 -- ALL STRIPES
 
 -- The first `n` stripes of a table are opened, with an empty log at the beginning.
-pub record Opens (told : Type 0) (n : ℕ) (t u : Table) (now : List Entry) (old new : Shelves) : Type 0 where
+pub record Opens (told : Type 0) (n : ℕ) (t u : Table) (now : List Entry)
+    (old new : Shelves) : Type 0 where
   pub read : ℕ → ℕ → Option (List ℕ)
   pub gone : ℕ → ℕ → Bool
   pub broke : ℕ → ℕ → Bool
   pub failed : ℕ → ℕ → Bool
-  pub missing : told → (s c : ℕ) → s < n → c < width t → gone s c ≡ true → failed s c ≡ false → Sound (stripe_of t new.held s) c → ⊥
-  pub reads : told → (s c : ℕ) (b : List ℕ) → s < n → c < width t → read s c ≡ Some b → old.held (serving_at t s c) s ≡ Some b
+  pub missing : told → (s c : ℕ) → s < n → c < width t → gone s c ≡ true → failed s c ≡ false
+      → Sound (stripe_of t new.held s) c → ⊥
+  pub reads : told → (s c : ℕ) (b : List ℕ) → s < n → c < width t → read s c ≡ Some b
+      → old.held (serving_at t s c) s ≡ Some b
   pub finds : (s : ℕ) → s < n → FindsGone (width t) (as_read t read s) (gone s)
-  pub breaks : (s : ℕ) → s < n → Breaks t.data_columns t.parity (as_read t read s) (broke s) ⊎ Spared t.data_columns t.parity (as_read t read s) (broke s)
+  pub breaks : (s : ℕ) → s < n
+      → Breaks t.data_columns t.parity (as_read t read s) (broke s)
+      ⊎ Spared t.data_columns t.parity (as_read t read s) (broke s)
   pub log : now ≡ opening (width t) n gone broke
   pub replay : Replays t now u
   pub few : (number : ℕ) → FailedSo old new number (failures t failed n number)

@@ -1,23 +1,27 @@
 //! Archives by their numbers.
-ghost use Rattle.std.specs.Prelude.{◌≡◌, ◌<◌, ◌==◌, ◌↔◌, IsTrue, IfOk, IfErr, Contains, length, map};
+ghost use Rattle.std.specs.Prelude.{◌≡◌, ◌<◌, ◌≤◌, ◌==◌, ◌↔◌, [], IsTrue, IfOk, IfErr, Contains};
+ghost use Rattle.std.specs.Prelude.{length, map, vec_capacity};
 ghost use Rattle.std.specs.List.{position};
 ghost use Rattle.pot_steps.specs.Stripe.{digest_of};
 ghost use Rattle.pot_outside.specs.Archives.{Reads, Writes, Folds};
 ghost use Rattle.pot_shelves.specs.Shelves.{plain, numbers_of, OnShelves, OnShelf};
-ghost use Rattle.pot_shelves.specs.Shelves.{IsTaken, ReadsAt, WritesAt, FoldsAt, Brings};
+ghost use Rattle.pot_shelves.specs.Shelves.{IsTaken, IsOpenedNow, ReadsAt, WritesAt, FoldsAt};
+ghost use Rattle.pot_shelves.specs.Shelves.{Brings};
 
 use pot_bytes::{Block, Digest, digest_of};
 use pot_outside::{Archive, Failed, Held, Marks, Shelf};
 use std::alloc::{AllocError, Global};
 use std::marker::Model;
 
-/// Archives with their numbers and their marks at the time when they were taken. Contracts see them as `plain` data by
-/// number.
+/// Archives with their numbers, and their marks at the time when they were taken and when their table had been opened.
+/// Contracts see them as `plain` data by number.
 #[derive(Drop)]
 pub struct Archives<A: Archive> {
     shelves: Vec<Shelf<A>>,
     /// Of each shelf, in the same order.
     marks: Vec<Marks>,
+    /// Of each shelf, in the same order.
+    opened: Vec<Marks>,
 }
 
 impl<A: Archive> Model for Archives<A> {
@@ -26,9 +30,14 @@ impl<A: Archive> Model for Archives<A> {
 
     ghost Value = { Shelved A };
 
-    ghost view = { λ a. record { shelves = a.shelves.items; marks = a.marks.items } };
+    ghost view = { λ a. record {
+      shelves = a.shelves.items;
+      marks = a.marks.items;
+      opened = a.opened.items;
+    } };
 
-    ghost invariant = { λ a. length a.shelves.items ≡ length a.marks.items };
+    ghost invariant = { λ a. (length a.shelves.items ≡ length a.marks.items)
+        × (length a.shelves.items ≡ length a.opened.items) };
 }
 
 impl<A: Archive> Archives<A> {
@@ -38,20 +47,41 @@ impl<A: Archive> Archives<A> {
     /// The archives come back as they were, for want of memory alone.
     pub fn take(alloc: Global, shelves: Vec<Shelf<A>>) -> Result<Archives<A>, Vec<Shelf<A>>>
         ensures shown { IfOk result (λ s. s.shelves ≡ shelves.items) }
-        ensures taken { IfOk result (λ s. IsTaken (IsTrue A.account.tells) (plain A.account.meaning s)) }
+        ensures taken { IfOk result
+            (λ s. IsTaken (IsTrue A.account.tells) (plain A.account.meaning s)) }
         ensures refused { IfErr result (λ s. s ≡ shelves) }
     {
-        match marks_of(alloc, &shelves) {
-            Ok(marks) => Ok(Archives { shelves, marks }),
-            Err(AllocError) => Err(shelves),
-        }
+        let Ok(marks) = marks_of(alloc, &shelves) else {
+            return Err(shelves);
+        };
+        let Ok(opened) = marks_of(alloc, &shelves) else {
+            return Err(shelves);
+        };
+        Ok(Archives {
+            shelves,
+            marks,
+            opened,
+        })
+    }
+
+    /// Notes that their table has been opened: the marks of the opening are the counts now.
+    pub fn mark_opened(&mut self)
+        ensures same { self.new ≡ record self.old { opened = self.new.opened } }
+        ensures opened { IsOpenedNow (IsTrue A.account.tells) (plain A.account.meaning self.new) }
+    {
+        self.opened.clear();
+        mark_all(&self.shelves, &mut self.opened);
     }
 
     /// The archives, in the order in which they were taken and brought.
     pub fn hand_out(self) -> Vec<Shelf<A>>
         ensures { result.items ≡ self.shelves }
     {
-        let Archives { shelves, marks: _ } = self;
+        let Archives {
+            shelves,
+            marks: _,
+            opened: _,
+        } = self;
         shelves
     }
 
@@ -61,7 +91,8 @@ impl<A: Archive> Archives<A> {
     /// `Failed` only where the archive's count of faults rose.
     pub fn read(&mut self, number: u32, slot: u32, into: &mut Block) -> Result<Held, Failed>
         requires { Contains (plain A.account.meaning self.old).numbers number }
-        ensures { OnShelves A.account (λ told. ReadsAt told number slot into.new result) self.old self.new }
+        ensures { OnShelves A.account (λ told. ReadsAt told number slot into.new result) self.old
+            self.new }
     {
         read(&mut self.shelves, number, slot, into)
     }
@@ -80,7 +111,8 @@ impl<A: Archive> Archives<A> {
     pub fn bring(&mut self, shelf: Shelf<A>) -> Result<(), Shelf<A>>
         requires fresh { Contains (numbers_of self.old.shelves) shelf.number → ⊥ }
         ensures brought { IfOk result (λ u. OnShelves A.account
-            (λ told. Brings told shelf.number (A.account.meaning shelf.archive)) self.old self.new) }
+            (λ told. Brings told shelf.number (A.account.meaning shelf.archive)) self.old
+            self.new) }
         ensures refused { IfErr result (λ s. (s ≡ shelf) × (self.new ≡ self.old)) }
     {
         if self.shelves.reserve(1).is_err() {
@@ -89,8 +121,12 @@ impl<A: Archive> Archives<A> {
         if self.marks.reserve(1).is_err() {
             return Err(shelf);
         }
+        if self.opened.reserve(1).is_err() {
+            return Err(shelf);
+        }
         let marks = shelf.archive.marks();
         self.marks.push_reserved(marks);
+        self.opened.push_reserved(marks);
         self.shelves.push_reserved(shelf);
         Ok(())
     }
@@ -121,7 +157,8 @@ impl<A: Archive> Archives<A> {
     /// `Failed` only where the archive's count of faults rose; the slot then has the old block, the new one or none.
     pub fn write(&mut self, number: u32, slot: u32, block: &Block) -> Result<(), Failed>
         requires { Contains (plain A.account.meaning self.old).numbers number }
-        ensures { OnShelves A.account (λ told. WritesAt told number slot block.now result) self.old self.new }
+        ensures { OnShelves A.account (λ told. WritesAt told number slot block.now result) self.old
+            self.new }
     {
         write(&mut self.shelves, number, slot, block)
     }
@@ -135,10 +172,22 @@ fn marks_of<A: Archive>(alloc: Global, shelves: &[Shelf<A>]) -> Result<Vec<Marks
         ≡ map (λ s. (A.account.meaning s.archive).losses) shelves.now) }
 {
     let mut marks = Vec::with_capacity(alloc, shelves.len())?;
+    mark_all(shelves, &mut marks);
+    Ok(marks)
+}
+
+/// Fills an empty vector, which has room for them, with the marks of archives now, in the same order.
+fn mark_all<A: Archive>(shelves: &[Shelf<A>], marks: &mut Vec<Marks>)
+    requires empty { marks.old.items ≡ [] }
+    requires room { length shelves.now ≤ vec_capacity marks.old }
+    ensures faults { map (λ m. m.faults) marks.new.items
+        ≡ map (λ s. (A.account.meaning s.archive).faults) shelves.now }
+    ensures losses { IsTrue A.account.tells → map (λ m. m.losses) marks.new.items
+        ≡ map (λ s. (A.account.meaning s.archive).losses) shelves.now }
+{
     for shelf in shelves {
         marks.push_reserved(shelf.archive.marks());
     }
-    Ok(marks)
 }
 
 /// Reads a slot of the archive of this number.
@@ -149,7 +198,8 @@ fn read<A: Archive>(
     into: &mut Block,
 ) -> Result<Held, Failed>
     requires { Contains (numbers_of shelves.old.items) number }
-    ensures { OnShelf A.account number (λ told. Reads told slot into.new result) shelves.old.items shelves.new.items }
+    ensures { OnShelf A.account number (λ told. Reads told slot into.new result) shelves.old.items
+        shelves.new.items }
 {
     let place = place_of(shelves, number).unwrap();
     shelves[place].archive.read(slot, into)

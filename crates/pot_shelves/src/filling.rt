@@ -1,6 +1,7 @@
 //! Whether the blocks that were read of a stripe add up, and which slots break where they do not.
 ghost use Rattle.std.specs.Prelude.{◌≡◌, ◌≢◌, ◌≤◌, ◌↔◌, IsTrue, None, Some};
-ghost use Rattle.pot_shelves.specs.Filling.{IsApart, IsBroken, Suits, trial_of, partner, parity_slots, residue};
+ghost use Rattle.pot_shelves.specs.Filling.{IsApart, IsBroken, Suits, trial_of, partner};
+ghost use Rattle.pot_shelves.specs.Filling.{parity_slots, residue};
 
 use crate::archives::has_digest;
 use crate::opening::Shortage;
@@ -174,7 +175,8 @@ fn suits(sums: &Parity, data_columns: u8, parity_columns: u8, side: Side, out: u
 fn residue(sums: &Parity, data_columns: u8, parity_columns: u8, column: u8, out: u8) -> Block
     requires small { data_columns ≤ 16 }
     requires apart { out ≢ column }
-    ensures { result ≡ residue data_columns parity_columns column out sums.now.first sums.now.second }
+    ensures { result
+        ≡ residue data_columns parity_columns column out sums.now.first sums.now.second }
 {
     if parity_columns == 1 {
         return sums.first;

@@ -1,9 +1,9 @@
 //! Several archives by their numbers, and the opening of a table over them.
 //!
 //! `Archives` are what a group stands on. Each call names one of them by its number, and does to it what the call of
-//! that archive does. Contracts see them as plain data by number: the blocks held, the sums heard, the counts now and
-//! when each archive was taken (`Shelves`, by `plain`). What a call does is a relation of that data before and after it
-//! (`OnShelves`).
+//! that archive does. Contracts see them as plain data by number: the blocks held, the sums heard, the counts now, when
+//! each archive was taken and when the table had been opened (`Shelves`, by `plain`). What a call does is a relation of
+//! that data before and after it (`OnShelves`).
 //!
 //! `open_all` brings a table and its archives together. No table is trusted: the block of every Live slot is read, and
 //! it is logged by job 0 what is missing and what does not fit its stripe. `note` logs an entry and does it in the
@@ -14,7 +14,8 @@
 //!
 //! What `Archives` keep:
 //! 1. Each archive has a mark, its counts of faults and losses as it was taken or brought (the invariant of the type;
-//!    `IsTaken`, `Brings`). An archive that does not tell what it holds has no mark of losses.
+//!    `IsTaken`, `Brings`). An archive that does not tell what it holds has no mark of losses. `mark_opened` marks the
+//!    counts once more, after the opening (`IsOpenedNow`).
 //! 2. Their numbers and their order stay, and so do the marks; `bring` adds an archive at the end, and `hand_out` gives
 //!    all back in that order (`Keeps`). Of archives with one number the first counts.
 //! 3. No count of faults falls, and a call fails only where that of its archive rose (`Keeps`, `cause`).

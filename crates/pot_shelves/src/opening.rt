@@ -1,12 +1,14 @@
 //! The opening of a table: it is not trusted, and the block of every Live slot is read. The slots of a stripe are read
 //! first, then their blocks are digested side by side, and only then is it noted which are missing.
-ghost use Rattle.std.specs.Prelude.{◌≡◌, ◌<◌, ◌≤◌, ◌+◌, ◌↔◌, [], Bool, IsTrue, length, vec_len, vec_capacity};
+ghost use Rattle.std.specs.Prelude.{◌≡◌, ◌<◌, ◌≤◌, ◌+◌, ◌↔◌, [], Bool, IsTrue, length, vec_len};
+ghost use Rattle.std.specs.Prelude.{vec_capacity};
 ghost use Rattle.pot_bytes.specs.Rack.{log_bound};
 ghost use Rattle.pot_machine.specs.Table.{width};
 ghost use Rattle.pot_machine.specs.Machine.{InRange};
 ghost use Rattle.pot_steps.specs.Stripe.{digest_of};
 ghost use Rattle.pot_shelves.specs.Shelves.{Shelves, plain, OnShelves};
-ghost use Rattle.pot_shelves.specs.Opening.{HasArchives, is_held, ReadsSlot, OpensSlot, OpensColumns, OpensStripe};
+ghost use Rattle.pot_shelves.specs.Opening.{HasArchives, is_held, ReadsSlot, OpensSlot};
+ghost use Rattle.pot_shelves.specs.Opening.{OpensColumns, OpensStripe};
 ghost use Rattle.pot_shelves.specs.Opening.{Opens, short_by, first_by, second_by};
 ghost use Rattle.pot_machine.specs.declared.entry.Entry.TheVariants.{Broke};
 
@@ -65,7 +67,8 @@ pub fn open_all<A: Archive>(
     requires log { log.old.items ≡ [] }
     requires room { log_bound ≤ vec_capacity log.old }
     requires archives { HasArchives table.old (plain A.account.meaning archives.old).numbers }
-    ensures opens { OnShelves A.account (λ told. Opens told table.old.stripes table.old table.new log.new.items)
+    ensures opens { OnShelves A.account
+        (λ told. Opens told table.old.stripes table.old table.new log.new.items)
         archives.old archives.new }
     ensures room { log_bound ≤ vec_capacity log.new }
     ensures bound { length log.new.items ≤ log_bound }
@@ -88,7 +91,8 @@ fn open_stripe<A: Archive>(
     requires room { vec_len log.old + 20 ≤ vec_capacity log.old }
     requires archives { HasArchives table.old (plain A.account.meaning archives.old).numbers }
     ensures opens { OnShelves A.account
-        (λ told. OpensStripe told stripe table.old table.new log.old.items log.new.items) archives.old archives.new }
+        (λ told. OpensStripe told stripe table.old table.new log.old.items log.new.items)
+        archives.old archives.new }
     ensures capacity { vec_capacity log.old ≤ vec_capacity log.new }
     ensures bound { length log.new.items ≤ length log.old.items + 20 }
 {
@@ -129,8 +133,10 @@ fn open_columns<A: Archive>(
     requires stripe { stripe < table.old.stripes }
     requires room { vec_len log.old + width table.old ≤ vec_capacity log.old }
     requires archives { HasArchives table.old (plain A.account.meaning archives.old).numbers }
-    ensures opens { OnShelves A.account (λ told. OpensColumns told (width table.old) stripe table.old table.new
-        log.old.items log.new.items result sums.new.first sums.new.second) archives.old archives.new }
+    ensures opens { OnShelves A.account
+        (λ told. OpensColumns told (width table.old) stripe table.old table.new
+        log.old.items log.new.items result sums.new.first sums.new.second) archives.old
+        archives.new }
     ensures capacity { vec_capacity log.old ≤ vec_capacity log.new }
 {
     *sums = Parity::zero();
@@ -196,7 +202,8 @@ fn open_slot(
 /// Whether a read gave a block of the digest that is wanted. `digest` is that of the block that it gave.
 fn is_sound(reading: &Reading, digest: Digest, wanted: Digest) -> bool
     requires digest { IsTrue (is_held reading.now.answer) → digest ≡ digest_of reading.now.block }
-    ensures { IsTrue result ↔ IsTrue (is_held reading.now.answer) × (digest_of reading.now.block ≡ wanted) }
+    ensures { IsTrue result ↔ IsTrue (is_held reading.now.answer)
+        × (digest_of reading.now.block ≡ wanted) }
 {
     reading.is_held() && digest == wanted
 }

@@ -3,7 +3,8 @@ ghost use Rattle.std.specs.Prelude.{◌≡◌, ◌<◌, ◌≤◌, ◌+◌, IsTr
 ghost use Rattle.pot_machine.specs.Table.{width, serving_at};
 ghost use Rattle.pot_machine.specs.Machine.{InRange};
 ghost use Rattle.pot_shelves.specs.Shelves.{plain, OnShelves};
-ghost use Rattle.pot_shelves.specs.Opening.{HasArchives, is_held, ReadsSlot, ReadsColumns, AreDigests};
+ghost use Rattle.pot_shelves.specs.Opening.{HasArchives, is_held, ReadsSlot, ReadsColumns};
+ghost use Rattle.pot_shelves.specs.Opening.{AreDigests};
 
 use crate::archives::Archives;
 use pot_bytes::{Block, Digest, digest_of};
@@ -67,7 +68,8 @@ pub(crate) fn read_stripe<A: Archive>(
     requires stripe { stripe < table.now.stripes }
     requires archives { HasArchives table.now (plain A.account.meaning archives.old).numbers }
     ensures reads { OnShelves A.account
-        (λ told. ReadsColumns told (width table.now) stripe table.now reads.new.readings) archives.old archives.new }
+        (λ told. ReadsColumns told (width table.now) stripe table.now reads.new.readings)
+        archives.old archives.new }
     ensures digests { AreDigests 20 reads.new.readings reads.new.digests }
 {
     read_columns(table, archives, stripe, &mut reads.readings);
@@ -83,7 +85,8 @@ fn read_columns<A: Archive>(
 )
     requires stripe { stripe < table.now.stripes }
     requires archives { HasArchives table.now (plain A.account.meaning archives.old).numbers }
-    ensures { OnShelves A.account (λ told. ReadsColumns told (width table.now) stripe table.now readings.new)
+    ensures { OnShelves A.account
+        (λ told. ReadsColumns told (width table.now) stripe table.now readings.new)
         archives.old archives.new }
 {
     for column in 0..table.data_columns() + table.parity() {
@@ -106,7 +109,8 @@ fn read_slot<A: Archive>(
     reading: &mut Reading,
 )
     requires range { InRange table.now stripe column }
-    requires archives { Contains (plain A.account.meaning archives.old).numbers (serving_at table.now stripe column) }
+    requires archives { Contains (plain A.account.meaning archives.old).numbers
+        (serving_at table.now stripe column) }
     ensures { OnShelves A.account (λ told. ReadsSlot told stripe column table.now reading.new)
         archives.old archives.new }
 {
@@ -132,7 +136,8 @@ fn digest_all(readings: &[Reading; PLACES], digests: &mut [Digest; PLACES])
 /// the time of two.
 fn digest_next(readings: &[Reading; PLACES], digests: &mut [Digest; PLACES], place: usize)
     requires { place + 4 ≤ 20 }
-    ensures { AreDigests place readings.now digests.old → AreDigests (place + 4) readings.now digests.new }
+    ensures { AreDigests place readings.now digests.old
+        → AreDigests (place + 4) readings.now digests.new }
 {
     let first_two = readings[place].is_held() as u8 + readings[place + 1].is_held() as u8;
     let last_two = readings[place + 2].is_held() as u8 + readings[place + 3].is_held() as u8;
@@ -146,7 +151,8 @@ fn digest_next(readings: &[Reading; PLACES], digests: &mut [Digest; PLACES], pla
 /// Digests those of four blocks that were read, one by one.
 fn digest_singly(readings: &[Reading; PLACES], digests: &mut [Digest; PLACES], place: usize)
     requires { place + 4 ≤ 20 }
-    ensures { AreDigests place readings.now digests.old → AreDigests (place + 4) readings.now digests.new }
+    ensures { AreDigests place readings.now digests.old
+        → AreDigests (place + 4) readings.now digests.new }
 {
     for next in place..place + 4 {
         digest_one(readings, digests, next);
@@ -156,7 +162,8 @@ fn digest_singly(readings: &[Reading; PLACES], digests: &mut [Digest; PLACES], p
 /// Digests a block that was read.
 fn digest_one(readings: &[Reading; PLACES], digests: &mut [Digest; PLACES], place: usize)
     requires { place < 20 }
-    ensures { AreDigests place readings.now digests.old → AreDigests (place + 1) readings.now digests.new }
+    ensures { AreDigests place readings.now digests.old
+        → AreDigests (place + 1) readings.now digests.new }
 {
     let reading = &readings[place];
     if reading.is_held() {
@@ -167,7 +174,8 @@ fn digest_one(readings: &[Reading; PLACES], digests: &mut [Digest; PLACES], plac
 /// Digests four blocks side by side.
 fn digest_four(readings: &[Reading; PLACES], digests: &mut [Digest; PLACES], place: usize)
     requires { place + 4 ≤ 20 }
-    ensures { AreDigests place readings.now digests.old → AreDigests (place + 4) readings.now digests.new }
+    ensures { AreDigests place readings.now digests.old
+        → AreDigests (place + 4) readings.now digests.new }
 {
     let [first, second, third, fourth] = digests_of_four(
         &readings[place].block,

@@ -1,4 +1,4 @@
-use Rattle.std.proofs.Common.{◌≡◌, ◌<◌, ◌≤◌, IsTrue, [], append-nil, length, refl, subst, sym, ◌∙◌, arith, rules}
+use Rattle.std.proofs.Common.{◌≡◌, ◌<◌, IsTrue, [], append-nil, length, refl, subst, sym, ◌∙◌, arith, rules}
 use Rattle.pot_group.specs.Relaying.{Advances}
 use Rattle.pot_group.specs.Group.{GroupParts, view_of}
 use Rattle.pot_group.proofs.AdvanceSteps.{idle_step, found_over}

@@ -1,4 +1,4 @@
-use Rattle.std.proofs.Common.{◌≡◌, ◌<◌, IsTrue, refl, length, ap, subst, sym, ◌∙◌, arith}
+use Rattle.std.proofs.Common.{◌≡◌, ◌<◌, IsTrue, length, ap, subst, sym, ◌∙◌, arith}
 use Rattle.pot_machine.specs.declared.entry.Entry.TheVariants as entry
 use Rattle.pot_group.specs.declared.answers.Looked.TheVariants as looked
 use Rattle.pot_group.specs.Group.{GroupParts, view_of, noted}

@@ -1,4 +1,4 @@
-use Rattle.std.proofs.Common.{◌<◌, IsTrue, Err, ap, subst, sym}
+use Rattle.std.proofs.Common.{◌<◌, IsTrue, Err, subst, sym}
 use Rattle.pot_group.specs.declared.relaying.BeginFault.{BeginFault}
 use Rattle.pot_group.specs.declared.relaying.Mend.{Mend}
 use Rattle.pot_group.specs.Group.{GroupView, view_of}

@@ -8,6 +8,6 @@ returns g c =
     subst
     (λ (v : Shelved g.row.A.Denot). ReadsAt (IsTrue g.A.Archive.account.tells) c.args.number c.args.slot c.read.new.into c.read.result
     (plain g.A.Archive.account.meaning v)
-    (plain g.A.Archive.account.meaning (record { shelves = c.read.new.shelves.items; marks = c.self.inside.marks.items })))
+    (plain g.A.Archive.account.meaning (record { shelves = c.read.new.shelves.items; marks = c.self.inside.marks.items; opened = c.self.inside.opened.items })))
     c.self.view_is
-    (answers (IsTrue g.A.Archive.account.tells) g.A.Archive.account.meaning c.self.inside.marks.items c.args.number c.args.slot c.read.new.into c.read.result c.self.inside.shelves.items c.read.new.shelves.items c.read.ensures)
+    (answers (IsTrue g.A.Archive.account.tells) g.A.Archive.account.meaning c.self.inside.marks.items c.self.inside.opened.items c.args.number c.args.slot c.read.new.into c.read.result c.self.inside.shelves.items c.read.new.shelves.items c.read.ensures)

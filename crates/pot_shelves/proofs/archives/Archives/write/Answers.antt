@@ -8,6 +8,6 @@ returns g c =
     subst
     (λ (v : Shelved g.row.A.Denot). WritesAt (IsTrue g.A.Archive.account.tells) c.args.number c.args.slot c.args.block.now c.write.result
     (plain g.A.Archive.account.meaning v)
-    (plain g.A.Archive.account.meaning (record { shelves = c.write.new.shelves.items; marks = c.self.inside.marks.items })))
+    (plain g.A.Archive.account.meaning (record { shelves = c.write.new.shelves.items; marks = c.self.inside.marks.items; opened = c.self.inside.opened.items })))
     c.self.view_is
-    (writes (IsTrue g.A.Archive.account.tells) g.A.Archive.account.meaning c.self.inside.marks.items c.args.number c.args.slot c.args.block.now c.write.result c.self.inside.shelves.items c.write.new.shelves.items c.write.ensures)
+    (writes (IsTrue g.A.Archive.account.tells) g.A.Archive.account.meaning c.self.inside.marks.items c.self.inside.opened.items c.args.number c.args.slot c.args.block.now c.write.result c.self.inside.shelves.items c.write.new.shelves.items c.write.ensures)

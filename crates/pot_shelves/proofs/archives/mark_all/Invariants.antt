@@ -1,6 +1,6 @@
 use Rattle.std.proofs.Common.{◌≡◌, ◌≤◌, IsTrue, length, map, take}
 use Rattle.std.specs.Prelude.{vec_len, vec_capacity}
-use Rattle.pot_shelves.proofs.archives.marks_of.Given as goal
+use Rattle.pot_shelves.proofs.archives.mark_all.Given as goal
 
 abbrev pub invariant-loop-shelf : goal.invariant-loop-shelf
 invariant-loop-shelf g l = record {
