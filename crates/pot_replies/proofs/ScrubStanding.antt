@@ -11,9 +11,9 @@ use Rattle.pot_machine.specs.Logs.{own, replayed}
 use Rattle.pot_replies.specs.Jobs.{is_seen, is_gone, is_mended, is_left, is_relay, is_move_of, is_copied, place_in, EachIs, Ascend}
 use Rattle.pot_replies.specs.Sections.{Section, Mine, mine, Widens, IsOnlyIn, AlwaysAt}
 use Rattle.pot_replies.specs.Settings.{Setting}
-use Rattle.pot_replies.specs.Scrubs.{AreLooks, AreRelays, WasAt}
-use Rattle.pot_replies.specs.Laws.{ScrubbedStands, ScrubLogFullStands, RepairedStands, RepairFaultStands, RepairLogFullStands, MigratedStands, StepLogFullStands}
-use Rattle.pot_replies.proofs.Standing.{same_own, mine_stays, moment_stands, mends_stand}
+use Rattle.pot_replies.specs.Scrubs.{AreLooks, AreRelays, PassesOnce, WasAt, WereLive}
+use Rattle.pot_replies.specs.Laws.{ScrubbedStands, ScrubFaultStands, ScrubLogFullStands, RepairedStands, RepairFaultStands, RepairLogFullStands, MigratedStands, StepLogFullStands}
+use Rattle.pot_replies.proofs.Standing.{ahead, same_own, mine_stays, moment_stands, mends_stand}
 
 module _ (job : ℕ) (w w' : Section) (wide : Widens job w w') where
   only_stands : (g : ℕ) → IsOnlyIn g (mine job w) → IsOnlyIn g (mine job w')
@@ -33,6 +33,11 @@ module _ (job : ℕ) (w w' : Section) (wide : Widens job w w') where
     subst (λ l. IsTrue (test (slot_at (replayed (s.first g) (l ++ x)) n c))) (sym (wide.before g)) is,
   )
 
+  live_stands : (s : Setting) (g : ℕ) → WereLive job (s.first g) (w.before g) (w.added g) → WereLive job (s.first g) (w'.before g) (w'.added g)
+  live_stands s g live x y e at its =
+      let front = ahead job (w.added g) (wide.more g) x e y (wide.others g) its (sym (wide.added g) ∙ at) in
+      subst (λ l. PassesOnce is_live (s.first g) l x (place_in e).0 (place_in e).1) (sym (wide.before g)) (live x front.0 e front.1 its)
+
   looks_stand : (g : ℕ) → AreLooks (own job (w.added g)) → AreLooks (own job (w'.added g))
   looks_stand g is = subst AreLooks (sym (same_own job w w' wide g)) is
 
@@ -48,7 +53,19 @@ scrubbed_stands s job g seen gone w w' wide is =
       gone_is = is.gone_is ∙ ap (λ es. length (filter is_gone es)) same;
       all = λ n c lt lt2 always.
           subst (λ es. Contains es (Seen job n c) ⊎ Contains es (Gone job n c)) same (is.all n c lt lt2 (always_in job w w' wide s is_live g n c always));
+      live = live_stands job w w' wide s g is.live;
     }
+
+pub scrub_fault_stands : ScrubFaultStands
+scrub_fault_stands s job g column w w' wide is = record {
+  looks = is.looks;
+  stripe = is.stripe;
+  own_is = same_own job w w' wide g ∙ is.own_is;
+  kinds = is.kinds;
+  ascends = is.ascends;
+  only = only_stands job w w' wide g is.only;
+  live = live_stands job w w' wide s g is.live;
+}
 
 pub scrub_log_full_stands : ScrubLogFullStands
 scrub_log_full_stands s job g w w' wide is = record {
@@ -63,6 +80,7 @@ scrub_log_full_stands s job g w w' wide is = record {
   in_columns = is.in_columns;
   behind = subst (λ es. Ascend (map place_in es ++ (is.stripe, is.column) ∷ [])) (sym (same_own job w w' wide g)) is.behind;
   was = was_stands job w w' wide s g is_live is.stripe is.column is.was;
+  live = live_stands job w w' wide s g is.live;
 }
 
 pub repaired_stands : RepairedStands

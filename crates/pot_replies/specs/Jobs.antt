@@ -1,7 +1,10 @@
 -- Of what kind an entry in the log of a group is.
-use Rattle.std.specs.Prelude.{◌≡◌, ◌<◌, ◌⊎◌, ℕ, ◌==◌, ◌&&◌, Bool, true, false, List, [], ◌∷◌, Contains}
+use Rattle.std.specs.Prelude.{◌≡◌, ◌<◌, ◌⊎◌, ℕ, ◌==◌, ◌&&◌, Bool, true, false, List, [], ◌∷◌}
+use Rattle.std.specs.Prelude.{Contains}
 use Rattle.pot_machine.specs.declared.entry.Entry.{Entry}
-use Rattle.pot_machine.specs.declared.entry.Entry.TheVariants.{Seen, Gone, Begin, Hop, Mended, GaveUp, Oddly, Stuck, MoveBegin, Moved, MoveEnd}
+use Rattle.pot_machine.specs.declared.entry.Entry.TheVariants.{Seen, Gone, Fault, Begin, Hop}
+use Rattle.pot_machine.specs.declared.entry.Entry.TheVariants.{Mended, GaveUp, Oddly, Stuck}
+use Rattle.pot_machine.specs.declared.entry.Entry.TheVariants.{MoveBegin, Moved, MoveEnd}
 
 abbrev pub is_seen : Entry → Bool
 is_seen (Seen job s c) = true
@@ -76,10 +79,11 @@ is_copied _ = false
 abbrev pub EachIs : (Entry → Bool) → List Entry → Type 0
 EachIs test entries = (e : Entry) → Contains entries e → test e ≡ true
 
--- the places of looks
+-- the places of looks, and of what failed
 abbrev pub place_in : Entry → ℕ × ℕ
 place_in (Seen job s c) = (s, c)
 place_in (Gone job s c) = (s, c)
+place_in (Fault job s c) = (s, c)
 place_in _ = (0, 0)
 
 -- a place comes before another, by stripe and then by column

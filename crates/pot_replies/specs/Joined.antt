@@ -19,18 +19,22 @@ abbrev pub share_in : Option (List ℕ) → List ℕ
 share_in None = []
 share_in (Some b) = drop 32 b
 
--- the points, from 1, of those that were read of the first n, in order, and the shares that stand in them from byte 32 on
+-- the points, from 1, of those that were read of the first n, in order, and the shares that stand
+-- in them from byte 32 on
 abbrev pub points_read : ℕ → Read → List ℕ
 points_read n read = flat_map (λ x. point_in x (read x)) (range_with_len 0 n)
 
 abbrev pub shares_read : ℕ → Read → List ℕ
 shares_read n read = flat_map (λ x. share_in (read x)) (range_with_len 0 n)
 
--- The shares of each fragment are joined to a content; the contents of a piece from byte 64 on are XORed to an object; and what
--- stands in the objects from byte 64 on, one after another, is cut to the length of the file. No digest of theirs is looked at.
+-- The shares of each fragment are joined to a content; the contents of a piece from byte 64 on are
+-- XORed to an object; and what stands in the objects from byte 64 on, one after another, is cut to
+-- the length of the file. No digest of theirs is looked at.
 pub record AreJoined (kept : Record) (block : ℕ → ℕ → Read) (bytes : List ℕ) : Type 0 where
   pub contents : ℕ → ℕ → List ℕ
-  pub long : (i j : ℕ) → i < pieces_of kept.length → j < kept.geometry.fragments → length (contents i j) ≡ content_size
+  pub long : (i j : ℕ) → i < pieces_of kept.length → j < kept.geometry.fragments
+      → length (contents i j) ≡ content_size
   pub joined : (i j : ℕ) → i < pieces_of kept.length → j < kept.geometry.fragments
-      → IsJoin (points_read kept.geometry.shards (block i j)) (shares_read kept.geometry.shards (block i j)) (contents i j)
+      → IsJoin (points_read kept.geometry.shards (block i j))
+      (shares_read kept.geometry.shards (block i j)) (contents i j)
   pub bytes_are : bytes ≡ cut_to kept.length (λ i. xor_of (contents i) kept.geometry.fragments)

@@ -1,5 +1,6 @@
 -- The replies that say that the index log is full, and those to `list` and `status`.
-use Rattle.std.specs.Prelude.{◌≡◌, ◌<◌, ◌≤◌, ℕ, ◌+◌, List, [], ◌∷◌, ◌++◌, length, map, count_by, slice_get, Some}
+use Rattle.std.specs.Prelude.{◌≡◌, ◌<◌, ◌≤◌, ℕ, ◌+◌, List, [], ◌∷◌, ◌++◌, length, map, count_by}
+use Rattle.std.specs.Prelude.{slice_get, Some}
 use Rattle.pot_bytes.specs.Rack.{log_bound}
 use Rattle.pot_machine.specs.declared.entry.Entry.{Entry}
 use Rattle.pot_machine.specs.declared.entry.Entry.TheVariants.{Counted}
@@ -13,11 +14,13 @@ use Rattle.pot_index.specs.declared.listed.Listed as listed
 use Rattle.pot_index.specs.Entries.{plain}
 use Rattle.pot_index.specs.Index.{names_read}
 use Rattle.pot_index.specs.Calls.{listed_of}
-use Rattle.pot_replies.specs.Sections.{Section, mine, Moment, IndexMoment, NoneInGroups, IsSilent, names_after}
+use Rattle.pot_replies.specs.Sections.{Section, mine, Moment, IndexMoment, NoneInGroups, IsSilent}
+use Rattle.pot_replies.specs.Sections.{names_after}
 use Rattle.pot_replies.specs.Settings.{Setting}
 
--- `logfull index`: the job logged nothing, and at the moment the index log had no room for `n` more entries beside those that
--- it owes to the reserved names. A store asks for 2, and a fetch and a list for 1.
+-- `logfull index`: the job logged nothing, and at the moment the index log had no room for `n` more
+-- entries beside those that it owes to the reserved names. A store asks for 2, and a fetch and a
+-- list for 1.
 pub record IsIndexFull (s : Setting) (n job : ℕ) (w : Section) : Type 0 where
   pub silent : IsSilent (mine job w)
   pub log : List Logged
@@ -29,13 +32,15 @@ abbrev pub IsStoreIndexFull : Setting → ℕ → ℕ → Section → Type 0
 IsStoreIndexFull s size job w = (size ≤ longest) × IsIndexFull s 2 job w
 
 -- `names`: the published names at the Listed entry, in order, each with the length of its file
-pub record IsListed (s : Setting) (job : ℕ) (names : List listed.Listed) (w : Section) : Type 0 where
+pub record IsListed (s : Setting) (job : ℕ) (names : List listed.Listed)
+    (w : Section) : Type 0 where
   pub groups : NoneInGroups (mine job w)
   pub index : (mine job w).index ≡ plain (Listed job) ∷ []
   pub sofar : List Logged
   pub later : List Logged
   pub at : w.index_added ≡ sofar ++ plain (Listed job) ∷ later
-  pub are : names ≡ map listed_of (names_after (names_read s.read) (w.index_before ++ sofar)).published
+  pub are : names
+      ≡ map listed_of (names_after (names_read s.read) (w.index_before ++ sofar)).published
 
 -- what the line of a group says of its table
 pub record Counts : Type 0 where
@@ -47,7 +52,14 @@ pub record Counts : Type 0 where
 
 -- the slots of each kind, and the cursor
 abbrev pub counts_of : Table → Counts
-counts_of t = record { live = count_by is_live t.slots; lost = count_by is_lost t.slots; broken = count_by is_broken t.slots; stripe = t.cursor.stripe; column = t.cursor.column }
+counts_of t =
+    record {
+      live = count_by is_live t.slots;
+      lost = count_by is_lost t.slots;
+      broken = count_by is_broken t.slots;
+      stripe = t.cursor.stripe;
+      column = t.cursor.column;
+    }
 
 -- the line of a group: its counts at the Counted entry
 pub record IsCounted (s : Setting) (job g : ℕ) (counts : Counts) (w : Section) : Type 0 where
@@ -76,5 +88,6 @@ IsStatusLine s job g GroupFull w = IsUncounted job g w
 pub record IsStatus (s : Setting) (job : ℕ) (lines : List StatusLine) (w : Section) : Type 0 where
   pub index : (mine job w).index ≡ []
   pub count : length lines ≡ s.rack.groups
-  pub each : (g : ℕ) (line : StatusLine) → slice_get lines g ≡ Some line → IsStatusLine s job g line w
+  pub each : (g : ℕ) (line : StatusLine) → slice_get lines g ≡ Some line
+      → IsStatusLine s job g line w
   pub elsewhere : (g : ℕ) → s.rack.groups ≤ g → own job (w.added g) ≡ []

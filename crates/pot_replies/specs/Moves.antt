@@ -1,6 +1,7 @@
--- The replies to `replace` and `migrate`, each as the job's own entries give it. Those to `migrate` are judged on the moves
--- that the batch began and on its work.
-use Rattle.std.specs.Prelude.{◌≡◌, ◌≢◌, ◌<◌, ◌⊎◌, ℕ, List, [], ◌∷◌, ◌++◌, Option, Some, None, IsSome, length, filter, Contains}
+-- The replies to `replace` and `migrate`, each as the job's own entries give it. Those to `migrate`
+-- are judged on the moves that the batch began and on its work.
+use Rattle.std.specs.Prelude.{◌≡◌, ◌≢◌, ◌<◌, ◌⊎◌, ℕ, List, [], ◌∷◌, ◌++◌, Option, Some, None}
+use Rattle.std.specs.Prelude.{IsSome, length, filter, Contains}
 use Rattle.pot_bytes.specs.Rack.{log_bound}
 use Rattle.pot_machine.specs.declared.entry.Entry.{Entry}
 use Rattle.pot_machine.specs.declared.entry.Entry.TheVariants.{Fault, MoveBegin, MoveEnd, Swapped}
@@ -23,24 +24,33 @@ pub record HasHome (s : Setting) (logs : ℕ → List Entry) (from g c : ℕ) : 
 abbrev pub moving_at : Setting → (ℕ → List Entry) → ℕ → ℕ → Option Moving
 moving_at s logs g c = (column_at (replayed (s.first g) (logs g)) c).moving
 
--- some table of the replay of some log had the number as a home or as a target, so the archive has a use, be it that it is retired
+-- some table of the replay of some log had the number as a home or as a target, so the archive has
+-- a use, be it that it is retired
 abbrev pub IsUsed : Setting → (ℕ → List Entry) → ℕ → Type 0
-IsUsed s logs number = (g : ℕ) × (g < s.rack.groups) × ((x : List Entry) × (y : List Entry) × (logs g ≡ x ++ y) × IsSome (holder_of (replayed (s.first g) x) number))
+IsUsed s logs number =
+    (g : ℕ) × (g < s.rack.groups)
+    × ((x : List Entry) × (y : List Entry) × (logs g ≡ x ++ y)
+    × IsSome (holder_of (replayed (s.first g) x) number))
 
 abbrev pub NoHome : Setting → (ℕ → List Entry) → ℕ → Type 0
 NoHome s logs from = (g c : ℕ) → HasHome s logs from g c → ⊥
 
 abbrev pub GoesElsewhere : Setting → (ℕ → List Entry) → ℕ → ℕ → Type 0
-GoesElsewhere s logs from to = (g : ℕ) × (c : ℕ) × HasHome s logs from g c × ((m : Moving) × (moving_at s logs g c ≡ Some m) × (m.to ≢ to))
+GoesElsewhere s logs from to =
+    (g : ℕ) × (c : ℕ) × HasHome s logs from g c
+    × ((m : Moving) × (moving_at s logs g c ≡ Some m) × (m.to ≢ to))
 
 abbrev pub IsTakenTo : Setting → (ℕ → List Entry) → ℕ → ℕ → Type 0
-IsTakenTo s logs from to = (g : ℕ) × (c : ℕ) × HasHome s logs from g c × (moving_at s logs g c ≡ None) × IsUsed s logs to
+IsTakenTo s logs from to =
+    (g : ℕ) × (c : ℕ) × HasHome s logs from g c × (moving_at s logs g c ≡ None) × IsUsed s logs to
 
 abbrev pub MayBegin : Setting → (ℕ → List Entry) → ℕ → ℕ → ℕ → ℕ → Type 0
-MayBegin s logs from to g c = HasHome s logs from g c × (moving_at s logs g c ≡ None) × (IsUsed s logs to → ⊥)
+MayBegin s logs from to g c =
+    HasHome s logs from g c × (moving_at s logs g c ≡ None) × (IsUsed s logs to → ⊥)
 
 abbrev pub MayGoOn : Setting → (ℕ → List Entry) → ℕ → ℕ → ℕ → ℕ → Type 0
-MayGoOn s logs from to g c = HasHome s logs from g c × ((m : Moving) × (moving_at s logs g c ≡ Some m) × (m.to ≡ to))
+MayGoOn s logs from to g c =
+    HasHome s logs from g c × ((m : Moving) × (moving_at s logs g c ≡ Some m) × (m.to ≡ to))
 
 -- REPLACE, a command alone
 
@@ -50,7 +60,8 @@ IsNoHome s from m = NoHome s m.before from × IsSilent m
 
 -- `inuse`, of the new archive
 abbrev pub IsInUse : Setting → ℕ → ℕ → Mine → Type 0
-IsInUse s from to m = ((g : ℕ) × (c : ℕ) × HasHome s m.before from g c) × IsUsed s m.before to × IsSilent m
+IsInUse s from to m =
+    ((g : ℕ) × (c : ℕ) × HasHome s m.before from g c) × IsUsed s m.before to × IsSilent m
 
 -- `replaced`: the home of a column became another, and so many Live slots went with it
 pub record IsReplaced (s : Setting) (job from to slots : ℕ) (m : Mine) : Type 0 where
@@ -60,7 +71,9 @@ pub record IsReplaced (s : Setting) (job from to slots : ℕ) (m : Mine) : Type 
   pub free : IsUsed s m.before to → ⊥
   pub own_is : m.own group ≡ Swapped job column to ∷ []
   pub only : IsOnlyIn group m
-  pub slots_is : slots ≡ count (s.first group).stripes (λ n. is_live (slot_at (replayed (s.first group) (m.before group)) n column))
+  pub slots_is : slots
+      ≡ count (s.first group).stripes
+      (λ n. is_live (slot_at (replayed (s.first group) (m.before group)) n column))
 
 -- `logfull g`
 pub record IsReplaceLogFull (s : Setting) (from to g : ℕ) (m : Mine) : Type 0 where
@@ -70,8 +83,8 @@ pub record IsReplaceLogFull (s : Setting) (from to g : ℕ) (m : Mine) : Type 0 
   pub silent : IsSilent m
   pub full : length (m.before g) ≡ log_bound
 
--- MIGRATE, a line of a batch or alone. `before` and `begun` are the logs before the command and the moves that it began; w is its
--- work.
+-- MIGRATE, a line of a batch or alone. `before` and `begun` are the logs before the command and the
+-- moves that it began; w is its work.
 
 module _ (s : Setting) (before begun : ℕ → List Entry) (job from to : ℕ) where
   -- the logs when the line was checked
@@ -89,7 +102,9 @@ module _ (s : Setting) (before begun : ℕ → List Entry) (job from to : ℕ) w
   -- `inuse`, of either archive
   abbrev pub IsMigrateInUse : ℕ → Mine → Type 0
   IsMigrateInUse number m =
-      (((number ≡ from) × GoesElsewhere s at_check from to) ⊎ ((number ≡ to) × IsTakenTo s at_check from to)) × BeganNone × IsSilent m
+      (((number ≡ from) × GoesElsewhere s at_check from to)
+      ⊎ ((number ≡ to) × IsTakenTo s at_check from to))
+      × BeganNone × IsSilent m
 
   -- the line began the move of the column, or goes on with one that stood
   abbrev pub Begins : ℕ → ℕ → Type 0

@@ -1,6 +1,8 @@
--- The logs of a session, in sections: each log is what the opening logged, and then what each command added, a batch being
--- one command. A reply is judged on the section of its command and on what stood before.
-use Rattle.std.specs.Prelude.{◌≡◌, ◌≢◌, ◌<◌, ◌≤◌, ℕ, ◌+◌, Bool, nat_lt, List, [], ◌∷◌, ◌++◌, filter, IsTrue}
+-- The logs of a session, in sections: each log is what the opening logged, and then what each
+-- command added, a batch being one command. A reply is judged on the section of its command and on
+-- what stood before.
+use Rattle.std.specs.Prelude.{◌≡◌, ◌≢◌, ◌<◌, ◌≤◌, ℕ, ◌+◌, Bool, nat_lt, List, [], ◌∷◌, ◌++◌, filter}
+use Rattle.std.specs.Prelude.{IsTrue}
 use Rattle.pot_machine.specs.declared.entry.Entry.{Entry}
 use Rattle.pot_machine.specs.declared.slot.SlotState.{SlotState}
 use Rattle.pot_machine.specs.Table.{Table, slot_at}
@@ -27,7 +29,13 @@ pub record Mine : Type 0 where
   pub index : List Logged
 
 abbrev pub mine : ℕ → Section → Mine
-mine job w = record { before = w.before; own = λ g. own job (w.added g); index_before = w.index_before; index = index.own job w.index_added }
+mine job w =
+    record {
+      before = w.before;
+      own = λ g. own job (w.added g);
+      index_before = w.index_before;
+      index = index.own job w.index_added;
+    }
 
 -- the names that a log of the index leads to
 abbrev pub names_after : Names → List Logged → Names
@@ -52,7 +60,8 @@ pub record IndexMoment (job : ℕ) (before added log : List Logged) : Type 0 whe
 
 -- at each point of what was added the slot passes the test; both ends are points
 abbrev pub AlwaysAt : (SlotState → Bool) → Table → List Entry → ℕ → ℕ → Type 0
-AlwaysAt test t added s c = (x y : List Entry) → added ≡ x ++ y → IsTrue (test (slot_at (replayed t x) s c))
+AlwaysAt test t added s c =
+    (x y : List Entry) → added ≡ x ++ y → IsTrue (test (slot_at (replayed t x) s c))
 
 -- the job logged nothing in any group; nothing anywhere; nothing but in one group
 abbrev pub NoneInGroups : Mine → Type 0
@@ -83,8 +92,10 @@ IsAmong from n job = (from ≤ job) × (job < from + n)
 
 -- each entry is of one of these jobs
 pub record IsOfJobs (from n : ℕ) (w : Section) : Type 0 where
-  pub groups : (g : ℕ) (x y : List Entry) (e : Entry) → w.added g ≡ x ++ e ∷ y → IsAmong from n (job_of e)
-  pub index : (x y : List Logged) (e : Logged) → w.index_added ≡ x ++ e ∷ y → IsAmong from n (job_in e.entry)
+  pub groups : (g : ℕ) (x y : List Entry) (e : Entry) → w.added g ≡ x ++ e ∷ y
+      → IsAmong from n (job_of e)
+  pub index : (x y : List Logged) (e : Logged) → w.index_added ≡ x ++ e ∷ y
+      → IsAmong from n (job_in e.entry)
 
 -- one section and then the rest are the whole
 pub record Follows (one rest whole : Section) : Type 0 where
@@ -118,8 +129,15 @@ pub record Halves (w : Section) : Type 0 where
 
 -- the section on which the work of each line is judged
 abbrev pub work_of : (w : Section) → Halves w → Section
-work_of w h = record { before = λ g. w.before g ++ h.begun g; added = h.worked; index_before = w.index_before; index_added = w.index_added }
+work_of w h =
+    record {
+      before = λ g. w.before g ++ h.begun g;
+      added = h.worked;
+      index_before = w.index_before;
+      index_added = w.index_added;
+    }
 
--- the log of a group when the line of this job was checked: after the moves that earlier lines began, and before all else
+-- the log of a group when the line of this job was checked: after the moves that earlier lines
+-- began, and before all else
 abbrev pub checked : (ℕ → List Entry) → (ℕ → List Entry) → ℕ → ℕ → List Entry
 checked before begun job g = before g ++ filter (λ e. nat_lt (job_of e) job) (begun g)

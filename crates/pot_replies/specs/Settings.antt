@@ -11,7 +11,8 @@ pub record Setting : Type 0 where
   -- as read from the image: the table of each group, and the published records
   pub first : ℕ → Table
   pub read : List Record
-  -- by geometry, job and file the digests of the blocks of the file, made with the job's random bytes
+  -- by geometry, job and file the digests of the blocks of the file, made with the job's random
+  -- bytes
   pub digests : Geometry → ℕ → List ℕ → List Digest
   -- whether a fetch mends what it finds missing; else a place that is Gone once can't be had
   pub mends : Bool

@@ -1,5 +1,7 @@
 -- The replies to `store`, each as the job's own entries give it.
-use Rattle.std.specs.Prelude.{◌≡◌, ◌≢◌, ◌<◌, ◌≤◌, ◌⊎◌, ◌==◌, ℕ, ◌+◌, Bool, true, false, List, [], ◌∷◌, ◌++◌, Option, Some, None, length, map, filter, slice_get}
+use Rattle.std.specs.Prelude.{◌≡◌, ◌≢◌, ◌<◌, ◌≤◌, ◌⊎◌, ◌==◌, ℕ, ◌+◌, Bool, true, false, List, []}
+use Rattle.std.specs.Prelude.{◌∷◌, ◌++◌, Option, Some, None, length, map, filter, slice_get}
+use Rattle.pot_bytes.specs.Lists.{AreBytes}
 use Rattle.pot_bytes.specs.declared.digest.Digest.{Digest}
 use Rattle.pot_bytes.specs.declared.rack.Geometry.{Geometry}
 use Rattle.pot_bytes.specs.declared.rack.Place.{Place}
@@ -33,23 +35,31 @@ in_group g placed = filter (λ x. x.group == g) placed
 
 -- each block stands in the group of its number
 abbrev pub AreSpread : Setting → Geometry → List Placed → Type 0
-AreSpread s geometry placed = (b : ℕ) (x : Placed) → slice_get placed b ≡ Some x → x.group ≡ group_of s.rack geometry b
+AreSpread s geometry placed =
+    (b : ℕ) (x : Placed) → slice_get placed b ≡ Some x → x.group ≡ group_of s.rack geometry b
 
--- These entries put these blocks, one after another, and nothing else: for each the stripes passed, and the put.
+-- These entries put these blocks, one after another, and nothing else: for each the stripes passed,
+-- and the put.
 abbrev pub Puts : ℕ → List Placed → List Entry → Type 0
 Puts job [] entries = entries ≡ []
 Puts job (x ∷ xs) entries =
-    (passed : List Passed) × (e : Entry) × (rest : List Entry) × IsKeptPut job x.stripe x.column x.digest e × (entries ≡ (skips job passed ++ e ∷ []) ++ rest) × Puts job xs rest
+    (passed : List Passed) × (e : Entry) × (rest : List Entry)
+    × IsKeptPut job x.stripe x.column x.digest e
+    × (entries ≡ (skips job passed ++ e ∷ []) ++ rest) × Puts job xs rest
 
--- a put of a block of this digest that did not keep its parity blocks; the column is that of the first one not kept
+-- a put of a block of this digest that did not keep its parity blocks; the column is that of the
+-- first one not kept
 abbrev pub IsUnkept : ℕ → ℕ → Digest → ℕ → Entry → Type 0
 IsUnkept data_columns job d column e =
     ((s : ℕ) × (c : ℕ) × (p : Digest) × (e ≡ Put job s c d p false) × (column ≡ data_columns))
-    ⊎ (((s : ℕ) × (c : ℕ) × (p : Digest) × (q : Digest) × (k : Bool) × (e ≡ Put2 job s c d p q false k) × (column ≡ data_columns))
-    ⊎ ((s : ℕ) × (c : ℕ) × (p : Digest) × (q : Digest) × (e ≡ Put2 job s c d p q true false) × (column ≡ data_columns + 1)))
+    ⊎ (((s : ℕ) × (c : ℕ) × (p : Digest) × (q : Digest) × (k : Bool)
+    × (e ≡ Put2 job s c d p q false k) × (column ≡ data_columns))
+    ⊎ ((s : ℕ) × (c : ℕ) × (p : Digest) × (q : Digest) × (e ≡ Put2 job s c d p q true false)
+    × (column ≡ data_columns + 1)))
 
 -- the record of a file whose blocks were placed so
-pub record IsRecord (s : Setting) (name file : List ℕ) (placed : List Placed) (kept : Record) : Type 0 where
+pub record IsRecord (s : Setting) (name file : List ℕ) (placed : List Placed)
+    (kept : Record) : Type 0 where
   pub named : kept.name ≡ name
   pub long : kept.length ≡ length file
   pub digest : kept.digest ≡ digest_of file
@@ -68,13 +78,17 @@ pub record IsTaken (job : ℕ) (name : List ℕ) (size : ℕ) (m : Mine) : Type 
   pub index : m.index ≡ plain (Taken job name) ∷ []
   pub groups : NoneInGroups m
 
--- `stored`: the name was reserved; the blocks of the file were put, each in its own group, in order; and a record of their
--- places, with the file's length and digest, was published.
-pub record IsStored (s : Setting) (job : ℕ) (name file : List ℕ) (pieces shards : ℕ) (m : Mine) : Type 0 where
+-- `stored`: the items of the file are bytes; the name was reserved; the blocks of the file were
+-- put, each in its own group, in order; and a record of their places, with the file's length and
+-- digest, was published.
+pub record IsStored (s : Setting) (job : ℕ) (name file : List ℕ) (pieces shards : ℕ)
+    (m : Mine) : Type 0 where
+  pub bytes : AreBytes file
   pub short : length file ≤ longest
   pub placed : List Placed
   pub kept : Record
-  pub index : m.index ≡ plain (Reserve job name) ∷ bringing (Publish job name (mark_of kept)) kept ∷ []
+  pub index : m.index
+      ≡ plain (Reserve job name) ∷ bringing (Publish job name (mark_of kept)) kept ∷ []
   pub of_digests : map (λ x. x.digest) placed ≡ s.digests s.rack.geometry job file
   pub spread : AreSpread s s.rack.geometry placed
   pub puts : (g : ℕ) → Puts job (in_group g placed) (m.own g)
@@ -82,9 +96,10 @@ pub record IsStored (s : Setting) (job : ℕ) (name file : List ℕ) (pieces sha
   pub pieces_is : pieces ≡ pieces_of (length file)
   pub shards_is : shards ≡ length placed
 
--- A store ended at its block for group g: the blocks before were put, the name was abandoned, and the job's entries in g end
--- by these.
-pub record Stops (s : Setting) (job : ℕ) (name file : List ℕ) (g : ℕ) (last : List Entry) (m : Mine) : Type 0 where
+-- A store ended at its block for group g: the blocks before were put, the name was abandoned, and
+-- the job's entries in g end by these.
+pub record Stops (s : Setting) (job : ℕ) (name file : List ℕ) (g : ℕ) (last : List Entry)
+    (m : Mine) : Type 0 where
   pub short : length file ≤ longest
   pub placed : List Placed
   pub next : Digest
@@ -98,15 +113,18 @@ pub record Stops (s : Setting) (job : ℕ) (name file : List ℕ) (g : ℕ) (las
   pub here : m.own g ≡ sofar ++ last
   pub puts_here : Puts job (in_group g placed) sofar
 
--- `fault`: the last entry is Fault at that column, or the put of the next block that did not keep a parity block
-pub record IsStoreFault (s : Setting) (job : ℕ) (name file : List ℕ) (g column : ℕ) (m : Mine) : Type 0 where
+-- `fault`: the last entry is Fault at that column, or the put of the next block that did not keep a
+-- parity block
+pub record IsStoreFault (s : Setting) (job : ℕ) (name file : List ℕ) (g column : ℕ)
+    (m : Mine) : Type 0 where
   pub passed : List Passed
   pub last : Entry
   pub stops : Stops s job name file g (skips job passed ++ last ∷ []) m
-  pub fault : ((stripe : ℕ) × (last ≡ Fault job stripe column)) ⊎ IsUnkept s.rack.columns job stops.next column last
+  pub fault : ((stripe : ℕ) × (last ≡ Fault job stripe column))
+      ⊎ IsUnkept s.rack.columns job stops.next column last
 
--- `full`: the stripes were passed, and at the moment the cursor is behind the last one; the log has room then, or the last
--- entry is the Skip of a stripe passed
+-- `full`: the stripes were passed, and at the moment the cursor is behind the last one; the log has
+-- room then, or the last entry is the Skip of a stripe passed
 pub record IsFull (s : Setting) (job : ℕ) (name file : List ℕ) (g : ℕ) (w : Section) : Type 0 where
   pub passed : List Passed
   pub stops : Stops s job name file g (skips job passed) (mine job w)
@@ -115,13 +133,17 @@ pub record IsFull (s : Setting) (job : ℕ) (name file : List ℕ) (g : ℕ) (w 
   pub behind : (replayed (s.first g) log).cursor.stripe ≡ (s.first g).stripes
   pub room : (length log < log_bound) ⊎ (passed ≢ [])
 
--- `logfull g`: at the moment the log is at its bound, and it was so when the put was called, or some stripe was still to be tried
-pub record IsStoreLogFull (s : Setting) (job : ℕ) (name file : List ℕ) (g : ℕ) (w : Section) : Type 0 where
+-- `logfull g`: at the moment the log is at its bound, and it was so when the put was called, or
+-- some stripe was still to be tried
+pub record IsStoreLogFull (s : Setting) (job : ℕ) (name file : List ℕ) (g : ℕ)
+    (w : Section) : Type 0 where
   pub passed : List Passed
   pub stripe : ℕ
   pub gone : Option ℕ
-  pub stops : Stops s job name file g (skips job passed ++ gone_entries job stripe gone) (mine job w)
+  pub stops : Stops s job name file g (skips job passed ++ gone_entries job stripe gone)
+      (mine job w)
   pub log : List Entry
   pub moment : Moment job (w.before g) (w.added g) log
   pub full : length log ≡ log_bound
-  pub next : ((passed ≡ []) × (gone ≡ None)) ⊎ ((replayed (s.first g) log).cursor.stripe < (s.first g).stripes)
+  pub next : ((passed ≡ []) × (gone ≡ None))
+      ⊎ ((replayed (s.first g) log).cursor.stripe < (s.first g).stripes)

@@ -26,11 +26,18 @@
 
 ghost use Rattle.pot_replies.specs.Digests.{ReadAsPut};
 ghost use Rattle.pot_replies.specs.SessionLaws.{OwnInSections, RepliedNone, RepliedMore};
-ghost use Rattle.pot_replies.specs.Laws.{MineStays, MomentStands, IndexMomentStands, FullStands, StoreLogFullStands, IndexFullStands, StoreIndexFullStands, ListedStands, StatusStands};
-ghost use Rattle.pot_replies.specs.Laws.{FileStands, OddStands, LostStands, FetchFaultStands, FetchLogFullStands, LostNotFault};
-ghost use Rattle.pot_replies.specs.Laws.{ScrubbedStands, ScrubLogFullStands, RepairedStands, RepairFaultStands, RepairLogFullStands};
-ghost use Rattle.pot_replies.specs.Laws.{RenewedStands, OftenStands, OftenLateStands, RenewIndexFullStands, RenewFaultStands, RenewFullStands, RenewLogFullStands};
-ghost use Rattle.pot_replies.specs.Laws.{MigratedStands, MigrateFaultStands, BeginLogFullStands, StepLogFullStands};
+ghost use Rattle.pot_replies.specs.Laws.{MineStays, MomentStands, IndexMomentStands, FullStands};
+ghost use Rattle.pot_replies.specs.Laws.{StoreLogFullStands, IndexFullStands, StoreIndexFullStands};
+ghost use Rattle.pot_replies.specs.Laws.{ListedStands, StatusStands};
+ghost use Rattle.pot_replies.specs.Laws.{FileStands, OddStands, LostStands, FetchFaultStands};
+ghost use Rattle.pot_replies.specs.Laws.{FetchLogFullStands, LostNotFault};
+ghost use Rattle.pot_replies.specs.Laws.{ScrubbedStands, ScrubFaultStands, ScrubLogFullStands};
+ghost use Rattle.pot_replies.specs.Laws.{RepairedStands, RepairFaultStands, RepairLogFullStands};
+ghost use Rattle.pot_replies.specs.Laws.{RenewedStands, OftenStands, OftenLateStands};
+ghost use Rattle.pot_replies.specs.Laws.{RenewIndexFullStands, RenewFaultStands, RenewFullStands};
+ghost use Rattle.pot_replies.specs.Laws.{RenewLogFullStands};
+ghost use Rattle.pot_replies.specs.Laws.{MigratedStands, MigrateFaultStands, BeginLogFullStands};
+ghost use Rattle.pot_replies.specs.Laws.{StepLogFullStands};
 
 /// What a section has of a job stays however much others log, and so do moments.
 pub fn section_laws()
@@ -63,6 +70,7 @@ pub fn fetch_laws()
 /// The replies to `scrub` and `repair`.
 pub fn scrub_laws()
     ensures scrubbed { ScrubbedStands }
+    ensures fault { ScrubFaultStands }
     ensures log_full { ScrubLogFullStands }
     ensures repaired { RepairedStands }
     ensures repair_fault { RepairFaultStands }
