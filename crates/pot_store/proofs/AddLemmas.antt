@@ -57,7 +57,7 @@ pub seen_parts : (job g : ℕ) (u v : GroupPasses) → RowWorked (of_job job) u 
 seen_parts job g u v worked = ap entries_of (worked g).seen ∙ map-append (λ l. l.entry) (view_at u g).seen (added (view_at u g) (view_at v g))
 
 module _ (job g : ℕ) (u v w : GroupPasses) (first : RowWorked (of_job job) u v) (then : RowWorked (of_job job) v w) where
-  both_gained : gained u w g ≡ gained u v g ++ gained v w g
+  pub both_gained : gained u w g ≡ gained u v g ++ gained v w g
   both_gained =
       ap entries_of (both_added (of_job job) (view_at u g) (view_at v g) (view_at w g) (first g) (then g))
       ∙ map-append (λ l. l.entry) (added (view_at u g) (view_at v g)) (added (view_at v g) (view_at w g))

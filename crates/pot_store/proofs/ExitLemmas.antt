@@ -2,6 +2,7 @@
 use Rattle.std.proofs.Common.{◌≡◌, ◌≤◌, ◌*◌, ℕ, List, ◌∷◌, ◌++◌, length, refl, ap, sym, ◌∙◌, subst, arith, append-nil}
 use Rattle.std.specs.Prelude.{Result, Ok, Err, Any, map}
 use Rattle.std.proofs.lemmas.List.{length-map}
+use Rattle.pot_bytes.specs.Lists.{AreBytes}
 use Rattle.pot_bytes.specs.declared.rack.Place.{Place}
 use Rattle.pot_bytes.specs.declared.rack.Rack.{Rack}
 use Rattle.pot_object.specs.Pieces.{longest, pieces_of}
@@ -73,10 +74,10 @@ module _ (job : ℕ) (name file : List ℕ) (rack : Rack) (names turn : List Tur
 
   pub published_row : (pads : Pads) (places : List Place) (pieces shards : ℕ) (v : Unit {0}) (g3 : GroupPasses) (i3 : IndexPasses) (ready2 : AreReady rack names g2) (knows : RowKnowsMore g2 g3)
       → IndexCall (PublishesRecord job (record_of name file rack.geometry places) (Ok v)) i2 i3 → ArePut rack rack.geometry job (blocks_from rack.geometry file pads) places g1 g2
-      → length file ≤ longest → pieces ≡ pieces_of (length file) → shards ≡ pieces_of (length file) * (rack.geometry.fragments * rack.geometry.shards) → length places ≡ shards
+      → AreBytes file → length file ≤ longest → pieces ≡ pieces_of (length file) → shards ≡ pieces_of (length file) * (rack.geometry.fragments * rack.geometry.shards) → length places ≡ shards
       → JobAlone job (known g0 i0) (known g3 i3) → (s : Setting) → IsSettingOf s rack (known g0 i0) → DrawsFrom s pads job file
       → StoreRow s job name file (Ok (record { pieces = pieces; shards = shards })) (section_of (known g0 i0) (known g3 i3))
-  published_row pads places pieces shards v g3 i3 ready2 knows call puts short pieces_is shards_is count alone s set draws =
+  published_row pads places pieces shards v g3 i3 ready2 knows call puts bytes short pieces_is shards_is count alone s set draws =
       let r = record_of name file rack.geometry places in
       let blocks = blocks_from rack.geometry file pads in
       let long : length puts.placed ≡ length places = sym (ap length puts.places_are ∙ length-map puts.placed place_of) in
@@ -84,7 +85,7 @@ module _ (job : ℕ) (name file : List ℕ) (rack : Rack) (names turn : List Tur
       let all = all_publish job r (Ok v) call.turn.old call.turn.new call.turn.entries call.turn.call call.turn.log in
       let is = publish_adds job r (Ok v) call.turn.old call.turn.new call.turn.entries call.turn.call call.turn.log in
       let parts = its_alone r (Ok v) g3 i3 refl ready2 knows call alone in
-      stored_row job name file rack s pads g0 g3 i0 i3 blocks places pieces shards puts.placed short set.rack_is draws
+      stored_row job name file rack s pads g0 g3 i0 i3 blocks places pieces shards puts.placed bytes short set.rack_is draws
       (ap (λ (q : Rack). map digest_of (blocks_from q.geometry file pads)) (sym set.rack_is)) puts.places_are
       (puts.digests ∙ ap (map digest_of) (take_all blocks (length puts.placed) (omega (arith, long, count, shards_is, many)))) puts.fits pieces_is (sym count ∙ sym long)
       (index_owns job name file rack names turn g0 g2 i0 i2 u ready0.idle index0 reserve2 index2 (PublishesRecord job r (Ok v)) i3 call all alone.index ∙ ap (λ es. plain (entry.Reserve job name) ∷ es) is)

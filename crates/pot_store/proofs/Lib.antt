@@ -4,6 +4,7 @@ pub mod PutLemmas
 pub mod CursorLemmas
 pub mod StepLemmas
 pub mod EndLemmas
+pub mod SawLemmas
 pub mod IndexLemmas
 pub mod StoreLemmas
 pub mod PublishLemmas

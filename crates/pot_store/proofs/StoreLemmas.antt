@@ -5,6 +5,7 @@ use Rattle.std.proofs.lemmas.List.{map-append, length-map}
 use Rattle.std.proofs.lemmas.Option.{same_Some}
 use lib.Seq.{drop-length}
 use Rattle.pot_bytes.specs.Digests.{digest_bytes}
+use Rattle.pot_bytes.specs.Lists.{AreBytes}
 use Rattle.pot_bytes.specs.declared.rack.Place.{Place}
 use Rattle.pot_bytes.specs.declared.rack.Rack.{Rack}
 use Rattle.pot_bytes.specs.Rack.{log_bound}
@@ -183,14 +184,15 @@ digest_is bytes = refl
 
 pub stored_row : (job : ℕ) (name file : List ℕ) (rack : Rack) (s : Setting) (pads : Pads) (g0 g3 : GroupPasses) (i0 i3 : IndexPasses) (blocks : List (List ℕ)) (places : List Place) (pieces shards : ℕ)
     (placed : List Placed)
-    → length file ≤ longest → s.rack ≡ rack → DrawsFrom s pads job file → map digest_of blocks ≡ map digest_of (drawn_blocks s pads file)
+    → AreBytes file → length file ≤ longest → s.rack ≡ rack → DrawsFrom s pads job file → map digest_of blocks ≡ map digest_of (drawn_blocks s pads file)
     → places ≡ map place_of placed → map (λ x. x.digest) placed ≡ map digest_of blocks
     → ((b : ℕ) (x : Placed) → slice_get placed b ≡ Some x → FitsPlace rack rack.geometry b (place_of x))
     → pieces ≡ pieces_of (length file) → shards ≡ length placed
     → index.own job (added (view_at i0 0) (view_at i3 0)) ≡ plain (entry.Reserve job name) ∷ bringing (entry.Publish job name (mark_of (record_of name file rack.geometry places))) (record_of name file rack.geometry places) ∷ []
     → ((g : ℕ) → Puts job (in_group g placed) (own job (gained g0 g3 g)))
     → IsStored s job name file pieces shards (mine job (section_of (known g0 i0) (known g3 i3)))
-stored_row job name file rack s pads g0 g3 i0 i3 blocks places pieces shards placed short racks draws same places_are digests fits pieces_is shards_is index puts = record {
+stored_row job name file rack s pads g0 g3 i0 i3 blocks places pieces shards placed bytes short racks draws same places_are digests fits pieces_is shards_is index puts = record {
+  bytes = bytes;
   short = short;
   placed = placed;
   kept = record_of name file rack.geometry places;

@@ -7,7 +7,8 @@ use Rattle.pot_pads.specs.Pads.{Pads, next_bytes, moved}
 use Rattle.pot_shard.specs.FileBlocks.{blocks_at, file_blocks, piece_len, random_len}
 use Rattle.pot_shard.specs.Stretches.{piece_start}
 
--- what a contract sees of a drawing: the geometry, the file, the stream as it was handed in, and how many blocks were handed out
+-- what a contract sees of a drawing: the geometry, the file, the stream as it was handed in, and
+-- how many blocks were handed out
 pub record Drawn : Type 0 where
   pub geometry : Geometry
   pub file : List ℕ
@@ -30,9 +31,11 @@ all_blocks d = blocks_from d.geometry d.file d.start
 abbrev pub count_of : Drawn → ℕ
 count_of d = pieces_of (length d.file) * (d.geometry.fragments * d.geometry.shards)
 
--- So many pieces were drawn, and so many blocks of the last one were not handed out yet: the stream stands behind the random bytes
--- of these pieces, and the blocks at hand are those of the last piece.
-pub record IsDrawing (g : Geometry) (file : List ℕ) (start pads : Pads) (id random : List ℕ) (blocks : List (List ℕ)) (piece left : ℕ)
+-- So many pieces were drawn, and so many blocks of the last one were not handed out yet: the stream
+-- stands behind the random bytes of these pieces, and the blocks at hand are those of the last
+-- piece.
+pub record IsDrawing (g : Geometry) (file : List ℕ) (start pads : Pads) (id random : List ℕ)
+    (blocks : List (List ℕ)) (piece left : ℕ)
     : Type 0 where
   pub geometry : IsGeometry g
   pub fits : length file ≤ longest
@@ -42,4 +45,5 @@ pub record IsDrawing (g : Geometry) (file : List ℕ) (start pads : Pads) (id ra
   pub block_room : length blocks ≡ g.fragments * g.shards
   pub within : piece ≤ pieces_of (length file)
   pub few : left ≤ g.fragments * g.shards
-  pub drawn : 0 < left → (1 ≤ piece) × (blocks ≡ blocks_at g file (random_from g file start) (piece - 1))
+  pub drawn : 0 < left
+      → (1 ≤ piece) × (blocks ≡ blocks_at g file (random_from g file start) (piece - 1))

@@ -9,7 +9,8 @@ use Rattle.pot_store.specs.Visits as visits
 
 -- what came of a point: of one past the last nothing is known
 abbrev pub came_in : Points → ℕ → Came
-came_in s x = came_of (slice_index_or s.known.items x point.Unknown) (slice_index_or s.blocks.items x [])
+came_in s x =
+    came_of (slice_index_or s.known.items x point.Unknown) (slice_index_or s.blocks.items x [])
 
 -- no point was looked at
 abbrev pub AreUnknown : Points → Type 0
@@ -22,4 +23,5 @@ IsSet x came old new = (came_in new x ≡ came) × ((y : ℕ) → y ≢ x → ca
 -- the shares are those of the first n points
 abbrev pub AreGathered : ℕ → Points → Shares → Type 0
 AreGathered n s shares =
-    (shares.points.items ≡ points_read n (λ x. block_in (came_in s x))) × (shares.rows.items ≡ shares_read n (λ x. block_in (came_in s x)))
+    (shares.points.items ≡ points_read n (λ x. block_in (came_in s x)))
+    × (shares.rows.items ≡ shares_read n (λ x. block_in (came_in s x)))

@@ -23,7 +23,8 @@ use Rattle.pot_replies.specs.Sections.{Section, mine}
 use Rattle.pot_replies.specs.Listings.{IsIndexFull}
 use Rattle.pot_replies.specs.Stores.{Placed}
 use Rattle.pot_replies.specs.Fetches.{IsAbsent, IsOdd, IsLost, IsFetchFault, IsFetchLogFull}
-use Rattle.pot_replies.specs.Renewals.{renewing, AllPut, IsRenewed, IsOften, IsOftenLate, IsRenewIndexFull, IsRenewFault, IsRenewFull, IsRenewLogFull}
+use Rattle.pot_replies.specs.Renewals.{renewing, AllPut, IsRenewed, IsOften, IsOftenLate}
+use Rattle.pot_replies.specs.Renewals.{IsRenewIndexFull, IsRenewFault, IsRenewFull, IsRenewLogFull}
 use Rattle.pot_store.specs.Drawing.{blocks_from}
 use Rattle.pot_store.specs.Fetches.{IsUnfinished}
 use Rattle.pot_store.specs.Puts.{ArePut, PutsEnd}
@@ -63,41 +64,48 @@ of_renew renew_fault.NoMemory = fault.NoMemory
 -- THE PUTS OF THE NEW SPLIT
 
 -- the puts ended at this one
-pub record StopsAt (rack : Rack) (geometry : Geometry) (job : ℕ) (file : List ℕ) (pads : Pads) (e : RenewFileFault) (old new : GroupPasses) : Type 0 where
+pub record StopsAt (rack : Rack) (geometry : Geometry) (job : ℕ) (file : List ℕ) (pads : Pads)
+    (e : RenewFileFault) (old new : GroupPasses) : Type 0 where
   pub group : ℕ
   pub cause : PutFault
   pub is : e ≡ of_put group cause
   pub ends : RowAlone (of_job job) old new
       → PutsEnd rack geometry job (blocks_from geometry file pads) group cause old new
 
--- The blocks of a file, by the next bytes of a stream, were put as a split of this geometry, which each
--- record of that file may get.
-pub record IsSplit (rack : Rack) (geometry : Geometry) (job : ℕ) (file : List ℕ) (pads : Pads) (x : Stored) (split : Split) (old new : GroupPasses) : Type 0 where
+-- The blocks of a file, by the next bytes of a stream, were put as a split of this geometry, which
+-- each record of that file may get.
+pub record IsSplit (rack : Rack) (geometry : Geometry) (job : ℕ) (file : List ℕ) (pads : Pads)
+    (x : Stored) (split : Split) (old new : GroupPasses) : Type 0 where
   pub pieces_is : x.pieces ≡ pieces_of (length file)
   pub shards_is : x.shards ≡ length split.places
   pub geometry_is : split.geometry ≡ geometry
   pub many : length split.places ≡ pieces_of (length file) * (geometry.fragments * geometry.shards)
   pub puts : ArePut rack geometry job (blocks_from geometry file pads) split.places old new
   pub fits : FitsSplit rack (pieces_of (length file)) split
-  pub sees : (r : Record) → r.length ≡ length file → r.digest ≡ digest_of file → SeesFile new (renewed r split)
+  pub sees : (r : Record) → r.length ≡ length file → r.digest ≡ digest_of file
+      → SeesFile new (renewed r split)
 
-abbrev pub PutsSplit : Rack → Geometry → ℕ → List ℕ → Pads → Result (Stored × Split) RenewFileFault → GroupPasses → GroupPasses → Type 0
+abbrev pub PutsSplit : Rack → Geometry → ℕ → List ℕ → Pads → Result (Stored × Split) RenewFileFault
+    → GroupPasses → GroupPasses → Type 0
 PutsSplit rack geometry job file pads (Ok (x, split)) old new =
     IsSplit rack geometry job file pads x split old new
 PutsSplit rack geometry job file pads (Err fault.NoMemory) old new = new ≡ old
-PutsSplit rack geometry job file pads (Err e) old new = StopsAt rack geometry job file pads e old new
+PutsSplit rack geometry job file pads (Err e) old new =
+    StopsAt rack geometry job file pads e old new
 
 -- THE ANSWERS
 
--- the digests that a session means for the new split of any file are those of its blocks by the next bytes
--- of the stream
+-- the digests that a session means for the new split of any file are those of its blocks by the
+-- next bytes of the stream
 abbrev pub RenewsFrom : Setting → Pads → Geometry → ℕ → Type 0
 RenewsFrom s pads geometry job =
-    (file : List ℕ) → s.digests geometry (renewing job) file ≡ map digest_of (blocks_from geometry file pads)
+    (file : List ℕ)
+    → s.digests geometry (renewing job) file ≡ map digest_of (blocks_from geometry file pads)
 
--- What each answer says of the section: it ended as a fetch does, or at the puts of the new split, or behind
--- them. The number of a fragment counts from 1.
-abbrev pub RenewRow : Setting → ℕ → List ℕ → Geometry → Result Stored RenewFileFault → Section → Type 0
+-- What each answer says of the section: it ended as a fetch does, or at the puts of the new split,
+-- or behind them. The number of a fragment counts from 1.
+abbrev pub RenewRow : Setting → ℕ → List ℕ → Geometry → Result Stored RenewFileFault → Section
+    → Type 0
 RenewRow s job name geometry (Ok x) w = IsRenewed s job name geometry x.pieces x.shards w
 RenewRow s job name geometry (Err fault.IndexLogFull) w =
     IsIndexFull s 1 job w ⊎ IsRenewIndexFull s job name geometry w

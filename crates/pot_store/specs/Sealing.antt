@@ -11,4 +11,5 @@ waiting (Some n) = 1
 -- So many blocks were not drawn; one that waits is the last that was.
 pub record IsSealing (d : Drawn) (left : ℕ) (ready : Option SealedPut) : Type 0 where
   pub all : d.next + left ≡ count_of d
-  pub waits : (n : SealedPut) → ready ≡ Some n → (1 ≤ d.next) × (n.block.block ≡ slice_index_or (all_blocks d) (d.next - 1) [])
+  pub waits : (n : SealedPut) → ready ≡ Some n
+      → (1 ≤ d.next) × (n.block.block ≡ slice_index_or (all_blocks d) (d.next - 1) [])

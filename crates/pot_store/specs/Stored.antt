@@ -1,5 +1,5 @@
--- What a fetch gives of a record whose current split was made in this session: the file that was stored, or
--- that was split anew.
+-- What a fetch gives of a record whose current split was made in this session: the file that was
+-- stored, or that was split anew.
 use Rattle.std.specs.Prelude.{◌≡◌, ℕ, List, [], ◌∷◌, ◌++◌, Result, Ok, Err, Vec, Contains, length}
 use Rattle.std.specs.Global.{Global}
 use Rattle.pot_bytes.specs.declared.rack.Place.{Place}
@@ -25,8 +25,9 @@ abbrev pub blocks_in : List Visit → List (List ℕ)
 blocks_in [] = []
 blocks_in (v ∷ visits) = blocks_of v.came ++ blocks_in visits
 
--- A file with the record's length and digest was stored or split anew, which gave these blocks; and where no
--- two different ones of its blocks and of the blocks that were read have one digest, this is so of the file.
+-- A file with the record's length and digest was stored or split anew, which gave these blocks; and
+-- where no two different ones of its blocks and of the blocks that were read have one digest, this
+-- is so of the file.
 pub record IsStoredAs (kept : Record) (read : List (List ℕ)) (So : List ℕ → Type 0) : Type 0 where
   pub file : List ℕ
   pub random : List ℕ
@@ -38,10 +39,12 @@ pub record IsStoredAs (kept : Record) (read : List (List ℕ)) (So : List ℕ �
 -- the job saw the block at a place of the record
 abbrev pub IsReadOf : Setting → ℕ → Record → Section → List ℕ → Type 0
 IsReadOf s job kept w b =
-    (p : Place) × Contains kept.places p × SeenAs (s.first p.group) job (w.before p.group) (w.added p.group) p.stripe p.column (digest_of b)
+    (p : Place) × Contains kept.places p
+    × SeenAs (s.first p.group) job (w.before p.group) (w.added p.group) p.stripe p.column
+    (digest_of b)
 
--- the record that was found, and the blocks that were read; where its current split was made in this session before
--- it was found, they are so
+-- the record that was found, and the blocks that were read; where its current split was made in
+-- this session before it was found, they are so
 abbrev pub GivesOf : Setting → ℕ → List ℕ → Section → (List ℕ → Type 0) → Type 0
 GivesOf s job name w So =
     (kept : Record) × (found : Found s job name kept w)

@@ -1,5 +1,7 @@
 -- The visits of a fetch to places: what its job logs at each, and what comes of it.
-use Rattle.std.specs.Prelude.{◌≡◌, ◌⊎◌, ◌≤◌, ◌+◌, ◌*◌, ◌==◌, ◌&&◌, ℕ, zero, suc, Bool, true, false, if◌then◌else◌, List, [], ◌∷◌, ◌++◌, Option, Some, None, length, filter, find, is_some, slice_index_or, Contains}
+use Rattle.std.specs.Prelude.{◌≡◌, ◌⊎◌, ◌≤◌, ◌+◌, ◌*◌, ◌==◌, ◌&&◌, ℕ, zero, suc, Bool, true, false}
+use Rattle.std.specs.Prelude.{if◌then◌else◌, List, [], ◌∷◌, ◌++◌, Option, Some, None, length}
+use Rattle.std.specs.Prelude.{filter, find, is_some, slice_index_or, Contains}
 use Rattle.pot_bytes.specs.declared.digest.Digest.{Digest}
 use Rattle.pot_bytes.specs.declared.rack.Place.{Place}
 use Rattle.pot_bytes.specs.Rack.{log_bound, no_place}
@@ -89,7 +91,8 @@ abbrev pub is_oddly_at : ℕ → ℕ → Entry → Bool
 is_oddly_at s c (entry.Oddly j stripe column f) = (stripe == s) && (column == c)
 is_oddly_at s c _ = false
 
--- How far entries come on the way from a Begin of a place over an Oddly of it to a Begin of it again, from so far on: 3 is the end.
+-- How far entries come on the way from a Begin of a place over an Oddly of it to a Begin of it
+-- again, from so far on: 3 is the end.
 abbrev pub begun_next : ℕ → ℕ → ℕ → Entry → ℕ
 begun_next s c zero e = if is_begin_at s c e then 1 else 0
 begun_next s c (suc zero) e = if is_oddly_at s c e then 2 else 1
@@ -102,13 +105,16 @@ begun_from s c n (e ∷ es) = begun_from s c (begun_next s c n e) es
 
 -- the last of the entries is a Fault of this column
 abbrev pub FailsLast : ℕ → ℕ → List Entry → (List Entry → ℕ → Type 0) → Type 0
-FailsLast job column entries where_is = (sofar : List Entry) × (t : ℕ) × (entries ≡ sofar ++ entry.Fault job t column ∷ []) × where_is sofar t
+FailsLast job column entries where_is =
+    (sofar : List Entry) × (t : ℕ) × (entries ≡ sofar ++ entry.Fault job t column ∷ [])
+    × where_is sofar t
 
 -- the last of the entries is Stuck or Oddly of the place, or a Gone of it
 abbrev pub EndsInVain : ℕ → Place → List Entry → Type 0
 EndsInVain job p entries =
     LastIs entries (λ e. (o : ℕ) × (e ≡ entry.Stuck job p.stripe p.column o))
-    ⊎ (LastIs entries (λ e. (f : Digest) × (e ≡ entry.Oddly job p.stripe p.column f)) ⊎ LastIs entries (λ e. e ≡ entry.Gone job p.stripe p.column))
+    ⊎ (LastIs entries (λ e. (f : Digest) × (e ≡ entry.Oddly job p.stripe p.column f))
+    ⊎ LastIs entries (λ e. e ≡ entry.Gone job p.stripe p.column))
 
 -- how the entries of a visit end
 abbrev pub EndsVisit : ℕ → Place → List Entry → Came → Type 0
@@ -117,11 +123,14 @@ EndsVisit job p entries (Seen block) = Unit {0}
 EndsVisit job p entries Gone = entries ≡ entry.Gone job p.stripe p.column ∷ []
 EndsVisit job p entries Lost = EndsInVain job p entries
 EndsVisit job p entries (Failed column) =
-    FailsLast job column entries (λ sofar t. ((t ≡ p.stripe) × (column ≡ p.column)) ⊎ Contains sofar (entry.Gone job p.stripe p.column))
+    FailsLast job column entries
+    (λ sofar t.
+    ((t ≡ p.stripe) × (column ≡ p.column))
+    ⊎ Contains sofar (entry.Gone job p.stripe p.column))
 EndsVisit job p entries Barred = Unit {0}
 
--- What the job logs at a place: it looks at most twice, the second time after a Gone, logs one Stuck at most, and begins no relay anew
--- after one that ended by its Oddly.
+-- What the job logs at a place: it looks at most twice, the second time after a Gone, logs one
+-- Stuck at most, and begins no relay anew after one that ended by its Oddly.
 pub record IsVisit (job : ℕ) (p : Place) (v : Visit) : Type 0 where
   pub kinds : (e : Entry) → Contains v.entries e → MayVisit job p e
   pub looks : LooksTwice job p.stripe p.column v.entries
@@ -142,7 +151,8 @@ EndsSecond job p entries Barred = Unit {0}
 -- What the job logs at a place that it mends after a Gone of it: one look more at most.
 pub record IsSecond (job : ℕ) (p : Place) (entries : List Entry) (came : Came) : Type 0 where
   pub kinds : (e : Entry) → Contains entries e → MayVisit job p e
-  pub looks : (filter (is_look_at p.stripe p.column) entries ≡ []) ⊎ ((e : Entry) × (filter (is_look_at p.stripe p.column) entries ≡ e ∷ []))
+  pub looks : (filter (is_look_at p.stripe p.column) entries ≡ [])
+      ⊎ ((e : Entry) × (filter (is_look_at p.stripe p.column) entries ≡ e ∷ []))
   pub one_stuck : length (filter (is_stuck_at p.stripe p.column) entries) ≤ 1
   pub begun : begun_from p.stripe p.column 0 entries ≤ 2
   pub seen : is_some (find (is_seen_at p.stripe p.column) entries) ≡ was_seen came
@@ -154,16 +164,21 @@ pub record IsSecond (job : ℕ) (p : Place) (entries : List Entry) (came : Came)
 abbrev pub IsReadAt : ℕ → Place → List ℕ → GroupPasses → GroupPasses → Type 0
 IsReadAt job p block old new =
     (o : GroupOrigin) × ((view_at old p.group).origin ≡ Some o)
-    × SeenAs o.first job (entries_of (view_at old p.group).seen) (gained old new p.group) p.stripe p.column (digest_of block)
+    × SeenAs o.first job (entries_of (view_at old p.group).seen) (gained old new p.group) p.stripe
+    p.column (digest_of block)
 
--- a Put of a block of this digest that kept its parity blocks stands in the log that the pass of its group has seen
+-- a Put of a block of this digest that kept its parity blocks stands in the log that the pass of
+-- its group has seen
 abbrev pub HasPut : GroupPasses → Place → Digest → Type 0
-HasPut row p d = (by : ℕ) × (e : Entry) × IsKeptPut by p.stripe p.column d e × Contains (entries_of (view_at row p.group).seen) e
+HasPut row p d =
+    (by : ℕ) × (e : Entry) × IsKeptPut by p.stripe p.column d e
+    × Contains (entries_of (view_at row p.group).seen) e
 
 -- the block that was read; where the pass had seen a Put there, it has the digest of that block
 pub record ReadsBlock (job : ℕ) (p : Place) (came : Came) (old new : GroupPasses) : Type 0 where
   pub read : (block : List ℕ) → came ≡ Seen block → IsReadAt job p block old new
-  pub gives : (block : List ℕ) → came ≡ Seen block → (d : Digest) → HasPut old p d → digest_of block ≡ d
+  pub gives : (block : List ℕ) → came ≡ Seen block → (d : Digest) → HasPut old p d
+      → digest_of block ≡ d
 
 -- the log of a group that the pass has seen is at its bound
 abbrev pub IsFullLog : ℕ → GroupPasses → Type 0
@@ -179,7 +194,8 @@ SoundThenGone job p Behind old new =
     (first : Table) → IsFirst p.group old first
     → IsTable first × ((x : List Entry) × (behind : List Entry) × (z : List Entry) × Behind x
     × (gained old new p.group ≡ (x ++ behind) ++ entry.Gone job p.stripe p.column ∷ z)
-    × ((t : Table) × Replays first (entries_of (view_at old p.group).seen ++ x) t × (is_unsound (slot_at t p.stripe p.column) ≡ false)))
+    × ((t : Table) × Replays first (entries_of (view_at old p.group).seen ++ x) t
+    × (is_unsound (slot_at t p.stripe p.column) ≡ false)))
 
 abbrev pub EndsGone : ℕ → Place → List Entry → Type 0
 EndsGone job p entries = LastIs entries (λ e. e ≡ entry.Gone job p.stripe p.column)
@@ -188,7 +204,11 @@ EndsGone job p entries = LastIs entries (λ e. e ≡ entry.Gone job p.stripe p.c
 abbrev pub IsGoneAgain : ℕ → Place → Visit → GroupPasses → GroupPasses → Type 0
 IsGoneAgain job p v old new =
     v.came ≡ Lost → EndsGone job p v.entries
-    → SoundThenGone job p (λ x. (a : List Entry) × (between : List Entry) × (x ≡ a ++ entry.Gone job p.stripe p.column ∷ between)) old new
+    → SoundThenGone job p
+    (λ x.
+    (a : List Entry) × (between : List Entry)
+    × (x ≡ a ++ entry.Gone job p.stripe p.column ∷ between))
+    old new
 
 -- A visit of the job to a place.
 pub record Visits (job : ℕ) (p : Place) (v : Visit) (old new : GroupPasses) : Type 0 where
@@ -198,7 +218,8 @@ pub record Visits (job : ℕ) (p : Place) (v : Visit) (old new : GroupPasses) : 
   pub again : IsGoneAgain job p v old new
   pub barred : IsWhyBarred p.group v.came new
 
--- The job mended a place after a Gone of it, and looked at it once more where its slot was whole then.
+-- The job mended a place after a Gone of it, and looked at it once more where its slot was whole
+-- then.
 pub record MendsOn (job : ℕ) (p : Place) (came : Came) (old new : GroupPasses) : Type 0 where
   pub entries : List Entry
   pub adds : Adds job p.group entries old new
@@ -214,7 +235,8 @@ look_logs job p Gone = entry.Gone job p.stripe p.column ∷ []
 look_logs job p (Failed column) = entry.Fault job p.stripe p.column ∷ []
 look_logs job p _ = []
 
--- One look at a place: it is seen, gone, failed, or barred. What it logs stands last in what the pass gained.
+-- One look at a place: it is seen, gone, failed, or barred. What it logs stands last in what the
+-- pass gained.
 pub record LooksOnce (job : ℕ) (p : Place) (came : Came) (old new : GroupPasses) : Type 0 where
   pub known : (came ≡ Unknown) ⊎ (came ≡ Lost) → ⊥
   pub last : (others : List Entry) × (gained old new p.group ≡ others ++ look_logs job p came)
@@ -251,12 +273,14 @@ logged_at p g v = if p.group == g then v.entries else []
 -- what the visits to the blocks from a number on log in a group
 abbrev pub logged_from : List Place → ℕ → ℕ → List Visit → List Entry
 logged_from places g b [] = []
-logged_from places g b (v ∷ visits) = logged_at (place_in places b) g v ++ logged_from places g (suc b) visits
+logged_from places g b (v ∷ visits) =
+    logged_at (place_in places b) g v ++ logged_from places g (suc b) visits
 
 -- how many of the first n were seen
 abbrev pub seen_in : ℕ → List Visit → ℕ
 seen_in n visits = count n (λ x. was_seen (came_at visits x))
 
--- the blocks that were read of the fragment of a number, all fragments of the file being counted from 0
+-- the blocks that were read of the fragment of a number, all fragments of the file being counted
+-- from 0
 abbrev pub read_in : ℕ → List Visit → ℕ → Read
 read_in n visits f x = block_in (came_at visits (f * n + x))

@@ -1,8 +1,8 @@
 -- What a job did with the passes of a vault, and the section of the logs that it made.
-use Rattle.std.specs.Prelude.{◌≡◌, ◌<◌, ℕ, Bool, List, IfSome, length}
+use Rattle.std.specs.Prelude.{◌≡◌, ◌<◌, ℕ, Bool, List, [], IfSome, length}
 use Rattle.pot_bytes.specs.declared.rack.Rack.{Rack}
 use Rattle.pot_machine.specs.declared.entry.Entry.{Entry}
-use Rattle.pot_machine.specs.Logs.{is_of}
+use Rattle.pot_machine.specs.Logs.{is_of, own}
 use Rattle.pot_index.specs.Entries as index
 use Rattle.pot_worked.specs.Worked.{added}
 use Rattle.pot_rows.specs.Rows.{view_at}
@@ -21,6 +21,12 @@ of_job job l = is_of job l.entry
 -- what the log of each group gained
 abbrev pub gained : GroupPasses → GroupPasses → ℕ → List Entry
 gained old new g = entries_of (added (view_at old g) (view_at new g))
+
+-- The passes saw more and logged nothing: that is work of any job, and of one that nobody else
+-- worked for, no entry came.
+pub record OnlySaw (old new : GroupPasses) : Type 0 where
+  pub worked : (job : ℕ) → RowWorked (of_job job) old new
+  pub none : (job : ℕ) → RowAlone (of_job job) old new → (g : ℕ) → own job (gained old new g) ≡ []
 
 -- what the passes of all turns know
 pub record Known : Type 0 where
@@ -52,5 +58,6 @@ section_of old new = record {
 -- The rack of a session, the tables that its groups read, and the records that its index read.
 pub record IsSettingOf (s : Setting) (rack : Rack) (k : Known) : Type 0 where
   pub rack_is : s.rack ≡ rack
-  pub first : (g : ℕ) → g < length k.groups.names → IfSome (view_at k.groups g).origin (λ o. s.first g ≡ o.first)
+  pub first : (g : ℕ) → g < length k.groups.names
+      → IfSome (view_at k.groups g).origin (λ o. s.first g ≡ o.first)
   pub read : IfSome (view_at k.index 0).origin (λ o. s.read ≡ o.read)

@@ -43,7 +43,9 @@ impl<'a> Model for Drawing<'a> {
       next = a.piece * (a.geometry.fragments * a.geometry.shards) - a.left;
     } };
 
-    ghost invariant = { λ a. IsDrawing a.geometry a.file.now a.start.value a.pads a.id a.random.items a.blocks.items a.piece a.left };
+    ghost invariant = { λ a.
+        IsDrawing a.geometry a.file.now a.start.value a.pads a.id a.random.items a.blocks.items
+        a.piece a.left };
 }
 
 impl<'a> Drawing<'a> {
@@ -56,7 +58,8 @@ impl<'a> Drawing<'a> {
     ) -> Result<Drawing<'a>, NoMemory>
         requires geometry { IsGeometry geometry.now }
         requires fits { length file.now ≤ longest }
-        ensures { IfOk result (λ d. d ≡ record { geometry = geometry.now; file = file.now; start = pads; next = 0 }) }
+        ensures { IfOk result
+            (λ d. d ≡ record { geometry = geometry.now; file = file.now; start = pads; next = 0 }) }
     {
         let start = Snapshot::of(&pads);
         let mut id = [0; 16];
@@ -118,7 +121,9 @@ fn draw(
     requires random { length random.old ≡ piece_len geometry.now }
     requires room { length blocks.old ≡ geometry.now.fragments * geometry.now.shards }
     ensures place { pads.new ≡ moved pads.old (piece_len geometry.now) }
-    ensures blocks { blocks.new ≡ piece_blocks geometry.now id.now file.now piece (next_bytes pads.old (piece_len geometry.now)) }
+    ensures blocks { blocks.new
+        ≡ piece_blocks geometry.now id.now file.now piece
+        (next_bytes pads.old (piece_len geometry.now)) }
 {
     pads.fill(random);
     piece_blocks(id, file, piece, geometry, random, blocks);

@@ -2,6 +2,7 @@
 ghost use Rattle.std.specs.Prelude.{◌≡◌};
 
 use pot_bytes::{Block, Place};
+use pot_group::Standing;
 use pot_sealed::{Sealed, seal_four};
 
 /// A block to put, and the parity block that its stripe is expected to have then. What is expected changes no answer.
@@ -21,6 +22,10 @@ pub struct Expected {
     // By group the data column of the next put, and the parity block of the last one.
     next: [u8; 16],
     parities: [Block; 16],
+    // By group the column behind the last block that was put there, if one was.
+    behind: [Option<u8>; 16],
+    // Whether a block stands where only puts of others can have led.
+    others: bool,
 }
 
 impl Expected {
@@ -30,6 +35,8 @@ impl Expected {
             columns,
             next: [0; 16],
             parities: [Block::zero(); 16],
+            behind: [None; 16],
+            others: false,
         }
     }
 
@@ -91,13 +98,37 @@ impl Expected {
         )
     }
 
+    /// Whether only puts of others can have led to a place: its column is neither the one behind the last block that was put into
+    /// its group, nor the first of a stripe, which comes behind one that is passed.
+    fn is_by_others(&self, place: Place) -> bool {
+        match self.behind[usize::from(place.group % 16)] {
+            Some(behind) => place.column > 0 && place.column != behind,
+            None => false,
+        }
+    }
+
     /// Notes where a block was put. Where it was expected in another column, what comes next in its group is expected behind it.
     pub fn note(&mut self, place: Place, put: &SealedPut) {
+        let group = usize::from(place.group % 16);
+        let behind = self.after(place.column);
+        self.others = self.others || self.is_by_others(place);
+        self.behind[group] = Some(behind);
         if place.column == put.column {
             return;
         }
-        let group = usize::from(place.group % 16);
-        self.next[group] = self.after(place.column);
+        self.next[group] = behind;
         self.parities[group] = *put.block.block();
+    }
+
+    /// Whether others put into a group in between. It stays so, and never is so where nobody else puts.
+    pub fn met_others(&self) -> bool {
+        self.others
+    }
+
+    /// Expects the next put of a group where the group stands.
+    pub fn see(&mut self, group: u8, standing: &Standing) {
+        let place = usize::from(group % 16);
+        self.next[place] = standing.cursor.column;
+        self.parities[place] = standing.parity;
     }
 }

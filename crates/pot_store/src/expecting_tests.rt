@@ -36,6 +36,8 @@ enum Whose {
     First(u8),
     /// The store's, whose block was sealed together with that of the put before.
     Second(u8),
+    /// The store's, which sees where the group stands and then seals the block alone.
+    Seeing(u8),
 }
 
 impl Whose {
@@ -43,7 +45,8 @@ impl Whose {
     fn expects(self) -> Option<u8> {
         match self {
             Whose::Other => None,
-            Whose::Alone(byte) | Whose::First(byte) | Whose::Second(byte) => Some(byte),
+            Whose::Alone(byte) | Whose::First(byte) | Whose::Second(byte) | Whose::Seeing(byte) =>
+                Some(byte),
         }
     }
 }
@@ -132,6 +135,11 @@ impl Stage {
                 Some(first)
             }
             [(_, _, Whose::Second(_), _), ..] => self.ready,
+            [(group, byte, Whose::Seeing(_), _), ..] => {
+                let standing = self.groups.get(usize::from(*group))?.standing();
+                self.expected.see(*group, &standing);
+                Some(self.expected.seal(*group, &block(*byte)))
+            }
             _ => None,
         }
     }
@@ -247,4 +255,47 @@ fn puts_sealed_in_twos(rt: HostRuntime) -> Result<(), Fail> {
         (0, 0x40, Whose::Second(0x40), 0x40),
     ];
     see(&rt, rt.alloc(), &puts)
+}
+
+/// Where it sees how the group stands, it expects the parity block that the stripe has then, whoever put in between.
+#[test]
+fn puts_sealed_where_the_group_stands(rt: HostRuntime) -> Result<(), Fail> {
+    let puts = [
+        (0, 0x01, Whose::Other, 0x01),
+        (0, 0x02, Whose::Seeing(0x03), 0x03),
+        (0, 0x04, Whose::Other, 0x07),
+        // The group is at a new stripe.
+        (0, 0x08, Whose::Seeing(0x08), 0x08),
+        (0, 0x10, Whose::Other, 0x18),
+        (0, 0x20, Whose::Seeing(0x38), 0x38),
+    ];
+    see(&rt, rt.alloc(), &puts)
+}
+
+/// Whether a store meets others as it makes these puts.
+fn meets(alloc: Global, puts: &[Put]) -> Result<bool, Fail> {
+    let mut stage = Stage::new(alloc)?;
+    for place in 0..puts.len() {
+        stage.make(&puts[place..])?;
+    }
+    Ok(stage.expected.met_others())
+}
+
+/// It meets others where a block lands neither behind its last one nor at the beginning of a stripe.
+#[test]
+fn others_met(rt: HostRuntime) -> Result<(), Fail> {
+    let alone = [
+        (0, 0x01, Whose::Other, 0x01),
+        (0, 0x02, Whose::First(0x02), 0x03),
+        (0, 0x04, Whose::Second(0x06), 0x07),
+        (0, 0x08, Whose::Alone(0x08), 0x08),
+    ];
+    let beside = [
+        (0, 0x01, Whose::Alone(0x01), 0x01),
+        (0, 0x02, Whose::Other, 0x03),
+        (0, 0x04, Whose::Alone(0x05), 0x07),
+    ];
+    assert_eq!(rt; meets(rt.alloc(), &alone)?, false);
+    assert_eq!(rt; meets(rt.alloc(), &beside)?, true);
+    Ok(())
 }

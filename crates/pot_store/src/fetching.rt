@@ -85,13 +85,22 @@ pub fn fetch_file<A: Archive, R: Wait>(
     ensures ready { AreReady vault.now.rack vault.now.groups passes.new.groups }
     ensures index { IsIndexReady vault.now.rack vault.now.groups vault.now.index passes.new.index }
     ensures parts { HasMoreParts 1 passes.new.groups }
-    ensures worked { JobWorked job (known passes.old.groups passes.old.index) (known passes.new.groups passes.new.index) }
-    ensures says { JobAlone job (known passes.old.groups passes.old.index) (known passes.new.groups passes.new.index)
-        → (s : Setting) → IsSettingOf s vault.now.rack (known passes.old.groups passes.old.index) → s.mends ≡ true → AreFilled s
-        → FetchRow s job name.now result (section_of (known passes.old.groups passes.old.index) (known passes.new.groups passes.new.index)) }
-    ensures stored { JobAlone job (known passes.old.groups passes.old.index) (known passes.new.groups passes.new.index)
-        → (s : Setting) → IsSettingOf s vault.now.rack (known passes.old.groups passes.old.index) → s.mends ≡ true → AreFilled s
-        → FetchGives s job name.now result (section_of (known passes.old.groups passes.old.index) (known passes.new.groups passes.new.index)) }
+    ensures worked { JobWorked job (known passes.old.groups passes.old.index)
+        (known passes.new.groups passes.new.index) }
+    ensures says { JobAlone job (known passes.old.groups passes.old.index)
+        (known passes.new.groups passes.new.index)
+        → (s : Setting) → IsSettingOf s vault.now.rack (known passes.old.groups passes.old.index)
+        → s.mends ≡ true → AreFilled s
+        → FetchRow s job name.now result
+        (section_of (known passes.old.groups passes.old.index)
+        (known passes.new.groups passes.new.index)) }
+    ensures stored { JobAlone job (known passes.old.groups passes.old.index)
+        (known passes.new.groups passes.new.index)
+        → (s : Setting) → IsSettingOf s vault.now.rack (known passes.old.groups passes.old.index)
+        → s.mends ≡ true → AreFilled s
+        → FetchGives s job name.now result
+        (section_of (known passes.old.groups passes.old.index)
+        (known passes.new.groups passes.new.index)) }
 {
     match vault.find(rt, alloc, passes, job, name) {
         Ok(kept) => read_record(rt, alloc, vault, passes, job, &kept, pads),
@@ -178,7 +187,8 @@ fn read_pieces<A: Archive, R: Wait>(
     requires file_room { pieces_of kept.now.length * 864 ≤ vec_capacity bytes.old }
     ensures ready { AreReady vault.now.rack vault.now.groups passes.new.groups }
     ensures index { passes.new.index ≡ passes.old.index }
-    ensures read { FileRead job kept.now bytes.new.items result passes.old.groups passes.new.groups }
+    ensures read { FileRead job kept.now bytes.new.items result passes.old.groups
+        passes.new.groups }
 {
     for piece in 0..count_pieces(kept.length) {
         let mut object = [0; OBJECT];

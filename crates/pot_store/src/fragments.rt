@@ -7,7 +7,8 @@ ghost use Rattle.pot_index.specs.Fits.{FitsRack};
 ghost use Rattle.pot_shared.specs.Ready.{GroupPasses, AreReady, HasSlot};
 ghost use Rattle.pot_store.specs.Visits.{LooksOnce, MendsOn};
 ghost use Rattle.pot_store.specs.Points.{came_in};
-ghost use Rattle.pot_store.specs.Reads.{IsFragmentFrom, PointRead, PointsTried, PointsRead, IsMissing, FragmentRead, PieceRead};
+ghost use Rattle.pot_store.specs.Reads.{IsFragmentFrom, PointRead, PointsTried, PointsRead};
+ghost use Rattle.pot_store.specs.Reads.{IsMissing, FragmentRead, PieceRead};
 
 use crate::fetching::FetchFault;
 use crate::points::Points;
@@ -38,7 +39,8 @@ fn look_at_point<A: Archive, R: Wait>(
     requires point { x < 16 }
     ensures ready { AreReady vault.now.rack vault.now.groups passes.new.groups }
     ensures index { passes.new.index ≡ passes.old.index }
-    ensures read { PointRead (LooksOnce job place) x points.old points.new result passes.old.groups passes.new.groups }
+    ensures read { PointRead (LooksOnce job place) x points.old points.new result passes.old.groups
+        passes.new.groups }
 {
     let mut block = Block::zero();
     let Some(point) = look_at(rt, vault, passes, job, place, &mut block) else {
@@ -69,7 +71,8 @@ fn look_at_points<A: Archive, R: Wait>(
     requires within { from + kept.now.geometry.shards ≤ length kept.now.places }
     ensures ready { AreReady vault.now.rack vault.now.groups passes.new.groups }
     ensures index { passes.new.index ≡ passes.old.index }
-    ensures read { PointsRead job kept.now.places from kept.now.geometry.shards kept.now.geometry.need 0 points.new result passes.old.groups passes.new.groups }
+    ensures read { PointsRead job kept.now.places from kept.now.geometry.shards
+        kept.now.geometry.need 0 points.new result passes.old.groups passes.new.groups }
 {
     points.clear();
     let places = kept.places.as_slice();
@@ -103,7 +106,8 @@ fn mend_point<A: Archive, R: Wait>(
     requires point { x < 16 }
     ensures ready { AreReady vault.now.rack vault.now.groups passes.new.groups }
     ensures index { passes.new.index ≡ passes.old.index }
-    ensures read { PointRead (MendsOn job place) x points.old points.new result passes.old.groups passes.new.groups }
+    ensures read { PointRead (MendsOn job place) x points.old points.new result passes.old.groups
+        passes.new.groups }
 {
     let mut block = Block::zero();
     let Some(point) = mend(rt, vault, passes, job, place, pads, &mut block) else {
@@ -137,8 +141,10 @@ fn mend_points<A: Archive, R: Wait>(
     ensures ready { AreReady vault.now.rack vault.now.groups passes.new.groups }
     ensures index { passes.new.index ≡ passes.old.index }
     ensures read { (first : GroupPasses)
-        → PointsTried job kept.now.places from kept.now.geometry.shards kept.now.geometry.need 0 points.old first passes.old.groups
-        → PointsRead job kept.now.places from kept.now.geometry.shards kept.now.geometry.need kept.now.geometry.shards points.new result first passes.new.groups }
+        → PointsTried job kept.now.places from kept.now.geometry.shards kept.now.geometry.need 0
+        points.old first passes.old.groups
+        → PointsRead job kept.now.places from kept.now.geometry.shards kept.now.geometry.need
+        kept.now.geometry.shards points.new result first passes.new.groups }
 {
     let places = kept.places.as_slice();
     for x in 0..kept.geometry.shards {
@@ -177,7 +183,9 @@ fn see_points<A: Archive, R: Wait>(
     requires within { from + kept.now.geometry.shards ≤ length kept.now.places }
     ensures ready { AreReady vault.now.rack vault.now.groups passes.new.groups }
     ensures index { passes.new.index ≡ passes.old.index }
-    ensures read { PointsRead job kept.now.places from kept.now.geometry.shards kept.now.geometry.need kept.now.geometry.shards points.new result passes.old.groups passes.new.groups }
+    ensures read { PointsRead job kept.now.places from kept.now.geometry.shards
+        kept.now.geometry.need kept.now.geometry.shards points.new result passes.old.groups
+        passes.new.groups }
 {
     look_at_points(rt, vault, passes, job, kept, from, points)?;
     mend_points(rt, vault, passes, job, kept, from, pads, points)
@@ -237,7 +245,8 @@ fn read_fragment<A: Archive, R: Wait>(
     ensures index { passes.new.index ≡ passes.old.index }
     ensures room { vec_capacity fragments.old ≤ vec_capacity fragments.new }
     ensures long { IfOk result (λ _. vec_len fragments.new ≡ vec_len fragments.old + 928) }
-    ensures read { FragmentRead job kept.now piece fragment fragments.old.items fragments.new.items result passes.old.groups passes.new.groups }
+    ensures read { FragmentRead job kept.now piece fragment fragments.old.items fragments.new.items
+        result passes.old.groups passes.new.groups }
 {
     let from = first_block(kept, piece, fragment);
     see_points(rt, vault, passes, job, kept, from, pads, points)?;
@@ -289,7 +298,8 @@ pub fn read_piece<A: Archive, R: Wait>(
     ensures index { passes.new.index ≡ passes.old.index }
     ensures room { 7424 ≤ vec_capacity fragments.new }
     ensures long { length object.new ≡ 928 }
-    ensures read { PieceRead job kept.now piece object.new result passes.old.groups passes.new.groups }
+    ensures read { PieceRead job kept.now piece object.new result passes.old.groups
+        passes.new.groups }
 {
     fragments.clear();
     for fragment in 0..kept.geometry.fragments {

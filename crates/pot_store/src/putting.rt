@@ -5,7 +5,7 @@ ghost use Rattle.pot_bytes.specs.Rack.{IsGeometry, IsRack};
 ghost use Rattle.pot_index.specs.Fits.{group_of};
 ghost use Rattle.pot_rows.specs.Works.{RowWorked, RowAlone};
 ghost use Rattle.pot_shared.specs.Ready.{AreReady};
-ghost use Rattle.pot_store.specs.Works.{of_job};
+ghost use Rattle.pot_store.specs.Works.{of_job, OnlySaw};
 ghost use Rattle.pot_store.specs.Drawing.{all_blocks, count_of};
 ghost use Rattle.pot_store.specs.Puts.{ArePut, PutsEnd};
 
@@ -33,6 +33,31 @@ fn group_of(rack: &Rack, geometry: &Geometry, number: u32) -> u8
 {
     let shards = u32::from(geometry.shards);
     ((number / shards + number % shards) % u32::from(rack.groups)) as u8
+}
+
+/// Sees where the groups of the next two puts stand, each in one turn, where others put into a group in between. It logs nothing.
+fn look_ahead<A: Archive, R: Wait>(
+    rt: &R,
+    vault: &Vault<A>,
+    passes: &mut Passes<A>,
+    drawing: &mut SealedDrawing,
+    groups: (u8, u8),
+)
+    requires ready { AreReady vault.now.rack vault.now.groups passes.old.groups }
+    requires first { groups.0 < length vault.now.groups }
+    requires second { groups.1 < length vault.now.groups }
+    ensures ready { AreReady vault.now.rack vault.now.groups passes.new.groups }
+    ensures index { passes.new.index ≡ passes.old.index }
+    ensures saw { OnlySaw passes.old.groups passes.new.groups }
+    ensures drawing { drawing.new ≡ drawing.old }
+{
+    if !drawing.looks_ahead() {
+        return;
+    }
+    let first = vault.standing(rt, passes, groups.0);
+    drawing.see(groups.0, &first);
+    let second = vault.standing(rt, passes, groups.1);
+    drawing.see(groups.1, &second);
 }
 
 /// Puts the blocks of a split of this geometry, each into its own group, in order, and notes where they stand.
@@ -71,7 +96,9 @@ pub(crate) fn put_all<A: Archive, R: Wait>(
 {
     for number in 0..count {
         let group = group_of(&vault.rack, geometry, number);
-        let next = drawing.next((group, group_of(&vault.rack, geometry, number + 1)));
+        let groups = (group, group_of(&vault.rack, geometry, number + 1));
+        look_ahead(rt, vault, passes, drawing, groups);
+        let next = drawing.next(groups);
         match vault.put(rt, passes, group, job, &next.block, &next.parity) {
             Ok(place) => {
                 drawing.note(place, &next);

@@ -9,9 +9,11 @@ ghost use Rattle.pot_rows.specs.Works.{RowWorked};
 ghost use Rattle.pot_shared.specs.Ready.{AreReady};
 ghost use Rattle.pot_shared.specs.Catalogs.{IsIndexReady};
 ghost use Rattle.pot_replies.specs.Settings.{Setting};
-ghost use Rattle.pot_store.specs.Works.{known, of_job, section_of, JobWorked, JobAlone, IsSettingOf};
+ghost use Rattle.pot_store.specs.Works.{known, of_job, section_of, JobWorked, JobAlone};
+ghost use Rattle.pot_store.specs.Works.{IsSettingOf};
 ghost use Rattle.pot_store.specs.Fetches.{AreFilled};
-ghost use Rattle.pot_store.specs.Renewals.{of_find, of_fetch, of_put, of_renew, PutsSplit, RenewsFrom, RenewRow};
+ghost use Rattle.pot_store.specs.Renewals.{of_find, of_fetch, of_put, of_renew, PutsSplit};
+ghost use Rattle.pot_store.specs.Renewals.{RenewsFrom, RenewRow};
 
 use crate::fetching::{FetchFault, read_record};
 use crate::putting::{Stopped, put_all};

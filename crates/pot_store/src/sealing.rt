@@ -5,6 +5,7 @@ ghost use Rattle.pot_store.specs.Drawing.{all_blocks, count_of};
 use crate::drawing::Drawing;
 use crate::expecting::{Expected, SealedPut};
 use pot_bytes::Place;
+use pot_group::Standing;
 use std::marker::Model;
 
 /// A drawing whose blocks are sealed two at a time, each beside the parity block that is expected of its put.
@@ -43,6 +44,18 @@ impl<'a> SealedDrawing<'a> {
             expected: Expected::new(columns),
             ready: None,
         }
+    }
+
+    /// Whether the next two blocks are sealed now, and others put into a group in between.
+    pub(crate) fn looks_ahead(&self) -> bool {
+        self.ready.is_none() && self.expected.met_others()
+    }
+
+    /// A group stands so: what is sealed for it is expected there.
+    pub(crate) fn see(&mut self, group: u8, standing: &Standing)
+        ensures { self.new ≡ self.old }
+    {
+        self.expected.see(group, standing);
     }
 
     /// The next block, which is put into this group, as the one after it is into the second.

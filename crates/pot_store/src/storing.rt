@@ -8,7 +8,8 @@ ghost use Rattle.pot_shared.specs.Ready.{AreReady};
 ghost use Rattle.pot_shared.specs.Catalogs.{IsIndexReady};
 ghost use Rattle.pot_replies.specs.Settings.{Setting};
 ghost use Rattle.pot_store.specs.Works.{known, JobWorked, JobAlone, section_of, IsSettingOf};
-ghost use Rattle.pot_store.specs.Stores.{DrawsFrom, StoreRow, record_of, fault_of, IsPlan, IsUnplanned};
+ghost use Rattle.pot_store.specs.Stores.{DrawsFrom, StoreRow, record_of, fault_of, IsPlan};
+ghost use Rattle.pot_store.specs.Stores.{IsUnplanned};
 
 use crate::drawing::Drawing;
 use crate::putting::{Stopped, put_all};
@@ -148,8 +149,15 @@ pub fn store_file<A: Archive, R: Wait>(
     requires job { 0 < job }
     ensures ready { AreReady vault.now.rack vault.now.groups passes.new.groups }
     ensures index { IsIndexReady vault.now.rack vault.now.groups vault.now.index passes.new.index }
-    ensures worked { JobWorked job (known passes.old.groups passes.old.index) (known passes.new.groups passes.new.index) }
-    ensures says { JobAlone job (known passes.old.groups passes.old.index) (known passes.new.groups passes.new.index) → (s : Setting) → IsSettingOf s vault.now.rack (known passes.old.groups passes.old.index) → DrawsFrom s pads job file.now → StoreRow s job name.now file.now result (section_of (known passes.old.groups passes.old.index) (known passes.new.groups passes.new.index)) }
+    ensures worked { JobWorked job (known passes.old.groups passes.old.index)
+        (known passes.new.groups passes.new.index) }
+    ensures says { JobAlone job (known passes.old.groups passes.old.index)
+        (known passes.new.groups passes.new.index)
+        → (s : Setting) → IsSettingOf s vault.now.rack (known passes.old.groups passes.old.index)
+        → DrawsFrom s pads job file.now
+        → StoreRow s job name.now file.now result
+        (section_of (known passes.old.groups passes.old.index)
+        (known passes.new.groups passes.new.index)) }
 {
     let Plan {
         pieces,

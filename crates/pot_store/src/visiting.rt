@@ -39,7 +39,8 @@ pub fn look_at<A: Archive, R: Wait>(
     requires job { 0 < job }
     ensures ready { AreReady vault.now.rack vault.now.groups passes.new.groups }
     ensures index { passes.new.index ≡ passes.old.index }
-    ensures looks { LooksOnce job place (came_to result block.new) passes.old.groups passes.new.groups }
+    ensures looks { LooksOnce job place (came_to result block.new) passes.old.groups
+        passes.new.groups }
 {
     match vault.look(rt, passes, job, place, block) {
         Looked::Seen => Some(Point::Seen),
@@ -63,7 +64,8 @@ fn look_again<A: Archive, R: Wait>(
     requires job { 0 < job }
     ensures ready { AreReady vault.now.rack vault.now.groups passes.new.groups }
     ensures index { passes.new.index ≡ passes.old.index }
-    ensures looks { LooksAgain job place (came_to result block.new) passes.old.groups passes.new.groups }
+    ensures looks { LooksAgain job place (came_to result block.new) passes.old.groups
+        passes.new.groups }
 {
     match look_at(rt, vault, passes, job, place, block) {
         Some(Point::Gone) => Some(Point::Lost),
@@ -87,7 +89,8 @@ pub fn mend<A: Archive, R: Wait>(
     requires job { 0 < job }
     ensures ready { AreReady vault.now.rack vault.now.groups passes.new.groups }
     ensures index { passes.new.index ≡ passes.old.index }
-    ensures mends { MendsOn job place (came_to result block.new) passes.old.groups passes.new.groups }
+    ensures mends { MendsOn job place (came_to result block.new) passes.old.groups
+        passes.new.groups }
 {
     match vault.mend_place(rt, passes, job, place, pads) {
         Mend::Whole => look_again(rt, vault, passes, job, place, block),

@@ -90,7 +90,7 @@ returns-in-Ok-publish-clause-says g c = λ alone s set draws.
     published_row c.args.job c.args.name.now c.args.file.now c.args.vault.now.rack c.args.vault.now.groups c.args.vault.now.index c.args.passes.now.groups c.reserve.new.passes.groups c.put_all.new.passes.groups c.args.passes.now.index c.reserve.new.passes.index c.put_all.new.passes.index c.in-Ok.field-0 c.requires.ready c.requires.index c.reserve.ensures.groups c.in-Ok.ensures.call c.reserve.ensures.index c.put_all.ensures.index c.put_all.ensures.worked c.args.pads c.put_all.new.places.items c.in_ok-pieces.field-0.pieces c.in_ok-pieces.field-0.shards c.in-Ok-publish.field-0 c.publish.new.passes.groups c.publish.new.passes.index
     c.put_all.ensures.ready c.publish.ensures.groups (subst (λ (r : Record). IndexCall (PublishesRecord c.args.job r (Ok c.in-Ok-publish.field-0)) c.put_all.new.passes.index c.publish.new.passes.index) c.record_of-kept.ensures c.in-Ok-publish.ensures.call)
     (subst (λ (d : Drawn). ArePut c.args.vault.now.rack c.args.vault.now.rack.geometry c.args.job (all_blocks d) c.put_all.new.places.items c.reserve.new.passes.groups c.put_all.new.passes.groups) drawn put.1)
-    plan.short plan.pieces_is (plan.shards_is ∙ ap count_of plan.drawing) put.0 alone s set draws
+    (λ i. (c.type_inv.file i).fits) plan.short plan.pieces_is (plan.shards_is ∙ ap count_of plan.drawing) put.0 alone s set draws
 
 pub returns-in-Ok-put_all-clause-worked : goal.returns-in-Ok-put_all-clause-worked
 returns-in-Ok-put_all-clause-worked g c =
