@@ -1,6 +1,7 @@
 pub mod OrderLemmas
 pub mod EntryLemmas
 pub mod SectionLemmas
+pub mod LiveLemmas
 pub mod ScrubLemmas
 pub mod SteppingLemmas
 pub mod RepairLemmas

@@ -27,7 +27,7 @@ use Rattle.pot_shared.specs.Catalogs.{IndexPasses}
 use Rattle.pot_group.specs.Calls.{LookCall}
 use Rattle.pot_shared.specs.Calls.{CallAt, NextCall}
 use Rattle.pot_replies.specs.Jobs.{is_look, is_seen, is_gone, place_in, EachIs, Ascend, Precedes}
-use Rattle.pot_replies.specs.Sections.{Section, mine}
+use Rattle.pot_replies.specs.Sections.{Section}
 use Rattle.pot_replies.specs.Settings.{Setting}
 use Rattle.pot_replies.specs.Scrubs.{AreLooks, IsScrubbed, IsScrubFault, IsScrubLogFull}
 use Rattle.pot_store.specs.Works.{of_job, known, section_of, IsSettingOf}
@@ -36,7 +36,8 @@ use Rattle.pot_mend.specs.declared.fault.MendFault.{MendFault}
 use Rattle.pot_mend.specs.declared.fault.MendFault.TheVariants as fault
 use Rattle.pot_mend.specs.declared.scrubbing.Scrubbed.{Scrubbed}
 use Rattle.pot_store.specs.Adds.{Adds, Fails, FailsOnce, FindsNext, IsFromOn, IsNextOf}
-use Rattle.pot_mend.specs.Scrubs.{logged, IsHere, LooksAt, LooksNext, ScrubsNext, ScrubRow}
+use Rattle.pot_mend.specs.Scrubs.{logged, IsHere, LoggedLive, LooksAt, LooksNext, ScrubsNext, ScrubRow}
+use Rattle.pot_mend.proofs.LiveLemmas.{live_found, live_none, live_then}
 use Rattle.pot_mend.proofs.EntryLemmas.{count_one, each_more, one_in}
 use Rattle.pot_mend.proofs.OrderLemmas.{AtOrAfter, ascend_front, ascend_later, ascend_more, before_next, before_or_after}
 use Rattle.pot_mend.proofs.SectionLemmas.{found_was, last_full, not_always, only_in}
@@ -111,6 +112,7 @@ module _ (told : Type 0) (job : ℕ) (rack : Rack) (names : List TurnName) (grou
         once_front job group v u w found.worked at.adds.worked (IsNextOf is_live s c (Some p) group) (next_finds told job rack names group s c kind.Live (Some p) v u within ready next),
         next_from told job rack names group s c kind.Live (Some p) v u within ready next p refl,
         record { adds = adds_then job group [] (logged job p answer) v u w found at.adds; here = at.here; narrow = narrow; bound = at.bound; full = at.full },
+        live_found job group s c v u w p answer found (next_finds told job rack names group s c kind.Live (Some p) v u within ready next) at,
       )
 
 -- LOOK AFTER LOOK
@@ -133,6 +135,7 @@ pub record ScrubSofar (job g s c seen gone : ℕ) (old now : GroupPasses) : Type
   pub gone_is : gone ≡ length (filter is_gone entries)
   pub both : seen + gone ≡ length entries
   pub done : (n k : ℕ) → Precedes (n, k) (s, c) → IsDone entries job n k g old now
+  pub live : LoggedLive job g old now
 
 pub none_before : (n k : ℕ) → Precedes (n, k) (0, 0) → ⊥
 none_before n k (inl a) = absurd (omega (arith, a))
@@ -148,6 +151,7 @@ scrub_begin job g row idle = record {
   gone_is = refl;
   both = refl;
   done = λ n k before. absurd (none_before n k before);
+  live = live_none job g row row (adds_none job g row idle);
 }
 
 looked_more : (xs ys : List Entry) (job n k : ℕ) → WasLooked xs job n k → WasLooked (xs ++ ys) job n k
@@ -156,7 +160,7 @@ looked_more xs ys job n k (inr a) = inr (Contains-append_left xs ys (entry.Gone 
 
 module _ (job g s c seen gone : ℕ) (u v w : GroupPasses) (sofar : ScrubSofar job g s c seen gone u v) (p : Place) where
   module _ (e : Entry) (look : is_look e ≡ true) (place : place_in e ≡ (p.stripe, p.column)) (was : WasLooked (e ∷ []) job p.stripe p.column)
-      (finds : FindsNext is_live s c (Some p) g v w) (adds : Adds job g (e ∷ []) v w) (from : IsFromOn s c p) where
+      (finds : FindsNext is_live s c (Some p) g v w) (adds : Adds job g (e ∷ []) v w) (from : IsFromOn s c p) (lives : LoggedLive job g v w) where
     abbrev all : List Entry
     all = sofar.entries ++ e ∷ []
 
@@ -200,16 +204,17 @@ module _ (job g s c seen gone : ℕ) (u v w : GroupPasses) (sofar : ScrubSofar j
       gone_is = (let a = sofar.gone_is in let b = count_one is_gone sofar.entries e in omega (arith, gone_is, a, b));
       both = (let a = sofar.both in let b = length-append sofar.entries (e ∷ []) in omega (arith, both, a, b));
       done = done_more;
+      live = live_then job g u v w sofar.adds.worked adds.worked sofar.live lives;
     }
 
 module _ (job g s c seen gone : ℕ) (u v w : GroupPasses) (sofar : ScrubSofar job g s c seen gone u v) (p : Place) where
   pub scrub_seen : LooksNext job g s c (Some (p, looked.Seen)) v w → ScrubSofar job g p.stripe (p.column + 1) (seen + 1) gone u w
-  scrub_seen (finds, from, at) =
-      scrub_more job g s c seen gone u v w sofar p (entry.Seen job p.stripe p.column) refl refl (inl (one_in _)) finds at.adds from (seen + 1) gone refl (omega arith) (omega arith)
+  scrub_seen (finds, from, at, lives) =
+      scrub_more job g s c seen gone u v w sofar p (entry.Seen job p.stripe p.column) refl refl (inl (one_in _)) finds at.adds from lives (seen + 1) gone refl (omega arith) (omega arith)
 
   pub scrub_gone : LooksNext job g s c (Some (p, looked.Gone)) v w → ScrubSofar job g p.stripe (p.column + 1) seen (gone + 1) u w
-  scrub_gone (finds, from, at) =
-      scrub_more job g s c seen gone u v w sofar p (entry.Gone job p.stripe p.column) refl refl (inr (one_in _)) finds at.adds from seen (gone + 1) (omega arith) refl (omega arith)
+  scrub_gone (finds, from, at, lives) =
+      scrub_more job g s c seen gone u v w sofar p (entry.Gone job p.stripe p.column) refl refl (inr (one_in _)) finds at.adds from lives seen (gone + 1) (omega arith) refl (omega arith)
 
 -- THE ANSWERS
 
@@ -239,6 +244,7 @@ module _ (st : Setting) (job g s c seen gone : ℕ) (rack : Rack) (u v w : Group
             absurd (not_always st job g rack u w ui wi same within alone set is_live n k in_stripes in_columns always
             (once_back job g u v w sofar.adds.worked more.worked (Fails is_live n k) (none_left finds n k at))))
             (before_or_after n k s c));
+        live = live_then job g u v w sofar.adds.worked more.worked sofar.live (live_none job g v w more) (st.first g) (set.first g within) alone;
       }
     where
       none_left : FindsNext is_live s c None g v w → (n k : ℕ) → AtOrAfter (s, c) (n, k) → FailsOnce is_live n k g v w
@@ -251,8 +257,8 @@ module _ (st : Setting) (job g s c seen gone : ℕ) (rack : Rack) (u v w : Group
     stands_behind from = ascend_later (map place_in sofar.entries) (s, c) (p.stripe, p.column) sofar.ascends from
 
     -- an archive failed
-    pub scrub_fault_row : (column : ℕ) → LooksNext job g s c (Some (p, looked.Faulted column)) v w → IsScrubFault job g column (mine job its)
-    scrub_fault_row column (finds, from, at) =
+    pub scrub_fault_row : (column : ℕ) → LooksNext job g s c (Some (p, looked.Faulted column)) v w → IsScrubFault st job g column its
+    scrub_fault_row column (finds, from, at, lives) =
         let adds = adds_then job g sofar.entries (entry.Fault job p.stripe column ∷ []) u v w sofar.adds at.adds in
         record {
           looks = sofar.entries;
@@ -261,11 +267,12 @@ module _ (st : Setting) (job g s c seen gone : ℕ) (rack : Rack) (u v w : Group
           kinds = sofar.kinds;
           ascends = subst (λ k. Ascend (map place_in sofar.entries ++ (p.stripe, k) ∷ [])) (sym at.here) (stands_behind from);
           only = only_in st job g rack u w ui wi same within alone set (sofar.entries ++ entry.Fault job p.stripe column ∷ []) adds;
+          live = live_then job g u v w sofar.adds.worked at.adds.worked sofar.live lives (st.first g) (set.first g within) alone;
         }
 
     -- the log was full
     pub scrub_full_row : LooksNext job g s c (Some (p, looked.LogFull)) v w → IsScrubLogFull st job g its
-    scrub_full_row (finds, from, at) =
+    scrub_full_row (finds, from, at, lives) =
         let adds : Adds job g (sofar.entries ++ []) u w = adds_then job g sofar.entries [] u v w sofar.adds at.adds in
         let are : own job (its.added g) ≡ sofar.entries = adds.own_is alone ∙ append-nil sofar.entries in
         let full = last_full st job g rack u w ui wi same within alone set (sofar.entries ++ []) adds (at.full refl) in
@@ -282,6 +289,7 @@ module _ (st : Setting) (job g s c seen gone : ℕ) (rack : Rack) (u v w : Group
           in_columns = was.1;
           behind = subst (λ es. Ascend (map place_in es ++ (p.stripe, p.column) ∷ [])) (sym are) (stands_behind from);
           was = was.2;
+          live = live_then job g u v w sofar.adds.worked at.adds.worked sofar.live lives (st.first g) (set.first g within) alone;
         }
 
 -- THE LOOP

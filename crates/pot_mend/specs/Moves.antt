@@ -1,5 +1,6 @@
 -- What the calls that check and that move a column say of the logs.
-use Rattle.std.specs.Prelude.{◌≡◌, ◌⊎◌, ℕ, Bool, true, false, List, [], ◌∷◌, ◌++◌, IsSome, Result, Ok, Err, length, filter, Contains}
+use Rattle.std.specs.Prelude.{◌≡◌, ◌⊎◌, ℕ, Bool, true, false, List, [], ◌∷◌, ◌++◌, IsSome, Result}
+use Rattle.std.specs.Prelude.{Ok, Err, length, filter, Contains}
 use Rattle.pot_bytes.specs.Rack.{log_bound}
 use Rattle.pot_machine.specs.declared.entry.Entry.{Entry}
 use Rattle.pot_machine.specs.declared.entry.Entry.TheVariants.{Fault, MoveEnd, Swapped}
@@ -9,7 +10,8 @@ use Rattle.pot_rows.specs.Works.{RowAlone, RowWorked}
 use Rattle.pot_replies.specs.Jobs.{is_copied, is_move_of, EachIs}
 use Rattle.pot_replies.specs.Sections.{Section, mine, Moment, IsOnlyIn}
 use Rattle.pot_replies.specs.Settings.{Setting}
-use Rattle.pot_replies.specs.Moves.{HasHome, IsUsed, NoHome, GoesElsewhere, IsTakenTo, MayBegin, MayGoOn, moving_at}
+use Rattle.pot_replies.specs.Moves.{HasHome, IsUsed, NoHome, GoesElsewhere, IsTakenTo, MayBegin}
+use Rattle.pot_replies.specs.Moves.{MayGoOn, moving_at}
 use Rattle.pot_shared.specs.Members.{entries_of}
 use Rattle.pot_shared.specs.Ready.{GroupPasses}
 use Rattle.pot_store.specs.Works.{of_job, gained}
@@ -25,7 +27,8 @@ seen_in row g = entries_of (view_at row g).seen
 
 -- CHECKS
 
--- Nothing was logged. That is work of any job, and where the job was alone, what was seen meanwhile has no entry of it.
+-- Nothing was logged. That is work of any job, and where the job was alone, what was seen meanwhile
+-- has no entry of it.
 pub record IsAsked (old new : GroupPasses) : Type 0 where
   pub worked : (job : ℕ) → RowWorked (of_job job) old new
   pub silent : (job : ℕ) → RowAlone (of_job job) old new → (g : ℕ) → own job (gained old new g) ≡ []
@@ -39,19 +42,25 @@ MayMove false s logs from to g c = MayBegin s logs from to g c
 abbrev pub MigrateChecked : Setting → (ℕ → List Entry) → ℕ → ℕ → Result MoveAt UseFault → Type 0
 MigrateChecked s logs from to (Ok at) = MayMove at.resumes s logs from to at.group at.column
 MigrateChecked s logs from to (Err (used.NoSuchArchive n)) = (n ≡ from) × NoHome s logs from
-MigrateChecked s logs from to (Err (used.InUse n)) = ((n ≡ from) × GoesElsewhere s logs from to) ⊎ ((n ≡ to) × IsTakenTo s logs from to)
+MigrateChecked s logs from to (Err (used.InUse n)) =
+    ((n ≡ from) × GoesElsewhere s logs from to) ⊎ ((n ≡ to) × IsTakenTo s logs from to)
 
 -- what `check_replace` answers
 abbrev pub ReplaceChecked : Setting → (ℕ → List Entry) → ℕ → ℕ → Result MoveAt UseFault → Type 0
-ReplaceChecked s logs from to (Ok at) = (at.resumes ≡ false) × HasHome s logs from at.group at.column × (IsUsed s logs to → ⊥)
+ReplaceChecked s logs from to (Ok at) =
+    (at.resumes ≡ false) × HasHome s logs from at.group at.column × (IsUsed s logs to → ⊥)
 ReplaceChecked s logs from to (Err (used.NoSuchArchive n)) = (n ≡ from) × NoHome s logs from
-ReplaceChecked s logs from to (Err (used.InUse n)) = (n ≡ to) × ((g : ℕ) × (c : ℕ) × HasHome s logs from g c) × IsUsed s logs to
+ReplaceChecked s logs from to (Err (used.InUse n)) =
+    (n ≡ to) × ((g : ℕ) × (c : ℕ) × HasHome s logs from g c) × IsUsed s logs to
 
 -- A MOVE, as the job's own entries give it
 
--- the move of a column ended: a MoveEnd of the column stands there, or a swap took its home and its target away
+-- the move of a column ended: a MoveEnd of the column stands there, or a swap took its home and its
+-- target away
 abbrev pub EndsMove : ℕ → List Entry → Type 0
-EndsMove c added = ((by : ℕ) × Contains added (MoveEnd by c)) ⊎ ((by : ℕ) × (to : ℕ) × Contains added (Swapped by c to))
+EndsMove c added =
+    ((by : ℕ) × Contains added (MoveEnd by c))
+    ⊎ ((by : ℕ) × (to : ℕ) × Contains added (Swapped by c to))
 
 -- So many blocks were copied. Where the column moved when the section began, its move ended in it.
 pub record IsMoved (s : Setting) (job g c slots : ℕ) (w : Section) : Type 0 where
@@ -80,5 +89,6 @@ pub record IsMoveLogFull (job g c : ℕ) (w : Section) : Type 0 where
 -- what each answer of `migrate` says
 abbrev pub MoveRow : Setting → ℕ → ℕ → ℕ → Result ℕ MendFault → Section → Type 0
 MoveRow s job g c (Ok slots) w = IsMoved s job g c slots w
-MoveRow s job g c (Err (fault.Faulted group column)) w = (group ≡ g) × (column ≡ c) × IsMoveFault job g c w
+MoveRow s job g c (Err (fault.Faulted group column)) w =
+    (group ≡ g) × (column ≡ c) × IsMoveFault job g c w
 MoveRow s job g c (Err (fault.LogFull group)) w = (group ≡ g) × IsMoveLogFull job g c w

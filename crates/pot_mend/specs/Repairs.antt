@@ -1,5 +1,6 @@
 -- A repair, place by place, and its answers, each as the job's own entries give it.
-use Rattle.std.specs.Prelude.{◌≡◌, ◌≤◌, ◌⊎◌, ℕ, ◌+◌, Bool, true, false, List, [], ◌∷◌, ◌++◌, Result, Ok, Err, length, filter, Contains}
+use Rattle.std.specs.Prelude.{◌≡◌, ◌≤◌, ◌⊎◌, ℕ, ◌+◌, Bool, true, false, List, [], ◌∷◌, ◌++◌, Result}
+use Rattle.std.specs.Prelude.{Ok, Err, length, filter, Contains}
 use Rattle.pot_bytes.specs.declared.digest.Digest.{Digest}
 use Rattle.pot_bytes.specs.declared.rack.Place.{Place}
 use Rattle.pot_bytes.specs.Rack.{log_bound}
@@ -31,17 +32,22 @@ is_begin _ = false
 -- no relay of the place that the job began ended by an Oddly of the job
 abbrev pub NotOdd : ℕ → List Entry → ℕ → ℕ → Type 0
 NotOdd job entries n k =
-    (f : Digest) (x between y : List Entry) → entries ≡ x ++ entry.Begin job n k ∷ (between ++ entry.Oddly job n k f ∷ y) → ⊥
+    (f : Digest) (x between y : List Entry)
+    → entries ≡ x ++ entry.Begin job n k ∷ (between ++ entry.Oddly job n k f ∷ y) → ⊥
 
 -- and none was begun anew after one that did
 abbrev pub NoneAgain : ℕ → List Entry → Type 0
 NoneAgain job entries =
     (n k : ℕ) (f : Digest) (x between y z : List Entry)
-    → entries ≡ (x ++ entry.Begin job n k ∷ (between ++ entry.Oddly job n k f ∷ y)) ++ entry.Begin job n k ∷ z → ⊥
+    → entries
+    ≡ (x ++ entry.Begin job n k ∷ (between ++ entry.Oddly job n k f ∷ y))
+    ++ entry.Begin job n k ∷ z
+    → ⊥
 
--- What a repair logged: of relays alone. Each Stuck is of a place before `stuck` and each Begin of one before `begun`, with so many
--- slots mended and left, and so many blinds drawn.
-pub record AreRepairs (job : ℕ) (entries : List Entry) (stuck begun : ℕ × ℕ) (mended left draws : ℕ) : Type 0 where
+-- What a repair logged: of relays alone. Each Stuck is of a place before `stuck` and each Begin of
+-- one before `begun`, with so many slots mended and left, and so many blinds drawn.
+pub record AreRepairs (job : ℕ) (entries : List Entry) (stuck begun : ℕ × ℕ)
+    (mended left draws : ℕ) : Type 0 where
   pub kinds : EachIs is_relay entries
   pub one_stuck : (n k : ℕ) → length (filter (is_stuck_at n k) entries) ≤ 1
   pub stuck_before : (j n k o : ℕ) → Contains entries (entry.Stuck j n k o) → Precedes (n, k) stuck
@@ -56,7 +62,9 @@ pub record AreRepairs (job : ℕ) (entries : List Entry) (stuck begun : ℕ × �
 
 -- the place was left as it was
 abbrev pub WasLeft : List Entry → ℕ → ℕ → ℕ → Type 0
-WasLeft entries job n k = ((o : ℕ) × Contains entries (entry.Stuck job n k o)) ⊎ ((f : Digest) × Contains entries (entry.Oddly job n k f))
+WasLeft entries job n k =
+    ((o : ℕ) × Contains entries (entry.Stuck job n k o))
+    ⊎ ((f : Digest) × Contains entries (entry.Oddly job n k f))
 
 -- the place is done: it was left, or was sound or Void at some point
 abbrev pub IsDone : List Entry → ℕ → ℕ → ℕ → ℕ → GroupPasses → GroupPasses → Type 0
@@ -92,18 +100,25 @@ pub record RepairFills (job g draws : ℕ) (old now : GroupPasses) : Type 0 wher
   pub full : length (view_at now g).seen ≡ log_bound
 
 -- The repair of one place, whatever was done before it, with so many more blinds drawn.
-abbrev pub EndsPlace : ℕ → Place → Result (Unit {0}) MendFault → Repaired → Repaired → ℕ → GroupPasses → GroupPasses → Type 0
+abbrev pub EndsPlace : ℕ → Place → Result (Unit {0}) MendFault → Repaired → Repaired → ℕ
+    → GroupPasses → GroupPasses → Type 0
 EndsPlace job p (Ok u) r r' more v w =
-    (old : GroupPasses) (draws : ℕ) → RepairSofar job p.group p.stripe p.column r.mended r.left draws old v
+    (old : GroupPasses) (draws : ℕ)
+    → RepairSofar job p.group p.stripe p.column r.mended r.left draws old v
     → RepairSofar job p.group p.stripe (p.column + 1) r'.mended r'.left (draws + more) old w
 EndsPlace job p (Err (fault.Faulted group column)) r r' more v w =
     (group ≡ p.group)
-    × ((old : GroupPasses) (draws : ℕ) → RepairSofar job p.group p.stripe p.column r.mended r.left draws old v → RepairFails job p.group column (draws + more) old w)
+    × ((old : GroupPasses) (draws : ℕ)
+    → RepairSofar job p.group p.stripe p.column r.mended r.left draws old v
+    → RepairFails job p.group column (draws + more) old w)
 EndsPlace job p (Err (fault.LogFull group)) r r' more v w =
     (group ≡ p.group)
-    × ((old : GroupPasses) (draws : ℕ) → RepairSofar job p.group p.stripe p.column r.mended r.left draws old v → RepairFills job p.group (draws + more) old w)
+    × ((old : GroupPasses) (draws : ℕ)
+    → RepairSofar job p.group p.stripe p.column r.mended r.left draws old v
+    → RepairFills job p.group (draws + more) old w)
 
-pub record RepairsPlace (job : ℕ) (p : Place) (result : Result (Unit {0}) MendFault) (r r' : Repaired) (pads after : Pads) (v w : GroupPasses) : Type 0 where
+pub record RepairsPlace (job : ℕ) (p : Place) (result : Result (Unit {0}) MendFault)
+    (r r' : Repaired) (pads after : Pads) (v w : GroupPasses) : Type 0 where
   pub more : ℕ
   pub stream : after ≡ drawn pads more
   pub worked : RowWorked (of_job job) v w
@@ -115,7 +130,9 @@ pub record RepairsPlace (job : ℕ) (p : Place) (result : Result (Unit {0}) Mend
 -- Some blinds were drawn, one after another, and no fewer than the job has relays that it began.
 abbrev pub Draws : ℕ → ℕ → Pads → Pads → GroupPasses → GroupPasses → Type 0
 Draws job g pads after old new =
-    (n : ℕ) × (after ≡ drawn pads n) × (RowAlone (of_job job) old new → length (filter is_begin (own job (gained old new g))) ≤ n)
+    (n : ℕ) × (after ≡ drawn pads n)
+    × (RowAlone (of_job job) old new
+    → length (filter is_begin (own job (gained old new g))) ≤ n)
 
 -- what each answer of a repair says of the section
 abbrev pub RepairRow : Setting → ℕ → ℕ → Result Repaired MendFault → Section → Type 0

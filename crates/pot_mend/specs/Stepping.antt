@@ -1,5 +1,6 @@
 -- One step towards the mending of a slot.
-use Rattle.std.specs.Prelude.{◌≡◌, ◌≢◌, ◌<◌, ◌≤◌, ◌⊎◌, ℕ, Bool, false, List, [], ◌∷◌, None, Result, Ok, Err, length, if◌then◌else◌}
+use Rattle.std.specs.Prelude.{◌≡◌, ◌≢◌, ◌<◌, ◌≤◌, ◌⊎◌, ℕ, Bool, false, List, [], ◌∷◌, None, Result}
+use Rattle.std.specs.Prelude.{Ok, Err, length, if◌then◌else◌}
 use Rattle.pot_bytes.specs.declared.digest.Digest.{Digest}
 use Rattle.pot_bytes.specs.declared.rack.Place.{Place}
 use Rattle.pot_bytes.specs.Rack.{log_bound}
@@ -23,13 +24,17 @@ use Rattle.pot_store.specs.Adds.{Adds, FailsOnce}
 abbrev pub StepEntries : ℕ → ℕ → ℕ → Step → List Entry → Type 0
 StepEntries job s c step.Began entries = entries ≡ entry.Begin job s c ∷ []
 StepEntries job s c step.Went entries =
-    ((n : ℕ) × (k : ℕ) × (entries ≡ entry.Hop job n k ∷ [])) ⊎ ((n : ℕ) × (k : ℕ) × (o : ℕ) × (entries ≡ entry.GaveUp job n k o ∷ []))
+    ((n : ℕ) × (k : ℕ) × (entries ≡ entry.Hop job n k ∷ []))
+    ⊎ ((n : ℕ) × (k : ℕ) × (o : ℕ) × (entries ≡ entry.GaveUp job n k o ∷ []))
 StepEntries job s c step.Mended entries = (n : ℕ) × (k : ℕ) × (entries ≡ entry.Mended job n k ∷ [])
-StepEntries job s c step.Passed entries = (n : ℕ) × (k : ℕ) × (f : Digest) × (entries ≡ entry.Oddly job n k f ∷ []) × (n ≡ s → k ≡ c → ⊥)
+StepEntries job s c step.Passed entries =
+    (n : ℕ) × (k : ℕ) × (f : Digest) × (entries ≡ entry.Oddly job n k f ∷ []) × (n ≡ s → k ≡ c → ⊥)
 StepEntries job s c step.Left entries =
-    ((o : ℕ) × (entries ≡ entry.Stuck job s c o ∷ [])) ⊎ ((f : Digest) × (entries ≡ entry.Oddly job s c f ∷ []))
+    ((o : ℕ) × (entries ≡ entry.Stuck job s c o ∷ []))
+    ⊎ ((f : Digest) × (entries ≡ entry.Oddly job s c f ∷ []))
 StepEntries job s c step.Whole entries = entries ≡ []
-StepEntries job s c (step.Faulted column) entries = (n : ℕ) × (entries ≡ entry.Fault job n column ∷ [])
+StepEntries job s c (step.Faulted column) entries =
+    (n : ℕ) × (entries ≡ entry.Fault job n column ∷ [])
 StepEntries job s c step.LogFull entries = entries ≡ []
 
 -- the step of a relay, of the slot's own or of another

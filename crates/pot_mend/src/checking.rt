@@ -44,8 +44,12 @@ pub fn check_migrate<A: Archive, R: Wait>(
     ensures ready { AreReady vault.now.rack vault.now.groups passes.new.groups }
     ensures index { passes.new.index ≡ passes.old.index }
     ensures asked { IsAsked passes.old.groups passes.new.groups }
-    ensures place { IfOk result (λ at. (at.group < length vault.now.groups) × (at.column < vault.now.rack.columns + vault.now.rack.parity)) }
-    ensures says { (s : Setting) → IsSettingOf s vault.now.rack (known passes.old.groups passes.old.index)
+    ensures place { IfOk result
+        (λ at.
+        (at.group < length vault.now.groups)
+        × (at.column < vault.now.rack.columns + vault.now.rack.parity)) }
+    ensures says { (s : Setting)
+        → IsSettingOf s vault.now.rack (known passes.old.groups passes.old.index)
         → MigrateChecked s (seen_in passes.new.groups) from to result }
 {
     let told = vault.trace(rt, passes, from, to);
@@ -91,8 +95,12 @@ pub fn check_replace<A: Archive, R: Wait>(
     ensures ready { AreReady vault.now.rack vault.now.groups passes.new.groups }
     ensures index { passes.new.index ≡ passes.old.index }
     ensures asked { IsAsked passes.old.groups passes.new.groups }
-    ensures place { IfOk result (λ at. (at.group < length vault.now.groups) × (at.column < vault.now.rack.columns + vault.now.rack.parity)) }
-    ensures says { (s : Setting) → IsSettingOf s vault.now.rack (known passes.old.groups passes.old.index)
+    ensures place { IfOk result
+        (λ at.
+        (at.group < length vault.now.groups)
+        × (at.column < vault.now.rack.columns + vault.now.rack.parity)) }
+    ensures says { (s : Setting)
+        → IsSettingOf s vault.now.rack (known passes.old.groups passes.old.index)
         → ReplaceChecked s (seen_in passes.new.groups) from to result }
 {
     let told = vault.trace(rt, passes, from, to);

@@ -34,7 +34,9 @@ pub fn migrate<A: Archive, R: Wait>(
     ensures worked { RowWorked (of_job job) passes.old.groups passes.new.groups }
     ensures says { RowAlone (of_job job) passes.old.groups passes.new.groups
         → (s : Setting) → IsSettingOf s vault.now.rack (known passes.old.groups passes.old.index)
-        → MoveRow s job group column result (section_of (known passes.old.groups passes.old.index) (known passes.new.groups passes.new.index)) }
+        → MoveRow s job group column result
+        (section_of (known passes.old.groups passes.old.index)
+        (known passes.new.groups passes.new.index)) }
 {
     let mut copied = 0;
     'steps: loop {

@@ -56,7 +56,9 @@ pub fn repair_group<A: Archive, R: Wait>(
     ensures worked { RowWorked (of_job job) passes.old.groups passes.new.groups }
     ensures says { RowAlone (of_job job) passes.old.groups passes.new.groups
         → (s : Setting) → IsSettingOf s vault.now.rack (known passes.old.groups passes.old.index)
-        → RepairRow s job group result (section_of (known passes.old.groups passes.old.index) (known passes.new.groups passes.new.index)) }
+        → RepairRow s job group result
+        (section_of (known passes.old.groups passes.old.index)
+        (known passes.new.groups passes.new.index)) }
     ensures stream { Draws job group pads.old pads.new passes.old.groups passes.new.groups }
 {
     let mut repaired = Repaired { mended: 0, left: 0 };
@@ -86,10 +88,12 @@ fn repair_place<A: Archive, R: Wait>(
     requires ready { AreReady vault.now.rack vault.now.groups passes.old.groups }
     requires place { HasSlot vault.now.rack vault.now.groups place }
     requires job { 0 < job }
-    requires few { repaired.old.mended + repaired.old.left ≤ length (view_at passes.old.groups place.group).seen }
+    requires few { repaired.old.mended + repaired.old.left
+        ≤ length (view_at passes.old.groups place.group).seen }
     ensures ready { AreReady vault.now.rack vault.now.groups passes.new.groups }
     ensures index { passes.new.index ≡ passes.old.index }
-    ensures repairs { RepairsPlace job place result repaired.old repaired.new pads.old pads.new passes.old.groups passes.new.groups }
+    ensures repairs { RepairsPlace job place result repaired.old repaired.new pads.old pads.new
+        passes.old.groups passes.new.groups }
 {
     let mut blind = draw_blind(pads);
     'steps: loop {

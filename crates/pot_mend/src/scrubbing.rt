@@ -22,7 +22,7 @@ pub struct Scrubbed {
 }
 
 /// Looks at the Live slots of a group, in order of stripe and column, at each once. A slot that is Live all the time is among
-/// them; one that turns Live or Lost meanwhile may be.
+/// them; one that turns Live or Lost meanwhile may be; and each was Live before it was looked at.
 ///
 /// # Errors
 /// At the first look that fails, or that the log has no room for.
@@ -41,7 +41,9 @@ pub fn scrub_group<A: Archive, R: Wait>(
     ensures worked { RowWorked (of_job job) passes.old.groups passes.new.groups }
     ensures says { RowAlone (of_job job) passes.old.groups passes.new.groups
         → (s : Setting) → IsSettingOf s vault.now.rack (known passes.old.groups passes.old.index)
-        → ScrubRow s job group result (section_of (known passes.old.groups passes.old.index) (known passes.new.groups passes.new.index)) }
+        → ScrubRow s job group result
+        (section_of (known passes.old.groups passes.old.index)
+        (known passes.new.groups passes.new.index)) }
 {
     let mut scrubbed = Scrubbed { seen: 0, gone: 0 };
     let mut stripe = 0;
@@ -79,10 +81,12 @@ fn scrub_next<A: Archive, R: Wait>(
     requires ready { AreReady vault.now.rack vault.now.groups passes.old.groups }
     requires group { group < length vault.now.groups }
     requires job { 0 < job }
-    requires few { scrubbed.old.seen + scrubbed.old.gone ≤ length (view_at passes.old.groups group).seen }
+    requires few { scrubbed.old.seen + scrubbed.old.gone
+        ≤ length (view_at passes.old.groups group).seen }
     ensures ready { AreReady vault.now.rack vault.now.groups passes.new.groups }
     ensures index { passes.new.index ≡ passes.old.index }
-    ensures scrubs { ScrubsNext job group stripe column result scrubbed.old scrubbed.new passes.old.groups passes.new.groups }
+    ensures scrubs { ScrubsNext job group stripe column result scrubbed.old scrubbed.new
+        passes.old.groups passes.new.groups }
 {
     let Some(place) = vault.next(rt, passes, group, stripe, column, Kind::Live) else {
         return Ok(None);

@@ -83,7 +83,9 @@ fn advance_first<A: Archive>(group: &mut Group<A>, job: u32, stripes: u32) -> St
     requires stripes { stripes ≡ group.old.table.stripes }
     requires some { HasRelay group.old.table }
     requires room { length group.old.log < log_bound }
-    ensures { (s : ℕ) → (c : ℕ) → relay_at group.old.table s ≡ None → StepsIn job s c result (view_of A.account.meaning group.old) (view_of A.account.meaning group.new) }
+    ensures { (s : ℕ) → (c : ℕ) → relay_at group.old.table s ≡ None
+        → StepsIn job s c result (view_of A.account.meaning group.old)
+        (view_of A.account.meaning group.new) }
 {
     for stripe in 0..stripes {
         let answer = group.advance(job, stripe);
@@ -106,7 +108,8 @@ fn step_in<A: Archive>(
     requires stripes { stripes ≡ group.old.table.stripes }
     requires stripe { place.stripe < group.old.table.stripes }
     requires column { place.column < width group.old.table }
-    ensures { StepsIn job place.stripe place.column result (view_of A.account.meaning group.old) (view_of A.account.meaning group.new) }
+    ensures { StepsIn job place.stripe place.column result (view_of A.account.meaning group.old)
+        (view_of A.account.meaning group.new) }
 {
     let _settled = group.logged();
     match group.begin(job, place, blind) {
