@@ -2,7 +2,6 @@
 use Rattle.std.proofs.Common.{◌≡◌, ℕ, inl, inr, List, [], ◌∷◌, ◌++◌, length, ap, sym, ◌∙◌, subst}
 use Rattle.std.specs.Prelude.{Option, Some, None, IsSome, Result, Ok, Err, Contains, filter}
 use Rattle.std.proofs.lemmas.List.Elements.{Contains-append_left}
-use Rattle.pot_bytes.specs.declared.rack.Rack.{Rack}
 use Rattle.pot_bytes.specs.declared.memory.NoMemory.{NoMemory}
 use Rattle.pot_machine.specs.declared.entry.Entry.{Entry}
 use Rattle.pot_machine.specs.declared.entry.Entry.TheVariants as entry
@@ -23,11 +22,10 @@ use Rattle.pot_replies.specs.Stores.{Placed, IsLong, IsTaken, IsStored, IsStoreF
 use Rattle.pot_replies.specs.Renewals.{AllPut}
 use Rattle.pot_replies.specs.Listings.{IsIndexFull}
 use Rattle.pot_replies.specs.Fetches.{IsAbsent}
-use Rattle.pot_replies.specs.Scrubs.{IsScrubFault}
 use Rattle.pot_replies.proofs.Standing.{same_own, mine_stays, moment_stands, index_moment_stands, found_stands, mends_stand, entries_stand, seen_as_stands}
 use Rattle.pot_replies.proofs.FetchStanding.{file_stands, odd_stands, lost_stands, fetch_fault_stands, fetch_log_full_stands}
 use Rattle.pot_replies.proofs.RenewStanding.{renewed_stands, often_stands, often_late_stands, renew_index_full_stands, renew_fault_stands, renew_full_stands, renew_log_full_stands}
-use Rattle.pot_replies.proofs.ScrubStanding.{scrubbed_stands, scrub_log_full_stands, repaired_stands, repair_fault_stands, repair_log_full_stands}
+use Rattle.pot_replies.proofs.ScrubStanding.{scrubbed_stands, scrub_fault_stands, scrub_log_full_stands, repaired_stands, repair_fault_stands, repair_log_full_stands}
 use Rattle.pot_store.specs.Fetches.{IsUnfinished}
 use Rattle.pot_store.specs.Stored.{GivesOf}
 use Rattle.pot_mend.specs.Moves.{EndsMove, MoveRow}
@@ -127,7 +125,7 @@ module _ (s : Setting) (job : ℕ) (w w' : Section) (wide : Widens job w w') whe
 
   scrub_stands : (g : ℕ) (r : Reply) → IsScrubReply s job g r w → IsScrubReply s job g r w'
   scrub_stands g (replies.Scrubbed group seen gone) row = (row.0, scrubbed_stands s job g seen gone w w' wide row.1)
-  scrub_stands g (replies.Fault group column) row = (row.0, subst (IsScrubFault job g column) same row.1)
+  scrub_stands g (replies.Fault group column) row = (row.0, scrub_fault_stands s job g column w w' wide row.1)
   scrub_stands g (replies.LogFull group) row = (row.0, scrub_log_full_stands s job g w w' wide row.1)
   scrub_stands g _ row = absurd row
 

@@ -1,7 +1,7 @@
 -- The lines of a batch that have begun so far, and what passes know then.
-use Rattle.std.proofs.Common.{◌≡◌, ◌<◌, ◌≤◌, ◌+◌, ◌++◌, inl, inr, ℕ, suc, List, [], ◌∷◌, length, take, drop, get_or, refl, ap, sym, ◌∙◌, subst, arith, append-nil, length-append, add-one}
+use Rattle.std.proofs.Common.{◌≡◌, ◌<◌, ◌≤◌, ◌+◌, ◌++◌, inl, inr, ℕ, List, [], ◌∷◌, length, take, drop, get_or, refl, ap, sym, ◌∙◌, subst, arith, append-nil, length-append, add-one}
 use Rattle.std.specs.Prelude.{Some, slice_get}
-use Rattle.std.specs.List.{AllByRecursion, flat_map}
+use Rattle.std.specs.List.{flat_map}
 use Rattle.std.proofs.Math.Seq.{take-length}
 use Rattle.std.proofs.lemmas.Bool.{cases_lt}
 use Rattle.std.proofs.lemmas.Grind.{flat_map-append}
@@ -20,7 +20,7 @@ use Rattle.pot_script.specs.declared.command.Command.TheVariants as commands
 use Rattle.pot_machine.specs.Logs.{own}
 use Rattle.pot_index.specs.Entries as index
 use Rattle.pot_replies.specs.Settings.{Setting}
-use Rattle.pot_replies.specs.Sections.{Section, IsOfJobs, IsSilent, mine}
+use Rattle.pot_replies.specs.Sections.{IsOfJobs, IsSilent, mine}
 use Rattle.pot_replies.specs.Sessions.{Together}
 use Rattle.pot_shared.specs.Catalogs.{IndexPasses, IsIndexReady}
 use Rattle.pot_shared.specs.Members.{entries_of}
@@ -37,7 +37,6 @@ use Rattle.pot_commands.specs.Taking.{Lending, Took, asks}
 use Rattle.pot_commands.proofs.AnswerLemmas.{stayed_worked}
 use Rattle.pot_commands.proofs.BegunLemmas.{begun_halted, more_begun, none_begun, same_begun}
 use Rattle.pot_commands.proofs.Going.{known_follows, setting_of_stays, sole_alone, sole_parts, stays_more, went_more, work_all_went}
-use Rattle.pot_commands.proofs.StepLemmas.{work_stays}
 use Rattle.pot_commands.proofs.TakingLemmas.{times-append, took_more, took_none, took_wider}
 use Rattle.pot_commands.proofs.Whose.{its_jobs, own_all}
 use Rattle.pot_commands.proofs.WorkingLemmas.{stays_same}

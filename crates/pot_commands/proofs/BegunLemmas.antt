@@ -1,9 +1,9 @@
 -- The moves of a batch, which its lines begin one after another.
-use Rattle.std.proofs.Common.{◌≡◌, ◌≢◌, ◌<◌, ◌≤◌, ◌+◌, ◌⊎◌, ⊎_elim, inl, inr, ℕ, zero, suc, Bool, true, false, List, [], ◌∷◌, ◌++◌, length, get_or, refl, ap, sym, ◌∙◌, subst, arith, append-nil, append_assoc, length-append, ne_eqb}
+use Rattle.std.proofs.Common.{◌≡◌, ◌≢◌, ◌<◌, ◌≤◌, ◌+◌, ◌⊎◌, ⊎_elim, inl, inr, ℕ, zero, suc, Bool, true, false, List, [], ◌∷◌, ◌++◌, length, refl, ap, sym, ◌∙◌, subst, arith, append-nil, append_assoc, length-append, ne_eqb}
 use Rattle.std.specs.Prelude.{Option, Some, None, IsSome, Contains, filter, nat_lt, slice_get}
 use Rattle.std.proofs.lemmas.Bool.{cases_eq, cases_lt}
 use Rattle.std.proofs.lemmas.Bool.Decides.{nat_tests}
-use Rattle.std.proofs.lemmas.Option.{same_Some, slice_get_past, slice_get_within}
+use Rattle.std.proofs.lemmas.Option.{same_Some, slice_get_within}
 use Rattle.std.proofs.lemmas.List.{get_or-set_same, get_or_past}
 use Rattle.std.proofs.lemmas.List.Elements.{filter-append, Contains-append_cases}
 use mathlib.Core.Path.{fun_ext}
@@ -20,16 +20,15 @@ use Rattle.pot_machine.proofs.Logs.{replayed_append}
 use Rattle.pot_turn.proofs.LogLemmas.{get_front, get_back}
 use Rattle.pot_script.specs.declared.command.Command.{Command}
 use Rattle.pot_script.specs.declared.command.Command.TheVariants as commands
-use Rattle.pot_script.specs.declared.reply.Reply.{Reply}
 use Rattle.pot_replies.specs.Jobs.{is_move_begin, EachIs}
 use Rattle.pot_replies.specs.Settings.{Setting}
-use Rattle.pot_replies.specs.Sections.{Section, Halves, Follows, JobsAscend, IsAmong, IsEmpty, IsOfJobs, IsSilent, checked, mine, work_of}
-use Rattle.pot_replies.specs.Moves.{BeganElsewhere, BeganNone, Begins, MayBegin, MayGoOn, moving_at}
+use Rattle.pot_replies.specs.Sections.{Section, Halves, Follows, JobsAscend, IsEmpty, IsOfJobs, IsSilent, checked, mine, work_of}
+use Rattle.pot_replies.specs.Moves.{MayBegin, MayGoOn, moving_at}
 use Rattle.pot_commands.specs.declared.beginning.Task.{Task}
 use Rattle.pot_commands.specs.declared.beginning.Task.TheVariants as task
 use Rattle.pot_commands.specs.Arriving.{IsUnbegun}
 use Rattle.pot_commands.specs.Begun.{LineBegins, IsBegun, HaveBegun}
-use Rattle.pot_commands.specs.Steps.{IsLineIdle, IsLineLeft, AreLinesLeft, IsStepLeft}
+use Rattle.pot_commands.specs.Steps.{IsLineIdle, IsLineLeft, AreLinesLeft}
 use Rattle.pot_commands.proofs.Whose.{own_all}
 
 -- A COLUMN THAT MOVES DOES SO WHEN MORE MOVES HAVE BEGUN

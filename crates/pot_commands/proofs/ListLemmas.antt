@@ -14,7 +14,6 @@ use Rattle.pot_index.specs.Entries.{plain}
 use Rattle.pot_index.specs.Entries as index
 use Rattle.pot_index.specs.Calls.{ListsNames, listed_of}
 use Rattle.pot_index.specs.Index.{IndexView, names_read}
-use Rattle.pot_index.specs.Index as index_of
 use Rattle.pot_turn.specs.declared.name.TurnName.{TurnName}
 use Rattle.pot_worked.specs.Worked.{added}
 use Rattle.pot_worked.specs.Laws.{AllOf}

@@ -25,7 +25,7 @@ use Rattle.pot_script.specs.declared.reply.Reply.{Reply}
 use Rattle.pot_script.specs.declared.reply.Reply.TheVariants as replies
 use Rattle.pot_replies.specs.Settings.{Setting}
 use Rattle.pot_replies.specs.Sections.{Section, mine, checked, IsSilent, IsOfJobs}
-use Rattle.pot_replies.specs.Moves.{IsUsed, NoHome, GoesElsewhere, IsTakenTo, MayBegin, MayGoOn, moving_at}
+use Rattle.pot_replies.specs.Moves.{IsUsed, MayBegin, MayGoOn, moving_at}
 use Rattle.pot_shared.specs.Calls.{CallAt}
 use Rattle.pot_shared.specs.Catalogs.{IndexPasses, IsIndexReady}
 use Rattle.pot_shared.specs.Members.{entries_of}

@@ -26,7 +26,8 @@ use Rattle.pot_commands.specs.Going.{Stays, AllSole, AllStay, AllWent}
 use Rattle.pot_commands.specs.declared.beginning.Task.{Task}
 use Rattle.pot_commands.specs.Begun.{HasTask, HaveBegun, AreMovesBegun}
 use Rattle.pot_commands.specs.Steps.{StepGives, StepLeaves, AreLinesLeft}
-use Rattle.pot_commands.specs.Jobs.{Common, JobView, HasPasses, CanCall, IsDone, Did, AreGiven, AreShared, AllJoined, reply_in, has_reply, replies_in, all_replied, tasks_in}
+use Rattle.pot_commands.specs.Sharing.{Common, CanCall}
+use Rattle.pot_commands.specs.Jobs.{JobView, HasPasses, IsDone, Did, AreGiven, AreShared, AllJoined, reply_in, has_reply, replies_in, all_replied, tasks_in}
 use Rattle.pot_commands.specs.Batches.{Line, group_rows, index_rows, KnownJoins, IsGivenOf, AreLines, AllSay, lines_of, tasks_of, replies_of, have_replies, BringsNone}
 use Rattle.pot_commands.proofs.Going.{known_follows, setting_of_stays, setting_stays, sole_parts}
 use Rattle.pot_commands.proofs.Brought.{its_setting, is_setting}

@@ -1,11 +1,9 @@
 -- A batch that was not begun, for want of memory: its passes are what they were.
 use Rattle.std.proofs.Common.{◌≡◌, ◌<◌, ◌≤◌, ◌+◌, ◌-◌, ◌*◌, ℕ, zero, suc, inl, inr, Bool, true, false, List, [], ◌∷◌, ◌++◌, length, drop, take, refl, ap, sym, ◌∙◌, subst, arith, append-nil}
-use Rattle.std.specs.Prelude.{if◌then◌else◌, nat_lt, filter}
+use Rattle.std.specs.Prelude.{if◌then◌else◌, nat_lt}
 use Rattle.std.proofs.lemmas.Bool.{cases_lt}
 use lib.Seq.{drop-length}
 use mathlib.Core.Path.{fun_ext}
-use Rattle.pot_machine.specs.Logs.{own}
-use Rattle.pot_index.specs.Entries as index
 use Rattle.pot_group.specs.Arrivals.{arrivals}
 use Rattle.pot_turn.specs.declared.name.TurnName.{TurnName}
 use Rattle.pot_turn.specs.declared.view.View.{View}
@@ -19,8 +17,6 @@ use Rattle.pot_rows.proofs.RowLemmas.{at_past}
 use Rattle.pot_script.specs.declared.command.Command.{Command}
 use Rattle.pot_shared.specs.Members.{entries_of}
 use Rattle.pot_shared.specs.Sharing.{SameAt}
-use Rattle.pot_replies.specs.Jobs.{is_move_begin}
-use Rattle.pot_replies.specs.Settings.{Setting}
 use Rattle.pot_replies.specs.Sections.{Section, IsOfJobs}
 use Rattle.pot_replies.specs.Sessions.{Together}
 use Rattle.pot_store.specs.Works.{Known, section_of, gained}
@@ -28,7 +24,8 @@ use Rattle.pot_commands.specs.declared.beginning.Task.{Task}
 use Rattle.pot_commands.specs.Begun.{AreMovesBegun}
 use Rattle.pot_commands.specs.Going.{AllSole, AllStay, AllWent}
 use Rattle.pot_commands.specs.Steps.{StepLeaves, IsStepLeft}
-use Rattle.pot_commands.specs.Jobs.{Common, JobView, CanCall, AreGiven, AreShared, AllJoined}
+use Rattle.pot_commands.specs.Sharing.{Common, CanCall}
+use Rattle.pot_commands.specs.Jobs.{JobView, AreGiven, AreShared, AllJoined}
 use Rattle.pot_commands.specs.Batches.{BringsNone}
 use Rattle.pot_commands.proofs.AnswerLemmas.{stayed_worked}
 use Rattle.pot_commands.proofs.BeginLemmas.{moves_leave}

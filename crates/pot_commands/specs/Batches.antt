@@ -1,6 +1,7 @@
--- A batch: its lines are worked at once, each as a job with passes of its own, and the passes are joined in the
--- order of the lines.
-use Rattle.std.specs.Prelude.{◌≡◌, ◌⊎◌, ◌&&◌, ◌∷◌, ◌++◌, ℕ, suc, Bool, true, List, [], Option, Result, length, map}
+-- A batch: its lines are worked at once, each as a job with passes of its own, and the passes are
+-- joined in the order of the lines.
+use Rattle.std.specs.Prelude.{◌≡◌, ◌⊎◌, ◌&&◌, ◌∷◌, ◌++◌, ℕ, suc, Bool, true, List, [], Option}
+use Rattle.std.specs.Prelude.{Result, length, map}
 use Rattle.pot_bytes.specs.declared.rack.Rack.{Rack}
 use Rattle.pot_bytes.specs.declared.memory.NoMemory.{NoMemory}
 use Rattle.pot_script.specs.declared.command.Command.{Command}
@@ -23,8 +24,8 @@ use Rattle.pot_commands.specs.Going.{AllSole}
 use Rattle.pot_commands.specs.Steps.{AreLinesLeft}
 use Rattle.pot_commands.specs.Jobs.{Says, reply_in, has_reply}
 
--- a job of a batch: its number, its line, its task and its answer, what the passes that it was given knew, and what
--- they knew when it was done
+-- a job of a batch: its number, its line, its task and its answer, what the passes that it was
+-- given knew, and what they knew when it was done
 pub record Line : Type 0 where
   pub job : ℕ
   pub line : Command
@@ -51,8 +52,8 @@ IsGivenOf start given =
     (at : ℕ) → ((view_at given at).seen ≡ (view_at start at).seen)
     × ((view_at given at).turns ≡ []) × ((view_at given at).joined ≡ [])
 
--- The job was given passes that have seen what the batch began with and have logged nothing, of the same turns
--- and values, and worked for itself alone.
+-- The job was given passes that have seen what the batch began with and have logged nothing, of the
+-- same turns and values, and worked for itself alone.
 pub record IsLine (start : Known) (c : Line) : Type 0 where
   pub groups : IsGivenOf start.groups c.given.groups
   pub index : IsGivenOf start.index c.given.index
@@ -66,7 +67,8 @@ abbrev pub AreLines : Known → ℕ → List Line → Type 0
 AreLines start from [] = Unit {0}
 AreLines start from (c ∷ cs) = (c.job ≡ from) × IsLine start c × AreLines start (suc from) cs
 
--- the line can have its task, and the job's entries give its answer, if nobody else logged an entry of it
+-- the line can have its task, and the job's entries give its answer, if nobody else logged an entry
+-- of it
 abbrev pub SaysIts : Rack → List ℕ → ℕ → Line → Type 0
 SaysIts rack seed session c =
     HasTask rack c.line c.task
@@ -102,7 +104,8 @@ BringsNone old new = AllSole old new → (g : ℕ) → arrivals (gained old.grou
 
 -- LAWS
 
--- A job of a batch was alone, and the section of the batch is its own section with more entries of others.
+-- A job of a batch was alone, and the section of the batch is its own section with more entries of
+-- others.
 abbrev pub JobsWiden : Type 0
 JobsWiden =
     (v x : Known) (from : ℕ) (cs : List Line) → AreLines v from cs → KnownJoins v cs x → AllSole v x
@@ -116,8 +119,8 @@ AnswersWiden =
     (answer : Option (Result Reply NoMemory)) (w w' : Section) → HasTask rack c t → Widens job w w'
     → Says s job c t answer w → Says s job c t answer w'
 
--- The moves that the lines began, and then what their jobs logged, are of the jobs alone; and where each line has its
--- reply, they have these by the section of both.
+-- The moves that the lines began, and then what their jobs logged, are of the jobs alone; and where
+-- each line has its reply, they have these by the section of both.
 abbrev pub BatchGives : Type 0
 BatchGives =
     (rack : Rack) (seed : List ℕ) (session : ℕ) (v x : Known) (from : ℕ) (cs : List Line)

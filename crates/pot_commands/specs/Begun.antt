@@ -1,6 +1,7 @@
--- The moves of a batch, which its `migrate` lines begin in order before any of its jobs does: what a line is for its job
--- then, and what was logged.
-use Rattle.std.specs.Prelude.{◌≡◌, ◌<◌, ◌≤◌, ◌+◌, ◌++◌, ℕ, List, [], IsSome, Some, length, slice_get}
+-- The moves of a batch, which its `migrate` lines begin in order before any of its jobs does: what
+-- a line is for its job then, and what was logged.
+use Rattle.std.specs.Prelude.{◌≡◌, ◌<◌, ◌≤◌, ◌+◌, ◌++◌, ℕ, List, [], IsSome, Some, length}
+use Rattle.std.specs.Prelude.{slice_get}
 use Rattle.pot_bytes.specs.declared.rack.Rack.{Rack}
 use Rattle.pot_machine.specs.declared.entry.Entry.{Entry}
 use Rattle.pot_machine.specs.Logs.{own}
@@ -17,7 +18,8 @@ use Rattle.pot_commands.specs.Arriving.{HasBegun, IsUnbegun}
 use Rattle.pot_commands.specs.Going.{AllSole, AllStay, AllWent}
 use Rattle.pot_commands.specs.Steps.{IsStill}
 
--- what the job of a line can have to do: a `migrate` goes on with a move of a column that there is, or has its reply
+-- what the job of a line can have to do: a `migrate` goes on with a move of a column that there is,
+-- or has its reply
 abbrev pub HasTask : Rack → Command → Task → Type 0
 HasTask rack c task.Line = IsStill rack.groups c
 HasTask rack (commands.Migrate from to) (task.Move at) =
@@ -44,8 +46,8 @@ LineBegins s job c _ w = ⊥
 
 -- THE LINES OF A BATCH, over the logs before it and the moves that it began
 
--- Each line was checked over the logs with the moves that earlier lines began. The column of a move that began, or
--- stood, moves when all have begun.
+-- Each line was checked over the logs with the moves that earlier lines began. The column of a move
+-- that began, or stood, moves when all have begun.
 abbrev pub IsBegun : Setting → (ℕ → List Entry) → (ℕ → List Entry) → ℕ → Command → Task → Type 0
 IsBegun s before begun job c task.Line = (g : ℕ) → own job (begun g) ≡ []
 IsBegun s before begun job (commands.Migrate from to) (task.Move at) =

@@ -1,10 +1,12 @@
--- What passes of all turns did between two moments: they went on, stayed what they are, and nobody else logged anything.
+-- What passes of all turns did between two moments: they went on, stayed what they are, and nobody
+-- else logged anything.
 use Rattle.std.specs.Prelude.{◌≡◌, ℕ}
 use Rattle.pot_rows.specs.Rows.{PassRow, view_at}
 use Rattle.pot_rows.specs.Works.{RowWent, RowSole}
 use Rattle.pot_store.specs.Works.{Known}
 
--- each pass is of the same turn and the same value as before, began at the same log, and has as many parts
+-- each pass is of the same turn and the same value as before, began at the same log, and has as
+-- many parts
 pub record Stays {E O : Type 0} (old new : PassRow E O) : Type 0 where
   pub names : new.names ≡ old.names
   pub origin : (at : ℕ) → (view_at new at).origin ≡ (view_at old at).origin

@@ -1,17 +1,13 @@
 -- A line of a batch as a job: what it has, what it is given, and what its work leaves of it.
-use Rattle.std.specs.Prelude.{◌≡◌, ◌<◌, ◌^◌, ◌*◌, ◌&&◌, ◌∷◌, ◌++◌, ℕ, suc, Bool, true, false, List, []}
+use Rattle.std.specs.Prelude.{◌≡◌, ◌<◌, ◌^◌, ◌*◌, ◌&&◌, ◌∷◌, ◌++◌, ℕ, suc, Bool, true, false, List}
+use Rattle.std.specs.Prelude.{[]}
 use Rattle.std.specs.Prelude.{Option, Some, None, Result, Ok, Err, IsSome, length, map}
-use Rattle.pot_bytes.specs.Rack.{IsRack}
-use Rattle.pot_bytes.specs.declared.rack.Rack.{Rack}
 use Rattle.pot_bytes.specs.declared.memory.NoMemory.{NoMemory}
-use Rattle.pot_turn.specs.declared.name.TurnName.{TurnName}
 use Rattle.pot_rows.specs.Rows.{HasMoreParts}
 use Rattle.pot_rows.specs.Parts.{RowCut, RowNew, RowJoined}
 use Rattle.pot_script.specs.declared.command.Command.{Command}
 use Rattle.pot_script.specs.declared.command.Command.TheVariants as commands
 use Rattle.pot_script.specs.declared.reply.Reply.{Reply}
-use Rattle.pot_shared.specs.Ready.{AreReady}
-use Rattle.pot_shared.specs.Catalogs.{IsIndexReady}
 use Rattle.pot_mend.specs.Moves.{MoveRow}
 use Rattle.pot_mend.specs.declared.fault.MendFault.{MendFault}
 use Rattle.pot_mend.specs.declared.checking.MoveAt.{MoveAt}
@@ -23,26 +19,10 @@ use Rattle.pot_commands.specs.declared.beginning.Task.TheVariants as task
 use Rattle.pot_commands.specs.Arriving.{move_reply}
 use Rattle.pot_commands.specs.Begun.{HasTask}
 use Rattle.pot_commands.specs.Rows.{IsSessionSetting, AreReplies, IsIdle}
+use Rattle.pot_commands.specs.Sharing.{VaultView, Common, CanCall}
 
--- the rack of a vault, and its turns
-pub record VaultView : Type 0 where
-  pub rack : Rack
-  pub groups : List TurnName
-  pub index : List TurnName
-
-abbrev pub vault_view : Rack → List TurnName → List TurnName → VaultView
-vault_view rack groups index = record { rack = rack; groups = groups; index = index }
-
--- what the jobs of a batch have in common: the vault, and what their random bytes are drawn from
-pub record Common : Type 0 where
-  pub vault : VaultView
-  pub seed : List ℕ
-  pub session : ℕ
-
-abbrev pub common : VaultView → List ℕ → ℕ → Common
-common vault seed session = record { vault = vault; seed = seed; session = session }
-
--- a job: what its passes know, its line with its number and its task, and its answer once it is done
+-- a job: what its passes know, its line with its number and its task, and its answer once it is
+-- done
 pub record JobView : Type 0 where
   pub common : Common
   pub passes : Known
@@ -55,11 +35,6 @@ abbrev pub job_view : Common → Known → ℕ → Command → Task → Option (
 job_view b passes job line task answer =
     record { common = b; passes = passes; job = job; line = line; task = task; answer = answer }
 
--- passes of a vault that can call
-pub record CanCall (v : VaultView) (k : Known) : Type 0 where
-  pub ready : AreReady v.rack v.groups k.groups
-  pub index_ready : IsIndexReady v.rack v.groups v.index k.index
-
 -- a job of this vault whose passes can call
 abbrev pub HasPasses : VaultView → JobView → Type 0
 HasPasses v j = (j.common.vault ≡ v) × CanCall v j.passes
@@ -68,8 +43,6 @@ HasPasses v j = (j.common.vault ≡ v) × CanCall v j.passes
 pub record CanBegin (j : JobView) : Type 0 where
   pub passes : CanCall j.common.vault j.passes
   pub parts : HasMoreParts 1 j.passes.groups
-  pub is_rack : IsRack j.common.vault.rack
-  pub count : length j.common.vault.groups ≡ j.common.vault.rack.groups
   pub number : (0 < j.job) × (j.job < 2 ^ 31)
   pub fits : HasTask j.common.vault.rack j.line j.task
 
@@ -80,7 +53,8 @@ CanWork j = j.answer ≡ None → CanBegin j
 abbrev pub IsDone : JobView → Type 0
 IsDone j = IsSome j.answer
 
--- what is told of a section by the answer of a line that moves nothing, which is its reply or that memory ran out
+-- what is told of a section by the answer of a line that moves nothing, which is its reply or that
+-- memory ran out
 abbrev pub SaysStill : Setting → ℕ → Command → Option (Result Reply NoMemory) → Section → Type 0
 SaysStill s job c None w = ⊥
 SaysStill s job c (Some (Ok reply)) w = AreReplies s job c (reply ∷ []) w
@@ -100,8 +74,8 @@ Says s job c task.Line answer w = SaysStill s job c answer w
 Says s job c (task.Move at) answer w = SaysMove s job c at answer w
 Says s job c (task.Told reply) answer w = (answer ≡ Some (Ok reply)) × IsSilent (mine job w)
 
--- The job that was handed in, and what its work leaves of it: it worked for itself alone, and its entries give
--- its answer, if nobody else logged an entry of it.
+-- The job that was handed in, and what its work leaves of it: it worked for itself alone, and its
+-- entries give its answer, if nobody else logged an entry of it.
 pub record Did (j k : JobView) : Type 0 where
   pub common : k.common ≡ j.common
   pub number : k.job ≡ j.job
@@ -128,11 +102,13 @@ pub record IsGiven (b : Common) (start : Known) (job : ℕ) (c : Command) (j : J
 -- one for each line, in order, numbered from this one on
 abbrev pub AreGiven : Common → Known → ℕ → List Command → List JobView → Type 0
 AreGiven b start from [] [] = Unit {0}
-AreGiven b start from (c ∷ cs) (j ∷ js) = IsGiven b start from c j × AreGiven b start (suc from) cs js
+AreGiven b start from (c ∷ cs) (j ∷ js) =
+    IsGiven b start from c j × AreGiven b start (suc from) cs js
 AreGiven b start from _ _ = ⊥
 
 -- The lines were shared out to these jobs, which took their parts from the passes.
-pub record AreShared (b : Common) (old : Known) (from : ℕ) (lines : List Command) (js : List JobView)
+pub record AreShared (b : Common) (old : Known) (from : ℕ) (lines : List Command)
+    (js : List JobView)
     (new : Known) : Type 0 where
   pub given : AreGiven b old from lines js
   pub groups : RowCut (2 * length js) old.groups new.groups

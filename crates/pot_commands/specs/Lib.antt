@@ -8,6 +8,7 @@ pub mod Streams
 pub mod Holding
 pub mod Taking
 pub mod Arriving
+pub mod Sharing
 pub mod Begun
 pub mod Jobs
 pub mod Batches

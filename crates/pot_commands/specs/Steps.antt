@@ -1,5 +1,5 @@
--- What is told of a step of a script that was worked, a command alone or the jobs of a batch: by the entries of its jobs, if nobody
--- else logged anything meanwhile.
+-- What is told of a step of a script that was worked, a command alone or the jobs of a batch: by
+-- the entries of its jobs, if nobody else logged anything meanwhile.
 use Rattle.std.specs.Prelude.{◌≡◌, ◌⊎◌, ◌<◌, ◌≤◌, ℕ, suc, List, [], ◌∷◌, length, map}
 use Rattle.std.specs.List.{AllByRecursion}
 use Rattle.pot_bytes.specs.declared.rack.Rack.{Rack}
@@ -27,7 +27,8 @@ step_of (steps.Together lines) = Together lines
 abbrev pub steps_of : List script.Step → List (Step Command)
 steps_of ss = map step_of ss
 
--- the lines of a batch that move nothing, over so many groups: they have one reply, and take no archive
+-- the lines of a batch that move nothing, over so many groups: they have one reply, and take no
+-- archive
 abbrev pub IsStill : ℕ → Command → Type 0
 IsStill groups commands.List = ⊥
 IsStill groups c = IsSingle groups c
@@ -45,8 +46,8 @@ IsWorkedStep groups (steps.Together lines) =
 
 -- WITHOUT REPLIES
 
--- A line of a batch without a reply. A `migrate` began no move, or began that of its column or found it begun; and
--- its job logged nothing else.
+-- A line of a batch without a reply. A `migrate` began no move, or began that of its column or
+-- found it begun; and its job logged nothing else.
 abbrev pub IsLineIdle : Setting → ℕ → Command → (w : Section) → Halves w → Type 0
 IsLineIdle s job (commands.Migrate from to) w h =
     (BeganNone s w.before h.begun job from to
@@ -63,12 +64,15 @@ abbrev pub AreLinesLeft : Setting → ℕ → List Command → (w : Section) →
 AreLinesLeft s job [] w h = Unit {0}
 AreLinesLeft s job (c ∷ cs) w h = IsLineLeft s job c w h × AreLinesLeft s (suc job) cs w h
 
--- a step that ended for want of memory, or since the room failed, or whose replies were not printed for want of memory
+-- a step that ended for want of memory, or since the room failed, or whose replies were not printed
+-- for want of memory
 abbrev pub IsStepLeft : Setting → ℕ → Step Command → Section → Type 0
-IsStepLeft s job (One c) w = IsIdle s job c w ⊎ ((rs : List Reply) × (h : Halves w) × Row s job c rs w h)
+IsStepLeft s job (One c) w =
+    IsIdle s job c w ⊎ ((rs : List Reply) × (h : Halves w) × Row s job c rs w h)
 IsStepLeft s job (Together lines) w = (h : Halves w) × AreLinesLeft s job lines w h
 
--- a step at which the room failed: of a batch no line was worked, and all that was logged are the moves that began
+-- a step at which the room failed: of a batch no line was worked, and all that was logged are the
+-- moves that began
 abbrev pub IsStepHalted : Setting → ℕ → Step Command → Section → Type 0
 IsStepHalted s job (One c) w = IsIdle s job c w
 IsStepHalted s job (Together lines) w =
@@ -76,28 +80,30 @@ IsStepHalted s job (Together lines) w =
 
 -- WHERE NOBODY ELSE LOGGED ANYTHING
 
-module _ (rack : Rack) (seed : List ℕ) (session job : ℕ) (step : Step Command) (old new : Known) where
-  -- what was logged is of the step's jobs alone, and gives these replies
-  abbrev pub StepGives : List Reply → Type 0
-  StepGives rs =
-      AllSole old new → (s : Setting) → IsSessionSetting s rack seed session old
-      → IsOfJobs job (jobs_in step) (section_of old new)
-      × ((h : Halves (section_of old new)) × Answered (Row s) job step rs (section_of old new) h)
+module _ (rack : Rack) (seed : List ℕ) (session job : ℕ) (step : Step Command) (old new : Known)
+  where
+    -- what was logged is of the step's jobs alone, and gives these replies
+    abbrev pub StepGives : List Reply → Type 0
+    StepGives rs =
+        AllSole old new → (s : Setting) → IsSessionSetting s rack seed session old
+        → IsOfJobs job (jobs_in step) (section_of old new)
+        × ((h : Halves (section_of old new)) × Answered (Row s) job step rs (section_of old new) h)
 
-  -- what was logged is of the step's jobs alone, and the step was left
-  abbrev pub StepLeaves : Type 0
-  StepLeaves =
-      AllSole old new → (s : Setting) → IsSessionSetting s rack seed session old
-      → IsOfJobs job (jobs_in step) (section_of old new) × IsStepLeft s job step (section_of old new)
+    -- what was logged is of the step's jobs alone, and the step was left
+    abbrev pub StepLeaves : Type 0
+    StepLeaves =
+        AllSole old new → (s : Setting) → IsSessionSetting s rack seed session old
+        → IsOfJobs job (jobs_in step) (section_of old new)
+        × IsStepLeft s job step (section_of old new)
 
-  -- what was logged is of the step's jobs alone, and the room failed at the step
-  abbrev pub StepHalts : Type 0
-  StepHalts =
-      AllSole old new → (s : Setting) → IsSessionSetting s rack seed session old
-      → IsOfJobs job (jobs_in step) (section_of old new)
-      × IsStepHalted s job step (section_of old new)
+    -- what was logged is of the step's jobs alone, and the room failed at the step
+    abbrev pub StepHalts : Type 0
+    StepHalts =
+        AllSole old new → (s : Setting) → IsSessionSetting s rack seed session old
+        → IsOfJobs job (jobs_in step) (section_of old new)
+        × IsStepHalted s job step (section_of old new)
 
-  -- so it was, by why it has no replies
-  abbrev pub StepStops : Unanswered → Type 0
-  StepStops unanswered.RoomFailed = StepHalts
-  StepStops unanswered.NoMemory = StepLeaves
+    -- so it was, by why it has no replies
+    abbrev pub StepStops : Unanswered → Type 0
+    StepStops unanswered.RoomFailed = StepHalts
+    StepStops unanswered.NoMemory = StepLeaves

@@ -1,37 +1,38 @@
 //! One command, and its replies.
-ghost use Rattle.std.specs.Prelude.{◌≡◌, ◌≢◌, ◌<◌, ◌^◌, ◌∷◌, [], ℕ, List, Err, IsErrOf, IsTrue, MatchResult, length};
-ghost use Rattle.pot_bytes.specs.Rack.{IsRack};
+ghost use Rattle.std.specs.Prelude.{◌≢◌, ◌<◌, ◌^◌, ◌∷◌, [], ℕ, List, Err};
+ghost use Rattle.std.specs.Prelude.{IsErrOf, IsTrue, MatchResult};
 ghost use Rattle.pot_bytes.specs.declared.rack.Geometry.{Geometry};
 ghost use Rattle.pot_outside.specs.Counts.{Caused};
 ghost use Rattle.pot_rows.specs.Rows.{HasMoreParts};
 ghost use Rattle.pot_replies.specs.Settings.{Setting};
 ghost use Rattle.pot_replies.specs.Sections.{Section, mine, IsSilent};
-ghost use Rattle.pot_shared.specs.Ready.{AreReady};
-ghost use Rattle.pot_shared.specs.Catalogs.{IsIndexReady};
-ghost use Rattle.pot_store.specs.Works.{JobWorked, JobAlone, known, section_of};
+ghost use Rattle.pot_store.specs.Works.{JobWorked, JobAlone, section_of};
 ghost use Rattle.pot_store.specs.Stores.{StoreRow};
 ghost use Rattle.pot_store.specs.Fetches.{FetchRow, IsUnfinished};
 ghost use Rattle.pot_store.specs.Stored.{FetchGives};
 ghost use Rattle.pot_store.specs.Renewals.{RenewRow};
 ghost use Rattle.pot_mend.specs.Scrubs.{ScrubRow};
 ghost use Rattle.pot_mend.specs.Repairs.{RepairRow};
+ghost use Rattle.pot_commands.specs.Sharing.{CanCall, known_of, vault_of};
 ghost use Rattle.pot_commands.specs.Failures.{Fails};
-ghost use Rattle.pot_commands.specs.Rows.{HasFilled, IsSessionSetting, IsStoreReply, IsFetchReply, IsRenewReply, IsUnrenewed, IsScrubReply, IsRepairReply, AreReplies, IsIdle, IsPlain, IsSingle, IsWorked};
+ghost use Rattle.pot_commands.specs.Rows.{HasFilled, IsSessionSetting, IsStoreReply, IsFetchReply};
+ghost use Rattle.pot_commands.specs.Rows.{IsRenewReply, IsUnrenewed, IsScrubReply, IsRepairReply};
+ghost use Rattle.pot_commands.specs.Rows.{AreReplies, IsIdle, IsPlain, IsSingle, IsWorked};
 ghost use Rattle.pot_commands.specs.Taking.{AreUsed, Took, asks, lending};
 
 use crate::arriving::{Unanswered, replace_archive};
 use crate::listing::{count_groups, list_names};
 use crate::moving::migrate_archive;
+use crate::sharing::Shared;
 use pot_bytes::{Bytes, Name, NoMemory};
 use pot_mend::{MendFault, Repaired, Scrubbed, repair_group, scrub_group};
 use pot_outside::{Archive, Room};
 use pot_pads::PadStream;
 use pot_script::{Command, Reply};
-use pot_shared::{Passes, Vault};
+use pot_shared::Passes;
 use pot_store::{
     FetchFault, RenewFileFault, StoreFault, Stored, fetch_file, renew_file, store_file,
 };
-use std::alloc::Global;
 use std::sync::Wait;
 
 /// The first of the numbers whose streams new splits are drawn from: the job's number is added.
@@ -39,7 +40,10 @@ const RENEWING: u32 = 0x8000_0000;
 
 /// The reply to a store, by its answer. `Strange` has none, and comes only where another pass logged an entry of the job.
 fn store_reply(name: &Name, answer: Result<Stored, StoreFault>) -> Result<Reply, NoMemory>
-    ensures { (s : Setting) → (job : ℕ) → (file : List ℕ) → (w : Section) → StoreRow s job name.now file answer w → MatchResult result (λ reply. IsStoreReply s job name.now file reply w) (λ e. IsSilent (mine job w)) }
+    ensures { (s : Setting) → (job : ℕ) → (file : List ℕ) → (w : Section)
+        → StoreRow s job name.now file answer w
+        → MatchResult result (λ reply. IsStoreReply s job name.now file reply w)
+        (λ e. IsSilent (mine job w)) }
 {
     let name = *name;
     match answer {
@@ -61,7 +65,10 @@ fn store_reply(name: &Name, answer: Result<Stored, StoreFault>) -> Result<Reply,
 
 /// The reply to a fetch, by its answer.
 fn fetch_reply(name: &Name, answer: Result<Vec<u8>, FetchFault>) -> Result<Reply, NoMemory>
-    ensures { (s : Setting) → (job : ℕ) → (w : Section) → FetchRow s job name.now answer w → FetchGives s job name.now answer w → MatchResult result (λ reply. IsFetchReply s job name.now reply w) (λ e. IsUnfinished s job name.now w) }
+    ensures { (s : Setting) → (job : ℕ) → (w : Section)
+        → FetchRow s job name.now answer w → FetchGives s job name.now answer w
+        → MatchResult result (λ reply. IsFetchReply s job name.now reply w)
+        (λ e. IsUnfinished s job name.now w) }
 {
     let name = *name;
     match answer {
@@ -141,7 +148,8 @@ fn renew_reply(name: &Name, answer: Result<Stored, RenewFileFault>) -> Result<Re
 
 /// The reply to a scrub, by its answer.
 fn scrub_reply(group: u8, answer: Result<Scrubbed, MendFault>) -> Reply
-    ensures { (s : Setting) → (job : ℕ) → (w : Section) → ScrubRow s job group answer w → IsScrubReply s job group result w }
+    ensures { (s : Setting) → (job : ℕ) → (w : Section) → ScrubRow s job group answer w
+        → IsScrubReply s job group result w }
 {
     match answer {
         Ok(scrubbed) => Reply::Scrubbed {
@@ -156,7 +164,8 @@ fn scrub_reply(group: u8, answer: Result<Scrubbed, MendFault>) -> Reply
 
 /// The reply to a repair, by its answer.
 fn repair_reply(group: u8, answer: Result<Repaired, MendFault>) -> Reply
-    ensures { (s : Setting) → (job : ℕ) → (w : Section) → RepairRow s job group answer w → IsRepairReply s job group result w }
+    ensures { (s : Setting) → (job : ℕ) → (w : Section) → RepairRow s job group answer w
+        → IsRepairReply s job group result w }
 {
     match answer {
         Ok(repaired) => Reply::Repaired {
@@ -170,28 +179,32 @@ fn repair_reply(group: u8, answer: Result<Repaired, MendFault>) -> Reply
 }
 
 /// Works a command that has one reply.
-pub(crate) fn answer_one<A: Archive, R: Wait>(
-    rt: &R,
-    alloc: Global,
-    vault: &Vault<A>,
+pub(crate) fn answer_one<A: Archive, X: Wait>(
+    shared: &Shared<'_, A, X>,
     passes: &mut Passes<A>,
-    seed: &[u8; 32],
-    session: u32,
     job: u32,
     command: &Command,
 ) -> Result<Reply, NoMemory>
-    requires ready { AreReady vault.now.rack vault.now.groups passes.old.groups }
-    requires index { IsIndexReady vault.now.rack vault.now.groups vault.now.index passes.old.index }
+    requires can { CanCall (vault_of shared.now.vault.now) (known_of passes.old) }
     requires parts { HasMoreParts 1 passes.old.groups }
-    requires rack { IsRack vault.now.rack }
-    requires count { length vault.now.groups ≡ vault.now.rack.groups }
     requires job { (0 < job) × (job < 2 ^ 31) }
-    requires single { IsSingle vault.now.rack.groups command.now }
-    ensures ready { AreReady vault.now.rack vault.now.groups passes.new.groups }
-    ensures index { IsIndexReady vault.now.rack vault.now.groups vault.now.index passes.new.index }
-    ensures worked { JobWorked job (known passes.old.groups passes.old.index) (known passes.new.groups passes.new.index) }
-    ensures says { JobAlone job (known passes.old.groups passes.old.index) (known passes.new.groups passes.new.index) → (s : Setting) → IsSessionSetting s vault.now.rack seed.now session (known passes.old.groups passes.old.index) → let w = section_of (known passes.old.groups passes.old.index) (known passes.new.groups passes.new.index) in MatchResult result (λ reply. AreReplies s job command.now (reply ∷ []) w) (λ e. IsIdle s job command.now w) }
+    requires single { IsSingle shared.now.vault.now.rack.groups command.now }
+    ensures can { CanCall (vault_of shared.now.vault.now) (known_of passes.new) }
+    ensures worked { JobWorked job (known_of passes.old) (known_of passes.new) }
+    ensures says { let old = known_of passes.old in let new = known_of passes.new in
+        let w = section_of old new in
+        JobAlone job old new → (s : Setting)
+        → IsSessionSetting s shared.now.vault.now.rack shared.now.seed.now shared.now.session old
+        → MatchResult result (λ reply. AreReplies s job command.now (reply ∷ []) w)
+        (λ e. IsIdle s job command.now w) }
 {
+    let Shared {
+        rt,
+        alloc,
+        vault,
+        seed,
+        session,
+    } = *shared;
     match command {
         Command::Store { name, file } => {
             let pads = PadStream::new(seed, session, job);
@@ -219,7 +232,7 @@ pub(crate) fn answer_one<A: Archive, R: Wait>(
             );
             renew_reply(name, renewed)
         }
-        Command::List => list_names(rt, alloc, vault, passes, job),
+        Command::List => list_names(shared, passes, job),
         Command::Scrub { group } => {
             let scrubbed = scrub_group(rt, vault, passes, *group, job);
             Ok(scrub_reply(*group, scrubbed))
@@ -237,33 +250,30 @@ pub(crate) fn answer_one<A: Archive, R: Wait>(
 ///
 /// # Errors
 /// `NoMemory`, with what a command logs then.
-fn answer_plain<A: Archive, R: Wait>(
-    rt: &R,
-    alloc: Global,
-    vault: &Vault<A>,
+fn answer_plain<A: Archive, X: Wait>(
+    shared: &Shared<'_, A, X>,
     passes: &mut Passes<A>,
-    seed: &[u8; 32],
-    session: u32,
     job: u32,
     command: &Command,
 ) -> Result<Vec<Reply>, NoMemory>
-    requires ready { AreReady vault.now.rack vault.now.groups passes.old.groups }
-    requires index { IsIndexReady vault.now.rack vault.now.groups vault.now.index passes.old.index }
+    requires can { CanCall (vault_of shared.now.vault.now) (known_of passes.old) }
     requires parts { HasMoreParts 1 passes.old.groups }
-    requires rack { IsRack vault.now.rack }
-    requires count { length vault.now.groups ≡ vault.now.rack.groups }
     requires job { (0 < job) × (job < 2 ^ 31) }
-    requires plain { IsPlain vault.now.rack.groups command.now }
-    ensures ready { AreReady vault.now.rack vault.now.groups passes.new.groups }
-    ensures index { IsIndexReady vault.now.rack vault.now.groups vault.now.index passes.new.index }
-    ensures worked { JobWorked job (known passes.old.groups passes.old.index) (known passes.new.groups passes.new.index) }
-    ensures says { JobAlone job (known passes.old.groups passes.old.index) (known passes.new.groups passes.new.index) → (s : Setting) → IsSessionSetting s vault.now.rack seed.now session (known passes.old.groups passes.old.index) → let w = section_of (known passes.old.groups passes.old.index) (known passes.new.groups passes.new.index) in MatchResult result (λ replies. AreReplies s job command.now replies.items w) (λ e. IsIdle s job command.now w) }
+    requires plain { IsPlain shared.now.vault.now.rack.groups command.now }
+    ensures can { CanCall (vault_of shared.now.vault.now) (known_of passes.new) }
+    ensures worked { JobWorked job (known_of passes.old) (known_of passes.new) }
+    ensures says { let old = known_of passes.old in let new = known_of passes.new in
+        let w = section_of old new in
+        JobAlone job old new → (s : Setting)
+        → IsSessionSetting s shared.now.vault.now.rack shared.now.seed.now shared.now.session old
+        → MatchResult result (λ replies. AreReplies s job command.now replies.items w)
+        (λ e. IsIdle s job command.now w) }
 {
     match command {
-        Command::Status => count_groups(rt, alloc, vault, passes, job),
+        Command::Status => count_groups(shared, passes, job),
         _ => {
-            let mut replies = Vec::with_capacity(alloc, 1)?;
-            let reply = answer_one(rt, alloc, vault, passes, seed, session, job, command)?;
+            let mut replies = Vec::with_capacity(shared.alloc, 1)?;
+            let reply = answer_one(shared, passes, job, command)?;
             replies.push_reserved(reply);
             Ok(replies)
         }
@@ -275,53 +285,55 @@ fn answer_plain<A: Archive, R: Wait>(
 ///
 /// # Errors
 /// `RoomFailed` exactly where the room itself failed, or `NoMemory`, each with what a command logs then.
-pub fn answer<R: Room, X: Wait>(
-    rt: &X,
-    alloc: Global,
-    vault: &Vault<R::A>,
+pub(crate) fn answer<R: Room, X: Wait>(
+    shared: &Shared<'_, R::A, X>,
     passes: &mut Passes<R::A>,
-    seed: &[u8; 32],
-    session: u32,
     job: u32,
     command: &Command,
     room: &mut R,
 ) -> Result<Vec<Reply>, Unanswered>
-    requires ready { AreReady vault.now.rack vault.now.groups passes.old.groups }
-    requires index { IsIndexReady vault.now.rack vault.now.groups vault.now.index passes.old.index }
+    requires can { CanCall (vault_of shared.now.vault.now) (known_of passes.old) }
     requires parts { HasMoreParts 1 passes.old.groups }
-    requires rack { IsRack vault.now.rack }
-    requires count { length vault.now.groups ≡ vault.now.rack.groups }
     requires job { (0 < job) × (job < 2 ^ 31) }
-    requires worked { IsWorked vault.now.rack.groups command.now }
-    requires filled { HasFilled vault.now.rack (known passes.old.groups passes.old.index) }
+    requires worked { IsWorked shared.now.vault.now.rack.groups command.now }
+    requires filled { HasFilled shared.now.vault.now.rack (known_of passes.old) }
     requires used { AreUsed (R.out room.old) passes.old.groups }
-    ensures ready { AreReady vault.now.rack vault.now.groups passes.new.groups }
-    ensures index { IsIndexReady vault.now.rack vault.now.groups vault.now.index passes.new.index }
-    ensures worked { JobWorked job (known passes.old.groups passes.old.index) (known passes.new.groups passes.new.index) }
-    ensures says { JobAlone job (known passes.old.groups passes.old.index) (known passes.new.groups passes.new.index) → (s : Setting) → IsSessionSetting s vault.now.rack seed.now session (known passes.old.groups passes.old.index) → let w = section_of (known passes.old.groups passes.old.index) (known passes.new.groups passes.new.index) in MatchResult result (λ replies. AreReplies s job command.now replies.items w) (λ e. IsIdle s job command.now w) }
+    ensures can { CanCall (vault_of shared.now.vault.now) (known_of passes.new) }
+    ensures worked { JobWorked job (known_of passes.old) (known_of passes.new) }
+    ensures says { let old = known_of passes.old in let new = known_of passes.new in
+        let w = section_of old new in
+        JobAlone job old new → (s : Setting)
+        → IsSessionSetting s shared.now.vault.now.rack shared.now.seed.now shared.now.session old
+        → MatchResult result (λ replies. AreReplies s job command.now replies.items w)
+        (λ e. IsIdle s job command.now w) }
     ensures used { AreUsed (R.out room.new) passes.new.groups }
-    ensures took { Took (IsTrue R.A.account.tells) (result ≢ Err Unanswered.RoomFailed) (asks command.now) (lending (R.out room.old) (R.means room.old)) (lending (R.out room.new) (R.means room.new)) (known passes.old.groups passes.old.index) (known passes.new.groups passes.new.index) }
-    ensures cause { Caused (R.faults room.old) (R.faults room.new) (IsErrOf result Unanswered.RoomFailed) }
-    ensures own { Fails (R.failures room.old) (R.failures room.new) (IsErrOf result Unanswered.RoomFailed) }
+    ensures took { Took (IsTrue R.A.account.tells) (result ≢ Err Unanswered.RoomFailed)
+        (asks command.now)
+        (lending (R.out room.old) (R.means room.old)) (lending (R.out room.new) (R.means room.new))
+        (known_of passes.old) (known_of passes.new) }
+    ensures cause { Caused (R.faults room.old) (R.faults room.new)
+        (IsErrOf result Unanswered.RoomFailed) }
+    ensures own { Fails (R.failures room.old) (R.failures room.new)
+        (IsErrOf result Unanswered.RoomFailed) }
 {
     match command {
         Command::Replace { from, to } => {
-            let Ok(mut replies) = Vec::with_capacity(alloc, 1) else {
+            let Ok(mut replies) = Vec::with_capacity(shared.alloc, 1) else {
                 return Err(Unanswered::NoMemory);
             };
-            let reply = replace_archive(rt, vault, passes, job, *from, *to, room)?;
+            let reply = replace_archive(shared, passes, job, *from, *to, room)?;
             replies.push_reserved(reply);
             Ok(replies)
         }
         Command::Migrate { from, to } => {
-            let Ok(mut replies) = Vec::with_capacity(alloc, 1) else {
+            let Ok(mut replies) = Vec::with_capacity(shared.alloc, 1) else {
                 return Err(Unanswered::NoMemory);
             };
-            let reply = migrate_archive(rt, vault, passes, job, *from, *to, room)?;
+            let reply = migrate_archive(shared, passes, job, *from, *to, room)?;
             replies.push_reserved(reply);
             Ok(replies)
         }
-        _ => match answer_plain(rt, alloc, vault, passes, seed, session, job, command) {
+        _ => match answer_plain(shared, passes, job, command) {
             Ok(replies) => Ok(replies),
             Err(NoMemory) => Err(Unanswered::NoMemory),
         },

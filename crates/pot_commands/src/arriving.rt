@@ -1,22 +1,23 @@
 //! Archives that come from the room for a command.
-ghost use Rattle.std.specs.Prelude.{◌≡◌, ◌<◌, ◌≢◌, ℕ, [], ◌∷◌, Err, IfOk, IsTrue, IsErrOf, OnErr, OnOk, MatchResult, true, false, length};
+ghost use Rattle.std.specs.Prelude.{◌≡◌, ◌<◌, ◌≢◌, ℕ, [], ◌∷◌, Err, true, false};
+ghost use Rattle.std.specs.Prelude.{IfOk, IsTrue, IsErrOf, OnErr, OnOk, MatchResult};
 ghost use Rattle.pot_outside.specs.Archives.{IsMeant};
 ghost use Rattle.pot_outside.specs.Counts.{Caused};
 ghost use Rattle.pot_replies.specs.Settings.{Setting};
 ghost use Rattle.pot_replies.specs.Sections.{mine, IsOfJobs, IsSilent};
-ghost use Rattle.pot_shared.specs.Ready.{AreReady};
-ghost use Rattle.pot_shared.specs.Catalogs.{IsIndexReady};
-ghost use Rattle.pot_store.specs.Works.{JobWorked, JobAlone, IsSettingOf, known, section_of};
+ghost use Rattle.pot_store.specs.Works.{JobWorked, JobAlone, IsSettingOf, section_of};
+ghost use Rattle.pot_commands.specs.Sharing.{CanCall, known_of, vault_of};
 ghost use Rattle.pot_commands.specs.Failures.{Fails};
 ghost use Rattle.pot_commands.specs.Arriving.{HandsBack, use_reply};
 ghost use Rattle.pot_commands.specs.Rows.{IsReplaceReply};
 ghost use Rattle.pot_commands.specs.Taking.{AreUsed, Took, lending};
 
+use crate::sharing::Shared;
 use pot_group::{ShelfCause, ShelfRefused};
 use pot_mend::{UseFault, check_replace};
 use pot_outside::{Failed, Room, RoomFault, Shelf};
 use pot_script::Reply;
-use pot_shared::{Passes, Vault};
+use pot_shared::Passes;
 use std::sync::Wait;
 
 /// Why a command has no replies.
@@ -32,29 +33,36 @@ pub enum Unanswered {
 ///
 /// # Errors
 /// `RoomFailed` exactly where the room itself failed, or `NoMemory`. Nothing was logged then.
-pub fn replace_archive<R: Room, X: Wait>(
-    rt: &X,
-    vault: &Vault<R::A>,
+pub(crate) fn replace_archive<R: Room, X: Wait>(
+    shared: &Shared<'_, R::A, X>,
     passes: &mut Passes<R::A>,
     job: u32,
     from: u32,
     to: u32,
     room: &mut R,
 ) -> Result<Reply, Unanswered>
-    requires ready { AreReady vault.now.rack vault.now.groups passes.old.groups }
-    requires index { IsIndexReady vault.now.rack vault.now.groups vault.now.index passes.old.index }
-    requires count { length vault.now.groups ≡ vault.now.rack.groups }
+    requires can { CanCall (vault_of shared.now.vault.now) (known_of passes.old) }
     requires job { 0 < job }
     requires used { AreUsed (R.out room.old) passes.old.groups }
-    ensures ready { AreReady vault.now.rack vault.now.groups passes.new.groups }
+    ensures can { CanCall (vault_of shared.now.vault.now) (known_of passes.new) }
     ensures index { passes.new.index ≡ passes.old.index }
-    ensures worked { JobWorked job (known passes.old.groups passes.old.index) (known passes.new.groups passes.new.index) }
-    ensures says { JobAlone job (known passes.old.groups passes.old.index) (known passes.new.groups passes.new.index) → (s : Setting) → IsSettingOf s vault.now.rack (known passes.old.groups passes.old.index) → let w = section_of (known passes.old.groups passes.old.index) (known passes.new.groups passes.new.index) in MatchResult result (λ reply. IsOfJobs job 1 w → IsReplaceReply s job from to reply (mine job w)) (λ e. IsSilent (mine job w)) }
+    ensures worked { JobWorked job (known_of passes.old) (known_of passes.new) }
+    ensures says { let old = known_of passes.old in let new = known_of passes.new in
+        let w = section_of old new in
+        JobAlone job old new → (s : Setting) → IsSettingOf s shared.now.vault.now.rack old
+        → MatchResult result
+        (λ reply. IsOfJobs job 1 w → IsReplaceReply s job from to reply (mine job w))
+        (λ e. IsSilent (mine job w)) }
     ensures used { AreUsed (R.out room.new) passes.new.groups }
-    ensures took { Took (IsTrue R.A.account.tells) (result ≢ Err Unanswered.RoomFailed) (to ∷ []) (lending (R.out room.old) (R.means room.old)) (lending (R.out room.new) (R.means room.new)) (known passes.old.groups passes.old.index) (known passes.new.groups passes.new.index) }
-    ensures cause { Caused (R.faults room.old) (R.faults room.new) (IsErrOf result Unanswered.RoomFailed) }
-    ensures own { Fails (R.failures room.old) (R.failures room.new) (IsErrOf result Unanswered.RoomFailed) }
+    ensures took { Took (IsTrue R.A.account.tells) (result ≢ Err Unanswered.RoomFailed) (to ∷ [])
+        (lending (R.out room.old) (R.means room.old)) (lending (R.out room.new) (R.means room.new))
+        (known_of passes.old) (known_of passes.new) }
+    ensures cause { Caused (R.faults room.old) (R.faults room.new)
+        (IsErrOf result Unanswered.RoomFailed) }
+    ensures own { Fails (R.failures room.old) (R.failures room.new)
+        (IsErrOf result Unanswered.RoomFailed) }
 {
+    let Shared { rt, vault, .. } = *shared;
     let at = match check_replace(rt, vault, passes, from, to) {
         Ok(at) => at,
         Err(fault) => return Ok(use_reply(fault)),
@@ -83,12 +91,17 @@ pub(crate) fn use_reply(fault: UseFault) -> Reply
 pub(crate) fn take_shelf<R: Room>(room: &mut R, number: u32) -> Result<Shelf<R::A>, Unanswered>
     requires home { R.out room.old number ≡ false }
     ensures number { IfOk result (λ shelf. shelf.number ≡ number) }
-    ensures told { IfOk result (λ shelf. IsTrue R.A.account.tells → IsMeant (R.means room.old number) (R.A.account.meaning shelf.archive)) }
+    ensures told { IfOk result (λ shelf. IsTrue R.A.account.tells
+        → IsMeant (R.means room.old number) (R.A.account.meaning shelf.archive)) }
     ensures taken { OnOk result (R.out room.new number ≡ true) }
-    ensures stays { OnErr result ((n : ℕ) → (R.means room.new n ≡ R.means room.old n) × (R.out room.new n ≡ R.out room.old n)) }
-    ensures others { (n : ℕ) → n ≢ number → (R.means room.new n ≡ R.means room.old n) × (R.out room.new n ≡ R.out room.old n) }
-    ensures cause { Caused (R.faults room.old) (R.faults room.new) (IsErrOf result Unanswered.RoomFailed) }
-    ensures own { Fails (R.failures room.old) (R.failures room.new) (IsErrOf result Unanswered.RoomFailed) }
+    ensures stays { OnErr result ((n : ℕ) → (R.means room.new n ≡ R.means room.old n)
+        × (R.out room.new n ≡ R.out room.old n)) }
+    ensures others { (n : ℕ) → n ≢ number → (R.means room.new n ≡ R.means room.old n)
+        × (R.out room.new n ≡ R.out room.old n) }
+    ensures cause { Caused (R.faults room.old) (R.faults room.new)
+        (IsErrOf result Unanswered.RoomFailed) }
+    ensures own { Fails (R.failures room.old) (R.failures room.new)
+        (IsErrOf result Unanswered.RoomFailed) }
 {
     match room.take(number) {
         Ok(archive) => Ok(Shelf { number, archive }),
@@ -108,11 +121,16 @@ pub(crate) fn hand_back<R: Room>(
 ) -> Result<Reply, Unanswered>
     requires out { R.out room.old refused.shelf.number ≡ true }
     ensures back { R.out room.new refused.shelf.number ≡ false }
-    ensures others { (n : ℕ) → n ≢ refused.shelf.number → (R.means room.new n ≡ R.means room.old n) × (R.out room.new n ≡ R.out room.old n) }
-    ensures told { (result ≢ Err Unanswered.RoomFailed) → IsTrue R.A.account.tells → IsMeant (R.means room.new refused.shelf.number) (R.A.account.meaning refused.shelf.archive) }
+    ensures others { (n : ℕ) → n ≢ refused.shelf.number
+        → (R.means room.new n ≡ R.means room.old n) × (R.out room.new n ≡ R.out room.old n) }
+    ensures told { (result ≢ Err Unanswered.RoomFailed) → IsTrue R.A.account.tells
+        → IsMeant (R.means room.new refused.shelf.number)
+        (R.A.account.meaning refused.shelf.archive) }
     ensures answer { HandsBack group refused.cause result }
-    ensures cause { Caused (R.faults room.old) (R.faults room.new) (IsErrOf result Unanswered.RoomFailed) }
-    ensures own { Fails (R.failures room.old) (R.failures room.new) (IsErrOf result Unanswered.RoomFailed) }
+    ensures cause { Caused (R.faults room.old) (R.faults room.new)
+        (IsErrOf result Unanswered.RoomFailed) }
+    ensures own { Fails (R.failures room.old) (R.failures room.new)
+        (IsErrOf result Unanswered.RoomFailed) }
 {
     let ShelfRefused { shelf, cause } = refused;
     let Shelf { number, archive } = shelf;

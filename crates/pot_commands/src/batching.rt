@@ -8,28 +8,25 @@ ghost use Rattle.std.specs.Prelude.{◌≡◌, ◌≢◌, ◌<◌, ◌≤◌, �
 ghost use Rattle.std.specs.Prelude.{IsTrue, IsErrOf, MatchResult, flat_map, length, take};
 ghost use Rattle.std.specs.List.{AllByRecursion};
 ghost use Rattle.std.specs.Vec.{vec_capacity};
-ghost use Rattle.pot_bytes.specs.Rack.{IsRack};
 ghost use Rattle.pot_outside.specs.Counts.{Caused};
 ghost use Rattle.pot_replies.specs.Sessions.{Together};
-ghost use Rattle.pot_rows.specs.Rows.{HasMoreParts};
-ghost use Rattle.pot_shared.specs.Ready.{AreReady};
-ghost use Rattle.pot_shared.specs.Catalogs.{IsIndexReady};
-ghost use Rattle.pot_store.specs.Works.{Known, known};
+ghost use Rattle.pot_store.specs.Works.{Known};
 ghost use Rattle.pot_work.specs.Works.{AreWorked};
 ghost use Rattle.pot_commands.specs.Rows.{HasFilled};
 ghost use Rattle.pot_commands.specs.Going.{AllWent, AllStay};
 ghost use Rattle.pot_commands.specs.Failures.{Fails};
 ghost use Rattle.pot_commands.specs.Steps.{IsBatched, StepGives, StepLeaves, StepStops};
 ghost use Rattle.pot_commands.specs.Begun.{HaveTasks, AreMovesBegun};
-ghost use Rattle.pot_commands.specs.Jobs.{JobView, HasPasses, CanCall, IsDone, Did};
+ghost use Rattle.pot_commands.specs.Sharing.{CanCall, HaveParts, common_of, known_of, vault_of};
+ghost use Rattle.pot_commands.specs.Jobs.{JobView, HasPasses, IsDone, Did};
 ghost use Rattle.pot_commands.specs.Jobs.{AreShared, AllJoined, all_replied, replies_in, tasks_in};
-ghost use Rattle.pot_commands.specs.Jobs.{common, vault_view};
 ghost use Rattle.pot_commands.specs.Batches.{BringsNone};
 ghost use Rattle.pot_commands.specs.Taking.{AreUsed, Took, asks, lending};
 
 use crate::arriving::Unanswered;
 use crate::beginning::{Task, begin_lines};
-use crate::line_job::{LineJob, Shared, give_line};
+use crate::line_job::{LineJob, give_line};
+use crate::sharing::{Crew, Shared};
 use pot_bytes::NoMemory;
 use pot_outside::{Archive, Gate, Room};
 use pot_script::{Command, Reply};
@@ -49,25 +46,13 @@ fn share_out<'a, A: Archive, X>(
     lines: &'a [Command],
     tasks: Vec<Task>,
 ) -> Result<Vec<LineJob<'a, A, X>>, JobsRefused<LineJob<'a, A, X>>>
-    requires ready { AreReady shared.now.vault.now.rack shared.now.vault.now.groups
-        passes.old.groups }
-    requires index { IsIndexReady shared.now.vault.now.rack shared.now.vault.now.groups
-        shared.now.vault.now.index passes.old.index }
-    requires parts { HasMoreParts (2 * length lines.now) passes.old.groups
-        × HasMoreParts (2 * length lines.now) passes.old.index }
-    requires rack { IsRack shared.now.vault.now.rack }
-    requires count { length shared.now.vault.now.groups ≡ shared.now.vault.now.rack.groups }
+    requires can { CanCall (vault_of shared.now.vault.now) (known_of passes.old) }
+    requires parts { HaveParts (2 * length lines.now) (known_of passes.old) }
     requires job { (0 < job) × (job + length lines.now ≤ 2 ^ 31) }
     requires tasks { HaveTasks shared.now.vault.now.rack lines.now tasks.items }
-    ensures ready { AreReady shared.now.vault.now.rack shared.now.vault.now.groups
-        passes.new.groups }
-    ensures index { IsIndexReady shared.now.vault.now.rack shared.now.vault.now.groups
-        shared.now.vault.now.index passes.new.index }
-    ensures shared { let v = vault_view shared.now.vault.now.rack shared.now.vault.now.groups
-        shared.now.vault.now.index in
-        let b = common v shared.now.seed.now shared.now.session in
-        let old = known passes.old.groups passes.old.index in
-        let new = known passes.new.groups passes.new.index in
+    ensures can { CanCall (vault_of shared.now.vault.now) (known_of passes.new) }
+    ensures shared { let b = common_of shared.now in
+        let old = known_of passes.old in let new = known_of passes.new in
         MatchResult result (λ jobs. AreShared b old job lines.now jobs.items new
         × (tasks_in jobs.items ≡ tasks.items))
         (λ r. AreShared b old job (take (length r.jobs.items) lines.now) r.jobs.items new) }
@@ -96,41 +81,28 @@ fn share_out<'a, A: Archive, X>(
 /// # Errors
 /// Want of memory, before a job began: the jobs of the first lines come back.
 fn work_lines<'a, A: Archive + Send, W: Gate, X: Threads + Wait + Sync>(
-    shared: &Shared<'a, A, X>,
+    crew: &Crew<'a, A, X, W>,
     passes: &mut Passes<A>,
     job: u32,
     lines: &'a [Command],
     tasks: Vec<Task>,
-    workers: u8,
-    gate: &W,
 ) -> Result<Vec<LineJob<'a, A, X>>, JobsRefused<LineJob<'a, A, X>>>
-    requires ready { AreReady shared.now.vault.now.rack shared.now.vault.now.groups
-        passes.old.groups }
-    requires index { IsIndexReady shared.now.vault.now.rack shared.now.vault.now.groups
-        shared.now.vault.now.index passes.old.index }
-    requires parts { HasMoreParts (2 * length lines.now) passes.old.groups
-        × HasMoreParts (2 * length lines.now) passes.old.index }
-    requires rack { IsRack shared.now.vault.now.rack }
-    requires count { length shared.now.vault.now.groups ≡ shared.now.vault.now.rack.groups }
+    requires can { CanCall (vault_of crew.now.shared.vault.now) (known_of passes.old) }
+    requires parts { HaveParts (2 * length lines.now) (known_of passes.old) }
     requires job { (0 < job) × (job + length lines.now ≤ 2 ^ 31) }
-    requires tasks { HaveTasks shared.now.vault.now.rack lines.now tasks.items }
-    requires workers { 0 < workers }
-    ensures ready { AreReady shared.now.vault.now.rack shared.now.vault.now.groups
-        passes.new.groups }
-    ensures index { IsIndexReady shared.now.vault.now.rack shared.now.vault.now.groups
-        shared.now.vault.now.index passes.new.index }
-    ensures worked { let v = vault_view shared.now.vault.now.rack shared.now.vault.now.groups
-        shared.now.vault.now.index in
-        let b = common v shared.now.seed.now shared.now.session in
-        let old = known passes.old.groups passes.old.index in
-        let new = known passes.new.groups passes.new.index in
+    requires tasks { HaveTasks crew.now.shared.vault.now.rack lines.now tasks.items }
+    requires workers { 0 < crew.now.workers }
+    ensures can { CanCall (vault_of crew.now.shared.vault.now) (known_of passes.new) }
+    ensures worked { let b = common_of crew.now.shared in
+        let old = known_of passes.old in let new = known_of passes.new in
         MatchResult result
         (λ back. (js : List JobView) × AreShared b old job lines.now js new
         × (tasks_in js ≡ tasks.items) × AreWorked IsDone Did js back.items)
         (λ r. AreShared b old job (take (length r.jobs.items) lines.now) r.jobs.items new) }
 {
+    let shared = &crew.shared;
     match share_out(shared, passes, job, lines, tasks) {
-        Ok(jobs) => together(shared.rt, shared.alloc, jobs, workers, gate),
+        Ok(jobs) => together(shared.rt, shared.alloc, jobs, crew.workers, crew.gate),
         Err(refused) => Err(refused),
     }
 }
@@ -143,15 +115,11 @@ fn take_back<'a, A: Archive, X>(
     jobs: Vec<LineJob<'a, A, X>>,
     replies: &mut Vec<Reply>,
 ) -> bool
-    requires can { CanCall (vault_view vault.now.rack vault.now.groups vault.now.index)
-        (known passes.old.groups passes.old.index) }
-    requires its { AllByRecursion
-        (HasPasses (vault_view vault.now.rack vault.now.groups vault.now.index)) jobs.items }
+    requires can { CanCall (vault_of vault.now) (known_of passes.old) }
+    requires its { AllByRecursion (HasPasses (vault_of vault.now)) jobs.items }
     requires room { length replies.old.items + length jobs.items ≤ vec_capacity replies.old }
-    ensures can { CanCall (vault_view vault.now.rack vault.now.groups vault.now.index)
-        (known passes.new.groups passes.new.index) }
-    ensures joined { AllJoined (known passes.old.groups passes.old.index) jobs.entry.items
-        (known passes.new.groups passes.new.index) }
+    ensures can { CanCall (vault_of vault.now) (known_of passes.new) }
+    ensures joined { AllJoined (known_of passes.old) jobs.entry.items (known_of passes.new) }
     ensures replies { replies.new.items ≡ replies.old.items ++ replies_in jobs.entry.items }
     ensures whole { result ≡ all_replied jobs.entry.items }
 {
@@ -173,60 +141,42 @@ fn take_back<'a, A: Archive, X>(
 /// # Errors
 /// `NoMemory`, with what each job logs then.
 fn work_begun<A: Archive + Send, W: Gate, X: Threads + Wait + Sync>(
-    shared: &Shared<'_, A, X>,
+    crew: &Crew<'_, A, X, W>,
     passes: &mut Passes<A>,
     job: u32,
     lines: &[Command],
     tasks: Vec<Task>,
-    workers: u8,
-    gate: &W,
 ) -> Result<Vec<Reply>, NoMemory>
-    requires ready { AreReady shared.now.vault.now.rack shared.now.vault.now.groups
-        passes.old.groups }
-    requires index { IsIndexReady shared.now.vault.now.rack shared.now.vault.now.groups
-        shared.now.vault.now.index passes.old.index }
-    requires parts { HasMoreParts (2 * length lines.now) passes.old.groups
-        × HasMoreParts (2 * length lines.now) passes.old.index }
-    requires rack { IsRack shared.now.vault.now.rack }
-    requires count { length shared.now.vault.now.groups ≡ shared.now.vault.now.rack.groups }
+    requires can { CanCall (vault_of crew.now.shared.vault.now) (known_of passes.old) }
+    requires parts { HaveParts (2 * length lines.now) (known_of passes.old) }
     requires job { (0 < job) × (job + length lines.now ≤ 2 ^ 31) }
-    requires tasks { HaveTasks shared.now.vault.now.rack lines.now tasks.items }
-    requires workers { 0 < workers }
-    requires filled { HasFilled shared.now.vault.now.rack
-        (known passes.old.groups passes.old.index) }
-    ensures ready { AreReady shared.now.vault.now.rack shared.now.vault.now.groups
-        passes.new.groups }
-    ensures index { IsIndexReady shared.now.vault.now.rack shared.now.vault.now.groups
-        shared.now.vault.now.index passes.new.index }
-    ensures went { AllWent (known passes.old.groups passes.old.index)
-        (known passes.new.groups passes.new.index) }
-    ensures stays { AllStay (known passes.old.groups passes.old.index)
-        (known passes.new.groups passes.new.index) }
-    ensures says { let old = known passes.old.groups passes.old.index in
-        let new = known passes.new.groups passes.new.index in
-        let batch = Together lines.now in
-        let rack = shared.now.vault.now.rack in
-        let seed = shared.now.seed.now in
-        (start : Known) → AreMovesBegun rack job lines.now tasks.items start old
+    requires tasks { HaveTasks crew.now.shared.vault.now.rack lines.now tasks.items }
+    requires workers { 0 < crew.now.workers }
+    requires filled { HasFilled crew.now.shared.vault.now.rack (known_of passes.old) }
+    ensures can { CanCall (vault_of crew.now.shared.vault.now) (known_of passes.new) }
+    ensures went { AllWent (known_of passes.old) (known_of passes.new) }
+    ensures stays { AllStay (known_of passes.old) (known_of passes.new) }
+    ensures says { let b = common_of crew.now.shared in let batch = Together lines.now in
+        let old = known_of passes.old in let new = known_of passes.new in
+        (start : Known) → AreMovesBegun b.vault.rack job lines.now tasks.items start old
         → MatchResult result
-        (λ replies. StepGives rack seed shared.now.session job batch start new replies.items)
-        (λ e. StepLeaves rack seed shared.now.session job batch start new) }
-    ensures none { BringsNone (known passes.old.groups passes.old.index)
-        (known passes.new.groups passes.new.index) }
+        (λ replies. StepGives b.vault.rack b.seed b.session job batch start new replies.items)
+        (λ e. StepLeaves b.vault.rack b.seed b.session job batch start new) }
+    ensures none { BringsNone (known_of passes.old) (known_of passes.new) }
 {
-    let Ok(mut replies) = Vec::with_capacity(shared.alloc, lines.len()) else {
+    let Ok(mut replies) = Vec::with_capacity(crew.shared.alloc, lines.len()) else {
         return Err(NoMemory);
     };
-    match work_lines(shared, passes, job, lines, tasks, workers, gate) {
+    match work_lines(crew, passes, job, lines, tasks) {
         Ok(jobs) => {
-            if take_back(shared.vault, passes, jobs, &mut replies) {
+            if take_back(crew.shared.vault, passes, jobs, &mut replies) {
                 Ok(replies)
             } else {
                 Err(NoMemory)
             }
         }
         Err(JobsRefused { jobs }) => {
-            take_back(shared.vault, passes, jobs, &mut replies);
+            take_back(crew.shared.vault, passes, jobs, &mut replies);
             Err(NoMemory)
         }
     }
@@ -240,65 +190,42 @@ fn work_begun<A: Archive + Send, W: Gate, X: Threads + Wait + Sync>(
 /// `RoomFailed` exactly where the room failed itself: the moves before have begun then, and nothing
 /// else was logged. Or `NoMemory`, with what each job logs then.
 pub(crate) fn answer_together<R: Room, W: Gate, X: Threads + Wait + Sync>(
-    shared: &Shared<'_, R::A, X>,
+    crew: &Crew<'_, R::A, X, W>,
     passes: &mut Passes<R::A>,
     job: u32,
     lines: &[Command],
-    workers: u8,
-    gate: &W,
     room: &mut R,
 ) -> Result<Vec<Reply>, Unanswered>
-    requires ready { AreReady shared.now.vault.now.rack shared.now.vault.now.groups
-        passes.old.groups }
-    requires index { IsIndexReady shared.now.vault.now.rack shared.now.vault.now.groups
-        shared.now.vault.now.index passes.old.index }
-    requires parts { HasMoreParts (2 * length lines.now) passes.old.groups
-        × HasMoreParts (2 * length lines.now) passes.old.index }
-    requires rack { IsRack shared.now.vault.now.rack }
-    requires count { length shared.now.vault.now.groups ≡ shared.now.vault.now.rack.groups }
+    requires can { CanCall (vault_of crew.now.shared.vault.now) (known_of passes.old) }
+    requires parts { HaveParts (2 * length lines.now) (known_of passes.old) }
     requires job { (0 < job) × (job + length lines.now ≤ 2 ^ 31) }
-    requires batched { AllByRecursion (IsBatched shared.now.vault.now.rack.groups) lines.now }
-    requires workers { 0 < workers }
-    requires filled { HasFilled shared.now.vault.now.rack
-        (known passes.old.groups passes.old.index) }
+    requires batched { AllByRecursion (IsBatched crew.now.shared.vault.now.rack.groups) lines.now }
+    requires workers { 0 < crew.now.workers }
+    requires filled { HasFilled crew.now.shared.vault.now.rack (known_of passes.old) }
     requires used { AreUsed (R.out room.old) passes.old.groups }
-    ensures ready { AreReady shared.now.vault.now.rack shared.now.vault.now.groups
-        passes.new.groups }
-    ensures index { IsIndexReady shared.now.vault.now.rack shared.now.vault.now.groups
-        shared.now.vault.now.index passes.new.index }
-    ensures went { AllWent (known passes.old.groups passes.old.index)
-        (known passes.new.groups passes.new.index) }
-    ensures stays { AllStay (known passes.old.groups passes.old.index)
-        (known passes.new.groups passes.new.index) }
-    ensures says { let old = known passes.old.groups passes.old.index in
-        let new = known passes.new.groups passes.new.index in
-        let batch = Together lines.now in
-        let rack = shared.now.vault.now.rack in
-        let seed = shared.now.seed.now in
+    ensures can { CanCall (vault_of crew.now.shared.vault.now) (known_of passes.new) }
+    ensures went { AllWent (known_of passes.old) (known_of passes.new) }
+    ensures stays { AllStay (known_of passes.old) (known_of passes.new) }
+    ensures says { let b = common_of crew.now.shared in let batch = Together lines.now in
+        let old = known_of passes.old in let new = known_of passes.new in
         MatchResult result
-        (λ replies. StepGives rack seed shared.now.session job batch old new replies.items)
-        (λ e. StepStops rack seed shared.now.session job batch old new e) }
+        (λ replies. StepGives b.vault.rack b.seed b.session job batch old new replies.items)
+        (λ e. StepStops b.vault.rack b.seed b.session job batch old new e) }
     ensures used { AreUsed (R.out room.new) passes.new.groups }
     ensures took { Took (IsTrue R.A.account.tells) (result ≢ Err Unanswered.RoomFailed)
         (flat_map asks lines.now)
         (lending (R.out room.old) (R.means room.old)) (lending (R.out room.new) (R.means room.new))
-        (known passes.old.groups passes.old.index) (known passes.new.groups passes.new.index) }
+        (known_of passes.old) (known_of passes.new) }
     ensures cause { Caused (R.faults room.old) (R.faults room.new)
         (IsErrOf result Unanswered.RoomFailed) }
     ensures own { Fails (R.failures room.old) (R.failures room.new)
         (IsErrOf result Unanswered.RoomFailed) }
 {
-    let Shared {
-        rt,
-        alloc,
-        vault,
-        ..
-    } = *shared;
-    let tasks = match begin_lines(rt, alloc, vault, passes, job, lines, room) {
+    let tasks = match begin_lines(&crew.shared, passes, job, lines, room) {
         Ok(tasks) => tasks,
         Err(unanswered) => return Err(unanswered),
     };
-    match work_begun(shared, passes, job, lines, tasks, workers, gate) {
+    match work_begun(crew, passes, job, lines, tasks) {
         Ok(replies) => Ok(replies),
         Err(NoMemory) => Err(Unanswered::NoMemory),
     }

@@ -5,9 +5,8 @@ ghost use Rattle.std.specs.List.{AllByRecursion};
 ghost use Rattle.pot_outside.specs.Counts.{Caused};
 ghost use Rattle.pot_replies.specs.Settings.{Setting};
 ghost use Rattle.pot_replies.specs.Sections.{mine, IsOfJobs, IsSilent};
-ghost use Rattle.pot_shared.specs.Ready.{AreReady};
-ghost use Rattle.pot_shared.specs.Catalogs.{IsIndexReady};
-ghost use Rattle.pot_store.specs.Works.{JobWorked, JobAlone, IsSettingOf, known, section_of};
+ghost use Rattle.pot_store.specs.Works.{JobWorked, JobAlone, IsSettingOf, section_of};
+ghost use Rattle.pot_commands.specs.Sharing.{CanCall, known_of, vault_of};
 ghost use Rattle.pot_commands.specs.declared.beginning.Task.{Task};
 ghost use Rattle.pot_commands.specs.Begun.{HasTask, HaveTasks, LineBegins, AreMovesBegun};
 ghost use Rattle.pot_commands.specs.Failures.{Fails};
@@ -16,11 +15,11 @@ ghost use Rattle.pot_commands.specs.Taking.{AreUsed, Took, asks, lending};
 
 use crate::arriving::Unanswered;
 use crate::moving::begin_move;
+use crate::sharing::Shared;
 use pot_mend::MoveAt;
 use pot_outside::Room;
 use pot_script::{Command, Reply};
-use pot_shared::{Passes, Vault};
-use std::alloc::Global;
+use pot_shared::Passes;
 use std::sync::Wait;
 
 /// What the job of a line has to do, once the moves of its batch have begun.
@@ -41,43 +40,40 @@ pub enum Task {
 /// `RoomFailed` exactly where the room failed itself, or `NoMemory`. The moves of the lines before have
 /// begun then, and no other.
 pub(crate) fn begin_lines<R: Room, X: Wait>(
-    rt: &X,
-    alloc: Global,
-    vault: &Vault<R::A>,
+    shared: &Shared<'_, R::A, X>,
     passes: &mut Passes<R::A>,
     job: u32,
     lines: &[Command],
     room: &mut R,
 ) -> Result<Vec<Task>, Unanswered>
-    requires ready { AreReady vault.now.rack vault.now.groups passes.old.groups }
-    requires index { IsIndexReady vault.now.rack vault.now.groups vault.now.index passes.old.index }
-    requires count { length vault.now.groups ≡ vault.now.rack.groups }
+    requires can { CanCall (vault_of shared.now.vault.now) (known_of passes.old) }
     requires job { (0 < job) × (job + length lines.now ≤ 2 ^ 31) }
-    requires batched { AllByRecursion (IsBatched vault.now.rack.groups) lines.now }
+    requires batched { AllByRecursion (IsBatched shared.now.vault.now.rack.groups) lines.now }
     requires used { AreUsed (R.out room.old) passes.old.groups }
-    ensures ready { AreReady vault.now.rack vault.now.groups passes.new.groups }
+    ensures can { CanCall (vault_of shared.now.vault.now) (known_of passes.new) }
     ensures index { passes.new.index ≡ passes.old.index }
-    ensures tasks { IfOk result (λ tasks. HaveTasks vault.now.rack lines.now tasks.items) }
-    ensures begun { let old = known passes.old.groups passes.old.index in
-        let new = known passes.new.groups passes.new.index in
-        MatchResult result (λ tasks. AreMovesBegun vault.now.rack job lines.now tasks.items old new)
-        (λ e. (ts : List Task) × AreMovesBegun vault.now.rack job lines.now ts old new) }
+    ensures tasks { let rack = shared.now.vault.now.rack in
+        IfOk result (λ tasks. HaveTasks rack lines.now tasks.items) }
+    ensures begun { let old = known_of passes.old in let new = known_of passes.new in
+        let rack = shared.now.vault.now.rack in
+        MatchResult result (λ tasks. AreMovesBegun rack job lines.now tasks.items old new)
+        (λ e. (ts : List Task) × AreMovesBegun rack job lines.now ts old new) }
     ensures used { AreUsed (R.out room.new) passes.new.groups }
     ensures took { Took (IsTrue R.A.account.tells) (result ≢ Err Unanswered.RoomFailed)
         (flat_map asks lines.now)
         (lending (R.out room.old) (R.means room.old)) (lending (R.out room.new) (R.means room.new))
-        (known passes.old.groups passes.old.index) (known passes.new.groups passes.new.index) }
+        (known_of passes.old) (known_of passes.new) }
     ensures cause { Caused (R.faults room.old) (R.faults room.new)
         (IsErrOf result Unanswered.RoomFailed) }
     ensures own { Fails (R.failures room.old) (R.failures room.new)
         (IsErrOf result Unanswered.RoomFailed) }
 {
-    let Ok(mut tasks) = Vec::with_capacity(alloc, lines.len()) else {
+    let Ok(mut tasks) = Vec::with_capacity(shared.alloc, lines.len()) else {
         return Err(Unanswered::NoMemory);
     };
     for (index, line) in lines.iter().enumerate() {
         let number = job + index as u32;
-        match begin_line(rt, vault, passes, number, line, room) {
+        match begin_line(shared, passes, number, line, room) {
             Ok(task) => tasks.push_reserved(task),
             Err(unanswered) => return Err(unanswered),
         }
@@ -90,27 +86,22 @@ pub(crate) fn begin_lines<R: Room, X: Wait>(
 /// # Errors
 /// `RoomFailed` exactly where the room failed itself, or `NoMemory`. Nothing was logged then.
 fn begin_line<R: Room, X: Wait>(
-    rt: &X,
-    vault: &Vault<R::A>,
+    shared: &Shared<'_, R::A, X>,
     passes: &mut Passes<R::A>,
     job: u32,
     line: &Command,
     room: &mut R,
 ) -> Result<Task, Unanswered>
-    requires ready { AreReady vault.now.rack vault.now.groups passes.old.groups }
-    requires index { IsIndexReady vault.now.rack vault.now.groups vault.now.index passes.old.index }
-    requires count { length vault.now.groups ≡ vault.now.rack.groups }
+    requires can { CanCall (vault_of shared.now.vault.now) (known_of passes.old) }
     requires job { 0 < job }
-    requires batched { IsBatched vault.now.rack.groups line.now }
+    requires batched { IsBatched shared.now.vault.now.rack.groups line.now }
     requires used { AreUsed (R.out room.old) passes.old.groups }
-    ensures ready { AreReady vault.now.rack vault.now.groups passes.new.groups }
+    ensures can { CanCall (vault_of shared.now.vault.now) (known_of passes.new) }
     ensures index { passes.new.index ≡ passes.old.index }
-    ensures worked { JobWorked job (known passes.old.groups passes.old.index)
-        (known passes.new.groups passes.new.index) }
-    ensures task { IfOk result (λ t. HasTask vault.now.rack line.now t) }
-    ensures says { let old = known passes.old.groups passes.old.index in
-        let new = known passes.new.groups passes.new.index in
-        JobAlone job old new → (s : Setting) → IsSettingOf s vault.now.rack old
+    ensures worked { JobWorked job (known_of passes.old) (known_of passes.new) }
+    ensures task { IfOk result (λ t. HasTask shared.now.vault.now.rack line.now t) }
+    ensures says { let old = known_of passes.old in let new = known_of passes.new in
+        JobAlone job old new → (s : Setting) → IsSettingOf s shared.now.vault.now.rack old
         → MatchResult result (λ t. IsOfJobs job 1 (section_of old new)
         → LineBegins s job line.now t (section_of old new))
         (λ e. IsSilent (mine job (section_of old new))) }
@@ -118,7 +109,7 @@ fn begin_line<R: Room, X: Wait>(
     ensures took { Took (IsTrue R.A.account.tells) (result ≢ Err Unanswered.RoomFailed)
         (asks line.now)
         (lending (R.out room.old) (R.means room.old)) (lending (R.out room.new) (R.means room.new))
-        (known passes.old.groups passes.old.index) (known passes.new.groups passes.new.index) }
+        (known_of passes.old) (known_of passes.new) }
     ensures cause { Caused (R.faults room.old) (R.faults room.new)
         (IsErrOf result Unanswered.RoomFailed) }
     ensures own { Fails (R.failures room.old) (R.failures room.new)
@@ -126,7 +117,7 @@ fn begin_line<R: Room, X: Wait>(
 {
     match line {
         Command::Migrate { from, to } => {
-            match begin_move(rt, vault, passes, job, *from, *to, room) {
+            match begin_move(shared, passes, job, *from, *to, room) {
                 Ok(at) => Ok(Task::Move { at }),
                 Err(Ok(reply)) => Ok(Task::Told { reply }),
                 Err(Err(unanswered)) => Err(unanswered),

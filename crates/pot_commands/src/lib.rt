@@ -23,12 +23,11 @@ mod line_job;
 mod listing;
 mod moving;
 mod output;
+mod sharing;
 mod working;
 
-pub use answering::answer;
-pub use arriving::{Unanswered, replace_archive};
+pub use arriving::Unanswered;
 pub use laws::batch_laws;
-pub use listing::{count_groups, list_names};
-pub use moving::migrate_archive;
 pub use output::write_out;
-pub use working::{Ending, Terms, work};
+pub use sharing::{Crew, Shared};
+pub use working::{Ending, work};

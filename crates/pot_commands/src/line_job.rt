@@ -1,21 +1,19 @@
 //! A line of a batch, as a job for a worker.
-ghost use Rattle.std.specs.Prelude.{◌≡◌, ◌<◌, ◌^◌, IfOk, IfErr, Some, length};
-ghost use Rattle.pot_bytes.specs.Rack.{IsRack};
+ghost use Rattle.std.specs.Prelude.{◌≡◌, ◌<◌, ◌^◌, IfOk, IfErr, Some};
 ghost use Rattle.pot_rows.specs.Rows.{HasMoreParts};
 ghost use Rattle.pot_rows.specs.Parts.{RowCut};
-ghost use Rattle.pot_shared.specs.Ready.{AreReady};
-ghost use Rattle.pot_shared.specs.Catalogs.{IsIndexReady};
 ghost use Rattle.pot_shared.specs.Sharing.{SameAt};
-ghost use Rattle.pot_store.specs.Works.{known};
 ghost use Rattle.pot_replies.specs.Settings.{Setting};
 ghost use Rattle.pot_store.specs.Works.{JobWorked, JobAlone, section_of};
 ghost use Rattle.pot_commands.specs.Begun.{HasTask};
 ghost use Rattle.pot_commands.specs.Rows.{IsSessionSetting};
-ghost use Rattle.pot_commands.specs.Jobs.{IsGiven, Says, common, vault_view};
+ghost use Rattle.pot_commands.specs.Sharing.{CanCall, HaveParts, common_of, known_of, vault_of};
+ghost use Rattle.pot_commands.specs.Jobs.{IsGiven, Says};
 
 use crate::answering::answer_one;
 use crate::beginning::Task;
 use crate::moving::move_reply;
+use crate::sharing::Shared;
 use pot_bytes::NoMemory;
 use pot_mend::migrate;
 use pot_outside::Archive;
@@ -26,16 +24,6 @@ use std::alloc::Global;
 use std::marker::Model;
 use std::mem::replace;
 use std::sync::Wait;
-
-/// What the jobs of a batch share: the handle, the vault, and what their random bytes come from.
-#[derive(Drop)]
-pub(crate) struct Shared<'a, A: Archive, R> {
-    pub rt: &'a R,
-    pub alloc: Global,
-    pub vault: &'a Vault<A>,
-    pub seed: &'a [u8; 32],
-    pub session: u32,
-}
 
 /// A line with its task and passes of its own, and its answer once it is worked. What is not worked
 /// yet can be: its type keeps that.
@@ -54,20 +42,17 @@ pub struct LineJob<'a, A: Archive, R> {
 }
 
 impl<'a, A: Archive, R> Model for LineJob<'a, A, R> {
-    ghost use Rattle.pot_store.specs.Works.{known};
-    ghost use Rattle.pot_commands.specs.Jobs.{JobView, CanWork, common, job_view, vault_view};
+    ghost use Rattle.pot_commands.specs.Sharing.{common, known_of, vault_of};
+    ghost use Rattle.pot_commands.specs.Jobs.{JobView, CanWork, job_view};
 
     ghost Value = { JobView };
 
-    ghost view = { λ j. job_view
-        (common (vault_view j.vault.now.rack j.vault.now.groups j.vault.now.index)
-        j.seed.now j.session)
-        (known j.passes.groups j.passes.index) j.job j.line.now j.task j.answer };
+    ghost view = { λ j. job_view (common (vault_of j.vault.now) j.seed.now j.session)
+        (known_of j.passes) j.job j.line.now j.task j.answer };
 
-    ghost invariant = { λ j. CanWork (job_view
-        (common (vault_view j.vault.now.rack j.vault.now.groups j.vault.now.index)
-        j.seed.now j.session)
-        (known j.passes.groups j.passes.index) j.job j.line.now j.task j.answer) };
+    ghost invariant = { λ j. CanWork
+        (job_view (common (vault_of j.vault.now) j.seed.now j.session)
+        (known_of j.passes) j.job j.line.now j.task j.answer) };
 }
 
 impl<'a, A: Archive, R: Wait> Job for LineJob<'a, A, R> {
@@ -102,40 +87,24 @@ fn answer_task<A: Archive, X: Wait>(
     line: &Command,
     task: Task,
 ) -> Result<Reply, NoMemory>
-    requires ready { AreReady shared.now.vault.now.rack shared.now.vault.now.groups
-        passes.old.groups }
-    requires index { IsIndexReady shared.now.vault.now.rack shared.now.vault.now.groups
-        shared.now.vault.now.index passes.old.index }
+    requires can { CanCall (vault_of shared.now.vault.now) (known_of passes.old) }
     requires parts { HasMoreParts 1 passes.old.groups }
-    requires rack { IsRack shared.now.vault.now.rack }
-    requires count { length shared.now.vault.now.groups ≡ shared.now.vault.now.rack.groups }
     requires job { (0 < job) × (job < 2 ^ 31) }
     requires fits { HasTask shared.now.vault.now.rack line.now task }
-    ensures ready { AreReady shared.now.vault.now.rack shared.now.vault.now.groups
-        passes.new.groups }
-    ensures index { IsIndexReady shared.now.vault.now.rack shared.now.vault.now.groups
-        shared.now.vault.now.index passes.new.index }
-    ensures worked { JobWorked job (known passes.old.groups passes.old.index)
-        (known passes.new.groups passes.new.index) }
-    ensures says { let old = known passes.old.groups passes.old.index in
-        let new = known passes.new.groups passes.new.index in
+    ensures can { CanCall (vault_of shared.now.vault.now) (known_of passes.new) }
+    ensures worked { JobWorked job (known_of passes.old) (known_of passes.new) }
+    ensures says { let old = known_of passes.old in let new = known_of passes.new in
         JobAlone job old new → (s : Setting)
         → IsSessionSetting s shared.now.vault.now.rack shared.now.seed.now shared.now.session old
         → Says s job line.now task (Some result) (section_of old new) }
 {
-    let Shared {
-        rt,
-        alloc,
-        vault,
-        seed,
-        session,
-    } = *shared;
     match task {
-        Task::Line => answer_one(rt, alloc, vault, passes, seed, session, job, line),
+        Task::Line => answer_one(shared, passes, job, line),
         Task::Move { at } => {
             let Command::Migrate { from, to } = line else {
                 unreachable!()
             };
+            let Shared { rt, vault, .. } = *shared;
             let moved = migrate(rt, vault, passes, at.group, job, at.column);
             Ok(move_reply(*from, *to, moved))
         }
@@ -146,14 +115,13 @@ fn answer_task<A: Archive, X: Wait>(
 impl<'a, A: Archive, R> LineJob<'a, A, R> {
     ghost use Rattle.std.specs.Prelude.{◌≡◌};
     ghost use Rattle.pot_rows.specs.Parts.{RowJoined};
-    ghost use Rattle.pot_store.specs.Works.{known};
-    ghost use Rattle.pot_commands.specs.Jobs.{CanCall};
+    ghost use Rattle.pot_commands.specs.Sharing.{CanCall, known_of};
 
     /// Lets these passes take in its own, and hands out its answer.
     pub(crate) fn hand_back(self, passes: &mut Passes<A>) -> Option<Result<Reply, NoMemory>>
-        requires can { CanCall self.common.vault (known passes.old.groups passes.old.index) }
+        requires can { CanCall self.common.vault (known_of passes.old) }
         requires its { CanCall self.common.vault self.passes }
-        ensures can { CanCall self.entry.common.vault (known passes.new.groups passes.new.index) }
+        ensures can { CanCall self.entry.common.vault (known_of passes.new) }
         ensures joined { RowJoined passes.old.groups self.entry.passes.groups passes.new.groups }
         ensures joined_index { RowJoined passes.old.index self.entry.passes.index passes.new.index }
         ensures answer { result ≡ self.entry.answer }
@@ -181,23 +149,13 @@ pub(crate) fn give_line<'a, A: Archive, X>(
     line: &'a Command,
     task: Task,
 ) -> Result<LineJob<'a, A, X>, NoMemory>
-    requires ready { AreReady shared.now.vault.now.rack shared.now.vault.now.groups
-        passes.old.groups }
-    requires index { IsIndexReady shared.now.vault.now.rack shared.now.vault.now.groups
-        shared.now.vault.now.index passes.old.index }
-    requires parts { HasMoreParts 2 passes.old.groups × HasMoreParts 2 passes.old.index }
-    requires rack { IsRack shared.now.vault.now.rack }
-    requires count { length shared.now.vault.now.groups ≡ shared.now.vault.now.rack.groups }
+    requires can { CanCall (vault_of shared.now.vault.now) (known_of passes.old) }
+    requires parts { HaveParts 2 (known_of passes.old) }
     requires job { (0 < job) × (job < 2 ^ 31) }
     requires fits { HasTask shared.now.vault.now.rack line.now task }
-    ensures ready { AreReady shared.now.vault.now.rack shared.now.vault.now.groups
-        passes.new.groups }
-    ensures index { IsIndexReady shared.now.vault.now.rack shared.now.vault.now.groups
-        shared.now.vault.now.index passes.new.index }
-    ensures given { let v = vault_view shared.now.vault.now.rack shared.now.vault.now.groups
-        shared.now.vault.now.index in
-        let b = common v shared.now.seed.now shared.now.session in
-        IfOk result (λ j. IsGiven b (known passes.old.groups passes.old.index) job line.now j) }
+    ensures can { CanCall (vault_of shared.now.vault.now) (known_of passes.new) }
+    ensures given { IfOk result (λ j.
+        IsGiven (common_of shared.now) (known_of passes.old) job line.now j) }
     ensures task { IfOk result (λ j. j.task ≡ task) }
     ensures left { IfOk result (λ _. RowCut 2 passes.old.groups passes.new.groups
         × RowCut 2 passes.old.index passes.new.index) }

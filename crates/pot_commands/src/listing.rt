@@ -2,40 +2,39 @@
 ghost use Rattle.std.specs.Prelude.{◌≡◌, ◌<◌, IsTrue, MatchResult, length};
 ghost use Rattle.pot_replies.specs.Settings.{Setting};
 ghost use Rattle.pot_replies.specs.Sections.{mine, IsSilent};
-ghost use Rattle.pot_shared.specs.Ready.{AreReady};
-ghost use Rattle.pot_shared.specs.Catalogs.{IsIndexReady};
-ghost use Rattle.pot_store.specs.Works.{JobWorked, JobAlone, IsSettingOf, known, section_of};
+ghost use Rattle.pot_store.specs.Works.{JobWorked, JobAlone, IsSettingOf, section_of};
+ghost use Rattle.pot_commands.specs.Sharing.{CanCall, known_of, vault_of};
 ghost use Rattle.pot_commands.specs.Rows.{IsListReply, AreStatusReplies};
 ghost use Rattle.pot_commands.specs.Counting.{CountsLine};
 
+use crate::sharing::Shared;
 use pot_bytes::NoMemory;
 use pot_group::LogFull;
 use pot_index::ListFault;
 use pot_outside::Archive;
 use pot_script::{NameList, Reply};
-use pot_shared::{Passes, Vault};
-use std::alloc::Global;
+use pot_shared::Passes;
 use std::sync::Wait;
 
 /// Answers the published names.
 ///
 /// # Errors
 /// `NoMemory`; nothing was logged then.
-pub fn list_names<A: Archive, R: Wait>(
-    rt: &R,
-    alloc: Global,
-    vault: &Vault<A>,
+pub(crate) fn list_names<A: Archive, X: Wait>(
+    shared: &Shared<'_, A, X>,
     passes: &mut Passes<A>,
     job: u32,
 ) -> Result<Reply, NoMemory>
-    requires ready { AreReady vault.now.rack vault.now.groups passes.old.groups }
-    requires index { IsIndexReady vault.now.rack vault.now.groups vault.now.index passes.old.index }
+    requires can { CanCall (vault_of shared.now.vault.now) (known_of passes.old) }
+    ensures can { CanCall (vault_of shared.now.vault.now) (known_of passes.new) }
     ensures groups { passes.new.groups ≡ passes.old.groups }
-    ensures index { IsIndexReady vault.now.rack vault.now.groups vault.now.index passes.new.index }
-    ensures worked { JobWorked job (known passes.old.groups passes.old.index) (known passes.new.groups passes.new.index) }
-    ensures says { JobAlone job (known passes.old.groups passes.old.index) (known passes.new.groups passes.new.index) → (s : Setting) → IsSettingOf s vault.now.rack (known passes.old.groups passes.old.index) → let w = section_of (known passes.old.groups passes.old.index) (known passes.new.groups passes.new.index) in MatchResult result (λ reply. IsListReply s job reply w) (λ e. IsSilent (mine job w)) }
+    ensures worked { JobWorked job (known_of passes.old) (known_of passes.new) }
+    ensures says { let old = known_of passes.old in let new = known_of passes.new in
+        JobAlone job old new → (s : Setting) → IsSettingOf s shared.now.vault.now.rack old
+        → MatchResult result (λ reply. IsListReply s job reply (section_of old new))
+        (λ e. IsSilent (mine job (section_of old new))) }
 {
-    match vault.names(rt, alloc, passes, job) {
+    match shared.vault.names(shared.rt, shared.alloc, passes, job) {
         Ok(names) => Ok(Reply::Names {
             names: NameList::from_vec(names),
         }),
@@ -45,21 +44,21 @@ pub fn list_names<A: Archive, R: Wait>(
 }
 
 /// Answers how a group stands.
-fn count_group<A: Archive, R: Wait>(
-    rt: &R,
-    vault: &Vault<A>,
+fn count_group<A: Archive, X: Wait>(
+    shared: &Shared<'_, A, X>,
     passes: &mut Passes<A>,
     group: u8,
     job: u32,
 ) -> Reply
-    requires ready { AreReady vault.now.rack vault.now.groups passes.old.groups }
-    requires group { group < length vault.now.groups }
+    requires can { CanCall (vault_of shared.now.vault.now) (known_of passes.old) }
+    requires group { group < length shared.now.vault.now.groups }
     requires job { 0 < job }
-    ensures ready { AreReady vault.now.rack vault.now.groups passes.new.groups }
+    ensures can { CanCall (vault_of shared.now.vault.now) (known_of passes.new) }
     ensures index { passes.new.index ≡ passes.old.index }
-    ensures counts { CountsLine (IsTrue A.account.tells) job group result passes.old.groups passes.new.groups }
+    ensures counts { CountsLine (IsTrue A.account.tells) job group result
+        passes.old.groups passes.new.groups }
 {
-    match vault.count(rt, passes, group, job) {
+    match shared.vault.count(shared.rt, passes, group, job) {
         Ok(counts) => Reply::Group {
             group,
             live: counts.live,
@@ -76,26 +75,25 @@ fn count_group<A: Archive, R: Wait>(
 ///
 /// # Errors
 /// `NoMemory`; nothing was logged then.
-pub fn count_groups<A: Archive, R: Wait>(
-    rt: &R,
-    alloc: Global,
-    vault: &Vault<A>,
+pub(crate) fn count_groups<A: Archive, X: Wait>(
+    shared: &Shared<'_, A, X>,
     passes: &mut Passes<A>,
     job: u32,
 ) -> Result<Vec<Reply>, NoMemory>
-    requires ready { AreReady vault.now.rack vault.now.groups passes.old.groups }
-    requires index { IsIndexReady vault.now.rack vault.now.groups vault.now.index passes.old.index }
-    requires count { length vault.now.groups ≡ vault.now.rack.groups }
+    requires can { CanCall (vault_of shared.now.vault.now) (known_of passes.old) }
     requires job { 0 < job }
-    ensures ready { AreReady vault.now.rack vault.now.groups passes.new.groups }
+    ensures can { CanCall (vault_of shared.now.vault.now) (known_of passes.new) }
     ensures index { passes.new.index ≡ passes.old.index }
-    ensures worked { JobWorked job (known passes.old.groups passes.old.index) (known passes.new.groups passes.new.index) }
-    ensures says { JobAlone job (known passes.old.groups passes.old.index) (known passes.new.groups passes.new.index) → (s : Setting) → IsSettingOf s vault.now.rack (known passes.old.groups passes.old.index) → let w = section_of (known passes.old.groups passes.old.index) (known passes.new.groups passes.new.index) in MatchResult result (λ replies. AreStatusReplies s job replies.items w) (λ e. IsSilent (mine job w)) }
+    ensures worked { JobWorked job (known_of passes.old) (known_of passes.new) }
+    ensures says { let old = known_of passes.old in let new = known_of passes.new in
+        JobAlone job old new → (s : Setting) → IsSettingOf s shared.now.vault.now.rack old
+        → MatchResult result (λ replies. AreStatusReplies s job replies.items (section_of old new))
+        (λ e. IsSilent (mine job (section_of old new))) }
 {
-    let groups = vault.rack.groups;
-    let mut replies = Vec::with_capacity(alloc, groups as usize)?;
+    let groups = shared.vault.rack.groups;
+    let mut replies = Vec::with_capacity(shared.alloc, groups as usize)?;
     for group in 0..groups {
-        let reply = count_group(rt, vault, passes, group, job);
+        let reply = count_group(shared, passes, group, job);
         replies.push_reserved(reply);
     }
     Ok(replies)

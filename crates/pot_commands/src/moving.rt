@@ -1,21 +1,22 @@
 //! A column that moves to an archive from the room.
-ghost use Rattle.std.specs.Prelude.{◌≡◌, ◌<◌, ◌≢◌, ◌+◌, ℕ, [], ◌∷◌, Err, IfOk, IsTrue, IsErrOf, MatchResult, length};
+ghost use Rattle.std.specs.Prelude.{◌≡◌, ◌<◌, ◌≢◌, ◌+◌, ℕ, [], ◌∷◌, Err};
+ghost use Rattle.std.specs.Prelude.{IfOk, IsTrue, IsErrOf, MatchResult, length};
 ghost use Rattle.pot_outside.specs.Counts.{Caused};
 ghost use Rattle.pot_replies.specs.Settings.{Setting};
 ghost use Rattle.pot_replies.specs.Sections.{mine, work_of, Halves, IsOfJobs, IsSilent};
-ghost use Rattle.pot_shared.specs.Ready.{AreReady};
-ghost use Rattle.pot_shared.specs.Catalogs.{IsIndexReady};
-ghost use Rattle.pot_store.specs.Works.{JobWorked, JobAlone, IsSettingOf, known, section_of};
+ghost use Rattle.pot_store.specs.Works.{JobWorked, JobAlone, IsSettingOf, section_of};
+ghost use Rattle.pot_commands.specs.Sharing.{CanCall, known_of, vault_of};
 ghost use Rattle.pot_commands.specs.Failures.{Fails};
 ghost use Rattle.pot_commands.specs.Arriving.{HasBegun, Unbegins, move_reply};
 ghost use Rattle.pot_commands.specs.Rows.{IsMigrateReply};
 ghost use Rattle.pot_commands.specs.Taking.{AreUsed, Took, lending};
 
 use crate::arriving::{Unanswered, hand_back, take_shelf, use_reply};
+use crate::sharing::Shared;
 use pot_mend::{MendFault, MoveAt, check_migrate, migrate};
 use pot_outside::Room;
 use pot_script::Reply;
-use pot_shared::{Passes, Vault};
+use pot_shared::Passes;
 use std::sync::Wait;
 
 /// Moves a column from one archive to another: the column begins to move to an archive that is taken from the room, unless it moves there
@@ -23,34 +24,40 @@ use std::sync::Wait;
 ///
 /// # Errors
 /// `RoomFailed` exactly where the room itself failed, or `NoMemory`. Nothing was logged then.
-pub fn migrate_archive<R: Room, X: Wait>(
-    rt: &X,
-    vault: &Vault<R::A>,
+pub(crate) fn migrate_archive<R: Room, X: Wait>(
+    shared: &Shared<'_, R::A, X>,
     passes: &mut Passes<R::A>,
     job: u32,
     from: u32,
     to: u32,
     room: &mut R,
 ) -> Result<Reply, Unanswered>
-    requires ready { AreReady vault.now.rack vault.now.groups passes.old.groups }
-    requires index { IsIndexReady vault.now.rack vault.now.groups vault.now.index passes.old.index }
-    requires count { length vault.now.groups ≡ vault.now.rack.groups }
+    requires can { CanCall (vault_of shared.now.vault.now) (known_of passes.old) }
     requires job { 0 < job }
     requires used { AreUsed (R.out room.old) passes.old.groups }
-    ensures ready { AreReady vault.now.rack vault.now.groups passes.new.groups }
+    ensures can { CanCall (vault_of shared.now.vault.now) (known_of passes.new) }
     ensures index { passes.new.index ≡ passes.old.index }
-    ensures worked { JobWorked job (known passes.old.groups passes.old.index) (known passes.new.groups passes.new.index) }
-    ensures says { JobAlone job (known passes.old.groups passes.old.index) (known passes.new.groups passes.new.index) → (s : Setting) → IsSettingOf s vault.now.rack (known passes.old.groups passes.old.index) → let w = section_of (known passes.old.groups passes.old.index) (known passes.new.groups passes.new.index) in MatchResult result (λ reply. IsOfJobs job 1 w → (h : Halves w) × IsMigrateReply s w.before h.begun job from to reply (work_of w h)) (λ e. IsSilent (mine job w)) }
+    ensures worked { JobWorked job (known_of passes.old) (known_of passes.new) }
+    ensures says { let old = known_of passes.old in let new = known_of passes.new in
+        let w = section_of old new in
+        JobAlone job old new → (s : Setting) → IsSettingOf s shared.now.vault.now.rack old
+        → MatchResult result (λ reply. IsOfJobs job 1 w → (h : Halves w)
+        × IsMigrateReply s w.before h.begun job from to reply (work_of w h))
+        (λ e. IsSilent (mine job w)) }
     ensures used { AreUsed (R.out room.new) passes.new.groups }
-    ensures took { Took (IsTrue R.A.account.tells) (result ≢ Err Unanswered.RoomFailed) (to ∷ []) (lending (R.out room.old) (R.means room.old)) (lending (R.out room.new) (R.means room.new)) (known passes.old.groups passes.old.index) (known passes.new.groups passes.new.index) }
-    ensures cause { Caused (R.faults room.old) (R.faults room.new) (IsErrOf result Unanswered.RoomFailed) }
-    ensures own { Fails (R.failures room.old) (R.failures room.new) (IsErrOf result Unanswered.RoomFailed) }
+    ensures took { Took (IsTrue R.A.account.tells) (result ≢ Err Unanswered.RoomFailed) (to ∷ [])
+        (lending (R.out room.old) (R.means room.old)) (lending (R.out room.new) (R.means room.new))
+        (known_of passes.old) (known_of passes.new) }
+    ensures cause { Caused (R.faults room.old) (R.faults room.new)
+        (IsErrOf result Unanswered.RoomFailed) }
+    ensures own { Fails (R.failures room.old) (R.failures room.new)
+        (IsErrOf result Unanswered.RoomFailed) }
 {
-    let at = match begin_move(rt, vault, passes, job, from, to, room) {
+    let at = match begin_move(shared, passes, job, from, to, room) {
         Ok(at) => at,
         Err(answer) => return answer,
     };
-    let moved = migrate(rt, vault, passes, at.group, job, at.column);
+    let moved = migrate(shared.rt, shared.vault, passes, at.group, job, at.column);
     Ok(move_reply(from, to, moved))
 }
 
@@ -59,29 +66,39 @@ pub fn migrate_archive<R: Room, X: Wait>(
 /// # Errors
 /// The answer to the line, where no move began. Nothing was logged then.
 pub(crate) fn begin_move<R: Room, X: Wait>(
-    rt: &X,
-    vault: &Vault<R::A>,
+    shared: &Shared<'_, R::A, X>,
     passes: &mut Passes<R::A>,
     job: u32,
     from: u32,
     to: u32,
     room: &mut R,
 ) -> Result<MoveAt, Result<Reply, Unanswered>>
-    requires ready { AreReady vault.now.rack vault.now.groups passes.old.groups }
-    requires index { IsIndexReady vault.now.rack vault.now.groups vault.now.index passes.old.index }
-    requires count { length vault.now.groups ≡ vault.now.rack.groups }
+    requires can { CanCall (vault_of shared.now.vault.now) (known_of passes.old) }
     requires job { 0 < job }
     requires used { AreUsed (R.out room.old) passes.old.groups }
-    ensures ready { AreReady vault.now.rack vault.now.groups passes.new.groups }
+    ensures can { CanCall (vault_of shared.now.vault.now) (known_of passes.new) }
     ensures index { passes.new.index ≡ passes.old.index }
-    ensures worked { JobWorked job (known passes.old.groups passes.old.index) (known passes.new.groups passes.new.index) }
-    ensures place { IfOk result (λ at. (at.group < length vault.now.groups) × (at.column < vault.now.rack.columns + vault.now.rack.parity)) }
-    ensures says { JobAlone job (known passes.old.groups passes.old.index) (known passes.new.groups passes.new.index) → (s : Setting) → IsSettingOf s vault.now.rack (known passes.old.groups passes.old.index) → let w = section_of (known passes.old.groups passes.old.index) (known passes.new.groups passes.new.index) in MatchResult result (λ at. IsOfJobs job 1 w → HasBegun s job from to at.group at.column w) (λ e. Unbegins s job from to e w) }
+    ensures worked { JobWorked job (known_of passes.old) (known_of passes.new) }
+    ensures place { let rack = shared.now.vault.now.rack in
+        IfOk result (λ at. (at.group < length shared.now.vault.now.groups)
+        × (at.column < rack.columns + rack.parity)) }
+    ensures says { let old = known_of passes.old in let new = known_of passes.new in
+        let w = section_of old new in
+        JobAlone job old new → (s : Setting) → IsSettingOf s shared.now.vault.now.rack old
+        → MatchResult result
+        (λ at. IsOfJobs job 1 w → HasBegun s job from to at.group at.column w)
+        (λ e. Unbegins s job from to e w) }
     ensures used { AreUsed (R.out room.new) passes.new.groups }
-    ensures took { Took (IsTrue R.A.account.tells) (result ≢ Err (Err Unanswered.RoomFailed)) (to ∷ []) (lending (R.out room.old) (R.means room.old)) (lending (R.out room.new) (R.means room.new)) (known passes.old.groups passes.old.index) (known passes.new.groups passes.new.index) }
-    ensures cause { Caused (R.faults room.old) (R.faults room.new) (IsErrOf result (Err Unanswered.RoomFailed)) }
-    ensures own { Fails (R.failures room.old) (R.failures room.new) (IsErrOf result (Err Unanswered.RoomFailed)) }
+    ensures took { Took (IsTrue R.A.account.tells) (result ≢ Err (Err Unanswered.RoomFailed))
+        (to ∷ [])
+        (lending (R.out room.old) (R.means room.old)) (lending (R.out room.new) (R.means room.new))
+        (known_of passes.old) (known_of passes.new) }
+    ensures cause { Caused (R.faults room.old) (R.faults room.new)
+        (IsErrOf result (Err Unanswered.RoomFailed)) }
+    ensures own { Fails (R.failures room.old) (R.failures room.new)
+        (IsErrOf result (Err Unanswered.RoomFailed)) }
 {
+    let Shared { rt, vault, .. } = *shared;
     let at = match check_migrate(rt, vault, passes, from, to) {
         Ok(at) => at,
         Err(fault) => return Err(Ok(use_reply(fault))),

@@ -14,7 +14,8 @@ use std::alloc::Global;
 /// # Errors
 /// `Failed` only where the sink's count of faults rose; some first bytes of the text were written then.
 pub fn write_out<K: Sink>(sink: &mut K, text: &[u8]) -> Result<(), Failed>
-    ensures told { IsTrue K.tells → IsWritten (K.written sink.old) (K.written sink.new) text.now result }
+    ensures told { IsTrue K.tells
+        → IsWritten (K.written sink.old) (K.written sink.new) text.now result }
     ensures cause { Caused (K.faults sink.old) (K.faults sink.new) (IsErr result) }
 {
     let mut rest = text;

@@ -1,13 +1,10 @@
 //! The steps of a script, one after another.
-ghost use Rattle.std.specs.Prelude.{◌≡◌, ◌≢◌, ◌<◌, ◌≤◌, ◌+◌, ◌^◌, Err, IsTrue, IsErrOf, MatchResult, length};
+ghost use Rattle.std.specs.Prelude.{◌≡◌, ◌≢◌, ◌<◌, ◌≤◌, ◌+◌, ◌^◌, Err};
+ghost use Rattle.std.specs.Prelude.{IsTrue, IsErrOf, MatchResult};
 ghost use Rattle.std.specs.List.{AllByRecursion};
-ghost use Rattle.pot_bytes.specs.Rack.{IsRack};
 ghost use Rattle.pot_outside.specs.Counts.{Caused};
 ghost use Rattle.pot_replies.specs.Sessions.{jobs_in};
-ghost use Rattle.pot_rows.specs.Rows.{HasMoreParts};
-ghost use Rattle.pot_shared.specs.Ready.{AreReady};
-ghost use Rattle.pot_shared.specs.Catalogs.{IsIndexReady};
-ghost use Rattle.pot_store.specs.Works.{known};
+ghost use Rattle.pot_commands.specs.Sharing.{CanCall, HaveParts, common_of, known_of, vault_of};
 ghost use Rattle.pot_commands.specs.Failures.{Fails};
 ghost use Rattle.pot_commands.specs.Rows.{HasFilled};
 ghost use Rattle.pot_commands.specs.Ones.{OneEnds};
@@ -19,13 +16,12 @@ ghost use Rattle.pot_commands.specs.Taking.{AreUsed, Took, asked_by, asks_in, le
 use crate::answering::answer;
 use crate::arriving::Unanswered;
 use crate::batching::answer_together;
-use crate::line_job::Shared;
 use crate::output::{has_refusal, print_replies, write_out};
+use crate::sharing::Crew;
 use pot_bytes::NoMemory;
 use pot_outside::{Failed, Gate, Room, Sink};
 use pot_script::{Reply, Step};
-use pot_shared::{Passes, Vault};
-use std::alloc::Global;
+use pot_shared::Passes;
 use std::sync::Wait;
 use std::thread::Threads;
 
@@ -40,117 +36,87 @@ pub enum Ending {
     NoMemory,
 }
 
-/// What the steps of a session share: the seed and the session of their streams, and on how many workers a batch is worked.
-#[derive(Clone, Copy, Debug)]
-pub struct Terms<'a> {
-    pub seed: &'a [u8; 32],
-    pub session: u32,
-    pub workers: u8,
-}
-
 /// Works a step: the jobs of a batch at once, each of which has one reply.
 fn answer_step<R: Room, W: Gate, X: Threads + Wait + Sync>(
-    rt: &X,
-    alloc: Global,
-    vault: &Vault<R::A>,
+    crew: &Crew<'_, R::A, X, W>,
     passes: &mut Passes<R::A>,
-    terms: &Terms,
     job: u32,
     step: &Step,
-    gate: &W,
     room: &mut R,
 ) -> Result<Vec<Reply>, Unanswered>
-    requires ready { AreReady vault.now.rack vault.now.groups passes.old.groups }
-    requires index { IsIndexReady vault.now.rack vault.now.groups vault.now.index passes.old.index }
-    requires parts { HasMoreParts 2048 passes.old.groups × HasMoreParts 2048 passes.old.index }
-    requires rack { IsRack vault.now.rack }
-    requires count { length vault.now.groups ≡ vault.now.rack.groups }
+    requires can { CanCall (vault_of crew.now.shared.vault.now) (known_of passes.old) }
+    requires parts { HaveParts 2048 (known_of passes.old) }
     requires job { (0 < job) × (job + jobs_in (step_of step.now) ≤ 2 ^ 31) }
-    requires workers { 0 < terms.now.workers }
-    requires worked { IsWorkedStep vault.now.rack.groups step.now }
-    requires filled { HasFilled vault.now.rack (known passes.old.groups passes.old.index) }
+    requires workers { 0 < crew.now.workers }
+    requires worked { IsWorkedStep crew.now.shared.vault.now.rack.groups step.now }
+    requires filled { HasFilled crew.now.shared.vault.now.rack (known_of passes.old) }
     requires used { AreUsed (R.out room.old) passes.old.groups }
-    ensures ready { AreReady vault.now.rack vault.now.groups passes.new.groups }
-    ensures index { IsIndexReady vault.now.rack vault.now.groups vault.now.index passes.new.index }
-    ensures went { AllWent (known passes.old.groups passes.old.index) (known passes.new.groups passes.new.index) }
-    ensures stays { AllStay (known passes.old.groups passes.old.index) (known passes.new.groups passes.new.index) }
-    ensures says { MatchResult result
-        (λ replies. StepGives vault.now.rack terms.now.seed.now terms.now.session job (step_of step.now)
-        (known passes.old.groups passes.old.index) (known passes.new.groups passes.new.index) replies.items)
-        (λ e. StepStops vault.now.rack terms.now.seed.now terms.now.session job (step_of step.now)
-        (known passes.old.groups passes.old.index) (known passes.new.groups passes.new.index) e) }
+    ensures can { CanCall (vault_of crew.now.shared.vault.now) (known_of passes.new) }
+    ensures went { AllWent (known_of passes.old) (known_of passes.new) }
+    ensures stays { AllStay (known_of passes.old) (known_of passes.new) }
+    ensures says { let b = common_of crew.now.shared in let its = step_of step.now in
+        let old = known_of passes.old in let new = known_of passes.new in
+        MatchResult result
+        (λ replies. StepGives b.vault.rack b.seed b.session job its old new replies.items)
+        (λ e. StepStops b.vault.rack b.seed b.session job its old new e) }
     ensures used { AreUsed (R.out room.new) passes.new.groups }
-    ensures took { Took (IsTrue R.A.account.tells) (result ≢ Err Unanswered.RoomFailed) (asks_in step.now)
+    ensures took { Took (IsTrue R.A.account.tells) (result ≢ Err Unanswered.RoomFailed)
+        (asks_in step.now)
         (lending (R.out room.old) (R.means room.old)) (lending (R.out room.new) (R.means room.new))
-        (known passes.old.groups passes.old.index) (known passes.new.groups passes.new.index) }
-    ensures cause { Caused (R.faults room.old) (R.faults room.new) (IsErrOf result Unanswered.RoomFailed) }
-    ensures own { Fails (R.failures room.old) (R.failures room.new) (IsErrOf result Unanswered.RoomFailed) }
+        (known_of passes.old) (known_of passes.new) }
+    ensures cause { Caused (R.faults room.old) (R.faults room.new)
+        (IsErrOf result Unanswered.RoomFailed) }
+    ensures own { Fails (R.failures room.old) (R.failures room.new)
+        (IsErrOf result Unanswered.RoomFailed) }
 {
-    let Terms {
-        seed,
-        session,
-        workers,
-    } = *terms;
     match step {
-        Step::One(command) => answer(rt, alloc, vault, passes, seed, session, job, command, room),
-        Step::Together(lines) => {
-            let shared = Shared {
-                rt,
-                alloc,
-                vault,
-                seed,
-                session,
-            };
-            answer_together(&shared, passes, job, lines.as_slice(), workers, gate, room)
-        }
+        Step::One(command) => answer(&crew.shared, passes, job, command, room),
+        Step::Together(lines) => answer_together(crew, passes, job, lines.as_slice(), room),
     }
 }
 
 /// Works a step, and then writes its replies. It answers whether one of them is a refusal, or how the steps end at it.
 fn work_one<K: Sink, R: Room, W: Gate, X: Threads + Wait + Sync>(
-    rt: &X,
-    alloc: Global,
-    vault: &Vault<R::A>,
+    crew: &Crew<'_, R::A, X, W>,
     passes: &mut Passes<R::A>,
-    terms: &Terms,
     job: u32,
     step: &Step,
-    gate: &W,
     sink: &mut K,
     room: &mut R,
 ) -> Result<bool, Ending>
-    requires ready { AreReady vault.now.rack vault.now.groups passes.old.groups }
-    requires index { IsIndexReady vault.now.rack vault.now.groups vault.now.index passes.old.index }
-    requires parts { HasMoreParts 2048 passes.old.groups × HasMoreParts 2048 passes.old.index }
-    requires rack { IsRack vault.now.rack }
-    requires count { length vault.now.groups ≡ vault.now.rack.groups }
+    requires can { CanCall (vault_of crew.now.shared.vault.now) (known_of passes.old) }
+    requires parts { HaveParts 2048 (known_of passes.old) }
     requires job { (0 < job) × (job + jobs_in (step_of step.now) ≤ 2 ^ 31) }
-    requires workers { 0 < terms.now.workers }
-    requires worked { IsWorkedStep vault.now.rack.groups step.now }
-    requires filled { HasFilled vault.now.rack (known passes.old.groups passes.old.index) }
+    requires workers { 0 < crew.now.workers }
+    requires worked { IsWorkedStep crew.now.shared.vault.now.rack.groups step.now }
+    requires filled { HasFilled crew.now.shared.vault.now.rack (known_of passes.old) }
     requires used { AreUsed (R.out room.old) passes.old.groups }
-    ensures ready { AreReady vault.now.rack vault.now.groups passes.new.groups }
-    ensures index { IsIndexReady vault.now.rack vault.now.groups vault.now.index passes.new.index }
-    ensures went { AllWent (known passes.old.groups passes.old.index) (known passes.new.groups passes.new.index) }
-    ensures stays { AllStay (known passes.old.groups passes.old.index) (known passes.new.groups passes.new.index) }
-    ensures ends { OneEnds vault.now.rack terms.now.seed.now terms.now.session job (step_of step.now)
-        (known passes.old.groups passes.old.index) (known passes.new.groups passes.new.index)
+    ensures can { CanCall (vault_of crew.now.shared.vault.now) (known_of passes.new) }
+    ensures went { AllWent (known_of passes.old) (known_of passes.new) }
+    ensures stays { AllStay (known_of passes.old) (known_of passes.new) }
+    ensures ends { let b = common_of crew.now.shared in
+        OneEnds b.vault.rack b.seed b.session job (step_of step.now)
+        (known_of passes.old) (known_of passes.new)
         (IsTrue K.tells) (K.written sink.old) (K.written sink.new) result }
     ensures used { AreUsed (R.out room.new) passes.new.groups }
-    ensures took { Took (IsTrue R.A.account.tells) (result ≢ Err Ending.RoomFailed) (asks_in step.now)
+    ensures took { Took (IsTrue R.A.account.tells) (result ≢ Err Ending.RoomFailed)
+        (asks_in step.now)
         (lending (R.out room.old) (R.means room.old)) (lending (R.out room.new) (R.means room.new))
-        (known passes.old.groups passes.old.index) (known passes.new.groups passes.new.index) }
-    ensures sink { Caused (K.faults sink.old) (K.faults sink.new) (IsErrOf result Ending.SinkFailed) }
-    ensures room { Caused (R.faults room.old) (R.faults room.new) (IsErrOf result Ending.RoomFailed) }
-    ensures own { Fails (R.failures room.old) (R.failures room.new) (IsErrOf result Ending.RoomFailed) }
+        (known_of passes.old) (known_of passes.new) }
+    ensures sink { Caused (K.faults sink.old) (K.faults sink.new)
+        (IsErrOf result Ending.SinkFailed) }
+    ensures room { Caused (R.faults room.old) (R.faults room.new)
+        (IsErrOf result Ending.RoomFailed) }
+    ensures own { Fails (R.failures room.old) (R.failures room.new)
+        (IsErrOf result Ending.RoomFailed) }
 {
-    let answered = answer_step(rt, alloc, vault, passes, terms, job, step, gate, room);
+    let answered = answer_step(crew, passes, job, step, room);
     let replies = match answered {
         Ok(replies) => replies,
         Err(Unanswered::RoomFailed) => return Err(Ending::RoomFailed),
         Err(Unanswered::NoMemory) => return Err(Ending::NoMemory),
     };
-    let text = match print_replies(alloc, &replies) {
+    let text = match print_replies(crew.shared.alloc, &replies) {
         Ok(text) => text,
         Err(NoMemory) => return Err(Ending::NoMemory),
     };
@@ -175,36 +141,31 @@ fn jobs_in(step: &Step) -> u32
 /// order of the lines, and take the archives that they ask for from the room. It ends at the first reply that can't be written, where
 /// the room fails and where memory runs out.
 pub fn work<K: Sink, R: Room, W: Gate, X: Threads + Wait + Sync>(
-    rt: &X,
-    alloc: Global,
-    vault: &Vault<R::A>,
+    crew: &Crew<'_, R::A, X, W>,
     passes: &mut Passes<R::A>,
-    terms: &Terms,
     steps: &[Step],
-    gate: &W,
     sink: &mut K,
     room: &mut R,
 ) -> Ending
-    requires ready { AreReady vault.now.rack vault.now.groups passes.old.groups }
-    requires index { IsIndexReady vault.now.rack vault.now.groups vault.now.index passes.old.index }
-    requires parts { HasMoreParts 2048 passes.old.groups × HasMoreParts 2048 passes.old.index }
-    requires rack { IsRack vault.now.rack }
-    requires count { length vault.now.groups ≡ vault.now.rack.groups }
+    requires can { CanCall (vault_of crew.now.shared.vault.now) (known_of passes.old) }
+    requires parts { HaveParts 2048 (known_of passes.old) }
     requires few { next_job steps.now ≤ 2 ^ 31 }
-    requires workers { 0 < terms.now.workers }
-    requires filled { HasFilled vault.now.rack (known passes.old.groups passes.old.index) }
-    requires worked { AllByRecursion (IsWorkedStep vault.now.rack.groups) steps.now }
+    requires workers { 0 < crew.now.workers }
+    requires filled { HasFilled crew.now.shared.vault.now.rack (known_of passes.old) }
+    requires worked { let rack = crew.now.shared.vault.now.rack in
+        AllByRecursion (IsWorkedStep rack.groups) steps.now }
     requires used { AreUsed (R.out room.old) passes.old.groups }
-    ensures ready { AreReady vault.now.rack vault.now.groups passes.new.groups }
-    ensures index { IsIndexReady vault.now.rack vault.now.groups vault.now.index passes.new.index }
-    ensures stays { AllStay (known passes.old.groups passes.old.index) (known passes.new.groups passes.new.index) }
-    ensures went { AllWent (known passes.old.groups passes.old.index) (known passes.new.groups passes.new.index) }
-    ensures took { Took (IsTrue R.A.account.tells) (result ≢ Ending.RoomFailed) (asked_by steps.now)
+    ensures can { CanCall (vault_of crew.now.shared.vault.now) (known_of passes.new) }
+    ensures went { AllWent (known_of passes.old) (known_of passes.new) }
+    ensures stays { AllStay (known_of passes.old) (known_of passes.new) }
+    ensures took { Took (IsTrue R.A.account.tells) (result ≢ Ending.RoomFailed)
+        (asked_by steps.now)
         (lending (R.out room.old) (R.means room.old)) (lending (R.out room.new) (R.means room.new))
-        (known passes.old.groups passes.old.index) (known passes.new.groups passes.new.index) }
-    ensures ends { Ends vault.now.rack terms.now.seed.now terms.now.session
+        (known_of passes.old) (known_of passes.new) }
+    ensures ends { let b = common_of crew.now.shared in
+        Ends b.vault.rack b.seed b.session
         (IsTrue K.tells) (K.written sink.old) (K.written sink.new) steps.now
-        (known passes.old.groups passes.old.index) (known passes.new.groups passes.new.index) result }
+        (known_of passes.old) (known_of passes.new) result }
     ensures sink { Caused (K.faults sink.old) (K.faults sink.new) (result ≡ Ending.SinkFailed) }
     ensures room { Caused (R.faults room.old) (R.faults room.new) (result ≡ Ending.RoomFailed) }
     ensures own { Fails (R.failures room.old) (R.failures room.new) (result ≡ Ending.RoomFailed) }
@@ -212,7 +173,7 @@ pub fn work<K: Sink, R: Room, W: Gate, X: Threads + Wait + Sync>(
     let mut refused = false;
     let mut job = 1;
     for step in steps {
-        match work_one(rt, alloc, vault, passes, terms, job, step, gate, sink, room) {
+        match work_one(crew, passes, job, step, sink, room) {
             Ok(some) => refused |= some,
             Err(ending) => return ending,
         }

@@ -27,14 +27,13 @@ returns-in_ok-reply-in-Migrate-clause-says g c alone s set =
 pub returns-in-Ok-answer_plain : goal.returns-in-Ok-answer_plain
 returns-in-Ok-answer_plain g c =
     record {
-      ready = c.answer_plain.ensures.ready;
-      index = c.answer_plain.ensures.index;
+      can = c.answer_plain.ensures.can;
       worked = c.answer_plain.ensures.worked;
       says = c.in-Ok-answer_plain.ensures.says;
       used = used_more c.args.job (g.R.Room.out c.args.room.now) (g.R.Room.out c.args.room.now) c.args.passes.now.groups c.answer_plain.new.passes.groups c.answer_plain.ensures.worked.groups
-          (c.answer_plain.ensures.ready.of.0 ∙ sym c.requires.ready.of.0) (λ n. refl) c.requires.used;
+          (c.answer_plain.ensures.can.ready.of.0 ∙ sym c.requires.can.ready.of.0) (λ n. refl) c.requires.used;
       took = took_none _ _ (asks c.args.command.now) _ _ _ _ (λ n. refl) (λ n. refl)
-          (answered_none c.args.vault.now.rack c.args.seed.now c.args.session c.args.job c.args.command.now (asks_none c.args.command.now c.in_default.not-Replace c.in_default.not-Migrate)
+          (answered_none c.args.shared.now.vault.now.rack c.args.shared.now.seed.now c.args.shared.now.session c.args.job c.args.command.now (asks_none c.args.command.now c.in_default.not-Replace c.in_default.not-Migrate)
           (known c.args.passes.now.groups c.args.passes.now.index) (known c.answer_plain.new.passes.groups c.answer_plain.new.passes.index) c.requires.filled c.answer_plain.ensures.worked c.answer_plain.result c.answer_plain.ensures.says);
       cause = record { later = omega arith; rose = λ e. absurd (cc) };
       own = record { later = omega arith; rose = λ e. absurd (cc); still = λ none. refl };
@@ -43,14 +42,13 @@ returns-in-Ok-answer_plain g c =
 pub returns-in-Err : goal.returns-in-Err
 returns-in-Err g c =
     record {
-      ready = c.answer_plain.ensures.ready;
-      index = c.answer_plain.ensures.index;
+      can = c.answer_plain.ensures.can;
       worked = c.answer_plain.ensures.worked;
       says = c.in-Err.ensures.says;
       used = used_more c.args.job (g.R.Room.out c.args.room.now) (g.R.Room.out c.args.room.now) c.args.passes.now.groups c.answer_plain.new.passes.groups c.answer_plain.ensures.worked.groups
-          (c.answer_plain.ensures.ready.of.0 ∙ sym c.requires.ready.of.0) (λ n. refl) c.requires.used;
+          (c.answer_plain.ensures.can.ready.of.0 ∙ sym c.requires.can.ready.of.0) (λ n. refl) c.requires.used;
       took = took_none _ _ (asks c.args.command.now) _ _ _ _ (λ n. refl) (λ n. refl)
-          (answered_none c.args.vault.now.rack c.args.seed.now c.args.session c.args.job c.args.command.now (asks_none c.args.command.now c.in_default.not-Replace c.in_default.not-Migrate)
+          (answered_none c.args.shared.now.vault.now.rack c.args.shared.now.seed.now c.args.shared.now.session c.args.job c.args.command.now (asks_none c.args.command.now c.in_default.not-Replace c.in_default.not-Migrate)
           (known c.args.passes.now.groups c.args.passes.now.index) (known c.answer_plain.new.passes.groups c.answer_plain.new.passes.index) c.requires.filled c.answer_plain.ensures.worked c.answer_plain.result c.answer_plain.ensures.says);
       cause = record { later = omega arith; rose = λ e. absurd (cc) };
       own = record { later = omega arith; rose = λ e. absurd (cc); still = λ none. refl };

@@ -2,13 +2,14 @@ use Rattle.std.specs.Prelude.{◌≡◌, ◌≤◌, ◌++◌, length}
 use Rattle.std.specs.Vec.{vec_capacity}
 use Rattle.std.specs.Vec.Iter.{into_iter_items}
 use Rattle.pot_store.specs.Works.{known}
-use Rattle.pot_commands.specs.Jobs.{common, tasks_in, vault_view}
+use Rattle.pot_commands.specs.Sharing.{common_of}
+use Rattle.pot_commands.specs.Jobs.{tasks_in}
 use Rattle.pot_commands.proofs.SharedLemmas.{IsSharing}
 use Rattle.pot_commands.proofs.batching.share_out.Given as goal
 
 abbrev pub invariant-loop-index : goal.invariant-loop-index
 invariant-loop-index g l = record {
-  sharing : IsSharing (common (vault_view l.shared.vault.now.rack l.shared.vault.now.groups l.shared.vault.now.index) l.shared.seed.now l.shared.session) (known l.initial.passes.groups l.initial.passes.index) l.job l.lines l.index l.jobs.items
+  sharing : IsSharing (common_of l.shared) (known l.initial.passes.groups l.initial.passes.index) l.job l.lines l.index l.jobs.items
       (known l.passes.groups l.passes.index);
   tasks : tasks_in l.jobs.items ++ into_iter_items l.tasks ≡ l.fn.tasks.items;
   room : length l.lines ≤ vec_capacity l.jobs;

@@ -2,13 +2,13 @@ use Rattle.std.specs.Prelude.{◌≤◌, ◌+◌, length}
 use Rattle.std.specs.Vec.{vec_capacity}
 use Rattle.std.specs.Vec.Iter.{into_iter_items, into_iter_len}
 use Rattle.pot_store.specs.Works.{known}
-use Rattle.pot_commands.specs.Jobs.{vault_view}
+use Rattle.pot_commands.specs.Sharing.{vault_of}
 use Rattle.pot_commands.proofs.BackLemmas.{IsTaking}
 use Rattle.pot_commands.proofs.batching.take_back.Given as goal
 
 abbrev pub invariant-loop-job : goal.invariant-loop-job
 invariant-loop-job g l = record {
-  taking : IsTaking (vault_view l.vault.rack l.vault.groups l.vault.index) (known l.initial.passes.groups l.initial.passes.index) l.fn.jobs.items l.initial.replies.items (into_iter_items l.jobs)
+  taking : IsTaking (vault_of l.vault) (known l.initial.passes.groups l.initial.passes.index) l.fn.jobs.items l.initial.replies.items (into_iter_items l.jobs)
       (known l.passes.groups l.passes.index) l.replies.items l.whole;
   room : length l.replies.items + into_iter_len l.jobs ≤ vec_capacity l.replies;
 }

@@ -1,8 +1,7 @@
-use Rattle.std.proofs.Common.{◌≡◌, ◌≢◌, ◌∙◌, ◌≤◌, ◌+◌, [], List, length, refl, sym, subst, arith, IsTrue}
-use Rattle.pot_shared.specs.Catalogs.{IsIndexReady}
+use Rattle.std.proofs.Common.{◌∙◌, ◌+◌, [], List, refl, sym, subst, arith, IsTrue}
 use Rattle.pot_store.specs.Works.{known}
 use Rattle.pot_commands.specs.declared.beginning.Task.{Task}
-use Rattle.pot_commands.specs.Taking.{asks, lending}
+use Rattle.pot_commands.specs.Taking.{lending}
 use Rattle.pot_commands.proofs.BeginLemmas.{IsBeginning, all_asked, begins_beginning, beginning_moves, ended_asked, ended_moves, more_beginning, still_took}
 use Rattle.pot_commands.proofs.StepLemmas.{work_stays}
 use Rattle.pot_commands.proofs.beginning.begin_lines.Goals as goal
@@ -10,9 +9,9 @@ use Rattle.pot_commands.proofs.beginning.begin_lines.Goals as goal
 pub returns-in_default-clause-begun : goal.returns-in_default-clause-begun
 returns-in_default-clause-begun g c = (
   [],
-  beginning_moves c.args.vault.now.rack (IsTrue g.R.A.Archive.account.tells) c.args.job c.args.lines.now 0 [] (lending (g.R.Room.out c.args.room.now) (g.R.Room.means c.args.room.now))
+  beginning_moves c.args.shared.now.vault.now.rack (IsTrue g.R.A.Archive.account.tells) c.args.job c.args.lines.now 0 [] (lending (g.R.Room.out c.args.room.now) (g.R.Room.means c.args.room.now))
       (lending (g.R.Room.out c.args.room.now) (g.R.Room.means c.args.room.now)) _ _
-      (begins_beginning c.args.vault.now.rack _ c.args.job c.args.lines.now [] _ c.args.vault.now.groups c.args.vault.now.index _ _ refl c.requires.ready c.requires.index) (omega arith),
+      (begins_beginning c.args.shared.now.vault.now.rack _ c.args.job c.args.lines.now [] _ c.args.shared.now.vault.now.groups c.args.shared.now.vault.now.index _ _ refl c.requires.can.ready c.requires.can.index_ready) (omega arith),
 )
 
 pub returns-in_default-clause-took : goal.returns-in_default-clause-took
@@ -20,10 +19,9 @@ returns-in_default-clause-took g c = still_took _ _ _ _ _
 
 pub loop-index-init : goal.loop-index-init
 loop-index-init g c = record {
-  ready = c.requires.ready;
-  index_ready = c.requires.index;
+  can = c.requires.can;
   used = c.requires.used;
-  beginning = begins_beginning c.args.vault.now.rack _ c.args.job c.args.lines.now _ _ c.args.vault.now.groups c.args.vault.now.index _ _ c.in-Ok.ensures.items c.requires.ready c.requires.index;
+  beginning = begins_beginning c.args.shared.now.vault.now.rack _ c.args.job c.args.lines.now _ _ c.args.shared.now.vault.now.groups c.args.shared.now.vault.now.index _ _ c.in-Ok.ensures.items c.requires.can.ready c.requires.can.index_ready;
   own = refl;
   later = omega arith;
   space = c.in-Ok.ensures.capacity;
@@ -35,7 +33,7 @@ returns-in-Err-clause-begun g c =
     let e = c.begin_line.ensures in (
       c.loop-index.tasks.items,
       ended_moves _ _ _ _ _ _ _ _ (lending (g.R.Room.out c.begin_line.new.room) (g.R.Room.means c.begin_line.new.room)) _ _ _ i.beginning _ c.loop-index-test.true c.index-lines-index.is e.worked
-          (work_stays c.args.vault.now.rack c.args.vault.now.groups c.args.vault.now.index _ _ _ _ _ i.ready e.ready i.index_ready (subst (λ x. IsIndexReady c.args.vault.now.rack c.args.vault.now.groups c.args.vault.now.index x) (sym e.index) i.index_ready) e.worked)
+          (work_stays c.args.shared.now.vault.now.rack c.args.shared.now.vault.now.groups c.args.shared.now.vault.now.index _ _ _ _ _ i.can.ready e.can.ready i.can.index_ready e.can.index_ready e.worked)
           e.index c.in-Err.ensures.says,
     )
 
@@ -44,24 +42,22 @@ returns-in-Err-clause-took g c =
     let i = c.loop-index.invariant in
     let e = c.begin_line.ensures in
     ended_asked _ _ _ _ _ _ _ _ _ _ _ _ i.beginning _ c.loop-index-test.true c.index-lines-index.is e.worked
-    (work_stays c.args.vault.now.rack c.args.vault.now.groups c.args.vault.now.index _ _ _ _ _ i.ready e.ready i.index_ready (subst (λ x. IsIndexReady c.args.vault.now.rack c.args.vault.now.groups c.args.vault.now.index x) (sym e.index) i.index_ready) e.worked)
+    (work_stays c.args.shared.now.vault.now.rack c.args.shared.now.vault.now.groups c.args.shared.now.vault.now.index _ _ _ _ _ i.can.ready e.can.ready i.can.index_ready e.can.index_ready e.worked)
     e.index _ _ (λ well same. well (cc same)) c.in-Err.ensures.took
 
 pub loop-index-preserved : goal.loop-index-preserved
 loop-index-preserved g c =
     let i = c.loop-index.invariant in
     let e = c.in-Ok-begin_line.ensures in
-    let ready_index = subst (λ x. IsIndexReady c.args.vault.now.rack c.args.vault.now.groups c.args.vault.now.index x) (sym e.index) i.index_ready in
     record {
-      ready = e.ready;
-      index_ready = ready_index;
+      can = e.can;
       used = e.used;
-      beginning = subst (λ (ts : List Task). IsBeginning c.args.vault.now.rack (IsTrue g.R.A.Archive.account.tells) c.args.job c.args.lines.now (c.loop-index.index + 1) ts
+      beginning = subst (λ (ts : List Task). IsBeginning c.args.shared.now.vault.now.rack (IsTrue g.R.A.Archive.account.tells) c.args.job c.args.lines.now (c.loop-index.index + 1) ts
           (lending (g.R.Room.out c.args.room.now) (g.R.Room.means c.args.room.now)) (lending (g.R.Room.out c.begin_line.new.room) (g.R.Room.means c.begin_line.new.room))
           (known c.args.passes.now.groups c.args.passes.now.index) (known c.begin_line.new.passes.groups c.begin_line.new.passes.index))
           (sym c.push_reserved.ensures.items)
           (more_beginning _ _ _ _ _ _ _ _ _ _ _ _ i.beginning _ c.loop-index-test.true c.index-lines-index.is e.worked
-          (work_stays c.args.vault.now.rack c.args.vault.now.groups c.args.vault.now.index _ _ _ _ _ i.ready e.ready i.index_ready ready_index e.worked)
+          (work_stays c.args.shared.now.vault.now.rack c.args.shared.now.vault.now.groups c.args.shared.now.vault.now.index _ _ _ _ _ i.can.ready e.can.ready i.can.index_ready e.can.index_ready e.worked)
           e.index c.in-Ok-begin_line.task e.task e.says _ (λ same. cc same) e.took);
       own = e.own.still (λ x. cc) ∙ i.own;
       later = (let a = i.later in let b = e.cause.later in omega (arith, a, b));

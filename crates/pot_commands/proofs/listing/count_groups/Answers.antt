@@ -7,7 +7,8 @@ use Rattle.pot_commands.proofs.listing.count_groups.Goals as goal
 
 pub loop-group-init : goal.loop-group-init
 loop-group-init g c = record {
-  counting = begins_counting _ _ _ _ _ _ c.requires.ready c.in_ok-replies.ensures.items;
+  can = c.requires.can;
+  counting = begins_counting _ _ _ _ _ _ c.requires.can.ready c.in_ok-replies.ensures.items;
   index = refl;
   long = c.in_ok-replies.ensures.len;
   room = c.in_ok-replies.ensures.exact;
@@ -15,9 +16,10 @@ loop-group-init g c = record {
 
 pub loop-group-preserved : goal.loop-group-preserved
 loop-group-preserved g c = record {
+  can = c.count_group-reply.ensures.can;
   counting =
-      counting_more _ _ _ _ _ _ _ _ _ _ c.loop-group.invariant.counting (omega (arith, c.requires.count, c.loop-group-test.true)) c.count_group-reply.ensures.counts
-      _ c.push_reserved.ensures.items c.count_group-reply.ensures.ready;
+      counting_more _ _ _ _ _ _ _ _ _ _ c.loop-group.invariant.counting (omega (arith, c.requires.can.count, c.loop-group-test.true)) c.count_group-reply.ensures.counts
+      _ c.push_reserved.ensures.items c.count_group-reply.ensures.can.ready;
   index = c.count_group-reply.ensures.index ∙ c.loop-group.invariant.index;
   long = c.push_reserved.ensures.len ∙ ap (λ n. n + 1) c.loop-group.invariant.long;
   room = c.push_reserved.ensures.capacity ∙ c.loop-group.invariant.room;
@@ -26,13 +28,13 @@ loop-group-preserved g c = record {
 pub returns-clause-worked : goal.returns-clause-worked
 returns-clause-worked g c =
     subst (λ i. JobWorked c.args.job (known c.args.passes.now.groups c.args.passes.now.index) (known c.loop-group.passes.groups i)) (sym c.loop-group.invariant.index)
-    (counted_worked _ _ _ _ _ _ _ _ _ _ c.requires.index c.loop-group.invariant.counting)
+    (counted_worked _ _ _ _ _ _ _ _ _ _ c.requires.can.index_ready c.loop-group.invariant.counting)
 
 pub returns-clause-says : goal.returns-clause-says
 returns-clause-says g c =
-    let all : c.loop-group.group ≡ c.args.vault.now.rack.groups = omega (arith, c.loop-group.auto.group-end, c.loop-group-test.false) in
+    let all : c.loop-group.group ≡ c.args.shared.now.vault.now.rack.groups = omega (arith, c.loop-group.auto.group-end, c.loop-group-test.false) in
     subst (λ i. JobAlone c.args.job (known c.args.passes.now.groups c.args.passes.now.index) (known c.loop-group.passes.groups i)
-    → (s : Setting) → IsSettingOf s c.args.vault.now.rack (known c.args.passes.now.groups c.args.passes.now.index)
+    → (s : Setting) → IsSettingOf s c.args.shared.now.vault.now.rack (known c.args.passes.now.groups c.args.passes.now.index)
     → AreStatusReplies s c.args.job c.loop-group.replies.items (section_of (known c.args.passes.now.groups c.args.passes.now.index) (known c.loop-group.passes.groups i)))
     (sym c.loop-group.invariant.index)
-    (λ alone s setting. counted_says _ _ _ _ _ _ _ _ _ c.loop-group.invariant.counting all c.requires.count c.requires.ready.of.0 alone s setting)
+    (λ alone s setting. counted_says _ _ _ _ _ _ _ _ _ c.loop-group.invariant.counting all c.requires.can.count c.requires.can.ready.of.0 alone s setting)

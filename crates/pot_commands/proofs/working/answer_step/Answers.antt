@@ -1,4 +1,4 @@
-use Rattle.std.proofs.Common.{◌*◌, refl, subst, arith}
+use Rattle.std.proofs.Common.{arith}
 use Rattle.pot_store.specs.Works.{known}
 use Rattle.pot_commands.proofs.Going.{work_all_went}
 use Rattle.pot_commands.proofs.StepLemmas.{fewer_parts, one_job, one_says, one_took, one_worked, together_jobs, together_says, together_took, together_worked, work_stays}
@@ -18,7 +18,7 @@ returns-in-One-clause-went g c = work_all_went c.args.job _ _ c.answer.ensures.w
 
 pub returns-in-One-clause-stays : goal.returns-in-One-clause-stays
 returns-in-One-clause-stays g c =
-    work_stays c.args.vault.now.rack c.args.vault.now.groups c.args.vault.now.index c.args.job _ _ _ _ c.requires.ready c.answer.ensures.ready c.requires.index c.answer.ensures.index c.answer.ensures.worked
+    work_stays c.args.crew.now.shared.vault.now.rack c.args.crew.now.shared.vault.now.groups c.args.crew.now.shared.vault.now.index c.args.job _ _ _ _ c.requires.can.ready c.answer.ensures.can.ready c.requires.can.index_ready c.answer.ensures.can.index_ready c.answer.ensures.worked
 
 pub returns-in-One-clause-says : goal.returns-in-One-clause-says
 returns-in-One-clause-says g c =
@@ -43,7 +43,7 @@ answer_together-requires-clause-batched g c = λ κs within.
 
 pub returns-in-Together-clause-says : goal.returns-in-Together-clause-says
 returns-in-Together-clause-says g c =
-    together_says c.args.step.now c.in-Together.lines _ c.in-Together.is c.as_slice.ensures c.args.vault.now.rack c.args.terms.now.seed.now c.args.terms.now.session c.args.job
+    together_says c.args.step.now c.in-Together.lines _ c.in-Together.is c.as_slice.ensures c.args.crew.now.shared.vault.now.rack c.args.crew.now.shared.seed.now c.args.crew.now.shared.session c.args.job
     (known c.args.passes.now.groups c.args.passes.now.index) (known c.answer_together.new.passes.groups c.answer_together.new.passes.index) c.answer_together.result c.answer_together.ensures.says
 
 pub returns-in-Together-clause-took : goal.returns-in-Together-clause-took

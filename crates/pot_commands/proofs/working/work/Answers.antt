@@ -1,14 +1,13 @@
 use Rattle.std.proofs.Common.{◌≡◌, ◌+◌, ◌^◌, length, take, refl, ap, ◌∙◌, arith}
 use Rattle.std.proofs.Math.Seq.{take-length}
 use Rattle.pot_commands.specs.Taking.{lending}
-use Rattle.pot_commands.proofs.WorkingLemmas.{begins_working, all_took, ends_took, holds_at, index_parts_stay, jobs_fit, new_stays, new_went, parts_stay, working_ends, working_more}
+use Rattle.pot_commands.proofs.WorkingLemmas.{begins_working, all_took, ends_took, index_parts_stay, jobs_fit, new_stays, new_went, parts_stay, working_ends, working_more}
 use Rattle.pot_commands.proofs.working.work.Goals as goal
 
 pub loop-step-init : goal.loop-step-init
 loop-step-init g c = record {
-  working = begins_working _ _ _ _ _ _ _ _ c.args.vault.now.groups c.args.vault.now.index _ _ c.requires.ready c.requires.index c.requires.filled;
-  ready = c.requires.ready;
-  index = c.requires.index;
+  working = begins_working _ _ _ _ _ _ _ _ c.args.crew.now.shared.vault.now.groups c.args.crew.now.shared.vault.now.index _ _ c.requires.can.ready c.requires.can.index_ready c.requires.filled;
+  can = c.requires.can;
   used = c.requires.used;
   room_later = omega arith;
   room_own = refl;
@@ -44,8 +43,7 @@ loop-step-preserved g c =
       working =
           working_more _ _ _ _ _ _ _ _ _ _ _ _ _ (lending (g.R.Room.out c.work_one.new.room) (g.R.Room.means c.work_one.new.room)) _ _ _ i.working c.step-item.result c.loop-step-test.true c.step-item.is c.work_one.ensures.went c.work_one.ensures.stays
           _ c.in-Ok.some _ (λ e. cc) c.in-Ok.ensures.took c.in-Ok.ensures.ends _ (ap (λ n. c.loop-step.job + n) c.jobs_in-job.ensures);
-      ready = c.work_one.ensures.ready;
-      index = c.work_one.ensures.index;
+      can = c.work_one.ensures.can;
       used = c.work_one.ensures.used;
       room_later = omega (arith, i.room_later, c.work_one.ensures.room.later);
       room_own = c.work_one.ensures.own.still (λ e. cc) ∙ i.room_own;

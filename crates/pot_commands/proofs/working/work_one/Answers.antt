@@ -7,7 +7,7 @@ use Rattle.pot_commands.proofs.working.work_one.Goals as goal
 
 pub returns-in-Err-clause-ends : goal.returns-in-Err-clause-ends
 returns-in-Err-clause-ends g c = (
-  gives_left c.args.vault.now.rack c.args.terms.now.seed.now c.args.terms.now.session c.args.job (step_of c.args.step.now) (known c.args.passes.now.groups c.args.passes.now.index)
+  gives_left c.args.crew.now.shared.vault.now.rack c.args.crew.now.shared.seed.now c.args.crew.now.shared.session c.args.job (step_of c.args.step.now) (known c.args.passes.now.groups c.args.passes.now.index)
       (known c.answer_step-answered.new.passes.groups c.answer_step-answered.new.passes.index) c.in-Ok.replies.items c.in-Ok.ensures.says,
   λ told. refl,
 )
