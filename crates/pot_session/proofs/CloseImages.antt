@@ -9,11 +9,11 @@ use Rattle.pot_bytes.specs.Digests.{digest_bytes}
 use Rattle.pot_bytes.specs.declared.rack.Rack.{Rack}
 use Rattle.pot_bytes.proofs.Elements.{element_of_map}
 use Rattle.pot_outside.specs.Archives.{Meaning, IsMeant}
-use Rattle.pot_outside.specs.Counts.{Caused}
+use Rattle.pot_outside.specs.Counts.{Caused, Rose}
 use Rattle.pot_outside.specs.declared.archive.Shelf.{Shelf}
 use Rattle.pot_outside.specs.declared.faults.Failed.{Failed}
 use Rattle.pot_machine.specs.declared.entry.Entry.{Entry}
-use Rattle.pot_machine.specs.Table.{Table}
+use Rattle.pot_machine.specs.Table.{Table, serving_at}
 use Rattle.pot_index.specs.Records.{record_bytes}
 use Rattle.pot_group.specs.Group.{GroupView}
 use Rattle.pot_shelves.specs.Shelves.{Shelves}
@@ -30,9 +30,10 @@ use Rattle.pot_shared.specs.Ready.{GroupPass}
 use Rattle.pot_shared.specs.Catalogs.{IndexPass}
 use Rattle.pot_store.specs.Works.{Known, section_of}
 use Rattle.pot_session.specs.Giving.{AnswersFor, GivesBack}
-use Rattle.pot_session.specs.Groups.{AreFirstPasses, IsOpened, records_read}
+use Rattle.pot_session.specs.Groups.{AreFirstPasses, IsOpened, MarksRose, records_read}
 use Rattle.pot_commands.specs.Holding.{times}
-use Rattle.pot_session.specs.Serving.{still, Shows, Desks, Rooms, IsInHand, IsInRoom, LeavesGroup, LeaveGroups, LeavesRecords, LeavesLogs, Leaves, IsBegun, IsCloseStop, Closes, close_answer, first_failure}
+use Rattle.pot_commands.specs.Taking.{marks_of}
+use Rattle.pot_session.specs.Serving.{still, AreOpened, RoseInHand, RoseInRoom, Shows, Desks, Rooms, IsInHand, IsInRoom, LeavesGroup, LeaveGroups, LeavesRecords, LeavesLogs, Leaves, IsBegun, IsCloseStop, Closes, close_answer, first_failure}
 
 -- RELAYS ARE NOT WRITTEN
 
@@ -101,6 +102,30 @@ in_room told meaning hand means before now given b s n (x, has, e, shows) t back
       losses = shows.losses ∙ is.lost;
     })
 
+-- what opened their tables, by what is known of their counts
+pub opened_as : (meant : ℕ → Meaning) (Rises Shown : ℕ → Type 0) (t : Table) (log : List Entry) → ((n : ℕ) → Rises n → Shown n) → IsOpened meant Rises t log → IsOpened meant Shown t log
+opened_as meant Rises Shown t log shown o = record {
+  read = o.read;
+  gone = o.gone;
+  broke = o.broke;
+  found = o.found;
+  finds = o.finds;
+  missed = λ s c ls lc is sound. shown (serving_at t s c) (o.missed s c ls lc is sound);
+  breaks = o.breaks;
+  is = o.is;
+}
+
+-- a count that rose at an archive in the hand rose in the room, where it took that archive back
+rose_in_room : {A : Type 0} (told : Type 0) (meaning : A → Meaning) (hand : List (Shelf A)) (meant means : ℕ → Meaning) (before now : ℕ) (given : Result (Unit {0}) Failed)
+    (b : GivesBack told meaning hand means before now given) → told → (n : ℕ) → RoseInHand meaning hand meant n → RoseInRoom meant means b.missing n
+rose_in_room told meaning hand meant means before now given b t n (x, has, e, rose) back =
+    let is : IsMeant (means x.number) (meaning x.archive) = b.back t x has (subst (λ k. times k b.missing ≡ 0) (sym e) back) in
+    subst (λ k. MarksRose (marks_of (meant n)) (marks_of (means k))) e (moved is rose)
+  where
+    moved : IsMeant (means x.number) (meaning x.archive) → MarksRose (marks_of (meant n)) (marks_of (meaning x.archive)) → MarksRose (marks_of (meant n)) (marks_of (means x.number))
+    moved is (inl r) = inl (subst (λ y. Rose (meant n).faults y) is.faulted r)
+    moved is (inr r) = inr (subst (λ y. Rose (meant n).losses y) is.lost r)
+
 -- THE ANSWER
 
 failure_is : (missing : List ℕ) (given : Result (Unit {0}) Failed) (kept : Result (Unit {0}) Stop) → AnswersFor missing given → first_failure given kept ≡ close_answer missing kept
@@ -122,7 +147,7 @@ opened_by old first g = elim (cases_lt g (length old.groups.names)) [
 -- what the image of a close is, from its parts
 leaves_of : (read : List Table) (old new : Known) (rooms : Rooms) (missing : List ℕ) (first last : Contents) → AreFirstPasses old.groups old.index → IsBegun first last.session last.rack read (records_read new.index)
     → LeaveGroups rooms.told rooms.meant (IsInRoom rooms.told rooms.means missing) read last.group_logs (map still last.tables) → LeavesLogs old new last.rack last.group_logs last.index_log last.records
-    → (rooms.told → (g : ℕ) (t : Table) → slice_get first.tables g ≡ Some t → IsOpened rooms.meant t ((section_of old new).before g))
+    → (rooms.told → AreOpened rooms.meant (RoseInRoom rooms.meant rooms.means missing) first.tables (section_of old new))
     → Leaves rooms missing first (record last { tables = map still last.tables }) (section_of old new)
 leaves_of read old new rooms missing first last opened b groups left found = record {
   session = sym b.is_session;
@@ -160,7 +185,7 @@ pub closes : {A : Type 0} (meaning : A → Meaning) (hand : List (Shelf A)) (roo
     → GivesBack rooms.told meaning hand rooms.means worked rooms.fails given → AreFirstPasses old.groups old.index
     → IsBegun first last.session last.rack read (records_read new.index) → last.rack ≡ rack → LeaveGroups rooms.told rooms.meant (IsInHand meaning hand) read last.group_logs (map still last.tables)
     → LeavesLogs old new rack last.group_logs last.index_log last.records
-    → (rooms.told → (g : ℕ) (t : Table) → slice_get first.tables g ≡ Some t → IsOpened rooms.meant t ((section_of old new).before g))
+    → (rooms.told → AreOpened rooms.meant (RoseInHand meaning hand rooms.meant) first.tables (section_of old new))
     → closed ≡ first_failure given kept → Closes old new rooms worked (before ≡ Some (image_bytes first)) desk first closed
 closes meaning hand rooms worked read old new rack desk first last before given kept closed k which cause back opened b same groups left found is = record {
   last = record last { tables = map still last.tables };
@@ -170,7 +195,9 @@ closes meaning hand rooms worked read old new rack desk first last before given 
   leaves = leaves_of read old new rooms back.missing first last opened b
       (other_groups rooms.told rooms.meant (IsInHand meaning hand) (IsInRoom rooms.told rooms.means back.missing) read last.group_logs (map still last.tables)
       (in_room rooms.told meaning hand rooms.means worked rooms.fails given back) groups)
-      (subst (λ r. LeavesLogs old new r last.group_logs last.index_log last.records) (sym same) left) found;
+      (subst (λ r. LeavesLogs old new r last.group_logs last.index_log last.records) (sym same) left)
+      (λ t g u q. opened_as rooms.meant (RoseInHand meaning hand rooms.meant) (RoseInRoom rooms.meant rooms.means back.missing) u ((section_of old new).before g)
+      (rose_in_room rooms.told meaning hand rooms.meant rooms.means worked rooms.fails given back t) (found t g u q));
   kept = kept;
   keeps = λ held. record {
     holds = λ t. subst (λ b. Keeps (Some (image_bytes first)) desk.holds b kept) (sym (same_image last)) (subst (λ h. Keeps h desk.holds (image_bytes last) kept) (held t) (k t));

@@ -1,12 +1,13 @@
 -- What a vault that ended leaves: its records, its tables, and the archives of its groups.
-use Rattle.std.proofs.Common.{◌≡◌, ◌<◌, ◌≤◌, ◌^◌, ◌+◌, ⊎_elim, ℕ, zero, suc, List, [], ◌∷◌, length, map, refl, sym, ap, subst, ◌∙◌, arith, get_or}
+use Rattle.std.proofs.Common.{◌≡◌, ◌<◌, ◌≤◌, ◌^◌, ◌+◌, inl, inr, ⊎_elim, ℕ, zero, suc, List, [], ◌∷◌, length, map, refl, sym, ap, subst, ◌∙◌, arith, get_or}
 use Rattle.std.specs.Prelude.{Some, None, All, Contains, slice_get, flat_map}
 use Rattle.std.proofs.lemmas.List.{length-map}
 use Rattle.std.proofs.lemmas.List.Elements.{Contains-append_cases}
 use Rattle.std.proofs.lemmas.Option.{slice_get_within}
 use Rattle.pot_bytes.specs.declared.rack.Rack.{Rack}
-use Rattle.pot_bytes.proofs.Elements.{element_of_map}
+use Rattle.pot_bytes.proofs.Elements.{contains_front, element_of_map}
 use Rattle.pot_outside.specs.Archives.{Meaning}
+use Rattle.pot_outside.specs.declared.archive.Marks.{Marks}
 use Rattle.pot_outside.specs.declared.archive.Shelf.{Shelf}
 use Rattle.pot_machine.specs.Table.{Table, archives_in}
 use Rattle.pot_machine.specs.declared.entry.Entry.{Entry}
@@ -15,28 +16,29 @@ use Rattle.pot_index.specs.declared.record.Record.{Record}
 use Rattle.pot_index.specs.Entries.{entries}
 use Rattle.pot_index.specs.Index.{IndexView, IsIndex, names_read, Replays}
 use Rattle.pot_group.specs.Arrivals.{arrivals}
-use Rattle.pot_group.specs.Group.{GroupView, GroupParts, view_of}
+use Rattle.pot_group.specs.Group.{GroupView, GroupParts, IsSettled, view_of}
 use Rattle.pot_shelves.specs.Shelves.{numbers_of, shelf_of, given, plain}
+use Rattle.pot_shelves.proofs.ShelfLemmas.{rose_more}
 use Rattle.pot_index.proofs.RecordLaws.{few_published}
 use Rattle.pot_turn.specs.declared.name.TurnName.{TurnName}
 use Rattle.pot_worked.specs.Worked.{added}
 use Rattle.pot_rows.specs.Rows.{view_at}
-use Rattle.pot_shared.specs.Members.{kept_log, origin_of, mark_at}
+use Rattle.pot_shared.specs.Members.{entries_of, kept_log, opened_at, origin_of, mark_at}
 use Rattle.pot_shared.specs.Ready.{GroupPass, GroupPasses, AreReady}
 use Rattle.pot_shared.specs.Catalogs.{IndexPasses, IsIndexReady, records_in}
 use Rattle.pot_shared.specs.Sharing.{Ends}
-use Rattle.pot_store.specs.Works.{Known, known, gained}
+use Rattle.pot_store.specs.Works.{Known, known, gained, section_of}
 use Rattle.pot_commands.specs.Going.{AllSole}
 use Rattle.pot_commands.specs.Holding.{times, AreApart}
 use Rattle.pot_commands.proofs.TakingLemmas.{times-append}
 use Rattle.pot_commands.specs.Taking.{AreMarkedBy, came_in, marks_of}
-use Rattle.pot_session.specs.Groups.{AreServed, AreEnded, AreLow, AreTakenAt, HasMarks, HaveCome, had_by, tables_read, records_read}
-use Rattle.pot_session.specs.Serving.{IsInHand, LeavesRecords, LeavesLogs, LeaveGroups, still}
+use Rattle.pot_session.specs.Groups.{AreServed, AreEnded, AreLow, AreTakenAt, HasMarks, HaveCome, IsOpened, MarksRose, RoseBy, had_by, tables_read, records_read}
+use Rattle.pot_session.specs.Serving.{AreOpened, IsInHand, RoseInHand, LeavesRecords, LeavesLogs, LeaveGroups, still}
 use Rattle.pot_session.proofs.Lists.{same_at, flat_contains}
 use Rattle.pot_session.proofs.GroupLemmas.{find_shelf}
 use Rattle.pot_session.proofs.CloseLemmas.{closed_firsts, closed_kept, closed_log, closed_story, its_came, members_of, opened_none, sole_all}
 use Rattle.pot_session.proofs.ComingLemmas.{came_marked, came_of, few_archives}
-use Rattle.pot_session.proofs.CloseImages.{leave_groups}
+use Rattle.pot_session.proofs.CloseImages.{leave_groups, opened_as}
 
 -- THE INDEX
 
@@ -114,12 +116,16 @@ module _ {A M : Type 0} (told : Type 0) (meaning : A → Meaning) (parts : M →
     (e : Ends (λ m. kept_log (view_of meaning (parts m))) (λ m. origin_of (view_of meaning (parts m))) rack names groups (view_at passes 0) ms ended) (all : AreEnded told (λ m. view_of meaning (parts m)) ms)
     (meant : ℕ → Meaning) (taken : told → AreTakenAt meant old.groups)
     (marks : told → AllSole old (known groups passes) → (g : ℕ) → g < length old.groups.names → AreMarkedBy meant (added (view_at old.groups g) (view_at groups g))) (hand : List (Shelf A)) (is_hand : hand ≡ flat_map (λ m. (parts m).shelves.shelves) ms) where
+  -- its origin is the one that its first pass knows
+  origin_is : (n : ℕ) (m : M) → slice_get ms n ≡ Some m → (view_at old.groups n).origin ≡ Some (origin_of (view_of meaning (parts m)))
+  origin_is n m q = sym (s.stays.groups.origin n) ∙ (sym (ap (λ (v : GroupPass). v.origin) (e.joined n).both) ∙ sym (e.closed.each n m q).named)
+
   -- the marks of its archives are those that the first passes know, and those with which they came
   marked : (n : ℕ) (m : M) → slice_get ms n ≡ Some m → told → HasMarks meant (view_of meaning (parts m))
   marked n m q t k has = ⊎_elim
       (λ (h : Contains (archives_in (parts m).first) k).
       same_at (mark_at (plain meaning (parts m).shelves)) (λ x. marks_of (meant x)) (archives_in (parts m).first) k
-      (taken t n (origin_of (view_of meaning (parts m))) (sym (s.stays.groups.origin n) ∙ (sym (ap (λ (v : GroupPass). v.origin) (e.joined n).both) ∙ sym (e.closed.each n m q).named))).0 h)
+      (taken t n (origin_of (view_of meaning (parts m))) (origin_is n m q)).0 h)
       (λ (h : Contains (arrivals (parts m).log) k).
       came_marked meant (plain meaning (parts m).shelves) (parts m).log (view_at old.groups n).seen (added (view_at old.groups n) (view_at groups n))
       (closed_kept (λ x. view_of meaning (parts x)) rack names turn groups passes ms ended ready index_ready old s e n m q)
@@ -147,6 +153,35 @@ module _ {A M : Type 0} (told : Type 0) (meaning : A → Meaning) (parts : M →
 
       found : (x : Shelf A) × (shelf_of (parts m).shelves.shelves k ≡ Some x) × (x.number ≡ k) × Contains (parts m).shelves.shelves x
       found = find_shelf (parts m).shelves.shelves k (subst (λ ns. Contains ns k) (sym numbers) has)
+
+  -- a count that rose in an opening is above what its number meant, at an archive in the hand
+  opened_in_hand : (n : ℕ) (m : M) → slice_get ms n ≡ Some m → told → (marks : ℕ → Marks) → map (opened_at (plain meaning (parts m).shelves)) (archives_in (parts m).first) ≡ map marks (archives_in (parts m).first)
+      → (k : ℕ) → RoseBy meant (parts m).first marks k → RoseInHand meaning hand meant k
+  opened_in_hand n m q t marks are k (has, rose) = (x.0, x.1, x.2, risen rose)
+    where
+      x : IsInHand meaning hand (plain meaning (parts m).shelves) k
+      x = handed n m q k (contains_front (archives_in (parts m).first) (arrivals (parts m).log) k has)
+
+      at : opened_at (plain meaning (parts m).shelves) k ≡ marks k
+      at = same_at (opened_at (plain meaning (parts m).shelves)) marks (archives_in (parts m).first) k are has
+
+      settled : IsSettled told (view_of meaning (parts m))
+      settled = (all n m q).settled
+
+      risen : MarksRose (marks_of (meant k)) (marks k) → MarksRose (marks_of (meant k)) (marks_of (meaning x.0.archive))
+      risen (inl r) = inl (rose_more (meant k).faults (marks k).faults (meaning x.0.archive).faults r
+          (let a = ap (λ (y : Marks). y.faults) at in let b = settled.opened_faults k in let e = x.3.faults in omega (arith, a, b, e)))
+      risen (inr r) = inr (rose_more (meant k).losses (marks k).losses (meaning x.0.archive).losses r
+          (let a = ap (λ (y : Marks). y.losses) at in let b = settled.opened_losses t k in let e = x.3.losses in omega (arith, a, b, e)))
+
+  -- what stood in the logs at the start is what the openings logged
+  pub closed_opened : told → AreOpened meant (RoseInHand meaning hand meant) (tables_read groups) (section_of old (known groups passes))
+  closed_opened t g u q =
+      let m = element_of_map (λ m. (parts m).first) ms g u (ap (λ ts. slice_get ts g) (closed_firsts (λ m. view_of meaning (parts m)) rack names groups (view_at passes 0) ms ended ready e) ∙ q) in
+      let o = taken t g (origin_of (view_of meaning (parts m.0))) (origin_is g m.0 m.1) in
+      subst (λ v. IsOpened meant (RoseInHand meaning hand meant) v (entries_of (view_at old.groups g).seen)) m.2
+      (opened_as meant (RoseBy meant (parts m.0).first o.1.marks) (RoseInHand meaning hand meant) (parts m.0).first (entries_of (view_at old.groups g).seen)
+      (opened_in_hand g m.0 m.1 t o.1.marks o.1.are) o.1.opened)
 
   pub closed_groups : (logs : List (List Entry)) (tables : List Table) → logs ≡ map (λ m. (parts m).log) ms → tables ≡ map (λ m. (parts m).table) ms
       → LeaveGroups told meant (IsInHand meaning hand) (tables_read groups) logs (map still tables)

@@ -1,5 +1,5 @@
 -- Groups that were started, and that end one by one.
-use Rattle.std.proofs.Common.{◌≡◌, ◌≤◌, ◌+◌, ◌++◌, inl, inr, ℕ, zero, suc, List, [], ◌∷◌, length, take, drop, map, refl, sym, ap, subst, ◌∙◌, arith, append_assoc, append-nil, length-append}
+use Rattle.std.proofs.Common.{◌≡◌, ◌≤◌, ◌<◌, ◌+◌, ◌++◌, inl, inr, ℕ, zero, suc, List, [], ◌∷◌, length, take, drop, map, refl, sym, ap, subst, ◌∙◌, arith, append_assoc, append-nil, length-append}
 use Rattle.std.specs.Prelude.{Some, None, All, Contains, slice_get, flat_map}
 use Rattle.std.proofs.Math.Seq.{take-append_seam, drop-append_seam}
 use Rattle.std.proofs.lemmas.Grind.{flat_map-append}
@@ -14,16 +14,19 @@ use Rattle.pot_outside.specs.declared.archive.Marks.{Marks}
 use Rattle.pot_outside.specs.declared.archive.Shelf.{Shelf}
 use Rattle.pot_machine.specs.declared.entry.Entry.{Entry}
 use Rattle.pot_machine.specs.declared.entry.Entry.TheVariants.{Gone, Broke}
-use Rattle.pot_machine.specs.Table.{Table, width, archives_in, serving_at}
+use Rattle.pot_machine.specs.Table.{Table, width, archives_in, column_at, serving_at}
+use Rattle.pot_machine.specs.Rules.{IsTable}
+use Rattle.pot_machine.proofs.Columns.{names_serving}
 use Rattle.pot_machine.specs.Logs.{job_of}
 use Rattle.pot_group.specs.Arrivals.{arrivals, HasArrived}
 use Rattle.pot_group.specs.Beginning.{Begins}
 use Rattle.pot_group.specs.Group.{GroupView, GroupParts, view_of}
 use Rattle.pot_shelves.specs.Shelves.{numbers_of, shelf_of, given, plain}
 use Rattle.pot_group.proofs.CauseLemmas.{OfOpening, opening_entries}
-use Rattle.pot_shared.specs.Members.{mark_at}
+use Rattle.pot_group.proofs.Opened.{handed_all}
+use Rattle.pot_shared.specs.Members.{mark_at, opened_at}
 use Rattle.pot_commands.specs.Taking.{marks_of}
-use Rattle.pot_session.specs.Groups.{IsOpened, IsStarted, IsEnded, AreStarted, AreMarked, AreEnded, had_by}
+use Rattle.pot_session.specs.Groups.{IsOpened, IsStarted, IsEnded, AreStarted, AreMarked, AreEnded, MarksRose, RoseBy, had_by}
 use Rattle.pot_commands.specs.Holding.{times, AreSame, AreMeant}
 use Rattle.pot_session.proofs.Lists.{each_more, pair_more, same_flat, flat_snoc, flat_parts, grown, all_at}
 use Rattle.pot_commands.proofs.TakingLemmas.{times-append}
@@ -45,7 +48,7 @@ started_of told meaning number t handed g b e arrived = record {
   is_number = b.is_number;
   first = b.first;
   none = append_cancel_left (archives_in t) (arrivals g.log) []
-      (ap (λ x. archives_in x ++ arrivals g.log) (sym b.first) ∙ (sym arrived ∙ (b.opens.stays.keeps.numbers ∙ (ap numbers_of b.shelves ∙ (e ∙ sym (append-nil (archives_in t)))))));
+      (ap (λ x. archives_in x ++ arrivals g.log) (sym b.first) ∙ (sym arrived ∙ (ap (λ s. numbers_of s.shelves) b.marked ∙ (b.opens.stays.keeps.numbers ∙ (ap numbers_of b.shelves ∙ (e ∙ sym (append-nil (archives_in t))))))));
   nobody = λ x y entry q. by_nobody g.log x y entry (subst (λ l. All OfOpening l) (sym b.opens.log) (opening_entries (width t) t.stripes b.opens.gone b.opens.broke)) q;
 }
 
@@ -73,10 +76,10 @@ marked_of {A} told meaning meant number t handed g tells b e are n has = same
     is = subst (λ k. IsMeant (meant k) (meaning found.0.archive)) found.2 (are found.0 (subst (λ ss. Contains ss found.0) b.shelves found.3))
 
     faulted : (plain meaning g.shelves).faults_taken n ≡ (meant n).faults
-    faulted = b.opens.stays.keeps.faults_taken n ∙ (b.marks.faults n ∙ (ap (λ o. given (λ x. (meaning x).faults) 0 o) found.1 ∙ is.faulted))
+    faulted = ap (λ s. (plain meaning s).faults_taken n) b.marked ∙ (b.opens.stays.keeps.faults_taken n ∙ (b.marks.faults n ∙ (ap (λ o. given (λ x. (meaning x).faults) 0 o) found.1 ∙ is.faulted)))
 
     lost : (plain meaning g.shelves).losses_taken n ≡ (meant n).losses
-    lost = b.opens.stays.keeps.losses_taken n ∙ (b.marks.losses tells n ∙ (ap (λ o. given (λ x. (meaning x).losses) 0 o) found.1 ∙ is.lost))
+    lost = ap (λ s. (plain meaning s).losses_taken n) b.marked ∙ (b.opens.stays.keeps.losses_taken n ∙ (b.marks.losses tells n ∙ (ap (λ o. given (λ x. (meaning x).losses) 0 o) found.1 ∙ is.lost)))
 
     marks : ℕ → ℕ → Marks
     marks f l = record { faults = f; losses = l }
@@ -96,16 +99,44 @@ held_meant meaning meant (x ∷ xs) are n slot block e = elim (eqb_tells x.numbe
       held_meant meaning meant xs (λ s has. are s (suc has.0, (let l = has.1 in omega (arith, l)), has.2)) n slot block (sym (ap (λ o. given (λ y. (meaning y).held slot) None o) there) ∙ e))
 ]
 
--- its opening rests on blocks that the room meant
+-- what the room meant by the number of an archive, it holds
+meant_held : {A : Type 0} (meaning : A → Meaning) (meant : ℕ → Meaning) (ss : List (Shelf A)) → AreMeant meaning meant ss → (n slot : ℕ) → Contains (numbers_of ss) n
+    → given (λ x. (meaning x).held slot) None (shelf_of ss n) ≡ (meant n).held slot
+meant_held meaning meant ss are n slot has =
+    let found = find_shelf ss n has in
+    let is : IsMeant (meant n) (meaning found.0.archive) = subst (λ k. IsMeant (meant k) (meaning found.0.archive)) found.2 (are found.0 found.3) in
+    ap (λ o. given (λ x. (meaning x).held slot) None o) found.1 ∙ is.blocks slot
+
+-- the archive that serves a slot is one of the table's
+pub serves_there : (t : Table) → IsTable t → (s c : ℕ) → c < width t → Contains (archives_in t) (serving_at t s c)
+serves_there t table s c lc = handed_all t (archives_in t) table refl c (serving_at t s c) lc (names_serving (column_at t c) s)
+
+-- its opening rests on blocks that the room meant, and missed none of them but where a count of its archive rose
 pub opened_of : {A : Type 0} (told : Type 0) (meaning : A → Meaning) (meant : ℕ → Meaning) (number : ℕ) (t : Table) (handed : List (Shelf A)) (g : GroupParts A) → told → Begins told meaning number t handed g
-    → AreMeant meaning meant handed → IsOpened meant t g.log
-opened_of told meaning meant number t handed g tells b are = record {
+    → numbers_of handed ≡ archives_in t → AreMeant meaning meant handed → IsTable t → IsOpened meant (RoseBy meant t (opened_at (view_of meaning g).shelves)) t g.log
+opened_of told meaning meant number t handed g tells b e are table = record {
   read = b.opens.read;
   gone = b.opens.gone;
   broke = b.opens.broke;
   found = λ s c block ls lc e.
       held_meant meaning meant b.taken.shelves (λ x has. are x (subst (λ ss. Contains ss x) b.shelves has)) (serving_at t s c) s block (b.opens.reads tells s c block ls lc e);
   finds = b.opens.finds;
+  missed = λ s c ls lc is sound.
+      (let has = serves_there t table s c lc in (
+        has,
+        subst (λ m. MarksRose m (opened_at (view_of meaning g).shelves (serving_at t s c)))
+            (marked_of told meaning meant number t handed g tells b e are (serving_at t s c) has)
+            (b.rose tells s c ls lc is (
+              sound.0,
+              record {
+                digest = sound.1.digest;
+                live = sound.1.live;
+                held = meant_held meaning meant b.taken.shelves (λ x k. are x (subst (λ ss. Contains ss x) b.shelves k)) (serving_at t s c) s
+                    (subst (λ ss. Contains (numbers_of ss) (serving_at t s c)) (sym b.shelves) (subst (λ ns. Contains ns (serving_at t s c)) (sym e) has)) ∙ sound.1.held;
+                right = sound.1.right;
+              },
+            )),
+      ));
   breaks = b.opens.breaks;
   is = b.opens.log;
 }

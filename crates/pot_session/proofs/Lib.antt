@@ -10,6 +10,7 @@ pub mod EndLemmas
 pub mod FrontLemmas
 pub mod GroupLemmas
 pub mod ListingLemmas
+pub mod LiveLemmas
 pub mod Lists
 pub mod LossLemmas
 pub mod MeantLemmas

@@ -109,11 +109,7 @@ flat_contains f [] n m x e has = absurd (cc)
 flat_contains f (k ∷ ms) zero m x e has = Contains-append_left (f k) (flat_map f ms) x (subst (λ y. Contains (f y) x) (sym (same_Some k m e)) has)
 flat_contains f (k ∷ ms) (suc n) m x e has = Contains-append_right (f k) (flat_map f ms) x (flat_contains f ms n m x e has)
 
--- two functions that agree on the elements of a list, and those whose values on it are the same
-pub same_on : {X Y : Type 0} (f h : X → Y) (xs : List X) → ((x : X) → Contains xs x → f x ≡ h x) → map f xs ≡ map h xs
-same_on f h [] e = refl
-same_on f h (x ∷ xs) e = ap (λ y. y ∷ map f xs) (e x (0, omega arith, refl)) ∙ ap (λ l. h x ∷ l) (same_on f h xs (λ y has. e y (suc has.0, (let l = has.1 in omega (arith, l)), has.2)))
-
+-- two functions whose values on a list are the same
 pub same_at : {X Y : Type 0} (f h : X → Y) (xs : List X) (x : X) → map f xs ≡ map h xs → Contains xs x → f x ≡ h x
 same_at f h [] x e (k, l, q) = absurd (omega (arith, l))
 same_at f h (y ∷ ys) x e (zero, l, q) = subst (λ z. f z ≡ h z) q (ap (λ zs. get_or zs 0 (f y)) e)

@@ -16,15 +16,15 @@ use Rattle.pot_turn.specs.declared.name.TurnName.{TurnName}
 use Rattle.pot_turn.specs.Views.{first_view, spent_view}
 use Rattle.pot_rows.specs.Rows.{AreOf, view_at}
 use Rattle.pot_shared.specs.declared.catalog.CatalogOrigin.{CatalogOrigin}
-use Rattle.pot_shared.specs.Members.{kept_log, origin_of, entries_of, mark_at}
+use Rattle.pot_shared.specs.Members.{kept_log, origin_of, entries_of, mark_at, opened_at}
 use Rattle.pot_shared.specs.Ready.{GroupPass, GroupPasses, IsTableOf}
 use Rattle.pot_shared.specs.Catalogs.{IndexPasses}
 use Rattle.pot_shared.specs.Sharing.{AreFirst, HaveLogs}
 use Rattle.pot_replies.specs.Sessions.{ByNobody}
-use Rattle.pot_shared.proofs.MemberLemmas.{entries_all}
+use Rattle.pot_shared.proofs.MemberLemmas.{entries_all, same_on}
 use Rattle.pot_commands.specs.Taking.{marks_of}
-use Rattle.pot_session.specs.Groups.{AreStarted, AreOfRack, AreTakenFrom, AreFirstPasses, AreTakenAt, IsFirstPass, IsOpened, had_by, table_read, tables_read}
-use Rattle.pot_session.proofs.Lists.{same_maps, same_flat, same_on, all_at_place}
+use Rattle.pot_session.specs.Groups.{AreStarted, AreOfRack, AreTakenFrom, AreFirstPasses, AreTakenAt, IsFirstPass, IsOpened, IsOpenedAt, RoseBy, had_by, table_read, tables_read}
+use Rattle.pot_session.proofs.Lists.{same_maps, same_flat, all_at_place}
 
 -- the first tables are those that the groups were started over
 pub firsts : {M : Type 0} (see : M → GroupView) (ts : List Table) (ms : List M) → AreStarted see ts ms → map (λ m. (see m).first) ms ≡ ts
@@ -96,12 +96,16 @@ taken_at {M} see ms names row meant first of long marked g o e = elim (cases_lt 
   | inr l ↦ absurd (let q = sym e ∙ ap (λ (v : GroupPass). v.origin) (at_past names row g of l) in cc)
 ]
   where
-    at : (m : M) → slice_get ms g ≡ Some m → (o.taken ≡ map (λ n. marks_of (meant n)) (archives_in o.first)) × IsOpened meant o.first (entries_of (view_at row g).seen)
+    at : (m : M) → slice_get ms g ≡ Some m → (o.taken ≡ map (λ n. marks_of (meant n)) (archives_in o.first)) × IsOpenedAt meant o (entries_of (view_at row g).seen)
     at m q = (
       subst (λ (p : GroupOrigin). p.taken ≡ map (λ n. marks_of (meant n)) (archives_in p.first)) same
           (same_on (mark_at (see m).shelves) (λ n. marks_of (meant n)) (archives_in (see m).first) (marked g m q).marked),
-      subst (λ (p : GroupOrigin). IsOpened meant p.first (entries_of (view_at row g).seen)) same
-          (subst (λ l. IsOpened meant (see m).first l) (sym (ap (λ (v : GroupPass). entries_of v.seen) (first g m q) ∙ entries_all (see m).shelves (see m).log)) (marked g m q).opened),
+      subst (λ (p : GroupOrigin). IsOpenedAt meant p (entries_of (view_at row g).seen)) same (record {
+        marks = opened_at (see m).shelves;
+        are = refl;
+        opened = subst (λ l. IsOpened meant (RoseBy meant (see m).first (opened_at (see m).shelves)) (see m).first l)
+            (sym (ap (λ (v : GroupPass). entries_of v.seen) (first g m q) ∙ entries_all (see m).shelves (see m).log)) (marked g m q).opened;
+      }),
     )
       where
         same : origin_of (see m) ≡ o

@@ -36,6 +36,7 @@ use Rattle.pot_session.specs.declared.stop.Stop.{Stop}
 use Rattle.pot_session.specs.declared.stop.Stop.TheVariants as stop
 use Rattle.pot_session.specs.Groups.{AreFirstPasses, table_read, tables_read, records_read}
 use Rattle.pot_session.proofs.Lists.{at_same}
+use Rattle.pot_session.proofs.LossLemmas.{lost_where_few}
 use Rattle.pot_session.specs.Serving.{Desks, Rooms, Serves, Closed, Closes, IsCloseStop, IsEnd, OthersStay, setting_of, status_after}
 
 -- WHAT STAYS
@@ -50,10 +51,6 @@ reads (v ∷ vs) (w ∷ ws) long e =
 
 pub same_read : (rack : Rack) (names : List TurnName) (old new : GroupPasses) → AreReady rack names old → AreReady rack names new → Stays old new → tables_read new ≡ tables_read old
 same_read rack names old new a b s = reads old.views new.views (b.of.1 ∙ sym a.of.1) s.origin
-
--- the tables that the first passes read
-pub first_tables : (rack : Rack) (names : List TurnName) (old new : GroupPasses) {index : IndexPasses} → AreFirstPasses old index → AreReady rack names new → Stays old new → tables_read new ≡ tables_read old
-first_tables rack names old new f b s = reads old.views new.views (b.of.1 ∙ (ap length (sym b.of.0) ∙ (ap length s.names ∙ sym f.count))) s.origin
 
 pub same_records : (old new : IndexPasses) → Stays old new → records_read new ≡ records_read old
 same_records old new s = ap records_in (s.origin 0)
@@ -155,6 +152,7 @@ serves_closed seed first steps rooms sink_told before after desk held rack sessi
   failed_at = closes.failed_at;
   leaves = closes.leaves;
   others = others;
+  lost = λ told back none. lost_where_few rooms.told seed first closes.last rooms.meant rooms.means closes.missing told fits closes.leaves.groups back none;
   kept = closes.kept;
   keeps = closes.keeps kept;
   status = status ∙ ap (λ r. status_after e r) closes.is;

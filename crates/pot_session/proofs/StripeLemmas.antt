@@ -60,7 +60,8 @@ all_come c (e ∷ log) n has = ⊎_elim
     (λ (h : Contains (brought_by c log) n). Contains-append_right (arrival e) (arrivals log) n (all_come c log n h))
     (Contains-append_cases (brought c e) (brought_by c log) n has)
 
-column_had : (t : Table) (log : List Entry) (c n : ℕ) → c < length t.columns → Contains (archives_of t log c) n → Contains (archives_in t ++ arrivals log) n
+-- each archive of a column is one of its group
+pub column_had : (t : Table) (log : List Entry) (c n : ℕ) → c < length t.columns → Contains (archives_of t log c) n → Contains (archives_in t ++ arrivals log) n
 column_had t log c n lt has =
     let column = element_at t.columns c lt in
     let same : column_at t c ≡ column.0 = at_same t.columns c no_column column.0 column.1 in

@@ -6,6 +6,7 @@ use Rattle.pot_script.specs.declared.grouping.Step.{Step}
 use Rattle.pot_machine.specs.Table.{archives_in}
 use Rattle.pot_image.specs.declared.image.Image.{Image}
 use Rattle.pot_image.specs.Images.{Contents, contents}
+use Rattle.pot_image.specs.Rules.{FitsTogether}
 use Rattle.pot_session.specs.declared.status.Status.{Status}
 use Rattle.pot_session.specs.declared.status.Status.TheVariants as status
 use Rattle.pot_session.specs.declared.stop.Stop.{Stop}
@@ -91,6 +92,7 @@ longer seed first steps rooms sink_told before after desk_told holds a b n answe
   failed_at = c.failed_at;
   leaves = c.leaves;
   others = c.others;
+  lost = c.lost;
   kept = c.kept;
   keeps = record {
     holds = c.keeps.holds;
@@ -108,7 +110,7 @@ pub served : (seed : List ℕ) (seen : Seen) (answer : Status) (image : Image) (
     → (seen.source_told → seen.rest ≡ []) → used ≡ steps → Serves seed (contents image) used (room_in seen) seen.sink_told seen.before seen.after (desks_by seen.desk_told seen.holds mid seen.desk_fails) answer → IsEnd answer
     → Untouched (flat_map archives_in image.tables.items ++ asked_by used) seen.meant seen.means → seen.desk_failed ≤ mid → Holds seed seen answer
 served seed seen answer image steps used now mid p read same serves is untouched le =
-    Served p.read steps p.of read (subst (λ v. Serves seed v steps (room_in seen) seen.sink_told seen.before seen.after (desk_in seen) answer) p.is
+    Served p.read steps p.of (subst FitsTogether p.is p.fits) read (subst (λ v. Serves seed v steps (room_in seen) seen.sink_told seen.before seen.after (desk_in seen) answer) p.is
     (subst (λ cs. Serves seed (contents image) cs (room_in seen) seen.sink_told seen.before seen.after (desk_in seen) answer) same
     (longer seed (contents image) used (room_in seen) seen.sink_told seen.before seen.after seen.desk_told seen.holds seen.desk_failed mid seen.desk_fails answer le serves))) is
     (λ n none. untouched n (ap (λ ts. times n (flat_map archives_in ts ++ asked_by used)) (ap (λ v. v.tables) p.is) ∙ (ap (λ cs. times n (flat_map archives_in p.read.tables.items ++ asked_by cs)) same ∙ none)))

@@ -1,5 +1,6 @@
 -- An audit: how many points of each piece of each file of a desk are exposed to a coalition.
-use Rattle.std.specs.Prelude.{◌≡◌, ◌⊎◌, ◌++◌, ◌+◌, ◌&&◌, ℕ, Bool, true, false, nat_le, nat_lt, List, Option, Result, Ok, Err, All, codes, flat_map, map, take}
+use Rattle.std.specs.Prelude.{◌≡◌, ◌⊎◌, ◌++◌, ◌+◌, ◌&&◌, ℕ, Bool, true, false, nat_le, nat_lt, List}
+use Rattle.std.specs.Prelude.{Option, Result, Ok, Err, All, codes, flat_map, map, take}
 use Rattle.std.specs.List.{list_all, list_any}
 use Rattle.pot_bytes.specs.declared.rack.Rack.{Rack}
 use Rattle.pot_script.specs.Replies.{spaced}
@@ -47,10 +48,12 @@ spots_of a = map spot_of a.seen.items
 abbrev pub is_bare : Veil → Bool
 is_bare v = nat_le v.need v.have
 
--- the name, and the split, the piece, the fragment, how many points of it are exposed, and how many are needed
+-- the name, and the split, the piece, the fragment, how many points of it are exposed, and how many
+-- are needed
 abbrev pub veil_line : List ℕ → Veil → List ℕ
 veil_line name v =
-    codes "veil " ++ name ++ spaced v.split ++ spaced v.piece ++ spaced v.fragment ++ spaced v.have ++ spaced v.need ++ codes "\n"
+    codes "veil " ++ name ++ spaced v.split ++ spaced v.piece ++ spaced v.fragment ++ spaced v.have
+    ++ spaced v.need ++ codes "\n"
 
 abbrev pub veil_lines : List ℕ → List Veil → List ℕ
 veil_lines name veils = flat_map (veil_line name) veils
@@ -61,7 +64,8 @@ pub record Audited : Type 0 where
   pub veils : List Veil
 
 -- these are the records in order, each with its veils
-pub record AreAudited (rack : Rack) (spots : List Spot) (records : List Record) (all : List Audited) : Type 0 where
+pub record AreAudited (rack : Rack) (spots : List Spot) (records : List Record)
+    (all : List Audited) : Type 0 where
   pub are : map (λ (a : Audited). a.kept) all ≡ records
   pub each : All (λ (a : Audited). AreVeils rack spots a.kept a.veils) all
 
@@ -73,25 +77,36 @@ audit_text all = flat_map (λ (a : Audited). veil_lines a.kept.name a.veils) all
 abbrev pub has_bare : List Audited → Bool
 has_bare all = list_any (λ (a : Audited). list_any is_bare a.veils) all
 
--- The lines of all records were written, and it is answered whether some piece is bare; or the sink failed or memory ran out, and some
--- first bytes were written of the lines of some first records.
-abbrev pub PutsAudit : Type 0 → List ℕ → List ℕ → Rack → List Spot → List Record → Result Bool ListFault → Type 0
+-- The lines of all records were written, and it is answered whether some piece is bare; or the sink
+-- failed or memory ran out, and some first bytes were written of the lines of some first records.
+abbrev pub PutsAudit : Type 0 → List ℕ → List ℕ → Rack → List Spot → List Record
+    → Result Bool ListFault → Type 0
 PutsAudit told before after rack spots records (Ok bare) =
-    (all : List Audited) × AreAudited rack spots records all × (bare ≡ has_bare all) × (told → after ≡ before ++ audit_text all)
+    (all : List Audited) × AreAudited rack spots records all × (bare ≡ has_bare all)
+    × (told → after ≡ before ++ audit_text all)
 PutsAudit told before after rack spots records (Err e) =
-    (n : ℕ) × (all : List Audited) × AreAudited rack spots (take n records) all × (told → IsBegun before after (audit_text all))
+    (n : ℕ) × (all : List Audited) × AreAudited rack spots (take n records) all
+    × (told → IsBegun before after (audit_text all))
 
 -- and so the answer
-abbrev pub AuditAnswers : Type 0 → List ℕ → List ℕ → Rack → List Spot → List Record → Status → Type 0
+abbrev pub AuditAnswers : Type 0 → List ℕ → List ℕ → Rack → List Spot → List Record → Status
+    → Type 0
 AuditAnswers told before after rack spots records answer =
-    ((bare : Bool) × PutsAudit told before after rack spots records (Ok bare) × (answer ≡ told_status bare))
-    ⊎ ((e : ListFault) × PutsAudit told before after rack spots records (Err e) × ((answer ≡ status.SinkFault) ⊎ (answer ≡ status.NoMemory)))
+    ((bare : Bool) × PutsAudit told before after rack spots records (Ok bare)
+    × (answer ≡ told_status bare))
+    ⊎ ((e : ListFault) × PutsAudit told before after rack spots records (Err e)
+    × ((answer ≡ status.SinkFault) ⊎ (answer ≡ status.NoMemory)))
 
--- What `audit` comes to. The desk has no image; or it has one whose rack lacks a column that the words name, and the words are refused; or
--- the audit of its records is told.
-pub data Audits (a : Audit) (desk_told : Type 0) (held : Option (List ℕ)) (sink_told : Type 0) (before after : List ℕ) (answer : Status) : Type 0 where
-  Stopped : (s : Stop) → IsImageStop s → (desk_told → RefusesDesk held s) → Refuses sink_told before after s answer → Audits a desk_told held sink_told before after answer
-  Outside : (i : Image) → (desk_told → HoldsImage held i) → are_of i.rack a ≡ false → Refuses sink_told before after stop.Words answer
+-- What `audit` comes to. The desk has no image; or it has one whose rack lacks a column that the
+-- words name, and the words are refused; or the audit of its records is told.
+pub data Audits (a : Audit) (desk_told : Type 0) (held : Option (List ℕ)) (sink_told : Type 0)
+    (before after : List ℕ) (answer : Status) : Type 0 where
+  Stopped : (s : Stop) → IsImageStop s → (desk_told → RefusesDesk held s)
+      → Refuses sink_told before after s answer
       → Audits a desk_told held sink_told before after answer
-  Told : (i : Image) → (desk_told → HoldsImage held i) → are_of i.rack a ≡ true → AuditAnswers sink_told before after i.rack (spots_of a) i.records.items answer
+  Outside : (i : Image) → (desk_told → HoldsImage held i) → are_of i.rack a ≡ false
+      → Refuses sink_told before after stop.Words answer
+      → Audits a desk_told held sink_told before after answer
+  Told : (i : Image) → (desk_told → HoldsImage held i) → are_of i.rack a ≡ true
+      → AuditAnswers sink_told before after i.rack (spots_of a) i.records.items answer
       → Audits a desk_told held sink_told before after answer

@@ -9,7 +9,8 @@ use Rattle.pot_script.specs.Steps.{IsWholeStep, spread}
 use Rattle.pot_session.specs.declared.stop.Stop.{Stop}
 use Rattle.pot_session.specs.declared.stop.Stop.TheVariants as stop
 
--- These are the steps before `quit` of a script whose bytes the source had, where it tells them. It has fewer than 2^31 lines.
+-- These are the steps before `quit` of a script whose bytes the source had, where it tells them. It
+-- has fewer than 2^31 lines.
 pub record IsRead (rack : Rack) (told : Type 0) (input : List ℕ) (ss : List Step) : Type 0 where
   pub bytes : List ℕ
   pub read : told → input ≡ bytes

@@ -1,5 +1,6 @@
 -- What a session reads from its desk and writes there.
-use Rattle.std.specs.Prelude.{◌≡◌, ◌<◌, ◌+◌, ◌-◌, ◌^◌, ℕ, List, [], Option, Some, None, Result, Ok, Err, replicate}
+use Rattle.std.specs.Prelude.{◌≡◌, ◌<◌, ◌+◌, ◌-◌, ◌^◌, ℕ, List, [], Option, Some, None, Result, Ok}
+use Rattle.std.specs.Prelude.{Err, replicate}
 use Rattle.pot_outside.specs.Failing.{MayLeave}
 use Rattle.pot_image.specs.declared.image.Image.{Image}
 use Rattle.pot_image.specs.declared.fault.ImageFault.TheVariants as faults
@@ -16,7 +17,8 @@ GoesOn i = i.session < 2 ^ 32 - 1
 -- why the bytes are no image from which a session may begin
 abbrev pub RefusesBytes : List ℕ → Stop → Type 0
 RefusesBytes bytes stop.Cut = AnswersImage bytes (Err faults.Cut)
-RefusesBytes bytes (stop.Trailer kept computed) = AnswersImage bytes (Err (faults.Trailer kept computed))
+RefusesBytes bytes (stop.Trailer kept computed) =
+    AnswersImage bytes (Err (faults.Trailer kept computed))
 RefusesBytes bytes (stop.Form place) = AnswersImage bytes (Err (faults.Form place))
 RefusesBytes bytes stop.Spent = (i : Image) × AnswersImage bytes (Ok i) × (i.session ≡ 2 ^ 32 - 1)
 RefusesBytes bytes stop.NoMemory = Unit {0}
@@ -88,7 +90,8 @@ IsKeepStop stop.DeskFault = Unit {0}
 IsKeepStop stop.NoMemory = Unit {0}
 IsKeepStop _ = ⊥
 
--- The desk holds these bytes now. Where it failed it holds them, what it held before or nothing, and for want of memory what it held before.
+-- The desk holds these bytes now. Where it failed it holds them, what it held before or nothing,
+-- and for want of memory what it held before.
 abbrev pub Keeps : Option (List ℕ) → Option (List ℕ) → List ℕ → Result (Unit {0}) Stop → Type 0
 Keeps before after bytes (Ok u) = after ≡ Some bytes
 Keeps before after bytes (Err stop.DeskFault) = MayLeave before bytes after

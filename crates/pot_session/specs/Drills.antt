@@ -1,5 +1,6 @@
 -- A drill: two files of one length, and what is told of them.
-use Rattle.std.specs.Prelude.{◌≡◌, ◌≤◌, ◌-◌, ◌++◌, ℕ, true, false, List, [], ◌∷◌, Result, Ok, Err, OnOk, codes, decimal, length, unwrap_or}
+use Rattle.std.specs.Prelude.{◌≡◌, ◌≤◌, ◌-◌, ◌++◌, ℕ, true, false, List, [], ◌∷◌, Result, Ok, Err}
+use Rattle.std.specs.Prelude.{OnOk, codes, decimal, length, unwrap_or}
 use Rattle.pot_bytes.specs.Rack.{IsGeometry}
 use Rattle.pot_bytes.specs.declared.rack.Geometry.{Geometry}
 use Rattle.pot_object.specs.Pieces.{longest, pieces_of}
@@ -27,14 +28,15 @@ pub record IsDrill (d : Drill) : Type 0 where
 
 -- THE SOURCE
 
--- The bytes are two files of one length: the length in decimal digits, and then each file, with LF (10) after the length and after each.
+-- The bytes are two files of one length: the length in decimal digits, and then each file, with LF
+-- (10) after the length and after each.
 pub record ArePair (bytes file other : List ℕ) : Type 0 where
   pub fits : length file ≤ longest
   pub same_length : length other ≡ length file
   pub spelled : bytes ≡ decimal (length file) ++ 10 ∷ (file ++ 10 ∷ (other ++ 10 ∷ []))
 
--- Reading ends with this byte at the latest: the longest two files are one byte shorter, the length's six digits, twice 884736 bytes,
--- and three LF.
+-- Reading ends with this byte at the latest: the longest two files are one byte shorter, the
+-- length's six digits, twice 884736 bytes, and three LF.
 abbrev pub read_most : ℕ
 read_most = 1769482
 
@@ -51,34 +53,44 @@ random_of g seed count = next_bytes (pads_of seed 0 0) (random_len (pieces_of co
 -- the length of the files, their pieces, the seen blocks, and the digest of these
 abbrev pub report_text : ℕ → DrillReport → List ℕ
 report_text count r =
-    codes "explained" ++ spaced count ++ spaced r.pieces ++ spaced r.blocks ++ codes "\n" ++ codes "digest" ++ in_hex r.digest ++ codes "\n"
+    codes "explained" ++ spaced count ++ spaced r.pieces ++ spaced r.blocks ++ codes "\n"
+    ++ codes "digest" ++ in_hex r.digest ++ codes "\n"
 
 -- the hidden fragment, of which so many points are seen, where so many are needed
 abbrev pub exposed_text : ℕ → ℕ → ℕ → List ℕ
-exposed_text number have need = codes "exposed" ++ spaced number ++ spaced have ++ spaced need ++ codes "\n"
+exposed_text number have need =
+    codes "exposed" ++ spaced number ++ spaced have ++ spaced need ++ codes "\n"
 
--- All pieces of the first file were explained by the second, and the report is told; or so many points are seen that this is refused.
+-- All pieces of the first file were explained by the second, and the report is told; or so many
+-- points are seen that this is refused.
 pub data DrillsTo (d : Drill) (seed file other : List ℕ) (t : Telling) : Type 0 where
   Explained : (r : DrillReport) (explained : List ℕ)
-      → IsReport d.geometry file other (d.hidden - 1) d.seen.items (random_of d.geometry seed (length file)) explained r
-      → t.text.items ≡ report_text (length file) r → t.refused ≡ false → DrillsTo d seed file other t
-  Exposed : (number have need : ℕ) (random : List ℕ) → IsFault d.geometry d.hidden d.seen.items random random (fault.Exposed number have need)
-      → t.text.items ≡ exposed_text number have need → t.refused ≡ true → DrillsTo d seed file other t
+      → IsReport d.geometry file other (d.hidden - 1) d.seen.items
+      (random_of d.geometry seed (length file)) explained r
+      → t.text.items ≡ report_text (length file) r → t.refused ≡ false
+      → DrillsTo d seed file other t
+  Exposed : (number have need : ℕ) (random : List ℕ)
+      → IsFault d.geometry d.hidden d.seen.items random random (fault.Exposed number have need)
+      → t.text.items ≡ exposed_text number have need → t.refused ≡ true
+      → DrillsTo d seed file other t
 
 -- THE WHOLE
 
--- The source has two files, of which this is told; or it has no two files; or it failed, or memory ran out. `told` is whether the source tells
--- its bytes.
+-- The source has two files, of which this is told; or it has no two files; or it failed, or memory
+-- ran out. `told` is whether the source tells its bytes.
 abbrev pub Drilled : Drill → List ℕ → Type 0 → List ℕ → Result Telling Stop → Type 0
 Drilled d seed told input (Ok t) =
-    (file : List ℕ) × (other : List ℕ) × (told → ArePair input file other) × DrillsTo d seed file other t
+    (file : List ℕ) × (other : List ℕ) × (told → ArePair input file other)
+    × DrillsTo d seed file other t
 Drilled d seed told input (Err (stop.BadLine number)) = (number ≡ 0) × (told → IsNoPair input)
 Drilled d seed told input (Err stop.SourceFault) = Unit {0}
 Drilled d seed told input (Err stop.NoMemory) = Unit {0}
 Drilled d seed told input (Err _) = ⊥
 
--- What `drill` comes to, and what it leaves of the source: nothing behind two files. Where the words give no seed it is the drawn one.
-pub record Drills (d : Drill) (drawn : List ℕ) (source_told : Type 0) (input rest : List ℕ) (sink_told : Type 0) (before after : List ℕ) (answer : Status) : Type 0 where
+-- What `drill` comes to, and what it leaves of the source: nothing behind two files. Where the
+-- words give no seed it is the drawn one.
+pub record Drills (d : Drill) (drawn : List ℕ) (source_told : Type 0) (input rest : List ℕ)
+    (sink_told : Type 0) (before after : List ℕ) (answer : Status) : Type 0 where
   pub made : Result Telling Stop
   pub is : Drilled d (unwrap_or d.seed drawn) source_told input made
   pub read : source_told → ReadsAtMost read_most input rest

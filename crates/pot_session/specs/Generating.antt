@@ -1,5 +1,6 @@
 -- The generator: the script of a number, worked by a session over new archives in memory.
-use Rattle.std.specs.Prelude.{◌≡◌, ◌<◌, ◌+◌, ◌*◌, ◌++◌, ℕ, Bool, true, false, IsTrue, List, [], Option, Some, None, Result, Ok, Err, codes}
+use Rattle.std.specs.Prelude.{◌≡◌, ◌<◌, ◌+◌, ◌*◌, ◌++◌, ℕ, Bool, true, false, IsTrue, List, []}
+use Rattle.std.specs.Prelude.{Option, Some, None, Result, Ok, Err, codes}
 use Rattle.std.specs.List.{count_by}
 use Rattle.pot_bytes.specs.Digests.{digest_bytes}
 use Rattle.pot_outside.specs.Archives.{Meaning}
@@ -24,8 +25,9 @@ archives_of_runs = rack_of_runs.groups * (rack_of_runs.columns + rack_of_runs.pa
 abbrev pub AreSound : (ℕ → Meaning) → Type 0
 AreSound means = (n : ℕ) → n < archives_of_runs → (means n).faults ≡ 0
 
--- A session wrote these bytes and ended so, that read the script of the number, over a desk with a new archive of the generator's rack
--- and a room without blocks, with the generator's seed. No call of an archive failed.
+-- A session wrote these bytes and ended so, that read the script of the number, over a desk with a
+-- new archive of the generator's rack and a room without blocks, with the generator's seed. No call
+-- of an archive failed.
 pub record IsGenerated (number : ℕ) (bytes : List ℕ) (ended : Status) : Type 0 where
   pub rest : List ℕ
   pub holds : Option (List ℕ)
@@ -37,8 +39,11 @@ pub record IsGenerated (number : ℕ) (bytes : List ℕ) (ended : Status) : Type
   pub empty : (n : ℕ) → meant n ≡ meaning_of None
   pub sound : AreSound means
   pub session : Holds (seed_of number)
-      (seen_by (IsTrue true) (script_text (generated number)) rest (IsTrue true) [] bytes (IsTrue true)
-      (Some (image_bytes (empty_contents rack_of_runs))) holds (IsTrue true) meant means 0 fails desk_failed desk_fails) ended
+      (seen_by (IsTrue true) (script_text (generated number)) rest (IsTrue true) [] bytes
+      (IsTrue true)
+      (Some (image_bytes (empty_contents rack_of_runs))) holds (IsTrue true) meant means 0 fails
+      desk_failed desk_fails)
+      ended
 
 -- all commands of such a session were answered
 abbrev pub is_answered : Status → Bool
@@ -49,7 +54,8 @@ is_answered _ = false
 -- the number, how many replies its script has, and the digest of all that the session wrote
 abbrev pub summary : ℕ → List ℕ → List ℕ
 summary number bytes =
-    codes "generated" ++ spaced number ++ spaced (count_by is_replied (generated number)) ++ codes "\ndigest"
+    codes "generated" ++ spaced number ++ spaced (count_by is_replied (generated number))
+    ++ codes "\ndigest"
     ++ in_hex (record { bytes = digest_bytes bytes }) ++ codes "\n"
 
 -- the status of the session, or the sink failed
@@ -58,8 +64,12 @@ answer_of ended (Ok u) = ended
 answer_of ended (Err e) = status.SinkFault
 
 -- Such a session was held, and its summary was written; or memory ran out, and nothing was.
-pub data Generates (number : ℕ) (sink_told : Type 0) (before after : List ℕ) (answer : Status) : Type 0 where
-  Told : (bytes : List ℕ) (ended : Status) → IsGenerated number bytes ended → is_answered ended ≡ true
-      → (wrote : Result (Unit {0}) Failed) → (sink_told → IsWritten before after (summary number bytes) wrote)
+pub data Generates (number : ℕ) (sink_told : Type 0) (before after : List ℕ)
+    (answer : Status) : Type 0 where
+  Told : (bytes : List ℕ) (ended : Status) → IsGenerated number bytes ended
+      → is_answered ended ≡ true
+      → (wrote : Result (Unit {0}) Failed)
+      → (sink_told → IsWritten before after (summary number bytes) wrote)
       → answer ≡ answer_of ended wrote → Generates number sink_told before after answer
-  Starved : answer ≡ status.NoMemory → (sink_told → after ≡ before) → Generates number sink_told before after answer
+  Starved : answer ≡ status.NoMemory → (sink_told → after ≡ before)
+      → Generates number sink_told before after answer

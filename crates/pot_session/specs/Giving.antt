@@ -1,13 +1,14 @@
 -- Archives that are given back to a room, and those that it does not take back.
-use Rattle.std.specs.Prelude.{◌≡◌, ◌⊎◌, ◌<◌, ◌≤◌, ◌+◌, ◌-◌, ◌^◌, ℕ, List, [], Result, Ok, Err, Contains, length}
+use Rattle.std.specs.Prelude.{◌≡◌, ◌⊎◌, ◌<◌, ◌≤◌, ◌+◌, ◌-◌, ◌^◌, ℕ, List, [], Result, Ok, Err}
+use Rattle.std.specs.Prelude.{Contains, length}
 use Rattle.pot_outside.specs.Archives.{Meaning, IsMeant}
 use Rattle.pot_outside.specs.Counts.{Rose}
 use Rattle.pot_outside.specs.declared.archive.Shelf.{Shelf}
 use Rattle.pot_outside.specs.declared.faults.Failed.{Failed}
 use Rattle.pot_commands.specs.Holding.{times}
 
--- The room failed at the taking back of each of these archives: so often at least its count of own failures rose, and not at all where
--- there are none.
+-- The room failed at the taking back of each of these archives: so often at least its count of own
+-- failures rose, and not at all where there are none.
 pub record FailsAt (before now : ℕ) (missing : List ℕ) : Type 0 where
   pub later : before ≤ now
   pub counted : (before + length missing ≤ now) ⊎ (2 ^ 64 - 1 ≤ now)
@@ -19,14 +20,17 @@ AnswersFor missing (Ok u) = missing ≡ []
 AnswersFor missing (Err e) = 0 < length missing
 
 -- These archives were given back: some are missing, and each other one is what its number means.
-pub record GivesBack {A : Type 0} (told : Type 0) (meaning : A → Meaning) (hand : List (Shelf A)) (means : ℕ → Meaning) (before now : ℕ) (result : Result (Unit {0}) Failed) : Type 0 where
+pub record GivesBack {A : Type 0} (told : Type 0) (meaning : A → Meaning) (hand : List (Shelf A))
+    (means : ℕ → Meaning) (before now : ℕ) (result : Result (Unit {0}) Failed) : Type 0 where
   pub missing : List ℕ
   pub failed_at : FailsAt before now missing
   pub answers : AnswersFor missing result
-  pub back : told → (s : Shelf A) → Contains hand s → times s.number missing ≡ 0 → IsMeant (means s.number) (meaning s.archive)
+  pub back : told → (s : Shelf A) → Contains hand s → times s.number missing ≡ 0
+      → IsMeant (means s.number) (meaning s.archive)
 
--- Archives were asked for and the room failed itself. Those that it had given were given back: some are missing, and each other number means
--- what it meant. `worked` is how often the room had failed then.
+-- Archives were asked for and the room failed itself. Those that it had given were given back: some
+-- are missing, and each other number means what it meant. `worked` is how often the room had failed
+-- then.
 pub record IsUnlent (told : Type 0) (meant means : ℕ → Meaning) (before now : ℕ) : Type 0 where
   pub worked : ℕ
   pub rose : Rose before worked

@@ -1,5 +1,7 @@
 -- What `recover` writes of the objects that it found, which stand in byte order.
-use Rattle.std.specs.Prelude.{◌≡◌, ◌⊎◌, ◌++◌, ◌&&◌, ℕ, Bool, not, List, [], Option, Some, None, Result, Ok, Err, codes, if◌then◌else◌, length, take, drop, flat_map, find, is_none, is_some}
+use Rattle.std.specs.Prelude.{◌≡◌, ◌⊎◌, ◌++◌, ◌&&◌, ℕ, Bool, not, List, [], Option, Some, None}
+use Rattle.std.specs.Prelude.{Result, Ok, Err, codes, if◌then◌else◌, length, take, drop, flat_map}
+use Rattle.std.specs.Prelude.{find, is_none, is_some}
 use Rattle.std.specs.List.{list_any, range_with_len, slice_index_or}
 use Rattle.std.specs.Str.{bytes_eq}
 use Rattle.byteorder.specs.Endian.{big_bytes}
@@ -35,7 +37,8 @@ pieces_in object = range_with_len 0 (head_at object).pieces
 
 -- the least piece of which there is no object
 abbrev pub first_gap : List (List ℕ) → List ℕ → Option ℕ
-first_gap objects object = find (λ piece. is_none (least_of objects object piece)) (pieces_in object)
+first_gap objects object =
+    find (λ piece. is_none (least_of objects object piece)) (pieces_in object)
 
 -- the bytes of the file that an object carries
 abbrev pub part_in : List ℕ → List ℕ
@@ -57,7 +60,8 @@ count_line count = codes "objects" ++ spaced count ++ codes "\n"
 
 abbrev pub object_line : List ℕ → List ℕ
 object_line object =
-    codes "object" ++ id_in_hex object ++ spaced (head_at object).piece ++ spaced (head_at object).pieces ++ spaced (head_at object).length ++ codes "\n"
+    codes "object" ++ id_in_hex object ++ spaced (head_at object).piece
+    ++ spaced (head_at object).pieces ++ spaced (head_at object).length ++ codes "\n"
 
 abbrev pub file_line : List ℕ → List ℕ
 file_line object = codes "file" ++ id_in_hex object ++ spaced (head_at object).length ++ codes "\n"
@@ -67,7 +71,8 @@ partial_line object piece = codes "partial" ++ id_in_hex object ++ spaced piece 
 
 -- the parts of all pieces, each of its least object
 abbrev pub parts_of : List (List ℕ) → List ℕ → List ℕ
-parts_of objects object = flat_map (λ piece. part_of (least_of objects object piece)) (pieces_in object)
+parts_of objects object =
+    flat_map (λ piece. part_of (least_of objects object piece)) (pieces_in object)
 
 -- the file where there are all pieces, and else the least one that is missing
 abbrev pub file_or_gap : List (List ℕ) → List ℕ → Option ℕ → List ℕ
@@ -84,15 +89,18 @@ object_at objects place = slice_index_or objects place []
 
 -- an object before this place is of the same file
 abbrev pub has_earlier : List (List ℕ) → ℕ → Bool
-has_earlier objects place = list_any (are_of_one_file (object_at objects place)) (take place objects)
+has_earlier objects place =
+    list_any (are_of_one_file (object_at objects place)) (take place objects)
 
 -- the file is told at its first object
 abbrev pub text_at : List (List ℕ) → ℕ → List ℕ
-text_at objects place = if has_earlier objects place then [] else file_text objects (object_at objects place)
+text_at objects place =
+    if has_earlier objects place then [] else file_text objects (object_at objects place)
 
 -- and it is partial
 abbrev pub is_partial_at : List (List ℕ) → ℕ → Bool
-is_partial_at objects place = not (has_earlier objects place) && is_some (first_gap objects (object_at objects place))
+is_partial_at objects place =
+    not (has_earlier objects place) && is_some (first_gap objects (object_at objects place))
 
 abbrev pub places_in : List (List ℕ) → List ℕ
 places_in objects = range_with_len 0 (length objects)
@@ -101,7 +109,9 @@ places_in objects = range_with_len 0 (length objects)
 
 -- the number of objects, a line for each, and each file at its first object
 abbrev pub listing : List (List ℕ) → List ℕ
-listing objects = count_line (length objects) ++ flat_map object_line objects ++ flat_map (text_at objects) (places_in objects)
+listing objects =
+    count_line (length objects) ++ flat_map object_line objects
+    ++ flat_map (text_at objects) (places_in objects)
 
 -- some file is partial
 abbrev pub has_partial : List (List ℕ) → Bool
@@ -109,16 +119,18 @@ has_partial objects = list_any (is_partial_at objects) (places_in objects)
 
 -- some first bytes of the text were written
 abbrev pub IsBegun : List ℕ → List ℕ → List ℕ → Type 0
-IsBegun before after text = (first : List ℕ) × (rest : List ℕ) × (text ≡ first ++ rest) × (after ≡ before ++ first)
+IsBegun before after text =
+    (first : List ℕ) × (rest : List ℕ) × (text ≡ first ++ rest) × (after ≡ before ++ first)
 
 -- the text was written; or some first bytes of it, since the sink failed or memory ran out
 abbrev pub Puts : {T : Type 0} → Type 0 → List ℕ → List ℕ → List ℕ → Result T ListFault → Type 0
 Puts told before after text (Ok t) = told → after ≡ before ++ text
 Puts told before after text (Err e) = told → IsBegun before after text
 
--- The listing was written, and the answer says whether some file is partial; or some first bytes of it were written, and the sink failed or
--- memory ran out.
+-- The listing was written, and the answer says whether some file is partial; or some first bytes of
+-- it were written, and the sink failed or memory ran out.
 abbrev pub Lists : Type 0 → List ℕ → List ℕ → List (List ℕ) → Status → Type 0
 Lists told before after objects answer =
     ((answer ≡ told_status (has_partial objects)) × (told → after ≡ before ++ listing objects))
-    ⊎ (((answer ≡ status.SinkFault) ⊎ (answer ≡ status.NoMemory)) × (told → IsBegun before after (listing objects)))
+    ⊎ (((answer ≡ status.SinkFault) ⊎ (answer ≡ status.NoMemory))
+    × (told → IsBegun before after (listing objects)))

@@ -1,5 +1,6 @@
 -- A new archive.
-use Rattle.std.specs.Prelude.{◌≡◌, ◌⊎◌, ◌++◌, ℕ, List, [], Option, Some, None, Result, Ok, Err, IfErr, IsSome, codes, take, map, replicate}
+use Rattle.std.specs.Prelude.{◌≡◌, ◌⊎◌, ◌++◌, ℕ, List, [], Option, Some, None, Result, Ok, Err}
+use Rattle.std.specs.Prelude.{IfErr, IsSome, codes, take, map, replicate}
 use Rattle.std.specs.List.{range_with_len}
 use Rattle.pot_bytes.specs.declared.rack.Rack.{Rack}
 use Rattle.pot_outside.specs.Failing.{MayLeave}
@@ -23,11 +24,15 @@ empty_contents rack = record {
   index_log = [];
 }
 
--- The desk had no image and has the new one. It is refused where it has an image, which stays. Where it failed it holds the new one, what it held before or nothing.
+-- The desk had no image and has the new one. It is refused where it has an image, which stays.
+-- Where it failed, one that had an image has it still, and one that had none has the new one or
+-- none.
 abbrev pub Makes : Rack → Option (List ℕ) → Option (List ℕ) → Result (Unit {0}) Stop → Type 0
-Makes rack before after (Ok u) = (before ≡ None) × (after ≡ Some (image_bytes (empty_contents rack)))
+Makes rack before after (Ok u) =
+    (before ≡ None) × (after ≡ Some (image_bytes (empty_contents rack)))
 Makes rack before after (Err stop.Exists) = IsSome before × (after ≡ before)
-Makes rack before after (Err stop.DeskFault) = MayLeave before (image_bytes (empty_contents rack)) after
+Makes rack before after (Err stop.DeskFault) =
+    (IsSome before → after ≡ before) × MayLeave before (image_bytes (empty_contents rack)) after
 Makes rack before after (Err stop.NoMemory) = after ≡ before
 Makes rack before after (Err _) = ⊥
 
@@ -42,11 +47,14 @@ IsMakeStop _ = ⊥
 abbrev pub InitAnswers : Type 0 → List ℕ → List ℕ → Result (Unit {0}) Stop → Status → Type 0
 InitAnswers seen before after (Ok u) answer =
     ((answer ≡ status.Good) × (seen → after ≡ before ++ codes "ready\n"))
-    ⊎ ((answer ≡ status.SinkFault) × (seen → (count : ℕ) × (after ≡ before ++ take count (codes "ready\n"))))
+    ⊎ ((answer ≡ status.SinkFault)
+    × (seen → (count : ℕ) × (after ≡ before ++ take count (codes "ready\n"))))
 InitAnswers seen before after (Err s) answer = Refuses seen before after s answer
 
--- what `init` comes to. `told` is whether the desk tells its image, and `seen` whether the sink tells its bytes
-pub record Inits (rack : Rack) (told : Type 0) (held holds : Option (List ℕ)) (seen : Type 0) (before after : List ℕ) (answer : Status) : Type 0 where
+-- what `init` comes to. `told` is whether the desk tells its image, and `seen` whether the sink
+-- tells its bytes
+pub record Inits (rack : Rack) (told : Type 0) (held holds : Option (List ℕ)) (seen : Type 0)
+    (before after : List ℕ) (answer : Status) : Type 0 where
   pub made : Result (Unit {0}) Stop
   pub desk : told → Makes rack held holds made
   pub which : IfErr made IsMakeStop

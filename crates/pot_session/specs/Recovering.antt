@@ -1,5 +1,7 @@
--- The blocks that are read from archives without a desk, the objects that they give, and what `recover` comes to.
-use Rattle.std.specs.Prelude.{◌≡◌, ◌<◌, ◌≤◌, ◌-◌, ◌^◌, ◌⊎◌, ℕ, Bool, true, false, List, Some, Result, Ok, Err, Contains}
+-- The blocks that are read from archives without a desk, the objects that they give, and what
+-- `recover` comes to.
+use Rattle.std.specs.Prelude.{◌≡◌, ◌<◌, ◌≤◌, ◌-◌, ◌^◌, ◌⊎◌, ℕ, Bool, true, false, List, Some}
+use Rattle.std.specs.Prelude.{Result, Ok, Err, Contains}
 use Rattle.pot_outside.specs.Archives.{Meaning, OnlyLoses}
 use Rattle.pot_outside.specs.Counts.{Rose}
 use Rattle.pot_recover.specs.Recovered.{AreRecovered}
@@ -14,7 +16,8 @@ use Rattle.pot_session.specs.declared.stop.Stop.TheVariants as stop
 use Rattle.pot_session.specs.Listing.{Lists}
 use Rattle.pot_session.specs.Stops.{Refuses}
 
--- how many archives are read, how many slots of each, and the bits that pointers leave out are within their limits
+-- how many archives are read, how many slots of each, and the bits that pointers leave out are
+-- within their limits
 pub record IsRecovery (r : Recover) : Type 0 where
   pub archives : r.archives ≤ 512
   pub stripes : r.stripes ≤ 4096
@@ -32,13 +35,14 @@ pub record WasRead (old new : Meaning) : Type 0 where
 abbrev pub IsHeldIn : ℕ → Meaning → List ℕ → Type 0
 IsHeldIn count m block = (slot : ℕ) × (slot < count) × (m.held slot ≡ Some block)
 
--- The blocks of its first slots came to those that were read before: each that came was held at first, and each that was held at first came,
--- unless the archive's count of losses rose.
+-- The blocks of its first slots came to those that were read before: each that came was held at
+-- first, and each that was held at first came, unless the archive's count of losses rose.
 pub record Gathers (count : ℕ) (old new : Meaning) (before after : List (List ℕ)) : Type 0 where
   pub read : WasRead old new
   pub keeps : (b : List ℕ) → Contains before b → Contains after b
   pub only : (b : List ℕ) → Contains after b → Contains before b ⊎ IsHeldIn count old b
-  pub all : new.losses ≡ old.losses → new.losses < 2 ^ 64 - 1 → (b : List ℕ) → IsHeldIn count old b → Contains after b
+  pub all : new.losses ≡ old.losses → new.losses < 2 ^ 64 - 1 → (b : List ℕ) → IsHeldIn count old b
+      → Contains after b
 
 -- The same of one slot.
 pub record Adds (slot : ℕ) (old new : Meaning) (before after : List (List ℕ)) : Type 0 where
@@ -49,11 +53,15 @@ pub record Adds (slot : ℕ) (old new : Meaning) (before after : List (List ℕ)
 
 -- ALL ARCHIVES
 
--- These are the blocks that the first archives held in their first slots, by what the room meant before and means after. A block may be left
--- out only where its archive's count of losses rose, and the archives were read and no more.
-pub record AreHeldIn (archives stripes : ℕ) (meant means : ℕ → Meaning) (blocks : List (List ℕ)) : Type 0 where
-  pub only : (b : List ℕ) → Contains blocks b → (n : ℕ) × (n < archives) × IsHeldIn stripes (meant n) b
-  pub all : (n : ℕ) → n < archives → (means n).losses ≡ (meant n).losses → (means n).losses < 2 ^ 64 - 1
+-- These are the blocks that the first archives held in their first slots, by what the room meant
+-- before and means after. A block may be left out only where its archive's count of losses rose,
+-- and the archives were read and no more.
+pub record AreHeldIn (archives stripes : ℕ) (meant means : ℕ → Meaning)
+    (blocks : List (List ℕ)) : Type 0 where
+  pub only : (b : List ℕ) → Contains blocks b
+      → (n : ℕ) × (n < archives) × IsHeldIn stripes (meant n) b
+  pub all : (n : ℕ) → n < archives → (means n).losses ≡ (meant n).losses
+      → (means n).losses < 2 ^ 64 - 1
       → (b : List ℕ) → IsHeldIn stripes (meant n) b → Contains blocks b
   pub read : (n : ℕ) → n < archives → WasRead (meant n) (means n)
 
@@ -68,27 +76,32 @@ abbrev pub SomeFailed : ℕ → (ℕ → Meaning) → (ℕ → Meaning) → Type
 SomeFailed archives meant means = (n : ℕ) × (n < archives) × HasFailed (meant n) (means n)
 
 -- The room failed itself, by its count of own failures; or, where it tells, an archive of its did.
-pub record FailsOr (told : Type 0) (before now : ℕ) (archive : Type 0) (failed : Type 0) : Type 0 where
+pub record FailsOr (told : Type 0) (before now : ℕ) (archive : Type 0)
+    (failed : Type 0) : Type 0 where
   pub later : before ≤ now
   pub why : failed → Rose before now ⊎ (told → archive)
 
 -- THE WHOLE
 
--- The objects that these blocks give by rings that close, or by rings that close robustly where that is asked for. Both counts are borne.
+-- The objects that these blocks give by rings that close, or by rings that close robustly where
+-- that is asked for. Both counts are borne.
 abbrev pub GiveObjects : Bool → List (List ℕ) → ℕ → List (List ℕ) → Type 0
 GiveObjects false blocks bits objects = AreRecovered blocks bits objects × IsWithin blocks bits
-GiveObjects true blocks bits objects = AreRobustlyRecovered blocks bits objects × IsRobustlyWithin blocks bits
+GiveObjects true blocks bits objects =
+    AreRobustlyRecovered blocks bits objects × IsRobustlyWithin blocks bits
 
 -- one of the two counts is not borne
 abbrev pub GiveTooMany : Bool → List (List ℕ) → ℕ → RecoverFault → Type 0
 GiveTooMany false blocks bits fault = IsTooWide blocks bits fault
 GiveTooMany true blocks bits fault = IsRobustlyTooWide blocks bits fault
 
--- The blocks that were read give these objects; or they are too wide; or an archive or the room failed, or memory ran out. `told` is whether the
--- archives tell their blocks.
-abbrev pub FindsObjects : Recover → Type 0 → (ℕ → Meaning) → (ℕ → Meaning) → Result (List (List ℕ)) Stop → Type 0
+-- The blocks that were read give these objects; or they are too wide; or an archive or the room
+-- failed, or memory ran out. `told` is whether the archives tell their blocks.
+abbrev pub FindsObjects : Recover → Type 0 → (ℕ → Meaning) → (ℕ → Meaning)
+    → Result (List (List ℕ)) Stop → Type 0
 FindsObjects r told meant means (Ok objects) =
-    (blocks : List (List ℕ)) × (told → AreHeldIn r.archives r.stripes meant means blocks) × GiveObjects r.robust blocks r.blur objects
+    (blocks : List (List ℕ)) × (told → AreHeldIn r.archives r.stripes meant means blocks)
+    × GiveObjects r.robust blocks r.blur objects
 FindsObjects r told meant means (Err stop.TooWide) =
     (blocks : List (List ℕ)) × (told → AreHeldIn r.archives r.stripes meant means blocks)
     × ((chains : ℕ) × (choices : ℕ) × GiveTooMany r.robust blocks r.blur (Wide chains choices))
@@ -102,7 +115,8 @@ ListAnswers told before after (Ok objects) answer = Lists told before after obje
 ListAnswers told before after (Err s) answer = Refuses told before after s answer
 
 -- What `recover` comes to. Other archives are not touched.
-pub record Recovers (r : Recover) (room_told : Type 0) (meant means : ℕ → Meaning) (sink_told : Type 0) (before after : List ℕ) (answer : Status) : Type 0 where
+pub record Recovers (r : Recover) (room_told : Type 0) (meant means : ℕ → Meaning)
+    (sink_told : Type 0) (before after : List ℕ) (answer : Status) : Type 0 where
   pub found : Result (List (List ℕ)) Stop
   pub is : FindsObjects r room_told meant means found
   pub answers : ListAnswers sink_told before after found answer

@@ -1,5 +1,8 @@
--- What a session leaves: the replies of its steps, and the image of its close with the logs by which they have them.
-use Rattle.std.specs.Prelude.{◌≡◌, ◌<◌, ◌≤◌, ◌^◌, ◌++◌, All, Contains, ℕ, true, List, [], ◌∷◌, Option, Some, Result, Ok, Err, IfErr, flat_map, if◌then◌else◌, length, map, slice_get, slice_index_or}
+-- What a session leaves: the replies of its steps, and the image of its close with the logs by
+-- which they have them.
+use Rattle.std.specs.Prelude.{◌≡◌, ◌<◌, ◌≤◌, ◌^◌, ◌++◌, All, Contains, ℕ, true, List, [], ◌∷◌}
+use Rattle.std.specs.Prelude.{Option, Some, Result, Ok, Err, IfErr, flat_map, if◌then◌else◌, length}
+use Rattle.std.specs.Prelude.{map, slice_get, slice_index_or}
 use Rattle.pot_outside.specs.Archives.{Meaning, IsMeant}
 use Rattle.pot_outside.specs.Counts.{Caused}
 use Rattle.pot_outside.specs.declared.archive.Shelf.{Shelf}
@@ -34,13 +37,15 @@ use Rattle.pot_commands.specs.Ends.{EndsOver}
 use Rattle.pot_commands.specs.Failures.{Fails}
 use Rattle.pot_commands.specs.Going.{AllSole}
 use Rattle.pot_commands.specs.Holding.{times}
+use Rattle.pot_commands.specs.Taking.{marks_of}
 use Rattle.pot_session.specs.declared.status.Status.{Status}
 use Rattle.pot_session.specs.declared.status.Status.TheVariants as status
 use Rattle.pot_session.specs.declared.stop.Stop.{Stop}
 use Rattle.pot_session.specs.declared.stop.Stop.TheVariants as stop
 use Rattle.pot_session.specs.Desks.{IsKeepStop, Keeps}
 use Rattle.pot_session.specs.Giving.{FailsAt, IsUnlent}
-use Rattle.pot_session.specs.Groups.{HasMarks, IsOpened, had_by, records_read}
+use Rattle.pot_session.specs.Groups.{HasMarks, IsOpened, MarksRose, had_by, records_read}
+use Rattle.pot_session.specs.Losses.{AreBack, LostNone, LostWhereFew}
 use Rattle.pot_session.specs.Stops.{status_of}
 
 -- room for the tables and the logs of so many groups, and for so many archives
@@ -68,13 +73,23 @@ pub record Shows (s : Shelves) (n : ℕ) (m : Meaning) : Type 0 where
 
 -- an archive of this number is in the hand, and means what is seen of it
 abbrev pub IsInHand : {A : Type 0} → (A → Meaning) → List (Shelf A) → Shelves → ℕ → Type 0
-IsInHand {A} meaning hand s n = (x : Shelf A) × Contains hand x × (x.number ≡ n) × Shows s n (meaning x.archive)
+IsInHand {A} meaning hand s n =
+    (x : Shelf A) × Contains hand x × (x.number ≡ n) × Shows s n (meaning x.archive)
 
--- A group that began with this table, and ended with this log and a table that is written so. It keeps what a group keeps: its log leads
--- from the first table to the last, its stripes keep their law over the blocks that its archives hold, and the log names no more faults and losses
--- than these counted since they were taken. Its archives are those of the first table and those that its log brought: the marks of each are what
--- its number meant, and `Has` tells what each of them is.
-pub record LeavesGroup (told : Type 0) (meant : ℕ → Meaning) (Has : Shelves → ℕ → Type 0) (read : Table) (log : List Entry) (written : Table) : Type 0 where
+-- an archive of this number is in the hand, and a count of it rose above what the number meant
+abbrev pub RoseInHand
+    : {A : Type 0} → (A → Meaning) → List (Shelf A) → (ℕ → Meaning) → ℕ → Type 0
+RoseInHand {A} meaning hand meant n =
+    (x : Shelf A) × Contains hand x × (x.number ≡ n)
+    × MarksRose (marks_of (meant n)) (marks_of (meaning x.archive))
+
+-- A group that began with this table, and ended with this log and a table that is written so. It
+-- keeps what a group keeps: its log leads from the first table to the last, its stripes keep their
+-- law over the blocks that its archives hold, and the log names no more faults and losses than
+-- these counted since they were taken. Its archives are those of the first table and those that its
+-- log brought: the marks of each are what its number meant, and `Has` tells what each of them is.
+pub record LeavesGroup (told : Type 0) (meant : ℕ → Meaning) (Has : Shelves → ℕ → Type 0)
+    (read : Table) (log : List Entry) (written : Table) : Type 0 where
   pub view : GroupView
   pub first : view.first ≡ read
   pub is_log : view.log ≡ log
@@ -84,13 +99,16 @@ pub record LeavesGroup (told : Type 0) (meant : ℕ → Meaning) (Has : Shelves 
   pub archives : (n : ℕ) → Contains (had_by view) n → Has view.shelves n
 
 -- each group so
-pub record LeaveGroups (told : Type 0) (meant : ℕ → Meaning) (Has : Shelves → ℕ → Type 0) (read : List Table) (logs : List (List Entry)) (written : List Table) : Type 0 where
+pub record LeaveGroups (told : Type 0) (meant : ℕ → Meaning) (Has : Shelves → ℕ → Type 0)
+    (read : List Table) (logs : List (List Entry)) (written : List Table) : Type 0 where
   pub count : length written ≡ length read
   pub count_logs : length logs ≡ length read
-  pub each : (g : ℕ) (t u : Table) (log : List Entry) → slice_get read g ≡ Some t → slice_get written g ≡ Some u → slice_get logs g ≡ Some log → LeavesGroup told meant Has t log u
+  pub each : (g : ℕ) (t u : Table) (log : List Entry) → slice_get read g ≡ Some t
+      → slice_get written g ≡ Some u → slice_get logs g ≡ Some log
+      → LeavesGroup told meant Has t log u
 
--- whether a room tells what its archives hold, what it meant by each number before a session and means after it, and how often it had
--- failed itself before and has after
+-- whether a room tells what its archives hold, what it meant by each number before a session and
+-- means after it, and how often it had failed itself before and has after
 pub record Rooms : Type 1 where
   pub told : Type 0
   pub meant : ℕ → Meaning
@@ -99,9 +117,11 @@ pub record Rooms : Type 1 where
   pub fails : ℕ
 
 abbrev pub rooms_by : Type 0 → (ℕ → Meaning) → (ℕ → Meaning) → ℕ → ℕ → Rooms
-rooms_by told meant means failed fails = record { told = told; meant = meant; means = means; failed = failed; fails = fails }
+rooms_by told meant means failed fails =
+    record { told = told; meant = meant; means = means; failed = failed; fails = fails }
 
--- whether a desk tells its image, the image that it holds after a session, and how often it had failed before and has after
+-- whether a desk tells its image, the image that it holds after a session, and how often it had
+-- failed before and has after
 pub record Desks : Type 1 where
   pub told : Type 0
   pub holds : Option (List ℕ)
@@ -109,14 +129,22 @@ pub record Desks : Type 1 where
   pub fails : ℕ
 
 abbrev pub desks_by : Type 0 → Option (List ℕ) → ℕ → ℕ → Desks
-desks_by told holds failed fails = record { told = told; holds = holds; failed = failed; fails = fails }
+desks_by told holds failed fails =
+    record { told = told; holds = holds; failed = failed; fails = fails }
 
 -- The room means what is seen of the archive, where it tells and took that archive back.
 abbrev pub IsInRoom : Type 0 → (ℕ → Meaning) → List ℕ → Shelves → ℕ → Type 0
 IsInRoom told means missing s n = told → times n missing ≡ 0 → Shows s n (means n)
 
--- the log of the index, which is of these entries with what they brought, leads from the records read to those written
-pub record LeavesRecords (rack : Rack) (read : List Record) (story : List Logged) (log : List IndexEntry) (written : List Record) : Type 0 where
+-- a count of the archive of this number rose in a session, if the room took that archive back
+abbrev pub RoseInRoom : (ℕ → Meaning) → (ℕ → Meaning) → List ℕ → ℕ → Type 0
+RoseInRoom meant means missing n =
+    times n missing ≡ 0 → MarksRose (marks_of (meant n)) (marks_of (means n))
+
+-- the log of the index, which is of these entries with what they brought, leads from the records
+-- read to those written
+pub record LeavesRecords (rack : Rack) (read : List Record) (story : List Logged)
+    (log : List IndexEntry) (written : List Record) : Type 0 where
   pub ended : Names
   pub is_log : log ≡ entries story
   pub replays : names.Replays rack (names_read read) story ended
@@ -124,32 +152,47 @@ pub record LeavesRecords (rack : Rack) (read : List Record) (story : List Logged
 
 -- each group's log is what stood before this section and what this section added
 abbrev pub AreLogs : List (List Entry) → Section → Type 0
-AreLogs logs w = (g : ℕ) (log : List Entry) → slice_get logs g ≡ Some log → log ≡ w.before g ++ w.added g
+AreLogs logs w =
+    (g : ℕ) (log : List Entry) → slice_get logs g ≡ Some log → log ≡ w.before g ++ w.added g
 
--- The image that a session which began with the first one leaves. Its logs are those of the openings, which are of no job and rest on
--- blocks that the room meant, and then this section. `missing` has the archives that the room did not take back.
-pub record Leaves (rooms : Rooms) (missing : List ℕ) (first last : Contents) (w : Section) : Type 0 where
+-- what stood in each log before a section is what the opening of its table logged
+abbrev pub AreOpened : (ℕ → Meaning) → (ℕ → Type 0) → List Table → Section → Type 0
+AreOpened meant Rises read w =
+    (g : ℕ) (t : Table) → slice_get read g ≡ Some t → IsOpened meant Rises t (w.before g)
+
+-- The image that a session which began with the first one leaves. Its logs are those of the
+-- openings, which are of no job, rest on blocks that the room meant, and call a slot Gone whose
+-- block the room meant only where a count of its archive rose; and then this section. `missing` has
+-- the archives that the room did not take back.
+pub record Leaves (rooms : Rooms) (missing : List ℕ) (first last : Contents)
+    (w : Section) : Type 0 where
   pub session : last.session ≡ first.session
   pub rack : last.rack ≡ first.rack
-  pub groups : LeaveGroups rooms.told rooms.meant (IsInRoom rooms.told rooms.means missing) first.tables last.group_logs last.tables
+  pub groups : LeaveGroups rooms.told rooms.meant (IsInRoom rooms.told rooms.means missing)
+      first.tables last.group_logs last.tables
   pub records : LeavesRecords first.rack first.records w.index_added last.index_log last.records
   pub logs : AreLogs last.group_logs w
   pub opened : (g : ℕ) → ByNobody (w.before g)
-  pub found : rooms.told → (g : ℕ) (t : Table) → slice_get first.tables g ≡ Some t → IsOpened rooms.meant t (w.before g)
+  pub found : rooms.told
+      → AreOpened rooms.meant (RoseInRoom rooms.meant rooms.means missing) first.tables w
   pub index_opened : w.index_before ≡ []
 
 -- an image of this session, this rack, these tables and these records
-pub record IsBegun (first : Contents) (session : ℕ) (rack : Rack) (tables : List Table) (records : List Record) : Type 0 where
+pub record IsBegun (first : Contents) (session : ℕ) (rack : Rack) (tables : List Table)
+    (records : List Record) : Type 0 where
   pub is_session : first.session ≡ session
   pub is_rack : first.rack ≡ rack
   pub are_tables : first.tables ≡ tables
   pub are_records : first.records ≡ records
 
--- What a vault leaves whose passes knew and know this: nobody else logged anything meanwhile, and its logs are what the passes saw.
-pub record LeavesLogs (old new : Known) (rack : Rack) (logs : List (List Entry)) (log : List IndexEntry) (written : List Record) : Type 0 where
+-- What a vault leaves whose passes knew and know this: nobody else logged anything meanwhile, and
+-- its logs are what the passes saw.
+pub record LeavesLogs (old new : Known) (rack : Rack) (logs : List (List Entry))
+    (log : List IndexEntry) (written : List Record) : Type 0 where
   pub sole : AllSole old new
   pub are_logs : AreLogs logs (section_of old new)
-  pub records : LeavesRecords rack (records_read new.index) (section_of old new).index_added log written
+  pub records : LeavesRecords rack (records_read new.index) (section_of old new).index_added log
+      written
 
 -- THE CLOSE
 
@@ -158,16 +201,19 @@ abbrev pub close_answer : List ℕ → Result (Unit {0}) Stop → Result (Unit {
 close_answer [] kept = kept
 close_answer (n ∷ missing) kept = Err stop.RoomFault
 
--- The desk holds the image that a session left. Where it failed, which its count shows, it holds that one, the one with which the session
--- began or none, and for want of memory the one with which it began.
-pub record KeepsLast (desk : Desks) (first last : Contents) (kept : Result (Unit {0}) Stop) : Type 0 where
+-- The desk holds the image that a session left. Where it failed, which its count shows, it holds
+-- that one, the one with which the session began or none, and for want of memory the one with which
+-- it began.
+pub record KeepsLast (desk : Desks) (first last : Contents)
+    (kept : Result (Unit {0}) Stop) : Type 0 where
   pub holds : desk.told → Keeps (Some (image_bytes first)) desk.holds (image_bytes last) kept
   pub which : IfErr kept IsKeepStop
   pub cause : Caused desk.failed desk.fails (kept ≡ Err stop.DeskFault)
 
--- A close leaves this image: nobody else logged anything since the passes knew the first, and its logs are what they saw. `before` is
--- how often the room had failed itself before the close.
-pub record Closes (old new : Known) (rooms : Rooms) (before : ℕ) (held : Type 0) (desk : Desks) (first : Contents) (closed : Result (Unit {0}) Stop) : Type 0 where
+-- A close leaves this image: nobody else logged anything since the passes knew the first, and its
+-- logs are what they saw. `before` is how often the room had failed itself before the close.
+pub record Closes (old new : Known) (rooms : Rooms) (before : ℕ) (held : Type 0) (desk : Desks)
+    (first : Contents) (closed : Result (Unit {0}) Stop) : Type 0 where
   pub last : Contents
   pub sole : AllSole old new
   pub missing : List ℕ
@@ -180,7 +226,8 @@ pub record Closes (old new : Known) (rooms : Rooms) (before : ℕ) (held : Type 
 -- THE ANSWER
 
 -- the first failure of two calls: of the room, or of what came after it
-abbrev pub first_failure : Result (Unit {0}) Failed → Result (Unit {0}) Stop → Result (Unit {0}) Stop
+abbrev pub first_failure : Result (Unit {0}) Failed → Result (Unit {0}) Stop
+    → Result (Unit {0}) Stop
 first_failure (Ok u) kept = kept
 first_failure (Err e) kept = Err stop.RoomFault
 
@@ -202,14 +249,16 @@ status_after (ending.Done refused) (Ok u) = if refused then status.Refusals else
 
 -- THE WHOLE
 
--- The setting of a session that begins with this image: the blocks of a job's file are made with the stream of the seed, the session
--- and the job, and a fetch mends what it finds missing.
+-- The setting of a session that begins with this image: the blocks of a job's file are made with
+-- the stream of the seed, the session and the job, and a fetch mends what it finds missing.
 abbrev pub setting_of : List ℕ → Contents → Setting
 setting_of seed first = record {
   rack = first.rack;
   first = λ g. slice_index_or first.tables g (empty_table first.rack g);
   read = first.records;
-  digests = λ geometry job file. map digest_of (blocks_from geometry file (pads_of seed first.session job));
+  digests =
+      λ geometry job file.
+      map digest_of (blocks_from geometry file (pads_of seed first.session job));
   mends = true;
 }
 
@@ -217,15 +266,19 @@ setting_of seed first = record {
 abbrev pub came_by : List (List Entry) → List ℕ
 came_by logs = flat_map arrivals logs
 
--- An archive that no table named with which the session began, and that none of its logs brought, is as it was.
+-- An archive that no table named with which the session began, and that none of its logs brought,
+-- is as it was.
 abbrev pub OthersStay : List Table → List (List Entry) → (ℕ → Meaning) → (ℕ → Meaning) → Type 0
 OthersStay read logs meant means =
-    (n : ℕ) → times n (flat_map archives_in read) ≡ 0 → times n (came_by logs) ≡ 0 → IsMeant (meant n) (means n)
+    (n : ℕ) → times n (flat_map archives_in read) ≡ 0 → times n (came_by logs) ≡ 0
+    → IsMeant (meant n) (means n)
 
--- Steps were worked, and the session closed, whatever became of the steps. The image of the close has the logs by which the steps have
--- their replies. The room failed itself at the steps exactly where they ended so, and in the close at each archive that is missing and
--- at no other; `worked` is how often it had failed once the steps had ended.
-pub record IsClosed (seed : List ℕ) (first : Contents) (steps : List Step) (rooms : Rooms) (sink_told : Type 0) (before after : List ℕ) (desk : Desks) (answer : Status) : Type 0 where
+-- Steps were worked, and the session closed, whatever became of the steps. The image of the close
+-- has the logs by which the steps have their replies. The room failed itself at the steps exactly
+-- where they ended so, and in the close at each archive that is missing and at no other; `worked`
+-- is how often it had failed once the steps had ended.
+pub record IsClosed (seed : List ℕ) (first : Contents) (steps : List Step) (rooms : Rooms)
+    (sink_told : Type 0) (before after : List ℕ) (desk : Desks) (answer : Status) : Type 0 where
   pub last : Contents
   pub story : Section
   pub ending : Ending
@@ -235,19 +288,28 @@ pub record IsClosed (seed : List ℕ) (first : Contents) (steps : List Step) (ro
   pub missing : List ℕ
   pub failed_at : FailsAt worked rooms.fails missing
   pub leaves : Leaves rooms missing first last story
-  pub others : rooms.told → (ending ≡ RoomFailed → ⊥) → OthersStay first.tables last.group_logs rooms.meant rooms.means
+  pub others : rooms.told → (ending ≡ RoomFailed → ⊥)
+      → OthersStay first.tables last.group_logs rooms.meant rooms.means
+  pub lost : rooms.told → AreBack missing first.tables last.group_logs
+      → LostNone rooms.meant rooms.means first.tables last.group_logs
+      → LostWhereFew (setting_of seed first) last.group_logs
   pub kept : Result (Unit {0}) Stop
   pub keeps : KeepsLast desk first last kept
   pub status : answer ≡ status_after ending (close_answer missing kept)
 
--- What a session comes to that begins with this image: before any step was worked the room did not give its archives, which are as they
--- were, or memory ran out; or it closed.
-pub data Serves (seed : List ℕ) (first : Contents) (steps : List Step) (rooms : Rooms) (sink_told : Type 0) (before after : List ℕ) (desk : Desks) (answer : Status) : Type 0 where
-  Unlent : answer ≡ status.RoomFault → (sink_told → after ≡ before) → (desk.told → desk.holds ≡ Some (image_bytes first))
-      → IsUnlent rooms.told rooms.meant rooms.means rooms.failed rooms.fails → Serves seed first steps rooms sink_told before after desk answer
-  Unopened : answer ≡ status.NoMemory → (sink_told → after ≡ before) → (desk.told → desk.holds ≡ Some (image_bytes first))
+-- What a session comes to that begins with this image: before any step was worked the room did not
+-- give its archives, which are as they were, or memory ran out; or it closed.
+pub data Serves (seed : List ℕ) (first : Contents) (steps : List Step) (rooms : Rooms)
+    (sink_told : Type 0) (before after : List ℕ) (desk : Desks) (answer : Status) : Type 0 where
+  Unlent : answer ≡ status.RoomFault → (sink_told → after ≡ before)
+      → (desk.told → desk.holds ≡ Some (image_bytes first))
+      → IsUnlent rooms.told rooms.meant rooms.means rooms.failed rooms.fails
       → Serves seed first steps rooms sink_told before after desk answer
-  Closed : IsClosed seed first steps rooms sink_told before after desk answer → Serves seed first steps rooms sink_told before after desk answer
+  Unopened : answer ≡ status.NoMemory → (sink_told → after ≡ before)
+      → (desk.told → desk.holds ≡ Some (image_bytes first))
+      → Serves seed first steps rooms sink_told before after desk answer
+  Closed : IsClosed seed first steps rooms sink_told before after desk answer
+      → Serves seed first steps rooms sink_told before after desk answer
 
 -- how a session may end
 abbrev pub IsEnd : Status → Type 0

@@ -1,4 +1,5 @@
--- Why a call of the program stops before its commands, what it writes then, and the number of each status.
+-- Why a call of the program stops before its commands, what it writes then, and the number of each
+-- status.
 use Rattle.std.specs.Prelude.{◌≡◌, ◌⊎◌, ◌++◌, ℕ, List, [], codes, take}
 use Rattle.pot_script.specs.Replies.{spaced, in_hex, bad_line_text, words_refused_text}
 use Rattle.pot_session.specs.declared.status.Status.{Status}
@@ -46,7 +47,8 @@ stop_text (stop.BadLine number) = bad_line_text number
 stop_text stop.DeskFault = []
 stop_text stop.NoImage = codes "image refused none\n"
 stop_text stop.Cut = codes "image refused cut\n"
-stop_text (stop.Trailer kept computed) = codes "image refused trailer" ++ in_hex kept ++ in_hex computed ++ codes "\n"
+stop_text (stop.Trailer kept computed) =
+    codes "image refused trailer" ++ in_hex kept ++ in_hex computed ++ codes "\n"
 stop_text (stop.Form place) = codes "image refused form" ++ spaced place ++ codes "\n"
 stop_text stop.Spent = codes "session spent\n"
 stop_text stop.Exists = codes "image exists\n"
@@ -54,10 +56,11 @@ stop_text stop.RoomFault = []
 stop_text stop.TooWide = codes "too wide\n"
 stop_text stop.NoMemory = []
 
--- The text of a stop was written, and its status is the answer; or some first bytes of the text were written and the sink failed;
--- or nothing was written for want of memory.
+-- The text of a stop was written, and its status is the answer; or some first bytes of the text
+-- were written and the sink failed; or nothing was written for want of memory.
 abbrev pub Refuses : Type 0 → List ℕ → List ℕ → Stop → Status → Type 0
 Refuses told before after s answer =
     ((answer ≡ status_of s) × (told → after ≡ before ++ stop_text s))
-    ⊎ ((answer ≡ status.SinkFault) × (told → (count : ℕ) × (after ≡ before ++ take count (stop_text s))))
+    ⊎ ((answer ≡ status.SinkFault)
+    × (told → (count : ℕ) × (after ≡ before ++ take count (stop_text s))))
     ⊎ ((answer ≡ status.NoMemory) × (told → after ≡ before))

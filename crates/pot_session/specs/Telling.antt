@@ -10,11 +10,13 @@ use Rattle.pot_session.specs.Stops.{Refuses}
 abbrev pub told_status : Bool → Status
 told_status refused = if refused then status.Refusals else status.Good
 
--- The text was written, and the answer says whether something was refused; or some first bytes of the text were written and the sink failed.
+-- The text was written, and the answer says whether something was refused; or some first bytes of
+-- the text were written and the sink failed.
 abbrev pub Tells : Type 0 → List ℕ → List ℕ → Telling → Status → Type 0
 Tells told before after t answer =
     ((answer ≡ told_status t.refused) × (told → after ≡ before ++ t.text.items))
-    ⊎ ((answer ≡ status.SinkFault) × (told → (count : ℕ) × (after ≡ before ++ take count t.text.items)))
+    ⊎ ((answer ≡ status.SinkFault)
+    × (told → (count : ℕ) × (after ≡ before ++ take count t.text.items)))
 
 -- what is written and answered, by what a word comes to
 abbrev pub WordAnswers : Type 0 → List ℕ → List ℕ → Result Telling Stop → Status → Type 0

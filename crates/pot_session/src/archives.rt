@@ -1,6 +1,7 @@
 //! The archives of a session: taken from the room, and given back.
 
-ghost use Rattle.std.specs.Prelude.{◌≡◌, ◌⊎◌, ◌<◌, ◌≤◌, ◌++◌, ℕ, [], IsTrue, IfOk, OnOk, OnErr, IsErr, IsErrOf, false, length, vec_capacity, map, flat_map};
+ghost use Rattle.std.specs.Prelude.{◌≡◌, ◌⊎◌, ◌<◌, ◌≤◌, ◌++◌, ℕ, [], IsTrue, IfOk, OnOk, OnErr};
+ghost use Rattle.std.specs.Prelude.{IsErr, IsErrOf, false, length, vec_capacity, map, flat_map};
 ghost use Rattle.pot_outside.specs.Counts.{Caused};
 ghost use Rattle.pot_machine.specs.Table.{archives_in};
 ghost use Rattle.pot_machine.specs.Column.{homes_of};
@@ -63,11 +64,15 @@ pub fn take_all<R: Room>(
     ensures empty { OnErr result (hand.new.items ≡ []) }
     ensures space { vec_capacity hand.new ≡ vec_capacity hand.old }
     ensures untouched { Untouched numbers.now (R.means room.old) (R.means room.new) }
-    ensures meant { IsTrue R.A.account.tells → OnOk result (AreMeant R.A.account.meaning (R.means room.old) hand.new.items) }
-    ensures cause { Caused (R.faults room.old) (R.faults room.new) (IsErrOf result RoomFault.Failed) }
-    ensures own { Caused (R.failures room.old) (R.failures room.new) (IsErrOf result RoomFault.Failed) }
+    ensures meant { IsTrue R.A.account.tells
+        → OnOk result (AreMeant R.A.account.meaning (R.means room.old) hand.new.items) }
+    ensures cause { Caused (R.faults room.old) (R.faults room.new)
+        (IsErrOf result RoomFault.Failed) }
+    ensures own { Caused (R.failures room.old) (R.failures room.new)
+        (IsErrOf result RoomFault.Failed) }
     ensures sound { OnOk result (R.failures room.new ≡ R.failures room.old) }
-    ensures unlent { IsErrOf result RoomFault.Failed → IsUnlent (IsTrue R.A.account.tells) (R.means room.old) (R.means room.new)
+    ensures unlent { IsErrOf result RoomFault.Failed
+        → IsUnlent (IsTrue R.A.account.tells) (R.means room.old) (R.means room.new)
         (R.failures room.old) (R.failures room.new) }
 {
     for number in numbers {
@@ -108,8 +113,10 @@ pub fn give_all<R: Room>(room: &mut R, hand: &mut Vec<Shelf<R::A>>) -> Result<()
     ensures home { (n : ℕ) → R.out room.new n ≡ false }
     ensures empty { hand.new.items ≡ [] }
     ensures space { vec_capacity hand.new ≡ vec_capacity hand.old }
-    ensures untouched { Untouched (numbers_of hand.old.items) (R.means room.old) (R.means room.new) }
-    ensures back { GivesBack (IsTrue R.A.account.tells) R.A.account.meaning hand.old.items (R.means room.new)
+    ensures untouched { Untouched (numbers_of hand.old.items) (R.means room.old)
+        (R.means room.new) }
+    ensures back { GivesBack (IsTrue R.A.account.tells) R.A.account.meaning hand.old.items
+        (R.means room.new)
         (R.failures room.old) (R.failures room.new) result }
     ensures cause { Caused (R.faults room.old) (R.faults room.new) (IsErr result) }
 {

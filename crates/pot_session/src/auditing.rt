@@ -10,7 +10,8 @@ ghost use Rattle.pot_outside.specs.Counts.{Caused};
 ghost use Rattle.pot_audit.specs.declared.veil.Veil.{Veil};
 ghost use Rattle.pot_audit.specs.Exposure.{AreSpots};
 ghost use Rattle.pot_audit.specs.Veils.{AreVeils};
-ghost use Rattle.pot_session.specs.Audits.{AuditAnswers, Audits, IsAudit, PutsAudit, are_of, is_bare, spots_of, veil_line, veil_lines};
+ghost use Rattle.pot_session.specs.Audits.{AuditAnswers, Audits, IsAudit, PutsAudit, are_of};
+ghost use Rattle.pot_session.specs.Audits.{is_bare, spots_of, veil_line, veil_lines};
 
 use crate::desk::read_desk;
 use crate::listing::ListFault;
@@ -124,7 +125,8 @@ fn put_audit<K: Sink>(
     requires spots { AreSpots rack.now spots.now }
     ensures puts { PutsAudit (IsTrue K.tells) (K.written sink.old) (K.written sink.new)
         rack.now spots.now records.now result }
-    ensures cause { Caused (K.faults sink.old) (K.faults sink.new) (IsErrOf result ListFault.SinkFault) }
+    ensures cause { Caused (K.faults sink.old) (K.faults sink.new)
+        (IsErrOf result ListFault.SinkFault) }
 {
     let mut bare = false;
     for kept in records {

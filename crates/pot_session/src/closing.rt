@@ -1,6 +1,7 @@
 //! How a session closes.
 
-ghost use Rattle.std.specs.Prelude.{◌≡◌, ◌<◌, ◌≤◌, ◌^◌, ℕ, List, [], IsTrue, IsErr, IsErrOf, false, length, vec_capacity, map, Some};
+ghost use Rattle.std.specs.Prelude.{◌≡◌, ◌<◌, ◌≤◌, ◌^◌, ℕ, List, [], IsTrue, IsErr, IsErrOf, false};
+ghost use Rattle.std.specs.Prelude.{length, vec_capacity, map, Some};
 ghost use Rattle.pot_outside.specs.Counts.{Caused};
 ghost use Rattle.pot_outside.specs.Archives.{Meaning};
 ghost use Rattle.pot_image.specs.Images.{Contents};
@@ -12,12 +13,15 @@ ghost use Rattle.pot_shared.specs.Ready.{AreReady};
 ghost use Rattle.pot_worked.specs.Worked.{added};
 ghost use Rattle.pot_shared.specs.Catalogs.{IsIndexReady};
 ghost use Rattle.pot_shared.specs.Sharing.{HasAllButKept};
-ghost use Rattle.pot_store.specs.Works.{Known, known};
-ghost use Rattle.pot_session.specs.Groups.{AreServed, AreTakenAt, AreLow, HaveCome, tables_read, records_read};
+ghost use Rattle.pot_store.specs.Works.{Known, known, section_of};
+ghost use Rattle.pot_session.specs.Groups.{AreServed, AreTakenAt, AreLow, HaveCome, tables_read};
+ghost use Rattle.pot_session.specs.Groups.{records_read};
 ghost use Rattle.pot_commands.specs.Going.{AllSole};
 ghost use Rattle.pot_commands.specs.Holding.{AreApart, AreOut, AreSame, Untouched};
 ghost use Rattle.pot_commands.specs.Taking.{AreMarkedBy};
-ghost use Rattle.pot_session.specs.Serving.{HasSpaces, AreShort, LeaveGroups, IsInHand, LeavesLogs, Closes, rooms_by, desks_by, still, IsBegun, IsCloseStop, first_failure};
+ghost use Rattle.pot_session.specs.Serving.{HasSpaces, AreOpened, AreShort, LeaveGroups, IsInHand};
+ghost use Rattle.pot_session.specs.Serving.{RoseInHand, LeavesLogs, Closes, rooms_by, desks_by};
+ghost use Rattle.pot_session.specs.Serving.{still, IsBegun, IsCloseStop, first_failure};
 ghost use Rattle.pot_session.specs.Giving.{GivesBack};
 
 use crate::archives::give_all;
@@ -56,17 +60,46 @@ fn end_vault<A: Archive>(
     spaces: Spaces<A>,
     remains: Remains<A>,
 ) -> Ended<A>
-    requires served { (old : Known) × (numbers : List ℕ) × AreServed old (known passes.groups passes.index) × HaveCome old (known passes.groups passes.index) numbers × AreApart numbers × AreLow numbers }
+    requires served { (old : Known) × (numbers : List ℕ)
+        × AreServed old (known passes.groups passes.index)
+        × HaveCome old (known passes.groups passes.index) numbers × AreApart numbers
+        × AreLow numbers }
     requires ready { AreReady vault.rack vault.groups passes.groups }
     requires index { IsIndexReady vault.rack vault.groups vault.index passes.index }
     requires parts { HasAllButKept passes.groups × HasAllParts passes.index }
     requires places { length vault.groups ≤ spaces }
-    requires fresh { (remains.tables.items ≡ []) × (remains.logs.items ≡ []) × (remains.hand.items ≡ []) }
-    requires spaces { HasSpaces (length (tables_read passes.groups)) 512 (vec_capacity remains.tables) (vec_capacity remains.logs) (vec_capacity remains.hand) }
-    ensures hand { (old : Known) (numbers : List ℕ) → AreServed old (known passes.groups passes.index) → HaveCome old (known passes.groups passes.index) numbers → AreSame (numbers_of result.remains.hand.items) numbers }
-    ensures groups { (old : Known) (meant : ℕ → Meaning) → AreServed old (known passes.groups passes.index) → (IsTrue A.account.tells → AreTakenAt meant old.groups) → (IsTrue A.account.tells → AllSole old (known passes.groups passes.index) → (g : ℕ) → g < length old.groups.names → AreMarkedBy meant (added (view_at old.groups g) (view_at passes.groups g))) → LeaveGroups (IsTrue A.account.tells) meant (IsInHand A.account.meaning result.remains.hand.items) (tables_read passes.groups) (map (λ v. v.items) result.remains.logs.items) (map still result.remains.tables.items) }
-    ensures logs { (old : Known) → AreServed old (known passes.groups passes.index) → LeavesLogs old (known passes.groups passes.index) vault.rack (map (λ v. v.items) result.remains.logs.items) result.log.items result.records.items }
-    ensures countable { (length result.records.items < 2 ^ 32) × AreShort (map (λ v. v.items) result.remains.logs.items) × (length result.log.items < 2 ^ 32) }
+    requires fresh { (remains.tables.items ≡ []) × (remains.logs.items ≡ [])
+        × (remains.hand.items ≡ []) }
+    requires spaces { HasSpaces (length (tables_read passes.groups)) 512
+        (vec_capacity remains.tables) (vec_capacity remains.logs) (vec_capacity remains.hand) }
+    ensures hand { (old : Known) (numbers : List ℕ)
+        → AreServed old (known passes.groups passes.index)
+        → HaveCome old (known passes.groups passes.index) numbers
+        → AreSame (numbers_of result.remains.hand.items) numbers }
+    ensures groups { (old : Known) (meant : ℕ → Meaning)
+        → AreServed old (known passes.groups passes.index)
+        → (IsTrue A.account.tells → AreTakenAt meant old.groups)
+        → (IsTrue A.account.tells → AllSole old (known passes.groups passes.index) → (g : ℕ)
+        → g < length old.groups.names
+        → AreMarkedBy meant (added (view_at old.groups g) (view_at passes.groups g)))
+        → LeaveGroups (IsTrue A.account.tells) meant
+        (IsInHand A.account.meaning result.remains.hand.items) (tables_read passes.groups)
+        (map (λ v. v.items) result.remains.logs.items) (map still result.remains.tables.items) }
+    ensures opened { (old : Known) (meant : ℕ → Meaning) →
+        let new = known passes.groups passes.index in
+        AreServed old new
+        → (IsTrue A.account.tells → AreTakenAt meant old.groups)
+        → (IsTrue A.account.tells → AllSole old new → (g : ℕ) → g < length old.groups.names
+        → AreMarkedBy meant (added (view_at old.groups g) (view_at passes.groups g)))
+        → IsTrue A.account.tells
+        → AreOpened meant (RoseInHand A.account.meaning result.remains.hand.items meant)
+        (tables_read passes.groups) (section_of old new) }
+    ensures logs { (old : Known) → AreServed old (known passes.groups passes.index)
+        → LeavesLogs old (known passes.groups passes.index) vault.rack
+        (map (λ v. v.items) result.remains.logs.items) result.log.items result.records.items }
+    ensures countable { (length result.records.items < 2 ^ 32)
+        × AreShort (map (λ v. v.items) result.remains.logs.items)
+        × (length result.log.items < 2 ^ 32) }
 {
     let Closed { members, index } = vault.close(passes, spaces);
     let mut remains = remains;
@@ -91,16 +124,24 @@ pub fn close_session<R: Room, D: Desk>(
     room: &mut R,
     desk: &mut D,
 ) -> Result<(), Stop>
-    requires served { (old : Known) × (numbers : List ℕ) × AreServed old (known opened.passes.groups opened.passes.index) × HaveCome old (known opened.passes.groups opened.passes.index) numbers × AreOut (R.out room.old) numbers × AreLow numbers }
+    requires served { (old : Known) × (numbers : List ℕ)
+        × AreServed old (known opened.passes.groups opened.passes.index)
+        × HaveCome old (known opened.passes.groups opened.passes.index) numbers
+        × AreOut (R.out room.old) numbers × AreLow numbers }
     requires ready { AreReady opened.vault.rack opened.vault.groups opened.passes.groups }
-    requires index { IsIndexReady opened.vault.rack opened.vault.groups opened.vault.index opened.passes.index }
+    requires index { IsIndexReady opened.vault.rack opened.vault.groups opened.vault.index
+        opened.passes.index }
     requires parts { HasAllButKept opened.passes.groups × HasAllParts opened.passes.index }
     requires places { length opened.vault.groups ≤ opened.spaces }
-    requires fresh { (opened.remains.tables.items ≡ []) × (opened.remains.logs.items ≡ []) × (opened.remains.hand.items ≡ []) }
-    requires spaces { HasSpaces (length (tables_read opened.passes.groups)) 512 (vec_capacity opened.remains.tables) (vec_capacity opened.remains.logs) (vec_capacity opened.remains.hand) }
+    requires fresh { (opened.remains.tables.items ≡ []) × (opened.remains.logs.items ≡ [])
+        × (opened.remains.hand.items ≡ []) }
+    requires spaces { HasSpaces (length (tables_read opened.passes.groups)) 512
+        (vec_capacity opened.remains.tables) (vec_capacity opened.remains.logs)
+        (vec_capacity opened.remains.hand) }
     requires rack { opened.rack ≡ opened.vault.rack }
     ensures home { (n : ℕ) → R.out room.new n ≡ false }
-    ensures untouched { (n : ℕ) → R.out room.old n ≡ false → R.means room.new n ≡ R.means room.old n }
+    ensures untouched { (n : ℕ) → R.out room.old n ≡ false
+        → R.means room.new n ≡ R.means room.old n }
     ensures closes { (old : Known) (first : Contents) (meant : ℕ → Meaning) (failed : ℕ) →
         let new = known opened.passes.groups opened.passes.index in
         AreServed old new
@@ -116,7 +157,8 @@ pub fn close_session<R: Room, D: Desk>(
         first result }
     ensures which { IsCloseStop result }
     ensures room { Caused (R.faults room.old) (R.faults room.new) (IsErrOf result Stop.RoomFault) }
-    ensures own { Caused (R.failures room.old) (R.failures room.new) (IsErrOf result Stop.RoomFault) }
+    ensures own { Caused (R.failures room.old) (R.failures room.new)
+        (IsErrOf result Stop.RoomFault) }
     ensures desk { Caused (D.faults desk.old) (D.faults desk.new) (IsErrOf result Stop.DeskFault) }
 {
     let Opened {
@@ -151,7 +193,8 @@ fn give_hand<R: Room>(room: &mut R, hand: Vec<Shelf<R::A>>) -> Result<(), Failed
     requires { AreOut (R.out room.old) (numbers_of hand.items) }
     ensures home { (n : ℕ) → R.out room.new n ≡ false }
     ensures untouched { Untouched (numbers_of hand.items) (R.means room.old) (R.means room.new) }
-    ensures back { GivesBack (IsTrue R.A.account.tells) R.A.account.meaning hand.items (R.means room.new)
+    ensures back { GivesBack (IsTrue R.A.account.tells) R.A.account.meaning hand.items
+        (R.means room.new)
         (R.failures room.old) (R.failures room.new) result }
     ensures cause { Caused (R.faults room.old) (R.faults room.new) (IsErr result) }
 {

@@ -1,11 +1,13 @@
 //! What a session reads from its desk and writes there.
 
-ghost use Rattle.std.specs.Prelude.{◌≡◌, ◌<◌, ◌+◌, ◌-◌, ◌^◌, [], IsTrue, IfOk, IfErr, IsErrOf, map, replicate};
+ghost use Rattle.std.specs.Prelude.{◌≡◌, ◌<◌, ◌+◌, ◌-◌, ◌^◌, [], IsTrue, IfOk, IfErr, IsErrOf, map};
+ghost use Rattle.std.specs.Prelude.{replicate};
 ghost use Rattle.pot_outside.specs.Counts.{Caused};
 ghost use Rattle.pot_image.specs.Images.{contents};
 ghost use Rattle.pot_image.specs.Spelling.{IsCountable, image_bytes};
 ghost use Rattle.pot_image.specs.Rules.{FitsTogether};
-ghost use Rattle.pot_session.specs.Desks.{Opens, OpensDesk, ReadsDesk, IsImageIn, IsImageStop, IsDeskStop, begun, Keeps, IsKeepStop};
+ghost use Rattle.pot_session.specs.Desks.{Opens, OpensDesk, ReadsDesk, IsImageIn, IsImageStop};
+ghost use Rattle.pot_session.specs.Desks.{IsDeskStop, begun, Keeps, IsKeepStop};
 
 use crate::stop::Stop;
 use pot_bytes::NoMemory;
@@ -124,7 +126,8 @@ pub fn begin(alloc: Global, image: Image) -> Result<Image, NoMemory>
 pub fn keep_image<D: Desk>(alloc: Global, image: &Image, desk: &mut D) -> Result<(), Stop>
     requires { IsCountable image.now }
     ensures which { IfErr result IsKeepStop }
-    ensures told { IsTrue D.tells → Keeps (D.held desk.old) (D.held desk.new) (image_bytes (contents image.now)) result }
+    ensures told { IsTrue D.tells
+        → Keeps (D.held desk.old) (D.held desk.new) (image_bytes (contents image.now)) result }
     ensures cause { Caused (D.faults desk.old) (D.faults desk.new) (IsErrOf result Stop.DeskFault) }
 {
     let Ok(bytes) = write_image(alloc, image) else {

@@ -5,7 +5,8 @@ ghost use Rattle.pot_bytes.specs.Rack.{IsGeometry};
 ghost use Rattle.pot_object.specs.Pieces.{longest, pieces_of};
 ghost use Rattle.pot_outside.specs.Counts.{Caused};
 ghost use Rattle.pot_shard.specs.FileBlocks.{random_len};
-ghost use Rattle.pot_session.specs.Drills.{DrillsTo, Drilled, Drills, IsDrill, exposed_text, random_of, read_most, report_text};
+ghost use Rattle.pot_session.specs.Drills.{DrillsTo, Drilled, Drills, IsDrill, exposed_text};
+ghost use Rattle.pot_session.specs.Drills.{random_of, read_most, report_text};
 ghost use Rattle.pot_session.specs.Streams.{ReadsAtMost};
 
 use crate::intake::{IntakeFault, read_out};
@@ -126,7 +127,8 @@ fn drill_source<S: Source>(
     ensures drilled { Drilled task.now seed.now (IsTrue S.tells) (S.left source.old) result }
     ensures read { IsTrue S.tells → ReadsAtMost read_most (S.left source.old) (S.left source.new) }
     ensures whole { IsTrue S.tells → OnOk result (S.left source.new ≡ []) }
-    ensures cause { Caused (S.faults source.old) (S.faults source.new) (IsErrOf result Stop.SourceFault) }
+    ensures cause { Caused (S.faults source.old) (S.faults source.new)
+        (IsErrOf result Stop.SourceFault) }
 {
     let bytes = match read_out(alloc, source, LONGEST_PAIR) {
         Ok(bytes) => bytes,
@@ -151,8 +153,10 @@ pub fn drill_files<S: Source, K: Sink>(
     sink: &mut K,
 ) -> Status
     requires { IsDrill task.now }
-    ensures drills { Drills task.now drawn (IsTrue S.tells) (S.left source.old) (S.left source.new) (IsTrue K.tells) (K.written sink.old) (K.written sink.new) result }
-    ensures source { Caused (S.faults source.old) (S.faults source.new) (result ≡ Status.SourceFault) }
+    ensures drills { Drills task.now drawn (IsTrue S.tells) (S.left source.old) (S.left source.new)
+        (IsTrue K.tells) (K.written sink.old) (K.written sink.new) result }
+    ensures source { Caused (S.faults source.old) (S.faults source.new)
+        (result ≡ Status.SourceFault) }
     ensures sink { Caused (K.faults sink.old) (K.faults sink.new) (result ≡ Status.SinkFault) }
 {
     let seed = task.seed.unwrap_or(drawn);

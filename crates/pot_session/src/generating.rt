@@ -4,7 +4,8 @@ ghost use Rattle.std.specs.Prelude.{◌≡◌, ◌≤◌, IsTrue, IfOk};
 ghost use Rattle.pot_outside.specs.Counts.{Caused};
 ghost use Rattle.pot_doubles.specs.Rooms.{means_in};
 ghost use Rattle.pot_doubles.specs.Streams.{written_to};
-ghost use Rattle.pot_session.specs.Generating.{AreSound, Generates, IsGenerated, is_answered, summary};
+ghost use Rattle.pot_session.specs.Generating.{AreSound, Generates, IsGenerated, is_answered};
+ghost use Rattle.pot_session.specs.Generating.{summary};
 
 use crate::holding::hold;
 use crate::making::make_image;
@@ -119,7 +120,8 @@ pub fn generate<K: Sink, X: Threads + Wait + Sync>(
     sink: &mut K,
 ) -> Status
     requires limits { (1 ≤ number) × (number ≤ 1000000) }
-    ensures generates { Generates number (IsTrue K.tells) (K.written sink.old) (K.written sink.new) result }
+    ensures generates { Generates number (IsTrue K.tells) (K.written sink.old) (K.written sink.new)
+        result }
     ensures sink { Caused (K.faults sink.old) (K.faults sink.new) (result ≡ Status.SinkFault) }
 {
     let Ok(ran) = run_in_memory(rt, alloc, number) else {

@@ -1,11 +1,14 @@
 //! The groups of a session: started over their archives, and ended.
 
-ghost use Rattle.std.specs.Prelude.{◌≡◌, ◌<◌, ◌≤◌, ◌+◌, ◌++◌, ℕ, [], ◌∷◌, IsTrue, IfOk, OnOk, OnErr, length, vec_capacity, map, flat_map, take, drop};
+ghost use Rattle.std.specs.Prelude.{◌≡◌, ◌<◌, ◌≤◌, ◌+◌, ◌++◌, ℕ, [], ◌∷◌, IsTrue, IfOk, OnOk};
+ghost use Rattle.std.specs.Prelude.{OnErr, length, vec_capacity, map, flat_map, take, drop};
 ghost use Rattle.pot_outside.specs.Archives.{Meaning};
 ghost use Rattle.pot_machine.specs.Table.{archives_in};
 ghost use Rattle.pot_group.specs.Group.{view_of};
 ghost use Rattle.pot_shelves.specs.Shelves.{numbers_of};
-ghost use Rattle.pot_session.specs.Groups.{IsOpened, IsStarted, IsEnded, AreMarked, AreEnded, had_by};
+ghost use Rattle.pot_shared.specs.Members.{opened_at};
+ghost use Rattle.pot_session.specs.Groups.{IsOpened, IsStarted, IsEnded, AreMarked, AreEnded};
+ghost use Rattle.pot_session.specs.Groups.{RoseBy, had_by};
 ghost use Rattle.pot_commands.specs.Holding.{AreMeant, AreSame};
 
 use crate::archives::append_table;
@@ -28,8 +31,12 @@ impl<A: Archive> Remains<A> {
 
     /// Nothing, with room for what so many groups with so many archives leave.
     pub fn reserve(alloc: Global, groups: usize, archives: usize) -> Result<Remains<A>, NoMemory>
-        ensures fresh { IfOk result (λ r. (r.tables.items ≡ []) × (r.logs.items ≡ []) × (r.hand.items ≡ [])) }
-        ensures spaces { IfOk result (λ r. HasSpaces groups archives (vec_capacity r.tables) (vec_capacity r.logs) (vec_capacity r.hand)) }
+        ensures fresh { IfOk result
+            (λ r. (r.tables.items ≡ []) × (r.logs.items ≡ []) × (r.hand.items ≡ [])) }
+        ensures spaces { IfOk result
+            (λ r.
+            HasSpaces groups archives (vec_capacity r.tables) (vec_capacity r.logs)
+            (vec_capacity r.hand)) }
     {
         let tables = Vec::with_capacity(alloc, groups)?;
         let logs = Vec::with_capacity(alloc, groups)?;
@@ -85,8 +92,10 @@ fn take_shelves<A: Archive>(
     hand: &mut Vec<Shelf<A>>,
 ) -> Result<Vec<Shelf<A>>, NoMemory>
     requires { length (archives_in table.now) ≤ length hand.old.items }
-    ensures front { IfOk result (λ v. v.items ≡ take (length (archives_in table.now)) hand.old.items) }
-    ensures rest { OnOk result (hand.new.items ≡ drop (length (archives_in table.now)) hand.old.items) }
+    ensures front { IfOk result
+        (λ v. v.items ≡ take (length (archives_in table.now)) hand.old.items) }
+    ensures rest { OnOk result
+        (hand.new.items ≡ drop (length (archives_in table.now)) hand.old.items) }
     ensures refused { OnErr result (hand.new.items ≡ hand.old.items) }
     ensures space { vec_capacity hand.new ≡ vec_capacity hand.old }
 {
@@ -110,14 +119,21 @@ pub fn start_group<A: Archive>(
 ) -> Result<Member<A>, NoMemory>
     requires relays { table.relays ≡ [] }
     requires count { length (archives_in table) ≤ length hand.old.items }
-    requires hand { take (length (archives_in table)) (numbers_of hand.old.items) ≡ archives_in table }
+    requires hand { take (length (archives_in table)) (numbers_of hand.old.items)
+        ≡ archives_in table }
     requires space { length hand.old.items ≤ vec_capacity hand.old }
-    ensures started { IfOk result (λ m. IsStarted number table (view_of A.account.meaning m.group)) }
-    ensures marked { (meant : ℕ → Meaning) → IsTrue A.account.tells → AreMeant A.account.meaning meant hand.old.items → IfOk result (λ m. AreMarked meant table (view_of A.account.meaning m.group).shelves) }
-    ensures opened { (meant : ℕ → Meaning) → IsTrue A.account.tells → AreMeant A.account.meaning meant hand.old.items
-        → IfOk result (λ m. IsOpened meant table (view_of A.account.meaning m.group).log) }
+    ensures started { IfOk result
+        (λ m. IsStarted number table (view_of A.account.meaning m.group)) }
+    ensures marked { (meant : ℕ → Meaning) → IsTrue A.account.tells
+        → AreMeant A.account.meaning meant hand.old.items
+        → IfOk result (λ m. AreMarked meant table (view_of A.account.meaning m.group).shelves) }
+    ensures opened { (meant : ℕ → Meaning) → IsTrue A.account.tells
+        → AreMeant A.account.meaning meant hand.old.items
+        → IfOk result (λ m. let g = view_of A.account.meaning m.group in
+        IsOpened meant (RoseBy meant table (opened_at g.shelves)) table g.log) }
     ensures rest { OnOk result (hand.new.items ≡ drop (length (archives_in table)) hand.old.items) }
-    ensures refused { OnErr result (AreSame (numbers_of hand.new.items) (numbers_of hand.old.items)) }
+    ensures refused { OnErr result
+        (AreSame (numbers_of hand.new.items) (numbers_of hand.old.items)) }
     ensures count { OnErr result (length hand.new.items ≡ length hand.old.items) }
     ensures space { vec_capacity hand.new ≡ vec_capacity hand.old }
 {
@@ -137,14 +153,24 @@ pub fn start_group<A: Archive>(
 
 /// Ends groups: their tables, their logs and their archives come to what remains, behind those that are there.
 pub fn end_groups<A: Archive>(members: Vec<Member<A>>, remains: &mut Remains<A>)
-    requires tables { length remains.old.tables.items + length members.items ≤ vec_capacity remains.old.tables }
-    requires logs { length remains.old.logs.items + length members.items ≤ vec_capacity remains.old.logs }
-    requires hand { length remains.old.hand.items + length (flat_map (λ m. had_by (view_of A.account.meaning m.group)) members.items) ≤ vec_capacity remains.old.hand }
-    ensures tables { remains.new.tables.items ≡ remains.old.tables.items ++ map (λ m. m.group.table) members.items }
-    ensures logs { map (λ v. v.items) remains.new.logs.items ≡ map (λ v. v.items) remains.old.logs.items ++ map (λ m. m.group.log) members.items }
-    ensures hand { numbers_of remains.new.hand.items ≡ numbers_of remains.old.hand.items ++ flat_map (λ m. had_by (view_of A.account.meaning m.group)) members.items }
-    ensures shelves { remains.new.hand.items ≡ remains.old.hand.items ++ flat_map (λ m. m.group.shelves.shelves) members.items }
-    ensures ended { AreEnded (IsTrue A.account.tells) (λ m. view_of A.account.meaning m.group) members.items }
+    requires tables { length remains.old.tables.items + length members.items
+        ≤ vec_capacity remains.old.tables }
+    requires logs { length remains.old.logs.items + length members.items
+        ≤ vec_capacity remains.old.logs }
+    requires hand { length remains.old.hand.items
+        + length (flat_map (λ m. had_by (view_of A.account.meaning m.group)) members.items)
+        ≤ vec_capacity remains.old.hand }
+    ensures tables { remains.new.tables.items
+        ≡ remains.old.tables.items ++ map (λ m. m.group.table) members.items }
+    ensures logs { map (λ v. v.items) remains.new.logs.items
+        ≡ map (λ v. v.items) remains.old.logs.items ++ map (λ m. m.group.log) members.items }
+    ensures hand { numbers_of remains.new.hand.items
+        ≡ numbers_of remains.old.hand.items
+        ++ flat_map (λ m. had_by (view_of A.account.meaning m.group)) members.items }
+    ensures shelves { remains.new.hand.items
+        ≡ remains.old.hand.items ++ flat_map (λ m. m.group.shelves.shelves) members.items }
+    ensures ended { AreEnded (IsTrue A.account.tells) (λ m. view_of A.account.meaning m.group)
+        members.items }
 {
     let mut members = members;
     while !members.is_empty() {
@@ -158,12 +184,18 @@ pub fn end_groups<A: Archive>(members: Vec<Member<A>>, remains: &mut Remains<A>)
 fn end_group<A: Archive>(group: Group<A>, remains: &mut Remains<A>)
     requires tables { length remains.old.tables.items < vec_capacity remains.old.tables }
     requires logs { length remains.old.logs.items < vec_capacity remains.old.logs }
-    requires hand { length remains.old.hand.items + length (had_by (view_of A.account.meaning group)) ≤ vec_capacity remains.old.hand }
+    requires hand { length remains.old.hand.items
+        + length (had_by (view_of A.account.meaning group))
+        ≤ vec_capacity remains.old.hand }
     ensures tables { remains.new.tables.items ≡ remains.old.tables.items ++ group.table ∷ [] }
-    ensures logs { map (λ v. v.items) remains.new.logs.items ≡ map (λ v. v.items) remains.old.logs.items ++ group.log ∷ [] }
-    ensures hand { numbers_of remains.new.hand.items ≡ numbers_of remains.old.hand.items ++ had_by (view_of A.account.meaning group) }
+    ensures logs { map (λ v. v.items) remains.new.logs.items
+        ≡ map (λ v. v.items) remains.old.logs.items ++ group.log ∷ [] }
+    ensures hand { numbers_of remains.new.hand.items
+        ≡ numbers_of remains.old.hand.items ++ had_by (view_of A.account.meaning group) }
     ensures shelves { remains.new.hand.items ≡ remains.old.hand.items ++ group.shelves.shelves }
-    ensures spaces { (vec_capacity remains.new.tables ≡ vec_capacity remains.old.tables) × (vec_capacity remains.new.logs ≡ vec_capacity remains.old.logs) × (vec_capacity remains.new.hand ≡ vec_capacity remains.old.hand) }
+    ensures spaces { (vec_capacity remains.new.tables ≡ vec_capacity remains.old.tables)
+        × (vec_capacity remains.new.logs ≡ vec_capacity remains.old.logs)
+        × (vec_capacity remains.new.hand ≡ vec_capacity remains.old.hand) }
     ensures ended { IsEnded (IsTrue A.account.tells) (view_of A.account.meaning group) }
 {
     let Ended {

@@ -32,9 +32,11 @@ pub fn hold<S: Source, K: Sink, R: Room, D: Desk, W: Gate, X: Threads + Wait + S
         (IsTrue K.tells) (K.written sink.old) (K.written sink.new)
         (IsTrue D.tells) (D.held desk.old) (D.held desk.new)
         (IsTrue R.A.account.tells) (R.means room.old) (R.means room.new)
-        (R.failures room.old) (R.failures room.new) (D.faults desk.old) (D.faults desk.new)) result }
+        (R.failures room.old) (R.failures room.new) (D.faults desk.old) (D.faults desk.new))
+        result }
     ensures home { (n : ℕ) → R.out room.new n ≡ false }
-    ensures source { Caused (S.faults source.old) (S.faults source.new) (result ≡ Status.SourceFault) }
+    ensures source { Caused (S.faults source.old) (S.faults source.new)
+        (result ≡ Status.SourceFault) }
     ensures sink { Caused (K.faults sink.old) (K.faults sink.new) (result ≡ Status.SinkFault) }
     ensures room { Caused (R.faults room.old) (R.faults room.new) (result ≡ Status.RoomFault) }
     ensures own { Caused (R.failures room.old) (R.failures room.new) (result ≡ Status.RoomFault) }

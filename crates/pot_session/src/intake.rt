@@ -1,6 +1,7 @@
 //! Reads a source to its end.
 
-ghost use Rattle.std.specs.Prelude.{◌≡◌, ◌<◌, ◌^◌, ◌≤◌, ◌+◌, ◌++◌, [], List, ℕ, length, IsTrue, IfOk, IsErrOf};
+ghost use Rattle.std.specs.Prelude.{◌≡◌, ◌<◌, ◌^◌, ◌≤◌, ◌+◌, ◌++◌, [], List, ℕ, length, IsTrue};
+ghost use Rattle.std.specs.Prelude.{IfOk, IsErrOf};
 ghost use Rattle.pot_outside.specs.Counts.{Caused};
 ghost use Rattle.pot_session.specs.Streams.{IsReadOut, ReadsAtMost};
 
@@ -43,10 +44,14 @@ pub fn read_out<S: Source>(
     limit: usize,
 ) -> Result<Vec<u8>, IntakeFault>
     requires { limit < 2 ^ 32 }
-    ensures told { IsTrue S.tells → IfOk result (λ bytes. IsReadOut (S.left source.old) (S.left source.new) bytes.items limit) }
-    ensures least_left { IsTrue S.tells → ReadsAtMost (limit + 1) (S.left source.old) (S.left source.new) }
+    ensures told { IsTrue S.tells
+        → IfOk result
+        (λ bytes. IsReadOut (S.left source.old) (S.left source.new) bytes.items limit) }
+    ensures least_left { IsTrue S.tells
+        → ReadsAtMost (limit + 1) (S.left source.old) (S.left source.new) }
     ensures most { IfOk result (λ bytes. length bytes.items ≤ limit + 1) }
-    ensures cause { Caused (S.faults source.old) (S.faults source.new) (IsErrOf result IntakeFault.Failed) }
+    ensures cause { Caused (S.faults source.old) (S.faults source.new)
+        (IsErrOf result IntakeFault.Failed) }
 {
     let mut bytes = Vec::new(alloc);
     let mut buffer = [0u8; 4096];

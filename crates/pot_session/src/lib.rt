@@ -39,7 +39,7 @@ mod stop;
 mod telling;
 mod top;
 
-pub use laws::{loss_laws, stripe_laws};
+pub use laws::stripe_laws;
 pub use status::Status;
 pub use stop::Stop;
 pub use top::run;

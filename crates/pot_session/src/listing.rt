@@ -1,7 +1,8 @@
 //! What `recover` writes of the objects that it found. It is written line by line and part by part, so no second copy of the files is made:
 //! the longest text in memory is one line, of fewer than 64 bytes.
 
-ghost use Rattle.std.specs.Prelude.{◌≡◌, ◌<◌, ◌≤◌, ◌++◌, ℕ, List, IsTrue, IfOk, OnOk, IsErrOf, codes, length, take, flat_map, not, is_some};
+ghost use Rattle.std.specs.Prelude.{◌≡◌, ◌<◌, ◌≤◌, ◌++◌, ℕ, List, IsTrue, IfOk, OnOk, IsErrOf};
+ghost use Rattle.std.specs.Prelude.{codes, length, take, flat_map, not, is_some};
 ghost use Rattle.std.specs.List.{list_any, range_with_len};
 ghost use Rattle.byteorder.specs.Endian.{big_bytes};
 ghost use Rattle.hex.specs.Hex.{encode_lower};
@@ -10,7 +11,11 @@ ghost use Rattle.pot_object.specs.Objects.{head_at};
 ghost use Rattle.pot_outside.specs.Counts.{Caused};
 ghost use Rattle.pot_recover.specs.Choices.{IsSomeObject};
 ghost use Rattle.pot_recover.specs.Fronts.{has_front};
-ghost use Rattle.pot_session.specs.Listing.{Lists, Puts, count_line, file_line, file_text, first_gap, front_at, has_earlier, has_partial, is_partial_at, least_of, listing, object_at, object_line, part_in, part_of, partial_line, parts_of, text_at, places_in};
+ghost use Rattle.pot_session.specs.Listing.{Lists, Puts, count_line, file_line, file_text};
+ghost use Rattle.pot_session.specs.Listing.{first_gap, front_at, has_earlier, has_partial};
+ghost use Rattle.pot_session.specs.Listing.{is_partial_at, least_of, listing, object_at};
+ghost use Rattle.pot_session.specs.Listing.{object_line, part_in, part_of, partial_line, parts_of};
+ghost use Rattle.pot_session.specs.Listing.{text_at, places_in};
 
 use crate::spelling::append_number;
 use crate::status::Status;
@@ -189,7 +194,8 @@ fn partial_line(alloc: Global, object: &[u8; 928], piece: u32) -> Result<Vec<u8>
 /// Writes a text.
 fn put<K: Sink>(text: &[u8], sink: &mut K) -> Result<(), ListFault>
     ensures puts { Puts (IsTrue K.tells) (K.written sink.old) (K.written sink.new) text.now result }
-    ensures cause { Caused (K.faults sink.old) (K.faults sink.new) (IsErrOf result ListFault.SinkFault) }
+    ensures cause { Caused (K.faults sink.old) (K.faults sink.new)
+        (IsErrOf result ListFault.SinkFault) }
 {
     match write_out(sink, text) {
         Ok(()) => Ok(()),
@@ -199,8 +205,10 @@ fn put<K: Sink>(text: &[u8], sink: &mut K) -> Result<(), ListFault>
 
 /// Writes a line that there was memory for.
 fn put_line<K: Sink>(line: Result<Vec<u8>, AllocError>, sink: &mut K) -> Result<(), ListFault>
-    ensures puts { (text : List ℕ) → IfOk line (λ v. v.items ≡ text) → Puts (IsTrue K.tells) (K.written sink.old) (K.written sink.new) text result }
-    ensures cause { Caused (K.faults sink.old) (K.faults sink.new) (IsErrOf result ListFault.SinkFault) }
+    ensures puts { (text : List ℕ) → IfOk line (λ v. v.items ≡ text)
+        → Puts (IsTrue K.tells) (K.written sink.old) (K.written sink.new) text result }
+    ensures cause { Caused (K.faults sink.old) (K.faults sink.new)
+        (IsErrOf result ListFault.SinkFault) }
 {
     match line {
         Ok(line) => put(&line, sink),
@@ -210,8 +218,10 @@ fn put_line<K: Sink>(line: Result<Vec<u8>, AllocError>, sink: &mut K) -> Result<
 
 /// Writes the line of each object.
 fn put_objects<K: Sink>(alloc: Global, found: &Recovered, sink: &mut K) -> Result<(), ListFault>
-    ensures puts { Puts (IsTrue K.tells) (K.written sink.old) (K.written sink.new) (flat_map object_line found.now) result }
-    ensures cause { Caused (K.faults sink.old) (K.faults sink.new) (IsErrOf result ListFault.SinkFault) }
+    ensures puts { Puts (IsTrue K.tells) (K.written sink.old) (K.written sink.new)
+        (flat_map object_line found.now) result }
+    ensures cause { Caused (K.faults sink.old) (K.faults sink.new)
+        (IsErrOf result ListFault.SinkFault) }
 {
     for place in 0..found.len() {
         match put_line(object_line(alloc, found.object(place)), sink) {
@@ -229,8 +239,10 @@ fn put_part<K: Sink>(
     piece: u32,
     sink: &mut K,
 ) -> Result<(), ListFault>
-    ensures puts { Puts (IsTrue K.tells) (K.written sink.old) (K.written sink.new) (part_of (least_of found.now object.now piece)) result }
-    ensures cause { Caused (K.faults sink.old) (K.faults sink.new) (IsErrOf result ListFault.SinkFault) }
+    ensures puts { Puts (IsTrue K.tells) (K.written sink.old) (K.written sink.new)
+        (part_of (least_of found.now object.now piece)) result }
+    ensures cause { Caused (K.faults sink.old) (K.faults sink.new)
+        (IsErrOf result ListFault.SinkFault) }
 {
     match found.first_with(&front_at(object, piece)) {
         Some(place) => put(part_in(found.object(place)), sink),
@@ -240,8 +252,10 @@ fn put_part<K: Sink>(
 
 /// Writes the parts of all pieces.
 fn put_parts<K: Sink>(found: &Recovered, object: &[u8; 928], sink: &mut K) -> Result<(), ListFault>
-    ensures puts { Puts (IsTrue K.tells) (K.written sink.old) (K.written sink.new) (parts_of found.now object.now) result }
-    ensures cause { Caused (K.faults sink.old) (K.faults sink.new) (IsErrOf result ListFault.SinkFault) }
+    ensures puts { Puts (IsTrue K.tells) (K.written sink.old) (K.written sink.new)
+        (parts_of found.now object.now) result }
+    ensures cause { Caused (K.faults sink.old) (K.faults sink.new)
+        (IsErrOf result ListFault.SinkFault) }
 {
     for piece in 0..head_of(object).pieces {
         match put_part(found, object, piece, sink) {
@@ -259,8 +273,10 @@ fn put_whole<K: Sink>(
     object: &[u8; 928],
     sink: &mut K,
 ) -> Result<(), ListFault>
-    ensures puts { Puts (IsTrue K.tells) (K.written sink.old) (K.written sink.new) (file_line object.now ++ parts_of found.now object.now ++ codes "\n") result }
-    ensures cause { Caused (K.faults sink.old) (K.faults sink.new) (IsErrOf result ListFault.SinkFault) }
+    ensures puts { Puts (IsTrue K.tells) (K.written sink.old) (K.written sink.new)
+        (file_line object.now ++ parts_of found.now object.now ++ codes "\n") result }
+    ensures cause { Caused (K.faults sink.old) (K.faults sink.new)
+        (IsErrOf result ListFault.SinkFault) }
 {
     match put_line(file_line(alloc, object), sink) {
         Ok(()) => {}
@@ -279,9 +295,11 @@ fn put_file<K: Sink>(
     object: &[u8; 928],
     sink: &mut K,
 ) -> Result<bool, ListFault>
-    ensures puts { Puts (IsTrue K.tells) (K.written sink.old) (K.written sink.new) (file_text found.now object.now) result }
+    ensures puts { Puts (IsTrue K.tells) (K.written sink.old) (K.written sink.new)
+        (file_text found.now object.now) result }
     ensures partial { IfOk result (λ partial. partial ≡ is_some (first_gap found.now object.now)) }
-    ensures cause { Caused (K.faults sink.old) (K.faults sink.new) (IsErrOf result ListFault.SinkFault) }
+    ensures cause { Caused (K.faults sink.old) (K.faults sink.new)
+        (IsErrOf result ListFault.SinkFault) }
 {
     match first_gap(found, object) {
         Some(piece) => match put_line(partial_line(alloc, object, piece), sink) {
@@ -304,9 +322,11 @@ fn put_first<K: Sink>(
 ) -> Result<bool, ListFault>
     requires objects { (object : List ℕ) → IsIn found.now object → IsSomeObject object }
     requires within { place < length found.now }
-    ensures puts { Puts (IsTrue K.tells) (K.written sink.old) (K.written sink.new) (text_at found.now place) result }
+    ensures puts { Puts (IsTrue K.tells) (K.written sink.old) (K.written sink.new)
+        (text_at found.now place) result }
     ensures partial { IfOk result (λ partial. partial ≡ is_partial_at found.now place) }
-    ensures cause { Caused (K.faults sink.old) (K.faults sink.new) (IsErrOf result ListFault.SinkFault) }
+    ensures cause { Caused (K.faults sink.old) (K.faults sink.new)
+        (IsErrOf result ListFault.SinkFault) }
 {
     if has_earlier(found, place) {
         return Ok(false);
@@ -317,9 +337,11 @@ fn put_first<K: Sink>(
 /// Writes each file at its first object. Answers whether some file is partial.
 fn put_files<K: Sink>(alloc: Global, found: &Recovered, sink: &mut K) -> Result<bool, ListFault>
     requires { (object : List ℕ) → IsIn found.now object → IsSomeObject object }
-    ensures puts { Puts (IsTrue K.tells) (K.written sink.old) (K.written sink.new) (flat_map (text_at found.now) (places_in found.now)) result }
+    ensures puts { Puts (IsTrue K.tells) (K.written sink.old) (K.written sink.new)
+        (flat_map (text_at found.now) (places_in found.now)) result }
     ensures partial { IfOk result (λ partial. partial ≡ has_partial found.now) }
-    ensures cause { Caused (K.faults sink.old) (K.faults sink.new) (IsErrOf result ListFault.SinkFault) }
+    ensures cause { Caused (K.faults sink.old) (K.faults sink.new)
+        (IsErrOf result ListFault.SinkFault) }
 {
     let mut partial = false;
     for place in 0..found.len() {
@@ -334,9 +356,11 @@ fn put_files<K: Sink>(alloc: Global, found: &Recovered, sink: &mut K) -> Result<
 /// Writes the whole listing. Answers whether some file is partial.
 fn put_listing<K: Sink>(alloc: Global, found: &Recovered, sink: &mut K) -> Result<bool, ListFault>
     requires { (object : List ℕ) → IsIn found.now object → IsSomeObject object }
-    ensures puts { Puts (IsTrue K.tells) (K.written sink.old) (K.written sink.new) (listing found.now) result }
+    ensures puts { Puts (IsTrue K.tells) (K.written sink.old) (K.written sink.new)
+        (listing found.now) result }
     ensures partial { IfOk result (λ partial. partial ≡ has_partial found.now) }
-    ensures cause { Caused (K.faults sink.old) (K.faults sink.new) (IsErrOf result ListFault.SinkFault) }
+    ensures cause { Caused (K.faults sink.old) (K.faults sink.new)
+        (IsErrOf result ListFault.SinkFault) }
 {
     match put_line(count_line(alloc, found.len()), sink) {
         Ok(()) => {}
@@ -352,7 +376,8 @@ fn put_listing<K: Sink>(alloc: Global, found: &Recovered, sink: &mut K) -> Resul
 /// their first objects each file whose pieces are all there, or the least piece that is missing.
 pub fn list_objects<K: Sink>(alloc: Global, found: &Recovered, sink: &mut K) -> Status
     requires { (object : List ℕ) → IsIn found.now object → IsSomeObject object }
-    ensures lists { Lists (IsTrue K.tells) (K.written sink.old) (K.written sink.new) found.now result }
+    ensures lists { Lists (IsTrue K.tells) (K.written sink.old) (K.written sink.new) found.now
+        result }
     ensures cause { Caused (K.faults sink.old) (K.faults sink.new) (result ≡ Status.SinkFault) }
 {
     match put_listing(alloc, found, sink) {

@@ -1,6 +1,8 @@
 //! How the vault of a session is opened.
 
-ghost use Rattle.std.specs.Prelude.{◌≡◌, ◌<◌, ◌≤◌, ◌+◌, ◌++◌, ℕ, [], ◌∷◌, IsTrue, IfOk, OnOk, OnErr, IfErr, All, Some, length, vec_capacity, map, flat_map, take, drop, slice_get};
+ghost use Rattle.std.specs.Prelude.{◌≡◌, ◌<◌, ◌≤◌, ◌+◌, ◌++◌, ℕ, [], ◌∷◌, IsTrue, IfOk, OnOk};
+ghost use Rattle.std.specs.Prelude.{OnErr, IfErr, All, Some, length, vec_capacity, map, flat_map};
+ghost use Rattle.std.specs.Prelude.{take, drop, slice_get};
 ghost use Rattle.pot_bytes.specs.Rack.{IsRack};
 ghost use Rattle.pot_outside.specs.Archives.{Meaning};
 ghost use Rattle.pot_machine.specs.Table.{Table};
@@ -14,7 +16,8 @@ ghost use Rattle.pot_rows.specs.Ends.{HasAllParts};
 ghost use Rattle.pot_shared.specs.Ready.{AreReady};
 ghost use Rattle.pot_shared.specs.Catalogs.{IsIndexReady};
 ghost use Rattle.pot_shared.specs.Sharing.{HasAllButKept};
-ghost use Rattle.pot_session.specs.Groups.{AreStarted, AreOfRack, AreTakenFrom, AreFirstPasses, AreTakenAt, had_by, tables_read, records_read};
+ghost use Rattle.pot_session.specs.Groups.{AreStarted, AreOfRack, AreTakenFrom, AreFirstPasses};
+ghost use Rattle.pot_session.specs.Groups.{AreTakenAt, had_by, tables_read, records_read};
 ghost use Rattle.pot_commands.specs.Holding.{AreMeant, AreSame};
 
 use crate::groups::{Remains, end_groups, start_group};
@@ -42,12 +45,23 @@ fn start_groups<A: Archive>(
     requires space { length hand.old.items ≤ vec_capacity hand.old }
     requires none { members.old.items ≡ [] }
     requires places { length tables.items ≤ vec_capacity members.old }
-    ensures started { OnOk result (AreStarted (λ m. view_of A.account.meaning m.group) tables.items members.new.items) }
-    ensures marked { (meant : ℕ → Meaning) → IsTrue A.account.tells → AreMeant A.account.meaning meant hand.old.items → OnOk result (AreTakenFrom meant (λ m. view_of A.account.meaning m.group) members.new.items) }
+    ensures started { OnOk result
+        (AreStarted (λ m. view_of A.account.meaning m.group) tables.items members.new.items) }
+    ensures marked { (meant : ℕ → Meaning) → IsTrue A.account.tells
+        → AreMeant A.account.meaning meant hand.old.items
+        → OnOk result
+        (AreTakenFrom meant (λ m. view_of A.account.meaning m.group) members.new.items) }
     ensures empty { OnOk result (hand.new.items ≡ []) }
-    ensures refused { OnErr result (AreSame (numbers_of hand.new.items ++ flat_map (λ m. had_by (view_of A.account.meaning m.group)) members.new.items) (flat_map archives_in tables.items)) }
+    ensures refused { OnErr result
+        (AreSame
+        (numbers_of hand.new.items
+        ++ flat_map (λ m. had_by (view_of A.account.meaning m.group)) members.new.items)
+        (flat_map archives_in tables.items)) }
     ensures few { OnErr result (length members.new.items ≤ length tables.items) }
-    ensures within { OnErr result (length hand.new.items + length (flat_map (λ m. had_by (view_of A.account.meaning m.group)) members.new.items) ≤ vec_capacity hand.old) }
+    ensures within { OnErr result
+        (length hand.new.items
+        + length (flat_map (λ m. had_by (view_of A.account.meaning m.group)) members.new.items)
+        ≤ vec_capacity hand.old) }
     ensures space { vec_capacity hand.new ≡ vec_capacity hand.old }
 {
     let mut tables = tables;
@@ -81,19 +95,32 @@ pub fn open_vault<A: Archive>(
     requires records { AreRead rack.now records.items }
     requires hand { numbers_of remains.old.hand.items ≡ flat_map archives_in tables.items }
     requires fresh { (remains.old.tables.items ≡ []) × (remains.old.logs.items ≡ []) }
-    requires spaces { (length tables.items ≤ vec_capacity remains.old.tables) × (length tables.items ≤ vec_capacity remains.old.logs) × (length remains.old.hand.items ≤ vec_capacity remains.old.hand) }
+    requires spaces { (length tables.items ≤ vec_capacity remains.old.tables)
+        × (length tables.items ≤ vec_capacity remains.old.logs)
+        × (length remains.old.hand.items ≤ vec_capacity remains.old.hand) }
     ensures opened { IfOk result (λ p. AreFirstPasses p.1.groups p.1.index) }
-    ensures marked { (meant : ℕ → Meaning) → IsTrue A.account.tells → AreMeant A.account.meaning meant remains.old.hand.items → IfOk result (λ p. AreTakenAt meant p.1.groups) }
+    ensures marked { (meant : ℕ → Meaning) → IsTrue A.account.tells
+        → AreMeant A.account.meaning meant remains.old.hand.items
+        → IfOk result (λ p. AreTakenAt meant p.1.groups) }
     ensures tables { IfOk result (λ p. tables_read p.1.groups ≡ tables.items) }
     ensures records { IfOk result (λ p. records_read p.1.index ≡ records.items) }
     ensures rack { IfOk result (λ p. p.0.rack ≡ rack.now) }
-    ensures ready { IfOk result (λ p. AreReady p.0.rack p.0.groups p.1.groups × IsIndexReady p.0.rack p.0.groups p.0.index p.1.index) }
+    ensures ready { IfOk result
+        (λ p.
+        AreReady p.0.rack p.0.groups p.1.groups
+        × IsIndexReady p.0.rack p.0.groups p.0.index p.1.index) }
     ensures parts { IfOk result (λ p. HasAllButKept p.1.groups × HasAllParts p.1.index) }
     ensures count { IfOk result (λ p. length p.0.groups ≡ p.0.rack.groups) }
     ensures places { IfOk result (λ p. length p.0.groups ≤ p.2) }
-    ensures empty { OnOk result ((remains.new.hand.items ≡ []) × (remains.new.tables.items ≡ []) × (remains.new.logs.items ≡ [])) }
-    ensures refused { OnErr result (AreSame (numbers_of remains.new.hand.items) (flat_map archives_in tables.items)) }
-    ensures spaces { OnOk result ((vec_capacity remains.new.hand ≡ vec_capacity remains.old.hand) × (vec_capacity remains.new.tables ≡ vec_capacity remains.old.tables) × (vec_capacity remains.new.logs ≡ vec_capacity remains.old.logs)) }
+    ensures empty { OnOk result
+        ((remains.new.hand.items ≡ []) × (remains.new.tables.items ≡ [])
+        × (remains.new.logs.items ≡ [])) }
+    ensures refused { OnErr result
+        (AreSame (numbers_of remains.new.hand.items) (flat_map archives_in tables.items)) }
+    ensures spaces { OnOk result
+        ((vec_capacity remains.new.hand ≡ vec_capacity remains.old.hand)
+        × (vec_capacity remains.new.tables ≡ vec_capacity remains.old.tables)
+        × (vec_capacity remains.new.logs ≡ vec_capacity remains.old.logs)) }
 {
     let Ok(mut members) = Vec::with_capacity(alloc, tables.len()) else {
         return Err(NoMemory);
@@ -121,20 +148,35 @@ fn share<A: Archive>(
     requires rack { IsRack rack.now }
     requires records { AreRead rack.now records.items }
     requires groups { AreOfRack (λ m. view_of A.account.meaning m.group) rack.now members.items }
-    requires tables { length remains.old.tables.items + length members.items ≤ vec_capacity remains.old.tables }
-    requires logs { length remains.old.logs.items + length members.items ≤ vec_capacity remains.old.logs }
-    requires hand { length remains.old.hand.items + length (flat_map (λ m. had_by (view_of A.account.meaning m.group)) members.items) ≤ vec_capacity remains.old.hand }
+    requires tables { length remains.old.tables.items + length members.items
+        ≤ vec_capacity remains.old.tables }
+    requires logs { length remains.old.logs.items + length members.items
+        ≤ vec_capacity remains.old.logs }
+    requires hand { length remains.old.hand.items
+        + length (flat_map (λ m. had_by (view_of A.account.meaning m.group)) members.items)
+        ≤ vec_capacity remains.old.hand }
     ensures opened { IfOk result (λ p. AreFirstPasses p.1.groups p.1.index) }
-    ensures marked { (meant : ℕ → Meaning) → AreTakenFrom meant (λ m. view_of A.account.meaning m.group) members.items → IfOk result (λ p. AreTakenAt meant p.1.groups) }
-    ensures tables { IfOk result (λ p. tables_read p.1.groups ≡ map (λ m. (view_of A.account.meaning m.group).first) members.items) }
+    ensures marked { (meant : ℕ → Meaning)
+        → AreTakenFrom meant (λ m. view_of A.account.meaning m.group) members.items
+        → IfOk result (λ p. AreTakenAt meant p.1.groups) }
+    ensures tables { IfOk result
+        (λ p.
+        tables_read p.1.groups
+        ≡ map (λ m. (view_of A.account.meaning m.group).first) members.items) }
     ensures records { IfOk result (λ p. records_read p.1.index ≡ records.items) }
     ensures rack { IfOk result (λ p. p.0.rack ≡ rack.now) }
-    ensures ready { IfOk result (λ p. AreReady p.0.rack p.0.groups p.1.groups × IsIndexReady p.0.rack p.0.groups p.0.index p.1.index) }
+    ensures ready { IfOk result
+        (λ p.
+        AreReady p.0.rack p.0.groups p.1.groups
+        × IsIndexReady p.0.rack p.0.groups p.0.index p.1.index) }
     ensures count { IfOk result (λ p. length p.0.groups ≡ p.0.rack.groups) }
     ensures parts { IfOk result (λ p. HasAllButKept p.1.groups × HasAllParts p.1.index) }
     ensures places { IfOk result (λ p. length p.0.groups ≤ p.2) }
     ensures same { OnOk result (remains.new ≡ remains.old) }
-    ensures refused { OnErr result (numbers_of remains.new.hand.items ≡ numbers_of remains.old.hand.items ++ (flat_map (λ m. had_by (view_of A.account.meaning m.group)) members.items)) }
+    ensures refused { OnErr result
+        (numbers_of remains.new.hand.items
+        ≡ numbers_of remains.old.hand.items
+        ++ (flat_map (λ m. had_by (view_of A.account.meaning m.group)) members.items)) }
 {
     let index = match Index::start(alloc, rack, records) {
         Ok(index) => index,

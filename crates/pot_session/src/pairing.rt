@@ -9,7 +9,8 @@ use pot_script::{cut_after, cut_at, read_number};
 
 /// The two files that the bytes are. None exactly where they are of no two files.
 pub fn read_pair(bytes: &[u8]) -> Option<(&[u8], &[u8])>
-    ensures { MatchOption result (IsNoPair bytes.now) (λ pair. ArePair bytes.now pair.0.now pair.1.now) }
+    ensures { MatchOption result (IsNoPair bytes.now)
+        (λ pair. ArePair bytes.now pair.0.now pair.1.now) }
 {
     let (digits, files) = cut_at(bytes, b'\n')?;
     let length = read_number(digits, LONGEST as u32)? as usize;

@@ -28,10 +28,16 @@ pub fn prepare<S: Source, D: Desk>(
     source: &mut S,
     desk: &mut D,
 ) -> Result<Prepared, Stop>
-    ensures prepared { IfOk result (λ p. IsPrepared (IsTrue S.tells) (S.left source.old) (IsTrue D.tells) (D.held desk.old) (D.held desk.new) p.image p.steps.items) }
+    ensures prepared { IfOk result
+        (λ p.
+        IsPrepared (IsTrue S.tells) (S.left source.old) (IsTrue D.tells) (D.held desk.old)
+        (D.held desk.new) p.image p.steps.items) }
     ensures read { IsTrue S.tells → OnOk result (S.left source.new ≡ []) }
-    ensures stops { IfErr result (Stops (IsTrue S.tells) (S.left source.old) (IsTrue D.tells) (D.held desk.old) (D.held desk.new)) }
-    ensures source { Caused (S.faults source.old) (S.faults source.new) (IsErrOf result Stop.SourceFault) }
+    ensures stops { IfErr result
+        (Stops (IsTrue S.tells) (S.left source.old) (IsTrue D.tells) (D.held desk.old)
+        (D.held desk.new)) }
+    ensures source { Caused (S.faults source.old) (S.faults source.new)
+        (IsErrOf result Stop.SourceFault) }
     ensures desk { Caused (D.faults desk.old) (D.faults desk.new) (IsErrOf result Stop.DeskFault) }
 {
     let read = match open_desk(alloc, desk) {

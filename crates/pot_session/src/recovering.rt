@@ -1,8 +1,11 @@
 //! Recovery: the archives alone give the files back, without a desk.
 
-ghost use Rattle.std.specs.Prelude.{◌≡◌, ◌≢◌, ◌<◌, ◌≤◌, ◌+◌, ◌*◌, ◌^◌, ℕ, IsTrue, IfOk, OnOk, IfErr, IsErr, IsErrOf, IsOk, ◌⊎◌, false, length};
+ghost use Rattle.std.specs.Prelude.{◌≡◌, ◌≢◌, ◌<◌, ◌≤◌, ◌+◌, ◌*◌, ◌^◌, ℕ, IsTrue, IfOk, OnOk};
+ghost use Rattle.std.specs.Prelude.{IfErr, IsErr, IsErrOf, IsOk, ◌⊎◌, false, length};
 ghost use Rattle.pot_outside.specs.Counts.{Caused};
-ghost use Rattle.pot_session.specs.Recovering.{Adds, AreHeldIn, FailsOr, FindsObjects, Gathers, GiveObjects, GiveTooMany, HasFailed, IsRecovery, Recovers, SomeFailed};
+ghost use Rattle.pot_session.specs.Recovering.{Adds, AreHeldIn, FailsOr, FindsObjects, Gathers};
+ghost use Rattle.pot_session.specs.Recovering.{GiveObjects, GiveTooMany, HasFailed, IsRecovery};
+ghost use Rattle.pot_session.specs.Recovering.{Recovers, SomeFailed};
 
 use crate::listing::list_objects;
 use crate::refusing::refuse;
@@ -23,9 +26,13 @@ fn read_slot<A: Archive>(
     slot: u32,
     blocks: &mut Vec<Block>,
 ) -> Result<(), RoomFault>
-    ensures adds { IsTrue A.account.tells → OnOk result (Adds slot (A.account.meaning archive.old) (A.account.meaning archive.new) blocks.old.items blocks.new.items) }
+    ensures adds { IsTrue A.account.tells
+        → OnOk result
+        (Adds slot (A.account.meaning archive.old) (A.account.meaning archive.new)
+        blocks.old.items blocks.new.items) }
     ensures length { length blocks.new.items ≤ length blocks.old.items + 1 }
-    ensures cause { Caused (A.account.meaning archive.old).faults (A.account.meaning archive.new).faults (IsErrOf result RoomFault.Failed) }
+    ensures cause { Caused (A.account.meaning archive.old).faults
+        (A.account.meaning archive.new).faults (IsErrOf result RoomFault.Failed) }
 {
     let mut block = Block::zero();
     match archive.read(slot, &mut block) {
@@ -47,9 +54,13 @@ fn read_slots<A: Archive>(
     stripes: u32,
     blocks: &mut Vec<Block>,
 ) -> Result<(), RoomFault>
-    ensures gathers { IsTrue A.account.tells → OnOk result (Gathers stripes (A.account.meaning archive.old) (A.account.meaning archive.new) blocks.old.items blocks.new.items) }
+    ensures gathers { IsTrue A.account.tells
+        → OnOk result
+        (Gathers stripes (A.account.meaning archive.old) (A.account.meaning archive.new)
+        blocks.old.items blocks.new.items) }
     ensures length { length blocks.new.items ≤ length blocks.old.items + stripes }
-    ensures cause { Caused (A.account.meaning archive.old).faults (A.account.meaning archive.new).faults (IsErrOf result RoomFault.Failed) }
+    ensures cause { Caused (A.account.meaning archive.old).faults
+        (A.account.meaning archive.new).faults (IsErrOf result RoomFault.Failed) }
 {
     for slot in 0..stripes {
         match read_slot(archive, slot, blocks) {
@@ -85,13 +96,19 @@ fn read_archive<R: Room>(
     blocks: &mut Vec<Block>,
 ) -> Result<(), RoomFault>
     requires { R.out room.old number ≡ false }
-    ensures gathers { IsTrue R.A.account.tells → OnOk result (Gathers stripes (R.means room.old number) (R.means room.new number) blocks.old.items blocks.new.items) }
+    ensures gathers { IsTrue R.A.account.tells
+        → OnOk result
+        (Gathers stripes (R.means room.old number) (R.means room.new number) blocks.old.items
+        blocks.new.items) }
     ensures length { length blocks.new.items ≤ length blocks.old.items + stripes }
     ensures home { R.out room.new number ≡ false }
-    ensures others { (n : ℕ) → n ≢ number → (R.means room.new n ≡ R.means room.old n) × (R.out room.new n ≡ R.out room.old n) }
-    ensures cause { Caused (R.faults room.old) (R.faults room.new) (IsErrOf result RoomFault.Failed) }
+    ensures others { (n : ℕ) → n ≢ number
+        → (R.means room.new n ≡ R.means room.old n) × (R.out room.new n ≡ R.out room.old n) }
+    ensures cause { Caused (R.faults room.old) (R.faults room.new)
+        (IsErrOf result RoomFault.Failed) }
     ensures own { FailsOr (IsTrue R.A.account.tells) (R.failures room.old) (R.failures room.new)
-        (HasFailed (R.means room.old number) (R.means room.new number)) (IsErrOf result RoomFault.Failed) }
+        (HasFailed (R.means room.old number) (R.means room.new number))
+        (IsErrOf result RoomFault.Failed) }
 {
     match room.take(number) {
         Ok(archive) => {
@@ -115,13 +132,19 @@ fn read_archives<R: Room>(
 ) -> Result<Vec<Block>, RoomFault>
     requires task { IsRecovery task.now }
     requires home { (n : ℕ) → R.out room.old n ≡ false }
-    ensures held { IsTrue R.A.account.tells → IfOk result (λ v. AreHeldIn task.now.archives task.now.stripes (R.means room.old) (R.means room.new) v.items) }
+    ensures held { IsTrue R.A.account.tells
+        → IfOk result
+        (λ v.
+        AreHeldIn task.now.archives task.now.stripes (R.means room.old) (R.means room.new)
+        v.items) }
     ensures few { IfOk result (λ v. length v.items ≤ 512 * 4096) }
     ensures home { (n : ℕ) → R.out room.new n ≡ false }
     ensures others { (n : ℕ) → task.now.archives ≤ n → R.means room.new n ≡ R.means room.old n }
-    ensures cause { Caused (R.faults room.old) (R.faults room.new) (IsErrOf result RoomFault.Failed) }
+    ensures cause { Caused (R.faults room.old) (R.faults room.new)
+        (IsErrOf result RoomFault.Failed) }
     ensures own { FailsOr (IsTrue R.A.account.tells) (R.failures room.old) (R.failures room.new)
-        (SomeFailed task.now.archives (R.means room.old) (R.means room.new)) (IsErrOf result RoomFault.Failed) }
+        (SomeFailed task.now.archives (R.means room.old) (R.means room.new))
+        (IsErrOf result RoomFault.Failed) }
 {
     let mut blocks = Vec::new(alloc);
     for number in 0..task.archives {
@@ -159,12 +182,14 @@ fn objects_in(
 fn find_objects<R: Room>(alloc: Global, task: &Recover, room: &mut R) -> Result<Recovered, Stop>
     requires task { IsRecovery task.now }
     requires home { (n : ℕ) → R.out room.old n ≡ false }
-    ensures finds { FindsObjects task.now (IsTrue R.A.account.tells) (R.means room.old) (R.means room.new) result }
+    ensures finds { FindsObjects task.now (IsTrue R.A.account.tells) (R.means room.old)
+        (R.means room.new) result }
     ensures home { (n : ℕ) → R.out room.new n ≡ false }
     ensures others { (n : ℕ) → task.now.archives ≤ n → R.means room.new n ≡ R.means room.old n }
     ensures cause { Caused (R.faults room.old) (R.faults room.new) (IsErrOf result Stop.RoomFault) }
     ensures own { FailsOr (IsTrue R.A.account.tells) (R.failures room.old) (R.failures room.new)
-        (SomeFailed task.now.archives (R.means room.old) (R.means room.new)) (IsErrOf result Stop.RoomFault) }
+        (SomeFailed task.now.archives (R.means room.old) (R.means room.new))
+        (IsErrOf result Stop.RoomFault) }
 {
     match read_archives(alloc, task, room) {
         Ok(blocks) => match objects_in(alloc, &blocks, task.blur, task.robust) {
@@ -189,12 +214,14 @@ pub fn recover_files<K: Sink, R: Room>(
 ) -> Status
     requires task { IsRecovery task.now }
     requires home { (n : ℕ) → R.out room.old n ≡ false }
-    ensures recovers { Recovers task.now (IsTrue R.A.account.tells) (R.means room.old) (R.means room.new) (IsTrue K.tells) (K.written sink.old) (K.written sink.new) result }
+    ensures recovers { Recovers task.now (IsTrue R.A.account.tells) (R.means room.old)
+        (R.means room.new) (IsTrue K.tells) (K.written sink.old) (K.written sink.new) result }
     ensures home { (n : ℕ) → R.out room.new n ≡ false }
     ensures sink { Caused (K.faults sink.old) (K.faults sink.new) (result ≡ Status.SinkFault) }
     ensures room { Caused (R.faults room.old) (R.faults room.new) (result ≡ Status.RoomFault) }
     ensures own { FailsOr (IsTrue R.A.account.tells) (R.failures room.old) (R.failures room.new)
-        (SomeFailed task.now.archives (R.means room.old) (R.means room.new)) (result ≡ Status.RoomFault) }
+        (SomeFailed task.now.archives (R.means room.old) (R.means room.new))
+        (result ≡ Status.RoomFault) }
 {
     match find_objects(alloc, task, room) {
         Ok(objects) => list_objects(alloc, &objects, sink),

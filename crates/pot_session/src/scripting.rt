@@ -19,10 +19,12 @@ const LONGEST_SCRIPT: usize = 67_108_864;
 /// # Errors
 /// `SourceFault` only where the source's count of faults rose. `BadLine` has the number of the first line that leaves the grammar.
 pub fn read_steps<S: Source>(alloc: Global, rack: &Rack, source: &mut S) -> Result<Vec<Step>, Stop>
-    ensures script { IfOk result (λ steps. IsRead rack.now (IsTrue S.tells) (S.left source.old) steps.items) }
+    ensures script { IfOk result
+        (λ steps. IsRead rack.now (IsTrue S.tells) (S.left source.old) steps.items) }
     ensures read { IsTrue S.tells → OnOk result (S.left source.new ≡ []) }
     ensures bad { IfErr result (RefusesScript rack.now (IsTrue S.tells) (S.left source.old)) }
-    ensures cause { Caused (S.faults source.old) (S.faults source.new) (IsErrOf result Stop.SourceFault) }
+    ensures cause { Caused (S.faults source.old) (S.faults source.new)
+        (IsErrOf result Stop.SourceFault) }
 {
     let bytes = match read_out(alloc, source, LONGEST_SCRIPT) {
         Ok(bytes) => bytes,

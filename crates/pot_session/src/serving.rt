@@ -1,6 +1,8 @@
 //! A session from the taking of its archives to its close.
 
-ghost use Rattle.std.specs.Prelude.{◌≡◌, ◌⊎◌, ◌<◌, ◌≤◌, ◌+◌, ◌++◌, ◌^◌, ℕ, [], IsTrue, IfOk, OnOk, OnErr, IsErr, IsErrOf, false, Some, length, vec_capacity, flat_map};
+ghost use Rattle.std.specs.Prelude.{◌≡◌, ◌⊎◌, ◌<◌, ◌≤◌, ◌+◌, ◌++◌, ◌^◌, ℕ, [], IsTrue, IfOk, OnOk};
+ghost use Rattle.std.specs.Prelude.{OnErr, IsErr, IsErrOf, false, Some, length, vec_capacity};
+ghost use Rattle.std.specs.Prelude.{flat_map};
 ghost use Rattle.std.specs.List.{AllByRecursion};
 ghost use Rattle.pot_outside.specs.Counts.{Caused};
 ghost use Rattle.pot_image.specs.Images.{contents};
@@ -13,12 +15,14 @@ ghost use Rattle.pot_shared.specs.Ready.{AreReady};
 ghost use Rattle.pot_shared.specs.Catalogs.{IsIndexReady};
 ghost use Rattle.pot_shared.specs.Sharing.{HasAllButKept};
 ghost use Rattle.pot_script.specs.Steps.{IsWholeStep};
-ghost use Rattle.pot_session.specs.Groups.{AreFirstPasses, AreLow, AreTakenAt, tables_read, records_read};
+ghost use Rattle.pot_session.specs.Groups.{AreFirstPasses, AreLow, AreTakenAt, tables_read};
+ghost use Rattle.pot_session.specs.Groups.{records_read};
 ghost use Rattle.pot_commands.specs.Ends.{next_job};
 ghost use Rattle.pot_commands.specs.Taking.{asked_by};
 ghost use Rattle.pot_commands.specs.Holding.{AreApart, AreMeant, AreOut, Untouched};
 ghost use Rattle.pot_session.specs.Giving.{IsUnlent};
-ghost use Rattle.pot_session.specs.Serving.{HasSpaces, Serves, IsEnd, rooms_by, desks_by, status_after};
+ghost use Rattle.pot_session.specs.Serving.{HasSpaces, Serves, IsEnd, rooms_by, desks_by};
+ghost use Rattle.pot_session.specs.Serving.{status_after};
 
 use crate::archives::{give_all, numbers_in, take_all};
 use crate::closing::{Opened, close_session};
@@ -27,7 +31,7 @@ use crate::opening::open_vault;
 use crate::status::Status;
 use crate::stop::Stop;
 use pot_bytes::NoMemory;
-use pot_commands::{Ending, Terms, work};
+use pot_commands::{Crew, Ending, Shared, work};
 use pot_image::Image;
 use pot_machine::GroupTable;
 use pot_outside::{Desk, Failed, Gate, Room, RoomFault, Sink};
@@ -52,17 +56,25 @@ fn take_archives<R: Room>(
     requires apart { AreApart (flat_map archives_in tables.now) }
     requires low { AreLow (flat_map archives_in tables.now) }
     ensures taken { IfOk result (λ r. numbers_of r.hand.items ≡ flat_map archives_in tables.now) }
-    ensures meant { IsTrue R.A.account.tells → IfOk result (λ r. AreMeant R.A.account.meaning (R.means room.old) r.hand.items) }
+    ensures meant { IsTrue R.A.account.tells
+        → IfOk result (λ r. AreMeant R.A.account.meaning (R.means room.old) r.hand.items) }
     ensures fresh { IfOk result (λ r. (r.tables.items ≡ []) × (r.logs.items ≡ [])) }
-    ensures spaces { IfOk result (λ r. HasSpaces (length tables.now) 512 (vec_capacity r.tables) (vec_capacity r.logs) (vec_capacity r.hand)) }
+    ensures spaces { IfOk result
+        (λ r.
+        HasSpaces (length tables.now) 512 (vec_capacity r.tables) (vec_capacity r.logs)
+        (vec_capacity r.hand)) }
     ensures few { IfOk result (λ r. length r.hand.items ≤ 512) }
     ensures out { OnOk result (AreOut (R.out room.new) (flat_map archives_in tables.now)) }
     ensures home { OnErr result ((n : ℕ) → R.out room.new n ≡ false) }
-    ensures untouched { Untouched (flat_map archives_in tables.now) (R.means room.old) (R.means room.new) }
-    ensures cause { Caused (R.faults room.old) (R.faults room.new) (IsErrOf result RoomFault.Failed) }
-    ensures own { Caused (R.failures room.old) (R.failures room.new) (IsErrOf result RoomFault.Failed) }
+    ensures untouched { Untouched (flat_map archives_in tables.now) (R.means room.old)
+        (R.means room.new) }
+    ensures cause { Caused (R.faults room.old) (R.faults room.new)
+        (IsErrOf result RoomFault.Failed) }
+    ensures own { Caused (R.failures room.old) (R.failures room.new)
+        (IsErrOf result RoomFault.Failed) }
     ensures sound { OnOk result (R.failures room.new ≡ R.failures room.old) }
-    ensures unlent { IsErrOf result RoomFault.Failed → IsUnlent (IsTrue R.A.account.tells) (R.means room.old) (R.means room.new)
+    ensures unlent { IsErrOf result RoomFault.Failed
+        → IsUnlent (IsTrue R.A.account.tells) (R.means room.old) (R.means room.new)
         (R.failures room.old) (R.failures room.new) }
 {
     let Ok(numbers) = numbers_in(alloc, tables) else {
@@ -84,7 +96,8 @@ fn take_archives<R: Room>(
 fn give_back<R: Room>(room: &mut R, remains: Remains<R::A>) -> Result<(), Failed>
     requires { AreOut (R.out room.old) (numbers_of remains.hand.items) }
     ensures home { (n : ℕ) → R.out room.new n ≡ false }
-    ensures untouched { Untouched (numbers_of remains.hand.items) (R.means room.old) (R.means room.new) }
+    ensures untouched { Untouched (numbers_of remains.hand.items) (R.means room.old)
+        (R.means room.new) }
     ensures cause { Caused (R.faults room.old) (R.faults room.new) (IsErr result) }
     ensures own { Caused (R.failures room.old) (R.failures room.new) (IsErr result) }
 {
@@ -106,22 +119,40 @@ fn open_session<R: Room>(
     requires together { FitsTogether (contents image) }
     requires home { (n : ℕ) → R.out room.old n ≡ false }
     ensures opened { IfOk result (λ o. AreFirstPasses o.passes.groups o.passes.index) }
-    ensures marked { IsTrue R.A.account.tells → IfOk result (λ o. AreTakenAt (R.means room.old) o.passes.groups) }
-    ensures read { IfOk result (λ o. (tables_read o.passes.groups ≡ image.tables.items) × (records_read o.passes.index ≡ image.records.items)) }
-    ensures same { IfOk result (λ o. (o.session ≡ image.session) × (o.rack ≡ image.rack) × (o.vault.rack ≡ image.rack)) }
-    ensures ready { IfOk result (λ o. AreReady o.vault.rack o.vault.groups o.passes.groups × IsIndexReady o.vault.rack o.vault.groups o.vault.index o.passes.index) }
+    ensures marked { IsTrue R.A.account.tells
+        → IfOk result (λ o. AreTakenAt (R.means room.old) o.passes.groups) }
+    ensures read { IfOk result
+        (λ o.
+        (tables_read o.passes.groups ≡ image.tables.items)
+        × (records_read o.passes.index ≡ image.records.items)) }
+    ensures same { IfOk result
+        (λ o. (o.session ≡ image.session) × (o.rack ≡ image.rack) × (o.vault.rack ≡ image.rack)) }
+    ensures ready { IfOk result
+        (λ o.
+        AreReady o.vault.rack o.vault.groups o.passes.groups
+        × IsIndexReady o.vault.rack o.vault.groups o.vault.index o.passes.index) }
     ensures count { IfOk result (λ o. length o.vault.groups ≡ o.vault.rack.groups) }
     ensures parts { IfOk result (λ o. HasAllButKept o.passes.groups × HasAllParts o.passes.index) }
     ensures places { IfOk result (λ o. length o.vault.groups ≤ o.spaces) }
-    ensures fresh { IfOk result (λ o. (o.remains.tables.items ≡ []) × (o.remains.logs.items ≡ []) × (o.remains.hand.items ≡ [])) }
-    ensures spaces { IfOk result (λ o. HasSpaces (length image.tables.items) 512 (vec_capacity o.remains.tables) (vec_capacity o.remains.logs) (vec_capacity o.remains.hand)) }
+    ensures fresh { IfOk result
+        (λ o.
+        (o.remains.tables.items ≡ []) × (o.remains.logs.items ≡ [])
+        × (o.remains.hand.items ≡ [])) }
+    ensures spaces { IfOk result
+        (λ o.
+        HasSpaces (length image.tables.items) 512 (vec_capacity o.remains.tables)
+        (vec_capacity o.remains.logs) (vec_capacity o.remains.hand)) }
     ensures out { OnOk result (AreOut (R.out room.new) (flat_map archives_in image.tables.items)) }
     ensures home { OnErr result ((n : ℕ) → R.out room.new n ≡ false) }
-    ensures untouched { Untouched (flat_map archives_in image.tables.items) (R.means room.old) (R.means room.new) }
-    ensures cause { Caused (R.faults room.old) (R.faults room.new) (IsErrOf result RoomFault.Failed) }
-    ensures own { Caused (R.failures room.old) (R.failures room.new) (IsErrOf result RoomFault.Failed) }
+    ensures untouched { Untouched (flat_map archives_in image.tables.items) (R.means room.old)
+        (R.means room.new) }
+    ensures cause { Caused (R.faults room.old) (R.faults room.new)
+        (IsErrOf result RoomFault.Failed) }
+    ensures own { Caused (R.failures room.old) (R.failures room.new)
+        (IsErrOf result RoomFault.Failed) }
     ensures sound { OnOk result (R.failures room.new ≡ R.failures room.old) }
-    ensures unlent { IsErrOf result RoomFault.Failed → IsUnlent (IsTrue R.A.account.tells) (R.means room.old) (R.means room.new)
+    ensures unlent { IsErrOf result RoomFault.Failed
+        → IsUnlent (IsTrue R.A.account.tells) (R.means room.old) (R.means room.new)
         (R.failures room.old) (R.failures room.new) }
 {
     let Image {
@@ -153,14 +184,14 @@ fn open_session<R: Room>(
 }
 
 /// Works the steps of a session that begins with this image, a batch on so many workers, and closes.
-pub fn serve<K: Sink, R: Room, D: Desk, W: Gate, X: Threads + Wait + Sync>(
-    rt: &X,
+pub fn serve<'s, K: Sink, R: Room, D: Desk, W: Gate, X: Threads + Wait + Sync>(
+    rt: &'s X,
     alloc: Global,
-    seed: &[u8; 32],
+    seed: &'s [u8; 32],
     workers: u8,
     image: Image,
     steps: &[Step],
-    gate: &W,
+    gate: &'s W,
     sink: &mut K,
     room: &mut R,
     desk: &mut D,
@@ -172,12 +203,14 @@ pub fn serve<K: Sink, R: Room, D: Desk, W: Gate, X: Threads + Wait + Sync>(
     requires home { (n : ℕ) → R.out room.old n ≡ false }
     requires kept { IsTrue D.tells → D.held desk.old ≡ Some (image_bytes (contents image)) }
     ensures home { (n : ℕ) → R.out room.new n ≡ false }
-    ensures untouched { Untouched (flat_map archives_in image.tables.items ++ asked_by steps.now) (R.means room.old) (R.means room.new) }
+    ensures untouched { Untouched (flat_map archives_in image.tables.items ++ asked_by steps.now)
+        (R.means room.old) (R.means room.new) }
     ensures serves { Serves seed.now (contents image) steps.now
         (rooms_by (IsTrue R.A.account.tells) (R.means room.old) (R.means room.new)
         (R.failures room.old) (R.failures room.new))
         (IsTrue K.tells) (K.written sink.old) (K.written sink.new)
-        (desks_by (IsTrue D.tells) (D.held desk.new) (D.faults desk.old) (D.faults desk.new)) result }
+        (desks_by (IsTrue D.tells) (D.held desk.new) (D.faults desk.old) (D.faults desk.new))
+        result }
     ensures which { IsEnd result }
     ensures sink { Caused (K.faults sink.old) (K.faults sink.new) (result ≡ Status.SinkFault) }
     ensures room { Caused (R.faults room.old) (R.faults room.new) (result ≡ Status.RoomFault) }
@@ -189,22 +222,18 @@ pub fn serve<K: Sink, R: Room, D: Desk, W: Gate, X: Threads + Wait + Sync>(
         Err(RoomFault::Failed) => return Status::RoomFault,
         Err(RoomFault::NoMemory) => return Status::NoMemory,
     };
-    let terms = Terms {
-        seed,
-        session: opened.session,
+    let crew = Crew {
+        shared: Shared {
+            rt,
+            alloc,
+            vault: &opened.vault,
+            seed,
+            session: opened.session,
+        },
         workers,
-    };
-    let ending = work(
-        rt,
-        alloc,
-        &opened.vault,
-        &mut opened.passes,
-        &terms,
-        steps,
         gate,
-        sink,
-        room,
-    );
+    };
+    let ending = work(&crew, &mut opened.passes, steps, sink, room);
     let closed = close_session(alloc, opened, room, desk);
     status_after(ending, closed)
 }

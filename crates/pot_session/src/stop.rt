@@ -115,7 +115,10 @@ fn numbered(alloc: Global, words: &[u8], number: u64) -> Result<Vec<u8>, AllocEr
 
 /// The line that names two digests which are to be one.
 fn trailer(alloc: Global, kept: Digest, computed: Digest) -> Result<Vec<u8>, AllocError>
-    ensures { IfOk result (λ v. v.items ≡ codes "image refused trailer" ++ in_hex kept ++ in_hex computed ++ codes "\n") }
+    ensures { IfOk result
+        (λ v.
+        v.items
+        ≡ codes "image refused trailer" ++ in_hex kept ++ in_hex computed ++ codes "\n") }
 {
     let mut line = b"image refused trailer".to_vec(alloc)?;
     append_digest(&mut line, kept)?;

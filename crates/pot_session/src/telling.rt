@@ -17,7 +17,8 @@ pub struct Telling {
 
 /// Writes the text, and answers whether something was refused, or that the sink failed.
 pub fn tell<K: Sink>(telling: &Telling, sink: &mut K) -> Status
-    ensures told { Tells (IsTrue K.tells) (K.written sink.old) (K.written sink.new) telling.now result }
+    ensures told { Tells (IsTrue K.tells) (K.written sink.old) (K.written sink.new) telling.now
+        result }
     ensures cause { Caused (K.faults sink.old) (K.faults sink.new) (result ≡ Status.SinkFault) }
 {
     match write_out(sink, &telling.text) {

@@ -54,12 +54,15 @@ fn answer<S: Source, K: Sink, R: Room, D: Desk, W: Gate, X: Threads + Wait + Syn
         (IsTrue K.tells) (K.written sink.old) (K.written sink.new)
         (IsTrue D.tells) (D.held desk.old) (D.held desk.new)
         (IsTrue R.A.account.tells) (R.means room.old) (R.means room.new)
-        (R.failures room.old) (R.failures room.new) (D.faults desk.old) (D.faults desk.new)) result }
+        (R.failures room.old) (R.failures room.new) (D.faults desk.old) (D.faults desk.new))
+        result }
     ensures home { (n : ℕ) → R.out room.new n ≡ false }
-    ensures source { Caused (S.faults source.old) (S.faults source.new) (result ≡ Status.SourceFault) }
+    ensures source { Caused (S.faults source.old) (S.faults source.new)
+        (result ≡ Status.SourceFault) }
     ensures sink { Caused (K.faults sink.old) (K.faults sink.new) (result ≡ Status.SinkFault) }
     ensures room { Caused (R.faults room.old) (R.faults room.new) (result ≡ Status.RoomFault) }
-    ensures own { result ≡ Status.RoomFault → RoomFails (map string_bytes words.now) (IsTrue R.A.account.tells)
+    ensures own { result ≡ Status.RoomFault
+        → RoomFails (map string_bytes words.now) (IsTrue R.A.account.tells)
         (R.means room.old) (R.means room.new) (R.failures room.old) (R.failures room.new) }
     ensures desk { Caused (D.faults desk.old) (D.faults desk.new) (result ≡ Status.DeskFault) }
 {
@@ -110,12 +113,14 @@ pub fn run<S: Source, K: Sink, R: Room, D: Desk, W: Gate, X: Threads + Wait + Sy
     gate: &W,
 ) -> u8
     requires home { (n : ℕ) → R.out room.old n ≡ false }
-    ensures runs { (status : Status) × (result ≡ code_of status) × Runs (map string_bytes words.now) drawn
+    ensures runs { (status : Status) × (result ≡ code_of status)
+        × Runs (map string_bytes words.now) drawn
         (seen_by (IsTrue S.tells) (S.left source.old) (S.left source.new)
         (IsTrue K.tells) (K.written sink.old) (K.written sink.new)
         (IsTrue D.tells) (D.held desk.old) (D.held desk.new)
         (IsTrue R.A.account.tells) (R.means room.old) (R.means room.new)
-        (R.failures room.old) (R.failures room.new) (D.faults desk.old) (D.faults desk.new)) status }
+        (R.failures room.old) (R.failures room.new) (D.faults desk.old) (D.faults desk.new))
+        status }
     ensures home { (n : ℕ) → R.out room.new n ≡ false }
     ensures source { Caused (S.faults source.old) (S.faults source.new) (result ≡ 4) }
     ensures sink { Caused (K.faults sink.old) (K.faults sink.new) (result ≡ 5) }

@@ -1,11 +1,10 @@
-use Rattle.std.proofs.Common.{IsTrue, refl, sym, subst, ◌∙◌}
+use Rattle.std.proofs.Common.{IsTrue, ap, refl, sym, subst, ◌∙◌}
+use Rattle.std.specs.Prelude.{slice_get}
 use Rattle.pot_store.specs.Works.{known}
 use Rattle.pot_session.specs.Serving.{IsCloseStop, desks_by, rooms_by}
 use Rattle.pot_session.proofs.OutLemmas.{none_out_of, out_apart}
 use Rattle.pot_session.proofs.Countable.{countable}
-use Rattle.pot_session.proofs.FoundLemmas.{found_at}
 use Rattle.pot_session.proofs.GivingLemmas.{missed}
-use Rattle.pot_session.proofs.ServeLemmas.{first_tables}
 use Rattle.pot_session.proofs.CloseImages.{closes, close_stop, room_failure, desk_failure}
 use Rattle.pot_session.proofs.closing.close_session.Goals as goal
 
@@ -39,8 +38,7 @@ returns-clause-closes g c old first meant failed served taken marks begun =
     (desks_by (IsTrue g.D.Desk.tells) (g.D.Desk.held c.keep_image-kept.new.desk) (g.D.Desk.faults c.args.desk.now) (g.D.Desk.faults c.keep_image-kept.new.desk)) first _ (g.D.Desk.held c.args.desk.now)
     c.give_hand-given.result c.keep_image-kept.result _ c.keep_image-kept.ensures.told c.keep_image-kept.ensures.which c.keep_image-kept.ensures.cause c.give_hand-given.ensures.back served.opened begun c.requires.rack
     (c.end_vault-remains.ensures.groups old meant served taken marks) (c.end_vault-remains.ensures.logs old served)
-    (λ told. found_at meant old (known c.args.opened.passes.groups c.args.opened.passes.index) first.tables served.opened
-    (sym (first_tables _ _ old.groups c.args.opened.passes.groups served.opened c.requires.ready served.stays.groups) ∙ sym begun.are_tables) (taken told))
+    (λ told g t q. c.end_vault-remains.ensures.opened old meant served taken marks told g t (ap (λ ts. slice_get ts g) (sym begun.are_tables) ∙ q))
     c.first_failure.ensures
 
 pub returns-clause-which : goal.returns-clause-which

@@ -4,7 +4,7 @@ use Rattle.pot_group.specs.Group.{view_of}
 use Rattle.pot_shelves.specs.Shelves.{numbers_of}
 use Rattle.pot_commands.specs.Holding.{times}
 use Rattle.pot_session.specs.Groups.{had_by}
-use Rattle.pot_session.proofs.EndLemmas.{few_records, few_entries, closed_few, closed_had, closed_long, closed_groups, closed_leaves, all_few}
+use Rattle.pot_session.proofs.EndLemmas.{few_records, few_entries, closed_few, closed_had, closed_long, closed_groups, closed_opened, closed_leaves, all_few}
 use Rattle.pot_session.proofs.closing.end_vault.Goals as goal
 
 pub end_groups-requires-clause-tables : goal.end_groups-requires-clause-tables
@@ -32,6 +32,11 @@ returns-clause-groups g c old meant served taken marks =
     closed_groups (IsTrue g.A.Archive.account.tells) g.A.Archive.account.meaning (λ m. m.group) _ _ _ _ c.args.passes.index _ _ c.requires.ready c.requires.index old served c.close-members.ensures c.end_groups.ensures.ended meant taken marks _
     (c.end_groups.ensures.shelves ∙ ap (λ l. l ++ flat_map (λ m. m.group.shelves.shelves) c.close-members.result.members.items) c.requires.fresh.2) _ _
     (c.end_groups.ensures.logs ∙ ap (λ l. map (λ v. v.items) l ++ map (λ m. m.group.log) c.close-members.result.members.items) c.requires.fresh.1) (c.end_groups.ensures.tables ∙ ap (λ l. l ++ map (λ m. m.group.table) c.close-members.result.members.items) c.requires.fresh.0)
+
+pub returns-clause-opened : goal.returns-clause-opened
+returns-clause-opened g c old meant served taken marks told =
+    closed_opened (IsTrue g.A.Archive.account.tells) g.A.Archive.account.meaning (λ m. m.group) _ _ _ _ c.args.passes.index _ _ c.requires.ready c.requires.index old served c.close-members.ensures c.end_groups.ensures.ended meant taken marks _
+    (c.end_groups.ensures.shelves ∙ ap (λ l. l ++ flat_map (λ m. m.group.shelves.shelves) c.close-members.result.members.items) c.requires.fresh.2) told
 
 pub returns-clause-logs : goal.returns-clause-logs
 returns-clause-logs g c old served =

@@ -3,6 +3,7 @@ use Rattle.std.proofs.lemmas.List.{take-map}
 use Rattle.std.specs.Prelude.{Contains}
 use Rattle.pot_outside.specs.declared.archive.Shelf.{Shelf}
 use Rattle.pot_machine.specs.Table.{archives_in}
+use Rattle.pot_machine.specs.Rules.{IsTable}
 use Rattle.pot_shelves.specs.Shelves.{numbers_of}
 use Rattle.pot_commands.specs.Holding.{AreSame}
 use Rattle.pot_session.proofs.GroupLemmas.{opened_of, started_of, marked_of, same_parts, long_parts}
@@ -28,7 +29,9 @@ returns-in-Ok-clause-marked g c meant told are =
 pub returns-in-Ok-clause-opened : goal.returns-in-Ok-clause-opened
 returns-in-Ok-clause-opened g c meant told are =
     opened_of (IsTrue g.A.Archive.account.tells) g.A.Archive.account.meaning meant c.args.number c.args.table c.in_ok-shelves.shelves.items c.in-Ok.group told c.in-Ok.ensures.begins
+    (ap numbers_of c.in_ok-shelves.ensures.front ∙ (sym (take-map (λ (s : Shelf _). s.number) (length (archives_in c.args.table)) c.args.hand.now.items) ∙ c.requires.hand))
     (λ s has. are s (take_contains c.args.hand.now.items (length (archives_in c.args.table)) s (subst (λ ss. Contains ss s) c.in_ok-shelves.ensures.front has)))
+    (subst (λ t. IsTable t) c.in-Ok.ensures.begins.first c.logged-rules.ensures.first)
 
 pub put_back-requires : goal.put_back-requires
 put_back-requires g c =

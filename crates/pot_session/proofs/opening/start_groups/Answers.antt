@@ -5,7 +5,8 @@ use Rattle.std.specs.Prelude.{Contains, flat_map, slice_get}
 use Rattle.pot_machine.specs.Table.{archives_in}
 use Rattle.pot_group.specs.Group.{view_of}
 use Rattle.pot_shelves.specs.Shelves.{numbers_of}
-use Rattle.pot_session.specs.Groups.{IsOpened, IsStarted, IsTakenFrom, AreMarked, AreTakenFrom}
+use Rattle.pot_session.specs.Groups.{IsOpened, IsStarted, IsTakenFrom, AreMarked, AreTakenFrom, RoseBy}
+use Rattle.pot_shared.specs.Members.{opened_at}
 use Rattle.pot_session.proofs.Lists.{first_is, some_left, each_more, drop_contains}
 use Rattle.pot_session.proofs.OutLemmas.{is_zero}
 use Rattle.pot_session.proofs.GroupLemmas.{none_started, one_started, all_started, next_table, hand_rest, started_long, had_long, all_there}
@@ -67,7 +68,7 @@ loop-alloc-preserved g c =
         subst (λ ms. AreTakenFrom meant (λ m. view_of g.A.Archive.account.meaning m.group) ms) (sym c.push_reserved.ensures.items)
             (each_more (λ m. IsTakenFrom meant (view_of g.A.Archive.account.meaning m.group)) c.loop-alloc.members.items c.in-Ok.member sofar.1 (record {
               marked = subst (λ t. AreMarked meant t (view_of g.A.Archive.account.meaning c.in-Ok.member.group).shelves) (sym c.in-Ok.ensures.started.first) (c.in-Ok.ensures.marked meant told sofar.0);
-              opened = subst (λ t. IsOpened meant t (view_of g.A.Archive.account.meaning c.in-Ok.member.group).log) (sym c.in-Ok.ensures.started.first) (c.in-Ok.ensures.opened meant told sofar.0);
+              opened = subst (λ t. IsOpened meant (RoseBy meant t (opened_at (view_of g.A.Archive.account.meaning c.in-Ok.member.group).shelves)) t (view_of g.A.Archive.account.meaning c.in-Ok.member.group).log) (sym c.in-Ok.ensures.started.first) (c.in-Ok.ensures.opened meant told sofar.0);
             })),
       ));
       number_is = omega (arith, c.loop-alloc.invariant.number_is, more, one);

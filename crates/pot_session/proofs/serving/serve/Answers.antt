@@ -24,8 +24,13 @@ use Rattle.pot_session.proofs.serving.serve.Goals as goal
 pub work-ending-requires-clause-parts : goal.work-ending-requires-clause-parts
 work-ending-requires-clause-parts g c = λ bounds within. (but_kept_parts _ c.in-Ok.ensures.parts.0, all_parts _ c.in-Ok.ensures.parts.1)
 
-pub work-ending-requires-clause-rack : goal.work-ending-requires-clause-rack
-work-ending-requires-clause-rack g c = λ bounds within. subst IsRack (sym c.in-Ok.ensures.same.2) c.requires.together.rack
+pub work-ending-requires-clause-can : goal.work-ending-requires-clause-can
+work-ending-requires-clause-can g c = λ bounds within. record {
+  is_rack = subst IsRack (sym c.in-Ok.ensures.same.2) c.requires.together.rack;
+  count = c.in-Ok.ensures.count;
+  ready = c.in-Ok.ensures.ready.0;
+  index_ready = c.in-Ok.ensures.ready.1;
+}
 
 pub work-ending-requires-clause-filled : goal.work-ending-requires-clause-filled
 work-ending-requires-clause-filled g c = λ bounds within.
@@ -47,7 +52,7 @@ close_session-closed-requires-clause-served g c = λ bounds within. (
   (flat_map archives_in c.args.image.tables.items) ++ c.work-ending.ensures.took.taken,
   record { opened = c.in-Ok.ensures.opened; went = c.work-ending.ensures.went; stays = c.work-ending.ensures.stays },
   have_come (IsTrue g.R.A.Archive.account.tells) _ (asked_by c.args.steps.now) (lending (g.R.Room.out c.open_session.new.room) (g.R.Room.means c.open_session.new.room)) (lending (g.R.Room.out c.work-ending.new.room) (g.R.Room.means c.work-ending.new.room)) (known c.in-Ok.opened.passes.groups c.in-Ok.opened.passes.index) (known c.work-ending.new.passes.groups c.work-ending.new.passes.index) c.work-ending.ensures.took.taken c.work-ending.ensures.took.takes c.work-ending.ensures.took.come (flat_map archives_in c.args.image.tables.items) c.in-Ok.ensures.out
-      (ap (flat_map archives_in) (same_read _ _ _ _ c.in-Ok.ensures.ready.0 c.work-ending.ensures.ready c.work-ending.ensures.stays.groups ∙ c.in-Ok.ensures.read.0)),
+      (ap (flat_map archives_in) (same_read _ _ _ _ c.in-Ok.ensures.ready.0 c.work-ending.ensures.can.ready c.work-ending.ensures.stays.groups ∙ c.in-Ok.ensures.read.0)),
   out_after (IsTrue g.R.A.Archive.account.tells) _ (asked_by c.args.steps.now) (lending (g.R.Room.out c.open_session.new.room) (g.R.Room.means c.open_session.new.room)) (lending (g.R.Room.out c.work-ending.new.room) (g.R.Room.means c.work-ending.new.room)) (known c.in-Ok.opened.passes.groups c.in-Ok.opened.passes.index) (known c.work-ending.new.passes.groups c.work-ending.new.passes.index) c.work-ending.ensures.took.taken c.work-ending.ensures.took.takes c.work-ending.ensures.took.come (flat_map archives_in c.args.image.tables.items) c.in-Ok.ensures.out,
   low_after (IsTrue g.R.A.Archive.account.tells) _ (asked_by c.args.steps.now) (lending (g.R.Room.out c.open_session.new.room) (g.R.Room.means c.open_session.new.room)) (lending (g.R.Room.out c.work-ending.new.room) (g.R.Room.means c.work-ending.new.room)) (known c.in-Ok.opened.passes.groups c.in-Ok.opened.passes.index) (known c.work-ending.new.passes.groups c.work-ending.new.passes.index) c.work-ending.ensures.took.taken c.work-ending.ensures.took.takes c.work-ending.ensures.took.come (flat_map archives_in c.args.image.tables.items) c.in-Ok.ensures.out (image_low (contents c.args.image) c.requires.together) (asked_low c.args.image.rack c.args.steps.now c.requires.worked),
 )
@@ -59,7 +64,7 @@ close_session-closed-requires-clause-parts g c = λ bounds within.
 pub close_session-closed-requires-clause-spaces : goal.close_session-closed-requires-clause-spaces
 close_session-closed-requires-clause-spaces g c = λ bounds within.
     subst (λ ts. HasSpaces (length ts) 512 (vec_capacity c.in-Ok.opened.remains.tables) (vec_capacity c.in-Ok.opened.remains.logs) (vec_capacity c.in-Ok.opened.remains.hand))
-    (sym (same_read _ _ _ _ c.in-Ok.ensures.ready.0 c.work-ending.ensures.ready c.work-ending.ensures.stays.groups ∙ c.in-Ok.ensures.read.0)) c.in-Ok.ensures.spaces
+    (sym (same_read _ _ _ _ c.in-Ok.ensures.ready.0 c.work-ending.ensures.can.ready c.work-ending.ensures.stays.groups ∙ c.in-Ok.ensures.read.0)) c.in-Ok.ensures.spaces
 
 pub close_session-closed-requires-clause-rack : goal.close_session-closed-requires-clause-rack
 close_session-closed-requires-clause-rack g c = λ bounds within. c.in-Ok.ensures.same.1 ∙ sym c.in-Ok.ensures.same.2
@@ -77,7 +82,7 @@ returns-clause-serves g c =
     (marks_before (IsTrue g.R.A.Archive.account.tells) _ (asked_by c.args.steps.now) (lending (g.R.Room.out c.open_session.new.room) (g.R.Room.means c.open_session.new.room)) (lending (g.R.Room.out c.work-ending.new.room) (g.R.Room.means c.work-ending.new.room)) (known c.in-Ok.opened.passes.groups c.in-Ok.opened.passes.index) (known c.work-ending.new.passes.groups c.work-ending.new.passes.index) c.work-ending.ensures.took.taken c.work-ending.ensures.took.takes c.work-ending.ensures.took.come (flat_map archives_in c.args.image.tables.items) c.in-Ok.ensures.out (g.R.Room.means c.args.room.now) c.open_session.ensures.untouched) (record {
       is_session = sym c.in-Ok.ensures.same.0;
       is_rack = sym c.in-Ok.ensures.same.1;
-      are_tables = sym (same_read _ _ _ _ c.in-Ok.ensures.ready.0 c.work-ending.ensures.ready c.work-ending.ensures.stays.groups ∙ c.in-Ok.ensures.read.0);
+      are_tables = sym (same_read _ _ _ _ c.in-Ok.ensures.ready.0 c.work-ending.ensures.can.ready c.work-ending.ensures.stays.groups ∙ c.in-Ok.ensures.read.0);
       are_records = sym (same_records _ _ c.work-ending.ensures.stays.index ∙ c.in-Ok.ensures.read.1);
     }) in
     let names : length c.in-Ok.opened.passes.groups.names ≡ c.args.image.rack.groups =

@@ -3,7 +3,8 @@ use Rattle.std.proofs.lemmas.List.Elements.{All-replicate}
 use Rattle.pot_machine.specs.declared.entry.Entry.{Entry}
 use Rattle.pot_session.specs.Making.{empty_contents}
 use Rattle.pot_session.proofs.Countable.{countable}
-use Rattle.pot_session.proofs.making.make_image.Goals as goal
+use Rattle.pot_session.proofs.TopLemmas.{served}
+use Rattle.pot_session.proofs.making.put_empty_image.Goals as goal
 
 pub keep_image-requires : goal.keep_image-requires
 keep_image-requires g c =
