@@ -1,5 +1,5 @@
 -- A run whose words, image and script are in their grammars answers all commands.
-use Rattle.std.proofs.Common.{◌≡◌, inl, inr, ℕ, List, Option, Some, Result, Ok, Err, Bool, false, refl, ap, sym, ◌∙◌, subst, arith, MatchResult}
+use Rattle.std.proofs.Common.{◌≡◌, inl, inr, ℕ, List, Option, Some, Result, Ok, Err, Bool, refl, ap, sym, ◌∙◌, subst, arith, MatchResult}
 use Rattle.std.specs.Prelude.{IsTrue}
 use Rattle.std.proofs.lemmas.Option.{same_Some}
 use Rattle.pot_outside.specs.Archives.{Meaning}
@@ -201,7 +201,7 @@ module _ (words : List Text) (drawn : List ℕ) (source_tells sink_tells desk_te
   held_well : (seed : List ℕ)
       → Holds seed (seen_by (IsTrue source_tells) input rest (IsTrue sink_tells) before after (IsTrue desk_tells) held holds (IsTrue room_tells) meant means failed fails desk_failed desk_fails) answer → IsDone answer
   held_well seed (Stopped s stops refuses same) = absurd (refused_so answer no_fault_said had_memory (IsTrue sink_tells) before after s refuses (stops_not s stops))
-  held_well seed (Served j others of whole serves ends untouched) = ended_well answer ends no_fault_said had_memory
+  held_well seed (Served j others of fits whole serves ends untouched) = ended_well answer ends no_fault_said had_memory
 
   abbrev Answers : Type 0
   Answers = IsDone answer × ((seed : List ℕ) × AsksSession words drawn seed

@@ -31,7 +31,7 @@ use Rattle.pot_replies.specs.Stores.{IsStored}
 use Rattle.pot_commands.proofs.Logs.{names_to}
 use Rattle.pot_session.specs.Serving.{setting_of}
 use Rattle.pot_promises.specs.Answers.{job_at}
-use Rattle.pot_promises.specs.Chains.{IsSession, Begins, Later, Same, More}
+use Rattle.pot_promises.specs.Chains.{IsSession, Begins, Later, Same, Begun, More}
 use Rattle.pot_promises.specs.Promises.{GivesBack, GivesBackLater}
 use Rattle.pot_promises.proofs.Keeping.{Has, still_has, published_has, found_digest}
 use Rattle.pot_promises.proofs.Walking.{IsCut, row_at, cut_at, behind_at}
@@ -110,10 +110,10 @@ led seed first last ss rs session =
     }
 
 pub gives_back : GivesBack
-gives_back seed first last ss rs fits session p i q j lt name file of pieces shards stored given bytes fetched alike =
+gives_back seed first last ss rs session p i q j lt name file of pieces shards stored given bytes fetched alike =
     let s = setting_of seed first in
     let it = led seed first last ss rs session in
-    let a = first_names first fits in
+    let a = first_names first session.fits in
     let put = row_at s ss session.replied.ones rs p i (commands.Store name file) (replies.Stored of pieces shards) session.replied.answers refl stored in
     let got = row_at s ss session.replied.ones rs q j (commands.Fetch name) (replies.File given bytes) session.replied.answers refl fetched in
     let its = put.row.1.1 in
@@ -158,6 +158,7 @@ begins_keeps left first name d begins keeps = record {
 
 later_keeps : (from left : Contents) (name : List ℕ) (d : Digest) → Keeps from name d → Later from left → Keeps left name d
 later_keeps from left name d keeps Same = keeps
+later_keeps from left name d keeps (Begun {left = before} sofar begins) = begins_keeps before left name d begins (later_keeps from before name d keeps sofar)
 later_keeps from left name d keeps (More {left = before} {first} sofar begins leaves) =
     let there = begins_keeps before first name d begins (later_keeps from before name d keeps sofar) in
     left_keeps first.rack leaves.records.ended left name d
@@ -166,9 +167,9 @@ later_keeps from left name d keeps (More {left = before} {first} sofar begins le
     leaves.rack leaves.records.is
 
 pub gives_back_later : GivesBackLater
-gives_back_later seed first last ss rs fits session p i name file of pieces shards stored left later seed2 first2 last2 ss2 rs2 begins session2 q j given bytes fetched alike =
+gives_back_later seed first last ss rs session p i name file of pieces shards stored left later seed2 first2 last2 ss2 rs2 begins session2 q j given bytes fetched alike =
     let it = led seed first last ss rs session in
-    let a = first_names first fits in
+    let a = first_names first session.fits in
     let then = replay_keeps first.rack (names_of first) it.sofar session.done.index_added a it.to in
     let put = row_at (setting_of seed first) ss session.replied.ones rs p i (commands.Store name file) (replies.Stored of pieces shards) session.replied.answers refl stored in
     let its = put.row.1.1 in

@@ -3,9 +3,11 @@ pub mod Faulting
 pub mod FirstReplies
 pub mod Giving
 pub mod Keeping
+pub mod Losing
 pub mod Odds
 pub mod Quiet
 pub mod Replying
 pub mod Running
+pub mod TrueOpenings
 pub mod Veils
 pub mod Walking

@@ -8,7 +8,6 @@ use Rattle.std.proofs.lemmas.List.Concat.{flat_map-append}
 use Rattle.std.proofs.lemmas.List.Elements.{All-contains, Contains-append_left, Contains-append_right}
 use Rattle.std.proofs.lemmas.Nat.{mod_below}
 use Rattle.std.proofs.lemmas.Option.{same_Some, get_or_from_slice_get, slice_get_within, slice_get-get_or}
-use Rattle.pot_bytes.specs.Lists.{AreBytes}
 use Rattle.pot_bytes.specs.Rack.{no_place}
 use Rattle.pot_bytes.specs.declared.digest.Digest.{Digest}
 use Rattle.pot_bytes.specs.declared.rack.Place.{Place}
@@ -50,7 +49,7 @@ use Rattle.pot_script.specs.declared.grouping.Step.{Step}
 use Rattle.pot_script.specs.declared.reply.Reply.{Reply}
 use Rattle.pot_script.specs.declared.reply.Reply.TheVariants as replies
 use Rattle.pot_image.specs.Images.{Contents}
-use Rattle.pot_image.specs.Rules.{FitsTable, FitsTogether}
+use Rattle.pot_image.specs.Rules.{FitsTable}
 use Rattle.pot_replies.specs.Digests.{NoTwoAlike}
 use Rattle.pot_replies.specs.Fetches.{IsOdd, ReadAt, SeenAs, has_seen}
 use Rattle.pot_replies.specs.Joined.{AreJoined, Read, point_in, points_read, share_in, shares_read}
@@ -171,7 +170,7 @@ parted [] [] (y ∷ m) x s c l = ap (λ t. y ∷ t) (parted [] [] m x s c l)
 parted [] (y ∷ e) m x s c l = ap (λ t. y ∷ t) (parted [] e m x s c l)
 parted (y ∷ b) e m x s c l = ap (λ t. y ∷ t) (parted b e m x s c l)
 
-module _ (seed : List ℕ) (first last : Contents) (ss : List Step) (rs : List Reply) (together : FitsTogether first) (session : IsSession seed first last ss rs) (p i : ℕ)
+module _ (seed : List ℕ) (first last : Contents) (ss : List Step) (rs : List Reply) (session : IsSession seed first last ss rs) (p i : ℕ)
     (name file : List ℕ) (pieces shards : ℕ) (put : IsKept seed first last ss rs session p i name file pieces shards) (two : Section) (halves : Halves two)
     (behind : IsBehind put.one two session.done) where
   abbrev w : Section
@@ -202,9 +201,9 @@ module _ (seed : List ℕ) (first last : Contents) (ss : List Step) (rs : List R
       → SeenAs ((setting_of seed first).first x.group) job (w.before x.group) (w.added x.group) x.stripe x.column d → d ≡ x.digest
   seen_is_put job b x d at (front, back, parts, live) =
       let g : ℕ = x.group in
-      let t = element_at first.tables g (let lt = in_rack b x at in let n = together.tables.count in omega (arith, lt, n)) in
+      let t = element_at first.tables g (let lt = in_rack b x at in let n = session.fits.tables.count in omega (arith, lt, n)) in
       let leads = session.groups g t.0 t.1 in
-      let rules = all_at_place (FitsTable first.rack) first.tables g t.0 together.tables.fits t.1 in
+      let rules = all_at_place (FitsTable first.rack) first.tables g t.0 session.fits.tables.fits t.1 in
       let same : (setting_of seed first).first g ≡ t.0 = get_or_from_slice_get first.tables g t.0 (empty_table first.rack g) t.1 in
       let log : List Entry = (two.before g ++ halves.begun g) ++ front in
       let tail : List Entry = entry.Seen job x.stripe x.column ∷ back in
@@ -222,7 +221,7 @@ module _ (seed : List ℕ) (first last : Contents) (ss : List Step) (rs : List R
       same_Some d x.digest (sym (ap digest_in (subst (λ f. slot_at (replayed f log) x.stripe x.column ≡ Live d) same live)) ∙ filled)
 
   module _ (held : List (List ℕ)) (job : ℕ) (wanted got : Digest) (odd : IsOdd (Some held) (setting_of seed first) job name wanted got w)
-      (same : odd.kept ≡ put.its.kept) (bytes : AreBytes file)
+      (same : odd.kept ≡ put.its.kept)
       (alike : NoTwoAlike (file_blocks first.rack.geometry file (random_of seed first (job_at ss p i) file) ++ held)) where
     abbrev kept : Record
     kept = odd.kept
@@ -252,7 +251,7 @@ module _ (seed : List ℕ) (first last : Contents) (ss : List Step) (rs : List R
     places = ap (λ (r : Record). r.places) same ∙ put.its.is_record.places
 
     store : IsStore kept.geometry file random
-    store = subst (λ g. IsStore g file random) geometry (store_of first together (pads_of seed first.session (job_at ss p i)) file put.its.short bytes)
+    store = subst (λ g. IsStore g file random) geometry (store_of first session.fits (pads_of seed first.session (job_at ss p i)) file put.its.short put.its.bytes)
 
     -- a block that was read at a place is that of the file
     read_is_put : (a b c : ℕ) (block : List ℕ) → a < pieces_of kept.length → b < kept.geometry.fragments → c < kept.geometry.shards
@@ -367,15 +366,15 @@ odd_reads seed first last ss rs session q j name given wanted got answered =
     )
 
 pub never_odd : NeverOdd
-never_odd seed first last ss rs together session p i q j lt name file of pieces shards bytes answered none read wanted got was alike =
+never_odd seed first last ss rs session p i q j lt name file of pieces shards answered none read wanted got was alike =
     let s = setting_of seed first in
-    let put = kept_at seed first last ss rs together session p i name file of pieces shards answered in
+    let put = kept_at seed first last ss rs session p i name file of pieces shards answered in
     let it = led seed first last ss rs session in
     let behind = behind_at ss 1 session.replied.ones session.done p q put.one was.one lt session.replied.are put.there was.its in
     let earlier : List Logged = behind.cut.index_earlier in
     let sofar : List Logged = was.odd.found.sofar in
     let found = met s session.done was.one was.halves (job_at ss q j) name was.odd.kept (names_of first) it.sofar behind.cut was.odd.found it.begins it.to in
-    let names = first_names first together in
+    let names = first_names first session.fits in
     let quiet = steps_quiet name s ss 1 session.replied.ones rs session.done q was.one session.replied.are session.replied.answers was.its none
     (subst (Quiet name) (sym (session.follows.index_begins ∙ session.opened)) (quiet_none name)) in
     let log_quiet : Quiet name (earlier ++ sofar) =
@@ -389,4 +388,4 @@ never_odd seed first last ss rs together session p i q j lt name file of pieces 
     let same : was.odd.kept ≡ put.its.kept =
     one_record found.now.published was.odd.kept put.its.kept (replay_keeps first.rack (names_of first) found.now (earlier ++ sofar) names found.to).ascends
     found.is.0 stays (found.is.1 ∙ sym put.its.is_record.named) in
-    not_odd seed first last ss rs together session p i name file pieces shards put was.one was.halves behind read (job_at ss q j) wanted got was.odd same bytes alike
+    not_odd seed first last ss rs session p i name file pieces shards put was.one was.halves behind read (job_at ss q j) wanted got was.odd same alike

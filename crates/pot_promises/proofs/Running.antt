@@ -1,32 +1,41 @@
--- A run that ends well is a session.
-use Rattle.std.proofs.Common.{◌≡◌, inl, inr, ℕ, List, [], ◌∷◌, ◌++◌, Option, Some, Result, Ok, Err, Bool, refl, ap, sym, ◌∙◌, subst, append-nil, arith}
-use Rattle.std.specs.Prelude.{IsTrue}
+-- A run is a session, as far as its steps came, and leaves a later image.
+use Rattle.std.proofs.Common.{◌≡◌, ◌⊎◌, inl, inr, ℕ, List, [], ◌∷◌, ◌++◌, Option, Some, Result, Ok, Err, Bool, refl, ap, sym, ◌∙◌, subst, append-nil, append_assoc, arith, take, drop}
+use Rattle.std.specs.Prelude.{IfErr, IsTrue, None}
+use Rattle.std.proofs.lemmas.Grind.{flat_map-append}
+use Rattle.std.proofs.lemmas.List.{take-append-drop}
 use Rattle.pot_outside.specs.Archives.{Meaning}
+use Rattle.pot_outside.specs.Failing.{MayLeave}
+use Rattle.pot_script.specs.Replies.{reply_text}
+use Rattle.pot_script.specs.declared.command.Command.{Command}
 use Rattle.pot_script.specs.declared.grouping.Step.{Step}
+use Rattle.pot_script.specs.declared.reply.Reply.{Reply}
 use Rattle.pot_image.specs.declared.image.Image.{Image}
 use Rattle.pot_image.specs.Images.{Contents, contents, AnswersImage}
-use Rattle.pot_image.specs.Rules.{FitsTogether}
+use Rattle.pot_image.specs.Rules.{FitsTogether, IsImage}
 use Rattle.pot_image.proofs.ImageBack.{answers_back}
-use Rattle.pot_image.proofs.ImageKept.{numbered_kept}
 use Rattle.pot_replies.specs.Sections.{Section, Follows}
+use Rattle.pot_replies.specs.Sessions.{Replied}
+use Rattle.pot_replies.specs.Sessions as Sessions
+use Rattle.pot_replies.specs.Settings.{Setting}
 use Rattle.pot_commands.specs.declared.working.Ending.{Ending}
 use Rattle.pot_commands.specs.declared.working.Ending.TheVariants as ending
-use Rattle.pot_commands.specs.Ends.{EndsOver}
+use Rattle.pot_commands.specs.Ends.{EndsOver, EndsShort, StopsAt, texts_of}
+use Rattle.pot_commands.specs.Rows.{Row}
+use Rattle.pot_commands.specs.Steps.{IsStepHalted, IsStepLeft, steps_of}
 use Rattle.pot_session.specs.declared.status.Status.{Status}
 use Rattle.pot_session.specs.declared.stop.Stop.{Stop}
 use Rattle.pot_session.specs.declared.stop.Stop.TheVariants as stop
 use Rattle.pot_session.specs.Commands.{IsRead}
-use Rattle.pot_session.specs.Desks.{HoldsImage, Keeps, begun}
-use Rattle.pot_session.specs.Runs.{Holds, Stopped, Served, seen_by}
+use Rattle.pot_session.specs.Desks.{HoldsImage, IsKeepStop, Keeps, begun}
+use Rattle.pot_session.specs.Runs.{Holds, Stopped, Served, AtDesk, AtScript, AtOpening, seen_by}
 use Rattle.pot_session.specs.Serving.{Serves, Unlent, Unopened, Closed, IsClosed, Desks, Rooms, desks_by, rooms_by, Leaves, close_answer, setting_of, status_after}
 use Rattle.pot_session.specs.Stops.{Refuses, status_of}
-use Rattle.pot_session.proofs.BeginLemmas.{begun_fits}
 use Rattle.std.proofs.lemmas.Option.{same_Some, slice_get_within}
 use Rattle.pot_bytes.proofs.Elements.{element_at}
 use Rattle.pot_machine.specs.Machine.{Replays}
-use Rattle.pot_promises.specs.Chains.{AllLead}
+use Rattle.pot_promises.specs.Chains.{AllLead, Begins, Begun, IsSession, Later, More}
 use Rattle.pot_image.specs.Spelling.{image_bytes}
-use Rattle.pot_promises.specs.Runs.{IsDone, RanAs, RunsAreSessions, RunsGoOn}
+use Rattle.pot_promises.specs.Runs.{ClosedAs, IsDone, NoneClosed, RanAs, RunsAreSessions, RunsGoLater, RunsGoOn, RunsMayClose}
 
 -- no stop gives such a status
 not_done : (s : Stop) → IsDone (status_of s) → ⊥
@@ -49,15 +58,6 @@ refused_not : (told : Type 0) (before after : List ℕ) (s : Stop) (answer : Sta
 refused_not told before after s answer (inl p) d = not_done s (subst IsDone p.0 d)
 refused_not told before after s answer (inr (inl p)) d = subst IsDone p.0 d
 refused_not told before after s answer (inr (inr p)) d = subst IsDone p.0 d
-
--- the image that was read fits together
-image_fits : (held : Option (List ℕ)) (i : Image) → HoldsImage held i → FitsTogether (contents i)
-image_fits held i (bytes, is, answers) = by_length answers
-  where
-    by_length : AnswersImage bytes (Ok i) → FitsTogether (contents i)
-    by_length (inl short) = absurd (cc (short.1))
-    by_length (inr (enough, inl other)) = absurd (cc (other.1))
-    by_length (inr (enough, inr marked)) = numbered_kept bytes (Ok i) marked.1
 
 -- nothing was added behind
 abbrev none_behind : Section → Section
@@ -89,65 +89,62 @@ all_lead rooms missing first last w leaves g t at =
     let left = leaves.groups.each g t u.0 log.0 at u.1 log.1 in
     (left.view.table, subst (λ l. Replays t l left.view.table) (left.is_log ∙ leaves.logs g log.0 log.1) (subst (λ f. Replays f left.view.log left.view.table) left.first left.settled.replay))
 
-module _ (seed : List ℕ) (source_tells sink_tells desk_tells room_tells : Bool) (input rest before after : List ℕ) (held holds : Option (List ℕ))
-    (meant means : ℕ → Meaning) (failed fails desk_failed desk_fails : ℕ) (answer : Status) (done : IsDone answer) (told : IsTrue desk_tells) where
-  abbrev rooms : Rooms
-  rooms = rooms_by (IsTrue room_tells) meant means failed fails
+-- A SESSION THAT CLOSED
 
-  abbrev desk : Desks
-  desk = desks_by (IsTrue desk_tells) holds desk_failed desk_fails
+module _ (seed : List ℕ) (rooms : Rooms) (missing : List ℕ) (first last : Contents) (w : Section) (fits : FitsTogether first) (leaves : Leaves rooms missing first last w) where
+  -- these steps have their replies when the logs had gained so much
+  session_of : (ss : List Step) (rs : List Reply) (done later : Section) → Follows done later w → Replied (Row (setting_of seed first)) 1 (steps_of ss) rs done → IsSession seed first last ss rs
+  session_of ss rs done later follows replied = record {
+    fits = fits;
+    story = w;
+    opened = leaves.index_opened;
+    rack = leaves.rack;
+    records = leaves.records;
+    groups = all_lead rooms missing first last w leaves;
+    done = done;
+    later = later;
+    follows = follows;
+    replied = replied;
+  }
 
-  abbrev Ran : Type 0
-  Ran = RanAs seed (IsTrue source_tells) input (IsTrue sink_tells) before after held holds
+  -- and all that they gained
+  whole_session : (ss : List Step) (rs : List Reply) → Replied (Row (setting_of seed first)) 1 (steps_of ss) rs w → IsSession seed first last ss rs
+  whole_session ss rs replied = session_of ss rs w (none_behind w) (whole_follows w) replied
 
-  -- a session that closed, by how its steps and its close ended
-  closed : (i : Image) (steps : List Step) → HoldsImage held i → IsRead i.rack (IsTrue source_tells) input steps
-      → IsClosed seed (begun (contents i)) steps rooms (IsTrue sink_tells) before after desk answer → Ran
-  closed i steps was_held script c = by c.ending c.ends c.missing c.kept c.leaves c.keeps.holds c.status
-    where
-      by : (e : Ending) → EndsOver (setting_of seed (begun (contents i))) c.story (IsTrue sink_tells) before after steps e
-          → (missing : List ℕ) (r : Result (Unit {0}) Stop) → Leaves rooms missing (begun (contents i)) c.last c.story
-          → (IsTrue desk_tells → Keeps (Some (image_bytes (begun (contents i)))) holds (image_bytes c.last) r) → answer ≡ status_after e (close_answer missing r) → Ran
-      by (ending.Done refused) ends [] (Ok u) leaves kept is = record {
-        read = i;
-        was_held = was_held;
-        fits = begun_fits (contents i) (begun (contents i)) refl (image_fits held i was_held);
-        steps = steps;
-        script = script;
-        last = c.last;
-        replies = ends.replies;
-        session = record {
-          story = c.story;
-          opened = leaves.index_opened;
-          rack = leaves.rack;
-          records = leaves.records;
-          groups = all_lead rooms [] (begun (contents i)) c.last c.story leaves;
-          done = c.story;
-          later = none_behind c.story;
-          follows = whole_follows c.story;
-          replied = ends.replied;
-        };
-        written = ends.written;
-        left = kept told;
-      }
-      by (ending.Done refused) ends [] (Err s) leaves kept is = absurd (not_done s (subst IsDone is done))
-      by (ending.Done refused) ends (n ∷ missing) r leaves kept is = absurd (subst IsDone is done)
-      by ending.SinkFailed ends missing r leaves kept is = absurd (subst IsDone is done)
-      by ending.RoomFailed ends missing r leaves kept is = absurd (subst IsDone is done)
-      by ending.NoMemory ends missing r leaves kept is = absurd (subst IsDone is done)
+-- what was written, where it is the texts of all replies
+all_written : (before after : List ℕ) (rs : List Reply) → after ≡ before ++ texts_of rs → (more : List ℕ) × (before ++ texts_of rs ≡ after ++ more)
+all_written before after rs is = ([], sym is ∙ sym (append-nil after))
 
-  held_as : Holds seed (seen_by (IsTrue source_tells) input rest (IsTrue sink_tells) before after (IsTrue desk_tells) held holds (IsTrue room_tells) meant means failed fails desk_failed desk_fails) answer → Ran
-  held_as (Stopped s stops refuses same) = absurd (refused_not (IsTrue sink_tells) before after s answer refuses done)
-  held_as (Served i steps of whole serves ends untouched) = by serves
-    where
-      by : Serves seed (begun (contents i)) steps rooms (IsTrue sink_tells) before after desk answer → Ran
-      by (Unlent is sink kept room) = absurd (subst IsDone is done)
-      by (Unopened is sink kept) = absurd (subst IsDone is done)
-      by (Closed c) = closed i steps (of.image told) of.script c
+-- and where it is first bytes of the last
+cut_written : (before after : List ℕ) (rs its : List Reply) (count : ℕ) → after ≡ before ++ (texts_of rs ++ take count (texts_of its)) → (more : List ℕ) × (before ++ texts_of (rs ++ its) ≡ after ++ more)
+cut_written before after rs its count is = (
+  drop count (texts_of its),
+  ap (λ l. before ++ l) (flat_map-append reply_text rs its ∙ ap (λ l. texts_of rs ++ l) (sym (take-append-drop count (texts_of its))))
+      ∙ (ap (λ l. before ++ l) (sym (append_assoc (texts_of rs) (take count (texts_of its)) (drop count (texts_of its))))
+      ∙ (sym (append_assoc before (texts_of rs ++ take count (texts_of its)) (drop count (texts_of its)))
+      ∙ ap (λ l. l ++ drop count (texts_of its)) (sym is))),
+)
 
-pub runs_are_sessions : RunsAreSessions
-runs_are_sessions seed source_tells sink_tells desk_tells room_tells input rest before after held holds meant means failed fails desk_failed desk_fails answer it done told =
-    held_as seed source_tells sink_tells desk_tells room_tells input rest before after held holds meant means failed fails desk_failed desk_fails answer done told it
+-- what a desk holds that did not take an image
+refused_by : (was holds : Option (List ℕ)) (bytes : List ℕ) (s : Stop) → IsKeepStop s → Keeps was holds bytes (Err s) → MayLeave was bytes holds
+refused_by was holds bytes stop.DeskFault which is = is
+refused_by was holds bytes stop.NoMemory which is = inl is
+refused_by was holds bytes stop.Words which is = absurd which
+refused_by was holds bytes stop.SourceFault which is = absurd which
+refused_by was holds bytes (stop.BadLine number) which is = absurd which
+refused_by was holds bytes stop.NoImage which is = absurd which
+refused_by was holds bytes stop.Cut which is = absurd which
+refused_by was holds bytes (stop.Trailer kept computed) which is = absurd which
+refused_by was holds bytes (stop.Form place) which is = absurd which
+refused_by was holds bytes stop.Spent which is = absurd which
+refused_by was holds bytes stop.Exists which is = absurd which
+refused_by was holds bytes stop.RoomFault which is = absurd which
+refused_by was holds bytes stop.TooWide which is = absurd which
+
+-- and by how it took the image of a close
+left_by : (was holds : Option (List ℕ)) (bytes : List ℕ) (r : Result (Unit {0}) Stop) → IfErr r IsKeepStop → Keeps was holds bytes r → MayLeave was bytes holds
+left_by was holds bytes (Ok u) which is = inr (inl is)
+left_by was holds bytes (Err s) which is = refused_by was holds bytes s which is
 
 -- THE NEXT RUN
 
@@ -160,3 +157,163 @@ runs_go_on last held read is_image has (bytes, is, answers) =
       tables = ap (λ (v : Contents). v.tables) it;
       records = ap (λ (v : Contents). v.records) it;
     }
+
+module _ (seed : List ℕ) (source_tells sink_tells desk_tells room_tells : Bool) (input rest before after : List ℕ) (held holds : Option (List ℕ))
+    (meant means : ℕ → Meaning) (failed fails desk_failed desk_fails : ℕ) (answer : Status) (told : IsTrue desk_tells) where
+  abbrev rooms : Rooms
+  rooms = rooms_by (IsTrue room_tells) meant means failed fails
+
+  abbrev desk : Desks
+  desk = desks_by (IsTrue desk_tells) holds desk_failed desk_fails
+
+  abbrev It : Type 0
+  It = Holds seed (seen_by (IsTrue source_tells) input rest (IsTrue sink_tells) before after (IsTrue desk_tells) held holds (IsTrue room_tells) meant means failed fails desk_failed desk_fails) answer
+
+  abbrev Served_as : Image → List Step → Type 0
+  Served_as i steps = Serves seed (begun (contents i)) steps rooms (IsTrue sink_tells) before after desk answer
+
+  -- WELL
+
+  module _ (done : IsDone answer) where
+    abbrev Ran : Type 0
+    Ran = RanAs seed (IsTrue source_tells) input (IsTrue sink_tells) before after held holds
+
+    -- a session that closed, by how its steps and its close ended
+    well : (i : Image) (steps : List Step) → HoldsImage held i → FitsTogether (begun (contents i)) → IsRead i.rack (IsTrue source_tells) input steps
+        → IsClosed seed (begun (contents i)) steps rooms (IsTrue sink_tells) before after desk answer → Ran
+    well i steps was_held fits script c = by c.ending c.ends c.missing c.kept c.leaves c.keeps.holds c.status
+      where
+        by : (e : Ending) → EndsOver (setting_of seed (begun (contents i))) c.story (IsTrue sink_tells) before after steps e
+            → (missing : List ℕ) (r : Result (Unit {0}) Stop) → Leaves rooms missing (begun (contents i)) c.last c.story
+            → (IsTrue desk_tells → Keeps (Some (image_bytes (begun (contents i)))) holds (image_bytes c.last) r) → answer ≡ status_after e (close_answer missing r) → Ran
+        by (ending.Done refused) ends [] (Ok u) leaves kept is = record {
+          read = i;
+          was_held = was_held;
+          steps = steps;
+          script = script;
+          last = c.last;
+          replies = ends.replies;
+          session = whole_session seed rooms [] (begun (contents i)) c.last c.story fits leaves steps ends.replies ends.replied;
+          written = ends.written;
+          left = kept told;
+        }
+        by (ending.Done refused) ends [] (Err s) leaves kept is = absurd (not_done s (subst IsDone is done))
+        by (ending.Done refused) ends (n ∷ missing) r leaves kept is = absurd (subst IsDone is done)
+        by ending.SinkFailed ends missing r leaves kept is = absurd (subst IsDone is done)
+        by ending.RoomFailed ends missing r leaves kept is = absurd (subst IsDone is done)
+        by ending.NoMemory ends missing r leaves kept is = absurd (subst IsDone is done)
+
+    held_well : It → Ran
+    held_well (Stopped s stops refuses same) = absurd (refused_not (IsTrue sink_tells) before after s answer refuses done)
+    held_well (Served i steps of fits whole serves ends untouched) = by serves
+      where
+        by : Served_as i steps → Ran
+        by (Unlent is sink kept room) = absurd (subst IsDone is done)
+        by (Unopened is sink kept) = absurd (subst IsDone is done)
+        by (Closed c) = well i steps (of.image told) fits of.script c
+
+  -- HOWEVER IT ENDED
+
+  abbrev Shut : Type 0
+  Shut = ClosedAs seed (IsTrue source_tells) input (IsTrue sink_tells) before after held holds
+
+  shut : (i : Image) (steps : List Step) → HoldsImage held i → FitsTogether (begun (contents i)) → IsRead i.rack (IsTrue source_tells) input steps
+      → IsClosed seed (begun (contents i)) steps rooms (IsTrue sink_tells) before after desk answer → Shut
+  shut i steps was_held fits script c = by c.ending c.ends
+    where
+      -- some first steps were answered
+      front : (answered others : List Step) (rs : List Reply) → steps ≡ answered ++ others → IsSession seed (begun (contents i)) c.last answered rs
+          → (IsTrue sink_tells → (more : List ℕ) × (before ++ texts_of rs ≡ after ++ more)) → Shut
+      front answered others rs parts session written = record {
+        read = i;
+        was_held = was_held;
+        steps = steps;
+        script = script;
+        answered = answered;
+        rest = others;
+        parts = parts;
+        last = c.last;
+        replies = rs;
+        session = session;
+        written = written;
+        left = left_by (Some (image_bytes (begun (contents i)))) holds (image_bytes c.last) c.kept c.keeps.which (c.keeps.holds told);
+      }
+
+      short : (Left : Setting → ℕ → Sessions.Step Command → Section → Type 0)
+          → EndsShort (λ ds d rs. StopsAt Left (setting_of seed (begun (contents i))) ds d rs c.story) (IsTrue sink_tells) before after steps → Shut
+      short Left ends =
+          front ends.first (ends.next ∷ ends.rest) ends.replies (ends.parts ∙ append_assoc ends.first (ends.next ∷ []) ends.rest)
+          (session_of seed rooms c.missing (begun (contents i)) c.last c.story fits c.leaves ends.first ends.replies ends.replied.done ends.replied.last ends.replied.follows ends.replied.replied)
+          (λ t. all_written before after ends.replies (ends.written t))
+
+      by : (e : Ending) → EndsOver (setting_of seed (begun (contents i))) c.story (IsTrue sink_tells) before after steps e → Shut
+      by (ending.Done refused) ends =
+          front steps [] ends.replies (sym (append-nil steps))
+          (whole_session seed rooms c.missing (begun (contents i)) c.last c.story fits c.leaves steps ends.replies ends.replied)
+          (λ t. all_written before after ends.replies (ends.written t))
+      by ending.SinkFailed ends =
+          front (ends.first ++ ends.next ∷ []) ends.rest (ends.replies ++ ends.its) ends.parts
+          (whole_session seed rooms c.missing (begun (contents i)) c.last c.story fits c.leaves (ends.first ++ ends.next ∷ []) (ends.replies ++ ends.its) ends.replied)
+          (λ t. (let w = ends.written t in cut_written before after ends.replies ends.its w.0 w.2))
+      by ending.RoomFailed ends = short IsStepHalted ends
+      by ending.NoMemory ends = short IsStepLeft ends
+
+  -- the desk did not take the image with which a session would begin
+  unopened : (i : Image) → HoldsImage held i → MayLeave held (image_bytes (begun (contents i))) holds → NoneClosed held holds
+  unopened i was_held (inl same) = inl same
+  unopened i was_held (inr (inl new)) = inr (inr (i, was_held, new))
+  unopened i was_held (inr (inr none)) = inr (inl none)
+
+  served : (i : Image) (steps : List Step) → HoldsImage held i → FitsTogether (begun (contents i)) → IsRead i.rack (IsTrue source_tells) input steps → Served_as i steps → Shut ⊎ NoneClosed held holds
+  served i steps was_held fits script (Unlent is sink kept room) = inr (inr (inr (i, was_held, kept told)))
+  served i steps was_held fits script (Unopened is sink kept) = inr (inr (inr (i, was_held, kept told)))
+  served i steps was_held fits script (Closed c) = inl (shut i steps was_held fits script c)
+
+  held_shut : It → Shut ⊎ NoneClosed held holds
+  held_shut (Stopped s (AtDesk d refused same) refuses room) = inr (inl (same told))
+  held_shut (Stopped s (AtScript i goes holds_that refused same) refuses room) = inr (inl (same told))
+  held_shut (Stopped s (AtOpening i steps of which keeps) refuses room) =
+      inr (unopened i (of.image told) (refused_by held holds (image_bytes (begun (contents i))) s which (keeps told)))
+  held_shut (Served i steps of fits whole serves ends untouched) = served i steps (of.image told) fits of.script serves
+
+  -- LATER
+
+  module _ (from left : Contents) (sofar : Later from left) (is_image : IsImage left) (has : held ≡ Some (image_bytes left)) (bytes : List ℕ) (there : holds ≡ Some bytes) where
+    abbrev Went : Type 0
+    Went = (now : Contents) × (bytes ≡ image_bytes now) × Later from now
+
+    -- the desk holds this one now
+    went : (now : Contents) → holds ≡ Some (image_bytes now) → Later from now → Went
+    went now is later = (now, same_Some bytes (image_bytes now) (sym there ∙ is), later)
+
+    not_none : holds ≡ None → Went
+    not_none none = (let no = sym there ∙ none in absurd (cc no))
+
+    -- the session that follows the one that left it
+    begins : (i : Image) → HoldsImage held i → Begins left (begun (contents i))
+    begins i was_held = runs_go_on left held i is_image has was_held
+
+    closed_by : (c : Shut) → MayLeave (Some (image_bytes (begun (contents c.read)))) (image_bytes c.last) holds → Went
+    closed_by c (inl is) = went (begun (contents c.read)) is (Begun sofar (begins c.read c.was_held))
+    closed_by c (inr (inl is)) =
+        went c.last is (More sofar (begins c.read c.was_held) (record { story = c.session.story.index_added; rack = c.session.rack; records = c.session.records }))
+    closed_by c (inr (inr none)) = not_none none
+
+    later_by : Shut ⊎ NoneClosed held holds → Went
+    later_by (inl c) = closed_by c c.left
+    later_by (inr (inl same)) = went left (same ∙ has) sofar
+    later_by (inr (inr (inl none))) = not_none none
+    later_by (inr (inr (inr (i, was_held, is)))) = went (begun (contents i)) is (Begun sofar (begins i was_held))
+
+pub runs_are_sessions : RunsAreSessions
+runs_are_sessions seed source_tells sink_tells desk_tells room_tells input rest before after held holds meant means failed fails desk_failed desk_fails answer it done told =
+    held_well seed source_tells sink_tells desk_tells room_tells input rest before after held holds meant means failed fails desk_failed desk_fails answer told done it
+
+pub runs_may_close : RunsMayClose
+runs_may_close seed source_tells sink_tells desk_tells room_tells input rest before after held holds meant means failed fails desk_failed desk_fails answer it told =
+    held_shut seed source_tells sink_tells desk_tells room_tells input rest before after held holds meant means failed fails desk_failed desk_fails answer told it
+
+pub runs_go_later : RunsGoLater
+runs_go_later seed source_tells sink_tells desk_tells room_tells input rest before after held holds meant means failed fails desk_failed desk_fails answer it told from left sofar is_image has bytes there =
+    later_by seed source_tells sink_tells desk_tells room_tells input rest before after held holds meant means failed fails desk_failed desk_fails answer told from left sofar is_image has bytes there
+    (held_shut seed source_tells sink_tells desk_tells room_tells input rest before after held holds meant means failed fails desk_failed desk_fails answer told it)

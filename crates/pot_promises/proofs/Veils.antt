@@ -59,10 +59,10 @@ pub record IsKept (seed : List ℕ) (first last : Contents) (ss : List Step) (rs
   pub its : IsStored (setting_of seed first) (job_at ss p i) name file pieces shards (mine (job_at ss p i) (work_of one halves))
   pub fits : FitsRack first.rack its.kept
 
-pub kept_at : (seed : List ℕ) (first last : Contents) (ss : List Step) (rs : List Reply) → FitsTogether first → (session : IsSession seed first last ss rs) (p i : ℕ)
+pub kept_at : (seed : List ℕ) (first last : Contents) (ss : List Step) (rs : List Reply) (session : IsSession seed first last ss rs) (p i : ℕ)
     (name file of : List ℕ) (pieces shards : ℕ) → IsAnswered first.rack ss rs p i (commands.Store name file) (replies.Stored of pieces shards)
     → IsKept seed first last ss rs session p i name file pieces shards
-kept_at seed first last ss rs together session p i name file of pieces shards answered =
+kept_at seed first last ss rs session p i name file of pieces shards answered =
     let s = setting_of seed first in
     let put = row_at s ss session.replied.ones rs p i (commands.Store name file) (replies.Stored of pieces shards) session.replied.answers refl answered in
     let its = put.row.1.1 in
@@ -75,7 +75,7 @@ kept_at seed first last ss rs together session p i name file of pieces shards an
     (Contains-append_left put.one.index_added cut.index_later entry
     (published_in s (job_at ss p i) name file pieces shards put.one put.halves its))) in
     let goes = published_goes first.rack (names_of first) it.sofar session.done.index_added (job_at ss p i) name (mark_of its.kept) its.kept
-    (first_names first together) it.to has in
+    (first_names first session.fits) it.to has in
     record { one = put.one; there = put.there; halves = put.halves; begun = put.row.0; its = its; fits = goes.4 }
 
 -- all that the logs have of its job is what the section has
@@ -88,6 +88,7 @@ stored_in seed first last ss rs session p i name file of pieces shards answered 
     let all = own_at ss session.replied.ones session.done p i answered.step (commands.Store name file) put.one session.replied.are
     answered.there answered.command put.there in
     record {
+      bytes = put.its.bytes;
       short = put.its.short;
       placed = put.its.placed;
       kept = put.its.kept;
@@ -213,14 +214,14 @@ module _ (rack : Rack) (kept : Record) (placed : List Placed) (file random other
 
 pub stays_veiled : StaysVeiled
 unfolding stored_in
-stays_veiled seed first last ss rs together session p i name file of pieces shards bytes answered =
-    let put = kept_at seed first last ss rs together session p i name file of pieces shards answered in
+stays_veiled seed first last ss rs session p i name file of pieces shards answered =
+    let put = kept_at seed first last ss rs session p i name file of pieces shards answered in
     let random = random_of seed first (job_at ss p i) file in
     let geometry = sym put.its.is_record.geometry in (
       stored_in seed first last ss rs session p i name file of pieces shards answered put,
       λ coalition hidden other veiled more same.
           fits_too first.rack put.its.kept put.its.placed file random other coalition hidden put.fits put.its.is_record.places put.its.is_record.long
-          (subst (λ g. IsStore g file random) geometry (store_of first together (pads_of seed first.session (job_at ss p i)) file put.its.short bytes))
+          (subst (λ g. IsStore g file random) geometry (store_of first session.fits (pads_of seed first.session (job_at ss p i)) file put.its.short put.its.bytes))
           (subst (λ g. map (λ (x : Placed). x.digest) put.its.placed ≡ map digest_of (file_blocks g file random)) geometry put.its.of_digests)
           veiled more same,
     )

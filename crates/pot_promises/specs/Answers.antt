@@ -8,7 +8,8 @@ use Rattle.pot_script.specs.declared.grouping.Step.TheVariants as steps
 use Rattle.pot_script.specs.declared.reply.Reply.{Reply}
 use Rattle.pot_commands.specs.Ends.{next_job}
 
--- how many replies a command has that stands alone: `status` one for each group, and each other command one
+-- how many replies a command has that stands alone: `status` one for each group, and each other
+-- command one
 abbrev pub count_replies : Rack → Command → ℕ
 count_replies rack commands.Status = rack.groups
 count_replies rack _ = 1
@@ -24,19 +25,21 @@ reply_place rack [] k = 0
 reply_place rack (d ∷ ss) zero = 0
 reply_place rack (d ∷ ss) (suc k) = count_in rack d + reply_place rack ss k
 
--- the command stands at this place of the step: one alone at the first, and a line of a batch at its own
+-- the command stands at this place of the step: one alone at the first, and a line of a batch at
+-- its own
 abbrev pub StandsAt : Step → ℕ → Command → Type 0
 StandsAt (steps.One d) i c = (i ≡ 0) × (d ≡ c)
 StandsAt (steps.Together lines) i c = slice_get lines i ≡ Some c
 
 -- The step of one place has this command at another, and that command's first reply is this one.
-pub record IsAnswered (rack : Rack) (ss : List Step) (rs : List Reply) (k i : ℕ) (c : Command) (r : Reply) : Type 0 where
+pub record IsAnswered (rack : Rack) (ss : List Step) (rs : List Reply) (k i : ℕ) (c : Command)
+    (r : Reply) : Type 0 where
   pub step : Step
   pub there : slice_get ss k ≡ Some step
   pub command : StandsAt step i c
   pub reply : slice_get rs (reply_place rack ss k + i) ≡ Some r
 
--- The number of the job of the command at a place of a step: the jobs of a session are numbered from
--- 1, one for each command alone and each line of a batch.
+-- The number of the job of the command at a place of a step: the jobs of a session are numbered
+-- from 1, one for each command alone and each line of a batch.
 abbrev pub job_at : List Step → ℕ → ℕ → ℕ
 job_at ss k i = next_job (take k ss) + i

@@ -6,14 +6,15 @@ use Rattle.pot_index.specs.declared.entry.Logged.{Logged}
 use Rattle.pot_script.specs.declared.grouping.Step.{Step}
 use Rattle.pot_script.specs.declared.reply.Reply.{Reply}
 use Rattle.pot_image.specs.Images.{Contents}
+use Rattle.pot_image.specs.Rules.{FitsTogether}
 use Rattle.pot_replies.specs.Sections.{Section, Follows}
 use Rattle.pot_replies.specs.Sessions.{Replied}
 use Rattle.pot_commands.specs.Rows.{Row}
 use Rattle.pot_commands.specs.Steps.{steps_of}
 use Rattle.pot_session.specs.Serving.{LeavesRecords, setting_of}
 
--- A session over the image with which it began left that image: the log of its index leads from the records of the one to
--- those of the other.
+-- A session over the image with which it began left that image: the log of its index leads from the
+-- records of the one to those of the other.
 pub record Leaves (first last : Contents) : Type 0 where
   pub story : List Logged
   pub rack : last.rack ≡ first.rack
@@ -22,11 +23,15 @@ pub record Leaves (first last : Contents) : Type 0 where
 -- the log of each group leads from the table that the group began with, each entry legal in turn
 abbrev pub AllLead : List Table → Section → Type 0
 AllLead tables w =
-    (g : ℕ) (t : Table) → slice_get tables g ≡ Some t → (u : Table) × Replays t (w.before g ++ w.added g) u
+    (g : ℕ) (t : Table) → slice_get tables g ≡ Some t
+    → (u : Table) × Replays t (w.before g ++ w.added g) u
 
--- A session that began with this image, as its logs and its close tell: these steps, the first of its script, have these
--- replies by what its logs had gained when the last of them was answered.
-pub record IsSession (seed : List ℕ) (first last : Contents) (ss : List Step) (rs : List Reply) : Type 0 where
+-- A session that began with this image, whose parts fit together, as its logs and its close tell:
+-- these steps, the first of its script, have these replies by what its logs had gained when the
+-- last of them was answered.
+pub record IsSession (seed : List ℕ) (first last : Contents) (ss : List Step)
+    (rs : List Reply) : Type 0 where
+  pub fits : FitsTogether first
   pub story : Section
   pub opened : story.index_before ≡ []
   pub rack : last.rack ≡ first.rack
@@ -37,14 +42,17 @@ pub record IsSession (seed : List ℕ) (first last : Contents) (ss : List Step) 
   pub follows : Follows done later story
   pub replied : Replied (Row (setting_of seed first)) 1 (steps_of ss) rs done
 
--- An image with which a session may begin, for one that an earlier session left: the number of the session is another, the
--- logs are empty, and the rack, the tables and the records are the same.
+-- An image with which a session may begin, for one that an earlier session left: the number of the
+-- session is another, the logs are empty, and the rack, the tables and the records are the same.
 pub record Begins (left first : Contents) : Type 0 where
   pub rack : first.rack ≡ left.rack
   pub tables : first.tables ≡ left.tables
   pub records : first.records ≡ left.records
 
--- From one image to another by any number of sessions, each over the image that the one before left.
+-- From one image to another by any number of sessions, each over the image that the one before
+-- left: it closed, or only began, and the desk has the image of its close or of its beginning.
 pub data Later (from : Contents) : Contents → Type 0 where
   Same : Later from from
-  More : {left first last : Contents} → Later from left → Begins left first → Leaves first last → Later from last
+  Begun : {left first : Contents} → Later from left → Begins left first → Later from first
+  More : {left first last : Contents} → Later from left → Begins left first → Leaves first last
+      → Later from last

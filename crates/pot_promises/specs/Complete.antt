@@ -16,7 +16,8 @@ use Rattle.pot_session.specs.Runs.{seen_by}
 use Rattle.pot_session.specs.Tasks.{seed_of}
 use Rattle.pot_promises.specs.Runs.{IsDone, RanAs}
 
--- the statuses that say that an object outside failed: a run gives each only where the object's count rose
+-- the statuses that say that an object outside failed: a run gives each only where the object's
+-- count rose
 abbrev pub IsFault : Status → Type 0
 IsFault status.SourceFault = Unit {0}
 IsFault status.SinkFault = Unit {0}
@@ -26,18 +27,22 @@ IsFault _ = ⊥
 
 -- the words ask for a session with this seed
 abbrev pub AsksSession : List Text → List ℕ → List ℕ → Type 0
-AsksSession words drawn seed = (run : Run) × SpellTask words (task.Run run) × (seed ≡ seed_of run drawn)
+AsksSession words drawn seed =
+    (run : Run) × SpellTask words (task.Run run) × (seed ≡ seed_of run drawn)
 
--- Where the words ask for a session, the desk holds an image from which one may begin and the source a script
--- over its rack, and both tell it, each command is answered, unless an object failed or memory ran out. So the
--- status is 0 or 1, and it was a session over that image with that script.
+-- Where the words ask for a session, the desk holds an image from which one may begin and the
+-- source a script over its rack, and both tell it, each command is answered, unless an object
+-- failed or memory ran out. So the status is 0 or 1, and it was a session over that image with that
+-- script.
 abbrev pub RunsAreAnswered : Type 0
 RunsAreAnswered =
     (words : List Text) (drawn : List ℕ) (source_tells sink_tells desk_tells room_tells : Bool)
     (input rest before after : List ℕ) (held holds : Option (List ℕ)) (meant means : ℕ → Meaning)
     (failed fails desk_failed desk_fails : ℕ) (answer : Status)
     → Runs words drawn (seen_by (IsTrue source_tells) input rest (IsTrue sink_tells) before after
-    (IsTrue desk_tells) held holds (IsTrue room_tells) meant means failed fails desk_failed desk_fails) answer
+    (IsTrue desk_tells) held holds (IsTrue room_tells) meant means failed fails desk_failed
+    desk_fails)
+    answer
     → IsTrue source_tells → IsTrue desk_tells
     → (given : List ℕ) → AsksSession words drawn given
     → (image : Image) → HoldsImage held image → GoesOn image

@@ -19,15 +19,15 @@ use Rattle.pot_commands.specs.Steps.{steps_of}
 use Rattle.pot_session.specs.Serving.{Leaves, rooms_by, setting_of}
 use Rattle.pot_promises.specs.Answers.{IsAnswered}
 
--- One of these archives counted a fault, by what its number meant before a session and means after it, if the
--- room took it back: it is none of those that are missing.
+-- One of these archives counted a fault, by what its number meant before a session and means after
+-- it, if the room took it back: it is none of those that are missing.
 abbrev pub HasFailed : (ℕ → Meaning) → (ℕ → Meaning) → List ℕ → List ℕ → Type 0
 HasFailed meant means missing numbers =
     (n : ℕ) × Contains numbers n × (times n missing ≡ 0 → Rose (meant n).faults (means n).faults)
 
--- A command was answered `fault` of a column of a group, in a session of which the room tells. Then an archive of
--- that column counted a fault in the session, or the room did not take it back: its home or target in the image
--- that was read, or one that the group's log brought to the column.
+-- A command was answered `fault` of a column of a group, in a session of which the room tells. Then
+-- an archive of that column counted a fault in the session, or the room did not take it back: its
+-- home or target in the image that was read, or one that the group's log brought to the column.
 abbrev pub FaultsAreCounted : Type 0
 FaultsAreCounted =
     (seed : List ℕ) (first last : Contents) (tells : Bool) (meant means : ℕ → Meaning)

@@ -2,7 +2,9 @@ pub mod Answers
 pub mod Chains
 pub mod Complete
 pub mod Faults
+pub mod Lost
 pub mod Odds
+pub mod Openings
 pub mod Promises
 pub mod Runs
 pub mod Veils

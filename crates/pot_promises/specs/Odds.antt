@@ -1,6 +1,5 @@
 -- That a fetch of a file which a session stored is not answered `odd`.
 use Rattle.std.specs.Prelude.{◌≡◌, ◌≤◌, ◌<◌, ◌++◌, ℕ, List, Some, slice_get}
-use Rattle.pot_bytes.specs.Lists.{AreBytes}
 use Rattle.pot_bytes.specs.declared.digest.Digest.{Digest}
 use Rattle.pot_bytes.specs.declared.rack.Geometry.{Geometry}
 use Rattle.pot_bytes.specs.declared.rack.Rack.{Rack}
@@ -9,7 +8,6 @@ use Rattle.pot_script.specs.declared.grouping.Step.{Step}
 use Rattle.pot_script.specs.declared.reply.Reply.{Reply}
 use Rattle.pot_script.specs.declared.reply.Reply.TheVariants as replies
 use Rattle.pot_image.specs.Images.{Contents}
-use Rattle.pot_image.specs.Rules.{FitsTogether}
 use Rattle.pot_replies.specs.Digests.{NoTwoAlike}
 use Rattle.pot_replies.specs.Fetches.{IsOdd}
 use Rattle.pot_replies.specs.Sections.{Section, Halves, work_of}
@@ -44,15 +42,16 @@ NoneRenewed rack ss rs q name =
     → IsAnswered rack ss rs k i (commands.Renew name geometry) (replies.Renewed given pieces shards)
     → ⊥
 
--- No fetch of a stored file is odd: a command of step p was `store` of the file under the name and was
--- answered `stored`, q is a later step, and no command up to it renewed the name. If a fetch of the
--- name in step q was odd by these blocks, then among them and the blocks that the stream of the seed,
--- the session and the job of the store gives of the file there are two different ones of one digest.
+-- No fetch of a stored file is odd: a command of step p was `store` of the file under the name and
+-- was answered `stored`, q is a later step, and no command up to it renewed the name. If a fetch of
+-- the name in step q was odd by these blocks, then among them and the blocks that the stream of the
+-- seed, the session and the job of the store gives of the file there are two different ones of one
+-- digest.
 abbrev pub NeverOdd : Type 0
 NeverOdd =
-    (seed : List ℕ) (first last : Contents) (ss : List Step) (rs : List Reply) → FitsTogether first
+    (seed : List ℕ) (first last : Contents) (ss : List Step) (rs : List Reply)
     → (session : IsSession seed first last ss rs) (p i q j : ℕ) → p < q
-    → (name file of : List ℕ) (pieces shards : ℕ) → AreBytes file
+    → (name file of : List ℕ) (pieces shards : ℕ)
     → IsAnswered first.rack ss rs p i (commands.Store name file) (replies.Stored of pieces shards)
     → NoneRenewed first.rack ss rs q name → (read : List (List ℕ)) (wanted got : Digest)
     → WasOdd read seed first ss session.replied.ones q j name wanted got

@@ -15,7 +15,6 @@ use Rattle.pot_script.specs.declared.grouping.Step.{Step}
 use Rattle.pot_script.specs.declared.reply.Reply.{Reply}
 use Rattle.pot_script.specs.declared.reply.Reply.TheVariants as replies
 use Rattle.pot_image.specs.Images.{Contents}
-use Rattle.pot_image.specs.Rules.{FitsTogether}
 use Rattle.pot_replies.specs.Sections.{Section, mine}
 use Rattle.pot_replies.specs.Stores.{IsStored, Placed, place_of}
 use Rattle.pot_store.specs.Drawing.{random_from}
@@ -75,9 +74,9 @@ HasStored seed first job name file pieces shards w =
 -- places than are needed, every other file of that length fits what it sees.
 abbrev pub StaysVeiled : Type 0
 StaysVeiled =
-    (seed : List ℕ) (first last : Contents) (ss : List Step) (rs : List Reply) → FitsTogether first
+    (seed : List ℕ) (first last : Contents) (ss : List Step) (rs : List Reply)
     → (session : IsSession seed first last ss rs) (p i : ℕ)
-    → (name file of : List ℕ) (pieces shards : ℕ) → AreBytes file
+    → (name file of : List ℕ) (pieces shards : ℕ)
     → IsAnswered first.rack ss rs p i (commands.Store name file) (replies.Stored of pieces shards)
     → (its : HasStored seed first (job_at ss p i) name file pieces shards session.done)
     × AllFit (places_of (current_of its.kept)) its.placed file

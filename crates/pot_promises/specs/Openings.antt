@@ -1,0 +1,45 @@
+-- What the openings of a session log where no count rises in it.
+use Rattle.std.specs.Prelude.{◌≡◌, ◌⊎◌, ◌<◌, ℕ, Bool, IsTrue, List, Contains, Some, slice_get}
+use Rattle.pot_outside.specs.Archives.{Meaning}
+use Rattle.pot_machine.specs.declared.entry.Entry.{Entry}
+use Rattle.pot_machine.specs.Table.{Table, archives_in, width}
+use Rattle.pot_steps.specs.Holdings.{stripe_of}
+use Rattle.pot_steps.specs.GroupStep.{Breaks, FindsGone, Spared, opening}
+use Rattle.pot_image.specs.Images.{Contents}
+use Rattle.pot_image.specs.Rules.{FitsTogether}
+use Rattle.pot_replies.specs.Sections.{Section}
+use Rattle.pot_commands.specs.Holding.{times}
+use Rattle.pot_commands.specs.Taking.{marks_of}
+use Rattle.pot_session.specs.Groups.{MarksRose}
+use Rattle.pot_session.specs.Serving.{Leaves, rooms_by}
+
+-- The opening of a table over archives that hold what a room meant: a Live slot is Gone exactly
+-- where the archive that serves it has no block of its digest, and of each stripe it is said
+-- whether the blocks fit.
+pub record OpensAsMeant (meant : ℕ → Meaning) (t : Table) (log : List Entry) : Type 0 where
+  pub gone : ℕ → ℕ → Bool
+  pub broke : ℕ → ℕ → Bool
+  pub finds : (s : ℕ) → s < t.stripes
+      → FindsGone (width t) (stripe_of t (λ n. (meant n).held) s) (gone s)
+  pub breaks : (s : ℕ) → s < t.stripes
+      → Breaks t.data_columns t.parity (stripe_of t (λ n. (meant n).held) s) (broke s)
+      ⊎ Spared t.data_columns t.parity (stripe_of t (λ n. (meant n).held) s) (broke s)
+  pub is : log ≡ opening (width t) t.stripes gone broke
+
+-- Each archive of this table came back to the room, and no count of it rose.
+abbrev pub AreUndisturbed : (ℕ → Meaning) → (ℕ → Meaning) → List ℕ → Table → Type 0
+AreUndisturbed meant means missing t =
+    (n : ℕ) → Contains (archives_in t) n
+    → (times n missing ≡ 0) × (MarksRose (marks_of (meant n)) (marks_of (means n)) → ⊥)
+
+-- Where the room tells, and the archives of a table of the image that was read came back with their
+-- counts as they were, the opening of this table logged what an opening over all blocks logs that
+-- the room meant, and nothing else.
+abbrev pub OpeningsAreTrue : Type 0
+OpeningsAreTrue =
+    (first last : Contents) (tells : Bool) (meant means : ℕ → Meaning)
+    (failed fails : ℕ) (missing : List ℕ) (story : Section)
+    → FitsTogether first → IsTrue tells
+    → Leaves (rooms_by (IsTrue tells) meant means failed fails) missing first last story
+    → (group : ℕ) (read : Table) → slice_get first.tables group ≡ Some read
+    → AreUndisturbed meant means missing read → OpensAsMeant meant read (story.before group)
