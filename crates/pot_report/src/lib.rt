@@ -1,10 +1,11 @@
 //! What a program for people tells: sizes, the shape of a new archive, the room that is left, the archives that a desk names and how
-//! they stand, and replies as lines of text or of JSON.
+//! they stand, what is exposed to some of them, and replies as lines of text or of JSON.
 //!
 //! It opens no file and holds no session. Of its texts nothing is claimed but that they are made without a fault.
 #![tactic(auto)]
 
 mod archives;
+mod exposures;
 mod json;
 mod leaving;
 mod listing;
@@ -16,9 +17,11 @@ mod sizes;
 #[cfg(test)]
 mod tests;
 mod texts;
+mod uses;
 mod wording;
 
 pub use archives::{Holding, holdings};
+pub use exposures::{Exposure, read_exposures};
 pub use json::reply_json;
 pub use leaving::{Room, blocks_of};
 pub use listing::{Kept, kept_files};

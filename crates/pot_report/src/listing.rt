@@ -1,11 +1,10 @@
 //! The files that are kept, each once, whether in one piece of the script or in parts.
 
 use pot_bytes::Name;
-use pot_client::ends_as_part;
+use pot_client::read_part_name;
 use pot_image::Image;
 use std::alloc::{AllocError, Global};
 use std::collections::BTreeMap;
-use std::str::from_utf8;
 
 /// What is stored under a name and the names of its parts.
 #[derive(Clone, Copy, Debug, PartialEq, Eq)]
@@ -55,7 +54,7 @@ pub fn kept_files(alloc: Global, image: &Image) -> Result<BTreeMap<Name, Kept>, 
 }
 
 fn add_record(files: &mut BTreeMap<Name, Kept>, name: Name, length: u64) -> Result<(), AllocError> {
-    match stem_of(&name) {
+    match read_part_name(&name) {
         Some((stem, number)) => files
             .entry(stem)?
             .or_insert(Kept::none())
@@ -63,16 +62,4 @@ fn add_record(files: &mut BTreeMap<Name, Kept>, name: Name, length: u64) -> Resu
         None => files.entry(name)?.or_insert(Kept::none()).direct = Some(length),
     }
     Ok(())
-}
-
-/// The name of which this is the name of a part, and the number of the part.
-pub fn stem_of(name: &Name) -> Option<(Name, u32)> {
-    if !ends_as_part(name) {
-        return None;
-    }
-    let bytes = name.bytes();
-    let (stem, suffix) = bytes.split_at_checked(bytes.len().checked_sub(6)?)?;
-    let (_, digits) = suffix.split_at_checked(2)?;
-    let number = from_utf8(digits).ok()?.parse::<u32>().ok()?;
-    Some((Name::read(stem)?, number))
 }

@@ -4,9 +4,8 @@
 //! With it a file is joined from its parts in whatever order these are found.
 
 use crate::texts::{digest_text, name_text};
-use hex::FromHex;
 use pot_bytes::{Digest, Name, digest_of};
-use pot_client::{count_parts, part};
+use pot_client::{count_parts, part, read_digest};
 use std::alloc::{AllocError, Global};
 use std::str::from_utf8;
 
@@ -63,7 +62,7 @@ impl Manifest {
         };
         let mut parts = Vec::new(alloc);
         for line in lines {
-            let Some(digest) = line.strip_prefix("part ").and_then(read_digest) else {
+            let Some(digest) = read_part_line(line) else {
                 return Ok(None);
             };
             parts.push(digest)?;
@@ -103,7 +102,7 @@ fn read_head(line: &str) -> Option<Head> {
     }
     let count = words.next()?.parse::<usize>().ok()?;
     let length = words.next()?.parse::<u64>().ok()?;
-    let digest = read_digest(words.next()?)?;
+    let digest = read_digest(words.next()?.as_bytes())?;
     let name = Name::read(words.next()?.as_bytes())?;
     if words.next().is_some() {
         return None;
@@ -116,7 +115,7 @@ fn read_head(line: &str) -> Option<Head> {
     })
 }
 
-fn read_digest(word: &str) -> Option<Digest> {
-    let bytes = <[u8; 32] as FromHex>::from_hex(word).ok()?;
-    Some(Digest { bytes })
+// The digest of a part, by its line.
+fn read_part_line(line: &str) -> Option<Digest> {
+    read_digest(line.strip_prefix("part ")?.as_bytes())
 }

@@ -181,6 +181,39 @@ fn a_list_of_parts_is_read_as_it_was_written(rt: HostRuntime) -> Result<(), Fail
     let cut = text.as_bytes().get(..short).unwrap_or(&[]);
     assert!(rt; Manifest::read(alloc, cut)?.is_none());
     assert!(rt; Manifest::read(alloc, b"parts")?.is_none());
+    assert!(rt; Manifest::read(alloc, &raised(alloc, text.as_bytes())?)?.is_none());
+    Ok(())
+}
+
+/// These bytes, with the digest in the last line in upper case.
+fn raised(alloc: Global, text: &[u8]) -> Result<Vec<u8>, Fail> {
+    let mut bytes = Vec::from_slice(alloc, text)?;
+    for byte in bytes.iter_mut().rev().take(65) {
+        *byte = byte.to_ascii_uppercase();
+    }
+    Ok(bytes)
+}
+
+#[test]
+fn what_an_audit_says_of_each_file(rt: HostRuntime) -> Result<(), Fail> {
+    let alloc = rt.alloc();
+    let written =
+        b"veil a 0 0 1 2 2\nveil a 1 0 2 0 3\nveil film.p0000 0 0 1 1 2\nveil film.p0001 0 0 2 0 2\n";
+    let files = read_exposures(alloc, written)?.ok_or("not read")?;
+    for (text, pieces, bare, wanting) in [("a", 2, 1, 0), ("film", 2, 0, 1)] {
+        let name = Name::read(text.as_bytes()).ok_or("a name")?;
+        let found = files.get(&name).copied();
+        assert!(rt;
+            found
+                == Some(Exposure {
+                    pieces,
+                    bare,
+                    wanting
+                }),
+            "at {text}"
+        );
+    }
+    assert!(rt; read_exposures(alloc, b"words refused\n")?.is_none());
     Ok(())
 }
 

@@ -1,8 +1,8 @@
 //! Names and digests as text.
 
-use crate::listing::stem_of;
 use hex::encode_to_slice;
 use pot_bytes::{Digest, Name};
+use pot_client::read_part_name;
 use std::alloc::{AllocError, Global};
 use std::str::from_utf8;
 
@@ -13,7 +13,7 @@ pub fn name_text(name: &Name) -> &str {
 
 /// A name as it is told: that of a part tells its number and its file.
 pub fn spoken_name(alloc: Global, name: &Name) -> Result<String, AllocError> {
-    match stem_of(name) {
+    match read_part_name(name) {
         Some((stem, number)) => {
             let stem = name_text(&stem);
             if number == 0 {

@@ -1,12 +1,13 @@
 //! What the words ask for.
 
+use crate::auditing::audit;
 use crate::drilling::drill;
 use crate::fetching::fetch;
 use crate::making::init;
 use crate::mending::{check, migrate, renew, repair, replace};
 use crate::placing::{backup_desk, place};
 use crate::recovering::recover;
-use crate::stop::{Stop, refuse};
+use crate::stop::{Stop, UNREAD, refuse};
 use crate::storing::store;
 use crate::telling::{list, status};
 use crate::visit::Visit;
@@ -52,8 +53,15 @@ fn told(rt: &HostRuntime, error: &Error) -> Result<u8, Stop> {
     if error.kind() == ErrorKind::OutOfMemory {
         return Err(Stop::NoMemory);
     }
-    error.print(rt)?;
-    Ok(if error.use_stderr() { 2 } else { 0 })
+    let printed = error.print(rt);
+    if error.use_stderr() {
+        return Ok(2);
+    }
+    match printed {
+        Ok(()) => Ok(0),
+        Err(e) if e.kind() == io::ErrorKind::BrokenPipe => Ok(UNREAD),
+        Err(_) => Err(Stop::Output),
+    }
 }
 
 fn work<X: Threads + Wait + Sync>(
@@ -65,13 +73,23 @@ fn work<X: Threads + Wait + Sync>(
         return Err(refuse(rt, 2, "no command was given: see pots help"));
     };
     let mut visit = Visit::begin(rt, words)?;
+    let status = do_named(name, turns, &mut visit, words)?;
+    Ok(visit.status(status))
+}
+
+fn do_named<X: Threads + Wait + Sync>(
+    name: &str,
+    turns: &X,
+    visit: &mut Visit,
+    words: &ArgMatches,
+) -> Result<u8, Stop> {
     match name {
-        "init" => init(turns, &mut visit, words),
-        "store" => store(turns, &mut visit, words),
-        "fetch" => fetch(turns, &mut visit, words),
-        "list" => list(&mut visit),
-        "status" => status(&mut visit),
-        _ => tend(name, turns, &mut visit, words),
+        "init" => init(turns, visit, words),
+        "store" => store(turns, visit, words),
+        "fetch" => fetch(turns, visit, words),
+        "list" => list(visit),
+        "status" => status(visit),
+        _ => tend(name, turns, visit, words),
     }
 }
 
@@ -101,6 +119,7 @@ fn keep<X: Threads + Wait + Sync>(
         "place" => place(visit, words),
         "backup-desk" => backup_desk(visit, words),
         "recover" => recover(turns, visit, words),
+        "audit" => audit(turns, visit, words),
         "drill" => drill(turns, visit, words),
         _ => Err(visit.refuse(2, "there is no such command: see pots help")),
     }

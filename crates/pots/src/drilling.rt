@@ -32,7 +32,6 @@ pub fn drill<X: Threads + Wait + Sync>(
 
 // Tells what the first line of a drill says: `explained LEN PIECES BLOCKS`, or `exposed HIDDEN HAVE NEED`.
 fn tell_drill(visit: &Visit, text: &str) -> Result<(), Stop> {
-    let rt = &visit.rt;
     let mut words = text.lines().next().unwrap_or("").split(' ');
     let explained = words.next() == Some("explained");
     let _ = words.next();
@@ -42,11 +41,11 @@ fn tell_drill(visit: &Visit, text: &str) -> Result<(), Stop> {
         return tell_drill_json(visit, explained, (first, second));
     }
     if explained {
-        println!(rt;
+        println!(visit;
             "explained: the {second} blocks that are seen, of {first} pieces of the one file, are those of the other under other random bytes: who has them cannot tell the two apart"
         )?;
     } else {
-        println!(rt;
+        println!(visit;
             "exposed: {first} points of the fragment are seen, and {second} give it: who has them has the file"
         )?;
     }
@@ -54,7 +53,6 @@ fn tell_drill(visit: &Visit, text: &str) -> Result<(), Stop> {
 }
 
 fn tell_drill_json(visit: &Visit, explained: bool, numbers: (u32, u32)) -> Result<(), Stop> {
-    let rt = &visit.rt;
     let (first, second) = numbers;
     let line = if explained {
         json!(in visit.alloc(); {"drill": "explained", "pieces": first, "blocks": second})?
@@ -62,8 +60,7 @@ fn tell_drill_json(visit: &Visit, explained: bool, numbers: (u32, u32)) -> Resul
         json!(in visit.alloc(); {"drill": "exposed", "have": first, "need": second})?
     };
     let line = line.to_string(visit.alloc())?;
-    println!(rt; "{line}")?;
-    Ok(())
+    println!(visit; "{line}")
 }
 
 // The command line of the drill, with the archive's way to split files.

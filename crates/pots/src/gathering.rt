@@ -92,12 +92,11 @@ fn tell_stored(visit: &Visit, names: &[Name], replies: &[Reply]) -> Result<bool,
 }
 
 fn tell_name(visit: &Visit, name: &Name) -> Result<(), Stop> {
-    let rt = &visit.rt;
     let text = name_text(name);
     if !ends_as_part(name) {
-        println!(rt; "stored {text}")?;
+        println!(visit; "stored {text}")?;
     } else if let Some(stem) = text.strip_suffix(".p0000") {
-        println!(rt; "stored {stem} in parts")?;
+        println!(visit; "stored {stem} in parts")?;
     }
     Ok(())
 }

@@ -30,7 +30,7 @@ pub fn put_file(rt: &HostRuntime, path: &str, bytes: &[u8], may_replace: bool) -
     done
 }
 
-// A new file beside the path, under a number that no standard stream has.
+// A new file beside the path, under a number that no standard stream has. What is there under such a name stays as it is.
 fn open_beside(rt: &HostRuntime, path: &str) -> io::Result<(File, String)> {
     let mut how = OpenOptions::new();
     how.write(true).create_new(true);
@@ -38,11 +38,18 @@ fn open_beside(rt: &HostRuntime, path: &str) -> io::Result<(File, String)> {
         let beside = format!(in rt.alloc(); "{path}.new-{number}")?;
         match how.open(rt, beside.as_str()) {
             Ok(file) => return Ok((apart(file)?, beside)),
-            Err(e) if e.kind() == ErrorKind::AlreadyExists => {}
+            Err(e) if e.kind() == ErrorKind::AlreadyExists => tell_left(rt, beside.as_str()),
             Err(e) => return Err(e),
         }
     }
     Err(ErrorKind::AlreadyExists.into())
+}
+
+// Names a file that may be left of a command that was stopped. It may as well be somebody's own.
+fn tell_left(rt: &HostRuntime, beside: &str) {
+    let _ = eprintln!(rt;
+        "pots: {beside} is there, and stays as it is: a command that was stopped may have left it; where it is nobody's, take it away"
+    );
 }
 
 // The file under a number that no standard stream has.

@@ -6,6 +6,7 @@
 #![tactic(auto)]
 
 mod answering;
+mod auditing;
 mod drilling;
 mod fetching;
 mod gathering;

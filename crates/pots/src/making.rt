@@ -145,16 +145,14 @@ fn init_line(visit: &Visit, rack: &Rack) -> Result<String, Stop> {
 }
 
 fn tell_plan(visit: &Visit, plan: &Plan) -> Result<(), Stop> {
-    let rt = &visit.rt;
     if visit.json {
         let rack = &plan.rack;
         let line =
             json!(in visit.alloc(); {"groups": rack.groups, "columns": rack.columns, "parity": rack.parity, "stripes": rack.stripes, "fragments": rack.geometry.fragments, "need": rack.geometry.need, "shards": rack.geometry.shards, "blur": rack.geometry.blur})?;
         let line = line.to_string(visit.alloc())?;
-        println!(rt; "{line}")?;
+        println!(visit; "{line}")
     } else {
         let text = plan.text(visit.alloc())?;
-        print!(rt; "{text}")?;
+        print!(visit; "{text}")
     }
-    Ok(())
 }

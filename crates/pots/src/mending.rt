@@ -4,7 +4,7 @@ use crate::looking::image;
 use crate::making::geometry_of;
 use crate::numbers::{MOST_ARCHIVES, read_number};
 use crate::session::{hold, hold_together};
-use crate::shelving::tell_ailing;
+use crate::shelving::{Gone, tell_ailing};
 use crate::stop::Stop;
 use crate::visit::Visit;
 use clap::ArgMatches;
@@ -56,14 +56,18 @@ pub fn repair<X: Threads + Wait + Sync>(
     let left = replies
         .iter()
         .fold(0u64, |sum, reply| { sum.saturating_add(left_in(reply)) });
-    if left > 0 {
-        let rt = &visit.rt;
-        let _ = eprintln!(rt;
-            "pots: {left} blocks are not given back by parity: pots fetch --all while the other places have every file, and pots renew for each that it gives"
-        );
+    if left > 0 && tell_left(visit, &groups)? {
         return Ok(1);
     }
     Ok(status)
+}
+
+// Tells what is left of groups, and answers whether it is to be mended.
+fn tell_left(visit: &mut Visit, groups: &[u8]) -> Result<bool, Stop> {
+    let image = image(visit)?;
+    let gone = Gone::in_groups(visit, &image, groups)?;
+    gone.tell_idle(visit)?;
+    Ok(gone.tell_left(&visit.rt))
 }
 
 // How many blocks a repair left as they were.

@@ -42,8 +42,7 @@ fn place_one(visit: &Visit, number: u32, folder: &str) -> Result<(), Stop> {
             if visit.json {
                 return visit.tell_file("placed", target);
             }
-            println!(rt; "{name} lies at {target}")?;
-            Ok(())
+            println!(visit; "{name} lies at {target}")
         }
         Err(e) => {
             let line = format!(in visit.alloc();
@@ -79,9 +78,21 @@ fn copy_and_link(rt: &HostRuntime, name: &str, target: &str) -> io::Result<()> {
     };
     put_file(rt, target, &bytes, false)?;
     let link = format!(in rt.alloc(); "{name}.link")?;
-    symlink(rt, target, link.as_str())?;
-    fs::rename(rt, link.as_str(), name)?;
+    let link = link.as_str();
+    if let Err(e) = make_link(rt, target, link) {
+        let _ = fs::remove_file(rt, target);
+        return Err(e);
+    }
+    fs::rename(rt, link, name)?;
     sync_folder_of(rt, name)
+}
+
+// Makes a link, in the place of one that a command left which was stopped before it gave the link its name.
+fn make_link(rt: &HostRuntime, target: &str, link: &str) -> io::Result<()> {
+    if is_link(rt, link) {
+        fs::remove_file(rt, link)?;
+    }
+    symlink(rt, target, link)
 }
 
 fn is_link(rt: &HostRuntime, name: &str) -> bool {
@@ -102,7 +113,7 @@ pub fn backup_desk(visit: &mut Visit, words: &ArgMatches) -> Result<u8, Stop> {
                 visit.tell_file("kept", path)?;
                 return Ok(0);
             }
-            println!(rt;
+            println!(visit;
                 "{path} has the desk as it is now: keep it at another place, where you would keep a list of names; to go back to it, put it as desk.psi into the archive's folder and take desk.pss away"
             )?;
             Ok(0)

@@ -2,13 +2,16 @@
 
 use pot_bytes::NoMemory;
 use std::alloc::{AllocError, AllocFailed};
-use std::io;
 
 /// The exit status where memory ran out.
 const NO_MEMORY: u8 = 70;
 
 /// The exit status where standard output could not be written.
 const SINK_FAULT: u8 = 5;
+
+/// The exit status where nobody reads standard output any more, and nothing else went wrong: that of a program which the system's signal
+/// for it, number 13, has ended.
+pub const UNREAD: u8 = 141;
 
 /// Why a command ended early.
 #[derive(Debug, Drop)]
@@ -65,12 +68,5 @@ impl From<AllocError> for Stop {
 impl<T: Drop> From<AllocFailed<T>> for Stop {
     fn from(_: AllocFailed<T>) -> Stop {
         Stop::NoMemory
-    }
-}
-
-// What was printed could not be written: all other errors of input and output are told where they come.
-impl From<io::Error> for Stop {
-    fn from(_: io::Error) -> Stop {
-        Stop::Output
     }
 }

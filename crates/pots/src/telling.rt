@@ -27,31 +27,28 @@ pub fn list(visit: &mut Visit) -> Result<u8, Stop> {
 }
 
 fn tell_file(visit: &Visit, name: &Name, kept: &Kept) -> Result<(), Stop> {
-    let rt = &visit.rt;
     let text = name_text(name);
     let size = Size(kept.direct.unwrap_or(kept.length));
     let size = format!(in visit.alloc(); "{size}")?;
     let size = size.as_str();
     if kept.direct.is_some() {
-        println!(rt; "{size:>10}  {text}")?;
+        println!(visit; "{size:>10}  {text}")?;
     } else if kept.complete {
         let parts = kept.parts;
-        println!(rt; "{size:>10}  {text}  in {parts} parts")?;
+        println!(visit; "{size:>10}  {text}  in {parts} parts")?;
     } else {
-        println!(rt; "{size:>10}  {text}  not stored to its end")?;
+        println!(visit; "{size:>10}  {text}  not stored to its end")?;
     }
     Ok(())
 }
 
 fn tell_file_json(visit: &Visit, name: &Name, kept: &Kept) -> Result<(), Stop> {
-    let rt = &visit.rt;
     let length = kept.direct.unwrap_or(kept.length);
     let whole = kept.is_whole();
     let line =
         json!(in visit.alloc(); {"name": name_text(name), "length": length, "parts": kept.parts, "whole": whole})?;
     let line = line.to_string(visit.alloc())?;
-    println!(rt; "{line}")?;
-    Ok(())
+    println!(visit; "{line}")
 }
 
 /// Tells how each archive stands, and how much room is left.
@@ -59,24 +56,22 @@ pub fn status(visit: &mut Visit) -> Result<u8, Stop> {
     let image = image(visit)?;
     tell_archives(visit, &image)?;
     let room = Room::left(visit.alloc(), &image)?.bytes();
-    let rt = &visit.rt;
     if visit.json {
         let line =
             json!(in visit.alloc(); {"session": image.session, "files": image.records.len() as u64, "room": room})?;
         let line = line.to_string(visit.alloc())?;
-        println!(rt; "{line}")?;
+        println!(visit; "{line}")?;
     } else {
         let left = Size(room);
-        println!(rt; "room for {left} more")?;
+        println!(visit; "room for {left} more")?;
     }
     Ok(0)
 }
 
 /// Tells how each archive stands.
 pub fn tell_archives(visit: &Visit, image: &Image) -> Result<(), Stop> {
-    let rt = &visit.rt;
     if !visit.json {
-        println!(rt; "archive  place  group  kind    blocks    gone  file")?;
+        println!(visit; "archive  place  group  kind    blocks    gone  file")?;
     }
     for holding in holdings(visit.alloc(), image)?.iter() {
         let file = file_text(visit, holding)?;
@@ -91,7 +86,6 @@ pub fn tell_archives(visit: &Visit, image: &Image) -> Result<(), Stop> {
 }
 
 fn tell_holding(visit: &Visit, holding: &Holding, place: u8, file: &str) -> Result<(), Stop> {
-    let rt = &visit.rt;
     let Holding {
         archive,
         group,
@@ -101,17 +95,14 @@ fn tell_holding(visit: &Visit, holding: &Holding, place: u8, file: &str) -> Resu
     } = *holding;
     let gone = holding.gone();
     let kind = if parity { "parity" } else { "data" };
-    println!(rt; "{archive:>7}  {place:>5}  {group:>5}  {kind:<6}  {live:>6}  {gone:>6}  {file}")?;
-    Ok(())
+    println!(visit; "{archive:>7}  {place:>5}  {group:>5}  {kind:<6}  {live:>6}  {gone:>6}  {file}")
 }
 
 fn tell_holding_json(visit: &Visit, holding: &Holding, file: &str) -> Result<(), Stop> {
-    let rt = &visit.rt;
     let line =
-        json!(in visit.alloc(); {"archive": holding.archive, "group": holding.group, "column": holding.column, "parity": holding.parity, "live": holding.live, "lost": holding.lost, "broken": holding.broken, "file": file})?;
+        json!(in visit.alloc(); {"archive": holding.archive, "group": holding.group, "column": holding.column, "parity": holding.parity, "live": holding.live, "lost": holding.lost, "broken": holding.broken, "idle": holding.idle, "file": file})?;
     let line = line.to_string(visit.alloc())?;
-    println!(rt; "{line}")?;
-    Ok(())
+    println!(visit; "{line}")
 }
 
 // How the file of an archive stands, and where it lies.

@@ -15,6 +15,7 @@ pub fn add_tending<'a>(alloc: Global, program: Command<'a>) -> Result<Command<'a
         .subcommand(place_command(alloc)?)?
         .subcommand(backup_command(alloc)?)?
         .subcommand(recover_command(alloc)?)?
+        .subcommand(audit_command(alloc)?)?
         .subcommand(drill_command(alloc)?)
 }
 
@@ -113,6 +114,15 @@ fn recover_command<'a>(alloc: Global) -> Result<Command<'a>, AllocError> {
             "robust",
             "Bear wrong shares, where there are more than enough",
         ))
+}
+
+fn audit_command<'a>(alloc: Global) -> Result<Command<'a>, AllocError> {
+    let about = "Tell of each file how much is exposed to who has these archives, by the desk";
+    command(alloc, "audit", about)?.arg(operand(
+        alloc,
+        "ARCHIVES",
+        "The numbers of the archives, as 0-3 or 4,5",
+    ))
 }
 
 fn drill_command<'a>(alloc: Global) -> Result<Command<'a>, AllocError> {

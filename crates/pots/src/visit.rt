@@ -1,13 +1,16 @@
 //! A visit to an archive: its folder, its desk under its lock, and how things are told.
 
 use crate::numbers::{MOST_ARCHIVES, read_numbers};
-use crate::stop::{Stop, refuse};
+use crate::stop::{Stop, UNREAD, refuse};
 use clap::ArgMatches;
 use pot_files::DeskFile;
 use pot_report::{reply_json, reply_line};
 use pot_script::Reply;
 use serde_json::json;
 use std::alloc::Global;
+use std::cell::Cell;
+use std::fmt::Display;
+use std::io;
 
 /// A visit to the archive of the working folder.
 #[derive(Drop)]
@@ -20,6 +23,8 @@ pub struct Visit {
     pub without: Vec<u32>,
     /// Whether the desk's image was kept already, as it was before the first session.
     pub kept: bool,
+    /// Whether something was printed that nobody reads any more.
+    unread: Cell<bool>,
 }
 
 impl Visit {
@@ -35,6 +40,7 @@ impl Visit {
             json: matches.get_flag("json"),
             without,
             kept: false,
+            unread: Cell::new(false),
         })
     }
 
@@ -47,32 +53,61 @@ impl Visit {
         refuse(&self.rt, status, line)
     }
 
+    /// Prints a line. Where nobody reads standard output any more the command goes on to its end.
+    pub fn println<D: Display + Drop>(&self, line: D) -> Result<(), Stop> {
+        self.printed(self.rt.println(line))
+    }
+
+    /// Prints a text, as a line.
+    pub fn print<D: Display + Drop>(&self, text: D) -> Result<(), Stop> {
+        self.printed(self.rt.print(text))
+    }
+
+    fn printed(&self, done: io::Result<()>) -> Result<(), Stop> {
+        match done {
+            Ok(()) => Ok(()),
+            Err(e) if e.kind() == io::ErrorKind::BrokenPipe => {
+                self.unread.set(true);
+                Ok(())
+            }
+            Err(_) => Err(Stop::Output),
+        }
+    }
+
+    /// The exit status of a command that came to this one. Where all went well but nobody read what was printed, it is another.
+    pub fn status(&self, status: u8) -> u8 {
+        if status == 0 && self.unread.get() {
+            UNREAD
+        } else {
+            status
+        }
+    }
+
     /// Tells what was done, in a word, to the file of a path.
     pub fn tell_file(&self, word: &str, path: &str) -> Result<(), Stop> {
-        let rt = &self.rt;
         if self.json {
             let line = json!(in self.alloc(); {"did": word, "path": path})?;
             let line = line.to_string(self.alloc())?;
-            println!(rt; "{line}")?;
+            println!(self; "{line}")
         } else {
-            println!(rt; "{word} {path}")?;
+            println!(self; "{word} {path}")
         }
-        Ok(())
     }
 
     /// Tells a reply, and answers whether it is a refusal.
     pub fn tell(&self, reply: &Reply) -> Result<bool, Stop> {
         let refused = reply.is_refusal();
-        let rt = &self.rt;
         if self.json {
             let line = reply_json(self.alloc(), reply)?;
-            println!(rt; "{line}")?;
-        } else if refused {
+            println!(self; "{line}")?;
+        }
+        if refused && (!self.json || self.unread.get()) {
+            let rt = &self.rt;
             let line = reply_line(self.alloc(), reply)?;
             let _ = eprintln!(rt; "pots: {line}");
-        } else {
+        } else if !self.json {
             let line = reply_line(self.alloc(), reply)?;
-            println!(rt; "{line}")?;
+            println!(self; "{line}")?;
         }
         Ok(refused)
     }
