@@ -110,6 +110,8 @@ impl Outcome {
             Mend::Whole => Outcome::Plain("whole"),
             Mend::Began => Outcome::Plain("began"),
             Mend::Went => Outcome::Plain("went"),
+            Mend::Mended => Outcome::Plain("mended"),
+            Mend::Passed => Outcome::Plain("passed"),
             Mend::TwoGone { first, second } => Outcome::TwoGone(first, second),
             Mend::Odd { wanted, found } => Outcome::Odd(wanted, found),
             Mend::Faulted { column } => Outcome::Faulted(column),

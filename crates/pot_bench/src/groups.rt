@@ -170,7 +170,7 @@ impl Trial {
         }
         match self.group.mend(1, place, blind) {
             Mend::Whole => Ok(true),
-            Mend::Began | Mend::Went => Ok(false),
+            Mend::Began | Mend::Went | Mend::Mended => Ok(false),
             _ => Err(AllocError),
         }
     }

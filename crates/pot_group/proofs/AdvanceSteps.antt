@@ -6,7 +6,8 @@ use Rattle.pot_outside.specs.declared.archive.Held.TheVariants.{Held, Absent}
 use Rattle.pot_outside.specs.declared.faults.Failed.{Failed}
 use Rattle.pot_machine.specs.declared.entry.Entry.{Entry}
 use Rattle.pot_machine.specs.declared.entry.Entry.TheVariants.{Hop, GaveUp, Fault, Oddly, Mended}
-use Rattle.pot_machine.specs.Slot.{is_live, digest_in}
+use Rattle.pot_machine.specs.Slot.{is_broken, is_live, digest_in}
+use Rattle.pot_machine.specs.declared.slot.SlotState.TheVariants.{Broken}
 use Rattle.pot_machine.specs.Column.{names}
 use Rattle.pot_machine.specs.Table.{Table, slot_at, column_at, serving_at, relay_at, next_column}
 use Rattle.pot_machine.proofs.Columns.{names_serving}
@@ -185,13 +186,21 @@ module _ (told : Type 0) (g : GroupView) (job : ℕ) (f : Flight) (settled : IsS
   pub odd_legal : (found : Digest) → digest_in (slot_at g.table f.relay.stripe f.relay.target) ≢ Some found → Legal g.table (Oddly job f.relay.stripe f.relay.target found)
   odd_legal found differs = legal_oddly g.table f.relay job found settled.table stood next differs
 
-  pub odd_settled : (e : Entry) (found : Digest) (t : Table) (log : List Entry) (fs : List Flight) → e ≡ Oddly job f.relay.stripe f.relay.target found → digest_in (slot_at g.table f.relay.stripe f.relay.target) ≢ Some found
-      → t ≡ after g.table e → log ≡ g.log ++ e ∷ [] → fs ≡ without_flight g.flights f.relay.stripe → IsSettled told (record g { table = t; log = log; flights = fs })
-  odd_settled e found t log fs ee differs et el ef =
-      subst (λ t. IsSettled told (record g { table = t; log = log; flights = fs })) (sym (et ∙ ap (after g.table) ee))
-      (subst (λ log. IsSettled told (record g { table = after g.table (Oddly job f.relay.stripe f.relay.target found); log = log; flights = fs })) (sym (el ∙ ap (λ e. g.log ++ e ∷ []) ee))
+  same_digest : (a b : Digest) → Some a ≡ Some b → a ≡ b
+  same_digest a b e = cc
+
+  -- the slot was Broken
+  odd_found : (t : Table) (e : Entry) (wanted found : Digest) → FinishMeans job (finished.Odd wanted found e) g.table t f → told → slot_at g.table f.relay.stripe f.relay.target ≡ Broken wanted
+  odd_found t e wanted found m k = odd_broken g.table g.shelves.held f wanted settled.table stood next (fly k) m.4 (λ q. m.3 (q ∙ sym m.2))
+
+  pub odd_settled : (e : Entry) (wanted found : Digest) (t : Table) (log : List Entry) (fs : List Flight) → FinishMeans job (finished.Odd wanted found e) g.table t f → log ≡ g.log ++ e ∷ []
+      → fs ≡ without_flight g.flights f.relay.stripe → IsSettled told (record g { table = t; log = log; flights = fs })
+  odd_settled e wanted found t log fs m el ef =
+      subst (λ t. IsSettled told (record g { table = t; log = log; flights = fs })) (sym (m.1 ∙ ap (after g.table) m.0))
+      (subst (λ log. IsSettled told (record g { table = after g.table (Oddly job f.relay.stripe f.relay.target found); log = log; flights = fs })) (sym (el ∙ ap (λ e. g.log ++ e ∷ []) m.0))
       (subst (λ fs. IsSettled told (record g { table = after g.table (Oddly job f.relay.stripe f.relay.target found); log = g.log ++ Oddly job f.relay.stripe f.relay.target found ∷ []; flights = fs })) (sym ef)
-      (quiet_act told g (Oddly job f.relay.stripe f.relay.target found) [] settled (odd_legal found differs) room refl (λ k. refl) (λ t n k b ln lk l h. h) (λ k. refl) (λ t k lk m. absurd m))))
+      (quiet_act told g (Oddly job f.relay.stripe f.relay.target found) [] settled (odd_legal found (λ q. m.3 (same_digest wanted found (sym m.4 ∙ q)))) room refl (λ k. refl) (λ t n k b ln lk l h. h) (λ k. refl)
+      (λ k c lc says. (let whole = sym says.1 ∙ ap is_broken (odd_found t e wanted found m k) in absurd (cc whole))))))
 
   pub odd_step : (e : Entry) (wanted found : Digest) (t : Table) (log : List Entry) (fs : List Flight) → FinishMeans job (finished.Odd wanted found e) g.table t f → log ≡ g.log ++ e ∷ [] → fs ≡ without_flight g.flights f.relay.stripe
       → told → AdvanceStep job f.relay.stripe (Odd wanted found) (state_of g) (state_of (record g { table = t; log = log; flights = fs }))
@@ -211,12 +220,9 @@ module _ (told : Type 0) (g : GroupView) (job : ℕ) (f : Flight) (settled : IsS
       elsewhere = (λ n q b ne e. e);
     },
     (λ n. refl),
-    odd_broken g.table g.shelves.held f wanted settled.table stood next (fly k) m.4 (λ q. m.3 (q ∙ sym m.2)),
+    odd_found t e wanted found m k,
     subst (λ o. IsSomeAnd o (λ f2. found ≡ digest_of (partial_of f2))) (sym here) m.2,
   )
-    where
-      same_digest : (a b : Digest) → Some a ≡ Some b → a ≡ b
-      same_digest a b e = cc
 
   -- Mended, and a write that failed
   module _ (block : List ℕ) (is : block ≡ partial_of f) (digest : digest_in (slot_at g.table f.relay.stripe f.relay.target) ≡ Some (digest_of block)) (new : GroupView) where

@@ -155,7 +155,7 @@ module _ (told : Type 0) (job : ℕ) (place : Place) (blind : List ℕ) where
     }
 
     odd : (own : Bool) (wanted found : Digest) → IsTrue own ↔ Owns old.table n place.stripe place.column → Advanced_by (Err (failed.Odd wanted found))
-        → Mends (if own then mend.Odd wanted found else mend.Went) old new
+        → Mends (if own then mend.Odd wanted found else mend.Passed) old new
     odd true wanted found owns (entries, grows, row) = (
       entries,
       grows,
@@ -171,7 +171,7 @@ module _ (told : Type 0) (job : ℕ) (place : Place) (blind : List ℕ) where
       entries,
       grows,
       record {
-        tells = (room, (drives false (Err (failed.Odd wanted found)) mend.Went owns refl row.tells.1, row.tells.2));
+        tells = (room, (drives false (Err (failed.Odd wanted found)) mend.Passed owns refl row.tells.1, row.tells.2));
         keeps = row.keeps;
         step = λ t. (unsound, (n, which, inr (inr (inr (wanted, found, row.step t, λ o. no (owns.1 o))))));
         lossless = row.lossless;
@@ -198,7 +198,7 @@ module _ (told : Type 0) (job : ℕ) (place : Place) (blind : List ℕ) where
       entries,
       grows,
       record {
-        tells = (room, (drives own (Ok advanced.Mended) mend.Went owns refl row.tells.1, row.tells.2));
+        tells = (room, (drives own (Ok advanced.Mended) mend.Mended owns refl row.tells.1, row.tells.2));
         keeps = row.keeps;
         step = λ t. (unsound, (n, which, inr (inl (row.step t))));
         lossless = row.lossless;

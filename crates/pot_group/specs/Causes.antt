@@ -5,8 +5,8 @@ use Rattle.std.specs.Prelude.{false, IsTrue, List, [], ◌∷◌, Contains, if�
 use Rattle.pot_outside.specs.Counts.{Rose}
 use Rattle.pot_machine.specs.declared.entry.Entry.{Entry}
 use Rattle.pot_machine.specs.declared.entry.Entry.TheVariants.{Put, Gone, Fault, GaveUp, MoveBegin}
-use Rattle.pot_machine.specs.declared.entry.Entry.TheVariants.{Moved, Swapped, Put2}
-use Rattle.pot_machine.specs.Slot.{is_live}
+use Rattle.pot_machine.specs.declared.entry.Entry.TheVariants.{Moved, Oddly, Swapped, Put2}
+use Rattle.pot_machine.specs.Slot.{is_broken, is_live}
 use Rattle.pot_machine.specs.Column.{target_of}
 use Rattle.pot_machine.specs.Table.{Table, width, slot_at, column_at}
 use Rattle.pot_machine.specs.Machine.{after}
@@ -58,12 +58,14 @@ Covers s numbers named =
 
 -- LOSSES
 
--- the entry says that a Live slot of the column has not its block. The opening, which is job 0, may
--- say so after a fault
+-- The entry says that a Live slot of the column has not its block, or that a slot of it which is not
+-- Broken can't be rebuilt from the others. The opening, which is job 0, may say the former after a
+-- fault.
 abbrev pub Misses : Table → Entry → ℕ → Type 0
 Misses t (Gone job s k) c = (job ≢ 0) × (k ≡ c) × IsTrue (is_live (slot_at t s k))
 Misses t (GaveUp job s k other) c = (other ≡ c) × IsTrue (is_live (slot_at t s other))
 Misses t (Moved job s k copied) c = (copied ≡ false) × (k ≡ c) × IsTrue (is_live (slot_at t s k))
+Misses t (Oddly job s k found) c = (k ≡ c) × (is_broken (slot_at t s k) ≡ false)
 Misses t _ c = ⊥
 
 -- where an entry of the log says so, this holds

@@ -57,8 +57,12 @@ pub enum Mend {
     Whole,
     /// A relay began.
     Began,
-    /// A relay went on, or ended.
+    /// A relay went over one column, or gave up.
     Went,
+    /// A relay ended, and its target was written.
+    Mended,
+    /// The relay of another slot came to a block of another digest, and ended.
+    Passed,
     /// No relay can rebuild the slot of column `first`, because of that of column `second`.
     TwoGone { first: u8, second: u8 },
     /// The slot's relay came to a block of another digest, and ended.
@@ -252,8 +256,7 @@ impl<A: Archive> Group<A> {
     /// in its way, by one column. The blind is used exactly at `Began`.
     ///
     /// `LogFull` comes first, then `Whole`, exactly where the slot is Void or Live. Where the stripe has a relay it is moved; else
-    /// `TwoGone` comes exactly where no relay can rebuild the slot. `Went` stands for a step of a relay, and for an Odd end of
-    /// that of another slot.
+    /// `TwoGone` comes exactly where no relay can rebuild the slot. `Mended` and `Passed` may be ends of the relay of another slot.
     pub fn mend(&mut self, job: u32, place: Place, blind: &Block) -> Mend
         requires job { 0 < job }
         requires stripe { place.stripe < self.old.table.stripes }
@@ -440,12 +443,14 @@ fn answered(step: Result<Advanced, AdvanceFault>, own: bool) -> Mend
     ensures { result ≡ answered own step }
 {
     match step {
-        Ok(_) => Mend::Went,
+        Ok(Advanced::Hopped) => Mend::Went,
+        Ok(Advanced::Ended) => Mend::Went,
+        Ok(Advanced::Mended) => Mend::Mended,
         Err(AdvanceFault::Odd { wanted, found }) => {
             if own {
                 Mend::Odd { wanted, found }
             } else {
-                Mend::Went
+                Mend::Passed
             }
         }
         Err(AdvanceFault::Faulted { column }) => Mend::Faulted { column },

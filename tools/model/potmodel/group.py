@@ -234,9 +234,11 @@ class Group:
 
     @staticmethod
     def went(advanced, is_same_place):
-        """What an advance means for a mend: an Odd of another place is a step like any other."""
-        if advanced.kind in ("Hopped", "Mended", "Ended") or advanced.kind == "Odd" and not is_same_place:
+        """What an advance means for a mend: one that ends in an Odd of another place passes it."""
+        if advanced.kind in ("Hopped", "Ended"):
             return Answer("Went")
+        if advanced.kind == "Odd" and not is_same_place:
+            return Answer("Passed")
         return advanced
 
     def move_begin(self, job, column, number, archive):

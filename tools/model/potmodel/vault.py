@@ -159,7 +159,7 @@ class Vault:
             answer = self.groups[group].mend(job, stripe, column, blind)
             if answer.kind == "Began":
                 blind = blinds.take(pieces.BLOCK)
-            elif answer.kind != "Went":
+            elif answer.kind not in ("Went", "Mended", "Passed"):
                 return answer
 
     def work_renew(self, job, name, geometry):

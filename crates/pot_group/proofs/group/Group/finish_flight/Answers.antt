@@ -11,7 +11,7 @@ use Rattle.pot_steps.specs.Flights.{flight_in}
 use Rattle.pot_group.specs.Group.{GroupParts, view_of}
 use Rattle.pot_group.specs.Arrivals.{arrival}
 use Rattle.pot_group.proofs.RelayExits.{stands_in_table}
-use Rattle.pot_group.proofs.AdvanceSteps.{odd_settled, some_differs}
+use Rattle.pot_group.proofs.AdvanceSteps.{odd_settled}
 use Rattle.pot_group.proofs.Advancing.{odd_advances, well_advances}
 use Rattle.pot_group.proofs.Arriving.{none_arrived}
 use Rattle.pot_group.proofs.group.Group.finish_flight.Goals as goal
@@ -30,7 +30,7 @@ invariant_of-self-in-Odd g c =
       odd_settled (IsTrue g.A.Archive.account.tells) (view_of g.A.Archive.account.meaning v) c.args.job c.args.flight c.self.invariant.0 (subst (λ (w : GroupParts _). length w.log < 262144) (sym c.self.view_is) c.requires.room)
           (subst (λ (w : GroupParts _). flight_in w.flights c.args.flight.relay.stripe ≡ Some c.args.flight) (sym c.self.view_is) c.requires.here)
           (subst (λ (w : GroupParts _). next_column w.table c.args.flight.relay ≡ None) (sym c.self.view_is) c.requires.next)
-          c.in-Odd.entry c.in-Odd.found c.finish.new.table c.push_reserved.new.self.items c.retain.new.self.items c.in-Odd.ensures.0 (some_differs _ c.in-Odd.wanted c.in-Odd.found c.in-Odd.ensures.4 c.in-Odd.ensures.3) c.in-Odd.ensures.1
+          c.in-Odd.entry c.in-Odd.wanted c.in-Odd.found c.finish.new.table c.push_reserved.new.self.items c.retain.new.self.items c.in-Odd.ensures
           c.push_reserved.ensures.items (filter_same _ (λ (f : Flight). not (f.relay.stripe == c.args.flight.relay.stripe)) _ (λ x b q h. search (rules, tests)) _ _ c.retain.ensures.filtered),
       omega (arith, c.self.invariant.1, c.push_reserved.ensures.capacity),
       omega (arith, c.self.invariant.2, c.retain.ensures.capacity),
