@@ -1,5 +1,5 @@
 -- One locked call of the index, step by step.
-use Rattle.std.proofs.Common.{◌≡◌, ◌<◌, inl, inr, ℕ, zero, suc, false, List, [], ◌∷◌, ◌++◌, length, refl, ap, sym, ◌∙◌, subst, arith, set, append-nil}
+use Rattle.std.proofs.Common.{◌≡◌, ◌<◌, inr, ℕ, false, List, [], ◌++◌, length, ap, sym, ◌∙◌, subst, arith, append-nil}
 use Rattle.std.specs.Prelude.{Any, Some, Result, Ok, Err}
 use Rattle.std.proofs.lemmas.List.{map-append}
 use Rattle.pot_bytes.specs.declared.rack.Rack.{Rack}

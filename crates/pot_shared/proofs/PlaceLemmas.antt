@@ -1,5 +1,5 @@
 -- The mending of a place, step by step.
-use Rattle.std.proofs.Common.{◌≡◌, ◌<◌, ◌≤◌, ◌+◌, ◌-◌, ℕ, zero, suc, List, [], ◌∷◌, ◌++◌, length, length-append, refl, ap, sym, ◌∙◌, subst, arith, set}
+use Rattle.std.proofs.Common.{◌≡◌, ◌<◌, ◌≤◌, ◌+◌, ◌-◌, ℕ, zero, suc, List, [], ◌∷◌, ◌++◌, length, length-append, refl, ap, sym, ◌∙◌, subst, arith}
 use Rattle.std.specs.Prelude.{All, Option, None, Some, IsSomeAnd, Result, Ok, Err}
 use Rattle.std.proofs.lemmas.List.{length-map, set-get_or}
 use Rattle.std.proofs.lemmas.List.Elements.{All-append, All-nil}
@@ -24,7 +24,7 @@ use Rattle.pot_shared.specs.Members.{all_logged, logged_at}
 use Rattle.pot_shared.specs.Ready.{GroupPass, GroupPasses}
 use Rattle.pot_shared.specs.Calls.{CallAt, CallTurn}
 use Rattle.pot_group.specs.Calls.{MendCall, RelayEntries}
-use Rattle.pot_shared.specs.MendCalls.{GoesOn, MendTurns, MendsPlace, begins, begun, blind_at, drawn}
+use Rattle.pot_shared.specs.MendCalls.{GoesOn, MendTurns, MendsPlace, begins, blind_at, drawn, mends, passes, total}
 use Rattle.pot_shared.proofs.CallLemmas.{set_twice}
 
 zero_front : (n : ℕ) → n ≡ 0 + n
@@ -39,25 +39,28 @@ module _ (told : Type 0) (job : ℕ) (place : Place) (pads : Pads) where
   Call blind answer = MendCall told job place blind answer
 
   turns_more : (n : ℕ) (before : List Mend) (answer : Mend) (v u w : GroupPass) → MendTurns told job place pads n before v u
-      → CallTurn told (Call (blind_at pads (n + begun before)) answer) u w → MendTurns told job place pads n (before ++ answer ∷ []) v w
+      → CallTurn told (Call (blind_at pads (n + total begins before)) answer) u w → MendTurns told job place pads n (before ++ answer ∷ []) v w
   turns_more n [] answer v u w same call =
       let zero_more : n + 0 ≡ n = omega arith in
       (w, subst (λ x. CallTurn told (Call (blind_at pads n) answer) x w) same (subst (λ k. CallTurn told (Call (blind_at pads k) answer) u w) zero_more call), refl)
   turns_more n (b ∷ before) answer v u w (x, first, more) call =
-      let later : n + begun (b ∷ before) ≡ (n + begins b) + begun before = omega arith in
+      let later : n + total begins (b ∷ before) ≡ (n + begins b) + total begins before = omega arith in
       (x, first, turns_more (n + begins b) before answer x u w more (subst (λ k. CallTurn told (Call (blind_at pads k) answer) u w) later call))
 
-  -- what was done so far, with the blind at hand and where the stream stands
-  pub record IsMending (old now : GroupPasses) (blind : List ℕ) (after : Pads) : Type 0 where
+  -- what was done so far, with the blind at hand, where the stream stands, and what was counted
+  pub record IsMending (old now : GroupPasses) (blind : List ℕ) (after : Pads) (mended passed : ℕ) : Type 0 where
     pub before : List Mend
     pub go_on : All GoesOn before
     pub pass : GroupPass
     pub is : now ≡ with_view old place.group pass
     pub turns : MendTurns told job place pads 0 before (view_at old place.group) pass
-    pub blind_is : blind ≡ blind_at pads (begun before)
-    pub stream : after ≡ drawn pads (suc (begun before))
+    pub blind_is : blind ≡ blind_at pads (total begins before)
+    pub stream : after ≡ drawn pads (suc (total begins before))
+    pub mended_is : mended ≡ total mends before
+    pub passed_is : passed ≡ total passes before
+    pub few : mended + passed ≤ length (view_at now place.group).seen
 
-  pub mending_none : (old : GroupPasses) (blind : List ℕ) (after : Pads) → blind ≡ next_bytes pads 1024 → after ≡ moved pads 1024 → IsMending old old blind after
+  pub mending_none : (old : GroupPasses) (blind : List ℕ) (after : Pads) → blind ≡ next_bytes pads 1024 → after ≡ moved pads 1024 → IsMending old old blind after 0 0
   mending_none old blind after blind_is stream = record {
     before = [];
     go_on = All-nil GoesOn;
@@ -66,10 +69,13 @@ module _ (told : Type 0) (job : ℕ) (place : Place) (pads : Pads) where
     turns = refl;
     blind_is = blind_is;
     stream = stream;
+    mended_is = refl;
+    passed_is = refl;
+    few = omega arith;
   }
 
-  module _ (names : List TurnName) (old now next : GroupPasses) (blind : List ℕ) (after : Pads) (of : AreOf names old) (within : place.group < length names)
-      (sofar : IsMending old now blind after) (answer : Mend) (call : CallAt told (Call blind answer) place.group now next) where
+  module _ (names : List TurnName) (old now next : GroupPasses) (blind : List ℕ) (after : Pads) (mended passed : ℕ) (of : AreOf names old) (within : place.group < length names)
+      (sofar : IsMending old now blind after mended passed) (answer : Mend) (call : CallAt told (Call blind answer) place.group now next) where
     long : place.group < length old.views
     long = let l = of.1 in omega (arith, within, l)
 
@@ -83,59 +89,54 @@ module _ (told : Type 0) (job : ℕ) (place : Place) (pads : Pads) where
 
     all_turns : MendTurns told job place pads 0 (sofar.before ++ answer ∷ []) (view_at old place.group) call.pass
     all_turns = turns_more 0 sofar.before answer (view_at old place.group) sofar.pass call.pass sofar.turns
-        (subst (λ k. CallTurn told (Call (blind_at pads k) answer) sofar.pass call.pass) (zero_front (begun sofar.before))
+        (subst (λ k. CallTurn told (Call (blind_at pads k) answer) sofar.pass call.pass) (zero_front (total begins sofar.before))
         (subst (λ b. CallTurn told (Call b answer) sofar.pass call.pass) sofar.blind_is (subst (λ v. CallTurn told (Call blind answer) v call.pass) knows call.turn)))
 
-    pub mending_ends : (GoesOn answer → ⊥) → MendsPlace told job place pads after answer old next
+    pub mending_ends : (GoesOn answer → ⊥)
+        → MendsPlace told job place pads after (record { end = answer; mended = mended; passed = passed }) old next
     mending_ends ends = record {
       before = sofar.before;
       go_on = sofar.go_on;
       ends = ends;
+      mended = sofar.mended_is;
+      passed = sofar.passed_is;
       pass = call.pass;
       is = next_is;
       turns = all_turns;
       stream = sofar.stream;
     }
 
-    begun_more : (before : List Mend) → begun (before ++ answer ∷ []) ≡ begun before + begins answer
-    begun_more [] = omega arith
-    begun_more (b ∷ before) = (let h = begun_more before in omega (arith, h))
+    total_more : (f : Mend → ℕ) (before : List Mend) → total f (before ++ answer ∷ []) ≡ total f before + f answer
+    total_more f [] = omega arith
+    total_more f (b ∷ before) = (let h = total_more f before in omega (arith, h))
 
-    pub mending_more : (blind1 : List ℕ) (after1 : Pads) → GoesOn answer
-        → blind1 ≡ blind_at pads (begun sofar.before + begins answer) → after1 ≡ drawn pads (suc (begun sofar.before + begins answer)) → IsMending old next blind1 after1
-    mending_more blind1 after1 goes_on blind_is stream = record {
+    one_more : (f : Mend → ℕ) (n n1 : ℕ) → n ≡ total f sofar.before → n1 ≡ n + f answer → n1 ≡ total f (sofar.before ++ answer ∷ [])
+    one_more f n n1 is is1 = (let h = total_more f sofar.before in omega (arith, is, is1, h))
+
+    pub mending_more : (blind1 : List ℕ) (after1 : Pads) (mended1 passed1 : ℕ) → GoesOn answer
+        → blind1 ≡ blind_at pads (total begins sofar.before + begins answer) → after1 ≡ drawn pads (suc (total begins sofar.before + begins answer))
+        → mended1 ≡ mended + mends answer → passed1 ≡ passed + passes answer → mended1 + passed1 ≤ length (view_at next place.group).seen
+        → IsMending old next blind1 after1 mended1 passed1
+    mending_more blind1 after1 mended1 passed1 goes_on blind_is stream mended_is passed_is few = record {
       before = sofar.before ++ answer ∷ [];
       go_on = All-append GoesOn sofar.before (answer ∷ []) sofar.go_on (just_one answer goes_on);
       pass = call.pass;
       is = next_is;
       turns = all_turns;
-      blind_is = blind_is ∙ ap (blind_at pads) (sym (begun_more sofar.before));
-      stream = stream ∙ ap (λ n. drawn pads (suc n)) (sym (begun_more sofar.before));
+      blind_is = blind_is ∙ ap (blind_at pads) (sym (total_more begins sofar.before));
+      stream = stream ∙ ap (λ n. drawn pads (suc n)) (sym (total_more begins sofar.before));
+      mended_is = one_more mends mended mended1 sofar.mended_is mended_is;
+      passed_is = one_more passes passed passed1 sofar.passed_is passed_is;
+      few = few;
     }
 
-  -- after a step of a relay the same blind is at hand
-  pub mending_went : (names : List TurnName) (old now next : GroupPasses) (blind : List ℕ) (after : Pads) → AreOf names old → place.group < length names
-      → IsMending old now blind after → CallAt told (Call blind mend.Went) place.group now next → IsMending old next blind after
-  mending_went names old now next blind after of within sofar call =
-      let same : begun sofar.before ≡ begun sofar.before + 0 = omega arith in
-      mending_more names old now next blind after of within sofar mend.Went call blind after (tt)
-      (sofar.blind_is ∙ ap (blind_at pads) same) (sofar.stream ∙ ap (λ n. drawn pads (suc n)) same)
-
-  -- and after a relay that began, the next one
-  pub mending_began : (names : List TurnName) (old now next : GroupPasses) (blind blind1 : List ℕ) (after after1 : Pads) → AreOf names old → place.group < length names
-      → IsMending old now blind after → CallAt told (Call blind mend.Began) place.group now next
-      → blind1 ≡ next_bytes after 1024 → after1 ≡ moved after 1024 → IsMending old next blind1 after1
-  mending_began names old now next blind blind1 after after1 of within sofar call blind_is stream =
-      let one : suc (begun sofar.before) ≡ begun sofar.before + 1 = omega arith in
-      mending_more names old now next blind after of within sofar mend.Began call blind1 after1 (tt)
-      (blind_is ∙ (ap (λ p. next_bytes p 1024) sofar.stream ∙ ap (blind_at pads) one))
-      (stream ∙ (ap (λ p. moved p 1024) sofar.stream ∙ ap (λ n. drawn pads (suc n)) one))
-
 -- an answer of another kind is the last
-pub is_last : (answer : Mend) → (answer ≡ mend.Began → ⊥) → (answer ≡ mend.Went → ⊥) → GoesOn answer → ⊥
-is_last mend.Began not_began not_went on = not_began refl
-is_last mend.Went not_began not_went on = not_went refl
-is_last _ not_began not_went on = on
+pub is_last : (answer : Mend) → (answer ≡ mend.Began → ⊥) → (answer ≡ mend.Went → ⊥) → (answer ≡ mend.Mended → ⊥) → (answer ≡ mend.Passed → ⊥) → GoesOn answer → ⊥
+is_last mend.Began not_began not_went not_mended not_passed on = not_began refl
+is_last mend.Went not_began not_went not_mended not_passed on = not_went refl
+is_last mend.Mended not_began not_went not_mended not_passed on = not_mended refl
+is_last mend.Passed not_began not_went not_mended not_passed on = not_passed refl
+is_last _ not_began not_went not_mended not_passed on = on
 
 -- IT ENDS
 
@@ -167,13 +168,17 @@ one_entry : (told : Type 0) (job : ℕ) (place : Place) (blind : List ℕ) (answ
 one_entry told job place blind mend.Began old new entries on call = ap length call.tells.0
 one_entry told job place blind mend.Went old new entries on call =
     let d = call.tells.1 in relay_one job d.0.stripe d.0.result old entries d.1
+one_entry told job place blind mend.Mended old new entries on call =
+    let d = call.tells.1 in relay_one job d.0.stripe d.0.result old entries d.1
+one_entry told job place blind mend.Passed old new entries on call =
+    let d = call.tells.1 in relay_one job d.0.stripe d.0.result old entries d.1
 one_entry told job place blind _ old new entries on call = absurd on
 
 -- so the log that the pass has seen grows, which has a bound
-pub falls : (told : Type 0) (job : ℕ) (place : Place) (blind : List ℕ) (answer : Mend) (names : List TurnName) (now next : GroupPasses) → AreOf names now → place.group < length names
+pub grows : (told : Type 0) (job : ℕ) (place : Place) (blind : List ℕ) (answer : Mend) (names : List TurnName) (now next : GroupPasses) → AreOf names now → place.group < length names
     → GoesOn answer → CallAt told (MendCall told job place blind answer) place.group now next
-    → 262145 - length (view_at next place.group).seen < 262145 - length (view_at now place.group).seen
-falls told job place blind answer names now next of within on call =
+    → (length (view_at now place.group).seen < length (view_at next place.group).seen) × (length (view_at next place.group).seen ≤ 262144)
+grows told job place blind answer names now next of within on call =
     let t = call.turn in
     let v = view_at now place.group in
     let long = of.1 in
@@ -188,4 +193,55 @@ falls told job place blind answer names now next of within on call =
     let met = sym (ap length t.met) ∙ length-map t.old.log (logged_at t.old.shelves) in
     let log = ap length t.log ∙ length-append t.old.log t.entries in
     let bound = t.settled.bound in
-    omega (arith, seen, parts, front, own, one, met, log, bound)
+    (omega (arith, seen, parts, front, own, one, met, log, bound), omega (arith, seen, parts, front, own, one, met, log, bound))
+
+pub falls : (told : Type 0) (job : ℕ) (place : Place) (blind : List ℕ) (answer : Mend) (names : List TurnName) (now next : GroupPasses) → AreOf names now → place.group < length names
+    → GoesOn answer → CallAt told (MendCall told job place blind answer) place.group now next
+    → 262145 - length (view_at next place.group).seen < 262145 - length (view_at now place.group).seen
+falls told job place blind answer names now next of within on call =
+    let g = grows told job place blind answer names now next of within on call in
+    let more = g.0 in
+    let bound = g.1 in
+    omega (arith, more, bound)
+
+-- A STEP AFTER WHICH THE MEND GOES ON
+
+module _ (told : Type 0) (job : ℕ) (place : Place) (pads : Pads) (names : List TurnName) (old now next : GroupPasses) (blind : List ℕ) (after : Pads) (mended passed : ℕ)
+    (of : AreOf names old) (of_now : AreOf names now) (within : place.group < length names) (sofar : IsMending told job place pads old now blind after mended passed) where
+  abbrev Step : Mend → Type 0
+  Step answer = CallAt told (MendCall told job place blind answer) place.group now next
+
+  abbrev Sofar : List ℕ → Pads → ℕ → ℕ → Type 0
+  Sofar blind1 after1 mended1 passed1 = IsMending told job place pads old next blind1 after1 mended1 passed1
+
+  seen_more : (answer : Mend) → GoesOn answer → Step answer → length (view_at now place.group).seen < length (view_at next place.group).seen
+  seen_more answer on call = (grows told job place blind answer names now next of_now within on call).0
+
+  -- it began no relay: the same blind is at hand
+  goes_on : (answer : Mend) (mended1 passed1 : ℕ) → GoesOn answer → begins answer ≡ 0 → mended1 ≡ mended + mends answer → passed1 ≡ passed + passes answer
+      → mended1 + passed1 ≤ suc (mended + passed) → Step answer → Sofar blind after mended1 passed1
+  goes_on answer mended1 passed1 on none mended_is passed_is one call =
+      let same : total begins sofar.before ≡ total begins sofar.before + begins answer = omega (arith, none) in
+      let more = seen_more answer on call in
+      let few = sofar.few in
+      mending_more told job place pads names old now next blind after mended passed of within sofar answer call blind after mended1 passed1 on
+      (sofar.blind_is ∙ ap (blind_at pads) same) (sofar.stream ∙ ap (λ n. drawn pads (suc n)) same) mended_is passed_is (omega (arith, more, few, one))
+
+  pub mending_went : Step mend.Went → Sofar blind after mended passed
+  mending_went call = goes_on mend.Went mended passed (tt) refl (omega arith) (omega arith) (omega arith) call
+
+  pub mending_mended : (mended1 : ℕ) → mended1 ≡ mended + 1 → Step mend.Mended → Sofar blind after mended1 passed
+  mending_mended mended1 is call = goes_on mend.Mended mended1 passed (tt) refl is (omega arith) (omega (arith, is)) call
+
+  pub mending_passed : (passed1 : ℕ) → passed1 ≡ passed + 1 → Step mend.Passed → Sofar blind after mended passed1
+  mending_passed passed1 is call = goes_on mend.Passed mended passed1 (tt) refl (omega arith) is (omega (arith, is)) call
+
+  -- after a relay that began, the next blind is
+  pub mending_began : (blind1 : List ℕ) (after1 : Pads) → Step mend.Began → blind1 ≡ next_bytes after 1024 → after1 ≡ moved after 1024 → Sofar blind1 after1 mended passed
+  mending_began blind1 after1 call blind_is stream =
+      let one : suc (total begins sofar.before) ≡ total begins sofar.before + 1 = omega arith in
+      let more = seen_more mend.Began (tt) call in
+      let few = sofar.few in
+      mending_more told job place pads names old now next blind after mended passed of within sofar mend.Began call blind1 after1 mended passed (tt)
+      (blind_is ∙ (ap (λ p. next_bytes p 1024) sofar.stream ∙ ap (blind_at pads) one))
+      (stream ∙ (ap (λ p. moved p 1024) sofar.stream ∙ ap (λ n. drawn pads (suc n)) one)) (omega arith) (omega arith) (omega (arith, more, few))

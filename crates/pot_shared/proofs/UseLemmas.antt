@@ -1,5 +1,5 @@
 -- Groups that are asked one after another.
-use Rattle.std.proofs.Common.{◌≡◌, ◌≢◌, ◌<◌, ◌≤◌, ◌+◌, ◌⊎◌, inl, inr, ℕ, zero, suc, List, [], ◌∷◌, ◌++◌, length, length-append, refl, ap, sym, ◌∙◌, subst, arith, replicate}
+use Rattle.std.proofs.Common.{◌≡◌, ◌≢◌, ◌<◌, ◌+◌, ◌⊎◌, inl, inr, ℕ, zero, suc, List, [], ◌∷◌, ◌++◌, length, length-append, refl, ap, sym, ◌∙◌, subst, arith, replicate}
 use Rattle.std.specs.Prelude.{Option, None, Some, slice_get, ◌||◌, true, false, Bool}
 use Rattle.std.specs.List.{list_any}
 use Rattle.std.specs.Option.{option_or}

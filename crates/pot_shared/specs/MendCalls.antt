@@ -6,6 +6,7 @@ use Rattle.pot_group.specs.declared.relaying.Mend.TheVariants as mend
 use Rattle.pot_group.specs.Calls.{MendCall}
 use Rattle.pot_pads.specs.Pads.{Pads, moved, next_bytes}
 use Rattle.pot_rows.specs.Rows.{view_at, with_view}
+use Rattle.pot_shared.specs.declared.mending.Mending.{Mending}
 use Rattle.pot_shared.specs.Ready.{GroupPass, GroupPasses}
 use Rattle.pot_shared.specs.Calls.{CallTurn}
 
@@ -21,16 +22,27 @@ blind_at pads n = next_bytes (drawn pads n) 1024
 abbrev pub GoesOn : Mend → Type 0
 GoesOn mend.Began = Unit {0}
 GoesOn mend.Went = Unit {0}
+GoesOn mend.Mended = Unit {0}
+GoesOn mend.Passed = Unit {0}
 GoesOn _ = ⊥
 
--- how many relays began
+-- how many relays began at an answer, ended by a write, and ended at a block of another digest
 abbrev pub begins : Mend → ℕ
 begins mend.Began = 1
 begins _ = 0
 
-abbrev pub begun : List Mend → ℕ
-begun [] = 0
-begun (answer ∷ more) = begins answer + begun more
+abbrev pub mends : Mend → ℕ
+mends mend.Mended = 1
+mends _ = 0
+
+abbrev pub passes : Mend → ℕ
+passes mend.Passed = 1
+passes _ = 0
+
+-- how many at all of these
+abbrev pub total : (Mend → ℕ) → List Mend → ℕ
+total f [] = 0
+total f (answer ∷ more) = f answer + total f more
 
 -- One turn for each of these answers, from a pass that knew v to one that knows w. Each has the
 -- blind whose number is that of the relays that began before it.
@@ -42,12 +54,15 @@ MendTurns told job place pads n (answer ∷ more) v w =
 
 -- The place was mended step by step, up to the first answer after which that does not go on. A
 -- blind was drawn before the first step, and one after each relay that began.
-pub record MendsPlace (told : Type 0) (job : ℕ) (place : Place) (pads after : Pads) (result : Mend)
-    (old new : GroupPasses) : Type 0 where
+pub record MendsPlace (told : Type 0) (job : ℕ) (place : Place) (pads after : Pads)
+    (result : Mending) (old new : GroupPasses) : Type 0 where
   pub before : List Mend
   pub go_on : All GoesOn before
-  pub ends : GoesOn result → ⊥
+  pub ends : GoesOn result.end → ⊥
+  pub mended : result.mended ≡ total mends before
+  pub passed : result.passed ≡ total passes before
   pub pass : GroupPass
   pub is : new ≡ with_view old place.group pass
-  pub turns : MendTurns told job place pads 0 (before ++ result ∷ []) (view_at old place.group) pass
-  pub stream : after ≡ drawn pads (suc (begun before))
+  pub turns : MendTurns told job place pads 0 (before ++ result.end ∷ [])
+      (view_at old place.group) pass
+  pub stream : after ≡ drawn pads (suc (total begins before))

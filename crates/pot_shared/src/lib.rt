@@ -25,5 +25,6 @@ mod vault;
 pub use catalog::{Catalog, CatalogOrigin, Strange};
 pub use ending::Closed;
 pub use member::{GroupOrigin, Logged, Member};
+pub use mending::Mending;
 pub use starting::VaultRefused;
 pub use vault::{Passes, Spaces, Vault};

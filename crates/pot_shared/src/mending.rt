@@ -9,6 +9,17 @@ use pot_outside::Archive;
 use pot_pads::PadStream;
 use std::sync::Wait;
 
+/// What the mending of a place came to.
+#[derive(Clone, Copy, PartialEq, Eq, Debug)]
+pub struct Mending {
+    /// The answer of its last step.
+    pub end: Mend,
+    /// How many relays ended on the way by a write of their target.
+    pub mended: u32,
+    /// How many relays of other slots ended on the way at a block of another digest.
+    pub passed: u32,
+}
+
 /// Draws a blind from a stream.
 fn draw_blind(pads: &mut PadStream) -> Block
     ensures block { result ≡ next_bytes pads.old 1024 }
@@ -52,9 +63,10 @@ impl<A: Archive> Vault<A> {
             .leave(&mut passes.groups, place.group as usize, member);
         answer
     }
-    /// Mends a slot as far as that goes: repeats `mend_step` until it answers other than `Began` and `Went`. It draws a blind
-    /// before the first step, and after each `Began`; one that began no relay is dropped. It ends, since each step that goes on
-    /// logs an entry.
+
+    /// Mends a slot as far as that goes: repeats `mend_step` until it answers other than `Began`, `Went`, `Mended` and `Passed`. It
+    /// draws a blind before the first step, and after each `Began`; one that began no relay is dropped. It ends, since each step
+    /// that goes on logs an entry.
     pub fn mend_place<R: Wait>(
         &self,
         rt: &R,
@@ -62,7 +74,7 @@ impl<A: Archive> Vault<A> {
         job: u32,
         place: Place,
         pads: &mut PadStream,
-    ) -> Mend
+    ) -> Mending
         requires ready { AreReady self.now.rack self.now.groups passes.old.groups }
         requires place { HasSlot self.now.rack self.now.groups place }
         requires job { 0 < job }
@@ -72,11 +84,21 @@ impl<A: Archive> Vault<A> {
             passes.old.groups passes.new.groups }
     {
         let mut blind = draw_blind(pads);
+        let mut mended = 0;
+        let mut passed = 0;
         'steps: loop {
             match self.mend_step(rt, passes, job, place, &blind) {
                 Mend::Began => blind = draw_blind(pads),
                 Mend::Went => {}
-                answer => return answer,
+                Mend::Mended => mended += 1,
+                Mend::Passed => passed += 1,
+                end => {
+                    return Mending {
+                        end,
+                        mended,
+                        passed,
+                    };
+                }
             }
         }
     }

@@ -252,7 +252,7 @@ fn look<R: Wait>(
 }
 
 /// Mends the first slot.
-fn mend<R: Wait>(rt: &R, vault: &Vault<LossyArchive>, passes: &mut Passes<LossyArchive>) -> Mend
+fn mend<R: Wait>(rt: &R, vault: &Vault<LossyArchive>, passes: &mut Passes<LossyArchive>) -> Mending
     requires ready { AreReady vault.now.rack vault.now.groups passes.old.groups }
     requires place { HasSlot vault.now.rack vault.now.groups
         (record { group = 0; column = 0; stripe = 0 }) }
@@ -350,7 +350,11 @@ fn a_place_is_mended(rt: HostRuntime) -> Result<(), Fail> {
     let rack = rack()?;
     let (vault, mut passes) = filled(&rt, rt.alloc(), &rack, &[Loss { call: 1, slot: 0 }])?;
     assert_eq!(rt; look(&rt, &vault, &mut passes).0, Looked::Gone);
-    assert_eq!(rt; mend(&rt, &vault, &mut passes), Mend::Whole);
+    let mending = mend(&rt, &vault, &mut passes);
+    assert_eq!(rt;
+        (mending.end, mending.mended, mending.passed),
+        (Mend::Whole, 1, 0)
+    );
     assert_eq!(rt; look(&rt, &vault, &mut passes), (Looked::Seen, 0x11));
     Ok(())
 }
