@@ -17,6 +17,7 @@ pub mod AddLemmas
 pub mod VisitLemmas
 pub mod RelayLemmas
 pub mod MendLemmas
+pub mod BlindLemmas
 pub mod ReadLemmas
 pub mod GatherLemmas
 pub mod FitLemmas

@@ -26,6 +26,7 @@ use Rattle.pot_shared.specs.Calls.{CallAt, CallTurn}
 use Rattle.pot_group.specs.Calls.{MendCall}
 use Rattle.pot_replies.proofs.Excluding.{last_same}
 use Rattle.pot_shared.specs.MendCalls.{GoesOn, MendTurns, MendsPlace, begins, blind_at}
+use Rattle.pot_shared.specs.declared.mending.Mending.{Mending}
 use Rattle.pot_shared.proofs.CallLemmas.{ready_again, set_twice}
 use Rattle.pot_store.specs.Adds.{Adds, IsFirst}
 use Rattle.pot_store.specs.Works.{gained}
@@ -93,8 +94,9 @@ module _ (told : Type 0) (rack : Rack) (names : List TurnName) (job : ℕ) (p : 
       let same : with_view next p.group w ≡ with_view row p.group w = ap (λ vs. record row { views = vs }) (set_twice row.views p.group u w) in
       ends_more a (blind_at pads n) result row next (with_view row p.group w) (go zero a (omega arith)) ready call (subst (λ (x : GroupPasses). EndsMend result next x) same later)
 
-  pub ends_mend : (after : Pads) (result : Mend) (old new : GroupPasses) → AreReady rack names old → MendsPlace told job p pads after result old new → EndsMend result old new
-  ends_mend after result old new ready mends = subst (λ (x : GroupPasses). EndsMend result old x) (sym mends.is) (ends_turns 0 mends.before result old mends.pass mends.go_on ready mends.turns)
+  pub ends_mend : (after : Pads) (result : Mending) (old new : GroupPasses) → AreReady rack names old → MendsPlace told job p pads after result old new → EndsMend result.end old new
+  ends_mend after result old new ready mends =
+      subst (λ (x : GroupPasses). EndsMend result.end old x) (sym mends.is) (ends_turns 0 mends.before result.end old mends.pass mends.go_on ready mends.turns)
 
 -- IN VAIN
 
@@ -302,24 +304,24 @@ module _ (told : Type 0) (rack : Rack) (names : List TurnName) (job : ℕ) (p : 
 
 -- THE ANSWERS OF A MEND
 
-module _ (told : Type 0) (rack : Rack) (names : List TurnName) (job : ℕ) (p : Place) (pads after : Pads) (within : p.group < length names) (result : Mend) (old mid : GroupPasses)
+module _ (told : Type 0) (rack : Rack) (names : List TurnName) (job : ℕ) (p : Place) (pads after : Pads) (within : p.group < length names) (result : Mending) (old mid : GroupPasses)
     (ready : AreReady rack names old) (mends : MendsPlace told job p pads after result old mid) where
-  ends_as : (answer : Mend) → result ≡ answer → EndsMend told rack names job p pads within answer old mid
-  ends_as answer is = ends_mend told rack names job p pads within after answer old mid ready (subst (λ r. MendsPlace told job p pads after r old mid) is mends)
+  ends_as : (answer : Mend) → result.end ≡ answer → EndsMend told rack names job p pads within answer old mid
+  ends_as answer is = subst (λ r. EndsMend told rack names job p pads within r old mid) is (ends_mend told rack names job p pads within after result old mid ready mends)
 
-  pub mended_stuck : (first second : ℕ) → result ≡ mend.TwoGone first second → MendsOn job p came.Lost old mid
+  pub mended_stuck : (first second : ℕ) → result.end ≡ mend.TwoGone first second → MendsOn job p came.Lost old mid
   mended_stuck first second is = mends_stuck told rack names job p pads within old mid first second (ends_as (mend.TwoGone first second) is)
 
-  pub mended_odd : (wanted found : Digest) → result ≡ mend.Odd wanted found → MendsOn job p came.Lost old mid
+  pub mended_odd : (wanted found : Digest) → result.end ≡ mend.Odd wanted found → MendsOn job p came.Lost old mid
   mended_odd wanted found is = mends_odd told rack names job p pads within old mid wanted found (ends_as (mend.Odd wanted found) is)
 
-  pub mended_failed : (column : ℕ) → result ≡ mend.Faulted column → MendsOn job p (came.Failed column) old mid
+  pub mended_failed : (column : ℕ) → result.end ≡ mend.Faulted column → MendsOn job p (came.Failed column) old mid
   mended_failed column is = mends_failed told rack names job p pads within old mid column (ends_as (mend.Faulted column) is)
 
-  pub mended_barred : result ≡ mend.LogFull → MendsOn job p came.Barred old mid
+  pub mended_barred : result.end ≡ mend.LogFull → MendsOn job p came.Barred old mid
   mended_barred is = mends_barred told rack names job p pads within old mid (ends_as mend.LogFull is)
 
-  pub mended_whole : (c : Came) (new : GroupPasses) → result ≡ mend.Whole → LooksAgain job p c mid new → MendsOn job p c old new
+  pub mended_whole : (c : Came) (new : GroupPasses) → result.end ≡ mend.Whole → LooksAgain job p c mid new → MendsOn job p c old new
   mended_whole c new is again =
       subst (λ x. MendsOn job p x old new) (sym again.is)
       (mends_whole told rack names job p pads within old mid new (ends_as mend.Whole is) again.first again.looks)

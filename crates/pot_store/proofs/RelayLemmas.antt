@@ -140,18 +140,18 @@ module _ (told : Type 0) (job : ℕ) (p : Place) (old : GroupView) (settled : Is
   OneStep = (e : Entry) × (entries ≡ e ∷ []) × IsStep job p e
 
   -- a step of a relay after which the mend goes on
-  pub went_step : (own : Bool) → IsTrue own ↔ Owns old.table n p.stripe p.column → (r : Result Advanced AdvanceFault) → mend.Went ≡ answered own r → RelayEntries job n r old entries → OneStep
-  went_step own owns (Ok advanced.Hopped) is m =
+  pub went_step : (a : Mend) → GoesOn a → (own : Bool) → IsTrue own ↔ Owns old.table n p.stripe p.column → (r : Result Advanced AdvanceFault) → a ≡ answered own r → RelayEntries job n r old entries → OneStep
+  went_step a go own owns (Ok advanced.Hopped) is m =
       let (f, c, q) = on_way (flight_in old.flights n) (λ f. next_column old.table f.relay) (λ f c. entries ≡ entry.Hop job n c ∷ []) m in
       (entry.Hop job n c, q, record { own = eq-eqb job job refl; may = refl; no_look = refl; no_seen = refl; no_stuck = refl; no_oddly = refl })
-  went_step own owns (Ok advanced.Ended) is m =
+  went_step a go own owns (Ok advanced.Ended) is m =
       let (f, c, q) = on_way (flight_in old.flights n) (λ f. next_column old.table f.relay) (λ f c. entries ≡ entry.GaveUp job n f.relay.target c ∷ []) m in
       (entry.GaveUp job n f.relay.target c, q, record { own = eq-eqb job job refl; may = refl; no_look = refl; no_seen = refl; no_stuck = refl; no_oddly = refl })
-  went_step own owns (Ok advanced.Mended) is m =
+  went_step a go own owns (Ok advanced.Mended) is m =
       let (f, at, q) = at_end (flight_in old.flights n) _ m in
       (entry.Mended job n f.relay.target, q.1, record { own = eq-eqb job job refl; may = refl; no_look = refl; no_seen = refl; no_stuck = refl; no_oddly = refl })
-  went_step true owns (Err (failed.Odd wanted found)) is m = absurd (cc is)
-  went_step false owns (Err (failed.Odd wanted found)) is m =
+  went_step a go true owns (Err (failed.Odd wanted found)) is m = absurd (subst (λ x. GoesOn x) is go)
+  went_step a go false owns (Err (failed.Odd wanted found)) is m =
       let (f, at, q) = at_end (flight_in old.flights n) _ m in (
         entry.Oddly job n f.relay.target found,
         q.1,
@@ -167,9 +167,9 @@ module _ (told : Type 0) (job : ℕ) (p : Place) (old : GroupView) (settled : Is
     where
       untrue : IsTrue false → ⊥
       untrue e = cc
-  went_step own owns (Err (failed.Faulted column)) is m = absurd (cc is)
-  went_step own owns (Err failed.LogFull) is m = absurd m
-  went_step own owns (Err failed.Idle) is m = absurd m
+  went_step a go own owns (Err (failed.Faulted column)) is m = absurd (subst (λ x. GoesOn x) is go)
+  went_step a go own owns (Err failed.LogFull) is m = absurd m
+  went_step a go own owns (Err failed.Idle) is m = absurd m
 
   -- the place's own relay came to a block of another digest
   pub odd_entry : (wanted found : Digest) (own : Bool) → IsTrue own ↔ Owns old.table n p.stripe p.column → (r : Result Advanced AdvanceFault) → mend.Odd wanted found ≡ answered own r
@@ -179,7 +179,9 @@ module _ (told : Type 0) (job : ℕ) (p : Place) (old : GroupView) (settled : Is
       let here = own_target f at (owns.0 refl) in
       (d, q.1 ∙ (ap (λ x. entry.Oddly job x f.relay.target d ∷ []) here.0 ∙ ap (λ x. entry.Oddly job p.stripe x d ∷ []) here.1))
   odd_entry wanted found false owns (Err (failed.Odd w d)) is m = absurd (cc is)
-  odd_entry wanted found own owns (Ok a) is m = absurd (cc is)
+  odd_entry wanted found own owns (Ok advanced.Hopped) is m = absurd (cc is)
+  odd_entry wanted found own owns (Ok advanced.Ended) is m = absurd (cc is)
+  odd_entry wanted found own owns (Ok advanced.Mended) is m = absurd (cc is)
   odd_entry wanted found own owns (Err (failed.Faulted column)) is m = absurd (cc is)
   odd_entry wanted found own owns (Err failed.LogFull) is m = absurd m
   odd_entry wanted found own owns (Err failed.Idle) is m = absurd m
@@ -190,7 +192,9 @@ module _ (told : Type 0) (job : ℕ) (p : Place) (old : GroupView) (settled : Is
     where
       same : (k : ℕ) → mend.Faulted k ≡ mend.Faulted column → k ≡ column
       same k e = cc e
-  fault_entry column own (Ok a) is m = absurd (cc is)
+  fault_entry column own (Ok advanced.Hopped) is m = absurd (cc is)
+  fault_entry column own (Ok advanced.Ended) is m = absurd (cc is)
+  fault_entry column own (Ok advanced.Mended) is m = absurd (cc is)
   fault_entry column true (Err (failed.Odd w d)) is m = absurd (cc is)
   fault_entry column false (Err (failed.Odd w d)) is m = absurd (cc is)
   fault_entry column own (Err failed.LogFull) is m = absurd m
@@ -206,7 +210,13 @@ turn_step told job p blind mend.Began v w go t = (
 )
 turn_step told job p blind mend.Went v w go t =
     let (d, m) = t.call.tells.1 in
-    went_step told job p t.old t.settled_old d.stripe t.entries d.own d.owns d.result d.is m
+    went_step told job p t.old t.settled_old d.stripe t.entries mend.Went tt d.own d.owns d.result d.is m
+turn_step told job p blind mend.Mended v w go t =
+    let (d, m) = t.call.tells.1 in
+    went_step told job p t.old t.settled_old d.stripe t.entries mend.Mended tt d.own d.owns d.result d.is m
+turn_step told job p blind mend.Passed v w go t =
+    let (d, m) = t.call.tells.1 in
+    went_step told job p t.old t.settled_old d.stripe t.entries mend.Passed tt d.own d.owns d.result d.is m
 turn_step told job p blind mend.Whole v w go t = absurd go
 turn_step told job p blind (mend.TwoGone first second) v w go t = absurd go
 turn_step told job p blind (mend.Odd wanted found) v w go t = absurd go

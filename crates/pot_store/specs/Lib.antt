@@ -11,3 +11,4 @@ pub mod Shares
 pub mod Reads
 pub mod Renewals
 pub mod Stored
+pub mod Blinds

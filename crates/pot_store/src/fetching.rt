@@ -1,5 +1,5 @@
 //! The fetch of a file.
-ghost use Rattle.std.specs.Prelude.{◌≡◌, ◌<◌, ◌≤◌, ◌+◌, ◌*◌, [], true, length, IfOk};
+ghost use Rattle.std.specs.Prelude.{◌≡◌, ◌<◌, ◌≤◌, ◌+◌, ◌*◌, [], true, length, IfOk, IsTrue};
 ghost use Rattle.std.specs.Vec.{vec_len, vec_capacity};
 ghost use Rattle.pot_bytes.specs.Rack.{IsRack};
 ghost use Rattle.pot_object.specs.Pieces.{pieces_of};
@@ -12,6 +12,7 @@ ghost use Rattle.pot_store.specs.Works.{known, section_of, JobWorked, JobAlone, 
 ghost use Rattle.pot_store.specs.Reads.{FileRead, RecordRead};
 ghost use Rattle.pot_store.specs.Fetches.{AreFilled, FetchRow};
 ghost use Rattle.pot_store.specs.Stored.{FetchGives};
+ghost use Rattle.pot_store.specs.Blinds.{Blinds};
 
 use crate::fragments::read_piece;
 use crate::points::Points;
@@ -60,6 +61,8 @@ pub enum FetchFault {
 /// fragment as many as give it back. Where a fragment has too few, it mends the places at which a look gave nothing, blinded by
 /// `pads`, and looks once more at each that is whole again. Of a piece no more is held at a time than its fragments.
 ///
+/// Each relay that it begins has the next 1,024 bytes of `pads` as its blind. A blind that was drawn and began no relay is dropped.
+///
 /// Of a record that was published in this session the bytes are the file that was stored, and `Odd` is not answered, where no
 /// two different ones of the blocks of that file and of those read have one digest.
 ///
@@ -101,6 +104,8 @@ pub fn fetch_file<A: Archive, R: Wait>(
         → FetchGives s job name.now result
         (section_of (known passes.old.groups passes.old.index)
         (known passes.new.groups passes.new.index)) }
+    ensures blinds { Blinds (IsTrue A.account.tells) job pads.old pads.new passes.old.groups
+        passes.new.groups }
 {
     match vault.find(rt, alloc, passes, job, name) {
         Ok(kept) => read_record(rt, alloc, vault, passes, job, &kept, pads),
@@ -127,6 +132,8 @@ pub(crate) fn read_record<A: Archive, R: Wait>(
     ensures ready { AreReady vault.now.rack vault.now.groups passes.new.groups }
     ensures index { passes.new.index ≡ passes.old.index }
     ensures read { RecordRead job kept.now result passes.old.groups passes.new.groups }
+    ensures blinds { Blinds (IsTrue A.account.tells) job pads.old pads.new passes.old.groups
+        passes.new.groups }
 {
     let Ok(mut points) = Points::start(alloc) else {
         return Err(FetchFault::NoMemory);
@@ -188,6 +195,8 @@ fn read_pieces<A: Archive, R: Wait>(
     ensures ready { AreReady vault.now.rack vault.now.groups passes.new.groups }
     ensures index { passes.new.index ≡ passes.old.index }
     ensures read { FileRead job kept.now bytes.new.items result passes.old.groups
+        passes.new.groups }
+    ensures blinds { Blinds (IsTrue A.account.tells) job pads.old pads.new passes.old.groups
         passes.new.groups }
 {
     for piece in 0..count_pieces(kept.length) {

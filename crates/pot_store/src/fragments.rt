@@ -1,5 +1,5 @@
 //! The visits of a fetch, fragment by fragment.
-ghost use Rattle.std.specs.Prelude.{◌≡◌, ◌<◌, ◌≤◌, ◌+◌, ◌*◌, ◌++◌, length, drop, IfOk};
+ghost use Rattle.std.specs.Prelude.{◌≡◌, ◌<◌, ◌≤◌, ◌+◌, ◌*◌, ◌++◌, length, drop, IfOk, IsTrue};
 ghost use Rattle.std.specs.Vec.{vec_len, vec_capacity};
 ghost use Rattle.pot_bytes.specs.Rack.{IsGeometry};
 ghost use Rattle.pot_object.specs.Pieces.{pieces_of};
@@ -9,6 +9,7 @@ ghost use Rattle.pot_store.specs.Visits.{LooksOnce, MendsOn};
 ghost use Rattle.pot_store.specs.Points.{came_in};
 ghost use Rattle.pot_store.specs.Reads.{IsFragmentFrom, PointRead, PointsTried, PointsRead};
 ghost use Rattle.pot_store.specs.Reads.{IsMissing, FragmentRead, PieceRead};
+ghost use Rattle.pot_store.specs.Blinds.{BeganNone, Blinds};
 
 use crate::fetching::FetchFault;
 use crate::points::Points;
@@ -73,6 +74,7 @@ fn look_at_points<A: Archive, R: Wait>(
     ensures index { passes.new.index ≡ passes.old.index }
     ensures read { PointsRead job kept.now.places from kept.now.geometry.shards
         kept.now.geometry.need 0 points.new result passes.old.groups passes.new.groups }
+    ensures quiet { BeganNone job passes.old.groups passes.new.groups }
 {
     points.clear();
     let places = kept.places.as_slice();
@@ -107,6 +109,8 @@ fn mend_point<A: Archive, R: Wait>(
     ensures ready { AreReady vault.now.rack vault.now.groups passes.new.groups }
     ensures index { passes.new.index ≡ passes.old.index }
     ensures read { PointRead (MendsOn job place) x points.old points.new result passes.old.groups
+        passes.new.groups }
+    ensures blinds { Blinds (IsTrue A.account.tells) job pads.old pads.new passes.old.groups
         passes.new.groups }
 {
     let mut block = Block::zero();
@@ -145,6 +149,8 @@ fn mend_points<A: Archive, R: Wait>(
         points.old first passes.old.groups
         → PointsRead job kept.now.places from kept.now.geometry.shards kept.now.geometry.need
         kept.now.geometry.shards points.new result first passes.new.groups }
+    ensures blinds { Blinds (IsTrue A.account.tells) job pads.old pads.new passes.old.groups
+        passes.new.groups }
 {
     let places = kept.places.as_slice();
     for x in 0..kept.geometry.shards {
@@ -185,6 +191,8 @@ fn see_points<A: Archive, R: Wait>(
     ensures index { passes.new.index ≡ passes.old.index }
     ensures read { PointsRead job kept.now.places from kept.now.geometry.shards
         kept.now.geometry.need kept.now.geometry.shards points.new result passes.old.groups
+        passes.new.groups }
+    ensures blinds { Blinds (IsTrue A.account.tells) job pads.old pads.new passes.old.groups
         passes.new.groups }
 {
     look_at_points(rt, vault, passes, job, kept, from, points)?;
@@ -247,6 +255,8 @@ fn read_fragment<A: Archive, R: Wait>(
     ensures long { IfOk result (λ _. vec_len fragments.new ≡ vec_len fragments.old + 928) }
     ensures read { FragmentRead job kept.now piece fragment fragments.old.items fragments.new.items
         result passes.old.groups passes.new.groups }
+    ensures blinds { Blinds (IsTrue A.account.tells) job pads.old pads.new passes.old.groups
+        passes.new.groups }
 {
     let from = first_block(kept, piece, fragment);
     see_points(rt, vault, passes, job, kept, from, pads, points)?;
@@ -299,6 +309,8 @@ pub fn read_piece<A: Archive, R: Wait>(
     ensures room { 7424 ≤ vec_capacity fragments.new }
     ensures long { length object.new ≡ 928 }
     ensures read { PieceRead job kept.now piece object.new result passes.old.groups
+        passes.new.groups }
+    ensures blinds { Blinds (IsTrue A.account.tells) job pads.old pads.new passes.old.groups
         passes.new.groups }
 {
     fragments.clear();

@@ -1,6 +1,6 @@
 //! A file is split anew: it is fetched, the blocks of its new split are put, and its record gets that
 //! split.
-ghost use Rattle.std.specs.Prelude.{◌≡◌, ◌<◌, ◌≤◌, true, length, IfOk, IfErr};
+ghost use Rattle.std.specs.Prelude.{◌≡◌, ◌<◌, ◌≤◌, true, length, IfOk, IfErr, IsTrue};
 ghost use Rattle.pot_bytes.specs.Rack.{IsRack};
 ghost use Rattle.pot_object.specs.Pieces.{longest};
 ghost use Rattle.pot_index.specs.Fits.{FitsGeometry};
@@ -14,6 +14,7 @@ ghost use Rattle.pot_store.specs.Works.{IsSettingOf};
 ghost use Rattle.pot_store.specs.Fetches.{AreFilled};
 ghost use Rattle.pot_store.specs.Renewals.{of_find, of_fetch, of_put, of_renew, PutsSplit};
 ghost use Rattle.pot_store.specs.Renewals.{RenewsFrom, RenewRow};
+ghost use Rattle.pot_store.specs.Blinds.{Blinds};
 
 use crate::fetching::{FetchFault, read_record};
 use crate::putting::{Stopped, put_all};
@@ -186,6 +187,9 @@ fn put_split<A: Archive, R: Wait>(
 /// blocks of a split of this geometry with the next bytes of `pads`, and makes that split the record's current
 /// one. The older blocks stay.
 ///
+/// Each relay that it begins has the next 1,024 bytes of `blinds` as its blind. A blind that was drawn and began
+/// no relay is dropped.
+///
 /// # Errors
 /// In this order: `IndexLogFull` and `Absent`, as `Vault::find`; `TooOften` exactly where the record found has
 /// 16 splits; those of `fetch_file`; the first put that is refused; `IndexLogFull` and `TooOften`, as
@@ -220,6 +224,8 @@ pub fn renew_file<A: Archive, R: Wait>(
         → RenewRow s job name.now geometry.now result
         (section_of (known passes.old.groups passes.old.index)
         (known passes.new.groups passes.new.index)) }
+    ensures blinds { Blinds (IsTrue A.account.tells) job blinds.old blinds.new passes.old.groups
+        passes.new.groups }
 {
     let kept = match vault.find(rt, alloc, passes, job, name) {
         Ok(kept) => kept,

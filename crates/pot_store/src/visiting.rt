@@ -1,7 +1,8 @@
 //! The visits of a fetch to a place.
-ghost use Rattle.std.specs.Prelude.{◌≡◌, ◌<◌, ◌≤◌};
+ghost use Rattle.std.specs.Prelude.{◌≡◌, ◌<◌, ◌≤◌, IsTrue};
 ghost use Rattle.pot_shared.specs.Ready.{AreReady, HasSlot};
 ghost use Rattle.pot_store.specs.Visits.{came_to, LooksAgain, LooksOnce, MendsOn};
+ghost use Rattle.pot_store.specs.Blinds.{Blinds};
 
 use pot_bytes::{Block, Place};
 use pot_group::{Looked, Mend};
@@ -91,8 +92,10 @@ pub fn mend<A: Archive, R: Wait>(
     ensures index { passes.new.index ≡ passes.old.index }
     ensures mends { MendsOn job place (came_to result block.new) passes.old.groups
         passes.new.groups }
+    ensures blinds { Blinds (IsTrue A.account.tells) job pads.old pads.new passes.old.groups
+        passes.new.groups }
 {
-    match vault.mend_place(rt, passes, job, place, pads) {
+    match vault.mend_place(rt, passes, job, place, pads).end {
         Mend::Whole => look_again(rt, vault, passes, job, place, block),
         Mend::TwoGone {
             first: _,
@@ -106,5 +109,7 @@ pub fn mend<A: Archive, R: Wait>(
         Mend::LogFull => None,
         Mend::Began => unreachable!(),
         Mend::Went => unreachable!(),
+        Mend::Mended => unreachable!(),
+        Mend::Passed => unreachable!(),
     }
 }

@@ -3,6 +3,7 @@ use Rattle.pot_replies.specs.Settings.{Setting}
 use Rattle.pot_store.specs.Works.{known, section_of, JobWorked, JobAlone, IsSettingOf}
 use Rattle.pot_store.specs.Fetches.{AreFilled, FetchRow}
 use Rattle.pot_store.specs.Stored.{FetchGives}
+use Rattle.pot_store.proofs.BlindLemmas.{blinds_quiet, blinds_then, none_known}
 use Rattle.pot_store.proofs.SearchLemmas.{lone_work, absent_row, silent_row, index_full_row}
 use Rattle.pot_store.proofs.FetchLemmas.{all_work, record_row, gives_row}
 use Rattle.pot_store.proofs.fetching.fetch_file.Goals as goal
@@ -66,3 +67,17 @@ pub returns-in-Err-NoMemory-clause-says : goal.returns-in-Err-NoMemory-clause-sa
 returns-in-Err-NoMemory-clause-says g c = λ alone s set mends filled.
     silent_row c.args.job c.args.name.now c.args.vault.now.rack c.args.vault.now.groups c.args.vault.now.index c.args.passes.now.groups c.find.new.passes.groups c.args.passes.now.index c.find.new.passes.index
     c.in-Err-NoMemory.field-0 c.requires.ready c.requires.index c.find.ensures.groups c.in-Err-NoMemory.ensures.call alone c.in-Err-NoMemory.field-0-is s
+
+pub returns-in-Ok-clause-blinds : goal.returns-in-Ok-clause-blinds
+returns-in-Ok-clause-blinds g c =
+    blinds_then (blinds_quiet (none_known c.args.job c.args.vault.now.rack c.args.vault.now.groups c.args.passes.now.groups c.find.new.passes.groups c.requires.ready c.find.ensures.groups))
+    c.read_record.ensures.blinds
+
+pub returns-in-Err-LogFull-clause-blinds : goal.returns-in-Err-LogFull-clause-blinds
+returns-in-Err-LogFull-clause-blinds g c = blinds_quiet (none_known c.args.job c.args.vault.now.rack c.args.vault.now.groups c.args.passes.now.groups c.find.new.passes.groups c.requires.ready c.find.ensures.groups)
+
+pub returns-in-Err-Absent-clause-blinds : goal.returns-in-Err-Absent-clause-blinds
+returns-in-Err-Absent-clause-blinds g c = blinds_quiet (none_known c.args.job c.args.vault.now.rack c.args.vault.now.groups c.args.passes.now.groups c.find.new.passes.groups c.requires.ready c.find.ensures.groups)
+
+pub returns-in-Err-NoMemory-clause-blinds : goal.returns-in-Err-NoMemory-clause-blinds
+returns-in-Err-NoMemory-clause-blinds g c = blinds_quiet (none_known c.args.job c.args.vault.now.rack c.args.vault.now.groups c.args.passes.now.groups c.find.new.passes.groups c.requires.ready c.find.ensures.groups)

@@ -1,6 +1,7 @@
 use Rattle.std.proofs.Common.{◌≡◌, ◌≤◌, ◌+◌, ◌++◌, List, ℕ, length, refl, ap, sym, ◌∙◌, subst, arith, drop, length-append, length-drop}
 use Rattle.std.proofs.lemmas.Result.{err_from_is_err_and}
 use Rattle.pot_object.specs.Pieces.{pieces_of}
+use Rattle.pot_store.proofs.BlindLemmas.{blinds_none, blinds_then}
 use Rattle.pot_store.proofs.FitLemmas.{pieces_hold}
 use Rattle.pot_store.proofs.GatherLemmas.{behind_whole, take_long}
 use Rattle.pot_store.proofs.PieceLemmas.{FileSofar, file_begin, file_step, file_stop, file_end}
@@ -14,6 +15,7 @@ loop-piece-init g c = (
   c.requires.room,
   c.requires.file_room,
   let none = ap length c.requires.none in let long = c.args.bytes.now.ok.0 in omega (arith, none, long),
+  blinds_none,
 )
 
 pub returns-in_err-read_piece-clause-read : goal.returns-in_err-read_piece-clause-read
@@ -44,6 +46,7 @@ loop-piece-preserved g c =
       c.read_piece.ensures.room,
       omega (arith, room, file_room),
       omega (arith, long, before, was, now),
+      blinds_then c.loop-piece.invariant.6 c.read_piece.ensures.blinds,
     )
 
 pub returns-clause-read : goal.returns-clause-read
@@ -59,3 +62,6 @@ returns-clause-read g c =
     let enough : kept.length ≤ length c.loop-piece.bytes.items = omega (arith, all, was, before, hold) in
     file_end c.args.job kept c.loop-piece.piece c.loop-piece.bytes.items c.args.passes.now.groups c.loop-piece.passes.groups c.loop-piece.passes.groups c.loop-piece.invariant.2
     c.truncate.new.self.items all c.truncate.ensures.items (ap length c.truncate.ensures.items ∙ take_long c.loop-piece.bytes.items kept.length enough)
+
+pub returns-in_err-read_piece-clause-blinds : goal.returns-in_err-read_piece-clause-blinds
+returns-in_err-read_piece-clause-blinds g c = blinds_then c.loop-piece.invariant.6 c.read_piece.ensures.blinds

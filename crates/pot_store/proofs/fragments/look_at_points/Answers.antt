@@ -3,6 +3,7 @@ use Rattle.pot_bytes.specs.declared.rack.Place.{Place}
 use Rattle.pot_bytes.specs.Rack.{no_place}
 use Rattle.pot_shared.specs.Ready.{HasSlot}
 use Rattle.pot_store.specs.Visits.{place_in}
+use Rattle.pot_store.proofs.BlindLemmas.{none_look, none_more, none_yet}
 use Rattle.pot_store.proofs.FitLemmas.{current_fits, fragment_apart, has_slot}
 use Rattle.pot_store.proofs.PointLemmas.{looks_begin, looks_end, looks_enough, looks_full, looks_step}
 use Rattle.pot_store.proofs.fragments.look_at_points.Goals as goal
@@ -12,6 +13,7 @@ loop-x-init g c = (
   c.requires.ready,
   refl,
   looks_begin c.args.job c.args.kept.now.places c.args.from c.args.kept.now.geometry.shards c.args.kept.now.geometry.need c.clear.new.self c.args.passes.now.groups c.requires.ready.idle c.clear.ensures,
+  none_yet c.args.job c.args.passes.now.groups c.requires.ready.idle,
 )
 
 pub count-requires : goal.count-requires
@@ -58,6 +60,8 @@ loop-x-preserved g c =
       looks_step c.args.job kept.places c.args.from kept.geometry.shards kept.geometry.need c.loop-x.x c.loop-x.points c.look_at_point.new.points p c.args.passes.now.groups c.loop-x.passes.groups
           c.look_at_point.new.passes.groups (fragment_apart c.args.vault.now.rack kept c.requires.fits c.args.from c.requires.fragment) c.loop-x-test.true at c.loop-x.invariant.2
           (λ e. c.if-count-kept.false (c.count.ensures ∙ e)) c.if-not-look_at_point.ensures.read,
+      none_more c.args.job c.args.passes.now.groups c.loop-x.passes.groups c.look_at_point.new.passes.groups c.loop-x.invariant.3
+          (none_look c.args.job p c.if-not-look_at_point.ensures.read.came c.loop-x.passes.groups c.look_at_point.new.passes.groups c.if-not-look_at_point.ensures.read.step),
     )
 
 pub returns-clause-read : goal.returns-clause-read
@@ -67,3 +71,9 @@ returns-clause-read g c =
     let bound = c.loop-x.auto.x-end in
     looks_end c.args.job kept.places c.args.from kept.geometry.shards kept.geometry.need c.loop-x.x c.loop-x.points c.args.passes.now.groups c.loop-x.passes.groups c.loop-x.invariant.2
     (omega (arith, last, bound))
+
+pub returns-then-not-look_at_point-clause-quiet : goal.returns-then-not-look_at_point-clause-quiet
+returns-then-not-look_at_point-clause-quiet g c =
+    let p : Place = slice_index_or c.as_slice-places.result.now (c.args.from + c.from.result) no_place in
+    none_more c.args.job c.args.passes.now.groups c.loop-x.passes.groups c.look_at_point.new.passes.groups c.loop-x.invariant.3
+    (none_look c.args.job p c.if-not-look_at_point.ensures.read.came c.loop-x.passes.groups c.look_at_point.new.passes.groups c.if-not-look_at_point.ensures.read.step)

@@ -1,5 +1,6 @@
 use Rattle.std.proofs.Common.{◌≡◌}
 use Rattle.pot_shared.specs.Ready.{AreReady}
+use Rattle.pot_store.specs.Blinds.{BeganNone}
 use Rattle.pot_store.proofs.PointLemmas.{LookSofar}
 use Rattle.pot_store.proofs.fragments.look_at_points.Given as goal
 
@@ -8,3 +9,4 @@ invariant-loop-x g l =
     AreReady l.vault.rack l.vault.groups l.passes.groups
     × (l.passes.index ≡ l.fn.passes.index)
     × LookSofar l.job l.kept.places l.from l.kept.geometry.shards l.kept.geometry.need l.x l.points l.fn.passes.groups l.passes.groups
+    × BeganNone l.job l.fn.passes.groups l.passes.groups

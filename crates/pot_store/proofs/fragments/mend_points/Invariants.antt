@@ -1,5 +1,6 @@
-use Rattle.std.proofs.Common.{◌≡◌}
+use Rattle.std.proofs.Common.{◌≡◌, IsTrue}
 use Rattle.pot_shared.specs.Ready.{GroupPasses, AreReady}
+use Rattle.pot_store.specs.Blinds.{Blinds}
 use Rattle.pot_store.specs.Reads.{PointsTried}
 use Rattle.pot_store.proofs.fragments.mend_points.Given as goal
 
@@ -9,3 +10,4 @@ invariant-loop-x g l =
     × (l.passes.index ≡ l.fn.passes.index)
     × ((first : GroupPasses) → PointsTried l.job l.kept.places l.from l.kept.geometry.shards l.kept.geometry.need 0 l.fn.points first l.fn.passes.groups
     → PointsTried l.job l.kept.places l.from l.kept.geometry.shards l.kept.geometry.need l.x l.points first l.passes.groups)
+    × Blinds (IsTrue g.A.Archive.account.tells) l.job l.fn.pads l.pads l.fn.passes.groups l.passes.groups

@@ -1,5 +1,6 @@
 use Rattle.std.proofs.Common.{refl, ◌∙◌, arith}
 use Rattle.std.proofs.lemmas.Result.{err_from_is_err_and}
+use Rattle.pot_store.proofs.BlindLemmas.{blinds_none, blinds_then}
 use Rattle.pot_store.proofs.FitLemmas.{current_fits}
 use Rattle.pot_store.proofs.PieceLemmas.{piece_begin, piece_step, piece_stop}
 use Rattle.pot_store.proofs.fragments.read_piece.Goals as goal
@@ -13,6 +14,7 @@ loop-fragment-init g c =
       piece_begin c.args.job c.args.kept.now c.args.piece c.clear.new.self.items c.args.passes.now.groups c.requires.ready.idle c.clear.ensures.items,
       omega (arith, room, same),
       c.clear.ensures.len,
+      blinds_none,
     )
 
 pub read_fragment-requires-clause-room : goal.read_fragment-requires-clause-room
@@ -43,4 +45,8 @@ loop-fragment-preserved g c =
           c.read_fragment.new.passes.groups c.loop-fragment.invariant.2 c.read_fragment.new.fragments.items c.in_ok-read_fragment.ensures.read,
       omega (arith, room, more),
       omega (arith, long, next),
+      blinds_then c.loop-fragment.invariant.5 c.read_fragment.ensures.blinds,
     )
+
+pub returns-in_err-read_fragment-clause-blinds : goal.returns-in_err-read_fragment-clause-blinds
+returns-in_err-read_fragment-clause-blinds g c = blinds_then c.loop-fragment.invariant.5 c.read_fragment.ensures.blinds

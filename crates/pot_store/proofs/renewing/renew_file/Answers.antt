@@ -7,6 +7,7 @@ use Rattle.pot_store.specs.Works.{known, section_of, JobWorked, JobAlone, IsSett
 use Rattle.pot_store.specs.Fetches.{AreFilled}
 use Rattle.pot_store.specs.Renewals.{PutsSplit, RenewsFrom, RenewRow}
 use Rattle.pot_store.specs.declared.renewing.RenewFileFault.{RenewFileFault}
+use Rattle.pot_store.proofs.BlindLemmas.{blinds_quiet, blinds_then, none_known, none_more, none_split}
 use Rattle.pot_store.proofs.FetchLemmas.{all_work, record_row}
 use Rattle.pot_store.proofs.PublishLemmas.{more_parts}
 use Rattle.pot_store.proofs.SearchLemmas.{lone_work}
@@ -105,3 +106,44 @@ returns-clause-says g c = λ alone s set mends filled draws.
     alone s set mends filled c.in-Ok-read_record.file c.in-Ok-read_record.ensures.read.ends few c.args.geometry.now c.args.pads draws c.in-Ok-put_split.put.0
     (made_split c.args.vault.now.rack c.args.geometry.now c.args.job c.in-Ok-read_record.file.items c.args.pads c.in-Ok-put_split.put c.read_record.new.passes.groups c.put_split.new.passes.groups (subst (λ (f : List ℕ). PutsSplit c.args.vault.now.rack c.args.geometry.now c.args.job f c.args.pads (Ok c.in-Ok-put_split.put) c.read_record.new.passes.groups c.put_split.new.passes.groups) c.deref.ensures.value c.in-Ok-put_split.ensures.puts))
     c.in-Err-renew.fault refl)
+
+pub returns-in-Err-clause-blinds : goal.returns-in-Err-clause-blinds
+returns-in-Err-clause-blinds g c =
+    blinds_quiet
+    (none_known c.args.job c.args.vault.now.rack c.args.vault.now.groups c.args.passes.now.groups c.find.new.passes.groups c.requires.ready c.find.ensures.groups)
+
+pub returns-then-as_slice-eq-MOST_OLDER-clause-blinds : goal.returns-then-as_slice-eq-MOST_OLDER-clause-blinds
+returns-then-as_slice-eq-MOST_OLDER-clause-blinds g c =
+    blinds_quiet
+    (none_known c.args.job c.args.vault.now.rack c.args.vault.now.groups c.args.passes.now.groups c.find.new.passes.groups c.requires.ready c.find.ensures.groups)
+
+pub returns-in-Err-read_record-clause-blinds : goal.returns-in-Err-read_record-clause-blinds
+returns-in-Err-read_record-clause-blinds g c =
+    blinds_then
+    (blinds_quiet (none_known c.args.job c.args.vault.now.rack c.args.vault.now.groups c.args.passes.now.groups c.find.new.passes.groups c.requires.ready c.find.ensures.groups))
+    c.read_record.ensures.blinds
+
+pub returns-in-Err-put_split-clause-blinds : goal.returns-in-Err-put_split-clause-blinds
+returns-in-Err-put_split-clause-blinds g c =
+    blinds_then
+    (blinds_quiet (none_known c.args.job c.args.vault.now.rack c.args.vault.now.groups c.args.passes.now.groups c.find.new.passes.groups c.requires.ready c.find.ensures.groups))
+    (blinds_then c.read_record.ensures.blinds (blinds_quiet
+    (none_split c.args.vault.now.rack c.args.geometry.now c.args.job c.deref.result.now c.args.pads c.read_record.new.passes.groups c.put_split.new.passes.groups c.put_split.ensures.worked c.put_split.result c.put_split.ensures.puts)))
+
+pub returns-in-Ok-renew-clause-blinds : goal.returns-in-Ok-renew-clause-blinds
+returns-in-Ok-renew-clause-blinds g c =
+    blinds_then
+    (blinds_quiet (none_known c.args.job c.args.vault.now.rack c.args.vault.now.groups c.args.passes.now.groups c.find.new.passes.groups c.requires.ready c.find.ensures.groups))
+    (blinds_then c.read_record.ensures.blinds (blinds_quiet
+    (none_more c.args.job c.read_record.new.passes.groups c.put_split.new.passes.groups c.renew.new.passes.groups
+    (none_split c.args.vault.now.rack c.args.geometry.now c.args.job c.deref.result.now c.args.pads c.read_record.new.passes.groups c.put_split.new.passes.groups c.put_split.ensures.worked c.put_split.result c.put_split.ensures.puts)
+    (none_known c.args.job c.args.vault.now.rack c.args.vault.now.groups c.put_split.new.passes.groups c.renew.new.passes.groups c.put_split.ensures.ready c.renew.ensures.groups))))
+
+pub returns-clause-blinds : goal.returns-clause-blinds
+returns-clause-blinds g c =
+    blinds_then
+    (blinds_quiet (none_known c.args.job c.args.vault.now.rack c.args.vault.now.groups c.args.passes.now.groups c.find.new.passes.groups c.requires.ready c.find.ensures.groups))
+    (blinds_then c.read_record.ensures.blinds (blinds_quiet
+    (none_more c.args.job c.read_record.new.passes.groups c.put_split.new.passes.groups c.renew.new.passes.groups
+    (none_split c.args.vault.now.rack c.args.geometry.now c.args.job c.deref.result.now c.args.pads c.read_record.new.passes.groups c.put_split.new.passes.groups c.put_split.ensures.worked c.put_split.result c.put_split.ensures.puts)
+    (none_known c.args.job c.args.vault.now.rack c.args.vault.now.groups c.put_split.new.passes.groups c.renew.new.passes.groups c.put_split.ensures.ready c.renew.ensures.groups))))
