@@ -3,7 +3,7 @@ pub mod EntryLemmas
 pub mod SectionLemmas
 pub mod LiveLemmas
 pub mod ScrubLemmas
-pub mod SteppingLemmas
+pub mod TurnLemmas
 pub mod RepairLemmas
 pub mod PlaceLemmas
 pub mod RowLemmas

@@ -1,32 +1,42 @@
--- The repair of one place, step by step, and of a group, place by place.
+-- The repair of one place, step by step.
 use Rattle.std.proofs.Common.{◌≡◌, ◌<◌, ◌≤◌, inl, inr, ⊎_elim, ℕ, zero, suc, ◌+◌, true, List, [], ◌∷◌, ◌++◌, length, refl, ap, sym, ◌∙◌, subst, arith, append-nil}
-use Rattle.std.specs.Prelude.{filter, Ok, Err}
+use Rattle.std.specs.Prelude.{All, filter, Ok, Err}
 use Rattle.std.proofs.lemmas.List.Elements.{Contains-append_right}
 use Rattle.pot_bytes.specs.declared.digest.Digest.{Digest}
 use Rattle.pot_bytes.specs.declared.rack.Place.{Place}
+use Rattle.pot_bytes.specs.declared.rack.Rack.{Rack}
 use Rattle.pot_bytes.specs.Rack.{log_bound}
 use Rattle.pot_machine.specs.declared.entry.Entry.{Entry}
 use Rattle.pot_machine.specs.declared.entry.Entry.TheVariants as entry
 use Rattle.pot_machine.specs.Slot.{is_unsound}
+use Rattle.pot_group.specs.declared.relaying.Mend.{Mend}
+use Rattle.pot_group.specs.declared.relaying.Mend.TheVariants as mend
+use Rattle.pot_group.specs.Calls.{MendCall}
 use Rattle.pot_pads.specs.Pads.{Pads, moved}
-use Rattle.pot_rows.specs.Rows.{view_at}
+use Rattle.pot_turn.specs.declared.name.TurnName.{TurnName}
+use Rattle.pot_rows.specs.Rows.{view_at, with_view}
 use Rattle.pot_rows.specs.Works.{AllIdle, RowWorked}
+use Rattle.pot_rows.proofs.RowLemmas.{at_set}
 use Rattle.pot_rows.proofs.WorkLemmas.{row_work_in_parts}
-use Rattle.pot_store.specs.Works.{of_job}
-use Rattle.pot_store.proofs.WorkLemmas.{row_stays}
-use Rattle.pot_shared.specs.Ready.{GroupPasses}
-use Rattle.pot_shared.specs.MendCalls.{drawn}
+use Rattle.pot_shared.specs.declared.mending.Mending.{Mending}
+use Rattle.pot_shared.specs.Ready.{AreReady, GroupPass, GroupPasses}
+use Rattle.pot_shared.specs.Calls.{CallAt, CallTurn}
+use Rattle.pot_shared.specs.MendCalls.{GoesOn, MendTurns, MendsPlace, begins, blind_at, drawn, mends, passes, total}
+use Rattle.pot_shared.proofs.CallLemmas.{ready_again, set_twice}
 use Rattle.pot_replies.specs.Jobs.{is_relay, is_mended, is_left, is_stuck_at, Precedes}
+use Rattle.pot_store.specs.Adds.{Adds, Fails, FailsOnce}
+use Rattle.pot_store.specs.Blinds.{is_begin}
+use Rattle.pot_store.specs.Works.{of_job}
+use Rattle.pot_store.proofs.AddLemmas.{adds_then, once_back, once_front}
+use Rattle.pot_store.proofs.WorkLemmas.{row_stays}
+use Rattle.pot_mend.specs.declared.fault.MendFault.{MendFault}
 use Rattle.pot_mend.specs.declared.fault.MendFault.TheVariants as fault
 use Rattle.pot_mend.specs.declared.repairing.Repaired.{Repaired}
-use Rattle.pot_mend.specs.declared.stepping.Step.TheVariants as step
-use Rattle.pot_store.specs.Adds.{Adds, Fails, FailsOnce}
-use Rattle.pot_mend.specs.Stepping.{StepEntries, StepsAt}
-use Rattle.pot_mend.specs.Repairs.{is_begin, NotOdd, AreRepairs, WasLeft, IsDone, RepairSofar, RepairFails, RepairFills, RepairsPlace}
+use Rattle.pot_mend.specs.Repairs.{NotOdd, AreRepairs, WasLeft, IsDone, EndsPlace, RepairSofar, RepairFails, RepairFills, RepairsPlace}
 use Rattle.pot_mend.proofs.OrderLemmas.{AtOrAfter, before_next, not_before}
-use Rattle.pot_store.proofs.AddLemmas.{adds_then, once_back, once_front}
 use Rattle.pot_mend.proofs.EntryLemmas.{count_one, one_in}
 use Rattle.pot_mend.proofs.RepairLemmas.{MayCome, left_more, none_stuck_at, not_odd_more, not_odd_none, repairs_more, repairs_wider}
+use Rattle.pot_mend.proofs.TurnLemmas.{StepEntries, StepsAt, steps_at}
 
 -- WITHIN A PLACE
 
@@ -104,12 +114,23 @@ module _ (job : ℕ) (p : Place) (mended left draws : ℕ) (u v w : GroupPasses)
       (before_next n k p.stripe p.column before)
 
   -- it was left
-  pub place_left : (e : Entry) → StepEntries job p.stripe p.column step.Left (e ∷ []) → Adds job p.group (e ∷ []) v w
-      → RepairSofar job p.group p.stripe (p.column + 1) mended (left + 1) draws u w
-  place_left e says adds = ⊎_elim
-      (λ (is : (o : ℕ) × (e ∷ [] ≡ entry.Stuck job p.stripe p.column o ∷ [])).
-      let same : e ≡ entry.Stuck job p.stripe p.column is.0 = (let q = is.1 in cc q) in
-      by (entry.Stuck job p.stripe p.column is.0) (subst (λ x. Adds job p.group (x ∷ []) v w) same adds)
+  module _ (e : Entry) (adds : Adds job p.group (e ∷ []) v w) (may : MayCome job sofar.entries (behind p) (behind p) e) (none : length (filter is_mended (e ∷ [])) ≡ 0)
+      (one : length (filter is_left (e ∷ [])) ≡ 1) (not_begun : length (filter is_begin (e ∷ [])) ≡ 0) (was : WasLeft (e ∷ []) job p.stripe p.column) where
+    last_in : (x : WasLeft (e ∷ []) job p.stripe p.column) → WasLeft (sofar.entries ++ e ∷ []) job p.stripe p.column
+    last_in (inl (o, has)) = inl (o, Contains-append_right sofar.entries (e ∷ []) _ has)
+    last_in (inr (f, has)) = inr (f, Contains-append_right sofar.entries (e ∷ []) _ has)
+
+    place_left : RepairSofar job p.group p.stripe (p.column + 1) mended (left + 1) draws u w
+    place_left = record {
+      entries = sofar.entries ++ e ∷ [];
+      adds = adds_then job p.group sofar.entries (e ∷ []) u v w sofar.adds adds;
+      are = repairs_more job sofar.entries (here p) (behind p) (behind p) (behind p) mended left draws sofar.are (at_behind p) (inr (refl, omega arith)) e may
+          mended (left + 1) draws (omega (arith, none)) (omega (arith, one)) (omega arith) (let s = sofar.spare in omega (arith, s, not_begun));
+      done = ends_done (e ∷ []) adds (inl (last_in was));
+    }
+
+  pub place_stuck : (o : ℕ) → Adds job p.group (entry.Stuck job p.stripe p.column o ∷ []) v w → RepairSofar job p.group p.stripe (p.column + 1) mended (left + 1) draws u w
+  place_stuck o adds = place_left (entry.Stuck job p.stripe p.column o) adds
       (record {
         relay = refl;
         stuck = λ j n k o q. (let a : p.stripe ≡ n = cc q in let b : p.column ≡ k = cc q in (
@@ -119,27 +140,11 @@ module _ (job : ℕ) (p : Place) (mended left draws : ℕ) (u v w : GroupPasses)
         ));
         begun = λ j n k q. absurd (cc q);
       })
-      refl refl refl (inl (is.0, one_in _)))
-      (λ (is : (f : Digest) × (e ∷ [] ≡ entry.Oddly job p.stripe p.column f ∷ [])).
-      let same : e ≡ entry.Oddly job p.stripe p.column is.0 = (let q = is.1 in cc q) in
-      by (entry.Oddly job p.stripe p.column is.0) (subst (λ x. Adds job p.group (x ∷ []) v w) same adds)
-      (record { relay = refl; stuck = λ j n k o q. absurd (cc q); begun = λ j n k q. absurd (cc q) })
-      refl refl refl (inr (is.0, one_in _)))
-      says
-    where
-      last_in : (x : Entry) → WasLeft (x ∷ []) job p.stripe p.column → WasLeft (sofar.entries ++ x ∷ []) job p.stripe p.column
-      last_in x (inl (o, has)) = inl (o, Contains-append_right sofar.entries (x ∷ []) _ has)
-      last_in x (inr (f, has)) = inr (f, Contains-append_right sofar.entries (x ∷ []) _ has)
+      refl refl refl (inl (o, one_in _))
 
-      by : (x : Entry) → Adds job p.group (x ∷ []) v w → MayCome job sofar.entries (behind p) (behind p) x → length (filter is_mended (x ∷ [])) ≡ 0 → length (filter is_left (x ∷ [])) ≡ 1
-          → length (filter is_begin (x ∷ [])) ≡ 0 → WasLeft (x ∷ []) job p.stripe p.column → RepairSofar job p.group p.stripe (p.column + 1) mended (left + 1) draws u w
-      by x its may none one not_begun was = record {
-        entries = sofar.entries ++ x ∷ [];
-        adds = adds_then job p.group sofar.entries (x ∷ []) u v w sofar.adds its;
-        are = repairs_more job sofar.entries (here p) (behind p) (behind p) (behind p) mended left draws sofar.are (at_behind p) (inr (refl, omega arith)) x may
-            mended (left + 1) draws (omega (arith, none)) (omega (arith, one)) (omega arith) (let s = sofar.spare in omega (arith, s, not_begun));
-        done = ends_done (x ∷ []) its (inl (last_in x was));
-      }
+  pub place_odd : (f : Digest) → Adds job p.group (entry.Oddly job p.stripe p.column f ∷ []) v w → RepairSofar job p.group p.stripe (p.column + 1) mended (left + 1) draws u w
+  place_odd f adds = place_left (entry.Oddly job p.stripe p.column f) adds (record { relay = refl; stuck = λ j n k o q. absurd (cc q); begun = λ j n k q. absurd (cc q) })
+      refl refl refl (inr (f, one_in _))
 
   -- it was sound
   pub place_whole : Adds job p.group [] v w → FailsOnce is_unsound p.stripe p.column p.group v w → RepairSofar job p.group p.stripe (p.column + 1) mended left draws u w
@@ -177,132 +182,179 @@ module _ (job : ℕ) (p : Place) (mended left draws : ℕ) (u v w : GroupPasses)
     full = full;
   }
 
--- A STEP, BY ITS ANSWER
+-- STEP AFTER STEP
 
--- the parts of a stream
+-- So many were mended and left at some steps, and so many blinds drawn, whatever was done before.
+pub record Placing (job : ℕ) (p : Place) (mended left more : ℕ) (v now : GroupPasses) : Type 0 where
+  pub worked : RowWorked (of_job job) v now
+  pub few : length (view_at v p.group).seen + (mended + left) ≤ length (view_at now p.group).seen
+  pub sofar : (old : GroupPasses) (m l draws : ℕ) → RepairSofar job p.group p.stripe p.column m l draws old v → PlaceSofar job p (m + mended) (l + left) (draws + more) old now
+
+placing_begin : (job : ℕ) (p : Place) (v : GroupPasses) → AllIdle v → Placing job p 0 0 1 v v
+placing_begin job p v idle = record {
+  worked = row_stays (of_job job) v idle;
+  few = omega arith;
+  sofar = λ old m l draws sofar. (let a : m + 0 ≡ m = omega arith in let b : l + 0 ≡ l = omega arith in rw (a, b) (place_begin job p m l draws old v sofar));
+}
+
+placing_as : (job : ℕ) (p : Place) (mended left more mended' left' more' : ℕ) (v now : GroupPasses) → mended' ≡ mended → left' ≡ left → more' ≡ more → Placing job p mended left more v now
+    → Placing job p mended' left' more' v now
+placing_as job p mended left more mended' left' more' v now a b c placing = rw (a, b, c) placing
+
+module _ (job : ℕ) (p : Place) (mended left more : ℕ) (v now next : GroupPasses) (placing : Placing job p mended left more v now) where
+  placing_on : (e : Entry) → Adds job p.group (e ∷ []) now next → is_relay e ≡ true → ((j n k o : ℕ) → e ≡ entry.Stuck j n k o → ⊥)
+      → ((f : Digest) → e ≡ entry.Oddly job p.stripe p.column f → ⊥) → ((j n k : ℕ) → e ≡ entry.Begin j n k → (n ≡ p.stripe) × (k ≡ p.column))
+      → length (filter is_mended (e ∷ [])) + length (filter is_left (e ∷ [])) ≤ 1
+      → Placing job p (mended + length (filter is_mended (e ∷ []))) (left + length (filter is_left (e ∷ []))) (more + length (filter is_begin (e ∷ []))) v next
+  placing_on e adds relay not_stuck odd_else begun_here both = record {
+    worked = row_work_in_parts (of_job job) v now next placing.worked adds.worked;
+    few = (let a = adds.grew in let b = placing.few in omega (arith, a, b, both));
+    sofar = λ old m l draws sofar. (let s = placing.sofar old m l draws sofar in
+        place_more job p (m + mended) (l + left) (draws + more) old now next s e adds relay not_stuck odd_else begun_here
+        (m + (mended + length (filter is_mended (e ∷ [])))) (l + (left + length (filter is_left (e ∷ [])))) (draws + (more + length (filter is_begin (e ∷ []))))
+        (omega arith) (omega arith) (omega (arith, both)) (let q = s.spare in omega (arith, q)));
+  }
+
+  placing_step : (a : Mend) → GoesOn a → StepsAt job p a now next → Placing job p (mended + mends a) (left + passes a) (more + begins a) v next
+  placing_step mend.Began go steps =
+      placing_on (entry.Begin job p.stripe p.column) (subst (λ es. Adds job p.group es now next) steps.says steps.adds) refl (λ j n k o e. cc e) (λ f e. cc e) (λ j n k e. (sym (cc e), sym (cc e))) (omega arith)
+  placing_step mend.Went go steps = ⊎_elim
+      (λ (is : (n : ℕ) × (k : ℕ) × (steps.entries ≡ entry.Hop job n k ∷ [])).
+      placing_on (entry.Hop job is.0 is.1) (subst (λ es. Adds job p.group es now next) is.2 steps.adds) refl (λ j n k o e. cc e) (λ f e. cc e) (λ j n k e. absurd (cc e)) (omega arith))
+      (λ (is : (n : ℕ) × (k : ℕ) × (o : ℕ) × (steps.entries ≡ entry.GaveUp job n k o ∷ [])).
+      placing_on (entry.GaveUp job is.0 is.1 is.2) (subst (λ es. Adds job p.group es now next) is.3 steps.adds) refl (λ j n k o e. cc e) (λ f e. cc e) (λ j n k e. absurd (cc e)) (omega arith))
+      steps.says
+  placing_step mend.Mended go steps =
+      let is = steps.says in
+      placing_on (entry.Mended job is.0 is.1) (subst (λ es. Adds job p.group es now next) is.2 steps.adds) refl (λ j n k o e. cc e) (λ f e. cc e) (λ j n k e. absurd (cc e)) (omega arith)
+  placing_step mend.Passed go steps =
+      let is = steps.says in
+      placing_on (entry.Oddly job is.0 is.1 is.2) (subst (λ es. Adds job p.group es now next) is.3 steps.adds) refl (λ j n k o e. cc e) (λ f e. is.4 (cc e) (cc e)) (λ j n k e. absurd (cc e)) (omega arith)
+  placing_step _ go steps = absurd go
+
+module _ (told : Type 0) (rack : Rack) (names : List TurnName) (job : ℕ) (p : Place) (pads : Pads) (within : p.group < length names) where
+  -- turns after each of which the mend went on, and then the one that ended it
+  pub record Placed (result : Mend) (mended left more : ℕ) (v new : GroupPasses) : Type 0 where
+    pub mid : GroupPasses
+    pub placing : Placing job p mended left more v mid
+    pub last : StepsAt job p result mid new
+
+  long : (row : GroupPasses) → AreReady rack names row → p.group < length row.views
+  long row ready = (let l = ready.of.1 in omega (arith, within, l))
+
+  placed_turns : (n : ℕ) (before : List Mend) (result : Mend) (v row : GroupPasses) (w : GroupPass) (mended left more mended' left' more' : ℕ) → All GoesOn before → AreReady rack names row
+      → MendTurns told job p pads n (before ++ result ∷ []) (view_at row p.group) w → Placing job p mended left more v row
+      → mended' ≡ mended + total mends before → left' ≡ left + total passes before → more' ≡ more + total begins before → Placed result mended' left' more' v (with_view row p.group w)
+  placed_turns n [] result v row w mended left more mended' left' more' go ready (u, turn, is) placing a b c = record {
+    mid = row;
+    placing = placing_as job p mended left more mended' left' more' v row (omega (arith, a)) (omega (arith, b)) (omega (arith, c)) placing;
+    last = steps_at told job p (blind_at pads n) result row (with_view row p.group w) (long row ready) ready.idle
+        (record { pass = w; is = refl; turn = subst (λ (x : GroupPass). CallTurn told (MendCall told job p (blind_at pads n) result) (view_at row p.group) x) (sym is) turn });
+  }
+  placed_turns n (answer ∷ rest) result v row w mended left more mended' left' more' go ready (u, turn, turns) placing a b c =
+      let next : GroupPasses = with_view row p.group u in
+      let call : CallAt told (MendCall told job p (blind_at pads n) answer) p.group row next = record { pass = u; is = refl; turn = turn } in
+      let on : GoesOn answer = go zero answer (omega arith) in
+      let step = steps_at told job p (blind_at pads n) answer row next (long row ready) ready.idle call in
+      let there : view_at next p.group ≡ u = at_set row p.group u (long row ready) in
+      let same : with_view next p.group w ≡ with_view row p.group w = ap (λ vs. record row { views = vs }) (set_twice row.views p.group u w) in
+      subst (λ (x : GroupPasses). Placed result mended' left' more' v x) same
+      (placed_turns (n + begins answer) rest result v next w (mended + mends answer) (left + passes answer) (more + begins answer) mended' left' more'
+      (λ i d lt. go (suc i) d (omega (arith, lt))) (ready_again ready within call)
+      (subst (λ (x : GroupPass). MendTurns told job p pads (n + begins answer) (rest ++ result ∷ []) x w) (sym there) turns)
+      (placing_step job p mended left more v row next placing answer on step)
+      (omega (arith, a)) (omega (arith, b)) (omega (arith, c)))
+
+-- THE ENDS
+
 pub drawn_more : (pads : Pads) (a b : ℕ) → drawn (drawn pads a) b ≡ drawn pads (a + b)
 drawn_more pads a zero = (let e : a ≡ a + 0 = omega arith in ap (drawn pads) e)
 drawn_more pads a (suc b) = (let e : suc (a + b) ≡ a + suc b = omega arith in ap (λ p. moved p 1024) (drawn_more pads a b) ∙ ap (drawn pads) e)
 
--- What was counted so far, where the stream stands, and what that says of all before.
-pub record Placing (job : ℕ) (p : Place) (r now_r : Repaired) (pads after : Pads) (v now : GroupPasses) : Type 0 where
-  pub more : ℕ
-  pub stream : after ≡ drawn pads more
-  pub worked : RowWorked (of_job job) v now
-  pub few : now_r.mended + now_r.left ≤ length (view_at now p.group).seen
-  pub sofar : (old : GroupPasses) (draws : ℕ) → RepairSofar job p.group p.stripe p.column r.mended r.left draws old v
-      → PlaceSofar job p now_r.mended now_r.left (draws + more) old now
+module _ (told : Type 0) (rack : Rack) (names : List TurnName) (job : ℕ) (p : Place) (pads after : Pads) (within : p.group < length names) (v new : GroupPasses) (ready : AreReady rack names v)
+    (result : Mending) (mends : MendsPlace told job p pads after result v new) where
+  abbrev drew : ℕ
+  drew = suc (total begins mends.before)
 
-pub placing_begin : (job : ℕ) (p : Place) (r : Repaired) (pads after : Pads) (v : GroupPasses) → AllIdle v → r.mended + r.left ≤ length (view_at v p.group).seen
-    → after ≡ moved pads 1024 → Placing job p r r pads after v v
-placing_begin job p r pads after v idle few is = record {
-  more = 1;
-  stream = is;
-  worked = row_stays (of_job job) v idle;
-  few = few;
-  sofar = λ old draws sofar. place_begin job p r.mended r.left draws old v sofar;
-}
+  placed : Placed told rack names job p pads within result.end result.mended result.passed drew v new
+  placed =
+      let a = mends.mended in
+      let b = mends.passed in
+      subst (λ (x : GroupPasses). Placed told rack names job p pads within result.end result.mended result.passed drew v x) (sym mends.is)
+      (placed_turns told rack names job p pads within 0 mends.before result.end v v mends.pass 0 0 1 result.mended result.passed drew mends.go_on ready mends.turns (placing_begin job p v ready.idle)
+      (omega (arith, a)) (omega (arith, b)) (omega arith))
 
-module _ (job : ℕ) (p : Place) (r now_r : Repaired) (pads after : Pads) (v now next : GroupPasses) (placing : Placing job p r now_r pads after v now) where
-  pub placing_began : (after' : Pads) → StepsAt job p step.Began now next → after' ≡ moved after 1024 → Placing job p r now_r pads after' v next
-  placing_began after' steps is =
-      let adds = subst (λ es. Adds job p.group es now next) steps.says steps.adds in
-      record {
-        more = suc placing.more;
-        stream = is ∙ ap (λ q. moved q 1024) placing.stream;
-        worked = row_work_in_parts (of_job job) v now next placing.worked adds.worked;
-        few = (let a = adds.grew in let b = placing.few in omega (arith, a, b));
-        sofar = λ old draws sofar. (let s = placing.sofar old draws sofar in
-            place_more job p now_r.mended now_r.left (draws + placing.more) old now next s (entry.Begin job p.stripe p.column) adds refl (λ j n k o e. cc e) (λ f e. cc e)
-            (λ j n k e. (sym (cc e), sym (cc e))) now_r.mended now_r.left (draws + suc placing.more) (omega arith) (omega arith) (omega arith) (let q = s.spare in omega (arith, q)));
-      }
+  abbrev between : GroupPasses
+  between = placed.mid
 
-  placing_on : (e : Entry) → Adds job p.group (e ∷ []) now next → is_relay e ≡ true → ((j n k o : ℕ) → e ≡ entry.Stuck j n k o → ⊥)
-      → ((f : Digest) → e ≡ entry.Oddly job p.stripe p.column f → ⊥) → ((j n k : ℕ) → e ≡ entry.Begin j n k → ⊥) → length (filter is_begin (e ∷ [])) ≡ 0
-      → (r' : Repaired) → r'.mended ≡ now_r.mended + length (filter is_mended (e ∷ [])) → r'.left ≡ now_r.left + length (filter is_left (e ∷ []))
-      → r'.mended + r'.left ≤ (now_r.mended + now_r.left) + 1 → Placing job p r r' pads after v next
-  placing_on e adds relay not_stuck odd_else not_begin not_begun r' mended_is left_is both = record {
-    more = placing.more;
-    stream = placing.stream;
-    worked = row_work_in_parts (of_job job) v now next placing.worked adds.worked;
-    few = (let a = adds.grew in let b = placing.few in omega (arith, a, b, both));
-    sofar = λ old draws sofar. (let s = placing.sofar old draws sofar in
-        place_more job p now_r.mended now_r.left (draws + placing.more) old now next s e adds relay not_stuck odd_else (λ j n k q. absurd (not_begin j n k q))
-        r'.mended r'.left (draws + placing.more) mended_is left_is both (let q = s.spare in omega (arith, q, not_begun)));
+  abbrev Sofar : ℕ → ℕ → ℕ → GroupPasses → Type 0
+  Sofar mended left draws old = PlaceSofar job p mended left draws old between
+
+  -- the counts fit their words
+  pub passed_fits : result.passed < log_bound + 1
+  passed_fits = (let a = placed.placing.few in let b = placed.last.adds.grew in let c = placed.last.bound in omega (arith, a, b, c))
+
+  module _ (r : Repaired) (mended_is : r.mended ≡ result.mended) where
+    -- so many more were left at the last step, each with an entry
+    repairs_ok : (n : ℕ) → n ≤ length placed.last.entries → r.left ≡ result.passed + n
+        → ((old : GroupPasses) (m l draws : ℕ) → Sofar m l draws old → RepairSofar job p.group p.stripe (p.column + 1) m (l + n) draws old new) → RepairsPlace job p (Ok r) pads after v new
+    repairs_ok n logs left_is ends = record {
+      more = drew;
+      stream = mends.stream;
+      worked = row_work_in_parts (of_job job) v between new placed.placing.worked placed.last.adds.worked;
+      few = (let a = placed.placing.few in let b = placed.last.adds.grew in omega (arith, a, b, logs, mended_is, left_is));
+      bound = placed.last.bound;
+      ends = λ old m l draws sofar.
+          let both : l + r.left ≡ (l + result.passed) + n = omega (arith, left_is) in
+          rw (mended_is, both) (ends old (m + result.mended) (l + result.passed) (draws + drew) (placed.placing.sofar old m l draws sofar));
+    }
+
+    pub repairs_whole : result.end ≡ mend.Whole → r.left ≡ result.passed → RepairsPlace job p (Ok r) pads after v new
+    repairs_whole is left_is =
+        let last = subst (λ a. StepsAt job p a between new) is placed.last in
+        repairs_ok 0 (omega arith) (omega (arith, left_is))
+        (λ old m l draws s.
+        let same : l + 0 ≡ l = omega arith in
+        rw same (place_whole job p m l draws old between new s (subst (λ es. Adds job p.group es between new) last.says last.adds) last.why))
+
+    pub repairs_stuck : (first second : ℕ) → result.end ≡ mend.TwoGone first second → r.left ≡ result.passed + 1 → RepairsPlace job p (Ok r) pads after v new
+    repairs_stuck first second is left_is =
+        let last = subst (λ a. StepEntries job p.stripe p.column a placed.last.entries) is placed.last.says in
+        let long = ap length last in
+        repairs_ok 1 (omega (arith, long)) left_is
+        (λ old m l draws s. place_stuck job p m l draws old between new s second (subst (λ es. Adds job p.group es between new) last placed.last.adds))
+
+    pub repairs_odd : (wanted found : Digest) → result.end ≡ mend.Odd wanted found → r.left ≡ result.passed + 1 → RepairsPlace job p (Ok r) pads after v new
+    repairs_odd wanted found is left_is =
+        let last = subst (λ a. StepEntries job p.stripe p.column a placed.last.entries) is placed.last.says in
+        let long = ap length last.1 in
+        repairs_ok 1 (omega (arith, long)) left_is
+        (λ old m l draws s. place_odd job p m l draws old between new s last.0 (subst (λ es. Adds job p.group es between new) last.1 placed.last.adds))
+
+  repairs_err : (e : MendFault) → EndsPlace job p (Err e) drew v new → RepairsPlace job p (Err e) pads after v new
+  repairs_err e ends = record {
+    more = drew;
+    stream = mends.stream;
+    worked = row_work_in_parts (of_job job) v between new placed.placing.worked placed.last.adds.worked;
+    few = (let a = placed.placing.few in let b = placed.last.adds.grew in omega (arith, a, b));
+    bound = placed.last.bound;
+    ends = ends;
   }
 
-  pub placing_went : StepsAt job p step.Went now next → Placing job p r now_r pads after v next
-  placing_went steps = ⊎_elim
-      (λ (is : (n : ℕ) × (k : ℕ) × (steps.entries ≡ entry.Hop job n k ∷ [])).
-      placing_on (entry.Hop job is.0 is.1) (subst (λ es. Adds job p.group es now next) is.2 steps.adds) refl (λ j n k o e. cc e) (λ f e. cc e) (λ j n k e. cc e) refl now_r (omega arith) (omega arith) (omega arith))
-      (λ (is : (n : ℕ) × (k : ℕ) × (o : ℕ) × (steps.entries ≡ entry.GaveUp job n k o ∷ [])).
-      placing_on (entry.GaveUp job is.0 is.1 is.2) (subst (λ es. Adds job p.group es now next) is.3 steps.adds) refl (λ j n k o e. cc e) (λ f e. cc e) (λ j n k e. cc e) refl now_r
-      (omega arith) (omega arith) (omega arith))
-      steps.says
+  pub repairs_fails : (column : ℕ) → result.end ≡ mend.Faulted column → RepairsPlace job p (Err (fault.Faulted p.group column)) pads after v new
+  repairs_fails column is =
+      let last = subst (λ a. StepEntries job p.stripe p.column a placed.last.entries) is placed.last.says in
+      repairs_err (fault.Faulted p.group column) (
+        refl,
+        λ old m l draws sofar. place_fails job p (m + result.mended) (l + result.passed) (draws + drew) old between new (placed.placing.sofar old m l draws sofar) column last.0
+            (subst (λ es. Adds job p.group es between new) last.1 placed.last.adds),
+      )
 
-  pub placing_mended : (r' : Repaired) → StepsAt job p step.Mended now next → r'.mended ≡ now_r.mended + 1 → r'.left ≡ now_r.left → Placing job p r r' pads after v next
-  placing_mended r' steps mended left =
-      let is = steps.says in
-      placing_on (entry.Mended job is.0 is.1) (subst (λ es. Adds job p.group es now next) is.2 steps.adds) refl (λ j n k o e. cc e) (λ f e. cc e) (λ j n k e. cc e) refl r'
-      mended (omega (arith, left)) (omega (arith, mended, left))
-
-  pub placing_passed : (r' : Repaired) → StepsAt job p step.Passed now next → r'.mended ≡ now_r.mended → r'.left ≡ now_r.left + 1 → Placing job p r r' pads after v next
-  placing_passed r' steps mended left =
-      let is = steps.says in
-      placing_on (entry.Oddly job is.0 is.1 is.2) (subst (λ es. Adds job p.group es now next) is.3 steps.adds) refl (λ j n k o e. cc e)
-      (λ f e. is.4 (cc e) (cc e)) (λ j n k e. cc e) refl r' (omega (arith, mended)) left (omega (arith, mended, left))
-
-  -- THE ENDS
-
-  pub placing_left : (r' : Repaired) → StepsAt job p step.Left now next → r'.mended ≡ now_r.mended → r'.left ≡ now_r.left + 1 → RepairsPlace job p (Ok (tt)) r r' pads after v next
-  placing_left r' steps mended left = record {
-    more = placing.more;
-    stream = placing.stream;
-    worked = row_work_in_parts (of_job job) v now next placing.worked steps.adds.worked;
-    few = ⊎_elim
-        (λ (is : (o : ℕ) × (steps.entries ≡ entry.Stuck job p.stripe p.column o ∷ [])). (let a = steps.adds.grew in let b = placing.few in let n = ap length is.1 in omega (arith, a, b, n, mended, left)))
-        (λ (is : (f : Digest) × (steps.entries ≡ entry.Oddly job p.stripe p.column f ∷ [])). (let a = steps.adds.grew in let b = placing.few in let n = ap length is.1 in omega (arith, a, b, n, mended, left)))
-        steps.says;
-    ends = λ old draws sofar. rw (mended, left) (⊎_elim
-        (λ (is : (o : ℕ) × (steps.entries ≡ entry.Stuck job p.stripe p.column o ∷ [])).
-        place_left job p now_r.mended now_r.left (draws + placing.more) old now next (placing.sofar old draws sofar) (entry.Stuck job p.stripe p.column is.0) (inl (is.0, refl))
-        (subst (λ es. Adds job p.group es now next) is.1 steps.adds))
-        (λ (is : (f : Digest) × (steps.entries ≡ entry.Oddly job p.stripe p.column f ∷ [])).
-        place_left job p now_r.mended now_r.left (draws + placing.more) old now next (placing.sofar old draws sofar) (entry.Oddly job p.stripe p.column is.0) (inr (is.0, refl))
-        (subst (λ es. Adds job p.group es now next) is.1 steps.adds))
-        steps.says);
-  }
-
-  pub placing_whole : StepsAt job p step.Whole now next → RepairsPlace job p (Ok (tt)) r now_r pads after v next
-  placing_whole steps =
-      let adds = subst (λ es. Adds job p.group es now next) steps.says steps.adds in
-      record {
-        more = placing.more;
-        stream = placing.stream;
-        worked = row_work_in_parts (of_job job) v now next placing.worked adds.worked;
-        few = (let a = adds.grew in let b = placing.few in omega (arith, a, b));
-        ends = λ old draws sofar. place_whole job p now_r.mended now_r.left (draws + placing.more) old now next (placing.sofar old draws sofar) adds steps.why;
-      }
-
-  pub placing_fails : (column : ℕ) → StepsAt job p (step.Faulted column) now next → RepairsPlace job p (Err (fault.Faulted p.group column)) r now_r pads after v next
-  placing_fails column steps =
-      let is = steps.says in
-      let adds = subst (λ es. Adds job p.group es now next) is.1 steps.adds in
-      record {
-        more = placing.more;
-        stream = placing.stream;
-        worked = row_work_in_parts (of_job job) v now next placing.worked adds.worked;
-        few = (let a = adds.grew in let b = placing.few in omega (arith, a, b));
-        ends = (refl, λ old draws sofar. place_fails job p now_r.mended now_r.left (draws + placing.more) old now next (placing.sofar old draws sofar) column is.0 adds);
-      }
-
-  pub placing_fills : StepsAt job p step.LogFull now next → RepairsPlace job p (Err (fault.LogFull p.group)) r now_r pads after v next
-  placing_fills steps =
-      let adds = subst (λ es. Adds job p.group es now next) steps.says steps.adds in
-      record {
-        more = placing.more;
-        stream = placing.stream;
-        worked = row_work_in_parts (of_job job) v now next placing.worked adds.worked;
-        few = (let a = adds.grew in let b = placing.few in omega (arith, a, b));
-        ends = (refl, λ old draws sofar. place_fills job p now_r.mended now_r.left (draws + placing.more) old now next (placing.sofar old draws sofar) adds steps.why);
-      }
+  pub repairs_fills : result.end ≡ mend.LogFull → RepairsPlace job p (Err (fault.LogFull p.group)) pads after v new
+  repairs_fills is =
+      let last = subst (λ a. StepsAt job p a between new) is placed.last in
+      repairs_err (fault.LogFull p.group) (
+        refl,
+        λ old m l draws sofar. place_fills job p (m + result.mended) (l + result.passed) (draws + drew) old between new (placed.placing.sofar old m l draws sofar)
+            (subst (λ es. Adds job p.group es between new) last.says last.adds) last.why,
+      )

@@ -3,6 +3,7 @@ use Rattle.std.proofs.Common.{◌≡◌, ◌<◌, ◌≤◌, inl, inr, ⊎_elim,
 use Rattle.std.specs.Prelude.{Contains, filter, Some, None, Ok, Err}
 use Rattle.pot_bytes.specs.declared.rack.Place.{Place}
 use Rattle.pot_bytes.specs.declared.rack.Rack.{Rack}
+use Rattle.pot_bytes.specs.Rack.{log_bound}
 use Rattle.pot_machine.specs.declared.entry.Entry.{Entry}
 use Rattle.pot_machine.specs.declared.entry.Entry.TheVariants as entry
 use Rattle.pot_machine.specs.Slot.{is_unsound}
@@ -29,10 +30,12 @@ use Rattle.pot_mend.specs.declared.fault.MendFault.{MendFault}
 use Rattle.pot_mend.specs.declared.fault.MendFault.TheVariants as fault
 use Rattle.pot_mend.specs.declared.repairing.Repaired.{Repaired}
 use Rattle.pot_store.specs.Adds.{Adds, Fails, FailsOnce, FindsNext, IsFromOn, IsNextOf}
-use Rattle.pot_mend.specs.Repairs.{is_begin, NoneAgain, AreRepairs, WasLeft, IsDone, RepairSofar, RepairFails, RepairFills, RepairsPlace, Draws, RepairRow}
+use Rattle.pot_store.specs.Blinds.{Blinds, is_begin}
+use Rattle.pot_mend.specs.Repairs.{NoneAgain, AreRepairs, WasLeft, IsDone, RepairSofar, RepairFails, RepairFills, RepairsPlace, Draws, RepairRow}
 use Rattle.pot_mend.proofs.OrderLemmas.{AtOrAfter, before_or_after}
 use Rattle.pot_mend.proofs.EntryLemmas.{count_one}
 use Rattle.pot_store.proofs.AddLemmas.{adds_none, adds_then, next_adds, next_finds, next_from, next_group, once_back, once_front}
+use Rattle.pot_store.proofs.BlindLemmas.{blinds_quiet, blinds_then, none_adds}
 use Rattle.pot_mend.proofs.SectionLemmas.{found_was, last_full, not_always, only_in}
 use Rattle.pot_mend.proofs.RepairLemmas.{none_again_more, repairs_wider}
 use Rattle.pot_mend.proofs.PlaceLemmas.{drawn_more}
@@ -204,6 +207,9 @@ module _ (told : Type 0) (job : ℕ) (rack : Rack) (names : List TurnName) (g s 
     pub group_work : RowWorked (of_job job) u x
     group_work = row_work_in_parts (of_job job) u v x sofar.sofar.adds.worked last_more.worked
 
+    pub group_blinds : Blinds told job pads after u v → Blinds told job pads after u x
+    group_blinds before = blinds_then before (blinds_quiet (none_adds job g [] v x refl last_more))
+
     pub group_draws : Draws job g pads after u x
     group_draws =
         let adds : Adds job g sofar.sofar.entries u x = subst (λ es. Adds job g es u x) (append-nil sofar.sofar.entries) (adds_then job g sofar.sofar.entries [] u v x sofar.sofar.adds last_more) in
@@ -227,33 +233,42 @@ module _ (told : Type 0) (job : ℕ) (rack : Rack) (names : List TurnName) (g s 
     found_from : IsFromOn s c p
     found_from = next_from told job rack names g s c kind.Unsound (Some p) v x within ready call p refl
 
-    pub found_few : r.mended + r.left ≤ length (view_at x p.group).seen
+    found_few : r.mended + r.left ≤ length (view_at x p.group).seen
     found_few = subst (λ n. r.mended + r.left ≤ length (view_at x n).seen) (sym found_group) (let a = found_more.grew in let b = sofar.few in omega (arith, a, b))
 
     there : RepairSofar job p.group p.stripe p.column r.mended r.left sofar.draws u x
     there = subst (λ n. RepairSofar job n p.stripe p.column r.mended r.left sofar.draws u x) (sym found_group)
         (repair_found job g s c r.mended r.left sofar.draws u v x sofar.sofar found_more p found_finds found_from)
 
-    module _ (r' : Repaired) (after' : Pads) (w : GroupPasses) where
-      pub found_step : RepairsPlace job p (Ok (tt)) r r' after after' x w → Repairing job g p.stripe (p.column + 1) r' pads after' u w
-      found_step place = record {
-        draws = sofar.draws + place.more;
-        stream = place.stream ∙ (ap (λ q. drawn q place.more) sofar.stream ∙ drawn_more pads sofar.draws place.more);
-        few = subst (λ n. r'.mended + r'.left ≤ length (view_at w n).seen) found_group place.few;
-        sofar = subst (λ n. RepairSofar job n p.stripe (p.column + 1) r'.mended r'.left (sofar.draws + place.more) u w) found_group (place.ends u sofar.draws there);
-      }
+    module _ (after' : Pads) (w : GroupPasses) where
+      pub found_blinds : Blinds told job pads after u v → Blinds told job after after' x w → Blinds told job pads after' u w
+      found_blinds before place = blinds_then (blinds_then before (blinds_quiet (none_adds job g [] v x refl found_more))) place
+
+      module _ (more : Repaired) (place : RepairsPlace job p (Ok more) after after' x w) where
+        -- all that was counted has entries
+        pub found_fits : (r.mended + more.mended) + (r.left + more.left) ≤ log_bound
+        found_fits = (let a = found_few in let b = place.few in let c = place.bound in omega (arith, a, b, c))
+
+        pub found_step : Repairing job g p.stripe (p.column + 1) (record { mended = r.mended + more.mended; left = r.left + more.left }) pads after' u w
+        found_step = record {
+          draws = sofar.draws + place.more;
+          stream = place.stream ∙ (ap (λ q. drawn q place.more) sofar.stream ∙ drawn_more pads sofar.draws place.more);
+          few = subst (λ n. (r.mended + more.mended) + (r.left + more.left) ≤ length (view_at w n).seen) found_group (let a = found_few in let b = place.few in omega (arith, a, b));
+          sofar = subst (λ n. RepairSofar job n p.stripe (p.column + 1) (r.mended + more.mended) (r.left + more.left) (sofar.draws + place.more) u w) found_group
+              (place.ends u r.mended r.left sofar.draws there);
+        }
 
       stop_stream : (more : ℕ) → after' ≡ drawn after more → after' ≡ drawn pads (sofar.draws + more)
       stop_stream more is = is ∙ (ap (λ q. drawn q more) sofar.stream ∙ drawn_more pads sofar.draws more)
 
       -- at the first fault, or full log
-      pub stop_work : (e : MendFault) → RepairsPlace job p (Err e) r r' after after' x w → RowWorked (of_job job) u w
-      stop_work (fault.Faulted group column) place = (place.ends.1 u sofar.draws there).adds.worked
-      stop_work (fault.LogFull group) place = (place.ends.1 u sofar.draws there).adds.worked
+      pub stop_work : (e : MendFault) → RepairsPlace job p (Err e) after after' x w → RowWorked (of_job job) u w
+      stop_work (fault.Faulted group column) place = (place.ends.1 u r.mended r.left sofar.draws there).adds.worked
+      stop_work (fault.LogFull group) place = (place.ends.1 u r.mended r.left sofar.draws there).adds.worked
 
-      pub stop_draws : (e : MendFault) → RepairsPlace job p (Err e) r r' after after' x w → Draws job g pads after' u w
+      pub stop_draws : (e : MendFault) → RepairsPlace job p (Err e) after after' x w → Draws job g pads after' u w
       stop_draws (fault.Faulted group column) place =
-          let fails = place.ends.1 u sofar.draws there in
+          let fails = place.ends.1 u r.mended r.left sofar.draws there in
           let d = sofar.draws + place.more in
           let f = entry.Fault job fails.stripe column in (
             d,
@@ -262,7 +277,7 @@ module _ (told : Type 0) (job : ℕ) (rack : Rack) (names : List TurnName) (g s 
                 (subst (λ es. length (filter is_begin es) ≤ d) (sym (fails.adds.own_is alone)) (let a = fails.are.blinds in let b = count_one is_begin fails.entries f in omega (arith, a, b))),
           )
       stop_draws (fault.LogFull group) place =
-          let fills = place.ends.1 u sofar.draws there in
+          let fills = place.ends.1 u r.mended r.left sofar.draws there in
           let d = sofar.draws + place.more in (
             d,
             stop_stream place.more place.stream,
@@ -271,16 +286,16 @@ module _ (told : Type 0) (job : ℕ) (rack : Rack) (names : List TurnName) (g s 
           )
 
       module _ (st : Setting) (ui wi : IndexPasses) (same : wi ≡ ui) (has : g < length u.names) (alone : RowAlone (of_job job) u w) (set : IsSettingOf st rack (known u ui)) where
-        pub stop_row : (e : MendFault) → RepairsPlace job p (Err e) r r' after after' x w → RepairRow st job g (Err e) (section_of (known u ui) (known w wi))
+        pub stop_row : (e : MendFault) → RepairsPlace job p (Err e) after after' x w → RepairRow st job g (Err e) (section_of (known u ui) (known w wi))
         stop_row (fault.Faulted group column) place = (
           place.ends.0 ∙ found_group,
           repair_fault_row st job g rack u w ui wi same has alone set column (sofar.draws + place.more)
-              (subst (λ n. RepairFails job n column (sofar.draws + place.more) u w) found_group (place.ends.1 u sofar.draws there)),
+              (subst (λ n. RepairFails job n column (sofar.draws + place.more) u w) found_group (place.ends.1 u r.mended r.left sofar.draws there)),
         )
         stop_row (fault.LogFull group) place = (
           place.ends.0 ∙ found_group,
           repair_full_row st job g rack u w ui wi same has alone set (sofar.draws + place.more) s c p
-              (subst (λ n. RepairFills job n (sofar.draws + place.more) u w) found_group (place.ends.1 u sofar.draws there))
+              (subst (λ n. RepairFills job n (sofar.draws + place.more) u w) found_group (place.ends.1 u r.mended r.left sofar.draws there))
               (once_front job g u x w (row_work_in_parts (of_job job) u v x sofar.sofar.adds.worked found_more.worked) place.worked (IsNextOf is_unsound s c (Some p) g)
               (once_back job g u v x sofar.sofar.adds.worked found_more.worked (IsNextOf is_unsound s c (Some p) g) found_finds)),
         )

@@ -1,4 +1,3 @@
 pub mod Scrubs
-pub mod Stepping
 pub mod Repairs
 pub mod Moves

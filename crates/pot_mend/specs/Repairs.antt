@@ -1,5 +1,5 @@
 -- A repair, place by place, and its answers, each as the job's own entries give it.
-use Rattle.std.specs.Prelude.{◌≡◌, ◌≤◌, ◌⊎◌, ℕ, ◌+◌, Bool, true, false, List, [], ◌∷◌, ◌++◌, Result}
+use Rattle.std.specs.Prelude.{◌≡◌, ◌≤◌, ◌⊎◌, ℕ, ◌+◌, List, [], ◌∷◌, ◌++◌, Result}
 use Rattle.std.specs.Prelude.{Ok, Err, length, filter, Contains}
 use Rattle.pot_bytes.specs.declared.digest.Digest.{Digest}
 use Rattle.pot_bytes.specs.declared.rack.Place.{Place}
@@ -17,6 +17,7 @@ use Rattle.pot_replies.specs.Jobs.{is_relay, is_mended, is_left, is_stuck_at, Ea
 use Rattle.pot_replies.specs.Settings.{Setting}
 use Rattle.pot_replies.specs.Sections.{Section}
 use Rattle.pot_replies.specs.Scrubs.{IsRepaired, IsRepairFault, IsRepairLogFull}
+use Rattle.pot_store.specs.Blinds.{is_begin}
 use Rattle.pot_store.specs.Works.{of_job, gained}
 use Rattle.pot_mend.specs.declared.fault.MendFault.{MendFault}
 use Rattle.pot_mend.specs.declared.fault.MendFault.TheVariants as fault
@@ -24,10 +25,6 @@ use Rattle.pot_mend.specs.declared.repairing.Repaired.{Repaired}
 use Rattle.pot_store.specs.Adds.{Adds, FailsOnce}
 
 -- THE JOB'S OWN ENTRIES
-
-abbrev pub is_begin : Entry → Bool
-is_begin (entry.Begin job s c) = true
-is_begin _ = false
 
 -- no relay of the place that the job began ended by an Oddly of the job
 abbrev pub NotOdd : ℕ → List Entry → ℕ → ℕ → Type 0
@@ -99,31 +96,39 @@ pub record RepairFills (job g draws : ℕ) (old now : GroupPasses) : Type 0 wher
   pub are : AreRepairs job entries stuck begun mended left draws
   pub full : length (view_at now g).seen ≡ log_bound
 
--- The repair of one place, whatever was done before it, with so many more blinds drawn.
-abbrev pub EndsPlace : ℕ → Place → Result (Unit {0}) MendFault → Repaired → Repaired → ℕ
-    → GroupPasses → GroupPasses → Type 0
-EndsPlace job p (Ok u) r r' more v w =
-    (old : GroupPasses) (draws : ℕ)
-    → RepairSofar job p.group p.stripe p.column r.mended r.left draws old v
-    → RepairSofar job p.group p.stripe (p.column + 1) r'.mended r'.left (draws + more) old w
-EndsPlace job p (Err (fault.Faulted group column)) r r' more v w =
+-- The repair of one place, whatever was done before it, with so many more blinds drawn. What it
+-- counted comes to what was counted before.
+abbrev pub EndsPlace : ℕ → Place → Result Repaired MendFault → ℕ → GroupPasses → GroupPasses
+    → Type 0
+EndsPlace job p (Ok r) more v w =
+    (old : GroupPasses) (mended left draws : ℕ)
+    → RepairSofar job p.group p.stripe p.column mended left draws old v
+    → RepairSofar job p.group p.stripe (p.column + 1) (mended + r.mended) (left + r.left)
+    (draws + more) old w
+EndsPlace job p (Err (fault.Faulted group column)) more v w =
     (group ≡ p.group)
-    × ((old : GroupPasses) (draws : ℕ)
-    → RepairSofar job p.group p.stripe p.column r.mended r.left draws old v
+    × ((old : GroupPasses) (mended left draws : ℕ)
+    → RepairSofar job p.group p.stripe p.column mended left draws old v
     → RepairFails job p.group column (draws + more) old w)
-EndsPlace job p (Err (fault.LogFull group)) r r' more v w =
+EndsPlace job p (Err (fault.LogFull group)) more v w =
     (group ≡ p.group)
-    × ((old : GroupPasses) (draws : ℕ)
-    → RepairSofar job p.group p.stripe p.column r.mended r.left draws old v
+    × ((old : GroupPasses) (mended left draws : ℕ)
+    → RepairSofar job p.group p.stripe p.column mended left draws old v
     → RepairFills job p.group (draws + more) old w)
 
-pub record RepairsPlace (job : ℕ) (p : Place) (result : Result (Unit {0}) MendFault)
-    (r r' : Repaired) (pads after : Pads) (v w : GroupPasses) : Type 0 where
+-- how many slots it counted
+abbrev pub counted : Result Repaired MendFault → ℕ
+counted (Ok r) = r.mended + r.left
+counted (Err e) = 0
+
+pub record RepairsPlace (job : ℕ) (p : Place) (result : Result Repaired MendFault)
+    (pads after : Pads) (v w : GroupPasses) : Type 0 where
   pub more : ℕ
   pub stream : after ≡ drawn pads more
   pub worked : RowWorked (of_job job) v w
-  pub few : r'.mended + r'.left ≤ length (view_at w p.group).seen
-  pub ends : EndsPlace job p result r r' more v w
+  pub few : length (view_at v p.group).seen + counted result ≤ length (view_at w p.group).seen
+  pub bound : length (view_at w p.group).seen ≤ log_bound
+  pub ends : EndsPlace job p result more v w
 
 -- THE ANSWERS
 

@@ -2,11 +2,12 @@
 //!
 //! 1. A scrub looks at each Live slot once, in order of stripe and column: `scrub_group`.
 //! 2. A repair goes to each slot that is Lost or Broken once, in the same order, and drives the relay of the slot, or the one that
-//!    stands in its way, until the slot is sound or can't be mended: `repair_group`.
+//!    stands in its way, until the slot is sound or can't be mended: `repair_group`. Each relay has the next blind of the job's
+//!    stream.
 //! 3. A move copies a column to another archive, stripe by stripe: `migrate`. Whether an archive can be moved to or stand in for
 //!    another is asked first, and changes nothing: `check_migrate`, `check_replace`.
 //! 4. All of them stop at the first fault and at a full log.
-//! 5. Counts are those of the job's own entries; each step says what it logged: `stepping`.
+//! 5. Counts are those of the job's own entries; a slot is mended by `Vault::mend_place`, whose answers say what each step logged.
 //! 6. What an answer says is said of the logs, and holds where nobody else logged an entry of the job: `ScrubRow`, `RepairRow`.
 //!
 //! It knows no script and no seed, and it starts no thread.
@@ -21,7 +22,6 @@ mod repairing;
 #[cfg(test)]
 mod scene;
 mod scrubbing;
-mod stepping;
 #[cfg(test)]
 mod tests;
 

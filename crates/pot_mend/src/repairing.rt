@@ -1,17 +1,15 @@
 //! The repair of a group.
-ghost use Rattle.std.specs.Prelude.{◌≡◌, ◌<◌, ◌≤◌, ◌+◌, length};
-ghost use Rattle.pot_rows.specs.Rows.{view_at};
-ghost use Rattle.pot_pads.specs.Pads.{moved, next_bytes};
+ghost use Rattle.std.specs.Prelude.{◌≡◌, ◌<◌, IsTrue, length};
 ghost use Rattle.pot_rows.specs.Works.{RowWorked, RowAlone};
 ghost use Rattle.pot_replies.specs.Settings.{Setting};
 ghost use Rattle.pot_shared.specs.Ready.{AreReady, HasSlot};
+ghost use Rattle.pot_store.specs.Blinds.{Blinds};
 ghost use Rattle.pot_store.specs.Works.{of_job, known, section_of, IsSettingOf};
 ghost use Rattle.pot_mend.specs.Repairs.{RepairsPlace, RepairRow, Draws};
 
 use crate::fault::MendFault;
-use crate::stepping::{Step, step_at};
-use pot_bytes::{Block, Place};
-use pot_group::Kind;
+use pot_bytes::Place;
+use pot_group::{Kind, Mend};
 use pot_outside::Archive;
 use pot_pads::PadStream;
 use pot_shared::{Passes, Vault};
@@ -24,19 +22,9 @@ pub struct Repaired {
     pub left: u32,
 }
 
-/// Draws a blind from a stream.
-fn draw_blind(pads: &mut PadStream) -> Block
-    ensures block { result ≡ next_bytes pads.old 1024 }
-    ensures stream { pads.new ≡ moved pads.old 1024 }
-{
-    let mut bytes = [0; 1024];
-    pads.fill(&mut bytes);
-    Block::from_bytes(bytes)
-}
-
 /// Mends each slot of a group that is Lost or Broken as far as that goes, in order of stripe and column, each once. A relay of
 /// another slot that stands in the way is driven on, and its end counts too. A blind is drawn for each slot, and one after each
-/// relay that began.
+/// relay that began: each relay has the next blind of the stream.
 ///
 /// # Errors
 /// At the first step that fails, or that the log has no room for.
@@ -60,12 +48,16 @@ pub fn repair_group<A: Archive, R: Wait>(
         (section_of (known passes.old.groups passes.old.index)
         (known passes.new.groups passes.new.index)) }
     ensures stream { Draws job group pads.old pads.new passes.old.groups passes.new.groups }
+    ensures blinds { Blinds (IsTrue A.account.tells) job pads.old pads.new passes.old.groups
+        passes.new.groups }
 {
     let mut repaired = Repaired { mended: 0, left: 0 };
     let mut stripe = 0;
     let mut column = 0;
     'places: while let Some(place) = vault.next(rt, passes, group, stripe, column, Kind::Unsound) {
-        repair_place(rt, vault, passes, job, place, pads, &mut repaired)?;
+        let more = repair_place(rt, vault, passes, job, place, pads)?;
+        repaired.mended += more.mended;
+        repaired.left += more.left;
         stripe = place.stripe;
         column = place.column + 1;
     }
@@ -83,37 +75,46 @@ fn repair_place<A: Archive, R: Wait>(
     job: u32,
     place: Place,
     pads: &mut PadStream,
-    repaired: &mut Repaired,
-) -> Result<(), MendFault>
+) -> Result<Repaired, MendFault>
     requires ready { AreReady vault.now.rack vault.now.groups passes.old.groups }
     requires place { HasSlot vault.now.rack vault.now.groups place }
     requires job { 0 < job }
-    requires few { repaired.old.mended + repaired.old.left
-        ≤ length (view_at passes.old.groups place.group).seen }
     ensures ready { AreReady vault.now.rack vault.now.groups passes.new.groups }
     ensures index { passes.new.index ≡ passes.old.index }
-    ensures repairs { RepairsPlace job place result repaired.old repaired.new pads.old pads.new
-        passes.old.groups passes.new.groups }
+    ensures repairs { RepairsPlace job place result pads.old pads.new passes.old.groups
+        passes.new.groups }
+    ensures blinds { Blinds (IsTrue A.account.tells) job pads.old pads.new passes.old.groups
+        passes.new.groups }
 {
-    let mut blind = draw_blind(pads);
-    'steps: loop {
-        match step_at(rt, vault, passes, job, place, &blind) {
-            Step::Began => blind = draw_blind(pads),
-            Step::Went => {}
-            Step::Mended => repaired.mended += 1,
-            Step::Passed => repaired.left += 1,
-            Step::Left => {
-                repaired.left += 1;
-                return Ok(());
-            }
-            Step::Whole => return Ok(()),
-            Step::Faulted { column } => {
-                return Err(MendFault::Faulted {
-                    group: place.group,
-                    column,
-                });
-            }
-            Step::LogFull => return Err(MendFault::LogFull { group: place.group }),
+    let mending = vault.mend_place(rt, passes, job, place, pads);
+    let mut repaired = Repaired {
+        mended: mending.mended,
+        left: mending.passed,
+    };
+    match mending.end {
+        Mend::Whole => Ok(repaired),
+        Mend::TwoGone {
+            first: _,
+            second: _,
+        } => {
+            repaired.left += 1;
+            Ok(repaired)
         }
+        Mend::Odd {
+            wanted: _,
+            found: _,
+        } => {
+            repaired.left += 1;
+            Ok(repaired)
+        }
+        Mend::Faulted { column } => Err(MendFault::Faulted {
+            group: place.group,
+            column,
+        }),
+        Mend::LogFull => Err(MendFault::LogFull { group: place.group }),
+        Mend::Began => unreachable!(),
+        Mend::Went => unreachable!(),
+        Mend::Mended => unreachable!(),
+        Mend::Passed => unreachable!(),
     }
 }

@@ -52,10 +52,12 @@ pub fn scrub_group<A: Archive, R: Wait>(
         rt,
         vault,
         passes,
-        group,
         job,
-        stripe,
-        column,
+        Place {
+            group,
+            column,
+            stripe,
+        },
         &mut scrubbed,
     )? {
         stripe = place.stripe;
@@ -64,7 +66,7 @@ pub fn scrub_group<A: Archive, R: Wait>(
     Ok(scrubbed)
 }
 
-/// Looks at the first Live slot of a group at or after this place, and counts what that saw.
+/// Looks at the first Live slot of its group at or after a place, and counts what that saw.
 ///
 /// # Errors
 /// Where the look fails, or the log has no room for it.
@@ -72,23 +74,23 @@ fn scrub_next<A: Archive, R: Wait>(
     rt: &R,
     vault: &Vault<A>,
     passes: &mut Passes<A>,
-    group: u8,
     job: u32,
-    stripe: u32,
-    column: u8,
+    from: Place,
     scrubbed: &mut Scrubbed,
 ) -> Result<Option<Place>, MendFault>
     requires ready { AreReady vault.now.rack vault.now.groups passes.old.groups }
-    requires group { group < length vault.now.groups }
+    requires group { from.group < length vault.now.groups }
     requires job { 0 < job }
     requires few { scrubbed.old.seen + scrubbed.old.gone
-        ≤ length (view_at passes.old.groups group).seen }
+        ≤ length (view_at passes.old.groups from.group).seen }
     ensures ready { AreReady vault.now.rack vault.now.groups passes.new.groups }
     ensures index { passes.new.index ≡ passes.old.index }
-    ensures scrubs { ScrubsNext job group stripe column result scrubbed.old scrubbed.new
-        passes.old.groups passes.new.groups }
+    ensures scrubs { ScrubsNext job from.group from.stripe from.column result scrubbed.old
+        scrubbed.new passes.old.groups passes.new.groups }
 {
-    let Some(place) = vault.next(rt, passes, group, stripe, column, Kind::Live) else {
+    let group = from.group;
+    let found = vault.next(rt, passes, group, from.stripe, from.column, Kind::Live);
+    let Some(place) = found else {
         return Ok(None);
     };
     let mut block = Block::zero();
