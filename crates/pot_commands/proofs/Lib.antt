@@ -28,3 +28,4 @@ pub mod SharedLemmas
 pub mod BackLemmas
 pub mod TogetherLemmas
 pub mod UnbegunLemmas
+pub mod BlindLemmas

@@ -18,6 +18,7 @@ use Rattle.pot_commands.specs.declared.beginning.Task.{Task}
 use Rattle.pot_commands.specs.declared.beginning.Task.TheVariants as task
 use Rattle.pot_commands.specs.Arriving.{move_reply}
 use Rattle.pot_commands.specs.Begun.{HasTask}
+use Rattle.pot_commands.specs.Blinding.{HasBlinds}
 use Rattle.pot_commands.specs.Rows.{IsSessionSetting, AreReplies, IsIdle}
 use Rattle.pot_commands.specs.Sharing.{VaultView, Common, CanCall}
 
@@ -85,6 +86,12 @@ pub record Did (j k : JobView) : Type 0 where
   pub says : JobAlone j.job j.passes k.passes → (s : Setting)
       → IsSessionSetting s j.common.vault.rack j.common.seed j.common.session j.passes
       → Says s j.job j.line j.task k.answer (section_of j.passes k.passes)
+
+-- And each relay that it began has its blind of the job's stream. `told` is whether archives tell
+-- what they hold.
+pub record DidBlinded (told : Type 0) (j k : JobView) : Type 0 where
+  pub did : Did j k
+  pub blinds : HasBlinds told j.common j.job j.line j.passes.groups k.passes.groups
 
 -- SHARED OUT
 

@@ -1,6 +1,7 @@
 pub mod Rows
 pub mod Counting
 pub mod Ones
+pub mod Blinding
 pub mod Ends
 pub mod Going
 pub mod Steps

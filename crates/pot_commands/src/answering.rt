@@ -13,7 +13,8 @@ ghost use Rattle.pot_store.specs.Stored.{FetchGives};
 ghost use Rattle.pot_store.specs.Renewals.{RenewRow};
 ghost use Rattle.pot_mend.specs.Scrubs.{ScrubRow};
 ghost use Rattle.pot_mend.specs.Repairs.{RepairRow};
-ghost use Rattle.pot_commands.specs.Sharing.{CanCall, known_of, vault_of};
+ghost use Rattle.pot_commands.specs.Blinding.{HasBlinds};
+ghost use Rattle.pot_commands.specs.Sharing.{CanCall, common_of, known_of, vault_of};
 ghost use Rattle.pot_commands.specs.Failures.{Fails};
 ghost use Rattle.pot_commands.specs.Rows.{HasFilled, IsSessionSetting, IsStoreReply, IsFetchReply};
 ghost use Rattle.pot_commands.specs.Rows.{IsRenewReply, IsUnrenewed, IsScrubReply, IsRepairReply};
@@ -191,6 +192,8 @@ pub(crate) fn answer_one<A: Archive, X: Wait>(
     requires single { IsSingle shared.now.vault.now.rack.groups command.now }
     ensures can { CanCall (vault_of shared.now.vault.now) (known_of passes.new) }
     ensures worked { JobWorked job (known_of passes.old) (known_of passes.new) }
+    ensures blinds { HasBlinds (IsTrue A.account.tells) (common_of shared.now) job command.now
+        passes.old.groups passes.new.groups }
     ensures says { let old = known_of passes.old in let new = known_of passes.new in
         let w = section_of old new in
         JobAlone job old new → (s : Setting)
@@ -262,6 +265,8 @@ fn answer_plain<A: Archive, X: Wait>(
     requires plain { IsPlain shared.now.vault.now.rack.groups command.now }
     ensures can { CanCall (vault_of shared.now.vault.now) (known_of passes.new) }
     ensures worked { JobWorked job (known_of passes.old) (known_of passes.new) }
+    ensures blinds { HasBlinds (IsTrue A.account.tells) (common_of shared.now) job command.now
+        passes.old.groups passes.new.groups }
     ensures says { let old = known_of passes.old in let new = known_of passes.new in
         let w = section_of old new in
         JobAlone job old new → (s : Setting)
@@ -300,6 +305,8 @@ pub(crate) fn answer<R: Room, X: Wait>(
     requires used { AreUsed (R.out room.old) passes.old.groups }
     ensures can { CanCall (vault_of shared.now.vault.now) (known_of passes.new) }
     ensures worked { JobWorked job (known_of passes.old) (known_of passes.new) }
+    ensures blinds { HasBlinds (IsTrue R.A.account.tells) (common_of shared.now) job command.now
+        passes.old.groups passes.new.groups }
     ensures says { let old = known_of passes.old in let new = known_of passes.new in
         let w = section_of old new in
         JobAlone job old new → (s : Setting)

@@ -18,7 +18,7 @@ ghost use Rattle.pot_commands.specs.Failures.{Fails};
 ghost use Rattle.pot_commands.specs.Steps.{IsBatched, StepGives, StepLeaves, StepStops};
 ghost use Rattle.pot_commands.specs.Begun.{HaveTasks, AreMovesBegun};
 ghost use Rattle.pot_commands.specs.Sharing.{CanCall, HaveParts, common_of, known_of, vault_of};
-ghost use Rattle.pot_commands.specs.Jobs.{JobView, HasPasses, IsDone, Did};
+ghost use Rattle.pot_commands.specs.Jobs.{JobView, HasPasses, IsDone, DidBlinded};
 ghost use Rattle.pot_commands.specs.Jobs.{AreShared, AllJoined, all_replied, replies_in, tasks_in};
 ghost use Rattle.pot_commands.specs.Batches.{BringsNone};
 ghost use Rattle.pot_commands.specs.Taking.{AreUsed, Took, asks, lending};
@@ -97,7 +97,8 @@ fn work_lines<'a, A: Archive + Send, W: Gate, X: Threads + Wait + Sync>(
         let old = known_of passes.old in let new = known_of passes.new in
         MatchResult result
         (λ back. (js : List JobView) × AreShared b old job lines.now js new
-        × (tasks_in js ≡ tasks.items) × AreWorked IsDone Did js back.items)
+        × (tasks_in js ≡ tasks.items)
+        × AreWorked IsDone (DidBlinded (IsTrue A.account.tells)) js back.items)
         (λ r. AreShared b old job (take (length r.jobs.items) lines.now) r.jobs.items new) }
 {
     let shared = &crew.shared;

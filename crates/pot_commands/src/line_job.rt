@@ -1,11 +1,12 @@
 //! A line of a batch, as a job for a worker.
-ghost use Rattle.std.specs.Prelude.{◌≡◌, ◌<◌, ◌^◌, IfOk, IfErr, Some};
+ghost use Rattle.std.specs.Prelude.{◌≡◌, ◌<◌, ◌^◌, IfOk, IfErr, IsTrue, Some};
 ghost use Rattle.pot_rows.specs.Rows.{HasMoreParts};
 ghost use Rattle.pot_rows.specs.Parts.{RowCut};
 ghost use Rattle.pot_shared.specs.Sharing.{SameAt};
 ghost use Rattle.pot_replies.specs.Settings.{Setting};
 ghost use Rattle.pot_store.specs.Works.{JobWorked, JobAlone, section_of};
 ghost use Rattle.pot_commands.specs.Begun.{HasTask};
+ghost use Rattle.pot_commands.specs.Blinding.{HasBlinds};
 ghost use Rattle.pot_commands.specs.Rows.{IsSessionSetting};
 ghost use Rattle.pot_commands.specs.Sharing.{CanCall, HaveParts, common_of, known_of, vault_of};
 ghost use Rattle.pot_commands.specs.Jobs.{IsGiven, Says};
@@ -56,11 +57,12 @@ impl<'a, A: Archive, R> Model for LineJob<'a, A, R> {
 }
 
 impl<'a, A: Archive, R: Wait> Job for LineJob<'a, A, R> {
-    ghost use Rattle.pot_commands.specs.Jobs.{IsDone, Did};
+    ghost use Rattle.std.specs.Prelude.{IsTrue};
+    ghost use Rattle.pot_commands.specs.Jobs.{IsDone, DidBlinded};
 
     ghost done = { IsDone };
 
-    ghost related = { Did };
+    ghost related = { DidBlinded (IsTrue A.account.tells) };
 
     fn work(&mut self) {
         let task = replace(&mut self.task, Task::Line);
@@ -93,6 +95,8 @@ fn answer_task<A: Archive, X: Wait>(
     requires fits { HasTask shared.now.vault.now.rack line.now task }
     ensures can { CanCall (vault_of shared.now.vault.now) (known_of passes.new) }
     ensures worked { JobWorked job (known_of passes.old) (known_of passes.new) }
+    ensures blinds { HasBlinds (IsTrue A.account.tells) (common_of shared.now) job line.now
+        passes.old.groups passes.new.groups }
     ensures says { let old = known_of passes.old in let new = known_of passes.new in
         JobAlone job old new → (s : Setting)
         → IsSessionSetting s shared.now.vault.now.rack shared.now.seed.now shared.now.session old

@@ -29,6 +29,7 @@ returns-in-Ok-answer_plain g c =
     record {
       can = c.answer_plain.ensures.can;
       worked = c.answer_plain.ensures.worked;
+      blinds = c.answer_plain.ensures.blinds;
       says = c.in-Ok-answer_plain.ensures.says;
       used = used_more c.args.job (g.R.Room.out c.args.room.now) (g.R.Room.out c.args.room.now) c.args.passes.now.groups c.answer_plain.new.passes.groups c.answer_plain.ensures.worked.groups
           (c.answer_plain.ensures.can.ready.of.0 ∙ sym c.requires.can.ready.of.0) (λ n. refl) c.requires.used;
@@ -44,6 +45,7 @@ returns-in-Err g c =
     record {
       can = c.answer_plain.ensures.can;
       worked = c.answer_plain.ensures.worked;
+      blinds = c.answer_plain.ensures.blinds;
       says = c.in-Err.ensures.says;
       used = used_more c.args.job (g.R.Room.out c.args.room.now) (g.R.Room.out c.args.room.now) c.args.passes.now.groups c.answer_plain.new.passes.groups c.answer_plain.ensures.worked.groups
           (c.answer_plain.ensures.can.ready.of.0 ∙ sym c.requires.can.ready.of.0) (λ n. refl) c.requires.used;

@@ -1,0 +1,19 @@
+-- The blinds of the relays that a command begins.
+use Rattle.std.specs.Prelude.{ℕ}
+use Rattle.pot_pads.specs.Pads.{Pads, pads_of}
+use Rattle.pot_script.specs.declared.command.Command.{Command}
+use Rattle.pot_script.specs.declared.command.Command.TheVariants as commands
+use Rattle.pot_shared.specs.Ready.{GroupPasses}
+use Rattle.pot_store.specs.Blinds.{Blinds}
+use Rattle.pot_commands.specs.Sharing.{Common}
+
+-- A command that mends what it finds lost gives each relay that its job begins the next blind of
+-- the stream of the seed, the session and the job.
+abbrev pub HasBlinds : Type 0 → Common → ℕ → Command → GroupPasses → GroupPasses → Type 0
+HasBlinds told b job (commands.Fetch name) old new =
+    (after : Pads) × Blinds told job (pads_of b.seed b.session job) after old new
+HasBlinds told b job (commands.Renew name geometry) old new =
+    (after : Pads) × Blinds told job (pads_of b.seed b.session job) after old new
+HasBlinds told b job (commands.Repair group) old new =
+    (after : Pads) × Blinds told job (pads_of b.seed b.session job) after old new
+HasBlinds told b job c old new = Unit {0}
