@@ -133,3 +133,11 @@ module _ (t : Table) (s c other : ℕ) (column : c < width t) (unsound : IsTrue 
         where
           some : first t s is_broken ≡ Some k → IsTrue (is_some (first t s is_broken))
           some e = ap is_some e
+
+-- a stripe with a Broken slot is past mending
+pub broken_past : (t : Table) (s c : ℕ) → c < width t → is_broken (slot_at t s c) ≡ true → IsPastMending t s
+broken_past t s c column broken = by (first t s is_broken) refl
+  where
+    by : (o : Option ℕ) → first t s is_broken ≡ o → IsPastMending t s
+    by None is = absurd (let whole = sym (least_none (width t) (λ k. is_broken (slot_at t s k)) is c column) ∙ broken in cc whole)
+    by (Some k) is = inl (ap is_some is)

@@ -13,7 +13,7 @@ use Rattle.pot_shard.specs.Places.{place_at}
 use Rattle.pot_machine.specs.declared.entry.Entry.{Entry}
 use Rattle.pot_machine.specs.declared.entry.Entry.TheVariants as entry
 use Rattle.pot_machine.specs.declared.relay.Relay.{Relay}
-use Rattle.pot_machine.specs.Slot.{is_live, is_unsound}
+use Rattle.pot_machine.specs.Slot.{is_broken, is_live, is_unsound}
 use Rattle.pot_machine.specs.Rules.{IsTable, IsStanding}
 use Rattle.pot_machine.specs.Making.{empty_table}
 use Rattle.pot_machine.specs.Table.{Table, width, slot_at, relay_at, next_column, archives_in}
@@ -37,7 +37,7 @@ use Rattle.pot_session.specs.Groups.{had_by}
 use Rattle.pot_session.specs.Serving.{IsInRoom, LeavesGroup, LeaveGroups, setting_of}
 use Rattle.pot_session.specs.Losses.{AreBack, LostNone, BeginWith, SwapsNone, IsInVain, IsLeft, FewCanBeHad, LostWhereFew, all_had, is_swap}
 use Rattle.pot_session.proofs.Lists.{all_at_place, at_same, flat_contains}
-use Rattle.pot_session.proofs.LiveLemmas.{data_columns-replayed, live_through, missed_behind, stuck_past}
+use Rattle.pot_session.proofs.LiveLemmas.{broken_past, data_columns-replayed, live_through, missed_behind, stuck_past}
 use Rattle.pot_session.proofs.StripeLemmas.{column_had}
 
 -- THE LAST OF SOME ELEMENTS
@@ -164,9 +164,22 @@ module _ (told : Type 0) (seed : List ℕ) (first last : Contents) (meant means 
     abbrev SaysLeft : ℕ → Place → Entry → Type 0
     SaysLeft job p e = ((o : ℕ) × (e ≡ entry.Stuck job p.stripe p.column o)) ⊎ ((f : Digest) × (e ≡ entry.Oddly job p.stripe p.column f))
 
-    left_at : (job : ℕ) (p : Place) (x y : List Entry) (e : Entry) → log ≡ x ++ e ∷ y → SaysLeft job p e
+    -- a relay that came to a block of another digest stood over a Broken slot
+    odd_broken : (job s c : ℕ) (f : Digest) (x y : List Entry) → log ≡ x ++ entry.Oddly job s c f ∷ y → c < t.data_columns → is_broken (slot_at (replayed t x) s c) ≡ true
+    odd_broken job s c f x y parts is_data = by (is_broken (slot_at (replayed t x) s c)) refl
+      where
+        lt : c < width t
+        lt = omega (arith, is_data)
+
+        by : (b : Bool) → is_broken (slot_at (replayed t x) s c) ≡ b → is_broken (slot_at (replayed t x) s c) ≡ true
+        by true is = is
+        by false is =
+            let missed = missed_behind t x (entry.Oddly job s c f ∷ y) c (Lost c) (subst (λ l. WhereMissed t l c (Lost c)) parts (its_missed c lt)) in
+            absurd (none_lost c lt (missed.0 (refl, is)))
+
+    left_at : (job : ℕ) (p : Place) (x y : List Entry) (e : Entry) → log ≡ x ++ e ∷ y → p.column < t.data_columns → SaysLeft job p e
         → IsInVain (replayed t x) job p e × (is_live (slot_at (replayed t x) p.stripe p.column) ≡ false)
-    left_at job p x y e parts says =
+    left_at job p x y e parts is_data says =
         let leads = its_log in
         let replays : Replays t (x ++ e ∷ y) leads.0 = subst (λ l. Replays t l leads.0) parts leads.1 in
         by (table_at t x (e ∷ y) leads.0 rules.rules replays) (legal_at t x y e leads.0 replays) says
@@ -177,10 +190,13 @@ module _ (told : Type 0) (seed : List ℕ) (first last : Contents) (meant means 
         by : IsTable u → Legal u e → SaysLeft job p e → IsInVain u job p e × (is_live (slot_at u p.stripe p.column) ≡ false)
         by table legal (inl (o, stuck)) =
             let here : Legal u (entry.Stuck job p.stripe p.column o) = subst (λ z. Legal u z) stuck legal in
-            (inl ((o, stuck), stuck_past u p.stripe p.column o here.0.1 here.1 here.3), unsound_dead (slot_at u p.stripe p.column) here.1)
+            ((inl (o, stuck), stuck_past u p.stripe p.column o here.0.1 here.1 here.3), unsound_dead (slot_at u p.stripe p.column) here.1)
         by table legal (inr (f, oddly)) =
             let here : Legal u (entry.Oddly job p.stripe p.column f) = subst (λ z. Legal u z) oddly legal in
-            (inr (f, oddly), unsound_dead (slot_at u p.stripe p.column) (target_unsound u p.stripe p.column None (relay_at u p.stripe) table refl here.1))
+            let broken = odd_broken job p.stripe p.column f x y (parts ∙ ap (λ z. x ++ z ∷ y) oddly) is_data in (
+              (inr (f, oddly), broken_past u p.stripe p.column here.0.1 broken),
+              unsound_dead (slot_at u p.stripe p.column) (target_unsound u p.stripe p.column None (relay_at u p.stripe) table refl here.1),
+            )
 
   module _ (job : ℕ) (name : List ℕ) (piece fragment have need : ℕ) (w : Section) (some : 0 < job) (begin : BeginWith w last.group_logs) (swaps : SwapsNone w)
       (lost : IsLost (setting_of seed first) job name piece fragment have need w) (room : FitsRack first.rack lost.kept) where
@@ -215,7 +231,7 @@ module _ (told : Type 0) (seed : List ℕ) (first last : Contents) (meant means 
           let more = begin p.group log is_log in
           let parts : log ≡ (w.before p.group ++ cut.0) ++ e ∷ (cut.1 ++ more.0) =
           more.1 ∙ (ap (λ l. (w.before p.group ++ l) ++ more.0) cut.2 ∙ split (w.before p.group) cut.0 cut.1 more.0 e) in
-          let it = left_at p.group t log is_table is_log job p (w.before p.group ++ cut.0) (cut.1 ++ more.0) e parts (says e holds) in (
+          let it = left_at p.group t log is_table is_log job p (w.before p.group ++ cut.0) (cut.1 ++ more.0) e parts is_data (says e holds) in (
             cut.0,
             e,
             cut.1,

@@ -61,12 +61,13 @@ abbrev pub IsPastMending : Table → ℕ → Type 0
 IsPastMending t s =
     IsSome (first t s is_broken) ⊎ (t.parity < count (width t) (λ k. is_lost (slot_at t s k)))
 
--- no relay could begin at the place, whose stripe is past mending; or its relay came to a block of
--- another digest
+-- no relay could begin at the place, or its relay came to a block of another digest; and the stripe
+-- is past mending
 abbrev pub IsInVain : Table → ℕ → Place → Entry → Type 0
 IsInVain t job p e =
-    (((o : ℕ) × (e ≡ Stuck job p.stripe p.column o)) × IsPastMending t p.stripe)
-    ⊎ ((f : Digest) × (e ≡ Oddly job p.stripe p.column f))
+    (((o : ℕ) × (e ≡ Stuck job p.stripe p.column o))
+    ⊎ ((f : Digest) × (e ≡ Oddly job p.stripe p.column f)))
+    × IsPastMending t p.stripe
 
 -- the job's last entry in the group of a place says so, and in the table before it the slot is not
 -- Live
