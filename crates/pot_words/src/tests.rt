@@ -242,54 +242,39 @@ fn generate(rt: HostRuntime) -> Result<(), Fail> {
     Ok(())
 }
 
+// A recovery from so many archives.
+fn recovery(archives: u32, stripes: u32, blur: u8, robust: bool) -> Recover {
+    Recover {
+        archives,
+        stripes,
+        blur,
+        robust,
+    }
+}
+
 #[test]
 fn recover(rt: HostRuntime) -> Result<(), Fail> {
     let alloc = rt.alloc();
     let good: [(&str, Recover); 5] = [
         (
             "recover --archives 20 --stripes 16 --blur 16",
-            Recover {
-                archives: 20,
-                stripes: 16,
-                blur: 16,
-                robust: false,
-            },
+            recovery(20, 16, 16, false),
         ),
         (
             "recover --blur=0 --archives=1 --stripes=1",
-            Recover {
-                archives: 1,
-                stripes: 1,
-                blur: 0,
-                robust: false,
-            },
+            recovery(1, 1, 0, false),
         ),
         (
             "recover --stripes 4096 --blur 63 --archives=512",
-            Recover {
-                archives: 512,
-                stripes: 4096,
-                blur: 63,
-                robust: false,
-            },
+            recovery(512, 4096, 63, false),
         ),
         (
             "recover --archives 20 --stripes 16 --blur 16 --robust yes",
-            Recover {
-                archives: 20,
-                stripes: 16,
-                blur: 16,
-                robust: true,
-            },
+            recovery(20, 16, 16, true),
         ),
         (
             "recover --robust no --archives 20 --stripes 16 --blur 16",
-            Recover {
-                archives: 20,
-                stripes: 16,
-                blur: 16,
-                robust: false,
-            },
+            recovery(20, 16, 16, false),
         ),
     ];
     for (line, wanted) in good {
