@@ -1,5 +1,6 @@
 -- A split that ends.
-use Rattle.std.specs.Prelude.{◌≡◌, ◌<◌, ◌++◌, ℕ, Bool, true, false, List, [], ◌∷◌, Option, Some, None, IsSomeAnd, Result, Ok, Err, length}
+use Rattle.std.specs.Prelude.{◌≡◌, ◌<◌, ◌++◌, ℕ, Bool, true, false, List, [], ◌∷◌, Option, Some}
+use Rattle.std.specs.Prelude.{None, IsSomeAnd, Result, Ok, Err, length}
 use Rattle.std.specs.declared.snapshot.Snapshot.{Snapshot}
 use Rattle.pot_index.specs.declared.entry.IndexEntry.TheVariants as entry
 use Rattle.pot_index.specs.declared.entry.Logged.{Logged}
@@ -16,33 +17,52 @@ use Rattle.pot_actors.specs.Ledgers.{index_of, names_of}
 use Rattle.pot_actors.specs.Worlds.{split_values}
 
 -- the split ended by an entry
-abbrev pub EndsBy : Logged → Ledger → List (Snapshot OpenSplit) → UnderWay → Ledger → List (Snapshot OpenSplit) → Type 0
-EndsBy x old ended u new ended' = (index_of new ≡ logged (index_of old) x) × (split_values ended' ≡ split_values ended ++ u ∷ [])
+abbrev pub EndsBy : Logged → Ledger → List (Snapshot OpenSplit) → UnderWay → Ledger
+    → List (Snapshot OpenSplit) → Type 0
+EndsBy x old ended u new ended' =
+    (index_of new ≡ logged (index_of old) x) × (split_values ended' ≡ split_values ended ++ u ∷ [])
 
 -- The split ended by an entry; or memory was not found, and all is as before.
-abbrev pub Ends : {E : Type 0} → Logged → Ledger → List (Snapshot OpenSplit) → UnderWay → Ledger → List (Snapshot OpenSplit) → Result (Unit {0}) E → Type 0
+abbrev pub Ends : {E : Type 0} → Logged → Ledger → List (Snapshot OpenSplit) → UnderWay → Ledger
+    → List (Snapshot OpenSplit) → Result (Unit {0}) E → Type 0
 Ends x old ended u new ended' (Ok y) = EndsBy x old ended u new ended'
-Ends x old ended u new ended' (Err e) = (index_of new ≡ index_of old) × (split_values ended' ≡ split_values ended)
+Ends x old ended u new ended' (Err e) =
+    (index_of new ≡ index_of old) × (split_values ended' ≡ split_values ended)
 
 -- the record gained the split
-abbrev pub Renews : {E : Type 0} → ℕ → Record → Ledger → List (Snapshot OpenSplit) → UnderWay → Ledger → List (Snapshot OpenSplit) → Result (Unit {0}) E → Type 0
-Renews a r old ended u new ended' result = Ends (bringing (entry.Renew a u.name (mark_of (renewed r (split_of u)))) (renewed r (split_of u))) old ended u new ended' result
+abbrev pub Renews : {E : Type 0} → ℕ → Record → Ledger → List (Snapshot OpenSplit) → UnderWay
+    → Ledger → List (Snapshot OpenSplit) → Result (Unit {0}) E → Type 0
+Renews a r old ended u new ended' result =
+    Ends (bringing (entry.Renew a u.name (mark_of (renewed r (split_of u))))
+    (renewed r (split_of u))) old ended u new ended' result
 
 -- all blocks were put, and the record that a renewal is of has fewer than 16 splits
 abbrev pub MayPublish : Names → UnderWay → Type 0
-MayPublish now u = (length u.places ≡ length (blocks_of u)) × (u.renews ≡ true → IsSomeAnd (record_of now u.name) (λ r. length r.older < 15))
+MayPublish now u =
+    (length u.places ≡ length (blocks_of u))
+    × (u.renews ≡ true → IsSomeAnd (record_of now u.name) (λ r. length r.older < 15))
 
 -- a store ends by a record, and a renewal by a split of the record of its name
-abbrev pub EndsAs : Bool → Option Record → ℕ → Ledger → List (Snapshot OpenSplit) → UnderWay → Ledger → List (Snapshot OpenSplit) → Type 0
-EndsAs false o a old ended u new ended' = EndsBy (bringing (entry.Publish a u.name (mark_of (record_made u))) (record_made u)) old ended u new ended'
+abbrev pub EndsAs : Bool → Option Record → ℕ → Ledger → List (Snapshot OpenSplit) → UnderWay
+    → Ledger → List (Snapshot OpenSplit) → Type 0
+EndsAs false o a old ended u new ended' =
+    EndsBy (bringing (entry.Publish a u.name (mark_of (record_made u))) (record_made u)) old ended u
+    new ended'
 EndsAs true None a old ended u new ended' = ⊥
-EndsAs true (Some r) a old ended u new ended' = EndsBy (bringing (entry.Renew a u.name (mark_of (renewed r (split_of u)))) (renewed r (split_of u))) old ended u new ended'
+EndsAs true (Some r) a old ended u new ended' =
+    EndsBy (bringing (entry.Renew a u.name (mark_of (renewed r (split_of u))))
+    (renewed r (split_of u))) old ended u new ended'
 
 abbrev pub Stays : Ledger → List (Snapshot OpenSplit) → Ledger → List (Snapshot OpenSplit) → Type 0
-Stays old ended new ended' = (index_of new ≡ index_of old) × (split_values ended' ≡ split_values ended)
+Stays old ended new ended' =
+    (index_of new ≡ index_of old) × (split_values ended' ≡ split_values ended)
 
 -- The split was published; or it may not be, or memory was not found, and all is as before.
-abbrev pub Publishes : ℕ → Ledger → List (Snapshot OpenSplit) → UnderWay → Ledger → List (Snapshot OpenSplit) → Result (Unit {0}) ActFault → Type 0
-Publishes a old ended u new ended' (Ok x) = MayPublish (names_of old) u × EndsAs u.renews (record_of (names_of old) u.name) a old ended u new ended'
-Publishes a old ended u new ended' (Err act_fault.NotAllowed) = (¬ MayPublish (names_of old) u) × Stays old ended new ended'
+abbrev pub Publishes : ℕ → Ledger → List (Snapshot OpenSplit) → UnderWay → Ledger
+    → List (Snapshot OpenSplit) → Result (Unit {0}) ActFault → Type 0
+Publishes a old ended u new ended' (Ok x) =
+    MayPublish (names_of old) u
+    × EndsAs u.renews (record_of (names_of old) u.name) a old ended u new ended'
+Publishes a old ended u new ended' (Err act_fault.NotAllowed) =
+    (¬ MayPublish (names_of old) u) × Stays old ended new ended'
 Publishes a old ended u new ended' (Err act_fault.NoMemory) = Stays old ended new ended'

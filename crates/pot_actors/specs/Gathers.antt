@@ -18,14 +18,17 @@ gathered_by false gathered place block = gathered
 -- this is gathered with the block of a place, and the file is what it gives
 abbrev pub GathersTo : SeatData → Place → Option (List ℕ) → Gathering → Type 0
 GathersTo s place block g =
-    (g.gathered.items ≡ gathered_by (is_wanted s.found place) s.gathered place block) × IsTold s.found g.gathered.items g.file
+    (g.gathered.items ≡ gathered_by (is_wanted s.found place) s.gathered place block)
+    × IsTold s.found g.gathered.items g.file
 
 -- a record of this name was found
 abbrev pub FoundOf : List ℕ → Option Record → Type 0
 FoundOf name None = ⊥
 FoundOf name (Some r) = r.name ≡ name
 
--- The file that was gathered of a record of this name; none where none of this name was found, or it is not gathered.
+-- The file that was gathered of a record of this name; none where none of this name was found, or
+-- it is not gathered.
 abbrev pub IsFetchedOf : List ℕ → SeatData → Option (List ℕ) → Type 0
 IsFetchedOf name s None = FoundOf name s.found → ¬ HasAll s.found s.gathered
-IsFetchedOf name s (Some file) = FoundOf name s.found × (s.file ≡ Some file) × IsTold s.found s.gathered s.file
+IsFetchedOf name s (Some file) =
+    FoundOf name s.found × (s.file ≡ Some file) × IsTold s.found s.gathered s.file

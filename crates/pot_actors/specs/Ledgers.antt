@@ -15,7 +15,8 @@ names_of l = record { published = l.records.items; reserved = l.reserved.items }
 abbrev pub index_of : Ledger → IndexView
 index_of l = record { rack = l.rack; read = []; now = names_of l; log = map logged_of l.log.items }
 
--- The entry was logged, and did to the names what it does; or memory was not found, and all is as before.
+-- The entry was logged, and did to the names what it does; or memory was not found, and all is as
+-- before.
 abbrev pub Logs : {E : Type 0} → Logged → Ledger → Ledger → Result (Unit {0}) E → Type 0
 Logs x old new (Ok u) = index_of new ≡ logged (index_of old) x
 Logs x old new (Err e) = index_of new ≡ index_of old

@@ -1,5 +1,7 @@
--- The actors as a program has them: a list, each with its number. Who is not in it has nothing under way and found nothing.
-use Rattle.std.specs.Prelude.{◌≡◌, ℕ, suc, zero, ◌==◌, Bool, false, List, [], ◌∷◌, Option, Some, None, IsSomeAnd, if◌then◌else◌, option_map}
+-- The actors as a program has them: a list, each with its number. Who is not in it has nothing
+-- under way and found nothing.
+use Rattle.std.specs.Prelude.{◌≡◌, ℕ, suc, zero, ◌==◌, Bool, false, List, [], ◌∷◌, Option, Some}
+use Rattle.std.specs.Prelude.{None, IsSomeAnd, if◌then◌else◌, option_map}
 use Rattle.pot_index.specs.declared.record.Record.{Record}
 use Rattle.pot_world.specs.World.{Actor, Gathered, HasGathered}
 use Rattle.pot_world.specs.Worlds.{Gives}
@@ -14,7 +16,8 @@ pub record SeatData : Type 0 where
   pub file : Option (List ℕ)
 
 abbrev pub actor_of : SeatData → Actor
-actor_of s = record { under_way = option_map under_way_of s.split; found = s.found; gathered = s.gathered }
+actor_of s =
+    record { under_way = option_map under_way_of s.split; found = s.found; gathered = s.gathered }
 
 abbrev pub no_actor : Actor
 no_actor = record { under_way = None; found = None; gathered = [] }

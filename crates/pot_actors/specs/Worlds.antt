@@ -1,5 +1,6 @@
 -- The world that a program has.
-use Rattle.std.specs.Prelude.{◌≡◌, ℕ, Bool, true, false, List, [], ◌∷◌, ◌++◌, Vec, map, if◌then◌else◌}
+use Rattle.std.specs.Prelude.{◌≡◌, ℕ, Bool, true, false, List, [], ◌∷◌, ◌++◌, Vec, map}
+use Rattle.std.specs.Prelude.{if◌then◌else◌}
 use Rattle.std.specs.Global.{Global}
 use Rattle.std.specs.declared.snapshot.Snapshot.{Snapshot}
 use Rattle.pot_bytes.specs.declared.rack.Rack.{Rack}
@@ -18,7 +19,8 @@ use Rattle.pot_actors.specs.Splits.{under_way_of}
 abbrev pub split_values : List (Snapshot OpenSplit) → List UnderWay
 split_values ss = map (λ s. under_way_of s.value) ss
 
--- what a name has once a split is published: a store begins it anew, and a renewal adds its random bytes
+-- what a name has once a split is published: a store begins it anew, and a renewal adds its random
+-- bytes
 abbrev pub ended_by : Bool → UnderWay → Original → Original
 ended_by false u o = record { file = u.file; randoms = u.random ∷ [] }
 ended_by true u o = record o { randoms = o.randoms ++ u.random ∷ [] }

@@ -81,7 +81,8 @@ impl Parts {
         random: &Bytes,
     ) -> Result<(), ActFault>
         requires { IsReached (world_of self.old) }
-        ensures { Steps (step.Renew actor name.now geometry.now random.now) self.old self.new result }
+        ensures { Steps (step.Renew actor name.now geometry.now random.now) self.old self.new
+            result }
     {
         let Ok(at) = take_seat(alloc, &mut self.seats, actor) else {
             return Err(ActFault::NoMemory);

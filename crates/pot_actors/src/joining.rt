@@ -1,10 +1,12 @@
 //! What gathered blocks give.
-ghost use Rattle.std.specs.Prelude.{◌≡◌, ◌<◌, ◌≤◌, ◌+◌, ◌++◌, [], Some, length, nat_eq, nat_lt, vec_capacity, vec_len, IfOk, MatchBool};
+ghost use Rattle.std.specs.Prelude.{◌≡◌, ◌<◌, ◌≤◌, ◌+◌, ◌++◌, [], Some, length, nat_eq, nat_lt};
+ghost use Rattle.std.specs.Prelude.{vec_capacity, vec_len, IfOk, MatchBool};
 ghost use Rattle.std.specs.List.{All, IsDistinct};
 ghost use Rattle.pot_object.specs.Pieces.{pieces_of};
 ghost use Rattle.pot_split.specs.Threshold.{IsJoin};
 ghost use Rattle.pot_world.specs.World.{FragmentGathered, same_place};
-ghost use Rattle.pot_actors.specs.Joins.{FragmentJoined, IsReadable, PieceGathered, PieceJoined, gathered_at, shared_to, with_point};
+ghost use Rattle.pot_actors.specs.Joins.{FragmentJoined, IsReadable, PieceGathered, PieceJoined};
+ghost use Rattle.pot_actors.specs.Joins.{gathered_at, shared_to, with_point};
 ghost use Rattle.pot_actors.specs.Seats.{IsTold};
 
 use crate::split::Reading;
@@ -70,7 +72,8 @@ impl Shares {
     /// The share of a point in its block, if more are needed and there is one.
     fn keep(&mut self, need: u8, point: u8, block: &Option<Block>)
         requires { need ≤ 16 }
-        ensures { self.new ≡ with_point (nat_lt (length self.old.points) need) point block.now self.old }
+        ensures { self.new
+            ≡ with_point (nat_lt (length self.old.points) need) point block.now self.old }
     {
         if self.points.len() >= usize::from(need) {
             return;
@@ -140,7 +143,8 @@ fn join_fragment(
     requires readable { IsReadable kept.now }
     requires piece { piece < pieces_of kept.now.length }
     requires fragment { fragment < kept.now.geometry.fragments }
-    ensures { MatchBool result (FragmentJoined kept.now gathered.now piece fragment content.new) (¬ FragmentGathered kept.now gathered.now piece fragment) }
+    ensures { MatchBool result (FragmentJoined kept.now gathered.now piece fragment content.new)
+        (¬ FragmentGathered kept.now gathered.now piece fragment) }
 {
     see_fragment(kept, gathered, piece, fragment, shares);
     if shares.count() < usize::from(kept.geometry.need) {
@@ -162,7 +166,8 @@ fn join_piece(
     requires readable { IsReadable kept.now }
     requires piece { piece < pieces_of kept.now.length }
     requires room { 7424 ≤ vec_capacity fragments.old }
-    ensures joined { MatchBool result (PieceJoined kept.now gathered.now piece object.new) (¬ PieceGathered kept.now gathered.now piece) }
+    ensures joined { MatchBool result (PieceJoined kept.now gathered.now piece object.new)
+        (¬ PieceGathered kept.now gathered.now piece) }
     ensures room { 7424 ≤ vec_capacity fragments.new }
 {
     fragments.clear();

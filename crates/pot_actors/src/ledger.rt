@@ -151,7 +151,8 @@ impl Ledger {
         requires ascends { Ascends self.old.records.items }
         requires free { ¬ IsPublished (names_of self.old) kept.name }
         requires marked { mark ≡ mark_of kept }
-        ensures { Logs (bringing (entry.Publish job kept.name (mark_of kept)) kept) self.old self.new result }
+        ensures { Logs (bringing (entry.Publish job kept.name (mark_of kept)) kept) self.old
+            self.new result }
     {
         let Err(at) = place_of(&self.records, &kept.name) else {
             unreachable!()
@@ -182,7 +183,8 @@ impl Ledger {
         requires ascends { Ascends self.old.records.items }
         requires stands { StandsAt self.old.records.items kept.name at }
         requires marked { mark ≡ mark_of kept }
-        ensures { Logs (bringing (entry.Renew job kept.name (mark_of kept)) kept) self.old self.new result }
+        ensures { Logs (bringing (entry.Renew job kept.name (mark_of kept)) kept) self.old self.new
+            result }
     {
         self.log.reserve(1)?;
         let name = kept.name;

@@ -84,7 +84,9 @@ fn publish_store(
 ) -> Result<(), NoMemory>
     requires ascends { Ascends names.old.records.items }
     requires free { ¬ IsPublished (names_of names.old) split.now.name }
-    ensures { Ends (bringing (entry.Publish actor split.now.name (mark_of (record_made (under_way_of split.now)))) (record_made (under_way_of split.now))) names.old ended.old.items (under_way_of split.now) names.new ended.new.items result }
+    ensures { Ends (bringing (entry.Publish actor split.now.name
+        (mark_of (record_made (under_way_of split.now)))) (record_made (under_way_of split.now)))
+        names.old ended.old.items (under_way_of split.now) names.new ended.new.items result }
 {
     let kept = record_made(alloc, split)?;
     let mark = mark_of(alloc, &kept)?;
@@ -106,7 +108,9 @@ fn publish_renewal(
     requires ascends { Ascends names.old.records.items }
     requires stands { StandsAt names.old.records.items split.now.name at }
     requires few { (d : Record) → length (slice_index_or names.old.records.items at d).older < 15 }
-    ensures { (d : Record) → Renews actor (slice_index_or names.old.records.items at d) names.old ended.old.items (under_way_of split.now) names.new ended.new.items result }
+    ensures { (d : Record)
+        → Renews actor (slice_index_or names.old.records.items at d) names.old ended.old.items
+        (under_way_of split.now) names.new ended.new.items result }
 {
     let kept = renewed(alloc, &names.records[at], split)?;
     let mark = mark_of(alloc, &kept)?;
@@ -127,7 +131,8 @@ fn publish(
     requires store { IsStore split.now.geometry split.now.file split.now.random }
     requires ascends { Ascends names.old.records.items }
     requires free { split.now.renews ≡ false → ¬ IsPublished (names_of names.old) split.now.name }
-    ensures { Publishes actor names.old ended.old.items (under_way_of split.now) names.new ended.new.items result }
+    ensures { Publishes actor names.old ended.old.items (under_way_of split.now) names.new
+        ended.new.items result }
 {
     if split.places.len() != count_blocks(split) {
         return Err(ActFault::NotAllowed);

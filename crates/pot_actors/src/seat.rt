@@ -1,5 +1,6 @@
 //! The actors.
-ghost use Rattle.std.specs.Prelude.{◌≡◌, ◌==◌, ◌++◌, Some, None, IfOk, IfSome, OnOk, is_some, option_copied, []};
+ghost use Rattle.std.specs.Prelude.{◌≡◌, ◌==◌, ◌++◌, Some, None, IfOk, IfSome, OnOk, is_some};
+ghost use Rattle.std.specs.Prelude.{option_copied, []};
 ghost use Rattle.std.specs.List.{list_any, position};
 ghost use Rattle.pot_world.specs.World.{is_wanted, same_place};
 ghost use Rattle.pot_actors.specs.Gathers.{GathersTo, IsFetchedOf, gathered_from};
@@ -38,7 +39,8 @@ impl Model for Seat {
 impl Seat {
     /// An actor that did nothing yet.
     fn new(alloc: Global, number: u32) -> Seat
-        ensures { result ≡ record { number = number; split = None; found = None; gathered = []; file = None } }
+        ensures { result
+            ≡ record { number = number; split = None; found = None; gathered = []; file = None } }
     {
         Seat {
             number,
@@ -169,7 +171,8 @@ fn is_one_of(places: &[Place], place: &Place) -> bool
 
 /// A block is gathered, if there is one.
 fn keep(gathered: &mut Vec<Reading>, place: &Place, block: &Option<Block>) -> Result<(), NoMemory>
-    ensures { OnOk result (gathered.new.items ≡ gathered.old.items ++ gathered_from place.now block.now) }
+    ensures { OnOk result
+        (gathered.new.items ≡ gathered.old.items ++ gathered_from place.now block.now) }
 {
     if let Some(block) = block {
         gathered.reserve(1)?;

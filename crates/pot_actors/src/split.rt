@@ -44,7 +44,8 @@ impl OpenSplit {
         geometry: Geometry,
         random: &Bytes,
     ) -> Result<OpenSplit, NoMemory>
-        ensures { IfOk result (λ u. under_way_of u ≡ store_begun name.now file.now geometry random.now) }
+        ensures { IfOk result
+            (λ u. under_way_of u ≡ store_begun name.now file.now geometry random.now) }
     {
         Ok(OpenSplit {
             name: *name,
@@ -64,7 +65,8 @@ impl OpenSplit {
         geometry: Geometry,
         random: &Bytes,
     ) -> Result<OpenSplit, NoMemory>
-        ensures { IfOk result (λ u. under_way_of u ≡ renewal_begun name.now file.now geometry random.now) }
+        ensures { IfOk result
+            (λ u. under_way_of u ≡ renewal_begun name.now file.now geometry random.now) }
     {
         Ok(OpenSplit {
             name: *name,

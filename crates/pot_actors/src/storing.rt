@@ -42,7 +42,8 @@ fn put_next(
     requires store { IsStore split.old.geometry split.old.file split.old.random }
     requires rack { IsRack rack.now }
     requires all { length groups.old.groups ≡ rack.now.groups }
-    ensures { PutsNext rack.now actor groups.old (under_way_of split.old) groups.new (under_way_of split.new) result }
+    ensures { PutsNext rack.now actor groups.old (under_way_of split.old) groups.new
+        (under_way_of split.new) result }
 {
     let at = split.places.len();
     if at >= count_blocks(split) {

@@ -1,5 +1,6 @@
 -- Which points of a split are exposed to a coalition of columns.
-use Rattle.std.specs.Prelude.{◌≡◌, ◌<◌, ◌⊎◌, ℕ, ◌+◌, ◌==◌, ◌&&◌, ◌||◌, Bool, nat_le, List, All, AllPairs, length, filter}
+use Rattle.std.specs.Prelude.{◌≡◌, ◌<◌, ◌⊎◌, ℕ, ◌+◌, ◌==◌, ◌&&◌, ◌||◌, Bool, nat_le, List, All}
+use Rattle.std.specs.Prelude.{AllPairs, length, filter}
 use Rattle.std.specs.List.{list_any}
 use Rattle.pot_bytes.specs.declared.rack.Rack.{Rack}
 use Rattle.pot_index.specs.declared.record.Split.{Split}
@@ -23,7 +24,8 @@ has_column spots n c = list_any (λ s. (s.group == n) && (s.column == c)) spots
 -- A group is open to a coalition that has two of its columns, or a parity column.
 abbrev pub is_open : Rack → List Spot → ℕ → Bool
 is_open rack spots n =
-    nat_le 2 (length (filter (λ s. s.group == n) spots)) || list_any (λ s. (s.group == n) && nat_le rack.columns s.column) spots
+    nat_le 2 (length (filter (λ s. s.group == n) spots))
+    || list_any (λ s. (s.group == n) && nat_le rack.columns s.column) spots
 
 -- A block is exposed where its group is open, or its column is the coalition's.
 abbrev pub is_exposed : Rack → List Spot → ℕ → ℕ → Bool
@@ -32,7 +34,8 @@ is_exposed rack spots n c = is_open rack spots n || has_column spots n c
 -- whether point p of fragment j of piece i is exposed, all from 0
 abbrev pub is_exposed_at : Rack → List Spot → Split → ℕ → ℕ → ℕ → Bool
 is_exposed_at rack spots s i j p =
-    is_exposed rack spots (place_at s.geometry s.places i j p).group (place_at s.geometry s.places i j p).column
+    is_exposed rack spots (place_at s.geometry s.places i j p).group
+    (place_at s.geometry s.places i j p).column
 
 -- how many points of a fragment are exposed
 abbrev pub exposed_points : Rack → List Spot → Split → ℕ → ℕ → ℕ

@@ -16,21 +16,27 @@ pub record IsLeastOf (f : ℕ → ℕ) (k n value : ℕ) : Type 0 where
   pub fewest : (j : ℕ) → j < k → value ≤ f j
   pub first : (j : ℕ) → j + 1 < n → value < f j
 
--- The veil of piece i of a split with this number: the first fragment, from 1, of those that have the fewest exposed points.
-pub record IsVeil (rack : Rack) (spots : List Spot) (s : Split) (number i : ℕ) (v : Veil) : Type 0 where
+-- The veil of piece i of a split with this number: the first fragment, from 1, of those that have
+-- the fewest exposed points.
+pub record IsVeil (rack : Rack) (spots : List Spot) (s : Split) (number i : ℕ) (v : Veil) : Type
+    0 where
   pub split : v.split ≡ number
   pub piece : v.piece ≡ i
   pub least : IsLeastOf (exposed_points rack spots s i) s.geometry.fragments v.fragment v.have
   pub need : v.need ≡ s.geometry.need
 
 -- The veils of a record: one for each split, the oldest first, and piece.
-pub record AreVeils (rack : Rack) (spots : List Spot) (r : Record) (veils : List Veil) : Type 0 where
+pub record AreVeils (rack : Rack) (spots : List Spot) (r : Record) (veils : List Veil) : Type
+    0 where
   pub count : length veils ≡ length (splits_of r) * pieces_of r.length
-  pub each : (n i : ℕ) (s : Split) (v : Veil) → slice_get (splits_of r) n ≡ Some s → i < pieces_of r.length → slice_get veils (n * pieces_of r.length + i) ≡ Some v
+  pub each : (n i : ℕ) (s : Split) (v : Veil) → slice_get (splits_of r) n ≡ Some s
+      → i < pieces_of r.length → slice_get veils (n * pieces_of r.length + i) ≡ Some v
       → IsVeil rack spots s n i v
 
 -- with the veils of the pieces of one more split
-pub record AddsVeils (rack : Rack) (spots : List Spot) (s : Split) (number pieces : ℕ) (old new : List Veil) : Type 0 where
+pub record AddsVeils (rack : Rack) (spots : List Spot) (s : Split) (number pieces : ℕ)
+    (old new : List Veil) : Type 0 where
   pub count : length new ≡ length old + pieces
   pub kept : (b : ℕ) → b < length old → slice_get new b ≡ slice_get old b
-  pub added : (i : ℕ) (v : Veil) → i < pieces → slice_get new (length old + i) ≡ Some v → IsVeil rack spots s number i v
+  pub added : (i : ℕ) (v : Veil) → i < pieces → slice_get new (length old + i) ≡ Some v
+      → IsVeil rack spots s number i v

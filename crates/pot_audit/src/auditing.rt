@@ -22,7 +22,8 @@ fn veil_of(
     piece: u32,
 ) -> Veil
     requires geometry { IsGeometry geometry.now }
-    requires piece { (piece + 1) * geometry.now.fragments * geometry.now.shards ≤ length places.now }
+    requires piece { (piece + 1) * geometry.now.fragments * geometry.now.shards
+        ≤ length places.now }
     ensures { IsVeil coalition.now.rack.now coalition.now.spots.now
         (record { geometry = geometry.now; places = places.now }) split piece result }
 {

@@ -51,7 +51,8 @@ impl Coalition<'_> {
 
     /// Whether a block at this place is exposed.
     fn is_exposed(&self, place: Place) -> bool
-        ensures { result ≡ is_exposed self.now.rack.now self.now.spots.now place.group place.column }
+        ensures { result
+            ≡ is_exposed self.now.rack.now self.now.spots.now place.group place.column }
     {
         self.is_open(place.group) || self.has_column(place.group, place.column)
     }
@@ -65,7 +66,8 @@ impl Coalition<'_> {
         fragment: u8,
     ) -> u8
         requires geometry { IsGeometry geometry.now }
-        requires piece { (piece * geometry.now.fragments + fragment + 1) * geometry.now.shards ≤ length places.now }
+        requires piece { (piece * geometry.now.fragments + fragment + 1) * geometry.now.shards
+            ≤ length places.now }
         ensures { result ≡ exposed_points self.now.rack.now self.now.spots.now
             (record { geometry = geometry.now; places = places.now }) piece fragment }
     {

@@ -1,11 +1,14 @@
 -- The names of stored files.
-use Rattle.std.specs.Prelude.{◌≡◌, ◌≤◌, ◌-◌, ◌++◌, ◌||◌, ◌&&◌, ◌==◌, ℕ, List, Bool, length, take, drop, replicate, nat_le, IsTrue, All}
+use Rattle.std.specs.Prelude.{◌≡◌, ◌≤◌, ◌-◌, ◌++◌, ◌||◌, ◌&&◌, ◌==◌, ℕ, List, Bool, length, take}
+use Rattle.std.specs.Prelude.{drop, replicate, nat_le, IsTrue, All}
 use Rattle.std.proofs.Common.{arith}
 use Rattle.std.proofs.lemmas.List.{length-take-le, take-append-drop}
 
 -- a byte of a name: a letter of `a-z`, a digit, a point, a low line or a dash
 abbrev pub is_name_byte : ℕ → Bool
-is_name_byte b = (nat_le 97 b && nat_le b 122) || (nat_le 48 b && nat_le b 57) || (b == 46) || (b == 95) || (b == 45)
+is_name_byte b =
+    (nat_le 97 b && nat_le b 122) || (nat_le 48 b && nat_le b 57) || (b == 46) || (b == 95)
+    || (b == 45)
 
 -- 1 to 64 bytes of a name
 pub record IsName (bytes : List ℕ) : Type 0 where
@@ -21,7 +24,8 @@ pub record IsPadded (count : ℕ) (kept : List ℕ) : Type 0 where
   pub zeros : drop count kept ≡ replicate (64 - count) 0
 
 -- what is kept is the name and the zeros
-pub padded-count : (count : ℕ) (kept : List ℕ) → IsPadded count kept → length (take count kept) ≡ count
+pub padded-count : (count : ℕ) (kept : List ℕ) → IsPadded count kept
+    → length (take count kept) ≡ count
 padded-count count kept p = length-take-le count kept (omega (arith, p.whole, p.fits))
 
 pub padded-bytes : (count : ℕ) (kept : List ℕ) → IsPadded count kept

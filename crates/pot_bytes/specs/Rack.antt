@@ -4,7 +4,8 @@ use Rattle.pot_bytes.specs.declared.rack.Geometry.{Geometry}
 use Rattle.pot_bytes.specs.declared.rack.Place.{Place}
 use Rattle.pot_bytes.specs.declared.rack.Rack.{Rack}
 
--- 2 to 8 fragments, a threshold of 1 to the number of shards, at most 16 shards, and a blur of at most 63 bits
+-- 2 to 8 fragments, a threshold of 1 to the number of shards, at most 16 shards, and a blur of at
+-- most 63 bits
 pub record IsGeometry (g : Geometry) : Type 0 where
   pub fragments : (2 ≤ g.fragments) × (g.fragments ≤ 8)
   pub need : (1 ≤ g.need) × (g.need ≤ g.shards)
@@ -16,8 +17,8 @@ pub record FitsIn (groups : ℕ) (g : Geometry) : Type 0 where
   pub geometry : IsGeometry g
   pub apart : g.shards ≤ groups
 
--- a geometry within its limits, at least as many groups as shards and at most 16, 1 to 16 data columns, one or two
--- parity columns, and 1 to 4,096 stripes
+-- a geometry within its limits, at least as many groups as shards and at most 16, 1 to 16 data
+-- columns, one or two parity columns, and 1 to 4,096 stripes
 pub record IsRack (r : Rack) : Type 0 where
   pub geometry : IsGeometry r.geometry
   pub groups : (r.geometry.shards ≤ r.groups) × (r.groups ≤ 16)

@@ -28,7 +28,8 @@ pub record WeightedLaws : Type 0 where
   pub sum_lists : (n : ℕ) (ws : List ℕ) (cs bs : List (List ℕ)) → length cs ≡ length bs
       → weighted_sum n ws (zip2 xor cs bs) ≡ xor (weighted_sum n ws cs) (weighted_sum n ws bs)
   -- a summand that changes from `old` to `new` changes the sum by its weight times their XOR
-  pub changed : (n : ℕ) (vs : List ℕ) (w : ℕ) (ws : List ℕ) (before after : List (List ℕ)) (old new : List ℕ)
+  pub changed : (n : ℕ) (vs : List ℕ) (w : ℕ) (ws : List ℕ) (before after : List (List ℕ))
+      (old new : List ℕ)
       → length vs ≡ length before → length new ≤ length old
       → weighted_sum n (vs ++ w ∷ ws) (before ++ new ∷ after)
       ≡ xor (weighted_sum n (vs ++ w ∷ ws) (before ++ old ∷ after)) (scaled w (xor old new))

@@ -1,4 +1,5 @@
-ghost use Rattle.std.specs.Prelude.{◌≡◌, ◌↔◌, ◌==◌, ◌≤◌, ◌++◌, drop, List, ℕ, length, IsTrue, MatchOption};
+ghost use Rattle.std.specs.Prelude.{◌≡◌, ◌↔◌, ◌==◌, ◌≤◌, ◌++◌, drop, List, ℕ, length, IsTrue};
+ghost use Rattle.std.specs.Prelude.{MatchOption};
 ghost use Rattle.std.specs.Cmp.Lexicographic.{pointwise, slice_cmp};
 ghost use Rattle.std.specs.Cmp.{partial_order_from_own_ties};
 ghost use Rattle.std.specs.Cmp.Rules.{comparing};
@@ -38,7 +39,8 @@ impl Model for Name {
 impl Name {
     /// The name of these bytes. None exactly where they are no name.
     pub fn read(bytes: &[u8]) -> Option<Name>
-        ensures { MatchOption result (¬ IsName bytes.now) (λ n. (n ≡ bytes.now) × IsName bytes.now) }
+        ensures { MatchOption result (¬ IsName bytes.now)
+            (λ n. (n ≡ bytes.now) × IsName bytes.now) }
     {
         if !is_name(bytes) {
             return None;

@@ -3,18 +3,21 @@ use Rattle.std.specs.Prelude.{◌≡◌, ◌<◌, ℕ, zero, suc, ◌^◌, List,
 use Rattle.pot_chains.specs.Steps.{IsMeant}
 use Rattle.pot_chains.specs.declared.levels.Level.{Level}
 
--- what follows position p of the first level: at each next level one that the pointer of the last means
+-- what follows position p of the first level: at each next level one that the pointer of the last
+-- means
 abbrev pub IsPathFrom : ℕ → List Level → ℕ → List ℕ → Type 0
 IsPathFrom bits levels p [] = Unit {0}
 IsPathFrom bits [] p (q ∷ qs) = ⊥
 IsPathFrom bits (a ∷ []) p (q ∷ qs) = ⊥
-IsPathFrom bits (a ∷ (b ∷ rest)) p (q ∷ qs) = IsMeant a.pointers.items b.index bits p q × IsPathFrom bits (b ∷ rest) q qs
+IsPathFrom bits (a ∷ (b ∷ rest)) p (q ∷ qs) =
+    IsMeant a.pointers.items b.index bits p q × IsPathFrom bits (b ∷ rest) q qs
 
 -- a chain of n + 1 from the first level on
 abbrev pub IsPath : ℕ → List Level → ℕ → List ℕ → Type 0
 IsPath bits levels n [] = ⊥
 IsPath bits [] n (p ∷ ps) = ⊥
-IsPath bits (a ∷ rest) n (p ∷ ps) = (p < length a.pointers.items) × (length ps ≡ n) × IsPathFrom bits (a ∷ rest) p ps
+IsPath bits (a ∷ rest) n (p ∷ ps) =
+    (p < length a.pointers.items) × (length ps ≡ n) × IsPathFrom bits (a ∷ rest) p ps
 
 -- a chain of 1 to m
 abbrev pub IsPathBelow : ℕ → List Level → ℕ → List ℕ → Type 0

@@ -22,7 +22,8 @@ IsNumber {X} P n = (xs : List X) × IsListed P xs × (length xs ≡ n)
 
 -- with those counted before, so many have P that they pass the limit
 abbrev pub AreAbove : {X : Type 0} → (X → Type 0) → ℕ → ℕ → Type 0
-AreAbove {X} P limit before = (xs : List X) × IsOnce xs × ((x : X) → IsIn xs x → P x) × (limit < before + length xs)
+AreAbove {X} P limit before =
+    (xs : List X) × IsOnce xs × ((x : X) → IsIn xs x → P x) × (limit < before + length xs)
 
 -- a count has grown by the number of those that have P
 abbrev pub HasGrown : {X : Type 0} → (X → Type 0) → ℕ → ℕ → Type 0

@@ -1,4 +1,5 @@
-ghost use Rattle.std.specs.Prelude.{◌≡◌, ◌<◌, ◌≤◌, ◌+◌, ◌-◌, ◌^◌, ℕ, [], ◌∷◌, map, length, IfOk, IfErr, OnOk};
+ghost use Rattle.std.specs.Prelude.{◌≡◌, ◌<◌, ◌≤◌, ◌+◌, ◌-◌, ◌^◌, ℕ, [], ◌∷◌, map, length, IfOk};
+ghost use Rattle.std.specs.Prelude.{IfErr, OnOk};
 ghost use Rattle.std.specs.List.{range_with_len};
 ghost use Rattle.pot_chains.specs.Listed.{IsListed, AreAbove, HasGrown};
 ghost use Rattle.pot_chains.specs.Levels.{IsPath, IsPathBelow, AreLevels};
@@ -30,10 +31,13 @@ pub fn paths(
     requires few { length levels.now ≤ 16 }
     requires levels { AreLevels levels.now }
     requires counted { count.old ≤ limit }
-    ensures found { IfOk result (λ found. IsListed (IsPath bits levels.now (length levels.now - 1)) found.items) }
-    ensures counts { OnOk result (HasGrown (IsPathBelow bits levels.now (length levels.now)) count.old count.new) }
+    ensures found { IfOk result (λ found. IsListed (IsPath bits levels.now (length levels.now - 1))
+        found.items) }
+    ensures counts { OnOk result (HasGrown (IsPathBelow bits levels.now (length levels.now))
+        count.old count.new) }
     ensures within { count.new ≤ limit }
-    ensures wide { IfErr result (λ e. e ≡ Wide → AreAbove (IsPathBelow bits levels.now (length levels.now)) limit count.old) }
+    ensures wide { IfErr result (λ e. e ≡ Wide
+        → AreAbove (IsPathBelow bits levels.now (length levels.now)) limit count.old) }
 {
     match singles(alloc, levels[0].pointers.as_slice().len(), count, limit) {
         Ok(firsts) => through(alloc, levels, firsts, bits, count, limit),
@@ -50,7 +54,8 @@ fn singles(
 ) -> Result<Vec<Chain>, SearchFault>
     requires short { number < 2 ^ 32 }
     requires counted { count.old ≤ limit }
-    ensures found { IfOk result (λ found. found.items ≡ map (λ p. p ∷ []) (range_with_len 0 number)) }
+    ensures found { IfOk result (λ found. found.items
+        ≡ map (λ p. p ∷ []) (range_with_len 0 number)) }
     ensures counts { OnOk result (count.new ≡ count.old + number) }
     ensures within { count.new ≤ limit }
     ensures wide { IfErr result (λ e. e ≡ Wide → limit < count.old + number) }
@@ -81,10 +86,14 @@ fn through(
     requires levels { AreLevels levels.now }
     requires firsts { IsListed (IsPath bits levels.now 0) firsts.items }
     requires counted { count.old ≤ limit }
-    ensures found { IfOk result (λ found. IsListed (IsPath bits levels.now (length levels.now - 1)) found.items) }
+    ensures found { IfOk result (λ found. IsListed (IsPath bits levels.now (length levels.now - 1))
+        found.items) }
     ensures within { count.new ≤ limit }
-    ensures counts { OnOk result (HasGrown (IsPathBelow bits levels.now (length levels.now)) count.old (count.new + length firsts.items)) }
-    ensures wide { IfErr result (λ e. e ≡ Wide → AreAbove (IsPathBelow bits levels.now (length levels.now)) (limit + length firsts.items) count.old) }
+    ensures counts { OnOk result (HasGrown (IsPathBelow bits levels.now (length levels.now))
+        count.old (count.new + length firsts.items)) }
+    ensures wide { IfErr result (λ e. e ≡ Wide
+        → AreAbove (IsPathBelow bits levels.now (length levels.now)) (limit + length firsts.items)
+        count.old) }
 {
     let mut chains = firsts;
     for t in 1..levels.len() {

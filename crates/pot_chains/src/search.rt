@@ -1,4 +1,5 @@
-ghost use Rattle.std.specs.Prelude.{◌≡◌, ◌<◌, ◌≤◌, [], ◌∷◌, ◌++◌, ◌+◌, ℕ, map, length, IfOk, IfErr, OnOk};
+ghost use Rattle.std.specs.Prelude.{◌≡◌, ◌<◌, ◌≤◌, [], ◌∷◌, ◌++◌, ◌+◌, ℕ, map, length, IfOk, IfErr};
+ghost use Rattle.std.specs.Prelude.{OnOk};
 ghost use Rattle.pot_pointer.specs.declared.Named.{Named};
 ghost use Rattle.pot_chains.specs.Listed.{IsOnce, IsListed, AreAbove};
 ghost use Rattle.pot_chains.specs.Steps.{with_candidate, IsStart, IsLonger};
@@ -31,10 +32,12 @@ pub fn longer(
     requires once { IsOnce chains.now }
     requires start { IsStart (length pointers.now) chains.now }
     requires counted { count.old ≤ limit }
-    ensures found { IfOk result (λ found. IsListed (IsLonger pointers.now index.now bits chains.now) found.items) }
+    ensures found { IfOk result (λ found. IsListed (IsLonger pointers.now index.now bits chains.now)
+        found.items) }
     ensures counts { IfOk result (λ found. count.new ≡ count.old + length found.items) }
     ensures within { count.new ≤ limit }
-    ensures wide { IfErr result (λ e. e ≡ Wide → AreAbove (IsLonger pointers.now index.now bits chains.now) limit count.old) }
+    ensures wide { IfErr result (λ e. e ≡ Wide
+        → AreAbove (IsLonger pointers.now index.now bits chains.now) limit count.old) }
 {
     let mut found = Vec::new(alloc);
     for chain in chains {
@@ -51,7 +54,8 @@ pub fn longer(
 /// Adds a chain for each candidate.
 fn push_more(found: &mut Vec<Chain>, chain: &Chain, candidates: &[Named]) -> Result<(), SearchFault>
     requires { length chain.now < 16 }
-    ensures ok { OnOk result (found.new.items ≡ found.old.items ++ map (with_candidate chain.now) candidates.now) }
+    ensures ok { OnOk result
+        (found.new.items ≡ found.old.items ++ map (with_candidate chain.now) candidates.now) }
     ensures err { IfErr result (λ e. e ≡ NoMemory) }
 {
     for candidate in candidates {

@@ -1,5 +1,6 @@
 -- The parts of a file that is longer than a session stores, and their names.
-use Rattle.std.specs.Prelude.{◌≡◌, ◌≢◌, ◌+◌, ◌*◌, ◌/◌, ◌%◌, ◌≤◌, ◌<◌, ◌++◌, ◌∷◌, [], ℕ, List, Option, MatchOption, take, drop}
+use Rattle.std.specs.Prelude.{◌≡◌, ◌≢◌, ◌+◌, ◌*◌, ◌/◌, ◌%◌, ◌≤◌, ◌<◌, ◌++◌, ◌∷◌, [], ℕ, List}
+use Rattle.std.specs.Prelude.{Option, MatchOption, take, drop}
 use Rattle.pot_bytes.specs.Names.{IsName}
 
 -- the most bytes of a part, which are the most of a stored file
@@ -32,21 +33,24 @@ IsPartName file number part = (number ≤ 9999) × IsName part × (part ≡ file
 
 -- these bytes end as the name of a part does
 abbrev pub EndsAsPart : List ℕ → Type 0
-EndsAsPart bytes = (front : List ℕ) × (number : ℕ) × (number ≤ 9999) × (bytes ≡ front ++ suffix number)
+EndsAsPart bytes =
+    (front : List ℕ) × (number : ℕ) × (number ≤ 9999) × (bytes ≡ front ++ suffix number)
 
 -- the name of the part of this number; None exactly where no name is that
 abbrev pub NamesPart : List ℕ → ℕ → Option (List ℕ) → Type 0
 NamesPart file number result =
     MatchOption result ((part : List ℕ) → IsPartName file number part → ⊥) (IsPartName file number)
 
--- the file and the number of the part that has this name; None exactly where no part of a file has it
+-- the file and the number of the part that has this name; None exactly where no part of a file has
+-- it
 abbrev pub TellsPart : List ℕ → Option (List ℕ × ℕ) → Type 0
 TellsPart name result =
     MatchOption result
     ((file : List ℕ) (number : ℕ) → IsName file → IsPartName file number name → ⊥)
     (λ x. IsName x.0 × IsPartName x.0 x.1 name)
 
--- the number of which these bytes are the text; None exactly where they are that of no number of a part
+-- the number of which these bytes are the text; None exactly where they are that of no number of a
+-- part
 abbrev pub TellsNumber : (ℕ → List ℕ) → List ℕ → Option ℕ → Type 0
 TellsNumber text bytes result =
     MatchOption result

@@ -1,5 +1,6 @@
 -- The texts of replies, as they stand one after another in what a session wrote.
-use Rattle.std.specs.Prelude.{◌≡◌, ◌≢◌, ◌++◌, ◌∷◌, ◌↔◌, ℕ, List, Option, Some, None, Result, Ok, Err, Vec, MatchOption, decimal, length, flat_map}
+use Rattle.std.specs.Prelude.{◌≡◌, ◌≢◌, ◌++◌, ◌∷◌, ◌↔◌, ℕ, List, Option, Some, None, Result, Ok}
+use Rattle.std.specs.Prelude.{Err, Vec, MatchOption, decimal, length, flat_map}
 use Rattle.std.specs.declared.alloc.AllocError.{AllocError}
 use Rattle.std.specs.Global.{Global}
 use Rattle.std.specs.List.{AllByRecursion}
@@ -41,7 +42,8 @@ Begins bytes kind words rest =
     (r : Reply) (after : List ℕ) → IsReply r →
     (bytes ≡ reply_text r ++ after) ↔ (IsLineOf kind words r × (rest ≡ behind r ++ after))
 
--- the reply of such a line, and what stands behind the line was taken; None exactly where there is none
+-- the reply of such a line, and what stands behind the line was taken; None exactly where there is
+-- none
 abbrev pub EndsReply : ReplyKind → List (List ℕ) → List ℕ → List ℕ → Option Reply → Type 0
 EndsReply kind words old new result =
     MatchOption result
@@ -65,7 +67,8 @@ AreListed count names = (length names ≡ count) × AllByRecursion IsListing nam
 abbrev pub TakesNames : ℕ → List ℕ → List ℕ → Option (Vec Listed Global) → Type 0
 TakesNames count old new result =
     MatchOption result
-    ((ls : List Listed) (after : List ℕ) → AreListed count ls → old ≢ flat_map listed_text ls ++ after)
+    ((ls : List Listed) (after : List ℕ) → AreListed count ls
+    → old ≢ flat_map listed_text ls ++ after)
     (λ names. AreListed count names.items × (old ≡ flat_map listed_text names.items ++ new))
 
 -- the word and a number were taken; None exactly where they are not next

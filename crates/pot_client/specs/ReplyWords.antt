@@ -1,5 +1,6 @@
 -- The words of a reply's first line, and what stands behind that line.
-use Rattle.std.specs.Prelude.{◌≡◌, ◌≤◌, ◌++◌, ◌∷◌, [], ℕ, List, Option, Some, None, length, codes, decimal, flat_map}
+use Rattle.std.specs.Prelude.{◌≡◌, ◌≤◌, ◌++◌, ◌∷◌, [], ℕ, List, Option, Some, None, length, codes}
+use Rattle.std.specs.Prelude.{decimal, flat_map}
 use Rattle.std.specs.List.{AllByRecursion}
 use Rattle.hex.specs.Hex.{IsBytes, encode_lower}
 use Rattle.pot_bytes.specs.Names.{IsName}
@@ -20,7 +21,8 @@ fields (replies.Stored name pieces shards) = name ∷ decimals (pieces ∷ shard
 fields (replies.File name bytes) = name ∷ decimals (length bytes ∷ [])
 fields (replies.Names names) = decimals (length names ∷ [])
 fields (replies.Group group live lost broken stripe column) =
-    decimal group ∷ codes "live" ∷ decimal live ∷ codes "lost" ∷ decimal lost ∷ codes "broken" ∷ decimal broken
+    decimal group ∷ codes "live" ∷ decimal live ∷ codes "lost" ∷ decimal lost ∷ codes "broken"
+    ∷ decimal broken
     ∷ codes "cursor" ∷ decimals (stripe ∷ column ∷ [])
 fields (replies.Scrubbed group seen gone) = decimals (group ∷ seen ∷ gone ∷ [])
 fields (replies.Repaired group mended left) = decimals (group ∷ mended ∷ left ∷ [])
@@ -30,8 +32,10 @@ fields (replies.Long name len) = name ∷ decimals (len ∷ [])
 fields (replies.Exists name) = name ∷ []
 fields (replies.Full group) = decimals (group ∷ [])
 fields (replies.Absent name) = name ∷ []
-fields (replies.Lost name piece fragment have need) = name ∷ decimals (piece ∷ fragment ∷ have ∷ need ∷ [])
-fields (replies.Odd name wanted found) = name ∷ encode_lower wanted.bytes ∷ encode_lower found.bytes ∷ []
+fields (replies.Lost name piece fragment have need) =
+    name ∷ decimals (piece ∷ fragment ∷ have ∷ need ∷ [])
+fields (replies.Odd name wanted found) =
+    name ∷ encode_lower wanted.bytes ∷ encode_lower found.bytes ∷ []
 fields (replies.Fault group column) = decimals (group ∷ column ∷ [])
 fields (replies.LogFull group) = decimals (group ∷ [])
 fields replies.IndexLogFull = codes "index" ∷ []
@@ -62,7 +66,8 @@ IsDigest d = (length d.bytes ≡ 32) × IsBytes d.bytes
 abbrev pub IsListing : Listed → Type 0
 IsListing l = IsName l.name × IsNumber l.length
 
--- a reply whose names are names, and whose numbers have the bits of their types; a length has 32 bits
+-- a reply whose names are names, and whose numbers have the bits of their types; a length has 32
+-- bits
 abbrev pub IsReply : Reply → Type 0
 IsReply (replies.Stored name pieces shards) = IsName name × IsNumber pieces × IsNumber shards
 IsReply (replies.File name bytes) = IsName name × IsNumber (length bytes)

@@ -19,7 +19,8 @@ pub fn read_name(mut words: Words) -> Option<Name>
 
 /// The two words that are left, a name and a number.
 pub fn read_sized(mut words: Words) -> Option<(Name, u32)>
-    ensures { IsOnly (λ x. IsName x.0 × IsNumber x.1 × (words.entry ≡ x.0 ∷ decimal x.1 ∷ [])) result }
+    ensures { IsOnly (λ x. IsName x.0 × IsNumber x.1 × (words.entry ≡ x.0 ∷ decimal x.1 ∷ []))
+        result }
 {
     let name = words.next_name()?;
     let number = words.next_number(u32::MAX)?;
@@ -29,7 +30,8 @@ pub fn read_sized(mut words: Words) -> Option<(Name, u32)>
 
 /// The three words that are left, a name and two numbers.
 pub fn read_split(mut words: Words) -> Option<(Name, u32, u32)>
-    ensures { IsOnly (λ x. IsName x.0 × IsNumber x.1 × IsNumber x.2 × (words.entry ≡ x.0 ∷ decimal x.1 ∷ decimal x.2 ∷ [])) result }
+    ensures { IsOnly (λ x. IsName x.0 × IsNumber x.1 × IsNumber x.2
+        × (words.entry ≡ x.0 ∷ decimal x.1 ∷ decimal x.2 ∷ [])) result }
 {
     let name = words.next_name()?;
     let pieces = words.next_number(u32::MAX)?;
@@ -49,7 +51,8 @@ pub fn read_one(mut words: Words, most: u32) -> Option<u32>
 
 /// The two words that are left, numbers of one byte.
 pub fn read_two(mut words: Words) -> Option<(u8, u8)>
-    ensures { IsOnly (λ x. IsByte x.0 × IsByte x.1 × (words.entry ≡ decimal x.0 ∷ decimal x.1 ∷ [])) result }
+    ensures { IsOnly (λ x. IsByte x.0 × IsByte x.1 × (words.entry ≡ decimal x.0 ∷ decimal x.1 ∷ []))
+        result }
 {
     let first = words.next_number(255)? as u8;
     let second = words.next_number(255)? as u8;
@@ -59,7 +62,8 @@ pub fn read_two(mut words: Words) -> Option<(u8, u8)>
 
 /// The three words that are left, numbers of which the first is at most `most`.
 pub fn read_three(mut words: Words, most: u32) -> Option<(u32, u32, u32)>
-    ensures { IsOnly (λ x. (x.0 ≤ most) × IsNumber x.1 × IsNumber x.2 × (words.entry ≡ decimal x.0 ∷ decimal x.1 ∷ decimal x.2 ∷ [])) result }
+    ensures { IsOnly (λ x. (x.0 ≤ most) × IsNumber x.1 × IsNumber x.2
+        × (words.entry ≡ decimal x.0 ∷ decimal x.1 ∷ decimal x.2 ∷ [])) result }
 {
     let first = words.next_number(most)?;
     let second = words.next_number(u32::MAX)?;

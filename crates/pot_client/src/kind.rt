@@ -55,7 +55,8 @@ const KINDS: [ReplyKind; 20] = [
 impl ReplyKind {
     /// The kind of the replies that begin with this word. None exactly where no reply does.
     pub fn read(word: &[u8]) -> Option<ReplyKind>
-        ensures { MatchOption result ((kind : ReplyKind) → word.now ≢ keyword kind) (λ kind. word.now ≡ keyword kind) }
+        ensures { MatchOption result ((kind : ReplyKind) → word.now ≢ keyword kind)
+            (λ kind. word.now ≡ keyword kind) }
     {
         for kind in KINDS {
             if kind.keyword() == word {

@@ -1,7 +1,9 @@
 //! The names of parts, each that of its file with `.p` and four digits behind it.
 
-ghost use Rattle.std.specs.Prelude.{◌≡◌, ◌≤◌, ◌+◌, ◌++◌, ◌↔◌, length, take, IsSome, IsTrue, MatchOption};
-ghost use Rattle.pot_client.specs.Parts.{EndsAsPart, NamesPart, TellsNumber, TellsPart, TellsTwo, digit, four_digits, suffix};
+ghost use Rattle.std.specs.Prelude.{◌≡◌, ◌≤◌, ◌+◌, ◌++◌, ◌↔◌, length, take, IsSome, IsTrue};
+ghost use Rattle.std.specs.Prelude.{MatchOption};
+ghost use Rattle.pot_client.specs.Parts.{EndsAsPart, NamesPart, TellsNumber, TellsPart, TellsTwo};
+ghost use Rattle.pot_client.specs.Parts.{digit, four_digits, suffix};
 
 use pot_bytes::Name;
 

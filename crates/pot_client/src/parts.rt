@@ -32,5 +32,6 @@ pub fn part(file: &[u8], number: usize) -> &[u8]
 
 /// The parts of a file joined are the file.
 pub fn parts_are_whole()
-    ensures { (file : List ℕ) → flat_map (part_of file) (range_with_len 0 (part_count (length file))) ≡ file }
+    ensures { (file : List ℕ)
+        → flat_map (part_of file) (range_with_len 0 (part_count (length file))) ≡ file }
 {}

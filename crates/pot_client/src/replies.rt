@@ -1,7 +1,8 @@
 //! The replies of a session, read from what it wrote.
 
 ghost use Rattle.std.specs.Prelude.{◌≡◌, IfOk, List, MatchOption, OnErr};
-ghost use Rattle.pot_client.specs.ReplyTexts.{ArePrinted, Begins, EndsReply, NoReplyAt, ReadsAll, ReadsBack, TakesListed, TakesNames, TakesNext};
+ghost use Rattle.pot_client.specs.ReplyTexts.{ArePrinted, Begins, EndsReply, NoReplyAt, ReadsAll};
+ghost use Rattle.pot_client.specs.ReplyTexts.{ReadsBack, TakesListed, TakesNames, TakesNext};
 ghost use Rattle.pot_client.specs.declared.kind.ReplyKind.TheVariants as kinds;
 ghost use Rattle.pot_script.specs.declared.reply.Reply.{Reply};
 

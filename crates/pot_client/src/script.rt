@@ -1,6 +1,7 @@
 //! The script of commands, as a session reads it.
 
-ghost use Rattle.std.specs.Prelude.{◌≡◌, ◌≤◌, ◌++◌, ◌∷◌, [], None, length, flat_map, codes, decimal, OnOk, IfOk};
+ghost use Rattle.std.specs.Prelude.{◌≡◌, ◌≤◌, ◌++◌, ◌∷◌, [], None, length, flat_map, codes};
+ghost use Rattle.std.specs.Prelude.{decimal, OnOk, IfOk};
 ghost use Rattle.pot_bytes.specs.declared.rack.Rack.{Rack};
 ghost use Rattle.pot_script.specs.declared.command.Command.TheVariants.{Quit, Renew, Store};
 ghost use Rattle.pot_script.specs.Commands.{command_text, most_bytes};
@@ -24,7 +25,9 @@ pub enum Word<'a> {
 /// script is not too long, a session reads it as just these commands.
 pub fn write_script(alloc: Global, commands: &[Command]) -> Result<Vec<u8>, NoMemory>
     ensures text { IfOk result (λ script. script.items ≡ script_text (commands.now ++ Quit ∷ [])) }
-    ensures reads { IfOk result (λ script. (rack : Rack) → AreSteps rack None commands.now → after_commands None commands.now ≡ None → length script.items ≤ most_bytes → IsScript rack script.items (commands.now ++ Quit ∷ [])) }
+    ensures reads { IfOk result (λ script. (rack : Rack) → AreSteps rack None commands.now
+        → after_commands None commands.now ≡ None → length script.items ≤ most_bytes
+        → IsScript rack script.items (commands.now ++ Quit ∷ [])) }
 {
     let mut script = Vec::new(alloc);
     for command in commands {
@@ -60,7 +63,8 @@ fn append_command(out: &mut Vec<u8>, command: &Command) -> Result<(), AllocError
 
 // A `store` line, and the file behind it.
 fn append_file(out: &mut Vec<u8>, name: &Name, file: &[u8]) -> Result<(), AllocError>
-    ensures { OnOk result (out.new.items ≡ out.old.items ++ command_text (Store name.now file.now)) }
+    ensures { OnOk result
+        (out.new.items ≡ out.old.items ++ command_text (Store name.now file.now)) }
 {
     let words = [Word::Text(name.bytes()), Word::Number(file.len() as u64)];
     append_line(out, b"store", &words)?;
@@ -79,7 +83,8 @@ fn append_archives(out: &mut Vec<u8>, first: &[u8], from: u32, to: u32) -> Resul
 
 // A `renew` line.
 fn append_renewal(out: &mut Vec<u8>, name: &Name, geometry: &Geometry) -> Result<(), AllocError>
-    ensures { OnOk result (out.new.items ≡ out.old.items ++ command_text (Renew name.now geometry.now)) }
+    ensures { OnOk result
+        (out.new.items ≡ out.old.items ++ command_text (Renew name.now geometry.now)) }
 {
     let words = [
         Word::Text(name.bytes()),

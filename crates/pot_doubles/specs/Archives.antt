@@ -36,7 +36,14 @@ lost_by a = a.lost
 
 -- what it means
 abbrev pub meaning_in : LossyArchive → Meaning
-meaning_in a = record { held = held_in a; history = history_of a; heard = heard_by a; faults = (archive_calls a).faults; losses = lost_by a }
+meaning_in a =
+    record {
+      held = held_in a;
+      history = history_of a;
+      heard = heard_by a;
+      faults = (archive_calls a).faults;
+      losses = lost_by a;
+    }
 
 -- the losses that are listed
 abbrev pub losses_of : LossyArchive → List Loss
@@ -66,7 +73,10 @@ pub record LosesOne (old new : LossyArchive) (slot : ℕ) : Type 0 where
   pub calls : archive_calls new ≡ archive_calls old
   pub fuse : archive_fused new ≡ archive_fused old
 
--- after the losses listed for its call a write puts the block into its slot, or fails and writes nothing
-abbrev pub WritesAfterLosses : LossyArchive → LossyArchive → ℕ → List ℕ → Result (Unit {0}) Failed → Type 0
-WritesAfterLosses old new slot block (Ok u) = (k : ℕ) → held_in new k ≡ at_slot (held_after_losses old) slot (Some block) k
+-- after the losses listed for its call a write puts the block into its slot, or fails and writes
+-- nothing
+abbrev pub WritesAfterLosses : LossyArchive → LossyArchive → ℕ → List ℕ → Result (Unit {0}) Failed
+    → Type 0
+WritesAfterLosses old new slot block (Ok u) =
+    (k : ℕ) → held_in new k ≡ at_slot (held_after_losses old) slot (Some block) k
 WritesAfterLosses old new slot block (Err e) = (k : ℕ) → held_in new k ≡ held_after_losses old k

@@ -1,5 +1,6 @@
 -- The calls of a double: which ones are to fail, and how often it failed.
-use Rattle.std.specs.Prelude.{◌≡◌, ◌↔◌, ◌+◌, ◌-◌, ◌^◌, ◌==◌, ◌⊎◌, ◌||◌, nat_lt, ℕ, List, Bool, true, false, min, Result, Ok, Err, IsTrue, if◌then◌else◌}
+use Rattle.std.specs.Prelude.{◌≡◌, ◌↔◌, ◌+◌, ◌-◌, ◌^◌, ◌==◌, ◌⊎◌, ◌||◌, nat_lt, ℕ, List, Bool, true}
+use Rattle.std.specs.Prelude.{false, min, Result, Ok, Err, IsTrue, if◌then◌else◌}
 use Rattle.std.specs.List.{list_any}
 use Rattle.pot_doubles.specs.declared.calls.Calls.{Calls}
 
@@ -20,7 +21,8 @@ is_due c = list_any (λ n. n == c.made) c.fails.items
 
 -- after one more call began, which counts a fault where it fails
 abbrev pub begun_as : Bool → Calls → Calls
-begun_as fails c = record c { made = raised c.made; faults = (if fails then raised c.faults else c.faults) }
+begun_as fails c =
+    record c { made = raised c.made; faults = (if fails then raised c.faults else c.faults) }
 
 -- after one more call began, which counts a fault where it is to fail
 abbrev pub begun : Calls → Calls
@@ -34,21 +36,28 @@ failing c = record c { faults = raised c.faults }
 abbrev pub starving : Calls → Calls
 starving c = record c { faults = raised c.faults; starved = true }
 
--- after a fault was counted where another count rose from `before` to `now`, or stands at its last value
+-- after a fault was counted where another count rose from `before` to `now`, or stands at its last
+-- value
 abbrev pub covering : ℕ → ℕ → Calls → Calls
-covering before now c = record c { faults = (if nat_lt before now || now == 2 ^ 64 - 1 then raised c.faults else c.faults) }
+covering before now c =
+    record c {
+      faults = (if nat_lt before now || now == 2 ^ 64 - 1 then raised c.faults
+          else c.faults);
+    }
 
--- A call whose first steps leave `first` is answered by a failure exactly where it was due to fail or then
--- found no memory, and only the latter counts one more fault.
+-- A call whose first steps leave `first` is answered by a failure exactly where it was due to fail
+-- or then found no memory, and only the latter counts one more fault.
 abbrev pub Answered : {T E : Type 0} → Bool → Calls → Calls → Result T E → Type 0
 Answered due first new (Ok x) = (due ≡ false) × (new ≡ first)
-Answered due first new (Err e) = ((due ≡ true) × (new ≡ first)) ⊎ ((due ≡ false) × (new ≡ starving first))
+Answered due first new (Err e) =
+    ((due ≡ true) × (new ≡ first)) ⊎ ((due ≡ false) × (new ≡ starving first))
 
 -- a call that fails exactly where it is to fail or found no memory, and counts a fault exactly then
 abbrev pub Counted : {T E : Type 0} → Calls → Calls → Result T E → Type 0
 Counted old new result = Answered (is_due old) (begun old) new result
 
--- UNDER A FUSE, which several doubles share. Nothing tells when it is spent, since others spend it too.
+-- UNDER A FUSE, which several doubles share. Nothing tells when it is spent, since others spend it
+-- too.
 
 -- a call that is listed fails, and without a fuse no other does
 pub record IsToFail (fused : Bool) (calls : Calls) (fails : Bool) : Type 0 where
@@ -60,12 +69,13 @@ pub record BeginsFused (fused : Bool) (old new : Calls) (fails : Bool) : Type 0 
   pub due : IsToFail fused old fails
   pub counted : new ≡ begun_as fails old
 
--- A call that takes these steps once it began is answered by a failure exactly where it was to fail or
--- found no memory, and counts a fault exactly then.
+-- A call that takes these steps once it began is answered by a failure exactly where it was to fail
+-- or found no memory, and counts a fault exactly then.
 abbrev pub AnsweredFused
     : {T E : Type 0} → Bool → (Calls → Calls) → Calls → Calls → Result T E → Type 0
 AnsweredFused fused steps old new result =
-    (fails : Bool) × IsToFail fused old fails × Answered fails (steps (begun_as fails old)) new result
+    (fails : Bool) × IsToFail fused old fails
+    × Answered fails (steps (begun_as fails old)) new result
 
 -- a call that takes no such step
 abbrev pub CountedFused : {T E : Type 0} → Bool → Calls → Calls → Result T E → Type 0

@@ -1,5 +1,6 @@
 -- Disks in memory.
-use Rattle.std.specs.Prelude.{◌||◌, not, nat_lt, ℕ, Bool, true, false, List, [], ◌∷◌, length, map, replicate, Option, Some, None, if◌then◌else◌}
+use Rattle.std.specs.Prelude.{◌||◌, not, nat_lt, ℕ, Bool, true, false, List, [], ◌∷◌, length, map}
+use Rattle.std.specs.Prelude.{replicate, Option, Some, None, if◌then◌else◌}
 use Rattle.pot_outside.specs.Disks.{DiskCall, Wrote, Synced}
 use Rattle.pot_doubles.specs.Calls.{begun, failing, is_due}
 use Rattle.pot_doubles.specs.declared.calls.Calls.{Calls}
@@ -35,7 +36,10 @@ is_stopping d = is_due (disk_calls d) || has_stopped (stop_of d) (disk_calls d)
 
 -- after one more call began, which counts a fault where it is to fail
 abbrev pub first_steps : MemDisk → Calls
-first_steps d = if is_due (disk_calls d) then begun (disk_calls d) else if has_stopped (stop_of d) (disk_calls d) then failing (begun (disk_calls d)) else begun (disk_calls d)
+first_steps d =
+    if is_due (disk_calls d) then begun (disk_calls d)
+    else if has_stopped (stop_of d) (disk_calls d) then failing (begun (disk_calls d))
+    else begun (disk_calls d)
 
 -- whether a call is a write
 abbrev pub is_write : DiskCall → Bool

@@ -1,5 +1,6 @@
 -- What a call of an archive in memory loses.
-use Rattle.std.specs.Prelude.{◌+◌, ◌-◌, ◌^◌, ◌==◌, ◌&&◌, ℕ, Bool, List, None, min, count_by, if◌then◌else◌}
+use Rattle.std.specs.Prelude.{◌+◌, ◌-◌, ◌^◌, ◌==◌, ◌&&◌, ℕ, Bool, List, None, min, count_by}
+use Rattle.std.specs.Prelude.{if◌then◌else◌}
 use Rattle.std.specs.List.{list_any}
 use Rattle.pot_outside.specs.Archives.{Contents}
 use Rattle.pot_doubles.specs.declared.losses.Loss.{Loss}

@@ -1,5 +1,6 @@
 -- Rooms of archives in memory.
-use Rattle.std.specs.Prelude.{◌≡◌, ◌≢◌, ◌<◌, ◌==◌, ℕ, Bool, List, [], ◌∷◌, Option, Some, None, false, length, slice_index_or, if◌then◌else◌, is_some, unwrap_or}
+use Rattle.std.specs.Prelude.{◌≡◌, ◌≢◌, ◌<◌, ◌==◌, ℕ, Bool, List, [], ◌∷◌, Option, Some, None}
+use Rattle.std.specs.Prelude.{false, length, slice_index_or, if◌then◌else◌, is_some, unwrap_or}
 use Rattle.std.specs.List.{list_any}
 use Rattle.std.specs.Option.{option_map_or}
 use Rattle.std.specs.Ordering.{nat_cmp}
@@ -18,7 +19,8 @@ shelves_of r = r.shelves.items
 -- the archive of the first shelf with this number
 abbrev pub archive_of : List (Shelf LossyArchive) → ℕ → Option LossyArchive
 archive_of [] number = None
-archive_of (shelf ∷ shelves) number = if shelf.number == number then Some shelf.archive else archive_of shelves number
+archive_of (shelf ∷ shelves) number =
+    if shelf.number == number then Some shelf.archive else archive_of shelves number
 
 -- what an archive means; a number without one means an empty archive with counts of 0
 abbrev pub meaning_of : Option LossyArchive → Meaning
@@ -55,13 +57,16 @@ failures_of r = r.failures
 
 -- a call leaves a number as it was
 abbrev pub SameAt : MemRoom → MemRoom → ℕ → Type 0
-SameAt old new n = (means_in new n ≡ means_in old n) × (is_out new n ≡ is_out old n) × (lent_of new n ≡ lent_of old n)
+SameAt old new n =
+    (means_in new n ≡ means_in old n) × (is_out new n ≡ is_out old n)
+    × (lent_of new n ≡ lent_of old n)
 
 -- the shelf at this place has the number, and no shelf before it has
 pub record IsFirst (shelves : List (Shelf LossyArchive)) (number place : ℕ) : Type 0 where
   pub within : place < length shelves
   pub here : (d : Shelf LossyArchive) → (slice_index_or shelves place d).number ≡ number
-  pub before : (k : ℕ) (d : Shelf LossyArchive) → k < place → (slice_index_or shelves k d).number ≢ number
+  pub before : (k : ℕ) (d : Shelf LossyArchive) → k < place
+      → (slice_index_or shelves k d).number ≢ number
 
 -- whether an archive of these shelves found no memory
 abbrev pub any_starved : List (Shelf LossyArchive) → Bool

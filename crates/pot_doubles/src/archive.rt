@@ -35,8 +35,10 @@ impl LossyArchive {
     ghost use Rattle.pot_outside.specs.Archives.{OnlyLoses};
     ghost use Rattle.pot_outside.specs.Counts.{Caused};
     ghost use Rattle.pot_doubles.specs.Calls.{IsFresh, BeginsFused};
-    ghost use Rattle.pot_doubles.specs.Archives.{held_in, history_of, heard_by, archive_calls, archive_fused};
-    ghost use Rattle.pot_doubles.specs.Archives.{lost_by, losses_of, meaning_in, LosesListed, LosesOne};
+    ghost use Rattle.pot_doubles.specs.Archives.{held_in, history_of, heard_by, archive_calls};
+    ghost use Rattle.pot_doubles.specs.Archives.{archive_fused};
+    ghost use Rattle.pot_doubles.specs.Archives.{lost_by, losses_of, meaning_in, LosesListed};
+    ghost use Rattle.pot_doubles.specs.Archives.{LosesOne};
 
     /// An archive without blocks. The calls of the numbers `fails` are to fail, and the losses come at the
     /// start of their calls.
@@ -124,7 +126,8 @@ impl Archive for LossyArchive {
     ghost use Rattle.std.specs.Prelude.{◌≡◌, ◌<◌, true, IsTrue};
     ghost use Rattle.pot_outside.specs.Archives.{Meaning, Reads, Folds, Writes};
     ghost use Rattle.pot_doubles.specs.Calls.{CountedFused};
-    ghost use Rattle.pot_doubles.specs.Archives.{meaning_in, archive_calls, archive_fused, lost_by, losses_of, LosesListed};
+    ghost use Rattle.pot_doubles.specs.Archives.{meaning_in, archive_calls, archive_fused, lost_by};
+    ghost use Rattle.pot_doubles.specs.Archives.{losses_of, LosesListed};
     ghost use Rattle.pot_doubles.specs.Archives.{WritesAfterLosses, lost_after_losses};
 
     ghost account = { record { tells = true; meaning = meaning_in } };

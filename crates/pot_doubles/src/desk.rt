@@ -36,7 +36,8 @@ impl MemDesk {
 }
 
 impl Desk for MemDesk {
-    ghost use Rattle.std.specs.Prelude.{◌≡◌, ◌↔◌, List, ℕ, Option, Some, None, true, IfOk, OnErr, MatchOption, IsTrue, IsErr, IsErrOf};
+    ghost use Rattle.std.specs.Prelude.{◌≡◌, ◌↔◌, List, ℕ, Option, Some, None, true, IfOk, OnErr};
+    ghost use Rattle.std.specs.Prelude.{MatchOption, IsTrue, IsErr, IsErrOf};
     ghost use Rattle.pot_outside.specs.Counts.{Caused};
     ghost use Rattle.pot_outside.specs.Streams.{Replaces};
     ghost use Rattle.pot_doubles.specs.Calls.{Counted, begun, is_due};
@@ -49,9 +50,11 @@ impl Desk for MemDesk {
     ghost faults = { λ d. (desk_calls d).faults };
 
     fn read(&mut self) -> Result<Option<Vec<u8>>, DeskFault>
-        ensures told { IfOk result (λ o. MatchOption o (image_of self.old ≡ None) (λ v. image_of self.old ≡ Some v.items)) }
+        ensures told { IfOk result (λ o. MatchOption o (image_of self.old ≡ None)
+            (λ v. image_of self.old ≡ Some v.items)) }
         ensures keeps { image_of self.new ≡ image_of self.old }
-        ensures cause { Caused (desk_calls self.old).faults (desk_calls self.new).faults (IsErrOf result DeskFault.Failed) }
+        ensures cause { Caused (desk_calls self.old).faults (desk_calls self.new).faults
+            (IsErrOf result DeskFault.Failed) }
         ensures fails { IsErrOf result DeskFault.Failed ↔ IsTrue (is_due (desk_calls self.old)) }
         ensures counted { desk_calls self.new ≡ begun (desk_calls self.old) }
     {
@@ -69,7 +72,8 @@ impl Desk for MemDesk {
 
     fn replace(&mut self, image: &[u8]) -> Result<(), Failed>
         ensures told { Replaces (image_of self.old) (image_of self.new) image.now result }
-        ensures cause { Caused (desk_calls self.old).faults (desk_calls self.new).faults (IsErr result) }
+        ensures cause { Caused (desk_calls self.old).faults (desk_calls self.new).faults
+            (IsErr result) }
         ensures err { OnErr result (image_of self.new ≡ image_of self.old) }
         ensures counted { Counted (desk_calls self.old) (desk_calls self.new) result }
     {

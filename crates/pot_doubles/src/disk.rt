@@ -1,4 +1,5 @@
-ghost use Rattle.std.specs.Prelude.{◌≡◌, ◌+◌, ◌-◌, nat_lt, ◌∷◌, map, length, get_or, replicate, IfOk, if◌then◌else◌, unwrap_or};
+ghost use Rattle.std.specs.Prelude.{◌≡◌, ◌+◌, ◌-◌, nat_lt, ◌∷◌, map, length, get_or, replicate};
+ghost use Rattle.std.specs.Prelude.{IfOk, if◌then◌else◌, unwrap_or};
 ghost use Rattle.pot_outside.specs.Disks.{Synced, bytes_at, seen};
 ghost use Rattle.pot_doubles.specs.Disks.{call_of, left_by};
 
@@ -44,7 +45,9 @@ impl Note {
 
     /// The same note, or one of a write of the byte 1 alone.
     fn copy(&self, alloc: Global, filling: bool) -> Result<Note, AllocError>
-        ensures { IfOk result (λ copy. call_of copy ≡ (if filling then with_ones (call_of self.now) else call_of self.now)) }
+        ensures { IfOk result
+            (λ copy. call_of copy
+            ≡ (if filling then with_ones (call_of self.now) else call_of self.now)) }
     {
         match self {
             Note::Write { at, bytes } => Ok(Note::Write {
@@ -58,7 +61,8 @@ impl Note {
 
 /// The same bytes, or as many of 1.
 fn copy_bytes(alloc: Global, bytes: &[u8], filling: bool) -> Result<Vec<u8>, AllocError>
-    ensures { IfOk result (λ copy. copy.items ≡ (if filling then replicate (length bytes.now) 1 else bytes.now)) }
+    ensures { IfOk result
+        (λ copy. copy.items ≡ (if filling then replicate (length bytes.now) 1 else bytes.now)) }
 {
     if filling {
         Ok(vec![in alloc; 1; bytes.len()]?)
@@ -69,7 +73,8 @@ fn copy_bytes(alloc: Global, bytes: &[u8], filling: bool) -> Result<Vec<u8>, All
 
 /// The notes as they are, or with each pending write filled by the byte 1, and then a sync.
 fn copy_notes(alloc: Global, notes: &[Note], keep: bool) -> Result<Vec<Note>, AllocError>
-    ensures { IfOk result (λ copies. map call_of copies.items ≡ Synced ∷ left_by keep (map call_of notes.now)) }
+    ensures { IfOk result
+        (λ copies. map call_of copies.items ≡ Synced ∷ left_by keep (map call_of notes.now)) }
 {
     let mut copies = Vec::new(alloc);
     copies.push(Note::Sync)?;
@@ -83,7 +88,9 @@ fn copy_notes(alloc: Global, notes: &[Note], keep: bool) -> Result<Vec<Note>, Al
 
 /// The byte that a write from the place `from` on left `k` places after `at`, where it did.
 fn byte_left(bytes: &[u8], from: u64, at: u64, k: usize) -> Option<u8>
-    ensures { (below : _) → unwrap_or result below ≡ (if nat_lt (at + k) from then below else get_or bytes.now ((at + k) - from) below) }
+    ensures { (below : _)
+        → unwrap_or result below
+        ≡ (if nat_lt (at + k) from then below else get_or bytes.now ((at + k) - from) below) }
 {
     if at < from {
         let gap = from - at;
@@ -98,7 +105,8 @@ fn byte_left(bytes: &[u8], from: u64, at: u64, k: usize) -> Option<u8>
 
 /// The byte that a change left `k` places after `at`, where it did.
 fn byte_changed(note: &Note, at: u64, k: usize) -> Option<u8>
-    ensures { (older : _) → unwrap_or result (seen older (at + k)) ≡ seen (call_of note.now ∷ older) (at + k) }
+    ensures { (older : _)
+        → unwrap_or result (seen older (at + k)) ≡ seen (call_of note.now ∷ older) (at + k) }
 {
     match note {
         Note::Write { at: from, bytes } => byte_left(bytes, *from, at, k),
@@ -128,11 +136,13 @@ fn fill_seen(notes: &[Note], at: u64, into: &mut [u8])
 }
 
 impl MemDisk {
-    ghost use Rattle.std.specs.Prelude.{◌≡◌, [], ◌∷◌, None, IsTrue, IfOk, length, false, if◌then◌else◌};
+    ghost use Rattle.std.specs.Prelude.{◌≡◌, [], ◌∷◌, None, IsTrue, IfOk, length, false};
+    ghost use Rattle.std.specs.Prelude.{if◌then◌else◌};
     ghost use Rattle.pot_outside.specs.Counts.{Caused};
     ghost use Rattle.pot_outside.specs.Disks.{Synced, IsCrashImage, seen};
     ghost use Rattle.pot_doubles.specs.Calls.{IsFresh, starving};
-    ghost use Rattle.pot_doubles.specs.Disks.{changes_of, disk_calls, stop_of, has_stopped, is_stopping, first_steps, left_by};
+    ghost use Rattle.pot_doubles.specs.Disks.{changes_of, disk_calls, stop_of, has_stopped};
+    ghost use Rattle.pot_doubles.specs.Disks.{is_stopping, first_steps, left_by};
 
     /// A disk on which nothing was written. The calls of the numbers `fails` are to fail, and each from the
     /// number `stop` on.
@@ -158,8 +168,10 @@ impl MemDisk {
 
     /// The disk as a crash now leaves it: with all that is pending kept, or with all of it filled by the byte 1.
     pub fn crash(&self, keep: bool) -> Result<MemDisk, NoMemory>
-        ensures changes { IfOk result (λ d. changes_of d ≡ Synced ∷ left_by keep (changes_of self.now)) }
-        ensures image { IfOk result (λ d. IsCrashImage (changes_of self.now) (seen (changes_of d))) }
+        ensures changes { IfOk result (λ d. changes_of d
+            ≡ Synced ∷ left_by keep (changes_of self.now)) }
+        ensures image { IfOk result (λ d. IsCrashImage (changes_of self.now)
+            (seen (changes_of d))) }
         ensures calls { IfOk result (λ d. IsFresh (disk_calls d) []) }
         ensures stop { IfOk result (λ d. stop_of d ≡ None) }
     {
@@ -187,7 +199,8 @@ impl MemDisk {
         ensures counted { disk_calls self.new ≡ first_steps self.old }
         ensures changes { changes_of self.new ≡ changes_of self.old }
         ensures stop { stop_of self.new ≡ stop_of self.old }
-        ensures cause { Caused (disk_calls self.old).faults (disk_calls self.new).faults (IsTrue result) }
+        ensures cause { Caused (disk_calls self.old).faults (disk_calls self.new).faults
+            (IsTrue result) }
     {
         let stopped = self.has_stopped();
         if self.calls.begin() {
@@ -201,10 +214,12 @@ impl MemDisk {
 
     /// What a call answers that found no memory. It counts a fault, where it was not to fail anyway.
     fn starve(&mut self, fails: bool) -> Failed
-        ensures counted { disk_calls self.new ≡ (if fails then disk_calls self.old else starving (disk_calls self.old)) }
+        ensures counted { disk_calls self.new
+            ≡ (if fails then disk_calls self.old else starving (disk_calls self.old)) }
         ensures changes { changes_of self.new ≡ changes_of self.old }
         ensures stop { stop_of self.new ≡ stop_of self.old }
-        ensures cause { Caused (disk_calls self.old).faults (disk_calls self.new).faults (fails ≡ false) }
+        ensures cause { Caused (disk_calls self.old).faults (disk_calls self.new).faults
+            (fails ≡ false) }
     {
         if !fails {
             self.calls.starve();
@@ -230,7 +245,8 @@ impl Disk for MemDisk {
     ghost use Rattle.pot_outside.specs.Counts.{Caused};
     ghost use Rattle.pot_outside.specs.Disks.{ReadsBytes, WritesBytes, SyncsBytes};
     ghost use Rattle.pot_doubles.specs.Calls.{Answered};
-    ghost use Rattle.pot_doubles.specs.Disks.{changes_of, disk_calls, stop_of, is_stopping, first_steps};
+    ghost use Rattle.pot_doubles.specs.Disks.{changes_of, disk_calls, stop_of, is_stopping};
+    ghost use Rattle.pot_doubles.specs.Disks.{first_steps};
 
     ghost tells = { true };
 
@@ -241,8 +257,10 @@ impl Disk for MemDisk {
     fn read(&mut self, at: u64, into: &mut [u8]) -> Result<(), Failed>
         ensures told { ReadsBytes (changes_of self.old) at into.new result }
         ensures keeps { changes_of self.new ≡ changes_of self.old }
-        ensures cause { Caused (disk_calls self.old).faults (disk_calls self.new).faults (IsErr result) }
-        ensures counted { Answered (is_stopping self.old) (first_steps self.old) (disk_calls self.new) result }
+        ensures cause { Caused (disk_calls self.old).faults (disk_calls self.new).faults
+            (IsErr result) }
+        ensures counted { Answered (is_stopping self.old) (first_steps self.old)
+            (disk_calls self.new) result }
         ensures stop { stop_of self.new ≡ stop_of self.old }
     {
         if self.begin() {
@@ -254,8 +272,10 @@ impl Disk for MemDisk {
 
     fn write(&mut self, at: u64, from: &[u8]) -> Result<(), Failed>
         ensures told { WritesBytes (changes_of self.old) (changes_of self.new) at from.now result }
-        ensures cause { Caused (disk_calls self.old).faults (disk_calls self.new).faults (IsErr result) }
-        ensures counted { Answered (is_stopping self.old) (first_steps self.old) (disk_calls self.new) result }
+        ensures cause { Caused (disk_calls self.old).faults (disk_calls self.new).faults
+            (IsErr result) }
+        ensures counted { Answered (is_stopping self.old) (first_steps self.old)
+            (disk_calls self.new) result }
         ensures stop { stop_of self.new ≡ stop_of self.old }
     {
         let fails = self.begin();
@@ -270,8 +290,10 @@ impl Disk for MemDisk {
 
     fn sync(&mut self) -> Result<(), Failed>
         ensures told { SyncsBytes (changes_of self.old) (changes_of self.new) result }
-        ensures cause { Caused (disk_calls self.old).faults (disk_calls self.new).faults (IsErr result) }
-        ensures counted { Answered (is_stopping self.old) (first_steps self.old) (disk_calls self.new) result }
+        ensures cause { Caused (disk_calls self.old).faults (disk_calls self.new).faults
+            (IsErr result) }
+        ensures counted { Answered (is_stopping self.old) (first_steps self.old)
+            (disk_calls self.new) result }
         ensures stop { stop_of self.new ≡ stop_of self.old }
     {
         if self.begin() {

@@ -16,7 +16,8 @@ pub struct Loss {
 
 /// Loses the blocks of the losses that are listed for this call, and counts each loss.
 pub fn lose_listed(blocks: &mut BTreeMap<u32, Block>, losses: &[Loss], call: u64, lost: &mut u64)
-    ensures blocks { (k : ℕ) → get nat_cmp blocks.new k ≡ without losses.now call (get nat_cmp blocks.old) k }
+    ensures blocks { (k : ℕ)
+        → get nat_cmp blocks.new k ≡ without losses.now call (get nat_cmp blocks.old) k }
     ensures loses { OnlyLoses (get nat_cmp blocks.old) (get nat_cmp blocks.new) lost.old lost.new }
     ensures count { lost.new ≡ raised_by (losses_at losses.now call) lost.old }
 {

@@ -1,7 +1,9 @@
-ghost use Rattle.std.specs.Prelude.{◌≡◌, ◌≢◌, ◌||◌, ℕ, OnOk, OnErr, IfOk, IfErr, MatchOption, is_some, true, false};
+ghost use Rattle.std.specs.Prelude.{◌≡◌, ◌≢◌, ◌||◌, ℕ, OnOk, OnErr, IfOk, IfErr, MatchOption};
+ghost use Rattle.std.specs.Prelude.{is_some, true, false};
 ghost use Rattle.std.specs.Option.{option_copied};
 ghost use Rattle.pot_doubles.specs.Calls.{IsFresh};
-ghost use Rattle.pot_doubles.specs.Rooms.{archive_of, meaning_of, means_in, is_out, room_calls, room_fused, failures_of};
+ghost use Rattle.pot_doubles.specs.Rooms.{archive_of, meaning_of, means_in, is_out, room_calls};
+ghost use Rattle.pot_doubles.specs.Rooms.{room_fused, failures_of};
 ghost use Rattle.pot_doubles.specs.Rooms.{shelves_of, any_starved, IsFirst, SameAt};
 
 use crate::LossyArchive;
@@ -148,12 +150,14 @@ fn place_of(shelves: &[Shelf<LossyArchive>], number: u32) -> Option<usize>
 }
 
 impl Room for MemRoom {
-    ghost use Rattle.std.specs.Prelude.{◌≡◌, ◌≢◌, ◌||◌, ℕ, true, false, IsErr, IsErrOf, IfOk, OnOk, OnErr};
+    ghost use Rattle.std.specs.Prelude.{◌≡◌, ◌≢◌, ◌||◌, ℕ, true, false, IsErr, IsErrOf, IfOk, OnOk};
+    ghost use Rattle.std.specs.Prelude.{OnErr};
     ghost use Rattle.pot_outside.specs.Counts.{Caused, Rose};
     ghost use Rattle.pot_outside.specs.Archives.{IsMeant};
     ghost use Rattle.pot_doubles.specs.Archives.{archive_calls, archive_fused, meaning_in};
     ghost use Rattle.pot_doubles.specs.Calls.{covering, raised, AnsweredFused, FailsFused};
-    ghost use Rattle.pot_doubles.specs.Rooms.{means_in, is_out, lent_of, room_calls, room_fused, fused_at, failures_of, SameAt};
+    ghost use Rattle.pot_doubles.specs.Rooms.{means_in, is_out, lent_of, room_calls, room_fused};
+    ghost use Rattle.pot_doubles.specs.Rooms.{fused_at, failures_of, SameAt};
 
     type A = LossyArchive;
 

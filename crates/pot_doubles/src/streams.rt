@@ -54,7 +54,8 @@ impl Source for MemSource {
     fn read(&mut self, into: &mut [u8]) -> Result<usize, Failed>
         ensures told { ReadsNext (left_of self.old) (left_of self.new) into.new result }
         ensures within { Within into.new result }
-        ensures cause { Caused (source_calls self.old).faults (source_calls self.new).faults (IsErr result) }
+        ensures cause { Caused (source_calls self.old).faults (source_calls self.new).faults
+            (IsErr result) }
         ensures counted { Counted (source_calls self.old) (source_calls self.new) result }
     {
         if self.calls.begin() {
@@ -131,7 +132,8 @@ impl Sink for MemSink {
         ensures told { Appends (written_to self.old) (written_to self.new) from.now result }
         ensures within { Within from.now result }
         ensures some { TakesSome from.now result }
-        ensures cause { Caused (sink_calls self.old).faults (sink_calls self.new).faults (IsErr result) }
+        ensures cause { Caused (sink_calls self.old).faults (sink_calls self.new).faults
+            (IsErr result) }
         ensures counted { Counted (sink_calls self.old) (sink_calls self.new) result }
     {
         if self.calls.begin() {

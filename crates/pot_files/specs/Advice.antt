@@ -1,4 +1,5 @@
--- The line on standard error with which the program ends where something outside kept it from its work.
+-- The line on standard error with which the program ends where something outside kept it from its
+-- work.
 use Rattle.std.specs.Prelude.{◌++◌, ◌∷◌, ◌&&◌, [], ℕ, List, IsTrue, codes, nat_eq, nat_lt}
 use Rattle.std.specs.List.{list_all, list_any, starts_with}
 

@@ -125,7 +125,8 @@ fn sync_folder(rt: &HostRuntime) -> io::Result<()> {
 }
 
 impl Desk for DeskFile {
-    ghost use Rattle.std.specs.Prelude.{◌≡◌, List, ℕ, Option, Some, None, false, OnOk, OnSome, IsSome, IfOk, MatchOption, IsTrue, IsErr, IsErrOf};
+    ghost use Rattle.std.specs.Prelude.{◌≡◌, List, ℕ, Option, Some, None, false, OnOk, OnSome};
+    ghost use Rattle.std.specs.Prelude.{IsSome, IfOk, MatchOption, IsTrue, IsErr, IsErrOf};
     ghost use Rattle.pot_outside.specs.Counts.{Caused};
     ghost use Rattle.pot_outside.specs.Streams.{Replaces};
 

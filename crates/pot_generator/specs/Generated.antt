@@ -1,5 +1,5 @@
--- The script of a number: 24 files are stored, an archive is replaced, each file is fetched in a batch, a group is repaired, and
--- each file is fetched again.
+-- The script of a number: 24 files are stored, an archive is replaced, each file is fetched in a
+-- batch, a group is repaired, and each file is fetched again.
 use Rattle.std.specs.Prelude.{ℕ, ◌+◌, ◌*◌, ◌%◌, ◌++◌, List, [], ◌∷◌, map, codes, decimal}
 use Rattle.std.specs.List.{range_with_len}
 use Rattle.pot_script.specs.declared.command.Command.{Command}
@@ -26,7 +26,8 @@ name_of place = codes "f" ++ decimal place
 
 -- a store of each of the first files, and a fetch
 abbrev pub first_stores : ℕ → ℕ → List Command
-first_stores number n = map (λ place. commands.Store (name_of place) (file_of number place)) (range_with_len 0 n)
+first_stores number n =
+    map (λ place. commands.Store (name_of place) (file_of number place)) (range_with_len 0 n)
 
 abbrev pub first_fetches : ℕ → List Command
 first_fetches n = map (λ place. commands.Fetch (name_of place)) (range_with_len 0 n)

@@ -1,8 +1,11 @@
-ghost use Rattle.std.specs.Prelude.{◌≡◌, ◌∷◌, ◌+◌, ◌<◌, ◌≤◌, length, replicate, take, slice_index, nat_eq};
+ghost use Rattle.std.specs.Prelude.{◌≡◌, ◌∷◌, ◌+◌, ◌<◌, ◌≤◌, length, replicate, take, slice_index};
+ghost use Rattle.std.specs.Prelude.{nat_eq};
 ghost use Rattle.std.specs.List.{All, IsDistinct};
 ghost use Rattle.pot_bytes.specs.Sums.{xor};
 ghost use Rattle.pot_bytes.specs.Weighted.{scaled};
-ghost use Rattle.pot_gf.specs.Polynomials.{value, IsPoly, IsBelowDegree, IsSame, VanishesAt, PassesThrough, IsTheOnlyOne, IsTimesLine, Meets, PolynomialLaws, vanishing};
+ghost use Rattle.pot_gf.specs.Polynomials.{value, IsPoly, IsBelowDegree, IsSame, VanishesAt};
+ghost use Rattle.pot_gf.specs.Polynomials.{PassesThrough, IsTheOnlyOne, IsTimesLine, Meets};
+ghost use Rattle.pot_gf.specs.Polynomials.{PolynomialLaws, vanishing};
 
 use crate::field::{inv, mul};
 use pot_bytes::add_weighted;

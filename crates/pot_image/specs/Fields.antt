@@ -1,5 +1,6 @@
--- A grammar of fields, one after another. What stands next depends on what was read: a grammar is done with a value, or
--- wants a field of some size that keeps a rule, and goes on by the bytes of that field.
+-- A grammar of fields, one after another. What stands next depends on what was read: a grammar is
+-- done with a value, or wants a field of some size that keeps a rule, and goes on by the bytes of
+-- that field.
 use Rattle.std.specs.Prelude.{◌≡◌, ◌⊎◌, ◌<◌, ◌++◌, ℕ, List, [], ◌∷◌, Bool, true, length}
 
 -- a field: its size, and the rule that its bytes keep
@@ -19,15 +20,16 @@ IsField f bytes = (length bytes ≡ f.size) × (f.holds bytes ≡ true)
 abbrev pub NoField : Field → List ℕ → Type 0
 NoField f bytes = (front back : List ℕ) → bytes ≡ front ++ back → IsField f front → ⊥
 
--- these fields are those that the grammar wants in turn, and it is done with this value behind the last
+-- these fields are those that the grammar wants in turn, and it is done with this value behind the
+-- last
 abbrev pub ReadsFields : {A : Type 0} → Grammar A → List (List ℕ) → A → Type 0
 ReadsFields (done b) [] a = b ≡ a
 ReadsFields (done b) (x ∷ xs) a = ⊥
 ReadsFields (wants f next) [] a = ⊥
 ReadsFields (wants f next) (x ∷ xs) a = IsField f x × ReadsFields (next x) xs a
 
--- These fields are those that the grammar wants in turn. Behind the last it wants another, which does not stand at the front
--- of the rest.
+-- These fields are those that the grammar wants in turn. Behind the last it wants another, which
+-- does not stand at the front of the rest.
 abbrev pub Breaks : {A : Type 0} → Grammar A → List (List ℕ) → List ℕ → Type 0
 Breaks (done b) xs rest = ⊥
 Breaks (wants f next) [] rest = NoField f rest
@@ -61,7 +63,7 @@ pub record RunsOnTo {A : Type 0} (g : Grammar A) (bytes : List ℕ) (place : ℕ
   pub left : 0 < length rest
   pub counted : place ≡ length bytes
 
--- The bytes leave the grammar at this place: that of the first field that breaks its rule or does not end, or the end of the
--- bytes, where some are left behind the last field.
+-- The bytes leave the grammar at this place: that of the first field that breaks its rule or does
+-- not end, or the end of the bytes, where some are left behind the last field.
 abbrev pub LeavesAt : {A : Type 0} → Grammar A → List ℕ → ℕ → Type 0
 LeavesAt g bytes place = BreaksAt g bytes place ⊎ RunsOnTo g bytes place

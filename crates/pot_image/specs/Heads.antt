@@ -8,7 +8,8 @@ use Rattle.pot_image.specs.Fields.{Grammar, done}
 use Rattle.pot_image.specs.Reading.{◌>>=◌}
 use Rattle.pot_image.specs.Numbers.{natural, any, between, zeros}
 
--- a geometry: k, m, n and the blur. The field of n carries the rules that m is at most n and that there are as many groups
+-- a geometry: k, m, n and the blur. The field of n carries the rules that m is at most n and that
+-- there are as many groups
 unfoldable pub geometry : ℕ → Grammar Geometry
 geometry groups =
     natural 1 (between 2 8) >>= λ fragments.
@@ -17,7 +18,8 @@ geometry groups =
     natural 1 (between 0 63) >>= λ blur.
     done (record { fragments = fragments; need = need; shards = shards; blur = blur })
 
--- the number of parity columns and a zero. In the first format two zeros stand for one parity column
+-- the number of parity columns and a zero. In the first format two zeros stand for one parity
+-- column
 unfoldable pub parity : Format → Grammar ℕ
 parity First = zeros 2 >>= λ padding. done 1
 parity Second = natural 1 (between 1 2) >>= λ parity. zeros 1 >>= λ padding. done parity
@@ -31,4 +33,13 @@ head format =
     geometry groups >>= λ geometry.
     parity format >>= λ parity.
     natural 4 (between 1 4096) >>= λ stripes.
-    done (record { session = session; rack = record { groups = groups; columns = columns; parity = parity; stripes = stripes; geometry = geometry } })
+    done (record {
+      session = session;
+      rack = record {
+        groups = groups;
+        columns = columns;
+        parity = parity;
+        stripes = stripes;
+        geometry = geometry;
+      };
+    })

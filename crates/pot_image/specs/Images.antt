@@ -1,5 +1,6 @@
 -- The image of a desk: its fields, and how its bytes are answered.
-use Rattle.std.specs.Prelude.{◌≡◌, ◌≢◌, ◌⊎◌, ◌<◌, ◌≤◌, ℕ, ◌+◌, ◌-◌, List, [], ◌∷◌, Result, Err, MatchResult, length, take, drop, map}
+use Rattle.std.specs.Prelude.{◌≡◌, ◌≢◌, ◌⊎◌, ◌<◌, ◌≤◌, ℕ, ◌+◌, ◌-◌, List, [], ◌∷◌, Result, Err}
+use Rattle.std.specs.Prelude.{MatchResult, length, take, drop, map}
 use Rattle.byteorder.specs.Endian.{big_number}
 use Rattle.pot_bytes.specs.Digests.{digest_bytes}
 use Rattle.pot_bytes.specs.declared.rack.Rack.{Rack}
@@ -29,11 +30,20 @@ pub record Contents : Type 0 where
   pub index_log : List IndexEntry
 
 abbrev pub contents : Image → Contents
-contents i = record { session = i.session; rack = i.rack; tables = i.tables.items; records = i.records.items; group_logs = map (λ v. v.items) i.group_logs.items; index_log = i.index_log.items }
+contents i =
+    record {
+      session = i.session;
+      rack = i.rack;
+      tables = i.tables.items;
+      records = i.records.items;
+      group_logs = map (λ v. v.items) i.group_logs.items;
+      index_log = i.index_log.items;
+    }
 
 -- THE FIELDS
 
--- what stands between the length and the trailer: the head, the tables, the records, the logs of the groups and that of the index
+-- what stands between the length and the trailer: the head, the tables, the records, the logs of
+-- the groups and that of the index
 unfoldable pub image : Format → Grammar Contents
 image format =
     head format >>= λ h.
@@ -41,7 +51,14 @@ image format =
     records format h.rack tables >>= λ records.
     group_logs format h.rack >>= λ group_logs.
     index_log format >>= λ index_log.
-    done (record { session = h.session; rack = h.rack; tables = tables; records = records; group_logs = group_logs; index_log = index_log })
+    done (record {
+      session = h.session;
+      rack = h.rack;
+      tables = tables;
+      records = records;
+      group_logs = group_logs;
+      index_log = index_log;
+    })
 
 -- THE ANSWER TO SOME BYTES, IN THE ORDER OF THE REFUSALS
 
@@ -63,7 +80,8 @@ before_trailer bytes = take (length bytes - 32) bytes
 abbrev pub trailer : List ℕ → List ℕ
 trailer bytes = drop (length bytes - 32) bytes
 
--- why the fields were not read: they leave the grammar at a place, which is counted from the front of the image
+-- why the fields were not read: they leave the grammar at a place, which is counted from the front
+-- of the image
 abbrev pub Leaves : Grammar Contents → List ℕ → ImageFault → Type 0
 Leaves g body (faults.Form place) = (p : ℕ) × (place ≡ 16 + p) × LeavesAt g body p
 Leaves g body faults.NoMemory = Unit {0}
@@ -72,13 +90,17 @@ Leaves g body (faults.Trailer kept computed) = ⊥
 
 -- fifth: the fields are those of an image, or leave the grammar somewhere
 abbrev pub Answered : Format → List ℕ → Result Image ImageFault → Type 0
-Answered format body r = MatchResult r (λ i. IsOf (image format) body (contents i)) (Leaves (image format) body)
+Answered format body r =
+    MatchResult r (λ i. IsOf (image format) body (contents i)) (Leaves (image format) body)
 
 -- fourth: the last 32 bytes are the digest of all before, or not
 abbrev pub Trailed : Format → List ℕ → Result Image ImageFault → Type 0
 Trailed format bytes r =
-    ((trailer bytes ≢ digest_bytes (before_trailer bytes)) × (r ≡ Err (faults.Trailer (record { bytes = trailer bytes }) (record { bytes = digest_bytes (before_trailer bytes) }))))
-    ⊎ ((trailer bytes ≡ digest_bytes (before_trailer bytes)) × Answered format (drop 16 (before_trailer bytes)) r)
+    ((trailer bytes ≢ digest_bytes (before_trailer bytes))
+    × (r ≡ Err (faults.Trailer (record { bytes = trailer bytes })
+    (record { bytes = digest_bytes (before_trailer bytes) }))))
+    ⊎ ((trailer bytes ≡ digest_bytes (before_trailer bytes))
+    × Answered format (drop 16 (before_trailer bytes)) r)
 
 -- third: there are fewer bytes than the image says, or more, or as many
 abbrev pub Measured : Format → List ℕ → Result Image ImageFault → Type 0
@@ -95,8 +117,11 @@ Numbered bytes r =
     ⊎ ((format_number bytes ≡ 2) × Measured Second bytes r)
 
 abbrev pub Marked : List ℕ → Result Image ImageFault → Type 0
-Marked bytes r = ((take 4 bytes ≢ magic) × (r ≡ Err (faults.Form 0))) ⊎ ((take 4 bytes ≡ magic) × Numbered bytes r)
+Marked bytes r =
+    ((take 4 bytes ≢ magic) × (r ≡ Err (faults.Form 0)))
+    ⊎ ((take 4 bytes ≡ magic) × Numbered bytes r)
 
 -- first: there are fewer than 48 bytes, or not
 abbrev pub AnswersImage : List ℕ → Result Image ImageFault → Type 0
-AnswersImage bytes r = ((length bytes < 48) × (r ≡ Err faults.Cut)) ⊎ ((48 ≤ length bytes) × Marked bytes r)
+AnswersImage bytes r =
+    ((length bytes < 48) × (r ≡ Err faults.Cut)) ⊎ ((48 ≤ length bytes) × Marked bytes r)

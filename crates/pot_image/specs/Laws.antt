@@ -1,4 +1,5 @@
--- What is proved of grammars of fields, of an image that is read after it was written, and of the bytes of one that is read.
+-- What is proved of grammars of fields, of an image that is read after it was written, and of the
+-- bytes of one that is read.
 use Rattle.std.specs.Prelude.{◌≡◌, ◌⊎◌, ℕ, List, Result, Ok, MatchResult}
 use Rattle.pot_bytes.specs.Lists.{AreBytes}
 use Rattle.pot_image.specs.declared.format.Format.{Format}
@@ -35,7 +36,9 @@ FieldsReadBack = (v : Contents) → IsImage v → IsOf (image Second) (field_byt
 
 -- whatever reading may answer to its bytes is the image, unless memory was not found
 abbrev pub ReadBack : Type 0
-ReadBack = (v : Contents) (r : Result Image ImageFault) → IsImage v → AnswersImage (image_bytes v) r → MatchResult r (λ i. contents i ≡ v) (λ e. e ≡ faults.NoMemory)
+ReadBack =
+    (v : Contents) (r : Result Image ImageFault) → IsImage v → AnswersImage (image_bytes v) r
+    → MatchResult r (λ i. contents i ≡ v) (λ e. e ≡ faults.NoMemory)
 
 -- no two images have the same bytes
 abbrev pub WrittenApart : Type 0
@@ -53,16 +56,25 @@ SomeImage = (v : Contents) × IsImage v
 
 -- in each format: bytes that are read as the same value are the same bytes
 abbrev pub OneSpelling : Type 0
-OneSpelling = (format : Format) (x y : List ℕ) (v : Contents) → AreBytes x → AreBytes y → IsOf (image format) x v → IsOf (image format) y v → x ≡ y
+OneSpelling =
+    (format : Format) (x y : List ℕ) (v : Contents) → AreBytes x → AreBytes y
+    → IsOf (image format) x v → IsOf (image format) y v → x ≡ y
 
 -- in the second format they are those that are written
 abbrev pub SpelledAsWritten : Type 0
-SpelledAsWritten = (bytes : List ℕ) (v : Contents) → AreBytes bytes → IsOf (image Second) bytes v → bytes ≡ field_bytes v
+SpelledAsWritten =
+    (bytes : List ℕ) (v : Contents) → AreBytes bytes → IsOf (image Second) bytes v
+    → bytes ≡ field_bytes v
 
--- the same of all bytes of an image: those that reading answers with one value, in one format, are the same bytes
+-- the same of all bytes of an image: those that reading answers with one value, in one format, are
+-- the same bytes
 abbrev pub OneImage : Type 0
-OneImage = (x y : List ℕ) (i j : Image) → AreBytes x → AreBytes y → AnswersImage x (Ok i) → AnswersImage y (Ok j) → format_number x ≡ format_number y → contents i ≡ contents j → x ≡ y
+OneImage =
+    (x y : List ℕ) (i j : Image) → AreBytes x → AreBytes y → AnswersImage x (Ok i)
+    → AnswersImage y (Ok j) → format_number x ≡ format_number y → contents i ≡ contents j → x ≡ y
 
 -- and in the second format they are those that are written
 abbrev pub ImageAsWritten : Type 0
-ImageAsWritten = (x : List ℕ) (i : Image) → AreBytes x → AnswersImage x (Ok i) → format_number x ≡ 2 → x ≡ image_bytes (contents i)
+ImageAsWritten =
+    (x : List ℕ) (i : Image) → AreBytes x → AnswersImage x (Ok i) → format_number x ≡ 2
+    → x ≡ image_bytes (contents i)

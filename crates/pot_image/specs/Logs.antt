@@ -4,9 +4,13 @@ use Rattle.pot_bytes.specs.declared.digest.Digest.{Digest}
 use Rattle.pot_bytes.specs.declared.rack.Rack.{Rack}
 use Rattle.pot_bytes.specs.Rack.{log_bound}
 use Rattle.pot_machine.specs.declared.entry.Entry.{Entry}
-use Rattle.pot_machine.specs.declared.entry.Entry.TheVariants.{Put, Skip, Seen, Gone, Broke, Fault, Begin, Hop, Mended, GaveUp, Oddly, Stuck, MoveBegin, Moved, MoveEnd, Swapped, Counted, Put2}
+use Rattle.pot_machine.specs.declared.entry.Entry.TheVariants.{Put, Skip, Seen, Gone, Broke, Fault}
+use Rattle.pot_machine.specs.declared.entry.Entry.TheVariants.{Begin, Hop, Mended, GaveUp, Oddly}
+use Rattle.pot_machine.specs.declared.entry.Entry.TheVariants.{Stuck, MoveBegin, Moved, MoveEnd}
+use Rattle.pot_machine.specs.declared.entry.Entry.TheVariants.{Swapped, Counted, Put2}
 use Rattle.pot_index.specs.declared.entry.IndexEntry.{IndexEntry}
-use Rattle.pot_index.specs.declared.entry.IndexEntry.TheVariants.{Reserve, Taken, Publish, Abandon, Find, Listed, Renew, Often}
+use Rattle.pot_index.specs.declared.entry.IndexEntry.TheVariants.{Reserve, Taken, Publish, Abandon}
+use Rattle.pot_index.specs.declared.entry.IndexEntry.TheVariants.{Find, Listed, Renew, Often}
 use Rattle.pot_image.specs.declared.format.Format.{Format}
 use Rattle.pot_image.specs.declared.format.Format.TheVariants.{First, Second}
 use Rattle.pot_image.specs.Fields.{Grammar, done}
@@ -54,11 +58,15 @@ abbrev pub of_archive : Rack → (ℕ → ℕ → Entry) → Grammar Entry
 of_archive rack entry = column rack >>= λ c. archive >>= λ to. done (entry c to)
 
 abbrev pub of_put : Rack → (ℕ → ℕ → Digest → Digest → Bool → Entry) → Grammar Entry
-of_put rack entry = place rack >>= λ at. digest >>= λ d. digest >>= λ p. flag >>= λ kept. done (entry at.0 at.1 d p kept)
+of_put rack entry =
+    place rack >>= λ at. digest >>= λ d. digest >>= λ p. flag >>= λ kept. done
+    (entry at.0 at.1 d p kept)
 
-abbrev pub of_two_puts : Rack → (ℕ → ℕ → Digest → Digest → Digest → Bool → Bool → Entry) → Grammar Entry
+abbrev pub of_two_puts : Rack → (ℕ → ℕ → Digest → Digest → Digest → Bool → Bool → Entry)
+    → Grammar Entry
 of_two_puts rack entry =
-    place rack >>= λ at. digest >>= λ d. digest >>= λ p. digest >>= λ q. flag >>= λ kept. flag >>= λ kept2.
+    place rack >>= λ at. digest >>= λ d. digest >>= λ p. digest >>= λ q. flag >>= λ kept. flag >>=
+    λ kept2.
     done (entry at.0 at.1 d p q kept kept2)
 
 -- the entry of a kind from 3 to 9, which says a place and no more

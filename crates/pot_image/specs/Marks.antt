@@ -1,5 +1,5 @@
--- How a reader remembers the places of a split: each place of the rack has a stamp, and those with the stamp of the split are
--- its places so far.
+-- How a reader remembers the places of a split: each place of the rack has a stamp, and those with
+-- the stamp of the split are its places so far.
 use Rattle.std.specs.Prelude.{◌≡◌, ◌<◌, ◌≤◌, ℕ, ◌+◌, ◌*◌, ◌==◌, not, List, length, slice_index}
 use Rattle.pot_bytes.specs.declared.rack.Place.{Place}
 use Rattle.pot_bytes.specs.declared.rack.Rack.{Rack}

@@ -6,7 +6,9 @@ use Rattle.pot_image.specs.Fields.{Grammar, done, wants}
 
 -- a number of so many bytes, the highest first, that keeps a rule
 unfoldable pub natural : ℕ → (ℕ → Bool) → Grammar ℕ
-natural size rule = wants (record { size = size; holds = λ x. rule (big_number size x) }) (λ x. done (big_number size x))
+natural size rule =
+    wants (record { size = size; holds = λ x. rule (big_number size x) })
+    (λ x. done (big_number size x))
 
 -- so many bytes that keep a rule
 unfoldable pub text : ℕ → (List ℕ → Bool) → Grammar (List ℕ)
@@ -27,7 +29,9 @@ zeros size = natural size (λ n. n == 0)
 
 -- a byte of 0 or 1
 unfoldable pub flag : Grammar Bool
-flag = wants (record { size = 1; holds = λ x. nat_le (big_number 1 x) 1 }) (λ x. done (big_number 1 x == 1))
+flag =
+    wants (record { size = 1; holds = λ x. nat_le (big_number 1 x) 1 })
+    (λ x. done (big_number 1 x == 1))
 
 -- 32 bytes
 unfoldable pub digest : Grammar Digest

@@ -1,5 +1,6 @@
 -- The records of an image.
-use Rattle.std.specs.Prelude.{ℕ, ◌-◌, ◌*◌, ◌==◌, ◌&&◌, Bool, true, false, not, Some, None, List, [], length, slice_get}
+use Rattle.std.specs.Prelude.{ℕ, ◌-◌, ◌*◌, ◌==◌, ◌&&◌, Bool, true, false, not, Some, None, List, []}
+use Rattle.std.specs.Prelude.{length, slice_get}
 use Rattle.std.specs.List.{list_any, list_all}
 use Rattle.std.specs.Cmp.Lexicographic.{slice_cmp}
 use Rattle.std.specs.Ordering.{is_lt, nat_cmp}
@@ -32,11 +33,14 @@ name rule =
 
 -- the name is above that of the last of these records
 abbrev pub is_above : List Record → List ℕ → Bool
-is_above before x = elim (slice_get before (length before - 1)) [ None ↦ true | Some r ↦ is_lt (slice_cmp nat_cmp r.name x) ]
+is_above before x =
+    elim (slice_get before (length before - 1))
+    [ None ↦ true | Some r ↦ is_lt (slice_cmp nat_cmp r.name x) ]
 
 -- the slot at this place is not Void
 abbrev pub is_filled : List Table → ℕ → ℕ → ℕ → Bool
-is_filled tables g c s = elim (slice_get tables g) [ None ↦ false | Some t ↦ not (is_void (slot_at t s c)) ]
+is_filled tables g c s =
+    elim (slice_get tables g) [ None ↦ false | Some t ↦ not (is_void (slot_at t s c)) ]
 
 abbrev pub is_at : ℕ → ℕ → ℕ → Place → Bool
 is_at g c s p = (p.group == g) && ((p.column == c) && (p.stripe == s))
@@ -45,13 +49,15 @@ is_at g c s p = (p.group == g) && ((p.column == c) && (p.stripe == s))
 abbrev pub is_apart : List Place → ℕ → ℕ → ℕ → Bool
 is_apart before g c s = not (list_any (is_at g c s) before)
 
--- The place of a block, by its number, behind those of the blocks before it: its group, a data column, and a stripe. The
--- field of the stripe carries the rules that the slot is not Void and that the place is not among those before.
+-- The place of a block, by its number, behind those of the blocks before it: its group, a data
+-- column, and a stripe. The field of the stripe carries the rules that the slot is not Void and
+-- that the place is not among those before.
 unfoldable pub place : Rack → List Table → Geometry → ℕ → List Place → Grammar Place
 place rack tables g b before =
     natural 1 (λ n. n == group_of rack g b) >>= λ group.
     natural 1 (between 0 (rack.columns - 1)) >>= λ column.
-    natural 4 (λ s. at_most (rack.stripes - 1) s && (is_filled tables group column s && is_apart before group column s)) >>= λ stripe.
+    natural 4 (λ s. at_most (rack.stripes - 1) s
+    && (is_filled tables group column s && is_apart before group column s)) >>= λ stripe.
     done (record { group = group; column = column; stripe = stripe })
 
 -- the places of a file of so many pieces that is split so
@@ -68,7 +74,8 @@ split rack tables pieces =
 abbrev pub split_behind : Rack → List Table → ℕ → ℕ → List Split → Grammar Split
 split_behind rack tables pieces i before = split rack tables pieces
 
--- the number of splits, 1 to 16, and the splits. In the first format one split of the rack's geometry, which is not written
+-- the number of splits, 1 to 16, and the splits. In the first format one split of the rack's
+-- geometry, which is not written
 unfoldable pub splits : Format → Rack → List Table → ℕ → Grammar RecordSplits
 splits First rack tables pieces =
     places rack tables pieces rack.geometry >>= λ ps.
@@ -86,7 +93,14 @@ record_behind format rack tables i before =
     natural 8 (at_most longest) >>= λ length.
     digest >>= λ digest.
     splits format rack tables (pieces_of length) >>= λ s.
-    done (record { name = name; length = length; digest = digest; geometry = s.current.geometry; places = s.current.places; older = s.older })
+    done (record {
+      name = name;
+      length = length;
+      digest = digest;
+      geometry = s.current.geometry;
+      places = s.current.places;
+      older = s.older;
+    })
 
 -- the number of records and the records
 unfoldable pub records : Format → Rack → List Table → Grammar (List Record)

@@ -1,5 +1,6 @@
 -- The rules of what stands in an image, by what they say of its values.
-use Rattle.std.specs.Prelude.{◌≡◌, ◌<◌, ◌≤◌, ◌+◌, ◌^◌, ℕ, false, nat_eq, Some, List, [], length, slice_get, All, flat_map}
+use Rattle.std.specs.Prelude.{◌≡◌, ◌<◌, ◌≤◌, ◌+◌, ◌^◌, ℕ, false, nat_eq, Some, List, [], length}
+use Rattle.std.specs.Prelude.{slice_get, All, flat_map}
 use Rattle.std.specs.List.{IsDistinct}
 use Rattle.pot_bytes.specs.declared.digest.Digest.{Digest}
 use Rattle.pot_bytes.specs.declared.rack.Place.{Place}
@@ -12,9 +13,13 @@ use Rattle.pot_machine.specs.Rules.{IsTable}
 use Rattle.pot_bytes.specs.Names.{IsName}
 use Rattle.pot_bytes.specs.Rack.{IsRack, log_bound}
 use Rattle.pot_machine.specs.declared.entry.Entry.{Entry}
-use Rattle.pot_machine.specs.declared.entry.Entry.TheVariants.{Put, Skip, Seen, Gone, Broke, Fault, Begin, Hop, Mended, GaveUp, Oddly, Stuck, MoveBegin, Moved, MoveEnd, Swapped, Counted, Put2}
+use Rattle.pot_machine.specs.declared.entry.Entry.TheVariants.{Put, Skip, Seen, Gone, Broke, Fault}
+use Rattle.pot_machine.specs.declared.entry.Entry.TheVariants.{Begin, Hop, Mended, GaveUp, Oddly}
+use Rattle.pot_machine.specs.declared.entry.Entry.TheVariants.{Stuck, MoveBegin, Moved, MoveEnd}
+use Rattle.pot_machine.specs.declared.entry.Entry.TheVariants.{Swapped, Counted, Put2}
 use Rattle.pot_index.specs.declared.entry.IndexEntry.{IndexEntry}
-use Rattle.pot_index.specs.declared.entry.IndexEntry.TheVariants.{Reserve, Taken, Publish, Abandon, Find, Listed, Renew, Often}
+use Rattle.pot_index.specs.declared.entry.IndexEntry.TheVariants.{Reserve, Taken, Publish, Abandon}
+use Rattle.pot_index.specs.declared.entry.IndexEntry.TheVariants.{Find, Listed, Renew, Often}
 use Rattle.pot_index.specs.declared.record.Record.{Record}
 use Rattle.pot_index.specs.Records.{splits_of}
 use Rattle.pot_index.specs.Index.{AreRead}
@@ -47,7 +52,8 @@ pub record FitsTable (rack : Rack) (t : Table) : Type 0 where
   pub stripes : t.stripes ≡ rack.stripes
   pub relays : t.relays ≡ []
 
--- a table for each group of this rack, and the homes and targets of all their columns are distinct archives
+-- a table for each group of this rack, and the homes and targets of all their columns are distinct
+-- archives
 pub record AreTables (rack : Rack) (ts : List Table) : Type 0 where
   pub count : length ts ≡ rack.groups
   pub fits : All (FitsTable rack) ts
@@ -70,7 +76,8 @@ pub record AreRecords (rack : Rack) (ts : List Table) (rs : List Record) : Type 
   pub read : AreRead rack rs
   pub each : All (IsRecordOver ts) rs
 
--- the parts fit together: a rack within its limits, the tables of its groups, records over them, and a log for each group
+-- the parts fit together: a rack within its limits, the tables of its groups, records over them,
+-- and a log for each group
 pub record FitsTogether (v : Contents) : Type 0 where
   pub rack : IsRack v.rack
   pub tables : AreTables v.rack v.tables
@@ -106,15 +113,18 @@ FitsEntry rack (Fault job s c) = IsJob job × IsAt rack s c
 FitsEntry rack (Begin job s c) = IsJob job × IsAt rack s c
 FitsEntry rack (Hop job s c) = IsJob job × IsAt rack s c
 FitsEntry rack (Mended job s c) = IsJob job × IsAt rack s c
-FitsEntry rack (GaveUp job s c other) = IsJob job × (IsAt rack s c × (other < rack.columns + rack.parity))
+FitsEntry rack (GaveUp job s c other) =
+    IsJob job × (IsAt rack s c × (other < rack.columns + rack.parity))
 FitsEntry rack (Oddly job s c found) = IsJob job × (IsAt rack s c × IsDigest found)
-FitsEntry rack (Stuck job s c other) = IsJob job × (IsAt rack s c × (other < rack.columns + rack.parity))
+FitsEntry rack (Stuck job s c other) =
+    IsJob job × (IsAt rack s c × (other < rack.columns + rack.parity))
 FitsEntry rack (MoveBegin job c to) = IsJob job × IsMove rack c to
 FitsEntry rack (Moved job s c copied) = IsJob job × IsAt rack s c
 FitsEntry rack (MoveEnd job c) = IsJob job × (c < rack.columns + rack.parity)
 FitsEntry rack (Swapped job c to) = IsJob job × IsMove rack c to
 FitsEntry rack (Counted job) = IsJob job
-FitsEntry rack (Put2 job s c d p q kept kept2) = IsJob job × (IsAt rack s c × (IsDigest d × (IsDigest p × IsDigest q)))
+FitsEntry rack (Put2 job s c d p q kept kept2) =
+    IsJob job × (IsAt rack s c × (IsDigest d × (IsDigest p × IsDigest q)))
 
 -- an entry of the index's log is of a name, and its mark is whole
 abbrev pub FitsIndexEntry : IndexEntry → Type 0
@@ -132,8 +142,8 @@ pub record IsLog {X : Type 0} (Fits : X → Type 0) (xs : List X) : Type 0 where
   pub count : length xs ≤ log_bound
   pub fits : All Fits xs
 
--- what an image may hold: a session whose number has four bytes, parts that fit together, whole digests, and logs of entries that
--- fit. Its bytes are fewer than 2^64
+-- what an image may hold: a session whose number has four bytes, parts that fit together, whole
+-- digests, and logs of entries that fit. Its bytes are fewer than 2^64
 pub record IsImage (v : Contents) : Type 0 where
   pub session : v.session < 2 ^ 32
   pub together : FitsTogether v

@@ -1,5 +1,7 @@
 -- The tables of an image.
-use Rattle.std.specs.Prelude.{ℕ, ◌+◌, ◌-◌, ◌*◌, ◌==◌, ◌&&◌, ◌||◌, nat_le, nat_lt, Bool, not, if◌then◌else◌, Some, None, List, [], ◌∷◌, ◌++◌, flat_map, slice_index_or}
+use Rattle.std.specs.Prelude.{ℕ, ◌+◌, ◌-◌, ◌*◌, ◌==◌, ◌&&◌, ◌||◌, nat_le, nat_lt, Bool, not}
+use Rattle.std.specs.Prelude.{if◌then◌else◌, Some, None, List, [], ◌∷◌, ◌++◌, flat_map}
+use Rattle.std.specs.Prelude.{slice_index_or}
 use Rattle.std.specs.List.{list_any}
 use Rattle.pot_bytes.specs.declared.digest.Digest.{Digest}
 use Rattle.pot_bytes.specs.declared.rack.Rack.{Rack}
@@ -19,7 +21,8 @@ use Rattle.pot_image.specs.Numbers.{natural, at_most, between, zeros, flag, dige
 abbrev pub is_free : List ℕ → ℕ → Bool
 is_free taken n = nat_le n 511 && not (list_any (λ m. m == n) taken)
 
--- behind the flag 1: the target, which differs from the home too, and the position, at most the number of stripes
+-- behind the flag 1: the target, which differs from the home too, and the position, at most the
+-- number of stripes
 abbrev pub moving : ℕ → List ℕ → ℕ → Grammar Column
 moving stripes taken home =
     natural 4 (is_free taken) >>= λ to.
@@ -49,13 +52,15 @@ column_behind stripes taken c before = column stripes (taken ++ flat_map homes_o
 unfoldable pub columns : ℕ → ℕ → List ℕ → Grammar (List Column)
 columns width stripes taken = several 0 width (column_behind stripes taken) []
 
--- Whether the slot of stripe `s` and column `c` may be Void, or may be another, behind these slots: all slots of the stripes
--- after the cursor's are Void. Each parity slot is Void exactly where the first data slot of its stripe is. In the cursor's stripe the
--- data slots that are not Void are exactly those before the cursor, and in the stripes before it they are the first columns.
+-- Whether the slot of stripe `s` and column `c` may be Void, or may be another, behind these slots:
+-- all slots of the stripes after the cursor's are Void. Each parity slot is Void exactly where the
+-- first data slot of its stripe is. In the cursor's stripe the data slots that are not Void are
+-- exactly those before the cursor, and in the stripes before it they are the first columns.
 abbrev pub allows : Cursor → ℕ → ℕ → List SlotState → ℕ → ℕ → Bool → Bool
 allows cursor data_columns width before s c void =
     if nat_lt cursor.stripe s then void
-    else if nat_le data_columns c then (if is_void (slice_index_or before (s * width) Void) then void else not void)
+    else if nat_le data_columns c
+    then (if is_void (slice_index_or before (s * width) Void) then void else not void)
     else if s == cursor.stripe then (if nat_le cursor.column c then void else not void)
     else (c == 0) || (not (is_void (slice_index_or before (s * width + c - 1) Void)) || void)
 
@@ -71,11 +76,13 @@ slot allowed =
 
 -- the slot of a stripe and a column behind others
 abbrev pub slot_behind : Cursor → ℕ → ℕ → ℕ → ℕ → List SlotState → Grammar SlotState
-slot_behind cursor data_columns width s c before = slot (allows cursor data_columns width before s c)
+slot_behind cursor data_columns width s c before =
+    slot (allows cursor data_columns width before s c)
 
 -- the slots of a stripe, behind those of the stripes before it
 unfoldable pub stripe_slots : Cursor → ℕ → ℕ → ℕ → List SlotState → Grammar (List SlotState)
-stripe_slots cursor data_columns width s before = several 0 width (slot_behind cursor data_columns width s) before
+stripe_slots cursor data_columns width s before =
+    several 0 width (slot_behind cursor data_columns width s) before
 
 -- all slots, stripe by stripe and column by column
 unfoldable pub slots : Cursor → ℕ → ℕ → ℕ → Grammar (List SlotState)

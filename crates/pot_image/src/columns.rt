@@ -20,7 +20,8 @@ fn is_free(taken: &[u32], number: u32) -> bool
 
 /// The number of an archive that is not among these. It is added to them.
 fn read_archive<'a>(bytes: &'a [u8], taken: &mut Vec<u32>) -> Result<(u32, &'a [u8]), Fault>
-    ensures reads { Gives (λ x. (x.0, x.1.now)) result (reading (natural 4 (is_free taken.old.items)) bytes.now) }
+    ensures reads { Gives (λ x. (x.0, x.1.now)) result
+        (reading (natural 4 (is_free taken.old.items)) bytes.now) }
     ensures taken { IfOk result (λ x. taken.new.items ≡ taken.old.items ++ x.0 ∷ []) }
 {
     let (number, rest) = read_number(bytes)?;
@@ -70,8 +71,10 @@ fn read_moving<'a>(
     taken: &mut Vec<u32>,
     home: u32,
 ) -> Result<(Column, &'a [u8]), Fault>
-    ensures reads { Gives (λ x. (x.0, x.1.now)) result (reading (moving stripes taken.old.items home) bytes.now) }
-    ensures taken { (before : List ℕ) → taken.old.items ≡ before ++ home ∷ [] → IfOk result (λ x. taken.new.items ≡ before ++ homes_of x.0) }
+    ensures reads { Gives (λ x. (x.0, x.1.now)) result
+        (reading (moving stripes taken.old.items home) bytes.now) }
+    ensures taken { (before : List ℕ) → taken.old.items ≡ before ++ home ∷ []
+        → IfOk result (λ x. taken.new.items ≡ before ++ homes_of x.0) }
 {
     let (to, after_target) = read_archive(bytes, taken)?;
     let (upto, rest) = read_at_most(after_target, stripes)?;
@@ -85,7 +88,8 @@ fn read_column<'a>(
     stripes: u32,
     taken: &mut Vec<u32>,
 ) -> Result<(Column, &'a [u8]), Fault>
-    ensures reads { Gives (λ x. (x.0, x.1.now)) result (reading (column stripes taken.old.items) bytes.now) }
+    ensures reads { Gives (λ x. (x.0, x.1.now)) result
+        (reading (column stripes taken.old.items) bytes.now) }
     ensures taken { IfOk result (λ x. taken.new.items ≡ taken.old.items ++ homes_of x.0) }
 {
     let (home, after_home) = read_archive(bytes, taken)?;
@@ -106,8 +110,10 @@ pub(crate) fn read_columns<'a>(
     stripes: u32,
     taken: &mut Vec<u32>,
 ) -> Result<(Vec<Column>, &'a [u8]), Fault>
-    ensures reads { Gives (λ x. (x.0.items, x.1.now)) result (reading (columns width stripes taken.old.items) bytes.now) }
-    ensures taken { IfOk result (λ x. taken.new.items ≡ taken.old.items ++ flat_map homes_of x.0.items) }
+    ensures reads { Gives (λ x. (x.0.items, x.1.now)) result
+        (reading (columns width stripes taken.old.items) bytes.now) }
+    ensures taken { IfOk result (λ x. taken.new.items
+        ≡ taken.old.items ++ flat_map homes_of x.0.items) }
 {
     let mut columns = Vec::with_capacity(alloc, usize::from(width))?;
     let mut rest = bytes;

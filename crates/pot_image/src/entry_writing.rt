@@ -22,7 +22,8 @@ fn append_placed(
     stripe: u32,
     column: u8,
 ) -> Result<(), AllocError>
-    ensures { OnOk result (out.new.items ≡ out.old.items ++ (lead_bytes kind job ++ place_bytes stripe column)) }
+    ensures { OnOk result
+        (out.new.items ≡ out.old.items ++ (lead_bytes kind job ++ place_bytes stripe column)) }
 {
     append_lead(out, kind, job)?;
     append_place(out, stripe, column)

@@ -11,7 +11,8 @@ use pot_bytes::Digest;
 /// A byte within these bounds.
 #[tactic(auto, unfolding(crate::specs::Reading::reading, crate::specs::Numbers::natural))]
 pub(crate) fn read_byte(bytes: &[u8], least: u8, most: u8) -> Result<(u8, &[u8]), Fault>
-    ensures { Gives (λ x. (x.0, x.1.now)) result (reading (natural 1 (between least most)) bytes.now) }
+    ensures { Gives (λ x. (x.0, x.1.now)) result
+        (reading (natural 1 (between least most)) bytes.now) }
 {
     match bytes {
         [] => Err(Fault::at(bytes)),

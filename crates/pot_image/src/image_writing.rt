@@ -1,9 +1,12 @@
 //! How an image is written.
-ghost use Rattle.std.specs.Prelude.{◌≡◌, ◌≤◌, ◌<◌, ◌^◌, ◌++◌, List, [], OnOk, IfOk, All, length, take, drop, flat_map, map};
+ghost use Rattle.std.specs.Prelude.{◌≡◌, ◌≤◌, ◌<◌, ◌^◌, ◌++◌, List, [], OnOk, IfOk, All, length};
+ghost use Rattle.std.specs.Prelude.{take, drop, flat_map, map};
 ghost use Rattle.byteorder.specs.Endian.{big_bytes};
 ghost use Rattle.pot_index.specs.Records.{record_bytes};
 ghost use Rattle.pot_image.specs.Images.{contents};
-ghost use Rattle.pot_image.specs.Spelling.{table_bytes, entry_bytes, index_entry_bytes, counted_bytes, field_bytes, text_bytes, image_bytes, IsCountable};
+ghost use Rattle.pot_image.specs.Spelling.{table_bytes, entry_bytes, index_entry_bytes};
+ghost use Rattle.pot_image.specs.Spelling.{counted_bytes, field_bytes, text_bytes, image_bytes};
+ghost use Rattle.pot_image.specs.Spelling.{IsCountable};
 
 use crate::entry_writing::append_entry;
 use crate::image::Image;
@@ -28,7 +31,8 @@ fn append_tables(out: &mut Vec<u8>, tables: &[GroupTable]) -> Result<(), AllocEr
 /// The number of the records, and the records.
 fn append_records(out: &mut Vec<u8>, records: &[Record]) -> Result<(), NoMemory>
     requires { length records.now < 2 ^ 32 }
-    ensures { OnOk result (out.new.items ≡ out.old.items ++ counted_bytes record_bytes records.now) }
+    ensures { OnOk result
+        (out.new.items ≡ out.old.items ++ counted_bytes record_bytes records.now) }
 {
     append_number(out, records.len() as u32)?;
     for record in records {
@@ -52,7 +56,9 @@ fn append_log(out: &mut Vec<u8>, entries: &[Entry]) -> Result<(), AllocError>
 /// The logs of the groups.
 fn append_logs(out: &mut Vec<u8>, logs: &[Vec<Entry>]) -> Result<(), AllocError>
     requires { All (λ v. length v.items < 2 ^ 32) logs.now }
-    ensures { OnOk result (out.new.items ≡ out.old.items ++ flat_map (λ v. counted_bytes entry_bytes v.items) logs.now) }
+    ensures { OnOk result
+        (out.new.items
+        ≡ out.old.items ++ flat_map (λ v. counted_bytes entry_bytes v.items) logs.now) }
 {
     for log in logs {
         append_log(out, log)?;
@@ -63,7 +69,8 @@ fn append_logs(out: &mut Vec<u8>, logs: &[Vec<Entry>]) -> Result<(), AllocError>
 /// The number of the entries of the index's log, and the entries.
 fn append_index_log(out: &mut Vec<u8>, entries: &[IndexEntry]) -> Result<(), AllocError>
     requires { length entries.now < 2 ^ 32 }
-    ensures { OnOk result (out.new.items ≡ out.old.items ++ counted_bytes index_entry_bytes entries.now) }
+    ensures { OnOk result
+        (out.new.items ≡ out.old.items ++ counted_bytes index_entry_bytes entries.now) }
 {
     append_number(out, entries.len() as u32)?;
     for entry in entries {

@@ -11,7 +11,8 @@ use std::alloc::AllocError;
 
 /// A kind, a job and a name.
 fn append_named(out: &mut Vec<u8>, kind: u8, job: u32, name: &Name) -> Result<(), AllocError>
-    ensures { OnOk result (out.new.items ≡ out.old.items ++ (lead_bytes kind job ++ name_bytes name.now)) }
+    ensures { OnOk result
+        (out.new.items ≡ out.old.items ++ (lead_bytes kind job ++ name_bytes name.now)) }
 {
     let bytes = name.bytes();
     append_lead(out, kind, job)?;

@@ -1,5 +1,7 @@
 //! What is proved of grammars of fields.
-ghost use Rattle.pot_image.specs.Laws.{ReadOnce, LeftOnce, NeverBoth, Decided, FieldsReadBack, ReadBack, WrittenApart, MayBeWritten, SomeImage, OneSpelling, SpelledAsWritten, OneImage, ImageAsWritten};
+ghost use Rattle.pot_image.specs.Laws.{ReadOnce, LeftOnce, NeverBoth, Decided, FieldsReadBack};
+ghost use Rattle.pot_image.specs.Laws.{ReadBack, WrittenApart, MayBeWritten, SomeImage};
+ghost use Rattle.pot_image.specs.Laws.{OneSpelling, SpelledAsWritten, OneImage, ImageAsWritten};
 
 /// A grammar over values of some type.
 pub trait GrammarShape {

@@ -29,7 +29,8 @@ fn read_group_log<'a>(
     rack: &Rack,
 ) -> Result<(Vec<Entry>, &'a [u8]), Fault>
     requires { IsRack rack.now }
-    ensures { Gives (λ x. (x.0.items, x.1.now)) result (reading (group_log format rack.now) bytes.now) }
+    ensures { Gives (λ x. (x.0.items, x.1.now)) result
+        (reading (group_log format rack.now) bytes.now) }
 {
     let (count, after_count) = read_at_most(bytes, LOG_ENTRIES)?;
     let mut entries = Vec::with_capacity(
@@ -53,7 +54,8 @@ pub(crate) fn read_group_logs<'a>(
     rack: &Rack,
 ) -> Result<(Vec<Vec<Entry>>, &'a [u8]), Fault>
     requires { IsRack rack.now }
-    ensures { Gives (λ x. (map (λ v. v.items) x.0.items, x.1.now)) result (reading (group_logs format rack.now) bytes.now) }
+    ensures { Gives (λ x. (map (λ v. v.items) x.0.items, x.1.now)) result
+        (reading (group_logs format rack.now) bytes.now) }
 {
     let mut logs = Vec::with_capacity(alloc, usize::from(rack.groups))?;
     let mut rest = bytes;

@@ -13,7 +13,8 @@ use pot_index::Record;
 pub(crate) fn read_name(bytes: &[u8], count: u8) -> Result<Name, Fault>
     requires some { 1 ≤ count }
     requires few { count ≤ 64 }
-    ensures reads { Gives (λ x. (x, drop count bytes.now)) result (reading (text count is_name) bytes.now) }
+    ensures reads { Gives (λ x. (x, drop count bytes.now)) result
+        (reading (text count is_name) bytes.now) }
     ensures within { IfOk result (λ x. count ≤ length bytes.now) }
 {
     let count = usize::from(count);
@@ -40,7 +41,8 @@ fn is_above(before: &[Record], name: &Name) -> bool
 pub(crate) fn read_name_above(bytes: &[u8], count: u8, before: &[Record]) -> Result<Name, Fault>
     requires some { 1 ≤ count }
     requires few { count ≤ 64 }
-    ensures reads { Gives (λ x. (x, drop count bytes.now)) result (reading (text count (λ x. is_name x && is_above before.now x)) bytes.now) }
+    ensures reads { Gives (λ x. (x, drop count bytes.now)) result
+        (reading (text count (λ x. is_name x && is_above before.now x)) bytes.now) }
     ensures within { IfOk result (λ x. count ≤ length bytes.now) }
 {
     let name = read_name(bytes, count)?;

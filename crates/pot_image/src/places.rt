@@ -67,8 +67,10 @@ fn stamp(rack: &Rack, stamps: &mut [u64], last: u64, place: Place) -> bool
     requires column { place.column < rack.now.columns }
     requires stripe { place.stripe < rack.now.stripes }
     requires stamps { AreStamps rack.now stamps.old last }
-    ensures apart { (before : List Place) → HaveMarks rack.now stamps.old last before → result ≡ is_apart before place.group place.column place.stripe }
-    ensures marks { (before : List Place) → HaveMarks rack.now stamps.old last before → HaveMarks rack.now stamps.new last (before ++ place ∷ []) }
+    ensures apart { (before : List Place) → HaveMarks rack.now stamps.old last before
+        → result ≡ is_apart before place.group place.column place.stripe }
+    ensures marks { (before : List Place) → HaveMarks rack.now stamps.old last before
+        → HaveMarks rack.now stamps.new last (before ++ place ∷ []) }
 {
     let spot = spot(rack, place);
     let apart = stamps[spot] != last;
@@ -91,8 +93,11 @@ fn read_place<'a>(
     requires geometry { IsGeometry geometry }
     requires number { number < 2 ^ 31 }
     requires stamps { AreStamps rack.now stamps.old last }
-    ensures reads { (before : List Place) → HaveMarks rack.now stamps.old last before → Gives (λ x. (x.0, x.1.now)) result (reading (place rack.now tables.now geometry number before) bytes.now) }
-    ensures marks { (before : List Place) → HaveMarks rack.now stamps.old last before → IfOk result (λ x. HaveMarks rack.now stamps.new last (before ++ x.0 ∷ [])) }
+    ensures reads { (before : List Place) → HaveMarks rack.now stamps.old last before
+        → Gives (λ x. (x.0, x.1.now)) result
+        (reading (place rack.now tables.now geometry number before) bytes.now) }
+    ensures marks { (before : List Place) → HaveMarks rack.now stamps.old last before
+        → IfOk result (λ x. HaveMarks rack.now stamps.new last (before ++ x.0 ∷ [])) }
 {
     let expected = group_of(rack, geometry, number);
     let (group, after_group) = read_byte(bytes, expected, expected)?;
@@ -129,7 +134,8 @@ pub(crate) fn read_places<'a>(
     requires geometry { IsGeometry geometry }
     requires last { 1 ≤ last }
     requires stamps { AreStamps rack.now stamps.old (last - 1) }
-    ensures reads { Gives (λ x. (x.0, x.1.now)) result (reading (places rack.now tables.now pieces geometry) bytes.now) }
+    ensures reads { Gives (λ x. (x.0, x.1.now)) result
+        (reading (places rack.now tables.now pieces geometry) bytes.now) }
     ensures stamps { IfOk result (λ x. AreStamps rack.now stamps.new last) }
 {
     let total = pieces * u32::from(geometry.fragments) * u32::from(geometry.shards);

@@ -3,7 +3,9 @@ ghost use Rattle.std.specs.Prelude.{◌≡◌, ◌≤◌, ◌<◌, ◌+◌, ◌-
 ghost use Rattle.pot_image.specs.declared.fault.ImageFault.TheVariants.{Form};
 ghost use Rattle.pot_image.specs.Following.{Gives};
 ghost use Rattle.pot_image.specs.Reading.{reading};
-ghost use Rattle.pot_image.specs.Images.{Contents, contents, image, magic, trailer, before_trailer, stated_length, Answered, Trailed, Measured, Numbered, AnswersImage};
+ghost use Rattle.pot_image.specs.Images.{Contents, contents, image, magic, trailer, before_trailer};
+ghost use Rattle.pot_image.specs.Images.{stated_length, Answered, Trailed, Measured, Numbered};
+ghost use Rattle.pot_image.specs.Images.{AnswersImage};
 ghost use Rattle.pot_image.specs.Rules.{FitsTogether};
 
 use crate::fault::{Fault, ImageFault};

@@ -50,7 +50,8 @@ fn read_split<'a>(
     requires pieces { pieces ≤ 1024 }
     requires last { 1 ≤ last }
     requires stamps { AreStamps rack.now stamps.old (last - 1) }
-    ensures reads { Gives (λ x. (x.0, x.1.now)) result (reading (split rack.now tables.now pieces) bytes.now) }
+    ensures reads { Gives (λ x. (x.0, x.1.now)) result
+        (reading (split rack.now tables.now pieces) bytes.now) }
     ensures stamps { IfOk result (λ x. AreStamps rack.now stamps.new last) }
 {
     let (geometry, after_geometry) = read_geometry(bytes, rack.groups)?;
@@ -84,7 +85,8 @@ fn read_older<'a>(
     requires count { count ≤ 15 }
     requires last { last < 2 ^ 63 }
     requires stamps { AreStamps rack.now stamps.old last }
-    ensures reads { Gives (λ x. (x.0, x.1.now)) result (reading (several 0 count (split_behind rack.now tables.now pieces) []) bytes.now) }
+    ensures reads { Gives (λ x. (x.0, x.1.now)) result
+        (reading (several 0 count (split_behind rack.now tables.now pieces) []) bytes.now) }
     ensures stamps { IfOk result (λ x. AreStamps rack.now stamps.new (last + count)) }
 {
     let mut splits = Vec::with_capacity(alloc, usize::from(count))?;
@@ -114,7 +116,8 @@ fn read_splits<'a>(
     requires pieces { pieces ≤ 1024 }
     requires last { last < 2 ^ 63 }
     requires stamps { AreStamps rack.now stamps.old last }
-    ensures reads { Gives (λ x. (x.0, x.1.now)) result (reading (splits format rack.now tables.now pieces) bytes.now) }
+    ensures reads { Gives (λ x. (x.0, x.1.now)) result
+        (reading (splits format rack.now tables.now pieces) bytes.now) }
     ensures stamps { IfOk result (λ x. AreStamps rack.now stamps.new (last + 16)) }
 {
     let now = last + 16;
@@ -166,7 +169,9 @@ fn read_record<'a>(
     requires tables { AreTables rack.now tables.now }
     requires last { last < 2 ^ 63 }
     requires stamps { AreStamps rack.now stamps.old last }
-    ensures reads { (number : ℕ) → Gives (λ x. (x.0, x.1.now)) result (reading (record_behind format rack.now tables.now number before.now) bytes.now) }
+    ensures reads { (number : ℕ)
+        → Gives (λ x. (x.0, x.1.now)) result
+        (reading (record_behind format rack.now tables.now number before.now) bytes.now) }
     ensures stamps { IfOk result (λ x. AreStamps rack.now stamps.new (last + 16)) }
 {
     let (count, after_count) = read_byte(bytes, 1, 64)?;
@@ -209,7 +214,8 @@ fn read_counted<'a>(
     requires rack { IsRack rack.now }
     requires tables { AreTables rack.now tables.now }
     requires stamps { AreStamps rack.now stamps.old 0 }
-    ensures { Gives (λ x. (x.0.items, x.1.now)) result (reading (several 0 count (record_behind format rack.now tables.now) []) bytes.now) }
+    ensures { Gives (λ x. (x.0.items, x.1.now)) result
+        (reading (several 0 count (record_behind format rack.now tables.now) []) bytes.now) }
 {
     let capacity = (count as usize).min(bytes.len() / RECORD_BYTES);
     let mut records = Vec::with_capacity(alloc, capacity)?;
@@ -235,7 +241,8 @@ pub(crate) fn read_records<'a>(
 ) -> Result<(Vec<Record>, &'a [u8]), Fault>
     requires rack { IsRack rack.now }
     requires tables { AreTables rack.now tables.now }
-    ensures { Gives (λ x. (x.0.items, x.1.now)) result (reading (records format rack.now tables.now) bytes.now) }
+    ensures { Gives (λ x. (x.0.items, x.1.now)) result
+        (reading (records format rack.now tables.now) bytes.now) }
 {
     let (count, after_count) = read_at_most(bytes, RECORDS)?;
     let spots = usize::from(rack.groups) * rack.stripes as usize * usize::from(rack.columns);

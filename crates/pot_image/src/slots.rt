@@ -22,7 +22,9 @@ fn allows(
 ) -> bool
     requires rack { IsRack rack.now }
     requires before { length before.now ≡ stripe * (rack.now.columns + rack.now.parity) + column }
-    ensures { result ≡ allows cursor rack.now.columns (rack.now.columns + rack.now.parity) before.now stripe column void }
+    ensures { result
+        ≡ allows cursor rack.now.columns (rack.now.columns + rack.now.parity) before.now stripe
+        column void }
 {
     if cursor.stripe < stripe {
         return void;
@@ -59,7 +61,9 @@ fn read_slot<'a>(
 ) -> Result<(SlotState, &'a [u8]), Fault>
     requires rack { IsRack rack.now }
     requires before { length before.now ≡ stripe * (rack.now.columns + rack.now.parity) + column }
-    ensures { Gives (λ x. (x.0, x.1.now)) result (reading (slot_behind cursor rack.now.columns (rack.now.columns + rack.now.parity) stripe column before.now) bytes.now) }
+    ensures { Gives (λ x. (x.0, x.1.now)) result
+        (reading (slot_behind cursor rack.now.columns (rack.now.columns + rack.now.parity) stripe
+        column before.now) bytes.now) }
 {
     let (state, after) = read_byte(bytes, 0, 3)?;
     let allowed = allows(rack, cursor, stripe, column, before, state == 0);
@@ -83,8 +87,11 @@ fn read_stripe<'a>(
 ) -> Result<&'a [u8], Fault>
     requires rack { IsRack rack.now }
     requires before { length slots.old.items ≡ stripe * (rack.now.columns + rack.now.parity) }
-    ensures reads { Gives (λ rest. (slots.new.items, rest.now)) result (reading (stripe_slots cursor rack.now.columns (rack.now.columns + rack.now.parity) stripe slots.old.items) bytes.now) }
-    ensures count { IfOk result (λ rest. length slots.new.items ≡ stripe * (rack.now.columns + rack.now.parity) + (rack.now.columns + rack.now.parity)) }
+    ensures reads { Gives (λ rest. (slots.new.items, rest.now)) result
+        (reading (stripe_slots cursor rack.now.columns (rack.now.columns + rack.now.parity) stripe
+        slots.old.items) bytes.now) }
+    ensures count { IfOk result (λ rest. length slots.new.items
+        ≡ stripe * (rack.now.columns + rack.now.parity) + (rack.now.columns + rack.now.parity)) }
 {
     let mut rest = bytes;
     for column in 0..rack.columns + rack.parity {
@@ -103,8 +110,11 @@ pub(crate) fn read_slots<'a>(
     cursor: Cursor,
 ) -> Result<(Vec<SlotState>, &'a [u8]), Fault>
     requires { IsRack rack.now }
-    ensures reads { Gives (λ x. (x.0.items, x.1.now)) result (reading (slots cursor rack.now.columns (rack.now.columns + rack.now.parity) rack.now.stripes) bytes.now) }
-    ensures count { IfOk result (λ x. length x.0.items ≡ rack.now.stripes * (rack.now.columns + rack.now.parity)) }
+    ensures reads { Gives (λ x. (x.0.items, x.1.now)) result
+        (reading (slots cursor rack.now.columns (rack.now.columns + rack.now.parity)
+        rack.now.stripes) bytes.now) }
+    ensures count { IfOk result (λ x. length x.0.items
+        ≡ rack.now.stripes * (rack.now.columns + rack.now.parity)) }
 {
     let width = usize::from(rack.columns + rack.parity);
     let mut slots = Vec::with_capacity(alloc, rack.stripes as usize * width)?;

@@ -43,7 +43,8 @@ fn read_table<'a>(
     taken: &mut Vec<u32>,
 ) -> Result<(GroupTable, &'a [u8]), Fault>
     requires { IsRack rack.now }
-    ensures reads { Gives (λ x. (x.0, x.1.now)) result (reading (table rack.now taken.old.items) bytes.now) }
+    ensures reads { Gives (λ x. (x.0, x.1.now)) result
+        (reading (table rack.now taken.old.items) bytes.now) }
     ensures taken { IfOk result (λ x. taken.new.items ≡ taken.old.items ++ archives_in x.0) }
 {
     let width = rack.columns + rack.parity;

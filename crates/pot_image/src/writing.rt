@@ -2,7 +2,8 @@
 ghost use Rattle.std.specs.Prelude.{◌≡◌, ◌<◌, ◌*◌, ◌++◌, OnOk, take, drop, flat_map};
 ghost use Rattle.pot_machine.specs.Table.{width};
 ghost use Rattle.byteorder.specs.Endian.{big_bytes};
-ghost use Rattle.pot_image.specs.Spelling.{flag_bytes, head_bytes, cursor_bytes, move_bytes, column_bytes, slot_bytes, table_bytes, place_bytes};
+ghost use Rattle.pot_image.specs.Spelling.{flag_bytes, head_bytes, cursor_bytes, move_bytes};
+ghost use Rattle.pot_image.specs.Spelling.{column_bytes, slot_bytes, table_bytes, place_bytes};
 
 use pot_bytes::{Digest, Rack};
 use pot_machine::{Column, Cursor, GroupTable, SlotState};
@@ -122,7 +123,11 @@ fn append_slot(out: &mut Vec<u8>, slot: SlotState) -> Result<(), AllocError>
 /// The slots of a stripe.
 fn append_stripe(out: &mut Vec<u8>, table: &GroupTable, stripe: u32) -> Result<(), AllocError>
     requires { stripe < table.now.stripes }
-    ensures { OnOk result (out.new.items ≡ out.old.items ++ flat_map slot_bytes (take (width table.now) (drop (stripe * width table.now) table.now.slots))) }
+    ensures { OnOk result
+        (out.new.items
+        ≡ out.old.items
+        ++ flat_map slot_bytes
+        (take (width table.now) (drop (stripe * width table.now) table.now.slots))) }
 {
     for column in 0..table.data_columns() + table.parity() {
         append_slot(out, table.slot(stripe, column))?;

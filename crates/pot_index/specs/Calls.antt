@@ -1,5 +1,6 @@
 -- The calls of an index, each by its answer, between the index before and after it.
-use Rattle.std.specs.Prelude.{◌≡◌, ◌<◌, ◌≤◌, ℕ, ◌+◌, true, false, List, Vec, Result, Ok, Err, length, map}
+use Rattle.std.specs.Prelude.{◌≡◌, ◌<◌, ◌≤◌, ℕ, ◌+◌, true, false, List, Vec, Result, Ok, Err}
+use Rattle.std.specs.Prelude.{length, map}
 use Rattle.std.specs.Global.{Global}
 use Rattle.pot_bytes.specs.Rack.{log_bound}
 use Rattle.pot_index.specs.declared.entry.IndexEntry.TheVariants as entry
@@ -28,9 +29,11 @@ IsFull n s t = (log_bound < owed s + n) × (t ≡ s)
 
 -- `reserve`: an entry for Reserve, and one for what will end it
 abbrev pub Reserves : ℕ → List ℕ → IndexView → IndexView → Result (Unit {0}) ReserveFault → Type 0
-Reserves job name s t (Ok u) = HasRoom 2 s × IsFree s.now name × (t ≡ logged s (plain (entry.Reserve job name)))
+Reserves job name s t (Ok u) =
+    HasRoom 2 s × IsFree s.now name × (t ≡ logged s (plain (entry.Reserve job name)))
 Reserves job name s t (Err reserve_fault.LogFull) = IsFull 2 s t
-Reserves job name s t (Err reserve_fault.Exists) = HasRoom 2 s × IsTaken s.now name × (t ≡ logged s (plain (entry.Taken job name)))
+Reserves job name s t (Err reserve_fault.Exists) =
+    HasRoom 2 s × IsTaken s.now name × (t ≡ logged s (plain (entry.Taken job name)))
 Reserves job name s t (Err reserve_fault.NoMemory) = HasRoom 2 s × IsFree s.now name × (t ≡ s)
 
 -- `publish` and `abandon`
@@ -42,9 +45,11 @@ abandoned_by s job name = logged s (plain (entry.Abandon job name))
 
 -- `find`
 abbrev pub Finds : ℕ → List ℕ → IndexView → IndexView → Result Record FindFault → Type 0
-Finds job name s t (Ok r) = HasRoom 1 s × IsRecordOf s.now name r × (t ≡ logged s (plain (entry.Find job name true)))
+Finds job name s t (Ok r) =
+    HasRoom 1 s × IsRecordOf s.now name r × (t ≡ logged s (plain (entry.Find job name true)))
 Finds job name s t (Err find_fault.LogFull) = IsFull 1 s t
-Finds job name s t (Err find_fault.Absent) = HasRoom 1 s × (¬ IsPublished s.now name) × (t ≡ logged s (plain (entry.Find job name false)))
+Finds job name s t (Err find_fault.Absent) =
+    HasRoom 1 s × (¬ IsPublished s.now name) × (t ≡ logged s (plain (entry.Find job name false)))
 Finds job name s t (Err find_fault.NoMemory) = HasRoom 1 s × IsPublished s.now name × (t ≡ s)
 
 -- `names`
@@ -52,16 +57,25 @@ abbrev pub listed_of : Record → Listed
 listed_of r = record { name = r.name; length = r.length }
 
 abbrev pub ListsNames : ℕ → IndexView → IndexView → Result (Vec Listed Global) ListFault → Type 0
-ListsNames job s t (Ok v) = HasRoom 1 s × (v.items ≡ map listed_of s.now.published) × (t ≡ logged s (plain (entry.Listed job)))
+ListsNames job s t (Ok v) =
+    HasRoom 1 s × (v.items ≡ map listed_of s.now.published)
+    × (t ≡ logged s (plain (entry.Listed job)))
 ListsNames job s t (Err list_fault.LogFull) = IsFull 1 s t
 ListsNames job s t (Err list_fault.NoMemory) = HasRoom 1 s × (t ≡ s)
 
 -- `renew`, of the record that is published under the name
-abbrev pub RenewsRecord : ℕ → List ℕ → Split → IndexView → IndexView → Record → Result (Unit {0}) RenewFault → Type 0
-RenewsRecord job name split s t r (Ok u) = HasRoom 1 s × (length r.older < 15) × (t ≡ logged s (bringing (entry.Renew job name (mark_of (renewed r split))) (renewed r split)))
+abbrev pub RenewsRecord : ℕ → List ℕ → Split → IndexView → IndexView → Record
+    → Result (Unit {0}) RenewFault → Type 0
+RenewsRecord job name split s t r (Ok u) =
+    HasRoom 1 s × (length r.older < 15)
+    × (t ≡ logged s (bringing (entry.Renew job name (mark_of (renewed r split))) (renewed r split)))
 RenewsRecord job name split s t r (Err renew_fault.LogFull) = IsFull 1 s t
-RenewsRecord job name split s t r (Err renew_fault.TooOften) = HasRoom 1 s × (length r.older ≡ 15) × (t ≡ logged s (plain (entry.Often job name)))
-RenewsRecord job name split s t r (Err renew_fault.NoMemory) = HasRoom 1 s × (length r.older < 15) × (t ≡ s)
+RenewsRecord job name split s t r (Err renew_fault.TooOften) =
+    HasRoom 1 s × (length r.older ≡ 15) × (t ≡ logged s (plain (entry.Often job name)))
+RenewsRecord job name split s t r (Err renew_fault.NoMemory) =
+    HasRoom 1 s × (length r.older < 15) × (t ≡ s)
 
-abbrev pub Renews : ℕ → List ℕ → Split → IndexView → IndexView → Result (Unit {0}) RenewFault → Type 0
-Renews job name split s t result = (r : Record) × IsRecordOf s.now name r × RenewsRecord job name split s t r result
+abbrev pub Renews : ℕ → List ℕ → Split → IndexView → IndexView → Result (Unit {0}) RenewFault
+    → Type 0
+Renews job name split s t result =
+    (r : Record) × IsRecordOf s.now name r × RenewsRecord job name split s t r result

@@ -3,7 +3,8 @@ use Rattle.std.specs.Prelude.{◌≡◌, ◌⊎◌, ℕ, ◌+◌, All, List, ◌
 use Rattle.pot_index.specs.declared.entry.IndexEntry.{IndexEntry}
 use Rattle.pot_index.specs.Entries.{IsReserving, IsEnding}
 
--- the place of the first entry that ends the job's reservation of the name, after the last one that made it
+-- the place of the first entry that ends the job's reservation of the name, after the last one that
+-- made it
 pub record EndsAt (job : ℕ) (name : List ℕ) (es : List IndexEntry) (at : ℕ) : Type 0 where
   pub before : List IndexEntry
   pub made : IndexEntry

@@ -1,7 +1,9 @@
 -- The entries of the index's log, and what they brought.
-use Rattle.std.specs.Prelude.{◌≡◌, ℕ, ◌-◌, ◌==◌, Bool, true, false, List, [], ◌∷◌, Some, None, if◌then◌else◌, length, map, filter}
+use Rattle.std.specs.Prelude.{◌≡◌, ℕ, ◌-◌, ◌==◌, Bool, true, false, List, [], ◌∷◌, Some, None}
+use Rattle.std.specs.Prelude.{if◌then◌else◌, length, map, filter}
 use Rattle.pot_index.specs.declared.entry.IndexEntry.{IndexEntry}
-use Rattle.pot_index.specs.declared.entry.IndexEntry.TheVariants.{Reserve, Taken, Publish, Abandon, Find, Listed, Renew, Often}
+use Rattle.pot_index.specs.declared.entry.IndexEntry.TheVariants.{Reserve, Taken, Publish, Abandon}
+use Rattle.pot_index.specs.declared.entry.IndexEntry.TheVariants.{Find, Listed, Renew, Often}
 use Rattle.pot_index.specs.declared.entry.Logged.{Logged}
 use Rattle.pot_index.specs.declared.record.Record.{Record}
 
@@ -46,7 +48,8 @@ bringing e r = record { entry = e; brought = Some r }
 unfoldable pub with_brought : List IndexEntry → List Record → List Logged
 with_brought [] rs = []
 with_brought (e ∷ es) [] = plain e ∷ with_brought es []
-with_brought (e ∷ es) (r ∷ rs) = if brings e then bringing e r ∷ with_brought es rs else plain e ∷ with_brought es (r ∷ rs)
+with_brought (e ∷ es) (r ∷ rs) =
+    if brings e then bringing e r ∷ with_brought es rs else plain e ∷ with_brought es (r ∷ rs)
 
 -- whether an entry reserves a name, and whether it ends a reservation
 abbrev pub is_reserve : IndexEntry → Bool
@@ -85,6 +88,7 @@ abbrev pub IsRenewing : List ℕ → IndexEntry → Type 0
 IsRenewing name (Renew j n mark) = n ≡ name
 IsRenewing name _ = ⊥
 
--- how many names are reserved behind a log: one is by each Reserve, and is no more by each Publish and Abandon
+-- how many names are reserved behind a log: one is by each Reserve, and is no more by each Publish
+-- and Abandon
 abbrev pub reserved_in : List IndexEntry → ℕ
 reserved_in es = length (filter is_reserve es) - length (filter ends_reserve es)

@@ -14,13 +14,14 @@ pub record FitsGeometry (rack : Rack) (g : Geometry) : Type 0 where
   pub limits : IsGeometry g
   pub groups : g.shards ≤ rack.groups
 
--- The group of a block. The blocks of a split stand by piece i, fragment j and point x, all from 0, so block number b is
--- that of i * k + j = b / n and x = b % n, with k fragments and n shards. It stands in group i * k + j + x, modulo the
--- number of groups.
+-- The group of a block. The blocks of a split stand by piece i, fragment j and point x, all from 0,
+-- so block number b is that of i * k + j = b / n and x = b % n, with k fragments and n shards. It
+-- stands in group i * k + j + x, modulo the number of groups.
 abbrev pub group_of : Rack → Geometry → ℕ → ℕ
 group_of rack g b = (b / g.shards + b % g.shards) % rack.groups
 
--- a place for the block of this number: in its group, in a data column and a stripe that the rack has
+-- a place for the block of this number: in its group, in a data column and a stripe that the rack
+-- has
 pub record FitsPlace (rack : Rack) (g : Geometry) (b : ℕ) (p : Place) : Type 0 where
   pub group : p.group ≡ group_of rack g b
   pub column : p.column < rack.columns
@@ -31,7 +32,8 @@ pub record FitsSplit (rack : Rack) (pieces : ℕ) (s : Split) : Type 0 where
   pub geometry : FitsGeometry rack s.geometry
   pub count : length s.places ≡ pieces * s.geometry.fragments * s.geometry.shards
   pub places : (b : ℕ) (p : Place) → slice_get s.places b ≡ Some p → FitsPlace rack s.geometry b p
-  pub distinct : (a b : ℕ) (p : Place) → slice_get s.places a ≡ Some p → slice_get s.places b ≡ Some p → a ≡ b
+  pub distinct : (a b : ℕ) (p : Place) → slice_get s.places a ≡ Some p
+      → slice_get s.places b ≡ Some p → a ≡ b
 
 -- a record of a file that is not too long, with 1 to 16 splits, each of which fits the rack
 pub record FitsRack (rack : Rack) (r : Record) : Type 0 where

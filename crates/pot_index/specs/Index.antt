@@ -1,5 +1,6 @@
 -- The index: which entries are legal, what each does, and the whole of it as plain data.
-use Rattle.std.specs.Prelude.{◌≡◌, ◌↔◌, ◌⊎◌, ◌≤◌, ℕ, ◌+◌, ◌==◌, Bool, IsTrue, List, [], ◌∷◌, ◌++◌, All, Contains, Option, Some, None, if◌then◌else◌, length, map}
+use Rattle.std.specs.Prelude.{◌≡◌, ◌↔◌, ◌⊎◌, ◌≤◌, ℕ, ◌+◌, ◌==◌, Bool, IsTrue, List, [], ◌∷◌, ◌++◌}
+use Rattle.std.specs.Prelude.{All, Contains, Option, Some, None, if◌then◌else◌, length, map}
 use Rattle.std.specs.Cmp.Lexicographic.{pointwise, slice_cmp}
 use Rattle.std.specs.List.{IsDistinct}
 use Rattle.std.specs.List.Sorted.{IsStrictlySortedBy}
@@ -7,7 +8,8 @@ use Rattle.std.specs.Ordering.{is_lt, nat_cmp}
 use Rattle.pot_bytes.specs.Rack.{IsRack, log_bound}
 use Rattle.pot_bytes.specs.declared.rack.Rack.{Rack}
 use Rattle.pot_index.specs.declared.entry.IndexEntry.{IndexEntry}
-use Rattle.pot_index.specs.declared.entry.IndexEntry.TheVariants.{Reserve, Taken, Publish, Abandon, Find, Listed, Renew, Often}
+use Rattle.pot_index.specs.declared.entry.IndexEntry.TheVariants.{Reserve, Taken, Publish, Abandon}
+use Rattle.pot_index.specs.declared.entry.IndexEntry.TheVariants.{Find, Listed, Renew, Often}
 use Rattle.pot_index.specs.declared.entry.Logged.{Logged}
 use Rattle.pot_index.specs.declared.record.Record.{Record}
 use Rattle.pot_index.specs.declared.reservation.Reservation.{Reservation}
@@ -48,8 +50,8 @@ Ascends rs = IsStrictlySortedBy (slice_cmp nat_cmp) (map (λ r. r.name) rs)
 abbrev pub same_name : List ℕ → List ℕ → Bool
 same_name a b = pointwise ◌==◌ a b
 
--- the records are those of distinct names, ascending, and fit the rack; the reserved names are distinct, and none of them
--- is published
+-- the records are those of distinct names, ascending, and fit the rack; the reserved names are
+-- distinct, and none of them is published
 pub record AreNames (rack : Rack) (n : Names) : Type 0 where
   pub ascends : Ascends n.published
   pub fits : All (FitsRack rack) n.published
@@ -61,11 +63,14 @@ pub record AreNames (rack : Rack) (n : Names) : Type 0 where
 abbrev pub LegalEntry : Rack → Names → IndexEntry → Option Record → Type 0
 LegalEntry rack n (Reserve job name) None = IsFree n name
 LegalEntry rack n (Taken job name) None = IsTaken n name
-LegalEntry rack n (Publish job name mark) (Some r) = (r.name ≡ name) × (mark ≡ mark_of r) × IsReservedBy n job name × FitsRack rack r
+LegalEntry rack n (Publish job name mark) (Some r) =
+    (r.name ≡ name) × (mark ≡ mark_of r) × IsReservedBy n job name × FitsRack rack r
 LegalEntry rack n (Abandon job name) None = IsReservedBy n job name
 LegalEntry rack n (Find job name found) None = IsTrue found ↔ IsPublished n name
 LegalEntry rack n (Listed job) None = Unit {0}
-LegalEntry rack n (Renew job name mark) (Some r) = (mark ≡ mark_of r) × FitsRack rack r × ((o : Record) × IsRecordOf n name o × (r ≡ renewed o (current_of r)))
+LegalEntry rack n (Renew job name mark) (Some r) =
+    (mark ≡ mark_of r) × FitsRack rack r
+    × ((o : Record) × IsRecordOf n name o × (r ≡ renewed o (current_of r)))
 LegalEntry rack n (Often job name) None = (o : Record) × IsRecordOf n name o × (length o.older ≡ 15)
 LegalEntry rack n _ _ = ⊥
 
@@ -77,7 +82,8 @@ Legal rack n x = LegalEntry rack n x.entry x.brought
 -- with one more record, before the first of a greater name
 abbrev pub inserted : Record → List Record → List Record
 inserted r [] = r ∷ []
-inserted r (o ∷ os) = if is_lt (slice_cmp nat_cmp o.name r.name) then o ∷ inserted r os else r ∷ o ∷ os
+inserted r (o ∷ os) =
+    if is_lt (slice_cmp nat_cmp o.name r.name) then o ∷ inserted r os else r ∷ o ∷ os
 
 -- with this record in place of that of its name
 abbrev pub replaced : Record → List Record → List Record
@@ -89,9 +95,11 @@ without name [] = []
 without name (x ∷ xs) = if same_name x.name name then xs else x ∷ without name xs
 
 abbrev pub after_entry : Names → IndexEntry → Option Record → Names
-after_entry n (Reserve job name) b = record n { reserved = n.reserved ++ record { name = name; job = job } ∷ [] }
+after_entry n (Reserve job name) b =
+    record n { reserved = n.reserved ++ record { name = name; job = job } ∷ [] }
 after_entry n (Taken job name) b = n
-after_entry n (Publish job name mark) (Some r) = record { published = inserted r n.published; reserved = without name n.reserved }
+after_entry n (Publish job name mark) (Some r) =
+    record { published = inserted r n.published; reserved = without name n.reserved }
 after_entry n (Publish job name mark) None = n
 after_entry n (Abandon job name) b = record n { reserved = without name n.reserved }
 after_entry n (Find job name found) b = n
@@ -133,7 +141,8 @@ pub record IndexView : Type 0 where
 abbrev pub owed : IndexView → ℕ
 owed s = length s.log + length s.now.reserved
 
--- the log leads from the records read to the names now, and has room for an entry of each reserved name
+-- the log leads from the records read to the names now, and has room for an entry of each reserved
+-- name
 pub record IsIndex (s : IndexView) : Type 0 where
   pub rack : IsRack s.rack
   pub read : AreRead s.rack s.read

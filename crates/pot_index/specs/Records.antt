@@ -33,10 +33,11 @@ place_bytes p = p.group ∷ p.column ∷ big_bytes 4 p.stripe
 abbrev pub split_bytes : Split → List ℕ
 split_bytes s = geometry_bytes s.geometry ++ flat_map place_bytes s.places
 
--- what stands before the splits: the name, the length in 8 bytes, the digest and the number of splits. Numbers have
--- their highest byte first
+-- what stands before the splits: the name, the length in 8 bytes, the digest and the number of
+-- splits. Numbers have their highest byte first
 abbrev pub head_bytes : Record → List ℕ
-head_bytes r = ((name_bytes r.name ++ big_bytes 8 r.length) ++ r.digest.bytes) ++ length (splits_of r) ∷ []
+head_bytes r =
+    ((name_bytes r.name ++ big_bytes 8 r.length) ++ r.digest.bytes) ++ length (splits_of r) ∷ []
 
 -- a record's bytes in an image
 unfoldable pub record_bytes : Record → List ℕ

@@ -11,8 +11,10 @@ use Rattle.pot_index.specs.Entries.{brings}
 abbrev pub values : List (Snapshot Record) → List Record
 values ss = map (λ s. s.value) ss
 
--- room for a record of each reserved name, and for all entries of the log; a snapshot for each entry that brings a record
-pub record HasAllRoom (records : Vec Record Global) (reserved : Vec Reservation Global) (log : Vec IndexEntry Global) (brought : Vec (Snapshot Record) Global) : Type 0 where
+-- room for a record of each reserved name, and for all entries of the log; a snapshot for each
+-- entry that brings a record
+pub record HasAllRoom (records : Vec Record Global) (reserved : Vec Reservation Global)
+    (log : Vec IndexEntry Global) (brought : Vec (Snapshot Record) Global) : Type 0 where
   pub records_room : length records.items + length reserved.items ≤ vec_capacity records
   pub log_room : log_bound ≤ vec_capacity log
   pub brought_room : log_bound ≤ vec_capacity brought

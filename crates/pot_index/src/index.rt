@@ -6,7 +6,8 @@ ghost use Rattle.pot_index.specs.Entries.{IsReserving, entries};
 ghost use Rattle.pot_index.specs.Ending.{EndsAt};
 ghost use Rattle.pot_index.specs.Fits.{FitsRack, FitsSplit};
 ghost use Rattle.pot_index.specs.Index.{IsIndex, AreRead, IsReservedBy, IsRecordOf, started};
-ghost use Rattle.pot_index.specs.Calls.{Reserves, Finds, ListsNames, Renews, published_by, abandoned_by};
+ghost use Rattle.pot_index.specs.Calls.{Reserves, Finds, ListsNames, Renews, published_by};
+ghost use Rattle.pot_index.specs.Calls.{abandoned_by};
 
 use crate::ended::IndexEnded;
 use crate::entry::IndexEntry;
@@ -127,7 +128,8 @@ impl Index {
     /// Gives the record that is published under the name a new current split. The old one stays, as the last of the older
     /// ones.
     pub fn renew(&mut self, job: u32, name: &Name, split: Split) -> Result<(), RenewFault>
-        requires { (r : Record) × IsRecordOf self.old.now name.now r × FitsSplit self.old.rack (pieces_of r.length) split }
+        requires { (r : Record) × IsRecordOf self.old.now name.now r
+            × FitsSplit self.old.rack (pieces_of r.length) split }
         ensures { Renews job name.now split self.old self.new result }
     {
         if self.lists.owed() + 1 > LOG_BOUND {
@@ -156,7 +158,8 @@ impl Index {
     /// Publish or Abandon of the name with this job's number after the job's last Reserve of it.
     pub fn ended_at(&self, job: u32, name: &Name) -> Option<u32>
         requires { Any (IsReserving job name.now) (entries self.now.log) }
-        ensures held { MatchOption result (IsReservedBy self.now.now job name.now) (λ _. ¬ IsReservedBy self.now.now job name.now) }
+        ensures held { MatchOption result (IsReservedBy self.now.now job name.now)
+            (λ _. ¬ IsReservedBy self.now.now job name.now) }
         ensures place { IfSome result (EndsAt job name.now (entries self.now.log)) }
     {
         self.lists.ended_at(job, name)

@@ -1,5 +1,7 @@
 //! What is proved of the log of an index as a whole.
-ghost use Rattle.pot_index.specs.Laws.{NamesKept, LogsGoOn, LogsWentOn, LogsLeadOnce, ReservedStays, EndedStays, PublishedOnce, RecordsStay, SplitsStay, OwedNeverFalls, CountsReserved, FewPublished};
+ghost use Rattle.pot_index.specs.Laws.{NamesKept, LogsGoOn, LogsWentOn, LogsLeadOnce};
+ghost use Rattle.pot_index.specs.Laws.{ReservedStays, EndedStays, PublishedOnce, RecordsStay};
+ghost use Rattle.pot_index.specs.Laws.{SplitsStay, OwedNeverFalls, CountsReserved, FewPublished};
 
 /// What the replay of a log keeps, and how logs go on. It does nothing.
 pub fn index_laws()

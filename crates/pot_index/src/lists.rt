@@ -1,9 +1,12 @@
 //! The lists of an index, with the room for all that is to come: no call but `begin`, `reserve` and `renew` takes memory.
-ghost use Rattle.std.specs.Prelude.{◌≡◌, ◌<◌, ◌≤◌, ◌+◌, ◌↔◌, false, IsTrue, IfOk, OnOk, OnErr, Any, MatchBool, MatchOption, MatchResult, HoldsAt, Contains, length, map};
+ghost use Rattle.std.specs.Prelude.{◌≡◌, ◌<◌, ◌≤◌, ◌+◌, ◌↔◌, false, IsTrue, IfOk, OnOk, OnErr, Any};
+ghost use Rattle.std.specs.Prelude.{MatchBool, MatchOption, MatchResult, HoldsAt, Contains, length};
+ghost use Rattle.std.specs.Prelude.{map};
 ghost use Rattle.pot_bytes.specs.Rack.{log_bound};
 ghost use Rattle.pot_index.specs.Entries.{IsReserving, IsQuiet, plain, bringing, brings, entries};
 ghost use Rattle.pot_index.specs.Records.{renewed, mark_of};
-ghost use Rattle.pot_index.specs.Index.{IsReserved, IsReservedBy, IsTaken, IsFree, Ascends, started, logged, owed};
+ghost use Rattle.pot_index.specs.Index.{IsReserved, IsReservedBy, IsTaken, IsFree, Ascends};
+ghost use Rattle.pot_index.specs.Index.{started, logged, owed};
 ghost use Rattle.pot_index.specs.Searches.{StandsAt, BelongsAt};
 ghost use Rattle.pot_index.specs.Calls.{listed_of};
 ghost use Rattle.pot_index.specs.Ending.{IsHeld, EndsAt};
@@ -53,7 +56,8 @@ impl Lists {
         rack: Rack,
         records: Vec<Record>,
     ) -> Result<Lists, Vec<Record>>
-        ensures { MatchResult result (λ l. l ≡ started rack records.items) (λ rs. rs.items ≡ records.items) }
+        ensures { MatchResult result (λ l. l ≡ started rack records.items)
+            (λ rs. rs.items ≡ records.items) }
     {
         let Ok(log) = Vec::with_capacity(alloc, LOG_BOUND) else {
             return Err(records);
@@ -75,7 +79,8 @@ impl Lists {
     /// Where the record of this name stands, or else where it belongs.
     pub(crate) fn place_of(&self, name: &Name) -> Result<usize, usize>
         requires { Ascends self.now.now.published }
-        ensures { MatchResult result (StandsAt self.now.now.published name.now) (BelongsAt self.now.now.published name.now) }
+        ensures { MatchResult result (StandsAt self.now.now.published name.now)
+            (BelongsAt self.now.now.published name.now) }
     {
         place_of(&self.records, name)
     }
@@ -148,7 +153,8 @@ impl Lists {
     pub(crate) fn ended_at(&self, job: u32, name: &Name) -> Option<u32>
         requires few { length self.now.log ≤ log_bound }
         requires made { Any (IsReserving job name.now) (entries self.now.log) }
-        ensures { MatchOption result (IsHeld job name.now (entries self.now.log)) (EndsAt job name.now (entries self.now.log)) }
+        ensures { MatchOption result (IsHeld job name.now (entries self.now.log))
+            (EndsAt job name.now (entries self.now.log)) }
     {
         end_of(&self.log, job, name)
     }
@@ -176,7 +182,8 @@ impl Lists {
     /// Reserves the name, and keeps room for its record.
     pub(crate) fn reserve(&mut self, job: u32, name: Name) -> Result<(), NoMemory>
         requires { length self.old.log < log_bound }
-        ensures ok { OnOk result (self.new ≡ logged self.old (plain (IndexEntry.Reserve job name))) }
+        ensures ok { OnOk result
+            (self.new ≡ logged self.old (plain (IndexEntry.Reserve job name))) }
         ensures err { OnErr result (self.new ≡ self.old) }
     {
         self.records.reserve(self.reserved.len() + 1)?;
@@ -200,7 +207,8 @@ impl Lists {
         requires place { BelongsAt self.old.now.published kept.name at }
         requires reserved { IsReservedBy self.old.now job kept.name }
         requires room { length self.old.log < log_bound }
-        ensures { self.new ≡ logged self.old (bringing (IndexEntry.Publish job kept.name (mark_of kept)) kept) }
+        ensures { self.new
+            ≡ logged self.old (bringing (IndexEntry.Publish job kept.name (mark_of kept)) kept) }
     {
         let name = kept.name;
         let mark = mark_of(&kept);
@@ -219,7 +227,10 @@ impl Lists {
         requires within { at < length self.old.now.published }
         requires few { HoldsAt (λ r. length r.older < 15) self.old.now.published at }
         requires room { length self.old.log < log_bound }
-        ensures ok { OnOk result (HoldsAt (λ r. self.new ≡ logged self.old (bringing (IndexEntry.Renew job r.name (mark_of (renewed r split))) (renewed r split))) self.old.now.published at) }
+        ensures ok { OnOk result
+            (HoldsAt (λ r. self.new
+            ≡ logged self.old (bringing (IndexEntry.Renew job r.name (mark_of (renewed r split)))
+            (renewed r split))) self.old.now.published at) }
         ensures err { OnErr result (self.new ≡ self.old) }
     {
         let record = &mut self.records[at];

@@ -43,7 +43,8 @@ fn hash_splits(hasher: &mut Sha256, splits: &[Split])
 }
 
 fn hash_split(hasher: &mut Sha256, geometry: Geometry, places: &[Place])
-    ensures { Hashes hasher.old hasher.new (split_bytes (record { geometry = geometry; places = places.now })) }
+    ensures { Hashes hasher.old hasher.new
+        (split_bytes (record { geometry = geometry; places = places.now })) }
 {
     hasher.update(&geometry_bytes(geometry));
     for place in places {

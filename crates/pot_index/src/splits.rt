@@ -71,7 +71,8 @@ impl Splits {
         next: Places,
     ) -> Result<(), NoMemory>
         requires { length self.old < 15 }
-        ensures ok { OnOk result (self.new ≡ self.old ++ record { geometry = geometry; places = current.old } ∷ []) }
+        ensures ok { OnOk result
+            (self.new ≡ self.old ++ record { geometry = geometry; places = current.old } ∷ []) }
         ensures next { OnOk result (current.new ≡ next) }
         ensures err { OnErr result (self.new ≡ self.old) }
         ensures same { OnErr result (current.new ≡ current.old) }

@@ -17,7 +17,8 @@ use std::alloc::AllocError;
 pub fn write_record(kept: &Record, out: &mut Vec<u8>) -> Result<(), NoMemory>
     ensures ok { OnOk result (out.new.items ≡ out.old.items ++ record_bytes kept.now) }
     ensures err { OnErr result (out.new.items ≡ out.old.items) }
-    ensures full { OnErr result (vec_capacity out.old < length out.old.items + length (record_bytes kept.now)) }
+    ensures full { OnErr result (vec_capacity out.old
+        < length out.old.items + length (record_bytes kept.now)) }
 {
     let start = out.len();
     if append_record(out, kept).is_err() {
@@ -57,7 +58,8 @@ fn append_splits(out: &mut Vec<u8>, splits: &[Split]) -> Result<(), AllocError>
 }
 
 fn append_split(out: &mut Vec<u8>, geometry: Geometry, places: &[Place]) -> Result<(), AllocError>
-    ensures { Appends out.old out.new result (split_bytes (record { geometry = geometry; places = places.now })) }
+    ensures { Appends out.old out.new result
+        (split_bytes (record { geometry = geometry; places = places.now })) }
 {
     append(out, &geometry_bytes(geometry))?;
     for place in places {

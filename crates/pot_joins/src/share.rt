@@ -1,4 +1,5 @@
-ghost use Rattle.std.specs.Prelude.{◌≡◌, ◌≢◌, ◌<◌, ◌≤◌, ◌*◌, ℕ, length, map, nat_eq, bit_xor, slice_index};
+ghost use Rattle.std.specs.Prelude.{◌≡◌, ◌≢◌, ◌<◌, ◌≤◌, ◌*◌, ℕ, length, map, nat_eq, bit_xor};
+ghost use Rattle.std.specs.Prelude.{slice_index};
 ghost use Rattle.std.specs.List.{All, IsDistinct};
 ghost use Rattle.pot_joins.specs.Joins.{IsJoinAt};
 ghost use Rattle.pot_split.specs.Secrecy.{rows_of};
@@ -16,7 +17,9 @@ pub fn share_at(points: &[u8], shares: &[u8], at: u8, out: &mut [u8])
     requires distinct { IsDistinct nat_eq points.now }
     requires apart { (i : ℕ) → i < length points.now → slice_index points.now i ≢ at }
     requires rows { length shares.now ≡ length points.now * length out.old }
-    ensures { (k : ℕ) → k < length out.new → IsJoinAt points.now (column k (rows_of (length points.now) (length out.new) shares.now)) at (slice_index out.new k) }
+    ensures { (k : ℕ) → k < length out.new
+        → IsJoinAt points.now (column k (rows_of (length points.now) (length out.new) shares.now))
+        at (slice_index out.new k) }
 {
     let mut turned = [0; 16];
     turn(points, at, &mut turned[..points.len()]);

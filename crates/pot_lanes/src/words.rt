@@ -1,6 +1,7 @@
 // The functions of FIPS 180-4, 4.1.2, on each lane.
 ghost use Rattle.std.specs.Prelude.{◌≡◌, slice_index};
-ghost use Rattle.sha2.specs.Sha256.{add32, big_sigma0, big_sigma1, ch, maj, small_sigma0, small_sigma1};
+ghost use Rattle.sha2.specs.Sha256.{add32, big_sigma0, big_sigma1, ch, maj, small_sigma0};
+ghost use Rattle.sha2.specs.Sha256.{small_sigma1};
 ghost use Rattle.pot_lanes.specs.Lanes.{by_lane};
 
 use std::simd::prelude::*;
@@ -75,7 +76,8 @@ pub(crate) fn add(x: u32x4, y: u32x4) -> u32x4
 #[inline(always)]
 #[tactic(auto, unfolding(crate::specs::Lanes::by_lane))]
 pub(crate) fn temp1(e: u32x4, f: u32x4, g: u32x4, h: u32x4, k: u32, word: u32x4) -> u32x4
-    ensures { result ≡ by_lane (λ l. add32 (add32 (add32 (add32 (slice_index h l) (big_sigma1 (slice_index e l)))
+    ensures { result
+        ≡ by_lane (λ l. add32 (add32 (add32 (add32 (slice_index h l) (big_sigma1 (slice_index e l)))
         (ch (slice_index e l) (slice_index f l) (slice_index g l))) k) (slice_index word l)) }
 {
     h + big_sigma1(e) + ch(e, f, g) + u32x4::splat(k) + word
@@ -84,7 +86,9 @@ pub(crate) fn temp1(e: u32x4, f: u32x4, g: u32x4, h: u32x4, k: u32, word: u32x4)
 #[inline(always)]
 #[tactic(auto, unfolding(crate::specs::Lanes::by_lane))]
 pub(crate) fn temp2(a: u32x4, b: u32x4, c: u32x4) -> u32x4
-    ensures { result ≡ by_lane (λ l. add32 (big_sigma0 (slice_index a l)) (maj (slice_index a l) (slice_index b l) (slice_index c l))) }
+    ensures { result
+        ≡ by_lane (λ l. add32 (big_sigma0 (slice_index a l))
+        (maj (slice_index a l) (slice_index b l) (slice_index c l))) }
 {
     big_sigma0(a) + maj(a, b, c)
 }

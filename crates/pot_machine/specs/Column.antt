@@ -1,5 +1,6 @@
 -- The columns of a group, and the archives that serve them.
-use Rattle.std.specs.Prelude.{ℕ, List, [], ◌∷◌, Bool, ◌||◌, ◌==◌, nat_lt, if◌then◌else◌, Option, Some, None}
+use Rattle.std.specs.Prelude.{ℕ, List, [], ◌∷◌, Bool, ◌||◌, ◌==◌, nat_lt, if◌then◌else◌, Option}
+use Rattle.std.specs.Prelude.{Some, None}
 use Rattle.pot_machine.specs.declared.column.Column.{Column}
 use Rattle.pot_machine.specs.declared.column.Moving.{Moving}
 

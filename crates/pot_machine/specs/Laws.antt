@@ -1,8 +1,11 @@
 -- What each entry leaves alone, and how logs go on.
-use Rattle.std.specs.Prelude.{◌≡◌, ◌⊎◌, ◌↔◌, ◌<◌, ◌≤◌, ℕ, Bool, false, IsTrue, List, [], ◌∷◌, ◌++◌, Contains}
+use Rattle.std.specs.Prelude.{◌≡◌, ◌⊎◌, ◌↔◌, ◌<◌, ◌≤◌, ℕ, Bool, false, IsTrue, List, [], ◌∷◌, ◌++◌}
+use Rattle.std.specs.Prelude.{Contains}
 use Rattle.pot_bytes.specs.declared.digest.Digest.{Digest}
 use Rattle.pot_machine.specs.declared.entry.Entry.{Entry}
-use Rattle.pot_machine.specs.declared.entry.Entry.TheVariants.{Put, Skip, Gone, Broke, Begin, Hop, Mended, GaveUp, Oddly, MoveBegin, Moved, MoveEnd, Swapped, Put2}
+use Rattle.pot_machine.specs.declared.entry.Entry.TheVariants.{Put, Skip, Gone, Broke, Begin, Hop}
+use Rattle.pot_machine.specs.declared.entry.Entry.TheVariants.{Mended, GaveUp, Oddly, MoveBegin}
+use Rattle.pot_machine.specs.declared.entry.Entry.TheVariants.{Moved, MoveEnd, Swapped, Put2}
 use Rattle.pot_machine.specs.Slot.{is_void, is_live, digest_in}
 use Rattle.pot_machine.specs.Table.{Table, width, slot_at, column_at, relay_at}
 use Rattle.pot_machine.specs.Machine.{Legal, after, Replays, Replayed}
@@ -17,8 +20,10 @@ PutsInto _ n = ⊥
 
 -- the entry writes the slot of this stripe and column
 abbrev pub WritesSlot : Table → Entry → ℕ → ℕ → Type 0
-WritesSlot t (Put job s c digest parity_digest kept) n k = (n ≡ s) × ((k ≡ c) ⊎ (t.data_columns ≤ k))
-WritesSlot t (Put2 job s c digest parity_digest second_digest kept kept2) n k = (n ≡ s) × ((k ≡ c) ⊎ (t.data_columns ≤ k))
+WritesSlot t (Put job s c digest parity_digest kept) n k =
+    (n ≡ s) × ((k ≡ c) ⊎ (t.data_columns ≤ k))
+WritesSlot t (Put2 job s c digest parity_digest second_digest kept kept2) n k =
+    (n ≡ s) × ((k ≡ c) ⊎ (t.data_columns ≤ k))
 WritesSlot t (Gone job s c) n k = (n ≡ s) × (k ≡ c)
 WritesSlot t (Broke job s c) n k = (n ≡ s) × (k ≡ c)
 WritesSlot t (Mended job s c) n k = (n ≡ s) × (k ≡ c)
@@ -60,11 +65,13 @@ ChangesRelay _ n = ⊥
 abbrev pub SizesStay : Type 0
 SizesStay =
     (t : Table) (e : Entry)
-    → ((after t e).data_columns ≡ t.data_columns) × ((after t e).parity ≡ t.parity) × ((after t e).stripes ≡ t.stripes)
+    → ((after t e).data_columns ≡ t.data_columns) × ((after t e).parity ≡ t.parity)
+    × ((after t e).stripes ≡ t.stripes)
 
 abbrev pub SlotsStay : Type 0
 SlotsStay =
-    (t : Table) (e : Entry) (n k : ℕ) → IsTable t → Legal t e → k < width t → (WritesSlot t e n k → ⊥)
+    (t : Table) (e : Entry) (n k : ℕ) → IsTable t → Legal t e → k < width t
+    → (WritesSlot t e n k → ⊥)
     → slot_at (after t e) n k ≡ slot_at t n k
 
 -- without a put into its stripe, a slot keeps its digest
@@ -77,28 +84,33 @@ DigestsStay =
 abbrev pub DataStays : Type 0
 DataStays =
     (t : Table) (e : Entry) (n k : ℕ) → IsTable t → Legal t e → k < t.data_columns
-    → is_void (slot_at t n k) ≡ false → digest_in (slot_at (after t e) n k) ≡ digest_in (slot_at t n k)
+    → is_void (slot_at t n k) ≡ false
+    → digest_in (slot_at (after t e) n k) ≡ digest_in (slot_at t n k)
 
 -- a slot becomes Live by a put into its stripe, or as the target of a relay that ends
 abbrev pub LiveByPut : Type 0
 LiveByPut =
     (t : Table) (e : Entry) (n k : ℕ) → IsTable t → Legal t e → k < width t
-    → IsTrue (is_live (slot_at (after t e) n k)) → IsTrue (is_live (slot_at t n k)) ⊎ MakesLive e n k
+    → IsTrue (is_live (slot_at (after t e) n k))
+    → IsTrue (is_live (slot_at t n k)) ⊎ MakesLive e n k
 
 abbrev pub CursorStays : Type 0
 CursorStays = (t : Table) (e : Entry) → (MovesCursor e → ⊥) → (after t e).cursor ≡ t.cursor
 
 abbrev pub ColumnsStay : Type 0
 ColumnsStay =
-    (t : Table) (e : Entry) (k : ℕ) → (ChangesColumn e k → ⊥) → column_at (after t e) k ≡ column_at t k
+    (t : Table) (e : Entry) (k : ℕ) → (ChangesColumn e k → ⊥)
+    → column_at (after t e) k ≡ column_at t k
 
 abbrev pub RelaysStay : Type 0
-RelaysStay = (t : Table) (e : Entry) (n : ℕ) → (ChangesRelay e n → ⊥) → relay_at (after t e) n ≡ relay_at t n
+RelaysStay =
+    (t : Table) (e : Entry) (n : ℕ) → (ChangesRelay e n → ⊥) → relay_at (after t e) n ≡ relay_at t n
 
 -- each parity slot is Void exactly where all data slots of its stripe are
 abbrev pub ParityVoid : Type 0
 ParityVoid = (t : Table) (s c : ℕ) → IsTable t → s < t.stripes → t.data_columns ≤ c → c < width t
-    → IsTrue (is_void (slot_at t s c)) ↔ ((k : ℕ) → k < t.data_columns → IsTrue (is_void (slot_at t s k)))
+    → IsTrue (is_void (slot_at t s c))
+    ↔ ((k : ℕ) → k < t.data_columns → IsTrue (is_void (slot_at t s k)))
 
 -- legal entries keep the rules of a table
 abbrev pub RulesStay : Type 0
@@ -126,9 +138,11 @@ ReplayedOnce =
     (t u v : Table) (entries : List Entry) (whole all : Bool) → Replayed t u entries whole
     → Replayed t v entries all → (u ≡ v) × (whole ≡ all)
 
--- a log leads to a table exactly where each entry is legal in its turn and this is the table that the log comes to
+-- a log leads to a table exactly where each entry is legal in its turn and this is the table that
+-- the log comes to
 abbrev pub LogsComeTo : Type 0
-LogsComeTo = (t u : Table) (log : List Entry) → Replays t log u ↔ (AreLegal t log × (u ≡ replayed t log))
+LogsComeTo =
+    (t u : Table) (log : List Entry) → Replays t log u ↔ (AreLegal t log × (u ≡ replayed t log))
 
 -- what two logs come to one after the other
 abbrev pub LogsComeOn : Type 0
@@ -138,14 +152,19 @@ LogsComeOn = (t : Table) (x y : List Entry) → replayed t (x ++ y) ≡ replayed
 abbrev pub OwnInBoth : Type 0
 OwnInBoth = (job : ℕ) (x y : List Entry) → own job (x ++ y) ≡ own job x ++ own job y
 
--- a data slot has a digest exactly where it had it at first, or a put of the log filled it with that
+-- a data slot has a digest exactly where it had it at first, or a put of the log filled it with
+-- that
 abbrev pub DigestsByPuts : Type 0
 DigestsByPuts =
-    (t u : Table) (log : List Entry) (s c : ℕ) (d : Digest) → IsTable t → Replays t log u → c < t.data_columns
-    → IsFilledWith d (slot_at u s c) ↔ (IsFilledWith d (slot_at t s c) ⊎ ((e : Entry) × Contains log e × Fills s c d e))
+    (t u : Table) (log : List Entry) (s c : ℕ) (d : Digest) → IsTable t → Replays t log u
+    → c < t.data_columns
+    → IsFilledWith d (slot_at u s c)
+    ↔ (IsFilledWith d (slot_at t s c) ⊎ ((e : Entry) × Contains log e × Fills s c d e))
 
--- so a slot that a put of a log filled is Live, Lost or Broken with that digest in each table that the log comes to from then on
+-- so a slot that a put of a log filled is Live, Lost or Broken with that digest in each table that
+-- the log comes to from then on
 abbrev pub PutsStay : Type 0
 PutsStay =
-    (t u : Table) (log : List Entry) (s c : ℕ) (d : Digest) (e : Entry) → IsTable t → Replays t log u → Contains log e → Fills s c d e
+    (t u : Table) (log : List Entry) (s c : ℕ) (d : Digest) (e : Entry) → IsTable t
+    → Replays t log u → Contains log e → Fills s c d e
     → IsFilledWith d (slot_at u s c)

@@ -4,7 +4,10 @@ use Rattle.pot_bytes.specs.declared.digest.Digest.{Digest}
 use Rattle.pot_machine.specs.declared.slot.SlotState.{SlotState}
 use Rattle.pot_machine.specs.declared.slot.SlotState.TheVariants.{Live, Lost, Broken}
 use Rattle.pot_machine.specs.declared.entry.Entry.{Entry}
-use Rattle.pot_machine.specs.declared.entry.Entry.TheVariants.{Put, Skip, Seen, Gone, Broke, Fault, Begin, Hop, Mended, GaveUp, Oddly, Stuck, MoveBegin, Moved, MoveEnd, Swapped, Counted, Put2}
+use Rattle.pot_machine.specs.declared.entry.Entry.TheVariants.{Put, Skip, Seen, Gone, Broke, Fault}
+use Rattle.pot_machine.specs.declared.entry.Entry.TheVariants.{Begin, Hop, Mended, GaveUp, Oddly}
+use Rattle.pot_machine.specs.declared.entry.Entry.TheVariants.{Stuck, MoveBegin, Moved, MoveEnd}
+use Rattle.pot_machine.specs.declared.entry.Entry.TheVariants.{Swapped, Counted, Put2}
 use Rattle.pot_machine.specs.Table.{Table}
 use Rattle.pot_machine.specs.Machine.{Legal, after}
 
@@ -52,8 +55,10 @@ AreLegal t log = (x y : List Entry) (e : Entry) → log ≡ x ++ e ∷ y → Leg
 
 -- the entry puts a block of this digest in this data slot
 abbrev pub Fills : ℕ → ℕ → Digest → Entry → Type 0
-Fills s c d (Put job stripe column digest parity_digest kept) = (s ≡ stripe) × (c ≡ column) × (d ≡ digest)
-Fills s c d (Put2 job stripe column digest parity_digest second_digest kept kept2) = (s ≡ stripe) × (c ≡ column) × (d ≡ digest)
+Fills s c d (Put job stripe column digest parity_digest kept) =
+    (s ≡ stripe) × (c ≡ column) × (d ≡ digest)
+Fills s c d (Put2 job stripe column digest parity_digest second_digest kept kept2) =
+    (s ≡ stripe) × (c ≡ column) × (d ≡ digest)
 Fills s c d _ = ⊥
 
 -- the slot is Live, Lost or Broken with this digest
@@ -62,4 +67,6 @@ IsFilledWith d x = (x ≡ Live d) ⊎ ((x ≡ Lost d) ⊎ (x ≡ Broken d))
 
 -- a put of a block of this digest that kept its parity blocks
 abbrev pub IsKeptPut : ℕ → ℕ → ℕ → Digest → Entry → Type 0
-IsKeptPut job s c d e = ((p : Digest) × (e ≡ Put job s c d p true)) ⊎ ((p : Digest) × (q : Digest) × (e ≡ Put2 job s c d p q true true))
+IsKeptPut job s c d e =
+    ((p : Digest) × (e ≡ Put job s c d p true))
+    ⊎ ((p : Digest) × (q : Digest) × (e ≡ Put2 job s c d p q true true))

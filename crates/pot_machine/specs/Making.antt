@@ -12,7 +12,8 @@ use Rattle.pot_machine.specs.Table.{Table}
 abbrev pub column_home : ℕ → Column
 column_home number = record { home = number; moving = None }
 
--- no slot is used, no column moves, and the groups' archives are numbered one group after the other, by column
+-- no slot is used, no column moves, and the groups' archives are numbered one group after the
+-- other, by column
 abbrev pub empty_table : Rack → ℕ → Table
 empty_table rack group =
     let width = rack.columns + rack.parity in
@@ -29,4 +30,12 @@ empty_table rack group =
 -- the table of these parts, without relays
 abbrev pub table_of : ℕ → Cursor → List Column → List SlotState → ℕ → Table
 table_of stripes cursor columns slots parity =
-    record { data_columns = length columns - parity; parity = parity; stripes = stripes; cursor = cursor; columns = columns; slots = slots; relays = [] }
+    record {
+      data_columns = length columns - parity;
+      parity = parity;
+      stripes = stripes;
+      cursor = cursor;
+      columns = columns;
+      slots = slots;
+      relays = [];
+    }

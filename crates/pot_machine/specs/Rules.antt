@@ -1,5 +1,6 @@
 -- The rules that every table of a group keeps.
-use Rattle.std.specs.Prelude.{◌≡◌, ◌≢◌, ◌<◌, ◌≤◌, ℕ, ◌*◌, None, IfSome, IsTrue, length, All, AllPairs, nat_le}
+use Rattle.std.specs.Prelude.{◌≡◌, ◌≢◌, ◌<◌, ◌≤◌, ℕ, ◌*◌, None, IfSome, IsTrue, length, All}
+use Rattle.std.specs.Prelude.{AllPairs, nat_le}
 use Rattle.pot_machine.specs.declared.relay.Relay.{Relay}
 use Rattle.pot_machine.specs.Slot.{is_void, is_unsound}
 use Rattle.pot_machine.specs.Column.{names}
@@ -29,7 +30,8 @@ pub record HasVoids (t : Table) : Type 0 where
   pub parity : (s c : ℕ) → s < t.stripes → t.data_columns ≤ c → c < width t
       → is_void (slot_at t s c) ≡ is_void (slot_at t s 0)
   -- all slots of the stripes after the cursor's are Void
-  pub after : (s c : ℕ) → t.cursor.stripe < s → s < t.stripes → c < width t → IsTrue (is_void (slot_at t s c))
+  pub after : (s c : ℕ) → t.cursor.stripe < s → s < t.stripes → c < width t
+      → IsTrue (is_void (slot_at t s c))
   -- in the cursor's stripe the data slots that are not Void are exactly those before the cursor
   pub cursor : (c : ℕ) → t.cursor.stripe < t.stripes → c < t.data_columns
       → is_void (slot_at t t.cursor.stripe c) ≡ nat_le t.cursor.column c
@@ -41,8 +43,8 @@ pub record HasColumns (t : Table) : Type 0 where
   pub distinct : (c k number : ℕ) → c < width t → k < width t
       → IsTrue (names (column_at t c) number) → IsTrue (names (column_at t k) number) → c ≡ k
 
--- a relay whose target is Lost or Broken. It skips no column, or another than its target, which it can only where there
--- are two parity columns
+-- a relay whose target is Lost or Broken. It skips no column, or another than its target, which it
+-- can only where there are two parity columns
 pub record IsStanding (t : Table) (r : Relay) : Type 0 where
   pub stripe : r.stripe < t.stripes
   pub target : r.target < width t

@@ -1,5 +1,7 @@
 -- The table of a group, and how it is read.
-use Rattle.std.specs.Prelude.{ℕ, zero, suc, ◌+◌, ◌*◌, ◌==◌, ◌&&◌, nat_lt, nat_le, Bool, true, not, Option, Some, None, List, if◌then◌else◌, slice_index_or, find, flat_map}
+use Rattle.std.specs.Prelude.{ℕ, zero, suc, ◌+◌, ◌*◌, ◌==◌, ◌&&◌, nat_lt, nat_le, Bool, true, not}
+use Rattle.std.specs.Prelude.{Option, Some, None, List, if◌then◌else◌, slice_index_or, find}
+use Rattle.std.specs.Prelude.{flat_map}
 use Rattle.pot_machine.specs.declared.slot.SlotState.{SlotState}
 use Rattle.pot_machine.specs.declared.slot.SlotState.TheVariants.{Void}
 use Rattle.pot_machine.specs.declared.column.Column.{Column}
@@ -8,7 +10,8 @@ use Rattle.pot_machine.specs.declared.cursor.Cursor.{Cursor}
 use Rattle.pot_machine.specs.Slot.{is_void}
 use Rattle.pot_machine.specs.Column.{names, serving, homes_of}
 
--- The data columns stand first, behind them the parity column P, and behind it Q where there are two.
+-- The data columns stand first, behind them the parity column P, and behind it Q where there are
+-- two.
 pub record Table : Type 0 where
   -- the number of data columns, and that of parity columns
   pub data_columns : ℕ
@@ -80,20 +83,25 @@ first_beside t s c test = least (width t) (λ k. not (k == c) && test (slot_at t
 abbrev pub count_beside : Table → ℕ → ℕ → (SlotState → Bool) → ℕ
 count_beside t s c test = count (width t) (λ k. not (k == c) && test (slot_at t s k))
 
--- the column that a relay goes without: the other Lost slot, and where there is none the parity column whose equation
--- it does not use. That is Q, or P for the target Q, and with one parity column there is no Q
+-- the column that a relay goes without: the other Lost slot, and where there is none the parity
+-- column whose equation it does not use. That is Q, or P for the target Q, and with one parity
+-- column there is no Q
 abbrev pub skipped : ℕ → Option ℕ → ℕ → ℕ
 skipped data_columns (Some u) target = u
-skipped data_columns None target = if nat_le target data_columns then data_columns + 1 else data_columns
+skipped data_columns None target =
+    if nat_le target data_columns then data_columns + 1 else data_columns
 
 abbrev pub is_after : Option ℕ → ℕ → Bool
 is_after None c = true
 is_after (Some l) c = nat_lt l c
 
--- the columns that a relay has yet to go over: those above its last one whose slot is not Void, but for the target and
--- the column that it goes without
+-- the columns that a relay has yet to go over: those above its last one whose slot is not Void, but
+-- for the target and the column that it goes without
 abbrev pub is_ahead : Table → Relay → ℕ → Bool
-is_ahead t r c = is_after r.last c && (not (c == r.target) && (not (c == skipped t.data_columns r.skip r.target) && not (is_void (slot_at t r.stripe c))))
+is_ahead t r c =
+    is_after r.last c
+    && (not (c == r.target)
+    && (not (c == skipped t.data_columns r.skip r.target) && not (is_void (slot_at t r.stripe c))))
 
 abbrev pub next_column : Table → Relay → Option ℕ
 next_column t r = least (width t) (is_ahead t r)

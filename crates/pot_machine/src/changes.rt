@@ -1,7 +1,10 @@
 //! What the entries do to the parts of a table.
 ghost use Rattle.std.specs.Prelude.{◌≡◌, ◌<◌, ◌+◌, map, length, IfSome, if◌then◌else◌};
 ghost use Rattle.pot_machine.specs.Table.{width, column_at};
-ghost use Rattle.pot_machine.specs.Machine.{InRange, Legal, after, with_slot, with_put, with_column, with_cursor, past, with_relay, with_hop, hopped, without_relay, with_loss, with_losses, moved_on, moved_home};
+ghost use Rattle.pot_machine.specs.Machine.{InRange, Legal, after, with_slot, with_put};
+ghost use Rattle.pot_machine.specs.Machine.{with_column, with_cursor, past, with_relay, with_hop};
+ghost use Rattle.pot_machine.specs.Machine.{hopped, without_relay, with_loss, with_losses};
+ghost use Rattle.pot_machine.specs.Machine.{moved_on, moved_home};
 ghost use Rattle.pot_machine.specs.Rules.{IsTable};
 
 use crate::column::{Column, Moving};
@@ -196,7 +199,9 @@ impl Parts {
 
     fn move_begin(&mut self, column: u8, to: u32)
         requires { column < width self.old }
-        ensures { self.new ≡ with_column self.old column (record (column_at self.old column) { moving = Some (record { to = to; upto = 0 }) }) }
+        ensures { self.new
+            ≡ with_column self.old column
+            (record (column_at self.old column) { moving = Some (record { to = to; upto = 0 }) }) }
     {
         let home = self.column(column).home;
         let moving = Some(Moving { to, upto: 0 });
@@ -206,7 +211,9 @@ impl Parts {
     fn move_on(&mut self, stripe: u32, column: u8, copied: bool)
         requires place { InRange self.old stripe column }
         requires position { IfSome (column_at self.old column).moving (λ m. m.upto < 4096) }
-        ensures { self.new ≡ with_column (if copied then self.old else with_loss self.old stripe column) column (moved_on (column_at self.old column)) }
+        ensures { self.new
+            ≡ with_column (if copied then self.old else with_loss self.old stripe column) column
+            (moved_on (column_at self.old column)) }
     {
         let column_after = self.column(column).moved_on();
         if !copied {
@@ -217,7 +224,9 @@ impl Parts {
 
     fn swap(&mut self, column: u8, to: u32)
         requires { column < width self.old }
-        ensures { self.new ≡ with_column (with_losses self.old.stripes self.old column) column (record { home = to; moving = None }) }
+        ensures { self.new
+            ≡ with_column (with_losses self.old.stripes self.old column) column
+            (record { home = to; moving = None }) }
     {
         self.lose_column(column);
         let moved = Column {

@@ -1,6 +1,10 @@
 //! What is proved of the machine as a whole.
-ghost use Rattle.pot_machine.specs.Laws.{SizesStay, SlotsStay, DigestsStay, DataStays, LiveByPut, CursorStays, ColumnsStay, RelaysStay, ParityVoid, RulesStay, LogsGoOn, LogsWentOn, LogsLeadOnce, ReplayedOnce};
-ghost use Rattle.pot_machine.specs.Laws.{LogsComeTo, LogsComeOn, OwnInBoth, DigestsByPuts, PutsStay};
+ghost use Rattle.pot_machine.specs.Laws.{SizesStay, SlotsStay, DigestsStay, DataStays, LiveByPut};
+ghost use Rattle.pot_machine.specs.Laws.{CursorStays, ColumnsStay, RelaysStay, ParityVoid};
+ghost use Rattle.pot_machine.specs.Laws.{RulesStay, LogsGoOn, LogsWentOn, LogsLeadOnce};
+ghost use Rattle.pot_machine.specs.Laws.{ReplayedOnce};
+ghost use Rattle.pot_machine.specs.Laws.{LogsComeTo, LogsComeOn, OwnInBoth, DigestsByPuts};
+ghost use Rattle.pot_machine.specs.Laws.{PutsStay};
 
 /// What each entry leaves alone, how logs go on and where they lead, and what a put fills. It does nothing.
 pub fn machine_laws()

@@ -1,7 +1,9 @@
 //! Which entries are legal in a table.
 ghost use Rattle.std.specs.Prelude.{◌≡◌, ◌<◌, ◌↔◌, IsTrue};
 ghost use Rattle.pot_machine.specs.Table.{width};
-ghost use Rattle.pot_machine.specs.Machine.{InRange, AtCursor, TakesBlocks, TakesPut, TakesSkip, TakesBroke, IsRebuilt, TakesRelay, GoesTo, StandsAt, TakesArchive, MovesAt, stuck_by, Legal};
+ghost use Rattle.pot_machine.specs.Machine.{InRange, AtCursor, TakesBlocks, TakesPut, TakesSkip};
+ghost use Rattle.pot_machine.specs.Machine.{TakesBroke, IsRebuilt, TakesRelay, GoesTo, StandsAt};
+ghost use Rattle.pot_machine.specs.Machine.{TakesArchive, MovesAt, stuck_by, Legal};
 
 use crate::entry::Entry;
 use crate::parts::Parts;

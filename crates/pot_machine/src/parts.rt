@@ -1,7 +1,9 @@
 //! The parts of a table: its sizes, and lists of the lengths that they ask for. What stands in the lists is not ruled
 //! here.
 ghost use Rattle.std.specs.Prelude.{◌≡◌, ◌<◌, ◌≤◌, ◌+◌, ◌*◌, ℕ, IfSome};
-ghost use Rattle.pot_machine.specs.Table.{width, slot_at, column_at, relay_at, first, first_beside, count_beside, skipped, is_after, is_ahead, next_column, holder_of};
+ghost use Rattle.pot_machine.specs.Table.{width, slot_at, column_at, relay_at, first, first_beside};
+ghost use Rattle.pot_machine.specs.Table.{count_beside, skipped, is_after, is_ahead, next_column};
+ghost use Rattle.pot_machine.specs.Table.{holder_of};
 ghost use Rattle.pot_machine.specs.Slot.{meets};
 
 use crate::column::Column;

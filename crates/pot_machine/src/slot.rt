@@ -1,6 +1,7 @@
 //! The states of a slot.
 ghost use Rattle.std.specs.Prelude.{◌≡◌, ◌↔◌, IsTrue, Some};
-ghost use Rattle.pot_machine.specs.Slot.{digest_in, is_void, is_live, lost_of, broken_of, live_of, parity_slot, meets};
+ghost use Rattle.pot_machine.specs.Slot.{digest_in, is_void, is_live, lost_of, broken_of, live_of};
+ghost use Rattle.pot_machine.specs.Slot.{parity_slot, meets};
 
 use pot_bytes::Digest;
 

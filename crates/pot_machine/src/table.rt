@@ -1,6 +1,7 @@
 //! The table of a group.
 ghost use Rattle.std.specs.Prelude.{◌≡◌, ◌<◌, ◌↔◌, IsTrue, IfOk};
-ghost use Rattle.pot_machine.specs.Table.{width, slot_at, relay_at, serving_at, next_column, holder_of};
+ghost use Rattle.pot_machine.specs.Table.{width, slot_at, relay_at, serving_at, next_column};
+ghost use Rattle.pot_machine.specs.Table.{holder_of};
 ghost use Rattle.pot_machine.specs.Machine.{Legal, after, Replayed, stuck_by};
 ghost use Rattle.pot_machine.specs.Rules.{IsTable};
 ghost use Rattle.pot_machine.specs.Making.{empty_table, table_of};

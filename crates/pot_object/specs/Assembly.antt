@@ -1,5 +1,6 @@
 -- Objects of one file, one after another, and the file that they carry.
-use Rattle.std.specs.Prelude.{◌≡◌, ◌≢◌, ◌<◌, ◌≤◌, ℕ, zero, suc, ◌+◌, ◌*◌, ◌/◌, List, [], ◌++◌, length, take, drop}
+use Rattle.std.specs.Prelude.{◌≡◌, ◌≢◌, ◌<◌, ◌≤◌, ℕ, zero, suc, ◌+◌, ◌*◌, ◌/◌, List, [], ◌++◌}
+use Rattle.std.specs.Prelude.{length, take, drop}
 use Rattle.pot_object.specs.Pieces.{longest, object_size, pieces_of}
 use Rattle.pot_object.specs.Objects.{head_at, object, part_length, IsObject}
 use Rattle.pot_object.specs.declared.object.ObjectHead.{ObjectHead}
@@ -21,7 +22,8 @@ piece_at objects k = (head_at (object_at objects k)).piece
 -- whole objects of one file, whose head but for the piece is this one; their pieces ascend
 pub record AreObjects (h : ObjectHead) (objects : List ℕ) : Type 0 where
   pub long : length objects ≡ count_of objects * object_size
-  pub each : (k : ℕ) → k < count_of objects → IsObject (record h { piece = piece_at objects k }) (object_at objects k)
+  pub each : (k : ℕ) → k < count_of objects
+      → IsObject (record h { piece = piece_at objects k }) (object_at objects k)
   pub ascending : (k : ℕ) → k + 1 < count_of objects → piece_at objects k < piece_at objects (k + 1)
 
 -- one or more objects of one file
@@ -56,7 +58,8 @@ pub record IsLeastMissing (objects : List ℕ) (piece : ℕ) : Type 0 where
 -- the piece that a refusal names is the least that is missing; want of memory comes where none is
 abbrev pub NamesLeast : List ℕ → AssembleFault → Type 0
 NamesLeast objects (Incomplete piece) = IsLeastMissing objects piece
-NamesLeast objects NoMemory = (piece : ℕ) → piece < (head_at objects).pieces → ¬ IsMissing objects piece
+NamesLeast objects NoMemory =
+    (piece : ℕ) → piece < (head_at objects).pieces → ¬ IsMissing objects piece
 
 -- object number k is there and carries piece k
 abbrev pub IsInPlace : List ℕ → ℕ → Type 0
@@ -68,7 +71,8 @@ BeginsWhole objects n = (k : ℕ) → k < n → IsInPlace objects k
 
 -- the part that object number k carries
 abbrev pub part_at : List ℕ → ℕ → List ℕ
-part_at objects k = take (part_length (head_at (object_at objects k))) (drop 64 (object_at objects k))
+part_at objects k =
+    take (part_length (head_at (object_at objects k))) (drop 64 (object_at objects k))
 
 -- the first lists of these, one after another
 abbrev pub joined : (ℕ → List ℕ) → ℕ → List ℕ

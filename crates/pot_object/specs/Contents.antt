@@ -1,5 +1,6 @@
 -- The bytes of a content.
-use Rattle.std.specs.Prelude.{◌≡◌, ◌≤◌, ℕ, List, ◌++◌, ◌∷◌, length, take, drop, replicate, slice_index}
+use Rattle.std.specs.Prelude.{◌≡◌, ◌≤◌, ℕ, List, ◌++◌, ◌∷◌, length, take, drop, replicate}
+use Rattle.std.specs.Prelude.{slice_index}
 use Rattle.pot_object.specs.Pieces.{content_size}
 use Rattle.pot_object.specs.Sealing.{sealed}
 use Rattle.pot_object.specs.declared.content.FragmentHead.{FragmentHead}
@@ -14,7 +15,8 @@ content_bytes h part = sealed (fragment_head_bytes h) part
 
 -- the content of fragment `number` of `count` of an object
 abbrev pub content : List ℕ → ℕ → ℕ → List ℕ → List ℕ
-content id number count part = content_bytes (record { object_id = id; number = number; count = count }) part
+content id number count part =
+    content_bytes (record { object_id = id; number = number; count = count }) part
 
 -- a head that some fragment has
 pub record IsFragmentHead (h : FragmentHead) : Type 0 where
@@ -32,4 +34,10 @@ pub record IsContent (h : FragmentHead) (bytes : List ℕ) : Type 0 where
 
 -- the fields where a head has them
 abbrev pub fragment_head_at : List ℕ → FragmentHead
-fragment_head_at bytes = record { object_id = take 16 bytes; number = slice_index bytes 16; count = slice_index bytes 17 }
+fragment_head_at bytes =
+    record {
+      object_id = take 16 bytes;
+      number = slice_index bytes 16;
+      count = slice_index bytes
+          17;
+    }

@@ -1,5 +1,6 @@
 -- The bytes of an object.
-use Rattle.std.specs.Prelude.{◌≡◌, ◌≤◌, ◌<◌, ℕ, ◌-◌, ◌*◌, List, ◌++◌, length, take, drop, min, replicate}
+use Rattle.std.specs.Prelude.{◌≡◌, ◌≤◌, ◌<◌, ℕ, ◌-◌, ◌*◌, List, ◌++◌, length, take, drop, min}
+use Rattle.std.specs.Prelude.{replicate}
 use Rattle.byteorder.specs.Endian.{big_bytes, big_number}
 use Rattle.pot_object.specs.Pieces.{longest, piece_size, pieces_of, part_of}
 use Rattle.pot_object.specs.Sealing.{sealed}
@@ -9,13 +10,15 @@ use Rattle.pot_object.specs.declared.object.ObjectHead.{ObjectHead}
 unfoldable pub head_bytes : ObjectHead → List ℕ
 head_bytes h = h.file_id ++ big_bytes 4 h.piece ++ big_bytes 4 h.pieces ++ big_bytes 8 h.length
 
--- the object that carries a part of a file under this head: the part has zeros behind it up to 864 bytes
+-- the object that carries a part of a file under this head: the part has zeros behind it up to 864
+-- bytes
 unfoldable pub object_bytes : ObjectHead → List ℕ → List ℕ
 object_bytes h part = sealed (head_bytes h) (part ++ replicate (piece_size - length part) 0)
 
 -- the head of a piece of a file
 abbrev pub head_of : List ℕ → List ℕ → ℕ → ObjectHead
-head_of id file piece = record { file_id = id; piece = piece; pieces = pieces_of (length file); length = length file }
+head_of id file piece =
+    record { file_id = id; piece = piece; pieces = pieces_of (length file); length = length file }
 
 -- the object of a piece of a file
 unfoldable pub object : List ℕ → List ℕ → ℕ → List ℕ

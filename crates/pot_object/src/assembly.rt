@@ -1,7 +1,10 @@
-ghost use Rattle.std.specs.Prelude.{◌≡◌, ◌≤◌, ◌<◌, ◌↔◌, ◌*◌, ℕ, List, length, IfOk, IfErr, MatchOption, IsTrue};
+ghost use Rattle.std.specs.Prelude.{◌≡◌, ◌≤◌, ◌<◌, ◌↔◌, ◌*◌, ℕ, List, length, IfOk, IfErr};
+ghost use Rattle.std.specs.Prelude.{MatchOption, IsTrue};
 ghost use Rattle.pot_object.specs.Pieces.{longest, object_size};
 ghost use Rattle.pot_object.specs.Objects.{head_at, IsHead};
-ghost use Rattle.pot_object.specs.Assembly.{count_of, object_at, objects_of, joined, part_at, AreObjectsOf, BeginsWhole, IsInPlace, IsLeastMissing, IsSeries, NamesLeast};
+ghost use Rattle.pot_object.specs.Assembly.{count_of, object_at, objects_of, joined, part_at};
+ghost use Rattle.pot_object.specs.Assembly.{AreObjectsOf, BeginsWhole, IsInPlace, IsLeastMissing};
+ghost use Rattle.pot_object.specs.Assembly.{IsSeries, NamesLeast};
 
 use crate::object::{head_in, part_len};
 use crate::pieces::OBJECT;
@@ -28,9 +31,12 @@ impl From<AllocError> for AssembleFault {
 /// The laws of the objects of all pieces of a file, in order: they may be assembled, none is missing, and they
 /// are those of no other file. So they are assembled to the file.
 pub fn assemble_laws()
-    ensures series { (id file : List ℕ) → length id ≡ 16 → length file ≤ longest → IsSeries (objects_of id file) }
-    ensures whole { (id file : List ℕ) (piece : ℕ) → length id ≡ 16 → length file ≤ longest → ¬ IsLeastMissing (objects_of id file) piece }
-    ensures file { (id file other : List ℕ) → length id ≡ 16 → length file ≤ longest → AreObjectsOf (objects_of id file) other → other ≡ file }
+    ensures series { (id file : List ℕ) → length id ≡ 16 → length file ≤ longest
+        → IsSeries (objects_of id file) }
+    ensures whole { (id file : List ℕ) (piece : ℕ) → length id ≡ 16 → length file ≤ longest
+        → ¬ IsLeastMissing (objects_of id file) piece }
+    ensures file { (id file other : List ℕ) → length id ≡ 16 → length file ≤ longest
+        → AreObjectsOf (objects_of id file) other → other ≡ file }
 {}
 
 /// The file whose objects these are: one or more, one after another, of one file id, number of pieces and
@@ -51,7 +57,8 @@ pub fn assemble(alloc: Global, objects: &[u8]) -> Result<Vec<u8>, AssembleFault>
 fn first_gap(objects: &[u8], pieces: u32) -> Option<u32>
     requires series { IsSeries objects.now }
     requires pieces { pieces ≡ (head_at objects.now).pieces }
-    ensures { MatchOption result (BeginsWhole objects.now pieces) (λ p. IsLeastMissing objects.now p) }
+    ensures { MatchOption result (BeginsWhole objects.now pieces)
+        (λ p. IsLeastMissing objects.now p) }
 {
     for piece in 0..pieces {
         if !is_in_place(objects, piece) {

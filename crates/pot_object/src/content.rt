@@ -1,5 +1,7 @@
-ghost use Rattle.std.specs.Prelude.{◌≡◌, ◌≤◌, ◌↔◌, ◌∷◌, ◌++◌, ℕ, List, length, take, drop, replicate, IsTrue, MatchOption};
-ghost use Rattle.pot_object.specs.Contents.{content, content_bytes, fragment_head_at, fragment_head_bytes, IsContent, IsFragmentHead};
+ghost use Rattle.std.specs.Prelude.{◌≡◌, ◌≤◌, ◌↔◌, ◌∷◌, ◌++◌, ℕ, List, length, take, drop};
+ghost use Rattle.std.specs.Prelude.{replicate, IsTrue, MatchOption};
+ghost use Rattle.pot_object.specs.Contents.{content, content_bytes, fragment_head_at};
+ghost use Rattle.pot_object.specs.Contents.{fragment_head_bytes, IsContent, IsFragmentHead};
 ghost use Rattle.pot_object.specs.Pieces.{object_size};
 
 use crate::pieces::{CONTENT, OBJECT};
@@ -18,10 +20,14 @@ pub struct FragmentHead {
 /// The laws of contents: what is written is a content of its head, with its fragment; a content has one head,
 /// and a head and a fragment have one content.
 pub fn content_laws()
-    ensures written { (h : FragmentHead) (part : List ℕ) → IsFragmentHead h → length part ≡ object_size → IsContent h (content_bytes h part) }
-    ensures part { (h : FragmentHead) (part : List ℕ) → IsFragmentHead h → drop 64 (content_bytes h part) ≡ part }
-    ensures one_head { (h g : FragmentHead) (bytes : List ℕ) → IsContent h bytes → IsContent g bytes → h ≡ g }
-    ensures one_spelling { (h : FragmentHead) (a b : List ℕ) → IsContent h a → IsContent h b → drop 64 a ≡ drop 64 b → a ≡ b }
+    ensures written { (h : FragmentHead) (part : List ℕ) → IsFragmentHead h
+        → length part ≡ object_size → IsContent h (content_bytes h part) }
+    ensures part { (h : FragmentHead) (part : List ℕ) → IsFragmentHead h
+        → drop 64 (content_bytes h part) ≡ part }
+    ensures one_head { (h g : FragmentHead) (bytes : List ℕ) → IsContent h bytes → IsContent g bytes
+        → h ≡ g }
+    ensures one_spelling { (h : FragmentHead) (a b : List ℕ) → IsContent h a → IsContent h b
+        → drop 64 a ≡ drop 64 b → a ≡ b }
 {}
 
 /// Writes the content of one fragment of an object.
@@ -50,7 +56,8 @@ pub fn write_content(
 
 /// Reads a content. None exactly where the bytes are none.
 pub fn read_content(bytes: &[u8; CONTENT]) -> Option<FragmentHead>
-    ensures { MatchOption result ((h : FragmentHead) → ¬ IsContent h bytes.now) (λ h. IsContent h bytes.now) }
+    ensures { MatchOption result ((h : FragmentHead) → ¬ IsContent h bytes.now)
+        (λ h. IsContent h bytes.now) }
 {
     let head = head_in(bytes);
     if is_head(&head) && is_zeros(&bytes[18..32]) && is_sealed(bytes) {

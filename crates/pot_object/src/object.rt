@@ -1,6 +1,8 @@
-ghost use Rattle.std.specs.Prelude.{◌≡◌, ◌≤◌, ◌<◌, ◌↔◌, ◌-◌, ◌++◌, ℕ, List, length, take, drop, replicate, IsTrue, MatchOption};
+ghost use Rattle.std.specs.Prelude.{◌≡◌, ◌≤◌, ◌<◌, ◌↔◌, ◌-◌, ◌++◌, ℕ, List, length, take, drop};
+ghost use Rattle.std.specs.Prelude.{replicate, IsTrue, MatchOption};
 ghost use Rattle.pot_object.specs.Pieces.{longest, object_size, part_of, pieces_of};
-ghost use Rattle.pot_object.specs.Objects.{head_at, head_bytes, head_of, object, part_length, IsHead, IsObject};
+ghost use Rattle.pot_object.specs.Objects.{head_at, head_bytes, head_of, object, part_length};
+ghost use Rattle.pot_object.specs.Objects.{IsHead, IsObject};
 
 use crate::pieces::{LONGEST, OBJECT, PIECE, count_pieces};
 use crate::sealing::{is_sealed, is_zeros, seal};
@@ -21,12 +23,16 @@ pub struct ObjectHead {
 /// The laws of objects: what is written is an object of its head, with its part of the file; an object has
 /// one head, and a head and a part have one object.
 pub fn object_laws()
-    ensures written { (id file : List ℕ) (piece : ℕ) → length id ≡ 16 → length file ≤ longest → piece < pieces_of (length file)
+    ensures written { (id file : List ℕ) (piece : ℕ) → length id ≡ 16 → length file ≤ longest
+        → piece < pieces_of (length file)
         → IsObject (head_of id file piece) (object id file piece) }
     ensures part { (id file : List ℕ) (piece : ℕ) → length id ≡ 16
-        → take (part_length (head_of id file piece)) (drop 64 (object id file piece)) ≡ part_of file piece }
-    ensures bytes { (id file : List ℕ) (piece : ℕ) → length id ≡ 16 → length (object id file piece) ≡ object_size }
-    ensures one_head { (h g : ObjectHead) (bytes : List ℕ) → IsObject h bytes → IsObject g bytes → h ≡ g }
+        → take (part_length (head_of id file piece)) (drop 64 (object id file piece))
+        ≡ part_of file piece }
+    ensures bytes { (id file : List ℕ) (piece : ℕ) → length id ≡ 16
+        → length (object id file piece) ≡ object_size }
+    ensures one_head { (h g : ObjectHead) (bytes : List ℕ) → IsObject h bytes → IsObject g bytes
+        → h ≡ g }
     ensures one_spelling { (h : ObjectHead) (a b : List ℕ) → IsObject h a → IsObject h b
         → take (part_length h) (drop 64 a) ≡ take (part_length h) (drop 64 b) → a ≡ b }
 {}
@@ -53,7 +59,8 @@ pub fn write_object(file_id: &[u8; 16], file: &[u8], piece: u32, out: &mut [u8; 
 
 /// Reads an object. None exactly where the bytes are none.
 pub fn read_object(bytes: &[u8; OBJECT]) -> Option<ObjectHead>
-    ensures { MatchOption result ((h : ObjectHead) → ¬ IsObject h bytes.now) (λ h. IsObject h bytes.now) }
+    ensures { MatchOption result ((h : ObjectHead) → ¬ IsObject h bytes.now)
+        (λ h. IsObject h bytes.now) }
 {
     let head = head_in(bytes);
     if !is_head(&head) {

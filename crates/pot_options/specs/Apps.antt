@@ -1,5 +1,6 @@
 -- The command that clap is given, and the entries of its answer.
-use Rattle.std.specs.Prelude.{◌≡◌, List, [], ◌∷◌, map, Some, None, codes, true, slice_get, unwrap_or}
+use Rattle.std.specs.Prelude.{◌≡◌, List, [], ◌∷◌, map, Some, None, codes, true, slice_get}
+use Rattle.std.specs.Prelude.{unwrap_or}
 use Rattle.clap.specs.Words.{App, Rule, Row, new_rule, rows_of, found_of}
 use Rattle.clap.specs.Simple.{new_shape}
 use Rattle.clap.specs.declared.builder.ArgAction.TheVariants.{Set}

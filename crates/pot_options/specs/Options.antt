@@ -1,5 +1,6 @@
 -- Words that spell options, each as `--name value` or as `--name=value`.
-use Rattle.std.specs.Prelude.{◌≡◌, ◌⊎◌, ℕ, Bool, true, false, not, nat_eq, ⊤, List, [], ◌∷◌, ◌++◌, Option, find, option_map}
+use Rattle.std.specs.Prelude.{◌≡◌, ◌⊎◌, ℕ, Bool, true, false, not, nat_eq, ⊤, List, [], ◌∷◌, ◌++◌}
+use Rattle.std.specs.Prelude.{Option, find, option_map}
 use Rattle.std.specs.List.{list_any}
 use Rattle.std.specs.Str.{bytes_eq}
 

@@ -18,7 +18,9 @@ pub fn read_options<'a>(
     words: &'a [String],
 ) -> Result<Option<Options<'a>>, NoMemory>
     requires { AreNames (map (λ s. s.now) names.now) }
-    ensures { IfOk result (λ r. MatchOption r (IsUnread (map (λ s. s.now) names.entry.now) (map string_bytes words.entry.now))
+    ensures { IfOk result
+        (λ r. MatchOption r (IsUnread (map (λ s. s.now) names.entry.now)
+        (map string_bytes words.entry.now))
         (IsRead (map (λ s. s.now) names.entry.now) (map string_bytes words.entry.now))) }
 {
     if has_delimiter(words) {

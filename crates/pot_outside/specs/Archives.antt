@@ -1,5 +1,6 @@
 -- What a call of an archive does to its blocks, and what a room means by a number.
-use Rattle.std.specs.Prelude.{◌≡◌, ◌≤◌, ◌-◌, ◌^◌, ◌==◌, ◌⊎◌, ◌++◌, ℕ, Bool, List, [], ◌∷◌, Option, Some, None, Result, Ok, Err, Contains, ◌<◌, if◌then◌else◌, IsErr}
+use Rattle.std.specs.Prelude.{◌≡◌, ◌≤◌, ◌-◌, ◌^◌, ◌==◌, ◌⊎◌, ◌++◌, ℕ, Bool, List, [], ◌∷◌, Option}
+use Rattle.std.specs.Prelude.{Some, None, Result, Ok, Err, Contains, ◌<◌, if◌then◌else◌, IsErr}
 use Rattle.pot_bytes.specs.Lists.{IsBlock}
 use Rattle.pot_outside.specs.Failing.{MayLeave}
 use Rattle.pot_bytes.specs.Sums.{xor}
@@ -18,7 +19,8 @@ Contents = ℕ → Option (List ℕ)
 abbrev pub at_slot : Contents → ℕ → Option (List ℕ) → Contents
 at_slot held slot block k = if k == slot then block else held k
 
--- No block is new or altered. While the count of losses stays below its last value and does not rise, none is gone.
+-- No block is new or altered. While the count of losses stays below its last value and does not
+-- rise, none is gone.
 pub record OnlyLoses (old new : Contents) (before now : ℕ) : Type 0 where
   pub later : before ≤ now
   pub keeps : (k : ℕ) (b : List ℕ) → new k ≡ Some b → old k ≡ Some b
@@ -30,10 +32,12 @@ ReadTells held slot into (Ok Held) = held slot ≡ Some into
 ReadTells held slot into (Ok Absent) = held slot ≡ None
 ReadTells held slot into (Err e) = Unit {0}
 
--- `Held`: the sum became the old sum XOR the weight times the slot's block; `Absent`: the slot has none
+-- `Held`: the sum became the old sum XOR the weight times the slot's block; `Absent`: the slot has
+-- none
 abbrev pub FoldTells : Contents → ℕ → ℕ → List ℕ → List ℕ → Result IsHeld Failed → Type 0
 FoldTells held slot weight before after (Ok Held) =
-    (block : List ℕ) × (held slot ≡ Some block) × IsBlock block × (after ≡ xor before (scaled weight block))
+    (block : List ℕ) × (held slot ≡ Some block) × IsBlock block
+    × (after ≡ xor before (scaled weight block))
 FoldTells held slot weight before after (Ok Absent) = held slot ≡ None
 FoldTells held slot weight before after (Err e) = Unit {0}
 
@@ -44,15 +48,18 @@ LeavesSum before after (Ok Absent) = after ≡ before
 LeavesSum before after (Err e) = after ≡ before
 
 -- a fold is heard with its slot and the sum before it, and one that fails may not be heard
-abbrev pub HearsFold : List (ℕ × List ℕ) → List (ℕ × List ℕ) → ℕ → List ℕ → Result IsHeld Failed → Type 0
+abbrev pub HearsFold : List (ℕ × List ℕ) → List (ℕ × List ℕ) → ℕ → List ℕ → Result IsHeld Failed
+    → Type 0
 HearsFold old new slot sum (Ok h) = new ≡ old ++ (slot, sum) ∷ []
 HearsFold old new slot sum (Err e) = (new ≡ old) ⊎ (new ≡ old ++ (slot, sum) ∷ [])
 
 -- a write puts the block into its slot, or fails and leaves what it may; then blocks may be lost
 abbrev pub WriteTells : Contents → Contents → ℕ → ℕ → ℕ → List ℕ → Result (Unit {0}) Failed → Type 0
-WriteTells old new before now slot block (Ok u) = OnlyLoses (at_slot old slot (Some block)) new before now
+WriteTells old new before now slot block (Ok u) =
+    OnlyLoses (at_slot old slot (Some block)) new before now
 WriteTells old new before now slot block (Err e) =
-    (left : Option (List ℕ)) × MayLeave (old slot) block left × OnlyLoses (at_slot old slot left) new before now
+    (left : Option (List ℕ)) × MayLeave (old slot) block left
+    × OnlyLoses (at_slot old slot left) new before now
 
 -- a write adds its block to the blocks that were ever held, and one that fails may add none
 abbrev pub Remembers : List (List ℕ) → List (List ℕ) → List ℕ → Result (Unit {0}) Failed → Type 0
@@ -71,7 +78,8 @@ pub record Meaning : Type 0 where
   pub faults : ℕ
   pub losses : ℕ
 
--- whether archives of a type tell what they hold, and what each means. Where they don't, only the count of faults is meant
+-- whether archives of a type tell what they hold, and what each means. Where they don't, only the
+-- count of faults is meant
 pub record Account (A : Type 0) : Type 0 where
   pub tells : Bool
   pub meaning : A → Meaning
@@ -86,14 +94,16 @@ pub record IsMeant (m n : Meaning) : Type 0 where
 
 -- THE CALLS. `told` is whether the archive tells what it holds.
 
-pub record Reads (told : Type 0) (slot : ℕ) (into : List ℕ) (result : Result IsHeld Failed) (old new : Meaning) : Type 0 where
+pub record Reads (told : Type 0) (slot : ℕ) (into : List ℕ) (result : Result IsHeld Failed)
+    (old new : Meaning) : Type 0 where
   pub tells : told → ReadTells new.held slot into result
   pub loses : told → OnlyLoses old.held new.held old.losses new.losses
   pub past : told → new.history ≡ old.history
   pub hears : told → new.heard ≡ old.heard
   pub cause : Caused old.faults new.faults (IsErr result)
 
-pub record Folds (told : Type 0) (slot weight : ℕ) (before after : List ℕ) (result : Result IsHeld Failed) (old new : Meaning) : Type 0 where
+pub record Folds (told : Type 0) (slot weight : ℕ) (before after : List ℕ)
+    (result : Result IsHeld Failed) (old new : Meaning) : Type 0 where
   pub tells : told → FoldTells new.held slot weight before after result
   pub leaves : LeavesSum before after result
   pub loses : told → OnlyLoses old.held new.held old.losses new.losses
@@ -101,7 +111,8 @@ pub record Folds (told : Type 0) (slot weight : ℕ) (before after : List ℕ) (
   pub hears : told → HearsFold old.heard new.heard slot before result
   pub cause : Caused old.faults new.faults (IsErr result)
 
-pub record Writes (told : Type 0) (slot : ℕ) (block : List ℕ) (result : Result (Unit {0}) Failed) (old new : Meaning) : Type 0 where
+pub record Writes (told : Type 0) (slot : ℕ) (block : List ℕ) (result : Result (Unit {0}) Failed)
+    (old new : Meaning) : Type 0 where
   pub tells : told → WriteTells old.held new.held old.losses new.losses slot block result
   pub past : told → Remembers old.history new.history block result
   pub hears : told → new.heard ≡ old.heard

@@ -1,4 +1,5 @@
--- Counts of faults and of losses: numbers of 64 bits that never fall and stand still at their last value.
+-- Counts of faults and of losses: numbers of 64 bits that never fall and stand still at their last
+-- value.
 use Rattle.std.specs.Prelude.{◌<◌, ◌≤◌, ◌-◌, ◌^◌, ◌⊎◌, ℕ}
 
 -- a count is greater than before, or stands at its last value, where a rise can't be seen

@@ -1,19 +1,23 @@
 -- What a call of a source or a sink does to its bytes, and a call of a desk to its image.
-use Rattle.std.specs.Prelude.{◌≡◌, ◌<◌, ◌≤◌, ◌++◌, ℕ, List, [], length, take, Option, Some, Result, Ok, Err}
+use Rattle.std.specs.Prelude.{◌≡◌, ◌<◌, ◌≤◌, ◌++◌, ℕ, List, [], length, take, Option, Some, Result}
+use Rattle.std.specs.Prelude.{Ok, Err}
 use Rattle.pot_outside.specs.Failing.{MayLeave}
 use Rattle.pot_outside.specs.declared.faults.Failed.{Failed}
 
--- `Ok(count)`: the first `count` bytes of the buffer are the next `count` bytes. None into a buffer with
--- room is the end of the input. A failed read takes nothing.
+-- `Ok(count)`: the first `count` bytes of the buffer are the next `count` bytes. None into a buffer
+-- with room is the end of the input. A failed read takes nothing.
 abbrev pub ReadsNext : List ℕ → List ℕ → List ℕ → Result ℕ Failed → Type 0
 ReadsNext before after into (Ok count) =
-    (before ≡ take count into ++ after) × (count ≤ length into) × (0 < length into → count ≡ 0 → after ≡ [])
+    (before ≡ take count into ++ after) × (count ≤ length into)
+    × (0 < length into → count ≡ 0 → after ≡ [])
 ReadsNext before after into (Err e) = after ≡ before
 
--- `Ok(count)`: the first `count` bytes were appended. A failed write appends some first bytes, or none.
+-- `Ok(count)`: the first `count` bytes were appended. A failed write appends some first bytes, or
+-- none.
 abbrev pub Appends : List ℕ → List ℕ → List ℕ → Result ℕ Failed → Type 0
 Appends before after from (Ok count) = after ≡ before ++ take count from
-Appends before after from (Err e) = (count : ℕ) × (count ≤ length from) × (after ≡ before ++ take count from)
+Appends before after from (Err e) =
+    (count : ℕ) × (count ≤ length from) × (after ≡ before ++ take count from)
 
 -- a count of bytes moved lies within the buffer
 abbrev pub Within : List ℕ → Result ℕ Failed → Type 0

@@ -39,7 +39,8 @@ pub trait Archive {
     /// # Errors
     /// `Failed` only where the count of faults rose.
     fn read(&mut self, slot: u32, into: &mut Block) -> Result<Held, Failed>
-        ensures reads { Reads (IsTrue account.tells) slot into.new result (account.meaning self.old) (account.meaning self.new) };
+        ensures reads { Reads (IsTrue account.tells) slot into.new result (account.meaning self.old)
+            (account.meaning self.new) };
 
     /// XORs the block of a slot, times a weight, into `sum`, where the slot has one. The archive hears the
     /// sum as it was before.
@@ -48,14 +49,16 @@ pub trait Archive {
     /// `Failed` only where the count of faults rose; the sum is then as it was, and was heard or not.
     fn fold(&mut self, slot: u32, weight: u8, sum: &mut Block) -> Result<Held, Failed>
         requires { 0 < weight }
-        ensures folds { Folds (IsTrue account.tells) slot weight sum.old sum.new result (account.meaning self.old) (account.meaning self.new) };
+        ensures folds { Folds (IsTrue account.tells) slot weight sum.old sum.new result
+            (account.meaning self.old) (account.meaning self.new) };
 
     /// Writes the block of a slot. After `Ok` the slot holds it or has lost it.
     ///
     /// # Errors
     /// `Failed` only where the count of faults rose; the slot then has the old block, the new one or none.
     fn write(&mut self, slot: u32, block: &Block) -> Result<(), Failed>
-        ensures writes { Writes (IsTrue account.tells) slot block.now result (account.meaning self.old) (account.meaning self.new) };
+        ensures writes { Writes (IsTrue account.tells) slot block.now result
+            (account.meaning self.old) (account.meaning self.new) };
 
     /// The counts now. It loses nothing.
     fn marks(&self) -> Marks

@@ -1,4 +1,5 @@
-ghost use Rattle.std.specs.Prelude.{◌≡◌, ℕ, List, Bool, Option, Some, None, IsTrue, IfOk, MatchOption, IsErr, IsErrOf};
+ghost use Rattle.std.specs.Prelude.{◌≡◌, ℕ, List, Bool, Option, Some, None, IsTrue, IfOk};
+ghost use Rattle.std.specs.Prelude.{MatchOption, IsErr, IsErrOf};
 ghost use Rattle.pot_outside.specs.Counts.{Caused};
 ghost use Rattle.pot_outside.specs.Streams.{Replaces};
 
@@ -20,9 +21,12 @@ pub trait Desk {
     /// # Errors
     /// `Failed` only where the count of faults rose.
     fn read(&mut self) -> Result<Option<Vec<u8>>, DeskFault>
-        ensures told { IsTrue tells → IfOk result (λ o. MatchOption o (held self.old ≡ None) (λ v. held self.old ≡ Some v.items)) }
+        ensures told { IsTrue tells
+            → IfOk result (λ o. MatchOption o (held self.old ≡ None)
+            (λ v. held self.old ≡ Some v.items)) }
         ensures keeps { IsTrue tells → held self.new ≡ held self.old }
-        ensures cause { Caused (faults self.old) (faults self.new) (IsErrOf result DeskFault.Failed) };
+        ensures cause { Caused (faults self.old) (faults self.new)
+            (IsErrOf result DeskFault.Failed) };
 
     /// Puts an image in the place of the one before.
     ///

@@ -33,7 +33,8 @@ pub trait Disk {
     /// # Errors
     /// `Failed` only where the count of faults rose; any bytes may then lie there.
     fn write(&mut self, at: u64, from: &[u8]) -> Result<(), Failed>
-        ensures told { IsTrue tells → WritesBytes (calls self.old) (calls self.new) at from.now result }
+        ensures told { IsTrue tells
+            → WritesBytes (calls self.old) (calls self.new) at from.now result }
         ensures cause { Caused (faults self.old) (faults self.new) (IsErr result) };
 
     /// Brings what was written to where a crash leaves it.

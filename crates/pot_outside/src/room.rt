@@ -1,4 +1,5 @@
-ghost use Rattle.std.specs.Prelude.{◌≡◌, ◌≢◌, ℕ, List, Bool, Option, IsTrue, IfOk, OnOk, OnErr, IsErr, IsErrOf, true, false};
+ghost use Rattle.std.specs.Prelude.{◌≡◌, ◌≢◌, ℕ, List, Bool, Option, IsTrue, IfOk, OnOk, OnErr};
+ghost use Rattle.std.specs.Prelude.{IsErr, IsErrOf, true, false};
 ghost use Rattle.pot_outside.specs.Counts.{Caused, Rose};
 ghost use Rattle.pot_outside.specs.Archives.{Meaning, IsMeant};
 

@@ -42,7 +42,8 @@ pub trait Sink {
     /// # Errors
     /// `Failed` only where the count of faults rose; some first bytes of `from` may have been appended.
     fn write(&mut self, from: &[u8]) -> Result<usize, Failed>
-        ensures told { IsTrue tells → Appends (written self.old) (written self.new) from.now result }
+        ensures told { IsTrue tells
+            → Appends (written self.old) (written self.new) from.now result }
         ensures within { Within from.now result }
         ensures some { TakesSome from.now result }
         ensures cause { Caused (faults self.old) (faults self.new) (IsErr result) };

@@ -12,4 +12,5 @@ place_of next left = (4 * next + (2 ^ 70 - left)) % 2 ^ 70
 pub record HoldsRest (key : List ℕ) (number next : ℕ) (word : List ℕ) (left : ℕ) : Type 0 where
   pub in_stream : next < 2 ^ 68
   pub in_word : left < 4
-  pub last_word : 0 < left → word ≡ to_le_bytes w32 (word_at 10 key number ((next + (2 ^ 68 - 1)) % 2 ^ 68))
+  pub last_word : 0 < left
+      → word ≡ to_le_bytes w32 (word_at 10 key number ((next + (2 ^ 68 - 1)) % 2 ^ 68))

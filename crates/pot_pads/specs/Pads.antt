@@ -1,6 +1,7 @@
 -- The random bytes of a job: a ChaCha20 key stream (RFC 8439, 2.3 and 2.4), in Bernstein's layout
 -- of a 64-bit counter of blocks and a 64-bit number of the stream.
-use Rattle.std.specs.Prelude.{◌≡◌, ℕ, zero, suc, ◌+◌, ◌*◌, ◌/◌, ◌%◌, ◌^◌, List, [], ◌∷◌, ◌++◌, length, slice_index}
+use Rattle.std.specs.Prelude.{◌≡◌, ℕ, zero, suc, ◌+◌, ◌*◌, ◌/◌, ◌%◌, ◌^◌, List, [], ◌∷◌, ◌++◌}
+use Rattle.std.specs.Prelude.{length, slice_index}
 use Rattle.std.specs.Int.{w32, to_le_bytes}
 use Rattle.pot_bytes.specs.Lists.{AreBytes}
 use Rattle.rand_chacha.specs.ChaCha.{word_at, key_of}
@@ -52,7 +53,9 @@ GivesBytes = (pads : Pads) (count : ℕ) → AreBytes (next_bytes pads count)
 
 -- a cut changes nothing: the next a + b bytes are the next a and then the next b
 abbrev pub CutsAnywhere : Type 0
-CutsAnywhere = (pads : Pads) (a b : ℕ) → next_bytes pads (a + b) ≡ next_bytes pads a ++ next_bytes (moved pads a) b
+CutsAnywhere =
+    (pads : Pads) (a b : ℕ)
+    → next_bytes pads (a + b) ≡ next_bytes pads a ++ next_bytes (moved pads a) b
 
 -- two steps are one
 abbrev pub StepsAddUp : Type 0
@@ -62,4 +65,5 @@ StepsAddUp = (pads : Pads) (a b : ℕ) → moved (moved pads a) b ≡ moved pads
 abbrev pub GoesOnFrom : Type 0
 GoesOnFrom =
     (seed : List ℕ) (session job place count : ℕ)
-    → next_bytes (moved (pads_of seed session job) place) count ≡ bytes_from (stream seed session job) place count
+    → next_bytes (moved (pads_of seed session job) place) count
+    ≡ bytes_from (stream seed session job) place count

@@ -12,7 +12,8 @@
 mod tests;
 
 ghost use Rattle.std.specs.Prelude.{◌≡◌, ◌↔◌, ◌<◌, ◌%◌, [], ◌∷◌, length, IsTrue};
-ghost use Rattle.pot_pads.specs.Pads.{pads_of, next_bytes, moved, GivesThatMany, GivesBytes, CutsAnywhere, StepsAddUp, GoesOnFrom};
+ghost use Rattle.pot_pads.specs.Pads.{pads_of, next_bytes, moved, GivesThatMany, GivesBytes};
+ghost use Rattle.pot_pads.specs.Pads.{CutsAnywhere, StepsAddUp, GoesOnFrom};
 
 use rand_chacha::ChaCha20Rng;
 use rand_core::SeedableRng;

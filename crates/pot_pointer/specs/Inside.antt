@@ -6,7 +6,8 @@ use Rattle.pot_pointer.specs.Pointers.{named, IsBefore}
 
 -- the name at a position of a table that has each position once: a sum of one name
 abbrev pub name_at : List Named → ℕ → ℕ
-name_at table position = sum_by (λ entry. if entry.position == position then entry.name else 0) table
+name_at table position =
+    sum_by (λ entry. if entry.position == position then entry.name else 0) table
 
 -- the names of a table, by position
 abbrev pub names_of : List Named → List ℕ

@@ -1,5 +1,6 @@
 -- Pointers of shards, and the names that a pointer may mean.
-use Rattle.std.specs.Prelude.{◌≡◌, ℕ, ◌-◌, ◌%◌, ◌^◌, ◌<◌, ◌==◌, ◌⊎◌, Bool, List, map, Some, slice_get}
+use Rattle.std.specs.Prelude.{◌≡◌, ℕ, ◌-◌, ◌%◌, ◌^◌, ◌<◌, ◌==◌, ◌⊎◌, Bool, List, map, Some}
+use Rattle.std.specs.Prelude.{slice_get}
 use Rattle.std.specs.List.{enumerate_from}
 use Rattle.pot_pointer.specs.declared.Named.{Named}
 
@@ -25,4 +26,5 @@ IsBefore a b = (a.name < b.name) ⊎ ((a.name ≡ b.name) × (a.position < b.pos
 
 -- a name that the pointer may mean, with a position that it stands at
 abbrev pub IsCandidate : List ℕ → ℕ → ℕ → Named → Type 0
-IsCandidate names pointer bits entry = (slice_get names entry.position ≡ Some entry.name) × (blur entry.name bits ≡ pointer)
+IsCandidate names pointer bits entry =
+    (slice_get names entry.position ≡ Some entry.name) × (blur entry.name bits ≡ pointer)

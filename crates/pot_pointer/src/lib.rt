@@ -12,7 +12,8 @@ mod ranges;
 #[cfg(test)]
 mod tests;
 
-ghost use Rattle.std.specs.Prelude.{◌≡◌, ◌↔◌, ℕ, ◌%◌, ◌^◌, ◌<◌, ◌≤◌, length, filter, IfOk, Contains, AllPairs, IsPermutation};
+ghost use Rattle.std.specs.Prelude.{◌≡◌, ◌↔◌, ℕ, ◌%◌, ◌^◌, ◌<◌, ◌≤◌, length, filter, IfOk};
+ghost use Rattle.std.specs.Prelude.{Contains, AllPairs, IsPermutation};
 ghost use Rattle.pot_pointer.specs.Pointers.{blur, named, is_meant, IsBefore, IsCandidate};
 
 pub use ranges::equal_range;
@@ -82,7 +83,8 @@ impl RegionIndex {
 
         // Exactly those of the list, each once.
         ensures all { IsPermutation (filter (is_meant pointer bits) (named self.now)) result.now }
-        ensures exact { (entry : Named) → Contains result.now entry ↔ IsCandidate self.now pointer bits entry }
+        ensures exact { (entry : Named)
+            → Contains result.now entry ↔ IsCandidate self.now pointer bits entry }
         ensures order { AllPairs IsBefore result.now }
     {
         equal_range(&self.entries, |entry| blur(entry.name, bits).cmp(&pointer))

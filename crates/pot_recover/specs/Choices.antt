@@ -1,5 +1,6 @@
 -- Choices, by the content that they begin with.
-use Rattle.std.specs.Prelude.{◌≡◌, ◌<◌, ℕ, ◌-◌, ◌==◌, if◌then◌else◌, List, [], ◌∷◌, ◌++◌, map, filter, take, length, slice_index}
+use Rattle.std.specs.Prelude.{◌≡◌, ◌<◌, ℕ, ◌-◌, ◌==◌, if◌then◌else◌, List, [], ◌∷◌, ◌++◌, map}
+use Rattle.std.specs.Prelude.{filter, take, length, slice_index}
 use Rattle.std.specs.Borrow.{Bor}
 use Rattle.std.specs.List.{flat_map, range_with_len}
 use Rattle.pot_chains.specs.Listed.{IsIn}
@@ -35,11 +36,14 @@ lists_of contents first = map (list_of contents first) (range_with_len 2 (slice_
 
 -- the choices that begin with this content
 abbrev pub choices_of : List (List ℕ) → List ℕ → List (List (List ℕ))
-choices_of contents first = if slice_index first 16 == 1 then map (λ c. first ∷ c) (picks (lists_of contents first)) else []
+choices_of contents first =
+    if slice_index first 16 == 1 then map (λ c. first ∷ c) (picks (lists_of contents first)) else []
 
 -- an object that one of these choices gives
 abbrev pub IsGivenBy : List (List (List ℕ)) → List ℕ → Type 0
-IsGivenBy choices object = IsSomeObject object × ((choice : List (List ℕ)) × IsIn choices choice × (object_of choice ≡ object))
+IsGivenBy choices object =
+    IsSomeObject object
+    × ((choice : List (List ℕ)) × IsIn choices choice × (object_of choice ≡ object))
 
 -- an object that a choice gives that begins with one of these contents
 abbrev pub IsGiven : List (List ℕ) → List (List ℕ) → List ℕ → Type 0
@@ -48,8 +52,10 @@ IsGiven contents firsts object = IsGivenBy (flat_map (choices_of contents) first
 -- an object that one of the first picks gives
 abbrev pub IsPicked : List ℕ → List (List (List ℕ)) → ℕ → List ℕ → Type 0
 IsPicked first lists count object =
-    IsSomeObject object × ((t : ℕ) × (t < count) × (object_of (first ∷ pick_at [] lists t) ≡ object))
+    IsSomeObject object
+    × ((t : ℕ) × (t < count) × (object_of (first ∷ pick_at [] lists t) ≡ object))
 
 -- all of them have 992 bytes
 abbrev pub AreAllWhole : List (List (List ℕ)) → Type 0
-AreAllWhole lists = (list : List (List ℕ)) → IsIn lists list → (c : List ℕ) → IsIn list c → length c ≡ 992
+AreAllWhole lists =
+    (list : List (List ℕ)) → IsIn lists list → (c : List ℕ) → IsIn list c → length c ≡ 992

@@ -1,5 +1,6 @@
 -- The heads of contents, and contents in their order.
-use Rattle.std.specs.Prelude.{◌≡◌, ◌≤◌, ℕ, Bool, IsTrue, List, take, drop, replicate, slice_index, AllPairs}
+use Rattle.std.specs.Prelude.{◌≡◌, ◌≤◌, ℕ, Bool, IsTrue, List, take, drop, replicate, slice_index}
+use Rattle.std.specs.Prelude.{AllPairs}
 use Rattle.std.specs.Ordering.{nat_cmp, is_eq, is_le}
 use Rattle.std.specs.Cmp.Lexicographic.{slice_cmp}
 
@@ -12,7 +13,8 @@ begins_with head content = is_eq (slice_cmp nat_cmp (head_of content) head)
 
 -- the heads do not fall
 abbrev pub HeadsRise : List (List ℕ) → Type 0
-HeadsRise contents = AllPairs (λ a b. IsTrue (is_le (slice_cmp nat_cmp (head_of a) (head_of b)))) contents
+HeadsRise contents =
+    AllPairs (λ a b. IsTrue (is_le (slice_cmp nat_cmp (head_of a) (head_of b)))) contents
 
 -- a number and a count that a fragment may have
 pub record IsNumbering (number count : ℕ) : Type 0 where

@@ -18,4 +18,5 @@ is_below front object = is_lt (slice_cmp nat_cmp (front_of object) front)
 
 -- the fronts do not fall
 abbrev pub FrontsRise : List (List ℕ) → Type 0
-FrontsRise objects = AllPairs (λ a b. IsTrue (is_le (slice_cmp nat_cmp (front_of a) (front_of b)))) objects
+FrontsRise objects =
+    AllPairs (λ a b. IsTrue (is_le (slice_cmp nat_cmp (front_of a) (front_of b)))) objects

@@ -22,7 +22,8 @@ pub record IsAt (m n bits x : ℕ) (t : Shard) : Type 0 where
 -- the held shards of the points from x on, each once
 abbrev pub AreParts : List Shard → ℕ → ℕ → ℕ → ℕ → List (List Shard) → Type 0
 AreParts shards m n bits x [] = Unit {0}
-AreParts shards m n bits x (part ∷ parts) = IsListed (λ s. IsIn shards s × IsAt m n bits x s) part × AreParts shards m n bits (suc x) parts
+AreParts shards m n bits x (part ∷ parts) =
+    IsListed (λ s. IsIn shards s × IsAt m n bits x s) part × AreParts shards m n bits (suc x) parts
 
 -- a point as the search sees it
 pub record IsLevelOf (part : List Shard) (level : Level) : Type 0 where
@@ -79,7 +80,8 @@ pub record IsGroup (g : Group) : Type 0 where
   pub need : g.need ≤ length g.parts.items
   pub few : length g.parts.items ≤ 16
   pub bits : g.bits ≤ 63
-  pub parts : AreParts (shards_in g) g.need (length g.parts.items) g.bits 1 (parts_of g.bits g.parts.items)
+  pub parts : AreParts (shards_in g) g.need (length g.parts.items) g.bits 1
+      (parts_of g.bits g.parts.items)
   pub levels : AreLevelsOf (parts_of g.bits g.parts.items) g.levels.items
   pub shards : (s : Shard) → IsIn (shards_in g) s → IsHoldable s
 

@@ -17,18 +17,22 @@ IsLongChainIn shards scope (s ∷ rest) = IsLongChain (IsIn shards) (s ∷ rest)
 
 -- a content with which such a chain closes robustly as a ring
 abbrev pub IsRobustlyFoundIn : List Shard → (ℕ → ℕ → Type 0) → List ℕ → Type 0
-IsRobustlyFoundIn shards scope c = (chain : List Shard) × IsLongChainIn shards scope chain × ClosesRobustlyAsRing chain c
+IsRobustlyFoundIn shards scope c =
+    (chain : List Shard) × IsLongChainIn shards scope chain × ClosesRobustlyAsRing chain c
 
 -- the same in a group
 abbrev pub IsRobustlyFoundOf : List Shard → ℕ → ℕ → List ℕ → Type 0
-IsRobustlyFoundOf shards m n c = (chain : List Shard) × IsLongChainOf shards m n chain × ClosesRobustlyAsRing chain c
+IsRobustlyFoundOf shards m n c =
+    (chain : List Shard) × IsLongChainOf shards m n chain × ClosesRobustlyAsRing chain c
 
 -- a content with which the shards at one of these positions close
 abbrev pub IsRobustlyFoundAmong : List (List Shard) → List (List ℕ) → List ℕ → Type 0
-IsRobustlyFoundAmong parts chains c = (path : List ℕ) × IsIn chains path × ClosesRobustlyAsRing (shards_at parts path) c
+IsRobustlyFoundAmong parts chains c =
+    (path : List ℕ) × IsIn chains path × ClosesRobustlyAsRing (shards_at parts path) c
 
 -- the chains of these m and n are counted, and what they close with was added
-pub record HasSearchedLong (shards : List Shard) (scope : ℕ → ℕ → Type 0) (before now : ℕ) (old new : List (List ℕ)) : Type 0 where
+pub record HasSearchedLong (shards : List Shard) (scope : ℕ → ℕ → Type 0) (before now : ℕ)
+    (old new : List (List ℕ)) : Type 0 where
   pub chains : HasGrown (IsLongChainIn shards scope) before now
   pub found : (c : List ℕ) → IsIn new c ↔ (IsIn old c ⊎ IsRobustlyFoundIn shards scope c)
 

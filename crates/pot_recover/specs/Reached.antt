@@ -15,9 +15,11 @@ IsWithin count candidates = (e : Named) → IsIn candidates e → e.position < c
 -- p is the pointer of a candidate that holds this share
 abbrev pub IsHit : List Held → List ℕ → List Named → ℕ → Type 0
 IsHit there share candidates p =
-    (e : Named) × IsIn candidates e × ((t : Held) × (slice_get there e.position ≡ Some t) × (t.share.now ≡ share) × (t.pointer ≡ p))
+    (e : Named) × IsIn candidates e
+    × ((t : Held) × (slice_get there e.position ≡ Some t) × (t.share.now ≡ share) × (t.pointer ≡ p))
 
 -- p is the pointer of one that holds this share and that one of these pointers means
 abbrev pub IsNextPointer : List ℕ → List Held → ℕ → List ℕ → ℕ → Type 0
 IsNextPointer pointers there bits share p =
-    (q : ℕ) × (t : Held) × (slice_get there q ≡ Some t) × IsIn pointers (blur t.name bits) × (t.share.now ≡ share) × (t.pointer ≡ p)
+    (q : ℕ) × (t : Held) × (slice_get there q ≡ Some t) × IsIn pointers (blur t.name bits)
+    × (t.share.now ≡ share) × (t.pointer ≡ p)

@@ -1,5 +1,6 @@
 -- What rings give that close although some of their shares are wrong.
-use Rattle.std.specs.Prelude.{◌≡◌, ◌↔◌, ◌<◌, ◌≤◌, ◌⊎◌, ◌+◌, ℕ, List, [], ◌∷◌, map, length, slice_index, AllPairs}
+use Rattle.std.specs.Prelude.{◌≡◌, ◌↔◌, ◌<◌, ◌≤◌, ◌⊎◌, ◌+◌, ℕ, List, [], ◌∷◌, map, length}
+use Rattle.std.specs.Prelude.{slice_index, AllPairs}
 use Rattle.pot_chains.specs.Listed.{IsIn}
 use Rattle.pot_chains.specs.Paths.{AreLinked, AreAll}
 use Rattle.pot_recover.specs.Counts.{widest, IsCounted}
@@ -16,30 +17,38 @@ use Rattle.pot_shard.specs.declared.shard.Shard.{Shard}
 
 -- the values at the points have a robust polynomial, whose constant term is this byte
 abbrev pub IsRobustAt : ℕ → List ℕ → List ℕ → ℕ → Type 0
-IsRobustAt m points values byte = (p : List ℕ) × IsRobust m points values p × (slice_index p 0 ≡ byte)
+IsRobustAt m points values byte =
+    (p : List ℕ) × IsRobust m points values p × (slice_index p 0 ≡ byte)
 
--- A ring closes robustly with a content where at each of the 992 places its shares have a robust polynomial, whose constant
--- term is that byte of the content, and the content is in the grammar.
+-- A ring closes robustly with a content where at each of the 992 places its shares have a robust
+-- polynomial, whose constant term is that byte of the content, and the content is in the grammar.
 pub record ClosesRobustly (ring : List Shard) (content : List ℕ) : Type 0 where
-  pub places : (k : ℕ) → k < 992 → IsRobustAt (need_of ring) (points_of ring) (bytes_at k ring) (slice_index content k)
+  pub places : (k : ℕ) → k < 992
+      → IsRobustAt (need_of ring) (points_of ring) (bytes_at k ring) (slice_index content k)
   pub grammar : IsAnyContent content
 
 -- A robustly closed fragment is a content with which a ring of held shards closes robustly.
 abbrev pub IsRobustlyClosed : (Shard → Type 0) → List ℕ → Type 0
-IsRobustlyClosed held content = (ring : List Shard) × AreAll held ring × IsRing ring × ClosesRobustly ring content
+IsRobustlyClosed held content =
+    (ring : List Shard) × AreAll held ring × IsRing ring × ClosesRobustly ring content
 
 abbrev pub IsRobustlyClosedIn : List (List ℕ) → ℕ → List ℕ → Type 0
 IsRobustlyClosedIn blocks bits = IsRobustlyClosed (IsHeld blocks bits)
 
--- These are the objects that the blocks give by rings that close robustly, by their bytes and each once.
-pub record AreRobustlyRecovered (blocks : List (List ℕ)) (bits : ℕ) (objects : List (List ℕ)) : Type 0 where
-  pub each : (object : List ℕ) → IsIn objects object ↔ IsRecovered (IsRobustlyClosedIn blocks bits) object
+-- These are the objects that the blocks give by rings that close robustly, by their bytes and each
+-- once.
+pub record AreRobustlyRecovered (blocks : List (List ℕ)) (bits : ℕ) (objects : List (List ℕ)) : Type
+    0 where
+  pub each : (object : List ℕ)
+      → IsIn objects object ↔ IsRecovered (IsRobustlyClosedIn blocks bits) object
   pub order : AllPairs IsBefore objects
 
--- A chain here is a list of 1 to n held shards that begins at x = 1, in which each is linked to the next.
+-- A chain here is a list of 1 to n held shards that begins at x = 1, in which each is linked to the
+-- next.
 abbrev pub IsLongChain : (Shard → Type 0) → List Shard → Type 0
 IsLongChain held [] = ⊥
-IsLongChain held (s ∷ rest) = (s.x ≡ 1) × AreAll held (s ∷ rest) × AreLinked IsLinked s rest × (length (s ∷ rest) ≤ s.n)
+IsLongChain held (s ∷ rest) =
+    (s.x ≡ 1) × AreAll held (s ∷ rest) × AreLinked IsLinked s rest × (length (s ∷ rest) ≤ s.n)
 
 -- a ring that closes robustly with a content
 abbrev pub ClosesRobustlyAsRing : List Shard → List ℕ → Type 0
@@ -50,19 +59,22 @@ abbrev pub IsRobustlyTooWide : List (List ℕ) → ℕ → RecoverFault → Type
 IsRobustlyTooWide blocks bits (Wide chains choices) =
     IsCounted (IsLongChain (IsHeld blocks bits)) chains
     × (((widest < chains) × (choices ≡ 0))
-    ⊎ ((chains ≤ widest) × IsCounted (IsChoice (IsRobustlyClosedIn blocks bits)) choices × (widest < choices)))
+    ⊎ ((chains ≤ widest) × IsCounted (IsChoice (IsRobustlyClosedIn blocks bits)) choices
+    × (widest < choices)))
 IsRobustlyTooWide blocks bits NoMemory = Unit {0}
 
 -- both counts are borne
 abbrev pub IsRobustlyWithin : List (List ℕ) → ℕ → Type 0
 IsRobustlyWithin blocks bits =
-    (chains : ℕ) × (choices : ℕ) × IsCounted (IsLongChain (IsHeld blocks bits)) chains × IsCounted (IsChoice (IsRobustlyClosedIn blocks bits)) choices
+    (chains : ℕ) × (choices : ℕ) × IsCounted (IsLongChain (IsHeld blocks bits)) chains
+    × IsCounted (IsChoice (IsRobustlyClosedIn blocks bits)) choices
     × (chains ≤ widest) × (choices ≤ widest)
 
 -- what the shares of a ring give at 0, from the place `start` on
 abbrev pub AreRobust : ℕ → List Held → ℕ → List ℕ → Type 0
 AreRobust need ring start bytes =
-    (k : ℕ) → k < length bytes → IsRobustAt need (map point_of ring) (bytes_held (start + k) ring) (slice_index bytes k)
+    (k : ℕ) → k < length bytes
+    → IsRobustAt need (map point_of ring) (bytes_held (start + k) ring) (slice_index bytes k)
 
 -- a content that they give whole
 abbrev pub IsRobustlyFixed : ℕ → List Held → List ℕ → Type 0
@@ -71,4 +83,5 @@ IsRobustlyFixed need ring content = (length content ≡ 992) × AreRobust need r
 -- at one of so many places from `start` on they have no robust polynomial
 abbrev pub HasNoRobust : ℕ → List Held → ℕ → ℕ → Type 0
 HasNoRobust need ring start count =
-    (k : ℕ) × (k < count) × ((byte : ℕ) → IsRobustAt need (map point_of ring) (bytes_held (start + k) ring) byte → ⊥)
+    (k : ℕ) × (k < count)
+    × ((byte : ℕ) → IsRobustAt need (map point_of ring) (bytes_held (start + k) ring) byte → ⊥)

@@ -13,17 +13,23 @@ IsChainIn shards scope (s ∷ rest) = IsChain (IsIn shards) (s ∷ rest) × scop
 
 -- a content that such a chain of m shards closes with
 abbrev pub IsFoundIn : List Shard → (ℕ → ℕ → Type 0) → List ℕ → Type 0
-IsFoundIn shards scope c = (chain : List Shard) × IsChainIn shards scope chain × (length chain ≡ need_of chain) × ClosesWith (IsIn shards) chain c
+IsFoundIn shards scope c =
+    (chain : List Shard) × IsChainIn shards scope chain × (length chain ≡ need_of chain)
+    × ClosesWith (IsIn shards) chain c
 
 -- the same in a group
 abbrev pub IsFoundOf : List Shard → ℕ → ℕ → List ℕ → Type 0
-IsFoundOf shards m n c = (chain : List Shard) × IsChainOf shards m n chain × (length chain ≡ m) × ClosesWith (IsIn shards) chain c
+IsFoundOf shards m n c =
+    (chain : List Shard) × IsChainOf shards m n chain × (length chain ≡ m)
+    × ClosesWith (IsIn shards) chain c
 
 -- a content that a chain at one of these positions closes with
 abbrev pub IsFoundAmong : List Shard → List (List Shard) → List (List ℕ) → List ℕ → Type 0
-IsFoundAmong shards parts chains c = (path : List ℕ) × IsIn chains path × ClosesWith (IsIn shards) (shards_at parts path) c
+IsFoundAmong shards parts chains c =
+    (path : List ℕ) × IsIn chains path × ClosesWith (IsIn shards) (shards_at parts path) c
 
 -- the chains of these m and n are counted, and what they close with was added
-pub record HasSearched (shards : List Shard) (scope : ℕ → ℕ → Type 0) (before now : ℕ) (old new : List (List ℕ)) : Type 0 where
+pub record HasSearched (shards : List Shard) (scope : ℕ → ℕ → Type 0) (before now : ℕ)
+    (old new : List (List ℕ)) : Type 0 where
   pub chains : HasGrown (IsChainIn shards scope) before now
   pub found : (c : List ℕ) → IsIn new c ↔ (IsIn old c ⊎ IsFoundIn shards scope c)

@@ -14,8 +14,10 @@ use Rattle.pot_shard.specs.FileLaws.{IsStore, content_in, object_in, shards_in}
 use Rattle.pot_shard.specs.Places.{block_in}
 use Rattle.pot_shard.specs.declared.shard.Shard.{Shard}
 
--- Blocks hold the shards of fragment j of piece i, no more than half of those beyond m with another share.
-pub record IsAlmostHeld (blocks : List (List ℕ)) (bits : ℕ) (g : Geometry) (file random : List ℕ) (i j : ℕ) : Type 0 where
+-- Blocks hold the shards of fragment j of piece i, no more than half of those beyond m with another
+-- share.
+pub record IsAlmostHeld (blocks : List (List ℕ)) (bits : ℕ) (g : Geometry) (file random : List ℕ)
+    (i j : ℕ) : Type 0 where
   pub shards : List Shard
   pub held : AreAll (IsHeld blocks bits) shards
   pub others : HasOtherShares (shards_in g file random i j) shards
@@ -24,17 +26,25 @@ pub record IsAlmostHeld (blocks : List (List ℕ)) (bits : ℕ) (g : Geometry) (
 -- Of a file that was stored, its pieces and fragments counted from 0.
 pub record StoredLaws : Type 0 where
   -- the shards of a fragment are a ring that closes with its content
-  pub closes : (g : Geometry) (file random : List ℕ) (i j : ℕ) → IsStore g file random → i < pieces_of (length file) → j < g.fragments
-      → IsRing (shards_in g file random i j) × Closes (shards_in g file random i j) (content_in g file random i j)
+  pub closes : (g : Geometry) (file random : List ℕ) (i j : ℕ) → IsStore g file random
+      → i < pieces_of (length file) → j < g.fragments
+      → IsRing (shards_in g file random i j)
+      × Closes (shards_in g file random i j) (content_in g file random i j)
   -- where blocks almost hold them they give this content robustly
-  pub robustly : (g : Geometry) (file random : List ℕ) (i j : ℕ) → IsStore g file random → i < pieces_of (length file) → j < g.fragments
+  pub robustly : (g : Geometry) (file random : List ℕ) (i j : ℕ) → IsStore g file random
+      → i < pieces_of (length file) → j < g.fragments
       → (blocks : List (List ℕ)) (bits : ℕ) → IsAlmostHeld blocks bits g file random i j
       → IsRobustlyClosedIn blocks bits (content_in g file random i j)
-  -- The object of a piece is recovered from blocks among which all blocks of the piece stand, whatever others stand there,
-  pub objects : (g : Geometry) (file random : List ℕ) (i : ℕ) → IsStore g file random → i < pieces_of (length file)
-      → (blocks : List (List ℕ)) → ((j p : ℕ) → j < g.fragments → p < g.shards → IsIn blocks (block_in g file random i j p))
+  -- The object of a piece is recovered from blocks among which all blocks of the piece stand,
+  -- whatever others stand there,
+  pub objects : (g : Geometry) (file random : List ℕ) (i : ℕ) → IsStore g file random
+      → i < pieces_of (length file)
+      → (blocks : List (List ℕ))
+      → ((j p : ℕ) → j < g.fragments → p < g.shards → IsIn blocks (block_in g file random i j p))
       → IsRecovered (IsClosedIn blocks g.blur) (object_in file random i)
   -- and robustly from blocks that almost hold each fragment of it.
-  pub robust_objects : (g : Geometry) (file random : List ℕ) (i : ℕ) → IsStore g file random → i < pieces_of (length file)
-      → (blocks : List (List ℕ)) (bits : ℕ) → ((j : ℕ) → j < g.fragments → IsAlmostHeld blocks bits g file random i j)
+  pub robust_objects : (g : Geometry) (file random : List ℕ) (i : ℕ) → IsStore g file random
+      → i < pieces_of (length file)
+      → (blocks : List (List ℕ)) (bits : ℕ)
+      → ((j : ℕ) → j < g.fragments → IsAlmostHeld blocks bits g file random i j)
       → IsRecovered (IsRobustlyClosedIn blocks bits) (object_in file random i)

@@ -14,17 +14,20 @@ IsChainCount blocks bits n = IsCounted (IsChain (IsHeld blocks bits)) n
 abbrev pub IsChoiceCount : List (List ℕ) → ℕ → ℕ → Type 0
 IsChoiceCount blocks bits n = IsCounted (IsChoice (IsClosedIn blocks bits)) n
 
--- The chains are counted first, and choices only where the chains are no more than the limit; choices is else reported as 0.
+-- The chains are counted first, and choices only where the chains are no more than the limit;
+-- choices is else reported as 0.
 abbrev pub IsTooWide : List (List ℕ) → ℕ → RecoverFault → Type 0
 IsTooWide blocks bits (Wide chains choices) =
     IsChainCount blocks bits chains
-    × (((widest < chains) × (choices ≡ 0)) ⊎ ((chains ≤ widest) × IsChoiceCount blocks bits choices × (widest < choices)))
+    × (((widest < chains) × (choices ≡ 0))
+    ⊎ ((chains ≤ widest) × IsChoiceCount blocks bits choices × (widest < choices)))
 IsTooWide blocks bits NoMemory = Unit {0}
 
 -- both counts are borne
 abbrev pub IsWithin : List (List ℕ) → ℕ → Type 0
 IsWithin blocks bits =
-    (chains : ℕ) × (choices : ℕ) × IsChainCount blocks bits chains × IsChoiceCount blocks bits choices × (chains ≤ widest) × (choices ≤ widest)
+    (chains : ℕ) × (choices : ℕ) × IsChainCount blocks bits chains
+    × IsChoiceCount blocks bits choices × (chains ≤ widest) × (choices ≤ widest)
 
 -- the choices of these contents are borne
 abbrev pub AreFew : (List ℕ → Type 0) → Type 0
@@ -32,5 +35,6 @@ AreFew closed = (choices : ℕ) × IsCounted (IsChoice closed) choices × (choic
 
 -- they are not, and both counts are told
 abbrev pub AreTooWide : (List ℕ → Type 0) → ℕ → RecoverFault → Type 0
-AreTooWide closed count (Wide chains choices) = (chains ≡ count) × IsCounted (IsChoice closed) choices × (widest < choices)
+AreTooWide closed count (Wide chains choices) =
+    (chains ≡ count) × IsCounted (IsChoice closed) choices × (widest < choices)
 AreTooWide closed count NoMemory = Unit {0}

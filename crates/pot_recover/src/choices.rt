@@ -1,9 +1,12 @@
-ghost use Rattle.std.specs.Prelude.{◌≡◌, ◌↔◌, ◌⊎◌, ◌<◌, ◌≤◌, ◌*◌, ℕ, List, [], ◌∷◌, ◌++◌, map, drop, length, min, slice_index, IfOk, OnOk};
+ghost use Rattle.std.specs.Prelude.{◌≡◌, ◌↔◌, ◌⊎◌, ◌<◌, ◌≤◌, ◌*◌, ℕ, List, [], ◌∷◌, ◌++◌, map};
+ghost use Rattle.std.specs.Prelude.{drop, length, min, slice_index, IfOk, OnOk};
 ghost use Rattle.std.specs.List.{flat_map};
 ghost use Rattle.pot_bytes.specs.Sums.{xor};
 ghost use Rattle.pot_chains.specs.Listed.{IsIn, IsOnce};
 ghost use Rattle.pot_chains.specs.Picks.{how_many, pick_at};
-ghost use Rattle.pot_recover.specs.Choices.{items_of, lists_of, choices_of, numbered, AreContents, AreAllWhole, IsSomeObject, IsGiven, IsGivenBy, IsPicked};
+ghost use Rattle.pot_recover.specs.Choices.{items_of, lists_of, choices_of, numbered, AreContents};
+ghost use Rattle.pot_recover.specs.Choices.{AreAllWhole, IsSomeObject, IsGiven, IsGivenBy};
+ghost use Rattle.pot_recover.specs.Choices.{IsPicked};
 ghost use Rattle.pot_recover.specs.Contents.{HeadsRise};
 ghost use Rattle.pot_recover.specs.Recovered.{object_of};
 ghost use Rattle.pot_recover.specs.Rings.{IsAnyContent};
@@ -19,7 +22,8 @@ use std::alloc::Global;
 pub(crate) fn count_choices(alloc: Global, contents: &[[u8; 992]]) -> Result<usize, NoMemory>
     requires order { HeadsRise contents.now }
     requires contents { AreContents contents.now }
-    ensures { IfOk result (λ count. count ≡ min (length (flat_map (choices_of contents.now) contents.now)) 4000001) }
+    ensures { IfOk result
+        (λ count. count ≡ min (length (flat_map (choices_of contents.now) contents.now)) 4000001) }
 {
     let mut count = 0;
     for first in contents {
@@ -32,7 +36,8 @@ pub(crate) fn count_choices(alloc: Global, contents: &[[u8; 992]]) -> Result<usi
 fn choices_with(alloc: Global, contents: &[[u8; 992]], first: &[u8; 992]) -> Result<usize, NoMemory>
     requires order { HeadsRise contents.now }
     requires content { IsAnyContent first.now }
-    ensures { IfOk result (λ count. count ≡ min (length (choices_of contents.now first.now)) 4000001) }
+    ensures { IfOk result
+        (λ count. count ≡ min (length (choices_of contents.now first.now)) 4000001) }
 {
     if first[16] == 1 {
         let parts = others_of(alloc, contents, first)?;
@@ -81,7 +86,8 @@ fn with_number(first: &[u8; 992], number: u8) -> [u8; 18]
 
 /// Adds one part.
 fn push_part<'a>(parts: &mut Vec<&'a [[u8; 992]]>, part: &'a [[u8; 992]]) -> Result<(), NoMemory>
-    ensures { OnOk result (map items_of parts.new.items ≡ map items_of parts.old.items ++ part.now ∷ []) }
+    ensures { OnOk result
+        (map items_of parts.new.items ≡ map items_of parts.old.items ++ part.now ∷ []) }
 {
     match parts.push(part) {
         Ok(()) => Ok(()),
@@ -95,7 +101,8 @@ pub(crate) fn objects_of(alloc: Global, contents: &[[u8; 992]]) -> Result<Vec<[u
     requires contents { AreContents contents.now }
     requires once { IsOnce contents.now }
     requires few { length (flat_map (choices_of contents.now) contents.now) ≤ 4000000 }
-    ensures { IfOk result (λ objects. (o : List ℕ) → IsIn objects.items o ↔ IsGiven contents.now contents.now o) }
+    ensures { IfOk result
+        (λ objects. (o : List ℕ) → IsIn objects.items o ↔ IsGiven contents.now contents.now o) }
 {
     let mut objects = Vec::new(alloc);
     for first in contents {
@@ -116,7 +123,10 @@ fn add_objects(
     requires once { IsOnce contents.now }
     requires content { IsAnyContent first.now }
     requires few { length (choices_of contents.now first.now) ≤ 4000000 }
-    ensures { OnOk result ((o : List ℕ) → IsIn objects.new.items o ↔ (IsIn objects.old.items o ⊎ IsGivenBy (choices_of contents.now first.now) o)) }
+    ensures { OnOk result
+        ((o : List ℕ)
+        → IsIn objects.new.items o
+        ↔ (IsIn objects.old.items o ⊎ IsGivenBy (choices_of contents.now first.now) o)) }
 {
     if first[16] == 1 {
         let parts = others_of(alloc, contents, first)?;
@@ -134,7 +144,11 @@ fn add_picks(
 ) -> Result<(), NoMemory>
     requires few { how_many (map items_of parts.now) ≤ 4000000 }
     requires whole { AreAllWhole (map items_of parts.now) }
-    ensures { OnOk result ((o : List ℕ) → IsIn objects.new.items o ↔ (IsIn objects.old.items o ⊎ IsPicked first.now (map items_of parts.now) (how_many (map items_of parts.now)) o)) }
+    ensures { OnOk result
+        ((o : List ℕ)
+        → IsIn objects.new.items o
+        ↔ (IsIn objects.old.items o
+        ⊎ IsPicked first.now (map items_of parts.now) (how_many (map items_of parts.now)) o)) }
 {
     for number in 0..product(parts) {
         add_object(joined(first, parts, number), objects)?;
@@ -144,7 +158,9 @@ fn add_picks(
 
 /// Adds an object, where it is one.
 fn add_object(object: [u8; 928], objects: &mut Vec<[u8; 928]>) -> Result<(), NoMemory>
-    ensures { OnOk result ((o : List ℕ) → IsIn objects.new.items o ↔ (IsIn objects.old.items o ⊎ ((object ≡ o) × IsSomeObject o))) }
+    ensures { OnOk result
+        ((o : List ℕ)
+        → IsIn objects.new.items o ↔ (IsIn objects.old.items o ⊎ ((object ≡ o) × IsSomeObject o))) }
 {
     match read_object(&object) {
         Some(_) => push_distinct(objects, object),

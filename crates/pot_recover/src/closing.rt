@@ -1,7 +1,9 @@
-ghost use Rattle.std.specs.Prelude.{◌≡◌, ◌↔◌, ◌<◌, ◌≤◌, ◌+◌, ◌⊎◌, ℕ, List, [], ◌∷◌, ◌++◌, map, length, IsTrue, IfOk, OnOk};
+ghost use Rattle.std.specs.Prelude.{◌≡◌, ◌↔◌, ◌<◌, ◌≤◌, ◌+◌, ◌⊎◌, ℕ, List, [], ◌∷◌, ◌++◌, map};
+ghost use Rattle.std.specs.Prelude.{length, IsTrue, IfOk, OnOk};
 ghost use Rattle.std.specs.List.{flat_map};
 ghost use Rattle.pot_chains.specs.Listed.{IsIn};
-ghost use Rattle.pot_recover.specs.Groups.{parts_of, shards_in, shards_at, AreInside, IsGroup, IsWholeChain};
+ghost use Rattle.pot_recover.specs.Groups.{parts_of, shards_in, shards_at, AreInside, IsGroup};
+ghost use Rattle.pot_recover.specs.Groups.{IsWholeChain};
 ghost use Rattle.pot_recover.specs.HeldShards.{shard_of, piece_of};
 ghost use Rattle.pot_recover.specs.Sets.{ClosesWith, IsNextShard, ReturnsTo};
 
@@ -25,8 +27,15 @@ pub(crate) fn add_closed(
 ) -> Result<(), NoMemory>
     requires group { IsGroup group.now }
     requires inside { AreInside (parts_of group.now.bits group.now.parts.items) positions.now }
-    requires chain { IsWholeChain (shards_in group.now) group.now.need (length group.now.parts.items) group.now.bits (shards_at (parts_of group.now.bits group.now.parts.items) positions.now) }
-    ensures { OnOk result ((c : List ℕ) → IsIn found.new.items c ↔ (IsIn found.old.items c ⊎ ClosesWith (IsIn (shards_in group.now)) (shards_at (parts_of group.now.bits group.now.parts.items) positions.now) c)) }
+    requires chain { IsWholeChain (shards_in group.now) group.now.need
+        (length group.now.parts.items) group.now.bits
+        (shards_at (parts_of group.now.bits group.now.parts.items) positions.now) }
+    ensures { OnOk result
+        ((c : List ℕ)
+        → IsIn found.new.items c
+        ↔ (IsIn found.old.items c
+        ⊎ ClosesWith (IsIn (shards_in group.now))
+        (shards_at (parts_of group.now.bits group.now.parts.items) positions.now) c)) }
 {
     let chain = chain_at(alloc, group, positions)?;
     add_content(alloc, group, &chain, found)
@@ -40,8 +49,13 @@ fn add_content(
     found: &mut Vec<[u8; 992]>,
 ) -> Result<(), NoMemory>
     requires group { IsGroup group.now }
-    requires chain { IsWholeChain (shards_in group.now) group.now.need (length group.now.parts.items) group.now.bits (map (shard_of group.now.bits) chain.now) }
-    ensures { OnOk result ((c : List ℕ) → IsIn found.new.items c ↔ (IsIn found.old.items c ⊎ ClosesWith (IsIn (shards_in group.now)) (map (shard_of group.now.bits) chain.now) c)) }
+    requires chain { IsWholeChain (shards_in group.now) group.now.need
+        (length group.now.parts.items) group.now.bits (map (shard_of group.now.bits) chain.now) }
+    ensures { OnOk result
+        ((c : List ℕ)
+        → IsIn found.new.items c
+        ↔ (IsIn found.old.items c
+        ⊎ ClosesWith (IsIn (shards_in group.now)) (map (shard_of group.now.bits) chain.now) c)) }
 {
     match content_of(alloc, chain)? {
         Some(content) => add_where_closed(alloc, group, chain, content, found),
@@ -58,8 +72,14 @@ fn add_where_closed(
     found: &mut Vec<[u8; 992]>,
 ) -> Result<(), NoMemory>
     requires group { IsGroup group.now }
-    requires chain { IsWholeChain (shards_in group.now) group.now.need (length group.now.parts.items) group.now.bits (map (shard_of group.now.bits) chain.now) }
-    ensures { OnOk result ((c : List ℕ) → IsIn found.new.items c ↔ (IsIn found.old.items c ⊎ ((content ≡ c) × ReturnsTo (IsIn (shards_in group.now)) (map (shard_of group.now.bits) chain.now)))) }
+    requires chain { IsWholeChain (shards_in group.now) group.now.need
+        (length group.now.parts.items) group.now.bits (map (shard_of group.now.bits) chain.now) }
+    ensures { OnOk result
+        ((c : List ℕ)
+        → IsIn found.new.items c
+        ↔ (IsIn found.old.items c
+        ⊎ ((content ≡ c)
+        × ReturnsTo (IsIn (shards_in group.now)) (map (shard_of group.now.bits) chain.now)))) }
 {
     if returns_to_first(alloc, group, chain)? {
         push_distinct(found, content)
@@ -75,7 +95,9 @@ pub(crate) fn chain_at<'b>(
     positions: &Chain,
 ) -> Result<Vec<Held<'b>>, NoMemory>
     requires { AreInside (parts_of group.now.bits group.now.parts.items) positions.now }
-    ensures { IfOk result (λ chain. map (shard_of group.now.bits) chain.items ≡ shards_at (parts_of group.now.bits group.now.parts.items) positions.now) }
+    ensures { IfOk result
+        (λ chain. map (shard_of group.now.bits) chain.items
+        ≡ shards_at (parts_of group.now.bits group.now.parts.items) positions.now) }
 {
     let mut chain = Vec::new(alloc);
     for place in 0..positions.len() {
@@ -98,8 +120,11 @@ fn push_shard<'b>(chain: &mut Vec<Held<'b>>, held: &Held<'b>) -> Result<(), NoMe
 /// Whether the ring of a chain closes: whether of the sets past it the last has a shard that is linked to its first.
 fn returns_to_first(alloc: Global, group: &Group, chain: &[Held]) -> Result<bool, NoMemory>
     requires group { IsGroup group.now }
-    requires chain { IsWholeChain (shards_in group.now) group.now.need (length group.now.parts.items) group.now.bits (map (shard_of group.now.bits) chain.now) }
-    ensures { IfOk result (λ closes. IsTrue closes ↔ ReturnsTo (IsIn (shards_in group.now)) (map (shard_of group.now.bits) chain.now)) }
+    requires chain { IsWholeChain (shards_in group.now) group.now.need
+        (length group.now.parts.items) group.now.bits (map (shard_of group.now.bits) chain.now) }
+    ensures { IfOk result
+        (λ closes. IsTrue closes
+        ↔ ReturnsTo (IsIn (shards_in group.now)) (map (shard_of group.now.bits) chain.now)) }
 {
     let rows = rows_of(alloc, chain, 0, 992)?;
     let mut pointers = Vec::new(alloc);
@@ -120,11 +145,17 @@ fn pointers_at(
     place: usize,
 ) -> Result<Vec<u64>, NoMemory>
     requires group { IsGroup group.now }
-    requires chain { IsWholeChain (shards_in group.now) group.now.need (length group.now.parts.items) group.now.bits (map (shard_of group.now.bits) chain.now) }
+    requires chain { IsWholeChain (shards_in group.now) group.now.need
+        (length group.now.parts.items) group.now.bits (map (shard_of group.now.bits) chain.now) }
     requires rows { rows.now ≡ flat_map (piece_of 0 992) chain.now }
     requires behind { length chain.now ≤ place }
     requires within { place < length group.now.parts.items }
-    ensures { IfOk result (λ found. (p : ℕ) → IsIn found.items p ↔ IsNextShard (IsIn (shards_in group.now)) (map (shard_of group.now.bits) chain.now) group.now.need (length group.now.parts.items) group.now.bits (place + 1) (IsIn pointers.now) p) }
+    ensures { IfOk result
+        (λ found. (p : ℕ)
+        → IsIn found.items p
+        ↔ IsNextShard (IsIn (shards_in group.now)) (map (shard_of group.now.bits) chain.now)
+        group.now.need (length group.now.parts.items) group.now.bits (place + 1) (IsIn pointers.now)
+        p) }
 {
     let mut share = [0; 992];
     share_at(first_points(chain.len()), rows, place as u8 + 1, &mut share);

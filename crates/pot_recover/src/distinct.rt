@@ -21,7 +21,8 @@ pub(crate) fn push_distinct<const N: usize>(
     lists: &mut Vec<[u8; N]>,
     list: [u8; N],
 ) -> Result<(), NoMemory>
-    ensures { OnOk result ((l : List ℕ) → IsIn lists.new.items l ↔ (IsIn lists.old.items l ⊎ (list.entry ≡ l))) }
+    ensures { OnOk result
+        ((l : List ℕ) → IsIn lists.new.items l ↔ (IsIn lists.old.items l ⊎ (list.entry ≡ l))) }
 {
     if lists.len() == lists.capacity() {
         make_room(lists)?;
@@ -40,7 +41,8 @@ fn make_room<const N: usize>(lists: &mut Vec<[u8; N]>) -> Result<(), NoMemory>
 
 /// Adds one list.
 fn push_list<const N: usize>(lists: &mut Vec<[u8; N]>, list: [u8; N]) -> Result<(), NoMemory>
-    ensures { OnOk result ((l : List ℕ) → IsIn lists.new.items l ↔ (IsIn lists.old.items l ⊎ (list.entry ≡ l))) }
+    ensures { OnOk result
+        ((l : List ℕ) → IsIn lists.new.items l ↔ (IsIn lists.old.items l ⊎ (list.entry ≡ l))) }
 {
     match lists.push(list) {
         Ok(()) => Ok(()),

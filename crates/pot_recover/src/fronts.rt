@@ -23,7 +23,8 @@ pub(crate) fn first_front(objects: &[[u8; 928]], front: [u8; 32]) -> Option<usiz
 fn end_below(objects: &[[u8; 928]], front: [u8; 32]) -> usize
     requires { FrontsRise objects.now }
     ensures bound { result ≤ length objects.now }
-    ensures split { IsPartitionPoint (λ o. is_below front o ≡ true) (λ o. is_below front o ≡ false) objects.now result }
+    ensures split { IsPartitionPoint (λ o. is_below front o ≡ true) (λ o. is_below front o ≡ false)
+        objects.now result }
 {
     objects.partition_point(|object| front_of(object).cmp(&front).is_lt())
 }

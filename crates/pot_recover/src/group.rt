@@ -1,9 +1,11 @@
-ghost use Rattle.std.specs.Prelude.{◌≡◌, ◌↔◌, ◌<◌, ◌≤◌, ◌^◌, ℕ, List, [], ◌∷◌, ◌++◌, map, length, IfOk, OnOk};
+ghost use Rattle.std.specs.Prelude.{◌≡◌, ◌↔◌, ◌<◌, ◌≤◌, ◌^◌, ℕ, List, [], ◌∷◌, ◌++◌, map, length};
+ghost use Rattle.std.specs.Prelude.{IfOk, OnOk};
 ghost use Rattle.std.specs.Borrow.{Bor};
 ghost use Rattle.std.specs.List.{range_with_len};
 ghost use Rattle.pot_chains.specs.Listed.{IsIn, IsOnce};
 ghost use Rattle.pot_shard.specs.declared.shard.Shard.{Shard};
-ghost use Rattle.pot_recover.specs.Groups.{part_of, now_of, parts_of, AreLevelsOf, IsLevelOf, shards_in, IsGroup, IsHoldable};
+ghost use Rattle.pot_recover.specs.Groups.{part_of, now_of, parts_of, AreLevelsOf, IsLevelOf};
+ghost use Rattle.pot_recover.specs.Groups.{shards_in, IsGroup, IsHoldable};
 ghost use Rattle.pot_recover.specs.HeldShards.{shard_of, PlacesRise};
 ghost use Rattle.pot_recover.specs.declared.held.Held.{Held};
 
@@ -40,8 +42,11 @@ pub(crate) fn group_of<'a, 'b>(
     requires once { IsOnce (map (shard_of bits) held.now) }
     requires shards { (s : Shard) → IsIn (map (shard_of bits) held.now) s → IsHoldable s }
     ensures group { IfOk result IsGroup }
-    ensures same { IfOk result (λ group. (group.need ≡ need) × (length group.parts.items ≡ count) × (group.bits ≡ bits)) }
-    ensures members { IfOk result (λ group. (s : Shard) → IsIn (shards_in group) s ↔ (IsIn (map (shard_of bits) held.now) s × (s.m ≡ need) × (s.n ≡ count))) }
+    ensures same { IfOk result (λ group. (group.need ≡ need) × (length group.parts.items ≡ count)
+        × (group.bits ≡ bits)) }
+    ensures members { IfOk result (λ group. (s : Shard)
+        → IsIn (shards_in group) s
+        ↔ (IsIn (map (shard_of bits) held.now) s × (s.m ≡ need) × (s.n ≡ count))) }
 {
     let parts = parts_in(alloc, held, need, count)?;
     let levels = levels_of(alloc, &parts)?;
@@ -62,7 +67,9 @@ fn parts_in<'a, 'b>(
 ) -> Result<Vec<&'a [Held<'b>]>, NoMemory>
     requires few { count ≤ 16 }
     requires order { PlacesRise held.now }
-    ensures { IfOk result (λ parts. map now_of parts.items ≡ map (part_of need count held.now) (range_with_len 1 count)) }
+    ensures { IfOk result
+        (λ parts. map now_of parts.items
+        ≡ map (part_of need count held.now) (range_with_len 1 count)) }
 {
     let mut parts = Vec::new(alloc);
     for x in 0..count {
@@ -73,7 +80,8 @@ fn parts_in<'a, 'b>(
 
 /// Adds one part.
 fn push_part<'a, 'b>(parts: &mut Vec<&'a [Held<'b>]>, part: &'a [Held<'b>]) -> Result<(), NoMemory>
-    ensures { OnOk result (map now_of parts.new.items ≡ map now_of parts.old.items ++ part.now ∷ []) }
+    ensures { OnOk result
+        (map now_of parts.new.items ≡ map now_of parts.old.items ++ part.now ∷ []) }
 {
     match parts.push(part) {
         Ok(()) => Ok(()),
@@ -84,7 +92,8 @@ fn push_part<'a, 'b>(parts: &mut Vec<&'a [Held<'b>]>, part: &'a [Held<'b>]) -> R
 /// A level for each part.
 fn levels_of(alloc: Global, parts: &[&[Held]]) -> Result<Vec<Level>, NoMemory>
     requires short { (part : Bor (List Held)) → IsIn parts.now part → length part.now < 2 ^ 32 }
-    ensures { IfOk result (λ levels. (bits : ℕ) → AreLevelsOf (parts_of bits parts.now) levels.items) }
+    ensures { IfOk result
+        (λ levels. (bits : ℕ) → AreLevelsOf (parts_of bits parts.now) levels.items) }
 {
     let mut levels = Vec::new(alloc);
     for part in parts {
@@ -126,7 +135,8 @@ fn names_of(alloc: Global, part: &[Held]) -> Result<Vec<u64>, NoMemory>
 
 /// The pointers of a part.
 fn pointers_of(alloc: Global, part: &[Held]) -> Result<Vec<u64>, NoMemory>
-    ensures { IfOk result (λ pointers. pointers.items ≡ map (λ (held : Held). held.pointer) part.now) }
+    ensures { IfOk result
+        (λ pointers. pointers.items ≡ map (λ (held : Held). held.pointer) part.now) }
 {
     let pointers = part.iter().map(|held| held.pointer).collect(alloc)?;
     Ok(pointers)

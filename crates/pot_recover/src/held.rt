@@ -36,7 +36,8 @@ pub(crate) fn held_in<'a>(
     blocks: &'a [Block],
     bits: u8,
 ) -> Result<Vec<Held<'a>>, NoMemory>
-    ensures each { IfOk result (λ held. (s : Shard) → IsIn (map (shard_of bits) held.items) s ↔ IsHeld blocks.now bits s) }
+    ensures each { IfOk result (λ held. (s : Shard)
+        → IsIn (map (shard_of bits) held.items) s ↔ IsHeld blocks.now bits s) }
     ensures bytes { IfOk result (λ held. HaveBytes held.items) }
     ensures once { IfOk result (λ held. IsOnce (map (shard_of bits) held.items)) }
     ensures order { IfOk result (λ held. PlacesRise held.items) }
@@ -49,7 +50,9 @@ pub(crate) fn held_in<'a>(
 
 /// Puts shards in order, each once.
 fn sort_held(held: &mut Vec<Held>)
-    ensures same { (bits : ℕ) (s : Shard) → IsIn (map (shard_of bits) held.new.items) s ↔ IsIn (map (shard_of bits) held.old.items) s }
+    ensures same { (bits : ℕ) (s : Shard)
+        → IsIn (map (shard_of bits) held.new.items) s
+        ↔ IsIn (map (shard_of bits) held.old.items) s }
     ensures bytes { HaveBytes held.old.items → HaveBytes held.new.items }
     ensures once { (bits : ℕ) → IsOnce (map (shard_of bits) held.new.items) }
     ensures order { PlacesRise held.new.items }
@@ -61,7 +64,8 @@ fn sort_held(held: &mut Vec<Held>)
 
 /// The shards of these blocks, in the order of the blocks.
 fn gathered<'a>(alloc: Global, blocks: &'a [Block], bits: u8) -> Result<Vec<Held<'a>>, NoMemory>
-    ensures each { IfOk result (λ held. (s : Shard) → IsIn (map (shard_of bits) held.items) s ↔ IsHeld blocks.now bits s) }
+    ensures each { IfOk result (λ held. (s : Shard)
+        → IsIn (map (shard_of bits) held.items) s ↔ IsHeld blocks.now bits s) }
     ensures bytes { IfOk result (λ held. HaveBytes held.items) }
     ensures few { IfOk result (λ held. length held.items ≤ length blocks.now) }
 {
@@ -74,7 +78,10 @@ fn gathered<'a>(alloc: Global, blocks: &'a [Block], bits: u8) -> Result<Vec<Held
 
 /// Adds the shard of a block, where it is one of this blur.
 fn push_held<'a>(held: &mut Vec<Held<'a>>, block: &'a Block, bits: u8) -> Result<(), NoMemory>
-    ensures each { OnOk result ((s : Shard) → IsIn (map (shard_of bits) held.new.items) s ↔ (IsIn (map (shard_of bits) held.old.items) s ⊎ (IsShardBlock s block.now × (s.blur ≡ bits)))) }
+    ensures each { OnOk result ((s : Shard)
+        → IsIn (map (shard_of bits) held.new.items) s
+        ↔ (IsIn (map (shard_of bits) held.old.items) s
+        ⊎ (IsShardBlock s block.now × (s.blur ≡ bits)))) }
     ensures bytes { OnOk result (HaveBytes held.old.items → HaveBytes held.new.items) }
     ensures few { OnOk result (length held.new.items ≤ length held.old.items + 1) }
 {
@@ -92,7 +99,9 @@ fn push_shard<'a>(
     bits: u8,
 ) -> Result<(), NoMemory>
     requires { IsShardBlock shard.now block.now }
-    ensures each { OnOk result ((s : Shard) → IsIn (map (shard_of bits) held.new.items) s ↔ (IsIn (map (shard_of bits) held.old.items) s ⊎ ((shard.now ≡ s) × (s.blur ≡ bits)))) }
+    ensures each { OnOk result ((s : Shard)
+        → IsIn (map (shard_of bits) held.new.items) s
+        ↔ (IsIn (map (shard_of bits) held.old.items) s ⊎ ((shard.now ≡ s) × (s.blur ≡ bits)))) }
     ensures bytes { OnOk result (HaveBytes held.old.items → HaveBytes held.new.items) }
     ensures few { OnOk result (length held.new.items ≤ length held.old.items + 1) }
 {

@@ -1,7 +1,9 @@
-ghost use Rattle.std.specs.Prelude.{◌≡◌, ◌↔◌, ◌<◌, ◌≤◌, ◌+◌, ◌-◌, ◌*◌, ℕ, List, ◌++◌, map, length, replicate, slice_index, IsTrue, IfOk, OnOk, MatchOption};
+ghost use Rattle.std.specs.Prelude.{◌≡◌, ◌↔◌, ◌<◌, ◌≤◌, ◌+◌, ◌-◌, ◌*◌, ℕ, List, ◌++◌, map, length};
+ghost use Rattle.std.specs.Prelude.{replicate, slice_index, IsTrue, IfOk, OnOk, MatchOption};
 ghost use Rattle.std.specs.List.{flat_map, range_with_len};
 ghost use Rattle.pot_joins.specs.Joins.{IsJoinAt};
-ghost use Rattle.pot_recover.specs.HeldShards.{share_of, piece_of, point_of, bytes_held, AreWhole, HaveBytes, IsFixedBy};
+ghost use Rattle.pot_recover.specs.HeldShards.{share_of, piece_of, point_of, bytes_held, AreWhole};
+ghost use Rattle.pot_recover.specs.HeldShards.{HaveBytes, IsFixedBy};
 ghost use Rattle.pot_recover.specs.Contents.{IsNumbering, IsTail};
 ghost use Rattle.pot_recover.specs.Rings.{IsAnyContent};
 
@@ -31,7 +33,9 @@ pub(crate) fn content_of(alloc: Global, chain: &[Held]) -> Result<Option<[u8; 99
     requires whole { AreWhole chain.now }
     requires bytes { HaveBytes chain.now }
     requires points { map point_of chain.now ≡ range_with_len 1 (length chain.now) }
-    ensures { IfOk result (λ content. MatchOption content ((c : List ℕ) → IsFixedBy chain.now 0 c → ¬ IsAnyContent c) (λ c. IsFixedBy chain.now 0 c × IsAnyContent c)) }
+    ensures { IfOk result
+        (λ content. MatchOption content ((c : List ℕ) → IsFixedBy chain.now 0 c → ¬ IsAnyContent c)
+        (λ c. IsFixedBy chain.now 0 c × IsAnyContent c)) }
 {
     let mut tail = [0; 16];
     join_places(alloc, chain, 16, &mut tail)?;
@@ -48,7 +52,9 @@ fn whole_content(alloc: Global, chain: &[Held]) -> Result<Option<[u8; 992]>, NoM
     requires whole { AreWhole chain.now }
     requires bytes { HaveBytes chain.now }
     requires points { map point_of chain.now ≡ range_with_len 1 (length chain.now) }
-    ensures { IfOk result (λ content. MatchOption content ((c : List ℕ) → IsFixedBy chain.now 0 c → ¬ IsAnyContent c) (λ c. IsFixedBy chain.now 0 c × IsAnyContent c)) }
+    ensures { IfOk result
+        (λ content. MatchOption content ((c : List ℕ) → IsFixedBy chain.now 0 c → ¬ IsAnyContent c)
+        (λ c. IsFixedBy chain.now 0 c × IsAnyContent c)) }
 {
     let mut content = [0; 992];
     join_places(alloc, chain, 0, &mut content)?;
@@ -65,7 +71,10 @@ fn join_places(alloc: Global, chain: &[Held], start: usize, out: &mut [u8]) -> R
     requires whole { AreWhole chain.now }
     requires points { map point_of chain.now ≡ range_with_len 1 (length chain.now) }
     requires places { start + length out.old ≤ 992 }
-    ensures { OnOk result ((k : ℕ) → k < length out.new → IsJoinAt (map point_of chain.now) (bytes_held (start + k) chain.now) 0 (slice_index out.new k)) }
+    ensures { OnOk result
+        ((k : ℕ) → k < length out.new
+        → IsJoinAt (map point_of chain.now) (bytes_held (start + k) chain.now) 0
+        (slice_index out.new k)) }
 {
     let rows = rows_of(alloc, chain, start, start + out.len())?;
     share_join(first_points(chain.len()), &rows, out);
@@ -96,7 +105,8 @@ fn push_piece(rows: &mut Vec<u8>, held: &Held, start: usize, end: usize) -> Resu
     requires whole { length (share_of held.now) ≡ 992 }
     requires ordered { start ≤ end }
     requires within { end ≤ 992 }
-    ensures { OnOk result (rows.new.items ≡ rows.old.items ++ piece_of start (end - start) held.now) }
+    ensures { OnOk result
+        (rows.new.items ≡ rows.old.items ++ piece_of start (end - start) held.now) }
 {
     rows.extend_from_slice(&held.share[start..end])?;
     Ok(())

@@ -1,4 +1,5 @@
-ghost use Rattle.std.specs.Prelude.{◌≡◌, ◌≢◌, ◌↔◌, ◌⊎◌, ◌<◌, ◌≤◌, ◌-◌, ◌^◌, ⊤, ℕ, List, [], map, length, take, IfOk, IfErr, OnOk};
+ghost use Rattle.std.specs.Prelude.{◌≡◌, ◌≢◌, ◌↔◌, ◌⊎◌, ◌<◌, ◌≤◌, ◌-◌, ◌^◌, ⊤, ℕ, List, [], map};
+ghost use Rattle.std.specs.Prelude.{length, take, IfOk, IfErr, OnOk};
 ghost use Rattle.pot_chains.specs.Levels.{IsPath};
 ghost use Rattle.pot_chains.specs.Listed.{IsIn, IsOnce, IsListed, AreAbove, HasGrown};
 ghost use Rattle.pot_chains.specs.declared.search.SearchFault.TheVariants.{Wide};
@@ -31,9 +32,11 @@ pub(crate) fn closed_contents(
     requires once { IsOnce (map (shard_of bits) held.now) }
     requires shards { (s : Shard) → IsIn (map (shard_of bits) held.now) s → IsHoldable s }
     requires counted { count.old ≤ 4000000 }
-    ensures searched { IfOk result (λ found. HasSearched (map (shard_of bits) held.now) (λ m n. ⊤) count.old count.new [] found.items) }
+    ensures searched { IfOk result (λ found. HasSearched (map (shard_of bits) held.now) (λ m n. ⊤)
+        count.old count.new [] found.items) }
     ensures within { count.new ≤ 4000000 }
-    ensures wide { IfErr result (λ e. e ≡ Wide → AreAbove (IsChainIn (map (shard_of bits) held.now) (λ m n. ⊤)) 4000000 count.old) }
+    ensures wide { IfErr result (λ e. e ≡ Wide
+        → AreAbove (IsChainIn (map (shard_of bits) held.now) (λ m n. ⊤)) 4000000 count.old) }
 {
     let mut found = Vec::new(alloc);
     for need in 1..17 {
@@ -62,9 +65,11 @@ fn add_needing(
     requires once { IsOnce (map (shard_of bits) held.now) }
     requires shards { (s : Shard) → IsIn (map (shard_of bits) held.now) s → IsHoldable s }
     requires counted { count.old ≤ 4000000 }
-    ensures searched { OnOk result (HasSearched (map (shard_of bits) held.now) (λ m n. m ≡ need) count.old count.new found.old.items found.new.items) }
+    ensures searched { OnOk result (HasSearched (map (shard_of bits) held.now) (λ m n. m ≡ need)
+        count.old count.new found.old.items found.new.items) }
     ensures within { count.new ≤ 4000000 }
-    ensures wide { IfErr result (λ e. e ≡ Wide → AreAbove (IsChainIn (map (shard_of bits) held.now) (λ m n. m ≡ need)) 4000000 count.old) }
+    ensures wide { IfErr result (λ e. e ≡ Wide
+        → AreAbove (IsChainIn (map (shard_of bits) held.now) (λ m n. m ≡ need)) 4000000 count.old) }
 {
     for shards in need..17 {
         match add_group(alloc, held, need, shards, bits, count, found) {
@@ -94,9 +99,12 @@ fn add_group(
     requires once { IsOnce (map (shard_of bits) held.now) }
     requires shards { (s : Shard) → IsIn (map (shard_of bits) held.now) s → IsHoldable s }
     requires counted { count.old ≤ 4000000 }
-    ensures searched { OnOk result (HasSearched (map (shard_of bits) held.now) (λ m n. (m ≡ need) × (n ≡ shards)) count.old count.new found.old.items found.new.items) }
+    ensures searched { OnOk result (HasSearched (map (shard_of bits) held.now)
+        (λ m n. (m ≡ need) × (n ≡ shards)) count.old count.new found.old.items found.new.items) }
     ensures within { count.new ≤ 4000000 }
-    ensures wide { IfErr result (λ e. e ≡ Wide → AreAbove (IsChainIn (map (shard_of bits) held.now) (λ m n. (m ≡ need) × (n ≡ shards))) 4000000 count.old) }
+    ensures wide { IfErr result (λ e. e ≡ Wide
+        → AreAbove (IsChainIn (map (shard_of bits) held.now) (λ m n. (m ≡ need) × (n ≡ shards)))
+        4000000 count.old) }
 {
     match group_of(alloc, held, need, shards, bits) {
         Ok(group) => search(alloc, &group, count, found),
@@ -113,10 +121,16 @@ fn search(
 ) -> Result<(), SearchFault>
     requires group { IsGroup group.now }
     requires counted { count.old ≤ 4000000 }
-    ensures counts { OnOk result (HasGrown (IsChainOf (shards_in group.now) group.now.need (length group.now.parts.items)) count.old count.new) }
-    ensures found { OnOk result ((c : List ℕ) → IsIn found.new.items c ↔ (IsIn found.old.items c ⊎ IsFoundOf (shards_in group.now) group.now.need (length group.now.parts.items) c)) }
+    ensures counts { OnOk result (HasGrown (IsChainOf (shards_in group.now) group.now.need
+        (length group.now.parts.items)) count.old count.new) }
+    ensures found { OnOk result ((c : List ℕ)
+        → IsIn found.new.items c
+        ↔ (IsIn found.old.items c
+        ⊎ IsFoundOf (shards_in group.now) group.now.need (length group.now.parts.items) c)) }
     ensures within { count.new ≤ 4000000 }
-    ensures wide { IfErr result (λ e. e ≡ Wide → AreAbove (IsChainOf (shards_in group.now) group.now.need (length group.now.parts.items)) 4000000 count.old) }
+    ensures wide { IfErr result (λ e. e ≡ Wide
+        → AreAbove (IsChainOf (shards_in group.now) group.now.need (length group.now.parts.items))
+        4000000 count.old) }
 {
     let need = usize::from(group.need);
     match paths(alloc, &group.levels[..need], group.bits, count, WIDEST) {
@@ -133,8 +147,12 @@ fn close(
     found: &mut Vec<[u8; 992]>,
 ) -> Result<(), SearchFault>
     requires group { IsGroup group.now }
-    requires chains { IsListed (IsPath group.now.bits (take group.now.need group.now.levels.items) (group.now.need - 1)) chains.now }
-    ensures found { OnOk result ((c : List ℕ) → IsIn found.new.items c ↔ (IsIn found.old.items c ⊎ IsFoundOf (shards_in group.now) group.now.need (length group.now.parts.items) c)) }
+    requires chains { IsListed (IsPath group.now.bits (take group.now.need group.now.levels.items)
+        (group.now.need - 1)) chains.now }
+    ensures found { OnOk result ((c : List ℕ)
+        → IsIn found.new.items c
+        ↔ (IsIn found.old.items c
+        ⊎ IsFoundOf (shards_in group.now) group.now.need (length group.now.parts.items) c)) }
     ensures err { IfErr result (λ e. e ≢ Wide) }
 {
     match add_rings(alloc, group, chains, found) {
@@ -151,8 +169,13 @@ fn add_rings(
     found: &mut Vec<[u8; 992]>,
 ) -> Result<(), NoMemory>
     requires group { IsGroup group.now }
-    requires chains { IsListed (IsPath group.now.bits (take group.now.need group.now.levels.items) (group.now.need - 1)) chains.now }
-    ensures { OnOk result ((c : List ℕ) → IsIn found.new.items c ↔ (IsIn found.old.items c ⊎ IsFoundOf (shards_in group.now) group.now.need (length group.now.parts.items) c)) }
+    requires chains { IsListed (IsPath group.now.bits (take group.now.need group.now.levels.items)
+        (group.now.need - 1)) chains.now }
+    ensures { OnOk result
+        ((c : List ℕ)
+        → IsIn found.new.items c
+        ↔ (IsIn found.old.items c
+        ⊎ IsFoundOf (shards_in group.now) group.now.need (length group.now.parts.items) c)) }
 {
     for chain in chains {
         add_closed(alloc, group, chain, found)?;

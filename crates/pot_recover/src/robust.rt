@@ -1,4 +1,5 @@
-ghost use Rattle.std.specs.Prelude.{◌≡◌, ◌<◌, ◌≤◌, ◌+◌, ◌++◌, ◌∷◌, ℕ, List, map, length, slice_index, IsTrue, false, [], IfSome, IsNone, MatchOption};
+ghost use Rattle.std.specs.Prelude.{◌≡◌, ◌<◌, ◌≤◌, ◌+◌, ◌++◌, ◌∷◌, ℕ, List, map, length};
+ghost use Rattle.std.specs.Prelude.{slice_index, IsTrue, false, [], IfSome, IsNone, MatchOption};
 ghost use Rattle.std.specs.List.{range_with_len};
 ghost use Rattle.pot_recover.specs.HeldShards.{share_of, point_of, bytes_held, AreWhole, HaveBytes};
 ghost use Rattle.pot_recover.specs.Rings.{IsAnyContent};
@@ -43,8 +44,10 @@ fn robust_byte(ring: &[Held], need: u8, place: usize) -> Option<u8>
     requires bytes { HaveBytes ring.now }
     requires points { map point_of ring.now ≡ range_with_len 1 (length ring.now) }
     requires place { place < 992 }
-    ensures found { IfSome result (λ byte. IsRobustAt need (map point_of ring.now) (bytes_held place ring.now) byte) }
-    ensures none { IsNone result → (byte : ℕ) → IsRobustAt need (map point_of ring.now) (bytes_held place ring.now) byte → ⊥ }
+    ensures found { IfSome result (λ byte. IsRobustAt need (map point_of ring.now)
+        (bytes_held place ring.now) byte) }
+    ensures none { IsNone result → (byte : ℕ)
+        → IsRobustAt need (map point_of ring.now) (bytes_held place ring.now) byte → ⊥ }
 {
     let bytes = bytes_at(ring, place);
     match robust_join(first_points(ring.len()), &bytes, need) {
@@ -84,7 +87,8 @@ fn may_close(ring: &[Held], need: u8) -> bool
     requires whole { AreWhole ring.now }
     requires bytes { HaveBytes ring.now }
     requires points { map point_of ring.now ≡ range_with_len 1 (length ring.now) }
-    ensures { (result ≡ false) → (c : List ℕ) → IsRobustlyFixed need ring.now c → IsAnyContent c → ⊥ }
+    ensures { (result ≡ false) → (c : List ℕ) → IsRobustlyFixed need ring.now c → IsAnyContent c
+        → ⊥ }
 {
     let mut tail = [0; 16];
     if !fill_robust(ring, need, 16, &mut tail) {
@@ -102,7 +106,8 @@ pub(crate) fn robust_content(ring: &[Held], need: u8) -> Option<[u8; 992]>
     requires bytes { HaveBytes ring.now }
     requires points { map point_of ring.now ≡ range_with_len 1 (length ring.now) }
     ensures found { IfSome result (λ c. IsRobustlyFixed need ring.now c × IsAnyContent c) }
-    ensures none { IsNone result → (c : List ℕ) → IsRobustlyFixed need ring.now c → IsAnyContent c → ⊥ }
+    ensures none { IsNone result → (c : List ℕ) → IsRobustlyFixed need ring.now c → IsAnyContent c
+        → ⊥ }
 {
     if !may_close(ring, need) {
         return None;

@@ -26,8 +26,14 @@ pub(crate) fn add_robust(
 ) -> Result<(), NoMemory>
     requires group { IsGroup group.now }
     requires inside { AreInside (parts_of group.now.bits group.now.parts.items) positions.now }
-    requires chain { IsLongWhole (shards_in group.now) group.now.need (length group.now.parts.items) group.now.bits (shards_at (parts_of group.now.bits group.now.parts.items) positions.now) }
-    ensures { OnOk result ((c : List ℕ) → IsIn found.new.items c ↔ (IsIn found.old.items c ⊎ ClosesRobustlyAsRing (shards_at (parts_of group.now.bits group.now.parts.items) positions.now) c)) }
+    requires chain { IsLongWhole (shards_in group.now) group.now.need (length group.now.parts.items)
+        group.now.bits (shards_at (parts_of group.now.bits group.now.parts.items) positions.now) }
+    ensures { OnOk result
+        ((c : List ℕ)
+        → IsIn found.new.items c
+        ↔ (IsIn found.old.items c
+        ⊎ ClosesRobustlyAsRing
+        (shards_at (parts_of group.now.bits group.now.parts.items) positions.now) c)) }
 {
     let chain = chain_at(alloc, group, positions)?;
     add_ring(group.need, group.bits, &chain, found)
@@ -35,9 +41,13 @@ pub(crate) fn add_robust(
 
 /// Adds the content with which a chain closes robustly as a ring, where it does.
 fn add_ring(need: u8, bits: u8, chain: &[Held], found: &mut Vec<[u8; 992]>) -> Result<(), NoMemory>
-    requires chain { (shards : List Shard) × (n : ℕ) × IsLongWhole shards need n bits (map (shard_of bits) chain.now) }
+    requires chain { (shards : List Shard) × (n : ℕ)
+        × IsLongWhole shards need n bits (map (shard_of bits) chain.now) }
     requires bits { bits ≤ 63 }
-    ensures { OnOk result ((c : List ℕ) → IsIn found.new.items c ↔ (IsIn found.old.items c ⊎ ClosesRobustlyAsRing (map (shard_of bits) chain.now) c)) }
+    ensures { OnOk result
+        ((c : List ℕ)
+        → IsIn found.new.items c
+        ↔ (IsIn found.old.items c ⊎ ClosesRobustlyAsRing (map (shard_of bits) chain.now) c)) }
 {
     if !is_ring(need, bits, chain) {
         return Ok(());
@@ -50,7 +60,8 @@ fn add_ring(need: u8, bits: u8, chain: &[Held], found: &mut Vec<[u8; 992]>) -> R
 
 /// Whether the last of a chain is linked to its first.
 fn is_ring(need: u8, bits: u8, chain: &[Held]) -> bool
-    requires chain { (shards : List Shard) × (n : ℕ) × IsLongWhole shards need n bits (map (shard_of bits) chain.now) }
+    requires chain { (shards : List Shard) × (n : ℕ)
+        × IsLongWhole shards need n bits (map (shard_of bits) chain.now) }
     requires bits { bits ≤ 63 }
     ensures { IsTrue result ↔ IsRing (map (shard_of bits) chain.now) }
 {

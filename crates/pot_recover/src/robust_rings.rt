@@ -1,11 +1,13 @@
-ghost use Rattle.std.specs.Prelude.{◌≡◌, ◌≢◌, ◌↔◌, ◌⊎◌, ◌<◌, ◌≤◌, ◌-◌, ◌^◌, ⊤, ℕ, List, [], map, length, IfOk, IfErr, OnOk};
+ghost use Rattle.std.specs.Prelude.{◌≡◌, ◌≢◌, ◌↔◌, ◌⊎◌, ◌<◌, ◌≤◌, ◌-◌, ◌^◌, ⊤, ℕ, List, [], map};
+ghost use Rattle.std.specs.Prelude.{length, IfOk, IfErr, OnOk};
 ghost use Rattle.pot_chains.specs.Levels.{IsPath};
 ghost use Rattle.pot_chains.specs.Listed.{IsIn, IsOnce, IsListed, AreAbove, HasGrown};
 ghost use Rattle.pot_chains.specs.declared.search.SearchFault.TheVariants.{Wide};
 ghost use Rattle.pot_shard.specs.declared.shard.Shard.{Shard};
 ghost use Rattle.pot_recover.specs.Groups.{shards_in, IsGroup, IsHoldable};
 ghost use Rattle.pot_recover.specs.HeldShards.{shard_of, PlacesRise};
-ghost use Rattle.pot_recover.specs.LongScopes.{IsLongChainOf, IsLongChainIn, IsRobustlyFoundOf, HasSearchedLong};
+ghost use Rattle.pot_recover.specs.LongScopes.{IsLongChainOf, IsLongChainIn, IsRobustlyFoundOf};
+ghost use Rattle.pot_recover.specs.LongScopes.{HasSearchedLong};
 
 use crate::group::{Group, group_of};
 use crate::held::Held;
@@ -29,9 +31,11 @@ pub(crate) fn robust_contents(
     requires once { IsOnce (map (shard_of bits) held.now) }
     requires shards { (s : Shard) → IsIn (map (shard_of bits) held.now) s → IsHoldable s }
     requires counted { count.old ≤ 4000000 }
-    ensures searched { IfOk result (λ found. HasSearchedLong (map (shard_of bits) held.now) (λ m n. ⊤) count.old count.new [] found.items) }
+    ensures searched { IfOk result (λ found. HasSearchedLong (map (shard_of bits) held.now)
+        (λ m n. ⊤) count.old count.new [] found.items) }
     ensures within { count.new ≤ 4000000 }
-    ensures wide { IfErr result (λ e. e ≡ Wide → AreAbove (IsLongChainIn (map (shard_of bits) held.now) (λ m n. ⊤)) 4000000 count.old) }
+    ensures wide { IfErr result (λ e. e ≡ Wide
+        → AreAbove (IsLongChainIn (map (shard_of bits) held.now) (λ m n. ⊤)) 4000000 count.old) }
 {
     let mut found = Vec::new(alloc);
     for need in 1..17 {
@@ -60,9 +64,12 @@ fn add_needing(
     requires once { IsOnce (map (shard_of bits) held.now) }
     requires shards { (s : Shard) → IsIn (map (shard_of bits) held.now) s → IsHoldable s }
     requires counted { count.old ≤ 4000000 }
-    ensures searched { OnOk result (HasSearchedLong (map (shard_of bits) held.now) (λ m n. m ≡ need) count.old count.new found.old.items found.new.items) }
+    ensures searched { OnOk result (HasSearchedLong (map (shard_of bits) held.now) (λ m n. m ≡ need)
+        count.old count.new found.old.items found.new.items) }
     ensures within { count.new ≤ 4000000 }
-    ensures wide { IfErr result (λ e. e ≡ Wide → AreAbove (IsLongChainIn (map (shard_of bits) held.now) (λ m n. m ≡ need)) 4000000 count.old) }
+    ensures wide { IfErr result (λ e. e ≡ Wide
+        → AreAbove (IsLongChainIn (map (shard_of bits) held.now) (λ m n. m ≡ need)) 4000000
+        count.old) }
 {
     for shards in need..17 {
         match add_group(alloc, held, need, shards, bits, count, found) {
@@ -92,9 +99,12 @@ fn add_group(
     requires once { IsOnce (map (shard_of bits) held.now) }
     requires shards { (s : Shard) → IsIn (map (shard_of bits) held.now) s → IsHoldable s }
     requires counted { count.old ≤ 4000000 }
-    ensures searched { OnOk result (HasSearchedLong (map (shard_of bits) held.now) (λ m n. (m ≡ need) × (n ≡ shards)) count.old count.new found.old.items found.new.items) }
+    ensures searched { OnOk result (HasSearchedLong (map (shard_of bits) held.now)
+        (λ m n. (m ≡ need) × (n ≡ shards)) count.old count.new found.old.items found.new.items) }
     ensures within { count.new ≤ 4000000 }
-    ensures wide { IfErr result (λ e. e ≡ Wide → AreAbove (IsLongChainIn (map (shard_of bits) held.now) (λ m n. (m ≡ need) × (n ≡ shards))) 4000000 count.old) }
+    ensures wide { IfErr result (λ e. e ≡ Wide
+        → AreAbove (IsLongChainIn (map (shard_of bits) held.now) (λ m n. (m ≡ need) × (n ≡ shards)))
+        4000000 count.old) }
 {
     match group_of(alloc, held, need, shards, bits) {
         Ok(group) => search(alloc, &group, count, found),
@@ -111,10 +121,17 @@ fn search(
 ) -> Result<(), SearchFault>
     requires group { IsGroup group.now }
     requires counted { count.old ≤ 4000000 }
-    ensures counts { OnOk result (HasGrown (IsLongChainOf (shards_in group.now) group.now.need (length group.now.parts.items)) count.old count.new) }
-    ensures found { OnOk result ((c : List ℕ) → IsIn found.new.items c ↔ (IsIn found.old.items c ⊎ IsRobustlyFoundOf (shards_in group.now) group.now.need (length group.now.parts.items) c)) }
+    ensures counts { OnOk result (HasGrown (IsLongChainOf (shards_in group.now) group.now.need
+        (length group.now.parts.items)) count.old count.new) }
+    ensures found { OnOk result ((c : List ℕ)
+        → IsIn found.new.items c
+        ↔ (IsIn found.old.items c
+        ⊎ IsRobustlyFoundOf (shards_in group.now) group.now.need (length group.now.parts.items)
+        c)) }
     ensures within { count.new ≤ 4000000 }
-    ensures wide { IfErr result (λ e. e ≡ Wide → AreAbove (IsLongChainOf (shards_in group.now) group.now.need (length group.now.parts.items)) 4000000 count.old) }
+    ensures wide { IfErr result (λ e. e ≡ Wide
+        → AreAbove (IsLongChainOf (shards_in group.now) group.now.need
+        (length group.now.parts.items)) 4000000 count.old) }
 {
     match paths(alloc, &group.levels, group.bits, count, WIDEST) {
         Ok(chains) => close(alloc, group, &chains, found),
@@ -130,8 +147,13 @@ fn close(
     found: &mut Vec<[u8; 992]>,
 ) -> Result<(), SearchFault>
     requires group { IsGroup group.now }
-    requires chains { IsListed (IsPath group.now.bits group.now.levels.items (length group.now.parts.items - 1)) chains.now }
-    ensures found { OnOk result ((c : List ℕ) → IsIn found.new.items c ↔ (IsIn found.old.items c ⊎ IsRobustlyFoundOf (shards_in group.now) group.now.need (length group.now.parts.items) c)) }
+    requires chains { IsListed (IsPath group.now.bits group.now.levels.items
+        (length group.now.parts.items - 1)) chains.now }
+    ensures found { OnOk result ((c : List ℕ)
+        → IsIn found.new.items c
+        ↔ (IsIn found.old.items c
+        ⊎ IsRobustlyFoundOf (shards_in group.now) group.now.need (length group.now.parts.items)
+        c)) }
     ensures err { IfErr result (λ e. e ≢ Wide) }
 {
     match add_rings(alloc, group, chains, found) {
@@ -148,8 +170,14 @@ fn add_rings(
     found: &mut Vec<[u8; 992]>,
 ) -> Result<(), NoMemory>
     requires group { IsGroup group.now }
-    requires chains { IsListed (IsPath group.now.bits group.now.levels.items (length group.now.parts.items - 1)) chains.now }
-    ensures { OnOk result ((c : List ℕ) → IsIn found.new.items c ↔ (IsIn found.old.items c ⊎ IsRobustlyFoundOf (shards_in group.now) group.now.need (length group.now.parts.items) c)) }
+    requires chains { IsListed (IsPath group.now.bits group.now.levels.items
+        (length group.now.parts.items - 1)) chains.now }
+    ensures { OnOk result
+        ((c : List ℕ)
+        → IsIn found.new.items c
+        ↔ (IsIn found.old.items c
+        ⊎ IsRobustlyFoundOf (shards_in group.now) group.now.need (length group.now.parts.items)
+        c)) }
 {
     for chain in chains {
         add_robust(alloc, group, chain, found)?;

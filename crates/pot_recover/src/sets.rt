@@ -22,7 +22,9 @@ pub(crate) fn next_pointers(
 ) -> Result<Vec<u64>, NoMemory>
     requires bits { bits ≤ 63 }
     requires indexed { index.now ≡ map name_of there.now }
-    ensures { IfOk result (λ found. (p : ℕ) → IsIn found.items p ↔ IsNextPointer pointers.now there.now bits share.now p) }
+    ensures { IfOk result
+        (λ found. (p : ℕ)
+        → IsIn found.items p ↔ IsNextPointer pointers.now there.now bits share.now p) }
 {
     let mut found = Vec::new(alloc);
     for pointer in pointers {
@@ -41,7 +43,9 @@ fn push_hits(
     share: &[u8],
 ) -> Result<(), NoMemory>
     requires { IsWithin (length there.now) candidates.now }
-    ensures { OnOk result ((p : ℕ) → IsIn found.new.items p ↔ (IsIn found.old.items p ⊎ IsHit there.now share.now candidates.now p)) }
+    ensures { OnOk result
+        ((p : ℕ) → IsIn found.new.items p
+        ↔ (IsIn found.old.items p ⊎ IsHit there.now share.now candidates.now p)) }
 {
     for candidate in candidates {
         push_hit(found, &there[candidate.position as usize], share)?;
@@ -51,7 +55,9 @@ fn push_hits(
 
 /// Adds the pointer of a shard that holds this share.
 fn push_hit(found: &mut Vec<u64>, held: &Held, share: &[u8]) -> Result<(), NoMemory>
-    ensures { OnOk result ((p : ℕ) → IsIn found.new.items p ↔ (IsIn found.old.items p ⊎ ((held.now.share.now ≡ share.now) × (held.now.pointer ≡ p)))) }
+    ensures { OnOk result
+        ((p : ℕ) → IsIn found.new.items p
+        ↔ (IsIn found.old.items p ⊎ ((held.now.share.now ≡ share.now) × (held.now.pointer ≡ p)))) }
 {
     if held.share == share {
         push_pointer(found, held.pointer)
@@ -62,7 +68,8 @@ fn push_hit(found: &mut Vec<u64>, held: &Held, share: &[u8]) -> Result<(), NoMem
 
 /// Adds one pointer.
 pub(crate) fn push_pointer(found: &mut Vec<u64>, pointer: u64) -> Result<(), NoMemory>
-    ensures { OnOk result ((p : ℕ) → IsIn found.new.items p ↔ (IsIn found.old.items p ⊎ (pointer ≡ p))) }
+    ensures { OnOk result
+        ((p : ℕ) → IsIn found.new.items p ↔ (IsIn found.old.items p ⊎ (pointer ≡ p))) }
 {
     match found.push(pointer) {
         Ok(()) => Ok(()),

@@ -1,10 +1,12 @@
-ghost use Rattle.std.specs.Prelude.{◌≡◌, ◌↔◌, ◌<◌, ◌≤◌, ◌^◌, ℕ, List, [], length, IsTrue, IfOk, IfErr, OnOk, AllPairs};
+ghost use Rattle.std.specs.Prelude.{◌≡◌, ◌↔◌, ◌<◌, ◌≤◌, ◌^◌, ℕ, List, [], length, IsTrue, IfOk};
+ghost use Rattle.std.specs.Prelude.{IfErr, OnOk, AllPairs};
 ghost use Rattle.std.specs.List.{position, slice_index_or};
 ghost use Rattle.pot_chains.specs.Listed.{IsIn};
 ghost use Rattle.pot_recover.specs.Choices.{AreContents};
 ghost use Rattle.pot_recover.specs.Fronts.{has_front};
 ghost use Rattle.pot_recover.specs.Recovered.{AreRecovered, IsBefore, IsChoice, IsRecovered};
-ghost use Rattle.pot_recover.specs.Robust.{AreRobustlyRecovered, IsRobustlyTooWide, IsRobustlyWithin};
+ghost use Rattle.pot_recover.specs.Robust.{AreRobustlyRecovered, IsRobustlyTooWide};
+ghost use Rattle.pot_recover.specs.Robust.{IsRobustlyWithin};
 ghost use Rattle.pot_recover.specs.Wide.{IsTooWide, IsWithin, AreFew, AreTooWide};
 
 use crate::choices::{count_choices, objects_of};
@@ -144,7 +146,8 @@ fn from_contents(
 ) -> Result<Recovered, RecoverFault>
     requires contents { AreContents contents.items }
     requires chains { chains ≤ 4000000 }
-    ensures objects { IfOk result (λ objects. (o : List ℕ) → IsIn objects o ↔ IsRecovered (IsIn contents.items) o) }
+    ensures objects { IfOk result (λ objects. (o : List ℕ)
+        → IsIn objects o ↔ IsRecovered (IsIn contents.items) o) }
     ensures order { IfOk result (λ objects. AllPairs IsBefore objects) }
     ensures within { OnOk result (AreFew (IsIn contents.items)) }
     ensures wide { IfErr result (λ fault. AreTooWide (IsIn contents.items) chains fault) }

@@ -3,7 +3,7 @@ use Rattle.std.proofs.Common.{◌≡◌, ℕ, inl, inr, ⊎_elim, [], sym, subst
 use Rattle.std.specs.Prelude.{IsTrue, false}
 use Rattle.pot_bytes.specs.declared.rack.Place.{Place}
 use Rattle.pot_shard.specs.Places.{place_at}
-use Rattle.pot_steps.specs.Stripe.{digest_of}
+use Rattle.pot_bytes.specs.Digests.{digest_of}
 use Rattle.pot_replies.specs.Sections.{Mine, mine}
 use Rattle.pot_replies.specs.Fetches.{SeesAll, FirstShort, IsUnseen, FailsAt, IsHopeless, has_seen}
 use Rattle.pot_replies.specs.Laws.{FileStands, OddStands, LostStands, FetchFaultStands, FetchLogFullStands}

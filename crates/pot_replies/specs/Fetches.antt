@@ -12,7 +12,7 @@ use Rattle.pot_machine.specs.declared.slot.SlotState.TheVariants.{Live}
 use Rattle.pot_machine.specs.Slot.{is_live}
 use Rattle.pot_machine.specs.Table.{Table, slot_at, count}
 use Rattle.pot_machine.specs.Logs.{own, replayed}
-use Rattle.pot_steps.specs.Stripe.{digest_of}
+use Rattle.pot_bytes.specs.Digests.{digest_of}
 use Rattle.pot_object.specs.Pieces.{pieces_of}
 use Rattle.pot_shard.specs.Places.{place_at}
 use Rattle.pot_index.specs.declared.entry.IndexEntry.TheVariants.{Find}

@@ -9,7 +9,7 @@ use Rattle.pot_bytes.specs.Rack.{log_bound}
 use Rattle.pot_machine.specs.declared.entry.Entry.{Entry}
 use Rattle.pot_machine.specs.declared.entry.Entry.TheVariants.{Put, Put2, Fault}
 use Rattle.pot_machine.specs.Logs.{replayed, IsKeptPut}
-use Rattle.pot_steps.specs.Stripe.{digest_of}
+use Rattle.pot_bytes.specs.Digests.{digest_of}
 use Rattle.pot_steps.specs.GroupStep.{Passed, skips, gone_entries}
 use Rattle.pot_object.specs.Pieces.{longest, pieces_of}
 use Rattle.pot_index.specs.declared.record.Record.{Record}

@@ -17,7 +17,8 @@ abbrev pub first_of : {T E O : Type 0} → (T → List E) → (T → O) → Turn
 first_of log origin t = first_view (log (made_with t)) (origin (made_with t))
 
 -- these are the first passes of these turns, one of each, and none of them ever entered
-abbrev pub AreFirst : {T E O : Type 0} {g : Ghosts T E O} → (T → List E) → (T → O) → List (Turn T E O) → List (Pass T E O g) → Type 0
+abbrev pub AreFirst : {T E O : Type 0} {g : Ghosts T E O} → (T → List E) → (T → O)
+    → List (Turn T E O) → List (Pass T E O g) → Type 0
 AreFirst log origin turns passes =
     (map turn_of passes ≡ map name_of turns) × (map view passes ≡ map (first_of log origin) turns)
 
@@ -26,7 +27,9 @@ module _ {E O : Type 0} where
   abbrev pub HasAllParts : PassRow E O → Type 0
   HasAllParts row = (at : ℕ) → at < length row.names → (view_at row at).parts ≡ 2 ^ 62
 
-  -- A turn was closed with a pass that knew this, and its value has this log and this origin. Every other pass was spent, so this one had seen the whole log, and each entry since the turn was made stands in just one of its stretches.
+  -- A turn was closed with a pass that knew this, and its value has this log and this origin. Every
+  -- other pass was spent, so this one had seen the whole log, and each entry since the turn was
+  -- made stands in just one of its stretches.
   pub record Closed (log : List E) (origin : O) (v : View E O) : Type 0 where
     pub seen : log ≡ v.seen
     pub since : StartsWith log v.opened
@@ -39,12 +42,16 @@ module _ {T E O : Type 0} (log_of : T → List E) (origin_of : T → O) where
   -- the values of the turns of a row, in order, at its close
   pub record RowClosed (row : PassRow E O) (values : List T) : Type 0 where
     pub count : length values ≡ length row.names
-    pub each : (at : ℕ) (x : T) → slice_get values at ≡ Some x → Closed (log_of x) (origin_of x) (view_at row at)
+    pub each : (at : ℕ) (x : T) → slice_get values at ≡ Some x
+        → Closed (log_of x) (origin_of x) (view_at row at)
 
-  -- the values of the first turns so far, and what is left of the turns, which are `n`, and of the row
-  pub record CloseSofar (row : PassRow E O) (n : ℕ) (turns : List TurnName) (left : PassRow E O) (values : List T) : Type 0 where
+  -- the values of the first turns so far, and what is left of the turns, which are `n`, and of the
+  -- row
+  pub record CloseSofar (row : PassRow E O) (n : ℕ) (turns : List TurnName) (left : PassRow E O)
+      (values : List T) : Type 0 where
     pub count : length values + n ≡ length row.names
     pub left_turns : turns ≡ drop (length values) row.names
     pub left_names : left.names ≡ drop (length values) row.names
     pub left_views : left.views ≡ drop (length values) row.views
-    pub each : (at : ℕ) (x : T) → slice_get values at ≡ Some x → Closed (log_of x) (origin_of x) (view_at row at)
+    pub each : (at : ℕ) (x : T) → slice_get values at ≡ Some x
+        → Closed (log_of x) (origin_of x) (view_at row at)

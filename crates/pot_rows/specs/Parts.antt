@@ -10,14 +10,17 @@ use Rattle.pot_rows.specs.Rows.{PassRow, AreOf, view_at, with_view}
 module _ {E O : Type 0} where
   -- each pass of a row gave so many parts away
   abbrev pub RowCut : ℕ → PassRow E O → PassRow E O → Type 0
-  RowCut parts old new = (at : ℕ) → at < length old.names → view_at new at ≡ cut_view parts (view_at old at)
+  RowCut parts old new =
+      (at : ℕ) → at < length old.names → view_at new at ≡ cut_view parts (view_at old at)
 
   -- each pass of this row is a new one with them
   abbrev pub RowNew : ℕ → PassRow E O → PassRow E O → Type 0
-  RowNew parts old given = (at : ℕ) → at < length old.names → view_at given at ≡ new_view parts (view_at old at)
+  RowNew parts old given =
+      (at : ℕ) → at < length old.names → view_at given at ≡ new_view parts (view_at old at)
 
   -- a row whose first `n` passes were split so far; the new passes are these
-  pub record SplitSofar (names : List TurnName) (n parts : ℕ) (old new part : PassRow E O) : Type 0 where
+  pub record SplitSofar (names : List TurnName) (n parts : ℕ) (old new part : PassRow E O) : Type
+      0 where
     pub new_of : AreOf names new
     pub part_names : part.names ≡ take n names
     pub part_long : length part.views ≡ n
@@ -25,7 +28,8 @@ module _ {E O : Type 0} where
     pub given : (at : ℕ) → at < n → view_at part at ≡ new_view parts (view_at old at)
     pub rest : (at : ℕ) → n ≤ at → view_at new at ≡ view_at old at
 
-  -- A pass took in another: it has seen what either had, the two had one opening log and one origin, and no position stands in two of its stretches.
+  -- A pass took in another: it has seen what either had, the two had one opening log and one
+  -- origin, and no position stands in two of its stretches.
   pub record Joined (v w x : View E O) : Type 0 where
     pub both : x ≡ both_views v w
     pub begins : StartsWith x.seen v.seen
@@ -45,7 +49,8 @@ module _ {E O : Type 0} where
   RowJoined old other new = (at : ℕ) → Joined (view_at old at) (view_at other at) (view_at new at)
 
   -- those of the first `n` turns did so far, and these are left of the other row
-  pub record JoinSofar (names : List TurnName) (n : ℕ) (old other new left : PassRow E O) : Type 0 where
+  pub record JoinSofar (names : List TurnName) (n : ℕ) (old other new left : PassRow E O) : Type
+      0 where
     pub new_of : AreOf names new
     pub left_names : left.names ≡ drop n names
     pub left_views : left.views ≡ drop n other.views

@@ -15,7 +15,8 @@ module _ {E O : Type 0} where
     pub heard : StartsWith w'.seen v.seen
 
   -- the passes of one turn of two rows did, and nothing else changed
-  pub record TiedAt (mine others : PassRow E O) (at : ℕ) (mine' others' : PassRow E O) : Type 0 where
+  pub record TiedAt (mine others : PassRow E O) (at : ℕ) (mine' others' : PassRow E O) : Type
+      0 where
     pub one : View E O
     pub other : View E O
     pub tied : Tied (view_at mine at) (view_at others at) one other
@@ -24,11 +25,15 @@ module _ {E O : Type 0} where
 
   -- the passes of two rows did, at each place
   abbrev pub RowTied : PassRow E O → PassRow E O → PassRow E O → PassRow E O → Type 0
-  RowTied mine others mine' others' = (at : ℕ) → Tied (view_at mine at) (view_at others at) (view_at mine' at) (view_at others' at)
+  RowTied mine others mine' others' =
+      (at : ℕ) → Tied (view_at mine at) (view_at others at) (view_at mine' at) (view_at others' at)
 
   -- those of the first `n` turns did so far, and the others are as they were
-  pub record TiedSofar (names : List TurnName) (n : ℕ) (mine others mine' others' : PassRow E O) : Type 0 where
+  pub record TiedSofar (names : List TurnName) (n : ℕ)
+      (mine others mine' others' : PassRow E O) : Type 0 where
     pub mine_of : AreOf names mine'
     pub others_of : AreOf names others'
-    pub each : (at : ℕ) → at < n → Tied (view_at mine at) (view_at others at) (view_at mine' at) (view_at others' at)
-    pub rest : (at : ℕ) → n ≤ at → (view_at mine' at ≡ view_at mine at) × (view_at others' at ≡ view_at others at)
+    pub each : (at : ℕ) → at < n
+        → Tied (view_at mine at) (view_at others at) (view_at mine' at) (view_at others' at)
+    pub rest : (at : ℕ) → n ≤ at
+        → (view_at mine' at ≡ view_at mine at) × (view_at others' at ≡ view_at others at)

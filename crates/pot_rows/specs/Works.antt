@@ -22,7 +22,8 @@ module _ {E O : Type 0} where
   RowSole old new = (at : ℕ) → Sole (view_at old at) (view_at new at)
 
   -- one locked call at a place, and nothing at any other
-  pub record TurnAt (others entries : List E) (old : PassRow E O) (at : ℕ) (new : PassRow E O) : Type 0 where
+  pub record TurnAt (others entries : List E) (old : PassRow E O) (at : ℕ)
+      (new : PassRow E O) : Type 0 where
     pub pass : View E O
     pub is : new ≡ with_view old at pass
     pub turn : IsTurn others entries (view_at old at) pass
@@ -41,31 +42,39 @@ module _ {E O : Type 0} (is_of : E → Bool) where
 abbrev pub TurnIsWork : (E O : Type 0) → Type 0
 TurnIsWork E O =
     (is_of : E → Bool) (others entries : List E) (old new : PassRow E O) (at : ℕ)
-    → at < length old.views → AllIdle old → TurnAt others entries old at new → AllOf is_of entries → RowWorked is_of old new
+    → at < length old.views → AllIdle old → TurnAt others entries old at new → AllOf is_of entries
+    → RowWorked is_of old new
 
 -- where the job was alone, its entries are those of the call at that place, and none at any other
 abbrev pub OwnInTurnAt : (E O : Type 0) → Type 0
 OwnInTurnAt E O =
     (is_of : E → Bool) (others entries : List E) (old new : PassRow E O) (at : ℕ)
-    → at < length old.views → TurnAt others entries old at new → AllOf is_of entries → RowAlone is_of old new
+    → at < length old.views → TurnAt others entries old at new → AllOf is_of entries
+    → RowAlone is_of old new
     → (filter is_of (added (view_at old at) (view_at new at)) ≡ entries)
     × ((i : ℕ) → at ≢ i → filter is_of (added (view_at old i) (view_at new i)) ≡ [])
 
 -- part after part
 abbrev pub RowWorkInParts : (E O : Type 0) → Type 0
-RowWorkInParts E O = (is_of : E → Bool) (u v w : PassRow E O) → RowWorked is_of u v → RowWorked is_of v w → RowWorked is_of u w
+RowWorkInParts E O =
+    (is_of : E → Bool) (u v w : PassRow E O) → RowWorked is_of u v → RowWorked is_of v w
+    → RowWorked is_of u w
 
 abbrev pub RowAloneInParts : (E O : Type 0) → Type 0
 RowAloneInParts E O =
-    (is_of : E → Bool) (u v w : PassRow E O) → RowWorked is_of u v → RowWorked is_of v w → RowAlone is_of u w → RowAlone is_of u v × RowAlone is_of v w
+    (is_of : E → Bool) (u v w : PassRow E O) → RowWorked is_of u v → RowWorked is_of v w
+    → RowAlone is_of u w → RowAlone is_of u v × RowAlone is_of v w
 
 -- a tie is work of any job, and where that was alone, what is seen has no entry of it
 abbrev pub TieIsWork : (E O : Type 0) → Type 0
-TieIsWork E O = (is_of : E → Bool) (mine others mine' others' : PassRow E O) → RowTied mine others mine' others' → AllIdle mine → RowWorked is_of mine mine'
+TieIsWork E O =
+    (is_of : E → Bool) (mine others mine' others' : PassRow E O) → RowTied mine others mine' others'
+    → AllIdle mine → RowWorked is_of mine mine'
 
 abbrev pub TieHasNone : (E O : Type 0) → Type 0
 TieHasNone E O =
-    (is_of : E → Bool) (mine others mine' others' : PassRow E O) → RowTied mine others mine' others' → RowAlone is_of mine mine'
+    (is_of : E → Bool) (mine others mine' others' : PassRow E O) → RowTied mine others mine' others'
+    → RowAlone is_of mine mine'
     → (at : ℕ) → filter is_of (added (view_at mine at) (view_at mine' at)) ≡ []
 
 -- commands in a row
@@ -76,13 +85,17 @@ abbrev pub RowWentInParts : (E O : Type 0) → Type 0
 RowWentInParts E O = (u v w : PassRow E O) → RowWent u v → RowWent v w → RowWent u w
 
 abbrev pub RowSoleInParts : (E O : Type 0) → Type 0
-RowSoleInParts E O = (u v w : PassRow E O) → RowWent u v → RowWent v w → RowSole u w → RowSole u v × RowSole v w
+RowSoleInParts E O =
+    (u v w : PassRow E O) → RowWent u v → RowWent v w → RowSole u w → RowSole u v × RowSole v w
 
 abbrev pub RowSoleAlone : (E O : Type 0) → Type 0
-RowSoleAlone E O = (is_of : E → Bool) (v w : PassRow E O) → RowWorked is_of v w → RowSole v w → RowAlone is_of v w
+RowSoleAlone E O =
+    (is_of : E → Bool) (v w : PassRow E O) → RowWorked is_of v w → RowSole v w → RowAlone is_of v w
 
 abbrev pub RowSoleAtClose : (E O : Type 0) → Type 0
-RowSoleAtClose E O = (u x : PassRow E O) → RowWent u x → ((at : ℕ) → IsWhole (view_at u at) (view_at x at)) → RowSole u x
+RowSoleAtClose E O =
+    (u x : PassRow E O) → RowWent u x → ((at : ℕ) → IsWhole (view_at u at) (view_at x at))
+    → RowSole u x
 
 -- A BATCH
 
@@ -104,4 +117,6 @@ module _ {E O : Type 0} where
 
 -- and so are their passes, at each place: what is said of a batch of passes is said there
 abbrev pub JoinsAtPlaces : (E O : Type 0) → Type 0
-JoinsAtPlaces E O = (v x : PassRow E O) (cs : List (CarriedRow E O)) → RowJoins v cs x → (at : ℕ) → Joins (view_at v at) (map (carried_at at) cs) (view_at x at)
+JoinsAtPlaces E O =
+    (v x : PassRow E O) (cs : List (CarriedRow E O)) → RowJoins v cs x → (at : ℕ)
+    → Joins (view_at v at) (map (carried_at at) cs) (view_at x at)

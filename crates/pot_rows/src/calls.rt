@@ -21,7 +21,8 @@ impl<T: Kept> Turns<T> {
         requires own { AreOf self.now passes.old }
         requires within { at < length self.now }
         requires idle { (view_at passes.old at).holds ≡ false }
-        ensures took { passes.new ≡ with_view passes.old at (took_view (T.log result) (view_at passes.old at)) }
+        ensures took { passes.new
+            ≡ with_view passes.old at (took_view (T.log result) (view_at passes.old at)) }
         ensures begins { StartsWith (T.log result) (view_at passes.old at).seen }
         ensures origin { Some (T.origin result) ≡ (view_at passes.old at).origin }
     {
@@ -37,7 +38,8 @@ impl<T: Kept> Turns<T> {
         requires had { (view_at passes.old at).holds ≡ true }
         requires grown { StartsWith (T.log value) (view_at passes.old at).seen }
         requires origin { Some (T.origin value) ≡ (view_at passes.old at).origin }
-        ensures left { passes.new ≡ with_view passes.old at (left_view (T.log value) (view_at passes.old at)) }
+        ensures left { passes.new
+            ≡ with_view passes.old at (left_view (T.log value) (view_at passes.old at)) }
     {
         let turn = &self.turns[at];
         let pass = &mut passes.passes[at];

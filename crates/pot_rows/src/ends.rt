@@ -16,9 +16,11 @@ fn make_turns<T: Kept>(
     passes: &mut Vec<Pass<T>>,
 ) -> bool
     requires empty { (turns.old.items ≡ []) × (passes.old.items ≡ []) }
-    requires room { (length values.old.items ≤ vec_capacity turns.old) × (length values.old.items ≤ vec_capacity passes.old) }
+    requires room { (length values.old.items ≤ vec_capacity turns.old)
+        × (length values.old.items ≤ vec_capacity passes.old) }
     ensures first { AreFirst T.log T.origin turns.new.items passes.new.items }
-    ensures order { reverse values.old.items ≡ map made_with turns.new.items ++ reverse values.new.items }
+    ensures order { reverse values.old.items
+        ≡ map made_with turns.new.items ++ reverse values.new.items }
     ensures all { IsTrue result → values.new.items ≡ [] }
     ensures capacity { vec_capacity values.new ≡ vec_capacity values.old }
 {
@@ -64,7 +66,8 @@ impl<T: Kept> Turns<T> {
     /// A row of turns over the values, and the first pass of each, which has all parts and has seen its value's log. The vector is empty then and keeps its room, which `close` can have. Only memory can be wanting, and then the vector has its values as before.
     pub fn start(alloc: Global, values: &mut Vec<T>) -> Result<(Turns<T>, Passes<T>), NoMemory>
         ensures own { IfOk result (λ p. AreOf p.0 p.1) }
-        ensures first { IfOk result (λ p. p.1.views ≡ map (λ x. first_view (T.log x) (T.origin x)) values.old.items) }
+        ensures first { IfOk result (λ p. p.1.views
+            ≡ map (λ x. first_view (T.log x) (T.origin x)) values.old.items) }
         ensures taken { IfOk result (λ _. values.new.items ≡ []) }
         ensures back { IfErr result (λ _. values.new.items ≡ values.old.items) }
         ensures capacity { vec_capacity values.new ≡ vec_capacity values.old }

@@ -18,7 +18,8 @@ impl<T: Kept> Turns<T> {
         requires within { at < length self.now }
         requires idle { (view_at passes.old at).holds ≡ false }
         requires some { (0 < parts) × (parts < (view_at passes.old at).parts) }
-        ensures left { passes.new ≡ with_view passes.old at (cut_view parts (view_at passes.old at)) }
+        ensures left { passes.new
+            ≡ with_view passes.old at (cut_view parts (view_at passes.old at)) }
         ensures own { Some (turn_of result) ≡ slice_get self.now at }
         ensures given { view result ≡ new_view parts (view_at passes.old at) }
     {

@@ -33,7 +33,8 @@ impl<T: Kept> Turns<T> {
     fn tie_at(&self, mine: &mut Passes<T>, others: &mut Passes<T>, at: usize)
         requires own { AreOf self.now mine.old × AreOf self.now others.old }
         requires within { at < length self.now }
-        requires idle { ((view_at mine.old at).holds ≡ false) × ((view_at others.old at).holds ≡ false) }
+        requires idle { ((view_at mine.old at).holds ≡ false)
+            × ((view_at others.old at).holds ≡ false) }
         requires parts { (1 < (view_at mine.old at).parts) × (1 < (view_at others.old at).parts) }
         ensures { TiedAt mine.old others.old at mine.new others.new }
     {

@@ -1,6 +1,8 @@
 //! What a job did with a row of passes, over what these know.
-ghost use Rattle.pot_rows.specs.Works.{TurnIsWork, OwnInTurnAt, RowWorkInParts, RowAloneInParts, TieIsWork, TieHasNone};
-ghost use Rattle.pot_rows.specs.Works.{RowWorkWent, RowWentInParts, RowSoleInParts, RowSoleAlone, RowSoleAtClose, JoinsAtPlaces};
+ghost use Rattle.pot_rows.specs.Works.{TurnIsWork, OwnInTurnAt, RowWorkInParts, RowAloneInParts};
+ghost use Rattle.pot_rows.specs.Works.{TieIsWork, TieHasNone};
+ghost use Rattle.pot_rows.specs.Works.{RowWorkWent, RowWentInParts, RowSoleInParts, RowSoleAlone};
+ghost use Rattle.pot_rows.specs.Works.{RowSoleAtClose, JoinsAtPlaces};
 
 /// The laws of `pot_worked` for a row: a locked call at one place and a tie are work of the whole row, part after part; commands in a row; and the rows of a batch are joined at each place.
 pub fn row_laws<E, O>()

@@ -1,5 +1,6 @@
 -- Which line may stand where: outside a batch, or in one that has a number of jobs still to come.
-use Rattle.std.specs.Prelude.{◌≡◌, ◌-◌, ◌==◌, ◌++◌, ◌∷◌, List, length, ℕ, Bool, true, false, Option, Some, None, not, if◌then◌else◌}
+use Rattle.std.specs.Prelude.{◌≡◌, ◌-◌, ◌==◌, ◌++◌, ◌∷◌, List, length, ℕ, Bool, true, false, Option}
+use Rattle.std.specs.Prelude.{Some, None, not, if◌then◌else◌}
 use Rattle.std.specs.List.{AllByRecursion}
 use Rattle.pot_script.specs.Kinds.{kind_of}
 use Rattle.pot_script.specs.declared.command.Command.{Command}

@@ -55,7 +55,8 @@ IsCommand rack commands.Quit = Unit {0}
 abbrev pub command_line : Command → List ℕ
 command_line c = join_with_byte 32 (keyword (kind_of c) ∷ arguments c)
 
--- What follows the LF of a command's line: the bytes of the file and one LF, or nothing. It counts as no line.
+-- What follows the LF of a command's line: the bytes of the file and one LF, or nothing. It counts
+-- as no line.
 abbrev pub stated_bytes : Command → List ℕ
 stated_bytes (commands.Store name file) = file ++ codes "\n"
 stated_bytes _ = []

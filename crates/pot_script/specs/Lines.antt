@@ -20,7 +20,8 @@ pub record IsLineOf (rack : Rack) (kind : Kind) (words : List (List ℕ)) (c : C
   pub is : IsCommand rack c
   pub words_are : words ≡ arguments c
 
--- the command of a line of this kind that has these words after the first; None exactly where there is no such command
+-- the command of a line of this kind that has these words after the first; None exactly where there
+-- is no such command
 abbrev pub ReadsLine : Rack → Kind → List (List ℕ) → Option Command → Type 0
 ReadsLine rack kind words result =
     MatchOption result ((c : Command) → IsLineOf rack kind words c → ⊥) (IsLineOf rack kind words)

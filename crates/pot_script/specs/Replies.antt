@@ -20,28 +20,41 @@ listed_text l = codes "name " ++ l.name ++ spaced l.length ++ codes "\n"
 
 -- The text of a reply. Each ends with LF (10).
 abbrev pub reply_text : Reply → List ℕ
-reply_text (replies.Stored name pieces shards) = codes "stored " ++ name ++ spaced pieces ++ spaced shards ++ codes "\n"
-reply_text (replies.File name bytes) = codes "file " ++ name ++ spaced (length bytes) ++ codes "\n" ++ bytes ++ codes "\n"
-reply_text (replies.Names names) = codes "names" ++ spaced (length names) ++ codes "\n" ++ flat_map listed_text names
+reply_text (replies.Stored name pieces shards) =
+    codes "stored " ++ name ++ spaced pieces ++ spaced shards ++ codes "\n"
+reply_text (replies.File name bytes) =
+    codes "file " ++ name ++ spaced (length bytes) ++ codes "\n" ++ bytes ++ codes "\n"
+reply_text (replies.Names names) =
+    codes "names" ++ spaced (length names) ++ codes "\n" ++ flat_map listed_text names
 reply_text (replies.Group group live lost broken stripe column) =
-    codes "group" ++ spaced group ++ codes " live" ++ spaced live ++ codes " lost" ++ spaced lost ++ codes " broken" ++ spaced broken
+    codes "group" ++ spaced group ++ codes " live" ++ spaced live ++ codes " lost" ++ spaced lost
+    ++ codes " broken" ++ spaced broken
     ++ codes " cursor" ++ spaced stripe ++ spaced column ++ codes "\n"
-reply_text (replies.Scrubbed group seen gone) = codes "scrubbed" ++ spaced group ++ spaced seen ++ spaced gone ++ codes "\n"
-reply_text (replies.Repaired group mended left) = codes "repaired" ++ spaced group ++ spaced mended ++ spaced left ++ codes "\n"
-reply_text (replies.Replaced from to slots) = codes "replaced" ++ spaced from ++ spaced to ++ spaced slots ++ codes "\n"
-reply_text (replies.Migrated from to slots) = codes "migrated" ++ spaced from ++ spaced to ++ spaced slots ++ codes "\n"
+reply_text (replies.Scrubbed group seen gone) =
+    codes "scrubbed" ++ spaced group ++ spaced seen ++ spaced gone ++ codes "\n"
+reply_text (replies.Repaired group mended left) =
+    codes "repaired" ++ spaced group ++ spaced mended ++ spaced left ++ codes "\n"
+reply_text (replies.Replaced from to slots) =
+    codes "replaced" ++ spaced from ++ spaced to ++ spaced slots ++ codes "\n"
+reply_text (replies.Migrated from to slots) =
+    codes "migrated" ++ spaced from ++ spaced to ++ spaced slots ++ codes "\n"
 reply_text (replies.Long name len) = codes "long " ++ name ++ spaced len ++ codes "\n"
 reply_text (replies.Exists name) = codes "exists " ++ name ++ codes "\n"
 reply_text (replies.Full group) = codes "full" ++ spaced group ++ codes "\n"
 reply_text (replies.Absent name) = codes "absent " ++ name ++ codes "\n"
-reply_text (replies.Lost name piece fragment have need) = codes "lost " ++ name ++ spaced piece ++ spaced fragment ++ spaced have ++ spaced need ++ codes "\n"
-reply_text (replies.Odd name wanted found) = codes "odd " ++ name ++ in_hex wanted ++ in_hex found ++ codes "\n"
-reply_text (replies.Fault group column) = codes "fault" ++ spaced group ++ spaced column ++ codes "\n"
+reply_text (replies.Lost name piece fragment have need) =
+    codes "lost " ++ name ++ spaced piece ++ spaced fragment ++ spaced have ++ spaced need
+    ++ codes "\n"
+reply_text (replies.Odd name wanted found) =
+    codes "odd " ++ name ++ in_hex wanted ++ in_hex found ++ codes "\n"
+reply_text (replies.Fault group column) =
+    codes "fault" ++ spaced group ++ spaced column ++ codes "\n"
 reply_text (replies.LogFull group) = codes "logfull" ++ spaced group ++ codes "\n"
 reply_text replies.IndexLogFull = codes "logfull index\n"
 reply_text (replies.NoArchive number) = codes "noarchive" ++ spaced number ++ codes "\n"
 reply_text (replies.InUse number) = codes "inuse" ++ spaced number ++ codes "\n"
-reply_text (replies.Renewed name pieces shards) = codes "renewed " ++ name ++ spaced pieces ++ spaced shards ++ codes "\n"
+reply_text (replies.Renewed name pieces shards) =
+    codes "renewed " ++ name ++ spaced pieces ++ spaced shards ++ codes "\n"
 reply_text (replies.Often name) = codes "often " ++ name ++ codes "\n"
 
 -- the command was not done

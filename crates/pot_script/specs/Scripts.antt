@@ -1,5 +1,6 @@
 -- The script: commands one after another, each spelled in one way, up to `quit`.
-use Rattle.std.specs.Prelude.{◌≡◌, ◌≢◌, ◌+◌, ◌<◌, ◌≤◌, ◌++◌, ◌∷◌, ℕ, true, List, [], Option, None, length, flat_map}
+use Rattle.std.specs.Prelude.{◌≡◌, ◌≢◌, ◌+◌, ◌<◌, ◌≤◌, ◌++◌, ◌∷◌, ℕ, true, List, [], Option, None}
+use Rattle.std.specs.Prelude.{length, flat_map}
 use Rattle.pot_bytes.specs.declared.rack.Rack.{Rack}
 use Rattle.pot_script.specs.declared.command.Command.{Command}
 use Rattle.pot_script.specs.declared.command.Command.TheVariants.{Quit}
@@ -27,7 +28,8 @@ abbrev pub after_commands : Option ℕ → List Command → Option ℕ
 after_commands batch [] = batch
 after_commands batch (c ∷ cs) = after_commands (after_command batch c) cs
 
--- The bytes are the script of these commands: `quit` is the last, outside a batch, and nothing stands after it.
+-- The bytes are the script of these commands: `quit` is the last, outside a batch, and nothing
+-- stands after it.
 pub record IsScript (rack : Rack) (bytes : List ℕ) (commands : List Command) : Type 0 where
   pub short : length bytes ≤ most_bytes
   pub steps : List Command
@@ -38,7 +40,9 @@ pub record IsScript (rack : Rack) (bytes : List ℕ) (commands : List Command) :
 
 -- no command that may stand here stands at the front of the bytes
 abbrev pub NoCommandAt : Rack → Option ℕ → List ℕ → Type 0
-NoCommandAt rack batch bytes = (c : Command) (after : List ℕ) → IsCommand rack c → may_stand batch (kind_of c) ≡ true → bytes ≢ command_text c ++ after
+NoCommandAt rack batch bytes =
+    (c : Command) (after : List ℕ) → IsCommand rack c → may_stand batch (kind_of c) ≡ true
+    → bytes ≢ command_text c ++ after
 
 -- commands stand before the line of this number, and none that may stand there stands at it
 pub record BreaksAt (rack : Rack) (bytes : List ℕ) (number : ℕ) : Type 0 where
@@ -59,7 +63,8 @@ pub record GoesOnAt (rack : Rack) (bytes : List ℕ) (number : ℕ) : Type 0 whe
   pub some : 0 < length rest
   pub counted : number ≡ length steps + 2
 
--- The first line that leaves the grammar has this number, from 1 on. A script that is too long leaves it at 0.
+-- The first line that leaves the grammar has this number, from 1 on. A script that is too long
+-- leaves it at 0.
 pub data LeavesAt (rack : Rack) (bytes : List ℕ) (number : ℕ) : Type 0 where
   TooLong : most_bytes < length bytes → number ≡ 0 → LeavesAt rack bytes number
   Breaks : length bytes ≤ most_bytes → BreaksAt rack bytes number → LeavesAt rack bytes number

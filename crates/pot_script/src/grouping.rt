@@ -27,9 +27,11 @@ pub enum Step {
 /// # Errors
 /// Want of memory alone.
 pub fn group_steps(alloc: Global, commands: Vec<Command>) -> Result<Vec<Step>, NoMemory>
-    requires whole { (rack : Rack) × AreSteps rack None commands.items × (after_commands None commands.items ≡ None) }
+    requires whole { (rack : Rack) × AreSteps rack None commands.items
+        × (after_commands None commands.items ≡ None) }
     ensures spelled { IfOk result (λ steps. flat_map spread steps.items ≡ commands.items) }
-    ensures whole { (rack : Rack) → AreSteps rack None commands.items → IfOk result (λ steps. AllByRecursion (IsWholeStep rack) steps.items) }
+    ensures whole { (rack : Rack) → AreSteps rack None commands.items
+        → IfOk result (λ steps. AllByRecursion (IsWholeStep rack) steps.items) }
 {
     let mut steps = Vec::new(alloc);
     let mut commands = commands.into_iter();
@@ -48,10 +50,14 @@ fn next_step(
     command: Command,
     behind: &mut IntoIter<Command, Global>,
 ) -> Result<Step, NoMemory>
-    requires whole { (rack : Rack) × AreSteps rack None (command ∷ into_iter_items behind.old) × (after_commands None (command ∷ into_iter_items behind.old) ≡ None) }
-    ensures spelled { IfOk result (λ step. command ∷ into_iter_items behind.old ≡ spread step ++ into_iter_items behind.new) }
+    requires whole { (rack : Rack) × AreSteps rack None (command ∷ into_iter_items behind.old)
+        × (after_commands None (command ∷ into_iter_items behind.old) ≡ None) }
+    ensures spelled { IfOk result (λ step. command ∷ into_iter_items behind.old
+        ≡ spread step ++ into_iter_items behind.new) }
     ensures closed { IfOk result (λ step. after_commands None (into_iter_items behind.new) ≡ None) }
-    ensures whole { (rack : Rack) → AreSteps rack None (command ∷ into_iter_items behind.old) → IfOk result (λ step. IsWholeStep rack step × AreSteps rack None (into_iter_items behind.new)) }
+    ensures whole { (rack : Rack) → AreSteps rack None (command ∷ into_iter_items behind.old)
+        → IfOk result (λ step. IsWholeStep rack step
+        × AreSteps rack None (into_iter_items behind.new)) }
 {
     match command {
         Command::Together { count } => {
@@ -70,7 +76,8 @@ fn take_lines(
     count: u32,
 ) -> Result<Vec<Command>, NoMemory>
     requires { count ≤ length (into_iter_items commands.old) }
-    ensures taken { IfOk result (λ lines. into_iter_items commands.old ≡ lines.items ++ into_iter_items commands.new) }
+    ensures taken { IfOk result (λ lines. into_iter_items commands.old
+        ≡ lines.items ++ into_iter_items commands.new) }
     ensures count { IfOk result (λ lines. length lines.items ≡ count) }
 {
     let mut lines = Vec::with_capacity(alloc, count as usize)?;

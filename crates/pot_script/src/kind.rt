@@ -39,7 +39,8 @@ const KINDS: [Kind; 12] = [
 impl Kind {
     /// The kind of the lines that begin with this word. None exactly where no line does.
     pub fn read(word: &[u8]) -> Option<Kind>
-        ensures { MatchOption result ((kind : Kind) → word.now ≢ keyword kind) (λ kind. word.now ≡ keyword kind) }
+        ensures { MatchOption result ((kind : Kind) → word.now ≢ keyword kind)
+            (λ kind. word.now ≡ keyword kind) }
     {
         for kind in KINDS {
             if kind.keyword() == word {

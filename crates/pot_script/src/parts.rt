@@ -1,6 +1,7 @@
 //! Writes the parts of a line at the end of a text, all of them or none.
 
-ghost use Rattle.std.specs.Prelude.{◌≡◌, ◌+◌, ◌<◌, ◌≤◌, ◌++◌, take, length, vec_capacity, flat_map, OnOk, OnErr};
+ghost use Rattle.std.specs.Prelude.{◌≡◌, ◌+◌, ◌<◌, ◌≤◌, ◌++◌, take, length, vec_capacity, flat_map};
+ghost use Rattle.std.specs.Prelude.{OnOk, OnErr};
 ghost use Rattle.hex.specs.Hex.{encode_lower};
 ghost use Rattle.pot_script.specs.Parts.{Prints, part_text};
 ghost use Rattle.pot_script.specs.Replies.{in_hex, spaced};
@@ -38,7 +39,8 @@ pub fn append_parts(out: &mut Vec<u8>, parts: &[Part]) -> Result<(), NoMemory>
 fn append_part(out: &mut Vec<u8>, part: &Part) -> Result<(), AllocError>
     ensures ok { OnOk result (out.new.items ≡ out.old.items ++ part_text part.now) }
     ensures err { OnErr result (take (length out.old.items) out.new.items ≡ out.old.items) }
-    ensures full { OnErr result (vec_capacity out.old < length out.old.items + length (part_text part.now)) }
+    ensures full { OnErr result (vec_capacity out.old
+        < length out.old.items + length (part_text part.now)) }
     ensures capacity { vec_capacity out.old ≤ vec_capacity out.new }
 {
     match part {
@@ -52,7 +54,8 @@ fn append_part(out: &mut Vec<u8>, part: &Part) -> Result<(), AllocError>
 fn append_number(out: &mut Vec<u8>, number: u64) -> Result<(), AllocError>
     ensures ok { OnOk result (out.new.items ≡ out.old.items ++ spaced number) }
     ensures err { OnErr result (take (length out.old.items) out.new.items ≡ out.old.items) }
-    ensures full { OnErr result (vec_capacity out.old < length out.old.items + length (spaced number)) }
+    ensures full { OnErr result (vec_capacity out.old
+        < length out.old.items + length (spaced number)) }
     ensures capacity { vec_capacity out.old ≤ vec_capacity out.new }
 {
     let mut digits = Buffer::new();
@@ -64,7 +67,8 @@ fn append_number(out: &mut Vec<u8>, number: u64) -> Result<(), AllocError>
 fn append_digest(out: &mut Vec<u8>, digest: &Digest) -> Result<(), AllocError>
     ensures ok { OnOk result (out.new.items ≡ out.old.items ++ in_hex digest.now) }
     ensures err { OnErr result (take (length out.old.items) out.new.items ≡ out.old.items) }
-    ensures full { OnErr result (vec_capacity out.old < length out.old.items + length (in_hex digest.now)) }
+    ensures full { OnErr result (vec_capacity out.old
+        < length out.old.items + length (in_hex digest.now)) }
     ensures capacity { vec_capacity out.old ≤ vec_capacity out.new }
 {
     let digits = hex_digits(digest);

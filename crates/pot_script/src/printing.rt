@@ -1,7 +1,8 @@
 //! Writes a reply, or the line with which a run is refused, at the end of a text.
 
 ghost use Rattle.std.specs.Prelude.{◌++◌, codes, flat_map};
-ghost use Rattle.pot_script.specs.Replies.{reply_text, listed_text, bad_line_text, words_refused_text, spaced, in_hex};
+ghost use Rattle.pot_script.specs.Replies.{reply_text, listed_text, bad_line_text};
+ghost use Rattle.pot_script.specs.Replies.{words_refused_text, spaced, in_hex};
 ghost use Rattle.pot_script.specs.Parts.{Prints, part_text};
 ghost use Rattle.pot_script.specs.declared.reply.Reply.TheVariants as replies;
 
@@ -191,7 +192,8 @@ fn print_group(
     stripe: u32,
     column: u8,
 ) -> Result<(), NoMemory>
-    ensures { Prints out.old out.new result (reply_text (replies.Group group live lost broken stripe column)) }
+    ensures { Prints out.old out.new result
+        (reply_text (replies.Group group live lost broken stripe column)) }
 {
     let parts = [
         Text(b"group"),
@@ -230,7 +232,8 @@ fn print_lost(
     have: u8,
     need: u8,
 ) -> Result<(), NoMemory>
-    ensures { Prints out.old out.new result (reply_text (replies.Lost name.now piece fragment have need)) }
+    ensures { Prints out.old out.new result
+        (reply_text (replies.Lost name.now piece fragment have need)) }
 {
     let parts = [
         Text(b"lost "),
@@ -250,7 +253,8 @@ fn print_odd(
     wanted: &Digest,
     found: &Digest,
 ) -> Result<(), NoMemory>
-    ensures { Prints out.old out.new result (reply_text (replies.Odd name.now wanted.now found.now)) }
+    ensures { Prints out.old out.new result
+        (reply_text (replies.Odd name.now wanted.now found.now)) }
 {
     let parts = [
         Text(b"odd "),

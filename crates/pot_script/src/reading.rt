@@ -22,7 +22,8 @@ pub fn read_script(alloc: Global, bytes: &[u8], rack: &Rack) -> Result<Vec<Comma
     ensures bad { IfErr result (IfBadLine (LeavesAt rack.now bytes.now)) }
 
     // Unless memory runs out each script is read, and what leaves the grammar is refused there.
-    ensures each_script { (script : List Command) → IsScript rack.now bytes.now script → ReadsAs result script }
+    ensures each_script { (script : List Command) → IsScript rack.now bytes.now script
+        → ReadsAs result script }
     ensures each_fault { (line : ℕ) → LeavesAt rack.now bytes.now line → RefusesAt result line }
 {
     if bytes.len() > LONGEST_SCRIPT {

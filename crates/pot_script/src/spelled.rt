@@ -46,7 +46,10 @@ pub fn find_command<'a>(
     batch: Option<u32>,
     rack: &Rack,
 ) -> Option<(Spelled<'a>, &'a [u8])>
-    ensures { MatchOption result (NoCommandAt rack.now batch bytes.now) (λ x. IsCommand rack.now (command_of x.0) × (may_stand batch (kind_of (command_of x.0)) ≡ true) × (bytes.now ≡ command_text (command_of x.0) ++ x.1.now)) }
+    ensures { MatchOption result (NoCommandAt rack.now batch bytes.now)
+        (λ x. IsCommand rack.now (command_of x.0)
+        × (may_stand batch (kind_of (command_of x.0)) ≡ true)
+        × (bytes.now ≡ command_text (command_of x.0) ++ x.1.now)) }
 {
     let (line, rest) = cut_at(bytes, b'\n')?;
     let mut words = Words::of(line);
@@ -63,7 +66,11 @@ pub fn find_command<'a>(
 
 // The command of a `store` line that has these words after the first, with what stands after its file.
 fn find_file<'a>(words: Words<'_>, rest: &'a [u8], rack: &Rack) -> Option<(Spelled<'a>, &'a [u8])>
-    ensures { MatchOption result ((c : Command) (after : List ℕ) → IsLineOf rack.now kinds.Store words.entry c → rest.now ≡ stated_bytes c ++ after → ⊥) (λ x. IsLineOf rack.now kinds.Store words.entry (command_of x.0) × (rest.now ≡ stated_bytes (command_of x.0) ++ x.1.now)) }
+    ensures { MatchOption result
+        ((c : Command) (after : List ℕ) → IsLineOf rack.now kinds.Store words.entry c
+        → rest.now ≡ stated_bytes c ++ after → ⊥)
+        (λ x. IsLineOf rack.now kinds.Store words.entry (command_of x.0)
+        × (rest.now ≡ stated_bytes (command_of x.0) ++ x.1.now)) }
 {
     let (name, length) = read_store(words)?;
     let (file, after) = cut_after(rest, length as usize)?;

@@ -1,6 +1,7 @@
 //! The words of a line, from left to right.
 
-ghost use Rattle.std.specs.Prelude.{◌≡◌, ◌≢◌, ◌≤◌, ◌↔◌, ℕ, List, [], ◌∷◌, IsSome, IsTrue, MatchOption, decimal};
+ghost use Rattle.std.specs.Prelude.{◌≡◌, ◌≢◌, ◌≤◌, ◌↔◌, ℕ, List, [], ◌∷◌, IsSome, IsTrue};
+ghost use Rattle.std.specs.Prelude.{MatchOption, decimal};
 ghost use Rattle.pot_bytes.specs.Names.{IsName};
 ghost use Rattle.pot_script.specs.Words.{words_in};
 
@@ -53,14 +54,18 @@ impl<'a> Words<'a> {
 
     /// The next word, where it is a name.
     pub fn next_name(&mut self) -> Option<Name>
-        ensures { MatchOption result ((name : List ℕ) (others : List (List ℕ)) → IsName name → self.old ≢ name ∷ others) (λ name. IsName name × (self.old ≡ name ∷ self.new)) }
+        ensures { MatchOption result
+            ((name : List ℕ) (others : List (List ℕ)) → IsName name → self.old ≢ name ∷ others)
+            (λ name. IsName name × (self.old ≡ name ∷ self.new)) }
     {
         Name::read(self.next()?)
     }
 
     /// The next word, where it is a number of at most `most`.
     pub fn next_number(&mut self, most: u32) -> Option<u32>
-        ensures { MatchOption result ((n : ℕ) (others : List (List ℕ)) → n ≤ most → self.old ≢ decimal n ∷ others) (λ n. (n ≤ most) × (self.old ≡ decimal n ∷ self.new)) }
+        ensures { MatchOption result
+            ((n : ℕ) (others : List (List ℕ)) → n ≤ most → self.old ≢ decimal n ∷ others)
+            (λ n. (n ≤ most) × (self.old ≡ decimal n ∷ self.new)) }
     {
         read_number(self.next()?, most)
     }

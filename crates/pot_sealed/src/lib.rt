@@ -52,7 +52,9 @@ impl Sealed {
 
 /// The digests of four blocks.
 pub fn digests_of_four(a: &Block, b: &Block, c: &Block, d: &Block) -> [Digest; 4]
-    ensures { result ≡ map (λ block. record { bytes = digest_bytes block }) (a.now ∷ b.now ∷ c.now ∷ d.now ∷ []) }
+    ensures { result
+        ≡ map (λ block. record { bytes = digest_bytes block })
+        (a.now ∷ b.now ∷ c.now ∷ d.now ∷ []) }
 {
     let [first, second, third, fourth] = digest_four(a.bytes(), b.bytes(), c.bytes(), d.bytes());
     [

@@ -56,7 +56,8 @@ shard_of g content coefficients place name pointer = record {
   share = share content coefficients (place + 1);
 }
 
--- the shard at the point after `place`, in the ring of the names, by the random bytes of the fragment
+-- the shard at the point after `place`, in the ring of the names, by the random bytes of the
+-- fragment
 abbrev pub shard_at_place : Geometry → List ℕ → List ℕ → ℕ → Shard
 shard_at_place g content random place =
     shard_of g content (coefficients_in g random) place
@@ -77,21 +78,25 @@ fragments_of g object random = secrecy object (pads_in g random)
 
 -- the content of fragment j, from 0, whose number is j + 1
 unfoldable pub content_of : Geometry → List ℕ → List ℕ → ℕ → List ℕ
-content_of g fragments random j = content (take 16 random) (j + 1) g.fragments (part_at 0 object_size j fragments)
+content_of g fragments random j =
+    content (take 16 random) (j + 1) g.fragments (part_at 0 object_size j fragments)
 
 -- the shards of fragment j, from 0
 unfoldable pub fragment_shards : Geometry → List ℕ → List ℕ → ℕ → List Shard
 fragment_shards g fragments random j =
-    content_shards g (content_of g fragments random j) (part_at (head_len g) (fragment_len g) j random)
+    content_shards g (content_of g fragments random j)
+    (part_at (head_len g) (fragment_len g) j random)
 
 -- the shards of an object, by fragment and point
 unfoldable pub object_shards : Geometry → List ℕ → List ℕ → List Shard
 object_shards g object random =
-    flat_map (fragment_shards g (fragments_of g object random) random) (range_with_len 0 g.fragments)
+    flat_map (fragment_shards g (fragments_of g object random) random)
+    (range_with_len 0 g.fragments)
 
 -- the blocks of a piece of a file, by its own random bytes
 unfoldable pub piece_blocks : Geometry → List ℕ → List ℕ → ℕ → List ℕ → List (List ℕ)
-piece_blocks g id file piece random = map shard_bytes (object_shards g (object id file piece) random)
+piece_blocks g id file piece random =
+    map shard_bytes (object_shards g (object id file piece) random)
 
 -- the random bytes of a piece in those of its file
 abbrev pub piece_random : Geometry → ℕ → List ℕ → List ℕ
@@ -99,8 +104,10 @@ piece_random g piece random = part_at 16 (piece_len g) piece random
 
 -- the blocks of a piece, by the random bytes of the file
 abbrev pub blocks_at : Geometry → List ℕ → List ℕ → ℕ → List (List ℕ)
-blocks_at g file random piece = piece_blocks g (take 16 random) file piece (piece_random g piece random)
+blocks_at g file random piece =
+    piece_blocks g (take 16 random) file piece (piece_random g piece random)
 
 -- the blocks of a file, by piece, fragment and point
 abbrev pub file_blocks : Geometry → List ℕ → List ℕ → List (List ℕ)
-file_blocks g file random = flat_map (blocks_at g file random) (range_with_len 0 (pieces_of (length file)))
+file_blocks g file random =
+    flat_map (blocks_at g file random) (range_with_len 0 (pieces_of (length file)))

@@ -8,8 +8,8 @@ use Rattle.pot_shard.specs.declared.shard.Shard.{Shard}
 abbrev pub IsNext : ℕ → ℕ → ℕ → Type 0
 IsNext n x y = ((x < n) × (y ≡ x + 1)) ⊎ ((x ≡ n) × (y ≡ 1))
 
--- Shard t is linked from shard s: both have the same m, n and blur, t stands at the next point, and the pointer of s is the
--- blur of the name of t.
+-- Shard t is linked from shard s: both have the same m, n and blur, t stands at the next point, and
+-- the pointer of s is the blur of the name of t.
 pub record IsLinked (s t : Shard) : Type 0 where
   pub needed : t.m ≡ s.m
   pub count : t.n ≡ s.n
@@ -20,4 +20,5 @@ pub record IsLinked (s t : Shard) : Type 0 where
 -- n shards at the points 1 to n, each linked to the one at the next point
 pub record IsRing (n : ℕ) (shards : List Shard) : Type 0 where
   pub points : map (λ s. s.x) shards ≡ range_with_len 1 n
-  pub linked : (s t : Shard) → Contains shards s → Contains shards t → IsNext n s.x t.x → IsLinked s t
+  pub linked : (s t : Shard) → Contains shards s → Contains shards t → IsNext n s.x t.x
+      → IsLinked s t

@@ -1,5 +1,6 @@
 -- The block of a shard.
-use Rattle.std.specs.Prelude.{◌≡◌, ◌≤◌, ◌<◌, ℕ, ◌%◌, ◌^◌, List, [], ◌∷◌, ◌++◌, length, take, drop, replicate, slice_index}
+use Rattle.std.specs.Prelude.{◌≡◌, ◌≤◌, ◌<◌, ℕ, ◌%◌, ◌^◌, List, [], ◌∷◌, ◌++◌, length, take, drop}
+use Rattle.std.specs.Prelude.{replicate, slice_index}
 use Rattle.byteorder.specs.Endian.{big_bytes, big_number}
 use Rattle.pot_object.specs.Pieces.{content_size}
 use Rattle.pot_shard.specs.declared.shard.Shard.{Shard}
@@ -8,14 +9,15 @@ use Rattle.pot_shard.specs.declared.shard.Shard.{Shard}
 abbrev pub magic : List ℕ
 magic = 0x50 ∷ 0x53 ∷ 0x48 ∷ 0x31 ∷ []
 
--- the magic, x, m, n and the blur, the name and the pointer with the highest byte first, zeros up to 32 bytes,
--- and the share
+-- the magic, x, m, n and the blur, the name and the pointer with the highest byte first, zeros up
+-- to 32 bytes, and the share
 unfoldable pub shard_bytes : Shard → List ℕ
 shard_bytes s =
-    magic ++ (s.x ∷ s.m ∷ s.n ∷ s.blur ∷ []) ++ big_bytes 8 s.name ++ big_bytes 8 s.pointer ++ replicate 8 0 ++ s.share
+    magic ++ (s.x ∷ s.m ∷ s.n ∷ s.blur ∷ []) ++ big_bytes 8 s.name ++ big_bytes 8 s.pointer
+    ++ replicate 8 0 ++ s.share
 
--- a shard of a ring: its point x and the m shares that are needed are 1 to n, of at most 16, and the pointer has
--- its low bits cleared
+-- a shard of a ring: its point x and the m shares that are needed are 1 to n, of at most 16, and
+-- the pointer has its low bits cleared
 pub record IsShard (s : Shard) : Type 0 where
   pub x_first : 1 ≤ s.x
   pub x_last : s.x ≤ s.n

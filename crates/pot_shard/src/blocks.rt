@@ -1,10 +1,14 @@
 //! The shard blocks of a file, piece by piece.
-ghost use Rattle.std.specs.Prelude.{◌≡◌, ◌≤◌, ◌<◌, ◌+◌, ◌-◌, ◌*◌, ◌%◌, ◌^◌, ◌++◌, length, map, take, IfOk};
+ghost use Rattle.std.specs.Prelude.{◌≡◌, ◌≤◌, ◌<◌, ◌+◌, ◌-◌, ◌*◌, ◌%◌, ◌^◌, ◌++◌, length, map};
+ghost use Rattle.std.specs.Prelude.{take, IfOk};
 ghost use Rattle.pot_bytes.specs.Sums.{xor};
 ghost use Rattle.pot_split.specs.Secrecy.{meaning, IsRows};
 ghost use Rattle.pot_bytes.specs.Rack.{IsGeometry};
 ghost use Rattle.pot_object.specs.Pieces.{content_size, longest, object_size, pieces_of};
-ghost use Rattle.pot_shard.specs.FileBlocks.{content_of, content_shards, file_blocks, fragment_len, fragment_shards, fragments_of, object_shards, pads_in, part_at, piece_blocks, piece_len, random_len, shard_of};
+ghost use Rattle.pot_shard.specs.FileBlocks.{content_of, content_shards, file_blocks, fragment_len};
+ghost use Rattle.pot_shard.specs.FileBlocks.{fragment_shards, fragments_of, object_shards, pads_in};
+ghost use Rattle.pot_shard.specs.FileBlocks.{part_at, piece_blocks, piece_len, random_len};
+ghost use Rattle.pot_shard.specs.FileBlocks.{shard_of};
 ghost use Rattle.pot_shard.specs.Shards.{shard_bytes};
 
 use crate::random::{fragment_len, head_len, piece_len, read_names, rows_len};
@@ -61,7 +65,8 @@ fn file_blocks(file: &[u8], geometry: &Geometry, random: &[u8], out: &mut [Block
     requires fits { length file.now ≤ longest }
     requires geometry { IsGeometry geometry.now }
     requires random { length random.now ≡ random_len (pieces_of (length file.now)) geometry.now }
-    requires room { length out.old ≡ pieces_of (length file.now) * (geometry.now.fragments * geometry.now.shards) }
+    requires room { length out.old
+        ≡ pieces_of (length file.now) * (geometry.now.fragments * geometry.now.shards) }
     ensures { out.new ≡ file_blocks geometry.now file.now random.now }
 {
     let id = id_in(random);
@@ -119,7 +124,9 @@ pub fn fragment_content(
     requires geometry { IsGeometry geometry.now }
     requires random { length random.now ≡ piece_len geometry.now }
     requires exists { number < geometry.now.fragments }
-    ensures { result ≡ content_of geometry.now (fragments_of geometry.now object.now random.now) random.now number }
+    ensures { result
+        ≡ content_of geometry.now (fragments_of geometry.now object.now random.now) random.now
+        number }
 {
     let last = last_fragment(object, &random[16..head_len(geometry)]);
     content_at(&last, geometry, random, number)
@@ -147,7 +154,9 @@ fn fragment_blocks(
     requires random { length random.now ≡ piece_len geometry.now }
     requires exists { number < geometry.now.fragments }
     requires room { length out.old ≡ geometry.now.shards }
-    ensures { out.new ≡ map shard_bytes (fragment_shards geometry.now (pads_in geometry.now random.now ++ last.now) random.now number) }
+    ensures { out.new
+        ≡ map shard_bytes (fragment_shards geometry.now
+        (pads_in geometry.now random.now ++ last.now) random.now number) }
 {
     let content = content_at(last, geometry, random, number);
     let size = fragment_len(geometry);
@@ -160,7 +169,8 @@ fn content_at(last: &[u8; OBJECT], geometry: &Geometry, random: &[u8], number: u
     requires geometry { IsGeometry geometry.now }
     requires random { length random.now ≡ piece_len geometry.now }
     requires exists { number < geometry.now.fragments }
-    ensures { result ≡ content_of geometry.now (pads_in geometry.now random.now ++ last.now) random.now number }
+    ensures { result
+        ≡ content_of geometry.now (pads_in geometry.now random.now ++ last.now) random.now number }
 {
     let id = id_in(random);
     let fragment = fragment_at(&random[16..head_len(geometry)], last, number);

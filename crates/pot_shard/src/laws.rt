@@ -24,10 +24,15 @@ pub fn file_laws()
 /// shards of a fragment are linked in a ring.
 pub fn block_laws()
     ensures pieces { (g : Geometry) (file random : List ℕ) (i : ℕ) → i < pieces_of (length file)
-        → take (g.fragments * g.shards) (drop (i * (g.fragments * g.shards)) (file_blocks g file random)) ≡ blocks_at g file random i }
-    ensures shards { (g : Geometry) (file random : List ℕ) (i j : ℕ) (s : Shard) → IsStore g file random
-        → i < pieces_of (length file) → j < g.fragments → Contains (shards_in g file random i j) s → IsShardBlock s (shard_bytes s) }
-    ensures rings { (g : Geometry) (file random : List ℕ) (i j : ℕ) → IsRing g.shards (shards_in g file random i j) }
+        → take (g.fragments * g.shards)
+        (drop (i * (g.fragments * g.shards)) (file_blocks g file random))
+        ≡ blocks_at g file random i }
+    ensures shards { (g : Geometry) (file random : List ℕ) (i j : ℕ) (s : Shard)
+        → IsStore g file random
+        → i < pieces_of (length file) → j < g.fragments → Contains (shards_in g file random i j) s
+        → IsShardBlock s (shard_bytes s) }
+    ensures rings { (g : Geometry) (file random : List ℕ) (i j : ℕ)
+        → IsRing g.shards (shards_in g file random i j) }
 {}
 
 /// Different pieces and fragments of a file use disjoint stretches of its random bytes.

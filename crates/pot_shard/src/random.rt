@@ -2,7 +2,8 @@
 ghost use Rattle.std.specs.Prelude.{◌≡◌, ◌≤◌, ◌+◌, ◌-◌, ◌*◌, length};
 ghost use Rattle.pot_bytes.specs.Rack.{IsGeometry};
 ghost use Rattle.pot_object.specs.Pieces.{content_size};
-ghost use Rattle.pot_shard.specs.FileBlocks.{fragment_len, head_len, names_at, piece_len, random_len};
+ghost use Rattle.pot_shard.specs.FileBlocks.{fragment_len, head_len, names_at, piece_len};
+ghost use Rattle.pot_shard.specs.FileBlocks.{random_len};
 
 use pot_bytes::{Geometry, read_be64};
 use pot_object::{CONTENT, OBJECT};

@@ -1,5 +1,6 @@
 ghost use Rattle.std.specs.Prelude.{◌≡◌, ◌≤◌, ◌↔◌, List, ℕ, length, IsTrue, MatchOption};
-ghost use Rattle.pot_shard.specs.Shards.{shard_at, shard_bytes, HasWidths, IsFramed, IsShard, IsShardBlock};
+ghost use Rattle.pot_shard.specs.Shards.{shard_at, shard_bytes, HasWidths, IsFramed, IsShard};
+ghost use Rattle.pot_shard.specs.Shards.{IsShardBlock};
 
 use byteorder::{BigEndian, ByteOrder};
 use pot_bytes::Block;
@@ -31,7 +32,8 @@ pub struct Shard {
 /// The laws of shards: what is written is the block of the shard, and a block is that of one shard alone.
 pub fn shard_laws()
     ensures written { (s : Shard) → HasWidths s → IsShard s → IsShardBlock s (shard_bytes s) }
-    ensures one_shard { (s t : Shard) (bytes : List ℕ) → IsShardBlock s bytes → IsShardBlock t bytes → s ≡ t }
+    ensures one_shard { (s t : Shard) (bytes : List ℕ) → IsShardBlock s bytes → IsShardBlock t bytes
+        → s ≡ t }
     ensures bytes { (s : Shard) → HasWidths s → length (shard_bytes s) ≡ 1024 }
 {}
 
@@ -47,14 +49,16 @@ pub fn encode_shard(shard: &Shard, out: &mut Block)
 
 /// Reads the block of a shard. None exactly where the block is that of none.
 pub fn decode_shard(block: &Block) -> Option<Shard>
-    ensures { MatchOption result ((s : Shard) → ¬ IsShardBlock s block.now) (λ s. IsShardBlock s block.now) }
+    ensures { MatchOption result ((s : Shard) → ¬ IsShardBlock s block.now)
+        (λ s. IsShardBlock s block.now) }
 {
     shard_of(block.bytes())
 }
 
 /// The shard whose block these bytes are.
 fn shard_of(bytes: &[u8; 1024]) -> Option<Shard>
-    ensures { MatchOption result ((s : Shard) → ¬ IsShardBlock s bytes.now) (λ s. IsShardBlock s bytes.now) }
+    ensures { MatchOption result ((s : Shard) → ¬ IsShardBlock s bytes.now)
+        (λ s. IsShardBlock s bytes.now) }
 {
     let shard = shard_in(bytes);
     if is_framed(bytes) && is_shard(&shard) {

@@ -21,7 +21,8 @@ use Rattle.pot_machine.specs.Table.{count}
 use Rattle.pot_machine.proofs.Searches.{count_none}
 use Rattle.pot_steps.specs.Equations.{p_weight, q_weight}
 use Rattle.pot_steps.specs.Flight.{weight, p_times, q_times}
-use Rattle.pot_steps.specs.Stripe.{Stripe, IsSound, Sound, NoneBroken, Filling, HasFilling, digest_of}
+use Rattle.pot_bytes.specs.Digests.{digest_of}
+use Rattle.pot_steps.specs.Stripe.{Stripe, IsSound, Sound, NoneBroken, Filling, HasFilling}
 use Rattle.pot_steps.specs.Law.{IsRead, FindsUnsound, FewUnsound}
 use Rattle.pot_steps.specs.Decides.{Computed, AreRead, Serves}
 use Rattle.pot_steps.specs.GroupStep.{Breaks, Spared}

@@ -18,7 +18,8 @@ use Rattle.pot_machine.specs.Slot.{digest_in, is_live}
 use Rattle.pot_bytes.specs.Lists.{IsBlock}
 use Rattle.pot_bytes.proofs.Basis.{last_or}
 use Rattle.pot_steps.specs.Equations.{p_weight, q_weight}
-use Rattle.pot_steps.specs.Stripe.{Stripe, Sound, HasFilling, digest_of}
+use Rattle.pot_bytes.specs.Digests.{digest_of}
+use Rattle.pot_steps.specs.Stripe.{Stripe, Sound, HasFilling}
 use Rattle.pot_steps.specs.Law.{FindsUnsound}
 use Rattle.pot_steps.specs.GroupStep.{FindsGone, Breaks, Spared}
 use Rattle.pot_steps.proofs.BlockLemmas.{IsBlock-zero_block, IsBlock-xor, IsBlock-scaled, get_or-zero_block}

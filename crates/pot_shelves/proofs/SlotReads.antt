@@ -5,7 +5,7 @@ use Rattle.std.proofs.lemmas.Bool.{false≢true}
 use Rattle.std.proofs.lemmas.Bool.Decides.{eqb_tells}
 use Rattle.std.proofs.lemmas.Option.{same_Some, none-some, slice_get-get_or}
 use Rattle.pot_bytes.specs.declared.digest.Digest.{Digest}
-use Rattle.pot_bytes.specs.Digests.{digest_bytes}
+use Rattle.pot_bytes.specs.Digests.{digest_bytes, digest_of}
 use Rattle.pot_bytes.specs.Lists.{IsBlock}
 use Rattle.pot_bytes.proofs.Elements.{element_at}
 use Rattle.pot_bytes.proofs.Basis.{last_or}
@@ -21,7 +21,6 @@ use Rattle.pot_machine.specs.declared.entry.Entry.TheVariants.{Gone}
 use Rattle.pot_machine.specs.Slot.{is_live}
 use Rattle.pot_machine.specs.Table.{Table, width, slot_at, column_at, serving_at}
 use Rattle.pot_machine.specs.Machine.{Legal, after}
-use Rattle.pot_steps.specs.Stripe.{digest_of}
 use Rattle.pot_shelves.specs.declared.slots.Reading.{Reading}
 use Rattle.pot_shelves.specs.declared.opening.Part.{Part}
 use Rattle.pot_shelves.specs.declared.opening.Part.TheVariants as part

@@ -13,7 +13,7 @@ use Rattle.std.proofs.lemmas.List.Quantifiers.{position-Some}
 use Rattle.std.proofs.lemmas.Option.{slice_get-get_or}
 use Rattle.std.proofs.lemmas.Slice.Eq.{bytes_eq-Decides}
 use Rattle.pot_bytes.specs.declared.digest.Digest.{Digest}
-use Rattle.pot_bytes.specs.Digests.{digest_bytes}
+use Rattle.pot_bytes.specs.Digests.{digest_bytes, digest_of}
 use Rattle.pot_outside.specs.Failing.{MayLeave}
 use Rattle.pot_outside.specs.Archives.{Meaning, OnlyLoses, ReadTells, FoldTells, HearsFold, at_slot, Reads, Writes, Folds}
 use Rattle.pot_outside.specs.Counts.{Rose}
@@ -22,7 +22,6 @@ use Rattle.pot_outside.specs.declared.archive.Shelf.{Shelf}
 use Rattle.pot_outside.specs.declared.archive.Held.{Held as IsHeld}
 use Rattle.pot_outside.specs.declared.faults.Failed.{Failed}
 use Rattle.pot_outside.proofs.LossLemmas.{loses_nothing}
-use Rattle.pot_steps.specs.Stripe.{digest_of}
 use Rattle.pot_shelves.specs.Shelves.{Shelves, numbers_of, shelf_of, given, mark_of, plain, put_at, Touches, Calls, Keeps, LosesByCount, IsTaken, IsOpenedNow, WriteLeaves, WritesAt, FoldsAt, Stays, ReadsAt}
 
 -- what `==` of digests says of a block

@@ -6,7 +6,7 @@ use Rattle.pot_bytes.specs.declared.digest.Digest.{Digest}
 use Rattle.pot_bytes.specs.Sums.{xor, zero_block}
 use Rattle.pot_bytes.specs.Weighted.{scaled}
 use Rattle.pot_steps.specs.Flight.{p_times, q_times}
-use Rattle.pot_steps.specs.Stripe.{digest_of}
+use Rattle.pot_bytes.specs.Digests.{digest_of}
 use Rattle.pot_shelves.specs.declared.opening.Shortage.{Shortage}
 use Rattle.pot_shelves.specs.declared.opening.Shortage.TheVariants as short
 use Rattle.pot_shelves.specs.declared.filling.Breaking.{Breaking}

@@ -21,7 +21,8 @@ use Rattle.pot_machine.specs.Table.{Table, width, slot_at, column_at, serving_at
 use Rattle.pot_machine.specs.Machine.{Replays, TakesBroke}
 use Rattle.pot_bytes.specs.Lists.{IsBlock}
 use Rattle.pot_steps.specs.Equations.{sum_at, p_weight, q_weight}
-use Rattle.pot_steps.specs.Stripe.{Stripe, Sound, digest_of}
+use Rattle.pot_bytes.specs.Digests.{digest_of}
+use Rattle.pot_steps.specs.Stripe.{Stripe, Sound}
 use Rattle.pot_steps.specs.Holdings.{stripe_of}
 use Rattle.pot_steps.specs.GroupStep.{FindsGone, Breaks, Spared, as_read, entries_where, opening}
 use Rattle.pot_shelves.specs.declared.opening.Part.{Part}

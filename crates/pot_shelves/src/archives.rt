@@ -2,7 +2,7 @@
 ghost use Rattle.std.specs.Prelude.{◌≡◌, ◌<◌, ◌≤◌, ◌==◌, ◌↔◌, [], IsTrue, IfOk, IfErr, Contains};
 ghost use Rattle.std.specs.Prelude.{length, map, vec_capacity};
 ghost use Rattle.std.specs.List.{position};
-ghost use Rattle.pot_steps.specs.Stripe.{digest_of};
+ghost use Rattle.pot_bytes.specs.Digests.{digest_of};
 ghost use Rattle.pot_outside.specs.Archives.{Reads, Writes, Folds};
 ghost use Rattle.pot_shelves.specs.Shelves.{plain, numbers_of, OnShelves, OnShelf};
 ghost use Rattle.pot_shelves.specs.Shelves.{IsTaken, IsOpenedNow, ReadsAt, WritesAt, FoldsAt};

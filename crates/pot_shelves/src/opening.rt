@@ -5,7 +5,7 @@ ghost use Rattle.std.specs.Prelude.{vec_capacity};
 ghost use Rattle.pot_bytes.specs.Rack.{log_bound};
 ghost use Rattle.pot_machine.specs.Table.{width};
 ghost use Rattle.pot_machine.specs.Machine.{InRange};
-ghost use Rattle.pot_steps.specs.Stripe.{digest_of};
+ghost use Rattle.pot_bytes.specs.Digests.{digest_of};
 ghost use Rattle.pot_shelves.specs.Shelves.{Shelves, plain, OnShelves};
 ghost use Rattle.pot_shelves.specs.Opening.{HasArchives, is_held, ReadsSlot, OpensSlot};
 ghost use Rattle.pot_shelves.specs.Opening.{OpensColumns, OpensStripe};

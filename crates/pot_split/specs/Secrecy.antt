@@ -1,5 +1,6 @@
 -- The split by XOR: an object is pads, and one fragment more that XORs with them to the object.
-use Rattle.std.specs.Prelude.{◌≡◌, ◌≢◌, ◌<◌, ◌≤◌, ◌+◌, ◌*◌, ◌/◌, ◌++◌, ℕ, zero, suc, List, [], ◌∷◌, length, take, drop}
+use Rattle.std.specs.Prelude.{◌≡◌, ◌≢◌, ◌<◌, ◌≤◌, ◌+◌, ◌*◌, ◌/◌, ◌++◌, ℕ, zero, suc, List, [], ◌∷◌}
+use Rattle.std.specs.Prelude.{length, take, drop}
 use Rattle.pot_bytes.specs.Lists.{AreBytes}
 use Rattle.pot_bytes.specs.Sums.{xor, sum_of}
 
@@ -24,8 +25,8 @@ secrecy object pads = pads ++ xor object (meaning (length object) pads)
 abbrev pub row_at : ℕ → ℕ → List ℕ → List ℕ
 row_at size j rows = take size (drop (j * size) rows)
 
--- The pads with which another object has the same fragments but for fragment f, from 0: the difference of the two objects is
--- added to pad f, and to none where f is the last fragment.
+-- The pads with which another object has the same fragments but for fragment f, from 0: the
+-- difference of the two objects is added to pad f, and to none where f is the last fragment.
 abbrev pub changed_pads : ℕ → ℕ → List ℕ → List ℕ → List ℕ
 changed_pads size f difference pads =
     take (f * size) pads ++ (xor (row_at size f pads) difference ++ drop (f * size + size) pads)
@@ -43,13 +44,18 @@ pub record SecrecyLaws : Type 0 where
   pub joins : (object pads : List ℕ) → 0 < length object → IsRows (length object) pads
       → meaning (length object) (secrecy object pads) ≡ object
   -- all fragments but one are those of any other object too
-  pub hides : (object other pads : List ℕ) (f j : ℕ) → IsHidden object other pads f → j ≤ length pads / length object → j ≢ f
-      → row_at (length object) j (secrecy other (changed_pads (length object) f (xor object other) pads))
+  pub hides : (object other pads : List ℕ) (f j : ℕ) → IsHidden object other pads f
+      → j ≤ length pads / length object → j ≢ f
+      → row_at (length object) j
+      (secrecy other (changed_pads (length object) f (xor object other) pads))
       ≡ row_at (length object) j (secrecy object pads)
-  -- by pads that are as long and are bytes, and that give the first ones back with the objects exchanged: so by a bijection
+  -- by pads that are as long and are bytes, and that give the first ones back with the objects
+  -- exchanged: so by a bijection
   pub as_long : (object other pads : List ℕ) (f : ℕ) → IsHidden object other pads f
       → length (changed_pads (length object) f (xor object other) pads) ≡ length pads
-  pub bytes : (object other pads : List ℕ) (f : ℕ) → AreBytes object → AreBytes other → AreBytes pads
+  pub bytes : (object other pads : List ℕ) (f : ℕ) → AreBytes object → AreBytes other
+      → AreBytes pads
       → AreBytes (changed_pads (length object) f (xor object other) pads)
   pub back : (object other pads : List ℕ) (f : ℕ) → IsHidden object other pads f
-      → changed_pads (length object) f (xor other object) (changed_pads (length object) f (xor object other) pads) ≡ pads
+      → changed_pads (length object) f (xor other object)
+      (changed_pads (length object) f (xor object other) pads) ≡ pads

@@ -35,7 +35,8 @@ pub fn secrecy_laws()
 /// XORs `count` rows into `into`, each as long as it.
 fn add_rows(into: &mut [u8], rows: &[u8], count: usize)
     requires { length rows.now ≡ count * length into.old }
-    ensures { into.new ≡ xor into.old (sum_of (length into.old) (rows_of count (length into.old) rows.now)) }
+    ensures { into.new
+        ≡ xor into.old (sum_of (length into.old) (rows_of count (length into.old) rows.now)) }
 {
     let mut rest = rows;
     for _ in 0..count {

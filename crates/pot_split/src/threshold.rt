@@ -71,7 +71,8 @@ fn powers_of(point: u8) -> [u8; 15]
 fn weights_of(points: &[u8]) -> [u8; 16]
     requires { length points.now ≤ 16 }
     ensures len { length result ≡ 16 }
-    ensures values { (i : ℕ) → i < length points.now → slice_index result i ≡ lagrange_weight points.now (slice_index points.now i) }
+    ensures values { (i : ℕ) → i < length points.now
+        → slice_index result i ≡ lagrange_weight points.now (slice_index points.now i) }
 {
     let mut weights = [0; 16];
     for i in 0..points.len() {
@@ -83,7 +84,9 @@ fn weights_of(points: &[u8]) -> [u8; 16]
 /// XORs each row times its weight into `into`.
 fn add_weighted_rows(into: &mut [u8], weights: &[u8], rows: &[u8])
     requires { length rows.now ≡ length weights.now * length into.old }
-    ensures { into.new ≡ xor into.old (weighted_sum (length into.old) weights.now (rows_of (length weights.now) (length into.old) rows.now)) }
+    ensures { into.new
+        ≡ xor into.old (weighted_sum (length into.old) weights.now
+        (rows_of (length weights.now) (length into.old) rows.now)) }
 {
     let mut rest = rows;
     for weight in weights {

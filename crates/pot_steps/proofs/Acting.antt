@@ -30,7 +30,8 @@ use Rattle.pot_machine.proofs.Places.{slot_after, slot_same, slot_other}
 use Rattle.pot_machine.proofs.Searches.{least_none}
 use Rattle.pot_machine.proofs.Sizes.{width-with_losses, stripes-with_losses}
 use Rattle.pot_bytes.specs.Lists.{IsBlock}
-use Rattle.pot_steps.specs.Stripe.{Stripe, IsSound, NoneBroken, digest_of}
+use Rattle.pot_bytes.specs.Digests.{digest_of}
+use Rattle.pot_steps.specs.Stripe.{Stripe, IsSound, NoneBroken}
 use Rattle.pot_steps.specs.Law.{StripeLaw, Worse, Repairs, lost_count}
 use Rattle.pot_steps.specs.declared.flight.Flight.{Flight}
 use Rattle.pot_steps.specs.Flight.{FlightLaw, weight, weight_in, left_out, partial_of}

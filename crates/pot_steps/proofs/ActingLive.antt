@@ -12,7 +12,8 @@ use Rattle.pot_machine.specs.Machine.{Legal, after}
 use Rattle.pot_machine.specs.Rules.{IsTable}
 use Rattle.pot_machine.proofs.LeftAlone.{sizes_stay, lost_is_not_live}
 use Rattle.pot_machine.proofs.Places.{slot_same, slot_other}
-use Rattle.pot_steps.specs.Stripe.{Sound, digest_of}
+use Rattle.pot_bytes.specs.Digests.{digest_of}
+use Rattle.pot_steps.specs.Stripe.{Sound}
 use Rattle.pot_steps.specs.declared.flight.Flight.{Flight}
 use Rattle.pot_steps.specs.Flight.{partial_of}
 use Rattle.pot_steps.specs.Holdings.{Holdings, LiveLaw, stripe_of}

@@ -17,7 +17,7 @@ use Rattle.std.specs.Int.Bits.{xor_assoc, xor_self, xor_zero_r, xor_zero_l}
 use Rattle.std.proofs.lemmas.Nat.{xor_comm}
 use Rattle.std.proofs.lemmas.Bool.{cases_eq}
 use Rattle.pot_bytes.specs.declared.digest.Digest.{Digest}
-use Rattle.pot_bytes.specs.Digests.{digest_bytes}
+use Rattle.pot_bytes.specs.Digests.{digest_bytes, digest_of}
 use Rattle.pot_bytes.specs.Product.{byte_product}
 use Rattle.pot_bytes.specs.Sums.{xor, zero_block}
 use Rattle.pot_bytes.specs.Weighted.{scaled}
@@ -26,7 +26,6 @@ use Rattle.pot_bytes.proofs.WeightedLemmas.{get_or-xor, get_or-scaled}
 use Rattle.pot_gf.specs.Field.{inverse}
 use Rattle.pot_gf.proofs.FieldLemmas.{byte_product-assoc, byte_product-inverse}
 use Rattle.pot_bytes.specs.Lists.{IsBlock}
-use Rattle.pot_steps.specs.Stripe.{digest_of}
 use Rattle.pot_steps.proofs.BlockLemmas.{IsBlock-zero_block, IsBlock-xor, IsBlock-scaled, get_or-zero_block, same_blocks}
 use Rattle.pot_steps.specs.declared.flight.Flight.{Flight}
 use Rattle.pot_steps.specs.Stripe.{Filling, NoneBroken}

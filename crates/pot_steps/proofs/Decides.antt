@@ -13,7 +13,8 @@ use Rattle.pot_machine.specs.declared.slot.SlotState.TheVariants.{Void, Live}
 use Rattle.pot_machine.specs.Slot.{digest_in}
 use Rattle.pot_bytes.specs.Lists.{IsBlock}
 use Rattle.pot_steps.specs.Equations.{p_weight, q_weight}
-use Rattle.pot_steps.specs.Stripe.{Stripe, IsSound, Filling, digest_of}
+use Rattle.pot_bytes.specs.Digests.{digest_of}
+use Rattle.pot_steps.specs.Stripe.{Stripe, IsSound, Filling}
 use Rattle.pot_steps.specs.Law.{IsRead}
 use Rattle.pot_steps.specs.Flight.{weight, p_times, q_times}
 use Rattle.pot_steps.specs.Decides.{Computed, AreRead, Serves}

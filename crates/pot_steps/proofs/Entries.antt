@@ -17,7 +17,8 @@ use Rattle.pot_machine.specs.Rules.{IsTable}
 use Rattle.pot_machine.proofs.Searches.{least_none}
 use Rattle.pot_machine.proofs.Places.{slot_after, slot_same, slot_other}
 use Rattle.pot_machine.proofs.Kept.{put_other, put_data, put_parity, put2_other, put2_second}
-use Rattle.pot_steps.specs.Stripe.{Stripe, IsOld, IsNew, Puts, digest_of}
+use Rattle.pot_bytes.specs.Digests.{digest_of}
+use Rattle.pot_steps.specs.Stripe.{Stripe, IsOld, IsNew, Puts}
 use Rattle.pot_steps.specs.Law.{StripeLaw, Worse, AllLive}
 use Rattle.pot_steps.specs.Holdings.{Holdings, HoldsUp, stripe_of}
 use Rattle.pot_steps.specs.Entries.{held_at, LosesAtLive, WritesStripe, EntryKeeps, EntryKeepsFlight, LossesKeep}

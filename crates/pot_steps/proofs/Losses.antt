@@ -14,7 +14,8 @@ use Rattle.pot_machine.specs.Machine.{TakesPut, with_slot, with_put, with_loss}
 use Rattle.pot_machine.specs.Rules.{IsTable}
 use Rattle.pot_machine.proofs.Places.{slot_after}
 use Rattle.pot_machine.proofs.Kept.{put_other, put_data, put_parity, put2_other, put2_second}
-use Rattle.pot_steps.specs.Stripe.{Sound, digest_of}
+use Rattle.pot_bytes.specs.Digests.{digest_of}
+use Rattle.pot_steps.specs.Stripe.{Sound}
 use Rattle.pot_steps.specs.Holdings.{Holdings, LiveLaw, stripe_of}
 use Rattle.pot_steps.specs.Entries.{held_at, WritesStripe}
 use Rattle.pot_steps.specs.GroupStep.{as_read}

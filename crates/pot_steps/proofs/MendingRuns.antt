@@ -12,7 +12,8 @@ use Rattle.pot_machine.specs.Table.{Table, width, slot_at, serving_at, relay_at,
 use Rattle.pot_machine.specs.Machine.{after}
 use Rattle.pot_machine.specs.Rules.{IsTable, IsStanding}
 use Rattle.pot_machine.proofs.Places.{slot_same, slot_other}
-use Rattle.pot_steps.specs.Stripe.{Sound, digest_of}
+use Rattle.pot_bytes.specs.Digests.{digest_of}
+use Rattle.pot_steps.specs.Stripe.{Sound}
 use Rattle.pot_steps.specs.Law.{Rebuildable}
 use Rattle.pot_steps.specs.declared.flight.Flight.{Flight}
 use Rattle.pot_steps.specs.Flight.{partial_of}

@@ -16,7 +16,8 @@ use Rattle.pot_machine.specs.declared.slot.SlotState.TheVariants.{Void}
 use Rattle.pot_machine.specs.Slot.{digest_in}
 use Rattle.pot_bytes.specs.Lists.{IsBlock}
 use Rattle.pot_steps.specs.Equations.{p_weight, q_weight}
-use Rattle.pot_steps.specs.Stripe.{Stripe, IsSound, Filling, IsOld, Puts, digest_of}
+use Rattle.pot_bytes.specs.Digests.{digest_of}
+use Rattle.pot_steps.specs.Stripe.{Stripe, IsSound, Filling, IsOld, Puts}
 use Rattle.pot_steps.proofs.SumLemmas.{total_twice}
 use Rattle.pot_steps.proofs.BlockLemmas.{get_or-zero_block, IsBlock-xor, IsBlock-scaled}
 use Rattle.pot_steps.proofs.Weights.{p_weight-low, p_weight-high, q_weight-low, q_weight-p, q_weight-q}

@@ -13,7 +13,8 @@ use Rattle.pot_machine.specs.Slot.{is_lost}
 use Rattle.pot_bytes.specs.Lists.{IsBlock}
 use Rattle.pot_machine.proofs.Searches.{count_none}
 use Rattle.pot_steps.specs.Equations.{p_weight}
-use Rattle.pot_steps.specs.Stripe.{Stripe, Filling, Puts, digest_of}
+use Rattle.pot_bytes.specs.Digests.{digest_of}
+use Rattle.pot_steps.specs.Stripe.{Stripe, Filling, Puts}
 use Rattle.pot_steps.specs.Law.{StripeLaw, AllLive, SingleLaw, IsRead}
 use Rattle.pot_steps.proofs.BlockLemmas.{same_blocks}
 use Rattle.pot_steps.proofs.Weights.{p_weight-low}

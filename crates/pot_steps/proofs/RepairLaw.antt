@@ -16,7 +16,8 @@ use Rattle.pot_machine.specs.declared.relay.Relay.{Relay}
 use Rattle.pot_machine.specs.Slot.{digest_in}
 use Rattle.pot_bytes.specs.Lists.{IsBlock}
 use Rattle.pot_steps.specs.Equations.{p_weight, q_weight}
-use Rattle.pot_steps.specs.Stripe.{Stripe, IsSound, Filling, NoneBroken, digest_of}
+use Rattle.pot_bytes.specs.Digests.{digest_of}
+use Rattle.pot_steps.specs.Stripe.{Stripe, IsSound, Filling, NoneBroken}
 use Rattle.pot_steps.specs.Law.{StripeLaw, Repairs}
 use Rattle.pot_steps.specs.Flight.{IsRelay, HasNoNext, IsPartial, FlightLaw, visits, folded, weight, left_out}
 use Rattle.pot_steps.proofs.BlockLemmas.{get_or-zero_block, IsBlock-zero_block}

@@ -10,7 +10,8 @@ use Rattle.pot_machine.specs.declared.slot.SlotState.{SlotState}
 use Rattle.pot_machine.specs.declared.slot.SlotState.TheVariants.{Void}
 use Rattle.pot_machine.specs.Slot.{digest_in}
 use Rattle.pot_bytes.specs.Lists.{IsBlock}
-use Rattle.pot_steps.specs.Stripe.{Stripe, Sound, Filling, digest_of}
+use Rattle.pot_bytes.specs.Digests.{digest_of}
+use Rattle.pot_steps.specs.Stripe.{Stripe, Sound, Filling}
 use Rattle.pot_steps.specs.Law.{IsRead}
 use Rattle.pot_steps.specs.Decides.{Serves}
 use Rattle.pot_steps.specs.Laws.{SingleWhole, SingleBut}

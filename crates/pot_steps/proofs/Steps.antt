@@ -16,7 +16,8 @@ use Rattle.pot_machine.specs.declared.relay.Relay.{Relay}
 use Rattle.pot_machine.specs.Slot.{digest_in, is_void, is_lost}
 use Rattle.pot_machine.specs.Table.{count}
 use Rattle.pot_bytes.specs.Lists.{IsBlock}
-use Rattle.pot_steps.specs.Stripe.{Stripe, IsSound, Filling, digest_of}
+use Rattle.pot_bytes.specs.Digests.{digest_of}
+use Rattle.pot_steps.specs.Stripe.{Stripe, IsSound, Filling}
 use Rattle.pot_steps.specs.Law.{StripeLaw, Worse, lost_count}
 use Rattle.pot_steps.specs.Flight.{IsNext, IsPartial, FlightLaw, visits, folded, hopped, is_within, weight, left_out}
 use Rattle.pot_steps.proofs.BlockLemmas.{get_or-zero_block, IsBlock-zero_block}

@@ -14,7 +14,9 @@ AheadFew = (t : Table) (r : Relay) → IsTable t → IsStanding t r → ahead t 
 
 -- one fewer after a hop
 abbrev pub AheadHops : Type 0
-AheadHops = (t : Table) (r : Relay) (c : ℕ) → next_column t r ≡ Some c → ahead t r ≡ ahead t (hopped r c) + 1
+AheadHops =
+    (t : Table) (r : Relay) (c : ℕ) → next_column t r ≡ Some c
+    → ahead t r ≡ ahead t (hopped r c) + 1
 
 -- none where no column is next
 abbrev pub AheadNone : Type 0

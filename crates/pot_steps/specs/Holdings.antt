@@ -15,10 +15,12 @@ stripe_of t h s = record { slots = λ c. slot_at t s c; held = λ c. h (serving_
 
 -- the law of every stripe
 abbrev pub HoldsUp : Table → Holdings → Type 0
-HoldsUp t h = (s : ℕ) → s < t.stripes → StripeLaw t.data_columns t.parity (stripe_of t h s) (relay_at t s)
+HoldsUp t h =
+    (s : ℕ) → s < t.stripes → StripeLaw t.data_columns t.parity (stripe_of t h s) (relay_at t s)
 
--- A Live slot is sound, or the count of losses of the archive that serves it rose since the group took it. `rose` says of
--- each archive's number whether it did, as the layer above counts.
+-- A Live slot is sound, or the count of losses of the archive that serves it rose since the group
+-- took it. `rose` says of each archive's number whether it did, as the layer above counts.
 abbrev pub LiveLaw : Table → Holdings → (ℕ → Type 0) → Type 0
 LiveLaw t h rose =
-    (s c : ℕ) → s < t.stripes → c < width t → IsTrue (is_live (slot_at t s c)) → Sound (stripe_of t h s) c ⊎ rose (serving_at t s c)
+    (s c : ℕ) → s < t.stripes → c < width t → IsTrue (is_live (slot_at t s c))
+    → Sound (stripe_of t h s) c ⊎ rose (serving_at t s c)

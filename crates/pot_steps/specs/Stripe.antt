@@ -1,7 +1,8 @@
--- One stripe: what the table says of its slots, what the archives hold there, its fillings, and a put into it.
+-- One stripe: what the table says of its slots, what the archives hold there, its fillings, and a
+-- put into it.
 use Rattle.std.specs.Prelude.{◌≡◌, ◌≢◌, ◌⊎◌, ℕ, suc, ◌+◌, ◌<◌, List, Option, Some}
 use Rattle.pot_bytes.specs.declared.digest.Digest.{Digest}
-use Rattle.pot_bytes.specs.Digests.{digest_bytes}
+use Rattle.pot_bytes.specs.Digests.{digest_of}
 use Rattle.pot_bytes.specs.Sums.{xor, zero_block}
 use Rattle.pot_bytes.specs.Weighted.{scaled}
 use Rattle.pot_gf.specs.Field.{power}
@@ -10,10 +11,6 @@ use Rattle.pot_machine.specs.declared.slot.SlotState.TheVariants.{Void, Live, Br
 use Rattle.pot_machine.specs.Slot.{digest_in}
 use Rattle.pot_bytes.specs.Lists.{IsBlock}
 use Rattle.pot_steps.specs.Equations.{sum_at, p_weight, q_weight}
-
--- the SHA-256 digest of a block
-unfoldable pub digest_of : List ℕ → Digest
-digest_of block = record { bytes = digest_bytes block }
 
 -- one stripe, by column: the slot, and the block that the archive that serves it holds there
 pub record Stripe : Type 0 where
@@ -33,22 +30,26 @@ Sound s c = (block : List ℕ) × IsSound s c block
 
 -- no slot is Broken
 abbrev pub NoneBroken : ℕ → ℕ → Stripe → Type 0
-NoneBroken data_columns parity s = (c : ℕ) (d : Digest) → c < data_columns + parity → s.slots c ≢ Broken d
+NoneBroken data_columns parity s =
+    (c : ℕ) (d : Digest) → c < data_columns + parity → s.slots c ≢ Broken d
 
 -- no slot is Broken, and each that is not Void is sound
 pub record Whole (data_columns parity : ℕ) (s : Stripe) : Type 0 where
   pub none_broken : NoneBroken data_columns parity s
   pub sound : (c : ℕ) → c < data_columns + parity → (s.slots c ≡ Void) ⊎ Sound s c
 
--- a block for each column: zeros where the slot is Void, else a block of the slot's digest, and the one held where the slot
--- is sound. The sum of P is zero, and where there are two parity columns so is the sum of Q
+-- a block for each column: zeros where the slot is Void, else a block of the slot's digest, and the
+-- one held where the slot is sound. The sum of P is zero, and where there are two parity columns so
+-- is the sum of Q
 pub record Filling (data_columns parity : ℕ) (s : Stripe) (blocks : ℕ → List ℕ) : Type 0 where
   pub block : (c : ℕ) → c < data_columns + parity → IsBlock (blocks c)
   pub void : (c : ℕ) → c < data_columns + parity → s.slots c ≡ Void → blocks c ≡ zero_block
-  pub digest : (c : ℕ) (d : Digest) → c < data_columns + parity → digest_in (s.slots c) ≡ Some d → digest_of (blocks c) ≡ d
+  pub digest : (c : ℕ) (d : Digest) → c < data_columns + parity → digest_in (s.slots c) ≡ Some d
+      → digest_of (blocks c) ≡ d
   pub held : (c : ℕ) (b : List ℕ) → c < data_columns + parity → IsSound s c b → blocks c ≡ b
   pub p_sum : (k : ℕ) → sum_at (data_columns + parity) (p_weight data_columns) blocks k ≡ 0
-  pub q_sum : parity ≡ 2 → (k : ℕ) → sum_at (data_columns + parity) (q_weight data_columns) blocks k ≡ 0
+  pub q_sum : parity ≡ 2 → (k : ℕ)
+      → sum_at (data_columns + parity) (q_weight data_columns) blocks k ≡ 0
 
 -- the stripe has a filling
 abbrev pub HasFilling : ℕ → ℕ → Stripe → Type 0
@@ -58,14 +59,16 @@ HasFilling data_columns parity s = (blocks : ℕ → List ℕ) × Filling data_c
 abbrev pub IsOld : Stripe → ℕ → List ℕ → Type 0
 IsOld s c old = ((s.slots c ≡ Void) × (old ≡ zero_block)) ⊎ IsSound s c old
 
--- the new block of a parity slot: its digest stands in the slot, which is Live only where the block was written
+-- the new block of a parity slot: its digest stands in the slot, which is Live only where the block
+-- was written
 pub record IsNew (s : Stripe) (c : ℕ) (new : List ℕ) : Type 0 where
   pub digest : digest_in (s.slots c) ≡ Some (digest_of new)
   pub kept : (d : Digest) → s.slots c ≡ Live d → s.held c ≡ Some new
 
--- A put of a block at column `c`: the data slot gets the block, P the old P XOR the block, and Q the old Q XOR 3^c times
--- the block.
-pub record Puts (data_columns parity : ℕ) (s s' : Stripe) (c : ℕ) (block p q : List ℕ) : Type 0 where
+-- A put of a block at column `c`: the data slot gets the block, P the old P XOR the block, and Q
+-- the old Q XOR 3^c times the block.
+pub record Puts (data_columns parity : ℕ) (s s' : Stripe) (c : ℕ) (block p q : List ℕ) : Type
+    0 where
   pub is_block : IsBlock block
   pub column : c < data_columns
   pub empty : s.slots c ≡ Void

@@ -4,13 +4,19 @@ ghost use Rattle.pot_steps.specs.Ahead.{AheadFew, AheadHops, AheadNone};
 ghost use Rattle.pot_steps.specs.Mending.{MendingLaw};
 ghost use Rattle.pot_steps.specs.Listener.{ListenerFits, FlightHands};
 ghost use Rattle.pot_steps.specs.Standing.{NextIsNext, NoneIsNoNext, StandingIsRelay, BeginHasFew};
-ghost use Rattle.pot_steps.specs.Losses.{StartMakesLive, EntryKeepsLive, ActKeepsLive, LossesKeepLive};
-ghost use Rattle.pot_steps.specs.GroupStep.{StartMakes, PutStepKeeps, LookStepKeeps, CountStepKeeps, FullStepKeeps};
+ghost use Rattle.pot_steps.specs.Losses.{StartMakesLive, EntryKeepsLive, ActKeepsLive};
+ghost use Rattle.pot_steps.specs.Losses.{LossesKeepLive};
+ghost use Rattle.pot_steps.specs.GroupStep.{StartMakes, PutStepKeeps, LookStepKeeps};
+ghost use Rattle.pot_steps.specs.GroupStep.{CountStepKeeps, FullStepKeeps};
 ghost use Rattle.pot_steps.specs.Entries.{EntryKeeps, EntryKeepsFlight, LossesKeep};
-ghost use Rattle.pot_steps.specs.RelaySteps.{LoggedKeeps, BeginStepKeeps, AdvanceStepKeeps, MendStepKeeps};
+ghost use Rattle.pot_steps.specs.RelaySteps.{LoggedKeeps, BeginStepKeeps, AdvanceStepKeeps};
+ghost use Rattle.pot_steps.specs.RelaySteps.{MendStepKeeps};
 ghost use Rattle.pot_steps.specs.MoveSteps.{BringStepKeeps, MoveStepKeeps};
 ghost use Rattle.pot_steps.specs.Flights.{ActKeeps, LossKeepsAll};
-ghost use Rattle.pot_steps.specs.Laws.{PutKeeps, LossKeeps, LossKeepsFlight, BeginKeeps, HopKeeps, MendedKeeps, RelayRebuilds, SingleParity, SingleWhole, SingleBut, WholeSums, RebuildableFilled, FillingComputed, ComputedFilling, SumGrows, SumBegins, HeardIsBlinded};
+ghost use Rattle.pot_steps.specs.Laws.{PutKeeps, LossKeeps, LossKeepsFlight, BeginKeeps, HopKeeps};
+ghost use Rattle.pot_steps.specs.Laws.{MendedKeeps, RelayRebuilds, SingleParity, SingleWhole};
+ghost use Rattle.pot_steps.specs.Laws.{SingleBut, WholeSums, RebuildableFilled, FillingComputed};
+ghost use Rattle.pot_steps.specs.Laws.{ComputedFilling, SumGrows, SumBegins, HeardIsBlinded};
 
 /// What keeps the law of a stripe, and what it says of a whole stripe, of a place that can be rebuilt and of one parity
 /// column.

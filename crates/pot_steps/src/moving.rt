@@ -19,8 +19,10 @@ pub fn move_begin(table: &mut GroupTable, job: u32, column: u8, to: u32) -> Entr
 
 /// A move goes on over the stripe that it has come to: its slot is copied, or is not sound.
 pub fn move_one(table: &mut GroupTable, job: u32, column: u8, copied: bool) -> Entry
-    requires { IsSomeAnd (column_at table.old column).moving (λ m. Legal table.old (entry.Moved job m.upto column copied)) }
-    ensures entry { IsSomeAnd (column_at table.old column).moving (λ m. result ≡ entry.Moved job m.upto column copied) }
+    requires { IsSomeAnd (column_at table.old column).moving
+        (λ m. Legal table.old (entry.Moved job m.upto column copied)) }
+    ensures entry { IsSomeAnd (column_at table.old column).moving
+        (λ m. result ≡ entry.Moved job m.upto column copied) }
     ensures table { table.new ≡ after table.old result }
 {
     let entry = Entry::Moved {

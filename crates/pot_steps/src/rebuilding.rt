@@ -1,6 +1,6 @@
 //! The pure steps of a relay over a table. Each applies its entry and hands it out.
 ghost use Rattle.std.specs.Prelude.{◌≡◌, ◌↔◌, ◌<◌, IsTrue, IsSome, IsSomeAnd, Some, None};
-ghost use Rattle.pot_steps.specs.Stripe.{digest_of};
+ghost use Rattle.pot_bytes.specs.Digests.{digest_of};
 ghost use Rattle.pot_steps.specs.Flight.{unfolded};
 ghost use Rattle.pot_machine.specs.declared.entry.Entry.TheVariants as entry;
 ghost use Rattle.pot_machine.specs.Slot.{is_live, is_unsound, digest_in};
@@ -71,7 +71,8 @@ pub fn begin(table: &mut GroupTable, job: u32, place: Place, blind: &Block) -> (
 /// was.
 pub fn hop(table: &mut GroupTable, flight: &mut Flight, job: u32, folded: &Block) -> Hopped
     requires stands { StandsIn table.old flight.old.relay }
-    requires next { IsSomeAnd (next_column table.old flight.old.relay) (λ c. IsTrue (is_live (slot_at table.old flight.old.relay.stripe c))) }
+    requires next { IsSomeAnd (next_column table.old flight.old.relay)
+        (λ c. IsTrue (is_live (slot_at table.old flight.old.relay.stripe c))) }
     ensures { HopMeans job folded.now result table.old table.new flight.old flight.new }
 {
     let relay = flight.relay;
@@ -165,7 +166,8 @@ fn digest_of_block(block: &Block) -> Digest
 pub fn give_up(table: &mut GroupTable, flight: Flight, job: u32) -> Entry
     requires stands { StandsIn table.old flight.relay }
     requires next { IsSome (next_column table.old flight.relay) }
-    ensures entry { IsSomeAnd (next_column table.old flight.relay) (λ c. result ≡ entry.GaveUp job flight.relay.stripe flight.relay.target c) }
+    ensures entry { IsSomeAnd (next_column table.old flight.relay)
+        (λ c. result ≡ entry.GaveUp job flight.relay.stripe flight.relay.target c) }
     ensures legal { Legal table.old result }
     ensures table { table.new ≡ after table.old result }
 {

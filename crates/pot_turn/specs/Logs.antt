@@ -9,8 +9,11 @@ abbrev pub StartsWith : {E : Type 0} → List E → List E → Type 0
 StartsWith {E} whole front = (rest : List E) × (whole ≡ front ++ rest)
 
 -- the rest is determined
-pub StartsWith-prop : {E : Type 0} → IsSet (List E) → (whole front : List E) → IsProp (StartsWith whole front)
-StartsWith-prop set whole front p q = Σ_prop_path (λ rest. set whole (front ++ rest)) (append_cancel_left front p.0 q.0 (sym p.1 ∙ q.1))
+pub StartsWith-prop : {E : Type 0} → IsSet (List E) → (whole front : List E)
+    → IsProp (StartsWith whole front)
+StartsWith-prop set whole front p q =
+    Σ_prop_path (λ rest. set whole (front ++ rest))
+    (append_cancel_left front p.0 q.0 (sym p.1 ∙ q.1))
 
 -- of two beginnings of one log, the one that has seen more
 abbrev pub longer : {E : Type 0} → List E → List E → List E

@@ -1,5 +1,7 @@
--- The rule of a turn, over a lock word, a count word, a word of sleepers and one slot, and what its steps tell.
-use Rattle.std.specs.Prelude.{◌≡◌, ℕ, zero, suc, ◌+◌, ◌^◌, ◌<◌, ◌≤◌, List, [], ◌∷◌, length, Bool, true, false, if◌then◌else◌}
+-- The rule of a turn, over a lock word, a count word, a word of sleepers and one slot, and what its
+-- steps tell.
+use Rattle.std.specs.Prelude.{◌≡◌, ℕ, zero, suc, ◌+◌, ◌^◌, ◌<◌, ◌≤◌, List, [], ◌∷◌, length, Bool}
+use Rattle.std.specs.Prelude.{true, false, if◌then◌else◌}
 use Rattle.std.specs.Prelude.{Option}
 use Rattle.std.specs.Prelude.{Some, None}
 use mathlib.Core.Option.{some, none}
@@ -10,7 +12,8 @@ use Rattle.pot_turn.specs.declared.view.Sight.{Sight}
 use Rattle.pot_turn.specs.declared.view.Told.{Told}
 use Rattle.pot_turn.specs.Logs.{StartsWith, shorter}
 use Rattle.pot_turn.specs.Stretches.{between, times, LieIn}
-use Rattle.pot_turn.specs.Views.{stretches_of, first_view, took_view, left_view, cut_view, new_view, both_views, spent_view}
+use Rattle.pot_turn.specs.Views.{stretches_of, first_view, took_view, left_view, cut_view, new_view}
+use Rattle.pot_turn.specs.Views.{both_views, spent_view}
 
 -- What the rule keeps for a pass is its view, and what its last join left to be told
 module _ {E O : Type 0} where
@@ -34,13 +37,31 @@ module _ {E O : Type 0} where
   abbrev pub raised_sight : List E → Sight E O → Sight E O
   raised_sight log s =
       let left : View E O = left_view log s.view in
-      sight (record { holds = s.view.holds; opened = left.opened; seen = left.seen; turns = left.turns; joined = left.joined; made = left.made; parts = left.parts; origin = left.origin }) s.told
+      sight (record {
+        holds = s.view.holds;
+        opened = left.opened;
+        seen = left.seen;
+        turns = left.turns;
+        joined = left.joined;
+        made = left.made;
+        parts = left.parts;
+        origin = left.origin;
+      }) s.told
 
   -- the value is back, and the turn is over
   abbrev pub freed_sight : Sight E O → Sight E O
   freed_sight s =
       let v : View E O = s.view in
-      sight (record { holds = false; opened = v.opened; seen = v.seen; turns = v.turns; joined = v.joined; made = v.made; parts = v.parts; origin = v.origin }) s.told
+      sight (record {
+        holds = false;
+        opened = v.opened;
+        seen = v.seen;
+        turns = v.turns;
+        joined = v.joined;
+        made = v.made;
+        parts = v.parts;
+        origin = v.origin;
+      }) s.told
 
   abbrev pub cut_sight : ℕ → Sight E O → Sight E O
   cut_sight n s = sight (cut_view n s.view) s.told
@@ -50,7 +71,9 @@ module _ {E O : Type 0} where
 
   -- which of the two logs is the longer is not known, and a look tells it
   abbrev pub both_sights : Sight E O → Sight E O → Sight E O
-  both_sights s t = sight (both_views s.view t.view) (told (shorter s.view.seen t.view.seen) t.view.opened t.view.origin)
+  both_sights s t =
+      sight (both_views s.view t.view)
+      (told (shorter s.view.seen t.view.seen) t.view.opened t.view.origin)
 
   abbrev pub spent_sight : Sight E O
   spent_sight = alone spent_view
@@ -82,7 +105,8 @@ total f [] = 0
 total f (v ∷ vs) = f v + total f vs
 
 module _ {T E O : Type 0} (log : T → List E) (origin : T → O) (opened : T) where
-  -- A pass has seen a beginning of the whole log, and the holder all of it. A spent pass knows nothing, and any other has seen the opening log and carries the origin
+  -- A pass has seen a beginning of the whole log, and the holder all of it. A spent pass knows
+  -- nothing, and any other has seen the opening log and carries the origin
   pub record Fits (whole : List E) (s : Sight E O) : Type 0 where
     pub begins : StartsWith whole s.view.seen
     pub agrees : Agrees s.view s.told
@@ -90,9 +114,13 @@ module _ {T E O : Type 0} (log : T → List E) (origin : T → O) (opened : T) w
     pub spent : s.view.parts ≡ 0 → s ≡ spent_sight
     pub since : StartsWith s.view.seen s.view.opened
     pub lies : LieIn (length s.view.opened) (stretches_of s.view) (length s.view.seen)
-    pub named : 0 < s.view.parts → (s.view.opened ≡ log opened) × (s.view.origin ≡ Some (origin opened))
+    pub named : 0 < s.view.parts
+        → (s.view.opened ≡ log opened) × (s.view.origin ≡ Some (origin opened))
 
-  -- The words are the number of holders, the length of one whole log, and any number. The numbers made add up to what was logged, the parts to all parts, and the stretches of all passes have each position logged just once. Where no pass holds the value it is at home, and its log is the whole one; and where no turn has ended it is the very value that the turn was made with
+  -- The words are the number of holders, the length of one whole log, and any number. The numbers
+  -- made add up to what was logged, the parts to all parts, and the stretches of all passes have
+  -- each position logged just once. Where no pass holds the value it is at home, and its log is the
+  -- whole one; and where no turn has ended it is the very value that the turn was made with
   pub record Ruled (s : State (Option T) (Sight E O)) : Type 0 where
     pub whole : List E
     pub sleepers : ℕ
@@ -103,11 +131,14 @@ module _ {T E O : Type 0} (log : T → List E) (origin : T → O) (opened : T) w
     pub parts : total parts_of s.views ≡ 2 ^ 62
     pub once : (i : ℕ) → total (times_in i) s.views ≡ between i (length (log opened)) (length whole)
     pub each : (k : ℕ) (v : Sight E O) → get_elem? s.views k ≡ some v → Fits whole v
-    pub home : total holding s.views ≡ 0 → (v : T) × (s.homes ≡ some (Some v) ∷ []) × (log v ≡ whole) × (origin v ≡ origin opened) × (total turns_of s.views ≡ 0 → v ≡ opened)
+    pub home : total holding s.views ≡ 0
+        → (v : T) × (s.homes ≡ some (Some v) ∷ []) × (log v ≡ whole) × (origin v ≡ origin opened)
+        × (total turns_of s.views ≡ 0 → v ≡ opened)
     pub away : total holding s.views ≡ 1 → s.homes ≡ none ∷ []
 
 module _ {T E O : Type 0} (log : T → List E) (origin : T → O) where
-  -- the lock was free, and the caller has the value, whose log begins with all that it had seen; or nothing changed
+  -- the lock was free, and the caller has the value, whose log begins with all that it had seen; or
+  -- nothing changed
   abbrev pub Took : Me (Option T) (Sight E O) → ℕ → Me (Option T) (Sight E O) → Type 0
   Took m zero m' =
       (v : T) × (m'.1 ≡ (0, Some v) ∷ m.1) × StartsWith (log v) m.0.view.seen
@@ -123,9 +154,13 @@ module _ {T E O : Type 0} (log : T → List E) where
 abbrev pub Freed : {T E O : Type 0} → Me (Option T) (Sight E O) → Me (Option T) (Sight E O) → Type 0
 Freed m m' = m' ≡ (freed_sight m.0, [])
 
--- nothing changed; what a join left agrees with what the pass knows, its stretches lie in the log seen, and no position stands in two of them
+-- nothing changed; what a join left agrees with what the pass knows, its stretches lie in the log
+-- seen, and no position stands in two of them
 abbrev pub Looked : {T E O : Type 0} → Me T (Sight E O) → Me T (Sight E O) → Type 0
-Looked m m' = (m' ≡ m) × Agrees m.0.view m.0.told × LieIn (length m.0.view.opened) (stretches_of m.0.view) (length m.0.view.seen) × ((i : ℕ) → times_in i m.0 ≤ 1)
+Looked m m' =
+    (m' ≡ m) × Agrees m.0.view m.0.told
+    × LieIn (length m.0.view.opened) (stretches_of m.0.view) (length m.0.view.seen)
+    × ((i : ℕ) → times_in i m.0 ≤ 1)
 
 -- the slots that a pass has: the turn's own, empty, while it has the value
 abbrev pub slots_of : {T : Type 0} → Bool → List (ℕ × Option T)

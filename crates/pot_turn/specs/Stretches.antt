@@ -1,5 +1,6 @@
 -- Stretches of positions of a log.
-use Rattle.std.specs.Prelude.{◌≡◌, ℕ, ◌+◌, ◌-◌, ◌≤◌, List, [], ◌∷◌, ◌++◌, length, take, drop, if◌then◌else◌, nat_le, nat_lt, ◌&&◌}
+use Rattle.std.specs.Prelude.{◌≡◌, ℕ, ◌+◌, ◌-◌, ◌≤◌, List, [], ◌∷◌, ◌++◌, length, take, drop}
+use Rattle.std.specs.Prelude.{if◌then◌else◌, nat_le, nat_lt, ◌&&◌}
 use native.Mathlib.Bridge.{le_prop}
 use mathlib.Core.HLevel.{×₃_prop}
 use Rattle.pot_turn.specs.declared.view.Stretch.{Stretch}
@@ -45,6 +46,7 @@ abbrev pub entries_in : {E : Type 0} → List E → List Stretch → List E
 entries_in log [] = []
 entries_in log (s ∷ ss) = take (s.upto - s.from) (drop s.from log) ++ entries_in log ss
 
--- each position since the opening log stands in just one of the stretches, and no other position in any
+-- each position since the opening log stands in just one of the stretches, and no other position in
+-- any
 abbrev pub IsOnceEach : {E : Type 0} → List E → List E → List Stretch → Type 0
 IsOnceEach opened log ss = (i : ℕ) → times i ss ≡ between i (length opened) (length log)

@@ -7,7 +7,8 @@ use Rattle.std.proofs.Math.Nat.{ℕ_set}
 use Rattle.pot_turn.specs.declared.view.View.{View}
 use Rattle.pot_turn.specs.declared.view.Stretch.{Stretch}
 use Rattle.pot_turn.specs.Logs.{StartsWith, StartsWith-prop, longer}
-use Rattle.pot_turn.specs.Stretches.{stretch, size_of, entries_in, Ascends, LieIn, Ascends-prop, LieIn-prop}
+use Rattle.pot_turn.specs.Stretches.{stretch, size_of, entries_in, Ascends, LieIn, Ascends-prop}
+use Rattle.pot_turn.specs.Stretches.{LieIn-prop}
 
 module _ {E O : Type 0} where
   -- every stretch that the pass logged, and then those of the passes that were joined into it
@@ -20,33 +21,111 @@ module _ {E O : Type 0} where
 
   -- the first pass of a turn, over a value with this log and this origin
   abbrev pub first_view : List E → O → View E O
-  first_view log origin = record { holds = false; opened = log; seen = log; turns = []; joined = []; made = 0; parts = 2 ^ 62; origin = Some origin }
+  first_view log origin =
+      record {
+        holds = false;
+        opened = log;
+        seen = log;
+        turns = [];
+        joined = [];
+        made = 0;
+        parts = 2
+            ^ 62;
+        origin = Some origin;
+      }
 
   -- the pass has the value, which has this log
   abbrev pub took_view : List E → View E O → View E O
-  took_view log v = record { holds = true; opened = v.opened; seen = log; turns = v.turns; joined = v.joined; made = v.made; parts = v.parts; origin = v.origin }
+  took_view log v =
+      record {
+        holds = true;
+        opened = v.opened;
+        seen = log;
+        turns = v.turns;
+        joined = v.joined;
+        made = v.made;
+        parts = v.parts;
+        origin = v.origin;
+      }
 
   -- its turn is over, and left this log: what was logged is one more stretch
   abbrev pub left_view : List E → View E O → View E O
-  left_view log v = record { holds = false; opened = v.opened; seen = log; turns = v.turns ++ stretch (length v.seen) (length log) ∷ []; joined = v.joined; made = v.made + (length log - length v.seen); parts = v.parts; origin = v.origin }
+  left_view log v =
+      record {
+        holds = false;
+        opened = v.opened;
+        seen = log;
+        turns = v.turns
+            ++ stretch (length v.seen) (length log)
+            ∷ [];
+        joined = v.joined;
+        made = v.made
+            + (length log - length v.seen);
+        parts = v.parts;
+        origin = v.origin;
+      }
 
   -- some parts went to a new pass
   abbrev pub cut_view : ℕ → View E O → View E O
-  cut_view n v = record { holds = v.holds; opened = v.opened; seen = v.seen; turns = v.turns; joined = v.joined; made = v.made; parts = v.parts - n; origin = v.origin }
+  cut_view n v =
+      record {
+        holds = v.holds;
+        opened = v.opened;
+        seen = v.seen;
+        turns = v.turns;
+        joined = v.joined;
+        made = v.made;
+        parts = v.parts - n;
+        origin = v.origin;
+      }
 
   -- the new pass, which has these parts
   abbrev pub new_view : ℕ → View E O → View E O
-  new_view n v = record { holds = false; opened = v.opened; seen = v.seen; turns = []; joined = []; made = 0; parts = n; origin = v.origin }
+  new_view n v =
+      record {
+        holds = false;
+        opened = v.opened;
+        seen = v.seen;
+        turns = [];
+        joined = [];
+        made = 0;
+        parts = n;
+        origin = v.origin;
+      }
 
   -- the pass took in another
   abbrev pub both_views : View E O → View E O → View E O
-  both_views v w = record { holds = v.holds; opened = v.opened; seen = longer v.seen w.seen; turns = v.turns; joined = v.joined ++ (w.turns ++ w.joined); made = v.made + w.made; parts = v.parts + w.parts; origin = v.origin }
+  both_views v w =
+      record {
+        holds = v.holds;
+        opened = v.opened;
+        seen = longer v.seen w.seen;
+        turns = v.turns;
+        joined = v.joined
+            ++ (w.turns ++ w.joined);
+        made = v.made + w.made;
+        parts = v.parts
+            + w.parts;
+        origin = v.origin;
+      }
 
   -- the other is spent: it has no parts and has made nothing
   abbrev pub spent_view : View E O
-  spent_view = record { holds = false; opened = []; seen = []; turns = []; joined = []; made = 0; parts = 0; origin = None }
+  spent_view =
+      record {
+        holds = false;
+        opened = [];
+        seen = [];
+        turns = [];
+        joined = [];
+        made = 0;
+        parts = 0;
+        origin = None;
+      }
 
-  -- What is true of every pass. It has a part and an origin. The log seen begins with the log at the opening. Its own stretches ascend between the two, those joined into it lie there too, and the number made is the number of positions of all of them
+  -- What is true of every pass. It has a part and an origin. The log seen begins with the log at
+  -- the opening. Its own stretches ascend between the two, those joined into it lie there too, and
+  -- the number made is the number of positions of all of them
   pub record IsPass (v : View E O) : Type 0 where
     pub some : 0 < v.parts
     pub origin : IsSome v.origin

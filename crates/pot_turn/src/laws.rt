@@ -1,5 +1,6 @@
 //! Laws of the entries of a job, over what passes know.
-ghost use Rattle.pot_turn.specs.JobLaws.{IdleLogsNothing, PartBegins, PartSplits, PartEnters, PartLogs, PartStays, PartsJoin, PartIsAll};
+ghost use Rattle.pot_turn.specs.JobLaws.{IdleLogsNothing, PartBegins, PartSplits, PartEnters};
+ghost use Rattle.pot_turn.specs.JobLaws.{PartLogs, PartStays, PartsJoin, PartIsAll};
 
 /// What a pass carries of a job over a part of its turns, call by call, and that two passes that carry one part after the other carry both once they are joined.
 pub fn job_laws<E, O>()

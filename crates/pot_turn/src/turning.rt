@@ -44,11 +44,13 @@ pub struct TurnRefused<T> {
 pub struct NoMemory;
 
 impl<T: Kept> Turn<T> {
-    ghost use Rattle.std.specs.Prelude.{◌≡◌, ◌≤◌, ◌<◌, ◌+◌, ◌^◌, ℕ, IfOk, IfErr, IsOk, [], length, true, false, Some, MatchOption};
+    ghost use Rattle.std.specs.Prelude.{◌≡◌, ◌≤◌, ◌<◌, ◌+◌, ◌^◌, ℕ, IfOk, IfErr, IsOk, [], length};
+    ghost use Rattle.std.specs.Prelude.{true, false, Some, MatchOption};
     ghost use Rattle.pot_turn.specs.Logs.{StartsWith};
     ghost use Rattle.pot_turn.specs.Stretches.{times, IsOnceEach};
     ghost use Rattle.pot_turn.specs.Jobs.{EntriesAreCarried};
-    ghost use Rattle.pot_turn.specs.Views.{stretches_of, first_view, took_view, left_view, cut_view, new_view, both_views};
+    ghost use Rattle.pot_turn.specs.Views.{stretches_of, first_view, took_view, left_view};
+    ghost use Rattle.pot_turn.specs.Views.{cut_view, new_view, both_views};
     ghost use Rattle.pot_turn.specs.Passes.{view, turn_of, IsPassOf, made_with};
 
     /// A turn over the value, and its first pass, which has all parts and has seen the value's log.
@@ -203,7 +205,8 @@ impl<T: Kept> Turn<T> {
         ensures both { view pass.new ≡ both_views (view pass.old) (view other) }
         ensures begins { StartsWith (view pass.new).seen (view pass.old).seen }
         ensures its_begins { StartsWith (view pass.new).seen (view other).seen }
-        ensures alike { ((view other).opened ≡ (view pass.old).opened) × ((view other).origin ≡ (view pass.old).origin) }
+        ensures alike { ((view other).opened ≡ (view pass.old).opened)
+            × ((view other).origin ≡ (view pass.old).origin) }
         ensures apart { (i : ℕ) → times i (stretches_of (view pass.new)) ≤ 1 }
     {
         let shared = &self.table.shared;

@@ -1,5 +1,7 @@
--- Which points of a split a coalition of data archives sees, and when it learns nothing of the file.
-use Rattle.std.specs.Prelude.{◌≡◌, ◌<◌, ◌≤◌, ℕ, ◌+◌, ◌&&◌, ◌==◌, Bool, true, List, length, map, filter}
+-- Which points of a split a coalition of data archives sees, and when it learns nothing of the
+-- file.
+use Rattle.std.specs.Prelude.{◌≡◌, ◌<◌, ◌≤◌, ℕ, ◌+◌, ◌&&◌, ◌==◌, Bool, true, List, length, map}
+use Rattle.std.specs.Prelude.{filter}
 use Rattle.std.specs.List.{list_any, range_with_len}
 use Rattle.pot_bytes.specs.declared.rack.Geometry.{Geometry}
 use Rattle.pot_bytes.specs.declared.rack.Place.{Place}
@@ -20,11 +22,15 @@ pub record Split : Type 0 where
 
 -- whether a place lies in the coalition
 abbrev pub is_seen : List Spot → Place → Bool
-is_seen coalition place = list_any (λ c. (c.group == place.group) && (c.column == place.column)) coalition
+is_seen coalition place =
+    list_any (λ c. (c.group == place.group) && (c.column == place.column)) coalition
 
 -- the points of fragment j of piece i that the coalition sees
 abbrev pub seen_points : List Spot → Split → ℕ → ℕ → List ℕ
-seen_points coalition s i j = map (λ p. p + 1) (filter (λ p. is_seen coalition (place_at s.geometry s.places i j p)) (range_with_len 0 s.geometry.shards))
+seen_points coalition s i j =
+    map (λ p. p
+    + 1) (filter (λ p. is_seen coalition (place_at s.geometry s.places i j p))
+    (range_with_len 0 s.geometry.shards))
 
 -- fragment j is the least of piece i of which fewer points are seen than are needed
 pub record IsHiddenAt (coalition : List Spot) (s : Split) (i j : ℕ) : Type 0 where
@@ -42,19 +48,27 @@ explained_split coalition s hidden file other random =
     explained_file s.geometry file other hidden (λ i. seen_points coalition s i (hidden i)) random
 
 -- a store of a file whose split is veiled, and another file of its length
-pub record IsVeiledStore (coalition : List Spot) (s : Split) (hidden : ℕ → ℕ) (file other random : List ℕ) : Type 0 where
+pub record IsVeiledStore (coalition : List Spot) (s : Split) (hidden : ℕ → ℕ)
+    (file other random : List ℕ) : Type 0 where
   pub store : IsStore s.geometry file random
   pub other_store : IsStore s.geometry other random
   pub same_length : length other ≡ length file
   pub veiled : IsVeiledSplit coalition s (pieces_of (length file)) hidden
 
--- Whatever a veiled coalition sees, any other file of that length gives it too, under other random bytes, one for one.
+-- Whatever a veiled coalition sees, any other file of that length gives it too, under other random
+-- bytes, one for one.
 pub record VeilLaws : Type 0 where
-  pub store : (coalition : List Spot) (s : Split) (hidden : ℕ → ℕ) (file other random : List ℕ) → IsVeiledStore coalition s hidden file other random
+  pub store : (coalition : List Spot) (s : Split) (hidden : ℕ → ℕ) (file other random : List ℕ)
+      → IsVeiledStore coalition s hidden file other random
       → IsStore s.geometry other (explained_split coalition s hidden file other random)
-  pub blocks : (coalition : List Spot) (s : Split) (hidden : ℕ → ℕ) (file other random : List ℕ) (i j p : ℕ)
-      → IsVeiledStore coalition s hidden file other random → i < pieces_of (length file) → j < s.geometry.fragments → p < s.geometry.shards
+  pub blocks : (coalition : List Spot) (s : Split) (hidden : ℕ → ℕ) (file other random : List ℕ)
+      (i j p : ℕ)
+      → IsVeiledStore coalition s hidden file other random → i < pieces_of (length file)
+      → j < s.geometry.fragments → p < s.geometry.shards
       → is_seen coalition (place_at s.geometry s.places i j p) ≡ true
-      → block_in s.geometry other (explained_split coalition s hidden file other random) i j p ≡ block_in s.geometry file random i j p
-  pub back : (coalition : List Spot) (s : Split) (hidden : ℕ → ℕ) (file other random : List ℕ) → IsVeiledStore coalition s hidden file other random
-      → explained_split coalition s hidden other file (explained_split coalition s hidden file other random) ≡ random
+      → block_in s.geometry other (explained_split coalition s hidden file other random) i j p
+      ≡ block_in s.geometry file random i j p
+  pub back : (coalition : List Spot) (s : Split) (hidden : ℕ → ℕ) (file other random : List ℕ)
+      → IsVeiledStore coalition s hidden file other random
+      → explained_split coalition s hidden other file
+      (explained_split coalition s hidden file other random) ≡ random

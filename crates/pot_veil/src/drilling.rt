@@ -1,5 +1,6 @@
 //! Two files of one length, of which the second gives all that is seen of the first, under other random bytes.
-ghost use Rattle.std.specs.Prelude.{◌≡◌, ◌≤◌, ◌<◌, ◌-◌, ◌*◌, ◌++◌, [], List, ℕ, length, slice_index_or, take, true, IfOk, IfErr, if◌then◌else◌};
+ghost use Rattle.std.specs.Prelude.{◌≡◌, ◌≤◌, ◌<◌, ◌-◌, ◌*◌, ◌++◌, [], List, ℕ, length};
+ghost use Rattle.std.specs.Prelude.{slice_index_or, take, true, IfOk, IfErr, if◌then◌else◌};
 ghost use Rattle.sha2.specs.Hashers.{Holds256};
 ghost use Rattle.pot_bytes.specs.Lists.{AreBytes};
 ghost use Rattle.pot_bytes.specs.Rack.{IsGeometry};
@@ -70,8 +71,10 @@ pub fn drill(
     requires first { 1 ≤ fragment }
     requires last { fragment ≤ geometry.now.fragments }
     requires seen { AreSeen geometry.now.shards seen.now }
-    ensures report { IfOk result (λ r. IsReport geometry.now file.now other.now (fragment - 1) seen.now random.old random.new r) }
-    ensures fault { IfErr result (λ e. IsFault geometry.now fragment seen.now random.old random.new e) }
+    ensures report { IfOk result (λ r. IsReport geometry.now file.now other.now (fragment - 1)
+        seen.now random.old random.new r) }
+    ensures fault { IfErr result (λ e. IsFault geometry.now fragment seen.now random.old random.new
+        e) }
 {
     if seen.len() >= usize::from(geometry.need) {
         return Err(DrillFault::Exposed {
@@ -126,9 +129,16 @@ fn drill_pieces(
     requires few { length seen.now < geometry.now.need }
     requires room { length before.old ≡ geometry.now.fragments * geometry.now.shards }
     requires room_after { length after.old ≡ geometry.now.fragments * geometry.now.shards }
-    ensures explained { random.new ≡ explained_file geometry.now file.now other.now (λ i. fragment - 1) (λ i. seen.now) random.old }
-    ensures count { result ≡ length (seen_upto geometry.now file.now random.old (fragment - 1) seen.now (pieces_of (length file.now))) }
-    ensures text { (m : List ℕ) → Holds256 taken.old m → Holds256 taken.new (m ++ text_of (seen_upto geometry.now file.now random.old (fragment - 1) seen.now (pieces_of (length file.now)))) }
+    ensures explained { random.new
+        ≡ explained_file geometry.now file.now other.now (λ i. fragment - 1) (λ i. seen.now)
+        random.old }
+    ensures count { result
+        ≡ length (seen_upto geometry.now file.now random.old (fragment - 1) seen.now
+        (pieces_of (length file.now))) }
+    ensures text { (m : List ℕ) → Holds256 taken.old m
+        → Holds256 taken.new
+        (m ++ text_of (seen_upto geometry.now file.now random.old (fragment - 1) seen.now
+        (pieces_of (length file.now)))) }
 {
     are_bytes(random);
     let id = id_in(random);
@@ -169,7 +179,8 @@ fn is_seen(geometry: &Geometry, number: u8, seen: &[u8], place: usize) -> bool
 fn take_block(seen: bool, before: &Block, after: &Block, taken: &mut Sha256) -> u32
     requires kept { seen ≡ true → after.now ≡ before.now }
     ensures count { result ≡ (if seen then 1 else 0) }
-    ensures text { (m : List ℕ) → Holds256 taken.old m → Holds256 taken.new (m ++ (if seen then before.now else [])) }
+    ensures text { (m : List ℕ) → Holds256 taken.old m
+        → Holds256 taken.new (m ++ (if seen then before.now else [])) }
 {
     if !seen || before.bytes() != after.bytes() {
         return 0;
@@ -190,10 +201,13 @@ fn compare(
     requires geometry { IsGeometry geometry.now }
     requires whole { length before.now ≡ geometry.now.fragments * geometry.now.shards }
     requires paired { length after.now ≡ length before.now }
-    requires kept { (place : ℕ) → place < length before.now → is_seen_at geometry.now number seen.now place ≡ true → slice_index_or after.now place [] ≡ slice_index_or before.now place [] }
+    requires kept { (place : ℕ) → place < length before.now
+        → is_seen_at geometry.now number seen.now place ≡ true
+        → slice_index_or after.now place [] ≡ slice_index_or before.now place [] }
     ensures count { result ≡ length (seen_in geometry.now number seen.now before.now) }
     ensures few { result ≤ 128 }
-    ensures text { (m : List ℕ) → Holds256 taken.old m → Holds256 taken.new (m ++ text_of (seen_in geometry.now number seen.now before.now)) }
+    ensures text { (m : List ℕ) → Holds256 taken.old m
+        → Holds256 taken.new (m ++ text_of (seen_in geometry.now number seen.now before.now)) }
 {
     let mut same = 0;
     for place in 0..before.len() {
@@ -223,7 +237,9 @@ fn explain_piece(
     requires last { fragment ≤ geometry.now.fragments }
     requires seen { AreSeen geometry.now.shards seen.now }
     requires few { length seen.now < geometry.now.need }
-    ensures { random.new ≡ explained geometry.now (object id.now file.now piece) (object id.now other.now piece) (fragment - 1) seen.now random.old }
+    ensures { random.new
+        ≡ explained geometry.now (object id.now file.now piece) (object id.now other.now piece)
+        (fragment - 1) seen.now random.old }
 {
     let mut from = [0; OBJECT];
     write_object(id, file, piece, &mut from);
@@ -264,10 +280,17 @@ fn drill_piece(
     requires few { length seen.now < geometry.now.need }
     requires room { length before.old ≡ geometry.now.fragments * geometry.now.shards }
     requires room_after { length after.old ≡ geometry.now.fragments * geometry.now.shards }
-    ensures explained { random.new ≡ explained geometry.now (object id.now file.now piece) (object id.now other.now piece) (fragment - 1) seen.now random.old }
-    ensures count { result ≡ length (seen_in geometry.now (fragment - 1) seen.now (piece_blocks geometry.now id.now file.now piece random.old)) }
+    ensures explained { random.new
+        ≡ explained geometry.now (object id.now file.now piece) (object id.now other.now piece)
+        (fragment - 1) seen.now random.old }
+    ensures count { result
+        ≡ length (seen_in geometry.now (fragment - 1) seen.now
+        (piece_blocks geometry.now id.now file.now piece random.old)) }
     ensures few { result ≤ 128 }
-    ensures text { (m : List ℕ) → Holds256 taken.old m → Holds256 taken.new (m ++ text_of (seen_in geometry.now (fragment - 1) seen.now (piece_blocks geometry.now id.now file.now piece random.old))) }
+    ensures text { (m : List ℕ) → Holds256 taken.old m
+        → Holds256 taken.new
+        (m ++ text_of (seen_in geometry.now (fragment - 1) seen.now
+        (piece_blocks geometry.now id.now file.now piece random.old))) }
 {
     are_bytes(random);
     piece_blocks(id, file, piece, geometry, random, before);

@@ -32,7 +32,8 @@ pub fn explain(
     requires last { fragment ≤ geometry.now.fragments }
     requires seen { AreSeen geometry.now.shards seen.now }
     requires few { length seen.now < geometry.now.need }
-    ensures { random.new ≡ explained geometry.now object.now other.now (fragment - 1) seen.now random.old }
+    ensures { random.new
+        ≡ explained geometry.now object.now other.now (fragment - 1) seen.now random.old }
 {
     let number = fragment - 1;
     let content = fragment_content(object, geometry, random, number);

@@ -1,5 +1,6 @@
 -- Lists in the values of options: points, and spots.
-use Rattle.std.specs.Prelude.{◌≡◌, ◌≤◌, ◌+◌, ◌*◌, ◌⊎◌, ⊤, ℕ, List, [], ◌∷◌, ◌++◌, Option, Some, None, map, decimal}
+use Rattle.std.specs.Prelude.{◌≡◌, ◌≤◌, ◌+◌, ◌*◌, ◌⊎◌, ⊤, ℕ, List, [], ◌∷◌, ◌++◌, Option, Some}
+use Rattle.std.specs.Prelude.{None, map, decimal}
 use Rattle.std.specs.List.{join_with_byte}
 use Rattle.pot_options.specs.Options.{Text}
 use Rattle.pot_words.specs.declared.spot.Spot.{Spot}
@@ -9,7 +10,8 @@ abbrev pub Lists : {X : Type 0} → (X → Text) → Text → List X → Type 0
 Lists spell text [] = ⊥
 Lists spell text (x ∷ xs) = text ≡ join_with_byte 44 (map spell (x ∷ xs))
 
--- each item fits, the first has at least the rank `least`, and each other a greater rank than the one before it
+-- each item fits, the first has at least the rank `least`, and each other a greater rank than the
+-- one before it
 abbrev pub AscendFrom : {X : Type 0} → (X → Type 0) → (X → ℕ) → ℕ → List X → Type 0
 AscendFrom Fits rank least [] = ⊤
 AscendFrom Fits rank least (x ∷ xs) =

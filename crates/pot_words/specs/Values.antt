@@ -1,10 +1,11 @@
 -- The values of options. `value` gives the text of an option by its name.
-use Rattle.std.specs.Prelude.{◌≡◌, ◌≤◌, ◌⊎◌, ℕ, Bool, true, false, List, Option, Some, None, Ok, codes, decimal}
+use Rattle.std.specs.Prelude.{◌≡◌, ◌≤◌, ◌⊎◌, ℕ, Bool, true, false, List, Option, Some, None, Ok}
+use Rattle.std.specs.Prelude.{codes, decimal}
 use Rattle.hex.specs.Hex.{decode_sized}
 use Rattle.pot_options.specs.Options.{Text}
 
--- The option has the number, which lies between the bounds. A number is decimal digits without a sign and without a
--- leading zero, but for `0` itself.
+-- The option has the number, which lies between the bounds. A number is decimal digits without a
+-- sign and without a leading zero, but for `0` itself.
 abbrev pub HasNumber : (Text → Option Text) → Text → ℕ → ℕ → ℕ → Type 0
 HasNumber value name least most n = (least ≤ n) × (n ≤ most) × (value name ≡ Some (decimal n))
 

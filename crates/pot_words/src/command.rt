@@ -16,7 +16,8 @@ pub(crate) enum Command {
 impl Command {
     /// The command of this name. `None` exactly where no command has it.
     pub(crate) fn named(word: &str) -> Option<Command>
-        ensures { MatchOption result ((c : Command) → word.now ≢ command_name c) (λ c. word.now ≡ command_name c) }
+        ensures { MatchOption result ((c : Command) → word.now ≢ command_name c)
+            (λ c. word.now ≡ command_name c) }
     {
         match word {
             "init" => Some(Command::Init),

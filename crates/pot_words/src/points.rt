@@ -13,7 +13,8 @@ use pot_options::Options;
 /// The points that the option has, ascending from 1 to `most`; none where it is left out.
 pub fn points_of(options: &Options<'_>, name: &str, most: u8) -> Option<ArrayVec<u8, 16>>
     requires { most ≤ 16 }
-    ensures { IsOnly (λ (points : Items ℕ). HasPoints (given options.now) name.now most points.items) result }
+    ensures { IsOnly (λ (points : Items ℕ). HasPoints (given options.now) name.now most
+        points.items) result }
 {
     match options.value(name) {
         Some(text) => points_in(text, most),
@@ -24,7 +25,8 @@ pub fn points_of(options: &Options<'_>, name: &str, most: u8) -> Option<ArrayVec
 // The points that the text lists.
 fn points_in(text: &str, most: u8) -> Option<ArrayVec<u8, 16>>
     requires { most ≤ 16 }
-    ensures { IsOnly (λ (points : Items ℕ). ArePoints most points.items × Lists decimal text.now points.items) result }
+    ensures { IsOnly (λ (points : Items ℕ). ArePoints most points.items
+        × Lists decimal text.now points.items) result }
 {
     let mut points = ArrayVec::new();
     let mut next = 1;

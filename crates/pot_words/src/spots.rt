@@ -14,7 +14,8 @@ use pot_options::Options;
 
 /// The spots that the option has, ascending.
 pub fn spots_of(options: &Options<'_>, name: &str) -> Option<ArrayVec<Spot, 288>>
-    ensures { IsOnly (λ (spots : Items Spot). HasSpots (given options.now) name.now spots.items) result }
+    ensures { IsOnly (λ (spots : Items Spot). HasSpots (given options.now) name.now spots.items)
+        result }
 {
     match options.value(name) {
         Some(text) => spots_in(text),
@@ -24,7 +25,8 @@ pub fn spots_of(options: &Options<'_>, name: &str) -> Option<ArrayVec<Spot, 288>
 
 // The spots that the text lists.
 fn spots_in(text: &str) -> Option<ArrayVec<Spot, 288>>
-    ensures { IsOnly (λ (spots : Items Spot). AscendFrom IsSpot spot_rank 0 spots.items × Lists spot_text text.now spots.items) result }
+    ensures { IsOnly (λ (spots : Items Spot). AscendFrom IsSpot spot_rank 0 spots.items
+        × Lists spot_text text.now spots.items) result }
 {
     let mut spots = ArrayVec::new();
     let mut next = 0;

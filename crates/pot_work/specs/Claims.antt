@@ -1,5 +1,6 @@
 -- Claims of jobs: each position of a batch stands in the line or was taken, once.
-use Rattle.std.specs.Prelude.{◌≡◌, ℕ, ◌+◌, ◌<◌, ◌≤◌, ◌==◌, List, [], ◌∷◌, ◌++◌, Some, slice_get, if◌then◌else◌, length}
+use Rattle.std.specs.Prelude.{◌≡◌, ℕ, ◌+◌, ◌<◌, ◌≤◌, ◌==◌, List, [], ◌∷◌, ◌++◌, Some, slice_get}
+use Rattle.std.specs.Prelude.{if◌then◌else◌, length}
 use mathlib.Core.Option.{some}
 use lib.ListN.{get_elem?}
 use Rattle.pot_work.specs.declared.claims.Hand.{Hand}
@@ -51,4 +52,5 @@ pub record TookOne {J : Type 0} (v : Hand J) (x : ℕ × J) (w : Hand J) : Type 
 
 -- who has all parts took each position once, where the line is empty
 abbrev pub TookAll : {J : Type 0} → Hand J → List (ℕ × J) → Type 0
-TookAll v items = v.parts ≡ all_parts → items ≡ [] → (p : ℕ) → p < length v.jobs → times p v.taken ≡ 1
+TookAll v items =
+    v.parts ≡ all_parts → items ≡ [] → (p : ℕ) → p < length v.jobs → times p v.taken ≡ 1

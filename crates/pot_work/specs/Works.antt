@@ -25,17 +25,21 @@ module _ {J : Type 0} (done : J → Type 0) (related : J → J → Type 0) where
   -- the jobs at these positions, worked, each at its place
   pub record ArePlaced (jobs : List J) (taken : List ℕ) (places : List (Option J)) : Type 0 where
     pub count : length places ≡ length jobs
-    pub each : (p : ℕ) → 0 < times p taken → (y : J) × (slice_get places p ≡ Some (Some y)) × IsWorkOf jobs (p, y)
+    pub each : (p : ℕ) → 0 < times p taken
+        → (y : J) × (slice_get places p ≡ Some (Some y)) × IsWorkOf jobs (p, y)
 
   -- and all of them so
   pub record AllPlaced (jobs : List J) (places : List (Option J)) : Type 0 where
     pub count : length places ≡ length jobs
-    pub each : (p : ℕ) → p < length jobs → (y : J) × (slice_get places p ≡ Some (Some y)) × IsWorkOf jobs (p, y)
+    pub each : (p : ℕ) → p < length jobs
+        → (y : J) × (slice_get places p ≡ Some (Some y)) × IsWorkOf jobs (p, y)
 
-  -- The jobs came back in their order, each done, and what its work leaves of the one that was handed in.
+  -- The jobs came back in their order, each done, and what its work leaves of the one that was
+  -- handed in.
   pub record AreWorked (jobs back : List J) : Type 0 where
     pub count : length back ≡ length jobs
-    pub each : (k : ℕ) (x y : J) → slice_get jobs k ≡ Some x → slice_get back k ≡ Some y → done y × related x y
+    pub each : (k : ℕ) (x y : J) → slice_get jobs k ≡ Some x → slice_get back k ≡ Some y
+        → done y × related x y
 
 -- each of these is so
 abbrev pub Each : {X : Type 0} → (X → Type 0) → List X → Type 0

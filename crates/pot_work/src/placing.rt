@@ -1,5 +1,6 @@
 //! Finished jobs at their places.
-ghost use Rattle.std.specs.Prelude.{◌≡◌, ◌<◌, ◌≤◌, ◌++◌, ℕ, List, [], Some, IsSome, length, map, vec_capacity};
+ghost use Rattle.std.specs.Prelude.{◌≡◌, ◌<◌, ◌≤◌, ◌++◌, ℕ, List, [], Some, IsSome, length, map};
+ghost use Rattle.std.specs.Prelude.{vec_capacity};
 ghost use Rattle.pot_work.specs.Claims.{times};
 ghost use Rattle.pot_work.specs.Works.{AreWorkOf, ArePlaced, AreWorked, Each};
 

@@ -46,7 +46,8 @@ fn rooms_to_finish<J: Drop>(
     count: usize,
     workers: u8,
 ) -> Result<Vec<Vec<(u32, J)>>, AllocError>
-    ensures { IfOk result (λ rooms. (length rooms.items ≡ workers) × Each (IsRoom count) rooms.items) }
+    ensures { IfOk result
+        (λ rooms. (length rooms.items ≡ workers) × Each (IsRoom count) rooms.items) }
 {
     let mut rooms = Vec::with_capacity(alloc, workers as usize)?;
     for _ in 0..workers {

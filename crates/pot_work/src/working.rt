@@ -2,7 +2,8 @@
 ghost use Rattle.std.specs.Prelude.{◌≡◌, ◌<◌, ◌≤◌, ◌-◌, ◌^◌, ◌++◌, ℕ, [], length, vec_capacity};
 ghost use Rattle.crossbeam_queue.specs.Passes.{view, IsPassOf, ruled_capacity};
 ghost use Rattle.pot_work.specs.Claims.{hand, all_parts, times};
-ghost use Rattle.pot_work.specs.Works.{AreFresh, AreWorked, HasFinished, ArePlaced, AllPlaced, Each};
+ghost use Rattle.pot_work.specs.Works.{AreFresh, AreWorked, HasFinished, ArePlaced, AllPlaced};
+ghost use Rattle.pot_work.specs.Works.{Each};
 ghost use Rattle.pot_work.specs.Rooms.{AreRooms, IsHired, IsRoom};
 
 use crate::Job;
@@ -35,7 +36,8 @@ fn work_until_empty<J: Job, W: Gate, R: Wait>(
     requires own { IsPassOf line.now worker.old.claim }
     requires hired { IsHired J.done (view worker.old.claim) worker.old }
     ensures own { IsPassOf line.now worker.new.claim }
-    ensures worked { HasFinished J.done J.related (view worker.old.claim) (view worker.new.claim) worker.new.finished.items }
+    ensures worked { HasFinished J.done J.related (view worker.old.claim) (view worker.new.claim)
+        worker.new.finished.items }
     ensures all { (view worker.old.claim).parts ≡ all_parts → (p : ℕ) →
         p < length (view worker.old.claim).jobs → times p (view worker.new.claim).taken ≡ 1 }
 {
@@ -102,14 +104,17 @@ fn dismiss<J: Job + Drop>(
     places: &mut Vec<Option<J>>,
 )
     requires own { IsPassOf line.now claim.old }
-    requires parts { view claim.old ≡ hand (all_parts - length workers.items) (view claim.old).jobs [] }
+    requires parts { view claim.old
+        ≡ hand (all_parts - length workers.items) (view claim.old).jobs [] }
     requires few { length workers.items < all_parts }
     requires worked { Each (λ w. IsPassOf line.now w.claim ×
         HasFinished J.done J.related (hand 1 (view claim.old).jobs []) (view w.claim) w.finished.items) workers.items }
     requires places { length places.old.items ≡ length (view claim.old).jobs }
     ensures own { IsPassOf line.now claim.new }
-    ensures all { ((view claim.new).parts ≡ all_parts) × ((view claim.new).jobs ≡ (view claim.old).jobs) }
-    ensures placed { ArePlaced J.done J.related (view claim.old).jobs (view claim.new).taken places.new.items }
+    ensures all { ((view claim.new).parts ≡ all_parts)
+        × ((view claim.new).jobs ≡ (view claim.old).jobs) }
+    ensures placed { ArePlaced J.done J.related (view claim.old).jobs (view claim.new).taken
+        places.new.items }
 {
     while let Some(worker) = workers.pop() {
         let Worker {
@@ -164,7 +169,8 @@ fn work_what_is_left<J: Job + Drop, W: Gate, R: Wait>(
     requires fresh { AreFresh J.done (view claim).jobs }
     requires none { finished.items ≡ [] }
     requires room { length (view claim).jobs ≤ vec_capacity finished }
-    requires placed { ArePlaced J.done J.related (view claim).jobs (view claim).taken places.old.items }
+    requires placed { ArePlaced J.done J.related (view claim).jobs (view claim).taken
+        places.old.items }
     ensures placed { AllPlaced J.done J.related (view claim).jobs places.new.items }
 {
     let mut worker = Worker { claim, finished };
@@ -181,7 +187,8 @@ pub fn work_in_line<J: Job + Send + Drop, W: Gate, R: Threads + Wait + Sync>(
     gate: &W,
 ) -> Vec<J>
     requires rooms { AreRooms (length jobs.items) (length rooms.finished.items) rooms }
-    requires workers { (0 < length rooms.finished.items) × (length rooms.finished.items < all_parts) }
+    requires workers { (0 < length rooms.finished.items)
+        × (length rooms.finished.items < all_parts) }
     requires few { length jobs.items < 2 ^ 32 }
     requires fresh { AreFresh J.done jobs.items }
     ensures { AreWorked J.done J.related jobs.items result.items }

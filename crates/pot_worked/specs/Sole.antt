@@ -1,5 +1,5 @@
--- A pass that alone logged what a log gained, itself or by the passes that were joined into it: what a loop over commands
--- carries, whether a command is one job or a batch.
+-- A pass that alone logged what a log gained, itself or by the passes that were joined into it:
+-- what a loop over commands carries, whether a command is one job or a batch.
 use Rattle.std.specs.Prelude.{◌≡◌, ℕ, ◌<◌, ◌≤◌, Bool, List, [], ◌++◌, length, slice_get, Some}
 use Rattle.pot_turn.specs.declared.view.View.{View}
 use Rattle.pot_turn.specs.Stretches.{times, LieIn, IsOnceEach}
@@ -18,9 +18,12 @@ module _ {E O : Type 0} where
 
   -- each position that was gained stands in a stretch since
   abbrev pub Sole : View E O → View E O → Type 0
-  Sole v w = (i : ℕ) (e : E) → length v.seen ≤ i → slice_get w.seen i ≡ Some e → 0 < times i (mine v w ++ theirs v w)
+  Sole v w =
+      (i : ℕ) (e : E) → length v.seen ≤ i → slice_get w.seen i ≡ Some e
+      → 0 < times i (mine v w ++ theirs v w)
 
--- work is such a going on, and so is one after another; who was sole all the time was sole in each part
+-- work is such a going on, and so is one after another; who was sole all the time was sole in each
+-- part
 abbrev pub WorkWent : (E O : Type 0) → Type 0
 WorkWent E O = (is_of : E → Bool) (v w : View E O) → Worked is_of v w → Went v w
 
@@ -40,15 +43,17 @@ SoleAlone E O = (is_of : E → Bool) (v w : View E O) → Worked is_of v w → S
 
 -- and all that was gained is of the job
 abbrev pub SoleOwns : (E O : Type 0) → Type 0
-SoleOwns E O = (is_of : E → Bool) (v w : View E O) → Worked is_of v w → Sole v w → AllOf is_of (added v w)
+SoleOwns E O =
+    (is_of : E → Bool) (v w : View E O) → Worked is_of v w → Sole v w → AllOf is_of (added v w)
 
 -- a batch is such a going on, and where it was sole, its jobs' passes logged all of it
 abbrev pub BatchWent : (E O : Type 0) → Type 0
 BatchWent E O =
-    (of : ℕ → E → Bool) (v x : View E O) (cs : List (Carried E O)) → Joins v cs x → AreCarried of v.seen cs → Went v x × (Sole v x → SoleBatch v x)
+    (of : ℕ → E → Bool) (v x : View E O) (cs : List (Carried E O)) → Joins v cs x
+    → AreCarried of v.seen cs → Went v x × (Sole v x → SoleBatch v x)
 
--- The last pass of a turn began without stretches, at the opening log or later, and every position since the opening stands in
--- just one of its stretches, as a close tells.
+-- The last pass of a turn began without stretches, at the opening log or later, and every position
+-- since the opening stands in just one of its stretches, as a close tells.
 pub record IsWhole {E O : Type 0} (first last : View E O) : Type 0 where
   pub opened : length last.opened ≤ length first.seen
   pub fresh : stretches_of first ≡ []

@@ -1,5 +1,6 @@
 -- What a pass of a turn did between two moments: it knew v, and knows w.
-use Rattle.std.specs.Prelude.{◌≡◌, ℕ, ◌<◌, ◌≤◌, Bool, true, false, List, ◌++◌, length, drop, slice_get, Some}
+use Rattle.std.specs.Prelude.{◌≡◌, ℕ, ◌<◌, ◌≤◌, Bool, true, false, List, ◌++◌, length, drop}
+use Rattle.std.specs.Prelude.{slice_get, Some}
 use Rattle.pot_turn.specs.declared.view.View.{View}
 use Rattle.pot_turn.specs.declared.view.Stretch.{Stretch}
 use Rattle.pot_turn.specs.Logs.{StartsWith}
@@ -19,7 +20,8 @@ module _ {E O : Type 0} where
   abbrev pub theirs : View E O → View E O → List Stretch
   theirs v w = drop (length v.joined) w.joined
 
-  -- The pass worked for a job, and for no other: what `is_of` tells as the job's is all that it logged.
+  -- The pass worked for a job, and for no other: what `is_of` tells as the job's is all that it
+  -- logged.
   pub record Worked (is_of : E → Bool) (v w : View E O) : Type 0 where
     pub idle : w.holds ≡ false
     pub opened : w.opened ≡ v.opened
@@ -29,11 +31,15 @@ module _ {E O : Type 0} where
     pub seen : w.seen ≡ v.seen ++ added v w
     pub turns : w.turns ≡ v.turns ++ mine v w
     pub ascends : Ascends (length v.seen) (mine v w) (length w.seen)
-    pub own : (i : ℕ) (e : E) → slice_get w.seen i ≡ Some e → 0 < times i (mine v w) → is_of e ≡ true
+    pub own : (i : ℕ) (e : E) → slice_get w.seen i ≡ Some e → 0 < times i (mine v w)
+        → is_of e ≡ true
 
-  -- nobody else logged an entry of the job: each that was logged since stands in a stretch of this pass
+  -- nobody else logged an entry of the job: each that was logged since stands in a stretch of this
+  -- pass
   abbrev pub Alone : (E → Bool) → View E O → View E O → Type 0
-  Alone is_of v w = (i : ℕ) (e : E) → length v.seen ≤ i → slice_get w.seen i ≡ Some e → is_of e ≡ true → 0 < times i (mine v w)
+  Alone is_of v w =
+      (i : ℕ) (e : E) → length v.seen ≤ i → slice_get w.seen i ≡ Some e → is_of e ≡ true
+      → 0 < times i (mine v w)
 
   -- The pass has seen more of the log, and nothing else of it changed.
   pub record KnowsMore (v w : View E O) : Type 0 where
@@ -48,4 +54,5 @@ module _ {E O : Type 0} where
 
   -- One locked call: others had logged some entries, and it logged these.
   abbrev pub IsTurn : List E → List E → View E O → View E O → Type 0
-  IsTurn others entries v w = w ≡ left_view ((v.seen ++ others) ++ entries) (took_view (v.seen ++ others) v)
+  IsTurn others entries v w =
+      w ≡ left_view ((v.seen ++ others) ++ entries) (took_view (v.seen ++ others) v)

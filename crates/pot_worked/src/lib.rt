@@ -13,9 +13,11 @@
 //! their job is a parameter.
 #![tactic(auto)]
 
-ghost use Rattle.pot_worked.specs.Laws.{WorkGoesOn, WorkInParts, AloneInParts, OwnInTurn, OwnInParts, MoreIsWork, MoreHasNone, AloneAtClose};
+ghost use Rattle.pot_worked.specs.Laws.{WorkGoesOn, WorkInParts, AloneInParts, OwnInTurn};
+ghost use Rattle.pot_worked.specs.Laws.{OwnInParts, MoreIsWork, MoreHasNone, AloneAtClose};
 ghost use Rattle.pot_worked.specs.Batches.{AloneInBatch, OwnedInBatch};
-ghost use Rattle.pot_worked.specs.Sole.{WorkWent, WentInParts, GainInParts, SoleInParts, SoleAlone, SoleOwns, BatchWent, SoleAtClose};
+ghost use Rattle.pot_worked.specs.Sole.{WorkWent, WentInParts, GainInParts, SoleInParts, SoleAlone};
+ghost use Rattle.pot_worked.specs.Sole.{SoleOwns, BatchWent, SoleAtClose};
 
 /// The laws of a job's work: of one locked call, of part after part, of a pass that only sees more, at a close, and of the jobs of a batch.
 pub fn work_laws<E, O>()

@@ -29,7 +29,9 @@ pub fn read_migrate(words: Words) -> Option<Command>
 
 // The two words that are left, numbers of archives.
 fn read_archives(mut words: Words) -> Option<(u32, u32)>
-    ensures { MatchOption result ((from to : ℕ) → from ≤ 511 → to ≤ 511 → words.entry ≢ decimal from ∷ decimal to ∷ []) (λ x. (x.0 ≤ 511) × (x.1 ≤ 511) × (words.entry ≡ decimal x.0 ∷ decimal x.1 ∷ [])) }
+    ensures { MatchOption result
+        ((from to : ℕ) → from ≤ 511 → to ≤ 511 → words.entry ≢ decimal from ∷ decimal to ∷ [])
+        (λ x. (x.0 ≤ 511) × (x.1 ≤ 511) × (words.entry ≡ decimal x.0 ∷ decimal x.1 ∷ [])) }
 {
     let from = words.next_number(LAST_ARCHIVE)?;
     let to = words.next_number(LAST_ARCHIVE)?;

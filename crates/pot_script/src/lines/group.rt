@@ -27,7 +27,9 @@ pub fn read_repair(words: Words, rack: &Rack) -> Option<Command>
 
 // The one word that is left, the number of one of the rack's groups.
 fn read_group(mut words: Words, rack: &Rack) -> Option<u8>
-    ensures { MatchOption result ((group : ℕ) → IsGroup rack.now group → words.entry ≢ decimal group ∷ []) (λ group. IsGroup rack.now group × (words.entry ≡ decimal group ∷ [])) }
+    ensures { MatchOption result
+        ((group : ℕ) → IsGroup rack.now group → words.entry ≢ decimal group ∷ [])
+        (λ group. IsGroup rack.now group × (words.entry ≡ decimal group ∷ [])) }
 {
     let group = words.next_number(255)? as u8;
     words.end()?;

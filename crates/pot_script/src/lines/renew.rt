@@ -21,7 +21,9 @@ pub fn read_renew(mut words: Words, rack: &Rack) -> Option<Command>
 
 // The four words that are left, a geometry that fits the rack.
 fn read_geometry(mut words: Words, rack: &Rack) -> Option<Geometry>
-    ensures { MatchOption result ((g : Geometry) → FitsGeometry rack.now g → words.entry ≢ geometry_words g) (λ g. FitsGeometry rack.now g × (words.entry ≡ geometry_words g)) }
+    ensures { MatchOption result
+        ((g : Geometry) → FitsGeometry rack.now g → words.entry ≢ geometry_words g)
+        (λ g. FitsGeometry rack.now g × (words.entry ≡ geometry_words g)) }
 {
     let fragments = words.next_number(8)? as u8;
     let need = words.next_number(16)? as u8;

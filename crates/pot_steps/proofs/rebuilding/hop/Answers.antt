@@ -2,7 +2,7 @@ use Rattle.std.proofs.Common.{◌≡◌, ◌<◌, IsTrue, Some, sym, subst, ap, 
 use Rattle.std.proofs.lemmas.Bool.{both_ways}
 use Rattle.pot_machine.specs.Slot.{is_live, digest_in}
 use Rattle.pot_machine.specs.Table.{slot_at, next_column}
-use Rattle.pot_steps.specs.Stripe.{digest_of}
+use Rattle.pot_bytes.specs.Digests.{digest_of}
 use Rattle.pot_steps.specs.Flight.{IsRelay, unfolded, weight_in}
 use Rattle.pot_steps.proofs.CallLemmas.{two_relay, next_within, next_positive, legal_hop, live_next, hop_ends}
 use Rattle.pot_steps.proofs.rebuilding.hop.Goals as goal
