@@ -13,7 +13,8 @@ use Rattle.pot_machine.specs.Table.{Table, slot_at, column_at, serving_at, relay
 use Rattle.pot_machine.proofs.Columns.{names_serving}
 use Rattle.pot_machine.specs.Machine.{Legal, after}
 use Rattle.pot_steps.specs.declared.flight.Flight.{Flight}
-use Rattle.pot_steps.specs.Stripe.{Sound, digest_of}
+use Rattle.pot_bytes.specs.Digests.{digest_of}
+use Rattle.pot_steps.specs.Stripe.{Sound}
 use Rattle.pot_steps.specs.Flight.{unfolded, weight_in, partial_of}
 use Rattle.pot_steps.specs.Flights.{Acts, flight_in, flights_after, IsFlying, FliesOver, WritesBack, without_flight}
 use Rattle.pot_steps.specs.Holdings.{stripe_of}

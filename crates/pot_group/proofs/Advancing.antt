@@ -14,7 +14,7 @@ use Rattle.pot_machine.specs.Slot.{is_live, digest_in}
 use Rattle.pot_machine.specs.Table.{Table, slot_at, serving_at, relay_at, next_column}
 use Rattle.pot_machine.specs.Machine.{Legal, after}
 use Rattle.pot_steps.specs.declared.flight.Flight.{Flight}
-use Rattle.pot_steps.specs.Stripe.{digest_of}
+use Rattle.pot_bytes.specs.Digests.{digest_of}
 use Rattle.pot_steps.specs.Flight.{partial_of, unfolded, weight_in}
 use Rattle.pot_steps.specs.Flights.{flight_in, without_flight}
 use Rattle.pot_steps.specs.Calls.{FinishMeans}

@@ -9,7 +9,7 @@ use Rattle.pot_machine.specs.Slot.{digest_in}
 use Rattle.pot_machine.specs.Table.{Table, width, slot_at, next_column, archives_in}
 use Rattle.pot_machine.specs.Machine.{after}
 use Rattle.pot_outside.specs.Archives.{Meaning}
-use Rattle.pot_steps.specs.Stripe.{digest_of}
+use Rattle.pot_bytes.specs.Digests.{digest_of}
 use Rattle.pot_steps.specs.Flight.{weight_in, unfolded}
 use Rattle.pot_steps.specs.Flights.{flown}
 use Rattle.pot_steps.specs.Calls.{HopMeans}

@@ -24,3 +24,6 @@ pub mod Stepping
 pub mod Used
 pub mod Keeping
 pub mod Rows
+pub mod SweepLemmas
+pub mod LaneReads
+pub mod LaneNotes

@@ -7,7 +7,7 @@ use Rattle.pot_machine.specs.declared.entry.Entry.TheVariants as entry
 use Rattle.pot_machine.specs.Slot.{is_live}
 use Rattle.pot_machine.specs.Table.{width, serving_at}
 use Rattle.pot_machine.specs.Machine.{Legal, Replays, after}
-use Rattle.pot_steps.specs.Stripe.{digest_of}
+use Rattle.pot_bytes.specs.Digests.{digest_of}
 use Rattle.pot_steps.specs.GroupStep.{LogsInStep, LookMeans, look_entries}
 use Rattle.pot_group.specs.declared.answers.Looked.{Looked}
 use Rattle.pot_group.specs.declared.answers.Looked.TheVariants as looked

@@ -17,7 +17,8 @@ use Rattle.pot_machine.specs.Machine.{Legal, after}
 use Rattle.pot_machine.proofs.Columns.{serving_apart}
 use Rattle.pot_steps.specs.declared.flight.Flight.{Flight}
 use Rattle.pot_bytes.specs.Lists.{IsBlock}
-use Rattle.pot_steps.specs.Stripe.{Sound, IsSound, digest_of}
+use Rattle.pot_bytes.specs.Digests.{digest_of}
+use Rattle.pot_steps.specs.Stripe.{Sound, IsSound}
 use Rattle.pot_steps.specs.Flight.{partial_of, unfolded, weight_in, left_out, IsRelay}
 use Rattle.std.proofs.lemmas.Bool.Decides.{nat_tests}
 use Rattle.pot_steps.specs.Calls.{HopMeans, StandsIn}

@@ -18,7 +18,7 @@ use Rattle.pot_machine.specs.Slot.{is_void}
 use Rattle.pot_machine.specs.Table.{Table, width, slot_at, serving_at}
 use Rattle.pot_machine.specs.Machine.{AtCursor, TakesBlocks, Legal, after}
 use Rattle.pot_machine.proofs.Columns.{serving_apart}
-use Rattle.pot_steps.specs.Stripe.{digest_of}
+use Rattle.pot_bytes.specs.Digests.{digest_of}
 use Rattle.pot_steps.specs.Holdings.{Holdings}
 use Rattle.pot_steps.specs.Entries.{WritesStripe, held_at}
 use Rattle.pot_steps.specs.GroupStep.{put_entry}

@@ -58,9 +58,9 @@ Covers s numbers named =
 
 -- LOSSES
 
--- The entry says that a Live slot of the column has not its block, or that a slot of it which is not
--- Broken can't be rebuilt from the others. The opening, which is job 0, may say the former after a
--- fault.
+-- The entry says that a Live slot of the column has not its block, or that a slot of it which is
+-- not Broken can't be rebuilt from the others. The opening, which is job 0, may say the former
+-- after a fault.
 abbrev pub Misses : Table → Entry → ℕ → Type 0
 Misses t (Gone job s k) c = (job ≢ 0) × (k ≡ c) × IsTrue (is_live (slot_at t s k))
 Misses t (GaveUp job s k other) c = (other ≡ c) × IsTrue (is_live (slot_at t s other))

@@ -16,7 +16,8 @@ use Rattle.pot_machine.specs.Column.{names}
 use Rattle.pot_machine.specs.Table.{Table, width, slot_at, column_at, serving_at}
 use Rattle.pot_machine.specs.Machine.{Replays, TakesBlocks, after}
 use Rattle.pot_machine.specs.Rules.{IsTable}
-use Rattle.pot_steps.specs.Stripe.{Stripe, Sound, digest_of}
+use Rattle.pot_bytes.specs.Digests.{digest_of}
+use Rattle.pot_steps.specs.Stripe.{Stripe, Sound}
 use Rattle.pot_steps.specs.declared.flight.Flight.{Flight}
 use Rattle.pot_steps.specs.Flights.{AreFlights, FlightsHold}
 use Rattle.pot_steps.specs.Holdings.{HoldsUp, LiveLaw, stripe_of}

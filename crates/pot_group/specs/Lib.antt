@@ -12,3 +12,5 @@ pub mod Relaying
 pub mod Moving
 pub mod Uses
 pub mod Calls
+pub mod Sweeping
+pub mod Lanes

@@ -3,7 +3,8 @@ use Rattle.std.specs.Prelude.{◌≡◌, ℕ, List, Some, IsTrue}
 use Rattle.pot_machine.specs.declared.slot.SlotState.TheVariants.{Live}
 use Rattle.pot_machine.specs.Slot.{is_live}
 use Rattle.pot_machine.specs.Table.{slot_at, serving_at}
-use Rattle.pot_steps.specs.Stripe.{Sound, digest_of}
+use Rattle.pot_bytes.specs.Digests.{digest_of}
+use Rattle.pot_steps.specs.Stripe.{Sound}
 use Rattle.pot_steps.specs.Holdings.{stripe_of}
 use Rattle.pot_group.specs.declared.reads.Found.{Found}
 use Rattle.pot_group.specs.declared.reads.Found.TheVariants as found

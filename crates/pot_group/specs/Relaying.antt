@@ -12,7 +12,7 @@ use Rattle.pot_steps.specs.Flights.{flight_in, flights_after}
 use Rattle.pot_steps.specs.RelaySteps as step
 use Rattle.pot_steps.specs.Mending.{LosesNothing}
 use Rattle.pot_steps.specs.declared.flight.Flight.{Flight}
-use Rattle.pot_steps.specs.Stripe.{digest_of}
+use Rattle.pot_bytes.specs.Digests.{digest_of}
 use Rattle.pot_steps.specs.Flight.{partial_of, unfolded, weight_in}
 use Rattle.pot_group.specs.declared.relaying.Advanced.{Advanced}
 use Rattle.pot_group.specs.declared.relaying.Advanced.TheVariants as advanced

@@ -19,6 +19,15 @@ pub struct StartRefused<A> {
     pub shelves: Vec<Shelf<A>>,
 }
 
+/// The memory that a group takes at its start, for its log, its flights, and the blocks whose digests it knows. These are 3 KB,
+/// and stand by themselves, so that a group that is handed from one to the next is small.
+#[derive(Drop)]
+struct Memory {
+    log: Vec<Entry>,
+    flights: Vec<Flight>,
+    known: Box<Known>,
+}
+
 /// Whether these are the archives of the columns, as `Group::start` asks for them: the home of each, and then the target of its move.
 pub fn are_homes<A>(columns: &[Column], shelves: &[Shelf<A>]) -> bool
     ensures { IsTrue result ↔ (map (λ s. s.number) shelves.now ≡ flat_map homes_of columns.now) }
@@ -69,8 +78,16 @@ impl<A: Archive> Group<A> {
         let Ok(first) = table.copy(alloc) else {
             return Err(StartRefused { table, shelves });
         };
+        let Ok(known) = Box::new(alloc, Known::nothing()) else {
+            return Err(StartRefused { table, shelves });
+        };
+        let memory = Memory {
+            log,
+            flights,
+            known,
+        };
         match Archives::take(alloc, shelves) {
-            Ok(archives) => Ok(Group::open(number, first, table, log, flights, archives)),
+            Ok(archives) => Ok(Group::open(number, first, table, memory, archives)),
             Err(shelves) => Err(StartRefused { table, shelves }),
         }
     }
@@ -80,26 +97,28 @@ impl<A: Archive> Group<A> {
         number: u8,
         first: GroupTable,
         table: GroupTable,
-        log: Vec<Entry>,
-        flights: Vec<Flight>,
+        memory: Memory,
         archives: Archives<A>,
     ) -> Group<A>
         requires first { first ≡ table }
         requires relays { table.relays ≡ [] }
-        requires log { log.items ≡ [] }
-        requires room { log_bound ≤ vec_capacity log }
-        requires none { flights.items ≡ [] }
-        requires places { 16 ≤ vec_capacity flights }
+        requires log { memory.log.items ≡ [] }
+        requires room { log_bound ≤ vec_capacity memory.log }
+        requires none { memory.flights.items ≡ [] }
+        requires places { 16 ≤ vec_capacity memory.flights }
         requires taken { IsTaken (IsTrue A.account.tells) (plain A.account.meaning archives) }
         requires archives { map (λ s. s.number) archives.shelves ≡ archives_in table }
         ensures { Begins (IsTrue A.account.tells) A.account.meaning number table archives.shelves
             result }
     {
         let mut table = table;
-        let mut log = log;
+        let Memory {
+            mut log,
+            flights,
+            known,
+        } = memory;
         let mut archives = archives;
         let _rules = table.cursor();
-        let known = Known::nothing();
         open_all(&mut table, &mut log, &mut archives);
         archives.mark_opened();
         Group {

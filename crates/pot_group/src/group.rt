@@ -33,7 +33,7 @@ pub struct Group<A: Archive> {
     pub(crate) log: Vec<Entry>,
     pub(crate) flights: Vec<Flight>,
     pub(crate) archives: Archives<A>,
-    pub(crate) known: Known,
+    pub(crate) known: Box<Known>,
 }
 
 impl<A: Archive> Model for Group<A> {
@@ -102,7 +102,7 @@ impl<A: Archive> Group<A> {
             number,
             stripe,
             digest,
-            &self.known,
+            self.known.as_ref(),
             into,
         )
     }

@@ -1,6 +1,6 @@
 //! Digests that a group need not take again.
 ghost use Rattle.std.specs.Prelude.{◌≡◌};
-ghost use Rattle.pot_steps.specs.Stripe.{digest_of};
+ghost use Rattle.pot_bytes.specs.Digests.{digest_of};
 
 use pot_bytes::{Block, Digest};
 use pot_sealed::{Sealed, digest_knowing};
@@ -39,7 +39,7 @@ impl Known {
     }
 
     /// The digest of a block.
-    #[tactic(auto, unfolding(pot_steps::specs::Stripe::digest_of))]
+    #[tactic(auto, unfolding(pot_bytes::specs::Digests::digest_of))]
     pub(crate) fn digest(&self, block: &Block) -> Digest
         ensures { result ≡ digest_of block.now }
     {
@@ -53,7 +53,7 @@ impl Known {
     }
 
     /// The digest of a block that is put. It keeps both, since the parity block of a new stripe is the same.
-    #[tactic(auto, unfolding(pot_steps::specs::Stripe::digest_of))]
+    #[tactic(auto, unfolding(pot_bytes::specs::Digests::digest_of))]
     pub(crate) fn meet(&mut self, block: &Block) -> Digest
         ensures { result ≡ digest_of block.now }
     {
@@ -65,7 +65,7 @@ impl Known {
     }
 
     /// The digest of a parity block that was written. It keeps both.
-    #[tactic(auto, unfolding(pot_steps::specs::Stripe::digest_of))]
+    #[tactic(auto, unfolding(pot_bytes::specs::Digests::digest_of))]
     pub(crate) fn learn(&mut self, parity: &Block) -> Digest
         ensures { result ≡ digest_of parity.now }
     {

@@ -45,7 +45,8 @@
 //! once more. A slot is Gone that was sound before only where a count of its archive rose between its two marks (`rose` of
 //! `Begins`).
 //!
-//! What the other calls log. LogFull comes first, with no entry, where the log is full:
+//! What the other calls log. LogFull comes first, with no entry, where the log is full (`sweep` tells End there where no slot is
+//! Live from its place on):
 //!
 //! | call | entries | answer |
 //! |---|---|---|
@@ -56,6 +57,7 @@
 //! | | none, behind the last stripe | Full |
 //! | | none, or that Gone, where the next one has no room | LogFull |
 //! | `look` | Seen, Gone or Fault | the same, and the block where it is Seen |
+//! | `sweep` | Seen or Gone for each of up to four Live slots, and Fault where an archive failed; none where no slot is Live | how many were seen and how many are gone, and how far it came |
 //! | `count` | Counted | how many slots are Live, Lost and Broken, and the cursor |
 //! | `begin` | Begin, or Stuck, or none | whether a relay began, and why not |
 //! | `advance` | Hop, GaveUp, Mended or Oddly of the stripe's relay, Fault, or none where no relay stands | what it came to |
@@ -73,6 +75,7 @@ mod counting;
 mod finding;
 mod group;
 mod known;
+mod lanes;
 mod looking;
 mod moving;
 mod parities;
@@ -80,6 +83,7 @@ mod putting;
 mod reads;
 mod relaying;
 mod standing;
+mod sweeping;
 mod telling;
 mod uses;
 
@@ -92,5 +96,6 @@ pub use group::{Ended, Group};
 pub use moving::{ShelfCause, ShelfRefused};
 pub use relaying::{AdvanceFault, Advanced, BeginFault, Mend};
 pub use standing::Standing;
+pub use sweeping::{Reached, Swept};
 pub use telling::LogFull;
 pub use uses::{HomeAt, Role, Trace, Use};

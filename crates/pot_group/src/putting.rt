@@ -168,7 +168,7 @@ impl<A: Archive> Group<A> {
             }
             Some(kept) => {
                 let entry = put_entry(
-                    &mut self.known,
+                    self.known.as_mut(),
                     parity_columns,
                     job,
                     cursor,

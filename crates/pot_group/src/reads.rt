@@ -1,6 +1,6 @@
 //! The read of a slot that is to have a digest.
 ghost use Rattle.std.specs.Prelude.{◌≡◌, ◌↔◌, IsTrue, Contains};
-ghost use Rattle.pot_steps.specs.Stripe.{digest_of};
+ghost use Rattle.pot_bytes.specs.Digests.{digest_of};
 ghost use Rattle.pot_shelves.specs.Shelves.{plain, OnShelves};
 ghost use Rattle.pot_group.specs.Reads.{ReadsByDigest};
 

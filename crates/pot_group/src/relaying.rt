@@ -89,7 +89,8 @@ impl<A: Archive> Group<A> {
     ghost use Rattle.std.specs.Prelude.{None, []};
     ghost use Rattle.pot_machine.specs.declared.entry.Entry.TheVariants.{GaveUp};
     ghost use Rattle.pot_machine.specs.Slot.{digest_in};
-    ghost use Rattle.pot_steps.specs.Stripe.{Sound, digest_of};
+    ghost use Rattle.pot_bytes.specs.Digests.{digest_of};
+    ghost use Rattle.pot_steps.specs.Stripe.{Sound};
     ghost use Rattle.pot_steps.specs.Flight.{partial_of};
     ghost use Rattle.std.specs.Prelude.{Err, IsErr};
     ghost use Rattle.pot_steps.specs.RelaySteps.{no_relay};

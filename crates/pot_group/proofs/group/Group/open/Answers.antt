@@ -24,7 +24,7 @@ invariant_of-result g c =
     c.args.archives c.open_all.new.archives c.mark_opened.new.self c.cursor-rules.ensures.rules c.requires.relays c.requires.taken
     (handed_all c.args.table (numbers_of c.args.archives.shelves) c.cursor-rules.ensures.rules c.requires.archives) c.open_all.ensures.opens c.open_all.ensures.bound
     c.mark_opened.ensures.same c.mark_opened.ensures.opened in (
-      subst (λ (t : Table). IsSettled told (view_of meaning (over g c t c.args.flights.items))) (sym c.requires.first)
+      subst (λ (t : Table). IsSettled told (view_of meaning (over g c t c.args.memory.flights.items))) (sym c.requires.first)
           (subst (λ (fs : List Flight). IsSettled told (view_of meaning (over g c c.args.table fs))) (sym c.requires.none) s),
       c.open_all.ensures.room,
       c.requires.places,
@@ -37,7 +37,7 @@ pub returns : goal.returns
 returns g c =
     let told = IsTrue g.A.Archive.account.tells in
     let meaning = g.A.Archive.account.meaning in
-    subst (λ (t : Table). Begins told meaning c.args.number c.args.table c.args.archives.shelves (over g c t c.args.flights.items)) (sym c.requires.first)
+    subst (λ (t : Table). Begins told meaning c.args.number c.args.table c.args.archives.shelves (over g c t c.args.memory.flights.items)) (sym c.requires.first)
     (subst (λ (fs : List Flight). Begins told meaning c.args.number c.args.table c.args.archives.shelves (over g c c.args.table fs)) (sym c.requires.none)
     (after_begins told meaning c.args.number c.args.table c.open_all.new.table c.open_all.new.log.items
     c.args.archives c.open_all.new.archives c.mark_opened.new.self c.cursor-rules.ensures.rules c.requires.relays c.requires.taken

@@ -3,7 +3,7 @@ use Rattle.std.specs.Prelude.{◌==◌, Contains, Ok, Err}
 use Rattle.std.proofs.lemmas.Fn.{filter_same}
 use Rattle.pot_machine.specs.Slot.{digest_in}
 use Rattle.pot_machine.specs.Table.{slot_at, next_column}
-use Rattle.pot_steps.specs.Stripe.{digest_of}
+use Rattle.pot_bytes.specs.Digests.{digest_of}
 use Rattle.pot_steps.specs.declared.flight.Flight.{Flight}
 use Rattle.pot_steps.specs.Flights.{flight_in}
 use Rattle.pot_shelves.specs.Shelves.{plain, WritesAt, numbers_of}
