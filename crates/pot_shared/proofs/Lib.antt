@@ -7,3 +7,7 @@ pub mod IndexCallLemmas
 pub mod SharingLemmas
 pub mod EndLemmas
 pub mod StartLemmas
+pub mod WorkLemmas
+pub mod AddLemmas
+pub mod BlindLemmas
+pub mod FlightLemmas

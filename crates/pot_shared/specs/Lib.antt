@@ -7,3 +7,7 @@ pub mod Seen
 pub mod Catalogs
 pub mod IndexCalls
 pub mod Sharing
+pub mod Works
+pub mod Adds
+pub mod Blinds
+pub mod Callers

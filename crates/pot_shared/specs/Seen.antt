@@ -1,12 +1,11 @@
 -- Which puts passes have seen.
 use Rattle.std.specs.Prelude.{◌≡◌, ◌<◌, ℕ, List, [], Some, Contains, length, slice_get}
 use Rattle.std.specs.Prelude.{slice_index_or}
-use Rattle.pot_bytes.specs.Digests.{digest_bytes}
+use Rattle.pot_bytes.specs.Digests.{digest_bytes, digest_of}
 use Rattle.pot_bytes.specs.declared.digest.Digest.{Digest}
 use Rattle.pot_bytes.specs.declared.rack.Place.{Place}
 use Rattle.pot_machine.specs.declared.entry.Entry.{Entry}
 use Rattle.pot_machine.specs.Logs.{IsKeptPut}
-use Rattle.pot_steps.specs.Stripe.{digest_of}
 use Rattle.pot_index.specs.declared.record.Record.{Record}
 use Rattle.pot_shard.specs.FileBlocks.{file_blocks}
 use Rattle.pot_shard.specs.FileLaws.{IsStore}

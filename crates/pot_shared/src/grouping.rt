@@ -1,20 +1,21 @@
 //! The locked calls of a group.
 ghost use Rattle.std.specs.Prelude.{◌<◌, ◌≡◌, length};
 
+use crate::sealed_put::SealedPut;
 use crate::vault::{Passes, Vault};
 use pot_bytes::{Block, Place};
-use pot_group::{Counts, Kind, LogFull, Looked, PutFault, Standing};
+use pot_group::{Counts, Kind, LogFull, Looked, PutFault, Standing, Swept};
 use pot_outside::Archive;
-use pot_sealed::Sealed;
 use std::sync::Wait;
 
 impl<A: Archive> Vault<A> {
     ghost use Rattle.pot_shared.specs.Ready.{AreReady, HasSlot};
     ghost use Rattle.pot_group.specs.Calls.{PutCall, LookCall, CountCall};
+    ghost use Rattle.pot_group.specs.Sweeping.{SweepCall};
     ghost use Rattle.pot_shared.specs.Calls.{MakesAt, NextCall, StandingCall};
 
-    /// Puts a block into a group, in one turn of it, as `Group::put`. The group takes over the block's digest, and that of `parity`
-    /// where this is the parity block that it writes: another one changes no answer.
+    /// Puts a block into a group, in one turn of it, as `Group::put`. The group takes over the block's digest, and that of the parity
+    /// block that is expected where this is the one that it writes: another one changes no answer.
     ///
     /// # Errors
     /// Those of `Group::put`.
@@ -24,21 +25,20 @@ impl<A: Archive> Vault<A> {
         passes: &mut Passes<A>,
         group: u8,
         job: u32,
-        block: &Sealed,
-        parity: &Sealed,
+        next: &SealedPut,
     ) -> Result<Place, PutFault>
         requires ready { AreReady self.now.rack self.now.groups passes.old.groups }
         requires group { group < length self.now.groups }
         requires job { 0 < job }
         ensures ready { AreReady self.now.rack self.now.groups passes.new.groups }
         ensures index { passes.new.index ≡ passes.old.index }
-        ensures call { MakesAt A.account (λ told. PutCall told job block.now.block result)
+        ensures call { MakesAt A.account (λ told. PutCall told job next.now.block.block result)
             group passes.old.groups passes.new.groups }
     {
         let mut member = self.groups.enter(rt, &mut passes.groups, group as usize);
         let _before = member.group.logged();
-        member.group.expect(block, parity);
-        let answer = member.group.put(job, block.block());
+        member.group.expect(&next.block, &next.parity);
+        let answer = member.group.put(job, next.block.block());
         let _after = member.group.logged();
         self.groups
             .leave(&mut passes.groups, group as usize, member);
@@ -73,6 +73,29 @@ impl<A: Archive> Vault<A> {
         answer
     }
 
+    /// Looks at the next Live slots of its group from this place on, a few of them in one turn of it, as `Group::sweep`. The stripe and
+    /// the column may be beyond the last ones.
+    pub fn sweep<R: Wait>(&self, rt: &R, passes: &mut Passes<A>, job: u32, from: Place) -> Swept
+        requires ready { AreReady self.now.rack self.now.groups passes.old.groups }
+        requires group { from.group < length self.now.groups }
+        requires job { 0 < job }
+        ensures ready { AreReady self.now.rack self.now.groups passes.new.groups }
+        ensures index { passes.new.index ≡ passes.old.index }
+        ensures call { MakesAt A.account
+            (λ told. SweepCall told job from.stripe from.column result)
+            from.group passes.old.groups passes.new.groups }
+    {
+        let mut member = self
+            .groups
+            .enter(rt, &mut passes.groups, from.group as usize);
+        let _before = member.group.logged();
+        let swept = member.group.sweep(job, from.stripe, from.column);
+        let _after = member.group.logged();
+        self.groups
+            .leave(&mut passes.groups, from.group as usize, member);
+        swept
+    }
+
     /// Counts the slots of a group by state, in one turn of it, as `Group::count`.
     ///
     /// # Errors
@@ -101,28 +124,29 @@ impl<A: Archive> Vault<A> {
         answer
     }
 
-    /// The first place of a group at or after this one whose slot is of the kind, in one turn of it, as `Group::next`.
+    /// The first place of its group at or after this one whose slot is of the kind, in one turn of it, as `Group::next`. The stripe and
+    /// the column may be beyond the last ones.
     pub fn next<R: Wait>(
         &self,
         rt: &R,
         passes: &mut Passes<A>,
-        group: u8,
-        stripe: u32,
-        column: u8,
+        from: Place,
         kind: Kind,
     ) -> Option<Place>
         requires ready { AreReady self.now.rack self.now.groups passes.old.groups }
-        requires group { group < length self.now.groups }
+        requires group { from.group < length self.now.groups }
         ensures ready { AreReady self.now.rack self.now.groups passes.new.groups }
         ensures index { passes.new.index ≡ passes.old.index }
-        ensures call { MakesAt A.account (λ _. NextCall stripe column kind result)
-            group passes.old.groups passes.new.groups }
+        ensures call { MakesAt A.account (λ _. NextCall from.stripe from.column kind result)
+            from.group passes.old.groups passes.new.groups }
     {
-        let member = self.groups.enter(rt, &mut passes.groups, group as usize);
+        let member = self
+            .groups
+            .enter(rt, &mut passes.groups, from.group as usize);
         let _before = member.group.logged();
-        let found = member.group.next(stripe, column, kind);
+        let found = member.group.next(from.stripe, from.column, kind);
         self.groups
-            .leave(&mut passes.groups, group as usize, member);
+            .leave(&mut passes.groups, from.group as usize, member);
         found
     }
 

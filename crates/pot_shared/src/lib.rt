@@ -8,6 +8,7 @@
 //! It reads no script and starts no thread. It promises no progress, as `pot_turn`.
 #![tactic(auto)]
 
+mod caller;
 mod catalog;
 mod ending;
 mod grouping;
@@ -15,6 +16,7 @@ mod indexing;
 mod member;
 mod mending;
 mod moving;
+mod sealed_put;
 mod sharing;
 mod starting;
 #[cfg(test)]
@@ -22,9 +24,12 @@ mod tests;
 mod uses;
 mod vault;
 
+pub use caller::Caller;
 pub use catalog::{Catalog, CatalogOrigin, Strange};
 pub use ending::Closed;
 pub use member::{GroupOrigin, Logged, Member};
 pub use mending::Mending;
+pub use moving::ColumnAt;
+pub use sealed_put::SealedPut;
 pub use starting::VaultRefused;
 pub use vault::{Passes, Spaces, Vault};

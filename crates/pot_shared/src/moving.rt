@@ -6,6 +6,13 @@ use pot_group::{MoveFault, MoveStep, ShelfRefused};
 use pot_outside::{Archive, Shelf};
 use std::sync::Wait;
 
+/// A column of a group.
+#[derive(Clone, Copy, PartialEq, Eq, Debug)]
+pub struct ColumnAt {
+    pub group: u8,
+    pub column: u8,
+}
+
 impl<A: Archive> Vault<A> {
     ghost use Rattle.pot_shared.specs.Ready.{AreReady};
     ghost use Rattle.pot_shared.specs.Calls.{MakesAt};
@@ -19,27 +26,26 @@ impl<A: Archive> Vault<A> {
         &self,
         rt: &R,
         passes: &mut Passes<A>,
-        group: u8,
         job: u32,
-        column: u8,
+        at: ColumnAt,
         shelf: Shelf<A>,
     ) -> Result<(), ShelfRefused<A>>
         requires ready { AreReady self.now.rack self.now.groups passes.old.groups }
-        requires group { group < length self.now.groups }
-        requires column { column < self.now.rack.columns + self.now.rack.parity }
+        requires group { at.group < length self.now.groups }
+        requires column { at.column < self.now.rack.columns + self.now.rack.parity }
         requires job { 0 < job }
         ensures ready { AreReady self.now.rack self.now.groups passes.new.groups }
         ensures index { passes.new.index ≡ passes.old.index }
         ensures call { MakesAt A.account
-            (λ told. MoveBeginCall told A.account.meaning job column shelf result)
-            group passes.old.groups passes.new.groups }
+            (λ told. MoveBeginCall told A.account.meaning job at.column shelf result)
+            at.group passes.old.groups passes.new.groups }
     {
-        let mut member = self.groups.enter(rt, &mut passes.groups, group as usize);
+        let mut member = self.groups.enter(rt, &mut passes.groups, at.group as usize);
         let _before = member.group.logged();
-        let answer = member.group.move_begin(job, column, shelf);
+        let answer = member.group.move_begin(job, at.column, shelf);
         let _after = member.group.logged();
         self.groups
-            .leave(&mut passes.groups, group as usize, member);
+            .leave(&mut passes.groups, at.group as usize, member);
         answer
     }
 
@@ -51,25 +57,24 @@ impl<A: Archive> Vault<A> {
         &self,
         rt: &R,
         passes: &mut Passes<A>,
-        group: u8,
         job: u32,
-        column: u8,
+        at: ColumnAt,
     ) -> Result<MoveStep, MoveFault>
         requires ready { AreReady self.now.rack self.now.groups passes.old.groups }
-        requires group { group < length self.now.groups }
-        requires column { column < self.now.rack.columns + self.now.rack.parity }
+        requires group { at.group < length self.now.groups }
+        requires column { at.column < self.now.rack.columns + self.now.rack.parity }
         requires job { 0 < job }
         ensures ready { AreReady self.now.rack self.now.groups passes.new.groups }
         ensures index { passes.new.index ≡ passes.old.index }
-        ensures call { MakesAt A.account (λ told. MoveStepCall told job column result)
-            group passes.old.groups passes.new.groups }
+        ensures call { MakesAt A.account (λ told. MoveStepCall told job at.column result)
+            at.group passes.old.groups passes.new.groups }
     {
-        let mut member = self.groups.enter(rt, &mut passes.groups, group as usize);
+        let mut member = self.groups.enter(rt, &mut passes.groups, at.group as usize);
         let _before = member.group.logged();
-        let answer = member.group.move_step(job, column);
+        let answer = member.group.move_step(job, at.column);
         let _after = member.group.logged();
         self.groups
-            .leave(&mut passes.groups, group as usize, member);
+            .leave(&mut passes.groups, at.group as usize, member);
         answer
     }
 
@@ -81,27 +86,26 @@ impl<A: Archive> Vault<A> {
         &self,
         rt: &R,
         passes: &mut Passes<A>,
-        group: u8,
         job: u32,
-        column: u8,
+        at: ColumnAt,
         shelf: Shelf<A>,
     ) -> Result<u32, ShelfRefused<A>>
         requires ready { AreReady self.now.rack self.now.groups passes.old.groups }
-        requires group { group < length self.now.groups }
-        requires column { column < self.now.rack.columns + self.now.rack.parity }
+        requires group { at.group < length self.now.groups }
+        requires column { at.column < self.now.rack.columns + self.now.rack.parity }
         requires job { 0 < job }
         ensures ready { AreReady self.now.rack self.now.groups passes.new.groups }
         ensures index { passes.new.index ≡ passes.old.index }
         ensures call { MakesAt A.account
-            (λ told. SwapCall told A.account.meaning job column shelf result)
-            group passes.old.groups passes.new.groups }
+            (λ told. SwapCall told A.account.meaning job at.column shelf result)
+            at.group passes.old.groups passes.new.groups }
     {
-        let mut member = self.groups.enter(rt, &mut passes.groups, group as usize);
+        let mut member = self.groups.enter(rt, &mut passes.groups, at.group as usize);
         let _before = member.group.logged();
-        let answer = member.group.swap(job, column, shelf);
+        let answer = member.group.swap(job, at.column, shelf);
         let _after = member.group.logged();
         self.groups
-            .leave(&mut passes.groups, group as usize, member);
+            .leave(&mut passes.groups, at.group as usize, member);
         answer
     }
 }

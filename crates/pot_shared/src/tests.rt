@@ -95,6 +95,12 @@ fn vault(
     }
 }
 
+/// The column that moves and is replaced.
+const FIRST: ColumnAt = ColumnAt {
+    group: 0,
+    column: 0,
+};
+
 /// The first slot.
 const PLACE: Place = Place {
     group: 0,
@@ -154,14 +160,19 @@ fn calls_of_a_job(rt: HostRuntime) -> Result<(), Fail> {
     assert_eq!(rt; listed.len(), 0);
     assert!(rt; vault.find(&rt, alloc, &mut passes, 2, &name).is_err());
     let block = Sealed::new(&Block::zero());
+    let parity = block;
+    let next = SealedPut {
+        block,
+        parity,
+        column: 0,
+    };
+    assert_eq!(rt; vault.put(&rt, &mut passes, 0, 1, &next), Ok(PLACE));
     assert_eq!(rt;
-        vault.put(&rt, &mut passes, 0, 1, &block, &block),
-        Ok(PLACE)
-    );
-    assert_eq!(rt;
-        vault.next(&rt, &mut passes, 0, 0, 0, Kind::Live),
+        vault.next(&rt, &mut passes, PLACE, Kind::Live),
         Some(PLACE)
     );
+    let swept = vault.sweep(&rt, &mut passes, 2, PLACE);
+    assert_eq!(rt; (swept.seen, swept.gone), (2, 0));
     let mut into = Block::zero();
     assert_eq!(rt;
         vault.look(&rt, &mut passes, 2, PLACE, &mut into),
@@ -207,7 +218,13 @@ fn filled<R: Wait>(
 {
     let (vault, mut passes, _spaces) = vault(alloc, rack, lost)?;
     let block = Sealed::new(&Block::from_bytes([0x11; 1024]));
-    match vault.put(rt, &mut passes, 0, 1, &block, &block) {
+    let parity = block;
+    let next = SealedPut {
+        block,
+        parity,
+        column: 0,
+    };
+    match vault.put(rt, &mut passes, 0, 1, &next) {
         Ok(_) => Ok((vault, passes)),
         Err(_) => Err(Fail::from("the block was not put")),
     }
@@ -276,7 +293,7 @@ fn begin_move<R: Wait>(
     ensures ready { AreReady vault.now.rack vault.now.groups passes.new.groups }
 {
     let target = shelf(alloc, number, &[])?;
-    Ok(vault.move_begin(rt, passes, 0, 2, 0, target).is_ok())
+    Ok(vault.move_begin(rt, passes, 2, FIRST, target).is_ok())
 }
 
 /// One step of that move.
@@ -290,7 +307,7 @@ fn go_on<R: Wait>(
     requires column { 0 < vault.now.rack.columns + vault.now.rack.parity }
     ensures ready { AreReady vault.now.rack vault.now.groups passes.new.groups }
 {
-    vault.move_step(rt, passes, 0, 2, 0)
+    vault.move_step(rt, passes, 2, FIRST)
 }
 
 /// An empty archive replaces the home of the first column: how many slots were Live, if it does.
@@ -307,7 +324,7 @@ fn replace<R: Wait>(
     ensures ready { AreReady vault.now.rack vault.now.groups passes.new.groups }
 {
     let home = shelf(alloc, number, &[])?;
-    Ok(vault.swap(rt, passes, 0, 2, 0, home).ok())
+    Ok(vault.swap(rt, passes, 2, FIRST, home).ok())
 }
 
 /// What the archive of a number is to its column.

@@ -1,0 +1,63 @@
+-- What a job did with the passes of a vault, and the section of the logs that it made.
+use Rattle.std.specs.Prelude.{◌≡◌, ◌<◌, ℕ, Bool, List, [], IfSome, length}
+use Rattle.pot_bytes.specs.declared.rack.Rack.{Rack}
+use Rattle.pot_machine.specs.declared.entry.Entry.{Entry}
+use Rattle.pot_machine.specs.Logs.{is_of, own}
+use Rattle.pot_index.specs.Entries as index
+use Rattle.pot_worked.specs.Worked.{added}
+use Rattle.pot_rows.specs.Rows.{view_at}
+use Rattle.pot_rows.specs.Works.{RowWorked, RowAlone}
+use Rattle.pot_shared.specs.declared.member.Logged.{Logged}
+use Rattle.pot_shared.specs.Members.{entries_of}
+use Rattle.pot_shared.specs.Ready.{GroupPasses}
+use Rattle.pot_shared.specs.Catalogs.{IndexPasses}
+use Rattle.pot_replies.specs.Sections.{Section}
+use Rattle.pot_replies.specs.Settings.{Setting}
+
+-- whether an entry of a group is the job's
+abbrev pub of_job : ℕ → Logged → Bool
+of_job job l = is_of job l.entry
+
+-- what the log of each group gained
+abbrev pub gained : GroupPasses → GroupPasses → ℕ → List Entry
+gained old new g = entries_of (added (view_at old g) (view_at new g))
+
+-- The passes saw more and logged nothing: that is work of any job, and of one that nobody else
+-- worked for, no entry came.
+pub record OnlySaw (old new : GroupPasses) : Type 0 where
+  pub worked : (job : ℕ) → RowWorked (of_job job) old new
+  pub none : (job : ℕ) → RowAlone (of_job job) old new → (g : ℕ) → own job (gained old new g) ≡ []
+
+-- what the passes of all turns know
+pub record Known : Type 0 where
+  pub groups : GroupPasses
+  pub index : IndexPasses
+
+abbrev pub known : GroupPasses → IndexPasses → Known
+known groups index = record { groups = groups; index = index }
+
+-- The passes worked for the job, and for no other.
+pub record JobWorked (job : ℕ) (old new : Known) : Type 0 where
+  pub groups : RowWorked (of_job job) old.groups new.groups
+  pub index : RowWorked (index.is_of job) old.index new.index
+
+-- Nobody else logged an entry of the job meanwhile.
+pub record JobAlone (job : ℕ) (old new : Known) : Type 0 where
+  pub groups : RowAlone (of_job job) old.groups new.groups
+  pub index : RowAlone (index.is_of job) old.index new.index
+
+-- the logs that the passes had seen, and what these gained
+abbrev pub section_of : Known → Known → Section
+section_of old new = record {
+  before = λ g. entries_of (view_at old.groups g).seen;
+  added = gained old.groups new.groups;
+  index_before = (view_at old.index 0).seen;
+  index_added = added (view_at old.index 0) (view_at new.index 0);
+}
+
+-- The rack of a session, the tables that its groups read, and the records that its index read.
+pub record IsSettingOf (s : Setting) (rack : Rack) (k : Known) : Type 0 where
+  pub rack_is : s.rack ≡ rack
+  pub first : (g : ℕ) → g < length k.groups.names
+      → IfSome (view_at k.groups g).origin (λ o. s.first g ≡ o.first)
+  pub read : IfSome (view_at k.index 0).origin (λ o. s.read ≡ o.read)
