@@ -1,5 +1,5 @@
 -- Where the blinds of a job's relays come from, part after part.
-use Rattle.std.proofs.Common.{◌≡◌, ◌≢◌, ⊎_elim, inl, inr, ℕ, Bool, true, false, List, [], ◌∷◌, ◌++◌, refl, ap, sym, ◌∙◌, subst}
+use Rattle.std.proofs.Common.{◌≡◌, ◌≢◌, ⊎_elim, inl, inr, ℕ, false, List, [], ◌∷◌, ◌++◌, refl, ap, sym, ◌∙◌, subst}
 use Rattle.std.specs.Prelude.{Option, Some, None, Result, Ok, Err, filter}
 use Rattle.std.proofs.lemmas.Bool.{cases_eq}
 use lib.Seq.{drop-length}
@@ -12,23 +12,19 @@ use Rattle.pot_machine.specs.declared.entry.Entry.TheVariants as entry
 use Rattle.pot_machine.specs.Logs.{IsKeptPut, own}
 use Rattle.pot_machine.specs.Table.{Table}
 use Rattle.pot_steps.specs.GroupStep.{Passed, gone_entries, skips}
-use Rattle.pot_steps.specs.Stripe.{digest_of}
+use Rattle.pot_bytes.specs.Digests.{digest_of}
 use Rattle.pot_group.specs.declared.answers.PutFault.{PutFault}
 use Rattle.pot_group.specs.declared.answers.PutFault.TheVariants as fault
 use Rattle.pot_index.specs.declared.record.Split.{Split}
 use Rattle.pot_pads.specs.Pads.{Pads}
-use Rattle.pot_turn.specs.declared.name.TurnName.{TurnName}
 use Rattle.pot_replies.specs.Stores.{IsUnkept, Placed, Puts, in_group}
 use Rattle.pot_rows.specs.Rows.{view_at}
-use Rattle.pot_rows.specs.Works.{AllIdle, RowWorked}
-use Rattle.pot_rows.proofs.WorkLemmas.{row_work_in_parts, row_alone_in_parts}
+use Rattle.pot_rows.specs.Works.{RowWorked}
 use Rattle.pot_shared.specs.declared.mending.Mending.{Mending}
 use Rattle.pot_shared.specs.MendCalls.{MendsPlace}
 use Rattle.pot_shared.specs.Members.{entries_of}
-use Rattle.pot_shared.specs.Ready.{AreReady, GroupPass, GroupPasses}
-use Rattle.pot_shared.specs.Seen.{RowKnowsMore}
-use Rattle.pot_store.specs.Adds.{Adds}
-use Rattle.pot_store.specs.Blinds.{BeganNone, Blinds, GoesOver, Mends, Part, Quiet, is_begin}
+use Rattle.pot_shared.specs.Ready.{GroupPass, GroupPasses}
+use Rattle.pot_shared.specs.Blinds.{BeganNone, Blinds, is_begin}
 use Rattle.pot_store.specs.declared.renewing.RenewFileFault.{RenewFileFault}
 use Rattle.pot_store.specs.declared.renewing.RenewFileFault.TheVariants as renew
 use Rattle.pot_store.specs.declared.storing.Stored.{Stored}
@@ -37,53 +33,10 @@ use Rattle.pot_store.specs.Puts.{ArePut, EndsPut, PutsEnd}
 use Rattle.pot_store.specs.Renewals.{PutsSplit, StopsAt}
 use Rattle.pot_store.specs.Visits.{Came, LooksAgain, LooksOnce, look_logs}
 use Rattle.pot_store.specs.Visits as came
-use Rattle.pot_store.specs.Works.{OnlySaw, gained, of_job}
-use Rattle.pot_store.proofs.WorkLemmas.{known_none, known_work, own_more}
-use Rattle.pot_store.proofs.SawLemmas.{saw_none}
+use Rattle.pot_shared.specs.Works.{gained, of_job}
+use Rattle.pot_shared.proofs.BlindLemmas.{blinds_mends, blinds_quiet, blinds_then, none_adds, none_of_two}
 
 -- NO RELAY BEGAN
-
-none_at : (b : Bool) (x : Entry) (xs zs : List Entry) → is_begin x ≡ b → filter is_begin (x ∷ xs) ≡ [] → (filter is_begin xs ≡ [] → filter is_begin zs ≡ []) → filter is_begin (x ∷ zs) ≡ []
-none_at true x xs zs is p more =
-    let first : filter is_begin (x ∷ xs) ≡ x ∷ filter is_begin xs = rw is refl in
-    let none : x ∷ filter is_begin xs ≡ [] = sym first ∙ p in
-    absurd (cc none)
-none_at false x xs zs is p more =
-    let first : filter is_begin (x ∷ xs) ≡ filter is_begin xs = rw is refl in
-    let then : filter is_begin (x ∷ zs) ≡ filter is_begin zs = rw is refl in
-    then ∙ more (sym first ∙ p)
-
-none_of_two : (xs ys : List Entry) → filter is_begin xs ≡ [] → filter is_begin ys ≡ [] → filter is_begin (xs ++ ys) ≡ []
-none_of_two [] ys p q = q
-none_of_two (x ∷ xs) ys p q = none_at (is_begin x) x xs (xs ++ ys) refl p (λ rest. none_of_two xs ys rest q)
-
--- the passes only saw more
-pub none_saw : (job : ℕ) (old new : GroupPasses) → OnlySaw old new → BeganNone job old new
-none_saw job old new saw = record { worked = saw.worked job; none = λ alone g. ap (λ es. filter is_begin es) (saw.none job alone g) }
-
--- nothing was done
-pub none_yet : (job : ℕ) (row : GroupPasses) → AllIdle row → BeganNone job row row
-none_yet job row idle = none_saw job row row (saw_none row idle)
-
--- one behind the other
-pub none_more : (job : ℕ) (u v w : GroupPasses) → BeganNone job u v → BeganNone job v w → BeganNone job u w
-none_more job u v w one two = record {
-  worked = row_work_in_parts (of_job job) u v w one.worked two.worked;
-  none = λ alone g. (
-      let parts = row_alone_in_parts (of_job job) u v w one.worked two.worked alone in
-      ap (λ es. filter is_begin es) (own_more job u v w one.worked two.worked g)
-      ∙ none_of_two (own job (gained u v g)) (own job (gained v w g)) (one.none parts.0 g) (two.none parts.1 g));
-}
-
--- entries of one group, of which none is a Begin
-pub none_adds : (job group : ℕ) (entries : List Entry) (old new : GroupPasses) → filter is_begin entries ≡ [] → Adds job group entries old new → BeganNone job old new
-none_adds job group entries old new none adds = record {
-  worked = adds.worked;
-  none = λ alone g. ⊎_elim
-      (λ (e : g ≡ group). subst (λ n. filter is_begin (own job (gained old new n)) ≡ []) (sym e) (ap (λ es. filter is_begin es) (adds.own_is alone) ∙ none))
-      (λ (ne : g ≢ group). ap (λ es. filter is_begin es) (adds.none_else alone g ne))
-      (cases_eq g group);
-}
 
 look_begins : (job : ℕ) (p : Place) (c : Came) → filter is_begin (look_logs job p c) ≡ []
 look_begins job p came.Unknown = refl
@@ -96,13 +49,6 @@ look_begins job p came.Barred = refl
 -- one look
 pub none_look : (job : ℕ) (p : Place) (c : Came) (old new : GroupPasses) → LooksOnce job p c old new → BeganNone job old new
 none_look job p c old new look = none_adds job p.group (look_logs job p c) old new (look_begins job p c) look.visits.adds
-
--- the passes know more, and nothing was logged
-pub none_known : (job : ℕ) (rack : Rack) (names : List TurnName) (old new : GroupPasses) → AreReady rack names old → RowKnowsMore old new → BeganNone job old new
-none_known job rack names old new ready knows = record {
-  worked = known_work job rack names old new ready knows;
-  none = λ alone g. ap (λ es. filter is_begin es) (known_none job rack names old new ready knows alone g);
-}
 
 -- PUTS
 
@@ -185,32 +131,8 @@ module _ (rack : Rack) (geometry : Geometry) (job : ℕ) where
     none_split (Err (renew.Odd wanted found)) stop = none_stop (renew.Odd wanted found) stop
     none_split (Err (renew.Full group)) stop = none_stop (renew.Full group) stop
 
--- BLINDS
-
-goes_then : (told : Type 0) (job : ℕ) (xs ys : List Part) (a b c : Pads) (u v w : GroupPasses) → GoesOver told job xs a b u v → GoesOver told job ys b c v w → GoesOver told job (xs ++ ys) a c u w
-goes_then told job [] ys a b c u v w (same, stays) rest =
-    subst (λ (x : Pads). GoesOver told job ys x c u w) same (subst (λ (x : GroupPasses). GoesOver told job ys b c x w) stays rest)
-goes_then told job (x ∷ xs) ys a b c u v w (mid, now, goes, more) rest = (mid, now, goes, goes_then told job xs ys mid b c now v w more rest)
-
+-- a place was mended, and looked at once more
 module _ {told : Type 0} {job : ℕ} where
-  -- nothing was done
-  pub blinds_none : {pads : Pads} {row : GroupPasses} → Blinds told job pads pads row row
-  blinds_none = record { parts = []; goes = (refl, refl) }
-
-  pub blinds_quiet : {pads : Pads} {old new : GroupPasses} → BeganNone job old new → Blinds told job pads pads old new
-  blinds_quiet {pads} {old} {new} quiet = record { parts = Quiet ∷ []; goes = (pads, new, (refl, quiet), (refl, refl)) }
-
-  pub blinds_mends : {p : Place} {pads after : Pads} {result : Mending} {old new : GroupPasses} → MendsPlace told job p pads after result old new → Blinds told job pads after old new
-  blinds_mends {p} {pads} {after} {result} {old} {new} mends = record { parts = Mends p result ∷ []; goes = (after, new, mends, (refl, refl)) }
-
-  -- one behind the other
-  pub blinds_then : {a b c : Pads} {u v w : GroupPasses} → Blinds told job a b u v → Blinds told job b c v w → Blinds told job a c u w
-  blinds_then {a} {b} {c} {u} {v} {w} one two = record {
-    parts = one.parts ++ two.parts;
-    goes = goes_then told job one.parts two.parts a b c u v w one.goes two.goes;
-  }
-
-  -- a place was mended, and looked at once more
   pub blinds_again : {p : Place} {c : Came} {pads after : Pads} {result : Mending} {old mid new : GroupPasses} → MendsPlace told job p pads after result old mid → LooksAgain job p c mid new
       → Blinds told job pads after old new
   blinds_again {p} {c} {pads} {after} {result} {old} {mid} {new} mends again =

@@ -108,7 +108,7 @@ pub record IsReady (d : Drawn) (a : Inside) : Type 0 where
   pub geometry : a.geometry ≡ d.geometry
   pub file : a.file.now ≡ d.file
   pub start : a.start.value ≡ d.start
-  pub holds : IsDrawing a.geometry a.file.now a.start.value a.pads a.id a.random.items a.blocks.items a.piece a.left
+  pub holds : IsDrawing a.geometry a.file.now a.start.value a.pads a.id a.last.random.items a.last.blocks.items a.piece a.left
   pub some : 0 < a.left
   pub next : a.piece * (a.geometry.fragments * a.geometry.shards) - a.left ≡ d.next
 

@@ -11,7 +11,7 @@ use Rattle.pot_machine.specs.Logs.{own, replayed}
 use Rattle.pot_machine.specs.declared.entry.Entry.{Entry}
 use Rattle.pot_machine.specs.Table.{Table, relay_at}
 use Rattle.pot_machine.proofs.Logs.{replays_is, replayed_append}
-use Rattle.pot_steps.specs.Stripe.{digest_of}
+use Rattle.pot_bytes.specs.Digests.{digest_of}
 use Rattle.pot_steps.specs.GroupStep.{Passed, skips, gone_entries, put_entry, unkept}
 use Rattle.pot_group.specs.Group.{GroupView}
 use Rattle.pot_group.specs.declared.answers.PutFault.{PutFault}
@@ -28,12 +28,12 @@ use Rattle.pot_shared.specs.Ready.{GroupPass, GroupPasses, AreReady, IsTableOf}
 use Rattle.pot_group.specs.Calls.{PutCall, PutTells, PutNothing}
 use Rattle.pot_shared.specs.Calls.{CallAt}
 use Rattle.pot_shared.proofs.CallLemmas.{is_table}
-use Rattle.pot_store.specs.Works.{of_job, gained}
+use Rattle.pot_shared.specs.Works.{of_job, gained}
 use Rattle.pot_store.specs.Puts.{ArePut, EndsFull, EndsLogFull, EndsPut, PutsEnd}
-use Rattle.pot_store.proofs.WorkLemmas.{group_work, group_own, group_else, own_more}
+use Rattle.pot_shared.proofs.WorkLemmas.{group_work, group_own, group_else, own_more}
 use Rattle.pot_store.proofs.PutLemmas.{all_put, unkept_put}
 use Rattle.pot_store.proofs.StepLemmas.{called_here, met_log, left_log}
-use Rattle.pot_store.proofs.AddLemmas.{its_gain}
+use Rattle.pot_shared.proofs.AddLemmas.{its_gain}
 use Rattle.pot_store.proofs.ReadLemmas.{both_gained, seen_parts}
 
 -- a log that was not full has room while nothing was logged

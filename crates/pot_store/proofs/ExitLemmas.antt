@@ -7,7 +7,7 @@ use Rattle.pot_bytes.specs.declared.rack.Place.{Place}
 use Rattle.pot_bytes.specs.declared.rack.Rack.{Rack}
 use Rattle.pot_object.specs.Pieces.{longest, pieces_of}
 use Rattle.pot_pads.specs.Pads.{Pads}
-use Rattle.pot_steps.specs.Stripe.{digest_of}
+use Rattle.pot_bytes.specs.Digests.{digest_of}
 use Rattle.pot_shard.proofs.PlaceLemmas.{place_laws}
 use Rattle.pot_group.specs.declared.answers.PutFault.{PutFault}
 use Rattle.pot_index.specs.declared.record.Record.{Record}
@@ -28,10 +28,10 @@ use Rattle.pot_shared.specs.Seen.{RowKnowsMore}
 use Rattle.pot_shared.specs.Catalogs.{IndexPasses, IsIndexReady}
 use Rattle.pot_shared.specs.IndexCalls.{IndexCall, HasReserved, ReservesName, Abandons, PublishesRecord}
 use Rattle.pot_store.specs.Drawing.{random_from, blocks_from}
-use Rattle.pot_store.specs.Works.{of_job, gained, known, JobWorked, JobAlone, section_of, IsSettingOf}
+use Rattle.pot_shared.specs.Works.{of_job, gained, known, JobWorked, JobAlone, section_of, IsSettingOf}
 use Rattle.pot_store.specs.Puts.{ArePut, PutsEnd}
 use Rattle.pot_store.specs.Stores.{StoreRow, DrawsFrom, record_of, fault_of}
-use Rattle.pot_store.proofs.WorkLemmas.{own_more, known_work, known_none}
+use Rattle.pot_shared.proofs.WorkLemmas.{own_more, known_work, known_none}
 use Rattle.pot_store.proofs.PutLemmas.{take_all}
 use Rattle.pot_store.proofs.IndexLemmas.{all_publish, publish_adds, all_abandon, abandon_adds}
 use Rattle.pot_store.proofs.StoreLemmas.{reserved_seen, index_job, index_owns, not_strange, stored_row, refused_row}

@@ -15,7 +15,7 @@ use Rattle.pot_machine.specs.Slot.{is_live, is_void}
 use Rattle.pot_machine.specs.Table.{slot_at}
 use Rattle.pot_machine.specs.Logs.{own, replayed}
 use Rattle.pot_machine.proofs.Logs.{replays_is}
-use Rattle.pot_steps.specs.Stripe.{digest_of}
+use Rattle.pot_bytes.specs.Digests.{digest_of}
 use Rattle.pot_shard.specs.FileBlocks.{file_blocks}
 use Rattle.pot_steps.proofs.CallLemmas.{is_digest}
 use Rattle.pot_index.specs.declared.entry.IndexEntry.TheVariants.{Find}
@@ -39,12 +39,12 @@ use Rattle.pot_shared.specs.Catalogs.{IndexPasses, IsIndexReady, Publishes}
 use Rattle.pot_shared.specs.IndexCalls.{IndexCall, FindsRecord}
 use Rattle.pot_store.specs.declared.fetching.FetchFault.{FetchFault}
 use Rattle.pot_store.specs.declared.fetching.FetchFault.TheVariants as fault
-use Rattle.pot_store.specs.Works.{of_job, gained, known, section_of, JobWorked, JobAlone, IsSettingOf}
+use Rattle.pot_shared.specs.Works.{of_job, gained, known, section_of, JobWorked, JobAlone, IsSettingOf}
 use Rattle.pot_store.specs.Visits.{Seen, Lost, Visit, IsReadAt, EndsGone, visit_at, came_at, place_in, logged_from, seen_in}
 use Rattle.pot_store.specs.Stored.{blocks_in, IsStoredAs, IsReadOf, FetchGives}
 use Rattle.pot_store.specs.Reads.{IsMade, AreMade, AreHad, IsStopped, IsFileIn, EndsFetch}
 use Rattle.pot_store.specs.Fetches.{AreFilled, FetchRow, IsUnfinished}
-use Rattle.pot_store.proofs.WorkLemmas.{known_work, known_none, own_more}
+use Rattle.pot_shared.proofs.WorkLemmas.{known_work, known_none, own_more}
 use Rattle.pot_store.proofs.ReadLemmas.{both_gained, read_back, seen_parts}
 use Rattle.pot_store.proofs.EntryLemmas.{has_place}
 use Rattle.pot_store.proofs.StoredLemmas.{from_blocks, same_file}

@@ -11,7 +11,7 @@ use Rattle.pot_machine.specs.Rules.{IsTable}
 use Rattle.pot_machine.specs.Slot.{is_void}
 use Rattle.pot_machine.specs.Table.{Table, slot_at}
 use Rattle.pot_machine.proofs.Filled.{filled_stays, not_void}
-use Rattle.pot_steps.specs.Stripe.{digest_of}
+use Rattle.pot_bytes.specs.Digests.{digest_of}
 use Rattle.pot_shard.specs.FileBlocks.{file_blocks}
 use Rattle.pot_index.specs.declared.record.Record.{Record}
 use Rattle.pot_index.specs.Fits.{FitsRack}
@@ -25,7 +25,7 @@ use Rattle.pot_machine.specs.Logs.{IsKeptPut}
 use Rattle.pot_shared.specs.Seen.{RowKnowsMore}
 use Rattle.pot_shared.specs.Catalogs.{IndexPasses, IsIndexReady}
 use Rattle.pot_shared.specs.IndexCalls.{IndexCall, FindsRecord}
-use Rattle.pot_store.specs.Works.{known, IsSettingOf}
+use Rattle.pot_shared.specs.Works.{known, IsSettingOf}
 use Rattle.pot_store.specs.Fetches.{AreFilled}
 use Rattle.pot_store.specs.Visits.{place_in}
 use Rattle.pot_store.proofs.DigestLemmas.{put_stays}

@@ -24,7 +24,7 @@ use Rattle.pot_replies.specs.Sections.{names_after}
 use Rattle.pot_shared.specs.declared.catalog.Strange.{Strange}
 use Rattle.pot_shared.specs.Catalogs.{IndexPass, IndexPasses}
 use Rattle.pot_shared.specs.IndexCalls.{IndexCall, ReservesName, Abandons, PublishesRecord}
-use Rattle.pot_store.proofs.WorkLemmas.{all_none, all_one}
+use Rattle.pot_shared.proofs.WorkLemmas.{all_none, all_one}
 
 same_added : {X : Type 0} (xs es fs : List X) → xs ++ fs ≡ xs ++ es → es ≡ fs
 same_added xs es fs e = sym (append_cancel_left xs fs es e)

@@ -1,4 +1,3 @@
-pub mod WorkLemmas
 pub mod DrawingLemmas
 pub mod PutLemmas
 pub mod CursorLemmas
@@ -13,7 +12,6 @@ pub mod PlanLemmas
 pub mod LookLemmas
 pub mod EntryLemmas
 pub mod DigestLemmas
-pub mod AddLemmas
 pub mod VisitLemmas
 pub mod RelayLemmas
 pub mod MendLemmas

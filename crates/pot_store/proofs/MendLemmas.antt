@@ -28,12 +28,12 @@ use Rattle.pot_replies.proofs.Excluding.{last_same}
 use Rattle.pot_shared.specs.MendCalls.{GoesOn, MendTurns, MendsPlace, begins, blind_at}
 use Rattle.pot_shared.specs.declared.mending.Mending.{Mending}
 use Rattle.pot_shared.proofs.CallLemmas.{ready_again, set_twice}
-use Rattle.pot_store.specs.Adds.{Adds, IsFirst}
-use Rattle.pot_store.specs.Works.{gained}
+use Rattle.pot_shared.specs.Adds.{Adds, IsFirst}
+use Rattle.pot_shared.specs.Works.{gained}
 use Rattle.pot_store.specs.Visits.{Came, EndsGone, EndsSecond, LooksAgain, LooksOnce, MayVisit, MendsOn, ReadsBlock, SoundThenGone, look_logs, lost_if_gone, was_seen}
 use Rattle.pot_store.specs.Visits as came
-use Rattle.pot_store.proofs.WorkLemmas.{all_none, all_one}
-use Rattle.pot_store.proofs.AddLemmas.{adds_call, adds_none, adds_then, is_first, left_long, seen_parts}
+use Rattle.pot_shared.proofs.WorkLemmas.{all_none, all_one}
+use Rattle.pot_shared.proofs.AddLemmas.{adds_call, adds_none, adds_then, is_first, left_long, seen_parts}
 use Rattle.pot_store.proofs.VisitLemmas.{gained_both, gained_by, just_this, log_met, no_entry, reads_behind}
 use Rattle.pot_store.proofs.RelayLemmas.{AreSteps, fault_entry, odd_entry, second_of, turn_step}
 

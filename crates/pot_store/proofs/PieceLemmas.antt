@@ -55,15 +55,15 @@ module _ (job : ℕ) (kept : Record) (i j : ℕ) (bytes : List ℕ) (u v w : Gro
         are = read.ends.2 ∙ fragments_more sofar.contents content bytes j sofar.had.count sofar.are;
       }
 
-  pub piece_stop : (new object : List ℕ) (e : FetchFault) → i < pieces_of kept.length → j < k → FragmentRead job kept i j bytes new (Err e) v w → PieceRead job kept i object (Err e) u w
-  piece_stop new object e in_pieces in_fragments read = record {
+  pub piece_stop : (new : List ℕ) (e : FetchFault) → i < pieces_of kept.length → j < k → FragmentRead job kept i j bytes new (Err e) v w → PieceRead job kept i (Err e) u w
+  piece_stop new e in_pieces in_fragments read = record {
     visits = sofar.visits ++ read.visits;
     reads = then_reads read.visits read.reads;
     ends = stopped_then kept (i * k) j sofar.visits read.visits sofar.contents e w sofar.had
         (stopped_first kept i j read.visits e w in_pieces in_fragments read.long read.ends);
   }
 
-  pub piece_end : (object : List ℕ) → j ≡ k → object ≡ meaning object_size bytes → PieceRead job kept i object (Ok tt) u v
+  pub piece_end : (object : List ℕ) → j ≡ k → object ≡ meaning object_size bytes → PieceRead job kept i (Ok object) u v
   piece_end object e is = record {
     visits = sofar.visits;
     reads = sofar.reads;
@@ -105,7 +105,7 @@ module _ (job : ℕ) (kept : Record) (i : ℕ) (bytes : List ℕ) (u v w : Group
   file_reads : (vs : List Visit) → AreMade job kept.places (i * kept.geometry.fragments * kept.geometry.shards) vs v w → AreMade job kept.places 0 (sofar.visits ++ vs) u w
   file_reads vs reads = reads_then job u v w sofar.reads.worked reads.worked kept.places 0 sofar.visits vs sofar.reads (subst (λ m. AreMade job kept.places m vs v w) file_from reads)
 
-  pub file_step : (object : List ℕ) → PieceRead job kept i object (Ok tt) v w → FileSofar job kept (i + 1) (bytes ++ drop 64 object) u w
+  pub file_step : (object : List ℕ) → PieceRead job kept i (Ok object) v w → FileSofar job kept (i + 1) (bytes ++ drop 64 object) u w
   file_step object read =
       let e : i * kept.geometry.fragments + kept.geometry.fragments ≡ (i + 1) * kept.geometry.fragments = omega arith in
       record {
@@ -117,8 +117,8 @@ module _ (job : ℕ) (kept : Record) (i : ℕ) (bytes : List ℕ) (u v w : Group
         are = objects_more kept.geometry.fragments i sofar.contents read.ends.0 object bytes sofar.had.count read.ends.2 sofar.are;
       }
 
-  pub file_stop : (new object : List ℕ) (e : FetchFault) → PieceRead job kept i object (Err e) v w → FileRead job kept new (Err e) u w
-  file_stop new object e read = record {
+  pub file_stop : (new : List ℕ) (e : FetchFault) → PieceRead job kept i (Err e) v w → FileRead job kept new (Err e) u w
+  file_stop new e read = record {
     visits = sofar.visits ++ read.visits;
     reads = file_reads read.visits read.reads;
     ends = stopped_then kept 0 (i * kept.geometry.fragments) sofar.visits read.visits sofar.contents e w sofar.had

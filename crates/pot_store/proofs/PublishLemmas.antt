@@ -6,7 +6,7 @@ use Rattle.std.proofs.lemmas.List.Elements.{All-nil, All-cons}
 use Rattle.std.proofs.lemmas.Option.{same_Some}
 use Rattle.std.proofs.Math.Nat.{mul_assoc}
 use Rattle.pot_bytes.specs.Lists.{AreBytes}
-use Rattle.pot_bytes.specs.Digests.{digest_bytes}
+use Rattle.pot_bytes.specs.Digests.{digest_bytes, digest_of}
 use Rattle.pot_bytes.specs.Rack.{IsRack}
 use Rattle.pot_bytes.specs.declared.rack.Geometry.{Geometry}
 use Rattle.pot_bytes.specs.declared.rack.Place.{Place}
@@ -14,7 +14,6 @@ use Rattle.pot_bytes.specs.declared.rack.Rack.{Rack}
 use Rattle.pot_bytes.proofs.Elements.{element_of_map}
 use Rattle.pot_object.specs.Pieces.{longest, pieces_of}
 use Rattle.pot_pads.specs.Pads.{Pads}
-use Rattle.pot_steps.specs.Stripe.{digest_of}
 use Rattle.pot_shard.specs.FileBlocks.{file_blocks}
 use Rattle.pot_shard.specs.FileLaws.{IsStore}
 use Rattle.pot_shard.proofs.DrawLemmas.{draw_laws}
@@ -30,7 +29,7 @@ use Rattle.pot_rows.proofs.Lists.{get_or_last}
 use Rattle.pot_replies.specs.Stores.{Placed, place_of}
 use Rattle.pot_shared.specs.Ready.{GroupPasses, AreReady}
 use Rattle.pot_shared.specs.Seen.{SeesFile, SeesPut}
-use Rattle.pot_store.specs.Works.{of_job}
+use Rattle.pot_shared.specs.Works.{of_job}
 use Rattle.pot_store.specs.Drawing.{random_from, blocks_from}
 use Rattle.pot_store.specs.Puts.{ArePut}
 use Rattle.pot_store.specs.Stores.{record_of}

@@ -10,7 +10,7 @@ use Rattle.pot_machine.specs.declared.entry.Entry.TheVariants as entry
 use Rattle.pot_machine.specs.Table.{Table}
 use Rattle.pot_machine.specs.Machine.{Legal, TakesPut}
 use Rattle.pot_machine.specs.Logs.{is_of, IsKeptPut}
-use Rattle.pot_steps.specs.Stripe.{digest_of}
+use Rattle.pot_bytes.specs.Digests.{digest_of}
 use Rattle.pot_steps.specs.GroupStep.{Passed, skips, gone_entries, put_entry, unkept}
 use Rattle.pot_group.specs.Group.{GroupView}
 use Rattle.pot_group.specs.declared.answers.PutFault.{PutFault}
@@ -19,7 +19,7 @@ use Rattle.pot_worked.specs.Laws.{AllOf}
 use Rattle.pot_replies.specs.Stores.{Placed, Puts, in_group, IsUnkept}
 use Rattle.pot_group.specs.Calls.{PutTells}
 use Rattle.pot_rows.proofs.Lists.{take_next as next}
-use Rattle.pot_store.proofs.WorkLemmas.{all_none, all_cons, all_one, all_append}
+use Rattle.pot_shared.proofs.WorkLemmas.{all_none, all_cons, all_one, all_append}
 
 -- ALL THAT A PUT LOGS IS THE JOB'S
 

@@ -14,7 +14,7 @@ use Rattle.pot_machine.specs.declared.slot.SlotState.TheVariants.{Live}
 use Rattle.pot_machine.specs.Machine.{Replays}
 use Rattle.pot_machine.specs.Table.{slot_at}
 use Rattle.pot_machine.specs.Logs.{is_of, own, replayed}
-use Rattle.pot_steps.specs.Stripe.{digest_of}
+use Rattle.pot_bytes.specs.Digests.{digest_of}
 use Rattle.pot_worked.specs.Worked.{added}
 use Rattle.pot_worked.proofs.WorkedLemmas.{both_added}
 use Rattle.pot_rows.specs.Rows.{view_at}
@@ -22,11 +22,11 @@ use Rattle.pot_rows.specs.Works.{RowWorked, RowAlone, AllIdle}
 use Rattle.pot_rows.proofs.WorkLemmas.{row_work_in_parts, row_alone_in_parts}
 use Rattle.pot_shared.specs.Members.{entries_of}
 use Rattle.pot_shared.specs.Ready.{GroupPasses}
-use Rattle.pot_store.specs.Works.{of_job, gained}
-use Rattle.pot_store.specs.Adds.{Adds}
+use Rattle.pot_shared.specs.Works.{of_job, gained}
+use Rattle.pot_shared.specs.Adds.{Adds}
 use Rattle.pot_store.specs.Visits.{Came, Lost, Visit, unvisited, IsVisit, IsReadAt, HasPut, ReadsBlock, SoundThenGone, EndsGone, visit_at, place_in, logged_from}
 use Rattle.pot_store.specs.Reads.{IsMade, AreMade}
-use Rattle.pot_store.proofs.WorkLemmas.{own_more, row_stays}
+use Rattle.pot_shared.proofs.WorkLemmas.{own_more, row_stays}
 use Rattle.pot_store.proofs.LookLemmas.{visit_front, visit_back, visit_none, visit_set, visit_other, set_long, logged-append, logged_none, logged_last, logged_set, logged_set_else}
 
 -- AN ENTRY AMONG OTHERS

@@ -4,7 +4,7 @@ use Rattle.std.specs.Prelude.{Vec, Ok, Err, nat_eq, not}
 use Rattle.std.specs.Cmp.Lexicographic.{pointwise, same_text, other_text}
 use Rattle.std.specs.Global.{Global}
 use Rattle.pot_bytes.specs.declared.digest.Digest.{Digest}
-use Rattle.pot_steps.specs.Stripe.{digest_of}
+use Rattle.pot_bytes.specs.Digests.{digest_of}
 use Rattle.pot_index.specs.declared.record.Record.{Record}
 use Rattle.pot_rows.specs.Works.{AllIdle}
 use Rattle.pot_shared.specs.Ready.{GroupPasses}

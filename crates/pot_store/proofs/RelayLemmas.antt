@@ -1,6 +1,6 @@
 -- What the turns of a mend log.
 use Rattle.std.proofs.Common.{◌≡◌, ◌≤◌, ◌⊎◌, inl, inr, ℕ, zero, suc, Bool, true, false, List, [], ◌∷◌, ◌++◌, length, refl, ap, sym, ◌∙◌, subst, arith, eq-eqb}
-use Rattle.std.specs.Prelude.{Option, Some, None, IsSomeAnd, IsTrue, Result, Ok, Err, Contains, ◌==◌, ◌&&◌, ◌↔◌, if◌then◌else◌, filter, find, is_some}
+use Rattle.std.specs.Prelude.{Some, IsSomeAnd, IsTrue, Result, Ok, Err, Contains, ◌==◌, ◌&&◌, ◌↔◌, if◌then◌else◌, filter, find, is_some}
 use Rattle.std.proofs.lemmas.Bool.{eqb-true}
 use Rattle.pot_bytes.specs.declared.digest.Digest.{Digest}
 use Rattle.pot_bytes.specs.declared.rack.Place.{Place}
@@ -24,6 +24,7 @@ use Rattle.pot_shared.specs.Ready.{GroupPass}
 use Rattle.pot_shared.specs.Calls.{CallTurn}
 use Rattle.pot_group.specs.Calls.{MendCall, RelayEntries}
 use Rattle.pot_shared.specs.MendCalls.{GoesOn}
+use Rattle.pot_shared.proofs.FlightLemmas.{at_end, on_way}
 use Rattle.pot_store.specs.Visits.{Came, EndsSecond, IsSecond, MayVisit, begun_from, begun_next, is_begin_at, is_oddly_at, was_seen}
 
 -- ENTRIES AFTER WHICH A MEND GOES ON
@@ -115,18 +116,6 @@ elsewhere a b s c other = at (a == s) refl (b == c) refl
     at true e true f = absurd (other (eqb-true a s e) (eqb-true b c f))
     at true e false f = rw (e, f) refl
     at false e y f = rw e refl
-
-pub on_way : (o : Option Flight) (next : Flight → Option ℕ) (P : Flight → ℕ → Type 0) → IsSomeAnd o (λ f. IsSomeAnd (next f) (P f)) → (f : Flight) × (c : ℕ) × P f c
-on_way None next P h = absurd h
-on_way (Some f) next P h = at (next f) h
-  where
-    at : (o : Option ℕ) → IsSomeAnd o (P f) → (g : Flight) × (c : ℕ) × P g c
-    at None q = absurd q
-    at (Some c) q = (f, c, q)
-
-pub at_end : (o : Option Flight) (Q : Flight → Type 0) → IsSomeAnd o Q → (f : Flight) × (o ≡ Some f) × Q f
-at_end None Q h = absurd h
-at_end (Some f) Q h = (f, refl, h)
 
 module _ (told : Type 0) (job : ℕ) (p : Place) (old : GroupView) (settled : IsSettled told old) (n : ℕ) (entries : List Entry) where
   -- the relay that owns the place is of its stripe and its column, and the other way round

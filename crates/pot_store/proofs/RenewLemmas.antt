@@ -20,7 +20,7 @@ use Rattle.pot_machine.specs.Logs.{own, replayed, IsKeptPut}
 use Rattle.pot_object.specs.Pieces.{pieces_of}
 use Rattle.pot_pads.specs.Pads.{Pads}
 use Rattle.pot_shard.proofs.PlaceLemmas.{place_laws}
-use Rattle.pot_steps.specs.Stripe.{digest_of}
+use Rattle.pot_bytes.specs.Digests.{digest_of}
 use Rattle.pot_steps.specs.GroupStep.{Passed, skips, gone_entries}
 use Rattle.pot_group.specs.declared.answers.PutFault.{PutFault}
 use Rattle.pot_group.specs.declared.answers.PutFault.TheVariants as put_fault
@@ -72,7 +72,7 @@ use Rattle.pot_store.specs.Reads.{AreMade, EndsFetch}
 use Rattle.pot_store.specs.Renewals.{of_find, of_fetch, of_put, of_renew, IsSplit, StopsAt, PutsSplit, RenewRow, RenewsFrom}
 use Rattle.pot_store.specs.Stores.{IsPlan}
 use Rattle.pot_store.specs.Visits.{Visit, is_begin_at}
-use Rattle.pot_store.specs.Works.{of_job, gained, known, section_of, JobWorked, JobAlone, IsSettingOf}
+use Rattle.pot_shared.specs.Works.{of_job, gained, known, section_of, JobWorked, JobAlone, IsSettingOf}
 use Rattle.pot_store.proofs.EndLemmas.{fault_wider}
 use Rattle.pot_store.proofs.EntryLemmas.{mends_then}
 use Rattle.pot_store.proofs.FetchLemmas.{all_work, record_row, record_kept, fits, found, logs, are, file_room, unfinished}
@@ -83,7 +83,7 @@ use Rattle.pot_store.proofs.PublishLemmas.{fits_split, sees_split}
 use Rattle.pot_store.proofs.PutLemmas.{take_all}
 use Rattle.pot_store.proofs.ReadLemmas.{both_gained, no_reads, seen_parts}
 use Rattle.pot_store.proofs.StoreLemmas.{cut_at, digest_is, first_is, leads_to, seen_length}
-use Rattle.pot_store.proofs.WorkLemmas.{all_none, all_one, known_work, known_none, row_stays, index_idle, index_work, index_own, own_more, index_own_more, work_more, alone_parts}
+use Rattle.pot_shared.proofs.WorkLemmas.{all_none, all_one, known_work, known_none, row_stays, index_idle, index_work, index_own, own_more, index_own_more, work_more, alone_parts}
 
 -- THE NEW SPLIT
 

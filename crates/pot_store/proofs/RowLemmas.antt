@@ -8,7 +8,7 @@ use Rattle.pot_bytes.specs.declared.rack.Rack.{Rack}
 use Rattle.pot_machine.specs.Table.{count}
 use Rattle.pot_machine.specs.Logs.{own}
 use Rattle.pot_steps.proofs.AheadLemmas.{count_same}
-use Rattle.pot_steps.specs.Stripe.{digest_of}
+use Rattle.pot_bytes.specs.Digests.{digest_of}
 use Rattle.pot_object.specs.Pieces.{pieces_of}
 use Rattle.pot_shard.specs.Places.{place_at}
 use Rattle.pot_index.specs.declared.record.Record.{Record}

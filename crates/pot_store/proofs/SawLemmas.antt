@@ -1,7 +1,6 @@
 -- Calls that only saw where groups stand.
-use Rattle.std.proofs.Common.{◌≡◌, ◌≢◌, ◌<◌, ⊎_elim, ℕ, List, [], ◌++◌, length, append-nil, ap, ap₂, ◌∙◌, sym, subst, arith}
+use Rattle.std.proofs.Common.{◌≡◌, ◌≢◌, ◌<◌, ⊎_elim, ℕ, List, [], ◌++◌, length, append-nil, ap, ◌∙◌, sym, subst, arith}
 use Rattle.std.proofs.lemmas.Bool.{cases_eq}
-use lib.Seq.{drop-length}
 use Rattle.pot_bytes.specs.declared.digest.Digest.{Digest}
 use Rattle.pot_bytes.specs.declared.rack.Geometry.{Geometry}
 use Rattle.pot_bytes.specs.declared.rack.Place.{Place}
@@ -14,33 +13,16 @@ use Rattle.pot_turn.specs.declared.name.TurnName.{TurnName}
 use Rattle.pot_worked.specs.Laws.{AllOf}
 use Rattle.pot_worked.specs.Worked.{added}
 use Rattle.pot_rows.specs.Rows.{view_at}
-use Rattle.pot_rows.specs.Works.{AllIdle, RowWorked, RowAlone}
+use Rattle.pot_rows.specs.Works.{RowWorked, RowAlone}
 use Rattle.pot_rows.proofs.WorkLemmas.{row_work_in_parts, row_alone_in_parts}
 use Rattle.pot_replies.specs.Stores.{Placed, Puts, place_of, in_group}
-use Rattle.pot_shared.specs.Members.{entries_of}
 use Rattle.pot_shared.specs.Ready.{GroupPasses, AreReady}
 use Rattle.pot_shared.specs.Seen.{SeesPut}
 use Rattle.pot_shared.specs.Calls.{CallAt, StandingCall}
 use Rattle.pot_shared.proofs.CatalogLemmas.{sees_more}
-use Rattle.pot_store.specs.Works.{of_job, gained, OnlySaw}
+use Rattle.pot_shared.specs.Works.{of_job, gained, OnlySaw}
 use Rattle.pot_store.specs.Puts.{ArePut}
-use Rattle.pot_store.proofs.WorkLemmas.{all_none, row_stays, group_work, group_own, group_else, own_more}
-
--- no call
-pub saw_none : (row : GroupPasses) → AllIdle row → OnlySaw row row
-saw_none row idle = record {
-  worked = λ job. row_stays (of_job job) row idle;
-  none = λ job alone g. ap (λ ls. own job (entries_of ls)) (drop-length (view_at row g).seen);
-}
-
--- one after another
-pub saw_more : {u v w : GroupPasses} → OnlySaw u v → OnlySaw v w → OnlySaw u w
-saw_more {u} {v} {w} p q = record {
-  worked = λ job. row_work_in_parts (of_job job) u v w (p.worked job) (q.worked job);
-  none = λ job alone g. (
-      let parts = row_alone_in_parts (of_job job) u v w (p.worked job) (q.worked job) alone in
-      own_more job u v w (p.worked job) (q.worked job) g ∙ ap₂ (λ (xs ys : List Entry). xs ++ ys) (p.none job parts.0 g) (q.none job parts.1 g));
-}
+use Rattle.pot_shared.proofs.WorkLemmas.{all_none, group_work, group_own, group_else, own_more}
 
 -- A GROUP THAT TELLS WHERE IT STANDS
 

@@ -30,9 +30,9 @@ use Rattle.pot_shared.specs.Ready.{GroupPasses, AreReady}
 use Rattle.pot_shared.specs.Seen.{RowKnowsMore}
 use Rattle.pot_shared.specs.Catalogs.{IndexPass, IndexPasses, IsIndexReady, IsIndexOf}
 use Rattle.pot_shared.specs.IndexCalls.{IndexCall, FindsRecord}
-use Rattle.pot_store.specs.Works.{gained, known, section_of, JobWorked, JobAlone, IsSettingOf}
+use Rattle.pot_shared.specs.Works.{gained, known, section_of, JobWorked, JobAlone, IsSettingOf}
 use Rattle.pot_store.specs.Fetches.{IsUnfinished}
-use Rattle.pot_store.proofs.WorkLemmas.{all_none, all_one, known_work, known_none, index_work, index_own}
+use Rattle.pot_shared.proofs.WorkLemmas.{all_none, all_one, known_work, known_none, index_work, index_own}
 use Rattle.pot_store.proofs.IndexLemmas.{names_to}
 
 -- WHAT A SEARCH LOGS

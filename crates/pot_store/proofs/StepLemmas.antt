@@ -15,7 +15,7 @@ use Rattle.pot_machine.specs.Machine.{Legal, Replays, TakesPut, after}
 use Rattle.pot_machine.specs.Rules.{IsTable}
 use Rattle.pot_machine.specs.Logs.{own, IsKeptPut}
 use Rattle.pot_machine.proofs.LeftAlone.{sizes_stay, rules_stay, logs_went_on}
-use Rattle.pot_steps.specs.Stripe.{digest_of}
+use Rattle.pot_bytes.specs.Digests.{digest_of}
 use Rattle.pot_steps.specs.GroupStep.{Passed, skips, put_entry}
 use Rattle.pot_group.specs.Group.{GroupView}
 use Rattle.pot_index.specs.Fits.{FitsPlace, group_of}
@@ -34,9 +34,9 @@ use Rattle.pot_shared.specs.Calls.{CallAt}
 use Rattle.pot_shared.proofs.MemberLemmas.{entries_all}
 use Rattle.pot_shared.proofs.CallLemmas.{is_origin, is_table}
 use Rattle.pot_shared.proofs.CatalogLemmas.{sees_more}
-use Rattle.pot_store.specs.Works.{of_job, gained}
+use Rattle.pot_shared.specs.Works.{of_job, gained}
 use Rattle.pot_store.specs.Puts.{ArePut}
-use Rattle.pot_store.proofs.WorkLemmas.{row_stays, group_work, group_own, group_else, own_more}
+use Rattle.pot_shared.proofs.WorkLemmas.{row_stays, group_work, group_own, group_else, own_more}
 use Rattle.pot_store.proofs.PutLemmas.{all_put, kept_put, takes_put, puts_more, in_more, in_same, take_next, snoc_get}
 use Rattle.pot_store.proofs.CursorLemmas.{IsBefore, puts_behind}
 

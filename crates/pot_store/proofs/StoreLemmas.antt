@@ -4,7 +4,7 @@ use Rattle.std.specs.Prelude.{Option, Some, None, Result, Ok, Err, IfSome, map, 
 use Rattle.std.proofs.lemmas.List.{map-append, length-map}
 use Rattle.std.proofs.lemmas.Option.{same_Some}
 use lib.Seq.{drop-length}
-use Rattle.pot_bytes.specs.Digests.{digest_bytes}
+use Rattle.pot_bytes.specs.Digests.{digest_bytes, digest_of}
 use Rattle.pot_bytes.specs.Lists.{AreBytes}
 use Rattle.pot_bytes.specs.declared.rack.Place.{Place}
 use Rattle.pot_bytes.specs.declared.rack.Rack.{Rack}
@@ -15,7 +15,6 @@ use Rattle.pot_machine.specs.Table.{Table}
 use Rattle.pot_machine.specs.Logs.{own, replayed}
 use Rattle.pot_object.specs.Pieces.{longest, pieces_of}
 use Rattle.pot_pads.specs.Pads.{Pads}
-use Rattle.pot_steps.specs.Stripe.{digest_of}
 use Rattle.pot_steps.specs.GroupStep.{Passed, skips, gone_entries}
 use Rattle.pot_group.specs.declared.answers.PutFault.{PutFault}
 use Rattle.pot_group.specs.declared.answers.PutFault.TheVariants as put_fault
@@ -44,17 +43,14 @@ use Rattle.pot_shared.specs.Members.{entries_of}
 use Rattle.pot_shared.specs.Ready.{GroupPasses}
 use Rattle.pot_shared.specs.Catalogs.{IndexPasses, IsIndexReady}
 use Rattle.pot_shared.specs.IndexCalls.{IndexCall, ReservesName}
-use Rattle.pot_store.specs.Works.{of_job, gained, Known, known, JobWorked, JobAlone, section_of, IsSettingOf}
+use Rattle.pot_shared.specs.Works.{of_job, gained, Known, known, JobWorked, JobAlone, section_of, IsSettingOf}
 use Rattle.pot_store.specs.Puts.{EndsFull, EndsLogFull, PutsEnd}
 use Rattle.pot_store.specs.Stores.{StoreRow, DrawsFrom, drawn_blocks, record_of, fault_of}
 use Rattle.pot_store.specs.declared.storing.StoreFault.TheVariants as fault
-use Rattle.pot_store.proofs.WorkLemmas.{row_stays, index_idle, index_work, index_own, index_own_more}
+use Rattle.pot_shared.proofs.WorkLemmas.{gained_none, row_stays, index_idle, index_work, index_own, index_own_more}
 use Rattle.pot_store.proofs.IndexLemmas.{names_to, reserve_entries, reserve_adds, all_reserve, index_added, index_seen, none_in, not_ended}
 
 -- NOTHING WAS LOGGED
-
-pub gained_none : (row : GroupPasses) (g : ℕ) → gained row row g ≡ []
-gained_none row g = ap entries_of (drop-length (view_at row g).seen)
 
 pub stays : (job : ℕ) (k : Known) → AllIdle k.groups → AllIdle k.index → JobWorked job k k
 stays job k idle index_idle = record { groups = row_stays (of_job job) k.groups idle; index = row_stays (index.is_of job) k.index index_idle }

@@ -15,7 +15,7 @@ use Rattle.pot_machine.specs.Table.{slot_at}
 use Rattle.pot_machine.specs.Logs.{is_of, replayed}
 use Rattle.pot_machine.proofs.Logs.{replays_is}
 use Rattle.pot_steps.specs.GroupStep.{look_entries}
-use Rattle.pot_steps.specs.Stripe.{digest_of}
+use Rattle.pot_bytes.specs.Digests.{digest_of}
 use Rattle.pot_group.specs.declared.answers.Looked.{Looked}
 use Rattle.pot_group.specs.declared.answers.Looked.TheVariants as looked
 use Rattle.pot_group.specs.Group.{GroupView, LookCause, looked_as}
@@ -32,13 +32,13 @@ use Rattle.pot_shared.specs.Ready.{GroupPass, GroupPasses}
 use Rattle.pot_group.specs.Calls.{LookCall}
 use Rattle.pot_shared.specs.Calls.{CallAt}
 use Rattle.pot_shared.proofs.MemberLemmas.{entries_all}
-use Rattle.pot_store.specs.Adds.{Adds}
-use Rattle.pot_store.specs.Works.{gained, of_job}
+use Rattle.pot_shared.specs.Adds.{Adds}
+use Rattle.pot_shared.specs.Works.{gained, of_job}
 use Rattle.pot_store.specs.Visits.{Came, HasPut, IsFullLog, IsReadAt, IsVisit, LooksOnce, MayVisit, ReadsBlock, look_logs}
 use Rattle.pot_store.specs.Visits as came
-use Rattle.pot_store.proofs.WorkLemmas.{all_none, all_one}
+use Rattle.pot_shared.proofs.WorkLemmas.{all_none, all_one}
 use Rattle.pot_store.proofs.DigestLemmas.{put_stays}
-use Rattle.pot_store.proofs.AddLemmas.{adds_call, left_long, seen_parts}
+use Rattle.pot_shared.proofs.AddLemmas.{adds_call, left_long, seen_parts}
 
 -- ONE LOCKED CALL
 

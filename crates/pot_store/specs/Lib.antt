@@ -1,5 +1,3 @@
-pub mod Works
-pub mod Adds
 pub mod Drawing
 pub mod Sealing
 pub mod Puts
@@ -11,4 +9,3 @@ pub mod Shares
 pub mod Reads
 pub mod Renewals
 pub mod Stored
-pub mod Blinds

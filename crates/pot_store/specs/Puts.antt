@@ -9,7 +9,7 @@ use Rattle.pot_machine.specs.declared.entry.Entry.{Entry}
 use Rattle.pot_machine.specs.Table.{Table}
 use Rattle.pot_machine.specs.Logs.{own, replayed}
 use Rattle.pot_machine.specs.declared.entry.Entry.TheVariants as entry
-use Rattle.pot_steps.specs.Stripe.{digest_of}
+use Rattle.pot_bytes.specs.Digests.{digest_of}
 use Rattle.pot_steps.specs.GroupStep.{Passed, skips, gone_entries}
 use Rattle.pot_group.specs.declared.answers.PutFault.{PutFault}
 use Rattle.pot_group.specs.declared.answers.PutFault.TheVariants as fault
@@ -22,7 +22,7 @@ use Rattle.pot_shared.specs.Members.{entries_of}
 use Rattle.pot_shared.specs.declared.member.GroupOrigin.{GroupOrigin}
 use Rattle.pot_shared.specs.Ready.{GroupPass, GroupPasses}
 use Rattle.pot_shared.specs.Seen.{SeesPut}
-use Rattle.pot_store.specs.Works.{of_job, gained}
+use Rattle.pot_shared.specs.Works.{of_job, gained}
 
 -- The first blocks of a split of this geometry were put, each in its own group, at these places,
 -- which are distinct. The passes have seen the puts; and where nobody else logged an entry of the

@@ -7,7 +7,7 @@ use Rattle.std.specs.List.{flat_map, range_with_len}
 use Rattle.pot_bytes.specs.declared.rack.Place.{Place}
 use Rattle.pot_machine.specs.Table.{count}
 use Rattle.pot_machine.specs.Logs.{own}
-use Rattle.pot_steps.specs.Stripe.{digest_of}
+use Rattle.pot_bytes.specs.Digests.{digest_of}
 use Rattle.pot_object.specs.Pieces.{content_size, pieces_of}
 use Rattle.pot_split.specs.Threshold.{IsJoin}
 use Rattle.pot_shard.specs.FileLaws.{xor_of}
@@ -23,7 +23,7 @@ use Rattle.pot_store.specs.Points.{came_in, IsSet}
 use Rattle.pot_store.specs.Visits.{Came, Unknown, Gone, Failed, Barred, was_seen, Visit, IsVisit}
 use Rattle.pot_store.specs.Visits.{ReadsBlock, IsGoneAgain, IsFullLog, visit_at, came_at, place_in}
 use Rattle.pot_store.specs.Visits.{logged_from, seen_in, read_in}
-use Rattle.pot_store.specs.Works.{of_job, gained}
+use Rattle.pot_shared.specs.Works.{of_job, gained}
 
 -- VISITS
 
@@ -200,19 +200,18 @@ pub record FragmentRead (job : ℕ) (kept : Record) (i j : ℕ) (old new : List 
 
 -- PIECES
 
-abbrev pub EndsPiece : Record → ℕ → List Visit → List ℕ → Result (Unit {0}) FetchFault → GroupPasses
-    → Type 0
-EndsPiece kept i visits object (Ok u) w =
+abbrev pub EndsPiece : Record → ℕ → List Visit → Result (List ℕ) FetchFault → GroupPasses → Type 0
+EndsPiece kept i visits (Ok object) w =
     (contents : List (List ℕ)) × AreHad kept kept.geometry.fragments visits contents
     × (object ≡ xor_of (content_at contents) kept.geometry.fragments)
-EndsPiece kept i visits object (Err e) w = IsStopped kept (i * kept.geometry.fragments) visits e w
+EndsPiece kept i visits (Err e) w = IsStopped kept (i * kept.geometry.fragments) visits e w
 
-pub record PieceRead (job : ℕ) (kept : Record) (i : ℕ) (object : List ℕ)
-    (result : Result (Unit {0}) FetchFault) (v w : GroupPasses) : Type 0 where
+pub record PieceRead (job : ℕ) (kept : Record) (i : ℕ) (result : Result (List ℕ) FetchFault)
+    (v w : GroupPasses) : Type 0 where
   pub visits : List Visit
   pub reads : AreMade job kept.places (i * kept.geometry.fragments * kept.geometry.shards) visits v
       w
-  pub ends : EndsPiece kept i visits object result w
+  pub ends : EndsPiece kept i visits result w
 
 -- the object of piece i, from the contents of all fragments before and in it
 abbrev pub object_at : ℕ → List (List ℕ) → ℕ → List ℕ

@@ -2,7 +2,7 @@
 use Rattle.std.specs.Prelude.{◌≡◌, ◌⊎◌, ◌*◌, ℕ, suc, List, [], None, Result, Ok, Err, length, map}
 use Rattle.pot_bytes.specs.declared.rack.Geometry.{Geometry}
 use Rattle.pot_bytes.specs.declared.rack.Rack.{Rack}
-use Rattle.pot_steps.specs.Stripe.{digest_of}
+use Rattle.pot_bytes.specs.Digests.{digest_of}
 use Rattle.pot_object.specs.Pieces.{pieces_of}
 use Rattle.pot_pads.specs.Pads.{Pads}
 use Rattle.pot_group.specs.declared.answers.PutFault.{PutFault}
@@ -28,7 +28,7 @@ use Rattle.pot_replies.specs.Renewals.{IsRenewIndexFull, IsRenewFault, IsRenewFu
 use Rattle.pot_store.specs.Drawing.{blocks_from}
 use Rattle.pot_store.specs.Fetches.{IsUnfinished}
 use Rattle.pot_store.specs.Puts.{ArePut, PutsEnd}
-use Rattle.pot_store.specs.Works.{of_job}
+use Rattle.pot_shared.specs.Works.{of_job}
 use Rattle.pot_store.specs.declared.fetching.FetchFault.{FetchFault}
 use Rattle.pot_store.specs.declared.fetching.FetchFault.TheVariants as fetch_fault
 use Rattle.pot_store.specs.declared.storing.Stored.{Stored}

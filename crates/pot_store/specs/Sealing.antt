@@ -1,7 +1,7 @@
 -- How a drawing stands whose blocks are sealed two at a time.
 use Rattle.std.specs.Prelude.{◌≡◌, ◌≤◌, ◌+◌, ◌-◌, ℕ, [], Option, Some, None, slice_index_or}
 use Rattle.pot_store.specs.Drawing.{Drawn, all_blocks, count_of}
-use Rattle.pot_store.specs.declared.expecting.SealedPut.{SealedPut}
+use Rattle.pot_shared.specs.declared.sealed_put.SealedPut.{SealedPut}
 
 -- how many blocks were sealed and not handed out
 abbrev pub waiting : Option SealedPut → ℕ

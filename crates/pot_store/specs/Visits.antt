@@ -11,7 +11,7 @@ use Rattle.pot_machine.specs.Slot.{is_unsound}
 use Rattle.pot_machine.specs.Machine.{Replays}
 use Rattle.pot_machine.specs.Rules.{IsTable}
 use Rattle.pot_machine.specs.Table.{Table, count, slot_at}
-use Rattle.pot_steps.specs.Stripe.{digest_of}
+use Rattle.pot_bytes.specs.Digests.{digest_of}
 use Rattle.pot_rows.specs.Rows.{view_at}
 use Rattle.pot_shared.specs.declared.member.GroupOrigin.{GroupOrigin}
 use Rattle.pot_shared.specs.Members.{entries_of}
@@ -22,8 +22,8 @@ use Rattle.pot_replies.specs.Joined.{Read}
 use Rattle.pot_replies.specs.Jobs.{is_look_at, is_seen_at, is_stuck_at}
 use Rattle.pot_store.specs.declared.visiting.Point.{Point}
 use Rattle.pot_store.specs.declared.visiting.Point.TheVariants as point
-use Rattle.pot_store.specs.Adds.{Adds, IsFirst}
-use Rattle.pot_store.specs.Works.{gained}
+use Rattle.pot_shared.specs.Adds.{Adds, IsFirst}
+use Rattle.pot_shared.specs.Works.{gained}
 
 -- WHAT COMES OF A PLACE
 

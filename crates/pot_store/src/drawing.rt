@@ -13,6 +13,13 @@ use std::alloc::Global;
 use std::marker::Model;
 use std::snapshot::Snapshot;
 
+/// A piece that was drawn: its random bytes, and its blocks.
+#[derive(Drop)]
+struct DrawnPiece {
+    random: Vec<u8>,
+    blocks: Vec<Block>,
+}
+
 /// The blocks of a file, one after another, by piece, fragment and point. Each piece is drawn when its first block is asked for, in
 /// place of the one before it.
 #[derive(Drop)]
@@ -23,8 +30,8 @@ pub(crate) struct Drawing<'a> {
     start: Snapshot<PadStream>,
     pads: PadStream,
     id: [u8; 16],
-    random: Vec<u8>,
-    blocks: Vec<Block>,
+    // The piece that was drawn last, or room for the first one.
+    last: DrawnPiece,
     // How many pieces were drawn, and how many blocks of the last one were not handed out yet.
     piece: u32,
     left: usize,
@@ -44,8 +51,8 @@ impl<'a> Model for Drawing<'a> {
     } };
 
     ghost invariant = { λ a.
-        IsDrawing a.geometry a.file.now a.start.value a.pads a.id a.random.items a.blocks.items
-        a.piece a.left };
+        IsDrawing a.geometry a.file.now a.start.value a.pads a.id a.last.random.items
+        a.last.blocks.items a.piece a.left };
 }
 
 impl<'a> Drawing<'a> {
@@ -73,8 +80,7 @@ impl<'a> Drawing<'a> {
             start,
             pads,
             id,
-            random,
-            blocks,
+            last: DrawnPiece { random, blocks },
             piece: 0,
             left: 0,
         })
@@ -93,13 +99,12 @@ impl<'a> Drawing<'a> {
                 self.file,
                 self.piece,
                 &self.geometry,
-                &mut self.random,
-                &mut self.blocks,
+                &mut self.last,
             );
             self.piece += 1;
-            self.left = self.blocks.len();
+            self.left = self.last.blocks.len();
         }
-        let block = self.blocks[self.blocks.len() - self.left];
+        let block = self.last.blocks[self.last.blocks.len() - self.left];
         self.left -= 1;
         block
     }
@@ -112,19 +117,20 @@ fn draw(
     file: &[u8],
     piece: u32,
     geometry: &Geometry,
-    random: &mut [u8],
-    blocks: &mut [Block],
+    last: &mut DrawnPiece,
 )
     requires fits { length file.now ≤ longest }
     requires exists { piece < pieces_of (length file.now) }
     requires geometry { IsGeometry geometry.now }
-    requires random { length random.old ≡ piece_len geometry.now }
-    requires room { length blocks.old ≡ geometry.now.fragments * geometry.now.shards }
+    requires random { length last.old.random.items ≡ piece_len geometry.now }
+    requires blocks { length last.old.blocks.items ≡ geometry.now.fragments * geometry.now.shards }
     ensures place { pads.new ≡ moved pads.old (piece_len geometry.now) }
-    ensures blocks { blocks.new
+    ensures random { length last.new.random.items ≡ length last.old.random.items }
+    ensures many { length last.new.blocks.items ≡ length last.old.blocks.items }
+    ensures blocks { last.new.blocks.items
         ≡ piece_blocks geometry.now id.now file.now piece
         (next_bytes pads.old (piece_len geometry.now)) }
 {
-    pads.fill(random);
-    piece_blocks(id, file, piece, geometry, random, blocks);
+    pads.fill(&mut last.random);
+    piece_blocks(id, file, piece, geometry, &last.random, &mut last.blocks);
 }

@@ -4,15 +4,7 @@ ghost use Rattle.std.specs.Prelude.{◌≡◌};
 use pot_bytes::{Block, Place};
 use pot_group::Standing;
 use pot_sealed::{Sealed, seal_four};
-
-/// A block to put, and the parity block that its stripe is expected to have then. What is expected changes no answer.
-#[derive(Clone, Copy)]
-pub struct SealedPut {
-    pub block: Sealed,
-    pub parity: Sealed,
-    // The data column that it is expected in.
-    column: u8,
-}
+use pot_shared::SealedPut;
 
 /// Where the next put of each group is expected, and the parity block of its stripe.
 #[derive(Clone, Copy)]

@@ -1,12 +1,13 @@
 //! What is expected of puts, beside the parity blocks that their stripes have then.
 ghost use Rattle.std.specs.Prelude.{◌≡◌, ◌<◌, length};
 
-use crate::{Expected, SealedPut};
+use crate::Expected;
 use pot_bytes::{Block, Geometry, Place, Rack};
 use pot_doubles::LossyArchive;
 use pot_group::{Ended, Group, StartRefused};
 use pot_machine::GroupTable;
 use pot_outside::Shelf;
+use pot_shared::SealedPut;
 use std::alloc::Global;
 use std::process::Abort;
 use std::test::Fail;

@@ -1,29 +1,27 @@
 //! The fetch of a file.
-ghost use Rattle.std.specs.Prelude.{◌≡◌, ◌<◌, ◌≤◌, ◌+◌, ◌*◌, [], true, length, IfOk, IsTrue};
-ghost use Rattle.std.specs.Vec.{vec_len, vec_capacity};
+ghost use Rattle.std.specs.Prelude.{◌≡◌, ◌<◌, ◌≤◌, ◌*◌, [], true, length, IsTrue};
+ghost use Rattle.std.specs.Vec.{vec_capacity};
 ghost use Rattle.pot_bytes.specs.Rack.{IsRack};
 ghost use Rattle.pot_object.specs.Pieces.{pieces_of};
 ghost use Rattle.pot_index.specs.Fits.{FitsRack};
 ghost use Rattle.pot_rows.specs.Rows.{HasMoreParts};
-ghost use Rattle.pot_shared.specs.Ready.{AreReady};
-ghost use Rattle.pot_shared.specs.Catalogs.{IsIndexReady};
-ghost use Rattle.pot_replies.specs.Settings.{Setting};
-ghost use Rattle.pot_store.specs.Works.{known, section_of, JobWorked, JobAlone, IsSettingOf};
+ghost use Rattle.pot_shared.specs.Callers.{AreReadyFor, IsIndexReadyFor, HasAllGroups, JudgedFor};
+ghost use Rattle.pot_shared.specs.Callers.{known_of};
+ghost use Rattle.pot_shared.specs.Works.{JobWorked};
 ghost use Rattle.pot_store.specs.Reads.{FileRead, RecordRead};
 ghost use Rattle.pot_store.specs.Fetches.{AreFilled, FetchRow};
 ghost use Rattle.pot_store.specs.Stored.{FetchGives};
-ghost use Rattle.pot_store.specs.Blinds.{Blinds};
+ghost use Rattle.pot_shared.specs.Blinds.{Blinds};
 
 use crate::fragments::read_piece;
-use crate::points::Points;
-use crate::shares::{Shares, append};
+use crate::rooms::Rooms;
+use crate::shares::append;
 use pot_bytes::{Digest, Name, digest_of};
 use pot_index::{FindFault, Record};
-use pot_object::{OBJECT, count_pieces};
+use pot_object::count_pieces;
 use pot_outside::Archive;
 use pot_pads::PadStream;
-use pot_shared::{Passes, Vault};
-use std::alloc::Global;
+use pot_shared::{Caller, Passes};
 use std::sync::Wait;
 
 /// Why a fetch gave no file.
@@ -71,44 +69,36 @@ pub enum FetchFault {
 /// too few points of a fragment can be seen, `Faulted` of the least one at which an archive failed, and `Lost` where there is
 /// none. `Odd` exactly where the bytes that were read have another digest than the file. `NoMemory` comes before the first look.
 pub fn fetch_file<A: Archive, R: Wait>(
-    rt: &R,
-    alloc: Global,
-    vault: &Vault<A>,
+    caller: &Caller<'_, A, R>,
     passes: &mut Passes<A>,
-    job: u32,
     name: &Name,
     pads: &mut PadStream,
 ) -> Result<Vec<u8>, FetchFault>
-    requires ready { AreReady vault.now.rack vault.now.groups passes.old.groups }
-    requires index { IsIndexReady vault.now.rack vault.now.groups vault.now.index passes.old.index }
+    requires ready { AreReadyFor caller.now passes.old.groups }
+    requires index { IsIndexReadyFor caller.now passes.old.index }
     requires parts { HasMoreParts 1 passes.old.groups }
-    requires rack { IsRack vault.now.rack }
-    requires count { length vault.now.groups ≡ vault.now.rack.groups }
-    requires job { 0 < job }
-    ensures ready { AreReady vault.now.rack vault.now.groups passes.new.groups }
-    ensures index { IsIndexReady vault.now.rack vault.now.groups vault.now.index passes.new.index }
+    requires rack { IsRack caller.now.vault.now.rack }
+    requires count { HasAllGroups caller.now }
+    requires job { 0 < caller.now.job }
+    ensures ready { AreReadyFor caller.now passes.new.groups }
+    ensures index { IsIndexReadyFor caller.now passes.new.index }
     ensures parts { HasMoreParts 1 passes.new.groups }
-    ensures worked { JobWorked job (known passes.old.groups passes.old.index)
-        (known passes.new.groups passes.new.index) }
-    ensures says { JobAlone job (known passes.old.groups passes.old.index)
-        (known passes.new.groups passes.new.index)
-        → (s : Setting) → IsSettingOf s vault.now.rack (known passes.old.groups passes.old.index)
-        → s.mends ≡ true → AreFilled s
-        → FetchRow s job name.now result
-        (section_of (known passes.old.groups passes.old.index)
-        (known passes.new.groups passes.new.index)) }
-    ensures stored { JobAlone job (known passes.old.groups passes.old.index)
-        (known passes.new.groups passes.new.index)
-        → (s : Setting) → IsSettingOf s vault.now.rack (known passes.old.groups passes.old.index)
-        → s.mends ≡ true → AreFilled s
-        → FetchGives s job name.now result
-        (section_of (known passes.old.groups passes.old.index)
-        (known passes.new.groups passes.new.index)) }
-    ensures blinds { Blinds (IsTrue A.account.tells) job pads.old pads.new passes.old.groups
-        passes.new.groups }
+    ensures worked { JobWorked caller.now.job (known_of passes.old) (known_of passes.new) }
+    ensures says { JudgedFor caller.now (known_of passes.old) (known_of passes.new)
+        (λ s w. s.mends ≡ true → AreFilled s → FetchRow s caller.now.job name.now result w) }
+    ensures stored { JudgedFor caller.now (known_of passes.old) (known_of passes.new)
+        (λ s w. s.mends ≡ true → AreFilled s → FetchGives s caller.now.job name.now result w) }
+    ensures blinds { Blinds (IsTrue A.account.tells) caller.now.job pads.old pads.new
+        passes.old.groups passes.new.groups }
 {
+    let Caller {
+        rt,
+        alloc,
+        vault,
+        job,
+    } = *caller;
     match vault.find(rt, alloc, passes, job, name) {
-        Ok(kept) => read_record(rt, alloc, vault, passes, job, &kept, pads),
+        Ok(kept) => read_record(caller, passes, &kept, pads),
         Err(FindFault::LogFull) => Err(FetchFault::IndexLogFull),
         Err(FindFault::Absent) => Err(FetchFault::Absent),
         Err(FindFault::NoMemory) => Err(FetchFault::NoMemory),
@@ -117,48 +107,29 @@ pub fn fetch_file<A: Archive, R: Wait>(
 
 /// Reads the file of a record, and compares its digest.
 pub(crate) fn read_record<A: Archive, R: Wait>(
-    rt: &R,
-    alloc: Global,
-    vault: &Vault<A>,
+    caller: &Caller<'_, A, R>,
     passes: &mut Passes<A>,
-    job: u32,
     kept: &Record,
     pads: &mut PadStream,
 ) -> Result<Vec<u8>, FetchFault>
-    requires ready { AreReady vault.now.rack vault.now.groups passes.old.groups }
-    requires groups { length vault.now.groups ≡ vault.now.rack.groups }
-    requires job { 0 < job }
-    requires fits { FitsRack vault.now.rack kept.now }
-    ensures ready { AreReady vault.now.rack vault.now.groups passes.new.groups }
+    requires ready { AreReadyFor caller.now passes.old.groups }
+    requires groups { HasAllGroups caller.now }
+    requires job { 0 < caller.now.job }
+    requires fits { FitsRack caller.now.vault.now.rack kept.now }
+    ensures ready { AreReadyFor caller.now passes.new.groups }
     ensures index { passes.new.index ≡ passes.old.index }
-    ensures read { RecordRead job kept.now result passes.old.groups passes.new.groups }
-    ensures blinds { Blinds (IsTrue A.account.tells) job pads.old pads.new passes.old.groups
-        passes.new.groups }
+    ensures read { RecordRead caller.now.job kept.now result passes.old.groups passes.new.groups }
+    ensures blinds { Blinds (IsTrue A.account.tells) caller.now.job pads.old pads.new
+        passes.old.groups passes.new.groups }
 {
-    let Ok(mut points) = Points::start(alloc) else {
+    let Ok(mut rooms) = Rooms::start(caller.alloc) else {
         return Err(FetchFault::NoMemory);
     };
-    let Ok(mut shares) = Shares::start(alloc) else {
+    let room = count_pieces(kept.length) as usize * 864;
+    let Ok(mut bytes) = Vec::with_capacity(caller.alloc, room) else {
         return Err(FetchFault::NoMemory);
     };
-    let Ok(mut fragments) = Vec::with_capacity(alloc, 8 * OBJECT) else {
-        return Err(FetchFault::NoMemory);
-    };
-    let Ok(mut bytes) = Vec::with_capacity(alloc, count_pieces(kept.length) as usize * 864) else {
-        return Err(FetchFault::NoMemory);
-    };
-    read_pieces(
-        rt,
-        vault,
-        passes,
-        job,
-        kept,
-        pads,
-        &mut points,
-        &mut shares,
-        &mut fragments,
-        &mut bytes,
-    )?;
+    read_pieces(caller, passes, kept, pads, &mut rooms, &mut bytes)?;
     let found = digest_of(&bytes);
     if found != kept.digest {
         return Err(FetchFault::Odd {
@@ -174,46 +145,28 @@ pub(crate) fn read_record<A: Archive, R: Wait>(
 /// # Errors
 /// Those of `read_piece`, at the first fragment that was not had.
 fn read_pieces<A: Archive, R: Wait>(
-    rt: &R,
-    vault: &Vault<A>,
+    caller: &Caller<'_, A, R>,
     passes: &mut Passes<A>,
-    job: u32,
     kept: &Record,
     pads: &mut PadStream,
-    points: &mut Points,
-    shares: &mut Shares,
-    fragments: &mut Vec<u8>,
+    rooms: &mut Rooms,
     bytes: &mut Vec<u8>,
 ) -> Result<(), FetchFault>
-    requires ready { AreReady vault.now.rack vault.now.groups passes.old.groups }
-    requires groups { length vault.now.groups ≡ vault.now.rack.groups }
-    requires job { 0 < job }
-    requires fits { FitsRack vault.now.rack kept.now }
-    requires room { 7424 ≤ vec_capacity fragments.old }
+    requires ready { AreReadyFor caller.now passes.old.groups }
+    requires groups { HasAllGroups caller.now }
+    requires job { 0 < caller.now.job }
+    requires fits { FitsRack caller.now.vault.now.rack kept.now }
     requires none { bytes.old.items ≡ [] }
     requires file_room { pieces_of kept.now.length * 864 ≤ vec_capacity bytes.old }
-    ensures ready { AreReady vault.now.rack vault.now.groups passes.new.groups }
+    ensures ready { AreReadyFor caller.now passes.new.groups }
     ensures index { passes.new.index ≡ passes.old.index }
-    ensures read { FileRead job kept.now bytes.new.items result passes.old.groups
-        passes.new.groups }
-    ensures blinds { Blinds (IsTrue A.account.tells) job pads.old pads.new passes.old.groups
-        passes.new.groups }
+    ensures read { FileRead caller.now.job kept.now bytes.new.items result
+        passes.old.groups passes.new.groups }
+    ensures blinds { Blinds (IsTrue A.account.tells) caller.now.job pads.old pads.new
+        passes.old.groups passes.new.groups }
 {
     for piece in 0..count_pieces(kept.length) {
-        let mut object = [0; OBJECT];
-        read_piece(
-            rt,
-            vault,
-            passes,
-            job,
-            kept,
-            piece,
-            pads,
-            points,
-            shares,
-            fragments,
-            &mut object,
-        )?;
+        let object = read_piece(caller, passes, kept, piece, pads, rooms)?;
         append(bytes, &object[64..]);
     }
     bytes.truncate(kept.length as usize);

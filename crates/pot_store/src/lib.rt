@@ -26,12 +26,13 @@ mod fragments;
 mod points;
 mod putting;
 mod renewing;
+mod rooms;
 mod sealing;
 mod shares;
 mod storing;
 mod visiting;
 
-pub use expecting::{Expected, SealedPut};
+pub use expecting::Expected;
 pub use fetching::{FetchFault, fetch_file};
 pub use renewing::{RenewFileFault, renew_file};
 pub use storing::{StoreFault, Stored, store_file};

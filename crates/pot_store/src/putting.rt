@@ -4,8 +4,8 @@ ghost use Rattle.std.specs.Vec.{vec_capacity};
 ghost use Rattle.pot_bytes.specs.Rack.{IsGeometry, IsRack};
 ghost use Rattle.pot_index.specs.Fits.{group_of};
 ghost use Rattle.pot_rows.specs.Works.{RowWorked, RowAlone};
-ghost use Rattle.pot_shared.specs.Ready.{AreReady};
-ghost use Rattle.pot_store.specs.Works.{of_job, OnlySaw};
+ghost use Rattle.pot_shared.specs.Callers.{AreReadyFor, HasAllGroups};
+ghost use Rattle.pot_shared.specs.Works.{of_job, OnlySaw};
 ghost use Rattle.pot_store.specs.Drawing.{all_blocks, count_of};
 ghost use Rattle.pot_store.specs.Puts.{ArePut, PutsEnd};
 
@@ -13,7 +13,7 @@ use crate::sealing::SealedDrawing;
 use pot_bytes::{Geometry, Place, Rack};
 use pot_group::PutFault;
 use pot_outside::Archive;
-use pot_shared::{Passes, Vault};
+use pot_shared::{Caller, Passes};
 use std::sync::Wait;
 
 /// The put that a store ended at.
@@ -37,16 +37,15 @@ fn group_of(rack: &Rack, geometry: &Geometry, number: u32) -> u8
 
 /// Sees where the groups of the next two puts stand, each in one turn, where others put into a group in between. It logs nothing.
 fn look_ahead<A: Archive, R: Wait>(
-    rt: &R,
-    vault: &Vault<A>,
+    caller: &Caller<'_, A, R>,
     passes: &mut Passes<A>,
     drawing: &mut SealedDrawing,
     groups: (u8, u8),
 )
-    requires ready { AreReady vault.now.rack vault.now.groups passes.old.groups }
-    requires first { groups.0 < length vault.now.groups }
-    requires second { groups.1 < length vault.now.groups }
-    ensures ready { AreReady vault.now.rack vault.now.groups passes.new.groups }
+    requires ready { AreReadyFor caller.now passes.old.groups }
+    requires first { groups.0 < length caller.now.vault.now.groups }
+    requires second { groups.1 < length caller.now.vault.now.groups }
+    ensures ready { AreReadyFor caller.now passes.new.groups }
     ensures index { passes.new.index ≡ passes.old.index }
     ensures saw { OnlySaw passes.old.groups passes.new.groups }
     ensures drawing { drawing.new ≡ drawing.old }
@@ -54,6 +53,7 @@ fn look_ahead<A: Archive, R: Wait>(
     if !drawing.looks_ahead() {
         return;
     }
+    let Caller { rt, vault, .. } = *caller;
     let first = vault.standing(rt, passes, groups.0);
     drawing.see(groups.0, &first);
     let second = vault.standing(rt, passes, groups.1);
@@ -65,41 +65,41 @@ fn look_ahead<A: Archive, R: Wait>(
 /// # Errors
 /// The first put that is refused.
 pub(crate) fn put_all<A: Archive, R: Wait>(
-    rt: &R,
-    vault: &Vault<A>,
+    caller: &Caller<'_, A, R>,
     passes: &mut Passes<A>,
-    job: u32,
     geometry: &Geometry,
     drawing: &mut SealedDrawing,
     count: u32,
     places: &mut Vec<Place>,
 ) -> Result<(), Stopped>
-    requires ready { AreReady vault.now.rack vault.now.groups passes.old.groups }
-    requires rack { IsRack vault.now.rack }
-    requires groups { length vault.now.groups ≡ vault.now.rack.groups }
-    requires job { 0 < job }
+    requires ready { AreReadyFor caller.now passes.old.groups }
+    requires rack { IsRack caller.now.vault.now.rack }
+    requires groups { HasAllGroups caller.now }
+    requires job { 0 < caller.now.job }
     requires geometry { IsGeometry geometry.now }
     requires drawing { drawing.old.geometry ≡ geometry.now }
     requires first { drawing.old.next ≡ 0 }
     requires count { count ≡ count_of drawing.old }
     requires few { count ≤ 131072 }
     requires room { (places.old.items ≡ []) × (count ≤ vec_capacity places.old) }
-    ensures ready { AreReady vault.now.rack vault.now.groups passes.new.groups }
+    ensures ready { AreReadyFor caller.now passes.new.groups }
     ensures index { passes.new.index ≡ passes.old.index }
-    ensures worked { RowWorked (of_job job) passes.old.groups passes.new.groups }
+    ensures worked { RowWorked (of_job caller.now.job) passes.old.groups passes.new.groups }
     ensures put { IfOk result (λ _. (length places.new.items ≡ count)
-        × ArePut vault.now.rack geometry.now job (all_blocks drawing.old) places.new.items
-        passes.old.groups passes.new.groups) }
-    ensures ends { IfErr result (λ e. RowAlone (of_job job) passes.old.groups passes.new.groups
-        → PutsEnd vault.now.rack geometry.now job (all_blocks drawing.old) e.group e.cause
-        passes.old.groups passes.new.groups) }
+        × ArePut caller.now.vault.now.rack geometry.now caller.now.job (all_blocks drawing.old)
+        places.new.items passes.old.groups passes.new.groups) }
+    ensures ends { IfErr result (λ e.
+        RowAlone (of_job caller.now.job) passes.old.groups passes.new.groups
+        → PutsEnd caller.now.vault.now.rack geometry.now caller.now.job (all_blocks drawing.old)
+        e.group e.cause passes.old.groups passes.new.groups) }
 {
+    let Caller { rt, vault, job, .. } = *caller;
     for number in 0..count {
         let group = group_of(&vault.rack, geometry, number);
         let groups = (group, group_of(&vault.rack, geometry, number + 1));
-        look_ahead(rt, vault, passes, drawing, groups);
+        look_ahead(caller, passes, drawing, groups);
         let next = drawing.next(groups);
-        match vault.put(rt, passes, group, job, &next.block, &next.parity) {
+        match vault.put(rt, passes, group, job, &next) {
             Ok(place) => {
                 drawing.note(place, &next);
                 places.push_reserved(place);

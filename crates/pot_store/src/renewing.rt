@@ -6,15 +6,13 @@ ghost use Rattle.pot_object.specs.Pieces.{longest};
 ghost use Rattle.pot_index.specs.Fits.{FitsGeometry};
 ghost use Rattle.pot_rows.specs.Rows.{HasMoreParts};
 ghost use Rattle.pot_rows.specs.Works.{RowWorked};
-ghost use Rattle.pot_shared.specs.Ready.{AreReady};
-ghost use Rattle.pot_shared.specs.Catalogs.{IsIndexReady};
-ghost use Rattle.pot_replies.specs.Settings.{Setting};
-ghost use Rattle.pot_store.specs.Works.{known, of_job, section_of, JobWorked, JobAlone};
-ghost use Rattle.pot_store.specs.Works.{IsSettingOf};
+ghost use Rattle.pot_shared.specs.Callers.{AreReadyFor, IsIndexReadyFor, HasAllGroups, JudgedFor};
+ghost use Rattle.pot_shared.specs.Callers.{known_of};
+ghost use Rattle.pot_shared.specs.Works.{of_job, JobWorked};
 ghost use Rattle.pot_store.specs.Fetches.{AreFilled};
 ghost use Rattle.pot_store.specs.Renewals.{of_find, of_fetch, of_put, of_renew, PutsSplit};
 ghost use Rattle.pot_store.specs.Renewals.{RenewsFrom, RenewRow};
-ghost use Rattle.pot_store.specs.Blinds.{Blinds};
+ghost use Rattle.pot_shared.specs.Blinds.{Blinds};
 
 use crate::fetching::{FetchFault, read_record};
 use crate::putting::{Stopped, put_all};
@@ -24,8 +22,7 @@ use pot_group::PutFault;
 use pot_index::{FindFault, Places, RenewFault, Split};
 use pot_outside::Archive;
 use pot_pads::PadStream;
-use pot_shared::{Passes, Vault};
-use std::alloc::Global;
+use pot_shared::{Caller, Passes};
 use std::sync::Wait;
 
 /// How many older splits a record has at most, beside the current one.
@@ -132,27 +129,25 @@ fn of_renew(fault: RenewFault) -> RenewFileFault
 /// # Errors
 /// `NoMemory` before the first put, or the first put that is refused.
 fn put_split<A: Archive, R: Wait>(
-    rt: &R,
-    alloc: Global,
-    vault: &Vault<A>,
+    caller: &Caller<'_, A, R>,
     passes: &mut Passes<A>,
-    job: u32,
     geometry: &Geometry,
     file: &[u8],
     pads: PadStream,
 ) -> Result<(Stored, Split), RenewFileFault>
-    requires ready { AreReady vault.now.rack vault.now.groups passes.old.groups }
-    requires rack { IsRack vault.now.rack }
-    requires groups { length vault.now.groups ≡ vault.now.rack.groups }
-    requires job { 0 < job }
-    requires geometry { FitsGeometry vault.now.rack geometry.now }
+    requires ready { AreReadyFor caller.now passes.old.groups }
+    requires rack { IsRack caller.now.vault.now.rack }
+    requires groups { HasAllGroups caller.now }
+    requires job { 0 < caller.now.job }
+    requires geometry { FitsGeometry caller.now.vault.now.rack geometry.now }
     requires short { length file.now ≤ longest }
-    ensures ready { AreReady vault.now.rack vault.now.groups passes.new.groups }
+    ensures ready { AreReadyFor caller.now passes.new.groups }
     ensures index { passes.new.index ≡ passes.old.index }
-    ensures worked { RowWorked (of_job job) passes.old.groups passes.new.groups }
-    ensures puts { PutsSplit vault.now.rack geometry.now job file.now pads result
-        passes.old.groups passes.new.groups }
+    ensures worked { RowWorked (of_job caller.now.job) passes.old.groups passes.new.groups }
+    ensures puts { PutsSplit caller.now.vault.now.rack geometry.now caller.now.job file.now pads
+        result passes.old.groups passes.new.groups }
 {
+    let Caller { alloc, vault, .. } = *caller;
     let Ok(plan) = prepare(alloc, vault.rack.columns, geometry, file, pads) else {
         return Err(RenewFileFault::NoMemory);
     };
@@ -162,16 +157,7 @@ fn put_split<A: Archive, R: Wait>(
         mut drawing,
         mut places,
     } = plan;
-    match put_all(
-        rt,
-        vault,
-        passes,
-        job,
-        geometry,
-        &mut drawing,
-        shards,
-        &mut places,
-    ) {
+    match put_all(caller, passes, geometry, &mut drawing, shards, &mut places) {
         Ok(()) => {
             let split = Split {
                 geometry: *geometry,
@@ -196,37 +182,35 @@ fn put_split<A: Archive, R: Wait>(
 /// `Vault::renew`. `NoMemory` may come before the first look, before the first put and behind the last one.
 /// After a refusal the record is as it was, and blocks that were put stay.
 pub fn renew_file<A: Archive, R: Wait>(
-    rt: &R,
-    alloc: Global,
-    vault: &Vault<A>,
+    caller: &Caller<'_, A, R>,
     passes: &mut Passes<A>,
-    job: u32,
     name: &Name,
     geometry: &Geometry,
     blinds: &mut PadStream,
     pads: PadStream,
 ) -> Result<Stored, RenewFileFault>
-    requires ready { AreReady vault.now.rack vault.now.groups passes.old.groups }
-    requires index { IsIndexReady vault.now.rack vault.now.groups vault.now.index passes.old.index }
+    requires ready { AreReadyFor caller.now passes.old.groups }
+    requires index { IsIndexReadyFor caller.now passes.old.index }
     requires parts { HasMoreParts 1 passes.old.groups }
-    requires rack { IsRack vault.now.rack }
-    requires count { length vault.now.groups ≡ vault.now.rack.groups }
-    requires job { 0 < job }
-    requires geometry { FitsGeometry vault.now.rack geometry.now }
-    ensures ready { AreReady vault.now.rack vault.now.groups passes.new.groups }
-    ensures index { IsIndexReady vault.now.rack vault.now.groups vault.now.index passes.new.index }
-    ensures worked { JobWorked job (known passes.old.groups passes.old.index)
-        (known passes.new.groups passes.new.index) }
-    ensures says { JobAlone job (known passes.old.groups passes.old.index)
-        (known passes.new.groups passes.new.index)
-        → (s : Setting) → IsSettingOf s vault.now.rack (known passes.old.groups passes.old.index)
-        → s.mends ≡ true → AreFilled s → RenewsFrom s pads geometry.now job
-        → RenewRow s job name.now geometry.now result
-        (section_of (known passes.old.groups passes.old.index)
-        (known passes.new.groups passes.new.index)) }
-    ensures blinds { Blinds (IsTrue A.account.tells) job blinds.old blinds.new passes.old.groups
-        passes.new.groups }
+    requires rack { IsRack caller.now.vault.now.rack }
+    requires count { HasAllGroups caller.now }
+    requires job { 0 < caller.now.job }
+    requires geometry { FitsGeometry caller.now.vault.now.rack geometry.now }
+    ensures ready { AreReadyFor caller.now passes.new.groups }
+    ensures index { IsIndexReadyFor caller.now passes.new.index }
+    ensures worked { JobWorked caller.now.job (known_of passes.old) (known_of passes.new) }
+    ensures says { JudgedFor caller.now (known_of passes.old) (known_of passes.new)
+        (λ s w. s.mends ≡ true → AreFilled s → RenewsFrom s pads geometry.now caller.now.job
+        → RenewRow s caller.now.job name.now geometry.now result w) }
+    ensures blinds { Blinds (IsTrue A.account.tells) caller.now.job blinds.old blinds.new
+        passes.old.groups passes.new.groups }
 {
+    let Caller {
+        rt,
+        alloc,
+        vault,
+        job,
+    } = *caller;
     let kept = match vault.find(rt, alloc, passes, job, name) {
         Ok(kept) => kept,
         Err(fault) => return Err(of_find(fault)),
@@ -234,11 +218,11 @@ pub fn renew_file<A: Archive, R: Wait>(
     if kept.older.as_slice().len() == MOST_OLDER {
         return Err(RenewFileFault::TooOften);
     }
-    let file = match read_record(rt, alloc, vault, passes, job, &kept, blinds) {
+    let file = match read_record(caller, passes, &kept, blinds) {
         Ok(file) => file,
         Err(fault) => return Err(of_fetch(fault)),
     };
-    let (stored, split) = match put_split(rt, alloc, vault, passes, job, geometry, &file, pads) {
+    let (stored, split) = match put_split(caller, passes, geometry, &file, pads) {
         Ok(put) => put,
         Err(fault) => return Err(fault),
     };

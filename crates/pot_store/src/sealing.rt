@@ -3,9 +3,10 @@ ghost use Rattle.std.specs.Prelude.{◌≡◌, ◌<◌, ◌+◌, [], slice_index
 ghost use Rattle.pot_store.specs.Drawing.{all_blocks, count_of};
 
 use crate::drawing::Drawing;
-use crate::expecting::{Expected, SealedPut};
+use crate::expecting::Expected;
 use pot_bytes::Place;
 use pot_group::Standing;
+use pot_shared::SealedPut;
 use std::marker::Model;
 
 /// A drawing whose blocks are sealed two at a time, each beside the parity block that is expected of its put.

@@ -4,10 +4,9 @@ ghost use Rattle.std.specs.Vec.{vec_capacity};
 ghost use Rattle.pot_object.specs.Pieces.{longest};
 ghost use Rattle.pot_bytes.specs.Rack.{IsGeometry, IsRack};
 ghost use Rattle.pot_rows.specs.Rows.{HasMoreParts};
-ghost use Rattle.pot_shared.specs.Ready.{AreReady};
-ghost use Rattle.pot_shared.specs.Catalogs.{IsIndexReady};
-ghost use Rattle.pot_replies.specs.Settings.{Setting};
-ghost use Rattle.pot_store.specs.Works.{known, JobWorked, JobAlone, section_of, IsSettingOf};
+ghost use Rattle.pot_shared.specs.Callers.{AreReadyFor, IsIndexReadyFor, HasAllGroups, JudgedFor};
+ghost use Rattle.pot_shared.specs.Callers.{known_of};
+ghost use Rattle.pot_shared.specs.Works.{JobWorked};
 ghost use Rattle.pot_store.specs.Stores.{DrawsFrom, StoreRow, record_of, fault_of, IsPlan};
 ghost use Rattle.pot_store.specs.Stores.{IsUnplanned};
 
@@ -20,7 +19,7 @@ use pot_index::{Places, Record, ReserveFault, Splits};
 use pot_object::{TooLong, cut_file};
 use pot_outside::Archive;
 use pot_pads::PadStream;
-use pot_shared::{Passes, Strange, Vault};
+use pot_shared::{Caller, Passes, Strange};
 use std::alloc::Global;
 use std::sync::Wait;
 
@@ -132,56 +131,45 @@ pub(crate) fn prepare<'a>(
 /// In this order: `TooLong`; `IndexLogFull` and `Exists`, as `Index::reserve`; and the first put that is refused, after which the
 /// name is free again. `NoMemory` comes before anything is logged. `Strange` comes where another pass ended the job's reservation.
 pub fn store_file<A: Archive, R: Wait>(
-    rt: &R,
-    alloc: Global,
-    vault: &Vault<A>,
+    caller: &Caller<'_, A, R>,
     passes: &mut Passes<A>,
-    job: u32,
     name: &Name,
     file: &[u8],
     pads: PadStream,
 ) -> Result<Stored, StoreFault>
-    requires ready { AreReady vault.now.rack vault.now.groups passes.old.groups }
-    requires index { IsIndexReady vault.now.rack vault.now.groups vault.now.index passes.old.index }
+    requires ready { AreReadyFor caller.now passes.old.groups }
+    requires index { IsIndexReadyFor caller.now passes.old.index }
     requires parts { HasMoreParts 1 passes.old.groups }
-    requires rack { IsRack vault.now.rack }
-    requires groups { length vault.now.groups ≡ vault.now.rack.groups }
-    requires job { 0 < job }
-    ensures ready { AreReady vault.now.rack vault.now.groups passes.new.groups }
-    ensures index { IsIndexReady vault.now.rack vault.now.groups vault.now.index passes.new.index }
-    ensures worked { JobWorked job (known passes.old.groups passes.old.index)
-        (known passes.new.groups passes.new.index) }
-    ensures says { JobAlone job (known passes.old.groups passes.old.index)
-        (known passes.new.groups passes.new.index)
-        → (s : Setting) → IsSettingOf s vault.now.rack (known passes.old.groups passes.old.index)
-        → DrawsFrom s pads job file.now
-        → StoreRow s job name.now file.now result
-        (section_of (known passes.old.groups passes.old.index)
-        (known passes.new.groups passes.new.index)) }
+    requires rack { IsRack caller.now.vault.now.rack }
+    requires groups { HasAllGroups caller.now }
+    requires job { 0 < caller.now.job }
+    ensures ready { AreReadyFor caller.now passes.new.groups }
+    ensures index { IsIndexReadyFor caller.now passes.new.index }
+    ensures worked { JobWorked caller.now.job (known_of passes.old) (known_of passes.new) }
+    ensures says { JudgedFor caller.now (known_of passes.old) (known_of passes.new)
+        (λ s w. DrawsFrom s pads caller.now.job file.now
+        → StoreRow s caller.now.job name.now file.now result w) }
 {
+    let Caller {
+        rt,
+        alloc,
+        vault,
+        job,
+    } = *caller;
+    let geometry = &vault.rack.geometry;
     let Plan {
         pieces,
         shards,
         mut drawing,
         mut places,
-    } = prepare(alloc, vault.rack.columns, &vault.rack.geometry, file, pads)?;
+    } = prepare(alloc, vault.rack.columns, geometry, file, pads)?;
     match vault.reserve(rt, passes, job, name) {
         Ok(()) => {}
         Err(ReserveFault::LogFull) => return Err(StoreFault::IndexLogFull),
         Err(ReserveFault::Exists) => return Err(StoreFault::Exists),
         Err(ReserveFault::NoMemory) => return Err(StoreFault::NoMemory),
     }
-    let geometry = &vault.rack.geometry;
-    match put_all(
-        rt,
-        vault,
-        passes,
-        job,
-        geometry,
-        &mut drawing,
-        shards,
-        &mut places,
-    ) {
+    match put_all(caller, passes, geometry, &mut drawing, shards, &mut places) {
         Ok(()) => {
             let kept = record_of(alloc, name, file, geometry, places);
             match vault.publish(rt, passes, job, kept) {

@@ -1,14 +1,14 @@
 //! The visits of a fetch to a place.
 ghost use Rattle.std.specs.Prelude.{◌≡◌, ◌<◌, ◌≤◌, IsTrue};
-ghost use Rattle.pot_shared.specs.Ready.{AreReady, HasSlot};
+ghost use Rattle.pot_shared.specs.Callers.{AreReadyFor, HasSlotFor};
 ghost use Rattle.pot_store.specs.Visits.{came_to, LooksAgain, LooksOnce, MendsOn};
-ghost use Rattle.pot_store.specs.Blinds.{Blinds};
+ghost use Rattle.pot_shared.specs.Blinds.{Blinds};
 
 use pot_bytes::{Block, Place};
 use pot_group::{Looked, Mend};
 use pot_outside::Archive;
 use pot_pads::PadStream;
-use pot_shared::{Passes, Vault};
+use pot_shared::{Caller, Passes};
 use std::sync::Wait;
 
 /// What is known of a point of a fragment.
@@ -28,21 +28,20 @@ pub enum Point {
 
 /// Looks at a place. None where the log of its group has no room.
 pub fn look_at<A: Archive, R: Wait>(
-    rt: &R,
-    vault: &Vault<A>,
+    caller: &Caller<'_, A, R>,
     passes: &mut Passes<A>,
-    job: u32,
     place: Place,
     block: &mut Block,
 ) -> Option<Point>
-    requires ready { AreReady vault.now.rack vault.now.groups passes.old.groups }
-    requires place { HasSlot vault.now.rack vault.now.groups place }
-    requires job { 0 < job }
-    ensures ready { AreReady vault.now.rack vault.now.groups passes.new.groups }
+    requires ready { AreReadyFor caller.now passes.old.groups }
+    requires place { HasSlotFor caller.now place }
+    requires job { 0 < caller.now.job }
+    ensures ready { AreReadyFor caller.now passes.new.groups }
     ensures index { passes.new.index ≡ passes.old.index }
-    ensures looks { LooksOnce job place (came_to result block.new) passes.old.groups
-        passes.new.groups }
+    ensures looks { LooksOnce caller.now.job place (came_to result block.new)
+        passes.old.groups passes.new.groups }
 {
+    let Caller { rt, vault, job, .. } = *caller;
     match vault.look(rt, passes, job, place, block) {
         Looked::Seen => Some(Point::Seen),
         Looked::Gone => Some(Point::Gone),
@@ -53,22 +52,20 @@ pub fn look_at<A: Archive, R: Wait>(
 
 /// Looks at a place once more, behind a mend of it. It is `Lost` where that gives nothing. None where the log of its group has no room.
 fn look_again<A: Archive, R: Wait>(
-    rt: &R,
-    vault: &Vault<A>,
+    caller: &Caller<'_, A, R>,
     passes: &mut Passes<A>,
-    job: u32,
     place: Place,
     block: &mut Block,
 ) -> Option<Point>
-    requires ready { AreReady vault.now.rack vault.now.groups passes.old.groups }
-    requires place { HasSlot vault.now.rack vault.now.groups place }
-    requires job { 0 < job }
-    ensures ready { AreReady vault.now.rack vault.now.groups passes.new.groups }
+    requires ready { AreReadyFor caller.now passes.old.groups }
+    requires place { HasSlotFor caller.now place }
+    requires job { 0 < caller.now.job }
+    ensures ready { AreReadyFor caller.now passes.new.groups }
     ensures index { passes.new.index ≡ passes.old.index }
-    ensures looks { LooksAgain job place (came_to result block.new) passes.old.groups
-        passes.new.groups }
+    ensures looks { LooksAgain caller.now.job place (came_to result block.new)
+        passes.old.groups passes.new.groups }
 {
-    match look_at(rt, vault, passes, job, place, block) {
+    match look_at(caller, passes, place, block) {
         Some(Point::Gone) => Some(Point::Lost),
         other => other,
     }
@@ -77,26 +74,25 @@ fn look_again<A: Archive, R: Wait>(
 /// Mends a place at which a look gave nothing, and looks at it once more where its slot is whole then. It is `Lost` where it can't
 /// be mended, or where that look gives nothing. None where the log of its group has no room.
 pub fn mend<A: Archive, R: Wait>(
-    rt: &R,
-    vault: &Vault<A>,
+    caller: &Caller<'_, A, R>,
     passes: &mut Passes<A>,
-    job: u32,
     place: Place,
     pads: &mut PadStream,
     block: &mut Block,
 ) -> Option<Point>
-    requires ready { AreReady vault.now.rack vault.now.groups passes.old.groups }
-    requires place { HasSlot vault.now.rack vault.now.groups place }
-    requires job { 0 < job }
-    ensures ready { AreReady vault.now.rack vault.now.groups passes.new.groups }
+    requires ready { AreReadyFor caller.now passes.old.groups }
+    requires place { HasSlotFor caller.now place }
+    requires job { 0 < caller.now.job }
+    ensures ready { AreReadyFor caller.now passes.new.groups }
     ensures index { passes.new.index ≡ passes.old.index }
-    ensures mends { MendsOn job place (came_to result block.new) passes.old.groups
-        passes.new.groups }
-    ensures blinds { Blinds (IsTrue A.account.tells) job pads.old pads.new passes.old.groups
-        passes.new.groups }
+    ensures mends { MendsOn caller.now.job place (came_to result block.new)
+        passes.old.groups passes.new.groups }
+    ensures blinds { Blinds (IsTrue A.account.tells) caller.now.job pads.old pads.new
+        passes.old.groups passes.new.groups }
 {
+    let Caller { rt, vault, job, .. } = *caller;
     match vault.mend_place(rt, passes, job, place, pads).end {
-        Mend::Whole => look_again(rt, vault, passes, job, place, block),
+        Mend::Whole => look_again(caller, passes, place, block),
         Mend::TwoGone {
             first: _,
             second: _,

@@ -1,14 +1,14 @@
 use Rattle.std.proofs.Common.{◌≡◌, ◌≤◌, ◌*◌, IsTrue, vec_len, vec_capacity}
 use Rattle.pot_object.specs.Pieces.{pieces_of}
 use Rattle.pot_shared.specs.Ready.{AreReady}
-use Rattle.pot_store.specs.Blinds.{Blinds}
+use Rattle.pot_shared.specs.Blinds.{Blinds}
 use Rattle.pot_store.proofs.PieceLemmas.{FileSofar}
 use Rattle.pot_store.proofs.fetching.read_pieces.Given as goal
 
 abbrev pub invariant-loop-piece : goal.invariant-loop-piece
 invariant-loop-piece g l =
-    AreReady l.vault.rack l.vault.groups l.passes.groups
+    AreReady l.caller.vault.now.rack l.caller.vault.now.groups l.passes.groups
     × (l.passes.index ≡ l.fn.passes.index)
-    × FileSofar l.job l.kept l.piece l.bytes.items l.fn.passes.groups l.passes.groups
-    × (7424 ≤ vec_capacity l.fragments) × (pieces_of l.kept.length * 864 ≤ vec_capacity l.bytes) × (vec_len l.bytes ≡ l.piece * 864)
-    × Blinds (IsTrue g.A.Archive.account.tells) l.job l.fn.pads l.pads l.fn.passes.groups l.passes.groups
+    × FileSofar l.caller.job l.kept l.piece l.bytes.items l.fn.passes.groups l.passes.groups
+    × (pieces_of l.kept.length * 864 ≤ vec_capacity l.bytes) × (vec_len l.bytes ≡ l.piece * 864)
+    × Blinds (IsTrue g.A.Archive.account.tells) l.caller.job l.fn.pads l.pads l.fn.passes.groups l.passes.groups

@@ -8,12 +8,12 @@ pub returns-then-ne-clause-read : goal.returns-then-ne-clause-read
 returns-then-ne-clause-read g c =
     let bytes = c.read_pieces.new.bytes.items in
     let found = c.digest_of-found.result in
-    record_odd c.args.job c.args.kept.now c.args.passes.now.groups c.read_pieces.new.passes.groups bytes found c.in_ok-read_pieces.ensures.read
+    record_odd c.args.caller.now.job c.args.kept.now c.args.passes.now.groups c.read_pieces.new.passes.groups bytes found c.in_ok-read_pieces.ensures.read
     (is_digest found bytes (c.digest_of-found.ensures ∙ ap digest_bytes c.deref.ensures.value)) (digests_differ found c.args.kept.now.digest c.if-ne.ensures)
 
 pub returns-clause-read : goal.returns-clause-read
 returns-clause-read g c =
     let bytes = c.read_pieces.new.bytes in
     let found = c.digest_of-found.result in
-    record_file c.args.job c.args.kept.now c.args.passes.now.groups c.read_pieces.new.passes.groups bytes found c.in_ok-read_pieces.ensures.read
+    record_file c.args.caller.now.job c.args.kept.now c.args.passes.now.groups c.read_pieces.new.passes.groups bytes found c.in_ok-read_pieces.ensures.read
     (is_digest found bytes.items (c.digest_of-found.ensures ∙ ap digest_bytes c.deref.ensures.value)) (digests_same found c.args.kept.now.digest c.if-ne.ensures)

@@ -7,9 +7,9 @@ use Rattle.pot_store.specs.declared.points.Points.{Points}
 use Rattle.pot_store.specs.declared.visiting.Point.TheVariants as point
 use Rattle.pot_store.specs.Visits.{Gone, came_of, place_in}
 use Rattle.pot_store.specs.Points.{came_in}
-use Rattle.pot_store.specs.Blinds.{Blinds}
+use Rattle.pot_shared.specs.Blinds.{Blinds}
 use Rattle.pot_store.specs.Reads.{PointsTried}
-use Rattle.pot_store.proofs.BlindLemmas.{blinds_none, blinds_then}
+use Rattle.pot_shared.proofs.BlindLemmas.{blinds_none, blinds_then}
 use Rattle.pot_store.proofs.FitLemmas.{current_fits, fragment_apart, has_slot}
 use Rattle.pot_store.proofs.NoteLemmas.{not_gone}
 use Rattle.pot_store.proofs.PointLemmas.{mends_end, mends_enough, mends_full, mends_pass, mends_step}
@@ -27,28 +27,28 @@ pub loop-x-init : goal.loop-x-init
 loop-x-init g c = (c.requires.ready, refl, λ first tried. tried, blinds_none)
 
 pub count-requires : goal.count-requires
-count-requires g c = (current_fits c.args.vault.now.rack c.args.kept.now c.requires.fits).geometry.limits.shards
+count-requires g c = (current_fits c.args.caller.now.vault.now.rack c.args.kept.now c.requires.fits).geometry.limits.shards
 
 pub returns-then-count-kept-clause-read : goal.returns-then-count-kept-clause-read
 returns-then-count-kept-clause-read g c = λ first tried.
-    mends_enough c.args.job c.args.kept.now.places c.args.from c.args.kept.now.geometry.shards c.args.kept.now.geometry.need c.loop-x.x c.loop-x.points first c.loop-x.passes.groups
+    mends_enough c.args.caller.now.job c.args.kept.now.places c.args.from c.args.kept.now.geometry.shards c.args.kept.now.geometry.need c.loop-x.x c.loop-x.points first c.loop-x.passes.groups
     (c.loop-x.invariant.2 first tried) (sym c.count.ensures ∙ c.if-count-kept.true)
 
 pub known-requires : goal.known-requires
 known-requires g c =
     let lt = c.loop-x-test.true in
-    let few = (current_fits c.args.vault.now.rack c.args.kept.now c.requires.fits).geometry.limits.shards in
+    let few = (current_fits c.args.caller.now.vault.now.rack c.args.kept.now c.requires.fits).geometry.limits.shards in
     omega (arith, lt, few)
 
 pub mend_point-requires-clause-place : goal.mend_point-requires-clause-place
 mend_point-requires-clause-place g c =
-    let rack = c.args.vault.now.rack in
+    let rack = c.args.caller.now.vault.now.rack in
     let kept = c.args.kept.now in
     let lt = c.loop-x-test.true in
     let at : slice_index_or c.as_slice-places.result.now (c.args.from + c.from.result) no_place ≡ place_in kept.places (c.args.from + c.loop-x.x) =
     ap (λ ps. slice_index_or ps (c.args.from + c.from.result) no_place) c.as_slice-places.ensures ∙ ap (λ m. place_in kept.places (c.args.from + m)) c.from.ensures in
-    subst (λ p. HasSlot rack c.args.vault.now.groups p) (sym at)
-    (has_slot rack kept c.requires.fits c.args.vault.now.groups (c.args.from + c.loop-x.x) c.requires.groups (let within = c.requires.within in omega (arith, lt, within)))
+    subst (λ p. HasSlot rack c.args.caller.now.vault.now.groups p) (sym at)
+    (has_slot rack kept c.requires.fits c.args.caller.now.vault.now.groups (c.args.from + c.loop-x.x) c.requires.groups (let within = c.requires.within in omega (arith, lt, within)))
 
 pub returns-then-not-mend_point-clause-read : goal.returns-then-not-mend_point-clause-read
 returns-then-not-mend_point-clause-read g c = λ first tried.
@@ -56,8 +56,8 @@ returns-then-not-mend_point-clause-read g c = λ first tried.
     let p : Place = slice_index_or c.as_slice-places.result.now (c.args.from + c.from.result) no_place in
     let at : p ≡ place_in kept.places (c.args.from + c.loop-x.x) =
     ap (λ ps. slice_index_or ps (c.args.from + c.from.result) no_place) c.as_slice-places.ensures ∙ ap (λ m. place_in kept.places (c.args.from + m)) c.from.ensures in
-    mends_full c.args.job kept.places c.args.from kept.geometry.shards kept.geometry.need c.loop-x.x c.loop-x.points first c.loop-x.passes.groups (c.loop-x.invariant.2 first tried)
-    c.mend_point.new.points p c.mend_point.new.passes.groups (fragment_apart c.args.vault.now.rack kept c.requires.fits c.args.from c.requires.fragment) c.loop-x-test.true at
+    mends_full c.args.caller.now.job kept.places c.args.from kept.geometry.shards kept.geometry.need c.loop-x.x c.loop-x.points first c.loop-x.passes.groups (c.loop-x.invariant.2 first tried)
+    c.mend_point.new.points p c.mend_point.new.passes.groups (fragment_apart c.args.caller.now.vault.now.rack kept c.requires.fits c.args.from c.requires.fragment) c.loop-x-test.true at
     (λ e. c.if-count-kept.false (c.count.ensures ∙ e)) (is_gone c.loop-x.points c.loop-x.x (sym c.known.ensures ∙ c.in-Gone.is)) c.if-not-mend_point.ensures.read
 
 pub loop-x-preserved : goal.loop-x-preserved
@@ -72,28 +72,28 @@ loop-x-preserved g c =
           let p : Place = slice_index_or c.as_slice-places.result.now (c.args.from + w.from.result) no_place in
           let at : p ≡ place_in kept.places (c.args.from + x) =
           ap (λ ps. slice_index_or ps (c.args.from + w.from.result) no_place) c.as_slice-places.ensures ∙ ap (λ m. place_in kept.places (c.args.from + m)) w.from.ensures in (
-            subst (λ r. AreReady c.args.vault.now.rack c.args.vault.now.groups r.groups) (sym w.passes-is) w.mend_point.ensures.ready,
+            subst (λ r. AreReady c.args.caller.now.vault.now.rack c.args.caller.now.vault.now.groups r.groups) (sym w.passes-is) w.mend_point.ensures.ready,
             ap (λ r. r.index) w.passes-is ∙ (w.mend_point.ensures.index ∙ c.loop-x.invariant.1),
             λ first tried.
-                subst (λ s. PointsTried c.args.job kept.places c.args.from n need (x + 1) s first c.match-known.passes.groups) (sym w.points-is)
-                (subst (λ r. PointsTried c.args.job kept.places c.args.from n need (x + 1) w.mend_point.new.points first r.groups) (sym w.passes-is)
-                (mends_step c.args.job kept.places c.args.from n need x points first c.loop-x.passes.groups (c.loop-x.invariant.2 first tried)
-                w.mend_point.new.points p w.mend_point.new.passes.groups (fragment_apart c.args.vault.now.rack kept c.requires.fits c.args.from c.requires.fragment) c.loop-x-test.true at
+                subst (λ s. PointsTried c.args.caller.now.job kept.places c.args.from n need (x + 1) s first c.match-known.passes.groups) (sym w.points-is)
+                (subst (λ r. PointsTried c.args.caller.now.job kept.places c.args.from n need (x + 1) w.mend_point.new.points first r.groups) (sym w.passes-is)
+                (mends_step c.args.caller.now.job kept.places c.args.from n need x points first c.loop-x.passes.groups (c.loop-x.invariant.2 first tried)
+                w.mend_point.new.points p w.mend_point.new.passes.groups (fragment_apart c.args.caller.now.vault.now.rack kept c.requires.fits c.args.from c.requires.fragment) c.loop-x-test.true at
                 (λ e. c.if-count-kept.false (c.count.ensures ∙ e)) (is_gone points x (sym c.known.ensures ∙ w.in-Gone.is)) w.if-not-mend_point.ensures.read)),
-            subst (λ (s : Pads). Blinds (IsTrue g.A.Archive.account.tells) c.args.job c.args.pads.now s c.args.passes.now.groups c.match-known.passes.groups) (sym w.pads-is)
-                (subst (λ r. Blinds (IsTrue g.A.Archive.account.tells) c.args.job c.args.pads.now w.mend_point.new.pads c.args.passes.now.groups r.groups) (sym w.passes-is)
+            subst (λ (s : Pads). Blinds (IsTrue g.A.Archive.account.tells) c.args.caller.now.job c.args.pads.now s c.args.passes.now.groups c.match-known.passes.groups) (sym w.pads-is)
+                (subst (λ r. Blinds (IsTrue g.A.Archive.account.tells) c.args.caller.now.job c.args.pads.now w.mend_point.new.pads c.args.passes.now.groups r.groups) (sym w.passes-is)
                 (blinds_then c.loop-x.invariant.3 w.mend_point.ensures.blinds)),
           )
       | in_default w ↦ (
-        subst (λ r. AreReady c.args.vault.now.rack c.args.vault.now.groups r.groups) (sym w.passes-is) c.loop-x.invariant.0,
+        subst (λ r. AreReady c.args.caller.now.vault.now.rack c.args.caller.now.vault.now.groups r.groups) (sym w.passes-is) c.loop-x.invariant.0,
         ap (λ r. r.index) w.passes-is ∙ c.loop-x.invariant.1,
         λ first tried.
-            subst (λ s. PointsTried c.args.job kept.places c.args.from n need (x + 1) s first c.match-known.passes.groups) (sym w.points-is)
-            (subst (λ r. PointsTried c.args.job kept.places c.args.from n need (x + 1) points first r.groups) (sym w.passes-is)
-            (mends_pass c.args.job kept.places c.args.from n need x points first c.loop-x.passes.groups (c.loop-x.invariant.2 first tried)
+            subst (λ s. PointsTried c.args.caller.now.job kept.places c.args.from n need (x + 1) s first c.match-known.passes.groups) (sym w.points-is)
+            (subst (λ r. PointsTried c.args.caller.now.job kept.places c.args.from n need (x + 1) points first r.groups) (sym w.passes-is)
+            (mends_pass c.args.caller.now.job kept.places c.args.from n need x points first c.loop-x.passes.groups (c.loop-x.invariant.2 first tried)
             (not_gone_there points x (λ e. w.in_default.not-Gone (c.known.ensures ∙ e))))),
-        subst (λ (s : Pads). Blinds (IsTrue g.A.Archive.account.tells) c.args.job c.args.pads.now s c.args.passes.now.groups c.match-known.passes.groups) (sym w.pads-is)
-            (subst (λ r. Blinds (IsTrue g.A.Archive.account.tells) c.args.job c.args.pads.now c.loop-x.pads c.args.passes.now.groups r.groups) (sym w.passes-is) c.loop-x.invariant.3),
+        subst (λ (s : Pads). Blinds (IsTrue g.A.Archive.account.tells) c.args.caller.now.job c.args.pads.now s c.args.passes.now.groups c.match-known.passes.groups) (sym w.pads-is)
+            (subst (λ r. Blinds (IsTrue g.A.Archive.account.tells) c.args.caller.now.job c.args.pads.now c.loop-x.pads c.args.passes.now.groups r.groups) (sym w.passes-is) c.loop-x.invariant.3),
       )
     ]
 
@@ -102,7 +102,7 @@ returns-clause-read g c = λ first tried.
     let kept = c.args.kept.now in
     let last = c.loop-x-test.false in
     let bound = c.loop-x.auto.x-end in
-    mends_end c.args.job kept.places c.args.from kept.geometry.shards kept.geometry.need c.loop-x.x c.loop-x.points first c.loop-x.passes.groups (c.loop-x.invariant.2 first tried)
+    mends_end c.args.caller.now.job kept.places c.args.from kept.geometry.shards kept.geometry.need c.loop-x.x c.loop-x.points first c.loop-x.passes.groups (c.loop-x.invariant.2 first tried)
     (omega (arith, last, bound))
 
 pub returns-then-not-mend_point-clause-blinds : goal.returns-then-not-mend_point-clause-blinds

@@ -14,7 +14,7 @@ use Rattle.pot_store.proofs.PointLemmas.{fragment_had, fragment_missing, fragmen
 use Rattle.pot_store.proofs.fragments.read_fragment.Goals as goal
 
 pub first_block-from-requires-clause-geometry : goal.first_block-from-requires-clause-geometry
-first_block-from-requires-clause-geometry g c = (current_fits c.args.vault.now.rack c.args.kept.now c.requires.fits).geometry.limits
+first_block-from-requires-clause-geometry g c = (current_fits c.args.caller.now.vault.now.rack c.args.kept.now c.requires.fits).geometry.limits
 
 pub first_block-from-requires-clause-piece : goal.first_block-from-requires-clause-piece
 first_block-from-requires-clause-piece g c =
@@ -22,15 +22,15 @@ first_block-from-requires-clause-piece g c =
 
 pub see_points-requires-clause-fragment : goal.see_points-requires-clause-fragment
 see_points-requires-clause-fragment g c =
-    (c.args.piece * c.args.kept.now.geometry.fragments + c.args.fragment, fragment_within c.args.vault.now.rack c.args.kept.now c.requires.fits c.args.piece c.args.fragment c.requires.piece c.requires.fragment, c.first_block-from.ensures)
+    (c.args.at.piece * c.args.kept.now.geometry.fragments + c.args.at.fragment, fragment_within c.args.caller.now.vault.now.rack c.args.kept.now c.requires.fits c.args.at.piece c.args.at.fragment c.requires.piece c.requires.fragment, c.first_block-from.ensures)
 
 pub see_points-requires-clause-within : goal.see_points-requires-clause-within
 see_points-requires-clause-within g c =
-    let rack = c.args.vault.now.rack in
+    let rack = c.args.caller.now.vault.now.rack in
     let kept = c.args.kept.now in
     let e = c.first_block-from.ensures in
-    let h = points_within rack kept c.requires.fits (c.args.piece * kept.geometry.fragments + c.args.fragment)
-    (fragment_within rack kept c.requires.fits c.args.piece c.args.fragment c.requires.piece c.requires.fragment) in
+    let h = points_within rack kept c.requires.fits (c.args.at.piece * kept.geometry.fragments + c.args.at.fragment)
+    (fragment_within rack kept c.requires.fits c.args.at.piece c.args.at.fragment c.requires.piece c.requires.fragment) in
     omega (arith, e, h)
 
 pub returns-in_err-see_points-clause-read : goal.returns-in_err-see_points-clause-read
@@ -40,47 +40,47 @@ returns-in_err-see_points-clause-read g c =
     let e = c.in_err-see_points.field-0.0 in
     let p = err_from_is_err_and c.from_residual.result c.from_residual.ensures.1 in
     rw (p.1, p.2)
-    (fragment_refused c.args.job kept c.args.piece c.args.fragment c.args.fragments.now.items c.args.passes.now.groups c.see_points.new.passes.groups points e
-    (subst (λ m. PointsRead c.args.job kept.places m kept.geometry.shards kept.geometry.need kept.geometry.shards points (Err e) c.args.passes.now.groups c.see_points.new.passes.groups)
+    (fragment_refused c.args.caller.now.job kept c.args.at.piece c.args.at.fragment c.args.rooms.now.fragments.items c.args.passes.now.groups c.see_points.new.passes.groups points e
+    (subst (λ m. PointsRead c.args.caller.now.job kept.places m kept.geometry.shards kept.geometry.need kept.geometry.shards points (Err e) c.args.passes.now.groups c.see_points.new.passes.groups)
     c.first_block-from.ensures c.in_err-see_points.ensures.read))
 
 pub count-requires : goal.count-requires
-count-requires g c = (current_fits c.args.vault.now.rack c.args.kept.now c.requires.fits).geometry.limits.shards
+count-requires g c = (current_fits c.args.caller.now.vault.now.rack c.args.kept.now c.requires.fits).geometry.limits.shards
 
 pub missing-requires-clause-geometry : goal.missing-requires-clause-geometry
-missing-requires-clause-geometry g c = (current_fits c.args.vault.now.rack c.args.kept.now c.requires.fits).geometry.limits
+missing-requires-clause-geometry g c = (current_fits c.args.caller.now.vault.now.rack c.args.kept.now c.requires.fits).geometry.limits
 
 pub missing-requires-clause-within : goal.missing-requires-clause-within
 missing-requires-clause-within g c =
-    let rack = c.args.vault.now.rack in
+    let rack = c.args.caller.now.vault.now.rack in
     let kept = c.args.kept.now in
     let e = c.first_block-from.ensures in
-    let h = points_within rack kept c.requires.fits (c.args.piece * kept.geometry.fragments + c.args.fragment)
-    (fragment_within rack kept c.requires.fits c.args.piece c.args.fragment c.requires.piece c.requires.fragment) in
+    let h = points_within rack kept c.requires.fits (c.args.at.piece * kept.geometry.fragments + c.args.at.fragment)
+    (fragment_within rack kept c.requires.fits c.args.at.piece c.args.at.fragment c.requires.piece c.requires.fragment) in
     omega (arith, e, h)
 
 pub missing-requires-clause-few : goal.missing-requires-clause-few
 missing-requires-clause-few g c =
-    let few = (current_fits c.args.vault.now.rack c.args.kept.now c.requires.fits).geometry.limits.fragments.1 in let lt = c.requires.fragment in omega (arith, few, lt)
+    let few = (current_fits c.args.caller.now.vault.now.rack c.args.kept.now c.requires.fits).geometry.limits.fragments.1 in let lt = c.requires.fragment in omega (arith, few, lt)
 
 pub returns-then-count-kept-clause-read : goal.returns-then-count-kept-clause-read
 returns-then-count-kept-clause-read g c =
     let kept = c.args.kept.now in
     let points : Points = c.see_points.new.points in
-    let from : ℕ = (c.args.piece * kept.geometry.fragments + c.args.fragment) * kept.geometry.shards in
-    let read : PointsTried c.args.job kept.places from kept.geometry.shards kept.geometry.need kept.geometry.shards points c.args.passes.now.groups c.see_points.new.passes.groups =
-    subst (λ m. PointsTried c.args.job kept.places m kept.geometry.shards kept.geometry.need kept.geometry.shards points c.args.passes.now.groups c.see_points.new.passes.groups)
+    let from : ℕ = (c.args.at.piece * kept.geometry.fragments + c.args.at.fragment) * kept.geometry.shards in
+    let read : PointsTried c.args.caller.now.job kept.places from kept.geometry.shards kept.geometry.need kept.geometry.shards points c.args.passes.now.groups c.see_points.new.passes.groups =
+    subst (λ m. PointsTried c.args.caller.now.job kept.places m kept.geometry.shards kept.geometry.need kept.geometry.shards points c.args.passes.now.groups c.see_points.new.passes.groups)
     c.first_block-from.ensures c.in_ok-see_points.ensures.read in
     let fewer : count kept.geometry.shards (λ y. was_seen (came_in points y)) < kept.geometry.need = subst (λ m. m < kept.geometry.need) c.count.ensures c.if-count-kept.true in
-    fragment_missing c.args.job kept c.args.piece c.args.fragment c.args.fragments.now.items c.args.passes.now.groups c.see_points.new.passes.groups points read c.missing.result fewer
-    (subst (λ m. IsMissing kept m c.args.piece c.args.fragment (came_in points) c.missing.result) c.first_block-from.ensures c.missing.ensures)
+    fragment_missing c.args.caller.now.job kept c.args.at.piece c.args.at.fragment c.args.rooms.now.fragments.items c.args.passes.now.groups c.see_points.new.passes.groups points read c.missing.result fewer
+    (subst (λ m. IsMissing kept m c.args.at.piece c.args.at.fragment (came_in points) c.missing.result) c.first_block-from.ensures c.missing.ensures)
 
 pub gather-requires : goal.gather-requires
-gather-requires g c = (current_fits c.args.vault.now.rack c.args.kept.now c.requires.fits).geometry.limits.shards
+gather-requires g c = (current_fits c.args.caller.now.vault.now.rack c.args.kept.now c.requires.fits).geometry.limits.shards
 
 pub join-requires-clause-some : goal.join-requires-clause-some
 join-requires-clause-some g c =
-    let some = (current_fits c.args.vault.now.rack c.args.kept.now c.requires.fits).geometry.limits.need.0 in
+    let some = (current_fits c.args.caller.now.vault.now.rack c.args.kept.now c.requires.fits).geometry.limits.need.0 in
     let a = c.if-count-kept.false in
     let b = c.count.ensures in
     let d = ap length c.gather.ensures.0 in
@@ -89,7 +89,7 @@ join-requires-clause-some g c =
 
 pub join-requires-clause-few : goal.join-requires-clause-few
 join-requires-clause-few g c =
-    let few = (current_fits c.args.vault.now.rack c.args.kept.now c.requires.fits).geometry.limits.shards in
+    let few = (current_fits c.args.caller.now.vault.now.rack c.args.kept.now c.requires.fits).geometry.limits.shards in
     let most = seen_most c.args.kept.now.geometry.shards c.see_points.new.points in
     let d = ap length c.gather.ensures.0 in
     let e = points_count (came_in c.see_points.new.points) c.args.kept.now.geometry.shards in
@@ -107,14 +107,14 @@ pub returns-clause-read : goal.returns-clause-read
 returns-clause-read g c =
     let kept = c.args.kept.now in
     let points : Points = c.see_points.new.points in
-    let from : ℕ = (c.args.piece * kept.geometry.fragments + c.args.fragment) * kept.geometry.shards in
-    let read : PointsTried c.args.job kept.places from kept.geometry.shards kept.geometry.need kept.geometry.shards points c.args.passes.now.groups c.see_points.new.passes.groups =
-    subst (λ m. PointsTried c.args.job kept.places m kept.geometry.shards kept.geometry.need kept.geometry.shards points c.args.passes.now.groups c.see_points.new.passes.groups)
+    let from : ℕ = (c.args.at.piece * kept.geometry.fragments + c.args.at.fragment) * kept.geometry.shards in
+    let read : PointsTried c.args.caller.now.job kept.places from kept.geometry.shards kept.geometry.need kept.geometry.shards points c.args.passes.now.groups c.see_points.new.passes.groups =
+    subst (λ m. PointsTried c.args.caller.now.job kept.places m kept.geometry.shards kept.geometry.need kept.geometry.shards points c.args.passes.now.groups c.see_points.new.passes.groups)
     c.first_block-from.ensures c.in_ok-see_points.ensures.read in
     let a = c.if-count-kept.false in
     let b = c.count.ensures in
     let enough : kept.geometry.need ≤ count kept.geometry.shards (λ y. was_seen (came_in points y)) = omega (arith, a, b) in
     let long : length c.join.new.content ≡ 992 = c.join.auto.content in
-    fragment_had c.args.job kept c.args.piece c.args.fragment c.args.fragments.now.items c.args.passes.now.groups c.see_points.new.passes.groups points read
+    fragment_had c.args.caller.now.job kept c.args.at.piece c.args.at.fragment c.args.rooms.now.fragments.items c.args.passes.now.groups c.see_points.new.passes.groups points read
     c.gather.new.shares c.join.new.content c.append.new.into.items enough c.gather.ensures long c.join.ensures
-    (c.append.ensures.items ∙ ap (λ l. c.args.fragments.now.items ++ l) (behind_whole 64 928 c.join.new.content long))
+    (c.append.ensures.items ∙ ap (λ l. c.args.rooms.now.fragments.items ++ l) (behind_whole 64 928 c.join.new.content long))

@@ -1,4 +1,4 @@
-use Rattle.pot_store.proofs.BlindLemmas.{blinds_quiet, blinds_then}
+use Rattle.pot_shared.proofs.BlindLemmas.{blinds_quiet, blinds_then}
 use Rattle.pot_store.proofs.fragments.see_points.Goals as goal
 
 pub returns-in_err-look_at_points-clause-blinds : goal.returns-in_err-look_at_points-clause-blinds

@@ -1,4 +1,5 @@
-use Rattle.pot_store.proofs.SawLemmas.{standing_saw, saw_more}
+use Rattle.pot_shared.proofs.WorkLemmas.{saw_more}
+use Rattle.pot_store.proofs.SawLemmas.{standing_saw}
 use Rattle.pot_store.proofs.putting.look_ahead.Goals as goal
 
 pub returns-clause-saw : goal.returns-clause-saw

@@ -15,8 +15,8 @@ pub loop-number-init : goal.loop-number-init
 loop-number-init g c = (
   c.requires.ready,
   refl,
-  subst (λ ps. ArePut c.args.vault.now.rack c.args.geometry.now c.args.job (all_blocks c.args.drawing.now) ps c.args.passes.now.groups c.args.passes.now.groups) (sym c.requires.room.0)
-      (puts_none c.args.vault.now.rack c.args.geometry.now c.args.job (all_blocks c.args.drawing.now) c.args.passes.now.groups c.requires.ready.idle),
+  subst (λ ps. ArePut c.args.caller.now.vault.now.rack c.args.geometry.now c.args.caller.now.job (all_blocks c.args.drawing.now) ps c.args.passes.now.groups c.args.passes.now.groups) (sym c.requires.room.0)
+      (puts_none c.args.caller.now.vault.now.rack c.args.geometry.now c.args.caller.now.job (all_blocks c.args.drawing.now) c.args.passes.now.groups c.requires.ready.idle),
   ap length c.requires.room.0,
   ap (λ n. record c.args.drawing.now { next = n }) c.requires.first,
   c.requires.room.1,
@@ -25,14 +25,14 @@ loop-number-init g c = (
 pub returns-in-Err-clause-worked : goal.returns-in-Err-clause-worked
 returns-in-Err-clause-worked g c =
     let sofar = c.loop-number.invariant in
-    let lt : c.group_of-group.result < length c.args.vault.now.groups = (let w = c.group_of-group.ensures.within in let n = c.requires.groups in omega (arith, w, n)) in
-    refused_work c.args.vault.now.rack c.args.vault.now.groups (IsTrue g.A.Archive.account.tells) c.args.job c.args.passes.now.groups c.look_ahead.new.passes.groups c.put.new.passes.groups c.group_of-group.result
+    let lt : c.group_of-group.result < length c.args.caller.now.vault.now.groups = (let w = c.group_of-group.ensures.within in let n = c.requires.groups in omega (arith, w, n)) in
+    refused_work c.args.caller.now.vault.now.rack c.args.caller.now.vault.now.groups (IsTrue g.A.Archive.account.tells) c.args.caller.now.job c.args.passes.now.groups c.look_ahead.new.passes.groups c.put.new.passes.groups c.group_of-group.result
     c.next-next.result.block.block c.in-Err.cause c.look_ahead.ensures.ready lt c.in-Err.ensures.call (puts_seen sofar.0 c.look_ahead.ensures.ready c.look_ahead.ensures.saw sofar.2).worked
 
 pub returns-in-Err-clause-ends : goal.returns-in-Err-clause-ends
 returns-in-Err-clause-ends g c =
     let sofar = c.loop-number.invariant in
-    let lt : c.group_of-group.result < length c.args.vault.now.groups = (let w = c.group_of-group.ensures.within in let n = c.requires.groups in omega (arith, w, n)) in
+    let lt : c.group_of-group.result < length c.args.caller.now.vault.now.groups = (let w = c.group_of-group.ensures.within in let n = c.requires.groups in omega (arith, w, n)) in
     let less : c.loop-number.number < c.args.count = search rules in
     let all : length (all_blocks c.args.drawing.now) ≡ count_of c.args.drawing.now = place_laws.count c.args.drawing.now.geometry c.args.drawing.now.file (random_from c.args.drawing.now.geometry c.args.drawing.now.file c.args.drawing.now.start) in
     let block : c.next-next.result.block.block ≡ slice_index_or (all_blocks c.args.drawing.now) c.loop-number.number [] =
@@ -40,14 +40,14 @@ returns-in-Err-clause-ends g c =
     let is : slice_get (all_blocks c.args.drawing.now) (length c.loop-number.places.items) ≡ Some c.next-next.result.block.block =
     get_some (all_blocks c.args.drawing.now) (length c.loop-number.places.items) c.next-next.result.block.block []
     (let n = sofar.3 in let k = c.requires.count in omega (arith, less, all, n, k)) (block ∙ ap (λ n. slice_index_or (all_blocks c.args.drawing.now) n []) (sym sofar.3)) in
-    puts_end c.args.vault.now.rack c.args.geometry.now c.args.vault.now.groups (IsTrue g.A.Archive.account.tells) c.args.job c.args.passes.now.groups c.look_ahead.new.passes.groups c.put.new.passes.groups c.group_of-group.result
+    puts_end c.args.caller.now.vault.now.rack c.args.geometry.now c.args.caller.now.vault.now.groups (IsTrue g.A.Archive.account.tells) c.args.caller.now.job c.args.passes.now.groups c.look_ahead.new.passes.groups c.put.new.passes.groups c.group_of-group.result
     c.next-next.result.block.block c.in-Err.cause c.look_ahead.ensures.ready lt c.in-Err.ensures.call (all_blocks c.args.drawing.now) c.loop-number.places.items (puts_seen sofar.0 c.look_ahead.ensures.ready c.look_ahead.ensures.saw sofar.2) is
-    (c.group_of-group.ensures.value ∙ ap (λ n. group_of c.args.vault.now.rack c.args.geometry.now n) (sym sofar.3)) c.requires.ready.of.0
+    (c.group_of-group.ensures.value ∙ ap (λ n. group_of c.args.caller.now.vault.now.rack c.args.geometry.now n) (sym sofar.3)) c.requires.ready.of.0
 
 pub loop-number-preserved : goal.loop-number-preserved
 loop-number-preserved g c =
     let sofar = c.loop-number.invariant in
-    let lt : c.group_of-group.result < length c.args.vault.now.groups = (let w = c.group_of-group.ensures.within in let n = c.requires.groups in omega (arith, w, n)) in
+    let lt : c.group_of-group.result < length c.args.caller.now.vault.now.groups = (let w = c.group_of-group.ensures.within in let n = c.requires.groups in omega (arith, w, n)) in
     let less : c.loop-number.number < c.args.count = search rules in
     let all : length (all_blocks c.args.drawing.now) ≡ count_of c.args.drawing.now = place_laws.count c.args.drawing.now.geometry c.args.drawing.now.file (random_from c.args.drawing.now.geometry c.args.drawing.now.file c.args.drawing.now.start) in
     let block : c.next-next.result.block.block ≡ slice_index_or (all_blocks c.args.drawing.now) c.loop-number.number [] =
@@ -55,12 +55,12 @@ loop-number-preserved g c =
     let is : slice_get (all_blocks c.args.drawing.now) (length c.loop-number.places.items) ≡ Some c.next-next.result.block.block =
     get_some (all_blocks c.args.drawing.now) (length c.loop-number.places.items) c.next-next.result.block.block []
     (let n = sofar.3 in let k = c.requires.count in omega (arith, less, all, n, k)) (block ∙ ap (λ n. slice_index_or (all_blocks c.args.drawing.now) n []) (sym sofar.3)) in
-    let more = put_one c.args.vault.now.rack c.args.geometry.now c.args.vault.now.groups (IsTrue g.A.Archive.account.tells) c.args.job c.look_ahead.new.passes.groups c.put.new.passes.groups c.group_of-group.result
+    let more = put_one c.args.caller.now.vault.now.rack c.args.geometry.now c.args.caller.now.vault.now.groups (IsTrue g.A.Archive.account.tells) c.args.caller.now.job c.look_ahead.new.passes.groups c.put.new.passes.groups c.group_of-group.result
     c.next-next.result.block.block c.in-Ok.place c.look_ahead.ensures.ready lt c.in-Ok.ensures.call (all_blocks c.args.drawing.now) c.loop-number.places.items c.args.passes.now.groups (puts_seen sofar.0 c.look_ahead.ensures.ready c.look_ahead.ensures.saw sofar.2) is
-    (c.group_of-group.ensures.value ∙ ap (λ n. group_of c.args.vault.now.rack c.args.geometry.now n) (sym sofar.3)) in (
+    (c.group_of-group.ensures.value ∙ ap (λ n. group_of c.args.caller.now.vault.now.rack c.args.geometry.now n) (sym sofar.3)) in (
       c.in-Ok.ensures.ready,
       c.in-Ok.ensures.index ∙ c.look_ahead.ensures.index ∙ sofar.1,
-      subst (λ ps. ArePut c.args.vault.now.rack c.args.geometry.now c.args.job (all_blocks c.args.drawing.now) ps c.args.passes.now.groups c.put.new.passes.groups) (sym c.push_reserved.ensures.items) more,
+      subst (λ ps. ArePut c.args.caller.now.vault.now.rack c.args.geometry.now c.args.caller.now.job (all_blocks c.args.drawing.now) ps c.args.passes.now.groups c.put.new.passes.groups) (sym c.push_reserved.ensures.items) more,
       search rules,
       c.note.ensures ∙ c.next-next.ensures.next ∙ ap (λ (d : Drawn). record d { next = d.next + 1 }) (c.look_ahead.ensures.drawing ∙ sofar.4),
       search rules,

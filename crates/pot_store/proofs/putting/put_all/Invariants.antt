@@ -7,9 +7,9 @@ use Rattle.pot_store.proofs.putting.put_all.Given as goal
 
 abbrev pub invariant-loop-number : goal.invariant-loop-number
 invariant-loop-number g l =
-    AreReady l.vault.rack l.vault.groups l.passes.groups
+    AreReady l.caller.vault.now.rack l.caller.vault.now.groups l.passes.groups
     × (l.passes.index ≡ l.fn.passes.index)
-    × ArePut l.vault.rack l.geometry l.job (all_blocks l.fn.drawing) l.places.items l.fn.passes.groups l.passes.groups
+    × ArePut l.caller.vault.now.rack l.geometry l.caller.job (all_blocks l.fn.drawing) l.places.items l.fn.passes.groups l.passes.groups
     × (length l.places.items ≡ l.number)
     × (l.drawing ≡ record l.fn.drawing { next = l.number })
     × (l.count ≤ vec_capacity l.places)

@@ -12,14 +12,14 @@ pub returns-in-Ok-put_all-clause-puts : goal.returns-in-Ok-put_all-clause-puts
 returns-in-Ok-put_all-clause-puts g c =
     let plan = c.in-Ok.plan in
     let put = c.in-Ok-put_all.ensures.put in
-    subst (λ (places : List Place). IsSplit c.args.vault.now.rack c.args.geometry.now c.args.job c.args.file.now c.args.pads (record { pieces = plan.pieces; shards = plan.shards })
+    subst (λ (places : List Place). IsSplit c.args.caller.now.vault.now.rack c.args.geometry.now c.args.caller.now.job c.args.file.now c.args.pads (record { pieces = plan.pieces; shards = plan.shards })
     (record { geometry = c.args.geometry.now; places = places }) c.args.passes.now.groups c.put_all.new.passes.groups) (sym c.from_vec.ensures)
-    (is_split c.args.vault.now.rack c.args.geometry.now c.args.job c.args.file.now c.args.pads plan.pieces plan.shards plan.drawing plan.places.items c.put_all.new.places.items
+    (is_split c.args.caller.now.vault.now.rack c.args.geometry.now c.args.caller.now.job c.args.file.now c.args.pads plan.pieces plan.shards plan.drawing plan.places.items c.put_all.new.places.items
     c.args.passes.now.groups c.put_all.new.passes.groups c.requires.geometry (λ i. (c.type_inv.file i).fits) c.in-Ok.ensures.planned put.0 put.1)
 
 pub returns-clause-puts : goal.returns-clause-puts
 returns-clause-puts g c =
-    subst (λ (e : RenewFileFault). PutsSplit c.args.vault.now.rack c.args.geometry.now c.args.job c.args.file.now c.args.pads (Err e) c.args.passes.now.groups c.put_all.new.passes.groups) (sym c.of_put.ensures)
-    (stopped_is c.args.vault.now.rack c.args.geometry.now c.args.job c.args.file.now c.args.pads c.in-Err.stopped.group c.in-Err.stopped.cause c.args.passes.now.groups c.put_all.new.passes.groups
-    (λ here. subst (λ (d : Drawn). PutsEnd c.args.vault.now.rack c.args.geometry.now c.args.job (all_blocks d) c.in-Err.stopped.group c.in-Err.stopped.cause c.args.passes.now.groups c.put_all.new.passes.groups)
+    subst (λ (e : RenewFileFault). PutsSplit c.args.caller.now.vault.now.rack c.args.geometry.now c.args.caller.now.job c.args.file.now c.args.pads (Err e) c.args.passes.now.groups c.put_all.new.passes.groups) (sym c.of_put.ensures)
+    (stopped_is c.args.caller.now.vault.now.rack c.args.geometry.now c.args.caller.now.job c.args.file.now c.args.pads c.in-Err.stopped.group c.in-Err.stopped.cause c.args.passes.now.groups c.put_all.new.passes.groups
+    (λ here. subst (λ (d : Drawn). PutsEnd c.args.caller.now.vault.now.rack c.args.geometry.now c.args.caller.now.job (all_blocks d) c.in-Err.stopped.group c.in-Err.stopped.cause c.args.passes.now.groups c.put_all.new.passes.groups)
     c.in-Ok.ensures.planned.drawing (c.in-Err.ensures.ends here)))

@@ -1,7 +1,5 @@
 -- Where no block is left another piece is drawn; then the block at hand is the next one.
 use Rattle.std.proofs.Common.{◌<◌, ◌+◌, ◌-◌, ◌*◌, [], ℕ, List, length, get_or, refl, ap, ap₂, sym, subst, ◌∙◌, arith}
-use Rattle.std.proofs.lemmas.List.{with_items_is}
-use Rattle.std.specs.Vec.{with_items}
 use Rattle.pot_bytes.specs.declared.rack.Geometry.{Geometry}
 use Rattle.pot_object.specs.Pieces.{pieces_of}
 use Rattle.pot_pads.specs.Pads.{Pads}
@@ -21,22 +19,18 @@ ready c =
           let none = w.if-self-eq0.true in
           let size = old.geometry.fragments * old.geometry.shards in
           let pieces = pieces_of (length old.file.now) in
-          let long = w.draw.auto.random ∙ w.deref_mut.ensures.len in
-          let many = w.draw.auto.blocks ∙ w.deref_mut-then-self-eq0.ensures.len in
-          let random = with_items_is old.random w.draw.new.random long in
-          let blocks = with_items_is old.blocks w.draw.new.blocks many in
           let exists : old.piece < pieces =
           piece_left old.piece pieces size old.left (old.piece * size - old.left) none refl (subst (λ (z : Drawn). z.next < count_of z) (sym v) c.requires) in
-          let left = w.len-self-inside.ensures ∙ old.blocks.ok.0 in
+          let left = w.len-self-inside.ensures ∙ w.draw.new.last.blocks.ok.0 ∙ w.draw.ensures.many in
           subst (IsReady d) (sym w.self-inside-is) (record {
             geometry = ap (λ (z : Drawn). z.geometry) v;
             file = ap (λ (z : Drawn). z.file) v;
             start = ap (λ (z : Drawn). z.start) v;
             holds =
-                drawn_more old.geometry old.file.now old.start.value old.pads w.draw.new.pads old.id old.random.items
-                (with_items old.random w.draw.new.random).items old.blocks.items (with_items old.blocks w.draw.new.blocks).items
+                drawn_more old.geometry old.file.now old.start.value old.pads w.draw.new.pads old.id old.last.random.items
+                w.draw.new.last.random.items old.last.blocks.items w.draw.new.last.blocks.items
                 old.piece old.left w.len-self-inside.result c.self.invariant exists w.draw.ensures.place
-                (ap length random ∙ long ∙ old.random.ok.0) (blocks ∙ w.draw.ensures.blocks) (ap length blocks ∙ many ∙ old.blocks.ok.0) left;
+                w.draw.ensures.random w.draw.ensures.blocks w.draw.ensures.many left;
             some = omega (arith, left, c.self.invariant.block_room, some_blocks old.geometry c.self.invariant.geometry);
             next = same_next old.piece size old.left w.len-self-inside.result (old.piece * size - old.left) none (left ∙ c.self.invariant.block_room) refl ∙ at;
           })
@@ -54,15 +48,15 @@ pub invariant_of-self : goal.invariant_of-self
 invariant_of-self c =
     let r = ready c in
     let a = c.if-self-eq0.self-inside in
-    one_less a.geometry a.file.now a.start.value a.pads a.id a.random.items a.blocks.items a.piece a.left r.holds r.some
+    one_less a.geometry a.file.now a.start.value a.pads a.id a.last.random.items a.last.blocks.items a.piece a.left r.holds r.some
 
 pub returns-clause-block : goal.returns-clause-block
 returns-clause-block c =
     let r = ready c in
     let d = c.args.self.now in
     let a = c.if-self-eq0.self-inside in
-    next_block a.geometry a.file.now a.start.value a.pads a.id a.random.items a.blocks.items a.piece a.left c.len.result c.index-block.result.now
-    r.holds r.some (c.len.ensures ∙ a.blocks.ok.0) c.index-block.ensures
+    next_block a.geometry a.file.now a.start.value a.pads a.id a.last.random.items a.last.blocks.items a.piece a.left c.len.result c.index-block.result.now
+    r.holds r.some (c.len.ensures ∙ a.last.blocks.ok.0) c.index-block.ensures
     ∙ ap (λ (k : ℕ). get_or (blocks_from a.geometry a.file.now a.start.value) k []) r.next
     ∙ ap (λ (g : Geometry). get_or (blocks_from g a.file.now a.start.value) d.next []) r.geometry
     ∙ ap₂ (λ (file : List ℕ) (start : Pads). get_or (blocks_from d.geometry file start) d.next []) r.file r.start
