@@ -36,8 +36,8 @@ use Rattle.pot_shared.specs.Calls.{CallTurn}
 use Rattle.pot_shared.specs.Catalogs.{IndexPasses}
 use Rattle.pot_shared.specs.UseCalls.{TraceCall, TracesAll, first_home}
 use Rattle.pot_shared.proofs.MemberLemmas.{entries_all}
-use Rattle.pot_store.specs.Works.{of_job, gained, known, IsSettingOf}
-use Rattle.pot_store.proofs.WorkLemmas.{all_none, own_entries}
+use Rattle.pot_shared.specs.Works.{of_job, gained, known, IsSettingOf}
+use Rattle.pot_shared.proofs.WorkLemmas.{all_none, own_entries}
 use Rattle.pot_mend.specs.Moves.{IsAsked, MigrateChecked, ReplaceChecked, seen_in}
 use Rattle.pot_mend.specs.declared.checking.UseFault.TheVariants as used
 use Rattle.pot_mend.proofs.HadLemmas.{IsUsedIn, had_used, home_named, named_held, target_named, used_had}

@@ -2,6 +2,7 @@ pub mod OrderLemmas
 pub mod EntryLemmas
 pub mod SectionLemmas
 pub mod LiveLemmas
+pub mod SweepLemmas
 pub mod ScrubLemmas
 pub mod TurnLemmas
 pub mod RepairLemmas

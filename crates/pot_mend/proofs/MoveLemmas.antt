@@ -39,9 +39,9 @@ use Rattle.pot_shared.specs.Calls.{CallAt}
 use Rattle.pot_shared.specs.Catalogs.{IndexPasses}
 use Rattle.pot_group.specs.Calls.{MoveStepCall, MoveTells}
 use Rattle.pot_shared.proofs.MemberLemmas.{entries_all}
-use Rattle.pot_store.specs.Works.{of_job, gained, known, section_of, IsSettingOf}
-use Rattle.pot_store.proofs.WorkLemmas.{all_none, all_one, group_else, group_own, group_work, own_more, row_stays}
-use Rattle.pot_store.proofs.StoreLemmas.{gained_none}
+use Rattle.pot_shared.specs.Works.{of_job, gained, known, section_of, IsSettingOf}
+use Rattle.pot_shared.proofs.WorkLemmas.{all_none, all_one, group_else, group_own, group_work, own_more, row_stays}
+use Rattle.pot_shared.proofs.WorkLemmas.{gained_none}
 use Rattle.pot_mend.specs.Moves.{IsMoved, IsMoveFault, IsMoveLogFull, MoveRow, seen_in}
 use Rattle.pot_mend.specs.declared.fault.MendFault.{MendFault}
 use Rattle.pot_mend.specs.declared.fault.MendFault.TheVariants as fault

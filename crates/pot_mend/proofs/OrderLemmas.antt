@@ -20,6 +20,11 @@ pub not_before : (p : ℕ × ℕ) → Precedes p p → ⊥
 not_before p (inl a) = absurd (omega (arith, a))
 not_before p (inr a) = (let x = a.1 in absurd (omega (arith, x)))
 
+-- no place is before the first
+pub none_before : (n k : ℕ) → Precedes (n, k) (0, 0) → ⊥
+none_before n k (inl a) = absurd (omega (arith, a))
+none_before n k (inr a) = (let x = a.1 in absurd (omega (arith, x)))
+
 -- each place is before another, or at it or after it
 pub before_or_after : (n k s c : ℕ) → Precedes (n, k) (s, c) ⊎ AtOrAfter (s, c) (n, k)
 before_or_after n k s c = ⊎_elim

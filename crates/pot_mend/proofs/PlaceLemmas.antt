@@ -24,11 +24,11 @@ use Rattle.pot_shared.specs.Calls.{CallAt, CallTurn}
 use Rattle.pot_shared.specs.MendCalls.{GoesOn, MendTurns, MendsPlace, begins, blind_at, drawn, mends, passes, total}
 use Rattle.pot_shared.proofs.CallLemmas.{ready_again, set_twice}
 use Rattle.pot_replies.specs.Jobs.{is_relay, is_mended, is_left, is_stuck_at, Precedes}
-use Rattle.pot_store.specs.Adds.{Adds, Fails, FailsOnce}
-use Rattle.pot_store.specs.Blinds.{is_begin}
-use Rattle.pot_store.specs.Works.{of_job}
-use Rattle.pot_store.proofs.AddLemmas.{adds_then, once_back, once_front}
-use Rattle.pot_store.proofs.WorkLemmas.{row_stays}
+use Rattle.pot_shared.specs.Adds.{Adds, Fails, FailsOnce}
+use Rattle.pot_shared.specs.Blinds.{is_begin}
+use Rattle.pot_shared.specs.Works.{of_job}
+use Rattle.pot_shared.proofs.AddLemmas.{adds_then, once_back, once_front}
+use Rattle.pot_shared.proofs.WorkLemmas.{row_stays}
 use Rattle.pot_mend.specs.declared.fault.MendFault.{MendFault}
 use Rattle.pot_mend.specs.declared.fault.MendFault.TheVariants as fault
 use Rattle.pot_mend.specs.declared.repairing.Repaired.{Repaired}

@@ -8,7 +8,7 @@ use Rattle.pot_bytes.proofs.Elements.{one_contained}
 use Rattle.pot_machine.specs.declared.entry.Entry.{Entry}
 use Rattle.pot_machine.specs.declared.entry.Entry.TheVariants as entry
 use Rattle.pot_replies.specs.Jobs.{is_relay, is_mended, is_left, is_stuck_at, Precedes}
-use Rattle.pot_store.specs.Blinds.{is_begin}
+use Rattle.pot_shared.specs.Blinds.{is_begin}
 use Rattle.pot_mend.specs.Repairs.{NotOdd, NoneAgain, AreRepairs, WasLeft}
 use Rattle.pot_mend.proofs.OrderLemmas.{AtOrAfter, not_before, precedes_more}
 use Rattle.pot_mend.proofs.EntryLemmas.{count_one, each_more}

@@ -25,21 +25,20 @@ use Rattle.pot_replies.specs.Sections.{Section}
 use Rattle.pot_replies.specs.Settings.{Setting}
 use Rattle.pot_replies.specs.Fetches.{Mends}
 use Rattle.pot_replies.specs.Scrubs.{AreRelays, IsRepaired, IsRepairFault, IsRepairLogFull}
-use Rattle.pot_store.specs.Works.{of_job, gained, known, section_of, IsSettingOf}
+use Rattle.pot_shared.specs.Works.{of_job, gained, known, section_of, IsSettingOf}
 use Rattle.pot_mend.specs.declared.fault.MendFault.{MendFault}
 use Rattle.pot_mend.specs.declared.fault.MendFault.TheVariants as fault
 use Rattle.pot_mend.specs.declared.repairing.Repaired.{Repaired}
-use Rattle.pot_store.specs.Adds.{Adds, Fails, FailsOnce, FindsNext, IsFromOn, IsNextOf}
-use Rattle.pot_store.specs.Blinds.{Blinds, is_begin}
+use Rattle.pot_shared.specs.Adds.{Adds, Fails, FailsOnce, FindsNext, IsFromOn, IsNextOf}
+use Rattle.pot_shared.specs.Blinds.{Blinds, is_begin}
 use Rattle.pot_mend.specs.Repairs.{NoneAgain, AreRepairs, WasLeft, IsDone, RepairSofar, RepairFails, RepairFills, RepairsPlace, Draws, RepairRow}
-use Rattle.pot_mend.proofs.OrderLemmas.{AtOrAfter, before_or_after}
+use Rattle.pot_mend.proofs.OrderLemmas.{AtOrAfter, before_or_after, none_before}
 use Rattle.pot_mend.proofs.EntryLemmas.{count_one}
-use Rattle.pot_store.proofs.AddLemmas.{adds_none, adds_then, next_adds, next_finds, next_from, next_group, once_back, once_front}
-use Rattle.pot_store.proofs.BlindLemmas.{blinds_quiet, blinds_then, none_adds}
+use Rattle.pot_shared.proofs.AddLemmas.{adds_none, adds_then, next_adds, next_finds, next_from, next_group, once_back, once_front}
+use Rattle.pot_shared.proofs.BlindLemmas.{blinds_quiet, blinds_then, none_adds}
 use Rattle.pot_mend.proofs.SectionLemmas.{found_was, last_full, not_always, only_in}
 use Rattle.pot_mend.proofs.RepairLemmas.{none_again_more, repairs_wider}
 use Rattle.pot_mend.proofs.PlaceLemmas.{drawn_more}
-use Rattle.pot_mend.proofs.ScrubLemmas.{none_before}
 
 -- PLACE AFTER PLACE
 

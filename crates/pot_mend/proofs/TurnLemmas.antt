@@ -26,10 +26,10 @@ use Rattle.pot_rows.specs.Works.{AllIdle}
 use Rattle.pot_shared.specs.Ready.{GroupPasses}
 use Rattle.pot_shared.specs.Calls.{CallAt}
 use Rattle.pot_worked.specs.Laws.{AllOf}
-use Rattle.pot_store.specs.Adds.{Adds, FailsOnce}
-use Rattle.pot_store.proofs.AddLemmas.{adds_call, left_bound, left_long, met_once}
-use Rattle.pot_store.proofs.RelayLemmas.{on_way, at_end}
-use Rattle.pot_store.proofs.WorkLemmas.{all_none, all_one}
+use Rattle.pot_shared.specs.Adds.{Adds, FailsOnce}
+use Rattle.pot_shared.proofs.AddLemmas.{adds_call, left_bound, left_long, met_once}
+use Rattle.pot_shared.proofs.FlightLemmas.{on_way, at_end}
+use Rattle.pot_shared.proofs.WorkLemmas.{all_none, all_one}
 
 -- WHAT AN ANSWER LOGS
 

@@ -14,7 +14,7 @@ use Rattle.pot_replies.specs.Moves.{HasHome, IsUsed, NoHome, GoesElsewhere, IsTa
 use Rattle.pot_replies.specs.Moves.{MayGoOn, moving_at}
 use Rattle.pot_shared.specs.Members.{entries_of}
 use Rattle.pot_shared.specs.Ready.{GroupPasses}
-use Rattle.pot_store.specs.Works.{of_job, gained}
+use Rattle.pot_shared.specs.Works.{of_job, gained}
 use Rattle.pot_mend.specs.declared.checking.MoveAt.{MoveAt}
 use Rattle.pot_mend.specs.declared.checking.UseFault.{UseFault}
 use Rattle.pot_mend.specs.declared.checking.UseFault.TheVariants as used

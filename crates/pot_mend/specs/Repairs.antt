@@ -17,12 +17,12 @@ use Rattle.pot_replies.specs.Jobs.{is_relay, is_mended, is_left, is_stuck_at, Ea
 use Rattle.pot_replies.specs.Settings.{Setting}
 use Rattle.pot_replies.specs.Sections.{Section}
 use Rattle.pot_replies.specs.Scrubs.{IsRepaired, IsRepairFault, IsRepairLogFull}
-use Rattle.pot_store.specs.Blinds.{is_begin}
-use Rattle.pot_store.specs.Works.{of_job, gained}
+use Rattle.pot_shared.specs.Blinds.{is_begin}
+use Rattle.pot_shared.specs.Works.{of_job, gained}
 use Rattle.pot_mend.specs.declared.fault.MendFault.{MendFault}
 use Rattle.pot_mend.specs.declared.fault.MendFault.TheVariants as fault
 use Rattle.pot_mend.specs.declared.repairing.Repaired.{Repaired}
-use Rattle.pot_store.specs.Adds.{Adds, FailsOnce}
+use Rattle.pot_shared.specs.Adds.{Adds, FailsOnce}
 
 -- THE JOB'S OWN ENTRIES
 

@@ -5,7 +5,7 @@ ghost use Rattle.pot_shared.specs.Ready.{AreReady};
 use crate::scene::{filled, rack, shelf, vault};
 use crate::*;
 use pot_doubles::LossyArchive;
-use pot_shared::{Passes, Vault};
+use pot_shared::{ColumnAt, Passes, Vault};
 use std::alloc::Global;
 use std::sync::Wait;
 use std::test::Fail;
@@ -24,7 +24,20 @@ fn begin<R: Wait>(
     ensures ready { AreReady vault.now.rack vault.now.groups passes.new.groups }
 {
     let target = shelf(alloc, number, &[], &[])?;
-    Ok(vault.move_begin(rt, passes, 0, 2, 0, target).is_ok())
+    Ok(
+        vault
+            .move_begin(
+                rt,
+                passes,
+                2,
+                ColumnAt {
+                    group: 0,
+                    column: 0,
+                },
+                target,
+            )
+            .is_ok(),
+    )
 }
 
 /// Asks whether the one archive can move to the other.

@@ -3,13 +3,13 @@ ghost use Rattle.std.specs.Prelude.{◌≡◌, ◌<◌, ◌+◌, length};
 ghost use Rattle.pot_rows.specs.Works.{RowAlone, RowWorked};
 ghost use Rattle.pot_shared.specs.Ready.{AreReady};
 ghost use Rattle.pot_replies.specs.Settings.{Setting};
-ghost use Rattle.pot_store.specs.Works.{IsSettingOf, known, of_job, section_of};
+ghost use Rattle.pot_shared.specs.Works.{IsSettingOf, known, of_job, section_of};
 ghost use Rattle.pot_mend.specs.Moves.{MoveRow};
 
 use crate::fault::MendFault;
 use pot_group::{MoveFault, MoveStep};
 use pot_outside::Archive;
-use pot_shared::{Passes, Vault};
+use pot_shared::{ColumnAt, Passes, Vault};
 use std::sync::Wait;
 
 /// Steps the move of a column until it ends, or until the column moves no more: how many blocks were copied. It ends, since each
@@ -40,7 +40,7 @@ pub fn migrate<A: Archive, R: Wait>(
 {
     let mut copied = 0;
     'steps: loop {
-        match vault.move_step(rt, passes, group, job, column) {
+        match vault.move_step(rt, passes, job, ColumnAt { group, column }) {
             Ok(MoveStep::Copied) => copied += 1,
             Ok(MoveStep::Passed) => {}
             Ok(MoveStep::Ended) => return Ok(copied),

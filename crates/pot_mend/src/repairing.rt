@@ -3,8 +3,8 @@ ghost use Rattle.std.specs.Prelude.{◌≡◌, ◌<◌, IsTrue, length};
 ghost use Rattle.pot_rows.specs.Works.{RowWorked, RowAlone};
 ghost use Rattle.pot_replies.specs.Settings.{Setting};
 ghost use Rattle.pot_shared.specs.Ready.{AreReady, HasSlot};
-ghost use Rattle.pot_store.specs.Blinds.{Blinds};
-ghost use Rattle.pot_store.specs.Works.{of_job, known, section_of, IsSettingOf};
+ghost use Rattle.pot_shared.specs.Blinds.{Blinds};
+ghost use Rattle.pot_shared.specs.Works.{of_job, known, section_of, IsSettingOf};
 ghost use Rattle.pot_mend.specs.Repairs.{RepairsPlace, RepairRow, Draws};
 
 use crate::fault::MendFault;
@@ -52,14 +52,17 @@ pub fn repair_group<A: Archive, R: Wait>(
         passes.new.groups }
 {
     let mut repaired = Repaired { mended: 0, left: 0 };
-    let mut stripe = 0;
-    let mut column = 0;
-    'places: while let Some(place) = vault.next(rt, passes, group, stripe, column, Kind::Unsound) {
+    let mut from = Place {
+        group,
+        column: 0,
+        stripe: 0,
+    };
+    'places: while let Some(place) = vault.next(rt, passes, from, Kind::Unsound) {
         let more = repair_place(rt, vault, passes, job, place, pads)?;
         repaired.mended += more.mended;
         repaired.left += more.left;
-        stripe = place.stripe;
-        column = place.column + 1;
+        from.stripe = place.stripe;
+        from.column = place.column + 1;
     }
     Ok(repaired)
 }

@@ -13,7 +13,7 @@ use pot_index::Index;
 use pot_machine::GroupTable;
 use pot_outside::Shelf;
 use pot_sealed::Sealed;
-use pot_shared::{Member, Passes, Vault};
+use pot_shared::{Member, Passes, SealedPut, Vault};
 use std::alloc::Global;
 use std::sync::Wait;
 use std::test::Fail;
@@ -130,7 +130,13 @@ fn put_blocks<R: Wait>(
 {
     for number in 0..count {
         let block = Sealed::new(&Block::from_bytes([number.wrapping_add(0x11); 1024]));
-        if vault.put(rt, passes, 0, 1, &block, &block).is_err() {
+        let parity = block;
+        let next = SealedPut {
+            block,
+            parity,
+            column: 0,
+        };
+        if vault.put(rt, passes, 0, 1, &next).is_err() {
             return Err(Fail::from("the block was not put"));
         }
     }

@@ -6,7 +6,7 @@ use crate::scene::{filled, rack, shelf};
 use crate::*;
 use pot_doubles::{Loss, LossyArchive};
 use pot_pads::PadStream;
-use pot_shared::{Passes, Vault};
+use pot_shared::{ColumnAt, Passes, Vault};
 use std::alloc::Global;
 use std::sync::Wait;
 use std::test::Fail;
@@ -59,7 +59,11 @@ fn replace<R: Wait>(
     ensures ready { AreReady vault.now.rack vault.now.groups passes.new.groups }
 {
     let home = shelf(alloc, number, &[], &[])?;
-    Ok(vault.swap(rt, passes, 0, 2, column, home).ok())
+    Ok(
+        vault
+            .swap(rt, passes, 2, ColumnAt { group: 0, column }, home)
+            .ok(),
+    )
 }
 
 /// Two stripes whose archives were replaced in these columns: what a repair comes to, and a scrub after it. Calls 0 and 1 of the

@@ -1,6 +1,6 @@
 use Rattle.std.proofs.Common.{◌≡◌, ◌+◌, ◌-◌, ◌*◌, IsTrue}
 use Rattle.pot_shared.specs.Ready.{AreReady}
-use Rattle.pot_store.specs.Blinds.{Blinds}
+use Rattle.pot_shared.specs.Blinds.{Blinds}
 use Rattle.pot_mend.proofs.RowLemmas.{Repairing}
 use Rattle.pot_mend.proofs.repairing.repair_group.Given as goal
 
@@ -8,8 +8,9 @@ abbrev pub invariant-places : goal.invariant-places
 invariant-places g l =
     AreReady l.vault.rack l.vault.groups l.passes.groups
     × (l.passes.index ≡ l.fn.passes.index)
-    × Repairing l.job l.group l.stripe l.column l.repaired l.fn.pads l.pads l.fn.passes.groups l.passes.groups
+    × Repairing l.job l.group l.from.stripe l.from.column l.repaired l.fn.pads l.pads l.fn.passes.groups l.passes.groups
     × Blinds (IsTrue g.A.Archive.account.tells) l.job l.fn.pads l.pads l.fn.passes.groups l.passes.groups
+    × (l.from.group ≡ l.group)
 
 abbrev pub decreases-places : goal.decreases-places
-decreases-places g l = 32 * (4096 - l.stripe) + (18 - l.column)
+decreases-places g l = 32 * (4096 - l.from.stripe) + (18 - l.from.column)

@@ -1,5 +1,5 @@
 use Rattle.std.proofs.Common.{arith, refl}
-use Rattle.pot_store.proofs.BlindLemmas.{blinds_mends}
+use Rattle.pot_shared.proofs.BlindLemmas.{blinds_mends}
 use Rattle.pot_mend.proofs.PlaceLemmas.{passed_fits, repairs_fails, repairs_fills, repairs_odd, repairs_stuck, repairs_whole}
 use Rattle.pot_mend.proofs.repairing.repair_place.Goals as goal
 

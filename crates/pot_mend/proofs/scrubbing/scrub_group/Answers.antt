@@ -1,41 +1,63 @@
-use Rattle.std.proofs.Common.{◌<◌, length, refl, ◌∙◌}
-use Rattle.std.proofs.lemmas.Result.{err_from_is_err_and}
-use Rattle.pot_mend.proofs.ScrubLemmas.{scrub_begin, scrub_end_row, scrub_ends, scrub_step, scrub_stop_row, scrub_stops}
+use Rattle.std.proofs.Common.{arith, refl, ◌∙◌}
+use Rattle.pot_mend.proofs.ScrubLemmas.{scrub_begin, scrub_end_row, scrub_fault_row, scrub_fits, scrub_full_row, scrub_less, scrub_narrow, scrub_step, scrub_works}
+use Rattle.pot_mend.proofs.SectionLemmas.{call_in}
 use Rattle.pot_mend.proofs.scrubbing.scrub_group.Goals as goal
 
-pub looks-init : goal.looks-init
-looks-init g c = (c.requires.ready, refl, scrub_begin c.args.job c.args.group c.args.passes.now.groups c.requires.ready.idle)
+pub sweeps-init : goal.sweeps-init
+sweeps-init g c = (c.requires.ready, refl, refl, scrub_begin c.args.job c.args.group c.args.passes.now.groups c.requires.ready.idle)
 
-pub returns-in_err-place-clause-worked : goal.returns-in_err-place-clause-worked
-returns-in_err-place-clause-worked g c =
-    scrub_stops c.args.job c.args.group c.looks.stripe c.looks.column c.looks.scrubbed c.scrub_next.new.scrubbed c.args.passes.now.groups c.looks.passes.groups c.scrub_next.new.passes.groups
-    c.looks.invariant.2 c.in_err-place.field-0.0 c.in_err-place.ensures.scrubs
+pub overflow_add-scrubbed : goal.overflow_add-scrubbed
+overflow_add-scrubbed g c =
+    let fits = scrub_fits c.requires.group c.sweeps.invariant.0 c.sweeps.invariant.3 (call_in c.sweeps.invariant.2 c.sweep-swept.ensures.call) in
+    omega (arith, fits)
 
-pub returns-in_err-place-clause-says : goal.returns-in_err-place-clause-says
-returns-in_err-place-clause-says g c =
-    let p = err_from_is_err_and c.from_residual.result c.from_residual.ensures.1 in
-    let within : c.args.group < length c.args.passes.now.groups.names = (let a = c.requires.group in let b = c.requires.ready.of.0 in rw b a) in
-    rw (p.1, p.2)
-    (λ alone s set. scrub_stop_row c.args.job c.args.group c.looks.stripe c.looks.column c.looks.scrubbed c.scrub_next.new.scrubbed c.args.passes.now.groups c.looks.passes.groups c.scrub_next.new.passes.groups
-    c.looks.invariant.2 s c.args.vault.now.rack c.args.passes.now.index c.scrub_next.new.passes.index (c.scrub_next.ensures.index ∙ c.looks.invariant.1) within alone set
-    c.in_err-place.field-0.0 c.in_err-place.ensures.scrubs)
+pub overflow_add-scrubbed-in-sweeps : goal.overflow_add-scrubbed-in-sweeps
+overflow_add-scrubbed-in-sweeps g c =
+    let fits = scrub_fits c.requires.group c.sweeps.invariant.0 c.sweeps.invariant.3 (call_in c.sweeps.invariant.2 c.sweep-swept.ensures.call) in
+    omega (arith, fits)
 
-pub looks-preserved : goal.looks-preserved
-looks-preserved g c = (
-  c.scrub_next.ensures.ready,
-  c.scrub_next.ensures.index ∙ c.looks.invariant.1,
-  scrub_step c.args.job c.args.group c.looks.stripe c.looks.column c.looks.scrubbed c.scrub_next.new.scrubbed c.args.passes.now.groups c.looks.passes.groups c.scrub_next.new.passes.groups
-      c.looks.invariant.2 c.in_ok-place.field-0 c.in-Some.place c.in-Some.is c.in_ok-place.ensures.scrubs,
+pub returns-in-End-clause-worked : goal.returns-in-End-clause-worked
+returns-in-End-clause-worked g c = scrub_works c.requires.group c.sweeps.invariant.0 c.sweeps.invariant.3 (call_in c.sweeps.invariant.2 c.sweep-swept.ensures.call)
+
+pub returns-in-End-clause-says : goal.returns-in-End-clause-says
+returns-in-End-clause-says g c =
+    λ alone s set. scrub_end_row c.requires.group c.sweeps.invariant.0 c.sweeps.invariant.3 (call_in c.sweeps.invariant.2 c.sweep-swept.ensures.call)
+    s c.args.passes.now.index c.sweep-swept.new.passes.index (c.sweep-swept.ensures.index ∙ c.sweeps.invariant.1) (let a = c.requires.group in let b = c.requires.ready.of.0 in rw b a) alone set c.in-End.is
+
+pub overflow_add-from : goal.overflow_add-from
+overflow_add-from g c =
+    let narrow = scrub_narrow c.requires.group c.sweeps.invariant.0 c.sweeps.invariant.3 (call_in c.sweeps.invariant.2 c.sweep-swept.ensures.call) c.in-Slot.stripe c.in-Slot.column c.in-Slot.is in
+    omega (arith, narrow)
+
+pub sweeps-smaller : goal.sweeps-smaller
+sweeps-smaller g c = scrub_less c.requires.group c.sweeps.invariant.0 c.sweeps.invariant.3 (call_in c.sweeps.invariant.2 c.sweep-swept.ensures.call) c.in-Slot.stripe c.in-Slot.column c.in-Slot.is
+
+pub sweeps-preserved : goal.sweeps-preserved
+sweeps-preserved g c = (
+  c.sweep-swept.ensures.ready,
+  c.sweep-swept.ensures.index ∙ c.sweeps.invariant.1,
+  c.sweeps.invariant.2,
+  scrub_step c.requires.group c.sweeps.invariant.0 c.sweeps.invariant.3 (call_in c.sweeps.invariant.2 c.sweep-swept.ensures.call) c.in-Slot.stripe c.in-Slot.column c.in-Slot.is,
 )
 
-pub returns-clause-worked : goal.returns-clause-worked
-returns-clause-worked g c =
-    scrub_ends c.args.job c.args.group c.looks.stripe c.looks.column c.looks.scrubbed c.scrub_next.new.scrubbed c.args.passes.now.groups c.looks.passes.groups c.scrub_next.new.passes.groups
-    c.looks.invariant.2 c.in_ok-place.field-0 c.in_default.is c.in_ok-place.ensures.scrubs
+pub returns-in-Faulted-clause-worked : goal.returns-in-Faulted-clause-worked
+returns-in-Faulted-clause-worked g c = scrub_works c.requires.group c.sweeps.invariant.0 c.sweeps.invariant.3 (call_in c.sweeps.invariant.2 c.sweep-swept.ensures.call)
 
-pub returns-clause-says : goal.returns-clause-says
-returns-clause-says g c =
-    let within : c.args.group < length c.args.passes.now.groups.names = (let a = c.requires.group in let b = c.requires.ready.of.0 in rw b a) in
-    λ alone s set. scrub_end_row c.args.job c.args.group c.looks.stripe c.looks.column c.looks.scrubbed c.scrub_next.new.scrubbed c.args.passes.now.groups c.looks.passes.groups c.scrub_next.new.passes.groups
-    c.looks.invariant.2 s c.args.vault.now.rack c.args.passes.now.index c.scrub_next.new.passes.index (c.scrub_next.ensures.index ∙ c.looks.invariant.1) within alone set
-    c.in_ok-place.field-0 c.in_default.is c.in_ok-place.ensures.scrubs
+pub returns-in-Faulted-clause-says : goal.returns-in-Faulted-clause-says
+returns-in-Faulted-clause-says g c =
+    λ alone s set. (
+      refl,
+      scrub_fault_row c.requires.group c.sweeps.invariant.0 c.sweeps.invariant.3 (call_in c.sweeps.invariant.2 c.sweep-swept.ensures.call)
+          s c.args.passes.now.index c.sweep-swept.new.passes.index (c.sweep-swept.ensures.index ∙ c.sweeps.invariant.1) (let a = c.requires.group in let b = c.requires.ready.of.0 in rw b a) alone set c.in-Faulted.column c.in-Faulted.is,
+    )
+
+pub returns-in-LogFull-clause-worked : goal.returns-in-LogFull-clause-worked
+returns-in-LogFull-clause-worked g c = scrub_works c.requires.group c.sweeps.invariant.0 c.sweeps.invariant.3 (call_in c.sweeps.invariant.2 c.sweep-swept.ensures.call)
+
+pub returns-in-LogFull-clause-says : goal.returns-in-LogFull-clause-says
+returns-in-LogFull-clause-says g c =
+    λ alone s set. (
+      refl,
+      scrub_full_row c.requires.group c.sweeps.invariant.0 c.sweeps.invariant.3 (call_in c.sweeps.invariant.2 c.sweep-swept.ensures.call)
+          s c.args.passes.now.index c.sweep-swept.new.passes.index (c.sweep-swept.ensures.index ∙ c.sweeps.invariant.1) (let a = c.requires.group in let b = c.requires.ready.of.0 in rw b a) alone set c.in-LogFull.is,
+    )
