@@ -8,17 +8,17 @@ use Rattle.pot_pads.specs.Pads.{Pads, pads_of}
 use Rattle.pot_turn.specs.declared.name.TurnName.{TurnName}
 use Rattle.pot_script.specs.declared.command.Command.{Command}
 use Rattle.pot_script.specs.declared.command.Command.TheVariants as commands
-use Rattle.pot_steps.specs.Stripe.{digest_of}
+use Rattle.pot_bytes.specs.Digests.{digest_of}
 use Rattle.pot_replies.specs.Settings.{Setting}
 use Rattle.pot_replies.specs.Sections.{Section, mine, IsSilent}
 use Rattle.pot_shared.specs.Ready.{GroupPasses, AreReady}
 use Rattle.pot_shared.specs.Catalogs.{IndexPasses, IsIndexReady}
-use Rattle.pot_store.specs.Works.{of_job, Known, known, JobWorked}
+use Rattle.pot_shared.specs.Works.{of_job, Known, known, JobWorked}
 use Rattle.pot_replies.specs.Renewals.{renewing}
 use Rattle.pot_store.specs.Drawing.{blocks_from}
 use Rattle.pot_store.specs.Renewals.{RenewsFrom}
 use Rattle.pot_store.specs.Stores.{DrawsFrom, drawn_blocks}
-use Rattle.pot_store.proofs.WorkLemmas.{row_stays, index_idle}
+use Rattle.pot_shared.proofs.WorkLemmas.{row_stays, index_idle}
 use Rattle.pot_script.specs.declared.reply.Reply.{Reply}
 use Rattle.pot_commands.specs.Rows.{AreReplies, IsSessionSetting, IsIdle, IsPlain, IsSingle, IsWorked}
 use Rattle.pot_commands.specs.Taking.{asks}

@@ -3,7 +3,7 @@ use Rattle.std.proofs.Common.{ℕ, inl, inr, List, [], ◌∷◌, refl}
 use Rattle.pot_bytes.specs.declared.rack.Rack.{Rack}
 use Rattle.pot_replies.specs.Settings.{Setting}
 use Rattle.pot_replies.specs.Sections.{Section}
-use Rattle.pot_store.specs.Works.{Known, section_of}
+use Rattle.pot_shared.specs.Works.{Known, section_of}
 use Rattle.pot_commands.specs.Rows.{IsSessionSetting}
 use Rattle.pot_commands.specs.Going.{AllSole}
 use Rattle.pot_commands.specs.Begun.{HasTask}

@@ -21,7 +21,7 @@ use Rattle.pot_shared.specs.Members.{entries_of}
 use Rattle.pot_replies.specs.Settings.{Setting}
 use Rattle.pot_replies.specs.Sections.{Section, Halves, Follows, IsAmong, IsOfJobs, work_of}
 use Rattle.pot_replies.specs.Sessions.{Rows}
-use Rattle.pot_store.specs.Works.{gained, Known, section_of}
+use Rattle.pot_shared.specs.Works.{gained, Known, section_of}
 use Rattle.pot_commands.specs.declared.beginning.Task.{Task}
 use Rattle.pot_commands.specs.declared.beginning.Task.TheVariants as task
 use Rattle.pot_commands.specs.Rows.{IsSessionSetting, IsMigrateReply, AreReplies, IsIdle, Row}

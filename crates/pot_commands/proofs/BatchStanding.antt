@@ -8,7 +8,7 @@ use Rattle.pot_machine.specs.declared.entry.Entry.TheVariants as entry
 use Rattle.pot_machine.specs.Logs.{own, replayed}
 use Rattle.pot_machine.specs.Table.{column_at}
 use Rattle.pot_bytes.specs.declared.rack.Geometry.{Geometry}
-use Rattle.pot_steps.specs.Stripe.{digest_of}
+use Rattle.pot_bytes.specs.Digests.{digest_of}
 use Rattle.pot_steps.specs.GroupStep.{skips, gone_entries}
 use Rattle.pot_script.specs.declared.command.Command.{Command}
 use Rattle.pot_script.specs.declared.command.Command.TheVariants as commands

@@ -25,7 +25,7 @@ use Rattle.pot_replies.specs.Sessions.{Together}
 use Rattle.pot_shared.specs.Catalogs.{IndexPasses, IsIndexReady}
 use Rattle.pot_shared.specs.Members.{entries_of}
 use Rattle.pot_shared.specs.Ready.{AreReady, GroupPasses}
-use Rattle.pot_store.specs.Works.{Known, known, JobWorked, JobAlone, IsSettingOf, section_of}
+use Rattle.pot_shared.specs.Works.{Known, known, JobWorked, JobAlone, IsSettingOf, section_of}
 use Rattle.pot_commands.specs.declared.arriving.Unanswered.{Unanswered}
 use Rattle.pot_commands.specs.declared.arriving.Unanswered.TheVariants as unanswered
 use Rattle.pot_commands.specs.declared.beginning.Task.{Task}

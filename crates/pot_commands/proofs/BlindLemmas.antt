@@ -5,8 +5,8 @@ use Rattle.pot_pads.specs.Pads.{Pads, pads_of}
 use Rattle.pot_script.specs.declared.command.Command.{Command}
 use Rattle.pot_script.specs.declared.command.Command.TheVariants as commands
 use Rattle.pot_shared.specs.Ready.{GroupPasses}
-use Rattle.pot_store.specs.Blinds.{Blinds}
-use Rattle.pot_store.proofs.BlindLemmas.{blinds_none}
+use Rattle.pot_shared.specs.Blinds.{Blinds}
+use Rattle.pot_shared.proofs.BlindLemmas.{blinds_none}
 use Rattle.pot_commands.specs.Blinding.{HasBlinds}
 use Rattle.pot_commands.specs.Sharing.{Common}
 

@@ -5,7 +5,7 @@ use Rattle.std.specs.Global.{Global}
 use Rattle.pot_bytes.specs.declared.rack.Rack.{Rack}
 use Rattle.pot_machine.specs.Table.{Table}
 use Rattle.pot_machine.specs.Logs.{own}
-use Rattle.pot_steps.specs.Stripe.{digest_of}
+use Rattle.pot_bytes.specs.Digests.{digest_of}
 use Rattle.pot_group.specs.Arrivals.{arrivals}
 use Rattle.pot_pads.specs.Pads.{pads_of}
 use Rattle.pot_rows.specs.Rows.{view_at}
@@ -15,7 +15,7 @@ use Rattle.pot_replies.specs.Settings.{Setting}
 use Rattle.pot_shared.specs.declared.member.GroupOrigin.{GroupOrigin}
 use Rattle.pot_shared.specs.declared.catalog.CatalogOrigin.{CatalogOrigin}
 use Rattle.pot_shared.specs.Catalogs.{records_in}
-use Rattle.pot_store.specs.Works.{gained, Known, JobWorked, JobAlone, IsSettingOf, section_of}
+use Rattle.pot_shared.specs.Works.{gained, Known, JobWorked, JobAlone, IsSettingOf, section_of}
 use Rattle.pot_store.specs.Drawing.{blocks_from}
 use Rattle.pot_commands.specs.Rows.{HasFilled, IsSessionSetting, AreReplies, IsIdle}
 use Rattle.pot_commands.specs.Going.{AllSole}

@@ -10,7 +10,7 @@ use Rattle.pot_replies.specs.Sections.{IsOfJobs}
 use Rattle.pot_replies.specs.Sessions.{Answered, Replied, jobs_in, jobs_of}
 use Rattle.pot_replies.proofs.SessionLemmas.{replied_none, replied_more}
 use Rattle.pot_shared.specs.Members.{entries_of}
-use Rattle.pot_store.specs.Works.{Known, section_of}
+use Rattle.pot_shared.specs.Works.{Known, section_of}
 use Rattle.pot_commands.specs.Rows.{Row}
 use Rattle.pot_commands.specs.Going.{AllWent, AllStay}
 use Rattle.pot_commands.specs.Steps.{step_of, steps_of, StepGives, StepLeaves, StepHalts}

@@ -13,7 +13,7 @@ use Rattle.pot_shared.specs.declared.member.GroupOrigin.{GroupOrigin}
 use Rattle.pot_shared.specs.declared.catalog.CatalogOrigin.{CatalogOrigin}
 use Rattle.pot_shared.specs.Members.{entries_of}
 use Rattle.pot_shared.proofs.MemberLemmas.{entries_append}
-use Rattle.pot_store.specs.Works.{of_job, Known, JobWorked, JobAlone, IsSettingOf, section_of}
+use Rattle.pot_shared.specs.Works.{of_job, Known, JobWorked, JobAlone, IsSettingOf, section_of}
 use Rattle.pot_commands.specs.Rows.{HasFilled, IsSessionSetting}
 use Rattle.pot_commands.specs.Going.{AllWent, AllSole, AllStay}
 

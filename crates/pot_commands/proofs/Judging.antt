@@ -3,7 +3,7 @@ use Rattle.std.specs.Prelude.{ℕ, List}
 use Rattle.pot_bytes.specs.declared.rack.Rack.{Rack}
 use Rattle.pot_script.specs.declared.grouping.Step.{Step}
 use Rattle.pot_replies.specs.Settings.{Setting}
-use Rattle.pot_store.specs.Works.{Known, section_of}
+use Rattle.pot_shared.specs.Works.{Known, section_of}
 use Rattle.pot_commands.specs.declared.working.Ending.{Ending}
 use Rattle.pot_commands.specs.declared.working.Ending.TheVariants as ending
 use Rattle.pot_commands.specs.Rows.{IsSessionSetting}

@@ -23,8 +23,8 @@ use Rattle.pot_shared.specs.Ready.{GroupPass, GroupPasses}
 use Rattle.pot_group.specs.Calls.{CountCall}
 use Rattle.pot_shared.specs.Calls.{CallTurn, CallAt}
 use Rattle.pot_shared.proofs.MemberLemmas.{entries_all, entries_append}
-use Rattle.pot_store.specs.Works.{of_job}
-use Rattle.pot_store.proofs.WorkLemmas.{all_none, all_cons, all_one, own_entries}
+use Rattle.pot_shared.specs.Works.{of_job}
+use Rattle.pot_shared.proofs.WorkLemmas.{all_none, all_cons, all_one, own_entries}
 use Rattle.pot_commands.specs.Rows.{reply_of_line}
 use Rattle.pot_commands.specs.Counting.{CountsTable, CountsLine}
 use Rattle.pot_commands.proofs.Logs.{turn_added}

@@ -28,8 +28,8 @@ use Rattle.pot_shared.specs.Members.{entries_of}
 use Rattle.pot_shared.specs.Ready.{GroupPasses, AreReady}
 use Rattle.pot_shared.specs.Catalogs.{IndexPasses, IsIndexReady}
 use Rattle.pot_shared.specs.IndexCalls.{IndexCall, ListsAll}
-use Rattle.pot_store.specs.Works.{of_job, gained, known, JobWorked, JobAlone, IsSettingOf, section_of}
-use Rattle.pot_store.proofs.WorkLemmas.{all_none, all_one, row_stays, index_work, index_own}
+use Rattle.pot_shared.specs.Works.{of_job, gained, known, JobWorked, JobAlone, IsSettingOf, section_of}
+use Rattle.pot_shared.proofs.WorkLemmas.{all_none, all_one, row_stays, index_work, index_own}
 use Rattle.pot_commands.proofs.Logs.{names_to, turn_added, same_end}
 
 -- what a call logs by its answer

@@ -25,8 +25,8 @@ use Rattle.pot_shared.specs.Catalogs.{IndexPasses, IsIndexReady}
 use Rattle.pot_shared.specs.Members.{entries_of}
 use Rattle.pot_shared.specs.Ready.{AreReady, GroupPasses}
 use Rattle.pot_shared.proofs.MemberLemmas.{entries_append}
-use Rattle.pot_store.specs.Works.{Known, known, of_job, gained, JobWorked, JobAlone, IsSettingOf, section_of}
-use Rattle.pot_store.proofs.WorkLemmas.{alone_parts, index_idle, row_stays, work_more}
+use Rattle.pot_shared.specs.Works.{Known, known, of_job, gained, JobWorked, JobAlone, IsSettingOf, section_of}
+use Rattle.pot_shared.proofs.WorkLemmas.{alone_parts, index_idle, row_stays, work_more}
 use Rattle.pot_mend.specs.Moves.{EndsMove, MoveRow, seen_in}
 use Rattle.pot_mend.specs.declared.fault.MendFault.{MendFault}
 use Rattle.pot_mend.specs.declared.fault.MendFault.TheVariants as fault

@@ -24,7 +24,7 @@ use Rattle.pot_shared.specs.Calls.{CallAt}
 use Rattle.pot_shared.specs.Catalogs.{IndexPasses, IsIndexReady}
 use Rattle.pot_group.specs.Calls.{SwapCall}
 use Rattle.pot_shared.specs.Ready.{AreReady, GroupPasses}
-use Rattle.pot_store.specs.Works.{Known, known, JobAlone, IsSettingOf, section_of}
+use Rattle.pot_shared.specs.Works.{Known, known, JobAlone, IsSettingOf, section_of}
 use Rattle.pot_mend.specs.Moves.{IsAsked, ReplaceChecked, seen_in}
 use Rattle.pot_mend.specs.declared.checking.UseFault.{UseFault}
 use Rattle.pot_mend.specs.declared.checking.UseFault.TheVariants as used

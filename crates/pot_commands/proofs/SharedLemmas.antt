@@ -15,12 +15,13 @@ use Rattle.pot_rows.specs.Parts.{RowCut, RowNew}
 use Rattle.pot_rows.proofs.Lists.{take_next}
 use Rattle.pot_script.specs.declared.command.Command.{Command}
 use Rattle.pot_shared.specs.Sharing.{SameAt}
-use Rattle.pot_store.specs.Works.{Known}
+use Rattle.pot_shared.specs.Works.{Known}
 use Rattle.pot_work.specs.Works.{AreFresh, AreWorked}
 use Rattle.pot_work.specs.declared.JobsRefused.{JobsRefused}
 use Rattle.pot_commands.specs.declared.beginning.Task.{Task}
 use Rattle.pot_commands.specs.Begun.{HasTask, HaveTasks}
-use Rattle.pot_commands.specs.Sharing.{Common, CanCall}
+use Rattle.pot_shared.specs.Callers.{CanCall}
+use Rattle.pot_commands.specs.Sharing.{Common}
 use Rattle.pot_commands.specs.Jobs.{JobView, IsDone, DidBlinded, IsGiven, AreGiven, AreShared, tasks_in}
 
 -- PARTS THAT ARE GIVEN AWAY

@@ -22,8 +22,8 @@ use Rattle.pot_shared.specs.Members.{entries_of}
 use Rattle.pot_shared.specs.Ready.{GroupPasses, AreReady}
 use Rattle.pot_shared.specs.Catalogs.{IndexPasses, IsIndexReady}
 use Rattle.pot_shared.specs.Calls.{CallTurn}
-use Rattle.pot_store.specs.Works.{of_job, known, JobWorked, JobAlone, IsSettingOf, section_of}
-use Rattle.pot_store.proofs.WorkLemmas.{row_stays, group_work, index_idle}
+use Rattle.pot_shared.specs.Works.{of_job, known, JobWorked, JobAlone, IsSettingOf, section_of}
+use Rattle.pot_shared.proofs.WorkLemmas.{row_stays, group_work, index_idle}
 use Rattle.pot_commands.specs.Rows.{reply_of_line, replies_from, AreStatusReplies}
 use Rattle.pot_commands.specs.Counting.{CountsTable, CountsLine}
 use Rattle.pot_commands.proofs.ListLemmas.{none_gained}

@@ -15,7 +15,7 @@ use Rattle.pot_replies.specs.Sessions.{Step, One, Together, Rows, jobs_in}
 use Rattle.pot_rows.specs.Rows.{PassRow, HasMoreParts}
 use Rattle.pot_shared.specs.Ready.{GroupPasses, AreReady}
 use Rattle.pot_shared.specs.Catalogs.{IndexPasses, IsIndexReady}
-use Rattle.pot_store.specs.Works.{Known, known, JobWorked, JobAlone, section_of}
+use Rattle.pot_shared.specs.Works.{Known, known, JobWorked, JobAlone, section_of}
 use Rattle.pot_commands.specs.Rows.{IsSessionSetting, AreReplies, IsIdle, IsWorked, Row}
 use Rattle.pot_commands.specs.Going.{AllStay}
 use Rattle.pot_commands.specs.declared.arriving.Unanswered.{Unanswered}

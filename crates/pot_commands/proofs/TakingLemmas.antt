@@ -22,7 +22,7 @@ use Rattle.pot_shared.specs.declared.member.GroupOrigin.{GroupOrigin}
 use Rattle.pot_shared.specs.Members.{entries_of}
 use Rattle.pot_shared.specs.Ready.{GroupPasses}
 use Rattle.pot_shared.proofs.MemberLemmas.{entries_append}
-use Rattle.pot_store.specs.Works.{Known, of_job, gained}
+use Rattle.pot_shared.specs.Works.{Known, of_job, gained}
 use Rattle.pot_store.proofs.NoteLemmas.{one_if}
 use Rattle.pot_commands.specs.Going.{AllSole, AllStay, AllWent}
 use Rattle.pot_commands.specs.Holding.{times}

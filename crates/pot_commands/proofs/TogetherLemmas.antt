@@ -20,13 +20,14 @@ use Rattle.pot_shared.specs.Members.{entries_of}
 use Rattle.pot_replies.specs.Settings.{Setting}
 use Rattle.pot_replies.specs.Sections.{Section, Halves, Follows, IsOfJobs}
 use Rattle.pot_replies.specs.Sessions.{Together, Rows}
-use Rattle.pot_store.specs.Works.{Known, section_of, gained}
+use Rattle.pot_shared.specs.Works.{Known, section_of, gained}
 use Rattle.pot_commands.specs.Rows.{IsSessionSetting, HasFilled, Row}
 use Rattle.pot_commands.specs.Going.{Stays, AllSole, AllStay, AllWent}
 use Rattle.pot_commands.specs.declared.beginning.Task.{Task}
 use Rattle.pot_commands.specs.Begun.{HasTask, HaveBegun, AreMovesBegun}
 use Rattle.pot_commands.specs.Steps.{StepGives, StepLeaves, AreLinesLeft}
-use Rattle.pot_commands.specs.Sharing.{Common, CanCall}
+use Rattle.pot_shared.specs.Callers.{CanCall}
+use Rattle.pot_commands.specs.Sharing.{Common}
 use Rattle.pot_commands.specs.Jobs.{JobView, HasPasses, IsDone, Did, DidBlinded, AreGiven, AreShared, AllJoined, reply_in, has_reply, replies_in, all_replied, tasks_in}
 use Rattle.pot_commands.specs.Batches.{Line, group_rows, index_rows, KnownJoins, IsGivenOf, AreLines, AllSay, lines_of, tasks_of, replies_of, have_replies, BringsNone}
 use Rattle.pot_commands.proofs.Going.{known_follows, setting_of_stays, setting_stays, sole_parts}

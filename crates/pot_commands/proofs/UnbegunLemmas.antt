@@ -19,12 +19,13 @@ use Rattle.pot_shared.specs.Members.{entries_of}
 use Rattle.pot_shared.specs.Sharing.{SameAt}
 use Rattle.pot_replies.specs.Sections.{Section, IsOfJobs}
 use Rattle.pot_replies.specs.Sessions.{Together}
-use Rattle.pot_store.specs.Works.{Known, section_of, gained}
+use Rattle.pot_shared.specs.Works.{Known, section_of, gained}
 use Rattle.pot_commands.specs.declared.beginning.Task.{Task}
 use Rattle.pot_commands.specs.Begun.{AreMovesBegun}
 use Rattle.pot_commands.specs.Going.{AllSole, AllStay, AllWent}
 use Rattle.pot_commands.specs.Steps.{StepLeaves, IsStepLeft}
-use Rattle.pot_commands.specs.Sharing.{Common, CanCall}
+use Rattle.pot_shared.specs.Callers.{CanCall}
+use Rattle.pot_commands.specs.Sharing.{Common}
 use Rattle.pot_commands.specs.Jobs.{JobView, AreGiven, AreShared, AllJoined}
 use Rattle.pot_commands.specs.Batches.{BringsNone}
 use Rattle.pot_commands.proofs.AnswerLemmas.{stayed_worked}

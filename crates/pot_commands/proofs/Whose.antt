@@ -18,7 +18,7 @@ use Rattle.pot_replies.specs.Settings.{Setting}
 use Rattle.pot_replies.specs.Sections.{Section, IsAmong, IsOfJobs, Halves, work_of}
 use Rattle.pot_shared.specs.declared.member.Logged.{Logged}
 use Rattle.pot_shared.specs.Members.{entries_of}
-use Rattle.pot_store.specs.Works.{of_job, Known, JobWorked, section_of}
+use Rattle.pot_shared.specs.Works.{of_job, Known, JobWorked, section_of}
 use Rattle.pot_commands.specs.Rows.{AreReplies, Row}
 use Rattle.pot_commands.specs.Going.{AllSole}
 use Rattle.pot_commands.proofs.NoMoves.{begins_none}

@@ -16,7 +16,7 @@ use Rattle.pot_shared.specs.declared.member.GroupOrigin.{GroupOrigin}
 use Rattle.pot_replies.specs.Settings.{Setting}
 use Rattle.pot_replies.specs.Sections.{Section, Halves, Follows, IsOfJobs, Widens}
 use Rattle.pot_replies.specs.Sessions.{Rows}
-use Rattle.pot_store.specs.Works.{Known, JobWorked, JobAlone, section_of, gained}
+use Rattle.pot_shared.specs.Works.{Known, JobWorked, JobAlone, section_of, gained}
 use Rattle.pot_commands.specs.declared.beginning.Task.{Task}
 use Rattle.pot_commands.specs.Rows.{IsSessionSetting, Row}
 use Rattle.pot_commands.specs.Begun.{HasTask, HaveBegun}

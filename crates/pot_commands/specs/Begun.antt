@@ -11,7 +11,7 @@ use Rattle.pot_replies.specs.Jobs.{is_move_begin, EachIs}
 use Rattle.pot_replies.specs.Settings.{Setting}
 use Rattle.pot_replies.specs.Sections.{Section, mine, checked, IsOfJobs, IsSilent, JobsAscend}
 use Rattle.pot_replies.specs.Moves.{BeganNone, Begins, BeganElsewhere, moving_at}
-use Rattle.pot_store.specs.Works.{Known, IsSettingOf, section_of}
+use Rattle.pot_shared.specs.Works.{Known, IsSettingOf, section_of}
 use Rattle.pot_commands.specs.declared.beginning.Task.{Task}
 use Rattle.pot_commands.specs.declared.beginning.Task.TheVariants as task
 use Rattle.pot_commands.specs.Arriving.{HasBegun, IsUnbegun}

@@ -4,7 +4,7 @@ use Rattle.pot_pads.specs.Pads.{Pads, pads_of}
 use Rattle.pot_script.specs.declared.command.Command.{Command}
 use Rattle.pot_script.specs.declared.command.Command.TheVariants as commands
 use Rattle.pot_shared.specs.Ready.{GroupPasses}
-use Rattle.pot_store.specs.Blinds.{Blinds}
+use Rattle.pot_shared.specs.Blinds.{Blinds}
 use Rattle.pot_commands.specs.Sharing.{Common}
 
 -- A command that mends what it finds lost gives each relay that its job begins the next blind of

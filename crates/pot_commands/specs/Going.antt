@@ -3,7 +3,7 @@
 use Rattle.std.specs.Prelude.{◌≡◌, ℕ}
 use Rattle.pot_rows.specs.Rows.{PassRow, view_at}
 use Rattle.pot_rows.specs.Works.{RowWent, RowSole}
-use Rattle.pot_store.specs.Works.{Known}
+use Rattle.pot_shared.specs.Works.{Known}
 
 -- each pass is of the same turn and the same value as before, began at the same log, and has as
 -- many parts

@@ -13,14 +13,15 @@ use Rattle.pot_mend.specs.declared.fault.MendFault.{MendFault}
 use Rattle.pot_mend.specs.declared.checking.MoveAt.{MoveAt}
 use Rattle.pot_replies.specs.Settings.{Setting}
 use Rattle.pot_replies.specs.Sections.{Section, mine, IsSilent}
-use Rattle.pot_store.specs.Works.{Known, JobWorked, JobAlone, section_of}
+use Rattle.pot_shared.specs.Works.{Known, JobWorked, JobAlone, section_of}
 use Rattle.pot_commands.specs.declared.beginning.Task.{Task}
 use Rattle.pot_commands.specs.declared.beginning.Task.TheVariants as task
 use Rattle.pot_commands.specs.Arriving.{move_reply}
 use Rattle.pot_commands.specs.Begun.{HasTask}
 use Rattle.pot_commands.specs.Blinding.{HasBlinds}
 use Rattle.pot_commands.specs.Rows.{IsSessionSetting, AreReplies, IsIdle}
-use Rattle.pot_commands.specs.Sharing.{VaultView, Common, CanCall}
+use Rattle.pot_shared.specs.Callers.{VaultView, CanCall}
+use Rattle.pot_commands.specs.Sharing.{Common}
 
 -- a job: what its passes know, its line with its number and its task, and its answer once it is
 -- done

@@ -13,7 +13,7 @@ use Rattle.pot_replies.specs.Settings.{Setting}
 use Rattle.pot_replies.specs.Moves.{BeganNone, Begins, BeganElsewhere}
 use Rattle.pot_replies.specs.Sections.{Section, Halves, mine, IsEmpty, IsOfJobs, IsSilent, work_of}
 use Rattle.pot_replies.specs.Sessions.{Step, One, Together, Answered, jobs_in}
-use Rattle.pot_store.specs.Works.{Known, section_of}
+use Rattle.pot_shared.specs.Works.{Known, section_of}
 use Rattle.pot_commands.specs.declared.arriving.Unanswered.{Unanswered}
 use Rattle.pot_commands.specs.declared.arriving.Unanswered.TheVariants as unanswered
 use Rattle.pot_commands.specs.Rows.{IsSessionSetting, Row, IsIdle, IsSingle, IsWorked}

@@ -6,7 +6,7 @@ ghost use Rattle.pot_outside.specs.Counts.{Caused};
 ghost use Rattle.pot_rows.specs.Rows.{HasMoreParts};
 ghost use Rattle.pot_replies.specs.Settings.{Setting};
 ghost use Rattle.pot_replies.specs.Sections.{Section, mine, IsSilent};
-ghost use Rattle.pot_store.specs.Works.{JobWorked, JobAlone, section_of};
+ghost use Rattle.pot_shared.specs.Works.{JobWorked, JobAlone, section_of};
 ghost use Rattle.pot_store.specs.Stores.{StoreRow};
 ghost use Rattle.pot_store.specs.Fetches.{FetchRow, IsUnfinished};
 ghost use Rattle.pot_store.specs.Stored.{FetchGives};
@@ -14,7 +14,8 @@ ghost use Rattle.pot_store.specs.Renewals.{RenewRow};
 ghost use Rattle.pot_mend.specs.Scrubs.{ScrubRow};
 ghost use Rattle.pot_mend.specs.Repairs.{RepairRow};
 ghost use Rattle.pot_commands.specs.Blinding.{HasBlinds};
-ghost use Rattle.pot_commands.specs.Sharing.{CanCall, common_of, known_of, vault_of};
+ghost use Rattle.pot_shared.specs.Callers.{CanCall, known_of, vault_of};
+ghost use Rattle.pot_commands.specs.Sharing.{common_of};
 ghost use Rattle.pot_commands.specs.Failures.{Fails};
 ghost use Rattle.pot_commands.specs.Rows.{HasFilled, IsSessionSetting, IsStoreReply, IsFetchReply};
 ghost use Rattle.pot_commands.specs.Rows.{IsRenewReply, IsUnrenewed, IsScrubReply, IsRepairReply};
@@ -30,7 +31,7 @@ use pot_mend::{MendFault, Repaired, Scrubbed, repair_group, scrub_group};
 use pot_outside::{Archive, Room};
 use pot_pads::PadStream;
 use pot_script::{Command, Reply};
-use pot_shared::Passes;
+use pot_shared::{Caller, Passes};
 use pot_store::{
     FetchFault, RenewFileFault, StoreFault, Stored, fetch_file, renew_file, store_file,
 };
@@ -208,31 +209,27 @@ pub(crate) fn answer_one<A: Archive, X: Wait>(
         seed,
         session,
     } = *shared;
+    let caller = Caller {
+        rt,
+        alloc,
+        vault,
+        job,
+    };
     match command {
         Command::Store { name, file } => {
             let pads = PadStream::new(seed, session, job);
-            let stored = store_file(rt, alloc, vault, passes, job, name, file.as_slice(), pads);
+            let stored = store_file(&caller, passes, name, file.as_slice(), pads);
             store_reply(name, stored)
         }
         Command::Fetch { name } => {
             let mut pads = PadStream::new(seed, session, job);
-            let fetched = fetch_file(rt, alloc, vault, passes, job, name, &mut pads);
+            let fetched = fetch_file(&caller, passes, name, &mut pads);
             fetch_reply(name, fetched)
         }
         Command::Renew { name, geometry } => {
             let mut blinds = PadStream::new(seed, session, job);
             let pads = PadStream::new(seed, session, RENEWING + job);
-            let renewed = renew_file(
-                rt,
-                alloc,
-                vault,
-                passes,
-                job,
-                name,
-                geometry,
-                &mut blinds,
-                pads,
-            );
+            let renewed = renew_file(&caller, passes, name, geometry, &mut blinds, pads);
             renew_reply(name, renewed)
         }
         Command::List => list_names(shared, passes, job),

@@ -5,8 +5,8 @@ ghost use Rattle.pot_outside.specs.Archives.{IsMeant};
 ghost use Rattle.pot_outside.specs.Counts.{Caused};
 ghost use Rattle.pot_replies.specs.Settings.{Setting};
 ghost use Rattle.pot_replies.specs.Sections.{mine, IsOfJobs, IsSilent};
-ghost use Rattle.pot_store.specs.Works.{JobWorked, JobAlone, IsSettingOf, section_of};
-ghost use Rattle.pot_commands.specs.Sharing.{CanCall, known_of, vault_of};
+ghost use Rattle.pot_shared.specs.Works.{JobWorked, JobAlone, IsSettingOf, section_of};
+ghost use Rattle.pot_shared.specs.Callers.{CanCall, known_of, vault_of};
 ghost use Rattle.pot_commands.specs.Failures.{Fails};
 ghost use Rattle.pot_commands.specs.Arriving.{HandsBack, use_reply};
 ghost use Rattle.pot_commands.specs.Rows.{IsReplaceReply};
@@ -17,7 +17,7 @@ use pot_group::{ShelfCause, ShelfRefused};
 use pot_mend::{UseFault, check_replace};
 use pot_outside::{Failed, Room, RoomFault, Shelf};
 use pot_script::Reply;
-use pot_shared::Passes;
+use pot_shared::{ColumnAt, Passes};
 use std::sync::Wait;
 
 /// Why a command has no replies.
@@ -68,7 +68,11 @@ pub(crate) fn replace_archive<R: Room, X: Wait>(
         Err(fault) => return Ok(use_reply(fault)),
     };
     let shelf = take_shelf(room, to)?;
-    match vault.swap(rt, passes, at.group, job, at.column, shelf) {
+    let column = ColumnAt {
+        group: at.group,
+        column: at.column,
+    };
+    match vault.swap(rt, passes, job, column, shelf) {
         Ok(slots) => Ok(Reply::Replaced { from, to, slots }),
         Err(refused) => hand_back(room, at.group, refused),
     }

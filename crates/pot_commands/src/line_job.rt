@@ -4,11 +4,12 @@ ghost use Rattle.pot_rows.specs.Rows.{HasMoreParts};
 ghost use Rattle.pot_rows.specs.Parts.{RowCut};
 ghost use Rattle.pot_shared.specs.Sharing.{SameAt};
 ghost use Rattle.pot_replies.specs.Settings.{Setting};
-ghost use Rattle.pot_store.specs.Works.{JobWorked, JobAlone, section_of};
+ghost use Rattle.pot_shared.specs.Works.{JobWorked, JobAlone, section_of};
 ghost use Rattle.pot_commands.specs.Begun.{HasTask};
 ghost use Rattle.pot_commands.specs.Blinding.{HasBlinds};
 ghost use Rattle.pot_commands.specs.Rows.{IsSessionSetting};
-ghost use Rattle.pot_commands.specs.Sharing.{CanCall, HaveParts, common_of, known_of, vault_of};
+ghost use Rattle.pot_shared.specs.Callers.{CanCall, HaveParts, known_of, vault_of};
+ghost use Rattle.pot_commands.specs.Sharing.{common_of};
 ghost use Rattle.pot_commands.specs.Jobs.{IsGiven, Says};
 
 use crate::answering::answer_one;
@@ -43,7 +44,8 @@ pub struct LineJob<'a, A: Archive, R> {
 }
 
 impl<'a, A: Archive, R> Model for LineJob<'a, A, R> {
-    ghost use Rattle.pot_commands.specs.Sharing.{common, known_of, vault_of};
+    ghost use Rattle.pot_shared.specs.Callers.{known_of, vault_of};
+    ghost use Rattle.pot_commands.specs.Sharing.{common};
     ghost use Rattle.pot_commands.specs.Jobs.{JobView, CanWork, job_view};
 
     ghost Value = { JobView };
@@ -119,7 +121,7 @@ fn answer_task<A: Archive, X: Wait>(
 impl<'a, A: Archive, R> LineJob<'a, A, R> {
     ghost use Rattle.std.specs.Prelude.{◌≡◌};
     ghost use Rattle.pot_rows.specs.Parts.{RowJoined};
-    ghost use Rattle.pot_commands.specs.Sharing.{CanCall, known_of};
+    ghost use Rattle.pot_shared.specs.Callers.{CanCall, known_of};
 
     /// Lets these passes take in its own, and hands out its answer.
     pub(crate) fn hand_back(self, passes: &mut Passes<A>) -> Option<Result<Reply, NoMemory>>

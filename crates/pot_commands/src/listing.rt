@@ -2,8 +2,8 @@
 ghost use Rattle.std.specs.Prelude.{◌≡◌, ◌<◌, IsTrue, MatchResult, length};
 ghost use Rattle.pot_replies.specs.Settings.{Setting};
 ghost use Rattle.pot_replies.specs.Sections.{mine, IsSilent};
-ghost use Rattle.pot_store.specs.Works.{JobWorked, JobAlone, IsSettingOf, section_of};
-ghost use Rattle.pot_commands.specs.Sharing.{CanCall, known_of, vault_of};
+ghost use Rattle.pot_shared.specs.Works.{JobWorked, JobAlone, IsSettingOf, section_of};
+ghost use Rattle.pot_shared.specs.Callers.{CanCall, known_of, vault_of};
 ghost use Rattle.pot_commands.specs.Rows.{IsListReply, AreStatusReplies};
 ghost use Rattle.pot_commands.specs.Counting.{CountsLine};
 

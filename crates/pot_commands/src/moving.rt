@@ -4,8 +4,8 @@ ghost use Rattle.std.specs.Prelude.{IfOk, IsTrue, IsErrOf, MatchResult, length};
 ghost use Rattle.pot_outside.specs.Counts.{Caused};
 ghost use Rattle.pot_replies.specs.Settings.{Setting};
 ghost use Rattle.pot_replies.specs.Sections.{mine, work_of, Halves, IsOfJobs, IsSilent};
-ghost use Rattle.pot_store.specs.Works.{JobWorked, JobAlone, IsSettingOf, section_of};
-ghost use Rattle.pot_commands.specs.Sharing.{CanCall, known_of, vault_of};
+ghost use Rattle.pot_shared.specs.Works.{JobWorked, JobAlone, IsSettingOf, section_of};
+ghost use Rattle.pot_shared.specs.Callers.{CanCall, known_of, vault_of};
 ghost use Rattle.pot_commands.specs.Failures.{Fails};
 ghost use Rattle.pot_commands.specs.Arriving.{HasBegun, Unbegins, move_reply};
 ghost use Rattle.pot_commands.specs.Rows.{IsMigrateReply};
@@ -16,7 +16,7 @@ use crate::sharing::Shared;
 use pot_mend::{MendFault, MoveAt, check_migrate, migrate};
 use pot_outside::Room;
 use pot_script::Reply;
-use pot_shared::Passes;
+use pot_shared::{ColumnAt, Passes};
 use std::sync::Wait;
 
 /// Moves a column from one archive to another: the column begins to move to an archive that is taken from the room, unless it moves there
@@ -110,7 +110,11 @@ pub(crate) fn begin_move<R: Room, X: Wait>(
         Ok(shelf) => shelf,
         Err(unanswered) => return Err(Err(unanswered)),
     };
-    match vault.move_begin(rt, passes, at.group, job, at.column, shelf) {
+    let column = ColumnAt {
+        group: at.group,
+        column: at.column,
+    };
+    match vault.move_begin(rt, passes, job, column, shelf) {
         Ok(()) => Ok(at),
         Err(refused) => Err(hand_back(room, at.group, refused)),
     }

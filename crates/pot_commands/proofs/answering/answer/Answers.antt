@@ -3,7 +3,7 @@ use lib.Seq.{drop-length}
 use Rattle.pot_group.specs.Arrivals.{arrivals}
 use Rattle.pot_rows.specs.Rows.{view_at}
 use Rattle.pot_shared.specs.Members.{entries_of}
-use Rattle.pot_store.specs.Works.{known, section_of}
+use Rattle.pot_shared.specs.Works.{known, section_of}
 use Rattle.pot_commands.specs.Taking.{asks}
 use Rattle.pot_commands.proofs.AnswerLemmas.{asks_none, migrate_replies}
 use Rattle.pot_commands.proofs.Brought.{answered_none}

@@ -1,5 +1,5 @@
 use Rattle.std.proofs.Common.{refl}
-use Rattle.pot_store.specs.Works.{known}
+use Rattle.pot_shared.specs.Works.{known}
 use Rattle.pot_commands.proofs.BeginLemmas.{moves_stop}
 use Rattle.pot_commands.proofs.Going.{filled_stays, went_more}
 use Rattle.pot_commands.proofs.TakingLemmas.{took_on, used_on}

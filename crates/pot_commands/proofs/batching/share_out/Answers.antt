@@ -1,6 +1,6 @@
 use Rattle.std.proofs.Common.{◌≡◌, ◌+◌, ◌++◌, List, sym, subst, arith}
 use Rattle.std.specs.Vec.Iter.{into_iter_items}
-use Rattle.pot_store.specs.Works.{known}
+use Rattle.pot_shared.specs.Works.{known}
 use Rattle.pot_commands.specs.Sharing.{common_of}
 use Rattle.pot_commands.specs.Jobs.{JobView, tasks_in}
 use Rattle.pot_commands.proofs.SharedLemmas.{IsSharing, goes_sharing, tasks_more}

@@ -1,7 +1,7 @@
 use Rattle.std.specs.Prelude.{◌≡◌, ◌≤◌, ◌++◌, length}
 use Rattle.std.specs.Vec.{vec_capacity}
 use Rattle.std.specs.Vec.Iter.{into_iter_items}
-use Rattle.pot_store.specs.Works.{known}
+use Rattle.pot_shared.specs.Works.{known}
 use Rattle.pot_commands.specs.Sharing.{common_of}
 use Rattle.pot_commands.specs.Jobs.{tasks_in}
 use Rattle.pot_commands.proofs.SharedLemmas.{IsSharing}

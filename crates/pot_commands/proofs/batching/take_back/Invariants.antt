@@ -1,8 +1,8 @@
 use Rattle.std.specs.Prelude.{◌≤◌, ◌+◌, length}
 use Rattle.std.specs.Vec.{vec_capacity}
 use Rattle.std.specs.Vec.Iter.{into_iter_items, into_iter_len}
-use Rattle.pot_store.specs.Works.{known}
-use Rattle.pot_commands.specs.Sharing.{vault_of}
+use Rattle.pot_shared.specs.Works.{known}
+use Rattle.pot_shared.specs.Callers.{vault_of}
 use Rattle.pot_commands.proofs.BackLemmas.{IsTaking}
 use Rattle.pot_commands.proofs.batching.take_back.Given as goal
 

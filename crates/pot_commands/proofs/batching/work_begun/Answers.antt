@@ -1,5 +1,5 @@
 use Rattle.std.proofs.Common.{◌++◌, length, ap, sym, ◌∙◌, arith}
-use Rattle.pot_store.specs.Works.{known}
+use Rattle.pot_shared.specs.Works.{known}
 use Rattle.pot_commands.specs.Sharing.{common_of}
 use Rattle.pot_commands.specs.Jobs.{replies_in}
 use Rattle.pot_commands.proofs.AnswerLemmas.{stayed_worked}

@@ -1,4 +1,4 @@
-use Rattle.pot_store.specs.Works.{known}
+use Rattle.pot_shared.specs.Works.{known}
 use Rattle.pot_commands.proofs.AnswerLemmas.{stayed_worked}
 use Rattle.pot_commands.proofs.BeginLemmas.{still_line, still_silent, still_took}
 use Rattle.pot_commands.proofs.beginning.begin_line.Goals as goal

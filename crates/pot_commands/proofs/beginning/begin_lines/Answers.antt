@@ -1,5 +1,5 @@
 use Rattle.std.proofs.Common.{◌∙◌, ◌+◌, [], List, refl, sym, subst, arith, IsTrue}
-use Rattle.pot_store.specs.Works.{known}
+use Rattle.pot_shared.specs.Works.{known}
 use Rattle.pot_commands.specs.declared.beginning.Task.{Task}
 use Rattle.pot_commands.specs.Taking.{lending}
 use Rattle.pot_commands.proofs.BeginLemmas.{IsBeginning, all_asked, begins_beginning, beginning_moves, ended_asked, ended_moves, more_beginning, still_took}

@@ -1,7 +1,7 @@
 use Rattle.std.specs.Prelude.{◌≡◌, ◌≤◌, IsTrue, length}
 use Rattle.std.specs.Vec.{vec_capacity}
-use Rattle.pot_store.specs.Works.{known}
-use Rattle.pot_commands.specs.Sharing.{CanCall, known_of, vault_of}
+use Rattle.pot_shared.specs.Works.{known}
+use Rattle.pot_shared.specs.Callers.{CanCall, known_of, vault_of}
 use Rattle.pot_commands.specs.Taking.{AreUsed, lending}
 use Rattle.pot_commands.proofs.BeginLemmas.{IsBeginning}
 use Rattle.pot_commands.proofs.beginning.begin_lines.Given as goal

@@ -1,6 +1,6 @@
 use Rattle.std.proofs.Common.{◌≡◌, ◌+◌, refl, ap, sym, ◌∙◌, subst, arith}
 use Rattle.pot_replies.specs.Settings.{Setting}
-use Rattle.pot_store.specs.Works.{JobWorked, JobAlone, IsSettingOf, known, section_of}
+use Rattle.pot_shared.specs.Works.{JobWorked, JobAlone, IsSettingOf, known, section_of}
 use Rattle.pot_commands.specs.Rows.{AreStatusReplies}
 use Rattle.pot_commands.proofs.StatusLemmas.{begins_counting, counting_more, counted_worked, counted_says}
 use Rattle.pot_commands.proofs.listing.count_groups.Goals as goal

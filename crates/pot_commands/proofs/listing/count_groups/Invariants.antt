@@ -1,6 +1,6 @@
 use Rattle.std.proofs.Common.{◌≡◌, IsTrue, vec_len}
 use Rattle.std.specs.Vec.{vec_capacity}
-use Rattle.pot_commands.specs.Sharing.{CanCall, known_of, vault_of}
+use Rattle.pot_shared.specs.Callers.{CanCall, known_of, vault_of}
 use Rattle.pot_commands.proofs.StatusLemmas.{IsCounting}
 use Rattle.pot_commands.proofs.listing.count_groups.Given as goal
 

@@ -2,7 +2,7 @@ use Rattle.std.proofs.Common.{sym, subst}
 use Rattle.std.specs.Prelude.{Ok, Err}
 use Rattle.pot_index.specs.declared.fault.ListFault.TheVariants as list_fault
 use Rattle.pot_replies.specs.Listings.{IsListed}
-use Rattle.pot_store.specs.Works.{known, section_of}
+use Rattle.pot_shared.specs.Works.{known, section_of}
 use Rattle.pot_commands.proofs.ListLemmas.{list_worked, list_says}
 use Rattle.pot_commands.proofs.listing.list_names.Goals as goal
 

@@ -1,6 +1,6 @@
 use Rattle.std.proofs.Common.{refl, sym, subst, arith}
 use Rattle.pot_replies.specs.Sections.{Halves, work_of}
-use Rattle.pot_store.specs.Works.{known, section_of}
+use Rattle.pot_shared.specs.Works.{known, section_of}
 use Rattle.pot_commands.specs.Rows.{IsMigrateReply}
 use Rattle.pot_commands.proofs.MovedLemmas.{both_says, both_took, both_used, both_work, unbegun_answer}
 use Rattle.pot_commands.proofs.TakingLemmas.{took_wider}

@@ -1,5 +1,5 @@
 use Rattle.std.proofs.Common.{arith}
-use Rattle.pot_store.specs.Works.{known}
+use Rattle.pot_shared.specs.Works.{known}
 use Rattle.pot_commands.proofs.Going.{work_all_went}
 use Rattle.pot_commands.proofs.StepLemmas.{fewer_parts, one_job, one_says, one_took, one_worked, together_jobs, together_says, together_took, together_worked, work_stays}
 use Rattle.pot_commands.proofs.working.answer_step.Goals as goal

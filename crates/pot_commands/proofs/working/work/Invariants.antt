@@ -1,6 +1,6 @@
 use Rattle.std.proofs.Common.{◌≡◌, ◌≤◌, IsTrue}
-use Rattle.pot_store.specs.Works.{known}
-use Rattle.pot_commands.specs.Sharing.{CanCall, known_of, vault_of}
+use Rattle.pot_shared.specs.Works.{known}
+use Rattle.pot_shared.specs.Callers.{CanCall, known_of, vault_of}
 use Rattle.pot_commands.specs.Taking.{AreUsed, lending}
 use Rattle.pot_commands.proofs.WorkingLemmas.{IsWorking}
 use Rattle.pot_commands.proofs.working.work.Given as goal

@@ -1,5 +1,5 @@
 use Rattle.std.proofs.Common.{◌++◌, ap, refl, ◌∙◌}
-use Rattle.pot_store.specs.Works.{known}
+use Rattle.pot_shared.specs.Works.{known}
 use Rattle.pot_commands.specs.Ends.{any_refusal, texts_of}
 use Rattle.pot_commands.specs.Steps.{step_of}
 use Rattle.pot_commands.proofs.StepLemmas.{gives_left}
