@@ -18,10 +18,10 @@ use Rattle.pot_image.specs.declared.image.Image.{Image}
 use Rattle.pot_image.specs.Images.{Contents, contents, image, Answered, Trailed, Measured, Numbered, Marked, AnswersImage}
 use Rattle.pot_image.specs.Fields.{IsOf}
 use Rattle.pot_image.proofs.Once.{once_value, never_both}
-use Rattle.pot_session.specs.declared.status.Status.{Status}
-use Rattle.pot_session.specs.declared.status.Status.TheVariants as status
-use Rattle.pot_session.specs.declared.stop.Stop.{Stop}
-use Rattle.pot_session.specs.declared.stop.Stop.TheVariants as stop
+use Rattle.pot_session.specs.declared.ending.status.Status.{Status}
+use Rattle.pot_session.specs.declared.ending.status.Status.TheVariants as status
+use Rattle.pot_session.specs.declared.ending.stop.Stop.{Stop}
+use Rattle.pot_session.specs.declared.ending.stop.Stop.TheVariants as stop
 use Rattle.pot_session.specs.Calls.{Runs, Nothing, Short, Makes, Session, Drilling, Recovering, Auditing, Generating}
 use Rattle.pot_session.specs.Commands.{IsRead, RefusesScript}
 use Rattle.pot_session.specs.Desks.{GoesOn, HoldsImage, RefusesBytes, RefusesDesk, IsDeskStop, IsKeepStop}

@@ -7,7 +7,7 @@ use Rattle.pot_bytes.specs.declared.digest.Digest.{Digest}
 use Rattle.pot_bytes.specs.declared.rack.Rack.{Rack}
 use Rattle.pot_bytes.proofs.Elements.{contains_later}
 use Rattle.pot_pointer.proofs.FilterLemmas.{Contains-filter}
-use Rattle.pot_steps.specs.Stripe.{digest_of}
+use Rattle.pot_bytes.specs.Digests.{digest_of}
 use Rattle.pot_index.specs.declared.entry.IndexEntry.TheVariants.{Publish, Reserve, Find}
 use Rattle.pot_index.specs.declared.entry.Logged.{Logged}
 use Rattle.pot_index.specs.declared.record.Record.{Record}

@@ -16,7 +16,7 @@ use Rattle.pot_object.specs.Pieces.{pieces_of}
 use Rattle.pot_pads.specs.Pads.{pads_of}
 use Rattle.pot_pointer.proofs.FilterLemmas.{Contains-filter}
 use Rattle.pot_split.specs.Threshold.{IsJoin}
-use Rattle.pot_steps.specs.Stripe.{digest_of}
+use Rattle.pot_bytes.specs.Digests.{digest_of}
 use Rattle.pot_steps.specs.GroupStep.{skips}
 use Rattle.pot_steps.proofs.AheadLemmas.{count_same}
 use Rattle.pot_machine.specs.declared.entry.Entry.{Entry}

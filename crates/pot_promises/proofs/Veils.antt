@@ -12,7 +12,7 @@ use Rattle.pot_bytes.specs.declared.rack.Rack.{Rack}
 use Rattle.pot_object.specs.Pieces.{longest, pieces_of}
 use Rattle.pot_pads.specs.Pads.{Pads, pads_of}
 use Rattle.pot_pads.proofs.PadsLemmas.{length-next_bytes, AreBytes-next_bytes}
-use Rattle.pot_steps.specs.Stripe.{digest_of}
+use Rattle.pot_bytes.specs.Digests.{digest_of}
 use Rattle.pot_machine.specs.Logs.{own}
 use Rattle.pot_machine.proofs.Logs.{own_append}
 use Rattle.pot_shard.specs.FileBlocks.{file_blocks, random_len}

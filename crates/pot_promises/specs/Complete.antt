@@ -7,8 +7,8 @@ use Rattle.pot_words.specs.Tasks.{SpellTask}
 use Rattle.pot_words.specs.declared.run.Run.{Run}
 use Rattle.pot_words.specs.declared.task.Task.TheVariants as task
 use Rattle.pot_image.specs.declared.image.Image.{Image}
-use Rattle.pot_session.specs.declared.status.Status.{Status}
-use Rattle.pot_session.specs.declared.status.Status.TheVariants as status
+use Rattle.pot_session.specs.declared.ending.status.Status.{Status}
+use Rattle.pot_session.specs.declared.ending.status.Status.TheVariants as status
 use Rattle.pot_session.specs.Calls.{Runs}
 use Rattle.pot_session.specs.Commands.{IsRead}
 use Rattle.pot_session.specs.Desks.{GoesOn, HoldsImage}

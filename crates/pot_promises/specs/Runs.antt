@@ -9,8 +9,8 @@ use Rattle.pot_image.specs.Images.{Contents, contents}
 use Rattle.pot_image.specs.Rules.{IsImage}
 use Rattle.pot_image.specs.Spelling.{image_bytes}
 use Rattle.pot_commands.specs.Ends.{texts_of}
-use Rattle.pot_session.specs.declared.status.Status.{Status}
-use Rattle.pot_session.specs.declared.status.Status.TheVariants as status
+use Rattle.pot_session.specs.declared.ending.status.Status.{Status}
+use Rattle.pot_session.specs.declared.ending.status.Status.TheVariants as status
 use Rattle.pot_session.specs.Commands.{IsRead}
 use Rattle.pot_session.specs.Desks.{HoldsImage, begun}
 use Rattle.pot_session.specs.Runs.{Holds, seen_by}

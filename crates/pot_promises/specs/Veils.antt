@@ -4,7 +4,7 @@ use Rattle.pot_bytes.specs.Lists.{AreBytes}
 use Rattle.pot_bytes.specs.declared.digest.Digest.{Digest}
 use Rattle.pot_object.specs.Pieces.{pieces_of}
 use Rattle.pot_pads.specs.Pads.{pads_of}
-use Rattle.pot_steps.specs.Stripe.{digest_of}
+use Rattle.pot_bytes.specs.Digests.{digest_of}
 use Rattle.pot_shard.specs.FileBlocks.{file_blocks}
 use Rattle.pot_shard.specs.FileLaws.{IsStore}
 use Rattle.pot_veil.specs.Veiled.{Split, Spot, IsVeiledSplit, explained_split, is_seen}

@@ -20,10 +20,10 @@ use Rattle.pot_words.specs.declared.spot.Spot as word
 use Rattle.pot_words.specs.declared.task.Task.TheVariants as task
 use Rattle.pot_words.specs.Limits.{IsWithinLimits}
 use Rattle.pot_words.specs.Lists.{AscendFrom, IsSpot, spot_rank}
-use Rattle.pot_session.specs.declared.status.Status.{Status}
-use Rattle.pot_session.specs.declared.status.Status.TheVariants as status
-use Rattle.pot_session.specs.declared.stop.Stop.{Stop}
-use Rattle.pot_session.specs.declared.stop.Stop.TheVariants as stop
+use Rattle.pot_session.specs.declared.ending.status.Status.{Status}
+use Rattle.pot_session.specs.declared.ending.status.Status.TheVariants as status
+use Rattle.pot_session.specs.declared.ending.stop.Stop.{Stop}
+use Rattle.pot_session.specs.declared.ending.stop.Stop.TheVariants as stop
 use Rattle.pot_session.specs.Desks.{IsImageStop}
 use Rattle.pot_session.specs.Stops.{Refuses, status_of}
 use Rattle.pot_session.specs.Telling.{told_status}

@@ -19,8 +19,8 @@ use Rattle.pot_group.specs.Group.{GroupView}
 use Rattle.pot_shelves.specs.Shelves.{Shelves}
 use Rattle.pot_image.specs.Images.{Contents, magic}
 use Rattle.pot_image.specs.Spelling.{table_bytes, head_bytes, counted_bytes, entry_bytes, index_entry_bytes, field_bytes, text_bytes, image_bytes}
-use Rattle.pot_session.specs.declared.stop.Stop.{Stop}
-use Rattle.pot_session.specs.declared.stop.Stop.TheVariants as stop
+use Rattle.pot_session.specs.declared.ending.stop.Stop.{Stop}
+use Rattle.pot_session.specs.declared.ending.stop.Stop.TheVariants as stop
 use Rattle.pot_session.specs.Desks.{Keeps, IsKeepStop}
 use Rattle.pot_rows.specs.Rows.{view_at}
 use Rattle.pot_rows.proofs.RowLemmas.{at_past}
@@ -28,7 +28,7 @@ use Rattle.pot_replies.specs.Sessions.{ByNobody}
 use Rattle.pot_shared.specs.Members.{entries_of}
 use Rattle.pot_shared.specs.Ready.{GroupPass}
 use Rattle.pot_shared.specs.Catalogs.{IndexPass}
-use Rattle.pot_store.specs.Works.{Known, section_of}
+use Rattle.pot_shared.specs.Works.{Known, section_of}
 use Rattle.pot_session.specs.Giving.{AnswersFor, GivesBack}
 use Rattle.pot_session.specs.Groups.{AreFirstPasses, IsOpened, MarksRose, records_read}
 use Rattle.pot_commands.specs.Holding.{times}

@@ -27,7 +27,7 @@ use Rattle.pot_shared.specs.Ready.{GroupPass, GroupPasses, AreReady}
 use Rattle.pot_shared.specs.Catalogs.{IndexPass, IndexPasses, IsIndexReady, IsKept}
 use Rattle.pot_shared.specs.Sharing.{Ends}
 use Rattle.pot_shared.proofs.MemberLemmas.{entries_all, entries_append}
-use Rattle.pot_store.specs.Works.{Known, known, gained}
+use Rattle.pot_shared.specs.Works.{Known, known, gained}
 use Rattle.pot_commands.specs.Going.{AllSole}
 use Rattle.pot_session.specs.Groups.{IsFirstPass, AreServed, table_read, tables_read}
 use Rattle.pot_session.proofs.OpenLemmas.{read_of}

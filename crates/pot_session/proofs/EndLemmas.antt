@@ -27,7 +27,7 @@ use Rattle.pot_shared.specs.Members.{entries_of, kept_log, opened_at, origin_of,
 use Rattle.pot_shared.specs.Ready.{GroupPass, GroupPasses, AreReady}
 use Rattle.pot_shared.specs.Catalogs.{IndexPasses, IsIndexReady, records_in}
 use Rattle.pot_shared.specs.Sharing.{Ends}
-use Rattle.pot_store.specs.Works.{Known, known, gained, section_of}
+use Rattle.pot_shared.specs.Works.{Known, known, gained, section_of}
 use Rattle.pot_commands.specs.Going.{AllSole}
 use Rattle.pot_commands.specs.Holding.{times, AreApart}
 use Rattle.pot_commands.proofs.TakingLemmas.{times-append}

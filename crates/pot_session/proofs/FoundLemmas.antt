@@ -1,21 +1,17 @@
 -- The archives that a session left as they were.
-use Rattle.std.proofs.Common.{◌≡◌, ◌<◌, ◌++◌, ℕ, zero, suc, List, [], ◌∷◌, length, sym, ap, subst, ◌∙◌, arith}
-use Rattle.std.specs.Prelude.{Some, slice_get, slice_index_or, flat_map}
-use Rattle.std.proofs.lemmas.Option.{same_Some, slice_get_within}
-use Rattle.pot_outside.specs.Archives.{Meaning}
+use Rattle.std.proofs.Common.{◌≡◌, ◌++◌, ℕ, List, [], length, ap, ◌∙◌, arith}
+use Rattle.std.specs.Prelude.{Some, slice_get}
+use Rattle.std.proofs.lemmas.Option.{slice_get_within}
 use Rattle.pot_machine.specs.declared.entry.Entry.{Entry}
-use Rattle.pot_machine.specs.Table.{Table}
 use Rattle.pot_group.specs.Arrivals.{arrivals}
 use Rattle.pot_group.proofs.Arriving.{arrivals-append}
-use Rattle.pot_turn.specs.Views.{spent_view}
 use Rattle.pot_rows.specs.Rows.{view_at}
-use Rattle.pot_shared.specs.declared.member.GroupOrigin.{GroupOrigin}
 use Rattle.pot_shared.specs.Members.{entries_of}
 use Rattle.pot_shared.specs.Ready.{GroupPass}
-use Rattle.pot_store.specs.Works.{Known, gained, section_of}
+use Rattle.pot_shared.specs.Works.{Known, gained, section_of}
 use Rattle.pot_commands.specs.Holding.{times}
 use Rattle.pot_commands.specs.Taking.{came_in}
-use Rattle.pot_session.specs.Groups.{AreFirstPasses, AreTakenAt, IsOpened, table_read, tables_read}
+use Rattle.pot_session.specs.Groups.{AreFirstPasses}
 use Rattle.pot_session.specs.Serving.{AreLogs, came_by}
 use Rattle.pot_session.proofs.ComingLemmas.{came_of}
 

@@ -13,10 +13,10 @@ use Rattle.pot_generator.specs.Generated.{generated}
 use Rattle.pot_generator.specs.Runs.{rack_of_runs, seed_of}
 use Rattle.pot_image.specs.Spelling.{image_bytes}
 use Rattle.pot_script.specs.Scripts.{script_text}
-use Rattle.pot_session.specs.declared.status.Status.{Status}
-use Rattle.pot_session.specs.declared.status.Status.TheVariants as status
+use Rattle.pot_session.specs.declared.ending.status.Status.{Status}
+use Rattle.pot_session.specs.declared.ending.status.Status.TheVariants as status
 use Rattle.pot_session.specs.Generating.{AreSound, Generates, IsGenerated, Told, Starved, answer_of, is_answered}
-use Rattle.pot_session.specs.declared.stop.Stop.{Stop}
+use Rattle.pot_session.specs.declared.ending.stop.Stop.{Stop}
 use Rattle.pot_session.specs.Making.{Makes, empty_contents}
 use Rattle.pot_session.specs.Runs.{Holds, seen_by}
 

@@ -17,7 +17,7 @@ use Rattle.pot_shared.specs.declared.member.GroupOrigin.{GroupOrigin}
 use Rattle.pot_shared.specs.Members.{entries_of}
 use Rattle.pot_shared.specs.Ready.{GroupPass, GroupPasses}
 use Rattle.pot_shared.specs.Catalogs.{IndexPasses}
-use Rattle.pot_store.specs.Works.{Known, gained}
+use Rattle.pot_shared.specs.Works.{Known, gained}
 use Rattle.pot_store.proofs.NoteLemmas.{one_if}
 use Rattle.pot_commands.specs.Going.{AllSole}
 use Rattle.pot_commands.specs.Holding.{times, AreOut, Untouched}

@@ -10,7 +10,7 @@ use Rattle.std.proofs.lemmas.List.{take-append-drop, get_or-take, length-take, d
 use Rattle.std.proofs.lemmas.Bool.{cases_lt}
 use Rattle.std.proofs.lemmas.Bool.Decides.{nat_tests}
 use Rattle.pot_bytes.proofs.Elements.{at_range}
-use Rattle.pot_session.specs.declared.listing.ListFault.{ListFault}
+use Rattle.pot_session.specs.declared.recovery.listing.ListFault.{ListFault}
 use Rattle.pot_recover.specs.Fronts.{has_front}
 use Rattle.pot_session.specs.Listing.{IsBegun, Puts, front_at, least_of, part_in, part_of}
 

@@ -10,10 +10,10 @@ use Rattle.pot_doubles.proofs.CallLemmas.{rose_later}
 use Rattle.pot_words.specs.Limits.{IsWithinLimits}
 use Rattle.pot_words.specs.declared.recover.Recover.{Recover}
 use Rattle.pot_words.specs.declared.task.Task.TheVariants as task
-use Rattle.pot_session.specs.declared.status.Status.{Status}
-use Rattle.pot_session.specs.declared.status.Status.TheVariants as status
-use Rattle.pot_session.specs.declared.stop.Stop.{Stop}
-use Rattle.pot_session.specs.declared.stop.Stop.TheVariants as stop
+use Rattle.pot_session.specs.declared.ending.status.Status.{Status}
+use Rattle.pot_session.specs.declared.ending.status.Status.TheVariants as status
+use Rattle.pot_session.specs.declared.ending.stop.Stop.{Stop}
+use Rattle.pot_session.specs.declared.ending.stop.Stop.TheVariants as stop
 use Rattle.pot_session.specs.Listing.{has_partial}
 use Rattle.pot_session.specs.Recovering.{Adds, AreHeldIn, FindsObjects, Gathers, HasFailed, IsHeldIn, IsRecovery, ListAnswers, Recovers, SomeFailed, WasRead}
 use Rattle.pot_session.specs.Stops.{status_of}

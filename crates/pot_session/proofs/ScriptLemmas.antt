@@ -1,5 +1,5 @@
 -- The steps of a script before `quit`.
-use Rattle.std.proofs.Common.{◌≡◌, ◌<◌, ◌≤◌, ◌+◌, ◌-◌, ◌++◌, ◌^◌, ℕ, true, false, List, [], ◌∷◌, length, take, ap, sym, subst, refl, ◌∙◌, arith, append_assoc, length-append}
+use Rattle.std.proofs.Common.{◌≡◌, ◌<◌, ◌≤◌, ◌-◌, ◌++◌, ◌^◌, ℕ, List, [], ◌∷◌, length, take, ap, sym, subst, ◌∙◌, arith, length-append}
 use Rattle.std.specs.Prelude.{None, flat_map}
 use Rattle.std.specs.List.{AllByRecursion}
 use Rattle.std.proofs.Math.Seq.{take-append_seam}
@@ -8,11 +8,9 @@ use Rattle.pot_script.specs.declared.command.Command.{Command}
 use Rattle.pot_script.specs.declared.command.Command.TheVariants as command
 use Rattle.pot_script.specs.declared.grouping.Step.{Step}
 use Rattle.pot_script.specs.declared.grouping.Step.TheVariants as steps
-use Rattle.pot_script.specs.Kinds.{kind_of}
 use Rattle.pot_script.specs.Commands.{command_text}
 use Rattle.pot_script.specs.Scripts.{IsScript, AreSteps, after_commands, script_text}
-use Rattle.pot_script.specs.Batches.{is_job}
-use Rattle.pot_script.specs.Steps.{IsJobLine, IsWholeStep, spread, stands_alone}
+use Rattle.pot_script.specs.Steps.{IsWholeStep, spread}
 use Rattle.pot_script.proofs.ScriptLemmas.{text_some}
 use Rattle.pot_replies.specs.Sessions.{jobs_of}
 use Rattle.pot_commands.specs.Ends.{next_job}

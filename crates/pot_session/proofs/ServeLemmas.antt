@@ -22,7 +22,7 @@ use Rattle.pot_shared.specs.declared.member.GroupOrigin.{GroupOrigin}
 use Rattle.pot_shared.specs.Ready.{GroupPass, GroupPasses, AreReady}
 use Rattle.pot_shared.specs.Catalogs.{IndexPass, IndexPasses, records_in}
 use Rattle.pot_shared.specs.Sharing.{HasAllButKept}
-use Rattle.pot_store.specs.Works.{Known, known, section_of}
+use Rattle.pot_shared.specs.Works.{Known, known, section_of}
 use Rattle.pot_commands.specs.declared.working.Ending.{Ending}
 use Rattle.pot_commands.specs.declared.working.Ending.TheVariants as ending
 use Rattle.pot_commands.specs.Rows.{HasFilled, IsSessionSetting}
@@ -30,10 +30,10 @@ use Rattle.pot_commands.specs.Ends.{Ends}
 use Rattle.pot_commands.specs.Failures.{Fails}
 use Rattle.pot_commands.specs.Going.{Stays}
 use Rattle.pot_commands.proofs.Judging.{ends_over}
-use Rattle.pot_session.specs.declared.status.Status.{Status}
-use Rattle.pot_session.specs.declared.status.Status.TheVariants as status
-use Rattle.pot_session.specs.declared.stop.Stop.{Stop}
-use Rattle.pot_session.specs.declared.stop.Stop.TheVariants as stop
+use Rattle.pot_session.specs.declared.ending.status.Status.{Status}
+use Rattle.pot_session.specs.declared.ending.status.Status.TheVariants as status
+use Rattle.pot_session.specs.declared.ending.stop.Stop.{Stop}
+use Rattle.pot_session.specs.declared.ending.stop.Stop.TheVariants as stop
 use Rattle.pot_session.specs.Groups.{AreFirstPasses, table_read, tables_read, records_read}
 use Rattle.pot_session.proofs.Lists.{at_same}
 use Rattle.pot_session.proofs.LossLemmas.{lost_where_few}

@@ -2,10 +2,10 @@
 use Rattle.std.proofs.Common.{◌≡◌, inl, inr, Bool, true, false, List, ℕ, Result, Ok, Err, refl, sym, subst}
 use Rattle.std.specs.Prelude.{unwrap_or}
 use Rattle.pot_words.specs.declared.drill.Drill.{Drill}
-use Rattle.pot_session.specs.declared.status.Status.{Status}
-use Rattle.pot_session.specs.declared.status.Status.TheVariants as status
-use Rattle.pot_session.specs.declared.stop.Stop.{Stop}
-use Rattle.pot_session.specs.declared.stop.Stop.TheVariants as stop
+use Rattle.pot_session.specs.declared.ending.status.Status.{Status}
+use Rattle.pot_session.specs.declared.ending.status.Status.TheVariants as status
+use Rattle.pot_session.specs.declared.ending.stop.Stop.{Stop}
+use Rattle.pot_session.specs.declared.ending.stop.Stop.TheVariants as stop
 use Rattle.pot_session.specs.declared.telling.Telling.{Telling}
 use Rattle.pot_session.specs.Drills.{Drilled, Drills}
 use Rattle.pot_session.specs.Stops.{status_of}

@@ -12,11 +12,11 @@ use Rattle.pot_audit.specs.Veils.{AreVeils}
 use Rattle.pot_words.specs.declared.audit.Audit.{Audit}
 use Rattle.pot_words.specs.declared.spot.Spot as word
 use Rattle.pot_words.specs.Lists.{AscendFrom, IsSpot, spot_rank}
-use Rattle.pot_session.specs.declared.listing.ListFault.{ListFault}
-use Rattle.pot_session.specs.declared.status.Status.{Status}
-use Rattle.pot_session.specs.declared.status.Status.TheVariants as status
-use Rattle.pot_session.specs.declared.stop.Stop.{Stop}
-use Rattle.pot_session.specs.declared.stop.Stop.TheVariants as stop
+use Rattle.pot_session.specs.declared.recovery.listing.ListFault.{ListFault}
+use Rattle.pot_session.specs.declared.ending.status.Status.{Status}
+use Rattle.pot_session.specs.declared.ending.status.Status.TheVariants as status
+use Rattle.pot_session.specs.declared.ending.stop.Stop.{Stop}
+use Rattle.pot_session.specs.declared.ending.stop.Stop.TheVariants as stop
 use Rattle.pot_session.specs.Desks.{HoldsImage, IsImageStop, RefusesDesk}
 use Rattle.pot_session.specs.Listing.{IsBegun}
 use Rattle.pot_session.specs.Stops.{Refuses}

@@ -11,9 +11,9 @@ use Rattle.pot_words.specs.declared.drill.Drill.{Drill}
 use Rattle.pot_words.specs.declared.recover.Recover.{Recover}
 use Rattle.pot_words.specs.declared.run.Run.{Run}
 use Rattle.pot_words.specs.declared.task.Task.TheVariants as task
-use Rattle.pot_session.specs.declared.status.Status.{Status}
-use Rattle.pot_session.specs.declared.status.Status.TheVariants as status
-use Rattle.pot_session.specs.declared.stop.Stop.TheVariants as stop
+use Rattle.pot_session.specs.declared.ending.status.Status.{Status}
+use Rattle.pot_session.specs.declared.ending.status.Status.TheVariants as status
+use Rattle.pot_session.specs.declared.ending.stop.Stop.TheVariants as stop
 use Rattle.pot_session.specs.Audits.{Audits}
 use Rattle.pot_session.specs.Drills.{Drills}
 use Rattle.pot_session.specs.Making.{Inits}

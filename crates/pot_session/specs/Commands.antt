@@ -6,8 +6,8 @@ use Rattle.pot_script.specs.declared.command.Command.TheVariants as command
 use Rattle.pot_script.specs.declared.grouping.Step.{Step}
 use Rattle.pot_script.specs.Scripts.{IsScript, LeavesAt}
 use Rattle.pot_script.specs.Steps.{IsWholeStep, spread}
-use Rattle.pot_session.specs.declared.stop.Stop.{Stop}
-use Rattle.pot_session.specs.declared.stop.Stop.TheVariants as stop
+use Rattle.pot_session.specs.declared.ending.stop.Stop.{Stop}
+use Rattle.pot_session.specs.declared.ending.stop.Stop.TheVariants as stop
 
 -- These are the steps before `quit` of a script whose bytes the source had, where it tells them. It
 -- has fewer than 2^31 lines.

@@ -5,8 +5,8 @@ use Rattle.pot_outside.specs.Failing.{MayLeave}
 use Rattle.pot_image.specs.declared.image.Image.{Image}
 use Rattle.pot_image.specs.declared.fault.ImageFault.TheVariants as faults
 use Rattle.pot_image.specs.Images.{Contents, AnswersImage}
-use Rattle.pot_session.specs.declared.stop.Stop.{Stop}
-use Rattle.pot_session.specs.declared.stop.Stop.TheVariants as stop
+use Rattle.pot_session.specs.declared.ending.stop.Stop.{Stop}
+use Rattle.pot_session.specs.declared.ending.stop.Stop.TheVariants as stop
 
 -- WHAT IS READ
 

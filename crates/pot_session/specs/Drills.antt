@@ -12,9 +12,9 @@ use Rattle.pot_veil.specs.Seen.{AreSeen}
 use Rattle.pot_veil.specs.declared.drilling.DrillFault.TheVariants as fault
 use Rattle.pot_veil.specs.declared.drilling.DrillReport.{DrillReport}
 use Rattle.pot_words.specs.declared.drill.Drill.{Drill}
-use Rattle.pot_session.specs.declared.status.Status.{Status}
-use Rattle.pot_session.specs.declared.stop.Stop.{Stop}
-use Rattle.pot_session.specs.declared.stop.Stop.TheVariants as stop
+use Rattle.pot_session.specs.declared.ending.status.Status.{Status}
+use Rattle.pot_session.specs.declared.ending.stop.Stop.{Stop}
+use Rattle.pot_session.specs.declared.ending.stop.Stop.TheVariants as stop
 use Rattle.pot_session.specs.declared.telling.Telling.{Telling}
 use Rattle.pot_session.specs.Streams.{ReadsAtMost}
 use Rattle.pot_session.specs.Telling.{WordAnswers}

@@ -12,8 +12,8 @@ use Rattle.pot_image.specs.Spelling.{image_bytes}
 use Rattle.pot_script.specs.Replies.{in_hex, spaced}
 use Rattle.pot_script.specs.Scripts.{script_text}
 use Rattle.pot_commands.specs.Streams.{IsWritten}
-use Rattle.pot_session.specs.declared.status.Status.{Status}
-use Rattle.pot_session.specs.declared.status.Status.TheVariants as status
+use Rattle.pot_session.specs.declared.ending.status.Status.{Status}
+use Rattle.pot_session.specs.declared.ending.status.Status.TheVariants as status
 use Rattle.pot_session.specs.Making.{empty_contents}
 use Rattle.pot_session.specs.Runs.{Holds, seen_by}
 

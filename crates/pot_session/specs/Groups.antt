@@ -23,7 +23,7 @@ use Rattle.pot_shared.specs.declared.catalog.CatalogOrigin.{CatalogOrigin}
 use Rattle.pot_shared.specs.Members.{entries_of, mark_at, opened_at}
 use Rattle.pot_shared.specs.Ready.{GroupPass, GroupPasses, IsTableOf}
 use Rattle.pot_shared.specs.Catalogs.{IndexPasses, records_in}
-use Rattle.pot_store.specs.Works.{Known, gained}
+use Rattle.pot_shared.specs.Works.{Known, gained}
 use Rattle.pot_commands.specs.Going.{AllSole, AllStay, AllWent}
 use Rattle.pot_commands.specs.Holding.{times}
 use Rattle.pot_commands.specs.Taking.{came_in, marks_of}

@@ -9,9 +9,9 @@ use Rattle.hex.specs.Hex.{encode_lower}
 use Rattle.pot_object.specs.Objects.{head_at, part_length}
 use Rattle.pot_recover.specs.Fronts.{has_front}
 use Rattle.pot_script.specs.Replies.{spaced}
-use Rattle.pot_session.specs.declared.status.Status.{Status}
-use Rattle.pot_session.specs.declared.status.Status.TheVariants as status
-use Rattle.pot_session.specs.declared.listing.ListFault.{ListFault}
+use Rattle.pot_session.specs.declared.ending.status.Status.{Status}
+use Rattle.pot_session.specs.declared.ending.status.Status.TheVariants as status
+use Rattle.pot_session.specs.declared.recovery.listing.ListFault.{ListFault}
 use Rattle.pot_session.specs.Telling.{told_status}
 
 -- THE FILE OF AN OBJECT

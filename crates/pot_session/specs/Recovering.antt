@@ -10,9 +10,9 @@ use Rattle.pot_recover.specs.Wide.{IsTooWide, IsWithin}
 use Rattle.pot_recover.specs.declared.top.RecoverFault.{RecoverFault}
 use Rattle.pot_recover.specs.declared.top.RecoverFault.TheVariants.{Wide}
 use Rattle.pot_words.specs.declared.recover.Recover.{Recover}
-use Rattle.pot_session.specs.declared.status.Status.{Status}
-use Rattle.pot_session.specs.declared.stop.Stop.{Stop}
-use Rattle.pot_session.specs.declared.stop.Stop.TheVariants as stop
+use Rattle.pot_session.specs.declared.ending.status.Status.{Status}
+use Rattle.pot_session.specs.declared.ending.stop.Stop.{Stop}
+use Rattle.pot_session.specs.declared.ending.stop.Stop.TheVariants as stop
 use Rattle.pot_session.specs.Listing.{Lists}
 use Rattle.pot_session.specs.Stops.{Refuses}
 

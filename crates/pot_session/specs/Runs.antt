@@ -7,8 +7,8 @@ use Rattle.pot_machine.specs.Table.{archives_in}
 use Rattle.pot_image.specs.declared.image.Image.{Image}
 use Rattle.pot_image.specs.Images.{contents}
 use Rattle.pot_image.specs.Spelling.{image_bytes}
-use Rattle.pot_session.specs.declared.status.Status.{Status}
-use Rattle.pot_session.specs.declared.stop.Stop.{Stop}
+use Rattle.pot_session.specs.declared.ending.status.Status.{Status}
+use Rattle.pot_session.specs.declared.ending.stop.Stop.{Stop}
 use Rattle.pot_session.specs.Commands.{IsRead, RefusesScript}
 use Rattle.pot_session.specs.Desks.{GoesOn, HoldsImage, RefusesDesk, IsDeskStop, Keeps, IsKeepStop}
 use Rattle.pot_session.specs.Desks.{begun}

@@ -12,7 +12,7 @@ use Rattle.pot_pads.specs.Pads.{pads_of}
 use Rattle.pot_machine.specs.declared.entry.Entry.{Entry}
 use Rattle.pot_machine.specs.Table.{Table, archives_in}
 use Rattle.pot_machine.specs.Making.{empty_table}
-use Rattle.pot_steps.specs.Stripe.{digest_of}
+use Rattle.pot_bytes.specs.Digests.{digest_of}
 use Rattle.pot_group.specs.Arrivals.{arrivals}
 use Rattle.pot_group.specs.Group.{GroupView, IsSettled}
 use Rattle.pot_shelves.specs.Shelves.{Shelves}
@@ -29,7 +29,7 @@ use Rattle.pot_replies.specs.Sections.{Section}
 use Rattle.pot_replies.specs.Sessions.{ByNobody}
 use Rattle.pot_replies.specs.Settings.{Setting}
 use Rattle.pot_store.specs.Drawing.{blocks_from}
-use Rattle.pot_store.specs.Works.{Known, section_of}
+use Rattle.pot_shared.specs.Works.{Known, section_of}
 use Rattle.pot_commands.specs.declared.working.Ending.{Ending}
 use Rattle.pot_commands.specs.declared.working.Ending.TheVariants as ending
 use Rattle.pot_commands.specs.declared.working.Ending.TheVariants.{RoomFailed}
@@ -38,10 +38,10 @@ use Rattle.pot_commands.specs.Failures.{Fails}
 use Rattle.pot_commands.specs.Going.{AllSole}
 use Rattle.pot_commands.specs.Holding.{times}
 use Rattle.pot_commands.specs.Taking.{marks_of}
-use Rattle.pot_session.specs.declared.status.Status.{Status}
-use Rattle.pot_session.specs.declared.status.Status.TheVariants as status
-use Rattle.pot_session.specs.declared.stop.Stop.{Stop}
-use Rattle.pot_session.specs.declared.stop.Stop.TheVariants as stop
+use Rattle.pot_session.specs.declared.ending.status.Status.{Status}
+use Rattle.pot_session.specs.declared.ending.status.Status.TheVariants as status
+use Rattle.pot_session.specs.declared.ending.stop.Stop.{Stop}
+use Rattle.pot_session.specs.declared.ending.stop.Stop.TheVariants as stop
 use Rattle.pot_session.specs.Desks.{IsKeepStop, Keeps}
 use Rattle.pot_session.specs.Giving.{FailsAt, IsUnlent}
 use Rattle.pot_session.specs.Groups.{HasMarks, IsOpened, MarksRose, had_by, records_read}

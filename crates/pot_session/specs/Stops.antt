@@ -2,10 +2,10 @@
 -- status.
 use Rattle.std.specs.Prelude.{◌≡◌, ◌⊎◌, ◌++◌, ℕ, List, [], codes, take}
 use Rattle.pot_script.specs.Replies.{spaced, in_hex, bad_line_text, words_refused_text}
-use Rattle.pot_session.specs.declared.status.Status.{Status}
-use Rattle.pot_session.specs.declared.status.Status.TheVariants as status
-use Rattle.pot_session.specs.declared.stop.Stop.{Stop}
-use Rattle.pot_session.specs.declared.stop.Stop.TheVariants as stop
+use Rattle.pot_session.specs.declared.ending.status.Status.{Status}
+use Rattle.pot_session.specs.declared.ending.status.Status.TheVariants as status
+use Rattle.pot_session.specs.declared.ending.stop.Stop.{Stop}
+use Rattle.pot_session.specs.declared.ending.stop.Stop.TheVariants as stop
 
 -- the number of a status
 abbrev pub code_of : Status → ℕ

@@ -1,8 +1,8 @@
 -- What a word that holds no session writes and answers.
 use Rattle.std.specs.Prelude.{◌≡◌, ◌⊎◌, ◌++◌, ℕ, Bool, List, Result, Ok, Err, if◌then◌else◌, take}
-use Rattle.pot_session.specs.declared.status.Status.{Status}
-use Rattle.pot_session.specs.declared.status.Status.TheVariants as status
-use Rattle.pot_session.specs.declared.stop.Stop.{Stop}
+use Rattle.pot_session.specs.declared.ending.status.Status.{Status}
+use Rattle.pot_session.specs.declared.ending.status.Status.TheVariants as status
+use Rattle.pot_session.specs.declared.ending.stop.Stop.{Stop}
 use Rattle.pot_session.specs.declared.telling.Telling.{Telling}
 use Rattle.pot_session.specs.Stops.{Refuses}
 

@@ -10,7 +10,7 @@ use std::alloc::Global;
 
 /// What is asked for.
 #[derive(PartialEq, Debug, Drop)]
-pub enum Asked {
+pub(crate) enum Asked {
     /// An empty archive of this shape.
     Init(Rack),
     /// A session.
@@ -28,7 +28,7 @@ pub enum Asked {
 }
 
 /// What the words ask for.
-pub fn read_task(alloc: Global, words: &[String]) -> Result<Asked, NoMemory>
+pub(crate) fn read_task(alloc: Global, words: &[String]) -> Result<Asked, NoMemory>
     ensures { IfOk result (Asks (map string_bytes words.now)) }
 {
     match read_words(alloc, words)? {

@@ -14,11 +14,11 @@ ghost use Rattle.pot_session.specs.Audits.{AuditAnswers, Audits, IsAudit, PutsAu
 ghost use Rattle.pot_session.specs.Audits.{is_bare, spots_of, veil_line, veil_lines};
 
 use crate::desk::read_desk;
-use crate::listing::ListFault;
-use crate::refusing::refuse;
+use crate::ending::refusing::refuse;
+use crate::ending::status::Status;
+use crate::ending::stop::Stop;
+use crate::recovery::listing::ListFault;
 use crate::spelling::append_number;
-use crate::status::Status;
-use crate::stop::Stop;
 use crate::telling::Telling;
 use pot_audit::{Spot, Veil, audit_record};
 use pot_bytes::{Name, NoMemory, Rack};
@@ -163,7 +163,7 @@ fn tell_audit<K: Sink>(alloc: Global, task: &Audit, image: &Image, sink: &mut K)
 }
 
 /// Tells how many points of each piece of each file of the desk are exposed to the coalition that the words name. The desk's image stays.
-pub fn audit_files<K: Sink, D: Desk>(
+pub(crate) fn audit_files<K: Sink, D: Desk>(
     alloc: Global,
     task: &Audit,
     sink: &mut K,

@@ -9,7 +9,7 @@ ghost use Rattle.pot_image.specs.Rules.{FitsTogether};
 ghost use Rattle.pot_session.specs.Desks.{Opens, OpensDesk, ReadsDesk, IsImageIn, IsImageStop};
 ghost use Rattle.pot_session.specs.Desks.{IsDeskStop, begun, Keeps, IsKeepStop};
 
-use crate::stop::Stop;
+use crate::ending::stop::Stop;
 use pot_bytes::NoMemory;
 use pot_image::{Image, ImageFault, read_image, write_image};
 use pot_machine::Entry;
@@ -35,7 +35,7 @@ fn image_in(alloc: Global, bytes: &[u8]) -> Result<Image, Stop>
 ///
 /// # Errors
 /// `DeskFault` only where the desk's count of faults rose; `NoImage` where the desk has none; else why its bytes are no image.
-pub fn read_desk<D: Desk>(alloc: Global, desk: &mut D) -> Result<Image, Stop>
+pub(crate) fn read_desk<D: Desk>(alloc: Global, desk: &mut D) -> Result<Image, Stop>
     ensures reads { ReadsDesk (IsTrue D.tells) (D.held desk.old) result }
     ensures fits { IfOk result (λ i. FitsTogether (contents i)) }
     ensures which { IfErr result IsImageStop }
@@ -68,7 +68,7 @@ fn open_image(alloc: Global, bytes: &[u8]) -> Result<Image, Stop>
 /// # Errors
 /// `DeskFault` only where the desk's count of faults rose; `NoImage` where the desk has none; else why its bytes are no image, or
 /// that no number of a session is left.
-pub fn open_desk<D: Desk>(alloc: Global, desk: &mut D) -> Result<Image, Stop>
+pub(crate) fn open_desk<D: Desk>(alloc: Global, desk: &mut D) -> Result<Image, Stop>
     ensures opens { OpensDesk (IsTrue D.tells) (D.held desk.old) result }
     ensures fits { IfOk result (λ i. FitsTogether (contents i)) }
     ensures which { IfErr result IsDeskStop }
@@ -84,7 +84,7 @@ pub fn open_desk<D: Desk>(alloc: Global, desk: &mut D) -> Result<Image, Stop>
 }
 
 /// So many logs without entries.
-pub fn empty_logs(alloc: Global, count: usize) -> Result<Vec<Vec<Entry>>, NoMemory>
+pub(crate) fn empty_logs(alloc: Global, count: usize) -> Result<Vec<Vec<Entry>>, NoMemory>
     ensures { IfOk result (λ logs. map (λ v. v.items) logs.items ≡ replicate count []) }
 {
     let mut logs = Vec::with_capacity(alloc, count)?;
@@ -96,7 +96,7 @@ pub fn empty_logs(alloc: Global, count: usize) -> Result<Vec<Vec<Entry>>, NoMemo
 
 /// The image with which the session after this one begins: one more session, the tables and the records as they were, and
 /// empty logs.
-pub fn begin(alloc: Global, image: Image) -> Result<Image, NoMemory>
+pub(crate) fn begin(alloc: Global, image: Image) -> Result<Image, NoMemory>
     requires { image.session < 2 ^ 32 - 1 }
     ensures { IfOk result (λ i. contents i ≡ begun (contents image)) }
 {
@@ -123,7 +123,7 @@ pub fn begin(alloc: Global, image: Image) -> Result<Image, NoMemory>
 /// # Errors
 /// `DeskFault` only where the desk's count of faults rose: the desk then has the old image, this one or none. `NoMemory` leaves the old
 /// one.
-pub fn keep_image<D: Desk>(alloc: Global, image: &Image, desk: &mut D) -> Result<(), Stop>
+pub(crate) fn keep_image<D: Desk>(alloc: Global, image: &Image, desk: &mut D) -> Result<(), Stop>
     requires { IsCountable image.now }
     ensures which { IfErr result IsKeepStop }
     ensures told { IsTrue D.tells

@@ -7,10 +7,11 @@ ghost use Rattle.pot_doubles.specs.Streams.{written_to};
 ghost use Rattle.pot_session.specs.Generating.{AreSound, Generates, IsGenerated, is_answered};
 ghost use Rattle.pot_session.specs.Generating.{summary};
 
-use crate::holding::hold;
-use crate::making::make_image;
+use crate::ending::status::Status;
+use crate::host::{Host, Staff};
+use crate::init::make_image;
+use crate::session::holding::hold;
 use crate::spelling::{append_digest, append_number};
-use crate::status::Status;
 use pot_bytes::{NoMemory, digest_of};
 use pot_commands::write_out;
 use pot_doubles::{MemDesk, MemRoom, MemSink, MemSource, OpenGate};
@@ -74,17 +75,17 @@ fn run_in_memory<X: Threads + Wait + Sync>(
     let mut source = MemSource::new(script, Vec::new(alloc));
     let mut sink = MemSink::new(alloc, Vec::new(alloc));
     let mut room = MemRoom::new(alloc, Vec::new(alloc), Vec::new(alloc));
-    let status = hold(
-        rt,
-        alloc,
-        &generator_seed(number),
-        generator_workers(),
-        &OpenGate,
-        &mut source,
-        &mut sink,
-        &mut room,
-        &mut desk,
-    );
+    let seed = generator_seed(number);
+    let staff = Staff {
+        host: Host {
+            rt,
+            alloc,
+            seed: &seed,
+            gate: &OpenGate,
+        },
+        workers: generator_workers(),
+    };
+    let status = hold(&staff, &mut source, &mut sink, &mut room, &mut desk);
     if !are_sound(&room) {
         return Err(NoMemory);
     }
@@ -113,7 +114,7 @@ fn summary(alloc: Global, number: u32, written: &[u8]) -> Result<Vec<u8>, AllocE
 }
 
 /// Works the script of a number over objects in memory, and writes how many replies it has and the digest of all that was written.
-pub fn generate<K: Sink, X: Threads + Wait + Sync>(
+pub(crate) fn generate<K: Sink, X: Threads + Wait + Sync>(
     rt: &X,
     alloc: Global,
     number: u32,

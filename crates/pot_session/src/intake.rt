@@ -10,7 +10,7 @@ use std::alloc::{AllocError, Global};
 
 /// Why a source was not read.
 #[derive(Clone, Copy, PartialEq, Eq, Debug)]
-pub enum IntakeFault {
+pub(crate) enum IntakeFault {
     Failed,
     NoMemory,
 }
@@ -38,7 +38,7 @@ impl From<AllocError> for IntakeFault {
 }
 
 /// The bytes of the source up to its end, or its first bytes, one more than `limit`. No more of it is read.
-pub fn read_out<S: Source>(
+pub(crate) fn read_out<S: Source>(
     alloc: Global,
     source: &mut S,
     limit: usize,

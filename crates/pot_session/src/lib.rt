@@ -13,33 +13,23 @@
 //! 5. What the close says of an archive it says of each that came back, and as many at most are missing as the room failed (`FailsAt`).
 #![tactic(auto)]
 
-mod archives;
 mod asking;
 mod auditing;
-mod closing;
 mod desk;
-mod drilling;
+mod drill;
+mod ending;
 mod generating;
-mod groups;
-mod holding;
+mod host;
+mod init;
 mod intake;
 mod laws;
-mod listing;
-mod making;
-mod opening;
-mod pairing;
-mod preparing;
-mod recovering;
-mod refusing;
-mod scripting;
-mod serving;
+mod recovery;
+mod session;
 mod spelling;
-mod status;
-mod stop;
 mod telling;
 mod top;
 
+pub use ending::status::Status;
+pub use ending::stop::Stop;
 pub use laws::stripe_laws;
-pub use status::Status;
-pub use stop::Stop;
 pub use top::run;

@@ -9,7 +9,7 @@ use pot_bytes::Digest;
 use std::alloc::AllocError;
 
 /// A space and the decimal digits of a number.
-pub fn append_number(line: &mut Vec<u8>, number: u64) -> Result<(), AllocError>
+pub(crate) fn append_number(line: &mut Vec<u8>, number: u64) -> Result<(), AllocError>
     ensures { OnOk result (line.new.items ≡ line.old.items ++ spaced number) }
 {
     let mut digits = Buffer::new();
@@ -18,7 +18,7 @@ pub fn append_number(line: &mut Vec<u8>, number: u64) -> Result<(), AllocError>
 }
 
 /// A space and the 64 hexadecimal digits of a digest.
-pub fn append_digest(line: &mut Vec<u8>, digest: Digest) -> Result<(), AllocError>
+pub(crate) fn append_digest(line: &mut Vec<u8>, digest: Digest) -> Result<(), AllocError>
     ensures { OnOk result (line.new.items ≡ line.old.items ++ in_hex digest) }
 {
     let mut digits = [0u8; 64];

@@ -4,19 +4,19 @@ ghost use Rattle.std.specs.Prelude.{◌≡◌, IsTrue};
 ghost use Rattle.pot_outside.specs.Counts.{Caused};
 ghost use Rattle.pot_session.specs.Telling.{Tells};
 
-use crate::status::Status;
+use crate::ending::status::Status;
 use pot_commands::write_out;
 use pot_outside::{Failed, Sink};
 
 /// A text, and whether it says that something was refused.
 #[derive(Drop)]
-pub struct Telling {
+pub(crate) struct Telling {
     pub text: Vec<u8>,
     pub refused: bool,
 }
 
 /// Writes the text, and answers whether something was refused, or that the sink failed.
-pub fn tell<K: Sink>(telling: &Telling, sink: &mut K) -> Status
+pub(crate) fn tell<K: Sink>(telling: &Telling, sink: &mut K) -> Status
     ensures told { Tells (IsTrue K.tells) (K.written sink.old) (K.written sink.new) telling.now
         result }
     ensures cause { Caused (K.faults sink.old) (K.faults sink.new) (result ≡ Status.SinkFault) }

@@ -5,20 +5,21 @@ ghost use Rattle.std.specs.String.{string_bytes};
 ghost use Rattle.pot_outside.specs.Counts.{Caused};
 ghost use Rattle.pot_session.specs.Stops.{code_of};
 ghost use Rattle.pot_session.specs.Tasks.{seed_of};
-ghost use Rattle.pot_session.specs.declared.status.Status.{Status};
+ghost use Rattle.pot_session.specs.declared.ending.status.Status.{Status};
 ghost use Rattle.pot_session.specs.Runs.{seen_by};
 ghost use Rattle.pot_session.specs.Calls.{RoomFails, Runs};
 
 use crate::asking::{Asked, read_task};
 use crate::auditing::audit_files;
-use crate::drilling::drill_files;
+use crate::drill::drilling::drill_files;
+use crate::ending::refusing::refuse;
+use crate::ending::status::Status;
+use crate::ending::stop::Stop;
 use crate::generating::generate;
-use crate::holding::hold;
-use crate::making::init;
-use crate::recovering::recover_files;
-use crate::refusing::refuse;
-use crate::status::Status;
-use crate::stop::Stop;
+use crate::host::{Host, Staff};
+use crate::init::init;
+use crate::recovery::recovering::recover_files;
+use crate::session::holding::hold;
 use pot_bytes::NoMemory;
 use pot_outside::{Desk, Gate, Room, Sink, Source};
 use pot_words::Run;
@@ -38,18 +39,15 @@ fn seed_of(run: &Run, drawn: [u8; 32]) -> [u8; 32]
 
 /// Does what the words ask for.
 fn answer<S: Source, K: Sink, R: Room, D: Desk, W: Gate, X: Threads + Wait + Sync>(
-    rt: &X,
-    alloc: Global,
+    host: &Host<'_, X, W>,
     words: &[String],
-    drawn: [u8; 32],
-    gate: &W,
     source: &mut S,
     sink: &mut K,
     room: &mut R,
     desk: &mut D,
 ) -> Status
     requires home { (n : ℕ) → R.out room.old n ≡ false }
-    ensures runs { Runs (map string_bytes words.now) drawn
+    ensures runs { Runs (map string_bytes words.now) host.now.seed.now
         (seen_by (IsTrue S.tells) (S.left source.old) (S.left source.new)
         (IsTrue K.tells) (K.written sink.old) (K.written sink.new)
         (IsTrue D.tells) (D.held desk.old) (D.held desk.new)
@@ -66,26 +64,26 @@ fn answer<S: Source, K: Sink, R: Room, D: Desk, W: Gate, X: Threads + Wait + Syn
         (R.means room.old) (R.means room.new) (R.failures room.old) (R.failures room.new) }
     ensures desk { Caused (D.faults desk.old) (D.faults desk.new) (result ≡ Status.DeskFault) }
 {
+    let alloc = host.alloc;
     match read_task(alloc, words) {
         Ok(Asked::Init(rack)) => init(alloc, &rack, sink, desk),
         Ok(Asked::Run(run)) => {
-            let seed = seed_of(&run, drawn);
-            hold(
-                rt,
-                alloc,
-                &seed,
-                run.workers,
-                gate,
-                source,
-                sink,
-                room,
-                desk,
-            )
+            let seed = seed_of(&run, *host.seed);
+            let staff = Staff {
+                host: Host {
+                    rt: host.rt,
+                    alloc,
+                    seed: &seed,
+                    gate: host.gate,
+                },
+                workers: run.workers,
+            };
+            hold(&staff, source, sink, room, desk)
         }
-        Ok(Asked::Drill(task)) => drill_files(alloc, &task, drawn, source, sink),
+        Ok(Asked::Drill(task)) => drill_files(alloc, &task, *host.seed, source, sink),
         Ok(Asked::Recover(task)) => recover_files(alloc, &task, sink, room),
         Ok(Asked::Audit(task)) => audit_files(alloc, &task, sink, desk),
-        Ok(Asked::Generate(number)) => generate(rt, alloc, number, sink),
+        Ok(Asked::Generate(number)) => generate(host.rt, alloc, number, sink),
         Ok(Asked::Other) => refuse(alloc, Stop::Words, sink),
         Err(NoMemory) => Status::NoMemory,
     }
@@ -129,6 +127,12 @@ pub fn run<S: Source, K: Sink, R: Room, D: Desk, W: Gate, X: Threads + Wait + Sy
     ensures own { result ≡ 8 → RoomFails (map string_bytes words.now) (IsTrue R.A.account.tells)
         (R.means room.old) (R.means room.new) (R.failures room.old) (R.failures room.new) }
 {
-    let status = answer(rt, alloc, words, drawn, gate, source, sink, room, desk);
+    let host = Host {
+        rt,
+        alloc,
+        seed: &drawn,
+        gate,
+    };
+    let status = answer(&host, words, source, sink, room, desk);
     status.code()
 }

@@ -1,6 +1,6 @@
 use Rattle.std.proofs.Common.{inr, [], refl, sym, ◌∙◌, subst, append-nil}
 use Rattle.pot_audit.specs.Exposure.{AreSpots}
-use Rattle.pot_session.specs.declared.listing.ListFault.TheVariants as fault
+use Rattle.pot_session.specs.declared.recovery.listing.ListFault.TheVariants as fault
 use Rattle.pot_session.specs.Audits.{spots_of}
 use Rattle.pot_session.proofs.AuditLemmas.{none_audited, spots_fit}
 use Rattle.pot_session.proofs.auditing.tell_audit.Goals as goal

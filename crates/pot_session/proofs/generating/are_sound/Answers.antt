@@ -1,4 +1,4 @@
-use Rattle.std.proofs.Common.{◌≡◌, ◌∙◌, arith}
+use Rattle.std.proofs.Common.{arith}
 use Rattle.pot_doubles.specs.Rooms.{means_in}
 use Rattle.pot_session.proofs.GenerateLemmas.{sound_more}
 use Rattle.pot_session.proofs.generating.are_sound.Goals as goal

@@ -1,0 +1,63 @@
+use Rattle.std.proofs.Common.{IsTrue, ap, refl, sym, subst, ◌∙◌}
+use Rattle.std.specs.Prelude.{slice_get}
+use Rattle.pot_shared.specs.Works.{known}
+use Rattle.pot_session.specs.Serving.{IsCloseStop, desks_by, rooms_by}
+use Rattle.pot_session.proofs.OutLemmas.{none_out_of, out_apart}
+use Rattle.pot_session.proofs.Countable.{countable}
+use Rattle.pot_session.proofs.GivingLemmas.{missed}
+use Rattle.pot_session.proofs.CloseImages.{closes, close_stop, room_failure, desk_failure}
+use Rattle.pot_session.proofs.session.closing.close_session.Goals as goal
+
+pub end_vault-remains-requires-clause-served : goal.end_vault-remains-requires-clause-served
+end_vault-remains-requires-clause-served g c = (
+  c.requires.served.0,
+  c.requires.served.1,
+  c.requires.served.2,
+  c.requires.served.3,
+  out_apart (g.R.Room.out c.args.room.now) c.requires.served.1 c.requires.served.4,
+  c.requires.served.5,
+)
+
+pub give_hand-given-requires-after_bounds : goal.give_hand-given-requires-after_bounds
+give_hand-given-requires-after_bounds g c = λ bounds within n.
+    c.end_vault-remains.ensures.hand c.requires.served.0 c.requires.served.1 c.requires.served.2 c.requires.served.3 n ∙ c.requires.served.4 n
+
+pub keep_image-kept-requires : goal.keep_image-kept-requires
+keep_image-kept-requires g c =
+    countable _ _ refl c.end_vault-remains.ensures.countable.0 c.end_vault-remains.ensures.countable.1 c.end_vault-remains.ensures.countable.2
+
+pub returns-clause-untouched : goal.returns-clause-untouched
+returns-clause-untouched g c n home =
+    c.give_hand-given.ensures.untouched n
+    (c.end_vault-remains.ensures.hand c.requires.served.0 c.requires.served.1 c.requires.served.2 c.requires.served.3 n ∙ none_out_of (g.R.Room.out c.args.room.now) c.requires.served.1 n c.requires.served.4 home)
+
+pub returns-clause-closes : goal.returns-clause-closes
+returns-clause-closes g c old first meant failed served taken marks begun =
+    closes g.R.A.Archive.account.meaning _ (rooms_by (IsTrue g.R.A.Archive.account.tells) meant (g.R.Room.means c.give_hand-given.new.room) failed (g.R.Room.failures c.give_hand-given.new.room))
+    (g.R.Room.failures c.args.room.now) _ old (known c.args.opened.passes.groups c.args.opened.passes.index) _
+    (desks_by (IsTrue g.D.Desk.tells) (g.D.Desk.held c.keep_image-kept.new.desk) (g.D.Desk.faults c.args.desk.now) (g.D.Desk.faults c.keep_image-kept.new.desk)) first _ (g.D.Desk.held c.args.desk.now)
+    c.give_hand-given.result c.keep_image-kept.result _ c.keep_image-kept.ensures.told c.keep_image-kept.ensures.which c.keep_image-kept.ensures.cause c.give_hand-given.ensures.back served.opened begun c.requires.rack
+    (c.end_vault-remains.ensures.groups old meant served taken marks) (c.end_vault-remains.ensures.logs old served)
+    (λ told g t q. c.end_vault-remains.ensures.opened old meant served taken marks told g t (ap (λ ts. slice_get ts g) (sym begun.are_tables) ∙ q))
+    c.first_failure.ensures
+
+pub returns-clause-which : goal.returns-clause-which
+returns-clause-which g c = subst IsCloseStop (sym c.first_failure.ensures) (close_stop c.give_hand-given.result c.keep_image-kept.result c.keep_image-kept.ensures.which)
+
+pub returns-clause-room : goal.returns-clause-room
+returns-clause-room g c = record {
+  later = c.give_hand-given.ensures.cause.later;
+  rose = λ e. c.give_hand-given.ensures.cause.rose (room_failure c.give_hand-given.result c.keep_image-kept.result c.keep_image-kept.ensures.which (sym c.first_failure.ensures ∙ e));
+}
+
+pub returns-clause-desk : goal.returns-clause-desk
+returns-clause-desk g c = record {
+  later = c.keep_image-kept.ensures.cause.later;
+  rose = λ e. c.keep_image-kept.ensures.cause.rose (desk_failure c.give_hand-given.result c.keep_image-kept.result (sym c.first_failure.ensures ∙ e));
+}
+
+pub returns-clause-own : goal.returns-clause-own
+returns-clause-own g c = record {
+  later = c.give_hand-given.ensures.back.failed_at.later;
+  rose = λ e. missed _ c.give_hand-given.ensures.back (room_failure c.give_hand-given.result c.keep_image-kept.result c.keep_image-kept.ensures.which (sym c.first_failure.ensures ∙ e));
+}

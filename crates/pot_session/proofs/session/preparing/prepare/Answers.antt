@@ -1,0 +1,29 @@
+use Rattle.std.proofs.Common.{subst}
+use Rattle.std.specs.Prelude.{Err}
+use Rattle.pot_image.specs.Images.{contents}
+use Rattle.pot_image.specs.Spelling.{image_bytes}
+use Rattle.pot_session.specs.Desks.{Keeps, begun}
+use Rattle.pot_session.specs.Runs.{AtScript, AtOpening}
+use Rattle.pot_session.proofs.BeginLemmas.{begun_fits, begun_countable}
+use Rattle.pot_session.proofs.session.preparing.prepare.Goals as goal
+
+pub keep_image-requires : goal.keep_image-requires
+keep_image-requires g c = begun_countable c.in_ok-image.image (contents c.in-Ok.read) c.in_ok-image.ensures c.in-Ok.ensures.fits
+
+pub returns-in-Err-read_steps-clause-stops : goal.returns-in-Err-read_steps-clause-stops
+returns-in-Err-read_steps-clause-stops g c = AtScript c.in-Ok.read c.in-Ok.ensures.opens.0 c.in-Ok.ensures.opens.1 c.in-Err-read_steps.ensures.bad c.open_desk.ensures.keeps
+
+pub returns-in-Ok-keep_image-clause-prepared : goal.returns-in-Ok-keep_image-clause-prepared
+returns-in-Ok-keep_image-clause-prepared g c = record {
+  read = c.in-Ok.read;
+  of = record { goes_on = c.in-Ok.ensures.opens.0; image = c.in-Ok.ensures.opens.1; script = c.in-Ok-read_steps.ensures.script };
+  is = c.in_ok-image.ensures;
+  fits = begun_fits (contents c.in-Ok.read) (contents c.in_ok-image.image) c.in_ok-image.ensures c.in-Ok.ensures.fits;
+  kept = c.in-Ok-keep_image.ensures.told;
+}
+
+pub returns-in-Err-keep_image-clause-stops : goal.returns-in-Err-keep_image-clause-stops
+returns-in-Err-keep_image-clause-stops g c =
+    AtOpening c.in-Ok.read c.in-Ok-read_steps.steps.items (record { goes_on = c.in-Ok.ensures.opens.0; image = c.in-Ok.ensures.opens.1; script = c.in-Ok-read_steps.ensures.script }) c.in-Err-keep_image.ensures.which
+    (λ t. subst (λ h. Keeps h (g.D.Desk.held c.keep_image.new.desk) (image_bytes (begun (contents c.in-Ok.read))) (Err c.in-Err-keep_image.stop)) (c.open_desk.ensures.keeps t)
+    (subst (λ v. Keeps (g.D.Desk.held c.open_desk.new.desk) (g.D.Desk.held c.keep_image.new.desk) (image_bytes v) (Err c.in-Err-keep_image.stop)) c.in_ok-image.ensures (c.in-Err-keep_image.ensures.told t)))

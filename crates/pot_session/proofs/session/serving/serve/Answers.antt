@@ -1,0 +1,134 @@
+use Rattle.std.proofs.Common.{◌≡◌, ◌++◌, IsTrue, length, sym, ap, subst, ◌∙◌}
+use Rattle.std.specs.Prelude.{Some, flat_map, vec_capacity}
+use Rattle.std.specs.List.{AllByRecursion}
+use Rattle.pot_bytes.specs.Rack.{IsRack}
+use Rattle.pot_bytes.specs.declared.rack.Rack.{Rack}
+use Rattle.pot_outside.specs.Archives.{IsMeant}
+use Rattle.pot_image.specs.Images.{contents}
+use Rattle.pot_image.specs.Spelling.{image_bytes}
+use Rattle.pot_machine.specs.Table.{archives_in}
+use Rattle.pot_shared.specs.Works.{known}
+use Rattle.pot_commands.specs.declared.working.Ending.TheVariants as ending
+use Rattle.pot_commands.specs.Failures.{Fails}
+use Rattle.pot_commands.specs.Rows.{HasFilled}
+use Rattle.pot_commands.specs.Steps.{IsWorkedStep}
+use Rattle.pot_commands.specs.Taking.{asked_by, lending}
+use Rattle.pot_session.specs.Serving.{HasSpaces, IsEnd, desks_by, rooms_by}
+use Rattle.pot_session.proofs.Counts.{caused_both, caused_fails, caused_second}
+use Rattle.pot_session.proofs.FoundLemmas.{came_since}
+use Rattle.pot_session.proofs.LendLemmas.{first_used, have_come, home_after, image_low, low_after, marks_before, means_after, none_before_asked, none_first, out_after, still_meant}
+use Rattle.pot_session.proofs.WorkLemmas.{are_worked, asked_low}
+use Rattle.pot_session.proofs.ServeLemmas.{but_kept_parts, all_parts, has_filled, same_read, same_records, still_but_kept, still_all, serves_closed, end_of, sink_failed, room_failed, desk_failed}
+use Rattle.pot_session.proofs.session.serving.serve.Goals as goal
+
+pub work-ending-requires-clause-parts : goal.work-ending-requires-clause-parts
+work-ending-requires-clause-parts g c = λ bounds within. (but_kept_parts _ c.in-Ok.ensures.parts.0, all_parts _ c.in-Ok.ensures.parts.1)
+
+pub work-ending-requires-clause-can : goal.work-ending-requires-clause-can
+work-ending-requires-clause-can g c = λ bounds within. record {
+  is_rack = subst IsRack (sym c.in-Ok.ensures.same.2) c.requires.together.rack;
+  count = c.in-Ok.ensures.count;
+  ready = c.in-Ok.ensures.ready.0;
+  index_ready = c.in-Ok.ensures.ready.1;
+}
+
+pub work-ending-requires-clause-filled : goal.work-ending-requires-clause-filled
+work-ending-requires-clause-filled g c = λ bounds within.
+    subst (λ (r : Rack). HasFilled r (known c.in-Ok.opened.passes.groups c.in-Ok.opened.passes.index)) (sym c.in-Ok.ensures.same.2)
+    (has_filled c.args.staff.now.host.seed.now (contents c.args.image) c.in-Ok.opened.passes.groups c.in-Ok.opened.passes.index c.requires.together c.in-Ok.ensures.opened c.in-Ok.ensures.read.0 c.in-Ok.ensures.read.1
+    (ap length c.in-Ok.ensures.ready.0.of.0 ∙ (c.in-Ok.ensures.count ∙ ap (λ (r : Rack). r.groups) c.in-Ok.ensures.same.2)))
+
+pub work-ending-requires-clause-worked : goal.work-ending-requires-clause-worked
+work-ending-requires-clause-worked g c = λ bounds within.
+    subst (λ (r : Rack). AllByRecursion (IsWorkedStep r.groups) c.args.steps.now) (sym c.in-Ok.ensures.same.2) (are_worked c.args.image.rack c.args.steps.now c.requires.worked)
+
+pub work-ending-requires-clause-used : goal.work-ending-requires-clause-used
+work-ending-requires-clause-used g c = λ bounds within.
+    first_used (g.R.Room.out c.open_session.new.room) (contents c.args.image) c.in-Ok.opened.passes.groups c.in-Ok.opened.passes.index c.requires.together c.in-Ok.ensures.opened c.in-Ok.ensures.read.0 c.in-Ok.ensures.out
+
+pub close_session-closed-requires-clause-served : goal.close_session-closed-requires-clause-served
+close_session-closed-requires-clause-served g c = λ bounds within. (
+  known c.in-Ok.opened.passes.groups c.in-Ok.opened.passes.index,
+  (flat_map archives_in c.args.image.tables.items) ++ c.work-ending.ensures.took.taken,
+  record { opened = c.in-Ok.ensures.opened; went = c.work-ending.ensures.went; stays = c.work-ending.ensures.stays },
+  have_come (IsTrue g.R.A.Archive.account.tells) _ (asked_by c.args.steps.now) (lending (g.R.Room.out c.open_session.new.room) (g.R.Room.means c.open_session.new.room)) (lending (g.R.Room.out c.work-ending.new.room) (g.R.Room.means c.work-ending.new.room)) (known c.in-Ok.opened.passes.groups c.in-Ok.opened.passes.index) (known c.work-ending.new.passes.groups c.work-ending.new.passes.index) c.work-ending.ensures.took.taken c.work-ending.ensures.took.takes c.work-ending.ensures.took.come (flat_map archives_in c.args.image.tables.items) c.in-Ok.ensures.out
+      (ap (flat_map archives_in) (same_read _ _ _ _ c.in-Ok.ensures.ready.0 c.work-ending.ensures.can.ready c.work-ending.ensures.stays.groups ∙ c.in-Ok.ensures.read.0)),
+  out_after (IsTrue g.R.A.Archive.account.tells) _ (asked_by c.args.steps.now) (lending (g.R.Room.out c.open_session.new.room) (g.R.Room.means c.open_session.new.room)) (lending (g.R.Room.out c.work-ending.new.room) (g.R.Room.means c.work-ending.new.room)) (known c.in-Ok.opened.passes.groups c.in-Ok.opened.passes.index) (known c.work-ending.new.passes.groups c.work-ending.new.passes.index) c.work-ending.ensures.took.taken c.work-ending.ensures.took.takes c.work-ending.ensures.took.come (flat_map archives_in c.args.image.tables.items) c.in-Ok.ensures.out,
+  low_after (IsTrue g.R.A.Archive.account.tells) _ (asked_by c.args.steps.now) (lending (g.R.Room.out c.open_session.new.room) (g.R.Room.means c.open_session.new.room)) (lending (g.R.Room.out c.work-ending.new.room) (g.R.Room.means c.work-ending.new.room)) (known c.in-Ok.opened.passes.groups c.in-Ok.opened.passes.index) (known c.work-ending.new.passes.groups c.work-ending.new.passes.index) c.work-ending.ensures.took.taken c.work-ending.ensures.took.takes c.work-ending.ensures.took.come (flat_map archives_in c.args.image.tables.items) c.in-Ok.ensures.out (image_low (contents c.args.image) c.requires.together) (asked_low c.args.image.rack c.args.steps.now c.requires.worked),
+)
+
+pub close_session-closed-requires-clause-parts : goal.close_session-closed-requires-clause-parts
+close_session-closed-requires-clause-parts g c = λ bounds within.
+    (still_but_kept _ _ c.work-ending.ensures.stays.groups c.in-Ok.ensures.parts.0, still_all _ _ c.work-ending.ensures.stays.index c.in-Ok.ensures.parts.1)
+
+pub close_session-closed-requires-clause-spaces : goal.close_session-closed-requires-clause-spaces
+close_session-closed-requires-clause-spaces g c = λ bounds within.
+    subst (λ ts. HasSpaces (length ts) 512 (vec_capacity c.in-Ok.opened.remains.tables) (vec_capacity c.in-Ok.opened.remains.logs) (vec_capacity c.in-Ok.opened.remains.hand))
+    (sym (same_read _ _ _ _ c.in-Ok.ensures.ready.0 c.work-ending.ensures.can.ready c.work-ending.ensures.stays.groups ∙ c.in-Ok.ensures.read.0)) c.in-Ok.ensures.spaces
+
+pub close_session-closed-requires-clause-rack : goal.close_session-closed-requires-clause-rack
+close_session-closed-requires-clause-rack g c = λ bounds within. c.in-Ok.ensures.same.1 ∙ sym c.in-Ok.ensures.same.2
+
+pub returns-clause-untouched : goal.returns-clause-untouched
+returns-clause-untouched g c n none =
+    c.close_session-closed.ensures.untouched n (home_after (IsTrue g.R.A.Archive.account.tells) _ (asked_by c.args.steps.now) (lending (g.R.Room.out c.open_session.new.room) (g.R.Room.means c.open_session.new.room)) (lending (g.R.Room.out c.work-ending.new.room) (g.R.Room.means c.work-ending.new.room)) (known c.in-Ok.opened.passes.groups c.in-Ok.opened.passes.index) (known c.work-ending.new.passes.groups c.work-ending.new.passes.index) c.work-ending.ensures.took.taken c.work-ending.ensures.took.takes c.work-ending.ensures.took.come (flat_map archives_in c.args.image.tables.items) c.in-Ok.ensures.out n none)
+    ∙ (means_after (IsTrue g.R.A.Archive.account.tells) _ (asked_by c.args.steps.now) (lending (g.R.Room.out c.open_session.new.room) (g.R.Room.means c.open_session.new.room)) (lending (g.R.Room.out c.work-ending.new.room) (g.R.Room.means c.work-ending.new.room)) (known c.in-Ok.opened.passes.groups c.in-Ok.opened.passes.index) (known c.work-ending.new.passes.groups c.work-ending.new.passes.index) c.work-ending.ensures.took.taken c.work-ending.ensures.took.takes c.work-ending.ensures.took.come (flat_map archives_in c.args.image.tables.items) c.in-Ok.ensures.out n none
+    ∙ c.open_session.ensures.untouched n (none_first (IsTrue g.R.A.Archive.account.tells) _ (asked_by c.args.steps.now) (lending (g.R.Room.out c.open_session.new.room) (g.R.Room.means c.open_session.new.room)) (lending (g.R.Room.out c.work-ending.new.room) (g.R.Room.means c.work-ending.new.room)) (known c.in-Ok.opened.passes.groups c.in-Ok.opened.passes.index) (known c.work-ending.new.passes.groups c.work-ending.new.passes.index) c.work-ending.ensures.took.taken c.work-ending.ensures.took.takes c.work-ending.ensures.took.come (flat_map archives_in c.args.image.tables.items) c.in-Ok.ensures.out n none))
+
+pub returns-clause-serves : goal.returns-clause-serves
+returns-clause-serves g c =
+    let closes = c.close_session-closed.ensures.closes (known c.in-Ok.opened.passes.groups c.in-Ok.opened.passes.index) (contents c.args.image) (g.R.Room.means c.args.room.now) (g.R.Room.failures c.args.room.now)
+    (record { opened = c.in-Ok.ensures.opened; went = c.work-ending.ensures.went; stays = c.work-ending.ensures.stays }) c.in-Ok.ensures.marked
+    (marks_before (IsTrue g.R.A.Archive.account.tells) _ (asked_by c.args.steps.now) (lending (g.R.Room.out c.open_session.new.room) (g.R.Room.means c.open_session.new.room)) (lending (g.R.Room.out c.work-ending.new.room) (g.R.Room.means c.work-ending.new.room)) (known c.in-Ok.opened.passes.groups c.in-Ok.opened.passes.index) (known c.work-ending.new.passes.groups c.work-ending.new.passes.index) c.work-ending.ensures.took.taken c.work-ending.ensures.took.takes c.work-ending.ensures.took.come (flat_map archives_in c.args.image.tables.items) c.in-Ok.ensures.out (g.R.Room.means c.args.room.now) c.open_session.ensures.untouched) (record {
+      is_session = sym c.in-Ok.ensures.same.0;
+      is_rack = sym c.in-Ok.ensures.same.1;
+      are_tables = sym (same_read _ _ _ _ c.in-Ok.ensures.ready.0 c.work-ending.ensures.can.ready c.work-ending.ensures.stays.groups ∙ c.in-Ok.ensures.read.0);
+      are_records = sym (same_records _ _ c.work-ending.ensures.stays.index ∙ c.in-Ok.ensures.read.1);
+    }) in
+    let names : length c.in-Ok.opened.passes.groups.names ≡ c.args.image.rack.groups =
+    ap length c.in-Ok.ensures.ready.0.of.0 ∙ (c.in-Ok.ensures.count ∙ ap (λ (r : Rack). r.groups) c.in-Ok.ensures.same.2) in
+    let long : length closes.last.group_logs ≡ length c.in-Ok.opened.passes.groups.names = closes.leaves.groups.count_logs ∙ (c.requires.together.tables.count ∙ sym names) in
+    serves_closed c.args.staff.now.host.seed.now (contents c.args.image) c.args.steps.now
+    (rooms_by (IsTrue g.R.A.Archive.account.tells) (g.R.Room.means c.args.room.now) (g.R.Room.means c.close_session-closed.new.room) (g.R.Room.failures c.args.room.now) (g.R.Room.failures c.close_session-closed.new.room)) _ _ _
+    (desks_by (IsTrue g.D.Desk.tells) (g.D.Desk.held c.close_session-closed.new.desk) (g.D.Desk.faults c.args.desk.now) (g.D.Desk.faults c.close_session-closed.new.desk))
+    (g.D.Desk.held c.args.desk.now ≡ Some (image_bytes (contents c.args.image))) _ _ (known c.in-Ok.opened.passes.groups c.in-Ok.opened.passes.index) (known c.work-ending.new.passes.groups c.work-ending.new.passes.index) c.work-ending.result
+    (g.R.Room.failures c.work-ending.new.room) c.close_session-closed.result _ c.in-Ok.ensures.opened c.in-Ok.ensures.read.0 c.in-Ok.ensures.read.1 c.in-Ok.ensures.same.2 c.in-Ok.ensures.same.0 c.work-ending.ensures.ends
+    (subst (λ k. Fails k (g.R.Room.failures c.work-ending.new.room) (c.work-ending.result ≡ ending.RoomFailed)) c.in-Ok.ensures.sound c.work-ending.ensures.own) closes c.requires.kept
+    (λ told well n none unbrought. (let still = still_meant (IsTrue g.R.A.Archive.account.tells) _ (asked_by c.args.steps.now) (lending (g.R.Room.out c.open_session.new.room) (g.R.Room.means c.open_session.new.room)) (lending (g.R.Room.out c.work-ending.new.room) (g.R.Room.means c.work-ending.new.room)) (known c.in-Ok.opened.passes.groups c.in-Ok.opened.passes.index) (known c.work-ending.new.passes.groups c.work-ending.new.passes.index) c.work-ending.ensures.took.taken c.work-ending.ensures.took.takes c.work-ending.ensures.took.come (flat_map archives_in c.args.image.tables.items) c.in-Ok.ensures.out
+    told well closes.sole n none (sym (came_since (known c.in-Ok.opened.passes.groups c.in-Ok.opened.passes.index) (known c.work-ending.new.passes.groups c.work-ending.new.passes.index) closes.last.group_logs c.in-Ok.ensures.opened closes.leaves.logs long n) ∙ unbrought) in
+    subst (λ m. IsMeant m (g.R.Room.means c.close_session-closed.new.room n)) (c.open_session.ensures.untouched n none)
+    (subst (λ m. IsMeant (g.R.Room.means c.open_session.new.room n) m) (sym (c.close_session-closed.ensures.untouched n still.0)) still.1)))
+    c.status_after.ensures c.requires.together
+
+pub returns-clause-which : goal.returns-clause-which
+returns-clause-which g c = subst IsEnd (sym c.status_after.ensures) (end_of c.work-ending.result c.close_session-closed.result c.close_session-closed.ensures.which)
+
+pub returns-clause-sink : goal.returns-clause-sink
+returns-clause-sink g c = record {
+  later = c.work-ending.ensures.sink.later;
+  rose = λ e. c.work-ending.ensures.sink.rose (sink_failed c.work-ending.result c.close_session-closed.result c.close_session-closed.ensures.which (sym c.status_after.ensures ∙ e));
+}
+
+pub returns-clause-room : goal.returns-clause-room
+returns-clause-room g c =
+    caused_second _ _ _ c.open_session.ensures.cause (caused_both _ _ _ c.work-ending.ensures.room c.close_session-closed.ensures.room (λ h. h))
+    (λ e. room_failed c.work-ending.result c.close_session-closed.result c.close_session-closed.ensures.which (sym c.status_after.ensures ∙ e))
+
+pub returns-clause-own : goal.returns-clause-own
+returns-clause-own g c =
+    caused_second _ _ _ c.open_session.ensures.own (caused_both _ _ _ (caused_fails _ _ c.work-ending.ensures.own) c.close_session-closed.ensures.own (λ h. h))
+    (λ e. room_failed c.work-ending.result c.close_session-closed.result c.close_session-closed.ensures.which (sym c.status_after.ensures ∙ e))
+
+pub returns-clause-desk : goal.returns-clause-desk
+returns-clause-desk g c = record {
+  later = c.close_session-closed.ensures.desk.later;
+  rose = λ e. c.close_session-closed.ensures.desk.rose (desk_failed c.work-ending.result c.close_session-closed.result c.close_session-closed.ensures.which (sym c.status_after.ensures ∙ e));
+}
+
+pub returns-in-Err-Failed-clause-untouched : goal.returns-in-Err-Failed-clause-untouched
+returns-in-Err-Failed-clause-untouched g c n none =
+    c.open_session.ensures.untouched n (none_before_asked n (flat_map archives_in c.args.image.tables.items) (asked_by c.args.steps.now) none)
+
+pub returns-in-Err-NoMemory-clause-untouched : goal.returns-in-Err-NoMemory-clause-untouched
+returns-in-Err-NoMemory-clause-untouched g c n none =
+    c.open_session.ensures.untouched n (none_before_asked n (flat_map archives_in c.args.image.tables.items) (asked_by c.args.steps.now) none)

@@ -1,0 +1,230 @@
+//! Recovery: the archives alone give the files back, without a desk.
+
+ghost use Rattle.std.specs.Prelude.{◌≡◌, ◌≢◌, ◌<◌, ◌≤◌, ◌+◌, ◌*◌, ◌^◌, ℕ, IsTrue, IfOk, OnOk};
+ghost use Rattle.std.specs.Prelude.{IfErr, IsErr, IsErrOf, IsOk, ◌⊎◌, false, length};
+ghost use Rattle.pot_outside.specs.Counts.{Caused};
+ghost use Rattle.pot_session.specs.Recovering.{Adds, AreHeldIn, FailsOr, FindsObjects, Gathers};
+ghost use Rattle.pot_session.specs.Recovering.{GiveObjects, GiveTooMany, HasFailed, IsRecovery};
+ghost use Rattle.pot_session.specs.Recovering.{Recovers, SomeFailed};
+
+use crate::ending::refusing::refuse;
+use crate::ending::status::Status;
+use crate::ending::stop::Stop;
+use crate::recovery::listing::list_objects;
+use pot_bytes::Block;
+use pot_outside::{Archive, Failed, Held, Room, RoomFault, Sink};
+use pot_recover::{RecoverFault, Recovered, recover, recover_robust};
+use pot_words::Recover;
+use std::alloc::Global;
+
+/// Reads the block of a slot, where it has one.
+///
+/// # Errors
+/// `Failed` only where the archive's count of faults rose.
+fn read_slot<A: Archive>(
+    archive: &mut A,
+    slot: u32,
+    blocks: &mut Vec<Block>,
+) -> Result<(), RoomFault>
+    ensures adds { IsTrue A.account.tells
+        → OnOk result
+        (Adds slot (A.account.meaning archive.old) (A.account.meaning archive.new)
+        blocks.old.items blocks.new.items) }
+    ensures length { length blocks.new.items ≤ length blocks.old.items + 1 }
+    ensures cause { Caused (A.account.meaning archive.old).faults
+        (A.account.meaning archive.new).faults (IsErrOf result RoomFault.Failed) }
+{
+    let mut block = Block::zero();
+    match archive.read(slot, &mut block) {
+        Ok(Held::Held) => match blocks.push(block) {
+            Ok(()) => Ok(()),
+            Err(_) => Err(RoomFault::NoMemory),
+        },
+        Ok(Held::Absent) => Ok(()),
+        Err(Failed) => Err(RoomFault::Failed),
+    }
+}
+
+/// Reads the first slots of an archive.
+///
+/// # Errors
+/// `Failed` only where the archive's count of faults rose.
+fn read_slots<A: Archive>(
+    archive: &mut A,
+    stripes: u32,
+    blocks: &mut Vec<Block>,
+) -> Result<(), RoomFault>
+    ensures gathers { IsTrue A.account.tells
+        → OnOk result
+        (Gathers stripes (A.account.meaning archive.old) (A.account.meaning archive.new)
+        blocks.old.items blocks.new.items) }
+    ensures length { length blocks.new.items ≤ length blocks.old.items + stripes }
+    ensures cause { Caused (A.account.meaning archive.old).faults
+        (A.account.meaning archive.new).faults (IsErrOf result RoomFault.Failed) }
+{
+    for slot in 0..stripes {
+        match read_slot(archive, slot, blocks) {
+            Ok(()) => {}
+            Err(fault) => return Err(fault),
+        }
+    }
+    Ok(())
+}
+
+/// The first fault of reading an archive and giving it back.
+fn first_fault(read: Result<(), RoomFault>, given: Result<(), Failed>) -> Result<(), RoomFault>
+    ensures both { OnOk result (IsOk read × IsOk given) }
+    ensures cause { IsErrOf result RoomFault.Failed → IsErrOf read RoomFault.Failed ⊎ IsErr given }
+{
+    match read {
+        Ok(()) => match given {
+            Ok(()) => Ok(()),
+            Err(Failed) => Err(RoomFault::Failed),
+        },
+        Err(fault) => Err(fault),
+    }
+}
+
+/// Takes an archive, reads its first slots, and gives it back whatever became of that.
+///
+/// # Errors
+/// `Failed` only where the room itself failed or the archive did. The room's count of faults rises for both.
+fn read_archive<R: Room>(
+    room: &mut R,
+    number: u32,
+    stripes: u32,
+    blocks: &mut Vec<Block>,
+) -> Result<(), RoomFault>
+    requires { R.out room.old number ≡ false }
+    ensures gathers { IsTrue R.A.account.tells
+        → OnOk result
+        (Gathers stripes (R.means room.old number) (R.means room.new number) blocks.old.items
+        blocks.new.items) }
+    ensures length { length blocks.new.items ≤ length blocks.old.items + stripes }
+    ensures home { R.out room.new number ≡ false }
+    ensures others { (n : ℕ) → n ≢ number
+        → (R.means room.new n ≡ R.means room.old n) × (R.out room.new n ≡ R.out room.old n) }
+    ensures cause { Caused (R.faults room.old) (R.faults room.new)
+        (IsErrOf result RoomFault.Failed) }
+    ensures own { FailsOr (IsTrue R.A.account.tells) (R.failures room.old) (R.failures room.new)
+        (HasFailed (R.means room.old number) (R.means room.new number))
+        (IsErrOf result RoomFault.Failed) }
+{
+    match room.take(number) {
+        Ok(archive) => {
+            let mut archive = archive;
+            let read = read_slots(&mut archive, stripes, blocks);
+            let given = room.give(number, archive);
+            first_fault(read, given)
+        }
+        Err(fault) => Err(fault),
+    }
+}
+
+/// The blocks of the first slots of the first archives. Each archive is taken, read and given back, one after another.
+///
+/// # Errors
+/// `Failed` only where the room itself failed or one of the archives did.
+fn read_archives<R: Room>(
+    alloc: Global,
+    task: &Recover,
+    room: &mut R,
+) -> Result<Vec<Block>, RoomFault>
+    requires task { IsRecovery task.now }
+    requires home { (n : ℕ) → R.out room.old n ≡ false }
+    ensures held { IsTrue R.A.account.tells
+        → IfOk result
+        (λ v.
+        AreHeldIn task.now.archives task.now.stripes (R.means room.old) (R.means room.new)
+        v.items) }
+    ensures few { IfOk result (λ v. length v.items ≤ 512 * 4096) }
+    ensures home { (n : ℕ) → R.out room.new n ≡ false }
+    ensures others { (n : ℕ) → task.now.archives ≤ n → R.means room.new n ≡ R.means room.old n }
+    ensures cause { Caused (R.faults room.old) (R.faults room.new)
+        (IsErrOf result RoomFault.Failed) }
+    ensures own { FailsOr (IsTrue R.A.account.tells) (R.failures room.old) (R.failures room.new)
+        (SomeFailed task.now.archives (R.means room.old) (R.means room.new))
+        (IsErrOf result RoomFault.Failed) }
+{
+    let mut blocks = Vec::new(alloc);
+    for number in 0..task.archives {
+        match read_archive(room, number, task.stripes, &mut blocks) {
+            Ok(()) => {}
+            Err(fault) => return Err(fault),
+        }
+    }
+    Ok(blocks)
+}
+
+/// The objects that these blocks give, where `robust` by rings some of whose shares may be wrong.
+fn objects_in(
+    alloc: Global,
+    blocks: &[Block],
+    bits: u8,
+    robust: bool,
+) -> Result<Recovered, RecoverFault>
+    requires bits { bits ≤ 63 }
+    requires few { length blocks.now < 2 ^ 32 }
+    ensures found { IfOk result (λ objects. GiveObjects robust blocks.now bits objects) }
+    ensures wide { IfErr result (λ fault. GiveTooMany robust blocks.now bits fault) }
+{
+    if robust {
+        recover_robust(alloc, blocks, bits)
+    } else {
+        recover(alloc, blocks, bits)
+    }
+}
+
+/// The objects that the archives give. No block is left in memory then.
+///
+/// # Errors
+/// `RoomFault` only where the room itself failed or one of the archives did.
+fn find_objects<R: Room>(alloc: Global, task: &Recover, room: &mut R) -> Result<Recovered, Stop>
+    requires task { IsRecovery task.now }
+    requires home { (n : ℕ) → R.out room.old n ≡ false }
+    ensures finds { FindsObjects task.now (IsTrue R.A.account.tells) (R.means room.old)
+        (R.means room.new) result }
+    ensures home { (n : ℕ) → R.out room.new n ≡ false }
+    ensures others { (n : ℕ) → task.now.archives ≤ n → R.means room.new n ≡ R.means room.old n }
+    ensures cause { Caused (R.faults room.old) (R.faults room.new) (IsErrOf result Stop.RoomFault) }
+    ensures own { FailsOr (IsTrue R.A.account.tells) (R.failures room.old) (R.failures room.new)
+        (SomeFailed task.now.archives (R.means room.old) (R.means room.new))
+        (IsErrOf result Stop.RoomFault) }
+{
+    match read_archives(alloc, task, room) {
+        Ok(blocks) => match objects_in(alloc, &blocks, task.blur, task.robust) {
+            Ok(objects) => Ok(objects),
+            Err(RecoverFault::Wide { .. }) => Err(Stop::TooWide),
+            Err(RecoverFault::NoMemory) => Err(Stop::NoMemory),
+        },
+        Err(RoomFault::Failed) => Err(Stop::RoomFault),
+        Err(RoomFault::NoMemory) => Err(Stop::NoMemory),
+    }
+}
+
+/// Recovers what the first archives hold in their first slots, and lists it.
+///
+/// The blocks are read once and not copied: they take 1,024 bytes each, in one vector that doubles as it grows, until the objects are
+/// found.
+pub(crate) fn recover_files<K: Sink, R: Room>(
+    alloc: Global,
+    task: &Recover,
+    sink: &mut K,
+    room: &mut R,
+) -> Status
+    requires task { IsRecovery task.now }
+    requires home { (n : ℕ) → R.out room.old n ≡ false }
+    ensures recovers { Recovers task.now (IsTrue R.A.account.tells) (R.means room.old)
+        (R.means room.new) (IsTrue K.tells) (K.written sink.old) (K.written sink.new) result }
+    ensures home { (n : ℕ) → R.out room.new n ≡ false }
+    ensures sink { Caused (K.faults sink.old) (K.faults sink.new) (result ≡ Status.SinkFault) }
+    ensures room { Caused (R.faults room.old) (R.faults room.new) (result ≡ Status.RoomFault) }
+    ensures own { FailsOr (IsTrue R.A.account.tells) (R.failures room.old) (R.failures room.new)
+        (SomeFailed task.now.archives (R.means room.old) (R.means room.new))
+        (result ≡ Status.RoomFault) }
+{
+    match find_objects(alloc, task, room) {
+        Ok(objects) => list_objects(alloc, &objects, sink),
+        Err(stop) => refuse(alloc, stop, sink),
+    }
+}

@@ -1,0 +1,258 @@
+//! A session from the taking of its archives to its close.
+
+ghost use Rattle.std.specs.Prelude.{◌≡◌, ◌⊎◌, ◌<◌, ◌≤◌, ◌+◌, ◌++◌, ◌^◌, ℕ, [], IsTrue, IfOk, OnOk};
+ghost use Rattle.std.specs.Prelude.{OnErr, IsErr, IsErrOf, false, Some, length, vec_capacity};
+ghost use Rattle.std.specs.Prelude.{flat_map};
+ghost use Rattle.std.specs.List.{AllByRecursion};
+ghost use Rattle.pot_outside.specs.Counts.{Caused};
+ghost use Rattle.pot_image.specs.Images.{contents};
+ghost use Rattle.pot_image.specs.Spelling.{image_bytes};
+ghost use Rattle.pot_image.specs.Rules.{FitsTogether};
+ghost use Rattle.pot_machine.specs.Table.{archives_in};
+ghost use Rattle.pot_shelves.specs.Shelves.{numbers_of};
+ghost use Rattle.pot_rows.specs.Ends.{HasAllParts};
+ghost use Rattle.pot_shared.specs.Ready.{AreReady};
+ghost use Rattle.pot_shared.specs.Catalogs.{IsIndexReady};
+ghost use Rattle.pot_shared.specs.Sharing.{HasAllButKept};
+ghost use Rattle.pot_script.specs.Steps.{IsWholeStep};
+ghost use Rattle.pot_session.specs.Groups.{AreFirstPasses, AreLow, AreTakenAt, tables_read};
+ghost use Rattle.pot_session.specs.Groups.{records_read};
+ghost use Rattle.pot_commands.specs.Ends.{next_job};
+ghost use Rattle.pot_commands.specs.Taking.{asked_by};
+ghost use Rattle.pot_commands.specs.Holding.{AreApart, AreMeant, AreOut, Untouched};
+ghost use Rattle.pot_session.specs.Giving.{IsUnlent};
+ghost use Rattle.pot_session.specs.Serving.{HasSpaces, Serves, IsEnd, rooms_by, desks_by};
+ghost use Rattle.pot_session.specs.Serving.{status_after};
+
+use crate::ending::status::Status;
+use crate::ending::stop::Stop;
+use crate::host::Staff;
+use crate::session::archives::{give_all, numbers_in, take_all};
+use crate::session::closing::{Opened, close_session};
+use crate::session::groups::Remains;
+use crate::session::opening::open_vault;
+use pot_bytes::NoMemory;
+use pot_commands::{Crew, Ending, Shared, work};
+use pot_image::Image;
+use pot_machine::GroupTable;
+use pot_outside::{Desk, Failed, Gate, Room, RoomFault, Sink};
+use pot_script::Step;
+use std::alloc::Global;
+use std::sync::Wait;
+use std::thread::Threads;
+
+/// The most archives that a session can have, those that come in it among them: their numbers are at most 511.
+const MOST_ARCHIVES: usize = 512;
+
+/// Takes all archives of the tables from the room.
+///
+/// # Errors
+/// `Failed` only where the room itself failed, or `NoMemory`. No archive is out then.
+fn take_archives<R: Room>(
+    alloc: Global,
+    tables: &[GroupTable],
+    room: &mut R,
+) -> Result<Remains<R::A>, RoomFault>
+    requires home { (n : ℕ) → R.out room.old n ≡ false }
+    requires apart { AreApart (flat_map archives_in tables.now) }
+    requires low { AreLow (flat_map archives_in tables.now) }
+    ensures taken { IfOk result (λ r. numbers_of r.hand.items ≡ flat_map archives_in tables.now) }
+    ensures meant { IsTrue R.A.account.tells
+        → IfOk result (λ r. AreMeant R.A.account.meaning (R.means room.old) r.hand.items) }
+    ensures fresh { IfOk result (λ r. (r.tables.items ≡ []) × (r.logs.items ≡ [])) }
+    ensures spaces { IfOk result
+        (λ r.
+        HasSpaces (length tables.now) 512 (vec_capacity r.tables) (vec_capacity r.logs)
+        (vec_capacity r.hand)) }
+    ensures few { IfOk result (λ r. length r.hand.items ≤ 512) }
+    ensures out { OnOk result (AreOut (R.out room.new) (flat_map archives_in tables.now)) }
+    ensures home { OnErr result ((n : ℕ) → R.out room.new n ≡ false) }
+    ensures untouched { Untouched (flat_map archives_in tables.now) (R.means room.old)
+        (R.means room.new) }
+    ensures cause { Caused (R.faults room.old) (R.faults room.new)
+        (IsErrOf result RoomFault.Failed) }
+    ensures own { Caused (R.failures room.old) (R.failures room.new)
+        (IsErrOf result RoomFault.Failed) }
+    ensures sound { OnOk result (R.failures room.new ≡ R.failures room.old) }
+    ensures unlent { IsErrOf result RoomFault.Failed
+        → IsUnlent (IsTrue R.A.account.tells) (R.means room.old) (R.means room.new)
+        (R.failures room.old) (R.failures room.new) }
+{
+    let Ok(numbers) = numbers_in(alloc, tables) else {
+        return Err(RoomFault::NoMemory);
+    };
+    let Ok(mut remains) = Remains::reserve(alloc, tables.len(), MOST_ARCHIVES) else {
+        return Err(RoomFault::NoMemory);
+    };
+    match take_all(room, &numbers, &mut remains.hand) {
+        Ok(()) => Ok(remains),
+        Err(fault) => {
+            remains.end();
+            Err(fault)
+        }
+    }
+}
+
+/// Gives back all archives that remain.
+fn give_back<R: Room>(room: &mut R, remains: Remains<R::A>) -> Result<(), Failed>
+    requires { AreOut (R.out room.old) (numbers_of remains.hand.items) }
+    ensures home { (n : ℕ) → R.out room.new n ≡ false }
+    ensures untouched { Untouched (numbers_of remains.hand.items) (R.means room.old)
+        (R.means room.new) }
+    ensures cause { Caused (R.faults room.old) (R.faults room.new) (IsErr result) }
+    ensures own { Caused (R.failures room.old) (R.failures room.new) (IsErr result) }
+{
+    let mut remains = remains;
+    let given = give_all(room, &mut remains.hand);
+    remains.end();
+    given
+}
+
+/// Takes the archives of the tables of an image from the room, and opens a vault over them.
+///
+/// # Errors
+/// `Failed` only where the room itself failed, or `NoMemory`. No archive is out then.
+fn open_session<R: Room>(
+    alloc: Global,
+    image: Image,
+    room: &mut R,
+) -> Result<Opened<R::A>, RoomFault>
+    requires together { FitsTogether (contents image) }
+    requires home { (n : ℕ) → R.out room.old n ≡ false }
+    ensures opened { IfOk result (λ o. AreFirstPasses o.passes.groups o.passes.index) }
+    ensures marked { IsTrue R.A.account.tells
+        → IfOk result (λ o. AreTakenAt (R.means room.old) o.passes.groups) }
+    ensures read { IfOk result
+        (λ o.
+        (tables_read o.passes.groups ≡ image.tables.items)
+        × (records_read o.passes.index ≡ image.records.items)) }
+    ensures same { IfOk result
+        (λ o. (o.session ≡ image.session) × (o.rack ≡ image.rack) × (o.vault.rack ≡ image.rack)) }
+    ensures ready { IfOk result
+        (λ o.
+        AreReady o.vault.rack o.vault.groups o.passes.groups
+        × IsIndexReady o.vault.rack o.vault.groups o.vault.index o.passes.index) }
+    ensures count { IfOk result (λ o. length o.vault.groups ≡ o.vault.rack.groups) }
+    ensures parts { IfOk result (λ o. HasAllButKept o.passes.groups × HasAllParts o.passes.index) }
+    ensures places { IfOk result (λ o. length o.vault.groups ≤ o.spaces) }
+    ensures fresh { IfOk result
+        (λ o.
+        (o.remains.tables.items ≡ []) × (o.remains.logs.items ≡ [])
+        × (o.remains.hand.items ≡ [])) }
+    ensures spaces { IfOk result
+        (λ o.
+        HasSpaces (length image.tables.items) 512 (vec_capacity o.remains.tables)
+        (vec_capacity o.remains.logs) (vec_capacity o.remains.hand)) }
+    ensures out { OnOk result (AreOut (R.out room.new) (flat_map archives_in image.tables.items)) }
+    ensures home { OnErr result ((n : ℕ) → R.out room.new n ≡ false) }
+    ensures untouched { Untouched (flat_map archives_in image.tables.items) (R.means room.old)
+        (R.means room.new) }
+    ensures cause { Caused (R.faults room.old) (R.faults room.new)
+        (IsErrOf result RoomFault.Failed) }
+    ensures own { Caused (R.failures room.old) (R.failures room.new)
+        (IsErrOf result RoomFault.Failed) }
+    ensures sound { OnOk result (R.failures room.new ≡ R.failures room.old) }
+    ensures unlent { IsErrOf result RoomFault.Failed
+        → IsUnlent (IsTrue R.A.account.tells) (R.means room.old) (R.means room.new)
+        (R.failures room.old) (R.failures room.new) }
+{
+    let Image {
+        session,
+        rack,
+        tables,
+        records,
+        group_logs: _,
+        index_log: _,
+    } = image;
+    let mut remains = match take_archives(alloc, &tables, room) {
+        Ok(remains) => remains,
+        Err(fault) => return Err(fault),
+    };
+    match open_vault(alloc, &rack, tables, records, &mut remains) {
+        Ok((vault, passes, spaces)) => Ok(Opened {
+            session,
+            rack,
+            vault,
+            passes,
+            spaces,
+            remains,
+        }),
+        Err(NoMemory) => {
+            let _given = give_back(room, remains);
+            Err(RoomFault::NoMemory)
+        }
+    }
+}
+
+/// Works the steps of a session that begins with this image, and closes.
+pub(crate) fn serve<K: Sink, R: Room, D: Desk, W: Gate, X: Threads + Wait + Sync>(
+    staff: &Staff<'_, X, W>,
+    image: Image,
+    steps: &[Step],
+    sink: &mut K,
+    room: &mut R,
+    desk: &mut D,
+) -> Status
+    requires together { FitsTogether (contents image) }
+    requires few { next_job steps.now ≤ 2 ^ 31 }
+    requires workers { 0 < staff.now.workers }
+    requires worked { AllByRecursion (IsWholeStep image.rack) steps.now }
+    requires home { (n : ℕ) → R.out room.old n ≡ false }
+    requires kept { IsTrue D.tells → D.held desk.old ≡ Some (image_bytes (contents image)) }
+    ensures home { (n : ℕ) → R.out room.new n ≡ false }
+    ensures untouched { Untouched (flat_map archives_in image.tables.items ++ asked_by steps.now)
+        (R.means room.old) (R.means room.new) }
+    ensures serves { Serves staff.now.host.seed.now (contents image) steps.now
+        (rooms_by (IsTrue R.A.account.tells) (R.means room.old) (R.means room.new)
+        (R.failures room.old) (R.failures room.new))
+        (IsTrue K.tells) (K.written sink.old) (K.written sink.new)
+        (desks_by (IsTrue D.tells) (D.held desk.new) (D.faults desk.old) (D.faults desk.new))
+        result }
+    ensures which { IsEnd result }
+    ensures sink { Caused (K.faults sink.old) (K.faults sink.new) (result ≡ Status.SinkFault) }
+    ensures room { Caused (R.faults room.old) (R.faults room.new) (result ≡ Status.RoomFault) }
+    ensures own { Caused (R.failures room.old) (R.failures room.new) (result ≡ Status.RoomFault) }
+    ensures desk { Caused (D.faults desk.old) (D.faults desk.new) (result ≡ Status.DeskFault) }
+{
+    let host = &staff.host;
+    let mut opened = match open_session(host.alloc, image, room) {
+        Ok(opened) => opened,
+        Err(RoomFault::Failed) => return Status::RoomFault,
+        Err(RoomFault::NoMemory) => return Status::NoMemory,
+    };
+    let crew = Crew {
+        shared: Shared {
+            rt: host.rt,
+            alloc: host.alloc,
+            vault: &opened.vault,
+            seed: host.seed,
+            session: opened.session,
+        },
+        workers: staff.workers,
+        gate: host.gate,
+    };
+    let ending = work(&crew, &mut opened.passes, steps, sink, room);
+    let closed = close_session(host.alloc, opened, room, desk);
+    status_after(ending, closed)
+}
+
+/// The status of a session, by how its steps and its close ended.
+fn status_after(ending: Ending, closed: Result<(), Stop>) -> Status
+    ensures { result ≡ status_after ending closed }
+{
+    match ending {
+        Ending::SinkFailed => Status::SinkFault,
+        Ending::RoomFailed => Status::RoomFault,
+        Ending::NoMemory => Status::NoMemory,
+        Ending::Done { refused } => match closed {
+            Err(stop) => stop.status(),
+            Ok(()) => {
+                if refused {
+                    Status::Refusals
+                } else {
+                    Status::Good
+                }
+            }
+        },
+    }
+}
