@@ -36,6 +36,11 @@ pub fn make(group: &mut Group<Shared>, call: Call) -> Outcome {
             stripe,
             column,
         } => look(group, job, stripe, column),
+        Call::Sweep {
+            job,
+            stripe,
+            column,
+        } => sweep(group, job, stripe, column),
         Call::Count { job } => count(group, job),
         Call::Next {
             stripe,
@@ -72,6 +77,10 @@ fn look(group: &mut Group<Shared>, job: Job, stripe: u32, column: u8) -> Outcome
     let mut into = Block::zero();
     let looked = group.look(job.number(), place(stripe, column), &mut into);
     Outcome::of_look(looked, &into)
+}
+
+fn sweep(group: &mut Group<Shared>, job: Job, stripe: u32, column: u8) -> Outcome {
+    Outcome::Swept(group.sweep(job.number(), stripe, column))
 }
 
 fn count(group: &mut Group<Shared>, job: Job) -> Outcome {

@@ -50,6 +50,7 @@ pub enum Call {
     /// The block that repeats a byte.
     Put { job: Job, byte: u8 },
     Look { job: Job, stripe: u32, column: u8 },
+    Sweep { job: Job, stripe: u32, column: u8 },
     Count { job: Job },
     Next { stripe: u32, column: u8, kind: Kind },
     Begin { job: Job, stripe: u32, column: u8 },

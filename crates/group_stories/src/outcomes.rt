@@ -2,7 +2,7 @@
 use pot_bytes::{Block, Digest, Place};
 use pot_group::{
     AdvanceFault, Advanced, BeginFault, Counts, HomeAt, LogFull, Looked, Mend, MoveFault, MoveStep,
-    PutFault, Role, ShelfCause, Trace, Use,
+    PutFault, Reached, Role, ShelfCause, Swept, Trace, Use,
 };
 use std::fmt;
 
@@ -20,6 +20,8 @@ pub enum Outcome {
     Faulted(u8),
     /// The byte that the block repeats, if it repeats one.
     Seen(Option<u8>),
+    /// Of so many slots a sweep saw the blocks, of so many it saw that they are gone, and so far it came.
+    Swept(Swept),
     Counted(Counts),
     Found(Place),
     /// A relay stands that rebuilds the slot of this column.
@@ -46,6 +48,12 @@ impl Outcome {
     pub fn faulted(self) -> Option<u8> {
         match self {
             Outcome::Faulted(column) => Some(column),
+            Outcome::Swept(
+                Swept {
+                    reached: Reached::Faulted { column },
+                    ..
+                },
+            ) => Some(column),
             _ => None,
         }
     }
@@ -191,6 +199,7 @@ impl fmt::Display for Outcome {
             Outcome::Placed(place) => write!(f, "placed {} {}", place.stripe, place.column),
             Outcome::Faulted(column) => write!(f, "faulted {column}"),
             Outcome::Seen(byte) => write!(f, "seen {}", ByteText(*byte)),
+            Outcome::Swept(swept) => write_swept(swept, f),
             Outcome::Counted(counts) => write_counts(counts, f),
             Outcome::Found(place) => write!(f, "found {} {}", place.stripe, place.column),
             Outcome::Standing(column) => write!(f, "standing {column}"),
@@ -206,6 +215,16 @@ impl fmt::Display for Outcome {
             Outcome::Used(used) => write_use(used, f),
             Outcome::Traced(trace) => write_trace(trace, f),
         }
+    }
+}
+
+fn write_swept<W: fmt::Write>(swept: &Swept, f: &mut fmt::Formatter<W>) -> fmt::Result {
+    write!(f, "swept {} {}", swept.seen, swept.gone)?;
+    match swept.reached {
+        Reached::End => write!(f, " at the end"),
+        Reached::Slot { stripe, column } => write!(f, " to {stripe} {column}"),
+        Reached::Faulted { column } => write!(f, ", faulted {column}"),
+        Reached::LogFull => write!(f, ", log full"),
     }
 }
 

@@ -287,6 +287,11 @@ fn read_place_call(word: &str, words: &mut Words) -> Option<Call> {
             stripe: words.number()?,
             column: words.column()?,
         }),
+        "sweep" => Some(Call::Sweep {
+            job: words.job()?,
+            stripe: words.number()?,
+            column: words.column()?,
+        }),
         "next" => Some(Call::Next {
             stripe: words.number()?,
             column: words.column()?,

@@ -1,5 +1,5 @@
 -- What a session knows of its logs.
-use Rattle.pot_store.specs.Works.{Known, known}
+use Rattle.pot_shared.specs.Works.{Known, known}
 use Rattle.pot_bench.specs.declared.sessions.Session.{Session}
 
 -- what its passes know

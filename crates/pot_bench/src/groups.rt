@@ -4,10 +4,11 @@
 use crate::plain::{PlainArchive, shelf};
 use crate::rows::SEED;
 use pot_bytes::{Block, Geometry, Place, Rack};
-use pot_group::{Ended, Group, Looked, Mend, MoveStep, ShelfRefused, StartRefused};
+use pot_group::{Ended, Group, Looked, Mend, MoveStep, Reached, ShelfRefused, StartRefused};
 use pot_machine::GroupTable;
 use pot_pads::PadStream;
-use pot_store::{Expected, SealedPut};
+use pot_shared::SealedPut;
+use pot_store::Expected;
 use std::alloc::{AllocError, Global};
 
 /// The rack of the group, of which each data column holds a megabyte.
@@ -34,6 +35,8 @@ pub enum Call {
     Put,
     /// Looks at all data slots.
     Look,
+    /// Looks at all slots, by sweeps.
+    Sweep,
     /// Relays that rebuild column 0, whose archive was replaced.
     Mend,
     /// The move of column 1.
@@ -91,6 +94,7 @@ impl Trial {
         match call {
             Call::Put => self.fill(blocks),
             Call::Look => self.look(),
+            Call::Sweep => self.sweep(),
             Call::Mend => self.mend(),
             Call::Move => self.move_home(),
         }
@@ -149,6 +153,22 @@ impl Trial {
             self.look_at(place(slot / 3, (slot % 3) as u8))?;
         }
         Ok(())
+    }
+
+    /// Looks at all slots, some at a time. All have their blocks.
+    fn sweep(&mut self) -> Result<(), AllocError> {
+        let mut from = (0, 0);
+        for _ in 0..=RACK.stripes {
+            let swept = self.group.sweep(1, from.0, from.1);
+            match swept.reached {
+                Reached::Slot { stripe, column } if swept.gone == 0 => {
+                    from = (stripe, column.saturating_add(1));
+                }
+                Reached::End => return Ok(()),
+                _ => return Err(AllocError),
+            }
+        }
+        Err(AllocError)
     }
 
     /// Archive 4 replaces the home of column 0, whose slots are then Lost.

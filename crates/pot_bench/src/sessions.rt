@@ -19,7 +19,7 @@ use pot_index::{Index, IndexEnded};
 use pot_machine::GroupTable;
 use pot_outside::Shelf;
 use pot_pads::PadStream;
-use pot_shared::{Closed, Member, Passes, Spaces, Vault};
+use pot_shared::{Caller, Closed, Member, Passes, Spaces, Vault};
 use pot_store::{FetchFault, StoreFault, Stored, fetch_file, store_file};
 use std::alloc::{AllocError, Global};
 use std::sync::Wait;
@@ -167,7 +167,8 @@ fn start_groups(
 ) -> Result<Vec<Member<PlainArchive>>, AllocError>
     requires parity { rack.now.parity ≡ 1 }
     ensures count { IfOk result (λ v. length v.items ≡ rack.now.groups) }
-    ensures groups { IfOk result (λ v. (n : ℕ) (m : _) → slice_get v.items n ≡ Some m → IsGroupOf rack.now n (view_of meaning_in m.group)) }
+    ensures groups { IfOk result (λ v. (n : ℕ) (m : _) → slice_get v.items n ≡ Some m
+        → IsGroupOf rack.now n (view_of meaning_in m.group)) }
 {
     let mut tables = tables.into_iter();
     let mut archives = archives.into_iter();
@@ -204,7 +205,7 @@ impl Session {
     ghost use Rattle.std.specs.Prelude.{true};
     ghost use Rattle.pot_pads.specs.Pads.{pads_of};
     ghost use Rattle.pot_replies.specs.Settings.{Setting};
-    ghost use Rattle.pot_store.specs.Works.{section_of, JobAlone, JobWorked, IsSettingOf};
+    ghost use Rattle.pot_shared.specs.Works.{section_of, JobAlone, JobWorked, IsSettingOf};
     ghost use Rattle.pot_store.specs.Stores.{DrawsFrom, StoreRow};
     ghost use Rattle.pot_store.specs.Fetches.{AreFilled, FetchRow};
     ghost use Rattle.pot_store.specs.Stored.{FetchGives};
@@ -225,20 +226,20 @@ impl Session {
     ) -> Result<Stored, StoreFault>
         requires { 0 < job }
         ensures worked { JobWorked job (knows self.old) (knows self.new) }
-        ensures says { JobAlone job (knows self.old) (knows self.new) → (s : Setting) → IsSettingOf s self.old.vault.rack (knows self.old)
-            → DrawsFrom s (pads_of SEED self.old.number job) job file.now → StoreRow s job name.now file.now result (section_of (knows self.old) (knows self.new)) }
+        ensures says { JobAlone job (knows self.old) (knows self.new) → (s : Setting)
+            → IsSettingOf s self.old.vault.rack (knows self.old)
+            → DrawsFrom s (pads_of SEED self.old.number job) job file.now
+            → StoreRow s job name.now file.now result
+            (section_of (knows self.old) (knows self.new)) }
     {
-        let pads = PadStream::new(&SEED, self.number, job);
-        store_file(
+        let caller = Caller {
             rt,
             alloc,
-            &self.vault,
-            &mut self.passes,
+            vault: &self.vault,
             job,
-            name,
-            file,
-            pads,
-        )
+        };
+        let pads = PadStream::new(&SEED, self.number, job);
+        store_file(&caller, &mut self.passes, name, file, pads)
     }
 
     /// Fetches a file as this job.
@@ -254,21 +255,23 @@ impl Session {
     ) -> Result<Vec<u8>, FetchFault>
         requires { 0 < job }
         ensures worked { JobWorked job (knows self.old) (knows self.new) }
-        ensures says { JobAlone job (knows self.old) (knows self.new) → (s : Setting) → IsSettingOf s self.old.vault.rack (knows self.old)
-            → s.mends ≡ true → AreFilled s → FetchRow s job name.now result (section_of (knows self.old) (knows self.new)) }
-        ensures stored { JobAlone job (knows self.old) (knows self.new) → (s : Setting) → IsSettingOf s self.old.vault.rack (knows self.old)
-            → s.mends ≡ true → AreFilled s → FetchGives s job name.now result (section_of (knows self.old) (knows self.new)) }
+        ensures says { JobAlone job (knows self.old) (knows self.new) → (s : Setting)
+            → IsSettingOf s self.old.vault.rack (knows self.old)
+            → s.mends ≡ true → AreFilled s
+            → FetchRow s job name.now result (section_of (knows self.old) (knows self.new)) }
+        ensures stored { JobAlone job (knows self.old) (knows self.new) → (s : Setting)
+            → IsSettingOf s self.old.vault.rack (knows self.old)
+            → s.mends ≡ true → AreFilled s
+            → FetchGives s job name.now result (section_of (knows self.old) (knows self.new)) }
     {
-        let mut pads = PadStream::new(&SEED, self.number, job);
-        fetch_file(
+        let caller = Caller {
             rt,
             alloc,
-            &self.vault,
-            &mut self.passes,
+            vault: &self.vault,
             job,
-            name,
-            &mut pads,
-        )
+        };
+        let mut pads = PadStream::new(&SEED, self.number, job);
+        fetch_file(&caller, &mut self.passes, name, &mut pads)
     }
 
     /// Ends the session. Its image is that of its close.

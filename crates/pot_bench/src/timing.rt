@@ -27,9 +27,10 @@ const LOOPS: [(&str, Round, u8); 10] = [
 ];
 
 /// The calls of a group, each with over how many megabytes it goes.
-const CALLS: [(&str, Call, u8); 4] = [
+const CALLS: [(&str, Call, u8); 5] = [
     ("put", Call::Put, 3),
     ("look", Call::Look, 3),
+    ("sweep", Call::Sweep, 4),
     ("mend", Call::Mend, 1),
     ("move", Call::Move, 1),
 ];

@@ -11,7 +11,7 @@ use pot_bytes::{Digest, Name};
 use pot_doubles::LossyArchive;
 use pot_index::{IndexEnded, IndexEntry};
 use pot_pads::PadStream;
-use pot_shared::{Closed, Passes, Vault};
+use pot_shared::{Caller, Closed, Passes, Vault};
 use pot_store::{FetchFault, StoreFault, Stored, fetch_file, store_file};
 use std::alloc::Global;
 use std::sync::Wait;
@@ -43,10 +43,17 @@ fn store<R: Wait>(
     requires job { 0 < job }
     ensures ready { AreReady vault.now.rack vault.now.groups passes.new.groups }
     ensures index { IsIndexReady vault.now.rack vault.now.groups vault.now.index passes.new.index }
-    ensures parts { SameParts passes.old.groups passes.new.groups × SameParts passes.old.index passes.new.index }
+    ensures parts { SameParts passes.old.groups passes.new.groups
+        × SameParts passes.old.index passes.new.index }
 {
+    let caller = Caller {
+        rt,
+        alloc,
+        vault,
+        job,
+    };
     let pads = PadStream::new(&[7; 32], 1, job);
-    store_file(rt, alloc, vault, passes, job, name, b"hello", pads)
+    store_file(&caller, passes, name, b"hello", pads)
 }
 
 /// Fetches a file.
@@ -66,10 +73,17 @@ fn fetch<R: Wait>(
     requires job { 0 < job }
     ensures ready { AreReady vault.now.rack vault.now.groups passes.new.groups }
     ensures index { IsIndexReady vault.now.rack vault.now.groups vault.now.index passes.new.index }
-    ensures parts { SameParts passes.old.groups passes.new.groups × SameParts passes.old.index passes.new.index }
+    ensures parts { SameParts passes.old.groups passes.new.groups
+        × SameParts passes.old.index passes.new.index }
 {
+    let caller = Caller {
+        rt,
+        alloc,
+        vault,
+        job,
+    };
     let mut pads = PadStream::new(&[7; 32], 1, job);
-    fetch_file(rt, alloc, vault, passes, job, name, &mut pads)
+    fetch_file(&caller, passes, name, &mut pads)
 }
 
 /// What a session's index logged in which the one passes stored `a`, the others, split off before, fetched it, and `b` then found no

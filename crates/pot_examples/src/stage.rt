@@ -94,7 +94,8 @@ pub(crate) fn vault(
     requires parity { rack.now.parity ≡ 1 }
     ensures rack { IfOk result (λ p. p.0.rack ≡ rack.now) }
     ensures count { IfOk result (λ p. length p.0.groups ≡ rack.now.groups) }
-    ensures ready { IfOk result (λ p. AreReady rack.now p.0.groups p.1.groups × IsIndexReady rack.now p.0.groups p.0.index p.1.index) }
+    ensures ready { IfOk result (λ p. AreReady rack.now p.0.groups p.1.groups
+        × IsIndexReady rack.now p.0.groups p.0.index p.1.index) }
     ensures parts { IfOk result (λ p. HasAllButKept p.1.groups × HasAllParts p.1.index) }
     ensures room { IfOk result (λ p. length p.0.groups ≤ p.2) }
 {

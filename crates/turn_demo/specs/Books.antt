@@ -1,5 +1,6 @@
 -- What authors write into a book.
-use Rattle.std.specs.Prelude.{◌≡◌, ℕ, zero, suc, ◌+◌, ◌-◌, ◌*◌, ◌<◌, ◌≤◌, ◌==◌, List, [], ◌∷◌, ◌++◌, Bool, false}
+use Rattle.std.specs.Prelude.{◌≡◌, ℕ, zero, suc, ◌+◌, ◌-◌, ◌*◌, ◌<◌, ◌≤◌, ◌==◌, List, [], ◌∷◌, ◌++◌}
+use Rattle.std.specs.Prelude.{Bool, false}
 use Rattle.pot_turn.specs.declared.view.View.{View}
 use Rattle.pot_turn.specs.Views.{stretches_of, took_view, left_view}
 use Rattle.pot_turn.specs.Jobs.{NoneIn, Carries}
@@ -19,14 +20,18 @@ by author l = l.author == author
 
 -- in one turn this line was written, after all that had been written
 abbrev pub WroteLine : Line → View Line ℕ → View Line ℕ → Type 0
-WroteLine new v w = (before : List Line) × (w ≡ left_view ((v.seen ++ before) ++ new ∷ []) (took_view (v.seen ++ before) v))
+WroteLine new v w =
+    (before : List Line)
+    × (w ≡ left_view ((v.seen ++ before) ++ new ∷ []) (took_view (v.seen ++ before) v))
 
--- The pass knew v and knows w. In between, each of the authors from `first` on and before `upto` wrote so many lines, and nobody else wrote one under this pass
+-- The pass knew v and knows w. In between, each of the authors from `first` on and before `upto`
+-- wrote so many lines, and nobody else wrote one under this pass
 pub record Wrote (first upto count : ℕ) (v w : View Line ℕ) : Type 0 where
   pub idle : w.holds ≡ false
   pub parts : w.parts ≡ v.parts
   pub opened : w.opened ≡ v.opened
   pub made : w.made ≡ v.made + (upto - first) * count
-  pub theirs : (author : ℕ) → first ≤ author → author < upto → Carries (by author) w (lines_of author count)
+  pub theirs : (author : ℕ) → first ≤ author → author < upto
+      → Carries (by author) w (lines_of author count)
   pub before : (author : ℕ) → author < first → NoneIn (by author) w.seen (stretches_of w)
   pub after : (author : ℕ) → upto ≤ author → NoneIn (by author) w.seen (stretches_of w)

@@ -1,5 +1,6 @@
 //! Authors who write in turns.
-ghost use Rattle.std.specs.Prelude.{◌≡◌, ◌+◌, ◌*◌, ◌<◌, ℕ, [], false, IfSome, IsTrue, filter, length};
+ghost use Rattle.std.specs.Prelude.{◌≡◌, ◌+◌, ◌*◌, ◌<◌, ℕ, [], false, IfSome, IsTrue, filter};
+ghost use Rattle.std.specs.Prelude.{length};
 ghost use Rattle.pot_turn.specs.Passes.{view, turn_of, IsPassOf};
 ghost use Rattle.pot_turn.specs.Views.{stretches_of};
 ghost use Rattle.turn_demo.specs.Books.{line, lines_of, by, WroteLine, Wrote};
@@ -67,12 +68,18 @@ fn write_two<R: Threads + Wait + Sync>(
     let (mine, theirs) = join(
         rt,
         || -> Option<Pass<Book>>
-            requires { IsPassOf turn.now pass × ((view pass).holds ≡ false) × (stretches_of (view pass) ≡ []) }
-            ensures { IfSome result (λ p. IsPassOf turn.entry.now p × Wrote first (first + 1) count (view pass) (view p)) }
+            requires { IsPassOf turn.now pass × ((view pass).holds ≡ false)
+                × (stretches_of (view pass) ≡ []) }
+            ensures { IfSome result
+                (λ p. IsPassOf turn.entry.now p
+                × Wrote first (first + 1) count (view pass) (view p)) }
         { write_lines(rt, turn, pass, first, count) },
         || -> Option<Pass<Book>>
-            requires { IsPassOf turn.now other × ((view other).holds ≡ false) × (stretches_of (view other) ≡ []) × (first < 255) }
-            ensures { IfSome result (λ p. IsPassOf turn.entry.now p × Wrote (first + 1) (first + 2) count (view other) (view p)) }
+            requires { IsPassOf turn.now other × ((view other).holds ≡ false)
+                × (stretches_of (view other) ≡ []) × (first < 255) }
+            ensures { IfSome result
+                (λ p. IsPassOf turn.entry.now p
+                × Wrote (first + 1) (first + 2) count (view other) (view p)) }
         { write_lines(rt, turn, other, first + 1, count) },
     );
     let mut mine = mine?;
@@ -82,7 +89,8 @@ fn write_two<R: Threads + Wait + Sync>(
 
 /// Four authors write, each in a thread of its own. Where there is memory for all their lines, the book has each author's, once and in their order, and no others.
 pub fn write_four<R: Threads + Wait + Sync>(rt: &R, alloc: Global, count: u32) -> Option<Book>
-    ensures lines { IfSome result (λ b. (author : ℕ) → author < 4 → filter (by author) b.lines.items ≡ lines_of author count) }
+    ensures lines { IfSome result (λ b. (author : ℕ) → author < 4
+        → filter (by author) b.lines.items ≡ lines_of author count) }
     ensures all { IfSome result (λ b. length b.lines.items ≡ 4 * count) }
 {
     let book = Book {
@@ -96,11 +104,13 @@ pub fn write_four<R: Threads + Wait + Sync>(rt: &R, alloc: Global, count: u32) -
     let (mine, theirs) = join(
         rt,
         || -> Option<Pass<Book>>
-            requires { IsPassOf turn pass × ((view pass).holds ≡ false) × (stretches_of (view pass) ≡ []) × (1 < (view pass).parts) }
+            requires { IsPassOf turn pass × ((view pass).holds ≡ false)
+                × (stretches_of (view pass) ≡ []) × (1 < (view pass).parts) }
             ensures { IfSome result (λ p. IsPassOf turn p × Wrote 0 2 count (view pass) (view p)) }
         { write_two(rt, &turn, pass, 0, count) },
         || -> Option<Pass<Book>>
-            requires { IsPassOf turn other × ((view other).holds ≡ false) × (stretches_of (view other) ≡ []) × (1 < (view other).parts) }
+            requires { IsPassOf turn other × ((view other).holds ≡ false)
+                × (stretches_of (view other) ≡ []) × (1 < (view other).parts) }
             ensures { IfSome result (λ p. IsPassOf turn p × Wrote 2 4 count (view other) (view p)) }
         { write_two(rt, &turn, other, 2, count) },
     );

@@ -153,6 +153,23 @@ class Group:
         self.enter("Gone" if block is None else "Seen", job, stripe, column)
         return Answer("Gone") if block is None else Answer("Seen", (block,))
 
+    def sweep(self, job, stripe, column):
+        """Looks at four Live slots at most, and at no more than the log has room for: how many were Seen and Gone, and how far it came."""
+        seen = gone = 0
+        reached = Answer("End")
+        if self.is_full() and self.next(stripe, column, (LIVE,)) is not None:
+            return seen, gone, Answer("LogFull")
+        for _ in range(min(4, self.room - len(self.log))):
+            place = self.next(stripe, column, (LIVE,))
+            if place is None:
+                break
+            answer = self.look(job, *place)
+            if answer.kind not in ("Seen", "Gone"):
+                return seen, gone, answer
+            seen, gone, reached = seen + (answer.kind == "Seen"), gone + (answer.kind == "Gone"), Answer("Slot", place)
+            stripe, column = place[0], place[1] + 1
+        return seen, gone, reached
+
     def begin(self, job, stripe, column, blind):
         """Begins a relay with this blind."""
         if self.is_full():

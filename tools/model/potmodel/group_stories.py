@@ -24,7 +24,7 @@ HAD = [
 ]
 OUTSIDE = [f"holds {NUMBER} {NUMBER} {BYTE}", f"fail {NUMBER}", f"fail {NUMBER} at {NUMBER}", f"lose {NUMBER} {NUMBER}", f"lose {NUMBER} {NUMBER} at {NUMBER}"]
 STEPS = [
-    "open", "close", f"put {NUMBER} {BYTE}", f"look {NUMBER} {NUMBER} {NUMBER}", f"count {NUMBER}",
+    "open", "close", f"put {NUMBER} {BYTE}", f"look {NUMBER} {NUMBER} {NUMBER}", f"sweep {NUMBER} {NUMBER} {NUMBER}", f"count {NUMBER}",
     f"next {NUMBER} {NUMBER} (live|unsound)", f"begin {NUMBER} {NUMBER} {NUMBER}", f"advance {NUMBER} {NUMBER}",
     f"mend {NUMBER} {NUMBER} {NUMBER}", f"move_begin {NUMBER} {NUMBER} {NUMBER}", f"move_step {NUMBER} {NUMBER}",
     f"swap {NUMBER} {NUMBER} {NUMBER}", f"use_of {NUMBER}", f"trace {NUMBER} {NUMBER}", f"expect {BYTE} {BYTE}", "logged",
@@ -164,6 +164,13 @@ class Scene:
         """A slot is read."""
         answer = self.group.look(int(job), int(stripe), int(column))
         return "seen " + byte_of(answer.fields[0]) if answer.kind == "Seen" else self.told(answer)
+
+    def step_sweep(self, job, stripe, column):
+        """Several slots are read."""
+        seen, gone, reached = self.group.sweep(int(job), int(stripe), int(column))
+        behind = {"End": " at the end", "Slot": " to %s", "Faulted": ", faulted %s", "LogFull": ", log full"}[reached.kind]
+        fields = " ".join(str(value) for value in reached.fields)
+        return f"swept {seen} {gone}" + (behind % fields if "%" in behind else behind)
 
     def step_count(self, job):
         """The slots are counted."""
@@ -320,8 +327,9 @@ class Failing:
             self.different = (line, outcome)
         elif self.different is not None:
             self.is_same = False
-        if outcome.startswith("faulted "):
-            again = self.again(scene, words, int(outcome.split(" ")[1]), wanted)
+        faulted = re.fullmatch(r"(?:swept \d+ \d+, )?faulted (\d+)", outcome)
+        if faulted:
+            again = self.again(scene, words, int(faulted[1]), wanted)
             self.is_same = self.is_same and again == wanted
         return outcome
 
@@ -396,7 +404,7 @@ def may_stand(line, began, opened):
 def has_job(step):
     """Whether the job that a call names is within its limits."""
     words = step.split(" ")
-    jobs = ("put", "look", "count", "begin", "advance", "mend", "move_begin", "move_step", "swap")
+    jobs = ("put", "look", "sweep", "count", "begin", "advance", "mend", "move_begin", "move_step", "swap")
     return words[0] not in jobs or 1 <= int(words[1]) <= 4294967295
 
 

@@ -41,6 +41,7 @@ class GroupMaker(Maker):
         ways = {
             "put": (9, lambda: [f"put {job} {self.byte()}"]),
             "look": (5, lambda: [f"look {job} {self.place()}"]),
+            "sweep": (3, lambda: [f"sweep {job} {self.place()}"]),
             "mend": (6, lambda: [f"repeat {self.random.randint(1, 8)} mend {job} {self.place()}"]),
             "relay": (2, lambda: [f"begin {job} {self.place()}", f"repeat {self.random.randint(1, 4)} advance {job} {self.number(self.stripes - 1)}"]),
             "move": (2, lambda: [f"move_begin {job} {self.number(self.width - 1)} {number}"]),

@@ -1,6 +1,6 @@
 use Rattle.pot_index.specs.Entries as index
 use Rattle.pot_shared.proofs.SharingLemmas.{more_parts}
-use Rattle.pot_store.specs.Works.{of_job}
+use Rattle.pot_shared.specs.Works.{of_job}
 use Rattle.pot_bench.proofs.Parts.{still_but_kept, still_all}
 use Rattle.pot_bench.proofs.sessions.Session.store.Goals as goal
 
