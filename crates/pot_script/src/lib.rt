@@ -42,8 +42,9 @@ pub use decimal_number::read_number;
 pub use fault::ScriptFault;
 pub use grouping::{Lines, Step, group_steps};
 pub use laws::{batches_are_whole, lines_are_short, one_reading};
+pub use parts::{append_digest, append_number};
 pub use printing::{print_bad_line, print_reply, print_words_refused};
-pub use reading::read_script;
+pub use reading::{LONGEST_SCRIPT, read_script};
 pub use reply::{NameList, Reply};
 pub use words::Words;
 

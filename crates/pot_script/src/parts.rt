@@ -50,8 +50,8 @@ fn append_part(out: &mut Vec<u8>, part: &Part) -> Result<(), AllocError>
     }
 }
 
-// Appends a space and the number.
-fn append_number(out: &mut Vec<u8>, number: u64) -> Result<(), AllocError>
+/// Appends a space and the decimal digits of a number. On refusal `out` still begins as before.
+pub fn append_number(out: &mut Vec<u8>, number: u64) -> Result<(), AllocError>
     ensures ok { OnOk result (out.new.items ≡ out.old.items ++ spaced number) }
     ensures err { OnErr result (take (length out.old.items) out.new.items ≡ out.old.items) }
     ensures full { OnErr result (vec_capacity out.old
@@ -63,8 +63,8 @@ fn append_number(out: &mut Vec<u8>, number: u64) -> Result<(), AllocError>
     out.extend_from_slice(digits.format(number).as_bytes())
 }
 
-// Appends a space and the digest.
-fn append_digest(out: &mut Vec<u8>, digest: &Digest) -> Result<(), AllocError>
+/// Appends a space and the 64 hexadecimal digits of a digest. On refusal `out` still begins as before.
+pub fn append_digest(out: &mut Vec<u8>, digest: &Digest) -> Result<(), AllocError>
     ensures ok { OnOk result (out.new.items ≡ out.old.items ++ in_hex digest.now) }
     ensures err { OnErr result (take (length out.old.items) out.new.items ≡ out.old.items) }
     ensures full { OnErr result (vec_capacity out.old

@@ -13,7 +13,7 @@ use pot_bytes::Rack;
 use std::alloc::Global;
 
 /// The most bytes of a script.
-const LONGEST_SCRIPT: usize = 67_108_864;
+pub const LONGEST_SCRIPT: usize = 67_108_864;
 
 /// The commands of a script over this rack, in the order of their lines. `BadLine` has the number of the
 /// first line that leaves the grammar, or 0 where the script is too long.
