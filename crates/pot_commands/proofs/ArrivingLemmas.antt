@@ -48,13 +48,15 @@ use Rattle.pot_shared.specs.Works.{Known, known, of_job, gained, JobWorked, JobA
 use Rattle.pot_shared.proofs.WorkLemmas.{row_stays, index_idle, group_work, group_own, group_else, work_more, alone_parts, own_more, all_none, all_one}
 use Rattle.pot_mend.specs.Moves.{IsAsked, seen_in}
 use Rattle.pot_mend.proofs.HadLemmas.{IsUsedIn, brought_here, brought_named, had_used, named_held, same_width}
-use Rattle.pot_commands.specs.Going.{AllSole}
-use Rattle.pot_commands.specs.Holding.{times}
-use Rattle.pot_commands.specs.Taking.{Lending, Took, HasUse, AreUsed, AreMarkedBy, came_in, marks_of}
+use Rattle.pot_shared.specs.Going.{AllSole}
+use Rattle.pot_shared.specs.Hands.{times}
+use Rattle.pot_commands.specs.Taking.{Lending, Took, HasUse, AreUsed}
+use Rattle.pot_shared.specs.Coming.{AreMarkedBy, came_in, marks_of}
 use Rattle.pot_commands.proofs.Brought.{its_setting, is_its}
 use Rattle.pot_commands.proofs.Going.{sole_alone, work_all_went}
 use Rattle.pot_commands.proofs.Logs.{turn_added}
-use Rattle.pot_commands.proofs.TakingLemmas.{arrival_in, came_one, come_none, meant_by, takes_back, takes_one, took_none, used_more, use_more}
+use Rattle.pot_shared.proofs.ComingLemmas.{arrival_in}
+use Rattle.pot_commands.proofs.TakingLemmas.{came_one, come_none, meant_by, takes_back, takes_one, took_none, used_more, use_more}
 use Rattle.pot_commands.proofs.Whose.{its_jobs, own_all}
 
 -- THE ROOM

@@ -5,7 +5,7 @@ use Rattle.pot_replies.specs.Settings.{Setting}
 use Rattle.pot_replies.specs.Sections.{Section}
 use Rattle.pot_shared.specs.Works.{Known, section_of}
 use Rattle.pot_commands.specs.Rows.{IsSessionSetting}
-use Rattle.pot_commands.specs.Going.{AllSole}
+use Rattle.pot_shared.specs.Going.{AllSole}
 use Rattle.pot_commands.specs.Begun.{HasTask}
 use Rattle.pot_commands.specs.Jobs.{Says}
 use Rattle.pot_commands.specs.Batches.{Line, KnownJoins, IsLine, AreLines, IsAmongLines, AllSay}

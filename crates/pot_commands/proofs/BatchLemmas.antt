@@ -21,7 +21,7 @@ use Rattle.pot_shared.specs.declared.member.Logged.{Logged}
 use Rattle.pot_shared.specs.Members.{entries_of}
 use Rattle.pot_replies.specs.Sections.{Widens}
 use Rattle.pot_shared.specs.Works.{of_job, Known, JobAlone, section_of}
-use Rattle.pot_commands.specs.Going.{AllSole, AllWent}
+use Rattle.pot_shared.specs.Going.{AllSole, AllWent}
 use Rattle.pot_commands.specs.Batches.{Line, group_rows, index_rows, KnownJoins, IsGivenOf, IsLine, AreLines, IsAmongLines, JobsWiden}
 
 -- ONE TURN OF A BATCH

@@ -26,7 +26,7 @@ use Rattle.pot_commands.specs.declared.beginning.Task.{Task}
 use Rattle.pot_commands.specs.declared.beginning.Task.TheVariants as task
 use Rattle.pot_commands.specs.Rows.{IsSessionSetting, IsMigrateReply, AreReplies, IsIdle, Row}
 use Rattle.pot_commands.specs.Begun.{HasTask, IsBegun, HaveBegun}
-use Rattle.pot_commands.specs.Going.{AllSole}
+use Rattle.pot_shared.specs.Going.{AllSole}
 use Rattle.pot_commands.specs.Taking.{asks}
 use Rattle.pot_commands.specs.Steps.{IsStill, IsLineLeft, AreLinesLeft}
 use Rattle.pot_commands.specs.Jobs.{Says, reply_in, has_reply}

@@ -30,14 +30,15 @@ use Rattle.pot_commands.specs.declared.arriving.Unanswered.{Unanswered}
 use Rattle.pot_commands.specs.declared.arriving.Unanswered.TheVariants as unanswered
 use Rattle.pot_commands.specs.declared.beginning.Task.{Task}
 use Rattle.pot_commands.specs.Begun.{HasTask, HaveTasks, LineBegins, HaveBegun, AreMovesBegun}
-use Rattle.pot_commands.specs.Going.{AllSole, AllStay, AllWent}
-use Rattle.pot_commands.specs.Holding.{times}
+use Rattle.pot_shared.specs.Going.{AllSole, AllStay, AllWent}
+use Rattle.pot_shared.specs.Hands.{times}
 use Rattle.pot_commands.specs.Steps.{IsBatched, IsStill, StepHalts, StepLeaves, StepStops}
 use Rattle.pot_commands.specs.Taking.{Lending, Took, asks}
 use Rattle.pot_commands.proofs.AnswerLemmas.{stayed_worked}
 use Rattle.pot_commands.proofs.BegunLemmas.{begun_halted, more_begun, none_begun, same_begun}
 use Rattle.pot_commands.proofs.Going.{known_follows, setting_of_stays, sole_alone, sole_parts, stays_more, went_more, work_all_went}
-use Rattle.pot_commands.proofs.TakingLemmas.{times-append, took_more, took_none, took_wider}
+use Rattle.pot_shared.proofs.Times.{times-append}
+use Rattle.pot_commands.proofs.TakingLemmas.{took_more, took_none, took_wider}
 use Rattle.pot_commands.proofs.Whose.{its_jobs, own_all}
 use Rattle.pot_commands.proofs.WorkingLemmas.{stays_same}
 

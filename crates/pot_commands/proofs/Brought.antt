@@ -18,7 +18,7 @@ use Rattle.pot_shared.specs.Catalogs.{records_in}
 use Rattle.pot_shared.specs.Works.{gained, Known, JobWorked, JobAlone, IsSettingOf, section_of}
 use Rattle.pot_store.specs.Drawing.{blocks_from}
 use Rattle.pot_commands.specs.Rows.{HasFilled, IsSessionSetting, AreReplies, IsIdle}
-use Rattle.pot_commands.specs.Going.{AllSole}
+use Rattle.pot_shared.specs.Going.{AllSole}
 use Rattle.pot_commands.specs.Taking.{asks}
 use Rattle.pot_commands.proofs.NoMoves.{brings, no_arrivals, no_moves, idle_moves}
 use Rattle.pot_commands.proofs.Going.{sole_alone}

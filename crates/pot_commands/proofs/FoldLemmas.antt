@@ -12,7 +12,7 @@ use Rattle.pot_replies.proofs.SessionLemmas.{replied_none, replied_more}
 use Rattle.pot_shared.specs.Members.{entries_of}
 use Rattle.pot_shared.specs.Works.{Known, section_of}
 use Rattle.pot_commands.specs.Rows.{Row}
-use Rattle.pot_commands.specs.Going.{AllWent, AllStay}
+use Rattle.pot_shared.specs.Going.{AllWent, AllStay}
 use Rattle.pot_commands.specs.Steps.{step_of, steps_of, StepGives, StepLeaves, StepHalts}
 use Rattle.pot_commands.specs.Ends.{next_job, AreReplied, AreLeft, AreHalted, AreNext}
 use Rattle.pot_commands.proofs.Going.{sole_parts, known_follows, setting_stays}

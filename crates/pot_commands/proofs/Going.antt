@@ -15,7 +15,7 @@ use Rattle.pot_shared.specs.Members.{entries_of}
 use Rattle.pot_shared.proofs.MemberLemmas.{entries_append}
 use Rattle.pot_shared.specs.Works.{of_job, Known, JobWorked, JobAlone, IsSettingOf, section_of}
 use Rattle.pot_commands.specs.Rows.{HasFilled, IsSessionSetting}
-use Rattle.pot_commands.specs.Going.{AllWent, AllSole, AllStay}
+use Rattle.pot_shared.specs.Going.{AllWent, AllSole, AllStay}
 
 pub work_all_went : (job : ℕ) (old new : Known) → JobWorked job old new → AllWent old new
 work_all_went job old new worked = record { groups = row_work_went (of_job job) old.groups new.groups worked.groups; index = row_work_went (index.is_of job) old.index new.index worked.index }

@@ -8,7 +8,7 @@ use Rattle.pot_commands.specs.declared.working.Ending.{Ending}
 use Rattle.pot_commands.specs.declared.working.Ending.TheVariants as ending
 use Rattle.pot_commands.specs.Rows.{IsSessionSetting}
 use Rattle.pot_commands.specs.Ends.{Ends, EndsOver}
-use Rattle.pot_commands.specs.Going.{AllSole}
+use Rattle.pot_shared.specs.Going.{AllSole}
 
 pub ends_over : (rack : Rack) (seed : List ℕ) (session : ℕ) (told : Type 0) (before after : List ℕ) (ss : List Step) (old new : Known) (e : Ending) → Ends rack seed session told before after ss old new e
     → AllSole old new → (s : Setting) → IsSessionSetting s rack seed session old → EndsOver s (section_of old new) told before after ss e

@@ -32,7 +32,7 @@ use Rattle.pot_mend.specs.declared.fault.MendFault.{MendFault}
 use Rattle.pot_mend.specs.declared.fault.MendFault.TheVariants as fault
 use Rattle.pot_commands.specs.Arriving.{HasBegun, IsUnbegun, Unbegins, move_reply}
 use Rattle.pot_commands.specs.declared.arriving.Unanswered.{Unanswered}
-use Rattle.pot_commands.specs.Going.{AllSole}
+use Rattle.pot_shared.specs.Going.{AllSole}
 use Rattle.pot_commands.specs.Rows.{IsMigrateReply}
 use Rattle.pot_commands.specs.Taking.{Lending, Took, AreUsed}
 use Rattle.pot_commands.proofs.ArrivingLemmas.{front_jobs, of_jobs, own_each}

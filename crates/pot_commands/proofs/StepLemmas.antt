@@ -17,7 +17,7 @@ use Rattle.pot_shared.specs.Ready.{GroupPasses, AreReady}
 use Rattle.pot_shared.specs.Catalogs.{IndexPasses, IsIndexReady}
 use Rattle.pot_shared.specs.Works.{Known, known, JobWorked, JobAlone, section_of}
 use Rattle.pot_commands.specs.Rows.{IsSessionSetting, AreReplies, IsIdle, IsWorked, Row}
-use Rattle.pot_commands.specs.Going.{AllStay}
+use Rattle.pot_shared.specs.Going.{AllStay}
 use Rattle.pot_commands.specs.declared.arriving.Unanswered.{Unanswered}
 use Rattle.pot_commands.specs.declared.arriving.Unanswered.TheVariants as unanswered
 use Rattle.pot_commands.specs.Steps.{IsBatched, IsWorkedStep, StepGives, StepLeaves, StepStops, AreLinesLeft, step_of}

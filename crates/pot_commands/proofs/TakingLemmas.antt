@@ -2,14 +2,14 @@
 use Rattle.std.proofs.Common.{◌≡◌, ◌≢◌, ◌<◌, ◌≤◌, ◌+◌, ◌++◌, ⊎_elim, ℕ, zero, suc, Bool, true, false, List, [], ◌∷◌, length, refl, sym, ap, subst, ◌∙◌, arith, eqb, append-nil, append_assoc}
 use Rattle.std.specs.Prelude.{Option, Some, None, IsSomeAnd, IsSome, Contains}
 use Rattle.std.proofs.lemmas.Bool.Decides.{eqb_tells}
-use Rattle.std.proofs.lemmas.List.Elements.{Contains-append_cases, Contains-append_left, Contains-append_right}
+use Rattle.std.proofs.lemmas.List.Elements.{Contains-append_cases}
 use Rattle.pot_bytes.proofs.Elements.{none_contained}
 use Rattle.pot_outside.specs.Archives.{Meaning, IsMeant}
 use Rattle.pot_outside.specs.declared.archive.Marks.{Marks}
 use Rattle.pot_machine.specs.declared.entry.Entry.{Entry}
 use Rattle.pot_machine.specs.Table.{holder_of}
 use Rattle.pot_machine.specs.Logs.{replayed}
-use Rattle.pot_group.specs.Arrivals.{arrival, arrivals}
+use Rattle.pot_group.specs.Arrivals.{arrivals}
 use Rattle.pot_group.proofs.Arriving.{arrivals-append}
 use Rattle.pot_worked.specs.Worked.{added}
 use Rattle.pot_worked.specs.Sole.{Went}
@@ -17,44 +17,23 @@ use Rattle.pot_worked.proofs.SoleLemmas.{gain_in_parts}
 use Rattle.pot_rows.specs.Rows.{view_at}
 use Rattle.pot_rows.specs.Works.{RowWorked}
 use Rattle.pot_rows.proofs.WorkLemmas.{row_work_went}
-use Rattle.pot_shared.specs.declared.member.Logged.{Logged}
 use Rattle.pot_shared.specs.declared.member.GroupOrigin.{GroupOrigin}
 use Rattle.pot_shared.specs.Members.{entries_of}
 use Rattle.pot_shared.specs.Ready.{GroupPasses}
 use Rattle.pot_shared.proofs.MemberLemmas.{entries_append}
 use Rattle.pot_shared.specs.Works.{Known, of_job, gained}
-use Rattle.pot_store.proofs.NoteLemmas.{one_if}
-use Rattle.pot_commands.specs.Going.{AllSole, AllStay, AllWent}
-use Rattle.pot_commands.specs.Holding.{times}
-use Rattle.pot_commands.specs.Taking.{Lending, Takes, Come, Took, HasUse, AreUsed, AreMarkedBy, came_in, marks_of}
+use Rattle.pot_shared.proofs.Times.{one_if}
+use Rattle.pot_shared.proofs.ComingLemmas.{arrival_in}
+use Rattle.pot_shared.proofs.Times.{contains_times, times-append, times_here}
+use Rattle.pot_shared.specs.Going.{AllSole, AllStay, AllWent}
+use Rattle.pot_shared.specs.Hands.{times}
+use Rattle.pot_commands.specs.Taking.{Lending, Takes, Come, Took, HasUse, AreUsed}
+use Rattle.pot_shared.specs.Coming.{AreMarkedBy, came_in, marks_of}
 use Rattle.pot_commands.proofs.Going.{sole_parts, known_follows}
-
--- NUMBERS
-
-pub times-append : (n : ℕ) (xs ys : List ℕ) → times n (xs ++ ys) ≡ times n xs + times n ys
-times-append n [] ys = omega arith
-times-append n (x ∷ xs) ys = (let e = times-append n xs ys in omega (arith, e))
 
 home_bit : (b : Bool) → one_if b ≡ 0 → b ≡ false
 home_bit true e = absurd (omega (arith, e))
 home_bit false e = refl
-
-pub times_here : (n : ℕ) → times n (n ∷ []) ≡ 1
-times_here n = ⊎_elim
-    (λ (h : (eqb n n ≡ true) × (n ≡ n)). (let e = ap one_if h.0 in omega (arith, e)))
-    (λ (h : (eqb n n ≡ false) × (n ≢ n)). absurd (h.1 refl))
-    (eqb_tells n n)
-
-pub times_there : (k n : ℕ) → k ≢ n → times n (k ∷ []) ≡ 0
-times_there k n ne = ⊎_elim
-    (λ (h : (eqb k n ≡ true) × (k ≡ n)). absurd (ne h.1))
-    (λ (h : (eqb k n ≡ false) × (k ≢ n)). (let e = ap one_if h.0 in omega (arith, e)))
-    (eqb_tells k n)
-
-pub contains_times : (xs : List ℕ) (n : ℕ) → Contains xs n → 1 ≤ times n xs
-contains_times [] n (k, lt, at) = absurd (omega (arith, lt))
-contains_times (x ∷ xs) n (zero, lt, at) = (let e = times_here n in let f = ap (λ m. times n (m ∷ [])) at in omega (arith, e, f))
-contains_times (x ∷ xs) n (suc k, lt, at) = (let r = contains_times xs n (k, omega (arith, lt), at) in omega (arith, r))
 
 -- WHAT IS MEANT
 
@@ -203,12 +182,6 @@ came_within (suc k) f g n lt has =
   where
     below : k ≢ g → g < suc k → g < k
     below ne l = grind (arith, ne, l)
-
--- what an entry of a log brings, the log brings
-pub arrival_in : (ls : List Logged) (l : Logged) (n : ℕ) → Contains ls l → Contains (arrival l.entry) n → Contains (arrivals (entries_of ls)) n
-arrival_in [] l n (k, lt, at) has = absurd (omega (arith, lt))
-arrival_in (x ∷ ls) l n (zero, lt, at) has = Contains-append_left (arrival x.entry) (arrivals (entries_of ls)) n (subst (λ (y : Logged). Contains (arrival y.entry) n) (sym at) has)
-arrival_in (x ∷ ls) l n (suc k, lt, at) has = Contains-append_right (arrival x.entry) (arrivals (entries_of ls)) n (arrival_in ls l n (k, omega (arith, lt), at) has)
 
 -- no archive came
 pub come_none : (told : Type 0) (meant : ℕ → Meaning) (old new : Known) → (AllSole old new → (g : ℕ) → arrivals (gained old.groups new.groups g) ≡ []) → Come told meant [] old new

@@ -22,7 +22,7 @@ use Rattle.pot_replies.specs.Sections.{Section, Halves, Follows, IsOfJobs}
 use Rattle.pot_replies.specs.Sessions.{Together, Rows}
 use Rattle.pot_shared.specs.Works.{Known, section_of, gained}
 use Rattle.pot_commands.specs.Rows.{IsSessionSetting, HasFilled, Row}
-use Rattle.pot_commands.specs.Going.{Stays, AllSole, AllStay, AllWent}
+use Rattle.pot_shared.specs.Going.{Stays, AllSole, AllStay, AllWent}
 use Rattle.pot_commands.specs.declared.beginning.Task.{Task}
 use Rattle.pot_commands.specs.Begun.{HasTask, HaveBegun, AreMovesBegun}
 use Rattle.pot_commands.specs.Steps.{StepGives, StepLeaves, AreLinesLeft}

@@ -22,7 +22,7 @@ use Rattle.pot_replies.specs.Sessions.{Together}
 use Rattle.pot_shared.specs.Works.{Known, section_of, gained}
 use Rattle.pot_commands.specs.declared.beginning.Task.{Task}
 use Rattle.pot_commands.specs.Begun.{AreMovesBegun}
-use Rattle.pot_commands.specs.Going.{AllSole, AllStay, AllWent}
+use Rattle.pot_shared.specs.Going.{AllSole, AllStay, AllWent}
 use Rattle.pot_commands.specs.Steps.{StepLeaves, IsStepLeft}
 use Rattle.pot_shared.specs.Callers.{CanCall}
 use Rattle.pot_commands.specs.Sharing.{Common}

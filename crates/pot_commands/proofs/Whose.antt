@@ -20,7 +20,7 @@ use Rattle.pot_shared.specs.declared.member.Logged.{Logged}
 use Rattle.pot_shared.specs.Members.{entries_of}
 use Rattle.pot_shared.specs.Works.{of_job, Known, JobWorked, section_of}
 use Rattle.pot_commands.specs.Rows.{AreReplies, Row}
-use Rattle.pot_commands.specs.Going.{AllSole}
+use Rattle.pot_shared.specs.Going.{AllSole}
 use Rattle.pot_commands.proofs.NoMoves.{begins_none}
 
 among_one : (job k : ℕ) → (k == job) ≡ true → IsAmong job 1 k

@@ -24,12 +24,13 @@ use Rattle.pot_commands.specs.declared.working.Ending.TheVariants as ending
 use Rattle.pot_commands.specs.Ones.{OneEnds}
 use Rattle.pot_commands.specs.Steps.{step_of, steps_of, StepGives, StepLeaves, StepHalts}
 use Rattle.pot_commands.specs.Ends.{next_job, texts_of, any_refusal, AreReplied, Ends}
-use Rattle.pot_commands.specs.Going.{AllStay, AllWent}
-use Rattle.pot_commands.specs.Holding.{times}
+use Rattle.pot_shared.specs.Going.{AllStay, AllWent}
+use Rattle.pot_shared.specs.Hands.{times}
 use Rattle.pot_commands.specs.Taking.{Lending, Took, asks_in, asked_by}
 use Rattle.pot_commands.proofs.AnswerLemmas.{stayed_worked}
 use Rattle.pot_commands.proofs.Going.{filled_stays, work_all_went, went_more, stays_more}
-use Rattle.pot_commands.proofs.TakingLemmas.{took_none, took_more, took_wider, times-append}
+use Rattle.pot_commands.proofs.TakingLemmas.{took_none, took_more, took_wider}
+use Rattle.pot_shared.proofs.Times.{times-append}
 use Rattle.pot_commands.proofs.FoldLemmas.{jobs_append, jobs_more, none_replied, replied_on, left_on, halted_on, next_on}
 
 -- THE PASSES

@@ -20,7 +20,7 @@ use Rattle.pot_shared.specs.Works.{Known, JobWorked, JobAlone, section_of, gaine
 use Rattle.pot_commands.specs.declared.beginning.Task.{Task}
 use Rattle.pot_commands.specs.Rows.{IsSessionSetting, Row}
 use Rattle.pot_commands.specs.Begun.{HasTask, HaveBegun}
-use Rattle.pot_commands.specs.Going.{AllSole}
+use Rattle.pot_shared.specs.Going.{AllSole}
 use Rattle.pot_commands.specs.Steps.{AreLinesLeft}
 use Rattle.pot_commands.specs.Jobs.{Says, reply_in, has_reply}
 

@@ -15,7 +15,7 @@ use Rattle.pot_shared.specs.Works.{Known, IsSettingOf, section_of}
 use Rattle.pot_commands.specs.declared.beginning.Task.{Task}
 use Rattle.pot_commands.specs.declared.beginning.Task.TheVariants as task
 use Rattle.pot_commands.specs.Arriving.{HasBegun, IsUnbegun}
-use Rattle.pot_commands.specs.Going.{AllSole, AllStay, AllWent}
+use Rattle.pot_shared.specs.Going.{AllSole, AllStay, AllWent}
 use Rattle.pot_commands.specs.Steps.{IsStill}
 
 -- what the job of a line can have to do: a `migrate` goes on with a move of a column that there is,

@@ -3,7 +3,6 @@ pub mod Counting
 pub mod Ones
 pub mod Blinding
 pub mod Ends
-pub mod Going
 pub mod Steps
 pub mod Streams
 pub mod Holding

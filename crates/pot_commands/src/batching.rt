@@ -13,7 +13,7 @@ ghost use Rattle.pot_replies.specs.Sessions.{Together};
 ghost use Rattle.pot_shared.specs.Works.{Known};
 ghost use Rattle.pot_work.specs.Works.{AreWorked};
 ghost use Rattle.pot_commands.specs.Rows.{HasFilled};
-ghost use Rattle.pot_commands.specs.Going.{AllWent, AllStay};
+ghost use Rattle.pot_shared.specs.Going.{AllWent, AllStay};
 ghost use Rattle.pot_commands.specs.Failures.{Fails};
 ghost use Rattle.pot_commands.specs.Steps.{IsBatched, StepGives, StepLeaves, StepStops};
 ghost use Rattle.pot_commands.specs.Begun.{HaveTasks, AreMovesBegun};

@@ -26,7 +26,6 @@ mod output;
 mod sharing;
 mod working;
 
-pub use arriving::Unanswered;
 pub use laws::batch_laws;
 pub use output::write_out;
 pub use sharing::{Crew, Shared};

@@ -9,7 +9,7 @@ ghost use Rattle.pot_commands.specs.Sharing.{common_of};
 ghost use Rattle.pot_commands.specs.Failures.{Fails};
 ghost use Rattle.pot_commands.specs.Rows.{HasFilled};
 ghost use Rattle.pot_commands.specs.Ones.{OneEnds};
-ghost use Rattle.pot_commands.specs.Going.{AllWent, AllStay};
+ghost use Rattle.pot_shared.specs.Going.{AllWent, AllStay};
 ghost use Rattle.pot_commands.specs.Steps.{IsWorkedStep, StepGives, StepStops, step_of};
 ghost use Rattle.pot_commands.specs.Ends.{Ends, next_job};
 ghost use Rattle.pot_commands.specs.Taking.{AreUsed, Took, asked_by, asks_in, lending};

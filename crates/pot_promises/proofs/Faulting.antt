@@ -37,12 +37,13 @@ use Rattle.pot_replies.specs.Settings.{Setting}
 use Rattle.pot_replies.specs.Stores.{IsStoreFault, IsUnkept}
 use Rattle.pot_replies.specs.Renewals.{IsPutFault, IsRenewFault}
 use Rattle.pot_shared.specs.Members.{mark_at}
-use Rattle.pot_commands.specs.Taking.{marks_of}
+use Rattle.pot_shared.specs.Coming.{marks_of}
 use Rattle.pot_store.proofs.ReadLemmas.{from_filter}
 use Rattle.pot_commands.specs.Rows.{Row, IsStoreReply, IsFetchReply, IsRenewReply, IsScrubReply, IsRepairReply, IsMigrateReply, IsReplaceReply, IsListReply, reply_of_line, replies_from}
-use Rattle.pot_session.specs.Groups.{had_by}
-use Rattle.pot_session.specs.Serving.{IsInRoom, Leaves, LeavesGroup, rooms_by, setting_of}
-use Rattle.pot_session.proofs.Lists.{all_at_place, at_same, flat_contains}
+use Rattle.pot_shared.specs.Groups.{had_by}
+use Rattle.pot_session.specs.Serving.{IsInRoom, Leaves, rooms_by, setting_of}
+use Rattle.pot_shared.specs.Leaving.{LeavesGroup}
+use Rattle.pot_shared.proofs.Lists.{all_at_place, at_same, flat_contains}
 use Rattle.pot_session.proofs.LossLemmas.{get_within}
 use Rattle.pot_promises.specs.Answers.{count_replies}
 use Rattle.pot_promises.specs.Faults.{HasFailed, FaultsAreCounted}

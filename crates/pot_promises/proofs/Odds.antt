@@ -59,7 +59,7 @@ use Rattle.pot_store.specs.Visits.{Came, Seen, Unknown, block_in, was_seen}
 use Rattle.pot_store.proofs.FitLemmas.{current_fits, fragment_within, point_within}
 use Rattle.pot_store.proofs.NoteLemmas.{are_good, points_count, points_more, shares_more}
 use Rattle.pot_session.specs.Serving.{setting_of}
-use Rattle.pot_session.proofs.Lists.{all_at_place, flat_contains}
+use Rattle.pot_shared.proofs.Lists.{all_at_place, flat_contains}
 use Rattle.pot_promises.specs.Answers.{job_at}
 use Rattle.pot_promises.specs.Chains.{IsSession}
 use Rattle.pot_promises.specs.Odds.{NeverOdd, OddReads}

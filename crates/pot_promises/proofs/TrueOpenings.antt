@@ -12,10 +12,10 @@ use Rattle.pot_steps.specs.Holdings.{stripe_of}
 use Rattle.pot_steps.specs.GroupStep.{Breaks, FindsGone, Spared, as_read}
 use Rattle.pot_steps.proofs.Steps.{filling_stays}
 use Rattle.pot_image.specs.Rules.{FitsTable}
-use Rattle.pot_session.specs.Groups.{IsOpened}
+use Rattle.pot_shared.specs.Groups.{IsOpened}
 use Rattle.pot_session.specs.Serving.{RoseInRoom}
-use Rattle.pot_session.proofs.GroupLemmas.{serves_there}
-use Rattle.pot_session.proofs.Lists.{all_at_place}
+use Rattle.pot_shared.proofs.GroupLemmas.{serves_there}
+use Rattle.pot_shared.proofs.Lists.{all_at_place}
 use Rattle.pot_promises.specs.Openings.{OpeningsAreTrue, OpensAsMeant}
 
 -- STRIPES WITH THE SAME SOUND SLOTS

@@ -11,7 +11,8 @@ use Rattle.pot_replies.specs.Sections.{Section, Follows}
 use Rattle.pot_replies.specs.Sessions.{Replied}
 use Rattle.pot_commands.specs.Rows.{Row}
 use Rattle.pot_commands.specs.Steps.{steps_of}
-use Rattle.pot_session.specs.Serving.{LeavesRecords, setting_of}
+use Rattle.pot_shared.specs.Leaving.{LeavesRecords}
+use Rattle.pot_session.specs.Serving.{setting_of}
 
 -- A session over the image with which it began left that image: the log of its index leads from the
 -- records of the one to those of the other.

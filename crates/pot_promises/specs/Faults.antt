@@ -13,7 +13,7 @@ use Rattle.pot_image.specs.Images.{Contents}
 use Rattle.pot_image.specs.Rules.{FitsTogether}
 use Rattle.pot_replies.specs.Sections.{Section, Follows}
 use Rattle.pot_replies.specs.Sessions.{Replied}
-use Rattle.pot_commands.specs.Holding.{times}
+use Rattle.pot_shared.specs.Hands.{times}
 use Rattle.pot_commands.specs.Rows.{Row}
 use Rattle.pot_commands.specs.Steps.{steps_of}
 use Rattle.pot_session.specs.Serving.{Leaves, rooms_by, setting_of}

@@ -8,9 +8,9 @@ use Rattle.pot_steps.specs.GroupStep.{Breaks, FindsGone, Spared, opening}
 use Rattle.pot_image.specs.Images.{Contents}
 use Rattle.pot_image.specs.Rules.{FitsTogether}
 use Rattle.pot_replies.specs.Sections.{Section}
-use Rattle.pot_commands.specs.Holding.{times}
-use Rattle.pot_commands.specs.Taking.{marks_of}
-use Rattle.pot_session.specs.Groups.{MarksRose}
+use Rattle.pot_shared.specs.Hands.{times}
+use Rattle.pot_shared.specs.Coming.{marks_of}
+use Rattle.pot_shared.specs.Groups.{MarksRose}
 use Rattle.pot_session.specs.Serving.{Leaves, rooms_by}
 
 -- The opening of a table over archives that hold what a room meant: a Live slot is Gone exactly

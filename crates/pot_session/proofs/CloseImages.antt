@@ -1,21 +1,16 @@
 -- The image of a close.
 use Rattle.std.proofs.Common.{◌≡◌, ◌+◌, ◌++◌, inl, inr, ℕ, List, [], ◌∷◌, length, map, refl, sym, ap, subst, ◌∙◌, arith}
-use Rattle.std.specs.Prelude.{Option, Some, Result, Ok, Err, IfErr, IsErr, IsErrOf, slice_get, flat_map}
-use Rattle.std.proofs.lemmas.List.{length-map}
-use Rattle.std.proofs.lemmas.Option.{same_Some}
+use Rattle.std.specs.Prelude.{Option, Some, Result, Ok, Err, IfErr, IsErr, IsErrOf, flat_map}
 use Rattle.std.proofs.lemmas.Bool.{cases_lt}
 use Rattle.byteorder.specs.Endian.{big_bytes}
 use Rattle.pot_bytes.specs.Digests.{digest_bytes}
 use Rattle.pot_bytes.specs.declared.rack.Rack.{Rack}
-use Rattle.pot_bytes.proofs.Elements.{element_of_map}
 use Rattle.pot_outside.specs.Archives.{Meaning, IsMeant}
 use Rattle.pot_outside.specs.Counts.{Caused, Rose}
 use Rattle.pot_outside.specs.declared.archive.Shelf.{Shelf}
 use Rattle.pot_outside.specs.declared.faults.Failed.{Failed}
-use Rattle.pot_machine.specs.declared.entry.Entry.{Entry}
-use Rattle.pot_machine.specs.Table.{Table, serving_at}
+use Rattle.pot_machine.specs.Table.{Table}
 use Rattle.pot_index.specs.Records.{record_bytes}
-use Rattle.pot_group.specs.Group.{GroupView}
 use Rattle.pot_shelves.specs.Shelves.{Shelves}
 use Rattle.pot_image.specs.Images.{Contents, magic}
 use Rattle.pot_image.specs.Spelling.{table_bytes, head_bytes, counted_bytes, entry_bytes, index_entry_bytes, field_bytes, text_bytes, image_bytes}
@@ -29,11 +24,14 @@ use Rattle.pot_shared.specs.Members.{entries_of}
 use Rattle.pot_shared.specs.Ready.{GroupPass}
 use Rattle.pot_shared.specs.Catalogs.{IndexPass}
 use Rattle.pot_shared.specs.Works.{Known, section_of}
+use Rattle.pot_shared.proofs.LeavingWords.{opened_as, other_groups}
 use Rattle.pot_session.specs.Giving.{AnswersFor, GivesBack}
-use Rattle.pot_session.specs.Groups.{AreFirstPasses, IsOpened, MarksRose, records_read}
-use Rattle.pot_commands.specs.Holding.{times}
-use Rattle.pot_commands.specs.Taking.{marks_of}
-use Rattle.pot_session.specs.Serving.{still, AreOpened, RoseInHand, RoseInRoom, Shows, Desks, Rooms, IsInHand, IsInRoom, LeavesGroup, LeaveGroups, LeavesRecords, LeavesLogs, Leaves, IsBegun, IsCloseStop, Closes, close_answer, first_failure}
+use Rattle.pot_shared.specs.Groups.{AreFirstPasses, MarksRose, records_read}
+use Rattle.pot_shared.specs.Hands.{times}
+use Rattle.pot_shared.specs.Coming.{marks_of}
+use Rattle.pot_shared.specs.Leaving.{still, AreOpened, RoseInHand, Shows, IsInHand, LeaveGroups, LeavesRecords, LeavesLogs}
+use Rattle.pot_session.specs.Opened.{IsBegun}
+use Rattle.pot_session.specs.Serving.{RoseInRoom, Desks, Rooms, IsInRoom, Leaves, IsCloseStop, Closes, close_answer, first_failure}
 
 -- RELAYS ARE NOT WRITTEN
 
@@ -55,40 +53,7 @@ pub same_image : (v : Contents) → image_bytes (record v { tables = map still v
 unfolding image_bytes
 same_image v = ap (λ t. t ++ digest_bytes t) (same_text v)
 
--- THE TABLES
-
-pub leave_groups : {M : Type 0} (told : Type 0) (meant : ℕ → Meaning) (Has : Shelves → ℕ → Type 0) (see : M → GroupView) (ms : List M)
-    → ((n : ℕ) (m : M) → slice_get ms n ≡ Some m → LeavesGroup told meant Has (see m).first (see m).log (still (see m).table))
-    → LeaveGroups told meant Has (map (λ m. (see m).first) ms) (map (λ m. (see m).log) ms) (map still (map (λ m. (see m).table) ms))
-leave_groups told meant Has see ms leaves = record {
-  count = length-map (map (λ m. (see m).table) ms) still ∙ (length-map ms (λ m. (see m).table) ∙ sym (length-map ms (λ m. (see m).first)));
-  count_logs = length-map ms (λ m. (see m).log) ∙ sym (length-map ms (λ m. (see m).first));
-  each = λ g t u log et eu el.
-      (let a = element_of_map (λ m. (see m).first) ms g t et in let b = element_of_map (λ m. (see m).log) ms g log el in
-      let d = element_of_map still (map (λ m. (see m).table) ms) g u eu in let f = element_of_map (λ m. (see m).table) ms g d.0 d.1 in
-      let sb : b.0 ≡ a.0 = same_Some b.0 a.0 (sym b.1 ∙ a.1) in let sf : f.0 ≡ a.0 = same_Some f.0 a.0 (sym f.1 ∙ a.1) in
-      let log_is : (see a.0).log ≡ log = ap (λ m. (see m).log) (sym sb) ∙ b.2 in
-      let written : still (see a.0).table ≡ u = ap still (ap (λ m. (see m).table) (sym sf) ∙ f.2) ∙ d.2 in
-      subst (λ x. LeavesGroup told meant Has x log u) a.2 (subst (λ x. LeavesGroup told meant Has (see a.0).first x u) log_is
-      (subst (λ x. LeavesGroup told meant Has (see a.0).first (see a.0).log x) written (leaves g a.0 a.1))));
-}
-
--- what is known of the archives, by another word
-pub other_groups : (told : Type 0) (meant : ℕ → Meaning) (Has Is : Shelves → ℕ → Type 0) (read : List Table) (logs : List (List Entry)) (written : List Table) → ((s : Shelves) (n : ℕ) → Has s n → Is s n)
-    → LeaveGroups told meant Has read logs written → LeaveGroups told meant Is read logs written
-other_groups told meant Has Is read logs written is l = record {
-  count = l.count;
-  count_logs = l.count_logs;
-  each = λ g t u log et eu el. (let x = l.each g t u log et eu el in record {
-    view = x.view;
-    first = x.first;
-    is_log = x.is_log;
-    is = x.is;
-    settled = x.settled;
-    marked = x.marked;
-    archives = λ n has. is x.view.shelves n (x.archives n has);
-  });
-}
+-- THE ROOM
 
 -- archives that were in the hand are in the room, where it took them back
 in_room : {A : Type 0} (told : Type 0) (meaning : A → Meaning) (hand : List (Shelf A)) (means : ℕ → Meaning) (before now : ℕ) (given : Result (Unit {0}) Failed) (b : GivesBack told meaning hand means before now given)
@@ -101,19 +66,6 @@ in_room told meaning hand means before now given b s n (x, has, e, shows) t back
       faults = shows.faults ∙ is.faulted;
       losses = shows.losses ∙ is.lost;
     })
-
--- what opened their tables, by what is known of their counts
-pub opened_as : (meant : ℕ → Meaning) (Rises Shown : ℕ → Type 0) (t : Table) (log : List Entry) → ((n : ℕ) → Rises n → Shown n) → IsOpened meant Rises t log → IsOpened meant Shown t log
-opened_as meant Rises Shown t log shown o = record {
-  read = o.read;
-  gone = o.gone;
-  broke = o.broke;
-  found = o.found;
-  finds = o.finds;
-  missed = λ s c ls lc is sound. shown (serving_at t s c) (o.missed s c ls lc is sound);
-  breaks = o.breaks;
-  is = o.is;
-}
 
 -- a count that rose at an archive in the hand rose in the room, where it took that archive back
 rose_in_room : {A : Type 0} (told : Type 0) (meaning : A → Meaning) (hand : List (Shelf A)) (meant means : ℕ → Meaning) (before now : ℕ) (given : Result (Unit {0}) Failed)

@@ -9,11 +9,12 @@ use Rattle.pot_rows.specs.Rows.{view_at}
 use Rattle.pot_shared.specs.Members.{entries_of}
 use Rattle.pot_shared.specs.Ready.{GroupPass}
 use Rattle.pot_shared.specs.Works.{Known, gained, section_of}
-use Rattle.pot_commands.specs.Holding.{times}
-use Rattle.pot_commands.specs.Taking.{came_in}
-use Rattle.pot_session.specs.Groups.{AreFirstPasses}
-use Rattle.pot_session.specs.Serving.{AreLogs, came_by}
-use Rattle.pot_session.proofs.ComingLemmas.{came_of}
+use Rattle.pot_shared.specs.Hands.{times}
+use Rattle.pot_shared.specs.Coming.{came_in}
+use Rattle.pot_shared.specs.Groups.{AreFirstPasses}
+use Rattle.pot_shared.specs.Leaving.{AreLogs}
+use Rattle.pot_session.specs.Serving.{came_by}
+use Rattle.pot_shared.proofs.ComingLemmas.{came_of}
 
 -- the archives that logs brought are those that came since the openings
 pub came_since : (old new : Known) (logs : List (List Entry)) → AreFirstPasses old.groups old.index → AreLogs logs (section_of old new) → length logs ≡ length old.groups.names → (n : ℕ)

@@ -9,13 +9,13 @@ use Rattle.pot_outside.specs.Archives.{Meaning, IsMeant}
 use Rattle.pot_outside.specs.Counts.{Rose, Caused}
 use Rattle.pot_outside.specs.declared.archive.Shelf.{Shelf}
 use Rattle.pot_outside.specs.declared.faults.Failed.{Failed}
-use Rattle.pot_store.proofs.NoteLemmas.{one_if}
+use Rattle.pot_shared.proofs.Times.{one_if}
 use Rattle.pot_shelves.specs.Shelves.{numbers_of, shelf_of}
-use Rattle.pot_commands.specs.Holding.{AreMeant, times}
+use Rattle.pot_shared.specs.Hands.{AreMeant, times}
 use Rattle.pot_commands.proofs.TakingLemmas.{meant_by}
 use Rattle.pot_session.specs.Giving.{AnswersFor, FailsAt, GivesBack, IsUnlent}
-use Rattle.pot_session.proofs.ComingLemmas.{times_contains}
-use Rattle.pot_session.proofs.GroupLemmas.{find_shelf}
+use Rattle.pot_shared.proofs.Times.{times_contains}
+use Rattle.pot_shared.proofs.GroupLemmas.{find_shelf}
 use Rattle.pot_session.proofs.MeantLemmas.{HeldOrGiven, given_more}
 
 -- a number stands in a list that it heads

@@ -18,15 +18,19 @@ use Rattle.pot_shared.specs.Members.{entries_of}
 use Rattle.pot_shared.specs.Ready.{GroupPass, GroupPasses}
 use Rattle.pot_shared.specs.Catalogs.{IndexPasses}
 use Rattle.pot_shared.specs.Works.{Known, gained}
-use Rattle.pot_store.proofs.NoteLemmas.{one_if}
-use Rattle.pot_commands.specs.Going.{AllSole}
-use Rattle.pot_commands.specs.Holding.{times, AreOut, Untouched}
-use Rattle.pot_commands.specs.Taking.{Lending, Takes, Come, AreMarkedBy, AreUsed, came_in, marks_of}
+use Rattle.pot_shared.proofs.Times.{one_if}
+use Rattle.pot_shared.specs.Going.{AllSole}
+use Rattle.pot_shared.specs.Hands.{times}
+use Rattle.pot_commands.specs.Holding.{AreOut, Untouched}
+use Rattle.pot_commands.specs.Taking.{Lending, Takes, Come, AreUsed}
+use Rattle.pot_shared.specs.Coming.{AreMarkedBy, came_in, marks_of}
 use Rattle.pot_commands.proofs.ArrivingLemmas.{arrived_used}
-use Rattle.pot_commands.proofs.TakingLemmas.{arrival_in, came_within, times-append, times_there}
-use Rattle.pot_session.specs.Groups.{AreFirstPasses, AreLow, HaveCome, table_read, tables_read}
-use Rattle.pot_session.proofs.ComingLemmas.{times_contains}
-use Rattle.pot_session.proofs.Lists.{all_contained}
+use Rattle.pot_shared.proofs.ComingLemmas.{arrival_in}
+use Rattle.pot_shared.proofs.Times.{times-append, times_there}
+use Rattle.pot_commands.proofs.TakingLemmas.{came_within}
+use Rattle.pot_shared.specs.Groups.{AreFirstPasses, AreLow, HaveCome, table_read, tables_read}
+use Rattle.pot_shared.proofs.Times.{times_contains}
+use Rattle.pot_shared.proofs.Lists.{all_contained}
 
 -- LOW NUMBERS
 

@@ -33,10 +33,11 @@ use Rattle.pot_replies.specs.Sections.{Section}
 use Rattle.pot_replies.specs.Fetches.{GoneAgain, IsLost, IsHopeless, LastIs}
 use Rattle.pot_store.specs.Visits.{place_in}
 use Rattle.pot_store.proofs.FitLemmas.{current_fits, fits_place, fragment_within, point_within}
-use Rattle.pot_session.specs.Groups.{had_by}
-use Rattle.pot_session.specs.Serving.{IsInRoom, LeavesGroup, LeaveGroups, setting_of}
+use Rattle.pot_shared.specs.Groups.{had_by}
+use Rattle.pot_session.specs.Serving.{IsInRoom, setting_of}
+use Rattle.pot_shared.specs.Leaving.{LeavesGroup, LeaveGroups}
 use Rattle.pot_session.specs.Losses.{AreBack, LostNone, BeginWith, SwapsNone, IsInVain, IsLeft, FewCanBeHad, LostWhereFew, all_had, is_swap}
-use Rattle.pot_session.proofs.Lists.{all_at_place, at_same, flat_contains}
+use Rattle.pot_shared.proofs.Lists.{all_at_place, at_same, flat_contains}
 use Rattle.pot_session.proofs.LiveLemmas.{broken_past, data_columns-replayed, live_through, missed_behind, stuck_past}
 use Rattle.pot_session.proofs.StripeLemmas.{column_had}
 

@@ -6,9 +6,10 @@ use Rattle.std.proofs.lemmas.List.{take_more, take-append-drop, length-take-le, 
 use Rattle.std.proofs.lemmas.Bool.Decides.{eqb_tells}
 use Rattle.pot_outside.specs.declared.archive.Shelf.{Shelf}
 use Rattle.pot_shelves.specs.Shelves.{numbers_of}
-use Rattle.pot_store.proofs.NoteLemmas.{one_if}
-use Rattle.pot_commands.specs.Holding.{times, AreApart, AreOut}
-use Rattle.pot_commands.proofs.TakingLemmas.{times-append}
+use Rattle.pot_shared.proofs.Times.{one_if}
+use Rattle.pot_shared.specs.Hands.{times, AreApart}
+use Rattle.pot_commands.specs.Holding.{AreOut}
+use Rattle.pot_shared.proofs.Times.{times-append}
 
 -- without one shelf, its number stands once less
 pub times-removed : {A : Type 0} (n : ℕ) (ss : List (Shelf A)) (p : ℕ) (s : Shelf A) → p < length ss → s ≡ slice_index_or ss p s
@@ -111,9 +112,6 @@ is_another n ss p s l e none same =
     at (inr h) = absurd (h.1 (sym same))
 
 -- FRONTS OF THE NUMBERS
-
-pub is_zero : (n : ℕ) → eqb n 0 ≡ true → n ≡ 0
-is_zero n e = yes_eq (eqb n 0) n 0 (eqb_tells n 0) e
 
 times-front : (n : ℕ) (ns : List ℕ) (i : ℕ) → times n (take i ns) ≤ times n ns
 times-front n ns i = (let e = times-append n (take i ns) (drop i ns) in let f = ap (times n) (take-append-drop i ns) in omega (arith, e, f))

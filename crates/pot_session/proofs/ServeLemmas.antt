@@ -6,7 +6,7 @@ use Rattle.pot_bytes.specs.declared.rack.Place.{Place}
 use Rattle.pot_index.specs.declared.record.Record.{Record}
 use Rattle.pot_index.specs.declared.record.Split.{Split}
 use Rattle.pot_index.specs.Records.{current_of, splits_of}
-use Rattle.pot_image.specs.Rules.{FitsTogether, IsFilled, IsRecordOver}
+use Rattle.pot_image.specs.Rules.{FitsTable, FitsTogether, IsFilled, IsRecordOver}
 use Rattle.std.proofs.lemmas.List.Elements.{All-contains, Contains-append_right}
 use Rattle.std.proofs.lemmas.Option.{slice_get_within}
 use Rattle.pot_machine.specs.Slot.{is_void}
@@ -28,16 +28,22 @@ use Rattle.pot_commands.specs.declared.working.Ending.TheVariants as ending
 use Rattle.pot_commands.specs.Rows.{HasFilled, IsSessionSetting}
 use Rattle.pot_commands.specs.Ends.{Ends}
 use Rattle.pot_commands.specs.Failures.{Fails}
-use Rattle.pot_commands.specs.Going.{Stays}
+use Rattle.pot_shared.specs.Going.{Stays}
 use Rattle.pot_commands.proofs.Judging.{ends_over}
 use Rattle.pot_session.specs.declared.ending.status.Status.{Status}
 use Rattle.pot_session.specs.declared.ending.status.Status.TheVariants as status
 use Rattle.pot_session.specs.declared.ending.stop.Stop.{Stop}
 use Rattle.pot_session.specs.declared.ending.stop.Stop.TheVariants as stop
-use Rattle.pot_session.specs.Groups.{AreFirstPasses, table_read, tables_read, records_read}
-use Rattle.pot_session.proofs.Lists.{at_same}
+use Rattle.pot_shared.specs.Groups.{AreFirstPasses, IsFirstTable, table_read, tables_read, records_read}
+use Rattle.pot_shared.proofs.Lists.{at_same}
 use Rattle.pot_session.proofs.LossLemmas.{lost_where_few}
 use Rattle.pot_session.specs.Serving.{Desks, Rooms, Serves, Closed, Closes, IsCloseStop, IsEnd, OthersStay, setting_of, status_after}
+
+-- THE TABLES
+
+-- a group can begin with each table of an image
+pub first_tables : (rack : Rack) (ts : List Table) → All (FitsTable rack) ts → All (IsFirstTable rack) ts
+first_tables rack ts fits = λ k d l. (let f = fits k d l in record { of_rack = (f.data_columns, f.parity, f.stripes); relays = f.relays })
 
 -- WHAT STAYS
 

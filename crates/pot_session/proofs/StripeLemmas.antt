@@ -18,10 +18,11 @@ use Rattle.pot_steps.proofs.Steps.{worse_keeps}
 use Rattle.pot_group.specs.Arrivals.{arrival, arrivals}
 use Rattle.pot_group.specs.Causes.{archives_of, brought, brought_by}
 use Rattle.pot_image.specs.Rules.{FitsTable}
-use Rattle.pot_session.specs.Groups.{had_by}
-use Rattle.pot_session.specs.Serving.{IsInRoom, LeavesGroup, Shows, still}
+use Rattle.pot_shared.specs.Groups.{had_by}
+use Rattle.pot_session.specs.Serving.{IsInRoom}
+use Rattle.pot_shared.specs.Leaving.{LeavesGroup, Shows, still}
 use Rattle.pot_session.specs.Stripes.{CameBack, FitsRoom, StripesFit, held_in}
-use Rattle.pot_session.proofs.Lists.{all_at_place, at_same, flat_contains}
+use Rattle.pot_shared.proofs.Lists.{all_at_place, at_same, flat_contains}
 
 -- WHICH ARCHIVES A COLUMN HAS
 

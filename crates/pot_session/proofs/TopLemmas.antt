@@ -11,7 +11,8 @@ use Rattle.pot_session.specs.declared.ending.status.Status.{Status}
 use Rattle.pot_session.specs.declared.ending.status.Status.TheVariants as status
 use Rattle.pot_session.specs.declared.ending.stop.Stop.{Stop}
 use Rattle.pot_session.specs.declared.ending.stop.Stop.TheVariants as stop
-use Rattle.pot_commands.specs.Holding.{times, Untouched}
+use Rattle.pot_shared.specs.Hands.{times}
+use Rattle.pot_commands.specs.Holding.{Untouched}
 use Rattle.pot_commands.specs.Taking.{asked_by}
 use Rattle.pot_options.specs.Options.{Text}
 use Rattle.pot_words.specs.Tasks.{SpellTask}

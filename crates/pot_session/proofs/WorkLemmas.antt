@@ -10,11 +10,11 @@ use Rattle.pot_script.specs.declared.grouping.Step.TheVariants as steps
 use Rattle.pot_script.specs.Commands.{IsCommand}
 use Rattle.pot_commands.specs.Rows.{IsWorked}
 use Rattle.pot_commands.specs.Steps.{IsBatched, IsWorkedStep}
-use Rattle.pot_commands.specs.Holding.{times}
+use Rattle.pot_shared.specs.Hands.{times}
 use Rattle.pot_commands.specs.Taking.{asks, asks_in, asked_by}
-use Rattle.pot_commands.proofs.TakingLemmas.{times-append, times_there}
+use Rattle.pot_shared.proofs.Times.{times-append, times_there}
 use Rattle.pot_script.specs.Steps.{IsJobLine, IsWholeStep}
-use Rattle.pot_session.specs.Groups.{AreLow}
+use Rattle.pot_shared.specs.Groups.{AreLow}
 
 -- a command alone of the grammar is one that is worked
 is_worked : (rack : Rack) (c : Command) → IsWholeStep rack (steps.One c) → IsWorked rack.groups c

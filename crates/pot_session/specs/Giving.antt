@@ -5,7 +5,7 @@ use Rattle.pot_outside.specs.Archives.{Meaning, IsMeant}
 use Rattle.pot_outside.specs.Counts.{Rose}
 use Rattle.pot_outside.specs.declared.archive.Shelf.{Shelf}
 use Rattle.pot_outside.specs.declared.faults.Failed.{Failed}
-use Rattle.pot_commands.specs.Holding.{times}
+use Rattle.pot_shared.specs.Hands.{times}
 
 -- The room failed at the taking back of each of these archives: so often at least its count of own
 -- failures rose, and not at all where there are none.

@@ -5,10 +5,10 @@ pub mod Desks
 pub mod Drills
 pub mod Generating
 pub mod Giving
-pub mod Groups
 pub mod Listing
 pub mod Losses
 pub mod Making
+pub mod Opened
 pub mod Recovering
 pub mod Runs
 pub mod Serving

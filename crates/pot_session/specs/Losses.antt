@@ -17,7 +17,7 @@ use Rattle.pot_index.specs.Fits.{FitsRack}
 use Rattle.pot_replies.specs.Sections.{Section, mine}
 use Rattle.pot_replies.specs.Settings.{Setting}
 use Rattle.pot_replies.specs.Fetches.{IsLost, IsUnseen, seen_of}
-use Rattle.pot_commands.specs.Holding.{times}
+use Rattle.pot_shared.specs.Hands.{times}
 
 -- WHAT NO ARCHIVE DID
 

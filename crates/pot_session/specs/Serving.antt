@@ -1,27 +1,17 @@
 -- What a session leaves: the replies of its steps, and the image of its close with the logs by
 -- which they have them.
-use Rattle.std.specs.Prelude.{◌≡◌, ◌<◌, ◌≤◌, ◌^◌, ◌++◌, All, Contains, ℕ, true, List, [], ◌∷◌}
-use Rattle.std.specs.Prelude.{Option, Some, Result, Ok, Err, IfErr, flat_map, if◌then◌else◌, length}
-use Rattle.std.specs.Prelude.{map, slice_get, slice_index_or}
+use Rattle.std.specs.Prelude.{◌≡◌, ℕ, true, List, [], ◌∷◌, Option, Some, Result, Ok, Err, IfErr}
+use Rattle.std.specs.Prelude.{flat_map, if◌then◌else◌, map, slice_index_or}
 use Rattle.pot_outside.specs.Archives.{Meaning, IsMeant}
 use Rattle.pot_outside.specs.Counts.{Caused}
-use Rattle.pot_outside.specs.declared.archive.Shelf.{Shelf}
 use Rattle.pot_outside.specs.declared.faults.Failed.{Failed}
-use Rattle.pot_bytes.specs.declared.rack.Rack.{Rack}
 use Rattle.pot_pads.specs.Pads.{pads_of}
 use Rattle.pot_machine.specs.declared.entry.Entry.{Entry}
 use Rattle.pot_machine.specs.Table.{Table, archives_in}
 use Rattle.pot_machine.specs.Making.{empty_table}
 use Rattle.pot_bytes.specs.Digests.{digest_of}
 use Rattle.pot_group.specs.Arrivals.{arrivals}
-use Rattle.pot_group.specs.Group.{GroupView, IsSettled}
 use Rattle.pot_shelves.specs.Shelves.{Shelves}
-use Rattle.pot_index.specs.declared.record.Record.{Record}
-use Rattle.pot_index.specs.declared.entry.IndexEntry.{IndexEntry}
-use Rattle.pot_index.specs.declared.entry.Logged.{Logged}
-use Rattle.pot_index.specs.Entries.{entries}
-use Rattle.pot_index.specs.Index.{Names, names_read}
-use Rattle.pot_index.specs.Index as names
 use Rattle.pot_script.specs.declared.grouping.Step.{Step}
 use Rattle.pot_image.specs.Images.{Contents}
 use Rattle.pot_image.specs.Spelling.{image_bytes}
@@ -35,77 +25,21 @@ use Rattle.pot_commands.specs.declared.working.Ending.TheVariants as ending
 use Rattle.pot_commands.specs.declared.working.Ending.TheVariants.{RoomFailed}
 use Rattle.pot_commands.specs.Ends.{EndsOver}
 use Rattle.pot_commands.specs.Failures.{Fails}
-use Rattle.pot_commands.specs.Going.{AllSole}
-use Rattle.pot_commands.specs.Holding.{times}
-use Rattle.pot_commands.specs.Taking.{marks_of}
+use Rattle.pot_shared.specs.Going.{AllSole}
+use Rattle.pot_shared.specs.Hands.{times}
+use Rattle.pot_shared.specs.Coming.{marks_of}
 use Rattle.pot_session.specs.declared.ending.status.Status.{Status}
 use Rattle.pot_session.specs.declared.ending.status.Status.TheVariants as status
 use Rattle.pot_session.specs.declared.ending.stop.Stop.{Stop}
 use Rattle.pot_session.specs.declared.ending.stop.Stop.TheVariants as stop
 use Rattle.pot_session.specs.Desks.{IsKeepStop, Keeps}
 use Rattle.pot_session.specs.Giving.{FailsAt, IsUnlent}
-use Rattle.pot_session.specs.Groups.{HasMarks, IsOpened, MarksRose, had_by, records_read}
+use Rattle.pot_shared.specs.Groups.{MarksRose}
+use Rattle.pot_shared.specs.Leaving.{AreLogs, AreOpened, LeaveGroups, LeavesRecords, Shows}
 use Rattle.pot_session.specs.Losses.{AreBack, LostNone, LostWhereFew}
 use Rattle.pot_session.specs.Stops.{status_of}
 
--- room for the tables and the logs of so many groups, and for so many archives
-pub record HasSpaces (groups archives tables logs hand : ℕ) : Type 0 where
-  pub tables_fit : groups ≤ tables
-  pub logs_fit : groups ≤ logs
-  pub hand_fits : archives ≤ hand
-
--- each log has fewer than 2^32 entries
-abbrev pub AreShort : List (List Entry) → Type 0
-AreShort logs = All (λ (l : List Entry). length l < 2 ^ 32) logs
-
 -- THE IMAGE OF A CLOSE
-
--- a table as an image has it: relays are not written
-abbrev pub still : Table → Table
-still t = record t { relays = [] }
-
--- what is seen of an archive of a group is what it means
-pub record Shows (s : Shelves) (n : ℕ) (m : Meaning) : Type 0 where
-  pub blocks : (slot : ℕ) → s.held n slot ≡ m.held slot
-  pub sums : s.heard n ≡ m.heard
-  pub faults : s.faults n ≡ m.faults
-  pub losses : s.losses n ≡ m.losses
-
--- an archive of this number is in the hand, and means what is seen of it
-abbrev pub IsInHand : {A : Type 0} → (A → Meaning) → List (Shelf A) → Shelves → ℕ → Type 0
-IsInHand {A} meaning hand s n =
-    (x : Shelf A) × Contains hand x × (x.number ≡ n) × Shows s n (meaning x.archive)
-
--- an archive of this number is in the hand, and a count of it rose above what the number meant
-abbrev pub RoseInHand
-    : {A : Type 0} → (A → Meaning) → List (Shelf A) → (ℕ → Meaning) → ℕ → Type 0
-RoseInHand {A} meaning hand meant n =
-    (x : Shelf A) × Contains hand x × (x.number ≡ n)
-    × MarksRose (marks_of (meant n)) (marks_of (meaning x.archive))
-
--- A group that began with this table, and ended with this log and a table that is written so. It
--- keeps what a group keeps: its log leads from the first table to the last, its stripes keep their
--- law over the blocks that its archives hold, and the log names no more faults and losses than
--- these counted since they were taken. Its archives are those of the first table and those that its
--- log brought: the marks of each are what its number meant, and `Has` tells what each of them is.
-pub record LeavesGroup (told : Type 0) (meant : ℕ → Meaning) (Has : Shelves → ℕ → Type 0)
-    (read : Table) (log : List Entry) (written : Table) : Type 0 where
-  pub view : GroupView
-  pub first : view.first ≡ read
-  pub is_log : view.log ≡ log
-  pub is : written ≡ still view.table
-  pub settled : IsSettled told view
-  pub marked : told → HasMarks meant view
-  pub archives : (n : ℕ) → Contains (had_by view) n → Has view.shelves n
-
--- each group so
-pub record LeaveGroups (told : Type 0) (meant : ℕ → Meaning) (Has : Shelves → ℕ → Type 0)
-    (read : List Table) (logs : List (List Entry)) (written : List Table) : Type 0 where
-  pub count : length written ≡ length read
-  pub count_logs : length logs ≡ length read
-  pub each : (g : ℕ) (t u : Table) (log : List Entry) → slice_get read g ≡ Some t
-      → slice_get written g ≡ Some u → slice_get logs g ≡ Some log
-      → LeavesGroup told meant Has t log u
 
 -- whether a room tells what its archives hold, what it meant by each number before a session and
 -- means after it, and how often it had failed itself before and has after
@@ -141,25 +75,6 @@ abbrev pub RoseInRoom : (ℕ → Meaning) → (ℕ → Meaning) → List ℕ →
 RoseInRoom meant means missing n =
     times n missing ≡ 0 → MarksRose (marks_of (meant n)) (marks_of (means n))
 
--- the log of the index, which is of these entries with what they brought, leads from the records
--- read to those written
-pub record LeavesRecords (rack : Rack) (read : List Record) (story : List Logged)
-    (log : List IndexEntry) (written : List Record) : Type 0 where
-  pub ended : Names
-  pub is_log : log ≡ entries story
-  pub replays : names.Replays rack (names_read read) story ended
-  pub is : written ≡ ended.published
-
--- each group's log is what stood before this section and what this section added
-abbrev pub AreLogs : List (List Entry) → Section → Type 0
-AreLogs logs w =
-    (g : ℕ) (log : List Entry) → slice_get logs g ≡ Some log → log ≡ w.before g ++ w.added g
-
--- what stood in each log before a section is what the opening of its table logged
-abbrev pub AreOpened : (ℕ → Meaning) → (ℕ → Type 0) → List Table → Section → Type 0
-AreOpened meant Rises read w =
-    (g : ℕ) (t : Table) → slice_get read g ≡ Some t → IsOpened meant Rises t (w.before g)
-
 -- The image that a session which began with the first one leaves. Its logs are those of the
 -- openings, which are of no job, rest on blocks that the room meant, and call a slot Gone whose
 -- block the room meant only where a count of its archive rose; and then this section. `missing` has
@@ -176,23 +91,6 @@ pub record Leaves (rooms : Rooms) (missing : List ℕ) (first last : Contents)
   pub found : rooms.told
       → AreOpened rooms.meant (RoseInRoom rooms.meant rooms.means missing) first.tables w
   pub index_opened : w.index_before ≡ []
-
--- an image of this session, this rack, these tables and these records
-pub record IsBegun (first : Contents) (session : ℕ) (rack : Rack) (tables : List Table)
-    (records : List Record) : Type 0 where
-  pub is_session : first.session ≡ session
-  pub is_rack : first.rack ≡ rack
-  pub are_tables : first.tables ≡ tables
-  pub are_records : first.records ≡ records
-
--- What a vault leaves whose passes knew and know this: nobody else logged anything meanwhile, and
--- its logs are what the passes saw.
-pub record LeavesLogs (old new : Known) (rack : Rack) (logs : List (List Entry))
-    (log : List IndexEntry) (written : List Record) : Type 0 where
-  pub sole : AllSole old new
-  pub are_logs : AreLogs logs (section_of old new)
-  pub records : LeavesRecords rack (records_read new.index) (section_of old new).index_added log
-      written
 
 -- THE CLOSE
 

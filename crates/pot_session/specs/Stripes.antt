@@ -8,8 +8,9 @@ use Rattle.pot_steps.specs.Holdings.{Holdings, HoldsUp, LiveLaw}
 use Rattle.pot_group.specs.Arrivals.{arrivals}
 use Rattle.pot_image.specs.Images.{Contents}
 use Rattle.pot_image.specs.Rules.{FitsTogether}
-use Rattle.pot_commands.specs.Holding.{times}
-use Rattle.pot_session.specs.Serving.{IsInRoom, LeaveGroups}
+use Rattle.pot_shared.specs.Hands.{times}
+use Rattle.pot_session.specs.Serving.{IsInRoom}
+use Rattle.pot_shared.specs.Leaving.{LeaveGroups}
 
 -- what a room holds
 abbrev pub held_in : (ℕ → Meaning) → Holdings

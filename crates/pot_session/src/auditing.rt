@@ -18,7 +18,6 @@ use crate::ending::refusing::refuse;
 use crate::ending::status::Status;
 use crate::ending::stop::Stop;
 use crate::recovery::listing::ListFault;
-use crate::spelling::append_number;
 use crate::telling::Telling;
 use pot_audit::{Spot, Veil, audit_record};
 use pot_bytes::{Name, NoMemory, Rack};
@@ -26,6 +25,7 @@ use pot_commands::write_out;
 use pot_image::Image;
 use pot_index::Record;
 use pot_outside::{Desk, Failed, Sink};
+use pot_script::append_number;
 use pot_words::Audit;
 use std::alloc::{AllocError, Global};
 

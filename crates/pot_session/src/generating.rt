@@ -11,7 +11,6 @@ use crate::ending::status::Status;
 use crate::host::{Host, Staff};
 use crate::init::make_image;
 use crate::session::holding::hold;
-use crate::spelling::{append_digest, append_number};
 use pot_bytes::{NoMemory, digest_of};
 use pot_commands::write_out;
 use pot_doubles::{MemDesk, MemRoom, MemSink, MemSource, OpenGate};
@@ -19,6 +18,7 @@ use pot_generator::{
     generate_script, generator_rack, generator_replies, generator_seed, generator_workers,
 };
 use pot_outside::{Archive, Failed, Sink};
+use pot_script::{append_digest, append_number};
 use std::alloc::{AllocError, Global};
 use std::sync::Wait;
 use std::thread::Threads;
@@ -108,7 +108,7 @@ fn summary(alloc: Global, number: u32, written: &[u8]) -> Result<Vec<u8>, AllocE
     append_number(&mut text, u64::from(number))?;
     append_number(&mut text, u64::from(generator_replies()))?;
     text.extend_from_slice(b"\ndigest")?;
-    append_digest(&mut text, digest_of(written))?;
+    append_digest(&mut text, &digest_of(written))?;
     text.extend_from_slice(b"\n")?;
     Ok(text)
 }

@@ -25,7 +25,6 @@ mod intake;
 mod laws;
 mod recovery;
 mod session;
-mod spelling;
 mod telling;
 mod top;
 

@@ -1,9 +1,7 @@
 //! A session, from the taking of its archives to its close.
 pub(crate) mod archives;
 pub(crate) mod closing;
-pub(crate) mod groups;
 pub(crate) mod holding;
-pub(crate) mod opening;
 pub(crate) mod preparing;
 pub(crate) mod scripting;
 pub(crate) mod serving;

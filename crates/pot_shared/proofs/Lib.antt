@@ -11,3 +11,12 @@ pub mod WorkLemmas
 pub mod AddLemmas
 pub mod BlindLemmas
 pub mod FlightLemmas
+pub mod Times
+pub mod Lists
+pub mod Results
+pub mod GroupLemmas
+pub mod OpenLemmas
+pub mod ComingLemmas
+pub mod CloseLemmas
+pub mod LeavingWords
+pub mod LeftLemmas

@@ -11,3 +11,10 @@ pub mod Works
 pub mod Adds
 pub mod Blinds
 pub mod Callers
+pub mod Going
+pub mod Hands
+pub mod Coming
+pub mod Groups
+pub mod Remains
+pub mod Opening
+pub mod Leaving

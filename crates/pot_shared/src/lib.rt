@@ -5,6 +5,9 @@
 //! the log; then this call logged these, and did what the group's or the index's own call promises (`CallTurn`, `IndexTurn`).
 //! `mend_place`, `use_of` and `trace` are several of them, one after another.
 //!
+//! A vault begins with tables, records and archives (`Vault::open`), and what it leaves is one value (`Remains`): the tables and logs of
+//! its groups, the records and the log of its index, and all archives (`Vault::end`).
+//!
 //! It reads no script and starts no thread. It promises no progress, as `pot_turn`.
 #![tactic(auto)]
 
@@ -12,10 +15,14 @@ mod caller;
 mod catalog;
 mod ending;
 mod grouping;
+mod hand;
 mod indexing;
+mod leaving;
 mod member;
 mod mending;
 mod moving;
+mod opening;
+mod remains;
 mod sealed_put;
 mod sharing;
 mod starting;
@@ -27,9 +34,11 @@ mod vault;
 pub use caller::Caller;
 pub use catalog::{Catalog, CatalogOrigin, Strange};
 pub use ending::Closed;
+pub use hand::numbers_in;
 pub use member::{GroupOrigin, Logged, Member};
 pub use mending::Mending;
 pub use moving::ColumnAt;
+pub use remains::Remains;
 pub use sealed_put::SealedPut;
 pub use starting::VaultRefused;
 pub use vault::{Passes, Spaces, Vault};

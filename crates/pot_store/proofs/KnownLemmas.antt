@@ -10,7 +10,8 @@ use Rattle.pot_store.specs.declared.visiting.Point.{Point}
 use Rattle.pot_store.specs.declared.visiting.Point.TheVariants as point
 use Rattle.pot_store.specs.Visits.{came_of, was_seen, block_in}
 use Rattle.pot_store.specs.Points.{came_in, AreGathered}
-use Rattle.pot_store.proofs.NoteLemmas.{count_more, no_block, not_seen, one_if, points_count, points_more, shares_more}
+use Rattle.pot_store.proofs.NoteLemmas.{count_more, no_block, not_seen, points_count, points_more, shares_more}
+use Rattle.pot_shared.proofs.Times.{one_if}
 
 -- no more than all were seen
 pub seen_most : (n : ℕ) (s : Points) → count n (λ y. was_seen (came_in s y)) ≤ n

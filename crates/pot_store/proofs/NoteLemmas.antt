@@ -1,6 +1,6 @@
 -- What is known of the points of a fragment, and what is gathered of them.
 use Rattle.std.proofs.Common.{◌≡◌, ◌≢◌, ◌<◌, ◌≤◌, ⊎_elim, ℕ, zero, suc, ◌+◌, Bool, true, false, List, ◌++◌, length, refl, ap, sym, ◌∙◌, subst, arith, append-nil, length-append, add-one, get_or, ne_eqb}
-use Rattle.std.specs.Prelude.{Option, Some, None, if◌then◌else◌, nat_eq}
+use Rattle.std.specs.Prelude.{Option, Some, None, nat_eq}
 use Rattle.std.specs.List.{All, IsDistinct, list_any}
 use Rattle.std.specs.Cmp.{nat_eq_equiv}
 use Rattle.std.proofs.lemmas.List.Elements.{All-push}
@@ -11,15 +11,13 @@ use Rattle.pot_machine.specs.Table.{count}
 use Rattle.pot_machine.proofs.Searches.{count_zero}
 use Rattle.pot_steps.proofs.AheadLemmas.{count_same}
 use Rattle.pot_replies.specs.Joined.{Read, point_in, share_in, points_read, shares_read}
+use Rattle.pot_shared.proofs.Times.{one_if}
 use Rattle.pot_store.specs.declared.visiting.Point.{Point}
 use Rattle.pot_store.specs.declared.visiting.Point.TheVariants as point
 use Rattle.pot_store.specs.Visits.{Came, Unknown, Seen, Gone, Lost, Failed, Barred, came_of, was_seen, block_in}
 use Rattle.pot_store.proofs.GatherLemmas.{flat_more}
 
 -- COUNTS
-
-abbrev pub one_if : Bool → ℕ
-one_if b = if b then 1 else 0
 
 pub count_more : (n : ℕ) (test : ℕ → Bool) → count (n + 1) test ≡ count n test + one_if (test n)
 unfolding count

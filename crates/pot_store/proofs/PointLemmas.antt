@@ -28,7 +28,8 @@ use Rattle.pot_store.proofs.LookLemmas.{hit, visit_none, visit_set, visit_other,
 use Rattle.pot_store.proofs.FitLemmas.{GroupsDiffer}
 use Rattle.pot_store.proofs.ReadLemmas.{GoesOn, no_reads, reads_set}
 use Rattle.pot_store.proofs.GatherLemmas.{had_one}
-use Rattle.pot_store.proofs.NoteLemmas.{count_change, not_barred, one_if, one_most}
+use Rattle.pot_store.proofs.NoteLemmas.{count_change, not_barred, one_most}
+use Rattle.pot_shared.proofs.Times.{one_if}
 
 -- A LOOK, AND A MEND BEHIND IT
 

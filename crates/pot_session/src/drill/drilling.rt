@@ -14,12 +14,12 @@ use crate::ending::refusing::refuse;
 use crate::ending::status::Status;
 use crate::ending::stop::Stop;
 use crate::intake::{IntakeFault, read_out};
-use crate::spelling::{append_digest, append_number};
 use crate::telling::{Telling, tell};
 use pot_bytes::{Geometry, NoMemory};
 use pot_object::count_pieces;
 use pot_outside::{Sink, Source};
 use pot_pads::PadStream;
+use pot_script::{append_digest, append_number};
 use pot_shard::random_len;
 use pot_veil::{DrillFault, DrillReport, drill};
 use pot_words::Drill;
@@ -55,7 +55,7 @@ fn report_text(alloc: Global, count: usize, report: DrillReport) -> Result<Vec<u
     append_number(&mut text, u64::from(report.pieces))?;
     append_number(&mut text, u64::from(report.blocks))?;
     text.extend_from_slice(b"\ndigest")?;
-    append_digest(&mut text, report.digest)?;
+    append_digest(&mut text, &report.digest)?;
     text.extend_from_slice(b"\n")?;
     Ok(text)
 }

@@ -4,9 +4,8 @@ ghost use Rattle.std.specs.Prelude.{◌≡◌, IfOk};
 ghost use Rattle.pot_session.specs.Stops.{status_of, stop_text};
 
 use crate::ending::status::Status;
-use crate::spelling::{append_digest, append_number};
 use pot_bytes::{Digest, NoMemory};
-use pot_script::{print_bad_line, print_words_refused};
+use pot_script::{append_digest, append_number, print_bad_line, print_words_refused};
 use std::alloc::{AllocError, Global};
 
 /// Why there are no commands.
@@ -95,8 +94,8 @@ pub(crate) fn text_of(alloc: Global, stop: Stop) -> Result<Vec<u8>, NoMemory>
         Stop::Cut => text.extend_from_slice(b"image refused cut\n")?,
         Stop::Trailer { kept, computed } => {
             text.extend_from_slice(b"image refused trailer")?;
-            append_digest(&mut text, kept)?;
-            append_digest(&mut text, computed)?;
+            append_digest(&mut text, &kept)?;
+            append_digest(&mut text, &computed)?;
             text.extend_from_slice(b"\n")?;
         }
         Stop::Form { place } => {

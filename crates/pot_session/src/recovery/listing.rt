@@ -18,13 +18,13 @@ ghost use Rattle.pot_session.specs.Listing.{object_line, part_in, part_of, parti
 ghost use Rattle.pot_session.specs.Listing.{text_at, places_in};
 
 use crate::ending::status::Status;
-use crate::spelling::append_number;
 use byteorder::{BigEndian, ByteOrder};
 use hex::encode_to_slice;
 use pot_commands::write_out;
 use pot_object::ObjectHead;
 use pot_outside::{Failed, Sink};
 use pot_recover::Recovered;
+use pot_script::append_number;
 use std::alloc::{AllocError, Global};
 
 /// Why a listing ends before its end.

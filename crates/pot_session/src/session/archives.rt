@@ -1,49 +1,14 @@
 //! The archives of a session: taken from the room, and given back.
 
-ghost use Rattle.std.specs.Prelude.{◌≡◌, ◌⊎◌, ◌<◌, ◌≤◌, ◌++◌, ℕ, [], IsTrue, IfOk, OnOk, OnErr};
-ghost use Rattle.std.specs.Prelude.{IsErr, IsErrOf, false, length, vec_capacity, map, flat_map};
+ghost use Rattle.std.specs.Prelude.{◌≡◌, ◌⊎◌, ◌<◌, ◌≤◌, ℕ, [], IsTrue, OnOk, OnErr, IsErr, IsErrOf};
+ghost use Rattle.std.specs.Prelude.{false, length, vec_capacity};
 ghost use Rattle.pot_outside.specs.Counts.{Caused};
-ghost use Rattle.pot_machine.specs.Table.{archives_in};
-ghost use Rattle.pot_machine.specs.Column.{homes_of};
 ghost use Rattle.pot_shelves.specs.Shelves.{numbers_of};
-ghost use Rattle.pot_commands.specs.Holding.{AreApart, AreMeant, AreOut, Untouched};
+ghost use Rattle.pot_shared.specs.Hands.{AreApart, AreMeant};
+ghost use Rattle.pot_commands.specs.Holding.{AreOut, Untouched};
 ghost use Rattle.pot_session.specs.Giving.{GivesBack, IsUnlent};
 
-use pot_machine::{Column, GroupTable};
 use pot_outside::{Failed, Room, RoomFault, Shelf};
-use std::alloc::{AllocError, Global};
-
-/// Appends the archives of a column: its home, and then the target of its move.
-fn append_column(numbers: &mut Vec<u32>, column: &Column) -> Result<(), AllocError>
-    ensures { OnOk result (numbers.new.items ≡ numbers.old.items ++ homes_of column.now) }
-{
-    numbers.push(column.home)?;
-    if let Some(moving) = column.moving {
-        numbers.push(moving.to)?;
-    }
-    Ok(())
-}
-
-/// Appends the archives of a table, column by column.
-pub(crate) fn append_table(numbers: &mut Vec<u32>, table: &GroupTable) -> Result<(), AllocError>
-    ensures { OnOk result (numbers.new.items ≡ numbers.old.items ++ archives_in table.now) }
-{
-    for column in table.columns() {
-        append_column(numbers, column)?;
-    }
-    Ok(())
-}
-
-/// The archives of all tables, table by table.
-pub(crate) fn numbers_in(alloc: Global, tables: &[GroupTable]) -> Result<Vec<u32>, AllocError>
-    ensures { IfOk result (λ v. v.items ≡ flat_map archives_in tables.now) }
-{
-    let mut numbers = Vec::new(alloc);
-    for table in tables {
-        append_table(&mut numbers, table)?;
-    }
-    Ok(numbers)
-}
 
 /// Takes the archives of these numbers, in order.
 ///

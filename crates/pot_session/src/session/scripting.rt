@@ -8,11 +8,8 @@ use crate::ending::stop::Stop;
 use crate::intake::{IntakeFault, read_out};
 use pot_bytes::{NoMemory, Rack};
 use pot_outside::Source;
-use pot_script::{ScriptFault, Step, group_steps, read_script};
+use pot_script::{LONGEST_SCRIPT, ScriptFault, Step, group_steps, read_script};
 use std::alloc::Global;
-
-/// The most bytes of a script.
-const LONGEST_SCRIPT: usize = 67_108_864;
 
 /// Reads the source to its end, and the steps before `quit`.
 ///

@@ -1,8 +1,7 @@
 //! A session from the taking of its archives to its close.
 
-ghost use Rattle.std.specs.Prelude.{◌≡◌, ◌⊎◌, ◌<◌, ◌≤◌, ◌+◌, ◌++◌, ◌^◌, ℕ, [], IsTrue, IfOk, OnOk};
-ghost use Rattle.std.specs.Prelude.{OnErr, IsErr, IsErrOf, false, Some, length, vec_capacity};
-ghost use Rattle.std.specs.Prelude.{flat_map};
+ghost use Rattle.std.specs.Prelude.{◌≡◌, ◌<◌, ◌≤◌, ◌++◌, ◌^◌, ℕ, IsTrue, IfOk, OnOk, OnErr};
+ghost use Rattle.std.specs.Prelude.{IsErr, IsErrOf, false, Some, length, flat_map};
 ghost use Rattle.std.specs.List.{AllByRecursion};
 ghost use Rattle.pot_outside.specs.Counts.{Caused};
 ghost use Rattle.pot_image.specs.Images.{contents};
@@ -10,33 +9,29 @@ ghost use Rattle.pot_image.specs.Spelling.{image_bytes};
 ghost use Rattle.pot_image.specs.Rules.{FitsTogether};
 ghost use Rattle.pot_machine.specs.Table.{archives_in};
 ghost use Rattle.pot_shelves.specs.Shelves.{numbers_of};
-ghost use Rattle.pot_rows.specs.Ends.{HasAllParts};
-ghost use Rattle.pot_shared.specs.Ready.{AreReady};
-ghost use Rattle.pot_shared.specs.Catalogs.{IsIndexReady};
-ghost use Rattle.pot_shared.specs.Sharing.{HasAllButKept};
 ghost use Rattle.pot_script.specs.Steps.{IsWholeStep};
-ghost use Rattle.pot_session.specs.Groups.{AreFirstPasses, AreLow, AreTakenAt, tables_read};
-ghost use Rattle.pot_session.specs.Groups.{records_read};
+ghost use Rattle.pot_shared.specs.Groups.{AreLow, AreTakenAt};
+ghost use Rattle.pot_shared.specs.Hands.{AreApart, AreMeant};
+ghost use Rattle.pot_shared.specs.Remains.{IsFresh, HasSpace};
 ghost use Rattle.pot_commands.specs.Ends.{next_job};
 ghost use Rattle.pot_commands.specs.Taking.{asked_by};
-ghost use Rattle.pot_commands.specs.Holding.{AreApart, AreMeant, AreOut, Untouched};
+ghost use Rattle.pot_commands.specs.Holding.{AreOut, Untouched};
 ghost use Rattle.pot_session.specs.Giving.{IsUnlent};
-ghost use Rattle.pot_session.specs.Serving.{HasSpaces, Serves, IsEnd, rooms_by, desks_by};
-ghost use Rattle.pot_session.specs.Serving.{status_after};
+ghost use Rattle.pot_session.specs.Opened.{IsOpenedWith};
+ghost use Rattle.pot_session.specs.Serving.{Serves, IsEnd, rooms_by, desks_by, status_after};
 
 use crate::ending::status::Status;
 use crate::ending::stop::Stop;
 use crate::host::Staff;
-use crate::session::archives::{give_all, numbers_in, take_all};
+use crate::session::archives::{give_all, take_all};
 use crate::session::closing::{Opened, close_session};
-use crate::session::groups::Remains;
-use crate::session::opening::open_vault;
 use pot_bytes::NoMemory;
 use pot_commands::{Crew, Ending, Shared, work};
 use pot_image::Image;
 use pot_machine::GroupTable;
 use pot_outside::{Desk, Failed, Gate, Room, RoomFault, Sink};
 use pot_script::Step;
+use pot_shared::{Remains, Vault, numbers_in};
 use std::alloc::Global;
 use std::sync::Wait;
 use std::thread::Threads;
@@ -56,15 +51,12 @@ fn take_archives<R: Room>(
     requires home { (n : ℕ) → R.out room.old n ≡ false }
     requires apart { AreApart (flat_map archives_in tables.now) }
     requires low { AreLow (flat_map archives_in tables.now) }
-    ensures taken { IfOk result (λ r. numbers_of r.hand.items ≡ flat_map archives_in tables.now) }
+    ensures taken { IfOk result (λ p. numbers_of p.hand.items ≡ flat_map archives_in tables.now) }
     ensures meant { IsTrue R.A.account.tells
-        → IfOk result (λ r. AreMeant R.A.account.meaning (R.means room.old) r.hand.items) }
-    ensures fresh { IfOk result (λ r. (r.tables.items ≡ []) × (r.logs.items ≡ [])) }
-    ensures spaces { IfOk result
-        (λ r.
-        HasSpaces (length tables.now) 512 (vec_capacity r.tables) (vec_capacity r.logs)
-        (vec_capacity r.hand)) }
-    ensures few { IfOk result (λ r. length r.hand.items ≤ 512) }
+        → IfOk result (λ p. AreMeant R.A.account.meaning (R.means room.old) p.hand.items) }
+    ensures fresh { IfOk result IsFresh }
+    ensures space { IfOk result (HasSpace (length tables.now) 512) }
+    ensures few { IfOk result (λ p. length p.hand.items ≤ 512) }
     ensures out { OnOk result (AreOut (R.out room.new) (flat_map archives_in tables.now)) }
     ensures home { OnErr result ((n : ℕ) → R.out room.new n ≡ false) }
     ensures untouched { Untouched (flat_map archives_in tables.now) (R.means room.old)
@@ -87,13 +79,13 @@ fn take_archives<R: Room>(
     match take_all(room, &numbers, &mut remains.hand) {
         Ok(()) => Ok(remains),
         Err(fault) => {
-            remains.end();
+            remains.release();
             Err(fault)
         }
     }
 }
 
-/// Gives back all archives that remain.
+/// Gives back all archives of the hand.
 fn give_back<R: Room>(room: &mut R, remains: Remains<R::A>) -> Result<(), Failed>
     requires { AreOut (R.out room.old) (numbers_of remains.hand.items) }
     ensures home { (n : ℕ) → R.out room.new n ≡ false }
@@ -104,7 +96,7 @@ fn give_back<R: Room>(room: &mut R, remains: Remains<R::A>) -> Result<(), Failed
 {
     let mut remains = remains;
     let given = give_all(room, &mut remains.hand);
-    remains.end();
+    remains.release();
     given
 }
 
@@ -119,30 +111,9 @@ fn open_session<R: Room>(
 ) -> Result<Opened<R::A>, RoomFault>
     requires together { FitsTogether (contents image) }
     requires home { (n : ℕ) → R.out room.old n ≡ false }
-    ensures opened { IfOk result (λ o. AreFirstPasses o.passes.groups o.passes.index) }
-    ensures marked { IsTrue R.A.account.tells
+    ensures opened { IfOk result (IsOpenedWith (contents image)) }
+    ensures taken { IsTrue R.A.account.tells
         → IfOk result (λ o. AreTakenAt (R.means room.old) o.passes.groups) }
-    ensures read { IfOk result
-        (λ o.
-        (tables_read o.passes.groups ≡ image.tables.items)
-        × (records_read o.passes.index ≡ image.records.items)) }
-    ensures same { IfOk result
-        (λ o. (o.session ≡ image.session) × (o.rack ≡ image.rack) × (o.vault.rack ≡ image.rack)) }
-    ensures ready { IfOk result
-        (λ o.
-        AreReady o.vault.rack o.vault.groups o.passes.groups
-        × IsIndexReady o.vault.rack o.vault.groups o.vault.index o.passes.index) }
-    ensures count { IfOk result (λ o. length o.vault.groups ≡ o.vault.rack.groups) }
-    ensures parts { IfOk result (λ o. HasAllButKept o.passes.groups × HasAllParts o.passes.index) }
-    ensures places { IfOk result (λ o. length o.vault.groups ≤ o.spaces) }
-    ensures fresh { IfOk result
-        (λ o.
-        (o.remains.tables.items ≡ []) × (o.remains.logs.items ≡ [])
-        × (o.remains.hand.items ≡ [])) }
-    ensures spaces { IfOk result
-        (λ o.
-        HasSpaces (length image.tables.items) 512 (vec_capacity o.remains.tables)
-        (vec_capacity o.remains.logs) (vec_capacity o.remains.hand)) }
     ensures out { OnOk result (AreOut (R.out room.new) (flat_map archives_in image.tables.items)) }
     ensures home { OnErr result ((n : ℕ) → R.out room.new n ≡ false) }
     ensures untouched { Untouched (flat_map archives_in image.tables.items) (R.means room.old)
@@ -168,7 +139,7 @@ fn open_session<R: Room>(
         Ok(remains) => remains,
         Err(fault) => return Err(fault),
     };
-    match open_vault(alloc, &rack, tables, records, &mut remains) {
+    match Vault::open(alloc, &rack, tables, records, &mut remains) {
         Ok((vault, passes, spaces)) => Ok(Opened {
             session,
             rack,

@@ -10,8 +10,8 @@ returns c =
     let replies = ap spaced (c.from-2.ensures ∙ c.generator_replies.ensures c.args.number) in
     let digest = ap (λ b. codes " " ++ encode_lower b) c.digest_of.ensures in
     let word = c.in_ok-extend_from_slice.ensures.items ∙ ap (λ l. l ++ codes "generated") c.new-text.ensures.items in
-    let one = c.in_ok-append_number.ensures ∙ (λ i. word i ++ number i) in
-    let two = c.in_ok-append_number-2.ensures ∙ (λ i. one i ++ replies i) in
+    let one = c.in_ok-append_number.ensures.ok ∙ (λ i. word i ++ number i) in
+    let two = c.in_ok-append_number-2.ensures.ok ∙ (λ i. one i ++ replies i) in
     let three = c.in_ok-extend_from_slice-2.ensures.items ∙ ap (λ l. l ++ codes "\ndigest") two in
-    let four = c.in_ok-append_digest.ensures ∙ (λ i. three i ++ digest i) in
+    let four = c.in_ok-append_digest.ensures.ok ∙ (λ i. three i ++ digest i) in
     c.in_ok-extend_from_slice-3.ensures.items ∙ ap (λ l. l ++ codes "\n") four

@@ -2,9 +2,11 @@ use Rattle.std.proofs.Common.{◌≡◌, ◌<◌, IsTrue, true, false, length, r
 use Rattle.std.specs.Prelude.{[]}
 use Rattle.std.proofs.lemmas.List.{nil_from_length}
 use Rattle.pot_shelves.specs.Shelves.{numbers_of}
-use Rattle.pot_commands.specs.Holding.{times, AreOut}
+use Rattle.pot_shared.specs.Hands.{times}
+use Rattle.pot_commands.specs.Holding.{AreOut}
 use Rattle.pot_session.proofs.Counts.{caused_both}
-use Rattle.pot_session.proofs.OutLemmas.{times-removed, is_out, out_less, is_another, all_home, is_zero}
+use Rattle.pot_session.proofs.OutLemmas.{times-removed, is_out, out_less, is_another, all_home}
+use Rattle.pot_shared.proofs.Lists.{is_zero}
 use Rattle.pot_session.proofs.GivingLemmas.{GivenSofar, all_given, none_given, one_given}
 use Rattle.pot_session.proofs.session.archives.give_all.Goals as goal
 

@@ -2,7 +2,8 @@ use Rattle.std.proofs.Common.{◌≡◌, ◌≤◌, ℕ, IsTrue}
 use Rattle.std.specs.Prelude.{IsErr, vec_len, vec_capacity}
 use Rattle.pot_outside.specs.Counts.{Caused}
 use Rattle.pot_shelves.specs.Shelves.{numbers_of}
-use Rattle.pot_commands.specs.Holding.{times, AreOut, Untouched}
+use Rattle.pot_shared.specs.Hands.{times}
+use Rattle.pot_commands.specs.Holding.{AreOut, Untouched}
 use Rattle.pot_session.proofs.GivingLemmas.{GivenSofar}
 use Rattle.pot_session.proofs.session.archives.give_all.Given as goal
 

@@ -7,7 +7,8 @@ use Rattle.pot_bytes.proofs.Elements.{none_contained}
 use Rattle.pot_outside.specs.Archives.{IsMeant}
 use Rattle.pot_outside.specs.Counts.{Rose}
 use Rattle.pot_doubles.proofs.CallLemmas.{rose_later}
-use Rattle.pot_commands.specs.Holding.{times, AreMeant, AreOut}
+use Rattle.pot_shared.specs.Hands.{times, AreMeant}
+use Rattle.pot_commands.specs.Holding.{AreOut}
 use Rattle.pot_commands.proofs.ArrivingLemmas.{same_at}
 use Rattle.pot_session.proofs.Counts.{rose_before, err_again}
 use Rattle.pot_session.proofs.GivingLemmas.{is_unlent}

@@ -1,7 +1,8 @@
 use Rattle.std.proofs.Common.{◌≡◌, ◌≤◌, IsTrue, take}
 use Rattle.std.specs.Prelude.{vec_capacity}
 use Rattle.pot_shelves.specs.Shelves.{numbers_of}
-use Rattle.pot_commands.specs.Holding.{AreMeant, AreOut, Untouched}
+use Rattle.pot_shared.specs.Hands.{AreMeant}
+use Rattle.pot_commands.specs.Holding.{AreOut, Untouched}
 use Rattle.pot_session.proofs.session.archives.take_all.Given as goal
 
 abbrev pub invariant-loop-number : goal.invariant-loop-number

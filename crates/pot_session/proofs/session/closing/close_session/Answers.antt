@@ -8,37 +8,46 @@ use Rattle.pot_session.proofs.GivingLemmas.{missed}
 use Rattle.pot_session.proofs.CloseImages.{closes, close_stop, room_failure, desk_failure}
 use Rattle.pot_session.proofs.session.closing.close_session.Goals as goal
 
-pub end_vault-remains-requires-clause-served : goal.end_vault-remains-requires-clause-served
-end_vault-remains-requires-clause-served g c = (
-  c.requires.served.0,
-  c.requires.served.1,
-  c.requires.served.2,
-  c.requires.served.3,
-  out_apart (g.R.Room.out c.args.room.now) c.requires.served.1 c.requires.served.4,
-  c.requires.served.5,
+pub end-tables-requires-clause-served : goal.end-tables-requires-clause-served
+end-tables-requires-clause-served g c = (
+  c.requires.old,
+  c.requires.numbers,
+  c.requires.served,
+  c.requires.come,
+  out_apart (g.R.Room.out c.args.room.now) c.requires.numbers c.requires.out,
+  c.requires.low,
 )
+
+pub end-tables-requires-clause-vault : goal.end-tables-requires-clause-vault
+end-tables-requires-clause-vault g c = c.requires.vault
+
+pub end-tables-requires-clause-bare : goal.end-tables-requires-clause-bare
+end-tables-requires-clause-bare g c = c.requires.bare
+
+pub end-tables-requires-clause-space : goal.end-tables-requires-clause-space
+end-tables-requires-clause-space g c = c.requires.space
 
 pub give_hand-given-requires-after_bounds : goal.give_hand-given-requires-after_bounds
 give_hand-given-requires-after_bounds g c = λ bounds within n.
-    c.end_vault-remains.ensures.hand c.requires.served.0 c.requires.served.1 c.requires.served.2 c.requires.served.3 n ∙ c.requires.served.4 n
+    c.end-tables.ensures.hand c.requires.old c.requires.numbers c.requires.served c.requires.come n ∙ c.requires.out n
 
 pub keep_image-kept-requires : goal.keep_image-kept-requires
 keep_image-kept-requires g c =
-    countable _ _ refl c.end_vault-remains.ensures.countable.0 c.end_vault-remains.ensures.countable.1 c.end_vault-remains.ensures.countable.2
+    countable _ _ refl c.end-tables.ensures.countable.0 c.end-tables.ensures.countable.1 c.end-tables.ensures.countable.2
 
 pub returns-clause-untouched : goal.returns-clause-untouched
 returns-clause-untouched g c n home =
     c.give_hand-given.ensures.untouched n
-    (c.end_vault-remains.ensures.hand c.requires.served.0 c.requires.served.1 c.requires.served.2 c.requires.served.3 n ∙ none_out_of (g.R.Room.out c.args.room.now) c.requires.served.1 n c.requires.served.4 home)
+    (c.end-tables.ensures.hand c.requires.old c.requires.numbers c.requires.served c.requires.come n ∙ none_out_of (g.R.Room.out c.args.room.now) c.requires.numbers n c.requires.out home)
 
 pub returns-clause-closes : goal.returns-clause-closes
-returns-clause-closes g c old first meant failed served taken marks begun =
-    closes g.R.A.Archive.account.meaning _ (rooms_by (IsTrue g.R.A.Archive.account.tells) meant (g.R.Room.means c.give_hand-given.new.room) failed (g.R.Room.failures c.give_hand-given.new.room))
-    (g.R.Room.failures c.args.room.now) _ old (known c.args.opened.passes.groups c.args.opened.passes.index) _
-    (desks_by (IsTrue g.D.Desk.tells) (g.D.Desk.held c.keep_image-kept.new.desk) (g.D.Desk.faults c.args.desk.now) (g.D.Desk.faults c.keep_image-kept.new.desk)) first _ (g.D.Desk.held c.args.desk.now)
-    c.give_hand-given.result c.keep_image-kept.result _ c.keep_image-kept.ensures.told c.keep_image-kept.ensures.which c.keep_image-kept.ensures.cause c.give_hand-given.ensures.back served.opened begun c.requires.rack
-    (c.end_vault-remains.ensures.groups old meant served taken marks) (c.end_vault-remains.ensures.logs old served)
-    (λ told g t q. c.end_vault-remains.ensures.opened old meant served taken marks told g t (ap (λ ts. slice_get ts g) (sym begun.are_tables) ∙ q))
+returns-clause-closes g c s is =
+    closes g.R.A.Archive.account.meaning _ (rooms_by (IsTrue g.R.A.Archive.account.tells) s.meant (g.R.Room.means c.give_hand-given.new.room) s.failed (g.R.Room.failures c.give_hand-given.new.room))
+    (g.R.Room.failures c.args.room.now) _ s.old (known c.args.opened.passes.groups c.args.opened.passes.index) _
+    (desks_by (IsTrue g.D.Desk.tells) (g.D.Desk.held c.keep_image-kept.new.desk) (g.D.Desk.faults c.args.desk.now) (g.D.Desk.faults c.keep_image-kept.new.desk)) s.first _ (g.D.Desk.held c.args.desk.now)
+    c.give_hand-given.result c.keep_image-kept.result _ c.keep_image-kept.ensures.told c.keep_image-kept.ensures.which c.keep_image-kept.ensures.cause c.give_hand-given.ensures.back is.served.served.opened is.begun c.requires.rack
+    (c.end-tables.ensures.groups s.old s.meant is.served) (c.end-tables.ensures.logs s.old is.served.served)
+    (λ told g t q. c.end-tables.ensures.opened s.old s.meant is.served told g t (ap (λ ts. slice_get ts g) (sym is.begun.are_tables) ∙ q))
     c.first_failure.ensures
 
 pub returns-clause-which : goal.returns-clause-which

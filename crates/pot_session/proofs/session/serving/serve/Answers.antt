@@ -1,19 +1,19 @@
-use Rattle.std.proofs.Common.{◌≡◌, ◌++◌, IsTrue, length, sym, ap, subst, ◌∙◌}
-use Rattle.std.specs.Prelude.{Some, flat_map, vec_capacity}
+use Rattle.std.proofs.Common.{◌≡◌, ◌++◌, IsTrue, List, length, sym, ap, subst, ◌∙◌}
+use Rattle.std.specs.Prelude.{Some, flat_map}
 use Rattle.std.specs.List.{AllByRecursion}
-use Rattle.pot_bytes.specs.Rack.{IsRack}
 use Rattle.pot_bytes.specs.declared.rack.Rack.{Rack}
 use Rattle.pot_outside.specs.Archives.{IsMeant}
 use Rattle.pot_image.specs.Images.{contents}
 use Rattle.pot_image.specs.Spelling.{image_bytes}
-use Rattle.pot_machine.specs.Table.{archives_in}
+use Rattle.pot_machine.specs.Table.{Table, archives_in}
 use Rattle.pot_shared.specs.Works.{known}
 use Rattle.pot_commands.specs.declared.working.Ending.TheVariants as ending
 use Rattle.pot_commands.specs.Failures.{Fails}
 use Rattle.pot_commands.specs.Rows.{HasFilled}
 use Rattle.pot_commands.specs.Steps.{IsWorkedStep}
 use Rattle.pot_commands.specs.Taking.{asked_by, lending}
-use Rattle.pot_session.specs.Serving.{HasSpaces, IsEnd, desks_by, rooms_by}
+use Rattle.pot_shared.specs.Remains.{HasSpace}
+use Rattle.pot_session.specs.Serving.{IsEnd, desks_by, rooms_by}
 use Rattle.pot_session.proofs.Counts.{caused_both, caused_fails, caused_second}
 use Rattle.pot_session.proofs.FoundLemmas.{came_since}
 use Rattle.pot_session.proofs.LendLemmas.{first_used, have_come, home_after, image_low, low_after, marks_before, means_after, none_before_asked, none_first, out_after, still_meant}
@@ -22,52 +22,47 @@ use Rattle.pot_session.proofs.ServeLemmas.{but_kept_parts, all_parts, has_filled
 use Rattle.pot_session.proofs.session.serving.serve.Goals as goal
 
 pub work-ending-requires-clause-parts : goal.work-ending-requires-clause-parts
-work-ending-requires-clause-parts g c = λ bounds within. (but_kept_parts _ c.in-Ok.ensures.parts.0, all_parts _ c.in-Ok.ensures.parts.1)
+work-ending-requires-clause-parts g c = λ bounds within. (but_kept_parts _ c.in-Ok.ensures.opened.vault.parts.groups, all_parts _ c.in-Ok.ensures.opened.vault.parts.index)
 
 pub work-ending-requires-clause-can : goal.work-ending-requires-clause-can
-work-ending-requires-clause-can g c = λ bounds within. record {
-  is_rack = subst IsRack (sym c.in-Ok.ensures.same.2) c.requires.together.rack;
-  count = c.in-Ok.ensures.count;
-  ready = c.in-Ok.ensures.ready.0;
-  index_ready = c.in-Ok.ensures.ready.1;
-}
+work-ending-requires-clause-can g c = λ bounds within. c.in-Ok.ensures.opened.vault.can_call
 
 pub work-ending-requires-clause-filled : goal.work-ending-requires-clause-filled
 work-ending-requires-clause-filled g c = λ bounds within.
-    subst (λ (r : Rack). HasFilled r (known c.in-Ok.opened.passes.groups c.in-Ok.opened.passes.index)) (sym c.in-Ok.ensures.same.2)
-    (has_filled c.args.staff.now.host.seed.now (contents c.args.image) c.in-Ok.opened.passes.groups c.in-Ok.opened.passes.index c.requires.together c.in-Ok.ensures.opened c.in-Ok.ensures.read.0 c.in-Ok.ensures.read.1
-    (ap length c.in-Ok.ensures.ready.0.of.0 ∙ (c.in-Ok.ensures.count ∙ ap (λ (r : Rack). r.groups) c.in-Ok.ensures.same.2)))
+    subst (λ (r : Rack). HasFilled r (known c.in-Ok.opened.passes.groups c.in-Ok.opened.passes.index)) (sym c.in-Ok.ensures.opened.vault.is_rack)
+    (has_filled c.args.staff.now.host.seed.now (contents c.args.image) c.in-Ok.opened.passes.groups c.in-Ok.opened.passes.index c.requires.together c.in-Ok.ensures.opened.vault.first c.in-Ok.ensures.opened.vault.are_tables c.in-Ok.ensures.opened.vault.are_records
+    (ap length c.in-Ok.ensures.opened.vault.can_call.ready.of.0 ∙ (c.in-Ok.ensures.opened.vault.can_call.count ∙ ap (λ (r : Rack). r.groups) c.in-Ok.ensures.opened.vault.is_rack)))
 
 pub work-ending-requires-clause-worked : goal.work-ending-requires-clause-worked
 work-ending-requires-clause-worked g c = λ bounds within.
-    subst (λ (r : Rack). AllByRecursion (IsWorkedStep r.groups) c.args.steps.now) (sym c.in-Ok.ensures.same.2) (are_worked c.args.image.rack c.args.steps.now c.requires.worked)
+    subst (λ (r : Rack). AllByRecursion (IsWorkedStep r.groups) c.args.steps.now) (sym c.in-Ok.ensures.opened.vault.is_rack) (are_worked c.args.image.rack c.args.steps.now c.requires.worked)
 
 pub work-ending-requires-clause-used : goal.work-ending-requires-clause-used
 work-ending-requires-clause-used g c = λ bounds within.
-    first_used (g.R.Room.out c.open_session.new.room) (contents c.args.image) c.in-Ok.opened.passes.groups c.in-Ok.opened.passes.index c.requires.together c.in-Ok.ensures.opened c.in-Ok.ensures.read.0 c.in-Ok.ensures.out
+    first_used (g.R.Room.out c.open_session.new.room) (contents c.args.image) c.in-Ok.opened.passes.groups c.in-Ok.opened.passes.index c.requires.together c.in-Ok.ensures.opened.vault.first c.in-Ok.ensures.opened.vault.are_tables c.in-Ok.ensures.out
 
-pub close_session-closed-requires-clause-served : goal.close_session-closed-requires-clause-served
-close_session-closed-requires-clause-served g c = λ bounds within. (
-  known c.in-Ok.opened.passes.groups c.in-Ok.opened.passes.index,
-  (flat_map archives_in c.args.image.tables.items) ++ c.work-ending.ensures.took.taken,
-  record { opened = c.in-Ok.ensures.opened; went = c.work-ending.ensures.went; stays = c.work-ending.ensures.stays },
-  have_come (IsTrue g.R.A.Archive.account.tells) _ (asked_by c.args.steps.now) (lending (g.R.Room.out c.open_session.new.room) (g.R.Room.means c.open_session.new.room)) (lending (g.R.Room.out c.work-ending.new.room) (g.R.Room.means c.work-ending.new.room)) (known c.in-Ok.opened.passes.groups c.in-Ok.opened.passes.index) (known c.work-ending.new.passes.groups c.work-ending.new.passes.index) c.work-ending.ensures.took.taken c.work-ending.ensures.took.takes c.work-ending.ensures.took.come (flat_map archives_in c.args.image.tables.items) c.in-Ok.ensures.out
-      (ap (flat_map archives_in) (same_read _ _ _ _ c.in-Ok.ensures.ready.0 c.work-ending.ensures.can.ready c.work-ending.ensures.stays.groups ∙ c.in-Ok.ensures.read.0)),
-  out_after (IsTrue g.R.A.Archive.account.tells) _ (asked_by c.args.steps.now) (lending (g.R.Room.out c.open_session.new.room) (g.R.Room.means c.open_session.new.room)) (lending (g.R.Room.out c.work-ending.new.room) (g.R.Room.means c.work-ending.new.room)) (known c.in-Ok.opened.passes.groups c.in-Ok.opened.passes.index) (known c.work-ending.new.passes.groups c.work-ending.new.passes.index) c.work-ending.ensures.took.taken c.work-ending.ensures.took.takes c.work-ending.ensures.took.come (flat_map archives_in c.args.image.tables.items) c.in-Ok.ensures.out,
-  low_after (IsTrue g.R.A.Archive.account.tells) _ (asked_by c.args.steps.now) (lending (g.R.Room.out c.open_session.new.room) (g.R.Room.means c.open_session.new.room)) (lending (g.R.Room.out c.work-ending.new.room) (g.R.Room.means c.work-ending.new.room)) (known c.in-Ok.opened.passes.groups c.in-Ok.opened.passes.index) (known c.work-ending.new.passes.groups c.work-ending.new.passes.index) c.work-ending.ensures.took.taken c.work-ending.ensures.took.takes c.work-ending.ensures.took.come (flat_map archives_in c.args.image.tables.items) c.in-Ok.ensures.out (image_low (contents c.args.image) c.requires.together) (asked_low c.args.image.rack c.args.steps.now c.requires.worked),
-)
-
-pub close_session-closed-requires-clause-parts : goal.close_session-closed-requires-clause-parts
-close_session-closed-requires-clause-parts g c = λ bounds within.
-    (still_but_kept _ _ c.work-ending.ensures.stays.groups c.in-Ok.ensures.parts.0, still_all _ _ c.work-ending.ensures.stays.index c.in-Ok.ensures.parts.1)
-
-pub close_session-closed-requires-clause-spaces : goal.close_session-closed-requires-clause-spaces
-close_session-closed-requires-clause-spaces g c = λ bounds within.
-    subst (λ ts. HasSpaces (length ts) 512 (vec_capacity c.in-Ok.opened.remains.tables) (vec_capacity c.in-Ok.opened.remains.logs) (vec_capacity c.in-Ok.opened.remains.hand))
-    (sym (same_read _ _ _ _ c.in-Ok.ensures.ready.0 c.work-ending.ensures.can.ready c.work-ending.ensures.stays.groups ∙ c.in-Ok.ensures.read.0)) c.in-Ok.ensures.spaces
-
-pub close_session-closed-requires-clause-rack : goal.close_session-closed-requires-clause-rack
-close_session-closed-requires-clause-rack g c = λ bounds within. c.in-Ok.ensures.same.1 ∙ sym c.in-Ok.ensures.same.2
+pub close_session-closed-requires-after_bounds : goal.close_session-closed-requires-after_bounds
+close_session-closed-requires-after_bounds g c = λ bounds within. record {
+  old = known c.in-Ok.opened.passes.groups c.in-Ok.opened.passes.index;
+  numbers = (flat_map archives_in c.args.image.tables.items) ++ c.work-ending.ensures.took.taken;
+  served = record { opened = c.in-Ok.ensures.opened.vault.first; went = c.work-ending.ensures.went; stays = c.work-ending.ensures.stays };
+  come = have_come (IsTrue g.R.A.Archive.account.tells) _ (asked_by c.args.steps.now) (lending (g.R.Room.out c.open_session.new.room) (g.R.Room.means c.open_session.new.room)) (lending (g.R.Room.out c.work-ending.new.room) (g.R.Room.means c.work-ending.new.room)) (known c.in-Ok.opened.passes.groups c.in-Ok.opened.passes.index) (known c.work-ending.new.passes.groups c.work-ending.new.passes.index) c.work-ending.ensures.took.taken c.work-ending.ensures.took.takes c.work-ending.ensures.took.come (flat_map archives_in c.args.image.tables.items) c.in-Ok.ensures.out
+      (ap (flat_map archives_in) (same_read _ _ _ _ c.in-Ok.ensures.opened.vault.can_call.ready c.work-ending.ensures.can.ready c.work-ending.ensures.stays.groups ∙ c.in-Ok.ensures.opened.vault.are_tables));
+  out = out_after (IsTrue g.R.A.Archive.account.tells) _ (asked_by c.args.steps.now) (lending (g.R.Room.out c.open_session.new.room) (g.R.Room.means c.open_session.new.room)) (lending (g.R.Room.out c.work-ending.new.room) (g.R.Room.means c.work-ending.new.room)) (known c.in-Ok.opened.passes.groups c.in-Ok.opened.passes.index) (known c.work-ending.new.passes.groups c.work-ending.new.passes.index) c.work-ending.ensures.took.taken c.work-ending.ensures.took.takes c.work-ending.ensures.took.come (flat_map archives_in c.args.image.tables.items) c.in-Ok.ensures.out;
+  low = low_after (IsTrue g.R.A.Archive.account.tells) _ (asked_by c.args.steps.now) (lending (g.R.Room.out c.open_session.new.room) (g.R.Room.means c.open_session.new.room)) (lending (g.R.Room.out c.work-ending.new.room) (g.R.Room.means c.work-ending.new.room)) (known c.in-Ok.opened.passes.groups c.in-Ok.opened.passes.index) (known c.work-ending.new.passes.groups c.work-ending.new.passes.index) c.work-ending.ensures.took.taken c.work-ending.ensures.took.takes c.work-ending.ensures.took.come (flat_map archives_in c.args.image.tables.items) c.in-Ok.ensures.out (image_low (contents c.args.image) c.requires.together) (asked_low c.args.image.rack c.args.steps.now c.requires.worked);
+  vault = record {
+    can_call = c.work-ending.ensures.can;
+    parts = record {
+      groups = still_but_kept _ _ c.work-ending.ensures.stays.groups c.in-Ok.ensures.opened.vault.parts.groups;
+      index = still_all _ _ c.work-ending.ensures.stays.index c.in-Ok.ensures.opened.vault.parts.index;
+    };
+    fits = c.in-Ok.ensures.opened.places;
+  };
+  bare = c.in-Ok.ensures.opened.bare;
+  space = subst (λ (ts : List Table). HasSpace (length ts) 512 c.in-Ok.opened.remains)
+      (sym (same_read _ _ _ _ c.in-Ok.ensures.opened.vault.can_call.ready c.work-ending.ensures.can.ready c.work-ending.ensures.stays.groups ∙ c.in-Ok.ensures.opened.vault.are_tables)) c.in-Ok.ensures.opened.space;
+  rack = c.in-Ok.ensures.opened.rack ∙ sym c.in-Ok.ensures.opened.vault.is_rack;
+}
 
 pub returns-clause-untouched : goal.returns-clause-untouched
 returns-clause-untouched g c n none =
@@ -77,25 +72,30 @@ returns-clause-untouched g c n none =
 
 pub returns-clause-serves : goal.returns-clause-serves
 returns-clause-serves g c =
-    let closes = c.close_session-closed.ensures.closes (known c.in-Ok.opened.passes.groups c.in-Ok.opened.passes.index) (contents c.args.image) (g.R.Room.means c.args.room.now) (g.R.Room.failures c.args.room.now)
-    (record { opened = c.in-Ok.ensures.opened; went = c.work-ending.ensures.went; stays = c.work-ending.ensures.stays }) c.in-Ok.ensures.marked
-    (marks_before (IsTrue g.R.A.Archive.account.tells) _ (asked_by c.args.steps.now) (lending (g.R.Room.out c.open_session.new.room) (g.R.Room.means c.open_session.new.room)) (lending (g.R.Room.out c.work-ending.new.room) (g.R.Room.means c.work-ending.new.room)) (known c.in-Ok.opened.passes.groups c.in-Ok.opened.passes.index) (known c.work-ending.new.passes.groups c.work-ending.new.passes.index) c.work-ending.ensures.took.taken c.work-ending.ensures.took.takes c.work-ending.ensures.took.come (flat_map archives_in c.args.image.tables.items) c.in-Ok.ensures.out (g.R.Room.means c.args.room.now) c.open_session.ensures.untouched) (record {
-      is_session = sym c.in-Ok.ensures.same.0;
-      is_rack = sym c.in-Ok.ensures.same.1;
-      are_tables = sym (same_read _ _ _ _ c.in-Ok.ensures.ready.0 c.work-ending.ensures.can.ready c.work-ending.ensures.stays.groups ∙ c.in-Ok.ensures.read.0);
-      are_records = sym (same_records _ _ c.work-ending.ensures.stays.index ∙ c.in-Ok.ensures.read.1);
+    let closes = c.close_session-closed.ensures.closes (record { old = known c.in-Ok.opened.passes.groups c.in-Ok.opened.passes.index; first = contents c.args.image; meant = g.R.Room.means c.args.room.now; failed = g.R.Room.failures c.args.room.now }) (record {
+      served = record {
+        served = record { opened = c.in-Ok.ensures.opened.vault.first; went = c.work-ending.ensures.went; stays = c.work-ending.ensures.stays };
+        taken = c.in-Ok.ensures.taken;
+        marked = marks_before (IsTrue g.R.A.Archive.account.tells) _ (asked_by c.args.steps.now) (lending (g.R.Room.out c.open_session.new.room) (g.R.Room.means c.open_session.new.room)) (lending (g.R.Room.out c.work-ending.new.room) (g.R.Room.means c.work-ending.new.room)) (known c.in-Ok.opened.passes.groups c.in-Ok.opened.passes.index) (known c.work-ending.new.passes.groups c.work-ending.new.passes.index) c.work-ending.ensures.took.taken c.work-ending.ensures.took.takes c.work-ending.ensures.took.come (flat_map archives_in c.args.image.tables.items) c.in-Ok.ensures.out (g.R.Room.means c.args.room.now) c.open_session.ensures.untouched;
+      };
+      begun = record {
+        is_session = sym c.in-Ok.ensures.opened.session;
+        is_rack = sym c.in-Ok.ensures.opened.rack;
+        are_tables = sym (same_read _ _ _ _ c.in-Ok.ensures.opened.vault.can_call.ready c.work-ending.ensures.can.ready c.work-ending.ensures.stays.groups ∙ c.in-Ok.ensures.opened.vault.are_tables);
+        are_records = sym (same_records _ _ c.work-ending.ensures.stays.index ∙ c.in-Ok.ensures.opened.vault.are_records);
+      };
     }) in
     let names : length c.in-Ok.opened.passes.groups.names ≡ c.args.image.rack.groups =
-    ap length c.in-Ok.ensures.ready.0.of.0 ∙ (c.in-Ok.ensures.count ∙ ap (λ (r : Rack). r.groups) c.in-Ok.ensures.same.2) in
+    ap length c.in-Ok.ensures.opened.vault.can_call.ready.of.0 ∙ (c.in-Ok.ensures.opened.vault.can_call.count ∙ ap (λ (r : Rack). r.groups) c.in-Ok.ensures.opened.vault.is_rack) in
     let long : length closes.last.group_logs ≡ length c.in-Ok.opened.passes.groups.names = closes.leaves.groups.count_logs ∙ (c.requires.together.tables.count ∙ sym names) in
     serves_closed c.args.staff.now.host.seed.now (contents c.args.image) c.args.steps.now
     (rooms_by (IsTrue g.R.A.Archive.account.tells) (g.R.Room.means c.args.room.now) (g.R.Room.means c.close_session-closed.new.room) (g.R.Room.failures c.args.room.now) (g.R.Room.failures c.close_session-closed.new.room)) _ _ _
     (desks_by (IsTrue g.D.Desk.tells) (g.D.Desk.held c.close_session-closed.new.desk) (g.D.Desk.faults c.args.desk.now) (g.D.Desk.faults c.close_session-closed.new.desk))
     (g.D.Desk.held c.args.desk.now ≡ Some (image_bytes (contents c.args.image))) _ _ (known c.in-Ok.opened.passes.groups c.in-Ok.opened.passes.index) (known c.work-ending.new.passes.groups c.work-ending.new.passes.index) c.work-ending.result
-    (g.R.Room.failures c.work-ending.new.room) c.close_session-closed.result _ c.in-Ok.ensures.opened c.in-Ok.ensures.read.0 c.in-Ok.ensures.read.1 c.in-Ok.ensures.same.2 c.in-Ok.ensures.same.0 c.work-ending.ensures.ends
+    (g.R.Room.failures c.work-ending.new.room) c.close_session-closed.result _ c.in-Ok.ensures.opened.vault.first c.in-Ok.ensures.opened.vault.are_tables c.in-Ok.ensures.opened.vault.are_records c.in-Ok.ensures.opened.vault.is_rack c.in-Ok.ensures.opened.session c.work-ending.ensures.ends
     (subst (λ k. Fails k (g.R.Room.failures c.work-ending.new.room) (c.work-ending.result ≡ ending.RoomFailed)) c.in-Ok.ensures.sound c.work-ending.ensures.own) closes c.requires.kept
     (λ told well n none unbrought. (let still = still_meant (IsTrue g.R.A.Archive.account.tells) _ (asked_by c.args.steps.now) (lending (g.R.Room.out c.open_session.new.room) (g.R.Room.means c.open_session.new.room)) (lending (g.R.Room.out c.work-ending.new.room) (g.R.Room.means c.work-ending.new.room)) (known c.in-Ok.opened.passes.groups c.in-Ok.opened.passes.index) (known c.work-ending.new.passes.groups c.work-ending.new.passes.index) c.work-ending.ensures.took.taken c.work-ending.ensures.took.takes c.work-ending.ensures.took.come (flat_map archives_in c.args.image.tables.items) c.in-Ok.ensures.out
-    told well closes.sole n none (sym (came_since (known c.in-Ok.opened.passes.groups c.in-Ok.opened.passes.index) (known c.work-ending.new.passes.groups c.work-ending.new.passes.index) closes.last.group_logs c.in-Ok.ensures.opened closes.leaves.logs long n) ∙ unbrought) in
+    told well closes.sole n none (sym (came_since (known c.in-Ok.opened.passes.groups c.in-Ok.opened.passes.index) (known c.work-ending.new.passes.groups c.work-ending.new.passes.index) closes.last.group_logs c.in-Ok.ensures.opened.vault.first closes.leaves.logs long n) ∙ unbrought) in
     subst (λ m. IsMeant m (g.R.Room.means c.close_session-closed.new.room n)) (c.open_session.ensures.untouched n none)
     (subst (λ m. IsMeant (g.R.Room.means c.open_session.new.room n) m) (sym (c.close_session-closed.ensures.untouched n still.0)) still.1)))
     c.status_after.ensures c.requires.together

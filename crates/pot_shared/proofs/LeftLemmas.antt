@@ -1,0 +1,212 @@
+-- What a vault that ended leaves: its records, its tables, and the archives of its groups.
+use Rattle.std.proofs.Common.{◌≡◌, ◌<◌, ◌≤◌, ◌^◌, ◌+◌, inl, inr, ⊎_elim, ℕ, zero, suc, List, [], ◌∷◌, length, map, refl, sym, ap, subst, ◌∙◌, arith, get_or}
+use Rattle.std.specs.Prelude.{Some, None, All, Contains, slice_get, flat_map}
+use Rattle.std.proofs.lemmas.List.{length-map}
+use Rattle.std.proofs.lemmas.List.Elements.{Contains-append_cases}
+use Rattle.std.proofs.lemmas.Option.{slice_get_within}
+use Rattle.pot_bytes.specs.declared.rack.Rack.{Rack}
+use Rattle.pot_bytes.proofs.Elements.{contains_front, element_of_map}
+use Rattle.pot_outside.specs.Archives.{Meaning}
+use Rattle.pot_outside.specs.declared.archive.Marks.{Marks}
+use Rattle.pot_outside.specs.declared.archive.Shelf.{Shelf}
+use Rattle.pot_machine.specs.Table.{Table, archives_in}
+use Rattle.pot_machine.specs.declared.entry.Entry.{Entry}
+use Rattle.pot_index.specs.declared.entry.IndexEntry.{IndexEntry}
+use Rattle.pot_index.specs.declared.record.Record.{Record}
+use Rattle.pot_index.specs.Entries.{entries}
+use Rattle.pot_index.specs.Index.{IndexView, IsIndex, names_read, Replays}
+use Rattle.pot_group.specs.Arrivals.{arrivals}
+use Rattle.pot_group.specs.Group.{GroupView, GroupParts, IsSettled, view_of}
+use Rattle.pot_shelves.specs.Shelves.{numbers_of, shelf_of, given, plain}
+use Rattle.pot_shelves.proofs.ShelfLemmas.{rose_more}
+use Rattle.pot_index.proofs.RecordLaws.{few_published}
+use Rattle.pot_turn.specs.declared.name.TurnName.{TurnName}
+use Rattle.pot_worked.specs.Worked.{added}
+use Rattle.pot_rows.specs.Rows.{view_at}
+use Rattle.pot_shared.specs.Members.{entries_of, kept_log, opened_at, origin_of, mark_at}
+use Rattle.pot_shared.specs.Ready.{GroupPass, GroupPasses, AreReady}
+use Rattle.pot_shared.specs.Catalogs.{IndexPasses, IsIndexReady, records_in}
+use Rattle.pot_shared.specs.Sharing.{Ends}
+use Rattle.pot_shared.specs.Works.{Known, known, gained, section_of}
+use Rattle.pot_shared.specs.Going.{AllSole}
+use Rattle.pot_shared.specs.Hands.{times, AreApart}
+use Rattle.pot_shared.proofs.Times.{times-append}
+use Rattle.pot_shared.specs.Coming.{AreMarkedBy, came_in, marks_of}
+use Rattle.pot_shared.specs.Groups.{AreServed, AreEnded, AreLow, AreTakenAt, HasMarks, HaveCome, IsOpened, MarksRose, RoseBy, had_by, tables_read, records_read}
+use Rattle.pot_shared.specs.Leaving.{AreOpened, IsInHand, RoseInHand, LeavesRecords, LeavesLogs, LeaveGroups, still}
+use Rattle.pot_shared.proofs.Lists.{same_at, flat_contains}
+use Rattle.pot_shared.proofs.GroupLemmas.{find_shelf}
+use Rattle.pot_shared.proofs.CloseLemmas.{closed_firsts, closed_kept, closed_log, closed_story, its_came, members_of, opened_none, sole_all}
+use Rattle.pot_shared.proofs.ComingLemmas.{came_marked, came_of, few_archives}
+use Rattle.pot_shared.proofs.LeavingWords.{leave_groups, opened_as}
+
+-- THE INDEX
+
+-- it has no more records than an image may have, and its log no more entries
+pub few_records : (s : IndexView) (records : List Record) → IsIndex s → records ≡ s.now.published → length records < 2 ^ 32
+few_records s records is e =
+    (let n = ap length e in let m = few_published s.rack (names_read s.read) s.now s.log is.replays in let few = is.read.few in let room = is.room in omega (arith, n, m, few, room))
+
+pub few_entries : (s : IndexView) (log : List IndexEntry) → IsIndex s → log ≡ entries s.log → length log < 2 ^ 32
+few_entries s log is e = (let n = ap length e in let m = length-map s.log (λ x. x.entry) in let room = is.room in omega (arith, n, m, room))
+
+-- THE GROUPS
+
+-- the archives of groups are those of the tables that they began with, and those that came
+had_parts : {M : Type 0} (see : M → GroupView) (ms : List M) (n : ℕ)
+    → times n (flat_map (λ m. had_by (see m)) ms) ≡ times n (flat_map archives_in (map (λ m. (see m).first) ms)) + times n (flat_map (λ m. arrivals (see m).log) ms)
+had_parts see [] n = refl
+had_parts see (m ∷ ms) n =
+    (let a = times-append n (had_by (see m)) (flat_map (λ x. had_by (see x)) ms) in
+    let b = times-append n (archives_in (see m).first) (arrivals (see m).log) in
+    let c = times-append n (archives_in (see m).first) (flat_map archives_in (map (λ x. (see x).first) ms)) in
+    let d = times-append n (arrivals (see m).log) (flat_map (λ x. arrivals (see x).log) ms) in
+    let e = had_parts see ms n in omega (arith, a, b, c, d, e))
+
+module _ {M : Type 0} (see : M → GroupView) (rack : Rack) (names turn : List TurnName) (groups : GroupPasses) (passes : IndexPasses) (ms : List M) (ended : IndexView)
+    (ready : AreReady rack names groups) (index_ready : IsIndexReady rack names turn passes) (old : Known) (s : AreServed old (known groups passes)) (e : Ends (λ m. kept_log (see m)) (λ m. origin_of (see m)) rack names groups (view_at passes 0) ms ended) where
+  firsts : map (λ m. (see m).first) ms ≡ tables_read groups
+  firsts = closed_firsts see rack names groups (view_at passes 0) ms ended ready e
+
+  -- the archives of the groups are those of the tables that they began with, and those that came
+  pub closed_had : (numbers : List ℕ) → HaveCome old (known groups passes) numbers → (n : ℕ) → times n (flat_map (λ m. had_by (see m)) ms) ≡ times n numbers
+  closed_had numbers have n =
+      (let a = had_parts see ms n in
+      let b : times n (flat_map archives_in (map (λ m. (see m).first) ms)) ≡ times n (flat_map archives_in (tables_read groups)) = ap (λ ts. times n (flat_map archives_in ts)) firsts in
+      let c = came_of (λ m. (see m).log) ms (gained old.groups groups) (its_came see rack names turn groups passes ms ended ready index_ready old s e) n in
+      let d : times n (came_in (length ms) (gained old.groups groups)) ≡ times n (came_in (length old.groups.names) (gained old.groups groups)) =
+      ap (λ k. times n (came_in k (gained old.groups groups))) (members_of see rack names turn groups passes ms ended ready index_ready old s e) in
+      let h = have (sole_all see rack names turn groups passes ms ended ready index_ready old s e) n in omega (arith, a, b, c, d, h))
+
+  -- so there are few
+  pub closed_few : (numbers : List ℕ) → HaveCome old (known groups passes) numbers → AreApart numbers → AreLow numbers → length (flat_map (λ m. had_by (see m)) ms) ≤ 512
+  closed_few numbers have apart low =
+      few_archives (flat_map (λ m. had_by (see m)) ms)
+      (λ n. (let a = closed_had numbers have n in let b = apart n in omega (arith, a, b)))
+      (λ n lt. closed_had numbers have n ∙ low n lt)
+
+  pub closed_long : length ms ≡ length (tables_read groups)
+  closed_long = sym (length-map ms (λ m. (see m).first)) ∙ ap length firsts
+
+  -- its log leads from the records read to those that are left, and it is what the passes gained
+  closed_records : (log : List IndexEntry) (records : List Record) → log ≡ entries ended.log → records ≡ ended.now.published
+      → LeavesRecords rack (records_read passes) (added (view_at old.index 0) (view_at passes 0)) log records
+  closed_records log records el er = subst (λ story. LeavesRecords rack (records_read passes) story log records) (closed_story see rack names turn groups passes ms ended ready index_ready old s e) (record {
+    ended = ended.now;
+    is_log = el;
+    replays = subst (λ rs. Replays rack (names_read rs) ended.log ended.now) (ap records_in e.index_closed.named)
+        (subst (λ r. Replays r (names_read ended.read) ended.log ended.now) e.index_rack e.is_index.replays);
+    is = er;
+  })
+
+  -- what the vault leaves
+  pub closed_leaves : (logs : List (List Entry)) (log : List IndexEntry) (records : List Record) → logs ≡ map (λ m. (see m).log) ms → log ≡ entries ended.log → records ≡ ended.now.published
+      → LeavesLogs old (known groups passes) rack logs log records
+  closed_leaves logs log records eg el er = record {
+    sole = sole_all see rack names turn groups passes ms ended ready index_ready old s e;
+    are_logs = λ n l q. (let m = element_of_map (λ m. (see m).log) ms n l (subst (λ ls. slice_get ls n ≡ Some l) eg q) in
+        sym m.2 ∙ closed_log see rack names turn groups passes ms ended ready index_ready old s e n m.0 m.1);
+    records = closed_records log records el er;
+  }
+
+-- WHAT THE GROUPS LEAVE
+
+module _ {A M : Type 0} (told : Type 0) (meaning : A → Meaning) (parts : M → GroupParts A) (rack : Rack) (names turn : List TurnName) (groups : GroupPasses) (passes : IndexPasses) (ms : List M) (ended : IndexView)
+    (ready : AreReady rack names groups) (index_ready : IsIndexReady rack names turn passes) (old : Known) (s : AreServed old (known groups passes))
+    (e : Ends (λ m. kept_log (view_of meaning (parts m))) (λ m. origin_of (view_of meaning (parts m))) rack names groups (view_at passes 0) ms ended) (all : AreEnded told (λ m. view_of meaning (parts m)) ms)
+    (meant : ℕ → Meaning) (taken : told → AreTakenAt meant old.groups)
+    (marks : told → AllSole old (known groups passes) → (g : ℕ) → g < length old.groups.names → AreMarkedBy meant (added (view_at old.groups g) (view_at groups g))) (hand : List (Shelf A)) (is_hand : hand ≡ flat_map (λ m. (parts m).shelves.shelves) ms) where
+  -- its origin is the one that its first pass knows
+  origin_is : (n : ℕ) (m : M) → slice_get ms n ≡ Some m → (view_at old.groups n).origin ≡ Some (origin_of (view_of meaning (parts m)))
+  origin_is n m q = sym (s.stays.groups.origin n) ∙ (sym (ap (λ (v : GroupPass). v.origin) (e.joined n).both) ∙ sym (e.closed.each n m q).named)
+
+  -- the marks of its archives are those that the first passes know, and those with which they came
+  marked : (n : ℕ) (m : M) → slice_get ms n ≡ Some m → told → HasMarks meant (view_of meaning (parts m))
+  marked n m q t k has = ⊎_elim
+      (λ (h : Contains (archives_in (parts m).first) k).
+      same_at (mark_at (plain meaning (parts m).shelves)) (λ x. marks_of (meant x)) (archives_in (parts m).first) k
+      (taken t n (origin_of (view_of meaning (parts m))) (origin_is n m q)).0 h)
+      (λ (h : Contains (arrivals (parts m).log) k).
+      came_marked meant (plain meaning (parts m).shelves) (parts m).log (view_at old.groups n).seen (added (view_at old.groups n) (view_at groups n))
+      (closed_kept (λ x. view_of meaning (parts x)) rack names turn groups passes ms ended ready index_ready old s e n m q)
+      (opened_none (λ x. view_of meaning (parts x)) rack names turn groups passes ms ended ready index_ready old s e n m q)
+      (marks t (sole_all (λ x. view_of meaning (parts x)) rack names turn groups passes ms ended ready index_ready old s e) n
+      (let a = slice_get_within ms n m q in let b = members_of (λ x. view_of meaning (parts x)) rack names turn groups passes ms ended ready index_ready old s e in omega (arith, a, b))) k h)
+      (Contains-append_cases (archives_in (parts m).first) (arrivals (parts m).log) k has)
+
+  -- its archives are in the hand
+  handed : (n : ℕ) (m : M) → slice_get ms n ≡ Some m → (k : ℕ) → Contains (had_by (view_of meaning (parts m))) k → IsInHand meaning hand (plain meaning (parts m).shelves) k
+  handed n m q k has = (
+    found.0,
+    subst (λ ss. Contains ss found.0) (sym is_hand) (flat_contains (λ x. (parts x).shelves.shelves) ms n m found.0 q found.3),
+    found.2,
+    record {
+      blocks = λ slot. ap (λ o. given (λ x. (meaning x).held slot) None o) found.1;
+      sums = ap (λ o. given (λ x. (meaning x).heard) [] o) found.1;
+      faults = ap (λ o. given (λ x. (meaning x).faults) 0 o) found.1;
+      losses = ap (λ o. given (λ x. (meaning x).losses) 0 o) found.1;
+    },
+  )
+    where
+      numbers : numbers_of (parts m).shelves.shelves ≡ had_by (view_of meaning (parts m))
+      numbers = (all n m q).arrived
+
+      found : (x : Shelf A) × (shelf_of (parts m).shelves.shelves k ≡ Some x) × (x.number ≡ k) × Contains (parts m).shelves.shelves x
+      found = find_shelf (parts m).shelves.shelves k (subst (λ ns. Contains ns k) (sym numbers) has)
+
+  -- a count that rose in an opening is above what its number meant, at an archive in the hand
+  opened_in_hand : (n : ℕ) (m : M) → slice_get ms n ≡ Some m → told → (marks : ℕ → Marks) → map (opened_at (plain meaning (parts m).shelves)) (archives_in (parts m).first) ≡ map marks (archives_in (parts m).first)
+      → (k : ℕ) → RoseBy meant (parts m).first marks k → RoseInHand meaning hand meant k
+  opened_in_hand n m q t marks are k (has, rose) = (x.0, x.1, x.2, risen rose)
+    where
+      x : IsInHand meaning hand (plain meaning (parts m).shelves) k
+      x = handed n m q k (contains_front (archives_in (parts m).first) (arrivals (parts m).log) k has)
+
+      at : opened_at (plain meaning (parts m).shelves) k ≡ marks k
+      at = same_at (opened_at (plain meaning (parts m).shelves)) marks (archives_in (parts m).first) k are has
+
+      settled : IsSettled told (view_of meaning (parts m))
+      settled = (all n m q).settled
+
+      risen : MarksRose (marks_of (meant k)) (marks k) → MarksRose (marks_of (meant k)) (marks_of (meaning x.0.archive))
+      risen (inl r) = inl (rose_more (meant k).faults (marks k).faults (meaning x.0.archive).faults r
+          (let a = ap (λ (y : Marks). y.faults) at in let b = settled.opened_faults k in let e = x.3.faults in omega (arith, a, b, e)))
+      risen (inr r) = inr (rose_more (meant k).losses (marks k).losses (meaning x.0.archive).losses r
+          (let a = ap (λ (y : Marks). y.losses) at in let b = settled.opened_losses t k in let e = x.3.losses in omega (arith, a, b, e)))
+
+  -- what stood in the logs at the start is what the openings logged
+  pub closed_opened : told → AreOpened meant (RoseInHand meaning hand meant) (tables_read groups) (section_of old (known groups passes))
+  closed_opened t g u q =
+      let m = element_of_map (λ m. (parts m).first) ms g u (ap (λ ts. slice_get ts g) (closed_firsts (λ m. view_of meaning (parts m)) rack names groups (view_at passes 0) ms ended ready e) ∙ q) in
+      let o = taken t g (origin_of (view_of meaning (parts m.0))) (origin_is g m.0 m.1) in
+      subst (λ v. IsOpened meant (RoseInHand meaning hand meant) v (entries_of (view_at old.groups g).seen)) m.2
+      (opened_as meant (RoseBy meant (parts m.0).first o.1.marks) (RoseInHand meaning hand meant) (parts m.0).first (entries_of (view_at old.groups g).seen)
+      (opened_in_hand g m.0 m.1 t o.1.marks o.1.are) o.1.opened)
+
+  pub closed_groups : (logs : List (List Entry)) (tables : List Table) → logs ≡ map (λ m. (parts m).log) ms → tables ≡ map (λ m. (parts m).table) ms
+      → LeaveGroups told meant (IsInHand meaning hand) (tables_read groups) logs (map still tables)
+  closed_groups logs tables el et =
+      subst (λ ts. LeaveGroups told meant (IsInHand meaning hand) ts logs (map still tables)) (closed_firsts (λ m. view_of meaning (parts m)) rack names groups (view_at passes 0) ms ended ready e)
+      (subst (λ ls. LeaveGroups told meant (IsInHand meaning hand) (map (λ m. (parts m).first) ms) ls (map still tables)) (sym el)
+      (subst (λ ts. LeaveGroups told meant (IsInHand meaning hand) (map (λ m. (parts m).first) ms) (map (λ m. (parts m).log) ms) (map still ts)) (sym et)
+      (leave_groups told meant (IsInHand meaning hand) (λ m. view_of meaning (parts m)) ms (λ n m q. record {
+        view = view_of meaning (parts m);
+        first = refl;
+        is_log = refl;
+        is = refl;
+        settled = (all n m q).settled;
+        marked = marked n m q;
+        archives = handed n m q;
+      }))))
+
+-- each log has no more entries than an image may have
+few_logs : {M : Type 0} (see : M → GroupView) (ms : List M) → ((n : ℕ) (m : M) → slice_get ms n ≡ Some m → length (see m).log ≤ 262144) → (logs : List (List Entry)) → logs ≡ map (λ m. (see m).log) ms
+    → (k : ℕ) (d : List Entry) → k < length logs → length (get_or logs k d) < 2 ^ 32
+few_logs see [] few logs e k d l = absurd (let n = ap length e in omega (arith, n, l))
+few_logs see (m ∷ ms) few logs e zero d l = subst (λ ls. length (get_or ls 0 d) < 2 ^ 32) (sym e) (let z : length (see m).log < 2 ^ 32 = (let f = few 0 m refl in omega (arith, f)) in z)
+few_logs see (m ∷ ms) few logs e (suc k) d l =
+    subst (λ ls. length (get_or ls (suc k) d) < 2 ^ 32) (sym e)
+    (few_logs see ms (λ n x q. few (suc n) x q) (map (λ x. (see x).log) ms) refl k d (let n = ap length e in omega (arith, n, l)))
+
+pub all_few : {M : Type 0} (told : Type 0) (see : M → GroupView) (ms : List M) → AreEnded told see ms → (logs : List (List Entry)) → logs ≡ map (λ m. (see m).log) ms → All (λ (l : List Entry). length l < 2 ^ 32) logs
+all_few told see ms ended logs e = λ k d l. few_logs see ms (λ n m q. (ended n m q).settled.bound) logs e k d l

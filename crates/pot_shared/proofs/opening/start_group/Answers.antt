@@ -1,0 +1,48 @@
+use Rattle.std.proofs.Common.{◌≡◌, ◌++◌, take, drop, length, sym, ap, subst, ◌∙◌, IsTrue, arith}
+use Rattle.std.proofs.lemmas.List.{take-map}
+use Rattle.std.specs.Prelude.{Contains}
+use Rattle.pot_outside.specs.declared.archive.Shelf.{Shelf}
+use Rattle.pot_machine.specs.Table.{archives_in}
+use Rattle.pot_machine.specs.Rules.{IsTable}
+use Rattle.pot_shelves.specs.Shelves.{numbers_of}
+use Rattle.pot_shared.specs.Hands.{AreSame}
+use Rattle.pot_shared.proofs.GroupLemmas.{opened_of, started_of, marked_of, same_parts, long_parts}
+use Rattle.pot_shared.proofs.Lists.{take_contains}
+use Rattle.pot_shared.proofs.opening.start_group.Goals as goal
+
+pub start-requires-clause-shelves : goal.start-requires-clause-shelves
+start-requires-clause-shelves g c =
+    ap numbers_of c.in_ok-shelves.ensures.front ∙ (sym (take-map (λ (s : Shelf _). s.number) (length (archives_in c.args.table)) c.args.hand.now.items) ∙ c.requires.hand)
+
+pub returns-in-Ok-clause-started : goal.returns-in-Ok-clause-started
+returns-in-Ok-clause-started g c =
+    started_of (IsTrue g.A.Archive.account.tells) g.A.Archive.account.meaning c.args.number c.args.table c.in_ok-shelves.shelves.items c.in-Ok.group c.in-Ok.ensures.begins
+    (ap numbers_of c.in_ok-shelves.ensures.front ∙ (sym (take-map (λ (s : Shelf _). s.number) (length (archives_in c.args.table)) c.args.hand.now.items) ∙ c.requires.hand))
+    c.logged-rules.ensures.arrived
+
+pub returns-in-Ok-clause-marked : goal.returns-in-Ok-clause-marked
+returns-in-Ok-clause-marked g c meant told are =
+    marked_of (IsTrue g.A.Archive.account.tells) g.A.Archive.account.meaning meant c.args.number c.args.table c.in_ok-shelves.shelves.items c.in-Ok.group told c.in-Ok.ensures.begins
+    (ap numbers_of c.in_ok-shelves.ensures.front ∙ (sym (take-map (λ (s : Shelf _). s.number) (length (archives_in c.args.table)) c.args.hand.now.items) ∙ c.requires.hand))
+    (λ s has. are s (take_contains c.args.hand.now.items (length (archives_in c.args.table)) s (subst (λ ss. Contains ss s) c.in_ok-shelves.ensures.front has)))
+
+pub returns-in-Ok-clause-opened : goal.returns-in-Ok-clause-opened
+returns-in-Ok-clause-opened g c meant told are =
+    opened_of (IsTrue g.A.Archive.account.tells) g.A.Archive.account.meaning meant c.args.number c.args.table c.in_ok-shelves.shelves.items c.in-Ok.group told c.in-Ok.ensures.begins
+    (ap numbers_of c.in_ok-shelves.ensures.front ∙ (sym (take-map (λ (s : Shelf _). s.number) (length (archives_in c.args.table)) c.args.hand.now.items) ∙ c.requires.hand))
+    (λ s has. are s (take_contains c.args.hand.now.items (length (archives_in c.args.table)) s (subst (λ ss. Contains ss s) c.in_ok-shelves.ensures.front has)))
+    (subst (λ t. IsTable t) c.in-Ok.ensures.begins.first c.logged-rules.ensures.first)
+
+pub put_back-requires : goal.put_back-requires
+put_back-requires g c =
+    let a = ap length c.in_ok-shelves.ensures.rest in let b = ap length c.in_ok-shelves.ensures.front in
+    let r = ap (λ (v : _). length v.items) c.in-Err.ensures.refused.1 in
+    let p = long_parts c.args.hand.now.items (length (archives_in c.args.table)) in
+    omega (arith, a, b, r, p, c.requires.space, c.take_shelves.ensures.space)
+
+pub returns-in-Err-clause-refused : goal.returns-in-Err-clause-refused
+returns-in-Err-clause-refused g c =
+    let all : c.put_back.new.hand.items ≡ drop (length (archives_in c.args.table)) c.args.hand.now.items ++ take (length (archives_in c.args.table)) c.args.hand.now.items =
+    c.put_back.ensures.items ∙ (ap (λ l. l ++ c.in-Err.refused.shelves.items) c.in_ok-shelves.ensures.rest
+    ∙ ap (λ l. drop (length (archives_in c.args.table)) c.args.hand.now.items ++ l) (ap (λ (v : _). v.items) c.in-Err.ensures.refused.1 ∙ c.in_ok-shelves.ensures.front)) in
+    subst (λ ss. AreSame (numbers_of ss) (numbers_of c.args.hand.now.items)) (sym all) (same_parts c.args.hand.now.items (length (archives_in c.args.table)))

@@ -1,0 +1,22 @@
+-- The archives in a hand: which numbers they have, and what they mean.
+use Rattle.std.specs.Prelude.{◌≡◌, ◌≤◌, ◌+◌, ◌==◌, ℕ, List, [], ◌∷◌, Contains, if◌then◌else◌}
+use Rattle.pot_outside.specs.Archives.{Meaning, IsMeant}
+use Rattle.pot_outside.specs.declared.archive.Shelf.{Shelf}
+
+-- how often a number stands among these
+abbrev pub times : ℕ → List ℕ → ℕ
+times n [] = 0
+times n (m ∷ ms) = (if m == n then 1 else 0) + times n ms
+
+-- no number stands twice among these
+abbrev pub AreApart : List ℕ → Type 0
+AreApart numbers = (n : ℕ) → times n numbers ≤ 1
+
+-- the same numbers, in another order
+abbrev pub AreSame : List ℕ → List ℕ → Type 0
+AreSame xs ys = (n : ℕ) → times n xs ≡ times n ys
+
+-- each of these archives means what its number means
+abbrev pub AreMeant : {A : Type 0} → (A → Meaning) → (ℕ → Meaning) → List (Shelf A) → Type 0
+AreMeant {A} meaning means shelves =
+    (s : Shelf A) → Contains shelves s → IsMeant (means s.number) (meaning s.archive)
