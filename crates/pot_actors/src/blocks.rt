@@ -11,7 +11,7 @@ ghost use Rattle.pot_actors.specs.Splits.{under_way_of};
 use crate::split::OpenSplit;
 use pot_bytes::{Block, Bytes, Geometry, NoMemory};
 use pot_object::{count_pieces, cut_file};
-use pot_shard::{piece_blocks, piece_len, random_len};
+use pot_shard::{id_in, piece_blocks, piece_len, random_len};
 use std::alloc::Global;
 
 /// Each of these is a byte. It does nothing.
@@ -54,8 +54,7 @@ fn piece_at(split: &OpenSplit, piece: usize, out: &mut [Block])
     let random = split.random.as_slice();
     let size = piece_len(&split.geometry);
     let from = 16 + piece * size;
-    let mut id = [0; 16];
-    id.copy_from_slice(&random[..16]);
+    let id = id_in(random);
     piece_blocks(
         &id,
         split.file.as_slice(),

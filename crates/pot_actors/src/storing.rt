@@ -1,7 +1,6 @@
 //! Stores: their start, the next block, and their end without a record.
-ghost use Rattle.std.specs.Prelude.{◌≡◌, ◌<◌, Some, length};
-ghost use Rattle.pot_bytes.specs.Rack.{IsGeometry, IsRack};
-ghost use Rattle.pot_index.specs.Fits.{group_of};
+ghost use Rattle.std.specs.Prelude.{◌≡◌, length};
+ghost use Rattle.pot_bytes.specs.Rack.{IsRack};
 ghost use Rattle.pot_shard.specs.FileLaws.{IsStore};
 ghost use Rattle.pot_world.specs.declared.step.Step.TheVariants as step;
 ghost use Rattle.pot_actors.specs.Seats.{SitsAt};
@@ -13,23 +12,11 @@ use crate::blocks::{block_at, count_blocks, is_store};
 use crate::parts::Parts;
 use crate::seat::take_seat;
 use crate::split::OpenSplit;
-use pot_bytes::{Bytes, Geometry, Name, NoMemory, Place, Rack};
-use pot_index::IndexEntry;
+use pot_bytes::{Bytes, Name, NoMemory, Place, Rack};
+use pot_index::{IndexEntry, group_of};
 use pot_world::{ActFault, Groups};
 use std::alloc::Global;
 use std::snapshot::Snapshot;
-
-/// The group of the block of this number.
-fn group_of(rack: &Rack, geometry: &Geometry, number: usize) -> u8
-    requires rack { IsRack rack.now }
-    requires geometry { IsGeometry geometry.now }
-    requires few { number < 1000000 }
-    ensures value { result ≡ group_of rack.now geometry.now number }
-    ensures within { result < rack.now.groups }
-{
-    let shards = usize::from(geometry.shards);
-    ((number / shards + number % shards) % usize::from(rack.groups)) as u8
-}
 
 /// The next block of a split is put, if there is one, and its place is kept, if it came to one.
 fn put_next(
@@ -55,7 +42,7 @@ fn put_next(
     let Ok(block) = block_at(alloc, split, at) else {
         return Err(ActFault::NoMemory);
     };
-    let group = group_of(rack, &split.geometry, at);
+    let group = group_of(rack, &split.geometry, at as u32);
     match groups.put(alloc, group, actor, &block) {
         Ok(Some(cursor)) => {
             split.places.push_reserved(Place {

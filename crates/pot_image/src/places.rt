@@ -2,7 +2,6 @@
 ghost use Rattle.std.specs.Prelude.{◌≡◌, ◌≤◌, ◌<◌, ◌+◌, ◌-◌, ◌*◌, ◌^◌, ◌++◌, List, [], ◌∷◌, IfOk};
 ghost use Rattle.pot_bytes.specs.declared.rack.Place.{Place};
 ghost use Rattle.pot_bytes.specs.Rack.{IsRack, IsGeometry};
-ghost use Rattle.pot_index.specs.Fits.{group_of};
 ghost use Rattle.pot_image.specs.Following.{Gives};
 ghost use Rattle.pot_image.specs.Reading.{reading};
 ghost use Rattle.pot_image.specs.Records.{is_filled, is_apart, place, places};
@@ -13,25 +12,12 @@ use crate::columns::read_at_most;
 use crate::fault::Fault;
 use crate::fields::read_byte;
 use pot_bytes::{Geometry, Place, Rack};
-use pot_index::Places;
+use pot_index::{Places, group_of};
 use pot_machine::GroupTable;
 use std::alloc::Global;
 
 /// No place has fewer bytes.
 const PLACE_BYTES: usize = 6;
-
-/// The group of a block, by its number.
-fn group_of(rack: &Rack, geometry: Geometry, number: u32) -> u8
-    requires rack { IsRack rack.now }
-    requires geometry { IsGeometry geometry }
-    requires number { number < 2 ^ 31 }
-    ensures value { result ≡ group_of rack.now geometry number }
-    ensures within { result < rack.now.groups }
-{
-    let shards = u32::from(geometry.shards);
-    let group = (number / shards + number % shards) % u32::from(rack.groups);
-    group as u8
-}
 
 /// Where the stamp of a place stands.
 fn spot(rack: &Rack, place: Place) -> usize
@@ -99,7 +85,7 @@ fn read_place<'a>(
     ensures marks { (before : List Place) → HaveMarks rack.now stamps.old last before
         → IfOk result (λ x. HaveMarks rack.now stamps.new last (before ++ x.0 ∷ [])) }
 {
-    let expected = group_of(rack, geometry, number);
+    let expected = group_of(rack, &geometry, number);
     let (group, after_group) = read_byte(bytes, expected, expected)?;
     let (column, after_column) = read_byte(after_group, 0, rack.columns - 1)?;
     let (stripe, rest) = read_at_most(after_column, rack.stripes - 1)?;

@@ -15,13 +15,14 @@
 //! 5. there is room for a record of each reserved name and for all entries of the log (`Lists`; `begin` and `reserve`
 //!    take it), so `publish` and `abandon` take no memory.
 //!
-//! Of the log as a whole: `index_laws`.
+//! Of the log as a whole: `index_laws`. The group that a block of a split goes to: `group_of`.
 #![tactic(auto)]
 
 mod ended;
 mod ending;
 mod entry;
 mod fault;
+mod groups;
 mod index;
 mod laws;
 mod listed;
@@ -39,6 +40,7 @@ mod writing;
 pub use ended::IndexEnded;
 pub use entry::{IndexEntry, Logged};
 pub use fault::{FindFault, IndexRefused, ListFault, RenewFault, ReserveFault};
+pub use groups::group_of;
 pub use index::Index;
 pub use laws::index_laws;
 pub use listed::Listed;

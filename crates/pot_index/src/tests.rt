@@ -1,4 +1,4 @@
-//! A record's bytes, and an index from its start to its end.
+//! A record's bytes, the groups of blocks, and an index from its start to its end.
 ghost use Rattle.std.specs.Prelude.{◌≡◌, ◌<◌, IfOk};
 ghost use Rattle.pot_index.specs.Fits.{FitsRack, FitsSplit};
 ghost use Rattle.pot_index.specs.Index.{IsRecordOf};
@@ -172,6 +172,29 @@ fn written_records(rt: HostRuntime) -> Result<(), Fail> {
     assert_eq!(rt; bytes.len(), 75);
     assert_eq!(rt; digest_of(&bytes), RENEWED);
     assert_eq!(rt; mark_of(&copy), RENEWED);
+    Ok(())
+}
+
+#[test]
+fn groups_of_blocks(rt: HostRuntime) -> Result<(), Fail> {
+    let geometry = Geometry {
+        fragments: 2,
+        need: 2,
+        shards: 3,
+        blur: 16,
+    };
+    let rack = Rack {
+        groups: 5,
+        columns: 3,
+        parity: 1,
+        stripes: 16,
+        geometry,
+    };
+    let groups = [0, 1, 2, 1, 2, 3, 2, 3, 4, 3, 4, 0];
+    for number in 0..12u32 {
+        assert_eq!(rt; group_of(&rack, &geometry, number), groups[number as usize]);
+    }
+    assert_eq!(rt; group_of(&rack, &geometry, 2_147_483_647), 3);
     Ok(())
 }
 

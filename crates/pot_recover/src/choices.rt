@@ -1,4 +1,4 @@
-ghost use Rattle.std.specs.Prelude.{◌≡◌, ◌↔◌, ◌⊎◌, ◌<◌, ◌≤◌, ◌*◌, ℕ, List, [], ◌∷◌, ◌++◌, map};
+ghost use Rattle.std.specs.Prelude.{◌≡◌, ◌↔◌, ◌⊎◌, ◌<◌, ◌≤◌, ◌*◌, ℕ, List, [], ◌∷◌, map};
 ghost use Rattle.std.specs.Prelude.{drop, length, min, slice_index, IfOk, OnOk};
 ghost use Rattle.std.specs.List.{flat_map};
 ghost use Rattle.pot_bytes.specs.Sums.{xor};
@@ -12,7 +12,7 @@ ghost use Rattle.pot_recover.specs.Recovered.{object_of};
 ghost use Rattle.pot_recover.specs.Rings.{IsAnyContent};
 
 use crate::distinct::push_distinct;
-use crate::parts::{head_of, part_with};
+use crate::parts::{head_of, part_with, push_part};
 use crate::rings::WIDEST;
 use pot_bytes::{NoMemory, xor_into};
 use pot_object::read_object;
@@ -82,17 +82,6 @@ fn with_number(first: &[u8; 992], number: u8) -> [u8; 18]
     let mut head = head_of(first);
     head[16] = number;
     head
-}
-
-/// Adds one part.
-fn push_part<'a>(parts: &mut Vec<&'a [[u8; 992]]>, part: &'a [[u8; 992]]) -> Result<(), NoMemory>
-    ensures { OnOk result
-        (map items_of parts.new.items ≡ map items_of parts.old.items ++ part.now ∷ []) }
-{
-    match parts.push(part) {
-        Ok(()) => Ok(()),
-        Err(_) => Err(NoMemory),
-    }
 }
 
 /// The objects that the choices give, some of them more than once.

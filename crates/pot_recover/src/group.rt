@@ -10,7 +10,7 @@ ghost use Rattle.pot_recover.specs.HeldShards.{shard_of, PlacesRise};
 ghost use Rattle.pot_recover.specs.declared.held.Held.{Held};
 
 use crate::held::Held;
-use crate::parts::part_at;
+use crate::parts::{part_at, push_part};
 use pot_bytes::NoMemory;
 use pot_chains::Level;
 use pot_pointer::RegionIndex;
@@ -76,17 +76,6 @@ fn parts_in<'a, 'b>(
         push_part(&mut parts, part_at(held, [need, count, x + 1]))?;
     }
     Ok(parts)
-}
-
-/// Adds one part.
-fn push_part<'a, 'b>(parts: &mut Vec<&'a [Held<'b>]>, part: &'a [Held<'b>]) -> Result<(), NoMemory>
-    ensures { OnOk result
-        (map now_of parts.new.items ≡ map now_of parts.old.items ++ part.now ∷ []) }
-{
-    match parts.push(part) {
-        Ok(()) => Ok(()),
-        Err(_) => Err(NoMemory),
-    }
 }
 
 /// A level for each part.

@@ -97,8 +97,7 @@ fn makes_the_blocks_of_files(rt: HostRuntime) -> Result<(), Fail> {
     let usual = split(2, 2, 3, 16);
     let blocks = blocks_of(rt.alloc(), &file, &usual, &random).map_err(|_| "no memory")?;
     assert!(rt; begin_so(&blocks, &OF_TWO_PIECES));
-    let mut id = [0; 16];
-    id.copy_from_slice(&random[..16]);
+    let id = id_in(&random);
     let mut second = [Block::zero(); 6];
     piece_blocks(&id, &file, 1, &usual, &random[2_992..], &mut second);
     assert!(rt; begin_so(&second, &OF_TWO_PIECES[6..]));

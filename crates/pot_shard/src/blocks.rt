@@ -80,8 +80,9 @@ fn file_blocks(file: &[u8], geometry: &Geometry, random: &[u8], out: &mut [Block
     }
 }
 
-/// The id that stands first in the random bytes of a file or a piece.
-fn id_in(random: &[u8]) -> [u8; 16]
+/// The id that stands first in the random bytes of a file or a piece: their first 16 bytes, which are the id of the file
+/// or of the object of the piece.
+pub fn id_in(random: &[u8]) -> [u8; 16]
     requires { 16 ≤ length random.now }
     ensures { result ≡ take 16 random.now }
 {

@@ -136,8 +136,7 @@ fn comes_back(rt: &(impl Abort + Alloc<A = Global>), geometry: &Geometry, points
         let object = joined_object(rt, blocks, geometry, points);
         objects.extend_from_slice(&object).expect(rt, "memory");
     }
-    let mut id = [0; 16];
-    id.copy_from_slice(&random[..16]);
+    let id = id_in(&random);
     assert_assembled(rt, &id, &file, &objects);
 }
 

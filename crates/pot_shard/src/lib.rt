@@ -27,7 +27,7 @@ mod shard;
 #[cfg(test)]
 mod tests;
 
-pub use blocks::{blocks_of, fragment_content, piece_blocks};
+pub use blocks::{blocks_of, fragment_content, id_in, piece_blocks};
 pub use laws::{block_laws, draw_laws, fetch_laws, file_laws, place_laws, stretch_laws, veil_laws};
 pub use random::{fragment_len, head_len, piece_len, random_len, rows_len};
 pub use ring::ring_of;

@@ -2,7 +2,6 @@
 ghost use Rattle.std.specs.Prelude.{◌≡◌, ◌<◌, ◌≤◌, [], IfOk, IfErr, length};
 ghost use Rattle.std.specs.Vec.{vec_capacity};
 ghost use Rattle.pot_bytes.specs.Rack.{IsGeometry, IsRack};
-ghost use Rattle.pot_index.specs.Fits.{group_of};
 ghost use Rattle.pot_rows.specs.Works.{RowWorked, RowAlone};
 ghost use Rattle.pot_shared.specs.Callers.{AreReadyFor, HasAllGroups};
 ghost use Rattle.pot_shared.specs.Works.{of_job, OnlySaw};
@@ -10,8 +9,9 @@ ghost use Rattle.pot_store.specs.Drawing.{all_blocks, count_of};
 ghost use Rattle.pot_store.specs.Puts.{ArePut, PutsEnd};
 
 use crate::sealing::SealedDrawing;
-use pot_bytes::{Geometry, Place, Rack};
+use pot_bytes::{Geometry, Place};
 use pot_group::PutFault;
+use pot_index::group_of;
 use pot_outside::Archive;
 use pot_shared::{Caller, Passes};
 use std::sync::Wait;
@@ -21,18 +21,6 @@ use std::sync::Wait;
 pub(crate) struct Stopped {
     pub group: u8,
     pub cause: PutFault,
-}
-
-/// The group of the block of this number of a split of this geometry.
-fn group_of(rack: &Rack, geometry: &Geometry, number: u32) -> u8
-    requires rack { IsRack rack.now }
-    requires geometry { IsGeometry geometry.now }
-    requires few { number < 1000000 }
-    ensures value { result ≡ group_of rack.now geometry.now number }
-    ensures within { result < rack.now.groups }
-{
-    let shards = u32::from(geometry.shards);
-    ((number / shards + number % shards) % u32::from(rack.groups)) as u8
 }
 
 /// Sees where the groups of the next two puts stand, each in one turn, where others put into a group in between. It logs nothing.

@@ -1,6 +1,6 @@
 //! Two files of one length, of which the second gives all that is seen of the first, under other random bytes.
 ghost use Rattle.std.specs.Prelude.{◌≡◌, ◌≤◌, ◌<◌, ◌-◌, ◌*◌, ◌++◌, [], List, ℕ, length};
-ghost use Rattle.std.specs.Prelude.{slice_index_or, take, true, IfOk, IfErr, if◌then◌else◌};
+ghost use Rattle.std.specs.Prelude.{slice_index_or, true, IfOk, IfErr, if◌then◌else◌};
 ghost use Rattle.sha2.specs.Hashers.{Holds256};
 ghost use Rattle.pot_bytes.specs.Lists.{AreBytes};
 ghost use Rattle.pot_bytes.specs.Rack.{IsGeometry};
@@ -14,7 +14,7 @@ ghost use Rattle.pot_veil.specs.Seen.{AreSeen};
 use crate::explaining::explain;
 use pot_bytes::{Block, Digest, Geometry};
 use pot_object::{OBJECT, count_pieces, write_object};
-use pot_shard::{piece_blocks, piece_len};
+use pot_shard::{id_in, piece_blocks, piece_len};
 use sha2::{Digest as Hash, Sha256};
 use std::alloc::{AllocError, Global};
 
@@ -152,16 +152,6 @@ fn drill_pieces(
         );
     }
     blocks
-}
-
-/// The id that stands first in the random bytes of a file.
-fn id_in(random: &[u8]) -> [u8; 16]
-    requires { 16 ≤ length random.now }
-    ensures { result ≡ take 16 random.now }
-{
-    let mut id = [0; 16];
-    id.copy_from_slice(&random[..16]);
-    id
 }
 
 /// Whether the block at this place of a piece is seen.
