@@ -282,7 +282,7 @@ impl Session {
             passes,
             spaces,
         } = self;
-        let mut left = Left::new(alloc, number, vault.rack);
+        let mut left = Left::new(alloc, number, *vault.rack());
         let Closed { members, index } = vault.close(passes, spaces);
         let IndexEnded { records, log } = index.end();
         left.image.records = records;

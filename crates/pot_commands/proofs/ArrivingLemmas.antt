@@ -50,7 +50,8 @@ use Rattle.pot_mend.specs.Moves.{IsAsked, seen_in}
 use Rattle.pot_mend.proofs.HadLemmas.{IsUsedIn, brought_here, brought_named, had_used, named_held, same_width}
 use Rattle.pot_shared.specs.Going.{AllSole}
 use Rattle.pot_shared.specs.Hands.{times}
-use Rattle.pot_commands.specs.Taking.{Lending, Took, HasUse, AreUsed}
+use Rattle.pot_commands.specs.Taking.{Took, HasUse, AreUsed}
+use Rattle.pot_outside.specs.Rooms.{Lending}
 use Rattle.pot_shared.specs.Coming.{AreMarkedBy, came_in, marks_of}
 use Rattle.pot_commands.proofs.Brought.{its_setting, is_its}
 use Rattle.pot_commands.proofs.Going.{sole_alone, work_all_went}
@@ -196,16 +197,16 @@ module _ {rack : Rack} {names turn : List TurnName} (job : ℕ) {row0 row1 : Gro
     )),
   )
 
-  pub free_home : (out : ℕ → Bool) (n : ℕ) → length names ≡ rack.groups → AreUsed out row0 → ((s : Setting) → IsSettingOf s rack k0 → IsUsed s (seen_in row1) n → ⊥) → out n ≡ false
-  free_home out n count used free = by (out n) refl
+  pub free_home : (r : Lending) (n : ℕ) → length names ≡ rack.groups → AreUsed r row0 → ((s : Setting) → IsSettingOf s rack k0 → IsUsed s (seen_in row1) n → ⊥) → r.out n ≡ false
+  free_home r n count used free = by (r.out n) refl
     where
-      by : (b : Bool) → out n ≡ b → out n ≡ false
+      by : (b : Bool) → r.out n ≡ b → r.out n ≡ false
       by false e = e
       by true e = absurd (free (its_setting rack [] 0 k0) (is_its rack [] 0 k0) (used_at (its_setting rack [] 0 k0) (is_its rack [] 0 k0) count n (used n e)))
 
   -- the room lends and means what it did
-  pub check_used : (out now : ℕ → Bool) → ((n : ℕ) → now n ≡ out n) → AreUsed out row0 → AreUsed now row1
-  check_used out now lends used = used_more job out now row0 row1 (asked.worked job) same_names lends used
+  pub check_used : (r r' : Lending) → ((n : ℕ) → r'.out n ≡ r.out n) → AreUsed r row0 → AreUsed r' row1
+  check_used r r' lends used = used_more job r r' row0 row1 (asked.worked job) same_names lends used
 
   pub check_took : (told well : Type 0) (ns : List ℕ) (r r' : Lending) → ((n : ℕ) → r'.out n ≡ r.out n) → ((n : ℕ) → r'.means n ≡ r.means n) → Took told well ns r r' k0 k1
   check_took told well ns r r' out means = took_none told well ns r r' k0 k1 out means (silent_arrivals job k0 k1 checked_work checked_silent)
@@ -425,8 +426,8 @@ module _ {rack : Rack} {names turn : List TurnName} (job : ℕ) {row0 row1 : Gro
           ),
     )
 
-    pub came_used : (out now : ℕ → Bool) → ((n : ℕ) → n ≢ to → now n ≡ out n) → AreUsed out row0 → AreUsed now row2
-    came_used out now others used n is = ⊎_elim
+    pub came_used : (r r' : Lending) → ((n : ℕ) → n ≢ to → r'.out n ≡ r.out n) → AreUsed r row0 → AreUsed r' row2
+    came_used r r' others used n is = ⊎_elim
         (λ (e : n ≡ to). subst (λ k. HasUse row2 k) (sym e) now_use)
         (λ (ne : n ≢ to). use_more job row0 row2 came_work.groups (ready2.of.0 ∙ sym ready.of.0) n (used n (sym (others n ne) ∙ is)))
         (cases_eq n to)
@@ -459,8 +460,8 @@ module _ {rack : Rack} {names turn : List TurnName} (job : ℕ) {row0 row1 : Gro
           let then = took_others n ne in
           (later.0 ∙ then.0, later.1 ∙ then.1)
 
-      pub back_used : AreUsed r.out row0 → AreUsed r2.out row2
-      back_used used = used_more job r.out r2.out row0 row2 back_work.groups (ready2.of.0 ∙ sym ready.of.0) (same_at r.out r2.out to (home_again ∙ sym home) (λ n ne. (others_same n ne).1)) used
+      pub back_used : AreUsed r row0 → AreUsed r2 row2
+      back_used used = used_more job r r2 row0 row2 back_work.groups (ready2.of.0 ∙ sym ready.of.0) (same_at r.out r2.out to (home_again ∙ sym home) (λ n ne. (others_same n ne).1)) used
 
       pub back_took : (meaning : A → Meaning) (well : Type 0) → (told → IsMeant (r.means to) (meaning shelf.archive)) → (told → well → IsMeant (r2.means handed.number) (meaning handed.archive)) → Took told well (to ∷ []) r r2 k0 (known row2 i2)
       back_took meaning well took gave = record {

@@ -6,7 +6,8 @@ use Rattle.pot_bytes.specs.declared.memory.NoMemory.{NoMemory}
 use Rattle.pot_rows.specs.Parts.{RowJoined}
 use Rattle.pot_script.specs.declared.reply.Reply.{Reply}
 use Rattle.pot_shared.specs.Works.{Known}
-use Rattle.pot_shared.specs.Callers.{VaultView, CanCall}
+use Rattle.pot_shared.specs.Callers.{CanCall}
+use Rattle.pot_shared.specs.Vaults.{VaultView}
 use Rattle.pot_commands.specs.Jobs.{JobView, HasPasses, AllJoined, reply_in, has_reply, replies_in, all_replied}
 
 -- the jobs so far were taken back, and these are left

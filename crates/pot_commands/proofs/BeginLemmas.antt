@@ -33,7 +33,8 @@ use Rattle.pot_commands.specs.Begun.{HasTask, HaveTasks, LineBegins, HaveBegun, 
 use Rattle.pot_shared.specs.Going.{AllSole, AllStay, AllWent}
 use Rattle.pot_shared.specs.Hands.{times}
 use Rattle.pot_commands.specs.Steps.{IsBatched, IsStill, StepHalts, StepLeaves, StepStops}
-use Rattle.pot_commands.specs.Taking.{Lending, Took, asks}
+use Rattle.pot_commands.specs.Taking.{Took, asks}
+use Rattle.pot_outside.specs.Rooms.{Lending}
 use Rattle.pot_commands.proofs.AnswerLemmas.{stayed_worked}
 use Rattle.pot_commands.proofs.BegunLemmas.{begun_halted, more_begun, none_begun, same_begun}
 use Rattle.pot_commands.proofs.Going.{known_follows, setting_of_stays, sole_alone, sole_parts, stays_more, went_more, work_all_went}

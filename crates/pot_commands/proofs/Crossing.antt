@@ -1,6 +1,6 @@
 -- The passes of a job, the vault, a line and its reply may cross to another thread.
 use denote.RattleType.{RattleType}
-use denote.Param.Send.{IsSend, IsSync, sendable, view_send, recorded_send, struct_send, recorded_sync, struct_sync, shr_send}
+use denote.Param.Send.{IsSend, IsSync, sendable, view_send, view_sync, recorded_send, struct_send, recorded_sync, struct_sync, shr_send}
 use denote.Ref.{NamedLft}
 use denote.Struct.Declared.{shape}
 use denote.Struct.Struct.{Struct}
@@ -20,7 +20,9 @@ use Rattle.pot_shared.specs.contracts.catalog.Catalog.TheInside as inside
 use Rattle.pot_shared.specs.contracts.catalog.CatalogOrigin as catalog_origin
 use Rattle.pot_shared.specs.contracts.catalog.CatalogKept.TheImpl as catalog_kept
 use Rattle.pot_shared.specs.contracts.vault.Passes as all_passes
+use Rattle.pot_shared.specs.contracts.vault.Passes.TheInside as passes_inside
 use Rattle.pot_shared.specs.contracts.vault.Vault as vault
+use Rattle.pot_shared.specs.contracts.vault.Vault.TheInside as vault_inside
 use Rattle.pot_commands.specs.contracts.beginning.Task as task
 use Rattle.pot_commands.specs.contracts.line_job.LineJob as line_job
 use Rattle.pot_commands.specs.contracts.line_job.LineJob.TheInside as line_inside
@@ -42,22 +44,22 @@ module _ (A : RattleType) (g : Ghosts A.Denot) (s : IsSend A) where
         (send_row.the_send (member.the_row A g) logged.the_row group_origin.the_row (member_kept.ghosts A g member_kept.no_dict) (send_member.the_send A g s), tt),
       )))
 
-  send_passes : IsSend (Struct (shape (all_passes.the_type A g)))
+  send_passes : IsSend (all_passes.the_row A g)
   send_passes =
-      struct_send (shape (all_passes.the_type A g)) (
+      view_send (passes_inside.the_row A g) _ _ _ _ (recorded_send (passes_inside.the_field A g).row _ _ (passes_inside.the_type A g).to_one (struct_send (shape (passes_inside.the_type A g)) (
         send_row.the_send (member.the_row A g) logged.the_row group_origin.the_row (member_kept.ghosts A g member_kept.no_dict) (send_member.the_send A g s),
         (send_row.the_send (catalog.the_row A g) of_index.the_row catalog_origin.the_row (catalog_kept.ghosts A g catalog_kept.no_dict) send_catalog, tt),
-      )
+      )))
 
   sync_vault : IsSync (vault.the_row A g)
   sync_vault =
-      recorded_sync (vault.the_field A g).row _ _ (vault.the_type A g).to_one (struct_sync (shape (vault.the_type A g)) (
+      view_sync (vault_inside.the_row A g) _ _ _ _ (recorded_sync (vault_inside.the_field A g).row _ _ (vault_inside.the_type A g).to_one (struct_sync (shape (vault_inside.the_type A g)) (
         sync_rack,
         (
           sync_row.the_sync (member.the_row A g) logged.the_row group_origin.the_row (member_kept.ghosts A g member_kept.no_dict) (send_member.the_send A g s),
           (sync_row.the_sync (catalog.the_row A g) of_index.the_row catalog_origin.the_row (catalog_kept.ghosts A g catalog_kept.no_dict) send_catalog, tt),
         ),
-      ))
+      )))
 
 sync_command : IsSync command.the_row
 sync_command = search (sendable, crosses) depth 60 fits 200000

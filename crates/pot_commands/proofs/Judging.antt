@@ -1,5 +1,6 @@
 -- How steps end by what the logs gained, where nobody else logged anything.
 use Rattle.std.specs.Prelude.{ℕ, List}
+use Rattle.pot_outside.specs.Accounts.{Met}
 use Rattle.pot_bytes.specs.declared.rack.Rack.{Rack}
 use Rattle.pot_script.specs.declared.grouping.Step.{Step}
 use Rattle.pot_replies.specs.Settings.{Setting}
@@ -10,15 +11,15 @@ use Rattle.pot_commands.specs.Rows.{IsSessionSetting}
 use Rattle.pot_commands.specs.Ends.{Ends, EndsOver}
 use Rattle.pot_shared.specs.Going.{AllSole}
 
-pub ends_over : (rack : Rack) (seed : List ℕ) (session : ℕ) (told : Type 0) (before after : List ℕ) (ss : List Step) (old new : Known) (e : Ending) → Ends rack seed session told before after ss old new e
-    → AllSole old new → (s : Setting) → IsSessionSetting s rack seed session old → EndsOver s (section_of old new) told before after ss e
-ends_over rack seed session told before after ss old new (ending.Done refused) e sole s is = record {
+pub ends_over : (rack : Rack) (seed : List ℕ) (session : ℕ) (sink : Met (List ℕ)) (ss : List Step) (old new : Known) (e : Ending) → Ends rack seed session sink ss old new e
+    → AllSole old new → (s : Setting) → IsSessionSetting s rack seed session old → EndsOver s (section_of old new) sink ss e
+ends_over rack seed session sink ss old new (ending.Done refused) e sole s is = record {
   replies = e.replies;
   replied = e.replied sole s is;
   refusal = e.refusal;
   written = e.written;
 }
-ends_over rack seed session told before after ss old new ending.SinkFailed e sole s is = record {
+ends_over rack seed session sink ss old new ending.SinkFailed e sole s is = record {
   first = e.first;
   next = e.next;
   rest = e.rest;
@@ -29,7 +30,7 @@ ends_over rack seed session told before after ss old new ending.SinkFailed e sol
   replied = e.replied sole s is;
   written = e.written;
 }
-ends_over rack seed session told before after ss old new ending.NoMemory e sole s is = record {
+ends_over rack seed session sink ss old new ending.NoMemory e sole s is = record {
   first = e.first;
   next = e.next;
   rest = e.rest;
@@ -38,7 +39,7 @@ ends_over rack seed session told before after ss old new ending.NoMemory e sole 
   replied = e.replied sole s is;
   written = e.written;
 }
-ends_over rack seed session told before after ss old new ending.RoomFailed e sole s is = record {
+ends_over rack seed session sink ss old new ending.RoomFailed e sole s is = record {
   first = e.first;
   next = e.next;
   rest = e.rest;

@@ -34,7 +34,8 @@ use Rattle.pot_commands.specs.Arriving.{HasBegun, IsUnbegun, Unbegins, move_repl
 use Rattle.pot_commands.specs.declared.arriving.Unanswered.{Unanswered}
 use Rattle.pot_shared.specs.Going.{AllSole}
 use Rattle.pot_commands.specs.Rows.{IsMigrateReply}
-use Rattle.pot_commands.specs.Taking.{Lending, Took, AreUsed}
+use Rattle.pot_commands.specs.Taking.{Took, AreUsed}
+use Rattle.pot_outside.specs.Rooms.{Lending}
 use Rattle.pot_commands.proofs.ArrivingLemmas.{front_jobs, of_jobs, own_each}
 use Rattle.pot_commands.proofs.Brought.{its_setting, is_its}
 use Rattle.pot_commands.proofs.Going.{setting_of_stays, sole_alone, work_all_went}
@@ -159,8 +160,8 @@ module _ (rack : Rack) (names turn : List TurnName) (job from to g c : ℕ) (row
   pub both_work : JobWorked job k0 k2
   both_work = work_more job k0 k1 k2 begun moves_work
 
-  pub both_used : (out now : ℕ → Bool) → ((n : ℕ) → now n ≡ out n) → AreUsed out row1 → AreUsed now row2
-  both_used out now lends used n is = use_more job row1 row2 moved (ready2.of.0 ∙ sym ready1.of.0) n (used n (sym (lends n) ∙ is))
+  pub both_used : (r r' : Lending) → ((n : ℕ) → r'.out n ≡ r.out n) → AreUsed r row1 → AreUsed r' row2
+  both_used r r' lends used n is = use_more job row1 row2 moved (ready2.of.0 ∙ sym ready1.of.0) n (used n (sym (lends n) ∙ is))
 
   gain : (h : ℕ) → gained row0 row2 h ≡ gained row0 row1 h ++ gained row1 row2 h
   gain h =

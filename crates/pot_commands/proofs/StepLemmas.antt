@@ -21,7 +21,8 @@ use Rattle.pot_shared.specs.Going.{AllStay}
 use Rattle.pot_commands.specs.declared.arriving.Unanswered.{Unanswered}
 use Rattle.pot_commands.specs.declared.arriving.Unanswered.TheVariants as unanswered
 use Rattle.pot_commands.specs.Steps.{IsBatched, IsWorkedStep, StepGives, StepLeaves, StepStops, AreLinesLeft, step_of}
-use Rattle.pot_commands.specs.Taking.{Lending, Took, asks, asks_in}
+use Rattle.pot_commands.specs.Taking.{Took, asks, asks_in}
+use Rattle.pot_outside.specs.Rooms.{Lending}
 use Rattle.pot_commands.proofs.Going.{sole_alone}
 use Rattle.pot_commands.proofs.Whose.{its_jobs, judged}
 

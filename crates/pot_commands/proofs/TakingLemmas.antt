@@ -27,7 +27,8 @@ use Rattle.pot_shared.proofs.ComingLemmas.{arrival_in}
 use Rattle.pot_shared.proofs.Times.{contains_times, times-append, times_here}
 use Rattle.pot_shared.specs.Going.{AllSole, AllStay, AllWent}
 use Rattle.pot_shared.specs.Hands.{times}
-use Rattle.pot_commands.specs.Taking.{Lending, Takes, Come, Took, HasUse, AreUsed}
+use Rattle.pot_commands.specs.Taking.{Takes, Come, Took, HasUse, AreUsed}
+use Rattle.pot_outside.specs.Rooms.{Lending}
 use Rattle.pot_shared.specs.Coming.{AreMarkedBy, came_in, marks_of}
 use Rattle.pot_commands.proofs.Going.{sole_parts, known_follows}
 
@@ -282,9 +283,9 @@ use_on row new went origin names n (g, lt, is_use) = (
 pub use_more : (job : ℕ) (row new : GroupPasses) → RowWorked (of_job job) row new → new.names ≡ row.names → (n : ℕ) → HasUse row n → HasUse new n
 use_more job row new worked names = use_on row new (row_work_went (of_job job) row new worked) (λ at. (worked at).origin) names
 
-pub used_more : (job : ℕ) (out now : ℕ → Bool) (row new : GroupPasses) → RowWorked (of_job job) row new → new.names ≡ row.names → ((n : ℕ) → now n ≡ out n) → AreUsed out row → AreUsed now new
-used_more job out now row new worked names same used n is = use_more job row new worked names n (used n (sym (same n) ∙ is))
+pub used_more : (job : ℕ) (r r' : Lending) (row new : GroupPasses) → RowWorked (of_job job) row new → new.names ≡ row.names → ((n : ℕ) → r'.out n ≡ r.out n) → AreUsed r row → AreUsed r' new
+used_more job r r' row new worked names same used n is = use_more job row new worked names n (used n (sym (same n) ∙ is))
 
 -- by the jobs of a batch, which take no archive
-pub used_on : (out now : ℕ → Bool) (old new : Known) → AllWent old new → AllStay old new → ((n : ℕ) → now n ≡ out n) → AreUsed out old.groups → AreUsed now new.groups
-used_on out now old new went stays same used n is = use_on old.groups new.groups went.groups stays.groups.origin stays.groups.names n (used n (sym (same n) ∙ is))
+pub used_on : (r r' : Lending) (old new : Known) → AllWent old new → AllStay old new → ((n : ℕ) → r'.out n ≡ r.out n) → AreUsed r old.groups → AreUsed r' new.groups
+used_on r r' old new went stays same used n is = use_on old.groups new.groups went.groups stays.groups.origin stays.groups.names n (used n (sym (same n) ∙ is))

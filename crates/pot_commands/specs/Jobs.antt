@@ -20,7 +20,8 @@ use Rattle.pot_commands.specs.Arriving.{move_reply}
 use Rattle.pot_commands.specs.Begun.{HasTask}
 use Rattle.pot_commands.specs.Blinding.{HasBlinds}
 use Rattle.pot_commands.specs.Rows.{IsSessionSetting, AreReplies, IsIdle}
-use Rattle.pot_shared.specs.Callers.{VaultView, CanCall}
+use Rattle.pot_shared.specs.Callers.{CanCall}
+use Rattle.pot_shared.specs.Vaults.{VaultView}
 use Rattle.pot_commands.specs.Sharing.{Common}
 
 -- a job: what its passes know, its line with its number and its task, and its answer once it is

@@ -1,6 +1,6 @@
 -- What the commands of a session share.
 use Rattle.std.specs.Prelude.{ℕ, List}
-use Rattle.pot_shared.specs.Callers.{VaultView, vault_of}
+use Rattle.pot_shared.specs.Vaults.{VaultView}
 use Rattle.pot_commands.specs.declared.sharing.Shared.{Shared}
 
 -- what commands have in common: the vault, and what their random bytes are drawn from
@@ -14,4 +14,4 @@ common vault seed session = record { vault = vault; seed = seed; session = sessi
 
 -- those that share this
 abbrev pub common_of : {A X : Type 0} → Shared A X → Common
-common_of s = common (vault_of s.vault.now) s.seed.now s.session
+common_of s = common s.vault.now s.seed.now s.session

@@ -14,13 +14,13 @@ ghost use Rattle.pot_store.specs.Renewals.{RenewRow};
 ghost use Rattle.pot_mend.specs.Scrubs.{ScrubRow};
 ghost use Rattle.pot_mend.specs.Repairs.{RepairRow};
 ghost use Rattle.pot_commands.specs.Blinding.{HasBlinds};
-ghost use Rattle.pot_shared.specs.Callers.{CanCall, known_of, vault_of};
+ghost use Rattle.pot_shared.specs.Callers.{CanCall};
 ghost use Rattle.pot_commands.specs.Sharing.{common_of};
 ghost use Rattle.pot_commands.specs.Failures.{Fails};
 ghost use Rattle.pot_commands.specs.Rows.{HasFilled, IsSessionSetting, IsStoreReply, IsFetchReply};
 ghost use Rattle.pot_commands.specs.Rows.{IsRenewReply, IsUnrenewed, IsScrubReply, IsRepairReply};
 ghost use Rattle.pot_commands.specs.Rows.{AreReplies, IsIdle, IsPlain, IsSingle, IsWorked};
-ghost use Rattle.pot_commands.specs.Taking.{AreUsed, Took, asks, lending};
+ghost use Rattle.pot_commands.specs.Taking.{AreUsed, Took, asks};
 
 use crate::arriving::{Unanswered, replace_archive};
 use crate::listing::{count_groups, list_names};
@@ -187,15 +187,15 @@ pub(crate) fn answer_one<A: Archive, X: Wait>(
     job: u32,
     command: &Command,
 ) -> Result<Reply, NoMemory>
-    requires can { CanCall (vault_of shared.now.vault.now) (known_of passes.old) }
+    requires can { CanCall shared.now.vault.now passes.old }
     requires parts { HasMoreParts 1 passes.old.groups }
     requires job { (0 < job) × (job < 2 ^ 31) }
     requires single { IsSingle shared.now.vault.now.rack.groups command.now }
-    ensures can { CanCall (vault_of shared.now.vault.now) (known_of passes.new) }
-    ensures worked { JobWorked job (known_of passes.old) (known_of passes.new) }
+    ensures can { CanCall shared.now.vault.now passes.new }
+    ensures worked { JobWorked job passes.old passes.new }
     ensures blinds { HasBlinds (IsTrue A.account.tells) (common_of shared.now) job command.now
         passes.old.groups passes.new.groups }
-    ensures says { let old = known_of passes.old in let new = known_of passes.new in
+    ensures says { let old = passes.old in let new = passes.new in
         let w = section_of old new in
         JobAlone job old new → (s : Setting)
         → IsSessionSetting s shared.now.vault.now.rack shared.now.seed.now shared.now.session old
@@ -256,15 +256,15 @@ fn answer_plain<A: Archive, X: Wait>(
     job: u32,
     command: &Command,
 ) -> Result<Vec<Reply>, NoMemory>
-    requires can { CanCall (vault_of shared.now.vault.now) (known_of passes.old) }
+    requires can { CanCall shared.now.vault.now passes.old }
     requires parts { HasMoreParts 1 passes.old.groups }
     requires job { (0 < job) × (job < 2 ^ 31) }
     requires plain { IsPlain shared.now.vault.now.rack.groups command.now }
-    ensures can { CanCall (vault_of shared.now.vault.now) (known_of passes.new) }
-    ensures worked { JobWorked job (known_of passes.old) (known_of passes.new) }
+    ensures can { CanCall shared.now.vault.now passes.new }
+    ensures worked { JobWorked job passes.old passes.new }
     ensures blinds { HasBlinds (IsTrue A.account.tells) (common_of shared.now) job command.now
         passes.old.groups passes.new.groups }
-    ensures says { let old = known_of passes.old in let new = known_of passes.new in
+    ensures says { let old = passes.old in let new = passes.new in
         let w = section_of old new in
         JobAlone job old new → (s : Setting)
         → IsSessionSetting s shared.now.vault.now.rack shared.now.seed.now shared.now.session old
@@ -294,30 +294,30 @@ pub(crate) fn answer<R: Room, X: Wait>(
     command: &Command,
     room: &mut R,
 ) -> Result<Vec<Reply>, Unanswered>
-    requires can { CanCall (vault_of shared.now.vault.now) (known_of passes.old) }
+    requires can { CanCall shared.now.vault.now passes.old }
     requires parts { HasMoreParts 1 passes.old.groups }
     requires job { (0 < job) × (job < 2 ^ 31) }
     requires worked { IsWorked shared.now.vault.now.rack.groups command.now }
-    requires filled { HasFilled shared.now.vault.now.rack (known_of passes.old) }
-    requires used { AreUsed (R.out room.old) passes.old.groups }
-    ensures can { CanCall (vault_of shared.now.vault.now) (known_of passes.new) }
-    ensures worked { JobWorked job (known_of passes.old) (known_of passes.new) }
+    requires filled { HasFilled shared.now.vault.now.rack passes.old }
+    requires used { AreUsed (R.meaning room.old) passes.old.groups }
+    ensures can { CanCall shared.now.vault.now passes.new }
+    ensures worked { JobWorked job passes.old passes.new }
     ensures blinds { HasBlinds (IsTrue R.A.account.tells) (common_of shared.now) job command.now
         passes.old.groups passes.new.groups }
-    ensures says { let old = known_of passes.old in let new = known_of passes.new in
+    ensures says { let old = passes.old in let new = passes.new in
         let w = section_of old new in
         JobAlone job old new → (s : Setting)
         → IsSessionSetting s shared.now.vault.now.rack shared.now.seed.now shared.now.session old
         → MatchResult result (λ replies. AreReplies s job command.now replies.items w)
         (λ e. IsIdle s job command.now w) }
-    ensures used { AreUsed (R.out room.new) passes.new.groups }
+    ensures used { AreUsed (R.meaning room.new) passes.new.groups }
     ensures took { Took (IsTrue R.A.account.tells) (result ≢ Err Unanswered.RoomFailed)
         (asks command.now)
-        (lending (R.out room.old) (R.means room.old)) (lending (R.out room.new) (R.means room.new))
-        (known_of passes.old) (known_of passes.new) }
-    ensures cause { Caused (R.faults room.old) (R.faults room.new)
+        (R.meaning room.old) (R.meaning room.new)
+        passes.old passes.new }
+    ensures cause { Caused (R.meaning room.old).faults (R.meaning room.new).faults
         (IsErrOf result Unanswered.RoomFailed) }
-    ensures own { Fails (R.failures room.old) (R.failures room.new)
+    ensures own { Fails (R.meaning room.old).failures (R.meaning room.new).failures
         (IsErrOf result Unanswered.RoomFailed) }
 {
     match command {

@@ -1,16 +1,17 @@
 //! Archives that come from the room for a command.
 ghost use Rattle.std.specs.Prelude.{◌≡◌, ◌<◌, ◌≢◌, ℕ, [], ◌∷◌, Err, true, false};
 ghost use Rattle.std.specs.Prelude.{IfOk, IsTrue, IsErrOf, OnErr, OnOk, MatchResult};
+ghost use Rattle.pot_outside.specs.Rooms.{StaysAt};
 ghost use Rattle.pot_outside.specs.Archives.{IsMeant};
 ghost use Rattle.pot_outside.specs.Counts.{Caused};
 ghost use Rattle.pot_replies.specs.Settings.{Setting};
 ghost use Rattle.pot_replies.specs.Sections.{mine, IsOfJobs, IsSilent};
 ghost use Rattle.pot_shared.specs.Works.{JobWorked, JobAlone, IsSettingOf, section_of};
-ghost use Rattle.pot_shared.specs.Callers.{CanCall, known_of, vault_of};
+ghost use Rattle.pot_shared.specs.Callers.{CanCall};
 ghost use Rattle.pot_commands.specs.Failures.{Fails};
 ghost use Rattle.pot_commands.specs.Arriving.{HandsBack, use_reply};
 ghost use Rattle.pot_commands.specs.Rows.{IsReplaceReply};
-ghost use Rattle.pot_commands.specs.Taking.{AreUsed, Took, lending};
+ghost use Rattle.pot_commands.specs.Taking.{AreUsed, Took};
 
 use crate::sharing::Shared;
 use pot_group::{ShelfCause, ShelfRefused};
@@ -41,25 +42,25 @@ pub(crate) fn replace_archive<R: Room, X: Wait>(
     to: u32,
     room: &mut R,
 ) -> Result<Reply, Unanswered>
-    requires can { CanCall (vault_of shared.now.vault.now) (known_of passes.old) }
+    requires can { CanCall shared.now.vault.now passes.old }
     requires job { 0 < job }
-    requires used { AreUsed (R.out room.old) passes.old.groups }
-    ensures can { CanCall (vault_of shared.now.vault.now) (known_of passes.new) }
+    requires used { AreUsed (R.meaning room.old) passes.old.groups }
+    ensures can { CanCall shared.now.vault.now passes.new }
     ensures index { passes.new.index ≡ passes.old.index }
-    ensures worked { JobWorked job (known_of passes.old) (known_of passes.new) }
-    ensures says { let old = known_of passes.old in let new = known_of passes.new in
+    ensures worked { JobWorked job passes.old passes.new }
+    ensures says { let old = passes.old in let new = passes.new in
         let w = section_of old new in
         JobAlone job old new → (s : Setting) → IsSettingOf s shared.now.vault.now.rack old
         → MatchResult result
         (λ reply. IsOfJobs job 1 w → IsReplaceReply s job from to reply (mine job w))
         (λ e. IsSilent (mine job w)) }
-    ensures used { AreUsed (R.out room.new) passes.new.groups }
+    ensures used { AreUsed (R.meaning room.new) passes.new.groups }
     ensures took { Took (IsTrue R.A.account.tells) (result ≢ Err Unanswered.RoomFailed) (to ∷ [])
-        (lending (R.out room.old) (R.means room.old)) (lending (R.out room.new) (R.means room.new))
-        (known_of passes.old) (known_of passes.new) }
-    ensures cause { Caused (R.faults room.old) (R.faults room.new)
+        (R.meaning room.old) (R.meaning room.new)
+        passes.old passes.new }
+    ensures cause { Caused (R.meaning room.old).faults (R.meaning room.new).faults
         (IsErrOf result Unanswered.RoomFailed) }
-    ensures own { Fails (R.failures room.old) (R.failures room.new)
+    ensures own { Fails (R.meaning room.old).failures (R.meaning room.new).failures
         (IsErrOf result Unanswered.RoomFailed) }
 {
     let Shared { rt, vault, .. } = *shared;
@@ -93,18 +94,16 @@ pub(crate) fn use_reply(fault: UseFault) -> Reply
 /// # Errors
 /// `RoomFailed` exactly where the room itself failed, or `NoMemory`. The room then lends and means what it did.
 pub(crate) fn take_shelf<R: Room>(room: &mut R, number: u32) -> Result<Shelf<R::A>, Unanswered>
-    requires home { R.out room.old number ≡ false }
+    requires home { (R.meaning room.old).out number ≡ false }
     ensures number { IfOk result (λ shelf. shelf.number ≡ number) }
     ensures told { IfOk result (λ shelf. IsTrue R.A.account.tells
-        → IsMeant (R.means room.old number) (R.A.account.meaning shelf.archive)) }
-    ensures taken { OnOk result (R.out room.new number ≡ true) }
-    ensures stays { OnErr result ((n : ℕ) → (R.means room.new n ≡ R.means room.old n)
-        × (R.out room.new n ≡ R.out room.old n)) }
-    ensures others { (n : ℕ) → n ≢ number → (R.means room.new n ≡ R.means room.old n)
-        × (R.out room.new n ≡ R.out room.old n) }
-    ensures cause { Caused (R.faults room.old) (R.faults room.new)
+        → IsMeant ((R.meaning room.old).means number) (R.A.account.meaning shelf.archive)) }
+    ensures taken { OnOk result ((R.meaning room.new).out number ≡ true) }
+    ensures stays { OnErr result ((n : ℕ) → StaysAt (R.meaning room.old) (R.meaning room.new) n) }
+    ensures others { (n : ℕ) → n ≢ number → StaysAt (R.meaning room.old) (R.meaning room.new) n }
+    ensures cause { Caused (R.meaning room.old).faults (R.meaning room.new).faults
         (IsErrOf result Unanswered.RoomFailed) }
-    ensures own { Fails (R.failures room.old) (R.failures room.new)
+    ensures own { Fails (R.meaning room.old).failures (R.meaning room.new).failures
         (IsErrOf result Unanswered.RoomFailed) }
 {
     match room.take(number) {
@@ -123,17 +122,17 @@ pub(crate) fn hand_back<R: Room>(
     group: u8,
     refused: ShelfRefused<R::A>,
 ) -> Result<Reply, Unanswered>
-    requires out { R.out room.old refused.shelf.number ≡ true }
-    ensures back { R.out room.new refused.shelf.number ≡ false }
+    requires out { (R.meaning room.old).out refused.shelf.number ≡ true }
+    ensures back { (R.meaning room.new).out refused.shelf.number ≡ false }
     ensures others { (n : ℕ) → n ≢ refused.shelf.number
-        → (R.means room.new n ≡ R.means room.old n) × (R.out room.new n ≡ R.out room.old n) }
+        → StaysAt (R.meaning room.old) (R.meaning room.new) n }
     ensures told { (result ≢ Err Unanswered.RoomFailed) → IsTrue R.A.account.tells
-        → IsMeant (R.means room.new refused.shelf.number)
+        → IsMeant ((R.meaning room.new).means refused.shelf.number)
         (R.A.account.meaning refused.shelf.archive) }
     ensures answer { HandsBack group refused.cause result }
-    ensures cause { Caused (R.faults room.old) (R.faults room.new)
+    ensures cause { Caused (R.meaning room.old).faults (R.meaning room.new).faults
         (IsErrOf result Unanswered.RoomFailed) }
-    ensures own { Fails (R.failures room.old) (R.failures room.new)
+    ensures own { Fails (R.meaning room.old).failures (R.meaning room.new).failures
         (IsErrOf result Unanswered.RoomFailed) }
 {
     let ShelfRefused { shelf, cause } = refused;

@@ -17,12 +17,12 @@ ghost use Rattle.pot_shared.specs.Going.{AllWent, AllStay};
 ghost use Rattle.pot_commands.specs.Failures.{Fails};
 ghost use Rattle.pot_commands.specs.Steps.{IsBatched, StepGives, StepLeaves, StepStops};
 ghost use Rattle.pot_commands.specs.Begun.{HaveTasks, AreMovesBegun};
-ghost use Rattle.pot_shared.specs.Callers.{CanCall, HaveParts, known_of, vault_of};
+ghost use Rattle.pot_shared.specs.Callers.{CanCall, HaveParts};
 ghost use Rattle.pot_commands.specs.Sharing.{common_of};
 ghost use Rattle.pot_commands.specs.Jobs.{JobView, HasPasses, IsDone, DidBlinded};
 ghost use Rattle.pot_commands.specs.Jobs.{AreShared, AllJoined, all_replied, replies_in, tasks_in};
 ghost use Rattle.pot_commands.specs.Batches.{BringsNone};
-ghost use Rattle.pot_commands.specs.Taking.{AreUsed, Took, asks, lending};
+ghost use Rattle.pot_commands.specs.Taking.{AreUsed, Took, asks};
 
 use crate::arriving::Unanswered;
 use crate::beginning::{Task, begin_lines};
@@ -47,13 +47,13 @@ fn share_out<'a, A: Archive, X>(
     lines: &'a [Command],
     tasks: Vec<Task>,
 ) -> Result<Vec<LineJob<'a, A, X>>, JobsRefused<LineJob<'a, A, X>>>
-    requires can { CanCall (vault_of shared.now.vault.now) (known_of passes.old) }
-    requires parts { HaveParts (2 * length lines.now) (known_of passes.old) }
+    requires can { CanCall shared.now.vault.now passes.old }
+    requires parts { HaveParts (2 * length lines.now) passes.old }
     requires job { (0 < job) × (job + length lines.now ≤ 2 ^ 31) }
     requires tasks { HaveTasks shared.now.vault.now.rack lines.now tasks.items }
-    ensures can { CanCall (vault_of shared.now.vault.now) (known_of passes.new) }
+    ensures can { CanCall shared.now.vault.now passes.new }
     ensures shared { let b = common_of shared.now in
-        let old = known_of passes.old in let new = known_of passes.new in
+        let old = passes.old in let new = passes.new in
         MatchResult result (λ jobs. AreShared b old job lines.now jobs.items new
         × (tasks_in jobs.items ≡ tasks.items))
         (λ r. AreShared b old job (take (length r.jobs.items) lines.now) r.jobs.items new) }
@@ -88,14 +88,14 @@ fn work_lines<'a, A: Archive + Send, W: Gate, X: Threads + Wait + Sync>(
     lines: &'a [Command],
     tasks: Vec<Task>,
 ) -> Result<Vec<LineJob<'a, A, X>>, JobsRefused<LineJob<'a, A, X>>>
-    requires can { CanCall (vault_of crew.now.shared.vault.now) (known_of passes.old) }
-    requires parts { HaveParts (2 * length lines.now) (known_of passes.old) }
+    requires can { CanCall crew.now.shared.vault.now passes.old }
+    requires parts { HaveParts (2 * length lines.now) passes.old }
     requires job { (0 < job) × (job + length lines.now ≤ 2 ^ 31) }
     requires tasks { HaveTasks crew.now.shared.vault.now.rack lines.now tasks.items }
     requires workers { 0 < crew.now.workers }
-    ensures can { CanCall (vault_of crew.now.shared.vault.now) (known_of passes.new) }
+    ensures can { CanCall crew.now.shared.vault.now passes.new }
     ensures worked { let b = common_of crew.now.shared in
-        let old = known_of passes.old in let new = known_of passes.new in
+        let old = passes.old in let new = passes.new in
         MatchResult result
         (λ back. (js : List JobView) × AreShared b old job lines.now js new
         × (tasks_in js ≡ tasks.items)
@@ -117,11 +117,11 @@ fn take_back<'a, A: Archive, X>(
     jobs: Vec<LineJob<'a, A, X>>,
     replies: &mut Vec<Reply>,
 ) -> bool
-    requires can { CanCall (vault_of vault.now) (known_of passes.old) }
-    requires its { AllByRecursion (HasPasses (vault_of vault.now)) jobs.items }
+    requires can { CanCall vault.now passes.old }
+    requires its { AllByRecursion (HasPasses vault.now) jobs.items }
     requires room { length replies.old.items + length jobs.items ≤ vec_capacity replies.old }
-    ensures can { CanCall (vault_of vault.now) (known_of passes.new) }
-    ensures joined { AllJoined (known_of passes.old) jobs.entry.items (known_of passes.new) }
+    ensures can { CanCall vault.now passes.new }
+    ensures joined { AllJoined passes.old jobs.entry.items passes.new }
     ensures replies { replies.new.items ≡ replies.old.items ++ replies_in jobs.entry.items }
     ensures whole { result ≡ all_replied jobs.entry.items }
 {
@@ -149,22 +149,22 @@ fn work_begun<A: Archive + Send, W: Gate, X: Threads + Wait + Sync>(
     lines: &[Command],
     tasks: Vec<Task>,
 ) -> Result<Vec<Reply>, NoMemory>
-    requires can { CanCall (vault_of crew.now.shared.vault.now) (known_of passes.old) }
-    requires parts { HaveParts (2 * length lines.now) (known_of passes.old) }
+    requires can { CanCall crew.now.shared.vault.now passes.old }
+    requires parts { HaveParts (2 * length lines.now) passes.old }
     requires job { (0 < job) × (job + length lines.now ≤ 2 ^ 31) }
     requires tasks { HaveTasks crew.now.shared.vault.now.rack lines.now tasks.items }
     requires workers { 0 < crew.now.workers }
-    requires filled { HasFilled crew.now.shared.vault.now.rack (known_of passes.old) }
-    ensures can { CanCall (vault_of crew.now.shared.vault.now) (known_of passes.new) }
-    ensures went { AllWent (known_of passes.old) (known_of passes.new) }
-    ensures stays { AllStay (known_of passes.old) (known_of passes.new) }
+    requires filled { HasFilled crew.now.shared.vault.now.rack passes.old }
+    ensures can { CanCall crew.now.shared.vault.now passes.new }
+    ensures went { AllWent passes.old passes.new }
+    ensures stays { AllStay passes.old passes.new }
     ensures says { let b = common_of crew.now.shared in let batch = Together lines.now in
-        let old = known_of passes.old in let new = known_of passes.new in
+        let old = passes.old in let new = passes.new in
         (start : Known) → AreMovesBegun b.vault.rack job lines.now tasks.items start old
         → MatchResult result
         (λ replies. StepGives b.vault.rack b.seed b.session job batch start new replies.items)
         (λ e. StepLeaves b.vault.rack b.seed b.session job batch start new) }
-    ensures none { BringsNone (known_of passes.old) (known_of passes.new) }
+    ensures none { BringsNone passes.old passes.new }
 {
     let Ok(mut replies) = Vec::with_capacity(crew.shared.alloc, lines.len()) else {
         return Err(NoMemory);
@@ -198,29 +198,29 @@ pub(crate) fn answer_together<R: Room, W: Gate, X: Threads + Wait + Sync>(
     lines: &[Command],
     room: &mut R,
 ) -> Result<Vec<Reply>, Unanswered>
-    requires can { CanCall (vault_of crew.now.shared.vault.now) (known_of passes.old) }
-    requires parts { HaveParts (2 * length lines.now) (known_of passes.old) }
+    requires can { CanCall crew.now.shared.vault.now passes.old }
+    requires parts { HaveParts (2 * length lines.now) passes.old }
     requires job { (0 < job) × (job + length lines.now ≤ 2 ^ 31) }
     requires batched { AllByRecursion (IsBatched crew.now.shared.vault.now.rack.groups) lines.now }
     requires workers { 0 < crew.now.workers }
-    requires filled { HasFilled crew.now.shared.vault.now.rack (known_of passes.old) }
-    requires used { AreUsed (R.out room.old) passes.old.groups }
-    ensures can { CanCall (vault_of crew.now.shared.vault.now) (known_of passes.new) }
-    ensures went { AllWent (known_of passes.old) (known_of passes.new) }
-    ensures stays { AllStay (known_of passes.old) (known_of passes.new) }
+    requires filled { HasFilled crew.now.shared.vault.now.rack passes.old }
+    requires used { AreUsed (R.meaning room.old) passes.old.groups }
+    ensures can { CanCall crew.now.shared.vault.now passes.new }
+    ensures went { AllWent passes.old passes.new }
+    ensures stays { AllStay passes.old passes.new }
     ensures says { let b = common_of crew.now.shared in let batch = Together lines.now in
-        let old = known_of passes.old in let new = known_of passes.new in
+        let old = passes.old in let new = passes.new in
         MatchResult result
         (λ replies. StepGives b.vault.rack b.seed b.session job batch old new replies.items)
         (λ e. StepStops b.vault.rack b.seed b.session job batch old new e) }
-    ensures used { AreUsed (R.out room.new) passes.new.groups }
+    ensures used { AreUsed (R.meaning room.new) passes.new.groups }
     ensures took { Took (IsTrue R.A.account.tells) (result ≢ Err Unanswered.RoomFailed)
         (flat_map asks lines.now)
-        (lending (R.out room.old) (R.means room.old)) (lending (R.out room.new) (R.means room.new))
-        (known_of passes.old) (known_of passes.new) }
-    ensures cause { Caused (R.faults room.old) (R.faults room.new)
+        (R.meaning room.old) (R.meaning room.new)
+        passes.old passes.new }
+    ensures cause { Caused (R.meaning room.old).faults (R.meaning room.new).faults
         (IsErrOf result Unanswered.RoomFailed) }
-    ensures own { Fails (R.failures room.old) (R.failures room.new)
+    ensures own { Fails (R.meaning room.old).failures (R.meaning room.new).failures
         (IsErrOf result Unanswered.RoomFailed) }
 {
     let tasks = match begin_lines(&crew.shared, passes, job, lines, room) {

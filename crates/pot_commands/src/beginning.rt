@@ -6,12 +6,12 @@ ghost use Rattle.pot_outside.specs.Counts.{Caused};
 ghost use Rattle.pot_replies.specs.Settings.{Setting};
 ghost use Rattle.pot_replies.specs.Sections.{mine, IsOfJobs, IsSilent};
 ghost use Rattle.pot_shared.specs.Works.{JobWorked, JobAlone, IsSettingOf, section_of};
-ghost use Rattle.pot_shared.specs.Callers.{CanCall, known_of, vault_of};
+ghost use Rattle.pot_shared.specs.Callers.{CanCall};
 ghost use Rattle.pot_commands.specs.declared.beginning.Task.{Task};
 ghost use Rattle.pot_commands.specs.Begun.{HasTask, HaveTasks, LineBegins, AreMovesBegun};
 ghost use Rattle.pot_commands.specs.Failures.{Fails};
 ghost use Rattle.pot_commands.specs.Steps.{IsBatched};
-ghost use Rattle.pot_commands.specs.Taking.{AreUsed, Took, asks, lending};
+ghost use Rattle.pot_commands.specs.Taking.{AreUsed, Took, asks};
 
 use crate::arriving::Unanswered;
 use crate::moving::begin_move;
@@ -46,26 +46,26 @@ pub(crate) fn begin_lines<R: Room, X: Wait>(
     lines: &[Command],
     room: &mut R,
 ) -> Result<Vec<Task>, Unanswered>
-    requires can { CanCall (vault_of shared.now.vault.now) (known_of passes.old) }
+    requires can { CanCall shared.now.vault.now passes.old }
     requires job { (0 < job) × (job + length lines.now ≤ 2 ^ 31) }
     requires batched { AllByRecursion (IsBatched shared.now.vault.now.rack.groups) lines.now }
-    requires used { AreUsed (R.out room.old) passes.old.groups }
-    ensures can { CanCall (vault_of shared.now.vault.now) (known_of passes.new) }
+    requires used { AreUsed (R.meaning room.old) passes.old.groups }
+    ensures can { CanCall shared.now.vault.now passes.new }
     ensures index { passes.new.index ≡ passes.old.index }
     ensures tasks { let rack = shared.now.vault.now.rack in
         IfOk result (λ tasks. HaveTasks rack lines.now tasks.items) }
-    ensures begun { let old = known_of passes.old in let new = known_of passes.new in
+    ensures begun { let old = passes.old in let new = passes.new in
         let rack = shared.now.vault.now.rack in
         MatchResult result (λ tasks. AreMovesBegun rack job lines.now tasks.items old new)
         (λ e. (ts : List Task) × AreMovesBegun rack job lines.now ts old new) }
-    ensures used { AreUsed (R.out room.new) passes.new.groups }
+    ensures used { AreUsed (R.meaning room.new) passes.new.groups }
     ensures took { Took (IsTrue R.A.account.tells) (result ≢ Err Unanswered.RoomFailed)
         (flat_map asks lines.now)
-        (lending (R.out room.old) (R.means room.old)) (lending (R.out room.new) (R.means room.new))
-        (known_of passes.old) (known_of passes.new) }
-    ensures cause { Caused (R.faults room.old) (R.faults room.new)
+        (R.meaning room.old) (R.meaning room.new)
+        passes.old passes.new }
+    ensures cause { Caused (R.meaning room.old).faults (R.meaning room.new).faults
         (IsErrOf result Unanswered.RoomFailed) }
-    ensures own { Fails (R.failures room.old) (R.failures room.new)
+    ensures own { Fails (R.meaning room.old).failures (R.meaning room.new).failures
         (IsErrOf result Unanswered.RoomFailed) }
 {
     let Ok(mut tasks) = Vec::with_capacity(shared.alloc, lines.len()) else {
@@ -92,27 +92,27 @@ fn begin_line<R: Room, X: Wait>(
     line: &Command,
     room: &mut R,
 ) -> Result<Task, Unanswered>
-    requires can { CanCall (vault_of shared.now.vault.now) (known_of passes.old) }
+    requires can { CanCall shared.now.vault.now passes.old }
     requires job { 0 < job }
     requires batched { IsBatched shared.now.vault.now.rack.groups line.now }
-    requires used { AreUsed (R.out room.old) passes.old.groups }
-    ensures can { CanCall (vault_of shared.now.vault.now) (known_of passes.new) }
+    requires used { AreUsed (R.meaning room.old) passes.old.groups }
+    ensures can { CanCall shared.now.vault.now passes.new }
     ensures index { passes.new.index ≡ passes.old.index }
-    ensures worked { JobWorked job (known_of passes.old) (known_of passes.new) }
+    ensures worked { JobWorked job passes.old passes.new }
     ensures task { IfOk result (λ t. HasTask shared.now.vault.now.rack line.now t) }
-    ensures says { let old = known_of passes.old in let new = known_of passes.new in
+    ensures says { let old = passes.old in let new = passes.new in
         JobAlone job old new → (s : Setting) → IsSettingOf s shared.now.vault.now.rack old
         → MatchResult result (λ t. IsOfJobs job 1 (section_of old new)
         → LineBegins s job line.now t (section_of old new))
         (λ e. IsSilent (mine job (section_of old new))) }
-    ensures used { AreUsed (R.out room.new) passes.new.groups }
+    ensures used { AreUsed (R.meaning room.new) passes.new.groups }
     ensures took { Took (IsTrue R.A.account.tells) (result ≢ Err Unanswered.RoomFailed)
         (asks line.now)
-        (lending (R.out room.old) (R.means room.old)) (lending (R.out room.new) (R.means room.new))
-        (known_of passes.old) (known_of passes.new) }
-    ensures cause { Caused (R.faults room.old) (R.faults room.new)
+        (R.meaning room.old) (R.meaning room.new)
+        passes.old passes.new }
+    ensures cause { Caused (R.meaning room.old).faults (R.meaning room.new).faults
         (IsErrOf result Unanswered.RoomFailed) }
-    ensures own { Fails (R.failures room.old) (R.failures room.new)
+    ensures own { Fails (R.meaning room.old).failures (R.meaning room.new).failures
         (IsErrOf result Unanswered.RoomFailed) }
 {
     match line {

@@ -8,7 +8,7 @@ ghost use Rattle.pot_shared.specs.Works.{JobWorked, JobAlone, section_of};
 ghost use Rattle.pot_commands.specs.Begun.{HasTask};
 ghost use Rattle.pot_commands.specs.Blinding.{HasBlinds};
 ghost use Rattle.pot_commands.specs.Rows.{IsSessionSetting};
-ghost use Rattle.pot_shared.specs.Callers.{CanCall, HaveParts, known_of, vault_of};
+ghost use Rattle.pot_shared.specs.Callers.{CanCall, HaveParts};
 ghost use Rattle.pot_commands.specs.Sharing.{common_of};
 ghost use Rattle.pot_commands.specs.Jobs.{IsGiven, Says};
 
@@ -44,18 +44,17 @@ pub struct LineJob<'a, A: Archive, R> {
 }
 
 impl<'a, A: Archive, R> Model for LineJob<'a, A, R> {
-    ghost use Rattle.pot_shared.specs.Callers.{known_of, vault_of};
     ghost use Rattle.pot_commands.specs.Sharing.{common};
     ghost use Rattle.pot_commands.specs.Jobs.{JobView, CanWork, job_view};
 
     ghost Value = { JobView };
 
-    ghost view = { λ j. job_view (common (vault_of j.vault.now) j.seed.now j.session)
-        (known_of j.passes) j.job j.line.now j.task j.answer };
+    ghost view = { λ j. job_view (common j.vault.now j.seed.now j.session)
+        j.passes j.job j.line.now j.task j.answer };
 
     ghost invariant = { λ j. CanWork
-        (job_view (common (vault_of j.vault.now) j.seed.now j.session)
-        (known_of j.passes) j.job j.line.now j.task j.answer) };
+        (job_view (common j.vault.now j.seed.now j.session)
+        j.passes j.job j.line.now j.task j.answer) };
 }
 
 impl<'a, A: Archive, R: Wait> Job for LineJob<'a, A, R> {
@@ -91,15 +90,15 @@ fn answer_task<A: Archive, X: Wait>(
     line: &Command,
     task: Task,
 ) -> Result<Reply, NoMemory>
-    requires can { CanCall (vault_of shared.now.vault.now) (known_of passes.old) }
+    requires can { CanCall shared.now.vault.now passes.old }
     requires parts { HasMoreParts 1 passes.old.groups }
     requires job { (0 < job) × (job < 2 ^ 31) }
     requires fits { HasTask shared.now.vault.now.rack line.now task }
-    ensures can { CanCall (vault_of shared.now.vault.now) (known_of passes.new) }
-    ensures worked { JobWorked job (known_of passes.old) (known_of passes.new) }
+    ensures can { CanCall shared.now.vault.now passes.new }
+    ensures worked { JobWorked job passes.old passes.new }
     ensures blinds { HasBlinds (IsTrue A.account.tells) (common_of shared.now) job line.now
         passes.old.groups passes.new.groups }
-    ensures says { let old = known_of passes.old in let new = known_of passes.new in
+    ensures says { let old = passes.old in let new = passes.new in
         JobAlone job old new → (s : Setting)
         → IsSessionSetting s shared.now.vault.now.rack shared.now.seed.now shared.now.session old
         → Says s job line.now task (Some result) (section_of old new) }
@@ -121,13 +120,13 @@ fn answer_task<A: Archive, X: Wait>(
 impl<'a, A: Archive, R> LineJob<'a, A, R> {
     ghost use Rattle.std.specs.Prelude.{◌≡◌};
     ghost use Rattle.pot_rows.specs.Parts.{RowJoined};
-    ghost use Rattle.pot_shared.specs.Callers.{CanCall, known_of};
+    ghost use Rattle.pot_shared.specs.Callers.{CanCall};
 
     /// Lets these passes take in its own, and hands out its answer.
     pub(crate) fn hand_back(self, passes: &mut Passes<A>) -> Option<Result<Reply, NoMemory>>
-        requires can { CanCall self.common.vault (known_of passes.old) }
+        requires can { CanCall self.common.vault passes.old }
         requires its { CanCall self.common.vault self.passes }
-        ensures can { CanCall self.entry.common.vault (known_of passes.new) }
+        ensures can { CanCall self.entry.common.vault passes.new }
         ensures joined { RowJoined passes.old.groups self.entry.passes.groups passes.new.groups }
         ensures joined_index { RowJoined passes.old.index self.entry.passes.index passes.new.index }
         ensures answer { result ≡ self.entry.answer }
@@ -155,13 +154,13 @@ pub(crate) fn give_line<'a, A: Archive, X>(
     line: &'a Command,
     task: Task,
 ) -> Result<LineJob<'a, A, X>, NoMemory>
-    requires can { CanCall (vault_of shared.now.vault.now) (known_of passes.old) }
-    requires parts { HaveParts 2 (known_of passes.old) }
+    requires can { CanCall shared.now.vault.now passes.old }
+    requires parts { HaveParts 2 passes.old }
     requires job { (0 < job) × (job < 2 ^ 31) }
     requires fits { HasTask shared.now.vault.now.rack line.now task }
-    ensures can { CanCall (vault_of shared.now.vault.now) (known_of passes.new) }
+    ensures can { CanCall shared.now.vault.now passes.new }
     ensures given { IfOk result (λ j.
-        IsGiven (common_of shared.now) (known_of passes.old) job line.now j) }
+        IsGiven (common_of shared.now) passes.old job line.now j) }
     ensures task { IfOk result (λ j. j.task ≡ task) }
     ensures left { IfOk result (λ _. RowCut 2 passes.old.groups passes.new.groups
         × RowCut 2 passes.old.index passes.new.index) }

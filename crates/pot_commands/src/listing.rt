@@ -3,7 +3,7 @@ ghost use Rattle.std.specs.Prelude.{◌≡◌, ◌<◌, IsTrue, MatchResult, len
 ghost use Rattle.pot_replies.specs.Settings.{Setting};
 ghost use Rattle.pot_replies.specs.Sections.{mine, IsSilent};
 ghost use Rattle.pot_shared.specs.Works.{JobWorked, JobAlone, IsSettingOf, section_of};
-ghost use Rattle.pot_shared.specs.Callers.{CanCall, known_of, vault_of};
+ghost use Rattle.pot_shared.specs.Callers.{CanCall};
 ghost use Rattle.pot_commands.specs.Rows.{IsListReply, AreStatusReplies};
 ghost use Rattle.pot_commands.specs.Counting.{CountsLine};
 
@@ -25,11 +25,11 @@ pub(crate) fn list_names<A: Archive, X: Wait>(
     passes: &mut Passes<A>,
     job: u32,
 ) -> Result<Reply, NoMemory>
-    requires can { CanCall (vault_of shared.now.vault.now) (known_of passes.old) }
-    ensures can { CanCall (vault_of shared.now.vault.now) (known_of passes.new) }
+    requires can { CanCall shared.now.vault.now passes.old }
+    ensures can { CanCall shared.now.vault.now passes.new }
     ensures groups { passes.new.groups ≡ passes.old.groups }
-    ensures worked { JobWorked job (known_of passes.old) (known_of passes.new) }
-    ensures says { let old = known_of passes.old in let new = known_of passes.new in
+    ensures worked { JobWorked job passes.old passes.new }
+    ensures says { let old = passes.old in let new = passes.new in
         JobAlone job old new → (s : Setting) → IsSettingOf s shared.now.vault.now.rack old
         → MatchResult result (λ reply. IsListReply s job reply (section_of old new))
         (λ e. IsSilent (mine job (section_of old new))) }
@@ -50,10 +50,10 @@ fn count_group<A: Archive, X: Wait>(
     group: u8,
     job: u32,
 ) -> Reply
-    requires can { CanCall (vault_of shared.now.vault.now) (known_of passes.old) }
+    requires can { CanCall shared.now.vault.now passes.old }
     requires group { group < length shared.now.vault.now.groups }
     requires job { 0 < job }
-    ensures can { CanCall (vault_of shared.now.vault.now) (known_of passes.new) }
+    ensures can { CanCall shared.now.vault.now passes.new }
     ensures index { passes.new.index ≡ passes.old.index }
     ensures counts { CountsLine (IsTrue A.account.tells) job group result
         passes.old.groups passes.new.groups }
@@ -80,17 +80,17 @@ pub(crate) fn count_groups<A: Archive, X: Wait>(
     passes: &mut Passes<A>,
     job: u32,
 ) -> Result<Vec<Reply>, NoMemory>
-    requires can { CanCall (vault_of shared.now.vault.now) (known_of passes.old) }
+    requires can { CanCall shared.now.vault.now passes.old }
     requires job { 0 < job }
-    ensures can { CanCall (vault_of shared.now.vault.now) (known_of passes.new) }
+    ensures can { CanCall shared.now.vault.now passes.new }
     ensures index { passes.new.index ≡ passes.old.index }
-    ensures worked { JobWorked job (known_of passes.old) (known_of passes.new) }
-    ensures says { let old = known_of passes.old in let new = known_of passes.new in
+    ensures worked { JobWorked job passes.old passes.new }
+    ensures says { let old = passes.old in let new = passes.new in
         JobAlone job old new → (s : Setting) → IsSettingOf s shared.now.vault.now.rack old
         → MatchResult result (λ replies. AreStatusReplies s job replies.items (section_of old new))
         (λ e. IsSilent (mine job (section_of old new))) }
 {
-    let groups = shared.vault.rack.groups;
+    let groups = shared.vault.rack().groups;
     let mut replies = Vec::with_capacity(shared.alloc, groups as usize)?;
     for group in 0..groups {
         let reply = count_group(shared, passes, group, job);

@@ -1,15 +1,15 @@
 //! A column that moves to an archive from the room.
-ghost use Rattle.std.specs.Prelude.{◌≡◌, ◌<◌, ◌≢◌, ◌+◌, ℕ, [], ◌∷◌, Err};
+ghost use Rattle.std.specs.Prelude.{◌≡◌, ◌<◌, ◌≢◌, ◌+◌, [], ◌∷◌, Err};
 ghost use Rattle.std.specs.Prelude.{IfOk, IsTrue, IsErrOf, MatchResult, length};
 ghost use Rattle.pot_outside.specs.Counts.{Caused};
 ghost use Rattle.pot_replies.specs.Settings.{Setting};
 ghost use Rattle.pot_replies.specs.Sections.{mine, work_of, Halves, IsOfJobs, IsSilent};
 ghost use Rattle.pot_shared.specs.Works.{JobWorked, JobAlone, IsSettingOf, section_of};
-ghost use Rattle.pot_shared.specs.Callers.{CanCall, known_of, vault_of};
+ghost use Rattle.pot_shared.specs.Callers.{CanCall};
 ghost use Rattle.pot_commands.specs.Failures.{Fails};
 ghost use Rattle.pot_commands.specs.Arriving.{HasBegun, Unbegins, move_reply};
 ghost use Rattle.pot_commands.specs.Rows.{IsMigrateReply};
-ghost use Rattle.pot_commands.specs.Taking.{AreUsed, Took, lending};
+ghost use Rattle.pot_commands.specs.Taking.{AreUsed, Took};
 
 use crate::arriving::{Unanswered, hand_back, take_shelf, use_reply};
 use crate::sharing::Shared;
@@ -32,25 +32,25 @@ pub(crate) fn migrate_archive<R: Room, X: Wait>(
     to: u32,
     room: &mut R,
 ) -> Result<Reply, Unanswered>
-    requires can { CanCall (vault_of shared.now.vault.now) (known_of passes.old) }
+    requires can { CanCall shared.now.vault.now passes.old }
     requires job { 0 < job }
-    requires used { AreUsed (R.out room.old) passes.old.groups }
-    ensures can { CanCall (vault_of shared.now.vault.now) (known_of passes.new) }
+    requires used { AreUsed (R.meaning room.old) passes.old.groups }
+    ensures can { CanCall shared.now.vault.now passes.new }
     ensures index { passes.new.index ≡ passes.old.index }
-    ensures worked { JobWorked job (known_of passes.old) (known_of passes.new) }
-    ensures says { let old = known_of passes.old in let new = known_of passes.new in
+    ensures worked { JobWorked job passes.old passes.new }
+    ensures says { let old = passes.old in let new = passes.new in
         let w = section_of old new in
         JobAlone job old new → (s : Setting) → IsSettingOf s shared.now.vault.now.rack old
         → MatchResult result (λ reply. IsOfJobs job 1 w → (h : Halves w)
         × IsMigrateReply s w.before h.begun job from to reply (work_of w h))
         (λ e. IsSilent (mine job w)) }
-    ensures used { AreUsed (R.out room.new) passes.new.groups }
+    ensures used { AreUsed (R.meaning room.new) passes.new.groups }
     ensures took { Took (IsTrue R.A.account.tells) (result ≢ Err Unanswered.RoomFailed) (to ∷ [])
-        (lending (R.out room.old) (R.means room.old)) (lending (R.out room.new) (R.means room.new))
-        (known_of passes.old) (known_of passes.new) }
-    ensures cause { Caused (R.faults room.old) (R.faults room.new)
+        (R.meaning room.old) (R.meaning room.new)
+        passes.old passes.new }
+    ensures cause { Caused (R.meaning room.old).faults (R.meaning room.new).faults
         (IsErrOf result Unanswered.RoomFailed) }
-    ensures own { Fails (R.failures room.old) (R.failures room.new)
+    ensures own { Fails (R.meaning room.old).failures (R.meaning room.new).failures
         (IsErrOf result Unanswered.RoomFailed) }
 {
     let at = match begin_move(shared, passes, job, from, to, room) {
@@ -73,29 +73,29 @@ pub(crate) fn begin_move<R: Room, X: Wait>(
     to: u32,
     room: &mut R,
 ) -> Result<MoveAt, Result<Reply, Unanswered>>
-    requires can { CanCall (vault_of shared.now.vault.now) (known_of passes.old) }
+    requires can { CanCall shared.now.vault.now passes.old }
     requires job { 0 < job }
-    requires used { AreUsed (R.out room.old) passes.old.groups }
-    ensures can { CanCall (vault_of shared.now.vault.now) (known_of passes.new) }
+    requires used { AreUsed (R.meaning room.old) passes.old.groups }
+    ensures can { CanCall shared.now.vault.now passes.new }
     ensures index { passes.new.index ≡ passes.old.index }
-    ensures worked { JobWorked job (known_of passes.old) (known_of passes.new) }
+    ensures worked { JobWorked job passes.old passes.new }
     ensures place { let rack = shared.now.vault.now.rack in
         IfOk result (λ at. (at.group < length shared.now.vault.now.groups)
         × (at.column < rack.columns + rack.parity)) }
-    ensures says { let old = known_of passes.old in let new = known_of passes.new in
+    ensures says { let old = passes.old in let new = passes.new in
         let w = section_of old new in
         JobAlone job old new → (s : Setting) → IsSettingOf s shared.now.vault.now.rack old
         → MatchResult result
         (λ at. IsOfJobs job 1 w → HasBegun s job from to at.group at.column w)
         (λ e. Unbegins s job from to e w) }
-    ensures used { AreUsed (R.out room.new) passes.new.groups }
+    ensures used { AreUsed (R.meaning room.new) passes.new.groups }
     ensures took { Took (IsTrue R.A.account.tells) (result ≢ Err (Err Unanswered.RoomFailed))
         (to ∷ [])
-        (lending (R.out room.old) (R.means room.old)) (lending (R.out room.new) (R.means room.new))
-        (known_of passes.old) (known_of passes.new) }
-    ensures cause { Caused (R.faults room.old) (R.faults room.new)
+        (R.meaning room.old) (R.meaning room.new)
+        passes.old passes.new }
+    ensures cause { Caused (R.meaning room.old).faults (R.meaning room.new).faults
         (IsErrOf result (Err Unanswered.RoomFailed)) }
-    ensures own { Fails (R.failures room.old) (R.failures room.new)
+    ensures own { Fails (R.meaning room.old).failures (R.meaning room.new).failures
         (IsErrOf result (Err Unanswered.RoomFailed)) }
 {
     let Shared { rt, vault, .. } = *shared;

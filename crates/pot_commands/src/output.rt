@@ -1,8 +1,8 @@
 //! The text of replies, and its way to a sink.
-ghost use Rattle.std.specs.Prelude.{◌≡◌, IsTrue, IsErr, IfOk};
-ghost use Rattle.pot_outside.specs.Counts.{Caused};
-ghost use Rattle.pot_commands.specs.Streams.{IsWritten};
+ghost use Rattle.std.specs.Prelude.{◌≡◌, IsErr, IfOk};
+ghost use Rattle.pot_outside.specs.Accounts.{Faults, met};
 ghost use Rattle.pot_commands.specs.Ends.{texts_of, any_refusal};
+ghost use Rattle.pot_commands.specs.Streams.{Writes};
 
 use pot_bytes::NoMemory;
 use pot_outside::{Failed, Sink};
@@ -14,9 +14,8 @@ use std::alloc::Global;
 /// # Errors
 /// `Failed` only where the sink's count of faults rose; some first bytes of the text were written then.
 pub fn write_out<K: Sink>(sink: &mut K, text: &[u8]) -> Result<(), Failed>
-    ensures told { IsTrue K.tells
-        → IsWritten (K.written sink.old) (K.written sink.new) text.now result }
-    ensures cause { Caused (K.faults sink.old) (K.faults sink.new) (IsErr result) }
+    ensures told { Writes (met K.account sink.old sink.new) text.now result }
+    ensures cause { Faults K.account sink.old sink.new (IsErr result) }
 {
     let mut rest = text;
     while !rest.is_empty() {

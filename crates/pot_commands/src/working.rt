@@ -2,9 +2,10 @@
 ghost use Rattle.std.specs.Prelude.{◌≡◌, ◌≢◌, ◌<◌, ◌≤◌, ◌+◌, ◌^◌, Err};
 ghost use Rattle.std.specs.Prelude.{IsTrue, IsErrOf, MatchResult};
 ghost use Rattle.std.specs.List.{AllByRecursion};
+ghost use Rattle.pot_outside.specs.Accounts.{Faults, met};
 ghost use Rattle.pot_outside.specs.Counts.{Caused};
 ghost use Rattle.pot_replies.specs.Sessions.{jobs_in};
-ghost use Rattle.pot_shared.specs.Callers.{CanCall, HaveParts, known_of, vault_of};
+ghost use Rattle.pot_shared.specs.Callers.{CanCall, HaveParts};
 ghost use Rattle.pot_commands.specs.Sharing.{common_of};
 ghost use Rattle.pot_commands.specs.Failures.{Fails};
 ghost use Rattle.pot_commands.specs.Rows.{HasFilled};
@@ -12,7 +13,7 @@ ghost use Rattle.pot_commands.specs.Ones.{OneEnds};
 ghost use Rattle.pot_shared.specs.Going.{AllWent, AllStay};
 ghost use Rattle.pot_commands.specs.Steps.{IsWorkedStep, StepGives, StepStops, step_of};
 ghost use Rattle.pot_commands.specs.Ends.{Ends, next_job};
-ghost use Rattle.pot_commands.specs.Taking.{AreUsed, Took, asked_by, asks_in, lending};
+ghost use Rattle.pot_commands.specs.Taking.{AreUsed, Took, asked_by, asks_in};
 
 use crate::answering::answer;
 use crate::arriving::Unanswered;
@@ -45,29 +46,29 @@ fn answer_step<R: Room, W: Gate, X: Threads + Wait + Sync>(
     step: &Step,
     room: &mut R,
 ) -> Result<Vec<Reply>, Unanswered>
-    requires can { CanCall (vault_of crew.now.shared.vault.now) (known_of passes.old) }
-    requires parts { HaveParts 2048 (known_of passes.old) }
+    requires can { CanCall crew.now.shared.vault.now passes.old }
+    requires parts { HaveParts 2048 passes.old }
     requires job { (0 < job) × (job + jobs_in (step_of step.now) ≤ 2 ^ 31) }
     requires workers { 0 < crew.now.workers }
     requires worked { IsWorkedStep crew.now.shared.vault.now.rack.groups step.now }
-    requires filled { HasFilled crew.now.shared.vault.now.rack (known_of passes.old) }
-    requires used { AreUsed (R.out room.old) passes.old.groups }
-    ensures can { CanCall (vault_of crew.now.shared.vault.now) (known_of passes.new) }
-    ensures went { AllWent (known_of passes.old) (known_of passes.new) }
-    ensures stays { AllStay (known_of passes.old) (known_of passes.new) }
+    requires filled { HasFilled crew.now.shared.vault.now.rack passes.old }
+    requires used { AreUsed (R.meaning room.old) passes.old.groups }
+    ensures can { CanCall crew.now.shared.vault.now passes.new }
+    ensures went { AllWent passes.old passes.new }
+    ensures stays { AllStay passes.old passes.new }
     ensures says { let b = common_of crew.now.shared in let its = step_of step.now in
-        let old = known_of passes.old in let new = known_of passes.new in
+        let old = passes.old in let new = passes.new in
         MatchResult result
         (λ replies. StepGives b.vault.rack b.seed b.session job its old new replies.items)
         (λ e. StepStops b.vault.rack b.seed b.session job its old new e) }
-    ensures used { AreUsed (R.out room.new) passes.new.groups }
+    ensures used { AreUsed (R.meaning room.new) passes.new.groups }
     ensures took { Took (IsTrue R.A.account.tells) (result ≢ Err Unanswered.RoomFailed)
         (asks_in step.now)
-        (lending (R.out room.old) (R.means room.old)) (lending (R.out room.new) (R.means room.new))
-        (known_of passes.old) (known_of passes.new) }
-    ensures cause { Caused (R.faults room.old) (R.faults room.new)
+        (R.meaning room.old) (R.meaning room.new)
+        passes.old passes.new }
+    ensures cause { Caused (R.meaning room.old).faults (R.meaning room.new).faults
         (IsErrOf result Unanswered.RoomFailed) }
-    ensures own { Fails (R.failures room.old) (R.failures room.new)
+    ensures own { Fails (R.meaning room.old).failures (R.meaning room.new).failures
         (IsErrOf result Unanswered.RoomFailed) }
 {
     match step {
@@ -85,30 +86,30 @@ fn work_one<K: Sink, R: Room, W: Gate, X: Threads + Wait + Sync>(
     sink: &mut K,
     room: &mut R,
 ) -> Result<bool, Ending>
-    requires can { CanCall (vault_of crew.now.shared.vault.now) (known_of passes.old) }
-    requires parts { HaveParts 2048 (known_of passes.old) }
+    requires can { CanCall crew.now.shared.vault.now passes.old }
+    requires parts { HaveParts 2048 passes.old }
     requires job { (0 < job) × (job + jobs_in (step_of step.now) ≤ 2 ^ 31) }
     requires workers { 0 < crew.now.workers }
     requires worked { IsWorkedStep crew.now.shared.vault.now.rack.groups step.now }
-    requires filled { HasFilled crew.now.shared.vault.now.rack (known_of passes.old) }
-    requires used { AreUsed (R.out room.old) passes.old.groups }
-    ensures can { CanCall (vault_of crew.now.shared.vault.now) (known_of passes.new) }
-    ensures went { AllWent (known_of passes.old) (known_of passes.new) }
-    ensures stays { AllStay (known_of passes.old) (known_of passes.new) }
+    requires filled { HasFilled crew.now.shared.vault.now.rack passes.old }
+    requires used { AreUsed (R.meaning room.old) passes.old.groups }
+    ensures can { CanCall crew.now.shared.vault.now passes.new }
+    ensures went { AllWent passes.old passes.new }
+    ensures stays { AllStay passes.old passes.new }
     ensures ends { let b = common_of crew.now.shared in
         OneEnds b.vault.rack b.seed b.session job (step_of step.now)
-        (known_of passes.old) (known_of passes.new)
-        (IsTrue K.tells) (K.written sink.old) (K.written sink.new) result }
-    ensures used { AreUsed (R.out room.new) passes.new.groups }
+        passes.old passes.new
+        (met K.account sink.old sink.new) result }
+    ensures used { AreUsed (R.meaning room.new) passes.new.groups }
     ensures took { Took (IsTrue R.A.account.tells) (result ≢ Err Ending.RoomFailed)
         (asks_in step.now)
-        (lending (R.out room.old) (R.means room.old)) (lending (R.out room.new) (R.means room.new))
-        (known_of passes.old) (known_of passes.new) }
-    ensures sink { Caused (K.faults sink.old) (K.faults sink.new)
+        (R.meaning room.old) (R.meaning room.new)
+        passes.old passes.new }
+    ensures sink { Faults K.account sink.old sink.new
         (IsErrOf result Ending.SinkFailed) }
-    ensures room { Caused (R.faults room.old) (R.faults room.new)
+    ensures room { Caused (R.meaning room.old).faults (R.meaning room.new).faults
         (IsErrOf result Ending.RoomFailed) }
-    ensures own { Fails (R.failures room.old) (R.failures room.new)
+    ensures own { Fails (R.meaning room.old).failures (R.meaning room.new).failures
         (IsErrOf result Ending.RoomFailed) }
 {
     let answered = answer_step(crew, passes, job, step, room);
@@ -148,28 +149,30 @@ pub fn work<K: Sink, R: Room, W: Gate, X: Threads + Wait + Sync>(
     sink: &mut K,
     room: &mut R,
 ) -> Ending
-    requires can { CanCall (vault_of crew.now.shared.vault.now) (known_of passes.old) }
-    requires parts { HaveParts 2048 (known_of passes.old) }
+    requires can { CanCall crew.now.shared.vault.now passes.old }
+    requires parts { HaveParts 2048 passes.old }
     requires few { next_job steps.now ≤ 2 ^ 31 }
     requires workers { 0 < crew.now.workers }
-    requires filled { HasFilled crew.now.shared.vault.now.rack (known_of passes.old) }
+    requires filled { HasFilled crew.now.shared.vault.now.rack passes.old }
     requires worked { let rack = crew.now.shared.vault.now.rack in
         AllByRecursion (IsWorkedStep rack.groups) steps.now }
-    requires used { AreUsed (R.out room.old) passes.old.groups }
-    ensures can { CanCall (vault_of crew.now.shared.vault.now) (known_of passes.new) }
-    ensures went { AllWent (known_of passes.old) (known_of passes.new) }
-    ensures stays { AllStay (known_of passes.old) (known_of passes.new) }
+    requires used { AreUsed (R.meaning room.old) passes.old.groups }
+    ensures can { CanCall crew.now.shared.vault.now passes.new }
+    ensures went { AllWent passes.old passes.new }
+    ensures stays { AllStay passes.old passes.new }
     ensures took { Took (IsTrue R.A.account.tells) (result ≢ Ending.RoomFailed)
         (asked_by steps.now)
-        (lending (R.out room.old) (R.means room.old)) (lending (R.out room.new) (R.means room.new))
-        (known_of passes.old) (known_of passes.new) }
+        (R.meaning room.old) (R.meaning room.new)
+        passes.old passes.new }
     ensures ends { let b = common_of crew.now.shared in
         Ends b.vault.rack b.seed b.session
-        (IsTrue K.tells) (K.written sink.old) (K.written sink.new) steps.now
-        (known_of passes.old) (known_of passes.new) result }
-    ensures sink { Caused (K.faults sink.old) (K.faults sink.new) (result ≡ Ending.SinkFailed) }
-    ensures room { Caused (R.faults room.old) (R.faults room.new) (result ≡ Ending.RoomFailed) }
-    ensures own { Fails (R.failures room.old) (R.failures room.new) (result ≡ Ending.RoomFailed) }
+        (met K.account sink.old sink.new) steps.now
+        passes.old passes.new result }
+    ensures sink { Faults K.account sink.old sink.new (result ≡ Ending.SinkFailed) }
+    ensures room { Caused (R.meaning room.old).faults (R.meaning room.new).faults
+        (result ≡ Ending.RoomFailed) }
+    ensures own { Fails (R.meaning room.old).failures (R.meaning room.new).failures
+        (result ≡ Ending.RoomFailed) }
 {
     let mut refused = false;
     let mut job = 1;

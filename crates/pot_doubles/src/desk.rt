@@ -43,11 +43,10 @@ impl Desk for MemDesk {
     ghost use Rattle.pot_doubles.specs.Calls.{Counted, begun, is_due};
     ghost use Rattle.pot_doubles.specs.Desks.{image_of, desk_calls};
 
-    ghost tells = { true };
-
-    ghost held = { image_of };
-
-    ghost faults = { λ d. (desk_calls d).faults };
+    ghost account = { record {
+      tells = true;
+      meaning = λ d. record { held = image_of d; faults = (desk_calls d).faults };
+    } };
 
     fn read(&mut self) -> Result<Option<Vec<u8>>, DeskFault>
         ensures told { IfOk result (λ o. MatchOption o (image_of self.old ≡ None)

@@ -248,11 +248,10 @@ impl Disk for MemDisk {
     ghost use Rattle.pot_doubles.specs.Disks.{changes_of, disk_calls, stop_of, is_stopping};
     ghost use Rattle.pot_doubles.specs.Disks.{first_steps};
 
-    ghost tells = { true };
-
-    ghost calls = { changes_of };
-
-    ghost faults = { λ d. (disk_calls d).faults };
+    ghost account = { record {
+      tells = true;
+      meaning = λ d. record { held = changes_of d; faults = (disk_calls d).faults };
+    } };
 
     fn read(&mut self, at: u64, into: &mut [u8]) -> Result<(), Failed>
         ensures told { ReadsBytes (changes_of self.old) at into.new result }

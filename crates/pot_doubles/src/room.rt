@@ -161,15 +161,13 @@ impl Room for MemRoom {
 
     type A = LossyArchive;
 
-    ghost means = { means_in };
-
-    ghost out = { is_out };
-
-    ghost lent = { lent_of };
-
-    ghost faults = { λ r. (room_calls r).faults };
-
-    ghost failures = { failures_of };
+    ghost meaning = { λ r. record {
+      out = is_out r;
+      means = means_in r;
+      lent = lent_of r;
+      faults = (room_calls r).faults;
+      failures = failures_of r;
+    } };
 
     fn take(&mut self, number: u32) -> Result<LossyArchive, RoomFault>
         requires { is_out self.old number ≡ false }

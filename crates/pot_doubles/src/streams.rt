@@ -45,11 +45,10 @@ impl Source for MemSource {
     ghost use Rattle.pot_doubles.specs.Calls.{Counted};
     ghost use Rattle.pot_doubles.specs.Streams.{left_of, source_calls};
 
-    ghost tells = { true };
-
-    ghost left = { left_of };
-
-    ghost faults = { λ s. (source_calls s).faults };
+    ghost account = { record {
+      tells = true;
+      meaning = λ s. record { held = left_of s; faults = (source_calls s).faults };
+    } };
 
     fn read(&mut self, into: &mut [u8]) -> Result<usize, Failed>
         ensures told { ReadsNext (left_of self.old) (left_of self.new) into.new result }
@@ -122,11 +121,10 @@ impl Sink for MemSink {
     ghost use Rattle.pot_doubles.specs.Calls.{Counted};
     ghost use Rattle.pot_doubles.specs.Streams.{written_to, sink_calls};
 
-    ghost tells = { true };
-
-    ghost written = { written_to };
-
-    ghost faults = { λ s. (sink_calls s).faults };
+    ghost account = { record {
+      tells = true;
+      meaning = λ s. record { held = written_to s; faults = (sink_calls s).faults };
+    } };
 
     fn write(&mut self, from: &[u8]) -> Result<usize, Failed>
         ensures told { Appends (written_to self.old) (written_to self.new) from.now result }

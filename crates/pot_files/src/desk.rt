@@ -130,11 +130,10 @@ impl Desk for DeskFile {
     ghost use Rattle.pot_outside.specs.Counts.{Caused};
     ghost use Rattle.pot_outside.specs.Streams.{Replaces};
 
-    ghost tells = { false };
-
-    ghost held = { λ _. None };
-
-    ghost faults = { λ d. d.faults };
+    ghost account = { record {
+      tells = false;
+      meaning = λ d. record { held = None; faults = d.faults };
+    } };
 
     fn read(&mut self) -> Result<Option<Vec<u8>>, DeskFault>
         ensures cause { Caused self.old.faults self.new.faults (IsErrOf result DeskFault.Failed) }

@@ -39,11 +39,10 @@ fn fill_from(file: &File, at: u64, into: &mut [u8]) -> io::Result<()> {
 impl Disk for FileDisk {
     ghost use Rattle.std.specs.Prelude.{[], false};
 
-    ghost tells = { false };
-
-    ghost calls = { λ _. [] };
-
-    ghost faults = { λ d. d.faults };
+    ghost account = { record {
+      tells = false;
+      meaning = λ d. record { held = []; faults = d.faults };
+    } };
 
     fn read(&mut self, at: u64, into: &mut [u8]) -> Result<(), Failed> {
         match fill_from(&self.file, at, into) {

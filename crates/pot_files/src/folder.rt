@@ -79,15 +79,19 @@ impl Room for Folder {
 
     type A = FileArchive;
 
-    ghost means = { λ _ _. record { held = λ k. None; history = []; heard = []; faults = 0; losses = 0 } };
-
-    ghost out = { λ f n. contains nat_cmp f.out n };
-
-    ghost lent = { λ _ _. 0 };
-
-    ghost faults = { λ f. f.faults };
-
-    ghost failures = { λ f. f.failures };
+    ghost meaning = { λ f. record {
+      out = contains nat_cmp f.out;
+      means = λ _. record {
+        held = λ _. None;
+        history = [];
+        heard = [];
+        faults = 0;
+        losses = 0;
+      };
+      lent = λ _. 0;
+      faults = f.faults;
+      failures = f.failures;
+    } };
 
     fn take(&mut self, number: u32) -> Result<FileArchive, RoomFault> {
         self.progress.at(&self.rt, number);

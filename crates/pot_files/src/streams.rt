@@ -27,11 +27,10 @@ impl Source for Input {
     ghost use Rattle.pot_outside.specs.Counts.{Caused};
     ghost use Rattle.pot_outside.specs.Streams.{ReadsNext, Within};
 
-    ghost tells = { false };
-
-    ghost left = { λ _. [] };
-
-    ghost faults = { λ i. i.faults };
+    ghost account = { record {
+      tells = false;
+      meaning = λ i. record { held = []; faults = i.faults };
+    } };
 
     fn read(&mut self, into: &mut [u8]) -> Result<usize, Failed> {
         match self.stream.read(into) {
@@ -80,11 +79,10 @@ impl Sink for Output {
     ghost use Rattle.pot_outside.specs.Counts.{Caused};
     ghost use Rattle.pot_outside.specs.Streams.{Appends, Within, TakesSome};
 
-    ghost tells = { false };
-
-    ghost written = { λ _. [] };
-
-    ghost faults = { λ o. o.faults };
+    ghost account = { record {
+      tells = false;
+      meaning = λ o. record { held = []; faults = o.faults };
+    } };
 
     fn write(&mut self, from: &[u8]) -> Result<usize, Failed> {
         match self.write_some(from) {

@@ -5,7 +5,8 @@ use Rattle.std.specs.Prelude.{IsSomeAnd, List, [], ◌∷◌, Option, None, Resu
 use Rattle.std.specs.Prelude.{length}
 use Rattle.pot_bytes.specs.declared.rack.Place.{Place}
 use Rattle.pot_bytes.specs.Rack.{log_bound}
-use Rattle.pot_outside.specs.Archives.{Account, Meaning}
+use Rattle.pot_outside.specs.Accounts.{Account}
+use Rattle.pot_outside.specs.Archives.{Meaning}
 use Rattle.pot_outside.specs.declared.archive.Shelf.{Shelf}
 use Rattle.pot_machine.specs.declared.entry.Entry.{Entry}
 use Rattle.pot_machine.specs.declared.entry.Entry.TheVariants as entry
@@ -68,7 +69,7 @@ abbrev pub Made : (GroupView → GroupView → List Entry → Type 0) → GroupV
 Made row old new = (entries : List Entry) × Grows old new entries × row old new entries
 
 -- the same of a group with its archives, whose account says whether they tell
-abbrev pub Makes : {A : Type 0} → Account A → (Type 0 → GroupView → GroupView → List Entry → Type 0)
+abbrev pub Makes : {A : Type 0} → Account A Meaning → (Type 0 → GroupView → GroupView → List Entry → Type 0)
     → GroupParts A → GroupParts A → Type 0
 Makes account row old new = OnGroup account (λ told. Made (row told)) old new
 

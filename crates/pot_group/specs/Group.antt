@@ -4,7 +4,8 @@ use Rattle.std.specs.Prelude.{◌≡◌, ◌⊎◌, ◌≤◌, ◌<◌, ◌+◌,
 use Rattle.std.specs.Prelude.{Result, Ok, Err, Contains, length, IfSome, All}
 use Rattle.pot_bytes.specs.declared.rack.Place.{Place}
 use Rattle.pot_outside.specs.Counts.{Rose}
-use Rattle.pot_outside.specs.Archives.{Account, Meaning}
+use Rattle.pot_outside.specs.Accounts.{Account}
+use Rattle.pot_outside.specs.Archives.{Meaning}
 use Rattle.pot_bytes.specs.Sums.{zero_block}
 use Rattle.pot_bytes.specs.Rack.{log_bound}
 use Rattle.pot_machine.specs.declared.slot.SlotState.{SlotState}
@@ -62,13 +63,13 @@ view_of meaning g =
 
 -- what is said of a group before and after a call, by the account of its archives: whether they
 -- tell, and what each means
-abbrev pub OnGroup : {A : Type 0} → Account A → (Type 0 → GroupView → GroupView → Type 0)
+abbrev pub OnGroup : {A : Type 0} → Account A Meaning → (Type 0 → GroupView → GroupView → Type 0)
     → GroupParts A → GroupParts A → Type 0
 OnGroup account R old new =
     R (IsTrue account.tells) (view_of account.meaning old) (view_of account.meaning new)
 
 -- a stripe of a group: the slots of its table, and what its archives hold there
-abbrev pub stripe_in : {A : Type 0} → Account A → GroupParts A → ℕ → Stripe
+abbrev pub stripe_in : {A : Type 0} → Account A Meaning → GroupParts A → ℕ → Stripe
 stripe_in account g s = stripe_of g.table (plain account.meaning g.shelves).held s
 
 -- an entry is logged, and does in the table what it says

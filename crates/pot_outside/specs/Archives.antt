@@ -1,5 +1,5 @@
--- What a call of an archive does to its blocks, and what a room means by a number.
-use Rattle.std.specs.Prelude.{◌≡◌, ◌≤◌, ◌-◌, ◌^◌, ◌==◌, ◌⊎◌, ◌++◌, ℕ, Bool, List, [], ◌∷◌, Option}
+-- What an archive means, and what a call of one does to it.
+use Rattle.std.specs.Prelude.{◌≡◌, ◌≤◌, ◌-◌, ◌^◌, ◌==◌, ◌⊎◌, ◌++◌, ℕ, List, [], ◌∷◌, Option}
 use Rattle.std.specs.Prelude.{Some, None, Result, Ok, Err, Contains, ◌<◌, if◌then◌else◌, IsErr}
 use Rattle.pot_bytes.specs.Lists.{IsBlock}
 use Rattle.pot_outside.specs.Failing.{MayLeave}
@@ -70,19 +70,14 @@ Remembers old new block (Err e) = (new ≡ old) ⊎ (new ≡ old ++ block ∷ []
 abbrev pub IsRemembered : Contents → List (List ℕ) → Type 0
 IsRemembered held history = (k : ℕ) (b : List ℕ) → held k ≡ Some b → Contains history b
 
--- what an archive means: the blocks, those ever held, the sums heard, and the two counts
+-- What an archive means: the blocks, those ever held, the sums heard, and the two counts. Where
+-- archives don't tell what they hold, only the count of faults is meant.
 pub record Meaning : Type 0 where
   pub held : Contents
   pub history : List (List ℕ)
   pub heard : List (ℕ × List ℕ)
   pub faults : ℕ
   pub losses : ℕ
-
--- whether archives of a type tell what they hold, and what each means. Where they don't, only the
--- count of faults is meant
-pub record Account (A : Type 0) : Type 0 where
-  pub tells : Bool
-  pub meaning : A → Meaning
 
 -- two meanings say the same
 pub record IsMeant (m n : Meaning) : Type 0 where

@@ -1,5 +1,7 @@
+pub mod Accounts
 pub mod Archives
 pub mod Counts
 pub mod Disks
 pub mod Streams
 pub mod Failing
+pub mod Rooms

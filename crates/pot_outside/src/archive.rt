@@ -1,5 +1,6 @@
 ghost use Rattle.std.specs.Prelude.{◌≡◌, ◌<◌, IsTrue, false};
-ghost use Rattle.pot_outside.specs.Archives.{Account, Reads, Folds, Writes, IsMarked};
+ghost use Rattle.pot_outside.specs.Accounts.{Account};
+ghost use Rattle.pot_outside.specs.Archives.{Meaning, Reads, Folds, Writes, IsMarked};
 
 use crate::Failed;
 use pot_bytes::Block;
@@ -32,7 +33,7 @@ pub struct Shelf<A> {
 /// other than that of the slot which it writes. Only `fold` changes the sums heard.
 pub trait Archive {
     /// Whether archives of this type tell what they hold, and what each means.
-    ghost account: { Account Self };
+    ghost account: { Account Self Meaning };
 
     /// Reads the block of a slot into `into`, where the slot has one.
     ///

@@ -1,5 +1,5 @@
-ghost use Rattle.std.specs.Prelude.{◌≡◌, ℕ, List, Bool, IsTrue, IsErr, length};
-ghost use Rattle.pot_outside.specs.Counts.{Caused};
+ghost use Rattle.std.specs.Prelude.{◌≡◌, List, IsTrue, IsErr, length};
+ghost use Rattle.pot_outside.specs.Accounts.{Account, Content, Faults, Stays, met};
 ghost use Rattle.pot_outside.specs.Disks.{DiskCall, ReadsBytes, WritesBytes, SyncsBytes};
 
 use crate::Failed;
@@ -9,39 +9,37 @@ use crate::Failed;
 /// Until a sync has answered `Ok`, a crash leaves any bytes in the places of each write that began since the
 /// last one that did. Elsewhere it leaves the byte that a read gives.
 pub trait Disk {
-    /// Whether disks of this type tell their bytes.
-    ghost tells: { Bool };
-
-    /// The calls that changed it so far, the newest first. They are its clock, and they say what it holds and
+    /// Whether disks of this type tell their bytes, and what each means: the calls that changed it so far,
+    /// the newest first, and how often it failed. The calls are its clock, and they say what it holds and
     /// what a crash leaves at each moment.
-    ghost calls: { Self → List DiskCall };
-
-    /// How often the disk failed.
-    ghost faults: { Self → ℕ };
+    ghost account: { Account Self (Content (List DiskCall)) };
 
     /// Reads the bytes from a place on.
     ///
     /// # Errors
     /// `Failed` only where the count of faults rose.
     fn read(&mut self, at: u64, into: &mut [u8]) -> Result<(), Failed>
-        ensures told { IsTrue tells → ReadsBytes (calls self.old) at into.new result }
-        ensures keeps { IsTrue tells → calls self.new ≡ calls self.old }
-        ensures cause { Caused (faults self.old) (faults self.new) (IsErr result) };
+        ensures told { IsTrue account.tells
+            → ReadsBytes (account.meaning self.old).held at into.new result }
+        ensures keeps { Stays (met account self.old self.new) }
+        ensures cause { Faults account self.old self.new (IsErr result) };
 
     /// Writes bytes from a place on.
     ///
     /// # Errors
     /// `Failed` only where the count of faults rose; any bytes may then lie there.
     fn write(&mut self, at: u64, from: &[u8]) -> Result<(), Failed>
-        ensures told { IsTrue tells
-            → WritesBytes (calls self.old) (calls self.new) at from.now result }
-        ensures cause { Caused (faults self.old) (faults self.new) (IsErr result) };
+        ensures told { IsTrue account.tells
+            → WritesBytes (account.meaning self.old).held (account.meaning self.new).held at
+            from.now result }
+        ensures cause { Faults account self.old self.new (IsErr result) };
 
     /// Brings what was written to where a crash leaves it.
     ///
     /// # Errors
     /// `Failed` only where the count of faults rose; what was pending still is.
     fn sync(&mut self) -> Result<(), Failed>
-        ensures told { IsTrue tells → SyncsBytes (calls self.old) (calls self.new) result }
-        ensures cause { Caused (faults self.old) (faults self.new) (IsErr result) };
+        ensures told { IsTrue account.tells
+            → SyncsBytes (account.meaning self.old).held (account.meaning self.new).held result }
+        ensures cause { Faults account self.old self.new (IsErr result) };
 }

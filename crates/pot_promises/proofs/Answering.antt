@@ -1,8 +1,8 @@
 -- A run whose words, image and script are in their grammars answers all commands.
-use Rattle.std.proofs.Common.{◌≡◌, inl, inr, ℕ, List, Option, Some, Result, Ok, Err, Bool, refl, ap, sym, ◌∙◌, subst, arith, MatchResult}
+use Rattle.std.proofs.Common.{◌≡◌, inl, inr, ℕ, List, Option, Some, Result, Ok, Err, refl, ap, sym, ◌∙◌, subst, arith, MatchResult}
 use Rattle.std.specs.Prelude.{IsTrue}
 use Rattle.std.proofs.lemmas.Option.{same_Some}
-use Rattle.pot_outside.specs.Archives.{Meaning}
+use Rattle.pot_outside.specs.Accounts.{Met, held_in}
 use Rattle.pot_bytes.specs.declared.rack.Rack.{Rack}
 use Rattle.pot_options.specs.Options.{Text}
 use Rattle.pot_script.specs.declared.grouping.Step.{Step}
@@ -25,7 +25,7 @@ use Rattle.pot_session.specs.declared.ending.stop.Stop.TheVariants as stop
 use Rattle.pot_session.specs.Calls.{Runs, Nothing, Short, Makes, Session, Drilling, Recovering, Auditing, Generating}
 use Rattle.pot_session.specs.Commands.{IsRead, RefusesScript}
 use Rattle.pot_session.specs.Desks.{GoesOn, HoldsImage, RefusesBytes, RefusesDesk, IsDeskStop, IsKeepStop}
-use Rattle.pot_session.specs.Runs.{Holds, Stopped, Served, Stops, AtDesk, AtScript, AtOpening, seen_by}
+use Rattle.pot_session.specs.Runs.{Holds, Stopped, Served, Stops, AtDesk, AtScript, AtOpening, Seen}
 use Rattle.pot_session.specs.Serving.{IsEnd}
 use Rattle.pot_session.specs.Stops.{Refuses, status_of}
 use Rattle.pot_session.specs.Tasks.{seed_of}
@@ -130,22 +130,22 @@ module _ (answer : Status) (no_fault_said : IsFault answer → ⊥) (had_memory 
     at_desk stop.RoomFault d refused is = d
     at_desk stop.TooWide d refused is = d
 
-  at_script : (rack : Rack) (told : Type 0) (t : told) (input : List ℕ) (steps : List Step) → IsRead rack told input steps
-      → (s : Stop) → RefusesScript rack told input s → answer ≡ status_of s → ⊥
-  at_script rack told t input steps read (stop.BadLine number) refused is =
-      no_fault read.script (subst (λ b. LeavesAt rack b number) (read.read t) (refused t))
-  at_script rack told t input steps read stop.SourceFault refused is = no_source is
-  at_script rack told t input steps read stop.NoMemory refused is = had_memory is
-  at_script rack told t input steps read stop.Words refused is = refused
-  at_script rack told t input steps read stop.DeskFault refused is = refused
-  at_script rack told t input steps read stop.NoImage refused is = refused
-  at_script rack told t input steps read stop.Cut refused is = refused
-  at_script rack told t input steps read (stop.Trailer kept computed) refused is = refused
-  at_script rack told t input steps read (stop.Form place) refused is = refused
-  at_script rack told t input steps read stop.Spent refused is = refused
-  at_script rack told t input steps read stop.Exists refused is = refused
-  at_script rack told t input steps read stop.RoomFault refused is = refused
-  at_script rack told t input steps read stop.TooWide refused is = refused
+  at_script : (rack : Rack) (source : Met (List ℕ)) (told : IsTrue source.tells) (steps : List Step) → IsRead rack source steps
+      → (s : Stop) → RefusesScript rack source s → answer ≡ status_of s → ⊥
+  at_script rack source told steps read (stop.BadLine number) refused is =
+      no_fault read.script (subst (λ b. LeavesAt rack b number) (read.read told) (refused told))
+  at_script rack source told steps read stop.SourceFault refused is = no_source is
+  at_script rack source told steps read stop.NoMemory refused is = had_memory is
+  at_script rack source told steps read stop.Words refused is = refused
+  at_script rack source told steps read stop.DeskFault refused is = refused
+  at_script rack source told steps read stop.NoImage refused is = refused
+  at_script rack source told steps read stop.Cut refused is = refused
+  at_script rack source told steps read (stop.Trailer kept computed) refused is = refused
+  at_script rack source told steps read (stop.Form place) refused is = refused
+  at_script rack source told steps read stop.Spent refused is = refused
+  at_script rack source told steps read stop.Exists refused is = refused
+  at_script rack source told steps read stop.RoomFault refused is = refused
+  at_script rack source told steps read stop.TooWide refused is = refused
 
   at_keeping : (s : Stop) → IsKeepStop s → answer ≡ status_of s → ⊥
   at_keeping stop.DeskFault k is = no_desk is
@@ -163,10 +163,10 @@ module _ (answer : Status) (no_fault_said : IsFault answer → ⊥) (had_memory 
   at_keeping stop.TooWide k is = k
 
   -- so what did not stop before its steps ended well
-  refused_so : (told : Type 0) (before after : List ℕ) (s : Stop) → Refuses told before after s answer → (answer ≡ status_of s → ⊥) → ⊥
-  refused_so told before after s (inl p) never = never p.0
-  refused_so told before after s (inr (inl p)) never = no_sink p.0
-  refused_so told before after s (inr (inr p)) never = had_memory p.0
+  refused_so : (sink : Met (List ℕ)) (s : Stop) → Refuses sink s answer → (answer ≡ status_of s → ⊥) → ⊥
+  refused_so sink s (inl p) never = never p.0
+  refused_so sink s (inr (inl p)) never = no_sink p.0
+  refused_so sink s (inr (inr p)) never = had_memory p.0
 
 -- how a session ends in which no object failed and that found memory
 ended_well : (answer : Status) → IsEnd answer → (IsFault answer → ⊥) → (answer ≡ status.NoMemory → ⊥) → IsDone answer
@@ -186,29 +186,25 @@ ended_well status.TooWide e f m = absurd e
 
 -- THE WHOLE
 
-module _ (words : List Text) (drawn : List ℕ) (source_tells sink_tells desk_tells room_tells : Bool) (input rest before after : List ℕ)
-    (held holds : Option (List ℕ)) (meant means : ℕ → Meaning) (failed fails desk_failed desk_fails : ℕ) (answer : Status) (source_told : IsTrue source_tells) (desk_told : IsTrue desk_tells)
-    (i : Image) (holds_it : HoldsImage held i) (goes_on : GoesOn i) (steps : List Step) (read : IsRead i.rack (IsTrue source_tells) input steps)
+module _ (words : List Text) (drawn : List ℕ) (seen : Seen) (answer : Status) (source_told : IsTrue seen.source.tells) (desk_told : IsTrue seen.desk.tells)
+    (i : Image) (holds_it : HoldsImage seen.desk.before.held i) (goes_on : GoesOn i) (steps : List Step) (read : IsRead i.rack seen.source steps)
     (no_fault_said : IsFault answer → ⊥) (had_memory : answer ≡ status.NoMemory → ⊥) where
-  stops_not : (s : Stop) → Stops (IsTrue source_tells) input (IsTrue desk_tells) held holds s → answer ≡ status_of s → ⊥
-  stops_not s (AtDesk d refused same) is = at_desk answer no_fault_said had_memory held i holds_it goes_on s d (refused desk_told) is
+  stops_not : (s : Stop) → Stops seen.source (held_in seen.desk) s → answer ≡ status_of s → ⊥
+  stops_not s (AtDesk d refused same) is = at_desk answer no_fault_said had_memory seen.desk.before.held i holds_it goes_on s d (refused desk_told) is
   stops_not s (AtScript j goes holds_that refused same) is =
-      let rack : j.rack ≡ i.rack = ap (λ (v : Contents). v.rack) (one_held held i j holds_it (holds_that desk_told)) in
-      at_script answer no_fault_said had_memory i.rack (IsTrue source_tells) source_told input steps read s
-      (subst (λ r. RefusesScript r (IsTrue source_tells) input s) rack refused) is
+      let rack : j.rack ≡ i.rack = ap (λ (v : Contents). v.rack) (one_held seen.desk.before.held i j holds_it (holds_that desk_told)) in
+      at_script answer no_fault_said had_memory i.rack seen.source source_told steps read s
+      (subst (λ r. RefusesScript r seen.source s) rack refused) is
   stops_not s (AtOpening j others of k keeps) is = at_keeping answer no_fault_said had_memory s k is
 
-  held_well : (seed : List ℕ)
-      → Holds seed (seen_by (IsTrue source_tells) input rest (IsTrue sink_tells) before after (IsTrue desk_tells) held holds (IsTrue room_tells) meant means failed fails desk_failed desk_fails) answer → IsDone answer
-  held_well seed (Stopped s stops refuses same) = absurd (refused_so answer no_fault_said had_memory (IsTrue sink_tells) before after s refuses (stops_not s stops))
+  held_well : (seed : List ℕ) → Holds seed seen answer → IsDone answer
+  held_well seed (Stopped s stops refuses same) = absurd (refused_so answer no_fault_said had_memory seen.sink s refuses (stops_not s stops))
   held_well seed (Served j others of fits whole serves ends untouched) = ended_well answer ends no_fault_said had_memory
 
   abbrev Answers : Type 0
-  Answers = IsDone answer × ((seed : List ℕ) × AsksSession words drawn seed
-      × RanAs seed (IsTrue source_tells) input (IsTrue sink_tells) before after held holds)
+  Answers = IsDone answer × ((seed : List ℕ) × AsksSession words drawn seed × RanAs seed seen)
 
-  answered : (run : Run) → SpellTask words (task.Run run)
-      → Runs words drawn (seen_by (IsTrue source_tells) input rest (IsTrue sink_tells) before after (IsTrue desk_tells) held holds (IsTrue room_tells) meant means failed fails desk_failed desk_fails) answer → Answers
+  answered : (run : Run) → SpellTask words (task.Run run) → Runs words drawn seen answer → Answers
   answered run spells (Nothing none unread refuses same room) = absurd (none (task.Run run) spells)
   answered run spells (Short is unread sink same room) = absurd (had_memory is)
   answered run spells (Makes rack other unread inits room) = absurd (cc (one_kind words (task.Run run) (task.Init rack) spells other))
@@ -217,17 +213,10 @@ module _ (words : List Text) (drawn : List ℕ) (source_tells sink_tells desk_te
   answered run spells (Auditing a other unread audits same room) = absurd (cc (one_kind words (task.Run run) (task.Audit a) spells other))
   answered run spells (Generating n other unread generates same room) = absurd (cc (one_kind words (task.Run run) (task.Generate n) spells other))
   answered run spells (Session that spelled it) =
-      let done = held_well (seed_of that drawn) it in (
-        done,
-        (
-          seed_of that drawn,
-          (that, spelled, refl),
-          runs_are_sessions (seed_of that drawn) source_tells sink_tells desk_tells room_tells input rest before after held holds meant means failed fails desk_failed desk_fails answer it done desk_told,
-        ),
-      )
+      let seed = seed_of that drawn in
+      let done = held_well seed it in
+      (done, (seed, (that, spelled, refl), runs_are_sessions seed seen answer it done desk_told))
 
 pub runs_are_answered : RunsAreAnswered
-runs_are_answered words drawn source_tells sink_tells desk_tells room_tells input rest before after held holds meant means failed fails desk_failed desk_fails answer it source_told desk_told
-    given (run, spells, is) i holds_it goes_on steps read no_fault_said had_memory =
-    answered words drawn source_tells sink_tells desk_tells room_tells input rest before after held holds meant means failed fails desk_failed desk_fails answer source_told desk_told
-    i holds_it goes_on steps read no_fault_said had_memory run spells it
+runs_are_answered words drawn seen answer it source_told desk_told given (run, spells, is) i holds_it goes_on steps read no_fault_said had_memory =
+    answered words drawn seen answer source_told desk_told i holds_it goes_on steps read no_fault_said had_memory run spells it

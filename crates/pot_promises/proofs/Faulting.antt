@@ -8,9 +8,10 @@ use Rattle.pot_bytes.specs.declared.digest.Digest.{Digest}
 use Rattle.pot_bytes.specs.declared.rack.Geometry.{Geometry}
 use Rattle.pot_bytes.specs.declared.rack.Rack.{Rack}
 use Rattle.pot_bytes.proofs.Elements.{contains_later, element_at, none_contained, parted_at}
-use Rattle.pot_outside.specs.Archives.{Meaning}
+use Rattle.pot_outside.specs.Accounts.{Met}
 use Rattle.pot_outside.specs.declared.archive.Marks.{Marks}
 use Rattle.pot_outside.specs.Counts.{Rose}
+use Rattle.pot_outside.specs.Rooms.{Lending}
 use Rattle.pot_machine.specs.declared.entry.Entry.{Entry}
 use Rattle.pot_machine.specs.declared.entry.Entry.TheVariants as entry
 use Rattle.pot_machine.specs.Column.{homes_of}
@@ -41,7 +42,7 @@ use Rattle.pot_shared.specs.Coming.{marks_of}
 use Rattle.pot_store.proofs.ReadLemmas.{from_filter}
 use Rattle.pot_commands.specs.Rows.{Row, IsStoreReply, IsFetchReply, IsRenewReply, IsScrubReply, IsRepairReply, IsMigrateReply, IsReplaceReply, IsListReply, reply_of_line, replies_from}
 use Rattle.pot_shared.specs.Groups.{had_by}
-use Rattle.pot_session.specs.Serving.{IsInRoom, Leaves, rooms_by, setting_of}
+use Rattle.pot_session.specs.Serving.{IsInRoom, Leaves, setting_of}
 use Rattle.pot_shared.specs.Leaving.{LeavesGroup}
 use Rattle.pot_shared.proofs.Lists.{all_at_place, at_same, flat_contains}
 use Rattle.pot_session.proofs.LossLemmas.{get_within}
@@ -282,15 +283,14 @@ of_group t log c n lt has =
 
 -- THE WHOLE
 
-module _ (seed : List ℕ) (first last : Contents) (tells : Bool) (meant means : ℕ → Meaning) (failed fails : ℕ) (missing : List ℕ) (story : Section) (fits : FitsTogether first)
-    (told : IsTrue tells) (leaves : Leaves (rooms_by (IsTrue tells) meant means failed fails) missing first last story)
+module _ (first last : Contents) (room : Met Lending) (missing : List ℕ) (story : Section) (fits : FitsTogether first) (told : IsTrue room.tells) (leaves : Leaves room missing first last story)
     (group column : ℕ) (read : Table) (log : List Entry) (is_read : slice_get first.tables group ≡ Some read) (is_log : slice_get last.group_logs group ≡ Some log) where
-  by_entry : HasFault first.rack.columns column log → HasFailed meant means missing (archives_of read log column)
+  by_entry : HasFault first.rack.columns column log → HasFailed room.before.means room.after.means missing (archives_of read log column)
   by_entry has =
       let rules : FitsTable first.rack read = all_at_place (FitsTable first.rack) first.tables group read fits.tables.fits is_read in
       let in_last : group < length last.tables = (let a = leaves.groups.count in let b = get_within first.tables group read is_read in omega (arith, a, b)) in
       let written = element_at last.tables group in_last in
-      let left : LeavesGroup (IsTrue tells) meant (IsInRoom (IsTrue tells) means missing) read log written.0 =
+      let left : LeavesGroup (IsTrue room.tells) room.before.means (IsInRoom (IsTrue room.tells) room.after.means missing) read log written.0 =
       leaves.groups.each group read written.0 log is_read written.1 is_log in
       let view = left.view in
       let here : HasFault read.data_columns column log = subst (λ n. HasFault n column log) (sym rules.data_columns) has in
@@ -310,9 +310,9 @@ module _ (seed : List ℕ) (first last : Contents) (tells : Bool) (meant means :
       let had : Contains (had_by view) one.0 =
       subst (λ f. Contains (archives_in f ++ arrivals view.log) one.0) (sym left.first) (subst (λ l. Contains (archives_in read ++ arrivals l) one.0) (sym left.is_log)
       (of_group read log column one.0 (let w : length read.columns ≡ width read = rules.rules.size.columns in omega (arith, lt, w)) one.1)) in
-      let marked : mark_at view.shelves one.0 ≡ marks_of (meant one.0) = left.marked told one.0 had in
-      let marks : view.shelves.faults_taken one.0 ≡ (meant one.0).faults = ap (λ (m : Marks). m.faults) marked in
-      (one.0, one.1, λ back. subst (λ b. Rose b (means one.0).faults) marks (subst (λ b. Rose (view.shelves.faults_taken one.0) b) (left.archives one.0 had told back).faults one.2))
+      let marked : mark_at view.shelves one.0 ≡ marks_of (room.before.means one.0) = left.marked told one.0 had in
+      let marks : view.shelves.faults_taken one.0 ≡ (room.before.means one.0).faults = ap (λ (m : Marks). m.faults) marked in
+      (one.0, one.1, λ back. subst (λ b. Rose b (room.after.means one.0).faults) marks (subst (λ b. Rose (view.shelves.faults_taken one.0) b) (left.archives one.0 had told back).faults one.2))
 
 -- each command has a reply
 some_reply : (rack : Rack) (c : Command) → 0 < rack.groups → 0 < count_replies rack c
@@ -330,7 +330,7 @@ some_reply rack commands.End some = omega arith
 some_reply rack commands.Quit some = omega arith
 
 pub faults_are_counted : FaultsAreCounted
-faults_are_counted seed first last tells meant means failed fails missing story fits told leaves ss rs done later follows replied k i c group column answered read log is_read is_log =
+faults_are_counted seed first last room missing story fits told leaves ss rs done later follows replied k i c group column answered read log is_read is_log =
     let s : Setting = setting_of seed first in
     let it : HasReply s done c (replies.Fault group column) =
     reply_of s ss 1 replied.ones rs done k i c (replies.Fault group column) replied.are replied.answers (some_reply first.rack c (let g = fits.rack.groups in omega (arith, g))) answered in
@@ -339,4 +339,4 @@ faults_are_counted seed first last tells meant means failed fails missing story 
     subst (λ l. Contains l has.0) (sym (follows.is_added group)) (Contains-append_left (done.added group) (later.added group) has.0 (it.within group has.0 has.1)) in
     let there : Contains log has.0 =
     subst (λ l. Contains l has.0) (sym (leaves.logs group log is_log)) (Contains-append_right (story.before group) (story.added group) has.0 added) in
-    by_entry seed first last tells meant means failed fails missing story fits told leaves group column read log is_read is_log (has.0, there, has.2)
+    by_entry first last room missing story fits told leaves group column read log is_read is_log (has.0, there, has.2)

@@ -1,5 +1,5 @@
 -- A reply `lost` comes where too few points of a fragment can be had.
-use Rattle.std.proofs.Common.{◌≡◌, inl, inr, ◌+◌, ◌-◌, ◌<◌, ◌≤◌, ℕ, zero, suc, Bool, true, false, List, [], ◌∷◌, ◌++◌, Some, refl, ap, sym, ◌∙◌, subst, arith, append_assoc, IsTrue}
+use Rattle.std.proofs.Common.{◌≡◌, inl, inr, ◌+◌, ◌-◌, ◌<◌, ◌≤◌, ℕ, zero, suc, true, false, List, [], ◌∷◌, ◌++◌, Some, refl, ap, sym, ◌∙◌, subst, arith, append_assoc, IsTrue}
 use Rattle.std.specs.Prelude.{Contains, filter, slice_get}
 use Rattle.std.specs.List.{AllByRecursion}
 use Rattle.std.proofs.lemmas.Bool.{cases_eq, eq-eqb}
@@ -7,7 +7,8 @@ use Rattle.std.proofs.lemmas.List.Elements.{All-contains, Contains-append_cases,
 use Rattle.std.proofs.lemmas.Option.{same_Some}
 use Rattle.pot_bytes.specs.declared.rack.Rack.{Rack}
 use Rattle.pot_bytes.proofs.Elements.{element_at, none_contained, parted_at}
-use Rattle.pot_outside.specs.Archives.{Meaning}
+use Rattle.pot_outside.specs.Accounts.{Met}
+use Rattle.pot_outside.specs.Rooms.{Lending}
 use Rattle.pot_pointer.proofs.FilterLemmas.{Contains-filter}
 use Rattle.pot_machine.specs.declared.entry.Entry.{Entry}
 use Rattle.pot_machine.specs.declared.entry.Entry.TheVariants as entry
@@ -32,8 +33,8 @@ use Rattle.pot_replies.specs.Settings.{Setting}
 use Rattle.pot_commands.specs.Rows.{Row, IsMigrateReply}
 use Rattle.pot_commands.specs.Steps.{step_of, steps_of}
 use Rattle.pot_commands.proofs.NoMoves.{brings, no_moves, not_among}
-use Rattle.pot_session.specs.Losses.{AreBack, BeginWith, LostNone, SwapsNone, is_swap}
-use Rattle.pot_session.specs.Serving.{Leaves, rooms_by, setting_of}
+use Rattle.pot_session.specs.Losses.{BeginWith, SwapsNone, is_swap}
+use Rattle.pot_session.specs.Serving.{Leaves, setting_of}
 use Rattle.pot_session.proofs.LossLemmas.{lost_where_few}
 use Rattle.pot_promises.specs.Answers.{StandsAt, count_replies, job_at}
 use Rattle.pot_promises.specs.Lost.{Fetches, LostIsFew}
@@ -173,9 +174,10 @@ parted a b c d e f =
     ap (λ l. a ++ l) (append_assoc b ((c ++ d) ++ e) f ∙ ap (λ l. b ++ l) (append_assoc (c ++ d) e f ∙ append_assoc c d (e ++ f)))
     ∙ sym (append_assoc ((a ++ b) ++ c) d (e ++ f) ∙ (append_assoc (a ++ b) c (d ++ (e ++ f)) ∙ append_assoc a b (c ++ (d ++ (e ++ f)))))
 
-module _ (seed : List ℕ) (first last : Contents) (tells : Bool) (meant means : ℕ → Meaning) (failed fails : ℕ) (missing : List ℕ) (story : Section) (fits : FitsTogether first)
-    (told : IsTrue tells) (leaves : Leaves (rooms_by (IsTrue tells) meant means failed fails) missing first last story)
-    (back : AreBack missing first.tables last.group_logs) (none : LostNone meant means first.tables last.group_logs)
+worked_swaps : (one : Section) (h : Halves one) → SwapsNone one → SwapsNone (work_of one h)
+worked_swaps one h swaps g e has = swaps g e (subst (λ l. Contains l e) (sym (h.parts g)) (Contains-append_right (h.begun g) (h.worked g) e has))
+
+module _ (seed : List ℕ) (first last : Contents) (room : Met Lending) (missing : List ℕ) (story : Section) (fits : FitsTogether first) (leaves : Leaves room missing first last story)
     (done later : Section) (follows : Follows done later story) where
   abbrev s : Setting
   s = setting_of seed first
@@ -188,9 +190,6 @@ module _ (seed : List ℕ) (first last : Contents) (tells : Bool) (meant means :
         ∙ (parted (story.before g) (cut.earlier g) (h.begun g) (h.worked g) (cut.later g) (later.added g)
         ∙ ap (λ l. ((l ++ h.begun g) ++ h.worked g) ++ (cut.later g ++ later.added g)) (sym (cut.before g ∙ ap (λ l. l ++ cut.earlier g) (follows.begins g))))),
   )
-
-  worked_swaps : (one : Section) (h : Halves one) → SwapsNone one → SwapsNone (work_of one h)
-  worked_swaps one h swaps g e has = swaps g e (subst (λ l. Contains l e) (sym (h.parts g)) (Contains-append_right (h.begun g) (h.worked g) e has))
 
   -- the record that was found has room in the rack
   found_fits : (job : ℕ) (name : List ℕ) (piece number have need : ℕ) (one : Section) (h : Halves one) → IsCut one done → (lost : IsLost s job name piece number have need (work_of one h)) → FitsRack first.rack lost.kept
@@ -216,14 +215,14 @@ lost_row s job name of c piece fragment have need w h (inr (geometry, is)) row =
     its.1.1
 
 pub lost_is_few : LostIsFew
-lost_is_few seed first last tells meant means failed fails missing story fits told leaves back none ss rs done later follows replied whole k i c name of piece fragment have need fetches answered =
+lost_is_few seed first last room missing story fits told leaves back none ss rs done later follows replied whole k i c name of piece fragment have need fetches answered =
     let reply : Reply = replies.Lost of piece fragment have need in
     let set : Setting = setting_of seed first in
     let row : HasRow set replied.ones k (job_at ss k i) c reply = row_at set ss replied.ones rs k i c reply replied.answers (one_reply first.rack name c fetches) answered in
     let it = lost_row set (job_at ss k i) name of c piece fragment have need row.one row.halves fetches row.row in
     let cut = cut_at ss 1 replied.ones done k row.one replied.are row.there in
     let w : Section = work_of row.one row.halves in
-    let stands : BeginWith w last.group_logs = stands_in seed first last tells meant means failed fails missing story fits told leaves back none done later follows row.one row.halves cut in
+    let stands : BeginWith w last.group_logs = stands_in seed first last room missing story fits leaves done later follows row.one row.halves cut in
     let swaps : SwapsNone row.one =
     swaps_at set ss 1 replied.ones rs done k i answered.step c name row.one (omega arith) replied.are replied.answers whole answered.there answered.command fetches row.there in
     record {
@@ -232,7 +231,7 @@ lost_is_few seed first last tells meant means failed fails missing story fits to
       number = it.0;
       numbered = it.1;
       lost = it.2;
-      few = lost_where_few (IsTrue tells) seed first last meant means missing told fits leaves.groups back none (job_at ss k i) name piece it.0 have need w (omega arith) stands
-          (worked_swaps seed first last tells meant means failed fails missing story fits told leaves back none done later follows row.one row.halves swaps) it.2
-          (found_fits seed first last tells meant means failed fails missing story fits told leaves back none done later follows (job_at ss k i) name piece it.0 have need row.one row.halves cut it.2);
+      few = lost_where_few (IsTrue room.tells) seed first last room.before.means room.after.means missing told fits leaves.groups back none (job_at ss k i) name piece it.0 have need w (omega arith) stands
+          (worked_swaps row.one row.halves swaps) it.2
+          (found_fits seed first last room missing story fits leaves done later follows (job_at ss k i) name piece it.0 have need row.one row.halves cut it.2);
     }

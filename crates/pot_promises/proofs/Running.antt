@@ -1,10 +1,11 @@
 -- A run is a session, as far as its steps came, and leaves a later image.
-use Rattle.std.proofs.Common.{◌≡◌, ◌⊎◌, inl, inr, ℕ, List, [], ◌∷◌, ◌++◌, Option, Some, Result, Ok, Err, Bool, refl, ap, sym, ◌∙◌, subst, append-nil, append_assoc, arith, take, drop}
+use Rattle.std.proofs.Common.{◌≡◌, ◌⊎◌, inl, inr, ℕ, List, [], ◌∷◌, ◌++◌, Option, Some, Result, Ok, Err, refl, ap, sym, ◌∙◌, subst, append-nil, append_assoc, arith, take, drop}
 use Rattle.std.specs.Prelude.{IfErr, IsTrue, None}
 use Rattle.std.proofs.lemmas.Grind.{flat_map-append}
 use Rattle.std.proofs.lemmas.List.{take-append-drop}
-use Rattle.pot_outside.specs.Archives.{Meaning}
+use Rattle.pot_outside.specs.Accounts.{Met, held_in, since}
 use Rattle.pot_outside.specs.Failing.{MayLeave}
+use Rattle.pot_outside.specs.Rooms.{Lending}
 use Rattle.pot_script.specs.Replies.{reply_text}
 use Rattle.pot_script.specs.declared.command.Command.{Command}
 use Rattle.pot_script.specs.declared.grouping.Step.{Step}
@@ -22,13 +23,13 @@ use Rattle.pot_commands.specs.declared.working.Ending.TheVariants as ending
 use Rattle.pot_commands.specs.Ends.{EndsOver, EndsShort, StopsAt, texts_of}
 use Rattle.pot_commands.specs.Rows.{Row}
 use Rattle.pot_commands.specs.Steps.{IsStepHalted, IsStepLeft, steps_of}
+use Rattle.pot_commands.specs.Streams.{Wrote}
 use Rattle.pot_session.specs.declared.ending.status.Status.{Status}
 use Rattle.pot_session.specs.declared.ending.stop.Stop.{Stop}
 use Rattle.pot_session.specs.declared.ending.stop.Stop.TheVariants as stop
-use Rattle.pot_session.specs.Commands.{IsRead}
 use Rattle.pot_session.specs.Desks.{HoldsImage, IsKeepStop, Keeps, begun}
-use Rattle.pot_session.specs.Runs.{Holds, Stopped, Served, AtDesk, AtScript, AtOpening, seen_by}
-use Rattle.pot_session.specs.Serving.{Serves, Unlent, Unopened, Closed, IsClosed, Desks, Rooms, desks_by, rooms_by, Leaves, close_answer, setting_of, status_after}
+use Rattle.pot_session.specs.Runs.{Holds, Stopped, Served, AtDesk, AtScript, AtOpening, IsOf, Seen}
+use Rattle.pot_session.specs.Serving.{Serves, Unlent, Unopened, Closed, IsClosed, Leaves, close_answer, setting_of, status_after}
 use Rattle.pot_session.specs.Stops.{Refuses, status_of}
 use Rattle.std.proofs.lemmas.Option.{same_Some, slice_get_within}
 use Rattle.pot_bytes.proofs.Elements.{element_at}
@@ -54,10 +55,10 @@ not_done stop.TooWide d = d
 not_done stop.NoMemory d = d
 
 -- what was refused is not done
-refused_not : (told : Type 0) (before after : List ℕ) (s : Stop) (answer : Status) → Refuses told before after s answer → IsDone answer → ⊥
-refused_not told before after s answer (inl p) d = not_done s (subst IsDone p.0 d)
-refused_not told before after s answer (inr (inl p)) d = subst IsDone p.0 d
-refused_not told before after s answer (inr (inr p)) d = subst IsDone p.0 d
+refused_not : (sink : Met (List ℕ)) (s : Stop) (answer : Status) → Refuses sink s answer → IsDone answer → ⊥
+refused_not sink s answer (inl p) d = not_done s (subst IsDone p.0 d)
+refused_not sink s answer (inr (inl p)) d = subst IsDone p.0 d
+refused_not sink s answer (inr (inr p)) d = subst IsDone p.0 d
 
 -- nothing was added behind
 abbrev none_behind : Section → Section
@@ -79,8 +80,8 @@ whole_follows w = record {
 }
 
 -- the log of each group of a session that closed leads from its first table
-all_lead : (rooms : Rooms) (missing : List ℕ) (first last : Contents) (w : Section) → Leaves rooms missing first last w → AllLead first.tables w
-all_lead rooms missing first last w leaves g t at =
+all_lead : (room : Met Lending) (missing : List ℕ) (first last : Contents) (w : Section) → Leaves room missing first last w → AllLead first.tables w
+all_lead room missing first last w leaves g t at =
     let lt = slice_get_within first.tables g t at in
     let many = leaves.groups.count in
     let logs = leaves.groups.count_logs in
@@ -91,7 +92,7 @@ all_lead rooms missing first last w leaves g t at =
 
 -- A SESSION THAT CLOSED
 
-module _ (seed : List ℕ) (rooms : Rooms) (missing : List ℕ) (first last : Contents) (w : Section) (fits : FitsTogether first) (leaves : Leaves rooms missing first last w) where
+module _ (seed : List ℕ) (room : Met Lending) (missing : List ℕ) (first last : Contents) (w : Section) (fits : FitsTogether first) (leaves : Leaves room missing first last w) where
   -- these steps have their replies when the logs had gained so much
   session_of : (ss : List Step) (rs : List Reply) (done later : Section) → Follows done later w → Replied (Row (setting_of seed first)) 1 (steps_of ss) rs done → IsSession seed first last ss rs
   session_of ss rs done later follows replied = record {
@@ -100,7 +101,7 @@ module _ (seed : List ℕ) (rooms : Rooms) (missing : List ℕ) (first last : Co
     opened = leaves.index_opened;
     rack = leaves.rack;
     records = leaves.records;
-    groups = all_lead rooms missing first last w leaves;
+    groups = all_lead room missing first last w leaves;
     done = done;
     later = later;
     follows = follows;
@@ -111,40 +112,49 @@ module _ (seed : List ℕ) (rooms : Rooms) (missing : List ℕ) (first last : Co
   whole_session : (ss : List Step) (rs : List Reply) → Replied (Row (setting_of seed first)) 1 (steps_of ss) rs w → IsSession seed first last ss rs
   whole_session ss rs replied = session_of ss rs w (none_behind w) (whole_follows w) replied
 
--- what was written, where it is the texts of all replies
-all_written : (before after : List ℕ) (rs : List Reply) → after ≡ before ++ texts_of rs → (more : List ℕ) × (before ++ texts_of rs ≡ after ++ more)
-all_written before after rs is = ([], sym is ∙ sym (append-nil after))
+-- WHAT WAS WRITTEN
+
+-- first bytes of the texts of these replies
+abbrev WroteFirst : Met (List ℕ) → List Reply → Type 0
+WroteFirst sink rs = IsTrue sink.tells → (more : List ℕ) × (sink.before ++ texts_of rs ≡ sink.after ++ more)
+
+-- so it is where it is the texts of all of them
+all_written : (sink : Met (List ℕ)) (rs : List Reply) → Wrote sink (texts_of rs) → WroteFirst sink rs
+all_written sink rs wrote told = ([], sym (wrote told) ∙ sym (append-nil sink.after))
 
 -- and where it is first bytes of the last
-cut_written : (before after : List ℕ) (rs its : List Reply) (count : ℕ) → after ≡ before ++ (texts_of rs ++ take count (texts_of its)) → (more : List ℕ) × (before ++ texts_of (rs ++ its) ≡ after ++ more)
-cut_written before after rs its count is = (
+cut_written : (sink : Met (List ℕ)) (rs its : List Reply) (count : ℕ) → sink.after ≡ sink.before ++ (texts_of rs ++ take count (texts_of its))
+    → (more : List ℕ) × (sink.before ++ texts_of (rs ++ its) ≡ sink.after ++ more)
+cut_written sink rs its count is = (
   drop count (texts_of its),
-  ap (λ l. before ++ l) (flat_map-append reply_text rs its ∙ ap (λ l. texts_of rs ++ l) (sym (take-append-drop count (texts_of its))))
-      ∙ (ap (λ l. before ++ l) (sym (append_assoc (texts_of rs) (take count (texts_of its)) (drop count (texts_of its))))
-      ∙ (sym (append_assoc before (texts_of rs ++ take count (texts_of its)) (drop count (texts_of its)))
+  ap (λ l. sink.before ++ l) (flat_map-append reply_text rs its ∙ ap (λ l. texts_of rs ++ l) (sym (take-append-drop count (texts_of its))))
+      ∙ (ap (λ l. sink.before ++ l) (sym (append_assoc (texts_of rs) (take count (texts_of its)) (drop count (texts_of its))))
+      ∙ (sym (append_assoc sink.before (texts_of rs ++ take count (texts_of its)) (drop count (texts_of its)))
       ∙ ap (λ l. l ++ drop count (texts_of its)) (sym is))),
 )
 
--- what a desk holds that did not take an image
-refused_by : (was holds : Option (List ℕ)) (bytes : List ℕ) (s : Stop) → IsKeepStop s → Keeps was holds bytes (Err s) → MayLeave was bytes holds
-refused_by was holds bytes stop.DeskFault which is = is
-refused_by was holds bytes stop.NoMemory which is = inl is
-refused_by was holds bytes stop.Words which is = absurd which
-refused_by was holds bytes stop.SourceFault which is = absurd which
-refused_by was holds bytes (stop.BadLine number) which is = absurd which
-refused_by was holds bytes stop.NoImage which is = absurd which
-refused_by was holds bytes stop.Cut which is = absurd which
-refused_by was holds bytes (stop.Trailer kept computed) which is = absurd which
-refused_by was holds bytes (stop.Form place) which is = absurd which
-refused_by was holds bytes stop.Spent which is = absurd which
-refused_by was holds bytes stop.Exists which is = absurd which
-refused_by was holds bytes stop.RoomFault which is = absurd which
-refused_by was holds bytes stop.TooWide which is = absurd which
+-- WHAT THE DESK HOLDS
+
+-- where it did not take an image
+refused_by : (desk : Met (Option (List ℕ))) (bytes : List ℕ) (s : Stop) → IsKeepStop s → Keeps desk bytes (Err s) → MayLeave desk.before bytes desk.after
+refused_by desk bytes stop.DeskFault which is = is
+refused_by desk bytes stop.NoMemory which is = inl is
+refused_by desk bytes stop.Words which is = absurd which
+refused_by desk bytes stop.SourceFault which is = absurd which
+refused_by desk bytes (stop.BadLine number) which is = absurd which
+refused_by desk bytes stop.NoImage which is = absurd which
+refused_by desk bytes stop.Cut which is = absurd which
+refused_by desk bytes (stop.Trailer kept computed) which is = absurd which
+refused_by desk bytes (stop.Form place) which is = absurd which
+refused_by desk bytes stop.Spent which is = absurd which
+refused_by desk bytes stop.Exists which is = absurd which
+refused_by desk bytes stop.RoomFault which is = absurd which
+refused_by desk bytes stop.TooWide which is = absurd which
 
 -- and by how it took the image of a close
-left_by : (was holds : Option (List ℕ)) (bytes : List ℕ) (r : Result (Unit {0}) Stop) → IfErr r IsKeepStop → Keeps was holds bytes r → MayLeave was bytes holds
-left_by was holds bytes (Ok u) which is = inr (inl is)
-left_by was holds bytes (Err s) which is = refused_by was holds bytes s which is
+left_by : (desk : Met (Option (List ℕ))) (bytes : List ℕ) (r : Result (Unit {0}) Stop) → IfErr r IsKeepStop → Keeps desk bytes r → MayLeave desk.before bytes desk.after
+left_by desk bytes (Ok u) which is = inr (inl is)
+left_by desk bytes (Err s) which is = refused_by desk bytes s which is
 
 -- THE NEXT RUN
 
@@ -158,162 +168,154 @@ runs_go_on last held read is_image has (bytes, is, answers) =
       records = ap (λ (v : Contents). v.records) it;
     }
 
-module _ (seed : List ℕ) (source_tells sink_tells desk_tells room_tells : Bool) (input rest before after : List ℕ) (held holds : Option (List ℕ))
-    (meant means : ℕ → Meaning) (failed fails desk_failed desk_fails : ℕ) (answer : Status) (told : IsTrue desk_tells) where
-  abbrev rooms : Rooms
-  rooms = rooms_by (IsTrue room_tells) meant means failed fails
+-- A RUN
 
-  abbrev desk : Desks
-  desk = desks_by (IsTrue desk_tells) holds desk_failed desk_fails
+module _ (seed : List ℕ) (seen : Seen) (answer : Status) (told : IsTrue seen.desk.tells) where
+  abbrev Ended : Type 0
+  Ended = ClosedAs seed seen ⊎ NoneClosed (held_in seen.desk)
 
-  abbrev It : Type 0
-  It = Holds seed (seen_by (IsTrue source_tells) input rest (IsTrue sink_tells) before after (IsTrue desk_tells) held holds (IsTrue room_tells) meant means failed fails desk_failed desk_fails) answer
+  -- a session began with the image that was read, and ended so
+  module _ (i : Image) (steps : List Step) (of : IsOf seen.source (held_in seen.desk) i steps) (fits : FitsTogether (begun (contents i))) where
+    abbrev first : Contents
+    first = begun (contents i)
 
-  abbrev Served_as : Image → List Step → Type 0
-  Served_as i steps = Serves seed (begun (contents i)) steps rooms (IsTrue sink_tells) before after desk answer
+    abbrev Shut : Type 0
+    Shut = IsClosed seed first steps seen.room seen.sink seen.desk answer
 
-  -- WELL
+    abbrev Ends : Type 0
+    Ends = Serves seed first steps seen.room seen.sink seen.desk answer
 
-  module _ (done : IsDone answer) where
-    abbrev Ran : Type 0
-    Ran = RanAs seed (IsTrue source_tells) input (IsTrue sink_tells) before after held holds
+    -- WELL
 
-    -- a session that closed, by how its steps and its close ended
-    well : (i : Image) (steps : List Step) → HoldsImage held i → FitsTogether (begun (contents i)) → IsRead i.rack (IsTrue source_tells) input steps
-        → IsClosed seed (begun (contents i)) steps rooms (IsTrue sink_tells) before after desk answer → Ran
-    well i steps was_held fits script c = by c.ending c.ends c.missing c.kept c.leaves c.keeps.holds c.status
+    module _ (done : IsDone answer) where
+      -- a session that closed, by how its steps and its close ended
+      well : Shut → RanAs seed seen
+      well c = by c.ending c.ends c.missing c.kept c.leaves c.keeps.holds c.status
+        where
+          by : (e : Ending) → EndsOver (setting_of seed first) c.story seen.sink steps e → (missing : List ℕ) (r : Result (Unit {0}) Stop)
+              → Leaves seen.room missing first c.last c.story
+              → (IsTrue seen.desk.tells → Keeps (since (held_in seen.desk) (Some (image_bytes first))) (image_bytes c.last) r)
+              → answer ≡ status_after e (close_answer missing r) → RanAs seed seen
+          by (ending.Done refused) ends [] (Ok u) leaves kept is = record {
+            read = i;
+            was_held = of.image told;
+            steps = steps;
+            script = of.script;
+            last = c.last;
+            replies = ends.replies;
+            session = whole_session seed seen.room [] first c.last c.story fits leaves steps ends.replies ends.replied;
+            written = ends.written;
+            left = kept told;
+          }
+          by (ending.Done refused) ends [] (Err s) leaves kept is = absurd (not_done s (subst IsDone is done))
+          by (ending.Done refused) ends (n ∷ missing) r leaves kept is = absurd (subst IsDone is done)
+          by ending.SinkFailed ends missing r leaves kept is = absurd (subst IsDone is done)
+          by ending.RoomFailed ends missing r leaves kept is = absurd (subst IsDone is done)
+          by ending.NoMemory ends missing r leaves kept is = absurd (subst IsDone is done)
+
+      served_well : Ends → RanAs seed seen
+      served_well (Unlent is sink kept room) = absurd (subst IsDone is done)
+      served_well (Unopened is sink kept) = absurd (subst IsDone is done)
+      served_well (Closed c) = well c
+
+    -- HOWEVER IT ENDED
+
+    shut : Shut → ClosedAs seed seen
+    shut c = by c.ending c.ends
       where
-        by : (e : Ending) → EndsOver (setting_of seed (begun (contents i))) c.story (IsTrue sink_tells) before after steps e
-            → (missing : List ℕ) (r : Result (Unit {0}) Stop) → Leaves rooms missing (begun (contents i)) c.last c.story
-            → (IsTrue desk_tells → Keeps (Some (image_bytes (begun (contents i)))) holds (image_bytes c.last) r) → answer ≡ status_after e (close_answer missing r) → Ran
-        by (ending.Done refused) ends [] (Ok u) leaves kept is = record {
+        -- some first steps were answered
+        front : (answered others : List Step) (rs : List Reply) → steps ≡ answered ++ others → IsSession seed first c.last answered rs → WroteFirst seen.sink rs → ClosedAs seed seen
+        front answered others rs parts session written = record {
           read = i;
-          was_held = was_held;
+          was_held = of.image told;
           steps = steps;
-          script = script;
+          script = of.script;
+          answered = answered;
+          rest = others;
+          parts = parts;
           last = c.last;
-          replies = ends.replies;
-          session = whole_session seed rooms [] (begun (contents i)) c.last c.story fits leaves steps ends.replies ends.replied;
-          written = ends.written;
-          left = kept told;
+          replies = rs;
+          session = session;
+          written = written;
+          left = left_by (since (held_in seen.desk) (Some (image_bytes first))) (image_bytes c.last) c.kept c.keeps.which (c.keeps.holds told);
         }
-        by (ending.Done refused) ends [] (Err s) leaves kept is = absurd (not_done s (subst IsDone is done))
-        by (ending.Done refused) ends (n ∷ missing) r leaves kept is = absurd (subst IsDone is done)
-        by ending.SinkFailed ends missing r leaves kept is = absurd (subst IsDone is done)
-        by ending.RoomFailed ends missing r leaves kept is = absurd (subst IsDone is done)
-        by ending.NoMemory ends missing r leaves kept is = absurd (subst IsDone is done)
 
-    held_well : It → Ran
-    held_well (Stopped s stops refuses same) = absurd (refused_not (IsTrue sink_tells) before after s answer refuses done)
-    held_well (Served i steps of fits whole serves ends untouched) = by serves
-      where
-        by : Served_as i steps → Ran
-        by (Unlent is sink kept room) = absurd (subst IsDone is done)
-        by (Unopened is sink kept) = absurd (subst IsDone is done)
-        by (Closed c) = well i steps (of.image told) fits of.script c
+        short : (Left : Setting → ℕ → Sessions.Step Command → Section → Type 0)
+            → EndsShort (λ ds d rs. StopsAt Left (setting_of seed first) ds d rs c.story) seen.sink steps → ClosedAs seed seen
+        short Left ends =
+            front ends.first (ends.next ∷ ends.rest) ends.replies (ends.parts ∙ append_assoc ends.first (ends.next ∷ []) ends.rest)
+            (session_of seed seen.room c.missing first c.last c.story fits c.leaves ends.first ends.replies ends.replied.done ends.replied.last ends.replied.follows ends.replied.replied)
+            (all_written seen.sink ends.replies ends.written)
 
-  -- HOWEVER IT ENDED
+        whole : (ss : List Step) (rs : List Reply) → Replied (Row (setting_of seed first)) 1 (steps_of ss) rs c.story → IsSession seed first c.last ss rs
+        whole ss rs replied = whole_session seed seen.room c.missing first c.last c.story fits c.leaves ss rs replied
 
-  abbrev Shut : Type 0
-  Shut = ClosedAs seed (IsTrue source_tells) input (IsTrue sink_tells) before after held holds
+        by : (e : Ending) → EndsOver (setting_of seed first) c.story seen.sink steps e → ClosedAs seed seen
+        by (ending.Done refused) ends = front steps [] ends.replies (sym (append-nil steps)) (whole steps ends.replies ends.replied) (all_written seen.sink ends.replies ends.written)
+        by ending.SinkFailed ends =
+            front (ends.first ++ ends.next ∷ []) ends.rest (ends.replies ++ ends.its) ends.parts (whole (ends.first ++ ends.next ∷ []) (ends.replies ++ ends.its) ends.replied)
+            (λ t. (let w = ends.written t in cut_written seen.sink ends.replies ends.its w.0 w.2))
+        by ending.RoomFailed ends = short IsStepHalted ends
+        by ending.NoMemory ends = short IsStepLeft ends
 
-  shut : (i : Image) (steps : List Step) → HoldsImage held i → FitsTogether (begun (contents i)) → IsRead i.rack (IsTrue source_tells) input steps
-      → IsClosed seed (begun (contents i)) steps rooms (IsTrue sink_tells) before after desk answer → Shut
-  shut i steps was_held fits script c = by c.ending c.ends
-    where
-      -- some first steps were answered
-      front : (answered others : List Step) (rs : List Reply) → steps ≡ answered ++ others → IsSession seed (begun (contents i)) c.last answered rs
-          → (IsTrue sink_tells → (more : List ℕ) × (before ++ texts_of rs ≡ after ++ more)) → Shut
-      front answered others rs parts session written = record {
-        read = i;
-        was_held = was_held;
-        steps = steps;
-        script = script;
-        answered = answered;
-        rest = others;
-        parts = parts;
-        last = c.last;
-        replies = rs;
-        session = session;
-        written = written;
-        left = left_by (Some (image_bytes (begun (contents i)))) holds (image_bytes c.last) c.kept c.keeps.which (c.keeps.holds told);
-      }
+    served : Ends → Ended
+    served (Unlent is sink kept room) = inr (inr (inr (i, of.image told, kept told)))
+    served (Unopened is sink kept) = inr (inr (inr (i, of.image told, kept told)))
+    served (Closed c) = inl (shut c)
 
-      short : (Left : Setting → ℕ → Sessions.Step Command → Section → Type 0)
-          → EndsShort (λ ds d rs. StopsAt Left (setting_of seed (begun (contents i))) ds d rs c.story) (IsTrue sink_tells) before after steps → Shut
-      short Left ends =
-          front ends.first (ends.next ∷ ends.rest) ends.replies (ends.parts ∙ append_assoc ends.first (ends.next ∷ []) ends.rest)
-          (session_of seed rooms c.missing (begun (contents i)) c.last c.story fits c.leaves ends.first ends.replies ends.replied.done ends.replied.last ends.replied.follows ends.replied.replied)
-          (λ t. all_written before after ends.replies (ends.written t))
-
-      by : (e : Ending) → EndsOver (setting_of seed (begun (contents i))) c.story (IsTrue sink_tells) before after steps e → Shut
-      by (ending.Done refused) ends =
-          front steps [] ends.replies (sym (append-nil steps))
-          (whole_session seed rooms c.missing (begun (contents i)) c.last c.story fits c.leaves steps ends.replies ends.replied)
-          (λ t. all_written before after ends.replies (ends.written t))
-      by ending.SinkFailed ends =
-          front (ends.first ++ ends.next ∷ []) ends.rest (ends.replies ++ ends.its) ends.parts
-          (whole_session seed rooms c.missing (begun (contents i)) c.last c.story fits c.leaves (ends.first ++ ends.next ∷ []) (ends.replies ++ ends.its) ends.replied)
-          (λ t. (let w = ends.written t in cut_written before after ends.replies ends.its w.0 w.2))
-      by ending.RoomFailed ends = short IsStepHalted ends
-      by ending.NoMemory ends = short IsStepLeft ends
+  held_well : IsDone answer → Holds seed seen answer → RanAs seed seen
+  held_well done (Stopped s stops refuses same) = absurd (refused_not seen.sink s answer refuses done)
+  held_well done (Served i steps of fits whole serves ends untouched) = served_well i steps of fits done serves
 
   -- the desk did not take the image with which a session would begin
-  unopened : (i : Image) → HoldsImage held i → MayLeave held (image_bytes (begun (contents i))) holds → NoneClosed held holds
+  unopened : (i : Image) → HoldsImage seen.desk.before.held i → MayLeave seen.desk.before.held (image_bytes (begun (contents i))) seen.desk.after.held → NoneClosed (held_in seen.desk)
   unopened i was_held (inl same) = inl same
   unopened i was_held (inr (inl new)) = inr (inr (i, was_held, new))
   unopened i was_held (inr (inr none)) = inr (inl none)
 
-  served : (i : Image) (steps : List Step) → HoldsImage held i → FitsTogether (begun (contents i)) → IsRead i.rack (IsTrue source_tells) input steps → Served_as i steps → Shut ⊎ NoneClosed held holds
-  served i steps was_held fits script (Unlent is sink kept room) = inr (inr (inr (i, was_held, kept told)))
-  served i steps was_held fits script (Unopened is sink kept) = inr (inr (inr (i, was_held, kept told)))
-  served i steps was_held fits script (Closed c) = inl (shut i steps was_held fits script c)
-
-  held_shut : It → Shut ⊎ NoneClosed held holds
+  held_shut : Holds seed seen answer → Ended
   held_shut (Stopped s (AtDesk d refused same) refuses room) = inr (inl (same told))
   held_shut (Stopped s (AtScript i goes holds_that refused same) refuses room) = inr (inl (same told))
   held_shut (Stopped s (AtOpening i steps of which keeps) refuses room) =
-      inr (unopened i (of.image told) (refused_by held holds (image_bytes (begun (contents i))) s which (keeps told)))
-  held_shut (Served i steps of fits whole serves ends untouched) = served i steps (of.image told) fits of.script serves
+      inr (unopened i (of.image told) (refused_by (held_in seen.desk) (image_bytes (begun (contents i))) s which (keeps told)))
+  held_shut (Served i steps of fits whole serves ends untouched) = served i steps of fits serves
 
-  -- LATER
+-- LATER
 
-  module _ (from left : Contents) (sofar : Later from left) (is_image : IsImage left) (has : held ≡ Some (image_bytes left)) (bytes : List ℕ) (there : holds ≡ Some bytes) where
-    abbrev Went : Type 0
-    Went = (now : Contents) × (bytes ≡ image_bytes now) × Later from now
+module _ (seed : List ℕ) (seen : Seen) (from left : Contents) (sofar : Later from left) (is_image : IsImage left) (has : seen.desk.before.held ≡ Some (image_bytes left))
+    (bytes : List ℕ) (there : seen.desk.after.held ≡ Some bytes) where
+  abbrev Went : Type 0
+  Went = (now : Contents) × (bytes ≡ image_bytes now) × Later from now
 
-    -- the desk holds this one now
-    went : (now : Contents) → holds ≡ Some (image_bytes now) → Later from now → Went
-    went now is later = (now, same_Some bytes (image_bytes now) (sym there ∙ is), later)
+  -- the desk holds this one now
+  went : (now : Contents) → seen.desk.after.held ≡ Some (image_bytes now) → Later from now → Went
+  went now is later = (now, same_Some bytes (image_bytes now) (sym there ∙ is), later)
 
-    not_none : holds ≡ None → Went
-    not_none none = (let no = sym there ∙ none in absurd (cc no))
+  not_none : seen.desk.after.held ≡ None → Went
+  not_none none = (let no = sym there ∙ none in absurd (cc no))
 
-    -- the session that follows the one that left it
-    begins : (i : Image) → HoldsImage held i → Begins left (begun (contents i))
-    begins i was_held = runs_go_on left held i is_image has was_held
+  -- the session that follows the one that left it
+  begins : (i : Image) → HoldsImage seen.desk.before.held i → Begins left (begun (contents i))
+  begins i was_held = runs_go_on left seen.desk.before.held i is_image has was_held
 
-    closed_by : (c : Shut) → MayLeave (Some (image_bytes (begun (contents c.read)))) (image_bytes c.last) holds → Went
-    closed_by c (inl is) = went (begun (contents c.read)) is (Begun sofar (begins c.read c.was_held))
-    closed_by c (inr (inl is)) =
-        went c.last is (More sofar (begins c.read c.was_held) (record { story = c.session.story.index_added; rack = c.session.rack; records = c.session.records }))
-    closed_by c (inr (inr none)) = not_none none
+  closed_by : (c : ClosedAs seed seen) → MayLeave (Some (image_bytes (begun (contents c.read)))) (image_bytes c.last) seen.desk.after.held → Went
+  closed_by c (inl is) = went (begun (contents c.read)) is (Begun sofar (begins c.read c.was_held))
+  closed_by c (inr (inl is)) =
+      went c.last is (More sofar (begins c.read c.was_held) (record { story = c.session.story.index_added; rack = c.session.rack; records = c.session.records }))
+  closed_by c (inr (inr none)) = not_none none
 
-    later_by : Shut ⊎ NoneClosed held holds → Went
-    later_by (inl c) = closed_by c c.left
-    later_by (inr (inl same)) = went left (same ∙ has) sofar
-    later_by (inr (inr (inl none))) = not_none none
-    later_by (inr (inr (inr (i, was_held, is)))) = went (begun (contents i)) is (Begun sofar (begins i was_held))
+  later_by : ClosedAs seed seen ⊎ NoneClosed (held_in seen.desk) → Went
+  later_by (inl c) = closed_by c c.left
+  later_by (inr (inl same)) = went left (same ∙ has) sofar
+  later_by (inr (inr (inl none))) = not_none none
+  later_by (inr (inr (inr (i, was_held, is)))) = went (begun (contents i)) is (Begun sofar (begins i was_held))
 
 pub runs_are_sessions : RunsAreSessions
-runs_are_sessions seed source_tells sink_tells desk_tells room_tells input rest before after held holds meant means failed fails desk_failed desk_fails answer it done told =
-    held_well seed source_tells sink_tells desk_tells room_tells input rest before after held holds meant means failed fails desk_failed desk_fails answer told done it
+runs_are_sessions seed seen answer it done told = held_well seed seen answer told done it
 
 pub runs_may_close : RunsMayClose
-runs_may_close seed source_tells sink_tells desk_tells room_tells input rest before after held holds meant means failed fails desk_failed desk_fails answer it told =
-    held_shut seed source_tells sink_tells desk_tells room_tells input rest before after held holds meant means failed fails desk_failed desk_fails answer told it
+runs_may_close seed seen answer it told = held_shut seed seen answer told it
 
 pub runs_go_later : RunsGoLater
-runs_go_later seed source_tells sink_tells desk_tells room_tells input rest before after held holds meant means failed fails desk_failed desk_fails answer it told from left sofar is_image has bytes there =
-    later_by seed source_tells sink_tells desk_tells room_tells input rest before after held holds meant means failed fails desk_failed desk_fails answer told from left sofar is_image has bytes there
-    (held_shut seed source_tells sink_tells desk_tells room_tells input rest before after held holds meant means failed fails desk_failed desk_fails answer told it)
+runs_go_later seed seen answer it told from left sofar is_image has bytes there =
+    later_by seed seen from left sofar is_image has bytes there (held_shut seed seen answer told it)

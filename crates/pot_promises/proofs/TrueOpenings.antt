@@ -124,7 +124,7 @@ module _ (meant : ℕ → Meaning) (Rises : ℕ → Type 0) (t : Table) (log : L
   }
 
 pub openings_are_true : OpeningsAreTrue
-openings_are_true first last tells meant means failed fails missing story fits told leaves group read is still =
+openings_are_true first last room missing story fits told leaves group read is still =
     let rules : FitsTable first.rack read = all_at_place (FitsTable first.rack) first.tables group read fits.tables.fits is in
-    opens_as_meant meant (RoseInRoom meant means missing) read (story.before group) (leaves.found told group read is)
+    opens_as_meant room.before.means (RoseInRoom room.before.means room.after.means missing) read (story.before group) (leaves.found told group read is)
     (λ s c ls lc rises. (let h = still (serving_at read s c) (serves_there read rules.rules s c lc) in h.1 (rises h.0)))

@@ -1,7 +1,6 @@
 -- When a run of the program answers all commands of its script.
-use Rattle.std.specs.Prelude.{◌≡◌, ℕ, Bool, IsTrue, List, Option}
+use Rattle.std.specs.Prelude.{◌≡◌, ℕ, IsTrue, List}
 use Rattle.pot_options.specs.Options.{Text}
-use Rattle.pot_outside.specs.Archives.{Meaning}
 use Rattle.pot_script.specs.declared.grouping.Step.{Step}
 use Rattle.pot_words.specs.Tasks.{SpellTask}
 use Rattle.pot_words.specs.declared.run.Run.{Run}
@@ -12,7 +11,7 @@ use Rattle.pot_session.specs.declared.ending.status.Status.TheVariants as status
 use Rattle.pot_session.specs.Calls.{Runs}
 use Rattle.pot_session.specs.Commands.{IsRead}
 use Rattle.pot_session.specs.Desks.{GoesOn, HoldsImage}
-use Rattle.pot_session.specs.Runs.{seen_by}
+use Rattle.pot_session.specs.Runs.{Seen}
 use Rattle.pot_session.specs.Tasks.{seed_of}
 use Rattle.pot_promises.specs.Runs.{IsDone, RanAs}
 
@@ -36,17 +35,10 @@ AsksSession words drawn seed =
 -- script.
 abbrev pub RunsAreAnswered : Type 0
 RunsAreAnswered =
-    (words : List Text) (drawn : List ℕ) (source_tells sink_tells desk_tells room_tells : Bool)
-    (input rest before after : List ℕ) (held holds : Option (List ℕ)) (meant means : ℕ → Meaning)
-    (failed fails desk_failed desk_fails : ℕ) (answer : Status)
-    → Runs words drawn (seen_by (IsTrue source_tells) input rest (IsTrue sink_tells) before after
-    (IsTrue desk_tells) held holds (IsTrue room_tells) meant means failed fails desk_failed
-    desk_fails)
-    answer
-    → IsTrue source_tells → IsTrue desk_tells
+    (words : List Text) (drawn : List ℕ) (seen : Seen) (answer : Status)
+    → Runs words drawn seen answer → IsTrue seen.source.tells → IsTrue seen.desk.tells
     → (given : List ℕ) → AsksSession words drawn given
-    → (image : Image) → HoldsImage held image → GoesOn image
-    → (steps : List Step) → IsRead image.rack (IsTrue source_tells) input steps
+    → (image : Image) → HoldsImage seen.desk.before.held image → GoesOn image
+    → (steps : List Step) → IsRead image.rack seen.source steps
     → (IsFault answer → ⊥) → (answer ≡ status.NoMemory → ⊥)
-    → IsDone answer × ((seed : List ℕ) × AsksSession words drawn seed
-    × RanAs seed (IsTrue source_tells) input (IsTrue sink_tells) before after held holds)
+    → IsDone answer × ((seed : List ℕ) × AsksSession words drawn seed × RanAs seed seen)

@@ -1,7 +1,9 @@
 -- Where a reply `fault` comes from.
-use Rattle.std.specs.Prelude.{◌≡◌, ℕ, Bool, IsTrue, List, Contains, Some, slice_get}
+use Rattle.std.specs.Prelude.{◌≡◌, ℕ, IsTrue, List, Contains, Some, slice_get}
+use Rattle.pot_outside.specs.Accounts.{Met}
 use Rattle.pot_outside.specs.Archives.{Meaning}
 use Rattle.pot_outside.specs.Counts.{Rose}
+use Rattle.pot_outside.specs.Rooms.{Lending}
 use Rattle.pot_machine.specs.declared.entry.Entry.{Entry}
 use Rattle.pot_machine.specs.Table.{Table}
 use Rattle.pot_group.specs.Causes.{archives_of}
@@ -16,7 +18,7 @@ use Rattle.pot_replies.specs.Sessions.{Replied}
 use Rattle.pot_shared.specs.Hands.{times}
 use Rattle.pot_commands.specs.Rows.{Row}
 use Rattle.pot_commands.specs.Steps.{steps_of}
-use Rattle.pot_session.specs.Serving.{Leaves, rooms_by, setting_of}
+use Rattle.pot_session.specs.Serving.{Leaves, setting_of}
 use Rattle.pot_promises.specs.Answers.{IsAnswered}
 
 -- One of these archives counted a fault, by what its number meant before a session and means after
@@ -30,14 +32,13 @@ HasFailed meant means missing numbers =
 -- home or target in the image that was read, or one that the group's log brought to the column.
 abbrev pub FaultsAreCounted : Type 0
 FaultsAreCounted =
-    (seed : List ℕ) (first last : Contents) (tells : Bool) (meant means : ℕ → Meaning)
-    (failed fails : ℕ) (missing : List ℕ) (story : Section)
-    → FitsTogether first → IsTrue tells
-    → Leaves (rooms_by (IsTrue tells) meant means failed fails) missing first last story
+    (seed : List ℕ) (first last : Contents) (room : Met Lending) (missing : List ℕ)
+    (story : Section)
+    → FitsTogether first → IsTrue room.tells → Leaves room missing first last story
     → (ss : List Step) (rs : List Reply) (done later : Section) → Follows done later story
     → Replied (Row (setting_of seed first)) 1 (steps_of ss) rs done
     → (k i : ℕ) (c : Command) (group column : ℕ)
     → IsAnswered first.rack ss rs k i c (replies.Fault group column)
     → (read : Table) (log : List Entry)
     → slice_get first.tables group ≡ Some read → slice_get last.group_logs group ≡ Some log
-    → HasFailed meant means missing (archives_of read log column)
+    → HasFailed room.before.means room.after.means missing (archives_of read log column)

@@ -1,8 +1,9 @@
 -- Where a reply `lost` comes from.
-use Rattle.std.specs.Prelude.{◌≡◌, ◌⊎◌, ℕ, suc, Bool, IsTrue, List}
+use Rattle.std.specs.Prelude.{◌≡◌, ◌⊎◌, ℕ, suc, IsTrue, List}
 use Rattle.std.specs.List.{AllByRecursion}
 use Rattle.pot_bytes.specs.declared.rack.Geometry.{Geometry}
-use Rattle.pot_outside.specs.Archives.{Meaning}
+use Rattle.pot_outside.specs.Accounts.{Met}
+use Rattle.pot_outside.specs.Rooms.{Lending}
 use Rattle.pot_machine.specs.declared.entry.Entry.{Entry}
 use Rattle.pot_script.specs.declared.command.Command.{Command}
 use Rattle.pot_script.specs.declared.command.Command.TheVariants as commands
@@ -19,7 +20,7 @@ use Rattle.pot_replies.specs.Settings.{Setting}
 use Rattle.pot_commands.specs.Rows.{Row}
 use Rattle.pot_commands.specs.Steps.{steps_of}
 use Rattle.pot_session.specs.Losses.{AreBack, BeginWith, FewCanBeHad, LostNone}
-use Rattle.pot_session.specs.Serving.{Leaves, rooms_by, setting_of}
+use Rattle.pot_session.specs.Serving.{Leaves, setting_of}
 use Rattle.pot_promises.specs.Answers.{IsAnswered, job_at}
 
 -- the command fetches the file of this name, or renews it
@@ -43,12 +44,11 @@ pub record IsFew (s : Setting) (job : ℕ) (name : List ℕ) (piece fragment hav
 -- its job.
 abbrev pub LostIsFew : Type 0
 LostIsFew =
-    (seed : List ℕ) (first last : Contents) (tells : Bool) (meant means : ℕ → Meaning)
-    (failed fails : ℕ) (missing : List ℕ) (story : Section)
-    → FitsTogether first → IsTrue tells
-    → Leaves (rooms_by (IsTrue tells) meant means failed fails) missing first last story
+    (seed : List ℕ) (first last : Contents) (room : Met Lending) (missing : List ℕ)
+    (story : Section)
+    → FitsTogether first → IsTrue room.tells → Leaves room missing first last story
     → AreBack missing first.tables last.group_logs
-    → LostNone meant means first.tables last.group_logs
+    → LostNone room.before.means room.after.means first.tables last.group_logs
     → (ss : List Step) (rs : List Reply) (done later : Section) → Follows done later story
     → Replied (Row (setting_of seed first)) 1 (steps_of ss) rs done
     → AllByRecursion (IsWholeStep first.rack) ss

@@ -1,6 +1,8 @@
 -- What the openings of a session log where no count rises in it.
 use Rattle.std.specs.Prelude.{◌≡◌, ◌⊎◌, ◌<◌, ℕ, Bool, IsTrue, List, Contains, Some, slice_get}
+use Rattle.pot_outside.specs.Accounts.{Met}
 use Rattle.pot_outside.specs.Archives.{Meaning}
+use Rattle.pot_outside.specs.Rooms.{Lending}
 use Rattle.pot_machine.specs.declared.entry.Entry.{Entry}
 use Rattle.pot_machine.specs.Table.{Table, archives_in, width}
 use Rattle.pot_steps.specs.Holdings.{stripe_of}
@@ -11,7 +13,7 @@ use Rattle.pot_replies.specs.Sections.{Section}
 use Rattle.pot_shared.specs.Hands.{times}
 use Rattle.pot_shared.specs.Coming.{marks_of}
 use Rattle.pot_shared.specs.Groups.{MarksRose}
-use Rattle.pot_session.specs.Serving.{Leaves, rooms_by}
+use Rattle.pot_session.specs.Serving.{Leaves}
 
 -- The opening of a table over archives that hold what a room meant: a Live slot is Gone exactly
 -- where the archive that serves it has no block of its digest, and of each stripe it is said
@@ -37,9 +39,9 @@ AreUndisturbed meant means missing t =
 -- the room meant, and nothing else.
 abbrev pub OpeningsAreTrue : Type 0
 OpeningsAreTrue =
-    (first last : Contents) (tells : Bool) (meant means : ℕ → Meaning)
-    (failed fails : ℕ) (missing : List ℕ) (story : Section)
-    → FitsTogether first → IsTrue tells
-    → Leaves (rooms_by (IsTrue tells) meant means failed fails) missing first last story
+    (first last : Contents) (room : Met Lending) (missing : List ℕ)
+    (story : Section)
+    → FitsTogether first → IsTrue room.tells → Leaves room missing first last story
     → (group : ℕ) (read : Table) → slice_get first.tables group ≡ Some read
-    → AreUndisturbed meant means missing read → OpensAsMeant meant read (story.before group)
+    → AreUndisturbed room.before.means room.after.means missing read
+    → OpensAsMeant room.before.means read (story.before group)

@@ -10,6 +10,7 @@ use Rattle.std.proofs.lemmas.List.Elements.{All-cons, All-push}
 use Rattle.std.proofs.lemmas.List.Folds.{list_any-append}
 use Rattle.std.proofs.lemmas.List.Kept.{AllPairs-cons}
 use Rattle.pot_bytes.specs.declared.rack.Rack.{Rack}
+use Rattle.pot_outside.specs.Accounts.{Met}
 use Rattle.pot_index.specs.declared.record.Record.{Record}
 use Rattle.pot_audit.specs.declared.spot.Spot.{Spot}
 use Rattle.pot_audit.specs.declared.veil.Veil.{Veil}
@@ -134,22 +135,22 @@ stop_is stop.Exists h = absurd h
 stop_is stop.RoomFault h = absurd h
 stop_is stop.TooWide h = absurd h
 
-refused : (told : Type 0) (before after : List ℕ) (s : Stop) (answer : Status) → IsAuditStatus (status_of s) → Refuses told before after s answer → IsAuditStatus answer
-refused told before after s answer h (inl r) = subst IsAuditStatus (sym r.0) h
-refused told before after s answer h (inr (inl r)) = subst IsAuditStatus (sym r.0) tt
-refused told before after s answer h (inr (inr r)) = subst IsAuditStatus (sym r.0) tt
+refused : (sink : Met (List ℕ)) (s : Stop) (answer : Status) → IsAuditStatus (status_of s) → Refuses sink s answer → IsAuditStatus answer
+refused sink s answer h (inl r) = subst IsAuditStatus (sym r.0) h
+refused sink s answer h (inr (inl r)) = subst IsAuditStatus (sym r.0) tt
+refused sink s answer h (inr (inr r)) = subst IsAuditStatus (sym r.0) tt
 
-module _ (a : Audit) (desk_told : Type 0) (held : Option (List ℕ)) (sink_told : Type 0) (before after : List ℕ) (answer : Status) where
-  audit_status : Audits a desk_told held sink_told before after answer → IsAuditStatus answer
-  audit_status (Stopped s which reads refuses) = refused sink_told before after s answer (stop_is s which) refuses
-  audit_status (Outside i holds of refuses) = refused sink_told before after stop.Words answer tt refuses
+module _ (a : Audit) (desk : Met (Option (List ℕ))) (sink : Met (List ℕ)) (answer : Status) where
+  audit_status : Audits a desk sink answer → IsAuditStatus answer
+  audit_status (Stopped s which reads refuses) = refused sink s answer (stop_is s which) refuses
+  audit_status (Outside i holds of refuses) = refused sink stop.Words answer tt refuses
   audit_status (Told i holds of (inl (bare, puts, e))) = subst IsAuditStatus (sym e) (told_is bare)
   audit_status (Told i holds of (inr (fault, puts, inl e))) = subst IsAuditStatus (sym e) tt
   audit_status (Told i holds of (inr (fault, puts, inr e))) = subst IsAuditStatus (sym e) tt
 
   -- an audit fails neither for the source nor for the room
-  pub audit_source : Audits a desk_told held sink_told before after answer → answer ≡ status.SourceFault → ⊥
+  pub audit_source : Audits a desk sink answer → answer ≡ status.SourceFault → ⊥
   audit_source h e = subst IsAuditStatus e (audit_status h)
 
-  pub audit_room : Audits a desk_told held sink_told before after answer → answer ≡ status.RoomFault → ⊥
+  pub audit_room : Audits a desk sink answer → answer ≡ status.RoomFault → ⊥
   audit_room h e = subst IsAuditStatus e (audit_status h)

@@ -1,12 +1,14 @@
 -- The image of a close.
 use Rattle.std.proofs.Common.{◌≡◌, ◌+◌, ◌++◌, inl, inr, ℕ, List, [], ◌∷◌, length, map, refl, sym, ap, subst, ◌∙◌, arith}
-use Rattle.std.specs.Prelude.{Option, Some, Result, Ok, Err, IfErr, IsErr, IsErrOf, flat_map}
+use Rattle.std.specs.Prelude.{Option, Some, Result, Ok, Err, IfErr, IsErr, IsErrOf, IsTrue, flat_map}
 use Rattle.std.proofs.lemmas.Bool.{cases_lt}
 use Rattle.byteorder.specs.Endian.{big_bytes}
 use Rattle.pot_bytes.specs.Digests.{digest_bytes}
 use Rattle.pot_bytes.specs.declared.rack.Rack.{Rack}
+use Rattle.pot_outside.specs.Accounts.{Account, Content, Met, held_in, met_by, since}
 use Rattle.pot_outside.specs.Archives.{Meaning, IsMeant}
 use Rattle.pot_outside.specs.Counts.{Caused, Rose}
+use Rattle.pot_outside.specs.Rooms.{Lending}
 use Rattle.pot_outside.specs.declared.archive.Shelf.{Shelf}
 use Rattle.pot_outside.specs.declared.faults.Failed.{Failed}
 use Rattle.pot_machine.specs.Table.{Table}
@@ -31,7 +33,7 @@ use Rattle.pot_shared.specs.Hands.{times}
 use Rattle.pot_shared.specs.Coming.{marks_of}
 use Rattle.pot_shared.specs.Leaving.{still, AreOpened, RoseInHand, Shows, IsInHand, LeaveGroups, LeavesRecords, LeavesLogs}
 use Rattle.pot_session.specs.Opened.{IsBegun}
-use Rattle.pot_session.specs.Serving.{RoseInRoom, Desks, Rooms, IsInRoom, Leaves, IsCloseStop, Closes, close_answer, first_failure}
+use Rattle.pot_session.specs.Serving.{RoseInRoom, IsInRoom, Leaves, IsCloseStop, Closes, close_answer, first_failure}
 
 -- RELAYS ARE NOT WRITTEN
 
@@ -56,11 +58,11 @@ same_image v = ap (λ t. t ++ digest_bytes t) (same_text v)
 -- THE ROOM
 
 -- archives that were in the hand are in the room, where it took them back
-in_room : {A : Type 0} (told : Type 0) (meaning : A → Meaning) (hand : List (Shelf A)) (means : ℕ → Meaning) (before now : ℕ) (given : Result (Unit {0}) Failed) (b : GivesBack told meaning hand means before now given)
-    → (s : Shelves) (n : ℕ) → IsInHand meaning hand s n → IsInRoom told means b.missing s n
-in_room told meaning hand means before now given b s n (x, has, e, shows) t back =
-    let is : IsMeant (means x.number) (meaning x.archive) = b.back t x has (subst (λ k. times k b.missing ≡ 0) (sym e) back) in
-    subst (λ k. Shows s n (means k)) e (record {
+in_room : {A : Type 0} (archives : Account A Meaning) (hand : List (Shelf A)) (old new : Lending) (given : Result (Unit {0}) Failed) (b : GivesBack archives hand old new given)
+    → (s : Shelves) (n : ℕ) → IsInHand archives.meaning hand s n → IsInRoom (IsTrue archives.tells) new.means b.missing s n
+in_room archives hand old new given b s n (x, has, e, shows) t back =
+    let is : IsMeant (new.means x.number) (archives.meaning x.archive) = b.back t x has (subst (λ k. times k b.missing ≡ 0) (sym e) back) in
+    subst (λ k. Shows s n (new.means k)) e (record {
       blocks = λ slot. shows.blocks slot ∙ is.blocks slot;
       sums = shows.sums ∙ is.sums;
       faults = shows.faults ∙ is.faulted;
@@ -68,13 +70,13 @@ in_room told meaning hand means before now given b s n (x, has, e, shows) t back
     })
 
 -- a count that rose at an archive in the hand rose in the room, where it took that archive back
-rose_in_room : {A : Type 0} (told : Type 0) (meaning : A → Meaning) (hand : List (Shelf A)) (meant means : ℕ → Meaning) (before now : ℕ) (given : Result (Unit {0}) Failed)
-    (b : GivesBack told meaning hand means before now given) → told → (n : ℕ) → RoseInHand meaning hand meant n → RoseInRoom meant means b.missing n
-rose_in_room told meaning hand meant means before now given b t n (x, has, e, rose) back =
-    let is : IsMeant (means x.number) (meaning x.archive) = b.back t x has (subst (λ k. times k b.missing ≡ 0) (sym e) back) in
-    subst (λ k. MarksRose (marks_of (meant n)) (marks_of (means k))) e (moved is rose)
+rose_in_room : {A : Type 0} (archives : Account A Meaning) (hand : List (Shelf A)) (meant : ℕ → Meaning) (old new : Lending) (given : Result (Unit {0}) Failed)
+    (b : GivesBack archives hand old new given) → IsTrue archives.tells → (n : ℕ) → RoseInHand archives.meaning hand meant n → RoseInRoom meant new.means b.missing n
+rose_in_room archives hand meant old new given b t n (x, has, e, rose) back =
+    let is : IsMeant (new.means x.number) (archives.meaning x.archive) = b.back t x has (subst (λ k. times k b.missing ≡ 0) (sym e) back) in
+    subst (λ k. MarksRose (marks_of (meant n)) (marks_of (new.means k))) e (moved is rose)
   where
-    moved : IsMeant (means x.number) (meaning x.archive) → MarksRose (marks_of (meant n)) (marks_of (meaning x.archive)) → MarksRose (marks_of (meant n)) (marks_of (means x.number))
+    moved : IsMeant (new.means x.number) (archives.meaning x.archive) → MarksRose (marks_of (meant n)) (marks_of (archives.meaning x.archive)) → MarksRose (marks_of (meant n)) (marks_of (new.means x.number))
     moved is (inl r) = inl (subst (λ y. Rose (meant n).faults y) is.faulted r)
     moved is (inr r) = inr (subst (λ y. Rose (meant n).losses y) is.lost r)
 
@@ -97,14 +99,14 @@ opened_by old first g = elim (cases_lt g (length old.groups.names)) [
     of_none (x ∷ xs) y e q = absurd (cc q)
 
 -- what the image of a close is, from its parts
-leaves_of : (read : List Table) (old new : Known) (rooms : Rooms) (missing : List ℕ) (first last : Contents) → AreFirstPasses old.groups old.index → IsBegun first last.session last.rack read (records_read new.index)
-    → LeaveGroups rooms.told rooms.meant (IsInRoom rooms.told rooms.means missing) read last.group_logs (map still last.tables) → LeavesLogs old new last.rack last.group_logs last.index_log last.records
-    → (rooms.told → AreOpened rooms.meant (RoseInRoom rooms.meant rooms.means missing) first.tables (section_of old new))
-    → Leaves rooms missing first (record last { tables = map still last.tables }) (section_of old new)
-leaves_of read old new rooms missing first last opened b groups left found = record {
+leaves_of : (read : List Table) (old new : Known) (room : Met Lending) (missing : List ℕ) (first last : Contents) → AreFirstPasses old.groups old.index → IsBegun first last.session last.rack read (records_read new.index)
+    → LeaveGroups (IsTrue room.tells) room.before.means (IsInRoom (IsTrue room.tells) room.after.means missing) read last.group_logs (map still last.tables) → LeavesLogs old new last.rack last.group_logs last.index_log last.records
+    → (IsTrue room.tells → AreOpened room.before.means (RoseInRoom room.before.means room.after.means missing) first.tables (section_of old new))
+    → Leaves room missing first (record last { tables = map still last.tables }) (section_of old new)
+leaves_of read old new room missing first last opened b groups left found = record {
   session = sym b.is_session;
   rack = sym b.is_rack;
-  groups = subst (λ ts. LeaveGroups rooms.told rooms.meant (IsInRoom rooms.told rooms.means missing) ts last.group_logs (map still last.tables)) (sym b.are_tables) groups;
+  groups = subst (λ ts. LeaveGroups (IsTrue room.tells) room.before.means (IsInRoom (IsTrue room.tells) room.after.means missing) ts last.group_logs (map still last.tables)) (sym b.are_tables) groups;
   records = subst (λ r. LeavesRecords r first.records (section_of old new).index_added last.index_log last.records) (sym b.is_rack)
       (subst (λ rs. LeavesRecords last.rack rs (section_of old new).index_added last.index_log last.records) (sym b.are_records) left.records);
   logs = left.are_logs;
@@ -131,28 +133,28 @@ pub desk_failure : (given : Result (Unit {0}) Failed) (kept : Result (Unit {0}) 
 desk_failure (Err f) kept e = absurd (cc)
 desk_failure (Ok u) kept e = e
 
--- a close leaves the image of what its vault left
-pub closes : {A : Type 0} (meaning : A → Meaning) (hand : List (Shelf A)) (rooms : Rooms) (worked : ℕ) (read : List Table) (old new : Known) (rack : Rack) (desk : Desks) (first last : Contents) (before : Option (List ℕ))
-    (given : Result (Unit {0}) Failed) (kept closed : Result (Unit {0}) Stop) → (desk.told → Keeps before desk.holds (image_bytes last) kept) → IfErr kept IsKeepStop → Caused desk.failed desk.fails (kept ≡ Err stop.DeskFault)
-    → GivesBack rooms.told meaning hand rooms.means worked rooms.fails given → AreFirstPasses old.groups old.index
-    → IsBegun first last.session last.rack read (records_read new.index) → last.rack ≡ rack → LeaveGroups rooms.told rooms.meant (IsInHand meaning hand) read last.group_logs (map still last.tables)
+-- A close leaves the image of what its vault left. `meant` is what the room meant when the session was opened, `worked` what it meant before the close, and `means` what it means after it.
+pub closes : {A : Type 0} (archives : Account A Meaning) (hand : List (Shelf A)) (meant worked means : Lending) (read : List Table) (old new : Known) (rack : Rack) (desk : Met (Content (Option (List ℕ)))) (first last : Contents)
+    (given : Result (Unit {0}) Failed) (kept closed : Result (Unit {0}) Stop) → (IsTrue desk.tells → Keeps (held_in desk) (image_bytes last) kept) → IfErr kept IsKeepStop → Caused desk.before.faults desk.after.faults (kept ≡ Err stop.DeskFault)
+    → GivesBack archives hand worked means given → AreFirstPasses old.groups old.index
+    → IsBegun first last.session last.rack read (records_read new.index) → last.rack ≡ rack → LeaveGroups (IsTrue archives.tells) meant.means (IsInHand archives.meaning hand) read last.group_logs (map still last.tables)
     → LeavesLogs old new rack last.group_logs last.index_log last.records
-    → (rooms.told → AreOpened rooms.meant (RoseInHand meaning hand rooms.meant) first.tables (section_of old new))
-    → closed ≡ first_failure given kept → Closes old new rooms worked (before ≡ Some (image_bytes first)) desk first closed
-closes meaning hand rooms worked read old new rack desk first last before given kept closed k which cause back opened b same groups left found is = record {
+    → (IsTrue archives.tells → AreOpened meant.means (RoseInHand archives.meaning hand meant.means) first.tables (section_of old new))
+    → closed ≡ first_failure given kept → Closes old new (met_by archives.tells meant means) worked.failures desk first closed
+closes archives hand meant worked means read old new rack desk first last given kept closed k which cause back opened b same groups left found is = record {
   last = record last { tables = map still last.tables };
   sole = left.sole;
   missing = back.missing;
   failed_at = back.failed_at;
-  leaves = leaves_of read old new rooms back.missing first last opened b
-      (other_groups rooms.told rooms.meant (IsInHand meaning hand) (IsInRoom rooms.told rooms.means back.missing) read last.group_logs (map still last.tables)
-      (in_room rooms.told meaning hand rooms.means worked rooms.fails given back) groups)
+  leaves = leaves_of read old new (met_by archives.tells meant means) back.missing first last opened b
+      (other_groups (IsTrue archives.tells) meant.means (IsInHand archives.meaning hand) (IsInRoom (IsTrue archives.tells) means.means back.missing) read last.group_logs (map still last.tables)
+      (in_room archives hand worked means given back) groups)
       (subst (λ r. LeavesLogs old new r last.group_logs last.index_log last.records) (sym same) left)
-      (λ t g u q. opened_as rooms.meant (RoseInHand meaning hand rooms.meant) (RoseInRoom rooms.meant rooms.means back.missing) u ((section_of old new).before g)
-      (rose_in_room rooms.told meaning hand rooms.meant rooms.means worked rooms.fails given back t) (found t g u q));
+      (λ t g u q. opened_as meant.means (RoseInHand archives.meaning hand meant.means) (RoseInRoom meant.means means.means back.missing) u ((section_of old new).before g)
+      (rose_in_room archives hand meant.means worked means given back t) (found t g u q));
   kept = kept;
   keeps = λ held. record {
-    holds = λ t. subst (λ b. Keeps (Some (image_bytes first)) desk.holds b kept) (sym (same_image last)) (subst (λ h. Keeps h desk.holds (image_bytes last) kept) (held t) (k t));
+    holds = λ t. subst (λ b. Keeps (since (held_in desk) (Some (image_bytes first))) b kept) (sym (same_image last)) (subst (λ h. Keeps (since (held_in desk) h) (image_bytes last) kept) (held t) (k t));
     which = which;
     cause = cause;
   };

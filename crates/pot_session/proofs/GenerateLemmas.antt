@@ -1,10 +1,12 @@
 -- The session of a generated script.
 use Rattle.std.proofs.lemmas.Bool.{cases_lt}
 use Rattle.std.proofs.Common.{◌≡◌, ◌<◌, ◌+◌, ℕ, inl, inr, arith, true, List, [], Option, Some, None, ap, sym, subst, ◌∙◌}
-use Rattle.std.specs.Prelude.{IsTrue, Result, Ok, Err}
+use Rattle.std.specs.Prelude.{Result, Ok, Err}
 use Rattle.std.specs.Result.{is_ok}
 use Rattle.pot_bytes.specs.declared.rack.Rack.{Rack}
+use Rattle.pot_outside.specs.Accounts.{Content, Met, met_by}
 use Rattle.pot_outside.specs.Archives.{Meaning}
+use Rattle.pot_outside.specs.Rooms.{Lending}
 use Rattle.pot_outside.specs.declared.archive.Shelf.{Shelf}
 use Rattle.pot_outside.specs.declared.faults.Failed.{Failed}
 use Rattle.pot_doubles.specs.declared.archive.LossyArchive.{LossyArchive}
@@ -21,33 +23,30 @@ use Rattle.pot_session.specs.Making.{Makes, empty_contents}
 use Rattle.pot_session.specs.Runs.{Holds, seen_by}
 
 -- a session over these objects is one of the number
-pub is_generated : (number : ℕ) (rack : Rack) (seed input rest before bytes : List ℕ) (held holds : Option (List ℕ)) (meant means : ℕ → Meaning) (failed fails desk_failed desk_fails : ℕ) (ended : Status)
-    → rack ≡ rack_of_runs → seed ≡ seed_of number → input ≡ script_text (generated number) → before ≡ [] → held ≡ Some (image_bytes (empty_contents rack))
-    → ((n : ℕ) → meant n ≡ meaning_of None) → AreSound means → failed ≡ 0
-    → Holds seed (seen_by (IsTrue true) input rest (IsTrue true) before bytes (IsTrue true) held holds (IsTrue true) meant means failed fails desk_failed desk_fails) ended → IsGenerated number bytes ended
-is_generated number rack seed input rest before bytes held holds meant means failed fails desk_failed desk_fails ended same_rack same_seed same_input none is_held empty are_sound none_failed session = record {
+pub is_generated : (number : ℕ) (rack : Rack) (seed input rest before bytes : List ℕ) (desk leaves : Content (Option (List ℕ))) (room lends : Lending) (ended : Status)
+    → rack ≡ rack_of_runs → seed ≡ seed_of number → input ≡ script_text (generated number) → before ≡ [] → desk.held ≡ Some (image_bytes (empty_contents rack))
+    → ((n : ℕ) → room.means n ≡ meaning_of None) → AreSound lends.means → room.failures ≡ 0
+    → Holds seed (seen_by (met_by true input rest) (met_by true before bytes) (met_by true desk leaves) (met_by true room lends)) ended → IsGenerated number bytes ended
+is_generated number rack seed input rest before bytes desk leaves room lends ended same_rack same_seed same_input none is_held empty are_sound none_failed session = record {
   rest = rest;
-  holds = holds;
-  meant = meant;
-  means = means;
-  fails = fails;
-  desk_failed = desk_failed;
-  desk_fails = desk_fails;
+  desk = desk;
+  leaves = leaves;
+  room = room;
+  lends = lends;
+  begun = is_held ∙ ap (λ (r : Rack). Some (image_bytes (empty_contents r))) same_rack;
   empty = empty;
+  unfailed = none_failed;
   sound = are_sound;
   session =
-      subst (λ k. Holds (seed_of number) (seen_by (IsTrue true) (script_text (generated number)) rest (IsTrue true) [] bytes (IsTrue true) (Some (image_bytes (empty_contents rack_of_runs))) holds (IsTrue true) meant means k fails desk_failed desk_fails) ended) none_failed
-      (subst (λ (r : Rack). Holds (seed_of number) (seen_by (IsTrue true) (script_text (generated number)) rest (IsTrue true) [] bytes (IsTrue true) (Some (image_bytes (empty_contents r))) holds (IsTrue true) meant means failed fails desk_failed desk_fails) ended) same_rack
-      (subst (λ h. Holds (seed_of number) (seen_by (IsTrue true) (script_text (generated number)) rest (IsTrue true) [] bytes (IsTrue true) h holds (IsTrue true) meant means failed fails desk_failed desk_fails) ended) is_held
-      (subst (λ b. Holds (seed_of number) (seen_by (IsTrue true) (script_text (generated number)) rest (IsTrue true) b bytes (IsTrue true) held holds (IsTrue true) meant means failed fails desk_failed desk_fails) ended) none
-      (subst (λ i. Holds (seed_of number) (seen_by (IsTrue true) i rest (IsTrue true) before bytes (IsTrue true) held holds (IsTrue true) meant means failed fails desk_failed desk_fails) ended) same_input
-      (subst (λ s. Holds s (seen_by (IsTrue true) input rest (IsTrue true) before bytes (IsTrue true) held holds (IsTrue true) meant means failed fails desk_failed desk_fails) ended) same_seed session)))));
+      subst (λ b. Holds (seed_of number) (seen_by (met_by true (script_text (generated number)) rest) (met_by true b bytes) (met_by true desk leaves) (met_by true room lends)) ended) none
+      (subst (λ i. Holds (seed_of number) (seen_by (met_by true i rest) (met_by true before bytes) (met_by true desk leaves) (met_by true room lends)) ended) same_input
+      (subst (λ s. Holds s (seen_by (met_by true input rest) (met_by true before bytes) (met_by true desk leaves) (met_by true room lends)) ended) same_seed session));
 }
 
 -- a new archive was made
-pub image_made : (rack : Rack) (before after : Option (List ℕ)) (r : Result (Unit {0}) Stop) → is_ok r ≡ true → Makes rack before after r → after ≡ Some (image_bytes (empty_contents rack))
-image_made rack before after (Ok u) h made = made.1
-image_made rack before after (Err e) h made = absurd (cc h)
+pub image_made : (rack : Rack) (desk : Met (Option (List ℕ))) (r : Result (Unit {0}) Stop) → is_ok r ≡ true → Makes rack desk r → desk.after ≡ Some (image_bytes (empty_contents rack))
+image_made rack desk (Ok u) h made = made.1
+image_made rack desk (Err e) h made = absurd (cc h)
 
 -- a room without archives means an empty one by each number
 pub meant_empty : (shelves : List (Shelf LossyArchive)) (n : ℕ) {m : Meaning} → shelves ≡ [] → m ≡ meaning_of (archive_of shelves n) → m ≡ meaning_of None
@@ -80,17 +79,17 @@ wrote_status : (ended : Status) (wrote : Result (Unit {0}) Failed) → is_answer
 wrote_status ended (Ok u) h = answered_status ended h
 wrote_status ended (Err e) h = tt
 
-module _ (number : ℕ) (sink_told : Type 0) (before after : List ℕ) (answer : Status) where
-  generate_status : Generates number sink_told before after answer → IsGenerateStatus answer
+module _ (number : ℕ) (sink : Met (List ℕ)) (answer : Status) where
+  generate_status : Generates number sink answer → IsGenerateStatus answer
   generate_status (Told bytes ended is answered wrote writes gives) = subst IsGenerateStatus (sym gives) (wrote_status ended wrote answered)
   generate_status (Starved is same) = subst IsGenerateStatus (sym is) tt
 
   -- it fails neither for the source, the room nor the desk
-  pub generate_source : Generates number sink_told before after answer → answer ≡ status.SourceFault → ⊥
+  pub generate_source : Generates number sink answer → answer ≡ status.SourceFault → ⊥
   generate_source h e = subst IsGenerateStatus e (generate_status h)
 
-  pub generate_room : Generates number sink_told before after answer → answer ≡ status.RoomFault → ⊥
+  pub generate_room : Generates number sink answer → answer ≡ status.RoomFault → ⊥
   generate_room h e = subst IsGenerateStatus e (generate_status h)
 
-  pub generate_desk : Generates number sink_told before after answer → answer ≡ status.DeskFault → ⊥
+  pub generate_desk : Generates number sink answer → answer ≡ status.DeskFault → ⊥
   generate_desk h e = subst IsGenerateStatus e (generate_status h)

@@ -1,12 +1,14 @@
 -- Archives that are given back one by one, and those that the room does not take back.
-use Rattle.std.proofs.Common.{◌≡◌, ◌≢◌, ◌<◌, ◌≤◌, ◌⊎◌, inl, inr, ℕ, Bool, true, false, cond, List, [], ◌∷◌, length, refl, sym, ap, subst, arith, eqb}
-use Rattle.std.specs.Prelude.{Contains, Some, Result, Ok, Err, IsErr, OnOk, slice_index_or}
+use Rattle.std.proofs.Common.{◌≡◌, ◌≢◌, ◌<◌, ◌≤◌, ◌⊎◌, inl, inr, ℕ, true, false, cond, List, [], ◌∷◌, length, refl, sym, ap, subst, arith, eqb}
+use Rattle.std.specs.Prelude.{Contains, IsTrue, Some, Result, Ok, Err, IsErr, OnOk, slice_index_or}
 use Rattle.std.specs.List.{remove}
 use Rattle.std.proofs.lemmas.Bool.{cases_lt}
 use Rattle.std.proofs.lemmas.Bool.Decides.{eqb_tells}
 use Rattle.pot_bytes.proofs.Elements.{none_contained}
+use Rattle.pot_outside.specs.Accounts.{Account, met_by}
 use Rattle.pot_outside.specs.Archives.{Meaning, IsMeant}
 use Rattle.pot_outside.specs.Counts.{Rose, Caused}
+use Rattle.pot_outside.specs.Rooms.{Lending, StaysAt}
 use Rattle.pot_outside.specs.declared.archive.Shelf.{Shelf}
 use Rattle.pot_outside.specs.declared.faults.Failed.{Failed}
 use Rattle.pot_shared.proofs.Times.{one_if}
@@ -63,46 +65,45 @@ failed_none n = record { later = omega arith; counted = inl (omega arith); still
 
 -- ONE BY ONE
 
-module _ {A : Type 0} (meaning : A → Meaning) where
-  -- some of these archives are still in the hand, and the others were given back
-  pub record GivenSofar (told : Type 0) (all hand : List (Shelf A)) (out : ℕ → Bool) (means : ℕ → Meaning) (before now : ℕ) (answer : Result (Unit {0}) Failed) : Type 0 where
+module _ {A : Type 0} (archives : Account A Meaning) where
+  -- Some of these archives are still in the hand, and the others were given back. `first` is what the room meant before any was, and `room` what it means now.
+  pub record GivenSofar (all hand : List (Shelf A)) (first room : Lending) (answer : Result (Unit {0}) Failed) : Type 0 where
     pub missing : List ℕ
-    pub failed_at : FailsAt before now missing
+    pub failed_at : FailsAt first.failures room.failures missing
     pub answers : AnswersFor missing answer
-    pub each : (s : Shelf A) → Contains all s → HeldOrGiven meaning (told × (times s.number missing ≡ 0)) out means hand s
+    pub each : (s : Shelf A) → Contains all s → HeldOrGiven archives.meaning (IsTrue archives.tells × (times s.number missing ≡ 0)) room hand s
 
-  pub none_given : (told : Type 0) (all : List (Shelf A)) (out : ℕ → Bool) (means : ℕ → Meaning) (n : ℕ) → GivenSofar told all all out means n n (Ok tt)
-  none_given told all out means n = record {
+  pub none_given : (all : List (Shelf A)) (room : Lending) → GivenSofar all all room room (Ok tt)
+  none_given all room = record {
     missing = [];
-    failed_at = failed_none n;
+    failed_at = failed_none room.failures;
     answers = refl;
     each = λ s has. inl has;
   }
 
-  module _ (told : Type 0) (all hand : List (Shelf A)) (out new : ℕ → Bool) (means after : ℕ → Meaning) (before mid now p : ℕ) (x : Shelf A) (answer result : Result (Unit {0}) Failed)
-      (g : GivenSofar told all hand out means before mid answer) (l : p < length hand) (e : x ≡ slice_index_or hand p x) (was : out x.number ≡ true) (back : new x.number ≡ false)
-      (others : (n : ℕ) → n ≢ x.number → (after n ≡ means n) × (new n ≡ out n)) where
-    pub one_given : (given : Result (Unit {0}) Failed) → OnOk given (told → IsMeant (after x.number) (meaning x.archive)) → Caused mid now (IsErr given) → OnOk given (now ≡ mid)
-        → (IsErr result → IsErr answer ⊎ IsErr given) → (IsErr answer → IsErr result) → (IsErr given → IsErr result) → GivenSofar told all (remove hand p) new after before now result
-    one_given (Ok u) its cause same some first second = record {
+  module _ (all hand : List (Shelf A)) (first room new : Lending) (p : ℕ) (x : Shelf A) (answer result : Result (Unit {0}) Failed)
+      (g : GivenSofar all hand first room answer) (l : p < length hand) (e : x ≡ slice_index_or hand p x) (was : room.out x.number ≡ true) (back : new.out x.number ≡ false)
+      (others : (n : ℕ) → n ≢ x.number → StaysAt room new n) where
+    pub one_given : (given : Result (Unit {0}) Failed) → OnOk given (IsTrue archives.tells → IsMeant (new.means x.number) (archives.meaning x.archive)) → Caused room.failures new.failures (IsErr given)
+        → OnOk given (new.failures ≡ room.failures) → (IsErr result → IsErr answer ⊎ IsErr given) → (IsErr answer → IsErr result) → (IsErr given → IsErr result) → GivenSofar all (remove hand p) first new result
+    one_given (Ok u) its cause same some first_failed second_failed = record {
       missing = g.missing;
-      failed_at = failed_same before mid now g.missing g.failed_at same;
-      answers = answers_same g.missing answer (Ok u) result g.answers (λ q. cc q) some first;
-      each = λ s has. given_more meaning (told × (times s.number g.missing ≡ 0)) (told × (times s.number g.missing ≡ 0)) out new means after hand p x s l e was back (λ t. t) (λ is t. its t.0) others (g.each s has);
+      failed_at = failed_same first.failures room.failures new.failures g.missing g.failed_at same;
+      answers = answers_same g.missing answer (Ok u) result g.answers (λ q. cc q) some first_failed;
+      each = λ s has. given_more archives.meaning (IsTrue archives.tells × (times s.number g.missing ≡ 0)) (IsTrue archives.tells × (times s.number g.missing ≡ 0)) room new hand p x s l e was back (λ t. t) (λ is t. its t.0) others (g.each s has);
     }
-    one_given (Err f) its cause same some first second = record {
+    one_given (Err f) its cause same some first_failed second_failed = record {
       missing = x.number ∷ g.missing;
-      failed_at = failed_more before mid now x.number g.missing g.failed_at cause.later (cause.rose refl);
-      answers = answers_more x.number g.missing result (second refl);
-      each = λ s has. given_more meaning (told × (times s.number g.missing ≡ 0)) (told × (times s.number (x.number ∷ g.missing) ≡ 0)) out new means after hand p x s l e was back
+      failed_at = failed_more first.failures room.failures new.failures x.number g.missing g.failed_at cause.later (cause.rose refl);
+      answers = answers_more x.number g.missing result (second_failed refl);
+      each = λ s has. given_more archives.meaning (IsTrue archives.tells × (times s.number g.missing ≡ 0)) (IsTrue archives.tells × (times s.number (x.number ∷ g.missing) ≡ 0)) room new hand p x s l e was back
           (λ t. (t.0, tail_time s.number x.number g.missing t.1))
           (λ is t. absurd (own_time x.number g.missing (subst (λ (y : Shelf A). times y.number (x.number ∷ g.missing) ≡ 0) is t.1))) others (g.each s has);
     }
 
   -- all of them were
-  pub all_given : (told : Type 0) (all hand : List (Shelf A)) (out : ℕ → Bool) (means : ℕ → Meaning) (before now : ℕ) (answer : Result (Unit {0}) Failed) → GivenSofar told all hand out means before now answer → hand ≡ []
-      → GivesBack told meaning all means before now answer
-  all_given told all hand out means before now answer g none = record {
+  pub all_given : (all hand : List (Shelf A)) (first room : Lending) (answer : Result (Unit {0}) Failed) → GivenSofar all hand first room answer → hand ≡ [] → GivesBack archives all first room answer
+  all_given all hand first room answer g none = record {
     missing = g.missing;
     failed_at = g.failed_at;
     answers = g.answers;
@@ -113,29 +114,30 @@ module _ {A : Type 0} (meaning : A → Meaning) where
   }
 
 -- where the giving back failed, the room did
-pub missed : {A : Type 0} {told : Type 0} {meaning : A → Meaning} {hand : List (Shelf A)} {means : ℕ → Meaning} {before now : ℕ} (answer : Result (Unit {0}) Failed)
-    → GivesBack told meaning hand means before now answer → IsErr answer → Rose before now
+pub missed : {A : Type 0} {archives : Account A Meaning} {hand : List (Shelf A)} {old new : Lending} (answer : Result (Unit {0}) Failed)
+    → GivesBack archives hand old new answer → IsErr answer → Rose old.failures new.failures
 missed (Ok u) g e = absurd (cc e)
 missed (Err f) g e = (let some : 0 < length g.missing = g.answers in elim g.failed_at.counted [ inl a ↦ inl (omega (arith, a, some)) | inr top ↦ inr top ])
 
 -- the room failed itself, and the archives that it had given were given back
-pub is_unlent : {A : Type 0} (told : Type 0) (meaning : A → Meaning) (hand : List (Shelf A)) (meant means : ℕ → Meaning) (before worked now : ℕ) (answer : Result (Unit {0}) Failed) → Rose before worked
-    → GivesBack told meaning hand means worked now answer → (told → AreMeant meaning meant hand) → ((n : ℕ) → times n (numbers_of hand) ≡ 0 → means n ≡ meant n) → IsUnlent told meant means before now
-is_unlent {A} told meaning hand meant means before worked now answer rose g are stay = record {
-  worked = worked;
+pub is_unlent : {A : Type 0} (archives : Account A Meaning) (hand : List (Shelf A)) (first worked last : Lending) (answer : Result (Unit {0}) Failed) → Rose first.failures worked.failures
+    → GivesBack archives hand worked last answer → (IsTrue archives.tells → AreMeant archives.meaning first.means hand) → ((n : ℕ) → times n (numbers_of hand) ≡ 0 → last.means n ≡ first.means n)
+    → IsUnlent (met_by archives.tells first last)
+is_unlent {A} archives hand first worked last answer rose g are stay = record {
+  worked = worked.failures;
   rose = rose;
   missing = g.missing;
   failed_at = g.failed_at;
   others = λ t n none. elim (cases_lt 0 (times n (numbers_of hand))) [
     | inl some ↦ there t n none (find_shelf hand n (times_contains (numbers_of hand) n some))
-    | inr le ↦ subst (λ m. IsMeant (meant n) m) (sym (stay n (omega (arith, le)))) (same (meant n))
+    | inr le ↦ subst (λ m. IsMeant (first.means n) m) (sym (stay n (omega (arith, le)))) (same (first.means n))
   ];
 }
   where
     same : (m : Meaning) → IsMeant m m
     same m = record { blocks = λ k. refl; past = refl; sums = refl; faulted = refl; lost = refl }
 
-    there : told → (n : ℕ) → times n g.missing ≡ 0 → (s : Shelf A) × (shelf_of hand n ≡ Some s) × (s.number ≡ n) × Contains hand s → IsMeant (meant n) (means n)
+    there : IsTrue archives.tells → (n : ℕ) → times n g.missing ≡ 0 → (s : Shelf A) × (shelf_of hand n ≡ Some s) × (s.number ≡ n) × Contains hand s → IsMeant (first.means n) (last.means n)
     there t n none (s, is, number, has) =
-        meant_by (meant n) (means n) (meaning s.archive) (subst (λ k. IsMeant (meant k) (meaning s.archive)) number (are t s has))
-        (subst (λ k. IsMeant (means k) (meaning s.archive)) number (g.back t s has (subst (λ k. times k g.missing ≡ 0) (sym number) none)))
+        meant_by (first.means n) (last.means n) (archives.meaning s.archive) (subst (λ k. IsMeant (first.means k) (archives.meaning s.archive)) number (are t s has))
+        (subst (λ k. IsMeant (last.means k) (archives.meaning s.archive)) number (g.back t s has (subst (λ k. times k g.missing ≡ 0) (sym number) none)))

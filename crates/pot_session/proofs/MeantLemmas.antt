@@ -1,9 +1,10 @@
 -- What archives mean that are taken from a room, and given back.
-use Rattle.std.proofs.Common.{◌≡◌, ◌≢◌, ◌<◌, ◌⊎◌, inl, inr, ℕ, zero, suc, Bool, true, false, List, [], ◌∷◌, ◌++◌, length, refl, sym, ap, subst, ◌∙◌, arith}
+use Rattle.std.proofs.Common.{◌≡◌, ◌≢◌, ◌<◌, ◌⊎◌, inl, inr, ℕ, zero, suc, true, false, List, [], ◌∷◌, ◌++◌, length, refl, sym, ap, subst, ◌∙◌, arith}
 use Rattle.std.specs.Prelude.{Contains, Result, Ok, Err, IsErr, OnOk, slice_index_or}
 use Rattle.std.specs.List.{remove}
 use Rattle.std.proofs.lemmas.List.Elements.{Contains-append_cases}
 use Rattle.pot_outside.specs.Archives.{Meaning, IsMeant}
+use Rattle.pot_outside.specs.Rooms.{Lending, StaysAt}
 use Rattle.pot_outside.specs.declared.archive.Shelf.{Shelf}
 use Rattle.pot_shared.specs.Hands.{AreMeant}
 
@@ -31,18 +32,18 @@ got_ok (Err e) P p none = absurd (none refl)
 
 module _ {A : Type 0} (meaning : A → Meaning) where
   -- an archive of the hand is there still; or it was given back, and the room means it
-  abbrev pub HeldOrGiven : Type 0 → (ℕ → Bool) → (ℕ → Meaning) → List (Shelf A) → Shelf A → Type 0
-  HeldOrGiven told out means hand s = Contains hand s ⊎ ((out s.number ≡ false) × (told → IsMeant (means s.number) (meaning s.archive)))
+  abbrev pub HeldOrGiven : Type 0 → Lending → List (Shelf A) → Shelf A → Type 0
+  HeldOrGiven told room hand s = Contains hand s ⊎ ((room.out s.number ≡ false) × (told → IsMeant (room.means s.number) (meaning s.archive)))
 
-  pub given_more : (told now : Type 0) (out new : ℕ → Bool) (means after : ℕ → Meaning) (hand : List (Shelf A)) (p : ℕ) (x s : Shelf A) → p < length hand → x ≡ slice_index_or hand p x
-      → out x.number ≡ true → new x.number ≡ false → (now → told) → (s ≡ x → now → IsMeant (after x.number) (meaning x.archive))
-      → ((n : ℕ) → n ≢ x.number → (after n ≡ means n) × (new n ≡ out n)) → HeldOrGiven told out means hand s → HeldOrGiven now new after (remove hand p) s
-  given_more told now out new means after hand p x s l e was back then its others (inl c) = elim (remove_contains hand p x s l e c) [
-    | inl h ↦ inr (subst (λ (y : Shelf A). new y.number ≡ false) (sym h) back, λ t. subst (λ (y : Shelf A). IsMeant (after y.number) (meaning y.archive)) (sym h) (its h t))
+  pub given_more : (told now : Type 0) (room new : Lending) (hand : List (Shelf A)) (p : ℕ) (x s : Shelf A) → p < length hand → x ≡ slice_index_or hand p x
+      → room.out x.number ≡ true → new.out x.number ≡ false → (now → told) → (s ≡ x → now → IsMeant (new.means x.number) (meaning x.archive))
+      → ((n : ℕ) → n ≢ x.number → StaysAt room new n) → HeldOrGiven told room hand s → HeldOrGiven now new (remove hand p) s
+  given_more told now room new hand p x s l e was back then its others (inl c) = elim (remove_contains hand p x s l e c) [
+    | inl h ↦ inr (subst (λ (y : Shelf A). new.out y.number ≡ false) (sym h) back, λ t. subst (λ (y : Shelf A). IsMeant (new.means y.number) (meaning y.archive)) (sym h) (its h t))
     | inr h ↦ inl h
   ]
-  given_more told now out new means after hand p x s l e was back then its others (inr g) =
-      (let ne : s.number ≢ x.number = λ same. (let f : false ≡ true = sym g.0 ∙ (ap out same ∙ was) in cc) in
+  given_more told now room new hand p x s l e was back then its others (inr g) =
+      (let ne : s.number ≢ x.number = λ same. (let f : false ≡ true = sym g.0 ∙ (ap room.out same ∙ was) in cc) in
       let o = others s.number ne in
       inr (o.1 ∙ g.0, λ t. subst (λ m. IsMeant m (meaning s.archive)) (sym o.0) (g.1 (then t))))
 

@@ -4,6 +4,7 @@ use Rattle.std.specs.Prelude.{slice_index_or, nat_eq}
 use Rattle.std.specs.List.{remove, AllByRecursion, IsDistinct}
 use Rattle.std.proofs.lemmas.List.{take_more, take-append-drop, length-take-le, length-map, map-append}
 use Rattle.std.proofs.lemmas.Bool.Decides.{eqb_tells}
+use Rattle.pot_outside.specs.Rooms.{IsHome, Lending}
 use Rattle.pot_outside.specs.declared.archive.Shelf.{Shelf}
 use Rattle.pot_shelves.specs.Shelves.{numbers_of}
 use Rattle.pot_shared.proofs.Times.{one_if}
@@ -40,26 +41,26 @@ step_in false o p t u d e on off = (let h = off refl in rw h (omega (arith, d, e
 -- THE CALLS OF A ROOM
 
 -- none is out
-pub none_out : (out : ℕ → Bool) → ((n : ℕ) → out n ≡ false) → AreOut out []
-none_out out h n = sym (ap one_if (h n))
+pub none_out : (room : Lending) → IsHome room → AreOut room []
+none_out room h n = sym (ap one_if (h n))
 
-pub all_home : (out : ℕ → Bool) → AreOut out [] → (n : ℕ) → out n ≡ false
-all_home out h n = one_or_none (out n) (times n []) refl (h n)
+pub all_home : (room : Lending) → AreOut room [] → IsHome room
+all_home room h n = one_or_none (room.out n) (times n []) refl (h n)
 
 -- archives that are out are distinct
-pub out_apart : (out : ℕ → Bool) (ns : List ℕ) → AreOut out ns → AreApart ns
-out_apart out ns h n = (let e = h n in let l = at_most (out n) in omega (arith, e, l))
+pub out_apart : (room : Lending) (ns : List ℕ) → AreOut room ns → AreApart ns
+out_apart room ns h n = (let e = h n in let l = at_most (room.out n) in omega (arith, e, l))
   where
     at_most : (b : Bool) → one_if b ≤ 1
     at_most true = omega arith
     at_most false = omega arith
 
-pub none_out_of : (out : ℕ → Bool) (ns : List ℕ) (n : ℕ) → AreOut out ns → out n ≡ false → times n ns ≡ 0
-none_out_of out ns n h e = h n ∙ ap one_if e
+pub none_out_of : (room : Lending) (ns : List ℕ) (n : ℕ) → AreOut room ns → room.out n ≡ false → times n ns ≡ 0
+none_out_of room ns n h e = h n ∙ ap one_if e
 
 -- a number of which there is none yet is not out
-pub is_home : (out : ℕ → Bool) (ns : List ℕ) (n : ℕ) → AreOut out ns → times n ns ≡ 0 → out n ≡ false
-is_home out ns n h e = one_or_none (out n) (times n ns) e (h n)
+pub is_home : (room : Lending) (ns : List ℕ) (n : ℕ) → AreOut room ns → times n ns ≡ 0 → room.out n ≡ false
+is_home room ns n h e = one_or_none (room.out n) (times n ns) e (h n)
 
 yes_eq : (b : Bool) (m n : ℕ) → ((b ≡ true) × (m ≡ n)) ⊎ ((b ≡ false) × (m ≢ n)) → b ≡ true → m ≡ n
 yes_eq b m n (inl h) e = h.1
@@ -70,36 +71,36 @@ no_eq b m n (inl h) e = absurd (let f : true ≡ false = sym h.0 ∙ e in (cc))
 no_eq b m n (inr h) e = h.1
 
 -- one more archive was taken
-pub out_more : (out new : ℕ → Bool) (ns : List ℕ) (k : ℕ) → AreOut out ns → out k ≡ false → new k ≡ true → ((n : ℕ) → n ≢ k → new n ≡ out n) → AreOut new (ns ++ k ∷ [])
-out_more out new ns k h was now others n =
+pub out_more : (room new : Lending) (ns : List ℕ) (k : ℕ) → AreOut room ns → room.out k ≡ false → new.out k ≡ true → ((n : ℕ) → n ≢ k → new.out n ≡ room.out n) → AreOut new (ns ++ k ∷ [])
+out_more room new ns k h was now others n =
     times-append n ns (k ∷ [])
-    ∙ step_out (eqb k n) (out n) (new n) (times n ns) (h n)
-    (λ e. (let same = yes_eq (eqb k n) k n (eqb_tells k n) e in (subst (λ m. out m ≡ false) same was, subst (λ m. new m ≡ true) same now)))
+    ∙ step_out (eqb k n) (room.out n) (new.out n) (times n ns) (h n)
+    (λ e. (let same = yes_eq (eqb k n) k n (eqb_tells k n) e in (subst (λ m. room.out m ≡ false) same was, subst (λ m. new.out m ≡ true) same now)))
     (λ e. others n (λ same. no_eq (eqb k n) k n (eqb_tells k n) e (sym same)))
 
 -- a take that was refused changed nothing
-pub out_same : (out new : ℕ → Bool) (ns : List ℕ) (k : ℕ) → AreOut out ns → out k ≡ false → new k ≡ false → ((n : ℕ) → n ≢ k → new n ≡ out n) → AreOut new ns
-out_same out new ns k h was now others n = h n ∙ ap one_if (each (eqb_tells k n))
+pub out_same : (room new : Lending) (ns : List ℕ) (k : ℕ) → AreOut room ns → room.out k ≡ false → new.out k ≡ false → ((n : ℕ) → n ≢ k → new.out n ≡ room.out n) → AreOut new ns
+out_same room new ns k h was now others n = h n ∙ ap one_if (each (eqb_tells k n))
   where
-    each : ((eqb k n ≡ true) × (k ≡ n)) ⊎ ((eqb k n ≡ false) × (k ≢ n)) → out n ≡ new n
-    each (inl e) = subst (λ m. out m ≡ new m) e.1 (was ∙ sym now)
+    each : ((eqb k n ≡ true) × (k ≡ n)) ⊎ ((eqb k n ≡ false) × (k ≢ n)) → room.out n ≡ new.out n
+    each (inl e) = subst (λ m. room.out m ≡ new.out m) e.1 (was ∙ sym now)
     each (inr e) = sym (others n (λ same. e.1 (sym same)))
 
 -- an archive in the hand is out
-pub is_out : {A : Type 0} (out : ℕ → Bool) (ss : List (Shelf A)) (p : ℕ) (s : Shelf A) → AreOut out (numbers_of ss) → p < length ss → s ≡ slice_index_or ss p s → out s.number ≡ true
-is_out out ss p s h l e =
-    is_one (out s.number) (times s.number (numbers_of ss)) (h s.number)
+pub is_out : {A : Type 0} (room : Lending) (ss : List (Shelf A)) (p : ℕ) (s : Shelf A) → AreOut room (numbers_of ss) → p < length ss → s ≡ slice_index_or ss p s → room.out s.number ≡ true
+is_out room ss p s h l e =
+    is_one (room.out s.number) (times s.number (numbers_of ss)) (h s.number)
     (let r = times-removed s.number ss p s l e in let o : cond (eqb s.number s.number) 1 0 ≡ 1 = ap one_if (self_eq s.number) in omega (arith, r, o))
   where
     self_eq : (n : ℕ) → eqb n n ≡ true
     self_eq n = elim (eqb_tells n n) [ inl e ↦ e.0 | inr e ↦ absurd (e.1 refl) ]
 
 -- it was given back
-pub out_less : {A : Type 0} (out new : ℕ → Bool) (ss : List (Shelf A)) (p : ℕ) (s : Shelf A) → AreOut out (numbers_of ss) → p < length ss → s ≡ slice_index_or ss p s
-    → new s.number ≡ false → ((n : ℕ) → n ≢ s.number → new n ≡ out n) → AreOut new (numbers_of (remove ss p))
-out_less out new ss p s h l e now others n =
-    step_in (eqb s.number n) (out n) (new n) (times n (numbers_of ss)) (times n (numbers_of (remove ss p))) (times-removed n ss p s l e) (h n)
-    (λ t. subst (λ m. new m ≡ false) (yes_eq (eqb s.number n) s.number n (eqb_tells s.number n) t) now)
+pub out_less : {A : Type 0} (room new : Lending) (ss : List (Shelf A)) (p : ℕ) (s : Shelf A) → AreOut room (numbers_of ss) → p < length ss → s ≡ slice_index_or ss p s
+    → new.out s.number ≡ false → ((n : ℕ) → n ≢ s.number → new.out n ≡ room.out n) → AreOut new (numbers_of (remove ss p))
+out_less room new ss p s h l e now others n =
+    step_in (eqb s.number n) (room.out n) (new.out n) (times n (numbers_of ss)) (times n (numbers_of (remove ss p))) (times-removed n ss p s l e) (h n)
+    (λ t. subst (λ m. new.out m ≡ false) (yes_eq (eqb s.number n) s.number n (eqb_tells s.number n) t) now)
     (λ f. others n (λ same. no_eq (eqb s.number n) s.number n (eqb_tells s.number n) f (sym same)))
 
 -- a number of which there is none is not that of this shelf

@@ -1,9 +1,11 @@
 -- The blocks that are read from archives.
 use Rattle.std.proofs.Common.{◌≡◌, ◌≢◌, ◌<◌, ◌≤◌, ◌+◌, ◌-◌, ◌^◌, ◌⊎◌, inl, inr, ℕ, Bool, true, false, List, refl, sym, ap, subst, ◌∙◌, arith}
-use Rattle.std.specs.Prelude.{Some, Result, Ok, Err, IsErr, IsOk, OnOk}
+use Rattle.std.specs.Prelude.{Some, Result, Ok, Err, IsErr, IsOk, IsTrue, OnOk}
 use Rattle.std.proofs.lemmas.Bool.{cases_lt}
+use Rattle.pot_outside.specs.Accounts.{Met}
 use Rattle.pot_outside.specs.Archives.{Meaning, IsMeant}
 use Rattle.pot_outside.specs.Counts.{Caused, Rose}
+use Rattle.pot_outside.specs.Rooms.{Lending}
 use Rattle.pot_outside.specs.declared.faults.Failed.{Failed}
 use Rattle.pot_outside.proofs.LossLemmas.{loses_more}
 use Rattle.pot_doubles.proofs.CallLemmas.{rose_later}
@@ -111,17 +113,19 @@ ok_gives (Err e) P ok p = absurd (cc)
 -- FAILURES
 
 -- a read that failed at an archive which was then given back: the archive failed, or the room did
-pub why_failed : (told : Type 0) (a b d : ℕ) (given : Result (Unit {0}) Failed) (meant means old new : Meaning) → a ≤ b → Caused b d (IsErr given) → OnOk given (told → IsMeant means new)
-    → (told → IsMeant meant old) → Rose old.faults new.faults → Rose a d ⊎ (told → HasFailed meant means)
-why_failed told a b d (Ok u) meant means old new le cause back took rose =
-    inr (λ t. subst (λ k. Rose k means.faults) (took t).faulted (subst (λ k. Rose old.faults k) (back t).faulted rose))
-why_failed told a b d (Err e) meant means old new le cause back took rose = inl (rose_later a b d le (cause.rose refl))
+pub why_failed : (room : Met Lending) (middle : Lending) (number : ℕ) (given : Result (Unit {0}) Failed) (old new : Meaning) → room.before.failures ≤ middle.failures
+    → Caused middle.failures room.after.failures (IsErr given) → OnOk given (IsTrue room.tells → IsMeant (room.after.means number) new) → (IsTrue room.tells → IsMeant (room.before.means number) old)
+    → Rose old.faults new.faults → Rose room.before.failures room.after.failures ⊎ (IsTrue room.tells → HasFailed (room.before.means number) (room.after.means number))
+why_failed room middle number (Ok u) old new le cause back took rose =
+    inr (λ t. subst (λ k. Rose k (room.after.means number).faults) (took t).faulted (subst (λ k. Rose old.faults k) (back t).faulted rose))
+why_failed room middle number (Err e) old new le cause back took rose = inl (rose_later room.before.failures middle.failures room.after.failures le (cause.rose refl))
 
 -- so one of the first archives did
-pub some_failed : (told : Type 0) (archives number : ℕ) (meant middle means : ℕ → Meaning) (a b d : ℕ) → number < archives → a ≤ b → middle number ≡ meant number
-    → Rose b d ⊎ (told → HasFailed (middle number) (means number)) → Rose a d ⊎ (told → SomeFailed archives meant means)
-some_failed told archives number meant middle means a b d lt le same (inl r) = inl (rose_later a b d le r)
-some_failed told archives number meant middle means a b d lt le same (inr h) = inr (λ t. (number, lt, subst (λ m. HasFailed m (means number)) same (h t)))
+pub some_failed : (room : Met Lending) (middle : Lending) (archives number : ℕ) → number < archives → room.before.failures ≤ middle.failures → middle.means number ≡ room.before.means number
+    → Rose middle.failures room.after.failures ⊎ (IsTrue room.tells → HasFailed (middle.means number) (room.after.means number))
+    → Rose room.before.failures room.after.failures ⊎ (IsTrue room.tells → SomeFailed archives room.before room.after)
+some_failed room middle archives number lt le same (inl r) = inl (rose_later room.before.failures middle.failures room.after.failures le r)
+some_failed room middle archives number lt le same (inr h) = inr (λ t. (number, lt, subst (λ m. HasFailed m (room.after.means number)) same (h t)))
 
 -- THE WORD
 
@@ -143,8 +147,8 @@ told_is : (b : Bool) → IsRecoverStatus (told_status b)
 told_is true = tt
 told_is false = tt
 
-module _ (r : Recover) (room_told : Type 0) (meant means : ℕ → Meaning) where
-  stop_is : (s : Stop) → FindsObjects r room_told meant means (Err s) → IsRecoverStatus (status_of s)
+module _ (r : Recover) (room : Met Lending) where
+  stop_is : (s : Stop) → FindsObjects r room (Err s) → IsRecoverStatus (status_of s)
   stop_is stop.TooWide h = tt
   stop_is stop.RoomFault h = tt
   stop_is stop.NoMemory h = tt
@@ -159,8 +163,8 @@ module _ (r : Recover) (room_told : Type 0) (meant means : ℕ → Meaning) wher
   stop_is stop.Spent h = absurd h
   stop_is stop.Exists h = absurd h
 
-  module _ (sink_told : Type 0) (before after : List ℕ) (answer : Status) where
-    answered : (found : Result (List (List ℕ)) Stop) → FindsObjects r room_told meant means found → ListAnswers sink_told before after found answer → IsRecoverStatus answer
+  module _ (sink : Met (List ℕ)) (answer : Status) where
+    answered : (found : Result (List (List ℕ)) Stop) → FindsObjects r room found → ListAnswers sink found answer → IsRecoverStatus answer
     answered (Ok objects) f (inl a) = subst IsRecoverStatus (sym a.0) (told_is (has_partial objects))
     answered (Ok objects) f (inr (inl e, w)) = subst IsRecoverStatus (sym e) tt
     answered (Ok objects) f (inr (inr e, w)) = subst IsRecoverStatus (sym e) tt
@@ -169,8 +173,8 @@ module _ (r : Recover) (room_told : Type 0) (meant means : ℕ → Meaning) wher
     answered (Err s) f (inr (inr a)) = subst IsRecoverStatus (sym a.0) tt
 
     -- recovery fails neither for the source nor for the desk
-    pub recover_source : Recovers r room_told meant means sink_told before after answer → answer ≡ status.SourceFault → ⊥
+    pub recover_source : Recovers r room sink answer → answer ≡ status.SourceFault → ⊥
     recover_source h e = subst IsRecoverStatus e (answered h.found h.is h.answers)
 
-    pub recover_desk : Recovers r room_told meant means sink_told before after answer → answer ≡ status.DeskFault → ⊥
+    pub recover_desk : Recovers r room sink answer → answer ≡ status.DeskFault → ⊥
     recover_desk h e = subst IsRecoverStatus e (answered h.found h.is h.answers)

@@ -1,9 +1,10 @@
 -- The steps of a script before `quit`.
 use Rattle.std.proofs.Common.{◌≡◌, ◌<◌, ◌≤◌, ◌-◌, ◌++◌, ◌^◌, ℕ, List, [], ◌∷◌, length, take, ap, sym, subst, ◌∙◌, arith, length-append}
-use Rattle.std.specs.Prelude.{None, flat_map}
+use Rattle.std.specs.Prelude.{None, flat_map, IsTrue}
 use Rattle.std.specs.List.{AllByRecursion}
 use Rattle.std.proofs.Math.Seq.{take-append_seam}
 use Rattle.pot_bytes.specs.declared.rack.Rack.{Rack}
+use Rattle.pot_outside.specs.Accounts.{Met}
 use Rattle.pot_script.specs.declared.command.Command.{Command}
 use Rattle.pot_script.specs.declared.command.Command.TheVariants as command
 use Rattle.pot_script.specs.declared.grouping.Step.{Step}
@@ -58,9 +59,9 @@ module _ (rack : Rack) (bytes : List ℕ) (front cs : List Command) (s : IsScrip
   steps_closed = subst (λ l. after_commands None l ≡ None) (sym same) s.closed
 
 -- the steps of a script that was read
-pub is_read : (rack : Rack) (told : Type 0) (input bytes : List ℕ) (cs : List Command) (ss : List Step) → (told → input ≡ bytes) → (s : IsScript rack bytes cs)
-    → flat_map spread ss ≡ s.steps → AllByRecursion (IsWholeStep rack) ss → IsRead rack told input ss
-is_read rack told input bytes cs ss read s spelled whole =
+pub is_read : (rack : Rack) (source : Met (List ℕ)) (bytes : List ℕ) (cs : List Command) (ss : List Step) → (IsTrue source.tells → source.before ≡ bytes) → (s : IsScript rack bytes cs)
+    → flat_map spread ss ≡ s.steps → AllByRecursion (IsWholeStep rack) ss → IsRead rack source ss
+is_read rack source bytes cs ss read s spelled whole =
     let ended : cs ≡ flat_map spread ss ++ command.Quit ∷ [] = s.ended ∙ ap (λ l. l ++ command.Quit ∷ []) (sym spelled) in
     record {
       bytes = bytes;

@@ -1,8 +1,10 @@
 -- What passes know after steps, and how a session ends.
 use Rattle.std.proofs.Common.{◌≡◌, ◌<◌, ◌++◌, ◌⊎◌, inl, inr, ℕ, zero, suc, Bool, true, false, cond, List, [], ◌∷◌, length, refl, sym, ap, subst, ◌∙◌, arith}
-use Rattle.std.specs.Prelude.{All, Contains, Option, Some, IfSome, Result, Ok, Err, IsErrOf, slice_index_or, flat_map}
+use Rattle.std.specs.Prelude.{All, Contains, IsTrue, Option, Some, IfSome, Result, Ok, Err, IsErrOf, slice_index_or, flat_map}
 use Rattle.pot_bytes.specs.declared.rack.Rack.{Rack}
 use Rattle.pot_bytes.specs.declared.rack.Place.{Place}
+use Rattle.pot_outside.specs.Accounts.{Content, Met}
+use Rattle.pot_outside.specs.Rooms.{Lending}
 use Rattle.pot_index.specs.declared.record.Record.{Record}
 use Rattle.pot_index.specs.declared.record.Split.{Split}
 use Rattle.pot_index.specs.Records.{current_of, splits_of}
@@ -14,6 +16,7 @@ use Rattle.pot_machine.specs.Table.{Table, slot_at}
 use Rattle.pot_machine.specs.Making.{empty_table}
 use Rattle.pot_script.specs.declared.grouping.Step.{Step}
 use Rattle.pot_image.specs.Images.{Contents}
+use Rattle.pot_image.specs.Spelling.{image_bytes}
 use Rattle.pot_turn.specs.declared.name.TurnName.{TurnName}
 use Rattle.pot_turn.specs.Views.{spent_view}
 use Rattle.pot_rows.specs.Rows.{HasMoreParts, PassRow, view_at}
@@ -37,7 +40,7 @@ use Rattle.pot_session.specs.declared.ending.stop.Stop.TheVariants as stop
 use Rattle.pot_shared.specs.Groups.{AreFirstPasses, IsFirstTable, table_read, tables_read, records_read}
 use Rattle.pot_shared.proofs.Lists.{at_same}
 use Rattle.pot_session.proofs.LossLemmas.{lost_where_few}
-use Rattle.pot_session.specs.Serving.{Desks, Rooms, Serves, Closed, Closes, IsCloseStop, IsEnd, OthersStay, setting_of, status_after}
+use Rattle.pot_session.specs.Serving.{Serves, Closed, Closes, IsCloseStop, IsEnd, OthersStay, setting_of, status_after}
 
 -- THE TABLES
 
@@ -140,16 +143,16 @@ all_parts row h at l = (let p = h at l in omega (arith, p))
 -- THE END
 
 -- a session that worked its steps and closed
-pub serves_closed : (seed : List ℕ) (first : Contents) (steps : List Step) (rooms : Rooms) (sink_told : Type 0) (before after : List ℕ) (desk : Desks) (held : Type 0) (rack : Rack) (session : ℕ) (old new : Known)
+pub serves_closed : (seed : List ℕ) (first : Contents) (steps : List Step) (room : Met Lending) (sink : Met (List ℕ)) (desk : Met (Content (Option (List ℕ)))) (rack : Rack) (session : ℕ) (old new : Known)
     (e : Ending) (worked : ℕ) (closed : Result (Unit {0}) Stop) (answer : Status) → AreFirstPasses old.groups old.index → tables_read old.groups ≡ first.tables → records_read old.index ≡ first.records → rack ≡ first.rack
-    → session ≡ first.session → Ends rack seed session sink_told before after steps old new e → Fails rooms.failed worked (e ≡ ending.RoomFailed) → (closes : Closes old new rooms worked held desk first closed)
-    → (desk.told → held) → (rooms.told → (e ≡ ending.RoomFailed → ⊥) → OthersStay first.tables closes.last.group_logs rooms.meant rooms.means)
-    → answer ≡ status_after e closed → FitsTogether first → Serves seed first steps rooms sink_told before after desk answer
-serves_closed seed first steps rooms sink_told before after desk held rack session old new e worked closed answer opened tables records same number ends fails closes kept others status fits = Closed (record {
+    → session ≡ first.session → Ends rack seed session sink steps old new e → Fails room.before.failures worked (e ≡ ending.RoomFailed) → (closes : Closes old new room worked desk first closed)
+    → (IsTrue desk.tells → desk.before.held ≡ Some (image_bytes first)) → (IsTrue room.tells → (e ≡ ending.RoomFailed → ⊥) → OthersStay first.tables closes.last.group_logs room.before.means room.after.means)
+    → answer ≡ status_after e closed → FitsTogether first → Serves seed first steps room sink desk answer
+serves_closed seed first steps room sink desk rack session old new e worked closed answer opened tables records same number ends fails closes kept others status fits = Closed (record {
   last = closes.last;
   story = section_of old new;
   ending = e;
-  ends = ends_over rack seed session sink_told before after steps old new e ends closes.sole (setting_of seed first)
+  ends = ends_over rack seed session sink steps old new e ends closes.sole (setting_of seed first)
       (subst (λ r. IsSessionSetting (setting_of seed first) r seed session old) (sym same) (subst (λ n. IsSessionSetting (setting_of seed first) first.rack seed n old) (sym number)
       (session_setting seed first old.groups old.index fits opened tables records)));
   worked = worked;
@@ -158,7 +161,7 @@ serves_closed seed first steps rooms sink_told before after desk held rack sessi
   failed_at = closes.failed_at;
   leaves = closes.leaves;
   others = others;
-  lost = λ told back none. lost_where_few rooms.told seed first closes.last rooms.meant rooms.means closes.missing told fits closes.leaves.groups back none;
+  lost = λ told back none. lost_where_few (IsTrue room.tells) seed first closes.last room.before.means room.after.means closes.missing told fits closes.leaves.groups back none;
   kept = closes.kept;
   keeps = closes.keeps kept;
   status = status ∙ ap (λ r. status_after e r) closes.is;

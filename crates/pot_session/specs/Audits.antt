@@ -1,8 +1,10 @@
 -- An audit: how many points of each piece of each file of a desk are exposed to a coalition.
 use Rattle.std.specs.Prelude.{◌≡◌, ◌⊎◌, ◌++◌, ◌+◌, ◌&&◌, ℕ, Bool, true, false, nat_le, nat_lt, List}
-use Rattle.std.specs.Prelude.{Option, Result, Ok, Err, All, codes, flat_map, map, take}
+use Rattle.std.specs.Prelude.{Option, Result, Ok, Err, All, codes, flat_map, map, take, IsTrue}
 use Rattle.std.specs.List.{list_all, list_any}
 use Rattle.pot_bytes.specs.declared.rack.Rack.{Rack}
+use Rattle.pot_outside.specs.Accounts.{Met}
+use Rattle.pot_commands.specs.Streams.{Wrote}
 use Rattle.pot_script.specs.Replies.{spaced}
 use Rattle.pot_index.specs.declared.record.Record.{Record}
 use Rattle.pot_image.specs.declared.image.Image.{Image}
@@ -18,7 +20,7 @@ use Rattle.pot_session.specs.declared.ending.status.Status.TheVariants as status
 use Rattle.pot_session.specs.declared.ending.stop.Stop.{Stop}
 use Rattle.pot_session.specs.declared.ending.stop.Stop.TheVariants as stop
 use Rattle.pot_session.specs.Desks.{HoldsImage, IsImageStop, RefusesDesk}
-use Rattle.pot_session.specs.Listing.{IsBegun}
+use Rattle.pot_session.specs.Listing.{Began}
 use Rattle.pot_session.specs.Stops.{Refuses}
 use Rattle.pot_session.specs.Telling.{told_status}
 
@@ -79,34 +81,29 @@ has_bare all = list_any (λ (a : Audited). list_any is_bare a.veils) all
 
 -- The lines of all records were written, and it is answered whether some piece is bare; or the sink
 -- failed or memory ran out, and some first bytes were written of the lines of some first records.
-abbrev pub PutsAudit : Type 0 → List ℕ → List ℕ → Rack → List Spot → List Record
-    → Result Bool ListFault → Type 0
-PutsAudit told before after rack spots records (Ok bare) =
+abbrev pub PutsAudit : Met (List ℕ) → Rack → List Spot → List Record → Result Bool ListFault
+    → Type 0
+PutsAudit sink rack spots records (Ok bare) =
     (all : List Audited) × AreAudited rack spots records all × (bare ≡ has_bare all)
-    × (told → after ≡ before ++ audit_text all)
-PutsAudit told before after rack spots records (Err e) =
+    × Wrote sink (audit_text all)
+PutsAudit sink rack spots records (Err e) =
     (n : ℕ) × (all : List Audited) × AreAudited rack spots (take n records) all
-    × (told → IsBegun before after (audit_text all))
+    × Began sink (audit_text all)
 
 -- and so the answer
-abbrev pub AuditAnswers : Type 0 → List ℕ → List ℕ → Rack → List Spot → List Record → Status
-    → Type 0
-AuditAnswers told before after rack spots records answer =
-    ((bare : Bool) × PutsAudit told before after rack spots records (Ok bare)
-    × (answer ≡ told_status bare))
-    ⊎ ((e : ListFault) × PutsAudit told before after rack spots records (Err e)
+abbrev pub AuditAnswers : Met (List ℕ) → Rack → List Spot → List Record → Status → Type 0
+AuditAnswers sink rack spots records answer =
+    ((bare : Bool) × PutsAudit sink rack spots records (Ok bare) × (answer ≡ told_status bare))
+    ⊎ ((e : ListFault) × PutsAudit sink rack spots records (Err e)
     × ((answer ≡ status.SinkFault) ⊎ (answer ≡ status.NoMemory)))
 
 -- What `audit` comes to. The desk has no image; or it has one whose rack lacks a column that the
 -- words name, and the words are refused; or the audit of its records is told.
-pub data Audits (a : Audit) (desk_told : Type 0) (held : Option (List ℕ)) (sink_told : Type 0)
-    (before after : List ℕ) (answer : Status) : Type 0 where
-  Stopped : (s : Stop) → IsImageStop s → (desk_told → RefusesDesk held s)
-      → Refuses sink_told before after s answer
-      → Audits a desk_told held sink_told before after answer
-  Outside : (i : Image) → (desk_told → HoldsImage held i) → are_of i.rack a ≡ false
-      → Refuses sink_told before after stop.Words answer
-      → Audits a desk_told held sink_told before after answer
-  Told : (i : Image) → (desk_told → HoldsImage held i) → are_of i.rack a ≡ true
-      → AuditAnswers sink_told before after i.rack (spots_of a) i.records.items answer
-      → Audits a desk_told held sink_told before after answer
+pub data Audits (a : Audit) (desk : Met (Option (List ℕ))) (sink : Met (List ℕ))
+    (answer : Status) : Type 0 where
+  Stopped : (s : Stop) → IsImageStop s → (IsTrue desk.tells → RefusesDesk desk.before s)
+      → Refuses sink s answer → Audits a desk sink answer
+  Outside : (i : Image) → (IsTrue desk.tells → HoldsImage desk.before i) → are_of i.rack a ≡ false
+      → Refuses sink stop.Words answer → Audits a desk sink answer
+  Told : (i : Image) → (IsTrue desk.tells → HoldsImage desk.before i) → are_of i.rack a ≡ true
+      → AuditAnswers sink i.rack (spots_of a) i.records.items answer → Audits a desk sink answer

@@ -1,8 +1,9 @@
 -- What a call of the program comes to, by the words, the bytes of the source, what the sink got,
 -- what the desk held and holds, and what the room meant and means.
-use Rattle.std.specs.Prelude.{◌≡◌, ◌⊎◌, ℕ, List}
-use Rattle.pot_outside.specs.Archives.{Meaning}
+use Rattle.std.specs.Prelude.{◌≡◌, ◌⊎◌, ℕ, List, IsTrue}
+use Rattle.pot_outside.specs.Accounts.{Met, Stays, held_in}
 use Rattle.pot_outside.specs.Counts.{Rose}
+use Rattle.pot_outside.specs.Rooms.{Lending, MeansStay}
 use Rattle.pot_bytes.specs.declared.rack.Rack.{Rack}
 use Rattle.pot_options.specs.Options.{Text}
 use Rattle.pot_words.specs.Tasks.{SpellTask}
@@ -21,7 +22,7 @@ use Rattle.pot_session.specs.Recovering.{Recovers, SomeFailed}
 use Rattle.pot_session.specs.Stops.{Refuses}
 use Rattle.pot_session.specs.Tasks.{AsksNothing, seed_of}
 use Rattle.pot_session.specs.Generating.{Generates}
-use Rattle.pot_session.specs.Runs.{Seen, Unread, SameDesk, SameRoom, Holds}
+use Rattle.pot_session.specs.Runs.{Seen, Holds}
 
 -- The words spell no task; or memory ran out over them; or they spell `init`; and the source was
 -- not read. Or they spell `run` or `drill`, each with the seed that the words give, or else the
@@ -29,34 +30,32 @@ use Rattle.pot_session.specs.Runs.{Seen, Unread, SameDesk, SameRoom, Holds}
 -- and nothing but the desk was read. Or they spell `generate`, and nothing but the sink was
 -- touched.
 pub data Runs (words : List Text) (drawn : List ℕ) (seen : Seen) (answer : Status) : Type 0 where
-  Nothing : AsksNothing words → Unread seen
-      → Refuses seen.sink_told seen.before seen.after stop.Words answer → SameDesk seen
-      → SameRoom seen → Runs words drawn seen answer
-  Short : answer ≡ status.NoMemory → Unread seen → (seen.sink_told → seen.after ≡ seen.before)
-      → SameDesk seen → SameRoom seen → Runs words drawn seen answer
-  Makes : (rack : Rack) → SpellTask words (task.Init rack) → Unread seen
-      → Inits rack seen.desk_told seen.held seen.holds seen.sink_told seen.before seen.after answer
-      → SameRoom seen → Runs words drawn seen answer
+  Nothing : AsksNothing words → Stays seen.source → Refuses seen.sink stop.Words answer
+      → Stays (held_in seen.desk) → MeansStay seen.room → Runs words drawn seen answer
+  Short : answer ≡ status.NoMemory → Stays seen.source → Stays seen.sink
+      → Stays (held_in seen.desk) → MeansStay seen.room → Runs words drawn seen answer
+  Makes : (rack : Rack) → SpellTask words (task.Init rack) → Stays seen.source
+      → Inits rack (held_in seen.desk) seen.sink answer → MeansStay seen.room
+      → Runs words drawn seen answer
   Session : (run : Run) → SpellTask words (task.Run run) → Holds (seed_of run drawn) seen answer
       → Runs words drawn seen answer
   Drilling : (d : Drill) → SpellTask words (task.Drill d)
-      → Drills d drawn seen.source_told seen.input seen.rest seen.sink_told seen.before seen.after
-      answer
-      → SameDesk seen → SameRoom seen → Runs words drawn seen answer
-  Recovering : (r : Recover) → SpellTask words (task.Recover r) → Unread seen
-      → Recovers r seen.room_told seen.meant seen.means seen.sink_told seen.before seen.after answer
-      → SameDesk seen → Runs words drawn seen answer
-  Auditing : (a : Audit) → SpellTask words (task.Audit a) → Unread seen
-      → Audits a seen.desk_told seen.held seen.sink_told seen.before seen.after answer
-      → SameDesk seen → SameRoom seen → Runs words drawn seen answer
-  Generating : (n : ℕ) → SpellTask words (task.Generate n) → Unread seen
-      → Generates n seen.sink_told seen.before seen.after answer → SameDesk seen → SameRoom seen
+      → Drills d drawn seen.source seen.sink answer → Stays (held_in seen.desk)
+      → MeansStay seen.room → Runs words drawn seen answer
+  Recovering : (r : Recover) → SpellTask words (task.Recover r) → Stays seen.source
+      → Recovers r seen.room seen.sink answer → Stays (held_in seen.desk)
+      → Runs words drawn seen answer
+  Auditing : (a : Audit) → SpellTask words (task.Audit a) → Stays seen.source
+      → Audits a (held_in seen.desk) seen.sink answer → Stays (held_in seen.desk)
+      → MeansStay seen.room → Runs words drawn seen answer
+  Generating : (n : ℕ) → SpellTask words (task.Generate n) → Stays seen.source
+      → Generates n seen.sink answer → Stays (held_in seen.desk) → MeansStay seen.room
       → Runs words drawn seen answer
 
 -- Why a call fails at the room: the room failed itself, and not an archive that it lent; or the
 -- words spell `recover`, and one of the archives that it read failed, by what the room means of it.
-abbrev pub RoomFails : List Text → Type 0 → (ℕ → Meaning) → (ℕ → Meaning) → ℕ → ℕ → Type 0
-RoomFails words told meant means failed fails =
-    Rose failed fails
+abbrev pub RoomFails : List Text → Met Lending → Type 0
+RoomFails words room =
+    Rose room.before.failures room.after.failures
     ⊎ ((r : Recover) × SpellTask words (task.Recover r)
-    × (told → SomeFailed r.archives meant means))
+    × (IsTrue room.tells → SomeFailed r.archives room.before room.after))

@@ -1,7 +1,8 @@
 -- The steps of a script that was read, and why there are none.
-use Rattle.std.specs.Prelude.{◌≡◌, ◌<◌, ◌^◌, ◌++◌, ℕ, List, [], ◌∷◌, length}
+use Rattle.std.specs.Prelude.{◌≡◌, ◌<◌, ◌^◌, ◌++◌, ℕ, List, [], ◌∷◌, length, IsTrue}
 use Rattle.std.specs.List.{AllByRecursion, flat_map}
 use Rattle.pot_bytes.specs.declared.rack.Rack.{Rack}
+use Rattle.pot_outside.specs.Accounts.{Met}
 use Rattle.pot_script.specs.declared.command.Command.TheVariants as command
 use Rattle.pot_script.specs.declared.grouping.Step.{Step}
 use Rattle.pot_script.specs.Scripts.{IsScript, LeavesAt}
@@ -11,16 +12,17 @@ use Rattle.pot_session.specs.declared.ending.stop.Stop.TheVariants as stop
 
 -- These are the steps before `quit` of a script whose bytes the source had, where it tells them. It
 -- has fewer than 2^31 lines.
-pub record IsRead (rack : Rack) (told : Type 0) (input : List ℕ) (ss : List Step) : Type 0 where
+pub record IsRead (rack : Rack) (source : Met (List ℕ)) (ss : List Step) : Type 0 where
   pub bytes : List ℕ
-  pub read : told → input ≡ bytes
+  pub read : IsTrue source.tells → source.before ≡ bytes
   pub script : IsScript rack bytes (flat_map spread ss ++ command.Quit ∷ [])
   pub few : length (flat_map spread ss) < 2 ^ 31
   pub goes_on : AllByRecursion (IsWholeStep rack) ss
 
 -- why there are no steps
-abbrev pub RefusesScript : Rack → Type 0 → List ℕ → Stop → Type 0
-RefusesScript rack told input (stop.BadLine number) = told → LeavesAt rack input number
-RefusesScript rack told input stop.SourceFault = Unit {0}
-RefusesScript rack told input stop.NoMemory = Unit {0}
-RefusesScript rack told input _ = ⊥
+abbrev pub RefusesScript : Rack → Met (List ℕ) → Stop → Type 0
+RefusesScript rack source (stop.BadLine number) =
+    IsTrue source.tells → LeavesAt rack source.before number
+RefusesScript rack source stop.SourceFault = Unit {0}
+RefusesScript rack source stop.NoMemory = Unit {0}
+RefusesScript rack source _ = ⊥

@@ -1,6 +1,7 @@
 -- What a session reads from its desk and writes there.
 use Rattle.std.specs.Prelude.{◌≡◌, ◌<◌, ◌+◌, ◌-◌, ◌^◌, ℕ, List, [], Option, Some, None, Result, Ok}
-use Rattle.std.specs.Prelude.{Err, replicate}
+use Rattle.std.specs.Prelude.{Err, replicate, IsTrue}
+use Rattle.pot_outside.specs.Accounts.{Met}
 use Rattle.pot_outside.specs.Failing.{MayLeave}
 use Rattle.pot_image.specs.declared.image.Image.{Image}
 use Rattle.pot_image.specs.declared.fault.ImageFault.TheVariants as faults
@@ -51,10 +52,10 @@ IsDeskStop stop.DeskFault = Unit {0}
 IsDeskStop stop.NoMemory = Unit {0}
 IsDeskStop _ = ⊥
 
--- The desk's image was read, or it is said why not. `told` is whether the desk tells its image.
-abbrev pub OpensDesk : Type 0 → Option (List ℕ) → Result Image Stop → Type 0
-OpensDesk told held (Ok i) = GoesOn i × (told → HoldsImage held i)
-OpensDesk told held (Err s) = told → RefusesDesk held s
+-- The desk's image was read, or it is said why not.
+abbrev pub OpensDesk : Met (Option (List ℕ)) → Result Image Stop → Type 0
+OpensDesk desk (Ok i) = GoesOn i × (IsTrue desk.tells → HoldsImage desk.before i)
+OpensDesk desk (Err s) = IsTrue desk.tells → RefusesDesk desk.before s
 
 -- why no image was read, whatever its session
 abbrev pub IsImageStop : Stop → Type 0
@@ -67,9 +68,9 @@ IsImageIn bytes (Ok i) = AnswersImage bytes (Ok i)
 IsImageIn bytes (Err s) = RefusesBytes bytes s
 
 -- The desk's image was read, whatever its session, or it is said why not.
-abbrev pub ReadsDesk : Type 0 → Option (List ℕ) → Result Image Stop → Type 0
-ReadsDesk told held (Ok i) = told → HoldsImage held i
-ReadsDesk told held (Err s) = told → RefusesDesk held s
+abbrev pub ReadsDesk : Met (Option (List ℕ)) → Result Image Stop → Type 0
+ReadsDesk desk (Ok i) = IsTrue desk.tells → HoldsImage desk.before i
+ReadsDesk desk (Err s) = IsTrue desk.tells → RefusesDesk desk.before s
 
 -- WHAT IS WRITTEN
 
@@ -92,8 +93,8 @@ IsKeepStop _ = ⊥
 
 -- The desk holds these bytes now. Where it failed it holds them, what it held before or nothing,
 -- and for want of memory what it held before.
-abbrev pub Keeps : Option (List ℕ) → Option (List ℕ) → List ℕ → Result (Unit {0}) Stop → Type 0
-Keeps before after bytes (Ok u) = after ≡ Some bytes
-Keeps before after bytes (Err stop.DeskFault) = MayLeave before bytes after
-Keeps before after bytes (Err stop.NoMemory) = after ≡ before
-Keeps before after bytes (Err _) = ⊥
+abbrev pub Keeps : Met (Option (List ℕ)) → List ℕ → Result (Unit {0}) Stop → Type 0
+Keeps desk bytes (Ok u) = desk.after ≡ Some bytes
+Keeps desk bytes (Err stop.DeskFault) = MayLeave desk.before bytes desk.after
+Keeps desk bytes (Err stop.NoMemory) = desk.after ≡ desk.before
+Keeps desk bytes (Err _) = ⊥

@@ -1,8 +1,9 @@
 -- A drill: two files of one length, and what is told of them.
 use Rattle.std.specs.Prelude.{◌≡◌, ◌≤◌, ◌-◌, ◌++◌, ℕ, true, false, List, [], ◌∷◌, Result, Ok, Err}
-use Rattle.std.specs.Prelude.{OnOk, codes, decimal, length, unwrap_or}
+use Rattle.std.specs.Prelude.{OnOk, codes, decimal, length, unwrap_or, IsTrue}
 use Rattle.pot_bytes.specs.Rack.{IsGeometry}
 use Rattle.pot_bytes.specs.declared.rack.Geometry.{Geometry}
+use Rattle.pot_outside.specs.Accounts.{Met}
 use Rattle.pot_object.specs.Pieces.{longest, pieces_of}
 use Rattle.pot_pads.specs.Pads.{pads_of, next_bytes}
 use Rattle.pot_script.specs.Replies.{spaced, in_hex}
@@ -77,22 +78,23 @@ pub data DrillsTo (d : Drill) (seed file other : List ℕ) (t : Telling) : Type 
 -- THE WHOLE
 
 -- The source has two files, of which this is told; or it has no two files; or it failed, or memory
--- ran out. `told` is whether the source tells its bytes.
-abbrev pub Drilled : Drill → List ℕ → Type 0 → List ℕ → Result Telling Stop → Type 0
-Drilled d seed told input (Ok t) =
-    (file : List ℕ) × (other : List ℕ) × (told → ArePair input file other)
+-- ran out.
+abbrev pub Drilled : Drill → List ℕ → Met (List ℕ) → Result Telling Stop → Type 0
+Drilled d seed source (Ok t) =
+    (file : List ℕ) × (other : List ℕ) × (IsTrue source.tells → ArePair source.before file other)
     × DrillsTo d seed file other t
-Drilled d seed told input (Err (stop.BadLine number)) = (number ≡ 0) × (told → IsNoPair input)
-Drilled d seed told input (Err stop.SourceFault) = Unit {0}
-Drilled d seed told input (Err stop.NoMemory) = Unit {0}
-Drilled d seed told input (Err _) = ⊥
+Drilled d seed source (Err (stop.BadLine number)) =
+    (number ≡ 0) × (IsTrue source.tells → IsNoPair source.before)
+Drilled d seed source (Err stop.SourceFault) = Unit {0}
+Drilled d seed source (Err stop.NoMemory) = Unit {0}
+Drilled d seed source (Err _) = ⊥
 
 -- What `drill` comes to, and what it leaves of the source: nothing behind two files. Where the
 -- words give no seed it is the drawn one.
-pub record Drills (d : Drill) (drawn : List ℕ) (source_told : Type 0) (input rest : List ℕ)
-    (sink_told : Type 0) (before after : List ℕ) (answer : Status) : Type 0 where
+pub record Drills (d : Drill) (drawn : List ℕ) (source sink : Met (List ℕ))
+    (answer : Status) : Type 0 where
   pub made : Result Telling Stop
-  pub is : Drilled d (unwrap_or d.seed drawn) source_told input made
-  pub read : source_told → ReadsAtMost read_most input rest
-  pub whole : source_told → OnOk made (rest ≡ [])
-  pub answers : WordAnswers sink_told before after made answer
+  pub is : Drilled d (unwrap_or d.seed drawn) source made
+  pub read : IsTrue source.tells → ReadsAtMost read_most source
+  pub whole : IsTrue source.tells → OnOk made (source.after ≡ [])
+  pub answers : WordAnswers sink made answer

@@ -1,9 +1,11 @@
 -- The generator: the script of a number, worked by a session over new archives in memory.
-use Rattle.std.specs.Prelude.{◌≡◌, ◌<◌, ◌+◌, ◌*◌, ◌++◌, ℕ, Bool, true, false, IsTrue, List, []}
+use Rattle.std.specs.Prelude.{◌≡◌, ◌<◌, ◌+◌, ◌*◌, ◌++◌, ℕ, Bool, true, false, List, []}
 use Rattle.std.specs.Prelude.{Option, Some, None, Result, Ok, Err, codes}
 use Rattle.std.specs.List.{count_by}
 use Rattle.pot_bytes.specs.Digests.{digest_bytes}
+use Rattle.pot_outside.specs.Accounts.{Content, Met, Stays, met_by}
 use Rattle.pot_outside.specs.Archives.{Meaning}
+use Rattle.pot_outside.specs.Rooms.{Lending}
 use Rattle.pot_outside.specs.declared.faults.Failed.{Failed}
 use Rattle.pot_doubles.specs.Rooms.{meaning_of}
 use Rattle.pot_generator.specs.Generated.{generated}
@@ -11,7 +13,7 @@ use Rattle.pot_generator.specs.Runs.{is_replied, rack_of_runs, seed_of}
 use Rattle.pot_image.specs.Spelling.{image_bytes}
 use Rattle.pot_script.specs.Replies.{in_hex, spaced}
 use Rattle.pot_script.specs.Scripts.{script_text}
-use Rattle.pot_commands.specs.Streams.{IsWritten}
+use Rattle.pot_commands.specs.Streams.{Writes}
 use Rattle.pot_session.specs.declared.ending.status.Status.{Status}
 use Rattle.pot_session.specs.declared.ending.status.Status.TheVariants as status
 use Rattle.pot_session.specs.Making.{empty_contents}
@@ -30,19 +32,18 @@ AreSound means = (n : ℕ) → n < archives_of_runs → (means n).faults ≡ 0
 -- of an archive failed.
 pub record IsGenerated (number : ℕ) (bytes : List ℕ) (ended : Status) : Type 0 where
   pub rest : List ℕ
-  pub holds : Option (List ℕ)
-  pub meant : ℕ → Meaning
-  pub means : ℕ → Meaning
-  pub fails : ℕ
-  pub desk_failed : ℕ
-  pub desk_fails : ℕ
-  pub empty : (n : ℕ) → meant n ≡ meaning_of None
-  pub sound : AreSound means
+  pub desk : Content (Option (List ℕ))
+  pub leaves : Content (Option (List ℕ))
+  pub room : Lending
+  pub lends : Lending
+  pub begun : desk.held ≡ Some (image_bytes (empty_contents rack_of_runs))
+  pub empty : (n : ℕ) → room.means n ≡ meaning_of None
+  pub unfailed : room.failures ≡ 0
+  pub sound : AreSound lends.means
   pub session : Holds (seed_of number)
-      (seen_by (IsTrue true) (script_text (generated number)) rest (IsTrue true) [] bytes
-      (IsTrue true)
-      (Some (image_bytes (empty_contents rack_of_runs))) holds (IsTrue true) meant means 0 fails
-      desk_failed desk_fails)
+      (seen_by (met_by true (script_text (generated number)) rest)
+      (met_by true [] bytes) (met_by true desk leaves)
+      (met_by true room lends))
       ended
 
 -- all commands of such a session were answered
@@ -64,12 +65,10 @@ answer_of ended (Ok u) = ended
 answer_of ended (Err e) = status.SinkFault
 
 -- Such a session was held, and its summary was written; or memory ran out, and nothing was.
-pub data Generates (number : ℕ) (sink_told : Type 0) (before after : List ℕ)
-    (answer : Status) : Type 0 where
+pub data Generates (number : ℕ) (sink : Met (List ℕ)) (answer : Status) : Type 0 where
   Told : (bytes : List ℕ) (ended : Status) → IsGenerated number bytes ended
       → is_answered ended ≡ true
       → (wrote : Result (Unit {0}) Failed)
-      → (sink_told → IsWritten before after (summary number bytes) wrote)
-      → answer ≡ answer_of ended wrote → Generates number sink_told before after answer
-  Starved : answer ≡ status.NoMemory → (sink_told → after ≡ before)
-      → Generates number sink_told before after answer
+      → Writes sink (summary number bytes) wrote
+      → answer ≡ answer_of ended wrote → Generates number sink answer
+  Starved : answer ≡ status.NoMemory → Stays sink → Generates number sink answer

@@ -1,8 +1,10 @@
 -- Archives that are given back to a room, and those that it does not take back.
 use Rattle.std.specs.Prelude.{◌≡◌, ◌⊎◌, ◌<◌, ◌≤◌, ◌+◌, ◌-◌, ◌^◌, ℕ, List, [], Result, Ok, Err}
-use Rattle.std.specs.Prelude.{Contains, length}
+use Rattle.std.specs.Prelude.{Contains, IsTrue, length}
+use Rattle.pot_outside.specs.Accounts.{Account, Met}
 use Rattle.pot_outside.specs.Archives.{Meaning, IsMeant}
 use Rattle.pot_outside.specs.Counts.{Rose}
+use Rattle.pot_outside.specs.Rooms.{Lending}
 use Rattle.pot_outside.specs.declared.archive.Shelf.{Shelf}
 use Rattle.pot_outside.specs.declared.faults.Failed.{Failed}
 use Rattle.pot_shared.specs.Hands.{times}
@@ -20,20 +22,21 @@ AnswersFor missing (Ok u) = missing ≡ []
 AnswersFor missing (Err e) = 0 < length missing
 
 -- These archives were given back: some are missing, and each other one is what its number means.
-pub record GivesBack {A : Type 0} (told : Type 0) (meaning : A → Meaning) (hand : List (Shelf A))
-    (means : ℕ → Meaning) (before now : ℕ) (result : Result (Unit {0}) Failed) : Type 0 where
+pub record GivesBack {A : Type 0} (archives : Account A Meaning) (hand : List (Shelf A))
+    (old new : Lending) (result : Result (Unit {0}) Failed) : Type 0 where
   pub missing : List ℕ
-  pub failed_at : FailsAt before now missing
+  pub failed_at : FailsAt old.failures new.failures missing
   pub answers : AnswersFor missing result
-  pub back : told → (s : Shelf A) → Contains hand s → times s.number missing ≡ 0
-      → IsMeant (means s.number) (meaning s.archive)
+  pub back : IsTrue archives.tells → (s : Shelf A) → Contains hand s → times s.number missing ≡ 0
+      → IsMeant (new.means s.number) (archives.meaning s.archive)
 
 -- Archives were asked for and the room failed itself. Those that it had given were given back: some
 -- are missing, and each other number means what it meant. `worked` is how often the room had failed
 -- then.
-pub record IsUnlent (told : Type 0) (meant means : ℕ → Meaning) (before now : ℕ) : Type 0 where
+pub record IsUnlent (room : Met Lending) : Type 0 where
   pub worked : ℕ
-  pub rose : Rose before worked
+  pub rose : Rose room.before.failures worked
   pub missing : List ℕ
-  pub failed_at : FailsAt worked now missing
-  pub others : told → (n : ℕ) → times n missing ≡ 0 → IsMeant (meant n) (means n)
+  pub failed_at : FailsAt worked room.after.failures missing
+  pub others : IsTrue room.tells → (n : ℕ) → times n missing ≡ 0
+      → IsMeant (room.before.means n) (room.after.means n)

@@ -1,14 +1,16 @@
 -- What `recover` writes of the objects that it found, which stand in byte order.
 use Rattle.std.specs.Prelude.{◌≡◌, ◌⊎◌, ◌++◌, ◌&&◌, ℕ, Bool, not, List, [], Option, Some, None}
 use Rattle.std.specs.Prelude.{Result, Ok, Err, codes, if◌then◌else◌, length, take, drop, flat_map}
-use Rattle.std.specs.Prelude.{find, is_none, is_some}
+use Rattle.std.specs.Prelude.{find, is_none, is_some, IsTrue}
 use Rattle.std.specs.List.{list_any, range_with_len, slice_index_or}
 use Rattle.std.specs.Str.{bytes_eq}
 use Rattle.byteorder.specs.Endian.{big_bytes}
 use Rattle.hex.specs.Hex.{encode_lower}
+use Rattle.pot_outside.specs.Accounts.{Met}
 use Rattle.pot_object.specs.Objects.{head_at, part_length}
 use Rattle.pot_recover.specs.Fronts.{has_front}
 use Rattle.pot_script.specs.Replies.{spaced}
+use Rattle.pot_commands.specs.Streams.{Wrote}
 use Rattle.pot_session.specs.declared.ending.status.Status.{Status}
 use Rattle.pot_session.specs.declared.ending.status.Status.TheVariants as status
 use Rattle.pot_session.specs.declared.recovery.listing.ListFault.{ListFault}
@@ -122,15 +124,17 @@ abbrev pub IsBegun : List ℕ → List ℕ → List ℕ → Type 0
 IsBegun before after text =
     (first : List ℕ) × (rest : List ℕ) × (text ≡ first ++ rest) × (after ≡ before ++ first)
 
+abbrev pub Began : Met (List ℕ) → List ℕ → Type 0
+Began sink text = IsTrue sink.tells → IsBegun sink.before sink.after text
+
 -- the text was written; or some first bytes of it, since the sink failed or memory ran out
-abbrev pub Puts : {T : Type 0} → Type 0 → List ℕ → List ℕ → List ℕ → Result T ListFault → Type 0
-Puts told before after text (Ok t) = told → after ≡ before ++ text
-Puts told before after text (Err e) = told → IsBegun before after text
+abbrev pub Puts : {T : Type 0} → Met (List ℕ) → List ℕ → Result T ListFault → Type 0
+Puts sink text (Ok t) = Wrote sink text
+Puts sink text (Err e) = Began sink text
 
 -- The listing was written, and the answer says whether some file is partial; or some first bytes of
 -- it were written, and the sink failed or memory ran out.
-abbrev pub Lists : Type 0 → List ℕ → List ℕ → List (List ℕ) → Status → Type 0
-Lists told before after objects answer =
-    ((answer ≡ told_status (has_partial objects)) × (told → after ≡ before ++ listing objects))
-    ⊎ (((answer ≡ status.SinkFault) ⊎ (answer ≡ status.NoMemory))
-    × (told → IsBegun before after (listing objects)))
+abbrev pub Lists : Met (List ℕ) → List (List ℕ) → Status → Type 0
+Lists sink objects answer =
+    ((answer ≡ told_status (has_partial objects)) × Wrote sink (listing objects))
+    ⊎ (((answer ≡ status.SinkFault) ⊎ (answer ≡ status.NoMemory)) × Began sink (listing objects))

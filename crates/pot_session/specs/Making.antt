@@ -1,12 +1,14 @@
 -- A new archive.
-use Rattle.std.specs.Prelude.{◌≡◌, ◌⊎◌, ◌++◌, ℕ, List, [], Option, Some, None, Result, Ok, Err}
-use Rattle.std.specs.Prelude.{IfErr, IsSome, codes, take, map, replicate}
+use Rattle.std.specs.Prelude.{◌≡◌, ◌⊎◌, ℕ, List, [], Option, Some, None, Result, Ok, Err, IfErr}
+use Rattle.std.specs.Prelude.{IsSome, codes, map, replicate, IsTrue}
 use Rattle.std.specs.List.{range_with_len}
 use Rattle.pot_bytes.specs.declared.rack.Rack.{Rack}
+use Rattle.pot_outside.specs.Accounts.{Met}
 use Rattle.pot_outside.specs.Failing.{MayLeave}
 use Rattle.pot_machine.specs.Making.{empty_table}
 use Rattle.pot_image.specs.Images.{Contents}
 use Rattle.pot_image.specs.Spelling.{image_bytes}
+use Rattle.pot_commands.specs.Streams.{Wrote, WroteSome}
 use Rattle.pot_session.specs.declared.ending.status.Status.{Status}
 use Rattle.pot_session.specs.declared.ending.status.Status.TheVariants as status
 use Rattle.pot_session.specs.declared.ending.stop.Stop.{Stop}
@@ -27,14 +29,15 @@ empty_contents rack = record {
 -- The desk had no image and has the new one. It is refused where it has an image, which stays.
 -- Where it failed, one that had an image has it still, and one that had none has the new one or
 -- none.
-abbrev pub Makes : Rack → Option (List ℕ) → Option (List ℕ) → Result (Unit {0}) Stop → Type 0
-Makes rack before after (Ok u) =
-    (before ≡ None) × (after ≡ Some (image_bytes (empty_contents rack)))
-Makes rack before after (Err stop.Exists) = IsSome before × (after ≡ before)
-Makes rack before after (Err stop.DeskFault) =
-    (IsSome before → after ≡ before) × MayLeave before (image_bytes (empty_contents rack)) after
-Makes rack before after (Err stop.NoMemory) = after ≡ before
-Makes rack before after (Err _) = ⊥
+abbrev pub Makes : Rack → Met (Option (List ℕ)) → Result (Unit {0}) Stop → Type 0
+Makes rack desk (Ok u) =
+    (desk.before ≡ None) × (desk.after ≡ Some (image_bytes (empty_contents rack)))
+Makes rack desk (Err stop.Exists) = IsSome desk.before × (desk.after ≡ desk.before)
+Makes rack desk (Err stop.DeskFault) =
+    (IsSome desk.before → desk.after ≡ desk.before)
+    × MayLeave desk.before (image_bytes (empty_contents rack)) desk.after
+Makes rack desk (Err stop.NoMemory) = desk.after ≡ desk.before
+Makes rack desk (Err _) = ⊥
 
 -- why no image was made, whether the desk tells its image or not
 abbrev pub IsMakeStop : Stop → Type 0
@@ -44,18 +47,16 @@ IsMakeStop stop.NoMemory = Unit {0}
 IsMakeStop _ = ⊥
 
 -- what is written and answered: `ready` where the image was made, and else why not
-abbrev pub InitAnswers : Type 0 → List ℕ → List ℕ → Result (Unit {0}) Stop → Status → Type 0
-InitAnswers seen before after (Ok u) answer =
-    ((answer ≡ status.Good) × (seen → after ≡ before ++ codes "ready\n"))
-    ⊎ ((answer ≡ status.SinkFault)
-    × (seen → (count : ℕ) × (after ≡ before ++ take count (codes "ready\n"))))
-InitAnswers seen before after (Err s) answer = Refuses seen before after s answer
+abbrev pub InitAnswers : Met (List ℕ) → Result (Unit {0}) Stop → Status → Type 0
+InitAnswers sink (Ok u) answer =
+    ((answer ≡ status.Good) × Wrote sink (codes "ready\n"))
+    ⊎ ((answer ≡ status.SinkFault) × WroteSome sink (codes "ready\n"))
+InitAnswers sink (Err s) answer = Refuses sink s answer
 
--- what `init` comes to. `told` is whether the desk tells its image, and `seen` whether the sink
--- tells its bytes
-pub record Inits (rack : Rack) (told : Type 0) (held holds : Option (List ℕ)) (seen : Type 0)
-    (before after : List ℕ) (answer : Status) : Type 0 where
+-- what `init` comes to
+pub record Inits (rack : Rack) (desk : Met (Option (List ℕ))) (sink : Met (List ℕ))
+    (answer : Status) : Type 0 where
   pub made : Result (Unit {0}) Stop
-  pub desk : told → Makes rack held holds made
+  pub makes : IsTrue desk.tells → Makes rack desk made
   pub which : IfErr made IsMakeStop
-  pub answers : InitAnswers seen before after made answer
+  pub answers : InitAnswers sink made answer

@@ -1,11 +1,10 @@
 -- A session that was opened, what was known then, and a session that can close.
-use Rattle.std.specs.Prelude.{◌≡◌, ◌≤◌, ℕ, Bool, List, length}
-use Rattle.pot_outside.specs.Archives.{Meaning}
+use Rattle.std.specs.Prelude.{◌≡◌, ◌≤◌, ℕ, List, length}
+use Rattle.pot_outside.specs.Rooms.{Lending}
 use Rattle.pot_bytes.specs.declared.rack.Rack.{Rack}
 use Rattle.pot_machine.specs.Table.{Table}
 use Rattle.pot_index.specs.declared.record.Record.{Record}
 use Rattle.pot_image.specs.Images.{Contents}
-use Rattle.pot_shared.specs.Callers.{known_of, vault_of}
 use Rattle.pot_shared.specs.Groups.{AreLow, AreServed, HaveCome, IsServedFrom, records_read}
 use Rattle.pot_shared.specs.Groups.{tables_read}
 use Rattle.pot_shared.specs.Opening.{CanEnd, IsOpenedFrom}
@@ -19,8 +18,8 @@ use Rattle.pot_session.specs.declared.session.closing.Opened.{Opened}
 pub record IsOpenedWith {A : Type 0} (image : Contents) (o : Opened A) : Type 0 where
   pub session : o.session ≡ image.session
   pub rack : o.rack ≡ image.rack
-  pub vault : IsOpenedFrom image.rack image.tables image.records (vault_of o.vault)
-      (known_of o.passes)
+  pub vault : IsOpenedFrom image.rack image.tables image.records o.vault
+      o.passes
   pub places : length o.vault.groups ≤ o.spaces
   pub bare : IsBare o.remains
   pub space : HasSpace (length image.tables) 512 o.remains
@@ -33,30 +32,29 @@ pub record IsBegun (first : Contents) (session : ℕ) (rack : Rack) (tables : Li
   pub are_tables : first.tables ≡ tables
   pub are_records : first.records ≡ records
 
--- what is known of a session when it is opened: what its passes knew, its image, what the room
--- meant by each number, and how often the room had failed itself
+-- what is known of a session when it is opened: what its passes knew, its image, and what the room
+-- meant
 pub record Start : Type 0 where
   pub old : Known
   pub first : Contents
-  pub meant : ℕ → Meaning
-  pub failed : ℕ
+  pub room : Lending
 
--- the story of this session, whose room tells or does not
+-- the start of this session, whose room tells or does not
 pub record IsStartOf {A : Type 0} (told : Type 0) (s : Start) (o : Opened A) : Type 0 where
-  pub served : IsServedFrom told s.meant s.old (known_of o.passes)
+  pub served : IsServedFrom told s.room.means s.old o.passes
   pub begun : IsBegun s.first o.session o.rack (tables_read o.passes.groups)
       (records_read o.passes.index)
 
 -- A session can close: it was served since it was opened, and its archives are those that are out
 -- of the room.
-pub record CanClose {A : Type 0} (is_out : ℕ → Bool) (o : Opened A) : Type 0 where
+pub record CanClose {A : Type 0} (room : Lending) (o : Opened A) : Type 0 where
   pub old : Known
   pub numbers : List ℕ
-  pub served : AreServed old (known_of o.passes)
-  pub come : HaveCome old (known_of o.passes) numbers
-  pub out : AreOut is_out numbers
+  pub served : AreServed old o.passes
+  pub come : HaveCome old o.passes numbers
+  pub out : AreOut room numbers
   pub low : AreLow numbers
-  pub vault : CanEnd (vault_of o.vault) (known_of o.passes) o.spaces
+  pub vault : CanEnd o.vault o.passes o.spaces
   pub bare : IsBare o.remains
   pub space : HasSpace (length (tables_read o.passes.groups)) 512 o.remains
   pub rack : o.rack ≡ o.vault.rack

@@ -1,9 +1,11 @@
 -- The blocks that are read from archives without a desk, the objects that they give, and what
 -- `recover` comes to.
 use Rattle.std.specs.Prelude.{◌≡◌, ◌<◌, ◌≤◌, ◌-◌, ◌^◌, ◌⊎◌, ℕ, Bool, true, false, List, Some}
-use Rattle.std.specs.Prelude.{Result, Ok, Err, Contains}
+use Rattle.std.specs.Prelude.{Result, Ok, Err, Contains, IsTrue}
+use Rattle.pot_outside.specs.Accounts.{Met}
 use Rattle.pot_outside.specs.Archives.{Meaning, OnlyLoses}
 use Rattle.pot_outside.specs.Counts.{Rose}
+use Rattle.pot_outside.specs.Rooms.{Lending}
 use Rattle.pot_recover.specs.Recovered.{AreRecovered}
 use Rattle.pot_recover.specs.Robust.{AreRobustlyRecovered, IsRobustlyTooWide, IsRobustlyWithin}
 use Rattle.pot_recover.specs.Wide.{IsTooWide, IsWithin}
@@ -72,14 +74,14 @@ abbrev pub HasFailed : Meaning → Meaning → Type 0
 HasFailed old new = Rose old.faults new.faults
 
 -- one of the first archives did
-abbrev pub SomeFailed : ℕ → (ℕ → Meaning) → (ℕ → Meaning) → Type 0
-SomeFailed archives meant means = (n : ℕ) × (n < archives) × HasFailed (meant n) (means n)
+abbrev pub SomeFailed : ℕ → Lending → Lending → Type 0
+SomeFailed archives old new = (n : ℕ) × (n < archives) × HasFailed (old.means n) (new.means n)
 
 -- The room failed itself, by its count of own failures; or, where it tells, an archive of its did.
-pub record FailsOr (told : Type 0) (before now : ℕ) (archive : Type 0)
-    (failed : Type 0) : Type 0 where
-  pub later : before ≤ now
-  pub why : failed → Rose before now ⊎ (told → archive)
+pub record FailsOr (room : Met Lending) (archive failed : Type 0) : Type 0 where
+  pub later : room.before.failures ≤ room.after.failures
+  pub why : failed
+      → Rose room.before.failures room.after.failures ⊎ (IsTrue room.tells → archive)
 
 -- THE WHOLE
 
@@ -96,28 +98,29 @@ GiveTooMany false blocks bits fault = IsTooWide blocks bits fault
 GiveTooMany true blocks bits fault = IsRobustlyTooWide blocks bits fault
 
 -- The blocks that were read give these objects; or they are too wide; or an archive or the room
--- failed, or memory ran out. `told` is whether the archives tell their blocks.
-abbrev pub FindsObjects : Recover → Type 0 → (ℕ → Meaning) → (ℕ → Meaning)
-    → Result (List (List ℕ)) Stop → Type 0
-FindsObjects r told meant means (Ok objects) =
-    (blocks : List (List ℕ)) × (told → AreHeldIn r.archives r.stripes meant means blocks)
+-- failed, or memory ran out.
+abbrev pub FindsObjects : Recover → Met Lending → Result (List (List ℕ)) Stop → Type 0
+FindsObjects r room (Ok objects) =
+    (blocks : List (List ℕ))
+    × (IsTrue room.tells → AreHeldIn r.archives r.stripes room.before.means room.after.means blocks)
     × GiveObjects r.robust blocks r.blur objects
-FindsObjects r told meant means (Err stop.TooWide) =
-    (blocks : List (List ℕ)) × (told → AreHeldIn r.archives r.stripes meant means blocks)
+FindsObjects r room (Err stop.TooWide) =
+    (blocks : List (List ℕ))
+    × (IsTrue room.tells → AreHeldIn r.archives r.stripes room.before.means room.after.means blocks)
     × ((chains : ℕ) × (choices : ℕ) × GiveTooMany r.robust blocks r.blur (Wide chains choices))
-FindsObjects r told meant means (Err stop.RoomFault) = Unit {0}
-FindsObjects r told meant means (Err stop.NoMemory) = Unit {0}
-FindsObjects r told meant means (Err _) = ⊥
+FindsObjects r room (Err stop.RoomFault) = Unit {0}
+FindsObjects r room (Err stop.NoMemory) = Unit {0}
+FindsObjects r room (Err _) = ⊥
 
 -- what is written and answered: the listing, or why there is none
-abbrev pub ListAnswers : Type 0 → List ℕ → List ℕ → Result (List (List ℕ)) Stop → Status → Type 0
-ListAnswers told before after (Ok objects) answer = Lists told before after objects answer
-ListAnswers told before after (Err s) answer = Refuses told before after s answer
+abbrev pub ListAnswers : Met (List ℕ) → Result (List (List ℕ)) Stop → Status → Type 0
+ListAnswers sink (Ok objects) answer = Lists sink objects answer
+ListAnswers sink (Err s) answer = Refuses sink s answer
 
 -- What `recover` comes to. Other archives are not touched.
-pub record Recovers (r : Recover) (room_told : Type 0) (meant means : ℕ → Meaning)
-    (sink_told : Type 0) (before after : List ℕ) (answer : Status) : Type 0 where
+pub record Recovers (r : Recover) (room : Met Lending) (sink : Met (List ℕ))
+    (answer : Status) : Type 0 where
   pub found : Result (List (List ℕ)) Stop
-  pub is : FindsObjects r room_told meant means found
-  pub answers : ListAnswers sink_told before after found answer
-  pub others : (n : ℕ) → r.archives ≤ n → means n ≡ meant n
+  pub is : FindsObjects r room found
+  pub answers : ListAnswers sink found answer
+  pub others : (n : ℕ) → r.archives ≤ n → room.after.means n ≡ room.before.means n

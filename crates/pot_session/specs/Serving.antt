@@ -1,9 +1,11 @@
 -- What a session leaves: the replies of its steps, and the image of its close with the logs by
 -- which they have them.
 use Rattle.std.specs.Prelude.{◌≡◌, ℕ, true, List, [], ◌∷◌, Option, Some, Result, Ok, Err, IfErr}
-use Rattle.std.specs.Prelude.{flat_map, if◌then◌else◌, map, slice_index_or}
+use Rattle.std.specs.Prelude.{flat_map, if◌then◌else◌, map, slice_index_or, IsTrue}
+use Rattle.pot_outside.specs.Accounts.{Content, Met, Stays, held_in, since}
 use Rattle.pot_outside.specs.Archives.{Meaning, IsMeant}
 use Rattle.pot_outside.specs.Counts.{Caused}
+use Rattle.pot_outside.specs.Rooms.{Lending}
 use Rattle.pot_outside.specs.declared.faults.Failed.{Failed}
 use Rattle.pot_pads.specs.Pads.{pads_of}
 use Rattle.pot_machine.specs.declared.entry.Entry.{Entry}
@@ -41,31 +43,6 @@ use Rattle.pot_session.specs.Stops.{status_of}
 
 -- THE IMAGE OF A CLOSE
 
--- whether a room tells what its archives hold, what it meant by each number before a session and
--- means after it, and how often it had failed itself before and has after
-pub record Rooms : Type 1 where
-  pub told : Type 0
-  pub meant : ℕ → Meaning
-  pub means : ℕ → Meaning
-  pub failed : ℕ
-  pub fails : ℕ
-
-abbrev pub rooms_by : Type 0 → (ℕ → Meaning) → (ℕ → Meaning) → ℕ → ℕ → Rooms
-rooms_by told meant means failed fails =
-    record { told = told; meant = meant; means = means; failed = failed; fails = fails }
-
--- whether a desk tells its image, the image that it holds after a session, and how often it had
--- failed before and has after
-pub record Desks : Type 1 where
-  pub told : Type 0
-  pub holds : Option (List ℕ)
-  pub failed : ℕ
-  pub fails : ℕ
-
-abbrev pub desks_by : Type 0 → Option (List ℕ) → ℕ → ℕ → Desks
-desks_by told holds failed fails =
-    record { told = told; holds = holds; failed = failed; fails = fails }
-
 -- The room means what is seen of the archive, where it tells and took that archive back.
 abbrev pub IsInRoom : Type 0 → (ℕ → Meaning) → List ℕ → Shelves → ℕ → Type 0
 IsInRoom told means missing s n = told → times n missing ≡ 0 → Shows s n (means n)
@@ -79,17 +56,19 @@ RoseInRoom meant means missing n =
 -- openings, which are of no job, rest on blocks that the room meant, and call a slot Gone whose
 -- block the room meant only where a count of its archive rose; and then this section. `missing` has
 -- the archives that the room did not take back.
-pub record Leaves (rooms : Rooms) (missing : List ℕ) (first last : Contents)
+pub record Leaves (room : Met Lending) (missing : List ℕ) (first last : Contents)
     (w : Section) : Type 0 where
   pub session : last.session ≡ first.session
   pub rack : last.rack ≡ first.rack
-  pub groups : LeaveGroups rooms.told rooms.meant (IsInRoom rooms.told rooms.means missing)
-      first.tables last.group_logs last.tables
+  pub groups : LeaveGroups (IsTrue room.tells) room.before.means
+      (IsInRoom (IsTrue room.tells) room.after.means missing) first.tables last.group_logs
+      last.tables
   pub records : LeavesRecords first.rack first.records w.index_added last.index_log last.records
   pub logs : AreLogs last.group_logs w
   pub opened : (g : ℕ) → ByNobody (w.before g)
-  pub found : rooms.told
-      → AreOpened rooms.meant (RoseInRoom rooms.meant rooms.means missing) first.tables w
+  pub found : IsTrue room.tells
+      → AreOpened room.before.means (RoseInRoom room.before.means room.after.means missing)
+      first.tables w
   pub index_opened : w.index_before ≡ []
 
 -- THE CLOSE
@@ -102,23 +81,26 @@ close_answer (n ∷ missing) kept = Err stop.RoomFault
 -- The desk holds the image that a session left. Where it failed, which its count shows, it holds
 -- that one, the one with which the session began or none, and for want of memory the one with which
 -- it began.
-pub record KeepsLast (desk : Desks) (first last : Contents)
+pub record KeepsLast (desk : Met (Content (Option (List ℕ)))) (first last : Contents)
     (kept : Result (Unit {0}) Stop) : Type 0 where
-  pub holds : desk.told → Keeps (Some (image_bytes first)) desk.holds (image_bytes last) kept
+  pub holds : IsTrue desk.tells
+      → Keeps (since (held_in desk) (Some (image_bytes first))) (image_bytes last) kept
   pub which : IfErr kept IsKeepStop
-  pub cause : Caused desk.failed desk.fails (kept ≡ Err stop.DeskFault)
+  pub cause : Caused desk.before.faults desk.after.faults (kept ≡ Err stop.DeskFault)
 
 -- A close leaves this image: nobody else logged anything since the passes knew the first, and its
--- logs are what they saw. `before` is how often the room had failed itself before the close.
-pub record Closes (old new : Known) (rooms : Rooms) (before : ℕ) (held : Type 0) (desk : Desks)
-    (first : Contents) (closed : Result (Unit {0}) Stop) : Type 0 where
+-- logs are what they saw. `worked` is how often the room had failed itself before the close.
+pub record Closes (old new : Known) (room : Met Lending) (worked : ℕ)
+    (desk : Met (Content (Option (List ℕ)))) (first : Contents)
+    (closed : Result (Unit {0}) Stop) : Type 0 where
   pub last : Contents
   pub sole : AllSole old new
   pub missing : List ℕ
-  pub failed_at : FailsAt before rooms.fails missing
-  pub leaves : Leaves rooms missing first last (section_of old new)
+  pub failed_at : FailsAt worked room.after.failures missing
+  pub leaves : Leaves room missing first last (section_of old new)
   pub kept : Result (Unit {0}) Stop
-  pub keeps : (desk.told → held) → KeepsLast desk first last kept
+  pub keeps : (IsTrue desk.tells → desk.before.held ≡ Some (image_bytes first))
+      → KeepsLast desk first last kept
   pub is : closed ≡ close_answer missing kept
 
 -- THE ANSWER
@@ -175,21 +157,21 @@ OthersStay read logs meant means =
 -- has the logs by which the steps have their replies. The room failed itself at the steps exactly
 -- where they ended so, and in the close at each archive that is missing and at no other; `worked`
 -- is how often it had failed once the steps had ended.
-pub record IsClosed (seed : List ℕ) (first : Contents) (steps : List Step) (rooms : Rooms)
-    (sink_told : Type 0) (before after : List ℕ) (desk : Desks) (answer : Status) : Type 0 where
+pub record IsClosed (seed : List ℕ) (first : Contents) (steps : List Step) (room : Met Lending)
+    (sink : Met (List ℕ)) (desk : Met (Content (Option (List ℕ)))) (answer : Status) : Type 0 where
   pub last : Contents
   pub story : Section
   pub ending : Ending
-  pub ends : EndsOver (setting_of seed first) story sink_told before after steps ending
+  pub ends : EndsOver (setting_of seed first) story sink steps ending
   pub worked : ℕ
-  pub fails : Fails rooms.failed worked (ending ≡ RoomFailed)
+  pub fails : Fails room.before.failures worked (ending ≡ RoomFailed)
   pub missing : List ℕ
-  pub failed_at : FailsAt worked rooms.fails missing
-  pub leaves : Leaves rooms missing first last story
-  pub others : rooms.told → (ending ≡ RoomFailed → ⊥)
-      → OthersStay first.tables last.group_logs rooms.meant rooms.means
-  pub lost : rooms.told → AreBack missing first.tables last.group_logs
-      → LostNone rooms.meant rooms.means first.tables last.group_logs
+  pub failed_at : FailsAt worked room.after.failures missing
+  pub leaves : Leaves room missing first last story
+  pub others : IsTrue room.tells → (ending ≡ RoomFailed → ⊥)
+      → OthersStay first.tables last.group_logs room.before.means room.after.means
+  pub lost : IsTrue room.tells → AreBack missing first.tables last.group_logs
+      → LostNone room.before.means room.after.means first.tables last.group_logs
       → LostWhereFew (setting_of seed first) last.group_logs
   pub kept : Result (Unit {0}) Stop
   pub keeps : KeepsLast desk first last kept
@@ -197,17 +179,16 @@ pub record IsClosed (seed : List ℕ) (first : Contents) (steps : List Step) (ro
 
 -- What a session comes to that begins with this image: before any step was worked the room did not
 -- give its archives, which are as they were, or memory ran out; or it closed.
-pub data Serves (seed : List ℕ) (first : Contents) (steps : List Step) (rooms : Rooms)
-    (sink_told : Type 0) (before after : List ℕ) (desk : Desks) (answer : Status) : Type 0 where
-  Unlent : answer ≡ status.RoomFault → (sink_told → after ≡ before)
-      → (desk.told → desk.holds ≡ Some (image_bytes first))
-      → IsUnlent rooms.told rooms.meant rooms.means rooms.failed rooms.fails
-      → Serves seed first steps rooms sink_told before after desk answer
-  Unopened : answer ≡ status.NoMemory → (sink_told → after ≡ before)
-      → (desk.told → desk.holds ≡ Some (image_bytes first))
-      → Serves seed first steps rooms sink_told before after desk answer
-  Closed : IsClosed seed first steps rooms sink_told before after desk answer
-      → Serves seed first steps rooms sink_told before after desk answer
+pub data Serves (seed : List ℕ) (first : Contents) (steps : List Step) (room : Met Lending)
+    (sink : Met (List ℕ)) (desk : Met (Content (Option (List ℕ)))) (answer : Status) : Type 0 where
+  Unlent : answer ≡ status.RoomFault → Stays sink
+      → (IsTrue desk.tells → desk.after.held ≡ Some (image_bytes first)) → IsUnlent room
+      → Serves seed first steps room sink desk answer
+  Unopened : answer ≡ status.NoMemory → Stays sink
+      → (IsTrue desk.tells → desk.after.held ≡ Some (image_bytes first))
+      → Serves seed first steps room sink desk answer
+  Closed : IsClosed seed first steps room sink desk answer
+      → Serves seed first steps room sink desk answer
 
 -- how a session may end
 abbrev pub IsEnd : Status → Type 0

@@ -6,7 +6,7 @@ ghost use Rattle.pot_bytes.specs.Rack.{IsRack};
 ghost use Rattle.pot_index.specs.Fits.{FitsRack};
 ghost use Rattle.pot_image.specs.Images.{contents};
 ghost use Rattle.pot_image.specs.Rules.{FitsTogether};
-ghost use Rattle.pot_outside.specs.Counts.{Caused};
+ghost use Rattle.pot_outside.specs.Accounts.{Faults, Stays, met};
 ghost use Rattle.pot_audit.specs.declared.veil.Veil.{Veil};
 ghost use Rattle.pot_audit.specs.Exposure.{AreSpots};
 ghost use Rattle.pot_audit.specs.Veils.{AreVeils};
@@ -123,9 +123,9 @@ fn put_audit<K: Sink>(
     requires rack { IsRack rack.now }
     requires fits { All (FitsRack rack.now) records.now }
     requires spots { AreSpots rack.now spots.now }
-    ensures puts { PutsAudit (IsTrue K.tells) (K.written sink.old) (K.written sink.new)
+    ensures puts { PutsAudit (met K.account sink.old sink.new)
         rack.now spots.now records.now result }
-    ensures cause { Caused (K.faults sink.old) (K.faults sink.new)
+    ensures cause { Faults K.account sink.old sink.new
         (IsErrOf result ListFault.SinkFault) }
 {
     let mut bare = false;
@@ -147,9 +147,9 @@ fn tell_audit<K: Sink>(alloc: Global, task: &Audit, image: &Image, sink: &mut K)
     requires task { IsAudit task.now }
     requires fits { FitsTogether (contents image.now) }
     requires of { IsTrue (are_of image.now.rack task.now) }
-    ensures answers { AuditAnswers (IsTrue K.tells) (K.written sink.old) (K.written sink.new)
+    ensures answers { AuditAnswers (met K.account sink.old sink.new)
         image.now.rack (spots_of task.now) image.now.records.items result }
-    ensures cause { Caused (K.faults sink.old) (K.faults sink.new) (result ≡ Status.SinkFault) }
+    ensures cause { Faults K.account sink.old sink.new (result ≡ Status.SinkFault) }
 {
     let Ok(spots) = spots_of(alloc, task) else {
         return Status::NoMemory;
@@ -170,11 +170,11 @@ pub(crate) fn audit_files<K: Sink, D: Desk>(
     desk: &mut D,
 ) -> Status
     requires task { IsAudit task.now }
-    ensures audits { Audits task.now (IsTrue D.tells) (D.held desk.old)
-        (IsTrue K.tells) (K.written sink.old) (K.written sink.new) result }
-    ensures keeps { IsTrue D.tells → D.held desk.new ≡ D.held desk.old }
-    ensures sink { Caused (K.faults sink.old) (K.faults sink.new) (result ≡ Status.SinkFault) }
-    ensures desk { Caused (D.faults desk.old) (D.faults desk.new) (result ≡ Status.DeskFault) }
+    ensures audits { Audits task.now (met D.account desk.old desk.new)
+        (met K.account sink.old sink.new) result }
+    ensures keeps { Stays (met D.account desk.old desk.new) }
+    ensures sink { Faults K.account sink.old sink.new (result ≡ Status.SinkFault) }
+    ensures desk { Faults D.account desk.old desk.new (result ≡ Status.DeskFault) }
 {
     match read_desk(alloc, desk) {
         Ok(image) => {

@@ -2,7 +2,7 @@
 
 ghost use Rattle.std.specs.Prelude.{◌≡◌, ◌<◌, ◌+◌, ◌-◌, ◌^◌, [], IsTrue, IfOk, IfErr, IsErrOf, map};
 ghost use Rattle.std.specs.Prelude.{replicate};
-ghost use Rattle.pot_outside.specs.Counts.{Caused};
+ghost use Rattle.pot_outside.specs.Accounts.{Faults, Stays, met};
 ghost use Rattle.pot_image.specs.Images.{contents};
 ghost use Rattle.pot_image.specs.Spelling.{IsCountable, image_bytes};
 ghost use Rattle.pot_image.specs.Rules.{FitsTogether};
@@ -36,11 +36,11 @@ fn image_in(alloc: Global, bytes: &[u8]) -> Result<Image, Stop>
 /// # Errors
 /// `DeskFault` only where the desk's count of faults rose; `NoImage` where the desk has none; else why its bytes are no image.
 pub(crate) fn read_desk<D: Desk>(alloc: Global, desk: &mut D) -> Result<Image, Stop>
-    ensures reads { ReadsDesk (IsTrue D.tells) (D.held desk.old) result }
+    ensures reads { ReadsDesk (met D.account desk.old desk.new) result }
     ensures fits { IfOk result (λ i. FitsTogether (contents i)) }
     ensures which { IfErr result IsImageStop }
-    ensures keeps { IsTrue D.tells → D.held desk.new ≡ D.held desk.old }
-    ensures cause { Caused (D.faults desk.old) (D.faults desk.new) (IsErrOf result Stop.DeskFault) }
+    ensures keeps { Stays (met D.account desk.old desk.new) }
+    ensures cause { Faults D.account desk.old desk.new (IsErrOf result Stop.DeskFault) }
 {
     match desk.read() {
         Ok(Some(bytes)) => image_in(alloc, &bytes),
@@ -69,11 +69,11 @@ fn open_image(alloc: Global, bytes: &[u8]) -> Result<Image, Stop>
 /// `DeskFault` only where the desk's count of faults rose; `NoImage` where the desk has none; else why its bytes are no image, or
 /// that no number of a session is left.
 pub(crate) fn open_desk<D: Desk>(alloc: Global, desk: &mut D) -> Result<Image, Stop>
-    ensures opens { OpensDesk (IsTrue D.tells) (D.held desk.old) result }
+    ensures opens { OpensDesk (met D.account desk.old desk.new) result }
     ensures fits { IfOk result (λ i. FitsTogether (contents i)) }
     ensures which { IfErr result IsDeskStop }
-    ensures keeps { IsTrue D.tells → D.held desk.new ≡ D.held desk.old }
-    ensures cause { Caused (D.faults desk.old) (D.faults desk.new) (IsErrOf result Stop.DeskFault) }
+    ensures keeps { Stays (met D.account desk.old desk.new) }
+    ensures cause { Faults D.account desk.old desk.new (IsErrOf result Stop.DeskFault) }
 {
     match desk.read() {
         Ok(Some(bytes)) => open_image(alloc, &bytes),
@@ -126,9 +126,9 @@ pub(crate) fn begin(alloc: Global, image: Image) -> Result<Image, NoMemory>
 pub(crate) fn keep_image<D: Desk>(alloc: Global, image: &Image, desk: &mut D) -> Result<(), Stop>
     requires { IsCountable image.now }
     ensures which { IfErr result IsKeepStop }
-    ensures told { IsTrue D.tells
-        → Keeps (D.held desk.old) (D.held desk.new) (image_bytes (contents image.now)) result }
-    ensures cause { Caused (D.faults desk.old) (D.faults desk.new) (IsErrOf result Stop.DeskFault) }
+    ensures told { IsTrue D.account.tells
+        → Keeps (met D.account desk.old desk.new) (image_bytes (contents image.now)) result }
+    ensures cause { Faults D.account desk.old desk.new (IsErrOf result Stop.DeskFault) }
 {
     let Ok(bytes) = write_image(alloc, image) else {
         return Err(Stop::NoMemory);

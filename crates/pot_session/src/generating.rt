@@ -1,7 +1,7 @@
 //! The generator: the script of a number, worked by a session over new archives in memory.
 
 ghost use Rattle.std.specs.Prelude.{◌≡◌, ◌≤◌, IsTrue, IfOk};
-ghost use Rattle.pot_outside.specs.Counts.{Caused};
+ghost use Rattle.pot_outside.specs.Accounts.{Faults, met};
 ghost use Rattle.pot_doubles.specs.Rooms.{means_in};
 ghost use Rattle.pot_doubles.specs.Streams.{written_to};
 ghost use Rattle.pot_session.specs.Generating.{AreSound, Generates, IsGenerated, is_answered};
@@ -121,9 +121,9 @@ pub(crate) fn generate<K: Sink, X: Threads + Wait + Sync>(
     sink: &mut K,
 ) -> Status
     requires limits { (1 ≤ number) × (number ≤ 1000000) }
-    ensures generates { Generates number (IsTrue K.tells) (K.written sink.old) (K.written sink.new)
+    ensures generates { Generates number (met K.account sink.old sink.new)
         result }
-    ensures sink { Caused (K.faults sink.old) (K.faults sink.new) (result ≡ Status.SinkFault) }
+    ensures sink { Faults K.account sink.old sink.new (result ≡ Status.SinkFault) }
 {
     let Ok(ran) = run_in_memory(rt, alloc, number) else {
         return Status::NoMemory;

@@ -3,7 +3,7 @@
 ghost use Rattle.std.specs.Prelude.{◌≡◌, IsTrue, IfOk, IfErr, IsErrOf, map};
 ghost use Rattle.std.specs.List.{range_with_len};
 ghost use Rattle.pot_machine.specs.Making.{empty_table};
-ghost use Rattle.pot_outside.specs.Counts.{Caused};
+ghost use Rattle.pot_outside.specs.Accounts.{Faults, met};
 ghost use Rattle.pot_bytes.specs.Rack.{IsRack};
 ghost use Rattle.pot_image.specs.Images.{contents};
 ghost use Rattle.pot_image.specs.Spelling.{image_bytes};
@@ -53,9 +53,9 @@ fn empty_tables(alloc: Global, rack: &Rack) -> Result<Vec<GroupTable>, NoMemory>
 fn put_empty_image<D: Desk>(alloc: Global, rack: &Rack, desk: &mut D) -> Result<(), Stop>
     requires { IsRack rack.now }
     ensures which { IfErr result IsKeepStop }
-    ensures told { IsTrue D.tells
-        → Keeps (D.held desk.old) (D.held desk.new) (image_bytes (empty_contents rack.now)) result }
-    ensures cause { Caused (D.faults desk.old) (D.faults desk.new) (IsErrOf result Stop.DeskFault) }
+    ensures told { IsTrue D.account.tells
+        → Keeps (met D.account desk.old desk.new) (image_bytes (empty_contents rack.now)) result }
+    ensures cause { Faults D.account desk.old desk.new (IsErrOf result Stop.DeskFault) }
 {
     match empty_image(alloc, rack) {
         Ok(image) => keep_image(alloc, &image, desk),
@@ -67,8 +67,9 @@ fn put_empty_image<D: Desk>(alloc: Global, rack: &Rack, desk: &mut D) -> Result<
 pub(crate) fn make_image<D: Desk>(alloc: Global, rack: &Rack, desk: &mut D) -> Result<(), Stop>
     requires { IsRack rack.now }
     ensures which { IfErr result IsMakeStop }
-    ensures told { IsTrue D.tells → Makes rack.now (D.held desk.old) (D.held desk.new) result }
-    ensures cause { Caused (D.faults desk.old) (D.faults desk.new) (IsErrOf result Stop.DeskFault) }
+    ensures told { IsTrue D.account.tells
+        → Makes rack.now (met D.account desk.old desk.new) result }
+    ensures cause { Faults D.account desk.old desk.new (IsErrOf result Stop.DeskFault) }
 {
     match desk.read() {
         Ok(None) => put_empty_image(alloc, rack, desk),
@@ -86,10 +87,10 @@ pub(crate) fn init<K: Sink, D: Desk>(
     desk: &mut D,
 ) -> Status
     requires { IsRack rack.now }
-    ensures inits { Inits rack.now (IsTrue D.tells) (D.held desk.old) (D.held desk.new)
-        (IsTrue K.tells) (K.written sink.old) (K.written sink.new) result }
-    ensures desk { Caused (D.faults desk.old) (D.faults desk.new) (result ≡ Status.DeskFault) }
-    ensures sink { Caused (K.faults sink.old) (K.faults sink.new) (result ≡ Status.SinkFault) }
+    ensures inits { Inits rack.now (met D.account desk.old desk.new)
+        (met K.account sink.old sink.new) result }
+    ensures desk { Faults D.account desk.old desk.new (result ≡ Status.DeskFault) }
+    ensures sink { Faults K.account sink.old sink.new (result ≡ Status.SinkFault) }
 {
     match make_image(alloc, rack, desk) {
         Ok(()) => match write_out(sink, b"ready\n") {

@@ -2,7 +2,7 @@
 
 ghost use Rattle.std.specs.Prelude.{◌≡◌, ◌<◌, ◌^◌, ◌≤◌, ◌+◌, ◌++◌, [], List, ℕ, length, IsTrue};
 ghost use Rattle.std.specs.Prelude.{IfOk, IsErrOf};
-ghost use Rattle.pot_outside.specs.Counts.{Caused};
+ghost use Rattle.pot_outside.specs.Accounts.{Faults, met};
 ghost use Rattle.pot_session.specs.Streams.{IsReadOut, ReadsAtMost};
 
 use pot_outside::{Failed, Source};
@@ -44,13 +44,13 @@ pub(crate) fn read_out<S: Source>(
     limit: usize,
 ) -> Result<Vec<u8>, IntakeFault>
     requires { limit < 2 ^ 32 }
-    ensures told { IsTrue S.tells
+    ensures told { IsTrue S.account.tells
         → IfOk result
-        (λ bytes. IsReadOut (S.left source.old) (S.left source.new) bytes.items limit) }
-    ensures least_left { IsTrue S.tells
-        → ReadsAtMost (limit + 1) (S.left source.old) (S.left source.new) }
+        (λ bytes. IsReadOut (met S.account source.old source.new) bytes.items limit) }
+    ensures least_left { IsTrue S.account.tells
+        → ReadsAtMost (limit + 1) (met S.account source.old source.new) }
     ensures most { IfOk result (λ bytes. length bytes.items ≤ limit + 1) }
-    ensures cause { Caused (S.faults source.old) (S.faults source.new)
+    ensures cause { Faults S.account source.old source.new
         (IsErrOf result IntakeFault.Failed) }
 {
     let mut bytes = Vec::new(alloc);

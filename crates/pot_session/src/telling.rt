@@ -1,7 +1,7 @@
 //! What a word that holds no session writes.
 
-ghost use Rattle.std.specs.Prelude.{◌≡◌, IsTrue};
-ghost use Rattle.pot_outside.specs.Counts.{Caused};
+ghost use Rattle.std.specs.Prelude.{◌≡◌};
+ghost use Rattle.pot_outside.specs.Accounts.{Faults, met};
 ghost use Rattle.pot_session.specs.Telling.{Tells};
 
 use crate::ending::status::Status;
@@ -17,9 +17,9 @@ pub(crate) struct Telling {
 
 /// Writes the text, and answers whether something was refused, or that the sink failed.
 pub(crate) fn tell<K: Sink>(telling: &Telling, sink: &mut K) -> Status
-    ensures told { Tells (IsTrue K.tells) (K.written sink.old) (K.written sink.new) telling.now
+    ensures told { Tells (met K.account sink.old sink.new) telling.now
         result }
-    ensures cause { Caused (K.faults sink.old) (K.faults sink.new) (result ≡ Status.SinkFault) }
+    ensures cause { Faults K.account sink.old sink.new (result ≡ Status.SinkFault) }
 {
     match write_out(sink, &telling.text) {
         Ok(()) => {

@@ -1,7 +1,9 @@
 //! The top call.
 
-ghost use Rattle.std.specs.Prelude.{◌≡◌, ℕ, IsTrue, false, map};
+ghost use Rattle.std.specs.Prelude.{◌≡◌, map};
 ghost use Rattle.std.specs.String.{string_bytes};
+ghost use Rattle.pot_outside.specs.Accounts.{Faults, met, met_whole};
+ghost use Rattle.pot_outside.specs.Rooms.{IsHome, met_room};
 ghost use Rattle.pot_outside.specs.Counts.{Caused};
 ghost use Rattle.pot_session.specs.Stops.{code_of};
 ghost use Rattle.pot_session.specs.Tasks.{seed_of};
@@ -46,23 +48,22 @@ fn answer<S: Source, K: Sink, R: Room, D: Desk, W: Gate, X: Threads + Wait + Syn
     room: &mut R,
     desk: &mut D,
 ) -> Status
-    requires home { (n : ℕ) → R.out room.old n ≡ false }
+    requires home { IsHome (R.meaning room.old) }
     ensures runs { Runs (map string_bytes words.now) host.now.seed.now
-        (seen_by (IsTrue S.tells) (S.left source.old) (S.left source.new)
-        (IsTrue K.tells) (K.written sink.old) (K.written sink.new)
-        (IsTrue D.tells) (D.held desk.old) (D.held desk.new)
-        (IsTrue R.A.account.tells) (R.means room.old) (R.means room.new)
-        (R.failures room.old) (R.failures room.new) (D.faults desk.old) (D.faults desk.new))
+        (seen_by (met S.account source.old source.new) (met K.account sink.old sink.new)
+        (met_whole D.account desk.old desk.new)
+        (met_room R.A.account R.meaning room.old room.new))
         result }
-    ensures home { (n : ℕ) → R.out room.new n ≡ false }
-    ensures source { Caused (S.faults source.old) (S.faults source.new)
+    ensures home { IsHome (R.meaning room.new) }
+    ensures source { Faults S.account source.old source.new
         (result ≡ Status.SourceFault) }
-    ensures sink { Caused (K.faults sink.old) (K.faults sink.new) (result ≡ Status.SinkFault) }
-    ensures room { Caused (R.faults room.old) (R.faults room.new) (result ≡ Status.RoomFault) }
+    ensures sink { Faults K.account sink.old sink.new (result ≡ Status.SinkFault) }
+    ensures room { Caused (R.meaning room.old).faults (R.meaning room.new).faults
+        (result ≡ Status.RoomFault) }
     ensures own { result ≡ Status.RoomFault
-        → RoomFails (map string_bytes words.now) (IsTrue R.A.account.tells)
-        (R.means room.old) (R.means room.new) (R.failures room.old) (R.failures room.new) }
-    ensures desk { Caused (D.faults desk.old) (D.faults desk.new) (result ≡ Status.DeskFault) }
+        → RoomFails (map string_bytes words.now)
+        (met_room R.A.account R.meaning room.old room.new) }
+    ensures desk { Faults D.account desk.old desk.new (result ≡ Status.DeskFault) }
 {
     let alloc = host.alloc;
     match read_task(alloc, words) {
@@ -110,22 +111,21 @@ pub fn run<S: Source, K: Sink, R: Room, D: Desk, W: Gate, X: Threads + Wait + Sy
     desk: &mut D,
     gate: &W,
 ) -> u8
-    requires home { (n : ℕ) → R.out room.old n ≡ false }
+    requires home { IsHome (R.meaning room.old) }
     ensures runs { (status : Status) × (result ≡ code_of status)
         × Runs (map string_bytes words.now) drawn
-        (seen_by (IsTrue S.tells) (S.left source.old) (S.left source.new)
-        (IsTrue K.tells) (K.written sink.old) (K.written sink.new)
-        (IsTrue D.tells) (D.held desk.old) (D.held desk.new)
-        (IsTrue R.A.account.tells) (R.means room.old) (R.means room.new)
-        (R.failures room.old) (R.failures room.new) (D.faults desk.old) (D.faults desk.new))
+        (seen_by (met S.account source.old source.new) (met K.account sink.old sink.new)
+        (met_whole D.account desk.old desk.new)
+        (met_room R.A.account R.meaning room.old room.new))
         status }
-    ensures home { (n : ℕ) → R.out room.new n ≡ false }
-    ensures source { Caused (S.faults source.old) (S.faults source.new) (result ≡ 4) }
-    ensures sink { Caused (K.faults sink.old) (K.faults sink.new) (result ≡ 5) }
-    ensures desk { Caused (D.faults desk.old) (D.faults desk.new) (result ≡ 6) }
-    ensures room { Caused (R.faults room.old) (R.faults room.new) (result ≡ 8) }
-    ensures own { result ≡ 8 → RoomFails (map string_bytes words.now) (IsTrue R.A.account.tells)
-        (R.means room.old) (R.means room.new) (R.failures room.old) (R.failures room.new) }
+    ensures home { IsHome (R.meaning room.new) }
+    ensures source { Faults S.account source.old source.new (result ≡ 4) }
+    ensures sink { Faults K.account sink.old sink.new (result ≡ 5) }
+    ensures desk { Faults D.account desk.old desk.new (result ≡ 6) }
+    ensures room { Caused (R.meaning room.old).faults (R.meaning room.new).faults (result ≡ 8) }
+    ensures own { result ≡ 8
+        → RoomFails (map string_bytes words.now)
+        (met_room R.A.account R.meaning room.old room.new) }
 {
     let host = Host {
         rt,

@@ -1,31 +1,18 @@
 -- Where the blinds of a job's relays come from, part after part.
-use Rattle.std.proofs.Common.{◌≡◌, ◌≢◌, ⊎_elim, inl, inr, ℕ, Bool, true, false, List, [], ◌∷◌, ◌++◌, refl, ap, sym, ◌∙◌, subst}
-use Rattle.std.specs.Prelude.{Option, Some, None, Result, Ok, Err, filter}
+use Rattle.std.proofs.Common.{◌≡◌, ◌≢◌, ⊎_elim, ℕ, Bool, true, false, List, [], ◌∷◌, ◌++◌, refl, ap, sym, ◌∙◌, subst}
+use Rattle.std.specs.Prelude.{filter}
 use Rattle.std.proofs.lemmas.Bool.{cases_eq}
-use lib.Seq.{drop-length}
-use Rattle.pot_bytes.specs.declared.digest.Digest.{Digest}
-use Rattle.pot_bytes.specs.declared.rack.Geometry.{Geometry}
 use Rattle.pot_bytes.specs.declared.rack.Place.{Place}
 use Rattle.pot_bytes.specs.declared.rack.Rack.{Rack}
 use Rattle.pot_machine.specs.declared.entry.Entry.{Entry}
-use Rattle.pot_machine.specs.declared.entry.Entry.TheVariants as entry
-use Rattle.pot_machine.specs.Logs.{IsKeptPut, own}
-use Rattle.pot_machine.specs.Table.{Table}
-use Rattle.pot_steps.specs.GroupStep.{Passed, gone_entries, skips}
-use Rattle.pot_bytes.specs.Digests.{digest_of}
-use Rattle.pot_group.specs.declared.answers.PutFault.{PutFault}
-use Rattle.pot_group.specs.declared.answers.PutFault.TheVariants as fault
-use Rattle.pot_index.specs.declared.record.Split.{Split}
+use Rattle.pot_machine.specs.Logs.{own}
 use Rattle.pot_pads.specs.Pads.{Pads}
 use Rattle.pot_turn.specs.declared.name.TurnName.{TurnName}
-use Rattle.pot_replies.specs.Stores.{IsUnkept, Placed, Puts, in_group}
-use Rattle.pot_rows.specs.Rows.{view_at}
-use Rattle.pot_rows.specs.Works.{AllIdle, RowWorked}
+use Rattle.pot_rows.specs.Works.{AllIdle}
 use Rattle.pot_rows.proofs.WorkLemmas.{row_work_in_parts, row_alone_in_parts}
 use Rattle.pot_shared.specs.declared.mending.Mending.{Mending}
 use Rattle.pot_shared.specs.MendCalls.{MendsPlace}
-use Rattle.pot_shared.specs.Members.{entries_of}
-use Rattle.pot_shared.specs.Ready.{AreReady, GroupPass, GroupPasses}
+use Rattle.pot_shared.specs.Ready.{AreReady, GroupPasses}
 use Rattle.pot_shared.specs.Seen.{RowKnowsMore}
 use Rattle.pot_shared.specs.Adds.{Adds}
 use Rattle.pot_shared.specs.Blinds.{BeganNone, Blinds, GoesOver, Mends, Part, Quiet, is_begin}

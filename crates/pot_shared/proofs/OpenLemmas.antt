@@ -17,7 +17,8 @@ use Rattle.pot_turn.specs.Views.{first_view, spent_view}
 use Rattle.pot_rows.specs.Rows.{AreOf, view_at}
 use Rattle.pot_shared.specs.declared.catalog.CatalogOrigin.{CatalogOrigin}
 use Rattle.pot_shared.specs.Members.{kept_log, origin_of, entries_of, mark_at, opened_at}
-use Rattle.pot_shared.specs.Callers.{CanCall, VaultView}
+use Rattle.pot_shared.specs.Callers.{CanCall}
+use Rattle.pot_shared.specs.Vaults.{VaultView}
 use Rattle.pot_shared.specs.Ready.{AreReady, GroupPass, GroupPasses, IsTableOf}
 use Rattle.pot_shared.specs.Catalogs.{IndexPasses, IsIndexReady}
 use Rattle.pot_shared.specs.Sharing.{AreFirst, HaveLogs}

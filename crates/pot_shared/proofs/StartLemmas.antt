@@ -1,27 +1,23 @@
 -- How a vault is made.
-use Rattle.std.proofs.Common.{◌≡◌, ◌<◌, ◌+◌, ◌-◌, inl, inr, ℕ, Bool, true, false, List, [], ◌∷◌, ◌++◌, Contains, length, refl, ap, sym, ◌∙◌, subst, arith, append-nil, cond}
-use Rattle.std.specs.Prelude.{nat_lt, map, slice_get, Some, option_map, ◌^◌}
+use Rattle.std.proofs.Common.{◌≡◌, ◌<◌, inl, inr, ℕ, false, List, [], ◌∷◌, Contains, length, ap, sym, ◌∙◌, subst, arith}
+use Rattle.std.specs.Prelude.{map, slice_get, Some, option_map, ◌^◌}
 use Rattle.std.proofs.lemmas.List.{length-map}
 use Rattle.std.proofs.lemmas.Option.{slice_get-map, slice_get_cases, slice_get_within, get_or_from_slice_get, same_Some}
-use Rattle.std.proofs.lemmas.Bool.{cases_lt}
 use Rattle.pot_group.specs.Group.{GroupView}
 use Rattle.pot_bytes.specs.declared.rack.Rack.{Rack}
 use Rattle.pot_index.specs.Index.{IndexView, Names, IsIndex, Replays, names_read}
 use Rattle.pot_turn.specs.declared.name.TurnName.{TurnName}
-use Rattle.pot_turn.specs.declared.view.Stretch.{Stretch}
-use Rattle.pot_turn.specs.Logs.{longer}
-use Rattle.pot_turn.specs.Views.{first_view, cut_view, new_view, both_views, spent_view}
+use Rattle.pot_turn.specs.Views.{first_view, cut_view, spent_view}
 use Rattle.pot_rows.specs.Ends.{HasAllParts, RowClosed}
-use Rattle.pot_rows.specs.Parts.{RowCut, RowNew, RowJoined}
+use Rattle.pot_rows.specs.Parts.{RowCut, RowNew}
 use Rattle.pot_rows.specs.Rows.{AreOf, HasMoreParts, IsIdle, view_at}
 use Rattle.pot_rows.proofs.RowLemmas.{at_past}
-use Rattle.pot_shared.specs.declared.member.Logged.{Logged}
 use Rattle.pot_shared.specs.declared.catalog.CatalogOrigin.{CatalogOrigin}
 use Rattle.pot_shared.specs.Members.{kept_log, origin_of as group_origin}
 use Rattle.pot_shared.specs.Ready.{GroupPass, GroupPasses, AreReady, IsOrigin}
 use Rattle.pot_shared.specs.Catalogs.{KeepsSeen, Publishes, IndexPasses, IsIndexReady, IsIndexOf}
 use Rattle.pot_shared.specs.Sharing.{SameAt, HasAllButKept, IsGroupOf, AreFirst, HaveLogs}
-use Rattle.pot_shared.proofs.SharingLemmas.{new_ready}
+use Rattle.pot_shared.proofs.SharingLemmas.{new_ready, cut_ready}
 
 -- an index that has published nothing, with new passes of two parts each
 pub keeps_first : (rack : Rack) (names : List TurnName) (old kept : GroupPasses) (index : IndexView) → AreReady rack names old → AreOf names kept → RowNew 2 old kept
@@ -39,34 +35,6 @@ keeps_first rack names old kept index ready of new same log is_index count = rec
   told = (λ r has. (let now : index.now ≡ names_read index.read = subst (λ l. Replays index.rack (names_read index.read) l index.now) log is_index.replays in
       inl (subst (λ (n : Names). Contains n.published r) now has)));
 }
-
-longer_self : {X : Type 0} (xs : List X) → longer xs xs ≡ xs
-longer_self xs = either (nat_lt (length xs) (length xs))
-  where
-    either : (b : Bool) → cond b xs xs ≡ xs
-    either true = refl
-    either false = refl
-
--- the parts that were given come back
-abbrev with_parts : GroupPass → List Logged → List Stretch → ℕ → ℕ → GroupPass
-with_parts v seen joined made parts = record { holds = v.holds; opened = v.opened; seen = seen; turns = v.turns; joined = joined; made = made; parts = parts; origin = v.origin }
-
-one_back : (v : GroupPass) → 2 < v.parts → both_views (cut_view 2 v) (new_view 2 v) ≡ v
-one_back v some =
-    ap (λ s. with_parts v s (v.joined ++ []) (v.made + 0) ((v.parts - 2) + 2)) (longer_self v.seen)
-    ∙ (ap (λ j. with_parts v v.seen j (v.made + 0) ((v.parts - 2) + 2)) (append-nil v.joined)
-    ∙ (ap (λ m. with_parts v v.seen v.joined m ((v.parts - 2) + 2)) (let e : v.made + 0 ≡ v.made = omega arith in e)
-    ∙ ap (λ p. with_parts v v.seen v.joined v.made p) (let e : (v.parts - 2) + 2 ≡ v.parts = omega (arith, some) in e)))
-
-pub back_again : (names : List TurnName) (old cut kept new : GroupPasses) → AreOf names old → AreOf names cut → AreOf names kept → AreOf names new
-    → RowCut 2 old cut → RowNew 2 old kept → RowJoined cut kept new → HasMoreParts 2 old → SameAt old new
-back_again names old cut kept new of of_cut of_kept of_new is_cut is_new joined some at = elim (cases_lt at (length names)) [
-  | inl lt ↦
-      let within : at < length old.names = (let l = ap length of.0 in omega (arith, lt, l)) in
-      (joined at).both ∙ (ap (λ (v : GroupPass). both_views v (view_at kept at)) (is_cut at within) ∙ (ap (λ (w : GroupPass). both_views (cut_view 2 (view_at old at)) w) (is_new at within)
-      ∙ one_back (view_at old at) (some at within)))
-  | inr le ↦ at_past names new at of_new le ∙ sym (at_past names old at of le)
-]
 
 -- THE FIRST PASSES
 
@@ -112,15 +80,8 @@ module _ {M : Type 0} (see : M → GroupView) (members : List M) (rack : Rack) (
     names_long : length names ≡ length row.names
     names_long = ap length (sym of.0)
 
-    pub cut_ready : AreReady rack names cut
-    cut_ready = record {
-      of = of_cut;
-      idle = (λ g. elim (cases_lt g (length names)) [
-        | inl lt ↦ ap (λ (v : GroupPass). v.holds) (is g (let l = names_long in omega (arith, lt, l))) ∙ first_ready.idle g
-        | inr le ↦ ap (λ (v : GroupPass). v.holds) (at_past names cut g of_cut le)
-      ]);
-      origins = (λ g lt. subst (λ o. IsOrigin rack g o) (sym (ap (λ (v : GroupPass). v.origin) (is g (let l = names_long in omega (arith, lt, l))))) (first_ready.origins g lt));
-    }
+    pub first_cut_ready : AreReady rack names cut
+    first_cut_ready = cut_ready rack names 2 row cut first_ready of_cut is
 
     pub all_but_kept : HasAllButKept cut
     all_but_kept g lt =

@@ -1,35 +1,16 @@
 -- What a job needs of the passes that it calls a vault with, and what is said of its work.
-use Rattle.std.specs.Prelude.{◌≡◌, ℕ, List, length}
+use Rattle.std.specs.Prelude.{◌≡◌, ℕ, length}
 use Rattle.pot_bytes.specs.Rack.{IsRack}
 use Rattle.pot_bytes.specs.declared.rack.Rack.{Rack}
-use Rattle.pot_turn.specs.declared.name.TurnName.{TurnName}
 use Rattle.pot_rows.specs.Rows.{HasMoreParts}
 use Rattle.pot_replies.specs.Sections.{Section}
 use Rattle.pot_replies.specs.Settings.{Setting}
 use Rattle.pot_shared.specs.declared.caller.Caller.{Caller}
-use Rattle.pot_shared.specs.declared.vault.Vault.{Vault}
-use Rattle.pot_shared.specs.declared.vault.Passes.{Passes}
 use Rattle.pot_bytes.specs.declared.rack.Place.{Place}
 use Rattle.pot_shared.specs.Ready.{AreReady, GroupPasses, HasSlot}
 use Rattle.pot_shared.specs.Catalogs.{IndexPasses, IsIndexReady}
-use Rattle.pot_shared.specs.Works.{Known, known, JobAlone, IsSettingOf, section_of}
-
--- the rack of a vault, and its turns
-pub record VaultView : Type 0 where
-  pub rack : Rack
-  pub groups : List TurnName
-  pub index : List TurnName
-
-abbrev pub vault_view : Rack → List TurnName → List TurnName → VaultView
-vault_view rack groups index = record { rack = rack; groups = groups; index = index }
-
--- those of this vault
-abbrev pub vault_of : {A : Type 0} → Vault A → VaultView
-vault_of v = vault_view v.rack v.groups v.index
-
--- what these passes know
-abbrev pub known_of : {A : Type 0} → Passes A → Known
-known_of p = known p.groups p.index
+use Rattle.pot_shared.specs.Vaults.{VaultView}
+use Rattle.pot_shared.specs.Works.{Known, JobAlone, IsSettingOf, section_of}
 
 -- The vault has a turn for each group of its rack, and the passes can call all of its turns.
 pub record CanCall (v : VaultView) (k : Known) : Type 0 where

@@ -1,7 +1,8 @@
 -- What a locked call of a group does, as its caller's passes see it.
 use Rattle.std.specs.Prelude.{◌≡◌, ℕ, IsTrue, List, [], ◌++◌, Option, Some}
 use Rattle.pot_bytes.specs.declared.rack.Place.{Place}
-use Rattle.pot_outside.specs.Archives.{Account}
+use Rattle.pot_outside.specs.Accounts.{Account}
+use Rattle.pot_outside.specs.Archives.{Meaning}
 use Rattle.pot_machine.specs.declared.entry.Entry.{Entry}
 use Rattle.pot_machine.specs.Rules.{IsTable}
 use Rattle.pot_group.specs.declared.finding.Kind.{Kind}
@@ -41,7 +42,7 @@ pub record CallAt (told : Type 0) (R : GroupView → GroupView → List Entry �
   pub turn : CallTurn told R (view_at old group) pass
 
 -- the same of a group whose archives have this account, which says whether they tell
-abbrev pub MakesAt : {A : Type 0} → Account A
+abbrev pub MakesAt : {A : Type 0} → Account A Meaning
     → (Type 0 → GroupView → GroupView → List Entry → Type 0) → ℕ → GroupPasses → GroupPasses
     → Type 0
 MakesAt account row group old new =

@@ -1,6 +1,6 @@
 -- What a vault leaves when it ends: the table and the log of each group, the records and the log of
 -- the index, and all archives.
-use Rattle.std.specs.Prelude.{◌≡◌, ◌<◌, ◌≤◌, ◌^◌, All, Contains, ◌++◌, ℕ, List, [], Some, length}
+use Rattle.std.specs.Prelude.{◌≡◌, ◌<◌, ◌^◌, All, Contains, ◌++◌, ℕ, List, [], Some, length}
 use Rattle.std.specs.Prelude.{slice_get}
 use Rattle.pot_outside.specs.Archives.{Meaning}
 use Rattle.pot_outside.specs.declared.archive.Shelf.{Shelf}

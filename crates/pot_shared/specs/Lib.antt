@@ -10,6 +10,7 @@ pub mod Sharing
 pub mod Works
 pub mod Adds
 pub mod Blinds
+pub mod Vaults
 pub mod Callers
 pub mod Going
 pub mod Hands

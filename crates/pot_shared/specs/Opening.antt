@@ -4,7 +4,8 @@ use Rattle.pot_bytes.specs.declared.rack.Rack.{Rack}
 use Rattle.pot_machine.specs.Table.{Table}
 use Rattle.pot_index.specs.declared.record.Record.{Record}
 use Rattle.pot_rows.specs.Ends.{HasAllParts}
-use Rattle.pot_shared.specs.Callers.{CanCall, VaultView}
+use Rattle.pot_shared.specs.Callers.{CanCall}
+use Rattle.pot_shared.specs.Vaults.{VaultView}
 use Rattle.pot_shared.specs.Groups.{AreFirstPasses, records_read, tables_read}
 use Rattle.pot_shared.specs.Sharing.{HasAllButKept}
 use Rattle.pot_shared.specs.Works.{Known}

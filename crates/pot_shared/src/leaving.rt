@@ -74,7 +74,6 @@ fn end_group<A: Archive>(group: Group<A>, remains: &mut Remains<A>)
 
 impl<A: Archive> Vault<A> {
     ghost use Rattle.pot_outside.specs.Archives.{Meaning};
-    ghost use Rattle.pot_shared.specs.Callers.{known_of, vault_of};
     ghost use Rattle.pot_shared.specs.Groups.{AreLow, AreServed, HaveCome, IsServedFrom};
     ghost use Rattle.pot_shared.specs.Groups.{tables_read};
     ghost use Rattle.pot_shared.specs.Hands.{AreApart, AreSame};
@@ -88,26 +87,26 @@ impl<A: Archive> Vault<A> {
     /// its index, and all archives remain, those that came since it was opened too. In which order the archives are is not told, nor
     /// what relays the tables have.
     pub fn end(self, passes: Passes<A>, spaces: Spaces<A>, remains: Remains<A>) -> Remains<A>
-        requires served { (old : Known) × (numbers : List ℕ) × AreServed old (known_of passes)
-            × HaveCome old (known_of passes) numbers × AreApart numbers × AreLow numbers }
-        requires vault { CanEnd (vault_of self) (known_of passes) spaces }
+        requires served { (old : Known) × (numbers : List ℕ) × AreServed old passes
+            × HaveCome old passes numbers × AreApart numbers × AreLow numbers }
+        requires vault { CanEnd self passes spaces }
         requires bare { IsBare remains }
         requires space { HasSpace (length (tables_read passes.groups)) 512 remains }
-        ensures hand { (old : Known) (numbers : List ℕ) → AreServed old (known_of passes)
-            → HaveCome old (known_of passes) numbers
+        ensures hand { (old : Known) (numbers : List ℕ) → AreServed old passes
+            → HaveCome old passes numbers
             → AreSame (numbers_of result.hand.items) numbers }
         ensures groups { (old : Known) (meant : ℕ → Meaning)
-            → IsServedFrom (IsTrue A.account.tells) meant old (known_of passes)
+            → IsServedFrom (IsTrue A.account.tells) meant old passes
             → LeaveGroups (IsTrue A.account.tells) meant
             (IsInHand A.account.meaning result.hand.items) (tables_read passes.groups)
             (map (λ v. v.items) result.logs.items) (map still result.tables.items) }
         ensures opened { (old : Known) (meant : ℕ → Meaning)
-            → IsServedFrom (IsTrue A.account.tells) meant old (known_of passes)
+            → IsServedFrom (IsTrue A.account.tells) meant old passes
             → IsTrue A.account.tells
             → AreOpened meant (RoseInHand A.account.meaning result.hand.items meant)
-            (tables_read passes.groups) (section_of old (known_of passes)) }
-        ensures logs { (old : Known) → AreServed old (known_of passes)
-            → LeavesLogs old (known_of passes) self.rack (map (λ v. v.items) result.logs.items)
+            (tables_read passes.groups) (section_of old passes) }
+        ensures logs { (old : Known) → AreServed old passes
+            → LeavesLogs old passes self.rack (map (λ v. v.items) result.logs.items)
             result.index_log.items result.records.items }
         ensures countable { (length result.records.items < 2 ^ 32)
             × AreShort (map (λ v. v.items) result.logs.items)

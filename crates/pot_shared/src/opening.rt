@@ -8,7 +8,6 @@ ghost use Rattle.pot_machine.specs.Table.{archives_in};
 ghost use Rattle.pot_index.specs.Index.{AreRead};
 ghost use Rattle.pot_group.specs.Group.{view_of};
 ghost use Rattle.pot_shelves.specs.Shelves.{numbers_of};
-ghost use Rattle.pot_shared.specs.Callers.{known_of, vault_of};
 ghost use Rattle.pot_shared.specs.Groups.{AreMarked, AreOfRack, AreStarted, AreTakenAt};
 ghost use Rattle.pot_shared.specs.Groups.{AreTakenFrom, IsFirstTable, IsOpened, IsStarted, RoseBy};
 ghost use Rattle.pot_shared.specs.Groups.{had_by};
@@ -147,7 +146,7 @@ fn share<A: Archive>(
     ensures opened { IfOk result
         (λ p.
         IsOpenedFrom rack.now (map (λ m. (view_of A.account.meaning m.group).first) members.items)
-        records.items (vault_of p.0) (known_of p.1)) }
+        records.items p.0 p.1) }
     ensures taken { (meant : ℕ → Meaning)
         → AreTakenFrom meant (λ m. view_of A.account.meaning m.group) members.items
         → IfOk result (λ p. AreTakenAt meant p.1.groups) }
@@ -194,10 +193,11 @@ impl<A: Archive> Vault<A> {
         requires records { AreRead rack.now records.items }
         requires hand { numbers_of remains.old.hand.items ≡ flat_map archives_in tables.items }
         requires fresh { IsFresh remains.old }
-        requires space { HasSpace (length tables.items) (length remains.old.hand.items) remains.old }
+        requires space { HasSpace (length tables.items)
+            (length remains.old.hand.items) remains.old }
         ensures opened { IfOk result
             (λ p.
-            IsOpenedFrom rack.now tables.items records.items (vault_of p.0) (known_of p.1)) }
+            IsOpenedFrom rack.now tables.items records.items p.0 p.1) }
         ensures taken { (meant : ℕ → Meaning) → IsTrue A.account.tells
             → AreMeant A.account.meaning meant remains.old.hand.items
             → IfOk result (λ p. AreTakenAt meant p.1.groups) }

@@ -1,4 +1,6 @@
 //! The groups and the index of a session, each under a turn.
+ghost use Rattle.std.specs.Prelude.{◌≡◌};
+
 use crate::catalog::Catalog;
 use crate::member::Member;
 use pot_bytes::Rack;
@@ -6,24 +8,49 @@ use pot_outside::Archive;
 use pot_rows::Turns;
 use std::marker::Model;
 
-/// The groups of a session, each under a turn.
+/// The groups of a session, each under a turn. Contracts see the rack, and the names of the turns.
 #[derive(Drop)]
 pub struct Vault<A: Archive> {
     /// The shape of the archive.
-    pub rack: Rack,
+    pub(crate) rack: Rack,
     /// The turn of each group, in the order of their numbers.
-    pub groups: Turns<Member<A>>,
+    pub(crate) groups: Turns<Member<A>>,
     /// The turn of the index, alone in its row.
-    pub index: Turns<Catalog<A>>,
+    pub(crate) index: Turns<Catalog<A>>,
 }
 
-/// What a job has of a vault: a pass of each turn.
+impl<A: Archive> Model for Vault<A> {
+    ghost use Rattle.pot_shared.specs.Vaults.{VaultView, vault_view};
+
+    ghost Value = { VaultView };
+
+    ghost view = { λ v. vault_view v.rack v.groups v.index };
+}
+
+impl<A: Archive> Vault<A> {
+    /// The shape of the archive.
+    pub fn rack(&self) -> &Rack
+        ensures { result.now ≡ self.now.rack }
+    {
+        &self.rack
+    }
+}
+
+/// What a job has of a vault: a pass of each turn. Contracts see what these know.
 #[derive(Drop)]
 pub struct Passes<A: Archive> {
     /// A pass of each group.
-    pub groups: pot_rows::Passes<Member<A>>,
+    pub(crate) groups: pot_rows::Passes<Member<A>>,
     /// A pass of the index.
-    pub index: pot_rows::Passes<Catalog<A>>,
+    pub(crate) index: pot_rows::Passes<Catalog<A>>,
+}
+
+impl<A: Archive> Model for Passes<A> {
+    ghost use Rattle.pot_shared.specs.Works.{Known, known};
+
+    ghost Value = { Known };
+
+    ghost view = { λ p. known p.groups p.index };
 }
 
 /// Room for the groups and the index of a vault at its end, so that a close takes no memory. A vault does not hold it, since

@@ -7,7 +7,8 @@ use Rattle.pot_outside.specs.declared.archive.Marks.{Marks}
 use Rattle.pot_outside.specs.declared.archive.Shelf.{Shelf}
 use Rattle.pot_outside.specs.declared.faults.Failed.{Failed}
 use Rattle.pot_outside.specs.declared.archive.Held.{Held as IsHeld}
-use Rattle.pot_outside.specs.Archives.{Account, Meaning, OnlyLoses, ReadTells, FoldTells, LeavesSum}
+use Rattle.pot_outside.specs.Accounts.{Account}
+use Rattle.pot_outside.specs.Archives.{Meaning, OnlyLoses, ReadTells, FoldTells, LeavesSum}
 use Rattle.pot_outside.specs.Archives.{HearsFold, at_slot}
 use Rattle.pot_outside.specs.Counts.{Rose}
 use Rattle.pot_steps.specs.Holdings.{Holdings}
@@ -67,7 +68,7 @@ plain meaning a = record {
 }
 
 -- said of archives as plain data before and after, and of whether they tell what they hold
-abbrev pub OnShelves : {A : Type 0} → Account A → (Type 0 → Shelves → Shelves → Type 0) → Shelved A
+abbrev pub OnShelves : {A : Type 0} → Account A Meaning → (Type 0 → Shelves → Shelves → Type 0) → Shelved A
     → Shelved A → Type 0
 OnShelves account R old new =
     R (IsTrue account.tells) (plain account.meaning old) (plain account.meaning new)
@@ -103,7 +104,7 @@ Calls meaning R old new = R (meaning old) (meaning new)
 
 -- said of what the archive of a number meant and means, where it alone was called, and of whether
 -- it tells what it holds
-abbrev pub OnShelf : {A : Type 0} → Account A → ℕ → (Type 0 → Meaning → Meaning → Type 0)
+abbrev pub OnShelf : {A : Type 0} → Account A Meaning → ℕ → (Type 0 → Meaning → Meaning → Type 0)
     → List (Shelf A) → List (Shelf A) → Type 0
 OnShelf account number R old new =
     Touches number (Calls account.meaning (R (IsTrue account.tells))) old new

@@ -6,7 +6,6 @@ ghost use Rattle.pot_object.specs.Pieces.{pieces_of};
 ghost use Rattle.pot_index.specs.Fits.{FitsRack};
 ghost use Rattle.pot_rows.specs.Rows.{HasMoreParts};
 ghost use Rattle.pot_shared.specs.Callers.{AreReadyFor, IsIndexReadyFor, HasAllGroups, JudgedFor};
-ghost use Rattle.pot_shared.specs.Callers.{known_of};
 ghost use Rattle.pot_shared.specs.Works.{JobWorked};
 ghost use Rattle.pot_store.specs.Reads.{FileRead, RecordRead};
 ghost use Rattle.pot_store.specs.Fetches.{AreFilled, FetchRow};
@@ -83,10 +82,10 @@ pub fn fetch_file<A: Archive, R: Wait>(
     ensures ready { AreReadyFor caller.now passes.new.groups }
     ensures index { IsIndexReadyFor caller.now passes.new.index }
     ensures parts { HasMoreParts 1 passes.new.groups }
-    ensures worked { JobWorked caller.now.job (known_of passes.old) (known_of passes.new) }
-    ensures says { JudgedFor caller.now (known_of passes.old) (known_of passes.new)
+    ensures worked { JobWorked caller.now.job passes.old passes.new }
+    ensures says { JudgedFor caller.now passes.old passes.new
         (λ s w. s.mends ≡ true → AreFilled s → FetchRow s caller.now.job name.now result w) }
-    ensures stored { JudgedFor caller.now (known_of passes.old) (known_of passes.new)
+    ensures stored { JudgedFor caller.now passes.old passes.new
         (λ s w. s.mends ≡ true → AreFilled s → FetchGives s caller.now.job name.now result w) }
     ensures blinds { Blinds (IsTrue A.account.tells) caller.now.job pads.old pads.new
         passes.old.groups passes.new.groups }

@@ -82,9 +82,10 @@ pub(crate) fn put_all<A: Archive, R: Wait>(
         e.group e.cause passes.old.groups passes.new.groups) }
 {
     let Caller { rt, vault, job, .. } = *caller;
+    let rack = vault.rack();
     for number in 0..count {
-        let group = group_of(&vault.rack, geometry, number);
-        let groups = (group, group_of(&vault.rack, geometry, number + 1));
+        let group = group_of(rack, geometry, number);
+        let groups = (group, group_of(rack, geometry, number + 1));
         look_ahead(caller, passes, drawing, groups);
         let next = drawing.next(groups);
         match vault.put(rt, passes, group, job, &next) {

@@ -7,7 +7,6 @@ ghost use Rattle.pot_index.specs.Fits.{FitsGeometry};
 ghost use Rattle.pot_rows.specs.Rows.{HasMoreParts};
 ghost use Rattle.pot_rows.specs.Works.{RowWorked};
 ghost use Rattle.pot_shared.specs.Callers.{AreReadyFor, IsIndexReadyFor, HasAllGroups, JudgedFor};
-ghost use Rattle.pot_shared.specs.Callers.{known_of};
 ghost use Rattle.pot_shared.specs.Works.{of_job, JobWorked};
 ghost use Rattle.pot_store.specs.Fetches.{AreFilled};
 ghost use Rattle.pot_store.specs.Renewals.{of_find, of_fetch, of_put, of_renew, PutsSplit};
@@ -148,7 +147,7 @@ fn put_split<A: Archive, R: Wait>(
         result passes.old.groups passes.new.groups }
 {
     let Caller { alloc, vault, .. } = *caller;
-    let Ok(plan) = prepare(alloc, vault.rack.columns, geometry, file, pads) else {
+    let Ok(plan) = prepare(alloc, vault.rack().columns, geometry, file, pads) else {
         return Err(RenewFileFault::NoMemory);
     };
     let Plan {
@@ -198,8 +197,8 @@ pub fn renew_file<A: Archive, R: Wait>(
     requires geometry { FitsGeometry caller.now.vault.now.rack geometry.now }
     ensures ready { AreReadyFor caller.now passes.new.groups }
     ensures index { IsIndexReadyFor caller.now passes.new.index }
-    ensures worked { JobWorked caller.now.job (known_of passes.old) (known_of passes.new) }
-    ensures says { JudgedFor caller.now (known_of passes.old) (known_of passes.new)
+    ensures worked { JobWorked caller.now.job passes.old passes.new }
+    ensures says { JudgedFor caller.now passes.old passes.new
         (λ s w. s.mends ≡ true → AreFilled s → RenewsFrom s pads geometry.now caller.now.job
         → RenewRow s caller.now.job name.now geometry.now result w) }
     ensures blinds { Blinds (IsTrue A.account.tells) caller.now.job blinds.old blinds.new

@@ -5,7 +5,6 @@ ghost use Rattle.pot_object.specs.Pieces.{longest};
 ghost use Rattle.pot_bytes.specs.Rack.{IsGeometry, IsRack};
 ghost use Rattle.pot_rows.specs.Rows.{HasMoreParts};
 ghost use Rattle.pot_shared.specs.Callers.{AreReadyFor, IsIndexReadyFor, HasAllGroups, JudgedFor};
-ghost use Rattle.pot_shared.specs.Callers.{known_of};
 ghost use Rattle.pot_shared.specs.Works.{JobWorked};
 ghost use Rattle.pot_store.specs.Stores.{DrawsFrom, StoreRow, record_of, fault_of, IsPlan};
 ghost use Rattle.pot_store.specs.Stores.{IsUnplanned};
@@ -145,8 +144,8 @@ pub fn store_file<A: Archive, R: Wait>(
     requires job { 0 < caller.now.job }
     ensures ready { AreReadyFor caller.now passes.new.groups }
     ensures index { IsIndexReadyFor caller.now passes.new.index }
-    ensures worked { JobWorked caller.now.job (known_of passes.old) (known_of passes.new) }
-    ensures says { JudgedFor caller.now (known_of passes.old) (known_of passes.new)
+    ensures worked { JobWorked caller.now.job passes.old passes.new }
+    ensures says { JudgedFor caller.now passes.old passes.new
         (λ s w. DrawsFrom s pads caller.now.job file.now
         → StoreRow s caller.now.job name.now file.now result w) }
 {
@@ -156,13 +155,14 @@ pub fn store_file<A: Archive, R: Wait>(
         vault,
         job,
     } = *caller;
-    let geometry = &vault.rack.geometry;
+    let rack = vault.rack();
+    let geometry = &rack.geometry;
     let Plan {
         pieces,
         shards,
         mut drawing,
         mut places,
-    } = prepare(alloc, vault.rack.columns, geometry, file, pads)?;
+    } = prepare(alloc, rack.columns, geometry, file, pads)?;
     match vault.reserve(rt, passes, job, name) {
         Ok(()) => {}
         Err(ReserveFault::LogFull) => return Err(StoreFault::IndexLogFull),

@@ -22,7 +22,7 @@ const SOURCE_FAULT: u8 = 4;
 const NO_MEMORY: u8 = 70;
 
 /// The words after the program's name. Where one is not UTF-8 there are none, which a session refuses as it
-/// refuses any words but `run`.
+/// refuses all words that spell no task.
 fn words(rt: &HostRuntime) -> Option<Vec<String>> {
     match env::args(rt) {
         Ok(all) => all.skip(1).collect::<Vec<String>>(rt.alloc()).ok(),

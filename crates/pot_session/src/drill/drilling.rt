@@ -3,7 +3,7 @@
 ghost use Rattle.std.specs.Prelude.{◌≡◌, ◌≤◌, ◌++◌, [], codes, length, IsTrue, IfOk, OnOk, IsErrOf};
 ghost use Rattle.pot_bytes.specs.Rack.{IsGeometry};
 ghost use Rattle.pot_object.specs.Pieces.{longest, pieces_of};
-ghost use Rattle.pot_outside.specs.Counts.{Caused};
+ghost use Rattle.pot_outside.specs.Accounts.{Faults, met};
 ghost use Rattle.pot_shard.specs.FileBlocks.{random_len};
 ghost use Rattle.pot_session.specs.Drills.{DrillsTo, Drilled, Drills, IsDrill, exposed_text};
 ghost use Rattle.pot_session.specs.Drills.{random_of, read_most, report_text};
@@ -124,10 +124,12 @@ fn drill_source<S: Source>(
     source: &mut S,
 ) -> Result<Telling, Stop>
     requires { IsDrill task.now }
-    ensures drilled { Drilled task.now seed.now (IsTrue S.tells) (S.left source.old) result }
-    ensures read { IsTrue S.tells → ReadsAtMost read_most (S.left source.old) (S.left source.new) }
-    ensures whole { IsTrue S.tells → OnOk result (S.left source.new ≡ []) }
-    ensures cause { Caused (S.faults source.old) (S.faults source.new)
+    ensures drilled { Drilled task.now seed.now (met S.account source.old source.new) result }
+    ensures read { IsTrue S.account.tells
+        → ReadsAtMost read_most (met S.account source.old source.new) }
+    ensures whole { IsTrue S.account.tells
+        → OnOk result ((S.account.meaning source.new).held ≡ []) }
+    ensures cause { Faults S.account source.old source.new
         (IsErrOf result Stop.SourceFault) }
 {
     let bytes = match read_out(alloc, source, LONGEST_PAIR) {
@@ -153,11 +155,11 @@ pub(crate) fn drill_files<S: Source, K: Sink>(
     sink: &mut K,
 ) -> Status
     requires { IsDrill task.now }
-    ensures drills { Drills task.now drawn (IsTrue S.tells) (S.left source.old) (S.left source.new)
-        (IsTrue K.tells) (K.written sink.old) (K.written sink.new) result }
-    ensures source { Caused (S.faults source.old) (S.faults source.new)
+    ensures drills { Drills task.now drawn (met S.account source.old source.new)
+        (met K.account sink.old sink.new) result }
+    ensures source { Faults S.account source.old source.new
         (result ≡ Status.SourceFault) }
-    ensures sink { Caused (K.faults sink.old) (K.faults sink.new) (result ≡ Status.SinkFault) }
+    ensures sink { Faults K.account sink.old sink.new (result ≡ Status.SinkFault) }
 {
     let seed = task.seed.unwrap_or(drawn);
     match drill_source(alloc, task, &seed, source) {

@@ -1,14 +1,14 @@
 //! What `recover` writes of the objects that it found. It is written line by line and part by part, so no second copy of the files is made:
 //! the longest text in memory is one line, of fewer than 64 bytes.
 
-ghost use Rattle.std.specs.Prelude.{◌≡◌, ◌<◌, ◌≤◌, ◌++◌, ℕ, List, IsTrue, IfOk, OnOk, IsErrOf};
+ghost use Rattle.std.specs.Prelude.{◌≡◌, ◌<◌, ◌≤◌, ◌++◌, ℕ, List, IfOk, OnOk, IsErrOf};
 ghost use Rattle.std.specs.Prelude.{codes, length, take, flat_map, not, is_some};
 ghost use Rattle.std.specs.List.{list_any, range_with_len};
 ghost use Rattle.byteorder.specs.Endian.{big_bytes};
 ghost use Rattle.hex.specs.Hex.{encode_lower};
 ghost use Rattle.pot_chains.specs.Listed.{IsIn};
 ghost use Rattle.pot_object.specs.Objects.{head_at};
-ghost use Rattle.pot_outside.specs.Counts.{Caused};
+ghost use Rattle.pot_outside.specs.Accounts.{Faults, met};
 ghost use Rattle.pot_recover.specs.Choices.{IsSomeObject};
 ghost use Rattle.pot_recover.specs.Fronts.{has_front};
 ghost use Rattle.pot_session.specs.Listing.{Lists, Puts, count_line, file_line, file_text};
@@ -193,8 +193,8 @@ fn partial_line(alloc: Global, object: &[u8; 928], piece: u32) -> Result<Vec<u8>
 
 /// Writes a text.
 fn put<K: Sink>(text: &[u8], sink: &mut K) -> Result<(), ListFault>
-    ensures puts { Puts (IsTrue K.tells) (K.written sink.old) (K.written sink.new) text.now result }
-    ensures cause { Caused (K.faults sink.old) (K.faults sink.new)
+    ensures puts { Puts (met K.account sink.old sink.new) text.now result }
+    ensures cause { Faults K.account sink.old sink.new
         (IsErrOf result ListFault.SinkFault) }
 {
     match write_out(sink, text) {
@@ -206,8 +206,8 @@ fn put<K: Sink>(text: &[u8], sink: &mut K) -> Result<(), ListFault>
 /// Writes a line that there was memory for.
 fn put_line<K: Sink>(line: Result<Vec<u8>, AllocError>, sink: &mut K) -> Result<(), ListFault>
     ensures puts { (text : List ℕ) → IfOk line (λ v. v.items ≡ text)
-        → Puts (IsTrue K.tells) (K.written sink.old) (K.written sink.new) text result }
-    ensures cause { Caused (K.faults sink.old) (K.faults sink.new)
+        → Puts (met K.account sink.old sink.new) text result }
+    ensures cause { Faults K.account sink.old sink.new
         (IsErrOf result ListFault.SinkFault) }
 {
     match line {
@@ -218,9 +218,9 @@ fn put_line<K: Sink>(line: Result<Vec<u8>, AllocError>, sink: &mut K) -> Result<
 
 /// Writes the line of each object.
 fn put_objects<K: Sink>(alloc: Global, found: &Recovered, sink: &mut K) -> Result<(), ListFault>
-    ensures puts { Puts (IsTrue K.tells) (K.written sink.old) (K.written sink.new)
+    ensures puts { Puts (met K.account sink.old sink.new)
         (flat_map object_line found.now) result }
-    ensures cause { Caused (K.faults sink.old) (K.faults sink.new)
+    ensures cause { Faults K.account sink.old sink.new
         (IsErrOf result ListFault.SinkFault) }
 {
     for place in 0..found.len() {
@@ -239,9 +239,9 @@ fn put_part<K: Sink>(
     piece: u32,
     sink: &mut K,
 ) -> Result<(), ListFault>
-    ensures puts { Puts (IsTrue K.tells) (K.written sink.old) (K.written sink.new)
+    ensures puts { Puts (met K.account sink.old sink.new)
         (part_of (least_of found.now object.now piece)) result }
-    ensures cause { Caused (K.faults sink.old) (K.faults sink.new)
+    ensures cause { Faults K.account sink.old sink.new
         (IsErrOf result ListFault.SinkFault) }
 {
     match found.first_with(&front_at(object, piece)) {
@@ -252,9 +252,9 @@ fn put_part<K: Sink>(
 
 /// Writes the parts of all pieces.
 fn put_parts<K: Sink>(found: &Recovered, object: &[u8; 928], sink: &mut K) -> Result<(), ListFault>
-    ensures puts { Puts (IsTrue K.tells) (K.written sink.old) (K.written sink.new)
+    ensures puts { Puts (met K.account sink.old sink.new)
         (parts_of found.now object.now) result }
-    ensures cause { Caused (K.faults sink.old) (K.faults sink.new)
+    ensures cause { Faults K.account sink.old sink.new
         (IsErrOf result ListFault.SinkFault) }
 {
     for piece in 0..head_of(object).pieces {
@@ -273,9 +273,9 @@ fn put_whole<K: Sink>(
     object: &[u8; 928],
     sink: &mut K,
 ) -> Result<(), ListFault>
-    ensures puts { Puts (IsTrue K.tells) (K.written sink.old) (K.written sink.new)
+    ensures puts { Puts (met K.account sink.old sink.new)
         (file_line object.now ++ parts_of found.now object.now ++ codes "\n") result }
-    ensures cause { Caused (K.faults sink.old) (K.faults sink.new)
+    ensures cause { Faults K.account sink.old sink.new
         (IsErrOf result ListFault.SinkFault) }
 {
     match put_line(file_line(alloc, object), sink) {
@@ -295,10 +295,10 @@ fn put_file<K: Sink>(
     object: &[u8; 928],
     sink: &mut K,
 ) -> Result<bool, ListFault>
-    ensures puts { Puts (IsTrue K.tells) (K.written sink.old) (K.written sink.new)
+    ensures puts { Puts (met K.account sink.old sink.new)
         (file_text found.now object.now) result }
     ensures partial { IfOk result (λ partial. partial ≡ is_some (first_gap found.now object.now)) }
-    ensures cause { Caused (K.faults sink.old) (K.faults sink.new)
+    ensures cause { Faults K.account sink.old sink.new
         (IsErrOf result ListFault.SinkFault) }
 {
     match first_gap(found, object) {
@@ -322,10 +322,10 @@ fn put_first<K: Sink>(
 ) -> Result<bool, ListFault>
     requires objects { (object : List ℕ) → IsIn found.now object → IsSomeObject object }
     requires within { place < length found.now }
-    ensures puts { Puts (IsTrue K.tells) (K.written sink.old) (K.written sink.new)
+    ensures puts { Puts (met K.account sink.old sink.new)
         (text_at found.now place) result }
     ensures partial { IfOk result (λ partial. partial ≡ is_partial_at found.now place) }
-    ensures cause { Caused (K.faults sink.old) (K.faults sink.new)
+    ensures cause { Faults K.account sink.old sink.new
         (IsErrOf result ListFault.SinkFault) }
 {
     if has_earlier(found, place) {
@@ -337,10 +337,10 @@ fn put_first<K: Sink>(
 /// Writes each file at its first object. Answers whether some file is partial.
 fn put_files<K: Sink>(alloc: Global, found: &Recovered, sink: &mut K) -> Result<bool, ListFault>
     requires { (object : List ℕ) → IsIn found.now object → IsSomeObject object }
-    ensures puts { Puts (IsTrue K.tells) (K.written sink.old) (K.written sink.new)
+    ensures puts { Puts (met K.account sink.old sink.new)
         (flat_map (text_at found.now) (places_in found.now)) result }
     ensures partial { IfOk result (λ partial. partial ≡ has_partial found.now) }
-    ensures cause { Caused (K.faults sink.old) (K.faults sink.new)
+    ensures cause { Faults K.account sink.old sink.new
         (IsErrOf result ListFault.SinkFault) }
 {
     let mut partial = false;
@@ -356,10 +356,10 @@ fn put_files<K: Sink>(alloc: Global, found: &Recovered, sink: &mut K) -> Result<
 /// Writes the whole listing. Answers whether some file is partial.
 fn put_listing<K: Sink>(alloc: Global, found: &Recovered, sink: &mut K) -> Result<bool, ListFault>
     requires { (object : List ℕ) → IsIn found.now object → IsSomeObject object }
-    ensures puts { Puts (IsTrue K.tells) (K.written sink.old) (K.written sink.new)
+    ensures puts { Puts (met K.account sink.old sink.new)
         (listing found.now) result }
     ensures partial { IfOk result (λ partial. partial ≡ has_partial found.now) }
-    ensures cause { Caused (K.faults sink.old) (K.faults sink.new)
+    ensures cause { Faults K.account sink.old sink.new
         (IsErrOf result ListFault.SinkFault) }
 {
     match put_line(count_line(alloc, found.len()), sink) {
@@ -376,9 +376,9 @@ fn put_listing<K: Sink>(alloc: Global, found: &Recovered, sink: &mut K) -> Resul
 /// their first objects each file whose pieces are all there, or the least piece that is missing.
 pub(crate) fn list_objects<K: Sink>(alloc: Global, found: &Recovered, sink: &mut K) -> Status
     requires { (object : List ℕ) → IsIn found.now object → IsSomeObject object }
-    ensures lists { Lists (IsTrue K.tells) (K.written sink.old) (K.written sink.new) found.now
+    ensures lists { Lists (met K.account sink.old sink.new) found.now
         result }
-    ensures cause { Caused (K.faults sink.old) (K.faults sink.new) (result ≡ Status.SinkFault) }
+    ensures cause { Faults K.account sink.old sink.new (result ≡ Status.SinkFault) }
 {
     match put_listing(alloc, found, sink) {
         Ok(true) => Status::Refusals,

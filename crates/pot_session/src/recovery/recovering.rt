@@ -2,6 +2,8 @@
 
 ghost use Rattle.std.specs.Prelude.{◌≡◌, ◌≢◌, ◌<◌, ◌≤◌, ◌+◌, ◌*◌, ◌^◌, ℕ, IsTrue, IfOk, OnOk};
 ghost use Rattle.std.specs.Prelude.{IfErr, IsErr, IsErrOf, IsOk, ◌⊎◌, false, length};
+ghost use Rattle.pot_outside.specs.Accounts.{Faults, met};
+ghost use Rattle.pot_outside.specs.Rooms.{IsHome, StaysAt, met_room};
 ghost use Rattle.pot_outside.specs.Counts.{Caused};
 ghost use Rattle.pot_session.specs.Recovering.{Adds, AreHeldIn, FailsOr, FindsObjects, Gathers};
 ghost use Rattle.pot_session.specs.Recovering.{GiveObjects, GiveTooMany, HasFailed, IsRecovery};
@@ -95,19 +97,19 @@ fn read_archive<R: Room>(
     stripes: u32,
     blocks: &mut Vec<Block>,
 ) -> Result<(), RoomFault>
-    requires { R.out room.old number ≡ false }
+    requires { (R.meaning room.old).out number ≡ false }
     ensures gathers { IsTrue R.A.account.tells
         → OnOk result
-        (Gathers stripes (R.means room.old number) (R.means room.new number) blocks.old.items
-        blocks.new.items) }
+        (Gathers stripes ((R.meaning room.old).means number) ((R.meaning room.new).means number)
+        blocks.old.items blocks.new.items) }
     ensures length { length blocks.new.items ≤ length blocks.old.items + stripes }
-    ensures home { R.out room.new number ≡ false }
+    ensures home { (R.meaning room.new).out number ≡ false }
     ensures others { (n : ℕ) → n ≢ number
-        → (R.means room.new n ≡ R.means room.old n) × (R.out room.new n ≡ R.out room.old n) }
-    ensures cause { Caused (R.faults room.old) (R.faults room.new)
+        → StaysAt (R.meaning room.old) (R.meaning room.new) n }
+    ensures cause { Caused (R.meaning room.old).faults (R.meaning room.new).faults
         (IsErrOf result RoomFault.Failed) }
-    ensures own { FailsOr (IsTrue R.A.account.tells) (R.failures room.old) (R.failures room.new)
-        (HasFailed (R.means room.old number) (R.means room.new number))
+    ensures own { FailsOr (met_room R.A.account R.meaning room.old room.new)
+        (HasFailed ((R.meaning room.old).means number) ((R.meaning room.new).means number))
         (IsErrOf result RoomFault.Failed) }
 {
     match room.take(number) {
@@ -131,19 +133,21 @@ fn read_archives<R: Room>(
     room: &mut R,
 ) -> Result<Vec<Block>, RoomFault>
     requires task { IsRecovery task.now }
-    requires home { (n : ℕ) → R.out room.old n ≡ false }
+    requires home { IsHome (R.meaning room.old) }
     ensures held { IsTrue R.A.account.tells
         → IfOk result
         (λ v.
-        AreHeldIn task.now.archives task.now.stripes (R.means room.old) (R.means room.new)
+        AreHeldIn task.now.archives task.now.stripes (R.meaning room.old).means
+        (R.meaning room.new).means
         v.items) }
     ensures few { IfOk result (λ v. length v.items ≤ 512 * 4096) }
-    ensures home { (n : ℕ) → R.out room.new n ≡ false }
-    ensures others { (n : ℕ) → task.now.archives ≤ n → R.means room.new n ≡ R.means room.old n }
-    ensures cause { Caused (R.faults room.old) (R.faults room.new)
+    ensures home { IsHome (R.meaning room.new) }
+    ensures others { (n : ℕ) → task.now.archives ≤ n
+        → (R.meaning room.new).means n ≡ (R.meaning room.old).means n }
+    ensures cause { Caused (R.meaning room.old).faults (R.meaning room.new).faults
         (IsErrOf result RoomFault.Failed) }
-    ensures own { FailsOr (IsTrue R.A.account.tells) (R.failures room.old) (R.failures room.new)
-        (SomeFailed task.now.archives (R.means room.old) (R.means room.new))
+    ensures own { FailsOr (met_room R.A.account R.meaning room.old room.new)
+        (SomeFailed task.now.archives (R.meaning room.old) (R.meaning room.new))
         (IsErrOf result RoomFault.Failed) }
 {
     let mut blocks = Vec::new(alloc);
@@ -181,14 +185,16 @@ fn objects_in(
 /// `RoomFault` only where the room itself failed or one of the archives did.
 fn find_objects<R: Room>(alloc: Global, task: &Recover, room: &mut R) -> Result<Recovered, Stop>
     requires task { IsRecovery task.now }
-    requires home { (n : ℕ) → R.out room.old n ≡ false }
-    ensures finds { FindsObjects task.now (IsTrue R.A.account.tells) (R.means room.old)
-        (R.means room.new) result }
-    ensures home { (n : ℕ) → R.out room.new n ≡ false }
-    ensures others { (n : ℕ) → task.now.archives ≤ n → R.means room.new n ≡ R.means room.old n }
-    ensures cause { Caused (R.faults room.old) (R.faults room.new) (IsErrOf result Stop.RoomFault) }
-    ensures own { FailsOr (IsTrue R.A.account.tells) (R.failures room.old) (R.failures room.new)
-        (SomeFailed task.now.archives (R.means room.old) (R.means room.new))
+    requires home { IsHome (R.meaning room.old) }
+    ensures finds { FindsObjects task.now
+        (met_room R.A.account R.meaning room.old room.new) result }
+    ensures home { IsHome (R.meaning room.new) }
+    ensures others { (n : ℕ) → task.now.archives ≤ n
+        → (R.meaning room.new).means n ≡ (R.meaning room.old).means n }
+    ensures cause { Caused (R.meaning room.old).faults (R.meaning room.new).faults
+        (IsErrOf result Stop.RoomFault) }
+    ensures own { FailsOr (met_room R.A.account R.meaning room.old room.new)
+        (SomeFailed task.now.archives (R.meaning room.old) (R.meaning room.new))
         (IsErrOf result Stop.RoomFault) }
 {
     match read_archives(alloc, task, room) {
@@ -213,14 +219,15 @@ pub(crate) fn recover_files<K: Sink, R: Room>(
     room: &mut R,
 ) -> Status
     requires task { IsRecovery task.now }
-    requires home { (n : ℕ) → R.out room.old n ≡ false }
-    ensures recovers { Recovers task.now (IsTrue R.A.account.tells) (R.means room.old)
-        (R.means room.new) (IsTrue K.tells) (K.written sink.old) (K.written sink.new) result }
-    ensures home { (n : ℕ) → R.out room.new n ≡ false }
-    ensures sink { Caused (K.faults sink.old) (K.faults sink.new) (result ≡ Status.SinkFault) }
-    ensures room { Caused (R.faults room.old) (R.faults room.new) (result ≡ Status.RoomFault) }
-    ensures own { FailsOr (IsTrue R.A.account.tells) (R.failures room.old) (R.failures room.new)
-        (SomeFailed task.now.archives (R.means room.old) (R.means room.new))
+    requires home { IsHome (R.meaning room.old) }
+    ensures recovers { Recovers task.now (met_room R.A.account R.meaning room.old room.new)
+        (met K.account sink.old sink.new) result }
+    ensures home { IsHome (R.meaning room.new) }
+    ensures sink { Faults K.account sink.old sink.new (result ≡ Status.SinkFault) }
+    ensures room { Caused (R.meaning room.old).faults (R.meaning room.new).faults
+        (result ≡ Status.RoomFault) }
+    ensures own { FailsOr (met_room R.A.account R.meaning room.old room.new)
+        (SomeFailed task.now.archives (R.meaning room.old) (R.meaning room.new))
         (result ≡ Status.RoomFault) }
 {
     match find_objects(alloc, task, room) {

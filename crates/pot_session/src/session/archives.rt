@@ -1,7 +1,8 @@
 //! The archives of a session: taken from the room, and given back.
 
-ghost use Rattle.std.specs.Prelude.{◌≡◌, ◌⊎◌, ◌<◌, ◌≤◌, ℕ, [], IsTrue, OnOk, OnErr, IsErr, IsErrOf};
-ghost use Rattle.std.specs.Prelude.{false, length, vec_capacity};
+ghost use Rattle.std.specs.Prelude.{◌≡◌, ◌⊎◌, ◌<◌, ◌≤◌, [], IsTrue, OnOk, OnErr, IsErr, IsErrOf};
+ghost use Rattle.std.specs.Prelude.{length, vec_capacity};
+ghost use Rattle.pot_outside.specs.Rooms.{IsHome, met_room};
 ghost use Rattle.pot_outside.specs.Counts.{Caused};
 ghost use Rattle.pot_shelves.specs.Shelves.{numbers_of};
 ghost use Rattle.pot_shared.specs.Hands.{AreApart, AreMeant};
@@ -19,26 +20,25 @@ pub(crate) fn take_all<R: Room>(
     numbers: &[u32],
     hand: &mut Vec<Shelf<R::A>>,
 ) -> Result<(), RoomFault>
-    requires home { (n : ℕ) → R.out room.old n ≡ false }
+    requires home { IsHome (R.meaning room.old) }
     requires apart { AreApart numbers.now }
     requires empty { hand.old.items ≡ [] }
     requires space { length numbers.now ≤ vec_capacity hand.old }
     ensures taken { OnOk result (numbers_of hand.new.items ≡ numbers.now) }
-    ensures out { OnOk result (AreOut (R.out room.new) numbers.now) }
-    ensures home { OnErr result ((n : ℕ) → R.out room.new n ≡ false) }
+    ensures out { OnOk result (AreOut (R.meaning room.new) numbers.now) }
+    ensures home { OnErr result (IsHome (R.meaning room.new)) }
     ensures empty { OnErr result (hand.new.items ≡ []) }
     ensures space { vec_capacity hand.new ≡ vec_capacity hand.old }
-    ensures untouched { Untouched numbers.now (R.means room.old) (R.means room.new) }
+    ensures untouched { Untouched numbers.now (R.meaning room.old) (R.meaning room.new) }
     ensures meant { IsTrue R.A.account.tells
-        → OnOk result (AreMeant R.A.account.meaning (R.means room.old) hand.new.items) }
-    ensures cause { Caused (R.faults room.old) (R.faults room.new)
+        → OnOk result (AreMeant R.A.account.meaning (R.meaning room.old).means hand.new.items) }
+    ensures cause { Caused (R.meaning room.old).faults (R.meaning room.new).faults
         (IsErrOf result RoomFault.Failed) }
-    ensures own { Caused (R.failures room.old) (R.failures room.new)
+    ensures own { Caused (R.meaning room.old).failures (R.meaning room.new).failures
         (IsErrOf result RoomFault.Failed) }
-    ensures sound { OnOk result (R.failures room.new ≡ R.failures room.old) }
+    ensures sound { OnOk result ((R.meaning room.new).failures ≡ (R.meaning room.old).failures) }
     ensures unlent { IsErrOf result RoomFault.Failed
-        → IsUnlent (IsTrue R.A.account.tells) (R.means room.old) (R.means room.new)
-        (R.failures room.old) (R.failures room.new) }
+        → IsUnlent (met_room R.A.account R.meaning room.old room.new) }
 {
     for number in numbers {
         match room.take(*number) {
@@ -74,16 +74,15 @@ fn least_place<A>(shelves: &[Shelf<A>]) -> usize
 /// # Errors
 /// `Failed` exactly where the room itself failed at one of them. No archive is out then either, and those at which it did not fail are as they were.
 pub(crate) fn give_all<R: Room>(room: &mut R, hand: &mut Vec<Shelf<R::A>>) -> Result<(), Failed>
-    requires { AreOut (R.out room.old) (numbers_of hand.old.items) }
-    ensures home { (n : ℕ) → R.out room.new n ≡ false }
+    requires { AreOut (R.meaning room.old) (numbers_of hand.old.items) }
+    ensures home { IsHome (R.meaning room.new) }
     ensures empty { hand.new.items ≡ [] }
     ensures space { vec_capacity hand.new ≡ vec_capacity hand.old }
-    ensures untouched { Untouched (numbers_of hand.old.items) (R.means room.old)
-        (R.means room.new) }
-    ensures back { GivesBack (IsTrue R.A.account.tells) R.A.account.meaning hand.old.items
-        (R.means room.new)
-        (R.failures room.old) (R.failures room.new) result }
-    ensures cause { Caused (R.faults room.old) (R.faults room.new) (IsErr result) }
+    ensures untouched { Untouched (numbers_of hand.old.items) (R.meaning room.old)
+        (R.meaning room.new) }
+    ensures back { GivesBack R.A.account hand.old.items (R.meaning room.old)
+        (R.meaning room.new) result }
+    ensures cause { Caused (R.meaning room.old).faults (R.meaning room.new).faults (IsErr result) }
 {
     let mut answer = Ok(());
     while !hand.is_empty() {

@@ -1,14 +1,14 @@
 //! How a session closes.
 
-ghost use Rattle.std.specs.Prelude.{◌≡◌, ℕ, IsTrue, IsErr, IsErrOf, false, Some};
+ghost use Rattle.std.specs.Prelude.{◌≡◌, ℕ, IsTrue, IsErr, IsErrOf, false};
+ghost use Rattle.pot_outside.specs.Accounts.{Faults, met_by, met_whole};
+ghost use Rattle.pot_outside.specs.Rooms.{IsHome};
 ghost use Rattle.pot_outside.specs.Counts.{Caused};
-ghost use Rattle.pot_image.specs.Spelling.{image_bytes};
 ghost use Rattle.pot_shelves.specs.Shelves.{numbers_of};
-ghost use Rattle.pot_shared.specs.Callers.{known_of};
 ghost use Rattle.pot_commands.specs.Holding.{AreOut, Untouched};
 ghost use Rattle.pot_session.specs.Giving.{GivesBack};
 ghost use Rattle.pot_session.specs.Opened.{CanClose, IsStartOf, Start};
-ghost use Rattle.pot_session.specs.Serving.{Closes, IsCloseStop, desks_by, first_failure, rooms_by};
+ghost use Rattle.pot_session.specs.Serving.{Closes, IsCloseStop, first_failure};
 
 use crate::desk::keep_image;
 use crate::ending::stop::Stop;
@@ -42,23 +42,21 @@ pub(crate) fn close_session<R: Room, D: Desk>(
     room: &mut R,
     desk: &mut D,
 ) -> Result<(), Stop>
-    requires { CanClose (R.out room.old) opened }
-    ensures home { (n : ℕ) → R.out room.new n ≡ false }
-    ensures untouched { (n : ℕ) → R.out room.old n ≡ false
-        → R.means room.new n ≡ R.means room.old n }
+    requires { CanClose (R.meaning room.old) opened }
+    ensures home { IsHome (R.meaning room.new) }
+    ensures untouched { (n : ℕ) → (R.meaning room.old).out n ≡ false
+        → (R.meaning room.new).means n ≡ (R.meaning room.old).means n }
     // For each way in which it was opened and served:
     ensures closes { (s : Start) → IsStartOf (IsTrue R.A.account.tells) s opened
-        → Closes s.old (known_of opened.passes)
-        (rooms_by (IsTrue R.A.account.tells) s.meant (R.means room.new) s.failed
-        (R.failures room.new))
-        (R.failures room.old) (D.held desk.old ≡ Some (image_bytes s.first))
-        (desks_by (IsTrue D.tells) (D.held desk.new) (D.faults desk.old) (D.faults desk.new))
-        s.first result }
+        → Closes s.old opened.passes
+        (met_by R.A.account.tells s.room (R.meaning room.new))
+        (R.meaning room.old).failures (met_whole D.account desk.old desk.new) s.first result }
     ensures which { IsCloseStop result }
-    ensures room { Caused (R.faults room.old) (R.faults room.new) (IsErrOf result Stop.RoomFault) }
-    ensures own { Caused (R.failures room.old) (R.failures room.new)
+    ensures room { Caused (R.meaning room.old).faults (R.meaning room.new).faults
         (IsErrOf result Stop.RoomFault) }
-    ensures desk { Caused (D.faults desk.old) (D.faults desk.new) (IsErrOf result Stop.DeskFault) }
+    ensures own { Caused (R.meaning room.old).failures (R.meaning room.new).failures
+        (IsErrOf result Stop.RoomFault) }
+    ensures desk { Faults D.account desk.old desk.new (IsErrOf result Stop.DeskFault) }
 {
     let Opened {
         session,
@@ -90,13 +88,13 @@ pub(crate) fn close_session<R: Room, D: Desk>(
 
 /// Gives back all archives of a hand.
 fn give_hand<R: Room>(room: &mut R, hand: Vec<Shelf<R::A>>) -> Result<(), Failed>
-    requires { AreOut (R.out room.old) (numbers_of hand.items) }
-    ensures home { (n : ℕ) → R.out room.new n ≡ false }
-    ensures untouched { Untouched (numbers_of hand.items) (R.means room.old) (R.means room.new) }
-    ensures back { GivesBack (IsTrue R.A.account.tells) R.A.account.meaning hand.items
-        (R.means room.new)
-        (R.failures room.old) (R.failures room.new) result }
-    ensures cause { Caused (R.faults room.old) (R.faults room.new) (IsErr result) }
+    requires { AreOut (R.meaning room.old) (numbers_of hand.items) }
+    ensures home { IsHome (R.meaning room.new) }
+    ensures untouched { Untouched (numbers_of hand.items) (R.meaning room.old)
+        (R.meaning room.new) }
+    ensures back { GivesBack R.A.account hand.items (R.meaning room.old)
+        (R.meaning room.new) result }
+    ensures cause { Caused (R.meaning room.old).faults (R.meaning room.new).faults (IsErr result) }
 {
     let mut hand = hand;
     let given = give_all(room, &mut hand);

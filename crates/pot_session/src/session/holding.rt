@@ -1,6 +1,8 @@
 //! A session, from the desk's image and the script to its close.
 
-ghost use Rattle.std.specs.Prelude.{◌≡◌, ◌<◌, ℕ, IsTrue, false};
+ghost use Rattle.std.specs.Prelude.{◌≡◌, ◌<◌};
+ghost use Rattle.pot_outside.specs.Accounts.{Faults, met, met_whole};
+ghost use Rattle.pot_outside.specs.Rooms.{IsHome, met_room};
 ghost use Rattle.pot_outside.specs.Counts.{Caused};
 ghost use Rattle.pot_session.specs.Runs.{Holds, seen_by};
 
@@ -21,22 +23,22 @@ pub(crate) fn hold<S: Source, K: Sink, R: Room, D: Desk, W: Gate, X: Threads + W
     room: &mut R,
     desk: &mut D,
 ) -> Status
-    requires home { (n : ℕ) → R.out room.old n ≡ false }
+    requires home { IsHome (R.meaning room.old) }
     requires workers { 0 < staff.now.workers }
     ensures holds { Holds staff.now.host.seed.now
-        (seen_by (IsTrue S.tells) (S.left source.old) (S.left source.new)
-        (IsTrue K.tells) (K.written sink.old) (K.written sink.new)
-        (IsTrue D.tells) (D.held desk.old) (D.held desk.new)
-        (IsTrue R.A.account.tells) (R.means room.old) (R.means room.new)
-        (R.failures room.old) (R.failures room.new) (D.faults desk.old) (D.faults desk.new))
+        (seen_by (met S.account source.old source.new) (met K.account sink.old sink.new)
+        (met_whole D.account desk.old desk.new)
+        (met_room R.A.account R.meaning room.old room.new))
         result }
-    ensures home { (n : ℕ) → R.out room.new n ≡ false }
-    ensures source { Caused (S.faults source.old) (S.faults source.new)
+    ensures home { IsHome (R.meaning room.new) }
+    ensures source { Faults S.account source.old source.new
         (result ≡ Status.SourceFault) }
-    ensures sink { Caused (K.faults sink.old) (K.faults sink.new) (result ≡ Status.SinkFault) }
-    ensures room { Caused (R.faults room.old) (R.faults room.new) (result ≡ Status.RoomFault) }
-    ensures own { Caused (R.failures room.old) (R.failures room.new) (result ≡ Status.RoomFault) }
-    ensures desk { Caused (D.faults desk.old) (D.faults desk.new) (result ≡ Status.DeskFault) }
+    ensures sink { Faults K.account sink.old sink.new (result ≡ Status.SinkFault) }
+    ensures room { Caused (R.meaning room.old).faults (R.meaning room.new).faults
+        (result ≡ Status.RoomFault) }
+    ensures own { Caused (R.meaning room.old).failures (R.meaning room.new).failures
+        (result ≡ Status.RoomFault) }
+    ensures desk { Faults D.account desk.old desk.new (result ≡ Status.DeskFault) }
 {
     match prepare(staff.host.alloc, source, desk) {
         Ok(Prepared { image, steps }) => serve(staff, image, &steps, sink, room, desk),

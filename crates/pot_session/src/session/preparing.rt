@@ -1,7 +1,7 @@
 //! What stands before the steps of a session: its image, its script, and the image with which it begins.
 
 ghost use Rattle.std.specs.Prelude.{◌≡◌, [], IsTrue, IfOk, OnOk, IfErr, IsErrOf};
-ghost use Rattle.pot_outside.specs.Counts.{Caused};
+ghost use Rattle.pot_outside.specs.Accounts.{Faults, met};
 ghost use Rattle.pot_session.specs.Runs.{IsPrepared, Stops};
 
 use crate::desk::{begin, keep_image, open_desk};
@@ -30,15 +30,15 @@ pub(crate) fn prepare<S: Source, D: Desk>(
 ) -> Result<Prepared, Stop>
     ensures prepared { IfOk result
         (λ p.
-        IsPrepared (IsTrue S.tells) (S.left source.old) (IsTrue D.tells) (D.held desk.old)
-        (D.held desk.new) p.image p.steps.items) }
-    ensures read { IsTrue S.tells → OnOk result (S.left source.new ≡ []) }
+        IsPrepared (met S.account source.old source.new) (met D.account desk.old desk.new)
+        p.image p.steps.items) }
+    ensures read { IsTrue S.account.tells
+        → OnOk result ((S.account.meaning source.new).held ≡ []) }
     ensures stops { IfErr result
-        (Stops (IsTrue S.tells) (S.left source.old) (IsTrue D.tells) (D.held desk.old)
-        (D.held desk.new)) }
-    ensures source { Caused (S.faults source.old) (S.faults source.new)
+        (Stops (met S.account source.old source.new) (met D.account desk.old desk.new)) }
+    ensures source { Faults S.account source.old source.new
         (IsErrOf result Stop.SourceFault) }
-    ensures desk { Caused (D.faults desk.old) (D.faults desk.new) (IsErrOf result Stop.DeskFault) }
+    ensures desk { Faults D.account desk.old desk.new (IsErrOf result Stop.DeskFault) }
 {
     let read = match open_desk(alloc, desk) {
         Ok(read) => read,

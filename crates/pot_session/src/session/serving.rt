@@ -1,8 +1,10 @@
 //! A session from the taking of its archives to its close.
 
-ghost use Rattle.std.specs.Prelude.{◌≡◌, ◌<◌, ◌≤◌, ◌++◌, ◌^◌, ℕ, IsTrue, IfOk, OnOk, OnErr};
-ghost use Rattle.std.specs.Prelude.{IsErr, IsErrOf, false, Some, length, flat_map};
+ghost use Rattle.std.specs.Prelude.{◌≡◌, ◌<◌, ◌≤◌, ◌++◌, ◌^◌, IsTrue, IfOk, OnOk, OnErr};
+ghost use Rattle.std.specs.Prelude.{IsErr, IsErrOf, Some, length, flat_map};
 ghost use Rattle.std.specs.List.{AllByRecursion};
+ghost use Rattle.pot_outside.specs.Accounts.{Faults, met, met_whole};
+ghost use Rattle.pot_outside.specs.Rooms.{IsHome, met_room};
 ghost use Rattle.pot_outside.specs.Counts.{Caused};
 ghost use Rattle.pot_image.specs.Images.{contents};
 ghost use Rattle.pot_image.specs.Spelling.{image_bytes};
@@ -18,7 +20,7 @@ ghost use Rattle.pot_commands.specs.Taking.{asked_by};
 ghost use Rattle.pot_commands.specs.Holding.{AreOut, Untouched};
 ghost use Rattle.pot_session.specs.Giving.{IsUnlent};
 ghost use Rattle.pot_session.specs.Opened.{IsOpenedWith};
-ghost use Rattle.pot_session.specs.Serving.{Serves, IsEnd, rooms_by, desks_by, status_after};
+ghost use Rattle.pot_session.specs.Serving.{Serves, IsEnd, status_after};
 
 use crate::ending::status::Status;
 use crate::ending::stop::Stop;
@@ -48,27 +50,26 @@ fn take_archives<R: Room>(
     tables: &[GroupTable],
     room: &mut R,
 ) -> Result<Remains<R::A>, RoomFault>
-    requires home { (n : ℕ) → R.out room.old n ≡ false }
+    requires home { IsHome (R.meaning room.old) }
     requires apart { AreApart (flat_map archives_in tables.now) }
     requires low { AreLow (flat_map archives_in tables.now) }
     ensures taken { IfOk result (λ p. numbers_of p.hand.items ≡ flat_map archives_in tables.now) }
     ensures meant { IsTrue R.A.account.tells
-        → IfOk result (λ p. AreMeant R.A.account.meaning (R.means room.old) p.hand.items) }
+        → IfOk result (λ p. AreMeant R.A.account.meaning (R.meaning room.old).means p.hand.items) }
     ensures fresh { IfOk result IsFresh }
     ensures space { IfOk result (HasSpace (length tables.now) 512) }
     ensures few { IfOk result (λ p. length p.hand.items ≤ 512) }
-    ensures out { OnOk result (AreOut (R.out room.new) (flat_map archives_in tables.now)) }
-    ensures home { OnErr result ((n : ℕ) → R.out room.new n ≡ false) }
-    ensures untouched { Untouched (flat_map archives_in tables.now) (R.means room.old)
-        (R.means room.new) }
-    ensures cause { Caused (R.faults room.old) (R.faults room.new)
+    ensures out { OnOk result (AreOut (R.meaning room.new) (flat_map archives_in tables.now)) }
+    ensures home { OnErr result (IsHome (R.meaning room.new)) }
+    ensures untouched { Untouched (flat_map archives_in tables.now) (R.meaning room.old)
+        (R.meaning room.new) }
+    ensures cause { Caused (R.meaning room.old).faults (R.meaning room.new).faults
         (IsErrOf result RoomFault.Failed) }
-    ensures own { Caused (R.failures room.old) (R.failures room.new)
+    ensures own { Caused (R.meaning room.old).failures (R.meaning room.new).failures
         (IsErrOf result RoomFault.Failed) }
-    ensures sound { OnOk result (R.failures room.new ≡ R.failures room.old) }
+    ensures sound { OnOk result ((R.meaning room.new).failures ≡ (R.meaning room.old).failures) }
     ensures unlent { IsErrOf result RoomFault.Failed
-        → IsUnlent (IsTrue R.A.account.tells) (R.means room.old) (R.means room.new)
-        (R.failures room.old) (R.failures room.new) }
+        → IsUnlent (met_room R.A.account R.meaning room.old room.new) }
 {
     let Ok(numbers) = numbers_in(alloc, tables) else {
         return Err(RoomFault::NoMemory);
@@ -87,12 +88,13 @@ fn take_archives<R: Room>(
 
 /// Gives back all archives of the hand.
 fn give_back<R: Room>(room: &mut R, remains: Remains<R::A>) -> Result<(), Failed>
-    requires { AreOut (R.out room.old) (numbers_of remains.hand.items) }
-    ensures home { (n : ℕ) → R.out room.new n ≡ false }
-    ensures untouched { Untouched (numbers_of remains.hand.items) (R.means room.old)
-        (R.means room.new) }
-    ensures cause { Caused (R.faults room.old) (R.faults room.new) (IsErr result) }
-    ensures own { Caused (R.failures room.old) (R.failures room.new) (IsErr result) }
+    requires { AreOut (R.meaning room.old) (numbers_of remains.hand.items) }
+    ensures home { IsHome (R.meaning room.new) }
+    ensures untouched { Untouched (numbers_of remains.hand.items) (R.meaning room.old)
+        (R.meaning room.new) }
+    ensures cause { Caused (R.meaning room.old).faults (R.meaning room.new).faults (IsErr result) }
+    ensures own { Caused (R.meaning room.old).failures (R.meaning room.new).failures
+        (IsErr result) }
 {
     let mut remains = remains;
     let given = give_all(room, &mut remains.hand);
@@ -110,22 +112,22 @@ fn open_session<R: Room>(
     room: &mut R,
 ) -> Result<Opened<R::A>, RoomFault>
     requires together { FitsTogether (contents image) }
-    requires home { (n : ℕ) → R.out room.old n ≡ false }
+    requires home { IsHome (R.meaning room.old) }
     ensures opened { IfOk result (IsOpenedWith (contents image)) }
     ensures taken { IsTrue R.A.account.tells
-        → IfOk result (λ o. AreTakenAt (R.means room.old) o.passes.groups) }
-    ensures out { OnOk result (AreOut (R.out room.new) (flat_map archives_in image.tables.items)) }
-    ensures home { OnErr result ((n : ℕ) → R.out room.new n ≡ false) }
-    ensures untouched { Untouched (flat_map archives_in image.tables.items) (R.means room.old)
-        (R.means room.new) }
-    ensures cause { Caused (R.faults room.old) (R.faults room.new)
+        → IfOk result (λ o. AreTakenAt (R.meaning room.old).means o.passes.groups) }
+    ensures out { OnOk result
+        (AreOut (R.meaning room.new) (flat_map archives_in image.tables.items)) }
+    ensures home { OnErr result (IsHome (R.meaning room.new)) }
+    ensures untouched { Untouched (flat_map archives_in image.tables.items) (R.meaning room.old)
+        (R.meaning room.new) }
+    ensures cause { Caused (R.meaning room.old).faults (R.meaning room.new).faults
         (IsErrOf result RoomFault.Failed) }
-    ensures own { Caused (R.failures room.old) (R.failures room.new)
+    ensures own { Caused (R.meaning room.old).failures (R.meaning room.new).failures
         (IsErrOf result RoomFault.Failed) }
-    ensures sound { OnOk result (R.failures room.new ≡ R.failures room.old) }
+    ensures sound { OnOk result ((R.meaning room.new).failures ≡ (R.meaning room.old).failures) }
     ensures unlent { IsErrOf result RoomFault.Failed
-        → IsUnlent (IsTrue R.A.account.tells) (R.means room.old) (R.means room.new)
-        (R.failures room.old) (R.failures room.new) }
+        → IsUnlent (met_room R.A.account R.meaning room.old room.new) }
 {
     let Image {
         session,
@@ -168,22 +170,22 @@ pub(crate) fn serve<K: Sink, R: Room, D: Desk, W: Gate, X: Threads + Wait + Sync
     requires few { next_job steps.now ≤ 2 ^ 31 }
     requires workers { 0 < staff.now.workers }
     requires worked { AllByRecursion (IsWholeStep image.rack) steps.now }
-    requires home { (n : ℕ) → R.out room.old n ≡ false }
-    requires kept { IsTrue D.tells → D.held desk.old ≡ Some (image_bytes (contents image)) }
-    ensures home { (n : ℕ) → R.out room.new n ≡ false }
+    requires home { IsHome (R.meaning room.old) }
+    requires kept { IsTrue D.account.tells
+        → (D.account.meaning desk.old).held ≡ Some (image_bytes (contents image)) }
+    ensures home { IsHome (R.meaning room.new) }
     ensures untouched { Untouched (flat_map archives_in image.tables.items ++ asked_by steps.now)
-        (R.means room.old) (R.means room.new) }
+        (R.meaning room.old) (R.meaning room.new) }
     ensures serves { Serves staff.now.host.seed.now (contents image) steps.now
-        (rooms_by (IsTrue R.A.account.tells) (R.means room.old) (R.means room.new)
-        (R.failures room.old) (R.failures room.new))
-        (IsTrue K.tells) (K.written sink.old) (K.written sink.new)
-        (desks_by (IsTrue D.tells) (D.held desk.new) (D.faults desk.old) (D.faults desk.new))
-        result }
+        (met_room R.A.account R.meaning room.old room.new) (met K.account sink.old sink.new)
+        (met_whole D.account desk.old desk.new) result }
     ensures which { IsEnd result }
-    ensures sink { Caused (K.faults sink.old) (K.faults sink.new) (result ≡ Status.SinkFault) }
-    ensures room { Caused (R.faults room.old) (R.faults room.new) (result ≡ Status.RoomFault) }
-    ensures own { Caused (R.failures room.old) (R.failures room.new) (result ≡ Status.RoomFault) }
-    ensures desk { Caused (D.faults desk.old) (D.faults desk.new) (result ≡ Status.DeskFault) }
+    ensures sink { Faults K.account sink.old sink.new (result ≡ Status.SinkFault) }
+    ensures room { Caused (R.meaning room.old).faults (R.meaning room.new).faults
+        (result ≡ Status.RoomFault) }
+    ensures own { Caused (R.meaning room.old).failures (R.meaning room.new).failures
+        (result ≡ Status.RoomFault) }
+    ensures desk { Faults D.account desk.old desk.new (result ≡ Status.DeskFault) }
 {
     let host = &staff.host;
     let mut opened = match open_session(host.alloc, image, room) {

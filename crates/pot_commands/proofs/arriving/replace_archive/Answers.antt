@@ -1,5 +1,4 @@
 use Rattle.std.proofs.Common.{[], ◌∷◌, refl, IsTrue}
-use Rattle.pot_commands.specs.Taking.{lending}
 use Rattle.pot_commands.proofs.ArrivingLemmas.{back_took, back_used, back_work, came_took, came_used, came_work, check_took, check_used, checked_work, free_home}
 use Rattle.pot_commands.proofs.ReplaceLemmas.{refused_ends, refused_says, swap_says}
 use Rattle.pot_commands.proofs.arriving.replace_archive.Goals as goal
@@ -15,7 +14,7 @@ returns-in-Err-clause-says g c =
 pub returns-in-Err-clause-used : goal.returns-in-Err-clause-used
 returns-in-Err-clause-used g c =
     check_used c.args.job c.requires.can.ready c.check_replace.ensures.ready c.requires.can.index_ready c.check_replace.ensures.index c.check_replace.ensures.asked
-    (g.R.Room.out c.args.room.now) (g.R.Room.out c.args.room.now) (λ n. refl) c.requires.used
+    (g.R.Room.meaning c.args.room.now) (g.R.Room.meaning c.args.room.now) (λ n. refl) c.requires.used
 
 pub returns-in-Err-clause-took : goal.returns-in-Err-clause-took
 returns-in-Err-clause-took g c =
@@ -25,7 +24,7 @@ returns-in-Err-clause-took g c =
 pub take_shelf-requires-clause-home : goal.take_shelf-requires-clause-home
 take_shelf-requires-clause-home g c = λ κs bounds.
     free_home c.args.job c.requires.can.ready c.check_replace.ensures.ready c.requires.can.index_ready c.check_replace.ensures.index c.check_replace.ensures.asked
-    (g.R.Room.out c.args.room.now) c.args.to c.requires.can.count c.requires.used (λ s set. (c.in-Ok.ensures.says s set).2)
+    (g.R.Room.meaning c.args.room.now) c.args.to c.requires.can.count c.requires.used (λ s set. (c.in-Ok.ensures.says s set).2)
 
 pub returns-in_err-shelf-clause-worked : goal.returns-in_err-shelf-clause-worked
 returns-in_err-shelf-clause-worked g c = checked_work c.args.job c.requires.can.ready c.check_replace.ensures.ready c.requires.can.index_ready c.check_replace.ensures.index c.check_replace.ensures.asked
@@ -33,7 +32,7 @@ returns-in_err-shelf-clause-worked g c = checked_work c.args.job c.requires.can.
 pub returns-in_err-shelf-clause-used : goal.returns-in_err-shelf-clause-used
 returns-in_err-shelf-clause-used g c =
     check_used c.args.job c.requires.can.ready c.check_replace.ensures.ready c.requires.can.index_ready c.check_replace.ensures.index c.check_replace.ensures.asked
-    (g.R.Room.out c.args.room.now) (g.R.Room.out c.take_shelf.new.room) (λ n. (c.in_err-shelf.ensures.stays n).1) c.requires.used
+    (g.R.Room.meaning c.args.room.now) (g.R.Room.meaning c.take_shelf.new.room) (λ n. (c.in_err-shelf.ensures.stays n).1) c.requires.used
 
 pub returns-in_err-shelf-clause-took : goal.returns-in_err-shelf-clause-took
 returns-in_err-shelf-clause-took g c =
@@ -56,15 +55,15 @@ returns-in-Ok-swap-clause-used g c =
     let call = c.in-Ok-swap.ensures.call in
     came_used c.args.job c.requires.can.ready c.check_replace.ensures.ready c.requires.can.index_ready c.check_replace.ensures.index c.check_replace.ensures.asked
     c.swap.ensures.index c.swap.ensures.ready c.in-Ok.ensures.place.0 call call.turn.call.0 c.in_ok-shelf.ensures.number refl refl
-    (g.R.Room.out c.args.room.now) (g.R.Room.out c.take_shelf.new.room) (λ n ne. (c.take_shelf.ensures.others n ne).1) c.requires.used
+    (g.R.Room.meaning c.args.room.now) (g.R.Room.meaning c.take_shelf.new.room) (λ n ne. (c.take_shelf.ensures.others n ne).1) c.requires.used
 
 pub returns-in-Ok-swap-clause-took : goal.returns-in-Ok-swap-clause-took
 returns-in-Ok-swap-clause-took g c =
     let call = c.in-Ok-swap.ensures.call in
     came_took c.args.job c.requires.can.ready c.check_replace.ensures.ready c.requires.can.index_ready c.check_replace.ensures.index c.check_replace.ensures.asked
     c.swap.ensures.index c.swap.ensures.ready c.in-Ok.ensures.place.0 call call.turn.call.0 c.in_ok-shelf.ensures.number refl refl
-    _ (lending (g.R.Room.out c.args.room.now) (g.R.Room.means c.args.room.now)) (lending (g.R.Room.out c.take_shelf.new.room) (g.R.Room.means c.take_shelf.new.room))
-    (free_home c.args.job c.requires.can.ready c.check_replace.ensures.ready c.requires.can.index_ready c.check_replace.ensures.index c.check_replace.ensures.asked (g.R.Room.out c.args.room.now) c.args.to c.requires.can.count c.requires.used (λ s set. (c.in-Ok.ensures.says s set).2))
+    _ (g.R.Room.meaning c.args.room.now) (g.R.Room.meaning c.take_shelf.new.room)
+    (free_home c.args.job c.requires.can.ready c.check_replace.ensures.ready c.requires.can.index_ready c.check_replace.ensures.index c.check_replace.ensures.asked (g.R.Room.meaning c.args.room.now) c.args.to c.requires.can.count c.requires.used (λ s set. (c.in-Ok.ensures.says s set).2))
     c.take_shelf.ensures.others c.in_ok-shelf.ensures.taken c.in_ok-shelf.ensures.told
 
 pub returns-in-Err-swap-clause-worked : goal.returns-in-Err-swap-clause-worked
@@ -83,8 +82,8 @@ returns-in-Err-swap-clause-used g c =
     let call = c.in-Err-swap.ensures.call in
     back_used c.args.job c.requires.can.ready c.check_replace.ensures.ready c.requires.can.index_ready c.check_replace.ensures.index c.check_replace.ensures.asked
     c.swap.ensures.index c.swap.ensures.ready c.in-Ok.ensures.place.0 call call.turn.call.0.entries_are call.turn.call.0.shelf_is c.in_ok-shelf.ensures.number
-    (lending (g.R.Room.out c.args.room.now) (g.R.Room.means c.args.room.now)) (lending (g.R.Room.out c.take_shelf.new.room) (g.R.Room.means c.take_shelf.new.room)) (lending (g.R.Room.out c.hand_back.new.room) (g.R.Room.means c.hand_back.new.room))
-    (free_home c.args.job c.requires.can.ready c.check_replace.ensures.ready c.requires.can.index_ready c.check_replace.ensures.index c.check_replace.ensures.asked (g.R.Room.out c.args.room.now) c.args.to c.requires.can.count c.requires.used (λ s set. (c.in-Ok.ensures.says s set).2))
+    (g.R.Room.meaning c.args.room.now) (g.R.Room.meaning c.take_shelf.new.room) (g.R.Room.meaning c.hand_back.new.room)
+    (free_home c.args.job c.requires.can.ready c.check_replace.ensures.ready c.requires.can.index_ready c.check_replace.ensures.index c.check_replace.ensures.asked (g.R.Room.meaning c.args.room.now) c.args.to c.requires.can.count c.requires.used (λ s set. (c.in-Ok.ensures.says s set).2))
     c.take_shelf.ensures.others c.hand_back.ensures.back c.hand_back.ensures.others c.requires.used
 
 pub returns-in-Err-swap-clause-took : goal.returns-in-Err-swap-clause-took
@@ -92,7 +91,7 @@ returns-in-Err-swap-clause-took g c =
     let call = c.in-Err-swap.ensures.call in
     back_took c.args.job c.requires.can.ready c.check_replace.ensures.ready c.requires.can.index_ready c.check_replace.ensures.index c.check_replace.ensures.asked
     c.swap.ensures.index c.swap.ensures.ready c.in-Ok.ensures.place.0 call call.turn.call.0.entries_are call.turn.call.0.shelf_is c.in_ok-shelf.ensures.number
-    (lending (g.R.Room.out c.args.room.now) (g.R.Room.means c.args.room.now)) (lending (g.R.Room.out c.take_shelf.new.room) (g.R.Room.means c.take_shelf.new.room)) (lending (g.R.Room.out c.hand_back.new.room) (g.R.Room.means c.hand_back.new.room))
-    (free_home c.args.job c.requires.can.ready c.check_replace.ensures.ready c.requires.can.index_ready c.check_replace.ensures.index c.check_replace.ensures.asked (g.R.Room.out c.args.room.now) c.args.to c.requires.can.count c.requires.used (λ s set. (c.in-Ok.ensures.says s set).2))
+    (g.R.Room.meaning c.args.room.now) (g.R.Room.meaning c.take_shelf.new.room) (g.R.Room.meaning c.hand_back.new.room)
+    (free_home c.args.job c.requires.can.ready c.check_replace.ensures.ready c.requires.can.index_ready c.check_replace.ensures.index c.check_replace.ensures.asked (g.R.Room.meaning c.args.room.now) c.args.to c.requires.can.count c.requires.used (λ s set. (c.in-Ok.ensures.says s set).2))
     c.take_shelf.ensures.others c.hand_back.ensures.back c.hand_back.ensures.others
     g.R.A.Archive.account.meaning _ c.in_ok-shelf.ensures.told (λ told well. c.hand_back.ensures.told well told)

@@ -19,7 +19,7 @@ returns-in-Ok-work_begun-clause-says g c = c.in-Ok-work_begun.ensures.says _ c.i
 
 pub returns-in-Ok-work_begun-clause-used : goal.returns-in-Ok-work_begun-clause-used
 returns-in-Ok-work_begun-clause-used g c =
-    used_on (g.R.Room.out c.begin_lines.new.room) (g.R.Room.out c.begin_lines.new.room) (known c.begin_lines.new.passes.groups c.begin_lines.new.passes.index) (known c.work_begun.new.passes.groups c.work_begun.new.passes.index)
+    used_on (g.R.Room.meaning c.begin_lines.new.room) (g.R.Room.meaning c.begin_lines.new.room) (known c.begin_lines.new.passes.groups c.begin_lines.new.passes.index) (known c.work_begun.new.passes.groups c.work_begun.new.passes.index)
     c.work_begun.ensures.went c.work_begun.ensures.stays (λ n. refl) c.begin_lines.ensures.used
 
 pub returns-in-Ok-work_begun-clause-took : goal.returns-in-Ok-work_begun-clause-took
@@ -34,7 +34,7 @@ returns-in-Err-work_begun-clause-says g c = c.in-Err-work_begun.ensures.says _ c
 
 pub returns-in-Err-work_begun-clause-used : goal.returns-in-Err-work_begun-clause-used
 returns-in-Err-work_begun-clause-used g c =
-    used_on (g.R.Room.out c.begin_lines.new.room) (g.R.Room.out c.begin_lines.new.room) (known c.begin_lines.new.passes.groups c.begin_lines.new.passes.index) (known c.work_begun.new.passes.groups c.work_begun.new.passes.index)
+    used_on (g.R.Room.meaning c.begin_lines.new.room) (g.R.Room.meaning c.begin_lines.new.room) (known c.begin_lines.new.passes.groups c.begin_lines.new.passes.index) (known c.work_begun.new.passes.groups c.work_begun.new.passes.index)
     c.work_begun.ensures.went c.work_begun.ensures.stays (λ n. refl) c.begin_lines.ensures.used
 
 pub returns-in-Err-work_begun-clause-took : goal.returns-in-Err-work_begun-clause-took

@@ -1,7 +1,6 @@
 use Rattle.std.proofs.Common.{◌∙◌, ◌+◌, [], List, refl, sym, subst, arith, IsTrue}
 use Rattle.pot_shared.specs.Works.{known}
 use Rattle.pot_commands.specs.declared.beginning.Task.{Task}
-use Rattle.pot_commands.specs.Taking.{lending}
 use Rattle.pot_commands.proofs.BeginLemmas.{IsBeginning, all_asked, begins_beginning, beginning_moves, ended_asked, ended_moves, more_beginning, still_took}
 use Rattle.pot_commands.proofs.StepLemmas.{work_stays}
 use Rattle.pot_commands.proofs.beginning.begin_lines.Goals as goal
@@ -9,8 +8,8 @@ use Rattle.pot_commands.proofs.beginning.begin_lines.Goals as goal
 pub returns-in_default-clause-begun : goal.returns-in_default-clause-begun
 returns-in_default-clause-begun g c = (
   [],
-  beginning_moves c.args.shared.now.vault.now.rack (IsTrue g.R.A.Archive.account.tells) c.args.job c.args.lines.now 0 [] (lending (g.R.Room.out c.args.room.now) (g.R.Room.means c.args.room.now))
-      (lending (g.R.Room.out c.args.room.now) (g.R.Room.means c.args.room.now)) _ _
+  beginning_moves c.args.shared.now.vault.now.rack (IsTrue g.R.A.Archive.account.tells) c.args.job c.args.lines.now 0 [] (g.R.Room.meaning c.args.room.now)
+      (g.R.Room.meaning c.args.room.now) _ _
       (begins_beginning c.args.shared.now.vault.now.rack _ c.args.job c.args.lines.now [] _ c.args.shared.now.vault.now.groups c.args.shared.now.vault.now.index _ _ refl c.requires.can.ready c.requires.can.index_ready) (omega arith),
 )
 
@@ -32,7 +31,7 @@ returns-in-Err-clause-begun g c =
     let i = c.loop-index.invariant in
     let e = c.begin_line.ensures in (
       c.loop-index.tasks.items,
-      ended_moves _ _ _ _ _ _ _ _ (lending (g.R.Room.out c.begin_line.new.room) (g.R.Room.means c.begin_line.new.room)) _ _ _ i.beginning _ c.loop-index-test.true c.index-lines-index.is e.worked
+      ended_moves _ _ _ _ _ _ _ _ (g.R.Room.meaning c.begin_line.new.room) _ _ _ i.beginning _ c.loop-index-test.true c.index-lines-index.is e.worked
           (work_stays c.args.shared.now.vault.now.rack c.args.shared.now.vault.now.groups c.args.shared.now.vault.now.index _ _ _ _ _ i.can.ready e.can.ready i.can.index_ready e.can.index_ready e.worked)
           e.index c.in-Err.ensures.says,
     )
@@ -53,7 +52,7 @@ loop-index-preserved g c =
       can = e.can;
       used = e.used;
       beginning = subst (λ (ts : List Task). IsBeginning c.args.shared.now.vault.now.rack (IsTrue g.R.A.Archive.account.tells) c.args.job c.args.lines.now (c.loop-index.index + 1) ts
-          (lending (g.R.Room.out c.args.room.now) (g.R.Room.means c.args.room.now)) (lending (g.R.Room.out c.begin_line.new.room) (g.R.Room.means c.begin_line.new.room))
+          (g.R.Room.meaning c.args.room.now) (g.R.Room.meaning c.begin_line.new.room)
           (known c.args.passes.now.groups c.args.passes.now.index) (known c.begin_line.new.passes.groups c.begin_line.new.passes.index))
           (sym c.push_reserved.ensures.items)
           (more_beginning _ _ _ _ _ _ _ _ _ _ _ _ i.beginning _ c.loop-index-test.true c.index-lines-index.is e.worked

@@ -1,4 +1,5 @@
 use Rattle.std.proofs.Common.{◌≡◌, ◌+◌, refl, ap, sym, ◌∙◌, subst, arith}
+use Rattle.pot_bytes.specs.declared.rack.Rack.{Rack}
 use Rattle.pot_replies.specs.Settings.{Setting}
 use Rattle.pot_shared.specs.Works.{JobWorked, JobAlone, IsSettingOf, known, section_of}
 use Rattle.pot_commands.specs.Rows.{AreStatusReplies}
@@ -18,7 +19,7 @@ pub loop-group-preserved : goal.loop-group-preserved
 loop-group-preserved g c = record {
   can = c.count_group-reply.ensures.can;
   counting =
-      counting_more _ _ _ _ _ _ _ _ _ _ c.loop-group.invariant.counting (omega (arith, c.requires.can.count, c.loop-group-test.true)) c.count_group-reply.ensures.counts
+      counting_more _ _ _ _ _ _ _ _ _ _ c.loop-group.invariant.counting (let r = ap (λ (r : Rack). r.groups) c.rack.ensures in omega (arith, r, c.requires.can.count, c.loop-group-test.true)) c.count_group-reply.ensures.counts
       _ c.push_reserved.ensures.items c.count_group-reply.ensures.can.ready;
   index = c.count_group-reply.ensures.index ∙ c.loop-group.invariant.index;
   long = c.push_reserved.ensures.len ∙ ap (λ n. n + 1) c.loop-group.invariant.long;
@@ -32,7 +33,7 @@ returns-clause-worked g c =
 
 pub returns-clause-says : goal.returns-clause-says
 returns-clause-says g c =
-    let all : c.loop-group.group ≡ c.args.shared.now.vault.now.rack.groups = omega (arith, c.loop-group.auto.group-end, c.loop-group-test.false) in
+    let all : c.loop-group.group ≡ c.args.shared.now.vault.now.rack.groups = (let r = ap (λ (r : Rack). r.groups) c.rack.ensures in omega (arith, r, c.loop-group.auto.group-end, c.loop-group-test.false)) in
     subst (λ i. JobAlone c.args.job (known c.args.passes.now.groups c.args.passes.now.index) (known c.loop-group.passes.groups i)
     → (s : Setting) → IsSettingOf s c.args.shared.now.vault.now.rack (known c.args.passes.now.groups c.args.passes.now.index)
     → AreStatusReplies s c.args.job c.loop-group.replies.items (section_of (known c.args.passes.now.groups c.args.passes.now.index) (known c.loop-group.passes.groups i)))

@@ -1,5 +1,4 @@
 use Rattle.std.proofs.Common.{[], ◌∷◌, refl, IsTrue}
-use Rattle.pot_commands.specs.Taking.{lending}
 use Rattle.pot_commands.proofs.ArrivingLemmas.{back_took, back_used, back_work, came_took, came_used, came_work, check_took, check_used, checked_work, free_home}
 use Rattle.pot_commands.proofs.MigrateLemmas.{begin_says, goes_on, may_begin, refused_begins, unbegun_says}
 use Rattle.pot_commands.proofs.moving.begin_move.Goals as goal
@@ -15,7 +14,7 @@ returns-in-Err-clause-says g c =
 pub returns-in-Err-clause-used : goal.returns-in-Err-clause-used
 returns-in-Err-clause-used g c =
     check_used c.args.job c.requires.can.ready c.check_migrate.ensures.ready c.requires.can.index_ready c.check_migrate.ensures.index c.check_migrate.ensures.asked
-    (g.R.Room.out c.args.room.now) (g.R.Room.out c.args.room.now) (λ n. refl) c.requires.used
+    (g.R.Room.meaning c.args.room.now) (g.R.Room.meaning c.args.room.now) (λ n. refl) c.requires.used
 
 pub returns-in-Err-clause-took : goal.returns-in-Err-clause-took
 returns-in-Err-clause-took g c =
@@ -33,7 +32,7 @@ returns-then-at-clause-says g c =
 pub returns-then-at-clause-used : goal.returns-then-at-clause-used
 returns-then-at-clause-used g c =
     check_used c.args.job c.requires.can.ready c.check_migrate.ensures.ready c.requires.can.index_ready c.check_migrate.ensures.index c.check_migrate.ensures.asked
-    (g.R.Room.out c.args.room.now) (g.R.Room.out c.args.room.now) (λ n. refl) c.requires.used
+    (g.R.Room.meaning c.args.room.now) (g.R.Room.meaning c.args.room.now) (λ n. refl) c.requires.used
 
 pub returns-then-at-clause-took : goal.returns-then-at-clause-took
 returns-then-at-clause-took g c =
@@ -43,7 +42,7 @@ returns-then-at-clause-took g c =
 pub take_shelf-requires-clause-home : goal.take_shelf-requires-clause-home
 take_shelf-requires-clause-home g c = λ κs bounds.
     free_home c.args.job c.requires.can.ready c.check_migrate.ensures.ready c.requires.can.index_ready c.check_migrate.ensures.index c.check_migrate.ensures.asked
-    (g.R.Room.out c.args.room.now) c.args.to c.requires.can.count c.requires.used (λ s set. (may_begin _ _ _ _ _ _ _ c.if-at.false (c.in-Ok.ensures.says s set)).2)
+    (g.R.Room.meaning c.args.room.now) c.args.to c.requires.can.count c.requires.used (λ s set. (may_begin _ _ _ _ _ _ _ c.if-at.false (c.in-Ok.ensures.says s set)).2)
 
 pub returns-in-Err-take_shelf-clause-worked : goal.returns-in-Err-take_shelf-clause-worked
 returns-in-Err-take_shelf-clause-worked g c = checked_work c.args.job c.requires.can.ready c.check_migrate.ensures.ready c.requires.can.index_ready c.check_migrate.ensures.index c.check_migrate.ensures.asked
@@ -51,7 +50,7 @@ returns-in-Err-take_shelf-clause-worked g c = checked_work c.args.job c.requires
 pub returns-in-Err-take_shelf-clause-used : goal.returns-in-Err-take_shelf-clause-used
 returns-in-Err-take_shelf-clause-used g c =
     check_used c.args.job c.requires.can.ready c.check_migrate.ensures.ready c.requires.can.index_ready c.check_migrate.ensures.index c.check_migrate.ensures.asked
-    (g.R.Room.out c.args.room.now) (g.R.Room.out c.take_shelf.new.room) (λ n. (c.in-Err-take_shelf.ensures.stays n).1) c.requires.used
+    (g.R.Room.meaning c.args.room.now) (g.R.Room.meaning c.take_shelf.new.room) (λ n. (c.in-Err-take_shelf.ensures.stays n).1) c.requires.used
 
 pub returns-in-Err-take_shelf-clause-took : goal.returns-in-Err-take_shelf-clause-took
 returns-in-Err-take_shelf-clause-took g c =
@@ -74,15 +73,15 @@ returns-in-Ok-move_begin-clause-used g c =
     let call = c.in-Ok-move_begin.ensures.call in
     came_used c.args.job c.requires.can.ready c.check_migrate.ensures.ready c.requires.can.index_ready c.check_migrate.ensures.index c.check_migrate.ensures.asked
     c.move_begin.ensures.index c.move_begin.ensures.ready c.in-Ok.ensures.place.0 call call.turn.call c.in-Ok-take_shelf.ensures.number refl refl
-    (g.R.Room.out c.args.room.now) (g.R.Room.out c.take_shelf.new.room) (λ n ne. (c.take_shelf.ensures.others n ne).1) c.requires.used
+    (g.R.Room.meaning c.args.room.now) (g.R.Room.meaning c.take_shelf.new.room) (λ n ne. (c.take_shelf.ensures.others n ne).1) c.requires.used
 
 pub returns-in-Ok-move_begin-clause-took : goal.returns-in-Ok-move_begin-clause-took
 returns-in-Ok-move_begin-clause-took g c =
     let call = c.in-Ok-move_begin.ensures.call in
     came_took c.args.job c.requires.can.ready c.check_migrate.ensures.ready c.requires.can.index_ready c.check_migrate.ensures.index c.check_migrate.ensures.asked
     c.move_begin.ensures.index c.move_begin.ensures.ready c.in-Ok.ensures.place.0 call call.turn.call c.in-Ok-take_shelf.ensures.number refl refl
-    _ (lending (g.R.Room.out c.args.room.now) (g.R.Room.means c.args.room.now)) (lending (g.R.Room.out c.take_shelf.new.room) (g.R.Room.means c.take_shelf.new.room))
-    (free_home c.args.job c.requires.can.ready c.check_migrate.ensures.ready c.requires.can.index_ready c.check_migrate.ensures.index c.check_migrate.ensures.asked (g.R.Room.out c.args.room.now) c.args.to c.requires.can.count c.requires.used (λ s set. (may_begin _ _ _ _ _ _ _ c.if-at.false (c.in-Ok.ensures.says s set)).2))
+    _ (g.R.Room.meaning c.args.room.now) (g.R.Room.meaning c.take_shelf.new.room)
+    (free_home c.args.job c.requires.can.ready c.check_migrate.ensures.ready c.requires.can.index_ready c.check_migrate.ensures.index c.check_migrate.ensures.asked (g.R.Room.meaning c.args.room.now) c.args.to c.requires.can.count c.requires.used (λ s set. (may_begin _ _ _ _ _ _ _ c.if-at.false (c.in-Ok.ensures.says s set)).2))
     c.take_shelf.ensures.others c.in-Ok-take_shelf.ensures.taken c.in-Ok-take_shelf.ensures.told
 
 pub returns-in-Err-move_begin-clause-worked : goal.returns-in-Err-move_begin-clause-worked
@@ -101,8 +100,8 @@ returns-in-Err-move_begin-clause-used g c =
     let call = c.in-Err-move_begin.ensures.call in
     back_used c.args.job c.requires.can.ready c.check_migrate.ensures.ready c.requires.can.index_ready c.check_migrate.ensures.index c.check_migrate.ensures.asked
     c.move_begin.ensures.index c.move_begin.ensures.ready c.in-Ok.ensures.place.0 call call.turn.call.0.entries_are call.turn.call.0.shelf_is c.in-Ok-take_shelf.ensures.number
-    (lending (g.R.Room.out c.args.room.now) (g.R.Room.means c.args.room.now)) (lending (g.R.Room.out c.take_shelf.new.room) (g.R.Room.means c.take_shelf.new.room)) (lending (g.R.Room.out c.hand_back.new.room) (g.R.Room.means c.hand_back.new.room))
-    (free_home c.args.job c.requires.can.ready c.check_migrate.ensures.ready c.requires.can.index_ready c.check_migrate.ensures.index c.check_migrate.ensures.asked (g.R.Room.out c.args.room.now) c.args.to c.requires.can.count c.requires.used (λ s set. (may_begin _ _ _ _ _ _ _ c.if-at.false (c.in-Ok.ensures.says s set)).2))
+    (g.R.Room.meaning c.args.room.now) (g.R.Room.meaning c.take_shelf.new.room) (g.R.Room.meaning c.hand_back.new.room)
+    (free_home c.args.job c.requires.can.ready c.check_migrate.ensures.ready c.requires.can.index_ready c.check_migrate.ensures.index c.check_migrate.ensures.asked (g.R.Room.meaning c.args.room.now) c.args.to c.requires.can.count c.requires.used (λ s set. (may_begin _ _ _ _ _ _ _ c.if-at.false (c.in-Ok.ensures.says s set)).2))
     c.take_shelf.ensures.others c.hand_back.ensures.back c.hand_back.ensures.others c.requires.used
 
 pub returns-in-Err-move_begin-clause-took : goal.returns-in-Err-move_begin-clause-took
@@ -110,7 +109,7 @@ returns-in-Err-move_begin-clause-took g c =
     let call = c.in-Err-move_begin.ensures.call in
     back_took c.args.job c.requires.can.ready c.check_migrate.ensures.ready c.requires.can.index_ready c.check_migrate.ensures.index c.check_migrate.ensures.asked
     c.move_begin.ensures.index c.move_begin.ensures.ready c.in-Ok.ensures.place.0 call call.turn.call.0.entries_are call.turn.call.0.shelf_is c.in-Ok-take_shelf.ensures.number
-    (lending (g.R.Room.out c.args.room.now) (g.R.Room.means c.args.room.now)) (lending (g.R.Room.out c.take_shelf.new.room) (g.R.Room.means c.take_shelf.new.room)) (lending (g.R.Room.out c.hand_back.new.room) (g.R.Room.means c.hand_back.new.room))
-    (free_home c.args.job c.requires.can.ready c.check_migrate.ensures.ready c.requires.can.index_ready c.check_migrate.ensures.index c.check_migrate.ensures.asked (g.R.Room.out c.args.room.now) c.args.to c.requires.can.count c.requires.used (λ s set. (may_begin _ _ _ _ _ _ _ c.if-at.false (c.in-Ok.ensures.says s set)).2))
+    (g.R.Room.meaning c.args.room.now) (g.R.Room.meaning c.take_shelf.new.room) (g.R.Room.meaning c.hand_back.new.room)
+    (free_home c.args.job c.requires.can.ready c.check_migrate.ensures.ready c.requires.can.index_ready c.check_migrate.ensures.index c.check_migrate.ensures.asked (g.R.Room.meaning c.args.room.now) c.args.to c.requires.can.count c.requires.used (λ s set. (may_begin _ _ _ _ _ _ _ c.if-at.false (c.in-Ok.ensures.says s set)).2))
     c.take_shelf.ensures.others c.hand_back.ensures.back c.hand_back.ensures.others
     g.R.A.Archive.account.meaning _ c.in-Ok-take_shelf.ensures.told (λ told well. c.hand_back.ensures.told (λ e. well (cc e)) told)

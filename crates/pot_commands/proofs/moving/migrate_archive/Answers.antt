@@ -30,7 +30,7 @@ returns-clause-says g c alone s set its =
 pub returns-clause-used : goal.returns-clause-used
 returns-clause-used g c = both_used c.args.shared.now.vault.now.rack c.args.shared.now.vault.now.groups c.args.shared.now.vault.now.index c.args.job c.args.from c.args.to c.in-Ok.at.group c.in-Ok.at.column c.args.passes.now.groups c.begin_move.new.passes.groups c.migrate-moved.new.passes.groups
     c.args.passes.now.index c.begin_move.new.passes.index c.migrate-moved.new.passes.index c.requires.can.ready c.begin_move.ensures.can.ready c.migrate-moved.ensures.ready c.requires.can.index_ready c.begin_move.ensures.index c.migrate-moved.ensures.index
-    c.begin_move.ensures.worked c.migrate-moved.ensures.worked (g.R.Room.out c.begin_move.new.room) (g.R.Room.out c.begin_move.new.room) (λ n. refl) c.begin_move.ensures.used
+    c.begin_move.ensures.worked c.migrate-moved.ensures.worked (g.R.Room.meaning c.begin_move.new.room) (g.R.Room.meaning c.begin_move.new.room) (λ n. refl) c.begin_move.ensures.used
 
 pub returns-clause-took : goal.returns-clause-took
 returns-clause-took g c = both_took c.args.shared.now.vault.now.rack c.args.shared.now.vault.now.groups c.args.shared.now.vault.now.index c.args.job c.args.from c.args.to c.in-Ok.at.group c.in-Ok.at.column c.args.passes.now.groups c.begin_move.new.passes.groups c.migrate-moved.new.passes.groups

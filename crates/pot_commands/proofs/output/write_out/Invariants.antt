@@ -4,8 +4,8 @@ use Rattle.pot_commands.proofs.output.write_out.Given as goal
 
 abbrev pub invariant-loop-rest : goal.invariant-loop-rest
 invariant-loop-rest g l = record {
-  told : IsTrue g.K.Sink.tells → IsPartWritten (g.K.Sink.written l.initial.sink) (g.K.Sink.written l.sink) l.text l.rest;
-  later : g.K.Sink.faults l.initial.sink ≤ g.K.Sink.faults l.sink;
+  told : IsTrue g.K.Sink.account.tells → IsPartWritten (g.K.Sink.account.meaning l.initial.sink).held (g.K.Sink.account.meaning l.sink).held l.text l.rest;
+  later : (g.K.Sink.account.meaning l.initial.sink).faults ≤ (g.K.Sink.account.meaning l.sink).faults;
 }
 
 abbrev pub decreases-loop-rest : goal.decreases-loop-rest

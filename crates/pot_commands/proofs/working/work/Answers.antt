@@ -1,6 +1,5 @@
 use Rattle.std.proofs.Common.{◌≡◌, ◌+◌, ◌^◌, length, take, refl, ap, ◌∙◌, arith}
 use Rattle.std.proofs.Math.Seq.{take-length}
-use Rattle.pot_commands.specs.Taking.{lending}
 use Rattle.pot_commands.proofs.WorkingLemmas.{begins_working, all_took, ends_took, index_parts_stay, jobs_fit, new_stays, new_went, parts_stay, working_ends, working_more}
 use Rattle.pot_commands.proofs.working.work.Goals as goal
 
@@ -17,18 +16,18 @@ loop-step-init g c = record {
 pub returns-in-Err-clause-went : goal.returns-in-Err-clause-went
 returns-in-Err-clause-went g c =
     let i = c.loop-step.invariant in
-    new_went _ _ _ _ _ _ _ _ _ _ _ _ _ (lending (g.R.Room.out c.work_one.new.room) (g.R.Room.means c.work_one.new.room)) _ _ _ i.working c.step-item.result c.loop-step-test.true c.step-item.is c.work_one.ensures.went c.work_one.ensures.stays
+    new_went _ _ _ _ _ _ _ _ _ _ _ _ _ (g.R.Room.meaning c.work_one.new.room) _ _ _ i.working c.step-item.result c.loop-step-test.true c.step-item.is c.work_one.ensures.went c.work_one.ensures.stays
 
 pub returns-in-Err-clause-ends : goal.returns-in-Err-clause-ends
 returns-in-Err-clause-ends g c =
     let i = c.loop-step.invariant in
-    working_ends _ _ _ _ _ _ _ _ _ _ _ _ _ (lending (g.R.Room.out c.work_one.new.room) (g.R.Room.means c.work_one.new.room)) _ _ _ i.working c.step-item.result c.loop-step-test.true c.step-item.is c.work_one.ensures.went c.work_one.ensures.stays
+    working_ends _ _ _ _ _ _ _ _ _ _ _ _ _ (g.R.Room.meaning c.work_one.new.room) _ _ _ i.working c.step-item.result c.loop-step-test.true c.step-item.is c.work_one.ensures.went c.work_one.ensures.stays
     _ _ c.in-Err.ensures.ends
 
 pub returns-in-Err-clause-took : goal.returns-in-Err-clause-took
 returns-in-Err-clause-took g c =
     let i = c.loop-step.invariant in
-    ends_took _ _ _ _ _ _ _ _ _ _ _ _ _ (lending (g.R.Room.out c.work_one.new.room) (g.R.Room.means c.work_one.new.room)) _ _ _ i.working c.step-item.result c.loop-step-test.true c.step-item.is c.work_one.ensures.went c.work_one.ensures.stays
+    ends_took _ _ _ _ _ _ _ _ _ _ _ _ _ (g.R.Room.meaning c.work_one.new.room) _ _ _ i.working c.step-item.result c.loop-step-test.true c.step-item.is c.work_one.ensures.went c.work_one.ensures.stays
     _ _ (λ w e. w (cc e)) c.in-Err.ensures.took
 
 pub returns-clause-took : goal.returns-clause-took
@@ -41,7 +40,7 @@ loop-step-preserved g c =
     let i = c.loop-step.invariant in
     record {
       working =
-          working_more _ _ _ _ _ _ _ _ _ _ _ _ _ (lending (g.R.Room.out c.work_one.new.room) (g.R.Room.means c.work_one.new.room)) _ _ _ i.working c.step-item.result c.loop-step-test.true c.step-item.is c.work_one.ensures.went c.work_one.ensures.stays
+          working_more _ _ _ _ _ _ _ _ _ _ _ _ _ (g.R.Room.meaning c.work_one.new.room) _ _ _ i.working c.step-item.result c.loop-step-test.true c.step-item.is c.work_one.ensures.went c.work_one.ensures.stays
           _ c.in-Ok.some _ (λ e. cc) c.in-Ok.ensures.took c.in-Ok.ensures.ends _ (ap (λ n. c.loop-step.job + n) c.jobs_in-job.ensures);
       can = c.work_one.ensures.can;
       used = c.work_one.ensures.used;
@@ -53,7 +52,7 @@ loop-step-preserved g c =
 pub returns-in-Err-clause-stays : goal.returns-in-Err-clause-stays
 returns-in-Err-clause-stays g c =
     let i = c.loop-step.invariant in
-    new_stays _ _ _ _ _ _ _ _ _ _ _ _ _ (lending (g.R.Room.out c.work_one.new.room) (g.R.Room.means c.work_one.new.room)) _ _ _ i.working c.step-item.result c.loop-step-test.true c.step-item.is c.work_one.ensures.went c.work_one.ensures.stays
+    new_stays _ _ _ _ _ _ _ _ _ _ _ _ _ (g.R.Room.meaning c.work_one.new.room) _ _ _ i.working c.step-item.result c.loop-step-test.true c.step-item.is c.work_one.ensures.went c.work_one.ensures.stays
 
 pub work_one-requires-clause-parts : goal.work_one-requires-clause-parts
 work_one-requires-clause-parts g c = λ κs within.

@@ -18,5 +18,5 @@ returns-in-Ok-write_out-clause-ends g c = (
   c.in-Ok.ensures.says,
   c.has_refusal.ensures ∙ ap any_refusal c.deref-in-Ok-write_out.ensures.value,
   λ told. c.in-Ok-write_out.ensures.told told
-      ∙ ap (λ l. g.K.Sink.written c.args.sink.now ++ l) (c.deref-2.ensures.value ∙ (c.in-Ok-print_replies.ensures ∙ ap texts_of c.deref.ensures.value)),
+      ∙ ap (λ l. (g.K.Sink.account.meaning c.args.sink.now).held ++ l) (c.deref-2.ensures.value ∙ (c.in-Ok-print_replies.ensures ∙ ap texts_of c.deref.ensures.value)),
 )

@@ -3,9 +3,9 @@ use Rattle.pot_session.proofs.intake.read_out.Given as goal
 
 abbrev pub invariant-loop-buffer : goal.invariant-loop-buffer
 invariant-loop-buffer g l = record {
-  told : IsTrue g.S.Source.tells → g.S.Source.left l.initial.source ≡ l.bytes.items ++ g.S.Source.left l.source;
+  told : IsTrue g.S.Source.account.tells → (g.S.Source.account.meaning l.initial.source).held ≡ l.bytes.items ++ (g.S.Source.account.meaning l.source).held;
   most : length l.bytes.items ≤ l.limit + 1;
-  later : g.S.Source.faults l.initial.source ≤ g.S.Source.faults l.source;
+  later : (g.S.Source.account.meaning l.initial.source).faults ≤ (g.S.Source.account.meaning l.source).faults;
 }
 
 abbrev pub decreases-loop-buffer : goal.decreases-loop-buffer

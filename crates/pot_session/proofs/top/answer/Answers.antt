@@ -15,13 +15,13 @@ returns-in-Ok-Init-clause-runs g c = Makes _ (subst (Asks (map string_bytes c.ar
 pub returns-in-Ok-Init-clause-source : goal.returns-in-Ok-Init-clause-source
 returns-in-Ok-Init-clause-source g c = record {
   later = omega arith;
-  rose = λ e. absurd (init_source _ _ _ c.init.ensures.inits.made c.init.result c.init.ensures.inits.which c.init.ensures.inits.answers e);
+  rose = λ e. absurd (init_source _ c.init.ensures.inits.made c.init.result c.init.ensures.inits.which c.init.ensures.inits.answers e);
 }
 
 pub returns-in-Ok-Init-clause-room : goal.returns-in-Ok-Init-clause-room
 returns-in-Ok-Init-clause-room g c = record {
   later = omega arith;
-  rose = λ e. absurd (init_room _ _ _ c.init.ensures.inits.made c.init.result c.init.ensures.inits.which c.init.ensures.inits.answers e);
+  rose = λ e. absurd (init_room _ c.init.ensures.inits.made c.init.result c.init.ensures.inits.which c.init.ensures.inits.answers e);
 }
 
 pub returns-in-Ok-Run-clause-runs : goal.returns-in-Ok-Run-clause-runs
@@ -38,13 +38,13 @@ returns-in-Ok-Drill-clause-runs g c =
 pub returns-in-Ok-Drill-clause-room : goal.returns-in-Ok-Drill-clause-room
 returns-in-Ok-Drill-clause-room g c = record {
   later = omega arith;
-  rose = λ e. absurd (drill_room _ _ _ _ _ _ _ _ c.drill_files.result c.drill_files.ensures.drills e);
+  rose = λ e. absurd (drill_room _ _ _ _ c.drill_files.result c.drill_files.ensures.drills e);
 }
 
 pub returns-in-Ok-Drill-clause-desk : goal.returns-in-Ok-Drill-clause-desk
 returns-in-Ok-Drill-clause-desk g c = record {
   later = omega arith;
-  rose = λ e. absurd (drill_desk _ _ _ _ _ _ _ _ c.drill_files.result c.drill_files.ensures.drills e);
+  rose = λ e. absurd (drill_desk _ _ _ _ c.drill_files.result c.drill_files.ensures.drills e);
 }
 
 pub returns-in-Ok-Recover-clause-runs : goal.returns-in-Ok-Recover-clause-runs
@@ -54,13 +54,13 @@ returns-in-Ok-Recover-clause-runs g c =
 pub returns-in-Ok-Recover-clause-source : goal.returns-in-Ok-Recover-clause-source
 returns-in-Ok-Recover-clause-source g c = record {
   later = omega arith;
-  rose = λ e. absurd (recover_source _ _ _ _ _ _ _ c.recover_files.result c.recover_files.ensures.recovers e);
+  rose = λ e. absurd (recover_source _ _ _ c.recover_files.result c.recover_files.ensures.recovers e);
 }
 
 pub returns-in-Ok-Recover-clause-desk : goal.returns-in-Ok-Recover-clause-desk
 returns-in-Ok-Recover-clause-desk g c = record {
   later = omega arith;
-  rose = λ e. absurd (recover_desk _ _ _ _ _ _ _ c.recover_files.result c.recover_files.ensures.recovers e);
+  rose = λ e. absurd (recover_desk _ _ _ c.recover_files.result c.recover_files.ensures.recovers e);
 }
 
 pub returns-in-Ok-Audit-clause-runs : goal.returns-in-Ok-Audit-clause-runs
@@ -70,13 +70,13 @@ returns-in-Ok-Audit-clause-runs g c =
 pub returns-in-Ok-Audit-clause-source : goal.returns-in-Ok-Audit-clause-source
 returns-in-Ok-Audit-clause-source g c = record {
   later = omega arith;
-  rose = λ e. absurd (audit_source _ _ _ _ _ _ c.audit_files.result c.audit_files.ensures.audits e);
+  rose = λ e. absurd (audit_source _ _ _ c.audit_files.result c.audit_files.ensures.audits e);
 }
 
 pub returns-in-Ok-Audit-clause-room : goal.returns-in-Ok-Audit-clause-room
 returns-in-Ok-Audit-clause-room g c = record {
   later = omega arith;
-  rose = λ e. absurd (audit_room _ _ _ _ _ _ c.audit_files.result c.audit_files.ensures.audits e);
+  rose = λ e. absurd (audit_room _ _ _ c.audit_files.result c.audit_files.ensures.audits e);
 }
 
 pub generate-requires-clause-limits : goal.generate-requires-clause-limits
@@ -89,29 +89,29 @@ returns-in-Ok-Generate-clause-runs g c =
 pub returns-in-Ok-Generate-clause-source : goal.returns-in-Ok-Generate-clause-source
 returns-in-Ok-Generate-clause-source g c = record {
   later = omega arith;
-  rose = λ e. absurd (generate_source _ _ _ _ c.generate.result c.generate.ensures.generates e);
+  rose = λ e. absurd (generate_source _ _ c.generate.result c.generate.ensures.generates e);
 }
 
 pub returns-in-Ok-Generate-clause-room : goal.returns-in-Ok-Generate-clause-room
 returns-in-Ok-Generate-clause-room g c = record {
   later = omega arith;
-  rose = λ e. absurd (generate_room _ _ _ _ c.generate.result c.generate.ensures.generates e);
+  rose = λ e. absurd (generate_room _ _ c.generate.result c.generate.ensures.generates e);
 }
 
 pub returns-in-Ok-Generate-clause-desk : goal.returns-in-Ok-Generate-clause-desk
 returns-in-Ok-Generate-clause-desk g c = record {
   later = omega arith;
-  rose = λ e. absurd (generate_desk _ _ _ _ c.generate.result c.generate.ensures.generates e);
+  rose = λ e. absurd (generate_desk _ _ c.generate.result c.generate.ensures.generates e);
 }
 
 pub returns-in-Ok-Init-clause-own : goal.returns-in-Ok-Init-clause-own
-returns-in-Ok-Init-clause-own g c e = absurd (init_room _ _ _ c.init.ensures.inits.made c.init.result c.init.ensures.inits.which c.init.ensures.inits.answers e)
+returns-in-Ok-Init-clause-own g c e = absurd (init_room _ c.init.ensures.inits.made c.init.result c.init.ensures.inits.which c.init.ensures.inits.answers e)
 
 pub returns-in-Ok-Run-clause-own : goal.returns-in-Ok-Run-clause-own
 returns-in-Ok-Run-clause-own g c e = inl (c.hold.ensures.own.rose e)
 
 pub returns-in-Ok-Drill-clause-own : goal.returns-in-Ok-Drill-clause-own
-returns-in-Ok-Drill-clause-own g c e = absurd (drill_room _ _ _ _ _ _ _ _ c.drill_files.result c.drill_files.ensures.drills e)
+returns-in-Ok-Drill-clause-own g c e = absurd (drill_room _ _ _ _ c.drill_files.result c.drill_files.ensures.drills e)
 
 pub returns-in-Ok-Recover-clause-own : goal.returns-in-Ok-Recover-clause-own
 returns-in-Ok-Recover-clause-own g c e = elim (c.recover_files.ensures.own.why e) [
@@ -120,7 +120,7 @@ returns-in-Ok-Recover-clause-own g c e = elim (c.recover_files.ensures.own.why e
 ]
 
 pub returns-in-Ok-Audit-clause-own : goal.returns-in-Ok-Audit-clause-own
-returns-in-Ok-Audit-clause-own g c e = absurd (audit_room _ _ _ _ _ _ c.audit_files.result c.audit_files.ensures.audits e)
+returns-in-Ok-Audit-clause-own g c e = absurd (audit_room _ _ _ c.audit_files.result c.audit_files.ensures.audits e)
 
 pub returns-in-Ok-Generate-clause-own : goal.returns-in-Ok-Generate-clause-own
-returns-in-Ok-Generate-clause-own g c e = absurd (generate_room _ _ _ _ c.generate.result c.generate.ensures.generates e)
+returns-in-Ok-Generate-clause-own g c e = absurd (generate_room _ _ c.generate.result c.generate.ensures.generates e)

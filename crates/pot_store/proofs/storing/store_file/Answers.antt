@@ -1,5 +1,6 @@
 use Rattle.std.proofs.Common.{◌≡◌, ◌*◌, ◌∙◌, length, ap, sym, subst}
 use Rattle.std.specs.Prelude.{Ok, Err}
+use Rattle.pot_bytes.specs.declared.rack.Rack.{Rack}
 use Rattle.pot_object.specs.Pieces.{pieces_of}
 use Rattle.pot_index.specs.declared.record.Record.{Record}
 use Rattle.pot_index.specs.declared.fault.ReserveFault.{ReserveFault}
@@ -11,7 +12,7 @@ use Rattle.pot_shared.specs.IndexCalls.{IndexCall, HasReserved, ReservesName, Pu
 use Rattle.pot_rows.specs.Works.{RowWorked}
 use Rattle.pot_store.specs.declared.storing.StoreFault.TheVariants as fault
 use Rattle.pot_shared.specs.Works.{of_job, known, JobWorked, JobAlone, section_of}
-use Rattle.pot_store.specs.Stores.{StoreRow}
+use Rattle.pot_store.specs.Stores.{IsPlan, StoreRow, record_of}
 use Rattle.pot_store.specs.Drawing.{Drawn, all_blocks, count_of}
 use Rattle.pot_store.specs.Puts.{ArePut, PutsEnd}
 use Rattle.pot_store.proofs.StoreLemmas.{reserve_job, log_full, taken, no_memory}
@@ -59,23 +60,23 @@ publish-requires-clause-reserved g c = subst (λ (r : Record). HasReserved c.arg
 
 pub publish-requires-clause-fits : goal.publish-requires-clause-fits
 publish-requires-clause-fits g c =
-    let plan = c.in_ok-pieces.ensures.planned in
-    let put = c.in-Ok-put_all.ensures.put in
+    let plan = subst (λ (r : Rack). IsPlan r.geometry c.args.file.now c.args.pads c.in_ok-pieces.field-0.pieces c.in_ok-pieces.field-0.shards c.in_ok-pieces.field-0.drawing c.in_ok-pieces.field-0.places.items) c.rack-rack.ensures c.in_ok-pieces.ensures.planned in
+    let puts = subst (λ (r : Rack). ArePut c.args.caller.now.vault.now.rack r.geometry c.args.caller.now.job (all_blocks c.in_ok-pieces.field-0.drawing) c.put_all.new.places.items c.reserve.new.passes.groups c.put_all.new.passes.groups) c.rack-rack.ensures c.in-Ok-put_all.ensures.put.1 in
     let drawn : c.in_ok-pieces.field-0.drawing ≡ record { geometry = c.args.caller.now.vault.now.rack.geometry; file = c.args.file.now; start = c.args.pads; next = 0 } = plan.drawing in
-    let count : length c.put_all.new.places.items ≡ pieces_of (length c.args.file.now) * (c.args.caller.now.vault.now.rack.geometry.fragments * c.args.caller.now.vault.now.rack.geometry.shards) = cc (put.0, plan.shards_is, ap count_of plan.drawing) in
-    subst (λ (r : Record). FitsRack c.args.caller.now.vault.now.rack r) (sym c.record_of-kept.ensures)
+    let count : length c.put_all.new.places.items ≡ pieces_of (length c.args.file.now) * (c.args.caller.now.vault.now.rack.geometry.fragments * c.args.caller.now.vault.now.rack.geometry.shards) = cc (c.in-Ok-put_all.ensures.put.0, plan.shards_is, ap count_of plan.drawing) in
+    subst (λ (r : Record). FitsRack c.args.caller.now.vault.now.rack r) (sym (c.record_of-kept.ensures ∙ ap (λ (r : Rack). record_of c.args.name.now c.args.file.now r.geometry c.put_all.new.places.items) c.rack-rack.ensures))
     (fits c.args.caller.now.vault.now.rack c.args.caller.now.job c.args.name.now c.args.file.now c.args.pads (all_blocks c.in_ok-pieces.field-0.drawing) c.put_all.new.places.items c.reserve.new.passes.groups c.put_all.new.passes.groups c.requires.rack plan.short
-    count put.1)
+    count puts)
 
 pub publish-requires-clause-seen : goal.publish-requires-clause-seen
 publish-requires-clause-seen g c =
-    let plan = c.in_ok-pieces.ensures.planned in
-    let put = c.in-Ok-put_all.ensures.put in
+    let plan = subst (λ (r : Rack). IsPlan r.geometry c.args.file.now c.args.pads c.in_ok-pieces.field-0.pieces c.in_ok-pieces.field-0.shards c.in_ok-pieces.field-0.drawing c.in_ok-pieces.field-0.places.items) c.rack-rack.ensures c.in_ok-pieces.ensures.planned in
+    let puts = subst (λ (r : Rack). ArePut c.args.caller.now.vault.now.rack r.geometry c.args.caller.now.job (all_blocks c.in_ok-pieces.field-0.drawing) c.put_all.new.places.items c.reserve.new.passes.groups c.put_all.new.passes.groups) c.rack-rack.ensures c.in-Ok-put_all.ensures.put.1 in
     let drawn : c.in_ok-pieces.field-0.drawing ≡ record { geometry = c.args.caller.now.vault.now.rack.geometry; file = c.args.file.now; start = c.args.pads; next = 0 } = plan.drawing in
-    let count : length c.put_all.new.places.items ≡ pieces_of (length c.args.file.now) * (c.args.caller.now.vault.now.rack.geometry.fragments * c.args.caller.now.vault.now.rack.geometry.shards) = cc (put.0, plan.shards_is, ap count_of plan.drawing) in
-    subst (λ (r : Record). SeesFile c.put_all.new.passes.groups r) (sym c.record_of-kept.ensures)
+    let count : length c.put_all.new.places.items ≡ pieces_of (length c.args.file.now) * (c.args.caller.now.vault.now.rack.geometry.fragments * c.args.caller.now.vault.now.rack.geometry.shards) = cc (c.in-Ok-put_all.ensures.put.0, plan.shards_is, ap count_of plan.drawing) in
+    subst (λ (r : Record). SeesFile c.put_all.new.passes.groups r) (sym (c.record_of-kept.ensures ∙ ap (λ (r : Rack). record_of c.args.name.now c.args.file.now r.geometry c.put_all.new.places.items) c.rack-rack.ensures))
     (sees c.args.caller.now.vault.now.rack c.args.caller.now.job c.args.name.now c.args.file.now c.args.pads (all_blocks c.in_ok-pieces.field-0.drawing) c.put_all.new.places.items c.reserve.new.passes.groups c.put_all.new.passes.groups c.requires.rack plan.short
-    count put.1 (λ i. (c.type_inv.file i).fits) (ap all_blocks drawn))
+    count puts (λ i. (c.type_inv.file i).fits) (ap all_blocks drawn))
 
 pub returns-in-Ok-publish-clause-worked : goal.returns-in-Ok-publish-clause-worked
 returns-in-Ok-publish-clause-worked g c =
@@ -83,14 +84,14 @@ returns-in-Ok-publish-clause-worked g c =
 
 pub returns-in-Ok-publish-clause-says : goal.returns-in-Ok-publish-clause-says
 returns-in-Ok-publish-clause-says g c = λ alone s set draws.
-    let plan = c.in_ok-pieces.ensures.planned in
-    let put = c.in-Ok-put_all.ensures.put in
+    let plan = subst (λ (r : Rack). IsPlan r.geometry c.args.file.now c.args.pads c.in_ok-pieces.field-0.pieces c.in_ok-pieces.field-0.shards c.in_ok-pieces.field-0.drawing c.in_ok-pieces.field-0.places.items) c.rack-rack.ensures c.in_ok-pieces.ensures.planned in
+    let puts = subst (λ (r : Rack). ArePut c.args.caller.now.vault.now.rack r.geometry c.args.caller.now.job (all_blocks c.in_ok-pieces.field-0.drawing) c.put_all.new.places.items c.reserve.new.passes.groups c.put_all.new.passes.groups) c.rack-rack.ensures c.in-Ok-put_all.ensures.put.1 in
     let drawn : c.in_ok-pieces.field-0.drawing ≡ record { geometry = c.args.caller.now.vault.now.rack.geometry; file = c.args.file.now; start = c.args.pads; next = 0 } = plan.drawing in
-    let count : length c.put_all.new.places.items ≡ pieces_of (length c.args.file.now) * (c.args.caller.now.vault.now.rack.geometry.fragments * c.args.caller.now.vault.now.rack.geometry.shards) = cc (put.0, plan.shards_is, ap count_of plan.drawing) in
+    let count : length c.put_all.new.places.items ≡ pieces_of (length c.args.file.now) * (c.args.caller.now.vault.now.rack.geometry.fragments * c.args.caller.now.vault.now.rack.geometry.shards) = cc (c.in-Ok-put_all.ensures.put.0, plan.shards_is, ap count_of plan.drawing) in
     published_row c.args.caller.now.job c.args.name.now c.args.file.now c.args.caller.now.vault.now.rack c.args.caller.now.vault.now.groups c.args.caller.now.vault.now.index c.args.passes.now.groups c.reserve.new.passes.groups c.put_all.new.passes.groups c.args.passes.now.index c.reserve.new.passes.index c.put_all.new.passes.index c.in-Ok.field-0 c.requires.ready c.requires.index c.reserve.ensures.groups c.in-Ok.ensures.call c.reserve.ensures.index c.put_all.ensures.index c.put_all.ensures.worked c.args.pads c.put_all.new.places.items c.in_ok-pieces.field-0.pieces c.in_ok-pieces.field-0.shards c.in-Ok-publish.field-0 c.publish.new.passes.groups c.publish.new.passes.index
-    c.put_all.ensures.ready c.publish.ensures.groups (subst (λ (r : Record). IndexCall (PublishesRecord c.args.caller.now.job r (Ok c.in-Ok-publish.field-0)) c.put_all.new.passes.index c.publish.new.passes.index) c.record_of-kept.ensures c.in-Ok-publish.ensures.call)
-    (subst (λ (d : Drawn). ArePut c.args.caller.now.vault.now.rack c.args.caller.now.vault.now.rack.geometry c.args.caller.now.job (all_blocks d) c.put_all.new.places.items c.reserve.new.passes.groups c.put_all.new.passes.groups) drawn put.1)
-    (λ i. (c.type_inv.file i).fits) plan.short plan.pieces_is (plan.shards_is ∙ ap count_of plan.drawing) put.0 alone s set draws
+    c.put_all.ensures.ready c.publish.ensures.groups (subst (λ (r : Record). IndexCall (PublishesRecord c.args.caller.now.job r (Ok c.in-Ok-publish.field-0)) c.put_all.new.passes.index c.publish.new.passes.index) (c.record_of-kept.ensures ∙ ap (λ (r : Rack). record_of c.args.name.now c.args.file.now r.geometry c.put_all.new.places.items) c.rack-rack.ensures) c.in-Ok-publish.ensures.call)
+    (subst (λ (d : Drawn). ArePut c.args.caller.now.vault.now.rack c.args.caller.now.vault.now.rack.geometry c.args.caller.now.job (all_blocks d) c.put_all.new.places.items c.reserve.new.passes.groups c.put_all.new.passes.groups) drawn puts)
+    (λ i. (c.type_inv.file i).fits) plan.short plan.pieces_is (plan.shards_is ∙ ap count_of plan.drawing) c.in-Ok-put_all.ensures.put.0 alone s set draws
 
 pub returns-in-Ok-put_all-clause-worked : goal.returns-in-Ok-put_all-clause-worked
 returns-in-Ok-put_all-clause-worked g c =
@@ -109,11 +110,11 @@ returns-in-Ok-abandon-clause-worked g c =
 
 pub returns-in-Ok-abandon-clause-says : goal.returns-in-Ok-abandon-clause-says
 returns-in-Ok-abandon-clause-says g c = λ alone s set draws.
-    let plan = c.in_ok-pieces.ensures.planned in
+    let plan = subst (λ (r : Rack). IsPlan r.geometry c.args.file.now c.args.pads c.in_ok-pieces.field-0.pieces c.in_ok-pieces.field-0.shards c.in_ok-pieces.field-0.drawing c.in_ok-pieces.field-0.places.items) c.rack-rack.ensures c.in_ok-pieces.ensures.planned in
     let drawn : c.in_ok-pieces.field-0.drawing ≡ record { geometry = c.args.caller.now.vault.now.rack.geometry; file = c.args.file.now; start = c.args.pads; next = 0 } = plan.drawing in
     subst (λ e. StoreRow s c.args.caller.now.job c.args.name.now c.args.file.now (Err e) (section_of (known c.args.passes.now.groups c.args.passes.now.index) (known c.abandon.new.passes.groups c.abandon.new.passes.index))) (sym c.fault_of.ensures)
     (abandoned_row c.args.caller.now.job c.args.name.now c.args.file.now c.args.caller.now.vault.now.rack c.args.caller.now.vault.now.groups c.args.caller.now.vault.now.index c.args.passes.now.groups c.reserve.new.passes.groups c.put_all.new.passes.groups c.args.passes.now.index c.reserve.new.passes.index c.put_all.new.passes.index c.in-Ok.field-0 c.requires.ready c.requires.index c.reserve.ensures.groups c.in-Ok.ensures.call c.reserve.ensures.index c.put_all.ensures.index c.put_all.ensures.worked c.args.pads c.in-Err.stopped.group c.in-Err.stopped.cause c.in-Ok-abandon.field-0 c.abandon.new.passes.groups c.abandon.new.passes.index c.abandon.ensures.groups c.in-Ok-abandon.ensures.call plan.short
-    (λ here. subst (λ (d : Drawn). PutsEnd c.args.caller.now.vault.now.rack c.args.caller.now.vault.now.rack.geometry c.args.caller.now.job (all_blocks d) c.in-Err.stopped.group c.in-Err.stopped.cause c.reserve.new.passes.groups c.put_all.new.passes.groups) drawn (c.in-Err.ensures.ends here)) alone s set draws)
+    (λ here. subst (λ (d : Drawn). PutsEnd c.args.caller.now.vault.now.rack c.args.caller.now.vault.now.rack.geometry c.args.caller.now.job (all_blocks d) c.in-Err.stopped.group c.in-Err.stopped.cause c.reserve.new.passes.groups c.put_all.new.passes.groups) drawn (subst (λ (r : Rack). PutsEnd c.args.caller.now.vault.now.rack r.geometry c.args.caller.now.job (all_blocks c.in_ok-pieces.field-0.drawing) c.in-Err.stopped.group c.in-Err.stopped.cause c.reserve.new.passes.groups c.put_all.new.passes.groups) c.rack-rack.ensures (c.in-Err.ensures.ends here))) alone s set draws)
 
 pub returns-clause-worked : goal.returns-clause-worked
 returns-clause-worked g c =

@@ -1,5 +1,6 @@
-use Rattle.std.proofs.Common.{◌≡◌, IsTrue, inl, inr, false, subst, ◌∙◌, arith}
+use Rattle.std.proofs.Common.{◌≡◌, inl, inr, false, subst, ◌∙◌, arith}
 use Rattle.std.proofs.lemmas.Bool.{cases_lt}
+use Rattle.pot_outside.specs.Rooms.{met_room}
 use Rattle.pot_session.proofs.RecoveringLemmas.{held_more, some_failed}
 use Rattle.pot_session.proofs.Counts.{err_again}
 use Rattle.pot_session.proofs.recovery.recovering.read_archives.Goals as goal
@@ -16,7 +17,7 @@ loop-number-preserved g c =
         | inl less ↦ (others n (λ e. omega (arith, less, e))).1 ∙ home n
         | inr le ↦ elim (cases_lt number n) [
           | inl more ↦ (others n (λ e. omega (arith, more, e))).1 ∙ home n
-          | inr ge ↦ subst (λ k. g.R.Room.out c.read_archive.new.room k ≡ false) (let e : number ≡ n = omega (arith, le, ge) in e) c.in-Ok.ensures.home
+          | inr ge ↦ subst (λ k. (g.R.Room.meaning c.read_archive.new.room).out k ≡ false) (let e : number ≡ n = omega (arith, le, ge) in e) c.in-Ok.ensures.home
         ]
       ];
       others = λ n le. (others n (λ e. omega (arith, le, e))).0 ∙ c.loop-number.invariant.others n (omega (arith, le));
@@ -27,6 +28,6 @@ loop-number-preserved g c =
 pub returns-in-Err-clause-own : goal.returns-in-Err-clause-own
 returns-in-Err-clause-own g c = record {
   later = (let a = c.loop-number.invariant.own in let b = c.read_archive.ensures.own.later in omega (arith, a, b));
-  why = λ e. some_failed (IsTrue g.R.A.Archive.account.tells) c.args.task.now.archives c.loop-number.number (g.R.Room.means c.args.room.now) (g.R.Room.means c.loop-number.room) (g.R.Room.means c.read_archive.new.room) _ _ _
+  why = λ e. some_failed (met_room g.R.A.Archive.account g.R.Room.meaning c.args.room.now c.read_archive.new.room) (g.R.Room.meaning c.loop-number.room) c.args.task.now.archives c.loop-number.number
       c.loop-number-test.true c.loop-number.invariant.own (c.loop-number.invariant.others c.loop-number.number (omega arith)) (c.in-Err.ensures.own.why (err_again _ _ e));
 }

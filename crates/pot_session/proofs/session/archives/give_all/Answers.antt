@@ -1,4 +1,4 @@
-use Rattle.std.proofs.Common.{◌≡◌, ◌<◌, IsTrue, true, false, length, refl, sym, ap, subst, ◌∙◌, arith}
+use Rattle.std.proofs.Common.{◌≡◌, ◌<◌, true, false, length, refl, sym, ap, subst, ◌∙◌, arith}
 use Rattle.std.specs.Prelude.{[]}
 use Rattle.std.proofs.lemmas.List.{nil_from_length}
 use Rattle.pot_shelves.specs.Shelves.{numbers_of}
@@ -15,7 +15,7 @@ apart e = absurd (cc)
 
 pub give-requires : goal.give-requires
 give-requires g c =
-    is_out (g.R.Room.out c.loop-hand.room) c.loop-hand.hand.items c.least_place-place.result c.remove-number.result c.loop-hand.invariant.out
+    is_out (g.R.Room.meaning c.loop-hand.room) c.loop-hand.hand.items c.least_place-place.result c.remove-number.result c.loop-hand.invariant.out
     (omega (arith, c.least_place-place.ensures, ap length c.deref.ensures.value)) c.remove-number.ensures.value
 
 pub loop-hand-init : goal.loop-hand-init
@@ -23,7 +23,7 @@ loop-hand-init g c = record {
   out = c.requires;
   fewer = λ n. omega arith;
   untouched = λ n e. refl;
-  given = none_given g.R.A.Archive.account.meaning (IsTrue g.R.A.Archive.account.tells) c.args.hand.now.items (g.R.Room.out c.args.room.now) (g.R.Room.means c.args.room.now) (g.R.Room.failures c.args.room.now);
+  given = none_given g.R.A.Archive.account c.args.hand.now.items (g.R.Room.meaning c.args.room.now);
   space = refl;
   cause = record { later = omega arith; rose = λ e. apart e };
 }
@@ -32,8 +32,8 @@ pub loop-hand-preserved : goal.loop-hand-preserved
 loop-hand-preserved g c =
     let lt : c.least_place-place.result < length c.loop-hand.hand.items = omega (arith, c.least_place-place.ensures, ap length c.deref.ensures.value) in
     record {
-      out = subst (λ ss. AreOut (g.R.Room.out c.give.new.self) (numbers_of ss)) (sym c.remove-number.ensures.items)
-          (out_less (g.R.Room.out c.loop-hand.room) (g.R.Room.out c.give.new.self) c.loop-hand.hand.items c.least_place-place.result c.remove-number.result c.loop-hand.invariant.out
+      out = subst (λ ss. AreOut (g.R.Room.meaning c.give.new.self) (numbers_of ss)) (sym c.remove-number.ensures.items)
+          (out_less (g.R.Room.meaning c.loop-hand.room) (g.R.Room.meaning c.give.new.self) c.loop-hand.hand.items c.least_place-place.result c.remove-number.result c.loop-hand.invariant.out
           lt c.remove-number.ensures.value c.give.ensures.back (λ n ne. (c.give.ensures.others n ne).1));
       fewer = λ n.
           let r = times-removed n c.loop-hand.hand.items c.least_place-place.result c.remove-number.result lt c.remove-number.ensures.value in
@@ -45,13 +45,11 @@ loop-hand-preserved g c =
           let z : times n (numbers_of c.loop-hand.hand.items) ≡ 0 = omega (arith, f, none) in
           (c.give.ensures.others n (is_another n c.loop-hand.hand.items c.least_place-place.result c.remove-number.result lt c.remove-number.ensures.value z)).0
           ∙ c.loop-hand.invariant.untouched n none;
-      given = subst (λ ss. GivenSofar g.R.A.Archive.account.meaning (IsTrue g.R.A.Archive.account.tells) c.args.hand.now.items ss (g.R.Room.out c.give.new.self) (g.R.Room.means c.give.new.self)
-          (g.R.Room.failures c.args.room.now) (g.R.Room.failures c.give.new.self) c.either-answer.result)
+      given = subst (λ ss. GivenSofar g.R.A.Archive.account c.args.hand.now.items ss (g.R.Room.meaning c.args.room.now) (g.R.Room.meaning c.give.new.self) c.either-answer.result)
           (sym c.remove-number.ensures.items)
-          (one_given g.R.A.Archive.account.meaning (IsTrue g.R.A.Archive.account.tells) c.args.hand.now.items c.loop-hand.hand.items (g.R.Room.out c.loop-hand.room) (g.R.Room.out c.give.new.self) (g.R.Room.means c.loop-hand.room) (g.R.Room.means c.give.new.self)
-          (g.R.Room.failures c.args.room.now) (g.R.Room.failures c.loop-hand.room) (g.R.Room.failures c.give.new.self) c.least_place-place.result c.remove-number.result c.loop-hand.answer c.either-answer.result
+          (one_given g.R.A.Archive.account c.args.hand.now.items c.loop-hand.hand.items (g.R.Room.meaning c.args.room.now) (g.R.Room.meaning c.loop-hand.room) (g.R.Room.meaning c.give.new.self) c.least_place-place.result c.remove-number.result c.loop-hand.answer c.either-answer.result
           c.loop-hand.invariant.given lt c.remove-number.ensures.value
-          (is_out (g.R.Room.out c.loop-hand.room) c.loop-hand.hand.items c.least_place-place.result c.remove-number.result c.loop-hand.invariant.out lt c.remove-number.ensures.value) c.give.ensures.back
+          (is_out (g.R.Room.meaning c.loop-hand.room) c.loop-hand.hand.items c.least_place-place.result c.remove-number.result c.loop-hand.invariant.out lt c.remove-number.ensures.value) c.give.ensures.back
           (λ n ne. ((c.give.ensures.others n ne).0, (c.give.ensures.others n ne).1))
           c.give.result c.give.ensures.told c.give.ensures.own c.give.ensures.sound c.either-answer.ensures.some c.either-answer.ensures.first c.either-answer.ensures.second);
       space = c.remove-number.ensures.capacity ∙ c.loop-hand.invariant.space;
@@ -63,11 +61,10 @@ returns g c =
     let z : length c.loop-hand.hand.items ≡ 0 = omega (arith, is_zero _ (sym c.loop-hand-test.ensures), c.loop-hand.hand.ok.0) in
     let none : c.loop-hand.hand.items ≡ [] = nil_from_length c.loop-hand.hand.items z in
     record {
-      home = all_home (g.R.Room.out c.loop-hand.room) (subst (λ ss. AreOut (g.R.Room.out c.loop-hand.room) (numbers_of ss)) none c.loop-hand.invariant.out);
+      home = all_home (g.R.Room.meaning c.loop-hand.room) (subst (λ ss. AreOut (g.R.Room.meaning c.loop-hand.room) (numbers_of ss)) none c.loop-hand.invariant.out);
       empty = none;
       space = c.loop-hand.invariant.space;
       untouched = c.loop-hand.invariant.untouched;
-      back = all_given g.R.A.Archive.account.meaning (IsTrue g.R.A.Archive.account.tells) c.args.hand.now.items c.loop-hand.hand.items (g.R.Room.out c.loop-hand.room) (g.R.Room.means c.loop-hand.room)
-          (g.R.Room.failures c.args.room.now) (g.R.Room.failures c.loop-hand.room) c.loop-hand.answer c.loop-hand.invariant.given none;
+      back = all_given g.R.A.Archive.account c.args.hand.now.items c.loop-hand.hand.items (g.R.Room.meaning c.args.room.now) (g.R.Room.meaning c.loop-hand.room) c.loop-hand.answer c.loop-hand.invariant.given none;
       cause = c.loop-hand.invariant.cause;
     }

@@ -1,4 +1,4 @@
-use Rattle.std.proofs.Common.{◌≡◌, ◌≤◌, ℕ, IsTrue}
+use Rattle.std.proofs.Common.{◌≡◌, ◌≤◌, ℕ}
 use Rattle.std.specs.Prelude.{IsErr, vec_len, vec_capacity}
 use Rattle.pot_outside.specs.Counts.{Caused}
 use Rattle.pot_shelves.specs.Shelves.{numbers_of}
@@ -9,13 +9,12 @@ use Rattle.pot_session.proofs.session.archives.give_all.Given as goal
 
 abbrev pub invariant-loop-hand : goal.invariant-loop-hand
 invariant-loop-hand g l = record {
-  out : AreOut (g.R.Room.out l.room) (numbers_of l.hand.items);
+  out : AreOut (g.R.Room.meaning l.room) (numbers_of l.hand.items);
   fewer : (n : ℕ) → times n (numbers_of l.hand.items) ≤ times n (numbers_of l.initial.hand.items);
-  untouched : Untouched (numbers_of l.initial.hand.items) (g.R.Room.means l.initial.room) (g.R.Room.means l.room);
-  given : GivenSofar g.R.A.Archive.account.meaning (IsTrue g.R.A.Archive.account.tells) l.initial.hand.items l.hand.items (g.R.Room.out l.room) (g.R.Room.means l.room)
-      (g.R.Room.failures l.initial.room) (g.R.Room.failures l.room) l.answer;
+  untouched : Untouched (numbers_of l.initial.hand.items) (g.R.Room.meaning l.initial.room) (g.R.Room.meaning l.room);
+  given : GivenSofar g.R.A.Archive.account l.initial.hand.items l.hand.items (g.R.Room.meaning l.initial.room) (g.R.Room.meaning l.room) l.answer;
   space : vec_capacity l.hand ≡ vec_capacity l.initial.hand;
-  cause : Caused (g.R.Room.faults l.initial.room) (g.R.Room.faults l.room) (IsErr l.answer);
+  cause : Caused (g.R.Room.meaning l.initial.room).faults (g.R.Room.meaning l.room).faults (IsErr l.answer);
 }
 
 abbrev pub decreases-loop-hand : goal.decreases-loop-hand

@@ -1,4 +1,4 @@
-use Rattle.std.proofs.Common.{◌≡◌, IsTrue, length, take, get_or, refl, sym, ap, subst, ◌∙◌, arith}
+use Rattle.std.proofs.Common.{◌≡◌, length, take, get_or, refl, sym, ap, subst, ◌∙◌, arith}
 use Rattle.std.proofs.lemmas.List.{take_more}
 use Rattle.std.proofs.Math.Seq.{take-length}
 use Rattle.pot_shelves.specs.Shelves.{numbers_of}
@@ -18,7 +18,7 @@ use Rattle.pot_session.proofs.session.archives.take_all.Goals as goal
 
 pub take-requires : goal.take-requires
 take-requires g c =
-    is_home (g.R.Room.out c.loop-number.room) (take c.loop-number.number-index c.args.numbers.now) (get_or c.args.numbers.now c.loop-number.number-index 0) c.loop-number.invariant.out
+    is_home (g.R.Room.meaning c.loop-number.room) (take c.loop-number.number-index c.args.numbers.now) (get_or c.args.numbers.now c.loop-number.number-index 0) c.loop-number.invariant.out
     (apart_before c.args.numbers.now c.loop-number.number-index c.requires.apart c.loop-number-test.true)
 
 pub push_reserved-requires : goal.push_reserved-requires
@@ -27,16 +27,16 @@ push_reserved-requires g c =
 
 pub give_all-given-requires-after_bounds : goal.give_all-given-requires-after_bounds
 give_all-given-requires-after_bounds g c bounds within =
-    subst (λ ns. AreOut (g.R.Room.out c.take.new.self) ns) (sym c.loop-number.invariant.taken)
-    (out_same (g.R.Room.out c.loop-number.room) (g.R.Room.out c.take.new.self) (take c.loop-number.number-index c.args.numbers.now) (get_or c.args.numbers.now c.loop-number.number-index 0) c.loop-number.invariant.out
-    (is_home (g.R.Room.out c.loop-number.room) (take c.loop-number.number-index c.args.numbers.now) (get_or c.args.numbers.now c.loop-number.number-index 0) c.loop-number.invariant.out
+    subst (λ ns. AreOut (g.R.Room.meaning c.take.new.self) ns) (sym c.loop-number.invariant.taken)
+    (out_same (g.R.Room.meaning c.loop-number.room) (g.R.Room.meaning c.take.new.self) (take c.loop-number.number-index c.args.numbers.now) (get_or c.args.numbers.now c.loop-number.number-index 0) c.loop-number.invariant.out
+    (is_home (g.R.Room.meaning c.loop-number.room) (take c.loop-number.number-index c.args.numbers.now) (get_or c.args.numbers.now c.loop-number.number-index 0) c.loop-number.invariant.out
     (apart_before c.args.numbers.now c.loop-number.number-index c.requires.apart c.loop-number-test.true))
     c.in-Err.ensures.refused (λ n ne. (c.take.ensures.others n ne).1))
 
 pub loop-number-init : goal.loop-number-init
 loop-number-init g c = record {
   taken = ap numbers_of c.requires.empty;
-  out = none_out (g.R.Room.out c.args.room.now) c.requires.home;
+  out = none_out (g.R.Room.meaning c.args.room.now) c.requires.home;
   meant = λ told s has. absurd (none_contained s (subst (λ ss. Contains ss s) c.requires.empty has));
   untouched = λ n e. refl;
   space = refl;
@@ -49,13 +49,13 @@ loop-number-preserved g c =
     let more = take_more c.args.numbers.now c.loop-number.number-index 0 c.loop-number-test.true in
     record {
       taken = ap numbers_of c.push_reserved.ensures.items ∙ (numbers-snoc c.loop-number.hand.items _ (take c.loop-number.number-index c.args.numbers.now) c.loop-number.invariant.taken ∙ sym more);
-      out = subst (λ ns. AreOut (g.R.Room.out c.take.new.self) ns) (sym more)
-          (out_more (g.R.Room.out c.loop-number.room) (g.R.Room.out c.take.new.self) (take c.loop-number.number-index c.args.numbers.now) (get_or c.args.numbers.now c.loop-number.number-index 0) c.loop-number.invariant.out
-          (is_home (g.R.Room.out c.loop-number.room) (take c.loop-number.number-index c.args.numbers.now) (get_or c.args.numbers.now c.loop-number.number-index 0) c.loop-number.invariant.out
+      out = subst (λ ns. AreOut (g.R.Room.meaning c.take.new.self) ns) (sym more)
+          (out_more (g.R.Room.meaning c.loop-number.room) (g.R.Room.meaning c.take.new.self) (take c.loop-number.number-index c.args.numbers.now) (get_or c.args.numbers.now c.loop-number.number-index 0) c.loop-number.invariant.out
+          (is_home (g.R.Room.meaning c.loop-number.room) (take c.loop-number.number-index c.args.numbers.now) (get_or c.args.numbers.now c.loop-number.number-index 0) c.loop-number.invariant.out
           (apart_before c.args.numbers.now c.loop-number.number-index c.requires.apart c.loop-number-test.true))
           c.in-Ok.ensures.taken (λ n ne. (c.take.ensures.others n ne).1));
-      meant = λ told. subst (λ ss. AreMeant g.R.A.Archive.account.meaning (g.R.Room.means c.args.room.now) ss) (sym c.push_reserved.ensures.items)
-          (meant_more g.R.A.Archive.account.meaning (g.R.Room.means c.args.room.now) c.loop-number.hand.items _ (c.loop-number.invariant.meant told)
+      meant = λ told. subst (λ ss. AreMeant g.R.A.Archive.account.meaning (g.R.Room.meaning c.args.room.now).means ss) (sym c.push_reserved.ensures.items)
+          (meant_more g.R.A.Archive.account.meaning (g.R.Room.meaning c.args.room.now).means c.loop-number.hand.items _ (c.loop-number.invariant.meant told)
           (subst (λ m. IsMeant m (g.R.A.Archive.account.meaning c.in-Ok.archive))
           (c.loop-number.invariant.untouched (get_or c.args.numbers.now c.loop-number.number-index 0) (apart_before c.args.numbers.now c.loop-number.number-index c.requires.apart c.loop-number-test.true)) (c.in-Ok.ensures.told told)));
       untouched = λ n none.
@@ -86,15 +86,14 @@ returns-in-Err g c = record {
   own = record {
     later = (let a = c.loop-number.invariant.own in let b = c.take.ensures.own.later in let d = c.give_all-given.ensures.back.failed_at.later in omega (arith, a, b, d));
     rose = λ e. rose_before _ _ _ c.give_all-given.ensures.back.failed_at.later
-        (subst (λ k. Rose k (g.R.Room.failures c.take.new.self)) c.loop-number.invariant.own (c.in-Err.ensures.own.rose (err_again _ _ e)));
+        (subst (λ k. Rose k (g.R.Room.meaning c.take.new.self).failures) c.loop-number.invariant.own (c.in-Err.ensures.own.rose (err_again _ _ e)));
   };
   sound = tt;
-  unlent = λ e. is_unlent (IsTrue g.R.A.Archive.account.tells) g.R.A.Archive.account.meaning c.loop-number.hand.items (g.R.Room.means c.args.room.now) (g.R.Room.means c.give_all-given.new.room)
-      (g.R.Room.failures c.args.room.now) (g.R.Room.failures c.take.new.self) (g.R.Room.failures c.give_all-given.new.room) c.give_all-given.result
-      (subst (λ k. Rose k (g.R.Room.failures c.take.new.self)) c.loop-number.invariant.own (c.in-Err.ensures.own.rose (err_again _ _ e)))
+  unlent = λ e. is_unlent g.R.A.Archive.account c.loop-number.hand.items (g.R.Room.meaning c.args.room.now) (g.R.Room.meaning c.take.new.self) (g.R.Room.meaning c.give_all-given.new.room) c.give_all-given.result
+      (subst (λ k. Rose k (g.R.Room.meaning c.take.new.self).failures) c.loop-number.invariant.own (c.in-Err.ensures.own.rose (err_again _ _ e)))
       c.give_all-given.ensures.back c.loop-number.invariant.meant
       (λ n none. c.give_all-given.ensures.untouched n none
-      ∙ (same_at (g.R.Room.means c.loop-number.room) (g.R.Room.means c.take.new.self) (get_or c.args.numbers.now c.loop-number.number-index 0) c.in-Err.ensures.unchanged (λ m ne. (c.take.ensures.others m ne).0) n
+      ∙ (same_at (g.R.Room.meaning c.loop-number.room).means (g.R.Room.meaning c.take.new.self).means (get_or c.args.numbers.now c.loop-number.number-index 0) c.in-Err.ensures.unchanged (λ m ne. (c.take.ensures.others m ne).0) n
       ∙ c.loop-number.invariant.untouched n (sym (ap (times n) c.loop-number.invariant.taken) ∙ none)));
 }
 
@@ -104,7 +103,7 @@ returns g c =
     let all : take c.loop-number.number-index c.args.numbers.now ≡ c.args.numbers.now = ap (λ n. take n c.args.numbers.now) last ∙ take-length c.args.numbers.now in
     record {
       taken = c.loop-number.invariant.taken ∙ all;
-      out = subst (λ ns. AreOut (g.R.Room.out c.loop-number.room) ns) all c.loop-number.invariant.out;
+      out = subst (λ ns. AreOut (g.R.Room.meaning c.loop-number.room) ns) all c.loop-number.invariant.out;
       home = tt;
       empty = tt;
       space = c.loop-number.invariant.space;

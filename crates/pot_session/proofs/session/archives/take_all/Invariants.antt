@@ -8,10 +8,10 @@ use Rattle.pot_session.proofs.session.archives.take_all.Given as goal
 abbrev pub invariant-loop-number : goal.invariant-loop-number
 invariant-loop-number g l = record {
   taken : numbers_of l.hand.items ≡ take l.number-index l.numbers;
-  out : AreOut (g.R.Room.out l.room) (take l.number-index l.numbers);
-  meant : IsTrue g.R.A.Archive.account.tells → AreMeant g.R.A.Archive.account.meaning (g.R.Room.means l.initial.room) l.hand.items;
-  untouched : Untouched (take l.number-index l.numbers) (g.R.Room.means l.initial.room) (g.R.Room.means l.room);
+  out : AreOut (g.R.Room.meaning l.room) (take l.number-index l.numbers);
+  meant : IsTrue g.R.A.Archive.account.tells → AreMeant g.R.A.Archive.account.meaning (g.R.Room.meaning l.initial.room).means l.hand.items;
+  untouched : Untouched (take l.number-index l.numbers) (g.R.Room.meaning l.initial.room) (g.R.Room.meaning l.room);
   space : vec_capacity l.hand ≡ vec_capacity l.initial.hand;
-  later : g.R.Room.faults l.initial.room ≤ g.R.Room.faults l.room;
-  own : g.R.Room.failures l.room ≡ g.R.Room.failures l.initial.room;
+  later : (g.R.Room.meaning l.initial.room).faults ≤ (g.R.Room.meaning l.room).faults;
+  own : (g.R.Room.meaning l.room).failures ≡ (g.R.Room.meaning l.initial.room).failures;
 }

@@ -1,7 +1,8 @@
-use Rattle.std.proofs.Common.{IsTrue, ap, refl, sym, subst, ◌∙◌}
+use Rattle.std.proofs.Common.{ap, refl, sym, subst, ◌∙◌}
 use Rattle.std.specs.Prelude.{slice_get}
+use Rattle.pot_outside.specs.Accounts.{met_whole}
 use Rattle.pot_shared.specs.Works.{known}
-use Rattle.pot_session.specs.Serving.{IsCloseStop, desks_by, rooms_by}
+use Rattle.pot_session.specs.Serving.{IsCloseStop}
 use Rattle.pot_session.proofs.OutLemmas.{none_out_of, out_apart}
 use Rattle.pot_session.proofs.Countable.{countable}
 use Rattle.pot_session.proofs.GivingLemmas.{missed}
@@ -14,7 +15,7 @@ end-tables-requires-clause-served g c = (
   c.requires.numbers,
   c.requires.served,
   c.requires.come,
-  out_apart (g.R.Room.out c.args.room.now) c.requires.numbers c.requires.out,
+  out_apart (g.R.Room.meaning c.args.room.now) c.requires.numbers c.requires.out,
   c.requires.low,
 )
 
@@ -38,16 +39,15 @@ keep_image-kept-requires g c =
 pub returns-clause-untouched : goal.returns-clause-untouched
 returns-clause-untouched g c n home =
     c.give_hand-given.ensures.untouched n
-    (c.end-tables.ensures.hand c.requires.old c.requires.numbers c.requires.served c.requires.come n ∙ none_out_of (g.R.Room.out c.args.room.now) c.requires.numbers n c.requires.out home)
+    (c.end-tables.ensures.hand c.requires.old c.requires.numbers c.requires.served c.requires.come n ∙ none_out_of (g.R.Room.meaning c.args.room.now) c.requires.numbers n c.requires.out home)
 
 pub returns-clause-closes : goal.returns-clause-closes
 returns-clause-closes g c s is =
-    closes g.R.A.Archive.account.meaning _ (rooms_by (IsTrue g.R.A.Archive.account.tells) s.meant (g.R.Room.means c.give_hand-given.new.room) s.failed (g.R.Room.failures c.give_hand-given.new.room))
-    (g.R.Room.failures c.args.room.now) _ s.old (known c.args.opened.passes.groups c.args.opened.passes.index) _
-    (desks_by (IsTrue g.D.Desk.tells) (g.D.Desk.held c.keep_image-kept.new.desk) (g.D.Desk.faults c.args.desk.now) (g.D.Desk.faults c.keep_image-kept.new.desk)) s.first _ (g.D.Desk.held c.args.desk.now)
+    closes g.R.A.Archive.account _ s.room (g.R.Room.meaning c.args.room.now) (g.R.Room.meaning c.give_hand-given.new.room) _ s.old (known c.args.opened.passes.groups c.args.opened.passes.index) _
+    (met_whole g.D.Desk.account c.args.desk.now c.keep_image-kept.new.desk) s.first _
     c.give_hand-given.result c.keep_image-kept.result _ c.keep_image-kept.ensures.told c.keep_image-kept.ensures.which c.keep_image-kept.ensures.cause c.give_hand-given.ensures.back is.served.served.opened is.begun c.requires.rack
-    (c.end-tables.ensures.groups s.old s.meant is.served) (c.end-tables.ensures.logs s.old is.served.served)
-    (λ told g t q. c.end-tables.ensures.opened s.old s.meant is.served told g t (ap (λ ts. slice_get ts g) (sym is.begun.are_tables) ∙ q))
+    (c.end-tables.ensures.groups s.old s.room.means is.served) (c.end-tables.ensures.logs s.old is.served.served)
+    (λ told g t q. c.end-tables.ensures.opened s.old s.room.means is.served told g t (ap (λ ts. slice_get ts g) (sym is.begun.are_tables) ∙ q))
     c.first_failure.ensures
 
 pub returns-clause-which : goal.returns-clause-which

@@ -45,15 +45,15 @@ returns-in-Ok-open-clause-opened g c = record {
 }
 
 pub returns-in-Ok-open-clause-taken : goal.returns-in-Ok-open-clause-taken
-returns-in-Ok-open-clause-taken g c = λ told. c.in-Ok-open.ensures.taken (g.R.Room.means c.args.room.now) told (c.in-Ok.ensures.meant told)
+returns-in-Ok-open-clause-taken g c = λ told. c.in-Ok-open.ensures.taken (g.R.Room.meaning c.args.room.now).means told (c.in-Ok.ensures.meant told)
 
 pub returns-in-Ok-open-clause-out : goal.returns-in-Ok-open-clause-out
-returns-in-Ok-open-clause-out g c = subst (λ ts. AreOut (g.R.Room.out c.take_archives.new.room) (flat_map archives_in ts)) c.deref.ensures.value c.in-Ok.ensures.out
+returns-in-Ok-open-clause-out g c = subst (λ ts. AreOut (g.R.Room.meaning c.take_archives.new.room) (flat_map archives_in ts)) c.deref.ensures.value c.in-Ok.ensures.out
 
 pub returns-in-Ok-open-clause-untouched : goal.returns-in-Ok-open-clause-untouched
 returns-in-Ok-open-clause-untouched g c =
-    subst (λ ts. Untouched (flat_map archives_in ts) (g.R.Room.means c.args.room.now) (g.R.Room.means c.take_archives.new.room)) c.deref.ensures.value c.take_archives.ensures.untouched
+    subst (λ ts. Untouched (flat_map archives_in ts) (g.R.Room.meaning c.args.room.now) (g.R.Room.meaning c.take_archives.new.room)) c.deref.ensures.value c.take_archives.ensures.untouched
 
 pub give_back-given-requires-after_bounds : goal.give_back-given-requires-after_bounds
 give_back-given-requires-after_bounds g c = λ bounds within n.
-    c.in-Err-open.ensures.refused n ∙ subst (λ ts. AreOut (g.R.Room.out c.take_archives.new.room) (flat_map archives_in ts)) c.deref.ensures.value c.in-Ok.ensures.out n
+    c.in-Err-open.ensures.refused n ∙ subst (λ ts. AreOut (g.R.Room.meaning c.take_archives.new.room) (flat_map archives_in ts)) c.deref.ensures.value c.in-Ok.ensures.out n

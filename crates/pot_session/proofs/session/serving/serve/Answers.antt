@@ -1,19 +1,20 @@
 use Rattle.std.proofs.Common.{◌≡◌, ◌++◌, IsTrue, List, length, sym, ap, subst, ◌∙◌}
-use Rattle.std.specs.Prelude.{Some, flat_map}
+use Rattle.std.specs.Prelude.{flat_map}
 use Rattle.std.specs.List.{AllByRecursion}
 use Rattle.pot_bytes.specs.declared.rack.Rack.{Rack}
+use Rattle.pot_outside.specs.Accounts.{met_whole}
 use Rattle.pot_outside.specs.Archives.{IsMeant}
+use Rattle.pot_outside.specs.Rooms.{met_room}
 use Rattle.pot_image.specs.Images.{contents}
-use Rattle.pot_image.specs.Spelling.{image_bytes}
 use Rattle.pot_machine.specs.Table.{Table, archives_in}
 use Rattle.pot_shared.specs.Works.{known}
 use Rattle.pot_commands.specs.declared.working.Ending.TheVariants as ending
 use Rattle.pot_commands.specs.Failures.{Fails}
 use Rattle.pot_commands.specs.Rows.{HasFilled}
 use Rattle.pot_commands.specs.Steps.{IsWorkedStep}
-use Rattle.pot_commands.specs.Taking.{asked_by, lending}
+use Rattle.pot_commands.specs.Taking.{asked_by}
 use Rattle.pot_shared.specs.Remains.{HasSpace}
-use Rattle.pot_session.specs.Serving.{IsEnd, desks_by, rooms_by}
+use Rattle.pot_session.specs.Serving.{IsEnd}
 use Rattle.pot_session.proofs.Counts.{caused_both, caused_fails, caused_second}
 use Rattle.pot_session.proofs.FoundLemmas.{came_since}
 use Rattle.pot_session.proofs.LendLemmas.{first_used, have_come, home_after, image_low, low_after, marks_before, means_after, none_before_asked, none_first, out_after, still_meant}
@@ -39,17 +40,17 @@ work-ending-requires-clause-worked g c = λ bounds within.
 
 pub work-ending-requires-clause-used : goal.work-ending-requires-clause-used
 work-ending-requires-clause-used g c = λ bounds within.
-    first_used (g.R.Room.out c.open_session.new.room) (contents c.args.image) c.in-Ok.opened.passes.groups c.in-Ok.opened.passes.index c.requires.together c.in-Ok.ensures.opened.vault.first c.in-Ok.ensures.opened.vault.are_tables c.in-Ok.ensures.out
+    first_used (g.R.Room.meaning c.open_session.new.room) (contents c.args.image) c.in-Ok.opened.passes.groups c.in-Ok.opened.passes.index c.requires.together c.in-Ok.ensures.opened.vault.first c.in-Ok.ensures.opened.vault.are_tables c.in-Ok.ensures.out
 
 pub close_session-closed-requires-after_bounds : goal.close_session-closed-requires-after_bounds
 close_session-closed-requires-after_bounds g c = λ bounds within. record {
   old = known c.in-Ok.opened.passes.groups c.in-Ok.opened.passes.index;
   numbers = (flat_map archives_in c.args.image.tables.items) ++ c.work-ending.ensures.took.taken;
   served = record { opened = c.in-Ok.ensures.opened.vault.first; went = c.work-ending.ensures.went; stays = c.work-ending.ensures.stays };
-  come = have_come (IsTrue g.R.A.Archive.account.tells) _ (asked_by c.args.steps.now) (lending (g.R.Room.out c.open_session.new.room) (g.R.Room.means c.open_session.new.room)) (lending (g.R.Room.out c.work-ending.new.room) (g.R.Room.means c.work-ending.new.room)) (known c.in-Ok.opened.passes.groups c.in-Ok.opened.passes.index) (known c.work-ending.new.passes.groups c.work-ending.new.passes.index) c.work-ending.ensures.took.taken c.work-ending.ensures.took.takes c.work-ending.ensures.took.come (flat_map archives_in c.args.image.tables.items) c.in-Ok.ensures.out
+  come = have_come (IsTrue g.R.A.Archive.account.tells) _ (asked_by c.args.steps.now) (g.R.Room.meaning c.open_session.new.room) (g.R.Room.meaning c.work-ending.new.room) (known c.in-Ok.opened.passes.groups c.in-Ok.opened.passes.index) (known c.work-ending.new.passes.groups c.work-ending.new.passes.index) c.work-ending.ensures.took.taken c.work-ending.ensures.took.takes c.work-ending.ensures.took.come (flat_map archives_in c.args.image.tables.items) c.in-Ok.ensures.out
       (ap (flat_map archives_in) (same_read _ _ _ _ c.in-Ok.ensures.opened.vault.can_call.ready c.work-ending.ensures.can.ready c.work-ending.ensures.stays.groups ∙ c.in-Ok.ensures.opened.vault.are_tables));
-  out = out_after (IsTrue g.R.A.Archive.account.tells) _ (asked_by c.args.steps.now) (lending (g.R.Room.out c.open_session.new.room) (g.R.Room.means c.open_session.new.room)) (lending (g.R.Room.out c.work-ending.new.room) (g.R.Room.means c.work-ending.new.room)) (known c.in-Ok.opened.passes.groups c.in-Ok.opened.passes.index) (known c.work-ending.new.passes.groups c.work-ending.new.passes.index) c.work-ending.ensures.took.taken c.work-ending.ensures.took.takes c.work-ending.ensures.took.come (flat_map archives_in c.args.image.tables.items) c.in-Ok.ensures.out;
-  low = low_after (IsTrue g.R.A.Archive.account.tells) _ (asked_by c.args.steps.now) (lending (g.R.Room.out c.open_session.new.room) (g.R.Room.means c.open_session.new.room)) (lending (g.R.Room.out c.work-ending.new.room) (g.R.Room.means c.work-ending.new.room)) (known c.in-Ok.opened.passes.groups c.in-Ok.opened.passes.index) (known c.work-ending.new.passes.groups c.work-ending.new.passes.index) c.work-ending.ensures.took.taken c.work-ending.ensures.took.takes c.work-ending.ensures.took.come (flat_map archives_in c.args.image.tables.items) c.in-Ok.ensures.out (image_low (contents c.args.image) c.requires.together) (asked_low c.args.image.rack c.args.steps.now c.requires.worked);
+  out = out_after (IsTrue g.R.A.Archive.account.tells) _ (asked_by c.args.steps.now) (g.R.Room.meaning c.open_session.new.room) (g.R.Room.meaning c.work-ending.new.room) (known c.in-Ok.opened.passes.groups c.in-Ok.opened.passes.index) (known c.work-ending.new.passes.groups c.work-ending.new.passes.index) c.work-ending.ensures.took.taken c.work-ending.ensures.took.takes c.work-ending.ensures.took.come (flat_map archives_in c.args.image.tables.items) c.in-Ok.ensures.out;
+  low = low_after (IsTrue g.R.A.Archive.account.tells) _ (asked_by c.args.steps.now) (g.R.Room.meaning c.open_session.new.room) (g.R.Room.meaning c.work-ending.new.room) (known c.in-Ok.opened.passes.groups c.in-Ok.opened.passes.index) (known c.work-ending.new.passes.groups c.work-ending.new.passes.index) c.work-ending.ensures.took.taken c.work-ending.ensures.took.takes c.work-ending.ensures.took.come (flat_map archives_in c.args.image.tables.items) c.in-Ok.ensures.out (image_low (contents c.args.image) c.requires.together) (asked_low c.args.image.rack c.args.steps.now c.requires.worked);
   vault = record {
     can_call = c.work-ending.ensures.can;
     parts = record {
@@ -66,17 +67,17 @@ close_session-closed-requires-after_bounds g c = λ bounds within. record {
 
 pub returns-clause-untouched : goal.returns-clause-untouched
 returns-clause-untouched g c n none =
-    c.close_session-closed.ensures.untouched n (home_after (IsTrue g.R.A.Archive.account.tells) _ (asked_by c.args.steps.now) (lending (g.R.Room.out c.open_session.new.room) (g.R.Room.means c.open_session.new.room)) (lending (g.R.Room.out c.work-ending.new.room) (g.R.Room.means c.work-ending.new.room)) (known c.in-Ok.opened.passes.groups c.in-Ok.opened.passes.index) (known c.work-ending.new.passes.groups c.work-ending.new.passes.index) c.work-ending.ensures.took.taken c.work-ending.ensures.took.takes c.work-ending.ensures.took.come (flat_map archives_in c.args.image.tables.items) c.in-Ok.ensures.out n none)
-    ∙ (means_after (IsTrue g.R.A.Archive.account.tells) _ (asked_by c.args.steps.now) (lending (g.R.Room.out c.open_session.new.room) (g.R.Room.means c.open_session.new.room)) (lending (g.R.Room.out c.work-ending.new.room) (g.R.Room.means c.work-ending.new.room)) (known c.in-Ok.opened.passes.groups c.in-Ok.opened.passes.index) (known c.work-ending.new.passes.groups c.work-ending.new.passes.index) c.work-ending.ensures.took.taken c.work-ending.ensures.took.takes c.work-ending.ensures.took.come (flat_map archives_in c.args.image.tables.items) c.in-Ok.ensures.out n none
-    ∙ c.open_session.ensures.untouched n (none_first (IsTrue g.R.A.Archive.account.tells) _ (asked_by c.args.steps.now) (lending (g.R.Room.out c.open_session.new.room) (g.R.Room.means c.open_session.new.room)) (lending (g.R.Room.out c.work-ending.new.room) (g.R.Room.means c.work-ending.new.room)) (known c.in-Ok.opened.passes.groups c.in-Ok.opened.passes.index) (known c.work-ending.new.passes.groups c.work-ending.new.passes.index) c.work-ending.ensures.took.taken c.work-ending.ensures.took.takes c.work-ending.ensures.took.come (flat_map archives_in c.args.image.tables.items) c.in-Ok.ensures.out n none))
+    c.close_session-closed.ensures.untouched n (home_after (IsTrue g.R.A.Archive.account.tells) _ (asked_by c.args.steps.now) (g.R.Room.meaning c.open_session.new.room) (g.R.Room.meaning c.work-ending.new.room) (known c.in-Ok.opened.passes.groups c.in-Ok.opened.passes.index) (known c.work-ending.new.passes.groups c.work-ending.new.passes.index) c.work-ending.ensures.took.taken c.work-ending.ensures.took.takes c.work-ending.ensures.took.come (flat_map archives_in c.args.image.tables.items) c.in-Ok.ensures.out n none)
+    ∙ (means_after (IsTrue g.R.A.Archive.account.tells) _ (asked_by c.args.steps.now) (g.R.Room.meaning c.open_session.new.room) (g.R.Room.meaning c.work-ending.new.room) (known c.in-Ok.opened.passes.groups c.in-Ok.opened.passes.index) (known c.work-ending.new.passes.groups c.work-ending.new.passes.index) c.work-ending.ensures.took.taken c.work-ending.ensures.took.takes c.work-ending.ensures.took.come (flat_map archives_in c.args.image.tables.items) c.in-Ok.ensures.out n none
+    ∙ c.open_session.ensures.untouched n (none_first (IsTrue g.R.A.Archive.account.tells) _ (asked_by c.args.steps.now) (g.R.Room.meaning c.open_session.new.room) (g.R.Room.meaning c.work-ending.new.room) (known c.in-Ok.opened.passes.groups c.in-Ok.opened.passes.index) (known c.work-ending.new.passes.groups c.work-ending.new.passes.index) c.work-ending.ensures.took.taken c.work-ending.ensures.took.takes c.work-ending.ensures.took.come (flat_map archives_in c.args.image.tables.items) c.in-Ok.ensures.out n none))
 
 pub returns-clause-serves : goal.returns-clause-serves
 returns-clause-serves g c =
-    let closes = c.close_session-closed.ensures.closes (record { old = known c.in-Ok.opened.passes.groups c.in-Ok.opened.passes.index; first = contents c.args.image; meant = g.R.Room.means c.args.room.now; failed = g.R.Room.failures c.args.room.now }) (record {
+    let closes = c.close_session-closed.ensures.closes (record { old = known c.in-Ok.opened.passes.groups c.in-Ok.opened.passes.index; first = contents c.args.image; room = g.R.Room.meaning c.args.room.now }) (record {
       served = record {
         served = record { opened = c.in-Ok.ensures.opened.vault.first; went = c.work-ending.ensures.went; stays = c.work-ending.ensures.stays };
         taken = c.in-Ok.ensures.taken;
-        marked = marks_before (IsTrue g.R.A.Archive.account.tells) _ (asked_by c.args.steps.now) (lending (g.R.Room.out c.open_session.new.room) (g.R.Room.means c.open_session.new.room)) (lending (g.R.Room.out c.work-ending.new.room) (g.R.Room.means c.work-ending.new.room)) (known c.in-Ok.opened.passes.groups c.in-Ok.opened.passes.index) (known c.work-ending.new.passes.groups c.work-ending.new.passes.index) c.work-ending.ensures.took.taken c.work-ending.ensures.took.takes c.work-ending.ensures.took.come (flat_map archives_in c.args.image.tables.items) c.in-Ok.ensures.out (g.R.Room.means c.args.room.now) c.open_session.ensures.untouched;
+        marked = marks_before (IsTrue g.R.A.Archive.account.tells) _ (asked_by c.args.steps.now) (g.R.Room.meaning c.open_session.new.room) (g.R.Room.meaning c.work-ending.new.room) (known c.in-Ok.opened.passes.groups c.in-Ok.opened.passes.index) (known c.work-ending.new.passes.groups c.work-ending.new.passes.index) c.work-ending.ensures.took.taken c.work-ending.ensures.took.takes c.work-ending.ensures.took.come (flat_map archives_in c.args.image.tables.items) c.in-Ok.ensures.out (g.R.Room.meaning c.args.room.now) c.open_session.ensures.untouched;
       };
       begun = record {
         is_session = sym c.in-Ok.ensures.opened.session;
@@ -89,15 +90,14 @@ returns-clause-serves g c =
     ap length c.in-Ok.ensures.opened.vault.can_call.ready.of.0 ∙ (c.in-Ok.ensures.opened.vault.can_call.count ∙ ap (λ (r : Rack). r.groups) c.in-Ok.ensures.opened.vault.is_rack) in
     let long : length closes.last.group_logs ≡ length c.in-Ok.opened.passes.groups.names = closes.leaves.groups.count_logs ∙ (c.requires.together.tables.count ∙ sym names) in
     serves_closed c.args.staff.now.host.seed.now (contents c.args.image) c.args.steps.now
-    (rooms_by (IsTrue g.R.A.Archive.account.tells) (g.R.Room.means c.args.room.now) (g.R.Room.means c.close_session-closed.new.room) (g.R.Room.failures c.args.room.now) (g.R.Room.failures c.close_session-closed.new.room)) _ _ _
-    (desks_by (IsTrue g.D.Desk.tells) (g.D.Desk.held c.close_session-closed.new.desk) (g.D.Desk.faults c.args.desk.now) (g.D.Desk.faults c.close_session-closed.new.desk))
-    (g.D.Desk.held c.args.desk.now ≡ Some (image_bytes (contents c.args.image))) _ _ (known c.in-Ok.opened.passes.groups c.in-Ok.opened.passes.index) (known c.work-ending.new.passes.groups c.work-ending.new.passes.index) c.work-ending.result
-    (g.R.Room.failures c.work-ending.new.room) c.close_session-closed.result _ c.in-Ok.ensures.opened.vault.first c.in-Ok.ensures.opened.vault.are_tables c.in-Ok.ensures.opened.vault.are_records c.in-Ok.ensures.opened.vault.is_rack c.in-Ok.ensures.opened.session c.work-ending.ensures.ends
-    (subst (λ k. Fails k (g.R.Room.failures c.work-ending.new.room) (c.work-ending.result ≡ ending.RoomFailed)) c.in-Ok.ensures.sound c.work-ending.ensures.own) closes c.requires.kept
-    (λ told well n none unbrought. (let still = still_meant (IsTrue g.R.A.Archive.account.tells) _ (asked_by c.args.steps.now) (lending (g.R.Room.out c.open_session.new.room) (g.R.Room.means c.open_session.new.room)) (lending (g.R.Room.out c.work-ending.new.room) (g.R.Room.means c.work-ending.new.room)) (known c.in-Ok.opened.passes.groups c.in-Ok.opened.passes.index) (known c.work-ending.new.passes.groups c.work-ending.new.passes.index) c.work-ending.ensures.took.taken c.work-ending.ensures.took.takes c.work-ending.ensures.took.come (flat_map archives_in c.args.image.tables.items) c.in-Ok.ensures.out
+    (met_room g.R.A.Archive.account g.R.Room.meaning c.args.room.now c.close_session-closed.new.room) _
+    (met_whole g.D.Desk.account c.args.desk.now c.close_session-closed.new.desk) _ _ (known c.in-Ok.opened.passes.groups c.in-Ok.opened.passes.index) (known c.work-ending.new.passes.groups c.work-ending.new.passes.index) c.work-ending.result
+    (g.R.Room.meaning c.work-ending.new.room).failures c.close_session-closed.result _ c.in-Ok.ensures.opened.vault.first c.in-Ok.ensures.opened.vault.are_tables c.in-Ok.ensures.opened.vault.are_records c.in-Ok.ensures.opened.vault.is_rack c.in-Ok.ensures.opened.session c.work-ending.ensures.ends
+    (subst (λ k. Fails k (g.R.Room.meaning c.work-ending.new.room).failures (c.work-ending.result ≡ ending.RoomFailed)) c.in-Ok.ensures.sound c.work-ending.ensures.own) closes c.requires.kept
+    (λ told well n none unbrought. (let still = still_meant (IsTrue g.R.A.Archive.account.tells) _ (asked_by c.args.steps.now) (g.R.Room.meaning c.open_session.new.room) (g.R.Room.meaning c.work-ending.new.room) (known c.in-Ok.opened.passes.groups c.in-Ok.opened.passes.index) (known c.work-ending.new.passes.groups c.work-ending.new.passes.index) c.work-ending.ensures.took.taken c.work-ending.ensures.took.takes c.work-ending.ensures.took.come (flat_map archives_in c.args.image.tables.items) c.in-Ok.ensures.out
     told well closes.sole n none (sym (came_since (known c.in-Ok.opened.passes.groups c.in-Ok.opened.passes.index) (known c.work-ending.new.passes.groups c.work-ending.new.passes.index) closes.last.group_logs c.in-Ok.ensures.opened.vault.first closes.leaves.logs long n) ∙ unbrought) in
-    subst (λ m. IsMeant m (g.R.Room.means c.close_session-closed.new.room n)) (c.open_session.ensures.untouched n none)
-    (subst (λ m. IsMeant (g.R.Room.means c.open_session.new.room n) m) (sym (c.close_session-closed.ensures.untouched n still.0)) still.1)))
+    subst (λ m. IsMeant m ((g.R.Room.meaning c.close_session-closed.new.room).means n)) (c.open_session.ensures.untouched n none)
+    (subst (λ m. IsMeant ((g.R.Room.meaning c.open_session.new.room).means n) m) (sym (c.close_session-closed.ensures.untouched n still.0)) still.1)))
     c.status_after.ensures c.requires.together
 
 pub returns-clause-which : goal.returns-clause-which

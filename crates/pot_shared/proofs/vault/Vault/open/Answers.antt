@@ -4,7 +4,6 @@ use Rattle.std.proofs.lemmas.List.{length-map}
 use Rattle.pot_outside.specs.declared.archive.Shelf.{Shelf}
 use Rattle.pot_group.specs.Group.{view_of}
 use Rattle.pot_shelves.specs.Shelves.{numbers_of}
-use Rattle.pot_shared.specs.Callers.{known_of, vault_of}
 use Rattle.pot_shared.specs.Groups.{had_by}
 use Rattle.pot_shared.specs.Opening.{IsOpenedFrom}
 use Rattle.pot_shared.specs.Remains.{IsBare, KeepsSpace}
@@ -34,7 +33,7 @@ share-requires-clause-hand g c =
 
 pub returns-in-Ok-start_groups-clause-opened : goal.returns-in-Ok-start_groups-clause-opened
 returns-in-Ok-start_groups-clause-opened g c =
-    subst (λ ts. IfOk c.share.result (λ p. IsOpenedFrom c.args.rack.now ts c.args.records.items (vault_of p.0) (known_of p.1)))
+    subst (λ ts. IfOk c.share.result (λ p. IsOpenedFrom c.args.rack.now ts c.args.records.items p.0 p.1))
     (firsts (λ m. view_of g.A.Archive.account.meaning m.group) c.args.tables.items c.start_groups.new.members.items c.in-Ok-start_groups.ensures.started) c.share.ensures.opened
 
 pub returns-in-Ok-start_groups-clause-bare : goal.returns-in-Ok-start_groups-clause-bare

@@ -6,11 +6,13 @@ use Rattle.pot_shared.proofs.vault.Vault.reserve.Goals as goal
 
 pub leave-requires-clause-grown : goal.leave-requires-clause-grown
 leave-requires-clause-grown g c =
-    grown c.requires.index c.enter-catalog.result c.enter-catalog.ensures.took c.enter-catalog.ensures.origin c.reserve-answer.new.self
+    let index = rw (← c.passes.view_is) at c.requires.index in
+    grown index c.enter-catalog.result c.enter-catalog.ensures.took c.enter-catalog.ensures.origin c.reserve-answer.new.self
     (small_on _ _ (reserves_small c.args.job c.args.name.now _ _ c.reserve-answer.result c.reserve-answer.ensures.call)) (ap (λ (r : GroupPasses). r.names) c.reserve-answer.ensures.kept)
 
 pub returns-clause-call : goal.returns-clause-call
 returns-clause-call g c =
-    called c.requires.index c.enter-catalog.result c.enter-catalog.ensures.took c.enter-catalog.ensures.origin c.reserve-answer.new.self
+    let index = rw (← c.passes.view_is) at c.requires.index in
+    rw (← c.passes.view_is) (called index c.enter-catalog.result c.enter-catalog.ensures.took c.enter-catalog.ensures.origin c.reserve-answer.new.self
     (small_on _ _ (reserves_small c.args.job c.args.name.now _ _ c.reserve-answer.result c.reserve-answer.ensures.call)) (ap (λ (r : GroupPasses). r.names) c.reserve-answer.ensures.kept)
-    c.leave.ensures.left c.enter-catalog.ensures.begins c.rules.ensures c.rules-2.ensures c.reserve-answer.ensures.call
+    c.leave.ensures.left c.enter-catalog.ensures.begins c.rules.ensures c.rules-2.ensures c.reserve-answer.ensures.call)

@@ -1,6 +1,6 @@
 use Rattle.std.proofs.Common.{refl}
 use Rattle.pot_group.specs.Group.{view_of}
-use Rattle.pot_shared.proofs.StartLemmas.{first_ready, more_parts, cut_ready, all_but_kept, are_first, back_idle, back_parts, have_logs, index_ready, index_parts}
+use Rattle.pot_shared.proofs.StartLemmas.{first_ready, more_parts, first_cut_ready, all_but_kept, are_first, back_idle, back_parts, have_logs, index_ready, index_parts}
 use Rattle.pot_shared.proofs.vault.Vault.start.Goals as goal
 
 pub share_index-requires-clause-ready : goal.share_index-requires-clause-ready
@@ -23,7 +23,7 @@ close-requires-clause-all g c =
 
 pub returns-in-Ok-share_index-clause-ready : goal.returns-in-Ok-share_index-clause-ready
 returns-in-Ok-share_index-clause-ready g c = (
-  cut_ready (λ m. view_of g.A.Archive.account.meaning m.group) c.args.members.items c.args.rack.now c.in-Ok-start.made.0 c.in-Ok-start.made.1 c.in-Ok-start.ensures.own c.in-Ok-start.ensures.first c.requires.groups
+  first_cut_ready (λ m. view_of g.A.Archive.account.meaning m.group) c.args.members.items c.args.rack.now c.in-Ok-start.made.0 c.in-Ok-start.made.1 c.in-Ok-start.ensures.own c.in-Ok-start.ensures.first c.requires.groups
       c.share_index.new.passes c.share_index.ensures.own c.in-Ok-share_index.ensures.left,
   index_ready c.args.rack.now c.in-Ok-start.made.0 c.in-Ok-share_index.turn c.in-Ok-share_index.pass _ c.in-Ok-share_index.ensures.made.0 c.in-Ok-share_index.ensures.made.1 refl refl,
 )

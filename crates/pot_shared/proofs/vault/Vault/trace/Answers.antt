@@ -9,7 +9,8 @@ traced-init g c = (c.requires.ready, refl, traced_none (IsTrue g.A.Archive.accou
 
 pub traced-preserved : goal.traced-preserved
 traced-preserved g c =
-    let within : c.traced.at < length c.args.self.now.groups = subst (λ n. c.traced.at < n) c.len-at-end.ensures c.traced-test.true in
+    let long : c.len-at-end.result ≡ length c.args.self.now.groups = rw (← c.self.view_is) c.len-at-end.ensures in
+    let within = subst (λ n. c.traced.at < n) long c.traced-test.true in
     let either : c.if-taken.taken ≡ (c.traced.taken || c.trace_at-answer.result.taken) = elim c.if-taken.branch [
       | then-taken w ↦ w.taken-is ∙ (w.if-taken.true ∙ sym (ap (λ (b : Bool). b || c.trace_at-answer.result.taken) w.if-taken.true))
       | else-taken w ↦ w.taken-is ∙ sym (ap (λ (b : Bool). b || c.trace_at-answer.result.taken) w.if-taken.false)
