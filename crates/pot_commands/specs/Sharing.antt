@@ -12,6 +12,6 @@ pub record Common : Type 0 where
 abbrev pub common : VaultView → List ℕ → ℕ → Common
 common vault seed session = record { vault = vault; seed = seed; session = session }
 
--- those that share this
+-- what those that share this have in common
 abbrev pub common_of : {A X : Type 0} → Shared A X → Common
 common_of s = common s.vault.now s.seed.now s.session

@@ -28,7 +28,7 @@ abbrev pub steps_of : List script.Step → List (Step Command)
 steps_of ss = map step_of ss
 
 -- the lines of a batch that move nothing, over so many groups: they have one reply, and take no
--- archive
+-- archive; `list` is none of them
 abbrev pub IsStill : ℕ → Command → Type 0
 IsStill groups commands.List = ⊥
 IsStill groups c = IsSingle groups c

@@ -214,8 +214,8 @@ module _ (seed : List ℕ) (seen : Seen) (answer : Status) (told : IsTrue seen.d
           by ending.NoMemory ends missing r leaves kept is = absurd (subst IsDone is done)
 
       served_well : Ends → RanAs seed seen
-      served_well (Unlent is sink kept room) = absurd (subst IsDone is done)
-      served_well (Unopened is sink kept) = absurd (subst IsDone is done)
+      served_well (Unlent is sink kept room others) = absurd (subst IsDone is done)
+      served_well (Unopened is sink kept others) = absurd (subst IsDone is done)
       served_well (Closed c) = well c
 
     -- HOWEVER IT ENDED
@@ -259,8 +259,8 @@ module _ (seed : List ℕ) (seen : Seen) (answer : Status) (told : IsTrue seen.d
         by ending.NoMemory ends = short IsStepLeft ends
 
     served : Ends → Ended
-    served (Unlent is sink kept room) = inr (inr (inr (i, of.image told, kept told)))
-    served (Unopened is sink kept) = inr (inr (inr (i, of.image told, kept told)))
+    served (Unlent is sink kept room others) = inr (inr (inr (i, of.image told, kept told)))
+    served (Unopened is sink kept others) = inr (inr (inr (i, of.image told, kept told)))
     served (Closed c) = inl (shut c)
 
   held_well : IsDone answer → Holds seed seen answer → RanAs seed seen

@@ -43,8 +43,8 @@ pub record IsSession (seed : List ℕ) (first last : Contents) (ss : List Step)
   pub follows : Follows done later story
   pub replied : Replied (Row (setting_of seed first)) 1 (steps_of ss) rs done
 
--- An image with which a session may begin, for one that an earlier session left: the number of the
--- session is another, the logs are empty, and the rack, the tables and the records are the same.
+-- An image with which a session may begin, for one that an earlier session left: the rack, the
+-- tables and the records are the same, and the number of the session and the logs may be any.
 pub record Begins (left first : Contents) : Type 0 where
   pub rack : first.rack ≡ left.rack
   pub tables : first.tables ≡ left.tables

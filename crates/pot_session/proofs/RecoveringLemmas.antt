@@ -1,13 +1,13 @@
 -- The blocks that are read from archives.
 use Rattle.std.proofs.Common.{◌≡◌, ◌≢◌, ◌<◌, ◌≤◌, ◌+◌, ◌-◌, ◌^◌, ◌⊎◌, inl, inr, ℕ, Bool, true, false, List, refl, sym, ap, subst, ◌∙◌, arith}
 use Rattle.std.specs.Prelude.{Some, Result, Ok, Err, IsErr, IsOk, IsTrue, OnOk}
-use Rattle.std.proofs.lemmas.Bool.{cases_lt}
+use Rattle.std.proofs.lemmas.Bool.{cases_lt, cases_order}
 use Rattle.pot_outside.specs.Accounts.{Met}
 use Rattle.pot_outside.specs.Archives.{Meaning, IsMeant}
 use Rattle.pot_outside.specs.Counts.{Caused, Rose}
 use Rattle.pot_outside.specs.Rooms.{Lending}
 use Rattle.pot_outside.specs.declared.faults.Failed.{Failed}
-use Rattle.pot_outside.proofs.LossLemmas.{loses_more}
+use Rattle.pot_outside.proofs.LossLemmas.{loses_more, loses_nothing}
 use Rattle.pot_doubles.proofs.CallLemmas.{rose_later}
 use Rattle.pot_words.specs.Limits.{IsWithinLimits}
 use Rattle.pot_words.specs.declared.recover.Recover.{Recover}
@@ -17,13 +17,13 @@ use Rattle.pot_session.specs.declared.ending.status.Status.TheVariants as status
 use Rattle.pot_session.specs.declared.ending.stop.Stop.{Stop}
 use Rattle.pot_session.specs.declared.ending.stop.Stop.TheVariants as stop
 use Rattle.pot_session.specs.Listing.{has_partial}
-use Rattle.pot_session.specs.Recovering.{Adds, AreHeldIn, FindsObjects, Gathers, HasFailed, IsHeldIn, IsRecovery, ListAnswers, Recovers, SomeFailed, WasRead}
+use Rattle.pot_session.specs.Recovering.{Adds, AreHeldIn, FindsObjects, Gathers, HasFailed, IsHeldIn, IsRecovery, ListAnswers, Recovers, SomeFailed, WasRead, WereRead}
 use Rattle.pot_session.specs.Stops.{status_of}
 use Rattle.pot_session.specs.Telling.{told_status}
 
 -- ONE ARCHIVE
 
-read_more : (a b c : Meaning) → WasRead a b → WasRead b c → WasRead a c
+pub read_more : (a b c : Meaning) → WasRead a b → WasRead b c → WasRead a c
 read_more a b c p q = record {
   loses = loses_more a.held b.held c.held a.losses b.losses c.losses p.loses q.loses;
   past = q.past ∙ p.past;
@@ -54,19 +54,27 @@ gathers_more slot old middle new first before after g a = record {
       ];
 }
 
+-- one that was not touched
+pub read_not : (m : Meaning) → WasRead m m
+read_not m = record { loses = loses_nothing m.held m.losses; past = refl; hears = refl }
+
 -- the same of what is meant alike
+pub read_meant : (old new m n : Meaning) → IsMeant m old → IsMeant n new → WasRead old new → WasRead m n
+read_meant old new m n o w r = record {
+  loses = record {
+    later = (let l = r.loses.later in let a = o.lost in let b = w.lost in omega (arith, l, a, b));
+    keeps = λ k b h. sym (o.blocks k) ∙ r.loses.keeps k b (w.blocks k ∙ h);
+    same = λ k e l. (let a = o.lost in let b = w.lost in
+        sym (w.blocks k) ∙ (r.loses.same k (omega (arith, a, b, e)) (omega (arith, b, l)) ∙ o.blocks k));
+  };
+  past = sym w.past ∙ (r.past ∙ o.past);
+  hears = sym w.sums ∙ (r.hears ∙ o.sums);
+}
+
+-- and what came of it
 pub gathers_meant : (count : ℕ) (old new m n : Meaning) (before after : List (List ℕ)) → IsMeant m old → IsMeant n new → Gathers count old new before after → Gathers count m n before after
 gathers_meant count old new m n before after o w g = record {
-  read = record {
-    loses = record {
-      later = (let l = g.read.loses.later in let a = o.lost in let b = w.lost in omega (arith, l, a, b));
-      keeps = λ k b h. sym (o.blocks k) ∙ g.read.loses.keeps k b (w.blocks k ∙ h);
-      same = λ k e l. (let a = o.lost in let b = w.lost in
-          sym (w.blocks k) ∙ (g.read.loses.same k (omega (arith, a, b, e)) (omega (arith, b, l)) ∙ o.blocks k));
-    };
-    past = sym w.past ∙ (g.read.past ∙ o.past);
-    hears = sym w.sums ∙ (g.read.hears ∙ o.sums);
-  };
+  read = read_meant old new m n o w g.read;
   keeps = g.keeps;
   only = λ b h. elim (g.only b h) [
     | inl was ↦ inl was
@@ -105,6 +113,26 @@ held_more number stripes meant middle means before after h untouched g others = 
     apart : (n : ℕ) → n < number → n ≡ number → ⊥
     apart n less e = omega (arith, less, e)
 
+-- one archive was read after those before it, and those behind it were not touched
+pub were_read : (archives number : ℕ) (old middle new : Lending) → ((n : ℕ) → n < number → WasRead (old.means n) (middle.means n))
+    → ((n : ℕ) → number ≤ n → middle.means n ≡ old.means n) → old.failures ≤ middle.failures
+    → ((n : ℕ) → n ≢ number → new.means n ≡ middle.means n)
+    → ((Rose middle.failures new.failures → ⊥) → WasRead (middle.means number) (new.means number))
+    → WereRead archives old new
+were_read archives number old middle new front untouched le others last = record {
+  but = number;
+  read = λ n less why. elim (cases_order n number) [
+    | inl here ↦ elim why [
+      | inl differs ↦ absurd (differs here)
+      | inr still ↦ subst (λ m. WasRead m (new.means n)) (untouched n (omega (arith, here)))
+          (subst (λ k. WasRead (middle.means k) (new.means k)) (sym here) (last (λ r. still (rose_later old.failures middle.failures new.failures le r))))
+    ]
+    | inr (inl before) ↦ subst (λ m. WasRead (old.means n) m) (sym (others n (λ e. omega (arith, before, e)))) (front n before)
+    | inr (inr behind) ↦
+        subst (λ m. WasRead m (new.means n)) (untouched n (omega (arith, behind))) (subst (λ m. WasRead (middle.means n) m) (sym (others n (λ e. omega (arith, behind, e)))) (read_not (middle.means n)))
+  ];
+}
+
 -- what a call tells that succeeded
 pub ok_gives : {E : Type 0} (r : Result (Unit {0}) E) (P : Type 0) → IsOk r → OnOk r P → P
 ok_gives (Ok u) P ok p = p
@@ -119,6 +147,12 @@ pub why_failed : (room : Met Lending) (middle : Lending) (number : ℕ) (given :
 why_failed room middle number (Ok u) old new le cause back took rose =
     inr (λ t. subst (λ k. Rose k (room.after.means number).faults) (took t).faulted (subst (λ k. Rose old.faults k) (back t).faulted rose))
 why_failed room middle number (Err e) old new le cause back took rose = inl (rose_later room.before.failures middle.failures room.after.failures le (cause.rose refl))
+
+-- an archive that was read and then given back to a room that did not fail
+pub read_back : (told : Type 0) (given : Result (Unit {0}) Failed) (before after : ℕ) (old new m n : Meaning) → (Rose before after → ⊥) → Caused before after (IsErr given)
+    → OnOk given (told → IsMeant n new) → told → IsMeant m old → WasRead old new → WasRead m n
+read_back told (Ok u) before after old new m n still cause back t o r = read_meant old new m n o (back t) r
+read_back told (Err e) before after old new m n still cause back t o r = absurd (still (cause.rose refl))
 
 -- so one of the first archives did
 pub some_failed : (room : Met Lending) (middle : Lending) (archives number : ℕ) → number < archives → room.before.failures ≤ middle.failures → middle.means number ≡ room.before.means number

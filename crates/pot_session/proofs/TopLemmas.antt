@@ -82,8 +82,8 @@ init_room sink (Err s) answer w r e = subst IsMakeStop (refused_room sink s answ
 -- a session over a desk that failed before it too
 longer : (seed : List ℕ) (first : Contents) (steps : List Step) (room : Met Lending) (sink : Met (List ℕ)) (desk : Met (Content (Option (List ℕ)))) (mid : Content (Option (List ℕ))) (answer : Status)
     → desk.before.faults ≤ mid.faults → Serves seed first steps room sink (since desk mid) answer → Serves seed first steps room sink desk answer
-longer seed first steps room sink desk mid answer le (Unlent why same holds unlent) = Unlent why same holds unlent
-longer seed first steps room sink desk mid answer le (Unopened why same holds) = Unopened why same holds
+longer seed first steps room sink desk mid answer le (Unlent why same holds unlent others) = Unlent why same holds unlent others
+longer seed first steps room sink desk mid answer le (Unopened why same holds others) = Unopened why same holds others
 longer seed first steps room sink desk mid answer le (Closed c) = Closed (record {
   last = c.last;
   story = c.story;

@@ -1,6 +1,6 @@
 -- The blocks that are read from archives without a desk, the objects that they give, and what
 -- `recover` comes to.
-use Rattle.std.specs.Prelude.{◌≡◌, ◌<◌, ◌≤◌, ◌-◌, ◌^◌, ◌⊎◌, ℕ, Bool, true, false, List, Some}
+use Rattle.std.specs.Prelude.{◌≡◌, ◌≢◌, ◌<◌, ◌≤◌, ◌-◌, ◌^◌, ◌⊎◌, ℕ, Bool, true, false, List, Some}
 use Rattle.std.specs.Prelude.{Result, Ok, Err, Contains, IsTrue}
 use Rattle.pot_outside.specs.Accounts.{Met}
 use Rattle.pot_outside.specs.Archives.{Meaning, OnlyLoses}
@@ -67,6 +67,13 @@ pub record AreHeldIn (archives stripes : ℕ) (meant means : ℕ → Meaning)
       → (b : List ℕ) → IsHeldIn stripes (meant n) b → Contains blocks b
   pub read : (n : ℕ) → n < archives → WasRead (meant n) (means n)
 
+-- The first archives were read and no more, by what the room meant before and means after; but for
+-- one, and for that only where the room failed itself.
+pub record WereRead (archives : ℕ) (old new : Lending) : Type 0 where
+  pub but : ℕ
+  pub read : (n : ℕ) → n < archives → n ≢ but ⊎ (Rose old.failures new.failures → ⊥)
+      → WasRead (old.means n) (new.means n)
+
 -- FAILURES
 
 -- an archive failed, by what its number meant and means
@@ -117,10 +124,12 @@ abbrev pub ListAnswers : Met (List ℕ) → Result (List (List ℕ)) Stop → St
 ListAnswers sink (Ok objects) answer = Lists sink objects answer
 ListAnswers sink (Err s) answer = Refuses sink s answer
 
--- What `recover` comes to. Other archives are not touched.
+-- What `recover` comes to. Whatever it answers, the archives were read and no more, and others are
+-- not touched.
 pub record Recovers (r : Recover) (room : Met Lending) (sink : Met (List ℕ))
     (answer : Status) : Type 0 where
   pub found : Result (List (List ℕ)) Stop
   pub is : FindsObjects r room found
   pub answers : ListAnswers sink found answer
+  pub read : IsTrue room.tells → WereRead r.archives room.before room.after
   pub others : (n : ℕ) → r.archives ≤ n → room.after.means n ≡ room.before.means n

@@ -27,6 +27,7 @@ use Rattle.pot_commands.specs.declared.working.Ending.TheVariants as ending
 use Rattle.pot_commands.specs.declared.working.Ending.TheVariants.{RoomFailed}
 use Rattle.pot_commands.specs.Ends.{EndsOver}
 use Rattle.pot_commands.specs.Failures.{Fails}
+use Rattle.pot_commands.specs.Holding.{Untouched}
 use Rattle.pot_shared.specs.Going.{AllSole}
 use Rattle.pot_shared.specs.Hands.{times}
 use Rattle.pot_shared.specs.Coming.{marks_of}
@@ -178,14 +179,17 @@ pub record IsClosed (seed : List ℕ) (first : Contents) (steps : List Step) (ro
   pub status : answer ≡ status_after ending (close_answer missing kept)
 
 -- What a session comes to that begins with this image: before any step was worked the room did not
--- give its archives, which are as they were, or memory ran out; or it closed.
+-- give its archives, and those that it got back are as they were; or memory ran out before; or it
+-- closed. Archives that the image does not name were not touched before the steps.
 pub data Serves (seed : List ℕ) (first : Contents) (steps : List Step) (room : Met Lending)
     (sink : Met (List ℕ)) (desk : Met (Content (Option (List ℕ)))) (answer : Status) : Type 0 where
   Unlent : answer ≡ status.RoomFault → Stays sink
       → (IsTrue desk.tells → desk.after.held ≡ Some (image_bytes first)) → IsUnlent room
+      → Untouched (flat_map archives_in first.tables) room.before room.after
       → Serves seed first steps room sink desk answer
   Unopened : answer ≡ status.NoMemory → Stays sink
       → (IsTrue desk.tells → desk.after.held ≡ Some (image_bytes first))
+      → Untouched (flat_map archives_in first.tables) room.before room.after
       → Serves seed first steps room sink desk answer
   Closed : IsClosed seed first steps room sink desk answer
       → Serves seed first steps room sink desk answer

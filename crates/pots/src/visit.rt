@@ -58,7 +58,7 @@ impl Visit {
         self.printed(self.rt.println(line))
     }
 
-    /// Prints a text, as a line.
+    /// Prints a text as it is. Where nobody reads standard output any more the command goes on to its end.
     pub fn print<D: Display + Drop>(&self, text: D) -> Result<(), Stop> {
         self.printed(self.rt.print(text))
     }

@@ -1,7 +1,7 @@
-//! The program: it draws a seed, makes the real objects and holds one session.
+//! The program: it draws a seed, makes the real objects and calls `run` with them, once.
 //!
-//! Nothing is decided here. What a session does is the contract of `run`, and what the real objects promise
-//! that of their own types.
+//! Nothing is decided here but the status where no seed or no memory for the words is had. What a call does is the contract
+//! of `run`, and what the real objects promise that of their own types.
 #![tactic(auto)]
 
 #[cfg(test)]
@@ -21,7 +21,7 @@ const SOURCE_FAULT: u8 = 4;
 /// The exit status where memory ran out.
 const NO_MEMORY: u8 = 70;
 
-/// The words after the program's name. Where one is not UTF-8 there are none, which a session refuses as it
+/// The words after the program's name. Where one is not UTF-8 there are none, which `run` refuses as it
 /// refuses all words that spell no task.
 fn words(rt: &HostRuntime) -> Option<Vec<String>> {
     match env::args(rt) {
@@ -31,7 +31,7 @@ fn words(rt: &HostRuntime) -> Option<Vec<String>> {
     }
 }
 
-/// One session on the real objects, and its exit status. `turns` is the handle for waiting.
+/// One call on the real objects, and its exit status. `turns` is the handle for waiting.
 fn session<X: Threads + Wait + Sync>(rt: &HostRuntime, turns: &X) -> u8 {
     let Ok(seed) = drawn(rt) else {
         return SOURCE_FAULT;

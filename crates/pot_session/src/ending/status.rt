@@ -5,13 +5,13 @@ ghost use Rattle.std.specs.Prelude.{◌≡◌};
 /// The status of a call of the program.
 #[derive(Clone, Copy, PartialEq, Eq, Debug)]
 pub enum Status {
-    /// The input was read to its end and no reply is a refusal.
+    /// All that was asked for was answered, and no reply is a refusal.
     Good,
-    /// As `Good`, but some reply is a refusal.
+    /// As `Good`, but some reply is a refusal, some file is partial, or some piece is exposed.
     Refusals,
-    /// The words of the command line were refused.
+    /// The words of the command line spell no task, or a column that the rack has not.
     WordsRefused,
-    /// The script was refused.
+    /// The script leaves its grammar, or the source of a drill has no two files of one length.
     ScriptRefused,
     /// The source failed.
     SourceFault,
@@ -19,9 +19,9 @@ pub enum Status {
     SinkFault,
     /// The desk failed.
     DeskFault,
-    /// The image of the desk was refused.
+    /// The desk holds no image that can be read.
     ImageRefused,
-    /// The room failed.
+    /// The room failed, or an archive that `recover` read.
     RoomFault,
     /// No number is left for a session.
     SessionSpent,

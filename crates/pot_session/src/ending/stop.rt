@@ -1,4 +1,4 @@
-//! Why a call of the program stops before its commands, and what it writes then.
+//! Why a call of the program stops, and what it writes then.
 
 ghost use Rattle.std.specs.Prelude.{◌≡◌, IfOk};
 ghost use Rattle.pot_session.specs.Stops.{status_of, stop_text};
@@ -8,14 +8,14 @@ use pot_bytes::{Digest, NoMemory};
 use pot_script::{append_digest, append_number, print_bad_line, print_words_refused};
 use std::alloc::{AllocError, Global};
 
-/// Why there are no commands.
+/// Why a call stops, before its commands or at its close.
 #[derive(Clone, Copy, PartialEq, Eq, Debug)]
 pub enum Stop {
-    /// The words spell no task that is worked.
+    /// The words spell no task, or a column that the rack has not.
     Words,
     /// The source failed.
     SourceFault,
-    /// The script leaves its grammar at this line.
+    /// The script leaves its grammar at this line; 0 where it is too long, or the source of a drill has no two files of one length.
     BadLine { number: u32 },
     /// The desk failed.
     DeskFault,
@@ -31,7 +31,7 @@ pub enum Stop {
     Spent,
     /// The desk holds an image already.
     Exists,
-    /// The room failed.
+    /// The room failed, or an archive that `recover` read.
     RoomFault,
     /// Recovery has too many chains or choices.
     TooWide,

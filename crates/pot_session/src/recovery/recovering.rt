@@ -4,10 +4,10 @@ ghost use Rattle.std.specs.Prelude.{◌≡◌, ◌≢◌, ◌<◌, ◌≤◌, �
 ghost use Rattle.std.specs.Prelude.{IfErr, IsErr, IsErrOf, IsOk, ◌⊎◌, false, length};
 ghost use Rattle.pot_outside.specs.Accounts.{Faults, met};
 ghost use Rattle.pot_outside.specs.Rooms.{IsHome, StaysAt, met_room};
-ghost use Rattle.pot_outside.specs.Counts.{Caused};
+ghost use Rattle.pot_outside.specs.Counts.{Caused, Rose};
 ghost use Rattle.pot_session.specs.Recovering.{Adds, AreHeldIn, FailsOr, FindsObjects, Gathers};
 ghost use Rattle.pot_session.specs.Recovering.{GiveObjects, GiveTooMany, HasFailed, IsRecovery};
-ghost use Rattle.pot_session.specs.Recovering.{Recovers, SomeFailed};
+ghost use Rattle.pot_session.specs.Recovering.{Recovers, SomeFailed, WasRead, WereRead};
 
 use crate::ending::refusing::refuse;
 use crate::ending::status::Status;
@@ -32,6 +32,8 @@ fn read_slot<A: Archive>(
         → OnOk result
         (Adds slot (A.account.meaning archive.old) (A.account.meaning archive.new)
         blocks.old.items blocks.new.items) }
+    ensures read { IsTrue A.account.tells
+        → WasRead (A.account.meaning archive.old) (A.account.meaning archive.new) }
     ensures length { length blocks.new.items ≤ length blocks.old.items + 1 }
     ensures cause { Caused (A.account.meaning archive.old).faults
         (A.account.meaning archive.new).faults (IsErrOf result RoomFault.Failed) }
@@ -60,6 +62,8 @@ fn read_slots<A: Archive>(
         → OnOk result
         (Gathers stripes (A.account.meaning archive.old) (A.account.meaning archive.new)
         blocks.old.items blocks.new.items) }
+    ensures read { IsTrue A.account.tells
+        → WasRead (A.account.meaning archive.old) (A.account.meaning archive.new) }
     ensures length { length blocks.new.items ≤ length blocks.old.items + stripes }
     ensures cause { Caused (A.account.meaning archive.old).faults
         (A.account.meaning archive.new).faults (IsErrOf result RoomFault.Failed) }
@@ -102,6 +106,9 @@ fn read_archive<R: Room>(
         → OnOk result
         (Gathers stripes ((R.meaning room.old).means number) ((R.meaning room.new).means number)
         blocks.old.items blocks.new.items) }
+    ensures read { IsTrue R.A.account.tells
+        → (Rose (R.meaning room.old).failures (R.meaning room.new).failures → ⊥)
+        → WasRead ((R.meaning room.old).means number) ((R.meaning room.new).means number) }
     ensures length { length blocks.new.items ≤ length blocks.old.items + stripes }
     ensures home { (R.meaning room.new).out number ≡ false }
     ensures others { (n : ℕ) → n ≢ number
@@ -140,6 +147,8 @@ fn read_archives<R: Room>(
         AreHeldIn task.now.archives task.now.stripes (R.meaning room.old).means
         (R.meaning room.new).means
         v.items) }
+    ensures read { IsTrue R.A.account.tells
+        → WereRead task.now.archives (R.meaning room.old) (R.meaning room.new) }
     ensures few { IfOk result (λ v. length v.items ≤ 512 * 4096) }
     ensures home { IsHome (R.meaning room.new) }
     ensures others { (n : ℕ) → task.now.archives ≤ n
@@ -188,6 +197,8 @@ fn find_objects<R: Room>(alloc: Global, task: &Recover, room: &mut R) -> Result<
     requires home { IsHome (R.meaning room.old) }
     ensures finds { FindsObjects task.now
         (met_room R.A.account R.meaning room.old room.new) result }
+    ensures read { IsTrue R.A.account.tells
+        → WereRead task.now.archives (R.meaning room.old) (R.meaning room.new) }
     ensures home { IsHome (R.meaning room.new) }
     ensures others { (n : ℕ) → task.now.archives ≤ n
         → (R.meaning room.new).means n ≡ (R.meaning room.old).means n }

@@ -1,8 +1,9 @@
-use Rattle.std.proofs.Common.{inl, inr, arith}
+use Rattle.std.proofs.Common.{inl, inr, subst, sym, arith}
 use Rattle.pot_outside.specs.Rooms.{met_room}
 use Rattle.pot_doubles.proofs.CallLemmas.{rose_later}
 use Rattle.std.proofs.lemmas.Result.{on_ok_weaker}
-use Rattle.pot_session.proofs.RecoveringLemmas.{gathers_meant, ok_gives, why_failed}
+use Rattle.pot_session.specs.Recovering.{WasRead}
+use Rattle.pot_session.proofs.RecoveringLemmas.{gathers_meant, ok_gives, read_back, read_not, why_failed}
 use Rattle.pot_session.proofs.recovery.recovering.read_archive.Goals as goal
 
 pub returns-in-Ok-clause-gathers : goal.returns-in-Ok-clause-gathers
@@ -21,3 +22,11 @@ returns-in-Ok-clause-own g c = record {
     | inr given ↦ inl (rose_later _ _ _ c.take.ensures.own.later (c.give-given.ensures.own.rose given))
   ];
 }
+
+pub returns-in-Ok-clause-read : goal.returns-in-Ok-clause-read
+returns-in-Ok-clause-read g c = λ told still.
+    read_back _ c.give-given.result _ _ _ _ _ _ (λ r. still (rose_later _ _ _ c.take.ensures.own.later r)) c.give-given.ensures.own c.give-given.ensures.told told (c.in-Ok.ensures.told told)
+    (c.read_slots-read.ensures.read told)
+
+pub returns-in-Err-clause-read : goal.returns-in-Err-clause-read
+returns-in-Err-clause-read g c = λ told still. subst (λ m. WasRead ((g.R.Room.meaning c.args.room.now).means c.args.number) m) (sym c.in-Err.ensures.unchanged) (read_not _)
