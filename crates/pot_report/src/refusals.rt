@@ -78,20 +78,21 @@ fn lost(alloc: Global, name: &Name, at: (u32, u8), count: (u8, u8)) -> Result<St
     let (piece, fragment) = at;
     let (have, need) = count;
     format!(in alloc;
-        "{name} is not there as a whole: of fragment {fragment} of piece {piece} only {have} of {need} shards were found; bring back the archives that are missing, and give the command once more"
+        "{name} is not there as a whole: of fragment {fragment} of piece {piece} only {have} of {need} shards were found; pots repair mends what parity gives back; where archives were only not mounted, put the desk of before back, as potshards-recovery(7) tells"
     )
 }
 
 fn odd(alloc: Global, name: &Name) -> Result<String, AllocError> {
     let name = spoken_name(alloc, name)?;
     format!(in alloc;
-        "{name} came back with other bytes than were stored, and was not written: pots check tells which archive is ailing"
+        "{name} came back with other bytes than were stored, and was not written: put an older desk back, as potshards-recovery(7) tells, or try pots recover"
     )
 }
 
 fn fault(alloc: Global, group: u8, column: u8) -> Result<String, AllocError> {
+    let line = u64::from(column).saturating_add(1);
     format!(in alloc;
-        "the archive of column {column} of group {group} failed: pots place tells where it lies; see that its disk can be read and written and has room, or put a new one in its place with pots replace"
+        "the archive of column {column} of group {group} failed: pots place tells where it lies, in line {line} of that group where none of its columns moves; see that its disk can be read and written and has room, or put a new one in its place with pots replace"
     )
 }
 

@@ -123,7 +123,7 @@ const TOLD: [(&[u8], &str, &str); 6] = [
     ),
     (
         b"scrubbed 2 10 3\n",
-        "group 2: 10 blocks were looked at and are there, 3 are gone",
+        "group 2: 10 blocks were looked at and are there, 3 more were found gone",
         r#"{"gone":3,"group":2,"reply":"scrubbed","seen":10}"#,
     ),
     (
@@ -138,7 +138,7 @@ const TOLD: [(&[u8], &str, &str); 6] = [
     ),
     (
         b"lost film.p0003 5 1 1 2\n",
-        "part 3 of film is not there as a whole: of fragment 1 of piece 5 only 1 of 2 shards were found; bring back the archives that are missing, and give the command once more",
+        "part 3 of film is not there as a whole: of fragment 1 of piece 5 only 1 of 2 shards were found; pots repair mends what parity gives back; where archives were only not mounted, put the desk of before back, as potshards-recovery(7) tells",
         r#"{"fragment":1,"have":1,"name":"film.p0003","need":2,"piece":5,"reply":"lost"}"#,
     ),
     (

@@ -44,7 +44,7 @@ fn of_groups(alloc: Global, reply: &Reply) -> Result<String, AllocError> {
         ),
         Reply::Scrubbed { group, seen, gone } => {
             format!(in alloc;
-                "group {group}: {seen} blocks were looked at and are there, {gone} are gone"
+                "group {group}: {seen} blocks were looked at and are there, {gone} more were found gone"
             )
         }
         Reply::Repaired {

@@ -24,7 +24,7 @@ pub fn image_bytes(visit: &mut Visit) -> Result<Vec<u8>, Stop> {
         Ok(Some(bytes)) => Ok(bytes),
         Ok(None) => Err(visit.refuse(
             7,
-            "there is no archive in this folder: go to the folder of one, or make one with pots init",
+            "there is no archive in this folder: go to the folder of one, or make one with pots init; where the desk of this one is lost, potshards-recovery(7) tells how a copy goes back",
         )),
         Err(DeskFault::NoMemory) => Err(Stop::NoMemory),
         Err(DeskFault::Failed) => Err(visit.refuse(
@@ -96,7 +96,7 @@ fn look_at_archives(visit: &Visit, image: &Image) -> Result<(), Stop> {
         return Ok(());
     }
     let line = format!(in visit.alloc();
-        "see that all disks are mounted and all archives are in their places; to go on without these, give --without {list}, and what they held counts as lost until it is mended"
+        "see that all disks are mounted and all archives are in their places; only where these are gone for good give --without {list}: what they held counts as lost from then on, also when they come back, until it is mended as far as parity goes"
     )?;
     Err(visit.refuse(8, line.as_str()))
 }
@@ -116,7 +116,7 @@ fn look_at_links(visit: &Visit) -> Result<(), Stop> {
         return Ok(());
     }
     let line = format!(in visit.alloc();
-        "these lead nowhere:{links}; take the links away, with rm{links}, or make empty files where they lead, and give the command once more"
+        "these lead nowhere:{links}; see that their disks are mounted; where they are gone for good, move the links into another folder, with mkdir gone and mv{links} gone, or make empty files where they lead, and give the command once more"
     )?;
     Err(visit.refuse(8, line.as_str()))
 }

@@ -1,10 +1,10 @@
 //! An archive that is made.
 
 use crate::looking::archive_name;
-use crate::numbers::{MOST_ARCHIVES, read_number};
+use crate::numbers::MOST_ARCHIVES;
 use crate::session::{call, ended, words_of};
 use crate::stop::Stop;
-use crate::visit::Visit;
+use crate::visit::{Visit, number_given};
 use clap::ArgMatches;
 use pot_bytes::{Geometry, Rack};
 use pot_report::{Plan, Wish, read_size};
@@ -36,7 +36,7 @@ fn look_for_archives(visit: &Visit) -> Result<(), Stop> {
         match fs::metadata(&visit.rt, name) {
             Ok(file) if file.len() > 0 => {
                 let line = format!(in visit.alloc();
-                    "there is an archive in this folder already, with blocks in {name}, and it stays as it is: make the new one in another folder; where the desk is gone, pots recover gets files back"
+                    "there is an archive in this folder already, with blocks in {name}, and it stays as it is: make the new one in another folder; where the desk is gone, put a copy back, as potshards-recovery(7) tells, or get files back with pots recover"
                 )?;
                 return Err(visit.refuse(10, line.as_str()));
             }
@@ -80,16 +80,7 @@ fn small(number: u32) -> u8 {
 
 // The number of an option.
 fn number(visit: &Visit, words: &ArgMatches, name: &str, otherwise: u32) -> Result<u32, Stop> {
-    let Some(text) = words.get_str(name) else {
-        return Ok(otherwise);
-    };
-    match read_number(text) {
-        Some(number) => Ok(number),
-        None => {
-            let line = format!(in visit.alloc(); "--{name} takes a number, and not {text}")?;
-            Err(visit.refuse(2, line.as_str()))
-        }
-    }
+    Ok(number_given(visit, words, name)?.unwrap_or(otherwise))
 }
 
 /// A geometry with those numbers in the place of its own that the words give.

@@ -37,19 +37,33 @@ fn place_one(visit: &Visit, number: u32, folder: &str) -> Result<(), Stop> {
     let name = name.as_str();
     let target = target_of(visit, folder, name)?;
     let target = target.as_str();
+    if lies_at(rt, name, target) {
+        return tell_placed(visit, name, target);
+    }
     match copy_and_link(rt, name, target) {
-        Ok(()) => {
-            if visit.json {
-                return visit.tell_file("placed", target);
-            }
-            println!(visit; "{name} lies at {target}")
-        }
+        Ok(()) => tell_placed(visit, name, target),
         Err(e) => {
             let line = format!(in visit.alloc();
-                "{name} could not be brought to {target}, and stays where it is: {e}; see that there is no such file yet and that the disk has room"
+                "{name} could not be brought to {target}, and stays where it is: {e}; see that the disk has room; where a file of that name is there, move it away and remove nothing"
             )?;
             Err(visit.refuse(8, line.as_str()))
         }
+    }
+}
+
+// Whether the archive lies there already, as where the command is given once more.
+fn lies_at(rt: &HostRuntime, name: &str, target: &str) -> bool {
+    match fs::canonicalize(rt, name) {
+        Ok(path) => path.as_str() == target,
+        Err(_) => false,
+    }
+}
+
+fn tell_placed(visit: &Visit, name: &str, target: &str) -> Result<(), Stop> {
+    if visit.json {
+        visit.tell_file("placed", target)
+    } else {
+        println!(visit; "{name} lies at {target}")
     }
 }
 
@@ -114,7 +128,7 @@ pub fn backup_desk(visit: &mut Visit, words: &ArgMatches) -> Result<u8, Stop> {
                 return Ok(0);
             }
             println!(visit;
-                "{path} has the desk as it is now: keep it at another place, where you would keep a list of names; to go back to it, put it as desk.psi into the archive's folder and take desk.pss away"
+                "{path} has the desk as it is now: keep it at another place, where you would keep a list of names; to go back to it, move desk.pss away, put it as desk.psi into the archive's folder, and take that away after the first session"
             )?;
             Ok(0)
         }

@@ -2,10 +2,10 @@
 
 use crate::keeping::put_file;
 use crate::looking::archive_name;
-use crate::numbers::{MOST_ARCHIVES, read_number};
+use crate::numbers::MOST_ARCHIVES;
 use crate::session::{call, ended, words_of};
 use crate::stop::Stop;
-use crate::visit::Visit;
+use crate::visit::{Visit, number_given};
 use clap::ArgMatches;
 use pot_bytes::{Digest, digest_of};
 use pot_report::{Found, Manifest, name_text, read_found};
@@ -84,7 +84,7 @@ fn recover_line(visit: &Visit, words: &ArgMatches, reach: Reach) -> Result<Strin
 
 // What the words say, and else what is in the folder.
 fn reach_of(visit: &Visit, words: &ArgMatches) -> Result<Reach, Stop> {
-    let archives = match words.get_str("archives").and_then(read_number) {
+    let archives = match number_given(visit, words, "archives")? {
         Some(count) => count,
         None => count_archives(visit)?,
     };
@@ -94,11 +94,11 @@ fn reach_of(visit: &Visit, words: &ArgMatches) -> Result<Reach, Stop> {
             "there is no archive-0 in this folder: go to the folder of the archives, or put links to them into one",
         ));
     }
-    let stripes = match words.get_str("stripes").and_then(read_number) {
+    let stripes = match number_given(visit, words, "stripes")? {
         Some(count) => count,
         None => count_slots(visit, archives)?,
     };
-    let blur = match words.get_str("blur").and_then(read_number) {
+    let blur = match number_given(visit, words, "blur")? {
         Some(blur) => blur,
         None => first_blur(visit, archives)?,
     };
@@ -194,11 +194,15 @@ fn with_digests(visit: &Visit, found: Vec<Found>) -> Result<Vec<Piece>, Stop> {
     Ok(pieces)
 }
 
-// The lists of parts among the files.
+// The lists of parts among the files. One that was split anew is found once for each split, and counts once.
 fn lists_in(visit: &Visit, pieces: &[Piece]) -> Result<Vec<Manifest>, Stop> {
     let mut lists = Vec::new(visit.alloc());
-    for piece in pieces {
-        if let Some(bytes) = &piece.found.bytes {
+    for (at, piece) in pieces.iter().enumerate() {
+        let before = pieces
+            .iter()
+            .take(at)
+            .any(|other| other.digest == piece.digest);
+        if let (Some(bytes), false) = (&piece.found.bytes, before) {
             if let Some(list) = Manifest::read(visit.alloc(), bytes)? {
                 lists.push(list)?;
             }

@@ -119,10 +119,10 @@ fn reason(status: u8) -> &'static str {
             "the session refused its script: see that the numbers given are below those of pots status",
         5 => "memory ran out for the replies: fetch or store less at a time",
         6 =>
-            "the desk could not be locked, read or replaced: see that no other program works in this folder and that its disk has room; what was stored may have to be stored again",
+            "the desk could not be locked, read or replaced: see that no other program works in this folder and that its disk has room; what pots list does not name is to be stored again",
         7 => "no session can begin with the desk's image: see potshards-recovery(7)",
         8 =>
-            "an archive could not be opened, read or synced: see that each archive-N can be read and written and that its disk has room; what was stored may have to be stored again",
+            "an archive could not be opened, read or synced: see that each archive-N can be read and written and that its disk has room; then pots check tells what is gone, and what pots list does not name is to be stored again",
         9 => "the numbers of sessions are spent: fetch all files, and store them in a new archive",
         10 =>
             "there is an archive in this folder already, and it stays as it is: make the new one in another folder",

@@ -95,7 +95,7 @@ fn tell_one(rt: &HostRuntime, holding: &Holding) {
     let to_mend = holding.to_mend();
     if holding.live == 0 {
         let _ = eprintln!(rt;
-            "pots: archive {archive} is ailing: all its {gone} blocks are gone; if its disk is dead, put a new archive in its place with pots replace {archive} NEW, and then mend with pots repair {group}"
+            "pots: archive {archive} is ailing: all its {gone} blocks are gone; if its disk is dead, bring a new archive to another disk with pots place NEW FOLDER, put it in its place with pots replace {archive} NEW, and then mend with pots repair {group}"
         );
     } else {
         let _ = eprintln!(rt;
@@ -107,7 +107,7 @@ fn tell_one(rt: &HostRuntime, holding: &Holding) {
 // Tells how many blocks parity does not give back, and what to do.
 fn tell_stuck(rt: &HostRuntime, blocks: u64) {
     let _ = eprintln!(rt;
-        "pots: {blocks} blocks are not given back by parity: pots fetch --all while the other places have every file, and pots renew for each that it gives"
+        "pots: {blocks} blocks are not given back by parity: pots fetch --all --to FOLDER while the other places have every file, and pots renew for each that it gives; where archives were only not mounted, put the desk of before back, as potshards-recovery(7) tells"
     );
 }
 

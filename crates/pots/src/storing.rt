@@ -127,7 +127,7 @@ fn item_of(visit: &Visit, path: &str, given: Option<&str>) -> Result<Item, Stop>
 // The end of the command where a file cannot be read.
 fn unread(visit: &Visit, path: &str) -> Result<Stop, Stop> {
     let line = format!(in visit.alloc();
-        "{path} could not be read: see that it is there and may be read"
+        "{path} could not be read: see that it is there and may be read; files named before it may not be stored yet, so give the command once more"
     )?;
     Ok(visit.refuse(4, line.as_str()))
 }
@@ -146,16 +146,24 @@ fn readable_name(visit: &Visit, path: &str, text: &str) -> Result<Name, Stop> {
     }
 }
 
-// A name that looks like the text.
+// A name that looks like the text. It begins with no hyphen, as an option does, and does not end as that of a part.
 fn close_name(alloc: Global, text: &str) -> Result<String, Stop> {
     let mut name = String::new(alloc);
     for byte in text.bytes().take(58) {
         let byte = byte.to_ascii_lowercase();
         let close = match byte {
             b'a'..=b'z' | b'0'..=b'9' | b'.' | b'_' => byte,
+            _ if name.is_empty() => b'_',
             _ => b'-',
         };
         name.push(char::from(close))?;
+    }
+    let stands = match Name::read(name.as_bytes()) {
+        Some(name) => !ends_as_part(&name),
+        None => false,
+    };
+    if !stands {
+        name.push('_')?;
     }
     Ok(name)
 }

@@ -1,6 +1,6 @@
 //! A visit to an archive: its folder, its desk under its lock, and how things are told.
 
-use crate::numbers::{MOST_ARCHIVES, read_numbers};
+use crate::numbers::{MOST_ARCHIVES, read_number, read_numbers};
 use crate::stop::{Stop, UNREAD, refuse};
 use clap::ArgMatches;
 use pot_files::DeskFile;
@@ -134,4 +134,16 @@ pub fn listed_archives(rt: &HostRuntime, text: &str) -> Result<Vec<u32>, Stop> {
             "archives are given by their numbers from 0 to 511, as 4,5 or 0-3",
         )),
     }
+}
+
+/// The number that the words give for an option, where they give one.
+pub fn number_given(visit: &Visit, words: &ArgMatches, name: &str) -> Result<Option<u32>, Stop> {
+    let Some(text) = words.get_str(name) else {
+        return Ok(None);
+    };
+    if let Some(number) = read_number(text) {
+        return Ok(Some(number));
+    }
+    let line = format!(in visit.alloc(); "--{name} takes a number, and not {text}")?;
+    Err(visit.refuse(2, line.as_str()))
 }
