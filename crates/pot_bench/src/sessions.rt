@@ -13,7 +13,8 @@ ghost use Rattle.pot_shared.specs.Sharing.{HasAllButKept, IsGroupOf};
 use crate::plain::{PlainArchive, shelf};
 use crate::rows::SEED;
 use pot_bytes::{Geometry, Name, Rack};
-use pot_group::{Ended, Group, StartRefused, are_homes};
+use pot_followed::Followed;
+use pot_group::{Ended, StartRefused, are_homes};
 use pot_image::{Image, read_image, write_image};
 use pot_index::{Index, IndexEnded};
 use pot_machine::GroupTable;
@@ -147,7 +148,7 @@ fn start_group(
     if !is_of_rack(&table, rack) || !are_homes(table.columns(), &shelves) {
         return Err(AllocError);
     }
-    match Group::start(alloc, number, table, shelves) {
+    match Followed::start(alloc, number, table, shelves) {
         Ok(group) => Ok(Member { group }),
         Err(
             StartRefused {
@@ -239,7 +240,10 @@ impl Session {
             job,
         };
         let pads = PadStream::new(&SEED, self.number, job);
-        store_file(&caller, &mut self.passes, name, file, pads)
+        let mut session = caller.session(&mut self.passes);
+        let stored = store_file(&mut session, name, file, pads);
+        self.passes = session.end();
+        stored
     }
 
     /// Fetches a file as this job.
@@ -271,7 +275,10 @@ impl Session {
             job,
         };
         let mut pads = PadStream::new(&SEED, self.number, job);
-        fetch_file(&caller, &mut self.passes, name, &mut pads)
+        let mut session = caller.session(&mut self.passes);
+        let fetched = fetch_file(&mut session, name, &mut pads);
+        self.passes = session.end();
+        fetched
     }
 
     /// Ends the session. Its image is that of its close.
@@ -318,7 +325,7 @@ impl Left {
     }
 
     /// Ends a group.
-    fn end_group(&mut self, group: Group<PlainArchive>) -> Result<(), AllocError> {
+    fn end_group(&mut self, group: Followed<PlainArchive>) -> Result<(), AllocError> {
         let Ended {
             table,
             log,

@@ -10,7 +10,6 @@ use lib.Seq.{drop-length}
 use Rattle.pot_bytes.specs.declared.rack.Rack.{Rack}
 use Rattle.pot_bytes.proofs.Elements.{none_contained, one_contained}
 use Rattle.pot_outside.specs.Archives.{Meaning, IsMeant}
-use Rattle.pot_outside.specs.declared.archive.Marks.{Marks}
 use Rattle.pot_outside.specs.declared.archive.Shelf.{Shelf}
 use Rattle.pot_machine.specs.declared.column.Column.{Column}
 use Rattle.pot_machine.specs.declared.entry.Entry.{Entry}
@@ -40,7 +39,8 @@ use Rattle.pot_shared.specs.declared.member.GroupOrigin.{GroupOrigin}
 use Rattle.pot_shared.specs.declared.member.Logged.{Logged}
 use Rattle.pot_shared.specs.Calls.{CallAt}
 use Rattle.pot_shared.specs.Catalogs.{IndexPasses, IsIndexReady}
-use Rattle.pot_shared.specs.Members.{all_logged, entries_of, logged_at, mark_at, origin_of}
+use Rattle.pot_shared.proofs.Takings.{taking_is, taking_same}
+use Rattle.pot_shared.specs.Members.{all_logged, entries_of, logged_at, taking_at, origin_of}
 use Rattle.pot_shared.proofs.MemberLemmas.{marks_by, entries_all, entries_append}
 use Rattle.pot_group.specs.Calls.{ComesBy}
 use Rattle.pot_shared.specs.Ready.{AreReady, GroupPass, GroupPasses}
@@ -52,7 +52,7 @@ use Rattle.pot_shared.specs.Going.{AllSole}
 use Rattle.pot_shared.specs.Hands.{times}
 use Rattle.pot_commands.specs.Taking.{Took, HasUse, AreUsed}
 use Rattle.pot_outside.specs.Rooms.{Lending}
-use Rattle.pot_shared.specs.Coming.{AreMarkedBy, came_in, marks_of}
+use Rattle.pot_shared.specs.Coming.{AreMarkedBy, came_in, taking_of}
 use Rattle.pot_commands.proofs.Brought.{its_setting, is_its}
 use Rattle.pot_commands.proofs.Going.{sole_alone, work_all_went}
 use Rattle.pot_commands.proofs.Logs.{turn_added}
@@ -381,14 +381,11 @@ module _ {rack : Rack} {names turn : List TurnName} (job : ℕ) {row0 row1 : Gro
         ap (times n) (sym (came_one (length row0.names) (gained row0 row2) group at_names (gains_there same2 ready2 within call came_all sole)
         ∙ (ap arrivals (gains_here same2 ready2 within call came_all sole ∙ comes.entries_are) ∙ (append-nil (arrival e) ∙ arrives))))
 
-    its_marks : (meant : ℕ → Meaning) → told → IsMeant (meant to) (meaning shelf.archive) → mark_at call.turn.new.shelves to ≡ marks_of (meant to)
+    its_marks : (meant : ℕ → Meaning) → told → IsMeant (meant to) (meaning shelf.archive) → taking_at call.turn.new.shelves to ≡ taking_of (meant to)
     its_marks meant tells is =
         let b = comes.comes.brings in
-        subst (λ n. mark_at call.turn.new.shelves n ≡ marks_of (meant to)) number
-        (ap (λ f. marks f (call.turn.new.shelves.losses_taken shelf.number)) (b.marked ∙ (b.counts.0 ∙ is.faulted)) ∙ ap (λ l. marks (meant to).faults l) (b.marked_losses tells ∙ (b.counts.1 ∙ is.lost)))
-      where
-        marks : ℕ → ℕ → Marks
-        marks f l = record { faults = f; losses = l }
+        subst (λ n. taking_at call.turn.new.shelves n ≡ taking_of (meant to)) number
+        (taking_is call.turn.new.shelves shelf.number (meaning shelf.archive) (b.marked ∙ b.counts.0) (b.marked_losses tells ∙ b.counts.1) b.taken ∙ taking_same (meant to) (meaning shelf.archive) is)
 
     come_marked : (meant : ℕ → Meaning) → told → IsMeant (meant to) (meaning shelf.archive) → AllSole k0 with_it → (g : ℕ) → g < length row0.names → AreMarkedBy meant (added (view_at row0 g) (view_at row2 g))
     come_marked meant tells is sole g lt l n has arr = ⊎_elim
@@ -398,7 +395,7 @@ module _ {rack : Rack} {names turn : List TurnName} (job : ℕ) {row0 row1 : Gro
         (subst (λ ls. Contains ls l) (marked_here same2 ready2 within call came_all sole) (subst (λ h. Contains (added (view_at row0 h) (view_at row2 h)) l) same_group has)) in
         let one : logged_at call.turn.new.shelves e ≡ l = one_contained (logged_at call.turn.new.shelves e) l there in
         let its_number : to ≡ n = one_contained to n (subst (λ ns. Contains ns n) arrives (subst (λ (x : Logged). Contains (arrival x.entry) n) (sym one) arr)) in
-        subst (λ k. l.taken ≡ Some (marks_of (meant k))) its_number
+        subst (λ k. l.taken ≡ Some (taking_of (meant k))) its_number
         (ap (λ (x : Logged). x.taken) (sym one) ∙ (marks_by call.turn.new.shelves e to (subst (λ ns. Contains ns to) (sym arrives) (zero, omega arith, refl)) ∙ ap (λ m. Some m) (its_marks meant tells is)))))
         (λ (ne : g ≢ group).
         absurd (none_contained n (subst (λ ns. Contains ns n) (gains_there same2 ready2 within call came_all sole g ne) (arrival_in (added (view_at row0 g) (view_at row2 g)) l n has arr))))

@@ -5,7 +5,6 @@ use Rattle.std.proofs.lemmas.Bool.Decides.{eqb_tells}
 use Rattle.std.proofs.lemmas.List.Elements.{Contains-append_cases}
 use Rattle.pot_bytes.proofs.Elements.{none_contained}
 use Rattle.pot_outside.specs.Archives.{Meaning, IsMeant}
-use Rattle.pot_outside.specs.declared.archive.Marks.{Marks}
 use Rattle.pot_machine.specs.declared.entry.Entry.{Entry}
 use Rattle.pot_machine.specs.Table.{holder_of}
 use Rattle.pot_machine.specs.Logs.{replayed}
@@ -29,7 +28,8 @@ use Rattle.pot_shared.specs.Going.{AllSole, AllStay, AllWent}
 use Rattle.pot_shared.specs.Hands.{times}
 use Rattle.pot_commands.specs.Taking.{Takes, Come, Took, HasUse, AreUsed}
 use Rattle.pot_outside.specs.Rooms.{Lending}
-use Rattle.pot_shared.specs.Coming.{AreMarkedBy, came_in, marks_of}
+use Rattle.pot_shared.proofs.Takings.{taking_same}
+use Rattle.pot_shared.specs.Coming.{AreMarkedBy, came_in, taking_of}
 use Rattle.pot_commands.proofs.Going.{sole_parts, known_follows}
 
 home_bit : (b : Bool) → one_if b ≡ 0 → b ≡ false
@@ -59,12 +59,6 @@ meant_by a b m p q = record {
   faulted = sym q.faulted ∙ p.faulted;
   lost = sym q.lost ∙ p.lost;
 }
-
-pub same_marks : (a b : Meaning) → IsMeant a b → marks_of b ≡ marks_of a
-same_marks a b is = ap (λ f. marks f b.losses) is.faulted ∙ ap (λ l. marks a.faults l) is.lost
-  where
-    marks : ℕ → ℕ → Marks
-    marks f l = record { faults = f; losses = l }
 
 -- THE ROOM
 
@@ -131,8 +125,8 @@ module _ (told well : Type 0) where
     }
 
     -- one that was taken then meant what it had meant
-    pub then_marks : told → (n : ℕ) → 1 ≤ times n u → marks_of (r1.means n) ≡ marks_of (r0.means n)
-    then_marks tells n some = same_marks (r0.means n) (r1.means n) (p.still tells tt n (home_bit (r1.out n) (let e = q.out n in let l = at_most (r2.out n) in omega (arith, e, l, some))))
+    pub then_marks : told → (n : ℕ) → 1 ≤ times n u → taking_of (r1.means n) ≡ taking_of (r0.means n)
+    then_marks tells n some = taking_same (r0.means n) (r1.means n) (p.still tells tt n (home_bit (r1.out n) (let e = q.out n in let l = at_most (r2.out n) in omega (arith, e, l, some))))
       where
         at_most : (b : Bool) → one_if b ≤ 1
         at_most true = omega arith
@@ -193,7 +187,7 @@ come_none told meant old new none = record {
 
 -- part after part
 pub come_more : (told : Type 0) (m0 m1 : ℕ → Meaning) (t u : List ℕ) (k0 k1 k2 : Known) → AllWent k0 k1 → AllWent k1 k2 → k1.groups.names ≡ k0.groups.names
-    → (told → (n : ℕ) → 1 ≤ times n u → marks_of (m1 n) ≡ marks_of (m0 n)) → Come told m0 t k0 k1 → Come told m1 u k1 k2 → Come told m0 (t ++ u) k0 k2
+    → (told → (n : ℕ) → 1 ≤ times n u → taking_of (m1 n) ≡ taking_of (m0 n)) → Come told m0 t k0 k1 → Come told m1 u k1 k2 → Come told m0 (t ++ u) k0 k2
 come_more told m0 m1 t u k0 k1 k2 went then same_names marks p q = record { are = are; marked = marked }
   where
     long : length k1.groups.names ≡ length k0.groups.names

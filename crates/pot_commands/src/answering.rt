@@ -23,7 +23,8 @@ ghost use Rattle.pot_commands.specs.Rows.{AreReplies, IsIdle, IsPlain, IsSingle,
 ghost use Rattle.pot_commands.specs.Taking.{AreUsed, Took, asks};
 
 use crate::arriving::{Unanswered, replace_archive};
-use crate::listing::{count_groups, list_names};
+use crate::files::{fetch, list, renew, store};
+use crate::listing::count_groups;
 use crate::moving::migrate_archive;
 use crate::sharing::Shared;
 use pot_bytes::{Bytes, Name, NoMemory};
@@ -32,9 +33,7 @@ use pot_outside::{Archive, Room};
 use pot_pads::PadStream;
 use pot_script::{Command, Reply};
 use pot_shared::{Caller, Passes};
-use pot_store::{
-    FetchFault, RenewFileFault, StoreFault, Stored, fetch_file, renew_file, store_file,
-};
+use pot_store::{FetchFault, RenewFileFault, StoreFault, Stored};
 use std::sync::Wait;
 
 /// The first of the numbers whose streams new splits are drawn from: the job's number is added.
@@ -218,21 +217,21 @@ pub(crate) fn answer_one<A: Archive, X: Wait>(
     match command {
         Command::Store { name, file } => {
             let pads = PadStream::new(seed, session, job);
-            let stored = store_file(&caller, passes, name, file.as_slice(), pads);
+            let stored = store(&caller, passes, name, file.as_slice(), pads);
             store_reply(name, stored)
         }
         Command::Fetch { name } => {
             let mut pads = PadStream::new(seed, session, job);
-            let fetched = fetch_file(&caller, passes, name, &mut pads);
+            let fetched = fetch(&caller, passes, name, &mut pads);
             fetch_reply(name, fetched)
         }
         Command::Renew { name, geometry } => {
             let mut blinds = PadStream::new(seed, session, job);
             let pads = PadStream::new(seed, session, RENEWING + job);
-            let renewed = renew_file(&caller, passes, name, geometry, &mut blinds, pads);
+            let renewed = renew(&caller, passes, name, geometry, &mut blinds, pads);
             renew_reply(name, renewed)
         }
-        Command::List => list_names(shared, passes, job),
+        Command::List => list(&caller, passes),
         Command::Scrub { group } => {
             let scrubbed = scrub_group(rt, vault, passes, *group, job);
             Ok(scrub_reply(*group, scrubbed))

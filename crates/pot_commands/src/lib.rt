@@ -18,6 +18,7 @@ mod answering;
 mod arriving;
 mod batching;
 mod beginning;
+mod files;
 mod laws;
 mod line_job;
 mod listing;

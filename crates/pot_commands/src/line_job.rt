@@ -20,9 +20,8 @@ use pot_bytes::NoMemory;
 use pot_mend::migrate;
 use pot_outside::Archive;
 use pot_script::{Command, Reply};
-use pot_shared::{Passes, Vault};
+use pot_shared::{Caller, Passes, Session};
 use pot_work::Job;
-use std::alloc::Global;
 use std::marker::Model;
 use std::mem::replace;
 use std::sync::Wait;
@@ -31,30 +30,27 @@ use std::sync::Wait;
 /// yet can be: its type keeps that.
 #[derive(Drop)]
 pub struct LineJob<'a, A: Archive, R> {
-    rt: &'a R,
-    alloc: Global,
-    vault: &'a Vault<A>,
-    passes: Passes<A>,
+    session: Session<'a, A, R>,
     seed: &'a [u8; 32],
-    session: u32,
-    job: u32,
+    number: u32,
     line: &'a Command,
     task: Task,
     answer: Option<Result<Reply, NoMemory>>,
 }
 
 impl<'a, A: Archive, R> Model for LineJob<'a, A, R> {
+    ghost use Rattle.pot_shared.specs.Sessions.{bound, job_of, knows};
     ghost use Rattle.pot_commands.specs.Sharing.{common};
     ghost use Rattle.pot_commands.specs.Jobs.{JobView, CanWork, job_view};
 
     ghost Value = { JobView };
 
-    ghost view = { λ j. job_view (common j.vault.now j.seed.now j.session)
-        j.passes j.job j.line.now j.task j.answer };
+    ghost view = { λ j. job_view (common (bound j.session).vault j.seed.now j.number)
+        (knows j.session) (job_of j.session) j.line.now j.task j.answer };
 
     ghost invariant = { λ j. CanWork
-        (job_view (common j.vault.now j.seed.now j.session)
-        j.passes j.job j.line.now j.task j.answer) };
+        (job_view (common (bound j.session).vault j.seed.now j.number)
+        (knows j.session) (job_of j.session) j.line.now j.task j.answer) };
 }
 
 impl<'a, A: Archive, R: Wait> Job for LineJob<'a, A, R> {
@@ -67,14 +63,21 @@ impl<'a, A: Archive, R: Wait> Job for LineJob<'a, A, R> {
 
     fn work(&mut self) {
         let task = replace(&mut self.task, Task::Line);
+        let session = &mut self.session;
+        let Caller {
+            rt,
+            alloc,
+            vault,
+            job,
+        } = session.caller();
         let shared = Shared {
-            rt: self.rt,
-            alloc: self.alloc,
-            vault: self.vault,
+            rt,
+            alloc,
+            vault,
             seed: self.seed,
-            session: self.session,
+            session: self.number,
         };
-        let answer = answer_task(&shared, &mut self.passes, self.job, self.line, task);
+        let answer = answer_task(&shared, &mut session.passes, job, self.line, task);
         self.answer = Some(answer);
     }
 }
@@ -132,12 +135,12 @@ impl<'a, A: Archive, R> LineJob<'a, A, R> {
         ensures answer { result ≡ self.entry.answer }
     {
         let LineJob {
-            vault,
-            passes: its,
+            session,
             answer,
             ..
         } = self;
-        vault.join(passes, its);
+        let vault = session.caller().vault;
+        vault.join(passes, session.end());
         answer
     }
 }
@@ -169,13 +172,9 @@ pub(crate) fn give_line<'a, A: Archive, X>(
 {
     match shared.vault.split(shared.alloc, passes, 2) {
         Ok(given) => Ok(LineJob {
-            rt: shared.rt,
-            alloc: shared.alloc,
-            vault: shared.vault,
-            passes: given,
+            session: Session::new(shared.rt, shared.alloc, shared.vault, given, job),
             seed: shared.seed,
-            session: shared.session,
-            job,
+            number: shared.session,
             line,
             task,
             answer: None,

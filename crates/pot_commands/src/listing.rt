@@ -4,6 +4,7 @@ ghost use Rattle.pot_replies.specs.Settings.{Setting};
 ghost use Rattle.pot_replies.specs.Sections.{mine, IsSilent};
 ghost use Rattle.pot_shared.specs.Works.{JobWorked, JobAlone, IsSettingOf, section_of};
 ghost use Rattle.pot_shared.specs.Callers.{CanCall};
+ghost use Rattle.pot_shared.specs.Sessions.{Judges, Worked, knows};
 ghost use Rattle.pot_commands.specs.Rows.{IsListReply, AreStatusReplies};
 ghost use Rattle.pot_commands.specs.Counting.{CountsLine};
 
@@ -13,7 +14,7 @@ use pot_group::LogFull;
 use pot_index::ListFault;
 use pot_outside::Archive;
 use pot_script::{NameList, Reply};
-use pot_shared::Passes;
+use pot_shared::{Passes, Session};
 use std::sync::Wait;
 
 /// Answers the published names.
@@ -21,20 +22,14 @@ use std::sync::Wait;
 /// # Errors
 /// `NoMemory`; nothing was logged then.
 pub(crate) fn list_names<A: Archive, X: Wait>(
-    shared: &Shared<'_, A, X>,
-    passes: &mut Passes<A>,
-    job: u32,
+    session: &mut Session<'_, A, X>,
 ) -> Result<Reply, NoMemory>
-    requires can { CanCall shared.now.vault.now passes.old }
-    ensures can { CanCall shared.now.vault.now passes.new }
-    ensures groups { passes.new.groups ≡ passes.old.groups }
-    ensures worked { JobWorked job passes.old passes.new }
-    ensures says { let old = passes.old in let new = passes.new in
-        JobAlone job old new → (s : Setting) → IsSettingOf s shared.now.vault.now.rack old
-        → MatchResult result (λ reply. IsListReply s job reply (section_of old new))
-        (λ e. IsSilent (mine job (section_of old new))) }
+    ensures groups { (knows session.new).groups ≡ (knows session.old).groups }
+    ensures worked { Worked session.old session.new }
+    ensures says { Judges (λ b s w. MatchResult result (λ reply. IsListReply s b.job reply w)
+        (λ e. IsSilent (mine b.job w))) session.old session.new }
 {
-    match shared.vault.names(shared.rt, shared.alloc, passes, job) {
+    match session.names() {
         Ok(names) => Ok(Reply::Names {
             names: NameList::from_vec(names),
         }),

@@ -53,7 +53,10 @@ fn store<R: Wait>(
         job,
     };
     let pads = PadStream::new(&[7; 32], 1, job);
-    store_file(&caller, passes, name, b"hello", pads)
+    let mut session = caller.session(passes);
+    let stored = store_file(&mut session, name, b"hello", pads);
+    *passes = session.end();
+    stored
 }
 
 /// Fetches a file.
@@ -83,7 +86,10 @@ fn fetch<R: Wait>(
         job,
     };
     let mut pads = PadStream::new(&[7; 32], 1, job);
-    fetch_file(&caller, passes, name, &mut pads)
+    let mut session = caller.session(passes);
+    let fetched = fetch_file(&mut session, name, &mut pads);
+    *passes = session.end();
+    fetched
 }
 
 /// What a session's index logged in which the one passes stored `a`, the others, split off before, fetched it, and `b` then found no

@@ -35,6 +35,7 @@ use Rattle.pot_steps.specs.Calls.{FinishMeans}
 use Rattle.pot_steps.specs.declared.rebuilding.Finished.TheVariants as finished
 use Rattle.pot_group.specs.declared.relaying.AdvanceFault.{AdvanceFault}
 use Rattle.pot_group.specs.declared.relaying.AdvanceFault.TheVariants as failed
+use Rattle.pot_group.proofs.Hearing.{heard_fold}
 use Rattle.pot_group.proofs.RelayExits.{hop_step, missing, quiet_act, unwritten, writes_back, untouched}
 
 module _ (told : Type 0) (g : GroupView) (now : Shelves) (job : ℕ) (f : Flight) (c : ℕ) (settled : IsSettled told g) (room : length g.log < log_bound)
@@ -152,13 +153,13 @@ module _ {A : Type 0} (told : Type 0) (meaning : A → Meaning) (old : GroupPart
         let m : (digest_in (slot_at old.table f.relay.stripe c) ≡ Some (digest_of (unfolded (weight_in old.table.data_columns f.relay c) f.sum sum))) × (new ≡ acted (with_archives old b) (Hop job f.relay.stripe c) sum) =
         at_next (λ c. (digest_in (slot_at old.table f.relay.stripe c) ≡ Some (digest_of (unfolded (weight_in old.table.data_columns f.relay c) f.sum sum))) × (new ≡ acted (with_archives old b) (Hop job f.relay.stripe c) sum)) (next_column old.table f.relay) c next means in
         subst (λ (w : GroupParts A). AdvanceStep job f.relay.stripe Hopped (state_of (view old)) (state_of (view w))) (sym m.1)
-        (hop_step told (view old) (plain meaning b) job f.relay.stripe c f sum settled room here next within folds.keeps folds.loses folds.tells live m.0 folds.hears folds.silent t)
+        (hop_step told (view old) (plain meaning b) job f.relay.stripe c f sum settled room here next within folds.keeps folds.loses folds.history (λ t. heard_fold old.table old.flights f f.relay.stripe c (Ok Held) (plain meaning old.shelves) (plain meaning b) here next (folds.hears t) (folds.silent t)) folds.tells live m.0 folds.hears folds.silent t)
     over_exit advanced.Ended new means folds t =
         let m : (digest_in (slot_at old.table f.relay.stripe c) ≢ Some (digest_of (unfolded (weight_in old.table.data_columns f.relay c) f.sum sum))) × (new ≡ acted (with_archives old b) (GaveUp job f.relay.stripe f.relay.target c) []) =
         at_next (λ c. (digest_in (slot_at old.table f.relay.stripe c) ≢ Some (digest_of (unfolded (weight_in old.table.data_columns f.relay c) f.sum sum))) × (new ≡ acted (with_archives old b) (GaveUp job f.relay.stripe f.relay.target c) [])) (next_column old.table f.relay) c next means in
         subst (λ (w : GroupParts A). AdvanceStep job f.relay.stripe Ended (state_of (view old)) (state_of (view w))) (sym m.1)
         (ended_step told (view old) (plain meaning b) job f c settled room here next within folds.loses t
-        (missing told (view old) (plain meaning b) job f.relay.stripe c f sum settled room here next within folds.keeps folds.loses folds.tells live m.0 t) (inl (live, folds.hears t, folds.silent t)))
+        (missing told (view old) (plain meaning b) job f.relay.stripe c f sum settled room here next within folds.keeps folds.loses folds.history (λ t. heard_fold old.table old.flights f f.relay.stripe c (Ok Held) (plain meaning old.shelves) (plain meaning b) here next (folds.hears t) (folds.silent t)) folds.tells live m.0 t) (inl (live, folds.hears t, folds.silent t)))
 
     pub failed_exit : (new : GroupParts A) (e : Failed) → new ≡ noted (with_archives old b) (Fault job f.relay.stripe c) → Folded (Err e) → told → AdvanceStep job f.relay.stripe (Faulted c) (state_of (view old)) (state_of (view new))
     failed_exit new e is folds t = subst (λ (w : GroupParts A). AdvanceStep job f.relay.stripe (Faulted c) (state_of (view old)) (state_of (view w))) (sym is)
@@ -201,7 +202,7 @@ module _ (told : Type 0) (g : GroupView) (job : ℕ) (f : Flight) (settled : IsS
       (subst (λ log. IsSettled told (record g { table = after g.table (Oddly job f.relay.stripe f.relay.target found); log = log; flights = fs })) (sym (el ∙ ap (λ e. g.log ++ e ∷ []) m.0))
       (subst (λ fs. IsSettled told (record g { table = after g.table (Oddly job f.relay.stripe f.relay.target found); log = g.log ++ Oddly job f.relay.stripe f.relay.target found ∷ []; flights = fs })) (sym ef)
       (quiet_act told g (Oddly job f.relay.stripe f.relay.target found) [] settled (odd_legal found (λ q. m.3 (same_digest wanted found (sym m.4 ∙ q)))) room refl (λ k. refl) (λ t n k b ln lk l h. h) (λ k. refl)
-      (λ k c lc says. (let whole = sym says.1 ∙ ap is_broken (odd_found t e wanted found m k) in absurd (cc whole))))))
+      (λ k c lc says. (let whole = sym says.1 ∙ ap is_broken (odd_found t e wanted found m k) in absurd (cc whole))) (λ t. tt))))
 
   pub odd_step : (e : Entry) (wanted found : Digest) (t : Table) (log : List Entry) (fs : List Flight) → FinishMeans job (finished.Odd wanted found e) g.table t f → log ≡ g.log ++ e ∷ [] → fs ≡ without_flight g.flights f.relay.stripe
       → told → AdvanceStep job f.relay.stripe (Odd wanted found) (state_of g) (state_of (record g { table = t; log = log; flights = fs }))

@@ -44,7 +44,7 @@ module _ {A : Type 0} (told : Type 0) (meaning : A → Meaning) (old : GroupPart
   on_way P p = subst (λ o. IsSomeAnd o (λ g. IsSomeAnd (next_column old.table g.relay) (P g))) (sym here) (subst (λ o. IsSomeAnd o (P f)) (sym next) p)
 
   acts : (b : Shelved A) (e : Entry) (given : List ℕ) → Legal old.table e → Acts e given (view_of meaning old) (view_of meaning (acted (with_archives old b) e given))
-  acts b e given legal = record { number = refl; first = refl; legal = legal; table = refl; log = refl; flights = refl }
+  acts b e given legal = record { number = refl; first = refl; legal = legal; table = refl; log = refl; flights = refl; blinds = refl }
 
   left : Legal old.table (GaveUp job f.relay.stripe f.relay.target c)
   left = gave_up told (view_of meaning old) (view_of meaning old).shelves job f c settled room here next within (λ t. loses_refl (view_of meaning old).shelves)
@@ -164,6 +164,7 @@ module _ (told : Type 0) (g : GroupView) (job : ℕ) (f : Flight) (settled : IsS
             table = m.1 ∙ ap (after g.table) m.0;
             log = el ∙ ap (λ e. g.log ++ e ∷ []) m.0;
             flights = ef;
+            blinds = refl;
           },
         );
     keeps = keeps_refl g.shelves;

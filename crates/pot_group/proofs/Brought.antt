@@ -14,6 +14,8 @@ use Rattle.pot_group.specs.Causes.{Covers, HasLost, risen, archives_of, faults_i
 use Rattle.pot_group.specs.Group.{GroupView, IsSettled, LostSince}
 use Rattle.pot_group.proofs.CauseLemmas.{WhereMissed-mono}
 use Rattle.pot_group.proofs.Reading.{served}
+use Rattle.pot_group.proofs.Framing.{framed_brings}
+use Rattle.pot_group.proofs.Hearing.{heard_brings}
 use Rattle.pot_group.proofs.Settled.{stands_in}
 
 -- WHAT A GROUP KEEPS
@@ -58,6 +60,9 @@ module _ (told : Type 0) (g : GroupView) (number : ℕ) (meant : Meaning) (s : S
 
   pub settled_brings : IsSettled told (record g { shelves = s })
   settled_brings = record {
+    blinds = settled.blinds;
+    heard = (λ t. heard_brings told g.first g.log g.blinds g.flights number meant g.shelves s b (settled.heard t));
+    frame = (λ t. framed_brings told g.first g.log number meant g.shelves s b (settled.frame t));
     replay = settled.replay;
     table = settled.table;
     relays = settled.relays;

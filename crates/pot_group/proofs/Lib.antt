@@ -1,4 +1,6 @@
 pub mod CauseLemmas
+pub mod Framing
+pub mod Hearing
 pub mod Counted
 pub mod Settled
 pub mod Reading

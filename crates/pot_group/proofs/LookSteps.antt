@@ -29,7 +29,7 @@ module _ (told : Type 0) (g mid : GroupView) (job : ℕ) (place : Place) (into :
   after_look e = record g { table = after g.table e; log = g.log ++ e ∷ []; shelves = mid.shelves }
 
   logs_one : (e : Entry) → Legal g.table e → Logs (e ∷ []) g (after_look e)
-  logs_one e legal = record { number = refl; first = refl; log = refl; flights = refl; replay = (legal, refl) }
+  logs_one e legal = record { number = refl; first = refl; log = refl; flights = refl; blinds = refl; replay = (legal, refl) }
 
   not_full : {X : Type 0} → length g.log ≡ log_bound → X
   not_full e = absurd (omega (arith, e, room))
@@ -73,7 +73,7 @@ full_made told g job place into full = (
   [],
   grows_same g g refl,
   record {
-    logs = record { number = refl; first = refl; log = sym (append-nil g.log); flights = refl; replay = refl };
+    logs = record { number = refl; first = refl; log = sym (append-nil g.log); flights = refl; blinds = refl; replay = refl };
     entries_are = refl;
     full = (λ q. full, λ q. refl);
     cause = refl;

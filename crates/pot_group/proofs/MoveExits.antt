@@ -1,5 +1,5 @@
 -- The exits of the calls that bring an archive and move a column, over plain data.
-use Rattle.std.proofs.Common.{◌≡◌, ◌≢◌, inl, inr, ℕ, ◌+◌, ◌<◌, ◌≤◌, ◌++◌, ◌==◌, ◌||◌, List, [], ◌∷◌, Option, Some, IfSome, Bool, true, false, IsTrue, length, refl, sym, ap, ◌∙◌, subst, arith, nat_lt, if◌then◌else◌}
+use Rattle.std.proofs.Common.{◌≡◌, ◌≢◌, inl, inr, ℕ, ◌+◌, ◌<◌, ◌≤◌, ◌++◌, ◌==◌, ◌||◌, List, [], ◌∷◌, Option, Some, IfSome, IsSomeAnd, Bool, true, false, IsTrue, length, refl, sym, ap, ◌∙◌, subst, arith, nat_lt, if◌then◌else◌}
 use Rattle.std.specs.Prelude.{Contains, Ok, Err, nat_eq}
 use Rattle.pot_outside.specs.declared.faults.Failed.{Failed}
 use Rattle.std.proofs.lemmas.Bool.Decides.{nat_tests}
@@ -9,7 +9,9 @@ use Rattle.pot_machine.specs.declared.column.Moving.{Moving}
 use Rattle.pot_machine.specs.declared.entry.Entry.{Entry}
 use Rattle.pot_machine.specs.declared.entry.Entry.TheVariants.{Fault, MoveBegin, Moved, MoveEnd, Swapped}
 use Rattle.pot_machine.specs.Column.{names, names_moved, serving, serving_moved}
-use Rattle.pot_machine.specs.Table.{width, column_at, serving_at}
+use Rattle.pot_machine.specs.Slot.{digest_in}
+use Rattle.pot_machine.specs.Table.{width, slot_at, column_at, serving_at}
+use Rattle.pot_bytes.specs.Digests.{digest_of}
 use Rattle.pot_machine.specs.Machine.{Legal, after, moved_on}
 use Rattle.pot_machine.proofs.Columns.{column_same, names_serving}
 use Rattle.pot_steps.specs.Stripe.{Sound, IsSound}
@@ -21,6 +23,8 @@ use Rattle.pot_group.specs.Group.{GroupView, IsSettled}
 use Rattle.pot_group.proofs.CauseLemmas.{archives_of-snoc, covers-one, covers-stays}
 use Rattle.pot_group.proofs.ColumnExits.{archives-more, move_begins, moves_copied, moves_passed, move_ends, swaps}
 use Rattle.pot_shelves.proofs.ShelfLemmas.{keeps_refl, loses_refl, put_at-here, put_at-other}
+use Rattle.pot_group.specs.Heard.{Gives, blinds_after}
+use Rattle.pot_group.proofs.Framing.{frames_still, frames_write}
 use Rattle.pot_group.proofs.Settled.{LeavesColumns, settled_act, same_columns, one_fault, gone_lost, no_fault}
 
 -- what is covered by some archives is covered by more
@@ -38,34 +42,36 @@ covers-more told g e s c columns zs eq (inr le) = no_fault s (archives_of g.firs
 module _ (told : Type 0) (g : GroupView) (e : Entry) (settled : IsSettled told g) (legal : Legal g.table e) (room : length g.log < log_bound) (columns : LeavesColumns told g e g.shelves) where
   pub column_act : (told → Acts g.table g.flights [] e g.shelves.held g.shelves.held) → ((c : ℕ) → fault_of g.first.data_columns c e ≡ 0)
       → (told → (c : ℕ) → c < width g.first → Misses g.table e c → HasLost g.shelves (archives_of g.first g.log c))
-      → IsSettled told (record g { table = after g.table e; log = g.log ++ e ∷ []; flights = flights_after g.table e [] g.flights })
-  column_act acts none missed = settled_act told g e [] g.shelves (λ t. g.shelves.held) settled legal room (keeps_refl g.shelves) columns (λ t. loses_refl g.shelves) acts (λ t puts n c b ln lc live q. q)
+      → (told → Gives g.table g.flights e [])
+      → IsSettled told (record g { table = after g.table e; log = g.log ++ e ∷ []; flights = flights_after g.table e [] g.flights; blinds = blinds_after e [] g.blinds })
+  column_act acts none missed gives = settled_act told g e [] g.shelves (λ t. g.shelves.held) settled legal room (keeps_refl g.shelves) columns (λ t. loses_refl g.shelves) acts (λ t puts n c b ln lc live q. q)
       (λ c lc. subst (λ n. Covers g.shelves (archives_of g.first (g.log ++ e ∷ []) c) (faults_in g.first.data_columns c g.log + n)) (sym (none c))
       (covers-more told g e g.shelves c columns _ (archives-more g.first g.log c e) (settled.causes.faults c lc)))
       (λ t c lc m. (let h : HasLost g.shelves (archives_of g.first g.log c) = missed t c lc m in (h.0, columns.archives c h.0 h.1, h.2)))
+      (λ t. frames_still g.table e g.shelves) (λ t n. refl) gives
 
 module _ (told : Type 0) (g : GroupView) (job c : ℕ) (settled : IsSettled told g) (room : length g.log < log_bound) where
   -- an archive has come, and the column begins to move to it, or has it as its home
   pub move_begin_settled : (to : ℕ) → Legal g.table (MoveBegin job c to) → Contains g.shelves.numbers to
       → IsSettled told (record g { table = after g.table (MoveBegin job c to); log = g.log ++ MoveBegin job c to ∷ [] })
   move_begin_settled to legal has = column_act told g (MoveBegin job c to) settled legal room (move_begins told g g.shelves settled (keeps_refl g.shelves) job c to legal has)
-      (λ t n k b ln lk live h. h) (λ k. refl) (λ t k lk m. absurd m)
+      (λ t n k b ln lk live h. h) (λ k. refl) (λ t k lk m. absurd m) (λ t. tt)
 
   pub swap_settled : (to : ℕ) → Legal g.table (Swapped job c to) → Contains g.shelves.numbers to
       → IsSettled told (record g { table = after g.table (Swapped job c to); log = g.log ++ Swapped job c to ∷ [] })
   swap_settled to legal has = column_act told g (Swapped job c to) settled legal room (swaps told g g.shelves settled (keeps_refl g.shelves) job c to legal has)
-      (λ t n k b ln lk live h. h) (λ k. refl) (λ t k lk m. absurd m)
+      (λ t n k b ln lk live h. h) (λ k. refl) (λ t k lk m. absurd m) (λ t. tt)
 
   pub move_end_settled : Legal g.table (MoveEnd job c) → IsSettled told (record g { table = after g.table (MoveEnd job c); log = g.log ++ MoveEnd job c ∷ [] })
   move_end_settled legal = column_act told g (MoveEnd job c) settled legal room (move_ends told g g.shelves settled (keeps_refl g.shelves) job c legal)
-      (λ t n k b ln lk live h. h) (λ k. refl) (λ t k lk m. absurd m)
+      (λ t n k b ln lk live h. h) (λ k. refl) (λ t k lk m. absurd m) (λ t. tt)
 
   -- a stripe is passed, where the slot has no block of its digest
   pub passed_settled : (s : ℕ) → Legal g.table (Moved job s c false) → (told → Sound (stripe_of g.table g.shelves.held s) c → ⊥)
       → IsSettled told (record g { table = after g.table (Moved job s c false); log = g.log ++ Moved job s c false ∷ [] })
   passed_settled s legal missing = column_act told g (Moved job s c false) settled legal room (moves_passed told g g.shelves settled (keeps_refl g.shelves) job c s legal)
       (λ t n k b ln lk live h. h) (λ k. refl)
-      (λ t k lk m. subst (λ x. HasLost g.shelves (archives_of g.first g.log x)) m.1 (gone_lost told g settled t s c legal.1 legal.0.0 m.2 (missing t)))
+      (λ t k lk m. subst (λ x. HasLost g.shelves (archives_of g.first g.log x)) m.1 (gone_lost told g settled t s c legal.1 legal.0.0 m.2 (missing t))) (λ t. tt)
 
 -- A COPY
 
@@ -117,8 +123,12 @@ module _ (told : Type 0) (g : GroupView) (s c : ℕ) (m : Moving) (settled : IsS
     | inr ne ↦ inr ne
   ])
 
+  -- a block that is sound has the slot's digest
+  fits : {block : List ℕ} → IsSound (stripe_of g.table g.shelves.held s) c block → digest_in (slot_at g.table s c) ≡ Some (digest_of block)
+  fits x = ap digest_in x.live ∙ ap Some (sym x.right)
+
   -- The write to the target failed.
-  module _ (now : Shelves) (job : ℕ) (block : List ℕ) (room : length g.log < log_bound) (stripe : s < g.table.stripes) (e : Failed) (w : WritesAt told m.to s block (Err e) g.shelves now) where
+  module _ (now : Shelves) (job : ℕ) (block : List ℕ) (room : length g.log < log_bound) (stripe : s < g.table.stripes) (sound : told → IsSound (stripe_of g.table g.shelves.held s) c block) (e : Failed) (w : WritesAt told m.to s block (Err e) g.shelves now) where
     pub uncopied_settled : IsSettled told (record g { table = after g.table (Fault job s c); log = g.log ++ Fault job s c ∷ []; shelves = now })
     uncopied_settled = settled_act told g (Fault job s c) [] now (λ t. put_at g.shelves.held m.to s (w.wrote t).0) settled (stripe, column) room w.keeps
         (same_columns told g (Fault job s c) now settled w.keeps refl (λ k. refl)) (λ t. (w.wrote t).2)
@@ -130,6 +140,8 @@ module _ (told : Type 0) (g : GroupView) (s c : ℕ) (m : Moving) (settled : IsS
         (covers-one g.shelves now (archives_of g.first g.log c) (faults_in g.first.data_columns c g.log) m.to w.keeps.later w.keeps.faults_taken
         (settled.causes.faults c (omega (arith, column, settled.sizes.0, settled.sizes.1))) (settled.serves c m.to column target_named) (settled.faults m.to) (w.cause refl))))
         (λ t k lk x. absurd x)
+        (λ t. frames_write told g.table (Fault job s c) m.to s block (Err e) g.shelves now t w
+        (refl, target_named, inr (fits (sound t))) (w.wrote t).0 false (w.wrote t).1) w.heard (λ t. tt)
 
   -- The block that the home held was written to the target.
   module _ (now : Shelves) (job : ℕ) (block : List ℕ) (room : length g.log < log_bound)
@@ -152,6 +164,8 @@ module _ (told : Type 0) (g : GroupView) (s c : ℕ) (m : Moving) (settled : IsS
         (λ k lk. covers-more told g (Moved job s c true) now k columns _ (archives-more g.first g.log k (Moved job s c true))
         (covers-stays g.shelves now (archives_of g.first g.log k) (faults_in g.first.data_columns k g.log) w.keeps.later w.keeps.faults_taken (settled.causes.faults k lk)))
         (λ t k lk x. absurd (clash x.0))
+        (λ t. frames_write told g.table (Moved job s c true) m.to s block (Ok (tt)) g.shelves now t w
+        (refl, refl, subst (λ o. IsSomeAnd o (λ x. m.to ≡ x.to)) (sym moving) refl, fits (sound t)) (Some block) true refl) w.heard (λ t. tt)
       where
         columns : LeavesColumns told g (Moved job s c true) now
         columns = moves_copied told g now settled w.keeps job c s legal

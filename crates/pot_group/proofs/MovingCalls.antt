@@ -64,7 +64,7 @@ module _ {A : Type 0} (told : Type 0) (meaning : A → Meaning) (old mid new : G
   came_by e legal acts written = record {
     room = room;
     fresh = fresh;
-    acts = record { number = refl; first = refl; legal = legal; table = refl; log = refl; flights = refl };
+    acts = record { number = refl; first = refl; legal = legal; table = refl; log = refl; flights = refl; blinds = refl };
     brings = brings;
     steps = λ t. record {
       logs = record {

@@ -27,6 +27,7 @@ use Rattle.pot_group.specs.Group.{GroupParts, GroupView, IsSettled, LostSince, R
 use Rattle.pot_group.specs.Beginning.{Begins, unopened}
 use Rattle.pot_shelves.proofs.OpeningCauses.{gone_rose}
 use Rattle.pot_shelves.proofs.ShelfLemmas.{lost_rose}
+use Rattle.pot_group.proofs.Hearing.{heard_opened, begins_opening}
 use Rattle.pot_group.proofs.CauseLemmas.{OfOpening, opening_entries, faults_in-opening, WhereMissed-opening, archives_of-opening}
 
 -- THE ARCHIVES OF A TABLE
@@ -93,7 +94,7 @@ module _ {A : Type 0} (told : Type 0) (meaning : A → Meaning) (number : ℕ) (
   now = plain meaning (record b { opened = marks })
 
   abbrev group : GroupParts A
-  group = record { number = number; first = t; table = u; log = log; flights = []; shelves = record b { opened = marks } }
+  group = record { number = number; first = t; table = u; log = log; flights = []; blinds = []; shelves = record b { opened = marks } }
 
   abbrev view : GroupParts A → GroupView
   view g = view_of meaning g
@@ -146,6 +147,12 @@ module _ {A : Type 0} (told : Type 0) (meaning : A → Meaning) (number : ℕ) (
 
   pub opened_settled : IsSettled told (view group)
   opened_settled = record {
+    blinds = sym (begins_opening log all);
+    heard = (λ k. heard_opened t log now all (λ n. o.stays.heard k n ∙ sym (ap (λ (y : Meaning). y.heard) (o.stays.keeps.taken n ∙ taken.meant n))));
+    frame = (λ k. record {
+      held = (λ n m x h. inl (ap (λ (y : Meaning). y.held m) (o.stays.keeps.taken n ∙ taken.meant n) ∙ (o.stays.loses k n).keeps m x h));
+      history = (λ n x h. inl (subst (λ (y : Meaning). Contains y.history x) (sym (o.stays.keeps.taken n ∙ taken.meant n)) (subst (λ l. Contains l x) (o.stays.history k n) h)));
+    });
     replay = o.replay;
     table = rules_stay t u log table o.replay;
     relays = sym (ap (λ (x : Table). x.relays) is_shape ∙ relays);
@@ -181,6 +188,7 @@ module _ {A : Type 0} (told : Type 0) (meaning : A → Meaning) (number : ℕ) (
     marks = taken;
     is_number = refl;
     first = refl;
+    blinds = refl;
     read = b;
     opens = o;
     marked = refl;
@@ -196,7 +204,7 @@ module _ {A : Type 0} (told : Type 0) (meaning : A → Meaning) (number : ℕ) (
     (o : Opens told t.stripes t u log (plain meaning a) (plain meaning b)) (bound : length log ≤ log_bound)
     (same : after ≡ record b { opened = after.opened }) (opened : IsOpenedNow told (plain meaning after)) where
   abbrev over : Shelved A → GroupParts A
-  over s = record { number = number; first = t; table = u; log = log; flights = []; shelves = s }
+  over s = record { number = number; first = t; table = u; log = log; flights = []; blinds = []; shelves = s }
 
   now_opened : IsOpenedNow told (plain meaning (record b { opened = after.opened }))
   now_opened = subst (λ s. IsOpenedNow told (plain meaning s)) same opened

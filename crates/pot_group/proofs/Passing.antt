@@ -83,7 +83,7 @@ module _ (told : Type 0) (job s c : ℕ) (v : GroupView) (rules : IsTable v.tabl
           means = (
             Some c,
             found,
-            subst (λ n. Logs (entry.Gone job n c ∷ []) v (entered v (entry.Gone job s c))) at.0 (record { number = refl; first = refl; log = refl; flights = refl; replay = ((at.1, within), refl) }),
+            subst (λ n. Logs (entry.Gone job n c ∷ []) v (entered v (entry.Gone job s c))) at.0 (record { number = refl; first = refl; log = refl; flights = refl; blinds = refl; replay = ((at.1, within), refl) }),
             sym (ap (λ x. length x.log) e) ∙ full,
             subst (λ n. n < v.table.stripes) at.0 at.1,
           );
@@ -101,6 +101,7 @@ module _ (told : Type 0) (job s c : ℕ) (v : GroupView) (rules : IsTable v.tabl
               number = refl;
               first = refl;
               flights = refl;
+              blinds = refl;
               log = append_assoc v.log (entry.Gone job s c ∷ []) (entry.Skip job s ∷ []);
               replay = ((at.1, within), (skip_legal, refl));
             }),
@@ -108,7 +109,7 @@ module _ (told : Type 0) (job s c : ℕ) (v : GroupView) (rules : IsTable v.tabl
         })
 
 logs_from : (entries : List Entry) (old : GroupView) (s : Shelves) (new : GroupView) → Logs entries (record old { shelves = s }) new → Logs entries old new
-logs_from entries old s new l = record { number = l.number; first = l.first; log = l.log; flights = l.flights; replay = l.replay }
+logs_from entries old s new l = record { number = l.number; first = l.first; log = l.log; flights = l.flights; blinds = l.blinds; replay = l.replay }
 
 -- what was sound after a loss was sound before it
 pub sound_before : (t : Table) (a b : Shelves) (n k : ℕ) → LosesByCount a.held a b → Sound (stripe_of t b.held n) k → Sound (stripe_of t a.held n) k
@@ -149,6 +150,7 @@ logs_then before more a b c p q = record {
   first = q.first ∙ p.first;
   log = q.log ∙ ap (λ l. l ++ more) p.log ∙ append_assoc a.log before more;
   flights = q.flights ∙ p.flights;
+  blinds = q.blinds ∙ p.blinds;
   replay = replays_append a.table before b.table more c.table p.replay q.replay;
 }
 
@@ -288,7 +290,7 @@ module _ (told : Type 0) (job : ℕ) (passed : List Passed) (p q : List ℕ) (ol
 -- no stripe was passed
 pub passes_none : (told : Type 0) (job : ℕ) (v : GroupView) → PassesAll told job [] v v
 passes_none told job v = record {
-  logs = record { number = refl; first = refl; log = sym (append-nil v.log); flights = refl; replay = refl };
+  logs = record { number = refl; first = refl; log = sym (append-nil v.log); flights = refl; blinds = refl; replay = refl };
   stays = stays_refl told v.shelves;
   missing = (λ t. All-nil (λ x. IfSome x.gone (λ c. IsMissing (state_of v) v.shelves.held x.stripe c)));
   gones = All-nil (λ x. FitsGone v.table x.stripe x.gone);

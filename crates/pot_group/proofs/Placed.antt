@@ -95,7 +95,7 @@ module _ (told : Type 0) (job : ℕ) (p q block : List ℕ) (old mid : GroupView
 -- at once
 module _ (job : ℕ) (block : List ℕ) (old : GroupView) (full : length old.log ≡ log_bound) where
   nothing_logged : Logs [] old old
-  nothing_logged = record { number = refl; first = refl; log = sym (append-nil old.log); flights = refl; replay = refl }
+  nothing_logged = record { number = refl; first = refl; log = sym (append-nil old.log); flights = refl; blinds = refl; replay = refl }
 
   pub at_once_made : PutMade job block (Err fault.LogFull) old old
   at_once_made = ([], nothing_logged, ([], 0, None, refl, All-nil (λ x. FitsGone old.table x.stripe x.gone), tt, full, inl full))

@@ -12,7 +12,8 @@ use Rattle.pot_machine.proofs.Columns.{serving_apart}
 use Rattle.pot_steps.specs.Holdings.{Holdings}
 use Rattle.pot_steps.specs.Entries.{held_at}
 use Rattle.pot_shelves.specs.Shelves.{Shelves, LosesByCount, WriteLeaves, WritesAt, put_at}
-use Rattle.pot_group.specs.Putting.{PutsAt, WritesAll}
+use Rattle.pot_group.specs.Putting.{IsPut, PutsAt, WritesAll}
+use Rattle.pot_group.proofs.Framing.{put_frames, remembers_frames}
 use Rattle.pot_shelves.proofs.ShelfLemmas.{keeps_then, loses_refl, write_then, put_at-here, put_at-other, rose_more}
 
 failed_of : (r : Result (Unit {0}) Failed) → is_ok r ≡ false → IsErr r
@@ -79,6 +80,16 @@ module _ (t : Table) (rules : IsTable t) (s : ℕ) where
     elsewhere : (number slot : ℕ) → (slot ≢ s) ⊎ ((k : ℕ) → k < width t → serving_at t s k ≢ number) → with_first number slot ≡ h number slot
     elsewhere number slot d = set-elsewhere with_block t.data_columns left number slot last_wide d ∙ set-elsewhere h c (Some block) number slot wide d
 
+    -- the write of P, by what its slot held before all writes
+    last_was : (kept : Bool) → WriteLeaves kept (held_at t h s t.data_columns) p left → WriteLeaves kept (held_at t with_block s t.data_columns) p left
+    last_was kept is = subst (λ o. WriteLeaves kept o p left) (sym (still t.data_columns (omega arith) last_wide)) is
+
+    frame_one : (kept : Bool) (q : List ℕ) → WriteLeaves kept (held_at t h s t.data_columns) p left → (n m : ℕ) (x : List ℕ) → with_first n m ≡ Some x → (h n m ≡ Some x) ⊎ ((m ≡ s) × IsPut t s c block p q n x)
+    frame_one kept q is n m x e = elim (put_frames with_block (serving_at t s t.data_columns) s p kept left (last_was kept is) n m x e) [
+      | inl y ↦ elim (put_frames h (serving_at t s c) s block true (Some block) refl n m x y) [ inl z ↦ inl z | inr z ↦ inr (z.1, inl (z.0, z.2)) ]
+      | inr y ↦ inr (y.1, inr (inl (y.0, y.2)))
+    ]
+
     -- one parity column
     pub puts_one : (q : List ℕ) (kept kept2 : Bool) → t.parity ≡ 1 → WriteLeaves kept (held_at t h s t.data_columns) p left → PutsAt t h with_first s c block p q kept kept2
     puts_one q kept kept2 one is = record {
@@ -87,6 +98,7 @@ module _ (t : Table) (rules : IsTable t) (s : ℕ) where
       second = (λ two. absurd (omega (arith, one, two)));
       others = (λ n k ln lk d. others n k lk d);
       elsewhere = elsewhere;
+      frame = frame_one kept q is;
     }
 
     -- two parity columns
@@ -105,6 +117,11 @@ module _ (t : Table) (rules : IsTable t) (s : ℕ) where
         second = (λ _. subst (λ x. WriteLeaves kept2 (held_at t h s (t.data_columns + 1)) q x) (sym (set-here with_first (t.data_columns + 1) left2)) is2);
         others = (λ n k ln lk d. set-other with_first (t.data_columns + 1) left2 n k second_wide lk (beside n k (t.data_columns + 1) (omega arith) d) ∙ others n k lk d);
         elsewhere = (λ number slot d. set-elsewhere with_first (t.data_columns + 1) left2 number slot second_wide d ∙ elsewhere number slot d);
+        frame = (λ n m x e. elim (put_frames with_first (serving_at t s (t.data_columns + 1)) s q kept2 left2
+            (subst (λ o. WriteLeaves kept2 o q left2) (sym (set-other with_block t.data_columns left s (t.data_columns + 1) last_wide second_wide (inr (λ e. absurd (omega (arith, e)))) ∙ still (t.data_columns + 1) (omega arith) second_wide)) is2) n m x e) [
+              | inl y ↦ frame_one kept q is n m x y
+              | inr y ↦ inr (y.1, inr (inr (two, y.0, y.2)))
+            ]);
       }
 
   -- ONE WRITE AFTER ANOTHER
@@ -131,10 +148,17 @@ module _ (t : Table) (rules : IsTable t) (s : ℕ) where
         let n : ℕ = serving_at t s t.data_columns in
         rose_later (a.faults n) (b.faults n) (d.faults n) (data_write.keeps.later n) (first_write.cause (failed_of r e))
 
+    remembers_one : (q : List ℕ) → told → (n : ℕ) (x : List ℕ) → Contains (d.history n) x → Contains (a.history n) x ⊎ IsPut t s c block p q n x
+    remembers_one q z n x h = elim (remembers_frames (serving_at t s t.data_columns) p r b d (first_write.remembers z) (first_write.forgets z) n x h) [
+      | inl y ↦ elim (remembers_frames (serving_at t s c) block (Ok u) a b (data_write.remembers z) (data_write.forgets z) n x y) [ inl w ↦ inl w | inr w ↦ inr (inl w) ]
+      | inr y ↦ inr (inr (inl y))
+    ]
+
     pub writes_one : (q : List ℕ) → t.parity ≡ 1 → WritesAll told t s c block p q (is_ok r) true a d
     writes_one q one = record {
       keeps = keeps_then a b d data_write.keeps first_write.keeps;
       heard = (λ z n. first_write.heard z n ∙ data_write.heard z n);
+      remembers = remembers_one q;
       wrote = (λ z. let x : FirstLeft = first_left z in (_, puts_one a.held c low block p x.0 q (is_ok r) true one x.1, x.2));
       first = first_fails;
       second = (λ e. absurd (cc));
@@ -145,6 +169,10 @@ module _ (t : Table) (rules : IsTable t) (s : ℕ) where
     writes_two q f r2 two w = record {
       keeps = keeps_then a d f (keeps_then a b d data_write.keeps first_write.keeps) w.keeps;
       heard = (λ z n. w.heard z n ∙ first_write.heard z n ∙ data_write.heard z n);
+      remembers = (λ z n x h. elim (remembers_frames (serving_at t s (t.data_columns + 1)) q r2 d f (w.remembers z) (w.forgets z) n x h) [
+        | inl y ↦ remembers_one q z n x y
+        | inr y ↦ inr (inr (inr (two, y.0, y.1)))
+      ]);
       wrote = (λ z.
           let x : FirstLeft = first_left z in
           let h : Holdings = set_at (set_at a.held c (Some block)) t.data_columns x.0 in

@@ -12,9 +12,9 @@ use Rattle.pot_machine.specs.declared.slot.SlotState.TheVariants.{Void, Live, Lo
 use Rattle.pot_machine.specs.declared.entry.Entry.{Entry}
 use Rattle.pot_machine.specs.declared.entry.Entry.TheVariants.{Begin, Hop, Mended, GaveUp, Fault}
 use Rattle.pot_machine.specs.Slot.{is_live, is_unsound, digest_in}
-use Rattle.pot_machine.specs.Table.{Table, width, slot_at, serving_at, relay_at, next_column}
+use Rattle.pot_machine.specs.Table.{Table, width, slot_at, column_at, serving_at, relay_at, next_column}
 use Rattle.pot_machine.specs.Machine.{Legal, after}
-use Rattle.pot_machine.proofs.Columns.{serving_apart}
+use Rattle.pot_machine.proofs.Columns.{names_serving, serving_apart}
 use Rattle.pot_steps.specs.declared.flight.Flight.{Flight}
 use Rattle.pot_bytes.specs.Lists.{IsBlock}
 use Rattle.pot_bytes.specs.Digests.{digest_of}
@@ -42,6 +42,9 @@ use Rattle.pot_group.specs.Causes.{Covers, HasLost, Misses, archives_of, faults_
 use Rattle.pot_steps.specs.Losses.{KeepsHeld}
 use Rattle.pot_group.proofs.CauseLemmas.{archives_of-snoc, covers-stays}
 use Rattle.pot_shelves.proofs.ShelfLemmas.{keeps_refl, loses_refl, put_at-here, put_at-other}
+use Rattle.pot_group.specs.Heard.{Sum, Gives, IsSumOf, blinds_after}
+use Rattle.pot_group.proofs.Framing.{frames_still, frames_write}
+use Rattle.pot_group.proofs.Hearing.{heard_fold}
 use Rattle.pot_group.proofs.Settled.{settled_act, settled_loses, same_columns, gone_lost, no_fault, one_fault}
 use Rattle.pot_group.proofs.Reading.{covers_rise, served}
 use Rattle.pot_machine.specs.Rules.{IsStanding}
@@ -57,26 +60,28 @@ unwritten Writes h number slot left here n q apart = put_at-other h number slot 
 pub quiet_act : (told : Type 0) (g : GroupView) (e : Entry) (given : List ℕ) → IsSettled told g → Legal g.table e → length g.log < log_bound
     → (after g.table e).columns ≡ g.table.columns → ((c : ℕ) → brought c e ≡ []) → (told → Acts g.table g.flights given e g.shelves.held g.shelves.held)
     → ((c : ℕ) → fault_of g.first.data_columns c e ≡ 0)
-    → (told → (c : ℕ) → c < width g.first → Misses g.table e c → HasLost g.shelves (archives_of g.first g.log c))
-    → IsSettled told (record g { table = after g.table e; log = g.log ++ e ∷ []; flights = flights_after g.table e given g.flights })
-quiet_act told g e given settled legal room same none acts no_fault_of missed =
+    → (told → (c : ℕ) → c < width g.first → Misses g.table e c → HasLost g.shelves (archives_of g.first g.log c)) → (told → Gives g.table g.flights e given)
+    → IsSettled told (record g { table = after g.table e; log = g.log ++ e ∷ []; flights = flights_after g.table e given g.flights; blinds = blinds_after e given g.blinds })
+quiet_act told g e given settled legal room same none acts no_fault_of missed gives =
     settled_act told g e given g.shelves (λ t. g.shelves.held) settled legal room (keeps_refl g.shelves) (same_columns told g e g.shelves settled (keeps_refl g.shelves) same none)
     (λ t. loses_refl g.shelves) acts (λ t puts n c b ln lc live q. q)
     (λ c lc. subst (λ ns. Covers g.shelves ns (faults_in g.first.data_columns c g.log + fault_of g.first.data_columns c e)) (sym (archives_of-snoc g.first g.log c e (none c)))
     (subst (λ n. Covers g.shelves (archives_of g.first g.log c) (faults_in g.first.data_columns c g.log + n)) (sym (no_fault_of c))
     (no_fault g.shelves (archives_of g.first g.log c) (faults_in g.first.data_columns c g.log) (settled.causes.faults c lc))))
     (λ t c lc m. subst (λ ns. HasLost g.shelves ns) (sym (archives_of-snoc g.first g.log c e (none c))) (missed t c lc m))
+    (λ t. frames_still g.table e g.shelves) (λ t n. refl) gives
 
 -- A BEGIN
 
-pub begin_exit : (told : Type 0) (g : GroupView) (job s c : ℕ) (blind : List ℕ) (t : Table) (log : List Entry) (fs : List Flight) → IsSettled told g → Legal g.table (Begin job s c) → length g.log < log_bound → IsBlock blind
-    → t ≡ after g.table (Begin job s c) → log ≡ g.log ++ Begin job s c ∷ [] → fs ≡ flights_after g.table (Begin job s c) blind g.flights
-    → IsSettled told (record g { table = t; log = log; flights = fs })
-begin_exit told g job s c blind t log fs settled legal room block et el ef =
-    subst (λ t. IsSettled told (record g { table = t; log = log; flights = fs })) (sym et)
-    (subst (λ log. IsSettled told (record g { table = after g.table (Begin job s c); log = log; flights = fs })) (sym el)
-    (subst (λ fs. IsSettled told (record g { table = after g.table (Begin job s c); log = g.log ++ Begin job s c ∷ []; flights = fs })) (sym ef)
-    (quiet_act told g (Begin job s c) blind settled legal room refl (λ k. refl) (λ t. (block, λ n k b ln lk live h. h)) (λ k. refl) (λ t k lk m. absurd m))))
+pub begin_exit : (told : Type 0) (g : GroupView) (job s c : ℕ) (blind : List ℕ) (t : Table) (log : List Entry) (fs : List Flight) (bs : List (List ℕ)) → IsSettled told g → Legal g.table (Begin job s c) → length g.log < log_bound → IsBlock blind
+    → t ≡ after g.table (Begin job s c) → log ≡ g.log ++ Begin job s c ∷ [] → fs ≡ flights_after g.table (Begin job s c) blind g.flights → bs ≡ g.blinds ++ blind ∷ []
+    → IsSettled told (record g { table = t; log = log; flights = fs; blinds = bs })
+begin_exit told g job s c blind t log fs bs settled legal room block et el ef eb =
+    subst (λ t. IsSettled told (record g { table = t; log = log; flights = fs; blinds = bs })) (sym et)
+    (subst (λ log. IsSettled told (record g { table = after g.table (Begin job s c); log = log; flights = fs; blinds = bs })) (sym el)
+    (subst (λ fs. IsSettled told (record g { table = after g.table (Begin job s c); log = g.log ++ Begin job s c ∷ []; flights = fs; blinds = bs })) (sym ef)
+    (subst (λ bs. IsSettled told (record g { table = after g.table (Begin job s c); log = g.log ++ Begin job s c ∷ []; flights = flights_after g.table (Begin job s c) blind g.flights; blinds = bs })) (sym eb)
+    (quiet_act told g (Begin job s c) blind settled legal room refl (λ k. refl) (λ t. (block, λ n k b ln lk live h. h)) (λ k. refl) (λ t k lk m. absurd m) (λ t. tt)))))
 
 -- a flight for each relay: no more flights than relays
 pub flights_few : (told : Type 0) (g : GroupView) → IsSettled told g → length g.flights ≡ length g.table.relays
@@ -114,10 +119,11 @@ module _ (told : Type 0) (g : GroupView) (now : Shelves) (job s c : ℕ) (f : Fl
   abbrev folded : GroupView
   folded = record g { shelves = now }
 
-  module _ (keeps : Keeps g.shelves now) (loses : told → LosesByCount g.shelves.held g.shelves now)
+  module _ (keeps : Keeps g.shelves now) (loses : told → LosesByCount g.shelves.held g.shelves now) (same : told → (n : ℕ) → now.history n ≡ g.shelves.history n)
+      (sums : told → (n : ℕ) (x : Sum) → Contains (now.heard n) x → Contains (g.shelves.heard n) x ⊎ IsSumOf g.table g.flights n x)
       (tells : told → FoldTells (now.held (serving_at g.table s c)) s (weight_in g.table.data_columns f.relay c) f.sum sum (Ok Held)) where
     pub fold_settled : IsSettled told (record g { shelves = now })
-    fold_settled = settled_loses told g now settled keeps loses
+    fold_settled = settled_loses told g now settled keeps loses same sums
 
     block : told → (block : List ℕ) × (now.held (serving_at g.table s c) s ≡ Some block) × IsBlock block × (sum ≡ xor f.sum (scaled (weight_in g.table.data_columns f.relay c) block))
     block t = tells t
@@ -150,6 +156,7 @@ module _ (told : Type 0) (g : GroupView) (now : Shelves) (job s c : ℕ) (f : Fl
 
       pub hop_settled : IsSettled told (record g { table = after g.table (Hop job s c); log = g.log ++ Hop job s c ∷ []; flights = map (flown s c sum) g.flights; shelves = now })
       hop_settled = quiet_act told (record g { shelves = now }) (Hop job s c) sum fold_settled hop_legal room refl (λ k. refl) hop_acts (λ k. refl) (λ t k lk m. absurd m)
+          (λ t. subst (λ o. IsSomeAnd o (λ x. digest_in (slot_at g.table s c) ≡ Some (digest_of (unfolded (weight_in g.table.data_columns x.relay c) x.sum sum)))) (sym here) digest)
 
       pub hop_step : (told → HearsFold (g.shelves.heard (serving_at g.table s c)) (now.heard (serving_at g.table s c)) s f.sum (Ok Held)) → (told → (n : ℕ) → n ≢ serving_at g.table s c → now.heard n ≡ g.shelves.heard n) → told
           → AdvanceStep job s Hopped (state_of g) (state_of (record g { table = after g.table (Hop job s c); log = g.log ++ Hop job s c ∷ []; flights = map (flown s c sum) g.flights; shelves = now }))
@@ -186,12 +193,12 @@ module _ (told : Type 0) (g : GroupView) (now : Shelves) (job s c : ℕ) (f : Fl
 
       pub ended_settled : IsSettled told (record g { table = after g.table (GaveUp job s f.relay.target c); log = g.log ++ GaveUp job s f.relay.target c ∷ []; flights = flights_after g.table (GaveUp job s f.relay.target c) [] g.flights; shelves = now })
       ended_settled = quiet_act told (record g { shelves = now }) (GaveUp job s f.relay.target c) [] fold_settled gave_up_legal room refl (λ k. refl) (λ t n k b ln lk l h. h) (λ k. refl)
-          (λ t k lk m. subst (λ x. HasLost now (archives_of g.first g.log x)) m.0 (gone_lost told (record g { shelves = now }) fold_settled t s c within column m.1 (missing t)))
+          (λ t k lk m. subst (λ x. HasLost now (archives_of g.first g.log x)) m.0 (gone_lost told (record g { shelves = now }) fold_settled t s c within column m.1 (missing t))) (λ t. tt)
       -- the slot had no block of its digest
 
   module _ (folds : FoldsAt told (serving_at g.table s c) s (weight_in g.table.data_columns f.relay c) f.sum sum (Ok Absent) g.shelves now) where
     absent_settled : IsSettled told (record g { shelves = now })
-    absent_settled = settled_loses told g now settled folds.keeps folds.loses
+    absent_settled = settled_loses told g now settled folds.keeps folds.loses folds.history (λ t. heard_fold g.table g.flights f s c (Ok Absent) g.shelves now here next (folds.hears t) (folds.silent t))
 
     absent_missing : told → Sound (stripe_of g.table now.held s) c → ⊥
     absent_missing t x = no (sym (folds.tells t) ∙ x.1.held)
@@ -204,7 +211,7 @@ module _ (told : Type 0) (g : GroupView) (now : Shelves) (job s c : ℕ) (f : Fl
 
     pub absent_ended : IsSettled told (record g { table = after g.table (GaveUp job s f.relay.target c); log = g.log ++ GaveUp job s f.relay.target c ∷ []; flights = flights_after g.table (GaveUp job s f.relay.target c) [] g.flights; shelves = now })
     absent_ended = quiet_act told (record g { shelves = now }) (GaveUp job s f.relay.target c) [] absent_settled absent_legal room refl (λ k. refl) (λ t n k b ln lk l h. h) (λ k. refl)
-        (λ t k lk m. subst (λ x. HasLost now (archives_of g.first g.log x)) m.0 (gone_lost told (record g { shelves = now }) absent_settled t s c within column m.1 (absent_missing t)))
+        (λ t k lk m. subst (λ x. HasLost now (archives_of g.first g.log x)) m.0 (gone_lost told (record g { shelves = now }) absent_settled t s c within column m.1 (absent_missing t))) (λ t. tt)
 
 -- A RELAY THAT WENT OVER ALL ITS COLUMNS
 
@@ -260,6 +267,7 @@ module _ (told : Type 0) (g : GroupView) (now : Shelves) (job s c : ℕ) (f : Fl
         (no_fault now (archives_of g.first g.log k) (faults_in g.first.data_columns k g.log)
         (covers-stays g.shelves now (archives_of g.first g.log k) (faults_in g.first.data_columns k g.log) w.keeps.later w.keeps.faults_taken (settled.causes.faults k lk))))
         (λ t k lk m. absurd m)
+        (λ t. frames_write told g.table (Mended job s c) (serving_at g.table s c) s (partial_of f) (Ok (tt)) g.shelves now t w (refl, refl, digest) (Some (partial_of f)) true refl) w.heard (λ t. tt)
 
 -- THE ENTRY AFTER A FOLD
 
@@ -290,7 +298,7 @@ module _ (told : Type 0) (g : GroupView) (job : ℕ) (f : Flight) (sum : List �
         subst (λ t. IsSettled told (record g { table = t; log = log; flights = fs })) (sym (m.1 ∙ ap (after g.table) m.0))
         (subst (λ log. IsSettled told (record g { table = after g.table (Hop job f.relay.stripe facts.0); log = log; flights = fs })) (sym (el ∙ ap (λ e. g.log ++ e ∷ []) m.0))
         (subst (λ fs. IsSettled told (record g { table = after g.table (Hop job f.relay.stripe facts.0); log = g.log ++ Hop job f.relay.stripe facts.0 ∷ []; flights = fs })) (sym (ef ∙ ap (λ l. map (flown_to f.relay.stripe l sum) g.flights) (ap (λ (x : Flight). x.relay.last) m.2 ∙ last_is f.relay.stripe f.relay.last facts.0)))
-        (hop_settled told g g.shelves job f.relay.stripe facts.0 f sum settled room here facts.1 within (keeps_refl g.shelves) (λ t. loses_refl g.shelves) facts.3 facts.2 m.3)))
+        (hop_settled told g g.shelves job f.relay.stripe facts.0 f sum settled room here facts.1 within (keeps_refl g.shelves) (λ t. loses_refl g.shelves) (λ t n. refl) (λ t n x h. inl h) facts.3 facts.2 m.3)))
       where
         last_is : (s : ℕ) (l : Option ℕ) (c : ℕ) → (if s == s then Some c else l) ≡ Some c
         last_is s l c = grind (arith, nat_tests)
@@ -303,7 +311,7 @@ module _ (told : Type 0) (g : GroupView) (job : ℕ) (f : Flight) (sum : List �
         subst (λ t. IsSettled told (record g { table = t; log = log; flights = fs })) (sym (m.1 ∙ ap (after g.table) m.0))
         (subst (λ log. IsSettled told (record g { table = after g.table (GaveUp job f.relay.stripe f.relay.target facts.0); log = log; flights = fs })) (sym (el ∙ ap (λ e. g.log ++ e ∷ []) m.0))
         (subst (λ fs. IsSettled told (record g { table = after g.table (GaveUp job f.relay.stripe f.relay.target facts.0); log = g.log ++ GaveUp job f.relay.stripe f.relay.target facts.0 ∷ []; flights = fs })) (sym ef)
-        (ended_settled told g g.shelves job f.relay.stripe facts.0 f sum settled room here facts.1 within (keeps_refl g.shelves) (λ t. loses_refl g.shelves) facts.3 facts.2 m.3)))
+        (ended_settled told g g.shelves job f.relay.stripe facts.0 f sum settled room here facts.1 within (keeps_refl g.shelves) (λ t. loses_refl g.shelves) (λ t n. refl) (λ t n x h. inl h) facts.3 facts.2 m.3)))
 
 -- a flight's next column
 pub next_facts_of : (told : Type 0) (g : GroupView) (f : Flight) (c : ℕ) → IsSettled told g → flight_in g.flights f.relay.stripe ≡ Some f → next_column g.table f.relay ≡ Some c
@@ -358,7 +366,7 @@ module _ (told : Type 0) (g : GroupView) (job : ℕ) (f : Flight) (settled : IsS
       (subst (λ log. IsSettled told (record g { table = after g.table (GaveUp job f.relay.stripe f.relay.target c); log = log; flights = fs })) (sym (el ∙ ap (λ e. g.log ++ e ∷ []) ee))
       (subst (λ fs. IsSettled told (record g { table = after g.table (GaveUp job f.relay.stripe f.relay.target c); log = g.log ++ GaveUp job f.relay.stripe f.relay.target c ∷ []; flights = fs })) (sym ef)
       (quiet_act told g (GaveUp job f.relay.stripe f.relay.target c) [] settled (subst (λ e. Legal g.table e) ee legal) room refl (λ k. refl) (λ t n k b ln lk l h. h) (λ k. refl)
-      (λ t k lk m. subst (λ x. HasLost g.shelves (archives_of g.first g.log x)) m.0 (gone_lost told g settled t f.relay.stripe c within (next_within g.table f.relay settled.table at_relay c next) m.1 (missing t))))))
+      (λ t k lk m. subst (λ x. HasLost g.shelves (archives_of g.first g.log x)) m.0 (gone_lost told g settled t f.relay.stripe c within (next_within g.table f.relay settled.table at_relay c next) m.1 (missing t))) (λ t. tt))))
 
   pub left_exit : (o : Option ℕ) → next_column g.table f.relay ≡ o → IsSomeAnd o (λ c. told → Sound (stripe_of g.table g.shelves.held f.relay.stripe) c → ⊥) → (e : Entry) (t : Table) (log : List Entry) (fs : List Flight)
       → IsSomeAnd o (λ c. e ≡ GaveUp job f.relay.stripe f.relay.target c) → Legal g.table e → t ≡ after g.table e → log ≡ g.log ++ e ∷ [] → fs ≡ without_flight g.flights f.relay.stripe
@@ -431,10 +439,10 @@ module _ (told : Type 0) (g : GroupView) (now : Shelves) (job : ℕ) (f : Flight
       clash e = cc
 
   -- the write failed
-  pub fault_exit : (e : Failed) → WritesAt told (serving_at g.table f.relay.stripe f.relay.target) f.relay.stripe block (Err e) g.shelves now → (t : Table) (log : List Entry)
+  pub fault_exit : digest_in (slot_at g.table f.relay.stripe f.relay.target) ≡ Some (digest_of block) → (e : Failed) → WritesAt told (serving_at g.table f.relay.stripe f.relay.target) f.relay.stripe block (Err e) g.shelves now → (t : Table) (log : List Entry)
       → t ≡ after g.table (Fault job f.relay.stripe f.relay.target) → log ≡ g.log ++ Fault job f.relay.stripe f.relay.target ∷ []
       → IsSettled told (record g { table = t; log = log; shelves = now })
-  fault_exit e w t log et el =
+  fault_exit digest e w t log et el =
       subst (λ t. IsSettled told (record g { table = t; log = log; shelves = now })) (sym et)
       (subst (λ log. IsSettled told (record g { table = g.table; log = log; shelves = now })) (sym el)
       (settled_act told g (Fault job f.relay.stripe f.relay.target) [] now (λ t. put_at g.shelves.held (serving_at g.table f.relay.stripe f.relay.target) f.relay.stripe (w.wrote t).0) settled fault_legal room w.keeps
@@ -445,7 +453,9 @@ module _ (told : Type 0) (g : GroupView) (now : Shelves) (job : ℕ) (f : Flight
       (one_fault now (archives_of g.first g.log) (λ k. faults_in g.first.data_columns k g.log) f.relay.target k
       (covers-stays g.shelves now (archives_of g.first g.log k) (faults_in g.first.data_columns k g.log) w.keeps.later w.keeps.faults_taken (settled.causes.faults k lk))
       (covers_rise told g now f.relay.stripe f.relay.target settled at_place.target w.keeps (w.cause refl))))
-      (λ t k lk m. absurd m)))
+      (λ t k lk m. absurd m)
+      (λ t. frames_write told g.table (Fault job f.relay.stripe f.relay.target) (serving_at g.table f.relay.stripe f.relay.target) f.relay.stripe block (Err e) g.shelves now t w
+      (refl, names_serving (column_at g.table f.relay.target) f.relay.stripe, inr digest) (w.wrote t).0 false (w.wrote t).1) w.heard (λ t. tt)))
 
 -- the archive that serves a flight's target is one of the group
 pub target_served : (told : Type 0) (g : GroupView) (f : Flight) → IsSettled told g → flight_in g.flights f.relay.stripe ≡ Some f → Contains g.shelves.numbers (serving_at g.table f.relay.stripe f.relay.target)

@@ -43,6 +43,7 @@ grows_keeps old new entries number first log keeps = record {
   losses_taken = λ n c. keeps.losses_taken n;
   faults_opened = λ n c. keeps.faults_opened n;
   losses_opened = λ n c. keeps.losses_opened n;
+  taken = λ n c. keeps.taken n;
 }
 
 pub grows_same : (old new : GroupView) → new ≡ old → Grows old new []
@@ -64,6 +65,7 @@ brings_grow told to m e old new acts brings fresh =
       losses_taken = λ n c. (brings.same_losses n (other n c)).1;
       faults_opened = λ n c. (brings.same_opened n (other n c)).0;
       losses_opened = λ n c. (brings.same_opened n (other n c)).1;
+      taken = λ n c. brings.same_taken n (other n c);
     }
 
 -- A PUT
@@ -104,13 +106,13 @@ module _ {A : Type 0} (meaning : A → Meaning) (told : Type 0) (job : ℕ) (pla
       let e = entry.Begin job place.stripe place.column in
       let shelves = ap (λ (g : GroupParts A). (view g).shelves) m.2 in
       let acts : Acts e blind (view old) (view new) =
-      subst (λ (g : GroupParts A). Acts e blind (view old) (view g)) (sym m.2) (record { number = refl; first = refl; legal = m.1; table = refl; log = refl; flights = refl }) in
+      subst (λ (g : GroupParts A). Acts e blind (view old) (view g)) (sym m.2) (record { number = refl; first = refl; legal = m.1; table = refl; log = refl; flights = refl; blinds = refl }) in
       (e ∷ [], acts_grow e blind (view old) (view new) acts (subst (λ s. Keeps (view old).shelves s) (sym shelves) (keeps_refl (view old).shelves)), (refl, m.0, acts, shelves))
   begun (Err (refused.TwoGone first second)) m =
       let e = entry.Stuck job place.stripe place.column second in
       let shelves = ap (λ (g : GroupParts A). (view g).shelves) m.3 in
       let acts : Acts e [] (view old) (view new) =
-      subst (λ (g : GroupParts A). Acts e [] (view old) (view g)) (sym m.3) (record { number = refl; first = refl; legal = m.2; table = refl; log = refl; flights = refl }) in
+      subst (λ (g : GroupParts A). Acts e [] (view old) (view g)) (sym m.3) (record { number = refl; first = refl; legal = m.2; table = refl; log = refl; flights = refl; blinds = refl }) in
       (e ∷ [], acts_grow e [] (view old) (view new) acts (subst (λ s. Keeps (view old).shelves s) (sym shelves) (keeps_refl (view old).shelves)), (refl, m.0, m.1, acts, shelves))
   begun (Err refused.LogFull) m = (let same = ap view m.0 in begun_same (Err refused.LogFull) same (refl, same, m.1))
   begun (Err refused.Whole) m = (let same = ap view m.1 in begun_same (Err refused.Whole) same (refl, same, m.0, m.2))

@@ -29,11 +29,15 @@ use Rattle.pot_shelves.specs.Shelves.{Shelves, Keeps, Stays, LosesByCount}
 use Rattle.pot_group.specs.Causes.{Covers, HasLost, Misses, WhereMissed, archives_of, faults_in, fault_of, brought}
 use Rattle.pot_group.specs.Group.{GroupView, IsSettled, IsQuiet, LostSince}
 use Rattle.pot_shelves.proofs.ShelfLemmas.{keeps_refl, loses_refl, lost_rose, rose_more}
+use Rattle.pot_group.specs.Heard.{Sum, Gives, IsSumOf, HasHeard, blinds_after, begins}
+use Rattle.pot_group.proofs.Framing.{Frames, framed_loses, framed_entry, frames_still}
+use Rattle.pot_group.proofs.Hearing.{heard_on, heard_entry, begins_more}
 use Rattle.pot_group.proofs.CauseLemmas.{faults_in-snoc, archives_of-snoc, WhereMissed-snoc, WhereMissed-mono, covers-stays, has_lost-mono}
 
 -- what an entry of these calls leaves as it was
 pub record LeavesShape (t : Table) (e : Entry) : Type 0 where
   pub flights : (fs : List Flight) → flights_after t e [] fs ≡ fs
+  pub blinds : (bs : List (List ℕ)) → blinds_after e [] bs ≡ bs
   pub data_columns : (after t e).data_columns ≡ t.data_columns
   pub parity : (after t e).parity ≡ t.parity
   pub stripes : (after t e).stripes ≡ t.stripes
@@ -81,8 +85,12 @@ pub stands_in : (told : Type 0) (g : GroupView) → IsSettled told g → told �
 stands_in told g settled t = record { table = settled.table; relays = settled.relays; holds = settled.holds t; flying = settled.flying t }
 
 -- archives that only lose blocks, whatever they hear
-pub settled_loses : (told : Type 0) (g : GroupView) (s : Shelves) → IsSettled told g → Keeps g.shelves s → (told → LosesByCount g.shelves.held g.shelves s) → IsSettled told (record g { shelves = s })
-settled_loses told g s settled keeps loses = record {
+pub settled_loses : (told : Type 0) (g : GroupView) (s : Shelves) → IsSettled told g → Keeps g.shelves s → (told → LosesByCount g.shelves.held g.shelves s) → (told → (n : ℕ) → s.history n ≡ g.shelves.history n)
+    → (told → (n : ℕ) (x : Sum) → Contains (s.heard n) x → Contains (g.shelves.heard n) x ⊎ IsSumOf g.table g.flights n x) → IsSettled told (record g { shelves = s })
+settled_loses told g s settled keeps loses same hears = record {
+  blinds = settled.blinds;
+  heard = (λ t. heard_on g.first g.table g.log g.blinds g.flights g.shelves s settled.replay keeps (hears t) (settled.heard t));
+  frame = (λ t. framed_loses g.first g.log g.shelves s keeps (loses t) (same t) (settled.frame t));
   replay = settled.replay;
   table = settled.table;
   relays = settled.relays;
@@ -109,7 +117,7 @@ settled_loses told g s settled keeps loses = record {
 }
 
 pub settled_stays : (told : Type 0) (g : GroupView) (s : Shelves) → IsSettled told g → Stays told g.shelves s → IsSettled told (record g { shelves = s })
-settled_stays told g s settled stays = settled_loses told g s settled stays.keeps stays.loses
+settled_stays told g s settled stays = settled_loses told g s settled stays.keeps stays.loses stays.history (λ t n x c. inl (subst (λ l. Contains l x) (stays.heard t n) c))
 
 -- what an entry leaves of the columns, and which archives it brings
 pub record LeavesColumns (told : Type 0) (g : GroupView) (e : Entry) (s : Shelves) : Type 0 where
@@ -123,8 +131,12 @@ pub settled_act : (told : Type 0) (g : GroupView) (e : Entry) (given : List ℕ)
     → ((t : told) → ((n : ℕ) → PutsInto e n → ⊥) → KeepsHeld g.table g.shelves.held (h t))
     → ((c : ℕ) → c < width g.first → Covers s (archives_of g.first (g.log ++ e ∷ []) c) (faults_in g.first.data_columns c g.log + fault_of g.first.data_columns c e))
     → (told → (c : ℕ) → c < width g.first → Misses g.table e c → HasLost s (archives_of g.first (g.log ++ e ∷ []) c))
-    → IsSettled told (record g { table = after g.table e; log = g.log ++ e ∷ []; flights = flights_after g.table e given g.flights; shelves = s })
-settled_act told g e given s h settled legal room keeps columns loses acts kept covers missed = record {
+    → ((t : told) → Frames g.table e g.shelves (h t) s) → (told → (n : ℕ) → s.heard n ≡ g.shelves.heard n) → (told → Gives g.table g.flights e given)
+    → IsSettled told (record g { table = after g.table e; log = g.log ++ e ∷ []; flights = flights_after g.table e given g.flights; blinds = blinds_after e given g.blinds; shelves = s })
+settled_act told g e given s h settled legal room keeps columns loses acts kept covers missed frames silent gives = record {
+  blinds = begins_more g.log e given g.blinds settled.blinds;
+  heard = (λ t. heard_entry g.first g.table g.log e given g.blinds g.flights g.shelves s settled.replay keeps (silent t) (gives t) (settled.heard t));
+  frame = (λ t. framed_entry g.first g.table g.log e g.shelves s (h t) settled.replay keeps (loses t) (frames t) (settled.frame t));
   replay = replays_more g.first g.log g.table e settled.replay legal;
   table = after_keeps g.table e settled.table legal;
   relays = flights_go_on g.table e given g.flights settled.relays;
@@ -182,8 +194,12 @@ pub settled_entry : (told : Type 0) (g : GroupView) (e : Entry) (s : Shelves) (h
     → ((t : told) → ((n : ℕ) → PutsInto e n → ⊥) → KeepsHeld g.table g.shelves.held (h t))
     → ((c : ℕ) → c < width g.first → Covers s (archives_of g.first g.log c) (faults_in g.first.data_columns c g.log + fault_of g.first.data_columns c e))
     → (told → (c : ℕ) → c < width g.first → Misses g.table e c → HasLost s (archives_of g.first g.log c))
+    → ((t : told) → Frames g.table e g.shelves (h t) s) → (told → (n : ℕ) → s.heard n ≡ g.shelves.heard n) → (told → Gives g.table g.flights e [])
     → IsSettled told (record g { table = after g.table e; log = g.log ++ e ∷ []; shelves = s })
-settled_entry told g e s h settled shape legal room keeps loses enters kept covers missed = record {
+settled_entry told g e s h settled shape legal room keeps loses enters kept covers missed frames silent gives = record {
+  blinds = subst (λ bs. length bs ≡ begins (g.log ++ e ∷ [])) (shape.blinds g.blinds) (begins_more g.log e [] g.blinds settled.blinds);
+  heard = (λ t. subst (λ bs. HasHeard g.first (g.log ++ e ∷ []) bs g.flights s) (shape.blinds g.blinds) (subst (λ fs. HasHeard g.first (g.log ++ e ∷ []) (blinds_after e [] g.blinds) fs s) (shape.flights g.flights) (heard_entry g.first g.table g.log e [] g.blinds g.flights g.shelves s settled.replay keeps (silent t) (gives t) (settled.heard t))));
+  frame = (λ t. framed_entry g.first g.table g.log e g.shelves s (h t) settled.replay keeps (loses t) (frames t) (settled.frame t));
   replay = replays_more g.first g.log g.table e settled.replay legal;
   table = after_keeps g.table e settled.table legal;
   relays = subst (λ fs. AreFlights (after g.table e) fs) (shape.flights g.flights) (flights_go_on g.table e [] g.flights settled.relays);
@@ -229,10 +245,10 @@ settled_entry told g e s h settled shape legal room keeps loses enters kept cove
 module _ (told : Type 0) (g : GroupView) (e : Entry) (settled : IsSettled told g) (legal : Legal g.table e) (room : length g.log < log_bound) where
   quiet : LeavesShape g.table e → (told → Acts g.table g.flights [] e g.shelves.held g.shelves.held)
       → ((c : ℕ) → c < width g.first → Covers g.shelves (archives_of g.first g.log c) (faults_in g.first.data_columns c g.log + fault_of g.first.data_columns c e))
-      → (told → (c : ℕ) → c < width g.first → Misses g.table e c → HasLost g.shelves (archives_of g.first g.log c))
+      → (told → (c : ℕ) → c < width g.first → Misses g.table e c → HasLost g.shelves (archives_of g.first g.log c)) → (told → Gives g.table g.flights e [])
       → IsSettled told (record g { table = after g.table e; log = g.log ++ e ∷ [] })
-  quiet shape enters covers missed =
-      settled_entry told g e g.shelves (λ t. g.shelves.held) settled shape legal room (keeps_refl g.shelves) (λ t. loses_refl g.shelves) enters (λ t none n c b ln lc nv q. q) covers missed
+  quiet shape enters covers missed gives =
+      settled_entry told g e g.shelves (λ t. g.shelves.held) settled shape legal room (keeps_refl g.shelves) (λ t. loses_refl g.shelves) enters (λ t none n c b ln lc nv q. q) covers missed (λ t. frames_still g.table e g.shelves) (λ t n. refl) gives
 
 pub no_fault : (s : Shelves) (ns : List ℕ) (k : ℕ) → Covers s ns k → Covers s ns (k + 0)
 no_fault s ns k c = subst (λ n. Covers s ns n) (same k) c
@@ -266,22 +282,22 @@ gone_lost told g settled t n k ln lk live none = elim (settled.live t n k ln lk 
 pub settled_quiet : (told : Type 0) (g : GroupView) (e : Entry) → IsSettled told g → Legal g.table e → length g.log < log_bound → IsQuiet told g e
     → IsSettled told (record g { table = after g.table e; log = g.log ++ e ∷ [] })
 settled_quiet told g (Skip job n) settled legal room q =
-    quiet told g (Skip job n) settled legal room (record { flights = (λ fs. refl); data_columns = refl; parity = refl; stripes = refl; columns = refl; none_brought = (λ c. refl) })
-    (λ t m c b lm lc nv h. h) (λ c lc. no_fault g.shelves (archives_of g.first g.log c) (faults_in g.first.data_columns c g.log) (settled.causes.faults c lc)) (λ t c lc m. absurd m)
+    quiet told g (Skip job n) settled legal room (record { flights = (λ fs. refl); blinds = (λ bs. refl); data_columns = refl; parity = refl; stripes = refl; columns = refl; none_brought = (λ c. refl) })
+    (λ t m c b lm lc nv h. h) (λ c lc. no_fault g.shelves (archives_of g.first g.log c) (faults_in g.first.data_columns c g.log) (settled.causes.faults c lc)) (λ t c lc m. absurd m) (λ t. tt)
 settled_quiet told g (Seen job n k) settled legal room q =
-    quiet told g (Seen job n k) settled legal room (record { flights = (λ fs. refl); data_columns = refl; parity = refl; stripes = refl; columns = refl; none_brought = (λ c. refl) })
-    (λ t m c b lm lc nv h. h) (λ c lc. no_fault g.shelves (archives_of g.first g.log c) (faults_in g.first.data_columns c g.log) (settled.causes.faults c lc)) (λ t c lc m. absurd m)
+    quiet told g (Seen job n k) settled legal room (record { flights = (λ fs. refl); blinds = (λ bs. refl); data_columns = refl; parity = refl; stripes = refl; columns = refl; none_brought = (λ c. refl) })
+    (λ t m c b lm lc nv h. h) (λ c lc. no_fault g.shelves (archives_of g.first g.log c) (faults_in g.first.data_columns c g.log) (settled.causes.faults c lc)) (λ t c lc m. absurd m) (λ t. tt)
 settled_quiet told g (Counted job) settled legal room q =
-    quiet told g (Counted job) settled legal room (record { flights = (λ fs. refl); data_columns = refl; parity = refl; stripes = refl; columns = refl; none_brought = (λ c. refl) })
-    (λ t m c b lm lc nv h. h) (λ c lc. no_fault g.shelves (archives_of g.first g.log c) (faults_in g.first.data_columns c g.log) (settled.causes.faults c lc)) (λ t c lc m. absurd m)
+    quiet told g (Counted job) settled legal room (record { flights = (λ fs. refl); blinds = (λ bs. refl); data_columns = refl; parity = refl; stripes = refl; columns = refl; none_brought = (λ c. refl) })
+    (λ t m c b lm lc nv h. h) (λ c lc. no_fault g.shelves (archives_of g.first g.log c) (faults_in g.first.data_columns c g.log) (settled.causes.faults c lc)) (λ t c lc m. absurd m) (λ t. tt)
 settled_quiet told g (Fault job n k) settled legal room q =
-    quiet told g (Fault job n k) settled legal room (record { flights = (λ fs. refl); data_columns = refl; parity = refl; stripes = refl; columns = refl; none_brought = (λ c. refl) })
-    (λ t m c b lm lc nv h. h) (λ c lc. one_fault g.shelves (archives_of g.first g.log) (λ c. faults_in g.first.data_columns c g.log) k c (settled.causes.faults c lc) q) (λ t c lc m. absurd m)
+    quiet told g (Fault job n k) settled legal room (record { flights = (λ fs. refl); blinds = (λ bs. refl); data_columns = refl; parity = refl; stripes = refl; columns = refl; none_brought = (λ c. refl) })
+    (λ t m c b lm lc nv h. h) (λ c lc. one_fault g.shelves (archives_of g.first g.log) (λ c. faults_in g.first.data_columns c g.log) k c (settled.causes.faults c lc) q) (λ t c lc m. absurd m) (λ t. tt)
 settled_quiet told g (Gone job n k) settled legal room q =
-    quiet told g (Gone job n k) settled legal room (record { flights = (λ fs. refl); data_columns = refl; parity = refl; stripes = refl; columns = refl; none_brought = (λ c. refl) })
+    quiet told g (Gone job n k) settled legal room (record { flights = (λ fs. refl); blinds = (λ bs. refl); data_columns = refl; parity = refl; stripes = refl; columns = refl; none_brought = (λ c. refl) })
     (λ t m c b lm lc nv h. h) (λ c lc. no_fault g.shelves (archives_of g.first g.log c) (faults_in g.first.data_columns c g.log) (settled.causes.faults c lc))
-    (λ t c lc m. subst (λ x. HasLost g.shelves (archives_of g.first g.log x)) m.1 (gone_lost told g settled t n k legal.0 legal.1 m.2 (q t)))
+    (λ t c lc m. subst (λ x. HasLost g.shelves (archives_of g.first g.log x)) m.1 (gone_lost told g settled t n k legal.0 legal.1 m.2 (q t))) (λ t. tt)
 settled_quiet told g (Stuck job n k other) settled legal room q =
-    quiet told g (Stuck job n k other) settled legal room (record { flights = (λ fs. refl); data_columns = refl; parity = refl; stripes = refl; columns = refl; none_brought = (λ c. refl) })
-    (λ t m c b lm lc nv h. h) (λ c lc. no_fault g.shelves (archives_of g.first g.log c) (faults_in g.first.data_columns c g.log) (settled.causes.faults c lc)) (λ t c lc m. absurd m)
+    quiet told g (Stuck job n k other) settled legal room (record { flights = (λ fs. refl); blinds = (λ bs. refl); data_columns = refl; parity = refl; stripes = refl; columns = refl; none_brought = (λ c. refl) })
+    (λ t m c b lm lc nv h. h) (λ c lc. no_fault g.shelves (archives_of g.first g.log c) (faults_in g.first.data_columns c g.log) (settled.causes.faults c lc)) (λ t c lc m. absurd m) (λ t. tt)
 settled_quiet told g _ settled legal room q = absurd q

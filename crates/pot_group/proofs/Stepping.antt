@@ -96,7 +96,7 @@ module _ (told : Type 0) (g : GroupView) (job c : ℕ) (m : Moving) (settled : I
       pub copied_steps : Steps told job c (Ok moved.Copied) g (record g { table = t; log = log; shelves = now })
       copied_steps = record {
         moves = on_move (λ n. (n.upto < g.table.stripes) × IsTrue (is_live (slot_at g.table n.upto c)) × Acts (Moved job n.upto c true) [] g (record g { table = t; log = log; shelves = now }))
-            (lt, live, record { number = refl; first = refl; legal = copy_legal lt live; table = et ∙ ap (after g.table) is; log = el ∙ ap (λ e. g.log ++ e ∷ []) is; flights = refl });
+            (lt, live, record { number = refl; first = refl; legal = copy_legal lt live; table = et ∙ ap (after g.table) is; log = el ∙ ap (λ e. g.log ++ e ∷ []) is; flights = refl; blinds = refl });
         keeps = w.keeps;
         steps = λ k. (
           m.upto,
@@ -120,11 +120,11 @@ module _ (told : Type 0) (g : GroupView) (job c : ℕ) (m : Moving) (settled : I
 
     -- or failed
     module _ (e : Failed) (w : WritesAt told m.to m.upto block (Err e) g.shelves now) (t : Table) (log : List Entry) (et : t ≡ after g.table (Fault job m.upto c)) (el : log ≡ g.log ++ Fault job m.upto c ∷ []) where
-      pub uncopied_exit : IsSettled told (record g { table = t; log = log; shelves = now })
-      uncopied_exit =
+      pub uncopied_exit : (told → IsSound (stripe_of g.table g.shelves.held m.upto) c block) → IsSettled told (record g { table = t; log = log; shelves = now })
+      uncopied_exit sound =
           subst (λ t. IsSettled told (record g { table = t; log = log; shelves = now })) (sym et)
           (subst (λ log. IsSettled told (record g { table = after g.table (Fault job m.upto c); log = log; shelves = now })) (sym el)
-          (uncopied_settled told g m.upto c m settled column moving refl now job block room lt e w))
+          (uncopied_settled told g m.upto c m settled column moving refl now job block room lt sound e w))
 
       pub uncopied_steps : (told → IsSound (stripe_of g.table g.shelves.held m.upto) c block) → Steps told job c (Err (failed.Faulted c)) g (record g { table = t; log = log; shelves = now })
       uncopied_steps sound = record {
@@ -133,7 +133,7 @@ module _ (told : Type 0) (g : GroupView) (job c : ℕ) (m : Moving) (settled : I
           on_move (λ n. (n.upto < g.table.stripes) × IsTrue (is_live (slot_at g.table n.upto c))
               × (FailedBy g (record g { table = t; log = log; shelves = now }) (serving_at g.table n.upto c) ⊎ FailedBy g (record g { table = t; log = log; shelves = now }) n.to)
               × Acts (Fault job n.upto c) [] g (record g { table = t; log = log; shelves = now }))
-              (lt, live, inr (w.cause refl), record { number = refl; first = refl; legal = (lt, column); table = et; log = el; flights = refl }),
+              (lt, live, inr (w.cause refl), record { number = refl; first = refl; legal = (lt, column); table = et; log = el; flights = refl; blinds = refl }),
         );
         keeps = w.keeps;
         steps = λ k. (
@@ -162,7 +162,7 @@ module _ (told : Type 0) (g : GroupView) (job c : ℕ) (m : Moving) (settled : I
 module _ {A : Type 0} (told : Type 0) (meaning : A → Meaning) (old : GroupParts A) (job c : ℕ) (m : Moving) (settled : IsSettled told (view_of meaning old)) (room : length old.log < log_bound)
     (column : c < width old.table) (moving : (column_at old.table c).moving ≡ Some m) where
   acts : (b : Shelved A) (e : Entry) → Legal old.table e → Acts e [] (view_of meaning old) (view_of meaning (acted (with_archives old b) e []))
-  acts b e legal = record { number = refl; first = refl; legal = legal; table = refl; log = refl; flights = refl }
+  acts b e legal = record { number = refl; first = refl; legal = legal; table = refl; log = refl; flights = refl; blinds = refl }
 
   -- all stripes were passed
   pub ended_steps : (new : GroupParts A) → old.table.stripes ≤ m.upto → new ≡ acted old (MoveEnd job c) [] → Steps told job c (Ok moved.Ended) (view_of meaning old) (view_of meaning new)
@@ -228,7 +228,7 @@ module _ {A : Type 0} (told : Type 0) (meaning : A → Meaning) (old : GroupPart
   -- A step after a read that did not fail.
   module _ (b : Shelved A) (new : GroupParts A) (stays : Stays told (plain meaning old.shelves) (plain meaning b)) where
     acts_back : (e : Entry) → Acts e [] (view_of meaning (with_archives old b)) (view_of meaning new) → Acts e [] (view_of meaning old) (view_of meaning new)
-    acts_back e a = record { number = a.number; first = a.first; legal = a.legal; table = a.table; log = a.log; flights = a.flights }
+    acts_back e a = record { number = a.number; first = a.first; legal = a.legal; table = a.table; log = a.log; flights = a.flights; blinds = a.blinds }
 
     rose_back : (n : ℕ) → FailedBy (view_of meaning (with_archives old b)) (view_of meaning new) n → FailedBy (view_of meaning old) (view_of meaning new) n
     rose_back n (inl l) = inl (omega (arith, l, stays.keeps.later n))

@@ -15,9 +15,9 @@ use Rattle.pot_machine.specs.declared.entry.Entry.{Entry}
 use Rattle.pot_machine.specs.declared.entry.Entry.TheVariants.{Put, Put2, Fault}
 use Rattle.pot_machine.specs.declared.slot.SlotState.TheVariants.{Void}
 use Rattle.pot_machine.specs.Slot.{is_void}
-use Rattle.pot_machine.specs.Table.{Table, width, slot_at, serving_at}
+use Rattle.pot_machine.specs.Table.{Table, width, slot_at, column_at, serving_at}
 use Rattle.pot_machine.specs.Machine.{AtCursor, TakesBlocks, Legal, after}
-use Rattle.pot_machine.proofs.Columns.{serving_apart}
+use Rattle.pot_machine.proofs.Columns.{names_serving, serving_apart}
 use Rattle.pot_bytes.specs.Digests.{digest_of}
 use Rattle.pot_steps.specs.Holdings.{Holdings}
 use Rattle.pot_steps.specs.Entries.{WritesStripe, held_at}
@@ -29,7 +29,9 @@ use Rattle.pot_shelves.specs.Shelves.{Shelves, WritesAt, put_at, WriteLeaves}
 use Rattle.pot_group.specs.Arrivals.{arrival}
 use Rattle.pot_group.specs.Causes.{Covers, archives_of, faults_in}
 use Rattle.pot_group.specs.Group.{GroupView, IsSettled, FailedAt, CoversOne}
-use Rattle.pot_group.specs.Putting.{HasOld, PutsAt, WritesAll, PutsAll, PutsNone, BlockMeans, made_entry, answered}
+use Rattle.pot_group.proofs.Framing.{Frames, frames_write}
+use Rattle.pot_group.specs.Frames.{MayWrite}
+use Rattle.pot_group.specs.Putting.{HasOld, IsPut, PutsAt, WritesAll, PutsAll, PutsNone, BlockMeans, made_entry, answered}
 use Rattle.pot_group.specs.declared.answers.PutFault.TheVariants as fault
 use Rattle.pot_shelves.proofs.ShelfLemmas.{put_at-other, left_new}
 use Rattle.pot_group.proofs.CauseLemmas.{covers-stays}
@@ -74,7 +76,7 @@ module _ (told : Type 0) (g : GroupView) (job s c : ℕ) (block : List ℕ) (set
 
     pub none_settled : IsSettled told (entered_with g (Fault job s c) now)
     none_settled = settled_entry told g (Fault job s c) now (λ t. put_at g.shelves.held (serving_at g.table s c) s (w.wrote t).0) settled
-        (record { flights = (λ fs. refl); data_columns = refl; parity = refl; stripes = refl; columns = refl; none_brought = (λ c. refl) })
+        (record { flights = (λ fs. refl); blinds = (λ bs. refl); data_columns = refl; parity = refl; stripes = refl; columns = refl; none_brought = (λ c. refl) })
         fault_legal room w.keeps (λ t. (w.wrote t).2)
         (λ t n k b ln lk live h. sym (untouched (w.wrote t).0 n k lk (live_void (slot_at g.table n k) live)) ∙ h)
         (λ t none n k b ln lk live h. untouched (w.wrote t).0 n k lk (live_void (slot_at g.table n k) live) ∙ h)
@@ -82,10 +84,11 @@ module _ (told : Type 0) (g : GroupView) (job s c : ℕ) (block : List ℕ) (set
         (covers-stays g.shelves now (archives_of g.first g.log k) (faults_in g.first.data_columns k g.log) w.keeps.later w.keeps.faults_taken (settled.causes.faults k lk))
         (covers_rise told g now s c settled data_wide w.keeps rose))
         (λ t k lk m. absurd m)
+        (λ t. frames_write told g.table (Fault job s c) (serving_at g.table s c) s block (Err e) g.shelves now t w (refl, names_serving (column_at g.table c) s, inl void) (w.wrote t).0 false (w.wrote t).1) w.heard (λ t. tt)
 
     pub none_put : PutsNone told job s c block g (entered_with g (Fault job s c) now)
     none_put = record {
-      logs = record { number = refl; first = refl; log = refl; flights = refl; replay = (fault_legal, refl) };
+      logs = record { number = refl; first = refl; log = refl; flights = refl; blinds = refl; replay = (fault_legal, refl) };
       holds = w.wrote;
       keeps = w.keeps;
       heard = w.heard;
@@ -186,24 +189,43 @@ module _ (told : Type 0) (g : GroupView) (job s c : ℕ) (block : List ℕ) (set
     abbrev two_puts : Entry
     two_puts = Put2 job s c (digest_of block) (digest_of (xor p block)) (digest_of (xor q (scaled (power 3 c) block))) kept kept2
 
+    -- what the entry may have written
+    frames_put : (e : Entry) → ((n : ℕ) (x : List ℕ) → IsPut g.table s c block new_p new_q n x → MayWrite g.table e n s x) → (t : told) → Frames g.table e g.shelves (ideal t) now
+    frames_put e may t = record {
+      held = λ n m x h. elim ((puts t).frame n m x h) [ inl y ↦ inl y | inr y ↦ inr (subst (λ m. MayWrite g.table e n m x) (sym y.0) (may n x y.1)) ];
+      history = λ n x h. elim (w.remembers t n x h) [ inl y ↦ inl y | inr y ↦ inr (s, may n x y) ];
+    }
+
+    may_one : g.table.parity ≡ 1 → (n : ℕ) (x : List ℕ) → IsPut g.table s c block new_p new_q n x → MayWrite g.table one_put n s x
+    may_one one n x (inl y) = (refl, inl (y.0, ap digest_of y.1))
+    may_one one n x (inr (inl y)) = (refl, inr (y.0, ap digest_of (y.1 ∙ is_p)))
+    may_one one n x (inr (inr y)) = absurd (omega (arith, one, y.0))
+
+    may_two : (n : ℕ) (x : List ℕ) → IsPut g.table s c block new_p new_q n x → MayWrite g.table two_puts n s x
+    may_two n x (inl y) = (refl, inl (y.0, ap digest_of y.1))
+    may_two n x (inr (inl y)) = (refl, inr (inl (y.0, ap digest_of (y.1 ∙ is_p))))
+    may_two n x (inr (inr y)) = (refl, inr (inr (y.1, ap digest_of (y.2 ∙ is_q y.0))))
+
     one_settled : g.table.parity ≡ 1 → IsSettled told (entered_with g one_put now)
     one_settled one = settled_entry told g one_put now ideal settled
-        (record { flights = (λ fs. refl); data_columns = refl; parity = refl; stripes = refl; columns = refl; none_brought = (λ c. refl) })
+        (record { flights = (λ fs. refl); blinds = (λ bs. refl); data_columns = refl; parity = refl; stripes = refl; columns = refl; none_brought = (λ c. refl) })
         (one, (cursor, column, takes)) room w.keeps (λ t. (w.wrote t).2)
         (λ t. (block, p, refl, refl, writes_one t one))
         (λ t none. absurd (none s refl))
         (names_one kept (λ e. in_first g.table.data_columns settled.sizes.0 (covers_first e)))
         (λ t k lk m. absurd m)
+        (frames_put one_put (may_one one)) w.heard (λ t. tt)
 
     two_settled : g.table.parity ≡ 2 → IsSettled told (entered_with g two_puts now)
     two_settled two = settled_entry told g two_puts now ideal settled
-        (record { flights = (λ fs. refl); data_columns = refl; parity = refl; stripes = refl; columns = refl; none_brought = (λ c. refl) })
+        (record { flights = (λ fs. refl); blinds = (λ bs. refl); data_columns = refl; parity = refl; stripes = refl; columns = refl; none_brought = (λ c. refl) })
         (two, (cursor, column, takes)) room w.keeps (λ t. (w.wrote t).2)
         (λ t. (block, p, q, refl, refl, refl, writes_two t two))
         (λ t none. absurd (none s refl))
         (names_two kept kept2 (λ e. in_first g.table.data_columns settled.sizes.0 (covers_first e))
         (λ e. in_first (g.table.data_columns + 1) (ap (λ n. n + 1) settled.sizes.0) (covers_second e)))
         (λ t k lk m. absurd m)
+        (frames_put two_puts may_two) w.heard (λ t. tt)
 
     -- the entry by the number of parity columns
     abbrev put_of : ℕ → Entry
@@ -221,6 +243,11 @@ module _ (told : Type 0) (g : GroupView) (job s c : ℕ) (block : List ℕ) (set
       | inr two ↦ subst (λ n. Legal g.table (put_of n)) (sym two) (two, (cursor, column, takes))
     ]
 
+    old_put : (n : ℕ) (x : List ℕ) → IsPut g.table s c block new_p new_q n x → IsPut g.table s c block (xor p block) (xor q (scaled (power 3 c) block)) n x
+    old_put n x (inl y) = inl y
+    old_put n x (inr (inl y)) = inr (inl (y.0, y.1 ∙ is_p))
+    old_put n x (inr (inr y)) = inr (inr (y.0, y.1, y.2 ∙ is_q y.0))
+
     -- the new parity blocks by the old ones
     by_old : WritesAll told g.table s c block (xor p block) (xor q (scaled (power 3 c) block)) kept kept2 g.shelves now
     by_old = record {
@@ -234,9 +261,11 @@ module _ (told : Type 0) (g : GroupView) (job s c : ℕ) (block : List ℕ) (set
           second = (λ two. subst (λ x. WriteLeaves kept2 (held_at g.table g.shelves.held s (g.table.data_columns + 1)) x (held_at g.table (ideal t) s (g.table.data_columns + 1))) (is_q two) ((puts t).second two));
           others = (puts t).others;
           elsewhere = (puts t).elsewhere;
+          frame = (λ n m x h. elim ((puts t).frame n m x h) [ inl y ↦ inl y | inr y ↦ inr (y.0, old_put n x y.1) ]);
         },
         (w.wrote t).2,
       ));
+      remembers = (λ t n x h. elim (w.remembers t n x h) [ inl y ↦ inl y | inr y ↦ inr (old_put n x y) ]);
       first = w.first;
       second = w.second;
     }
@@ -244,7 +273,7 @@ module _ (told : Type 0) (g : GroupView) (job s c : ℕ) (block : List ℕ) (set
     pub all_put : PutsAll told job s c block p q kept kept2 g (entered_with g (put_of g.table.parity) now)
     all_put = record {
       is_block = is_block;
-      logs = record { number = refl; first = refl; log = refl; flights = refl; replay = (put_legal, refl) };
+      logs = record { number = refl; first = refl; log = refl; flights = refl; blinds = refl; replay = (put_legal, refl) };
       writes = by_old;
     }
 

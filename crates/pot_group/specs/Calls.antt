@@ -49,8 +49,8 @@ use Rattle.pot_group.specs.Moving.{live_in, move_as}
 
 -- THE ROWS
 
--- The log of a group gained these entries. Its number, the table that it began with and the marks
--- of the archives that it had stay, those of the opening too.
+-- The log of a group gained these entries. Its number, the table that it began with, the marks of
+-- the archives that it had, those of the opening too, and what these meant at their taking stay.
 pub record Grows (old new : GroupView) (entries : List Entry) : Type 0 where
   pub number : new.number ≡ old.number
   pub first : new.first ≡ old.first
@@ -63,6 +63,8 @@ pub record Grows (old new : GroupView) (entries : List Entry) : Type 0 where
       → new.shelves.faults_opened n ≡ old.shelves.faults_opened n
   pub losses_opened : (n : ℕ) → Contains old.shelves.numbers n
       → new.shelves.losses_opened n ≡ old.shelves.losses_opened n
+  pub taken : (n : ℕ) → Contains old.shelves.numbers n
+      → new.shelves.taken n ≡ old.shelves.taken n
 
 -- there are entries that the call logged, and its row says this of them
 abbrev pub Made : (GroupView → GroupView → List Entry → Type 0) → GroupView → GroupView → Type 0

@@ -31,15 +31,18 @@ use Rattle.pot_group.specs.declared.answers.PutFault.TheVariants as fault
 use Rattle.pot_shelves.specs.Shelves.{Shelves, Shelved, plain}
 use Rattle.pot_group.specs.declared.reads.Found.{Found}
 use Rattle.pot_group.specs.Causes.{CauseLaw, Covers, archives_of, faults_in}
+use Rattle.pot_group.specs.Frames.{IsFramed}
+use Rattle.pot_group.specs.Heard.{HasHeard, begins}
 
 -- A group, whatever its archives are seen as: its number, the table that it began with, its table
--- and its log now, a flight for each relay.
+-- and its log now, a flight for each relay, and the blind of each relay that its log begins.
 pub record GroupOf (Seen : Type 0) : Type 0 where
   pub number : ℕ
   pub first : Table
   pub table : Table
   pub log : List Entry
   pub flights : List Flight
+  pub blinds : List (List ℕ)
   pub shelves : Seen
 
 -- with its archives
@@ -58,6 +61,7 @@ view_of meaning g =
       table = g.table;
       log = g.log;
       flights = g.flights;
+      blinds = g.blinds;
       shelves = plain meaning g.shelves;
     }
 
@@ -125,6 +129,9 @@ pub record IsSettled (told : Type 0) (g : GroupView) : Type 0 where
   pub flying : told → FlightsHold g.table g.shelves.held g.flights
   pub live : told → LiveLaw g.table g.shelves.held (LostSince g.shelves)
   pub causes : CauseLaw told g.first g.log g.shelves
+  pub frame : told → IsFramed g.first g.log g.shelves
+  pub blinds : length g.blinds ≡ begins g.log
+  pub heard : told → HasHeard g.first g.log g.blinds g.flights g.shelves
 
 -- the log grows by these entries, and the table is their replay
 pub record Logs (entries : List Entry) (old new : GroupView) : Type 0 where
@@ -132,6 +139,7 @@ pub record Logs (entries : List Entry) (old new : GroupView) : Type 0 where
   pub first : new.first ≡ old.first
   pub log : new.log ≡ old.log ++ entries
   pub flights : new.flights ≡ old.flights
+  pub blinds : new.blinds ≡ old.blinds
   pub replay : Replays old.table entries new.table
 
 -- one more fault of the column may be named

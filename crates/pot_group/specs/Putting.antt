@@ -1,7 +1,7 @@
 -- The parts of a put: the stripes that it passes, why it stops, and its writes.
 use Rattle.std.specs.Prelude.{◌≡◌, ◌≢◌, ◌⊎◌, ◌≤◌, ◌<◌, ◌+◌, ◌++◌, ℕ, nat_eq, Bool, true, false}
 use Rattle.std.specs.Prelude.{List, [], ◌∷◌, Option, Some, None, IfSome, Result, Ok, Err, All}
-use Rattle.std.specs.Prelude.{length, IsTrue, if◌then◌else◌}
+use Rattle.std.specs.Prelude.{length, Contains, IsTrue, if◌then◌else◌}
 use Rattle.pot_bytes.specs.declared.rack.Place.{Place}
 use Rattle.pot_bytes.specs.Lists.{IsBlock}
 use Rattle.pot_outside.specs.Failing.{MayLeave}
@@ -180,6 +180,13 @@ pub record FindsStripe (told : Type 0) (job : ℕ) (p q : List ℕ) (s : Stop)
 
 -- THE WRITES
 
+-- this is the block, or the new parity block, that a put writes into its stripe's slot of this archive
+abbrev pub IsPut : Table → ℕ → ℕ → List ℕ → List ℕ → List ℕ → ℕ → List ℕ → Type 0
+IsPut t s c block p q number x =
+    ((number ≡ serving_at t s c) × (x ≡ block))
+    ⊎ (((number ≡ serving_at t s t.data_columns) × (x ≡ p))
+    ⊎ ((t.parity ≡ 2) × (number ≡ serving_at t s (t.data_columns + 1)) × (x ≡ q)))
+
 -- What is held once a block was written at a place and the parity blocks `p` and `q` of its stripe
 -- were, or what failed writes left of them. Nothing else changes.
 pub record PutsAt (t : Table) (h written : Holdings) (s c : ℕ) (block p q : List ℕ)
@@ -194,6 +201,8 @@ pub record PutsAt (t : Table) (h written : Holdings) (s c : ℕ) (block p q : Li
   pub elsewhere : (number slot : ℕ)
       → (slot ≢ s) ⊎ ((k : ℕ) → k < width t → serving_at t s k ≢ number)
       → written number slot ≡ h number slot
+  pub frame : (number slot : ℕ) (x : List ℕ) → written number slot ≡ Some x
+      → (h number slot ≡ Some x) ⊎ ((slot ≡ s) × IsPut t s c block p q number x)
 
 -- The block was written, and the new parity blocks as far as they were kept.
 pub record WritesAll (told : Type 0) (t : Table) (s c : ℕ) (block p q : List ℕ) (kept kept2 : Bool)
@@ -203,6 +212,8 @@ pub record WritesAll (told : Type 0) (t : Table) (s c : ℕ) (block p q : List �
   pub wrote : told
       → (written : Holdings) × PutsAt t old.held written s c block p q kept kept2
       × LosesByCount written old new
+  pub remembers : told → (number : ℕ) (x : List ℕ) → Contains (new.history number) x
+      → Contains (old.history number) x ⊎ IsPut t s c block p q number x
   pub first : kept ≡ false
       → Rose (old.faults (serving_at t s t.data_columns))
       (new.faults (serving_at t s t.data_columns))

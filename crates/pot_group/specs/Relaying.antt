@@ -24,9 +24,10 @@ use Rattle.pot_group.specs.declared.relaying.BeginFault.{BeginFault}
 use Rattle.pot_group.specs.declared.relaying.BeginFault.TheVariants as fault
 use Rattle.pot_group.specs.declared.relaying.Mend.{Mend}
 use Rattle.pot_group.specs.declared.relaying.Mend.TheVariants as mend
+use Rattle.pot_group.specs.Heard.{blinds_after}
 use Rattle.pot_group.specs.Group.{GroupParts, GroupView, FailedAt, noted, state_of}
 
--- an entry is logged, and does in the table and to the flights what it says
+-- an entry is logged, and does in the table, to the flights and to the blinds what it says
 abbrev pub acted : {A : Type 0} → GroupParts A → Entry → List ℕ → GroupParts A
 acted g e given =
     record g {
@@ -34,6 +35,7 @@ acted g e given =
       log = g.log
           ++ e ∷ [];
       flights = flights_after g.table e given g.flights;
+      blinds = blinds_after e given g.blinds;
     }
 
 -- the answer of a begin as the steps of a group name it
@@ -97,6 +99,7 @@ pub record Acts (e : Entry) (given : List ℕ) (old new : GroupView) : Type 0 wh
   pub table : new.table ≡ after old.table e
   pub log : new.log ≡ old.log ++ e ∷ []
   pub flights : new.flights ≡ flights_after old.table e given old.flights
+  pub blinds : new.blinds ≡ blinds_after e given old.blinds
 
 -- the answer of an advance as the steps of a group name it
 abbrev pub advance_as : Result Advanced AdvanceFault → step.AdvanceAnswer

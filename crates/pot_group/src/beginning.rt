@@ -6,12 +6,13 @@ ghost use Rattle.pot_machine.specs.Column.{homes_of};
 
 use crate::group::Group;
 use crate::known::Known;
-use pot_bytes::LOG_BOUND;
+use pot_bytes::{Block, LOG_BOUND};
 use pot_machine::{Column, Entry, GroupTable};
 use pot_outside::{Archive, Shelf};
 use pot_shelves::{Archives, open_all};
 use pot_steps::Flight;
 use std::alloc::Global;
+use std::snapshot::Snapshot;
 
 /// What a group that could not begin hands back, as it was handed in. It is want of memory alone.
 pub struct StartRefused<A> {
@@ -25,6 +26,7 @@ pub struct StartRefused<A> {
 struct Memory {
     log: Vec<Entry>,
     flights: Vec<Flight>,
+    blinds: Vec<Snapshot<Block>>,
     known: Box<Known>,
 }
 
@@ -75,6 +77,9 @@ impl<A: Archive> Group<A> {
         let Ok(flights) = Vec::with_capacity(alloc, 16) else {
             return Err(StartRefused { table, shelves });
         };
+        let Ok(blinds) = Vec::with_capacity(alloc, LOG_BOUND) else {
+            return Err(StartRefused { table, shelves });
+        };
         let Ok(first) = table.copy(alloc) else {
             return Err(StartRefused { table, shelves });
         };
@@ -84,6 +89,7 @@ impl<A: Archive> Group<A> {
         let memory = Memory {
             log,
             flights,
+            blinds,
             known,
         };
         match Archives::take(alloc, shelves) {
@@ -106,6 +112,8 @@ impl<A: Archive> Group<A> {
         requires room { log_bound ≤ vec_capacity memory.log }
         requires none { memory.flights.items ≡ [] }
         requires places { 16 ≤ vec_capacity memory.flights }
+        requires blank { memory.blinds.items ≡ [] }
+        requires blinds { log_bound ≤ vec_capacity memory.blinds }
         requires taken { IsTaken (IsTrue A.account.tells) (plain A.account.meaning archives) }
         requires archives { map (λ s. s.number) archives.shelves ≡ archives_in table }
         ensures { Begins (IsTrue A.account.tells) A.account.meaning number table archives.shelves
@@ -115,6 +123,7 @@ impl<A: Archive> Group<A> {
         let Memory {
             mut log,
             flights,
+            blinds,
             known,
         } = memory;
         let mut archives = archives;
@@ -127,6 +136,7 @@ impl<A: Archive> Group<A> {
             table,
             log,
             flights,
+            blinds,
             archives,
             known,
         }

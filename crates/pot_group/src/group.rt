@@ -12,6 +12,7 @@ use pot_sealed::Sealed;
 use pot_shelves::{Archives, note};
 use pot_steps::Flight;
 use std::marker::Model;
+use std::snapshot::Snapshot;
 
 /// What a group was, handed out at its end.
 pub struct Ended<A> {
@@ -23,8 +24,8 @@ pub struct Ended<A> {
     pub shelves: Vec<Shelf<A>>,
 }
 
-/// A group of archives. Contracts see its number, the table that it began with, its table and its log now, and its
-/// archives.
+/// A group of archives. Contracts see its number, the table that it began with, its table and its log now, the blinds of its
+/// relays, and its archives.
 #[derive(Drop)]
 pub struct Group<A: Archive> {
     pub(crate) number: u8,
@@ -32,12 +33,14 @@ pub struct Group<A: Archive> {
     pub(crate) table: GroupTable,
     pub(crate) log: Vec<Entry>,
     pub(crate) flights: Vec<Flight>,
+    /// The blind of each relay that the log begins, in order. They take no memory, and only contracts see them.
+    pub(crate) blinds: Vec<Snapshot<Block>>,
     pub(crate) archives: Archives<A>,
     pub(crate) known: Box<Known>,
 }
 
 impl<A: Archive> Model for Group<A> {
-    ghost use Rattle.std.specs.Prelude.{◌≤◌, IsTrue};
+    ghost use Rattle.std.specs.Prelude.{◌≤◌, IsTrue, map};
     ghost use Rattle.std.specs.Vec.{vec_capacity};
     ghost use Rattle.pot_bytes.specs.Rack.{log_bound};
     ghost use Rattle.pot_group.specs.Group.{GroupParts, view_of, IsSettled};
@@ -52,6 +55,7 @@ impl<A: Archive> Model for Group<A> {
       table = g.table;
       log = g.log.items;
       flights = g.flights.items;
+      blinds = map (λ s. s.value) g.blinds.items;
       shelves = g.archives;
     } };
 
@@ -62,10 +66,12 @@ impl<A: Archive> Model for Group<A> {
           table = g.table;
           log = g.log.items;
           flights = g.flights.items;
+          blinds = map (λ s. s.value) g.blinds.items;
           shelves = g.archives;
         }))
         × (log_bound ≤ vec_capacity g.log) × (16 ≤ vec_capacity g.flights)
-        × HasArrived g.first g.log.items (numbers_of g.archives.shelves) };
+        × HasArrived g.first g.log.items (numbers_of g.archives.shelves)
+        × (log_bound ≤ vec_capacity g.blinds) };
 }
 
 impl<A: Archive> Group<A> {
@@ -153,6 +159,7 @@ impl<A: Archive> Group<A> {
             table,
             log,
             flights: _,
+            blinds: _,
             archives,
             known: _,
         } = self;

@@ -10,6 +10,7 @@ use pot_machine::{Entry, Relay};
 use pot_outside::{Archive, Failed, Held};
 use pot_shelves::note;
 use pot_steps::{Finished, Flight, Hopped, begin, finish, give_up, hop, mended, weight_of};
+use std::snapshot::Snapshot;
 
 /// What an advance of a relay came to.
 #[derive(Clone, Copy, PartialEq, Eq, Debug)]
@@ -181,6 +182,7 @@ impl<A: Archive> Group<A> {
         let (flight, entry) = begin(&mut self.table, job, place, blind);
         self.log.push_reserved(entry);
         self.flights.push_reserved(flight);
+        self.blinds.push_reserved(Snapshot::of(blind));
     }
 
     /// The flight over a stripe.
@@ -332,6 +334,7 @@ impl<A: Archive> Group<A> {
     fn fold_next(&mut self, flight: &Flight, column: u8, sum: &mut Block) -> Result<Held, Failed>
         requires here { flight_in self.old.flights flight.now.relay.stripe ≡ Some flight.now }
         requires next { next_column self.old.table flight.now.relay ≡ Some column }
+        requires sum { sum.old ≡ flight.now.sum }
         ensures same { self.new ≡ with_archives self.old self.new.shelves }
         ensures covers { IsErr result → CoversOne (view_of A.account.meaning self.new) column }
         ensures folds { OnShelves A.account

@@ -1,5 +1,6 @@
 pub mod Answering
 pub mod Faulting
+pub mod Framing
 pub mod FirstReplies
 pub mod Giving
 pub mod Keeping

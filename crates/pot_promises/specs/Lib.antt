@@ -2,6 +2,7 @@ pub mod Answers
 pub mod Chains
 pub mod Complete
 pub mod Faults
+pub mod Frames
 pub mod Lost
 pub mod Odds
 pub mod Openings

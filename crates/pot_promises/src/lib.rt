@@ -20,6 +20,8 @@
 //!    fragment lie in slots that are Live or can be mended (`lost_laws`).
 //! 8. Where the archives of a group came back with their counts as they were, the opening of its table logged what the blocks
 //!    say that the room meant, and nothing else (`opening_laws`).
+//! 9. What the archives hold, ever held and ever heard after a session that closed, they did before it, or its logs name it: a block
+//!    by its digest and its place, a sum by the relay that it belongs to (`frame_laws`).
 //!
 //! The premises on digests name texts: the file and the bytes that were fetched, or the blocks of the file
 //! and those that were read. They say of these that they are equal where they have one digest.
@@ -27,6 +29,7 @@
 
 ghost use Rattle.pot_promises.specs.Complete.{RunsAreAnswered};
 ghost use Rattle.pot_promises.specs.Faults.{FaultsAreCounted};
+ghost use Rattle.pot_promises.specs.Frames.{FrameOfRun};
 ghost use Rattle.pot_promises.specs.Lost.{LostIsFew};
 ghost use Rattle.pot_promises.specs.Odds.{NeverOdd, OddReads};
 ghost use Rattle.pot_promises.specs.Openings.{OpeningsAreTrue};
@@ -52,6 +55,11 @@ pub fn file_laws()
 /// Where a reply `fault` comes from. It does nothing.
 pub fn fault_laws()
     ensures { FaultsAreCounted }
+{}
+
+/// What a session may have written into its archives, and what it may have let them hear. It does nothing.
+pub fn frame_laws()
+    ensures { FrameOfRun }
 {}
 
 /// Where a reply `lost` comes from. It does nothing.

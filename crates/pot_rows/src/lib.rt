@@ -26,6 +26,7 @@ mod ties;
 mod works;
 
 use pot_turn::{Kept, Pass, Turn};
+use std::alloc::Global;
 use std::marker::Model;
 pub use works::row_laws;
 
@@ -59,4 +60,13 @@ impl<T: Kept> Model for Passes<T> {
     ghost Value = { PassRow T.Entry T.Origin };
 
     ghost view = { λ p. record { names = map turn_of p.passes.items; views = map knows p.passes.items } };
+}
+
+impl<T: Kept> Passes<T> {
+    /// No passes, of no turns.
+    pub fn none(alloc: Global) -> Passes<T> {
+        Passes {
+            passes: Vec::new(alloc),
+        }
+    }
 }

@@ -65,6 +65,7 @@ in_room archives hand old new given b s n (x, has, e, shows) t back =
     subst (λ k. Shows s n (new.means k)) e (record {
       blocks = λ slot. shows.blocks slot ∙ is.blocks slot;
       sums = shows.sums ∙ is.sums;
+      history = shows.history ∙ is.past;
       faults = shows.faults ∙ is.faulted;
       losses = shows.losses ∙ is.lost;
     })

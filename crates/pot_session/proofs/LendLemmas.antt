@@ -24,7 +24,7 @@ use Rattle.pot_shared.specs.Going.{AllSole}
 use Rattle.pot_shared.specs.Hands.{times}
 use Rattle.pot_commands.specs.Holding.{AreOut, Untouched}
 use Rattle.pot_commands.specs.Taking.{Takes, Come, AreUsed}
-use Rattle.pot_shared.specs.Coming.{AreMarkedBy, came_in, marks_of}
+use Rattle.pot_shared.specs.Coming.{AreMarkedBy, came_in, taking_of}
 use Rattle.pot_commands.proofs.ArrivingLemmas.{arrived_used}
 use Rattle.pot_shared.proofs.ComingLemmas.{arrival_in}
 use Rattle.pot_shared.proofs.Times.{times-append, times_there}
@@ -118,7 +118,7 @@ module _ (told well : Type 0) (asked : List ℕ) (r r' : Lending) (old new : Kno
       let d = outs n in
       let at = at_most (r'.out n) in
       let none : times n ns ≡ 0 = omega (arith, some, a, b, d, at) in
-      come.marked tells sole g lt l n has arr ∙ ap (λ m. Some (marks_of m)) (untouched n none)
+      come.marked tells sole g lt l n has arr ∙ ap (λ m. Some (taking_of m)) (untouched n none)
     where
       at_most : (b : Bool) → one_if b ≤ 1
       at_most true = omega arith

@@ -10,10 +10,10 @@ use Rattle.pot_machine.specs.declared.entry.Entry.{Entry}
 use Rattle.pot_group.specs.Arrivals.{arrival, arrivals}
 use Rattle.pot_shelves.specs.Shelves.{Shelves}
 use Rattle.pot_shared.specs.declared.member.Logged.{Logged}
-use Rattle.pot_shared.specs.Members.{all_logged, entries_of, logged_at, mark_at}
+use Rattle.pot_shared.specs.Members.{all_logged, entries_of, logged_at, taking_at}
 use Rattle.pot_shared.proofs.MemberLemmas.{marks_by}
 use Rattle.pot_shared.specs.Hands.{times, AreApart}
-use Rattle.pot_shared.specs.Coming.{AreMarkedBy, came_in, marks_of}
+use Rattle.pot_shared.specs.Coming.{AreMarkedBy, came_in, taking_of}
 use Rattle.pot_shared.proofs.Times.{times-append, times_here, times_there}
 use Rattle.pot_shared.specs.Groups.{AreLow}
 
@@ -107,11 +107,11 @@ logged_in s (x ∷ es) e (suc k, lt, at) = (let r = logged_in s es e (k, omega (
 
 -- an archive that came behind an opening that brought none
 pub came_marked : (meant : ℕ → Meaning) (s : Shelves) (log : List Entry) (first gain : List Logged) → all_logged s log ≡ first ++ gain → arrivals (entries_of first) ≡ [] → AreMarkedBy meant gain
-    → (n : ℕ) → Contains (arrivals log) n → mark_at s n ≡ marks_of (meant n)
+    → (n : ℕ) → Contains (arrivals log) n → taking_at s n ≡ taking_of (meant n)
 came_marked meant s log first gain parts none marked n has =
     let e = entry_in log n has in
     let there : Contains (first ++ gain) (logged_at s e.0) = subst (λ ls. Contains ls (logged_at s e.0)) parts (logged_in s log e.0 e.1) in
     let mark = marks_by s e.0 n e.2 in ⊎_elim
     (λ (h : Contains first (logged_at s e.0)). absurd (none_contained n (subst (λ ns. Contains ns n) none (arrival_in first (logged_at s e.0) n h e.2))))
-    (λ (h : Contains gain (logged_at s e.0)). same_Some (mark_at s n) (marks_of (meant n)) (sym mark ∙ marked (logged_at s e.0) n h e.2))
+    (λ (h : Contains gain (logged_at s e.0)). same_Some (taking_at s n) (taking_of (meant n)) (sym mark ∙ marked (logged_at s e.0) n h e.2))
     (Contains-append_cases first gain (logged_at s e.0) there)

@@ -1,6 +1,6 @@
 -- Groups that were started, and that end one by one.
 use Rattle.std.proofs.Common.{◌≡◌, ◌≤◌, ◌<◌, ◌+◌, ◌++◌, inl, inr, ℕ, zero, suc, List, [], ◌∷◌, length, take, drop, map, refl, sym, ap, subst, ◌∙◌, arith, append_assoc, append-nil, length-append}
-use Rattle.std.specs.Prelude.{Some, None, All, Contains, slice_get, flat_map}
+use Rattle.std.specs.Prelude.{Option, Some, None, All, Contains, slice_get, flat_map}
 use Rattle.std.proofs.Math.Seq.{take-append_seam, drop-append_seam}
 use Rattle.std.proofs.lemmas.Grind.{flat_map-append}
 use Rattle.std.proofs.lemmas.List.Elements.{All-head, All-tail}
@@ -9,7 +9,6 @@ use Rattle.std.proofs.lemmas.List.{map-append, length-map, append_cancel_left, t
 use Rattle.std.proofs.lemmas.Bool.Decides.{eqb_tells}
 use Rattle.pot_bytes.proofs.Elements.{none_contained}
 use Rattle.pot_outside.specs.Archives.{Meaning, IsMeant}
-use Rattle.pot_outside.specs.declared.archive.Marks.{Marks}
 use Rattle.pot_outside.specs.declared.archive.Shelf.{Shelf}
 use Rattle.pot_machine.specs.declared.entry.Entry.{Entry}
 use Rattle.pot_machine.specs.declared.entry.Entry.TheVariants.{Gone, Broke}
@@ -23,8 +22,10 @@ use Rattle.pot_group.specs.Group.{GroupView, GroupParts, view_of}
 use Rattle.pot_shelves.specs.Shelves.{numbers_of, shelf_of, given, plain}
 use Rattle.pot_group.proofs.CauseLemmas.{OfOpening, opening_entries}
 use Rattle.pot_group.proofs.Opened.{handed_all}
-use Rattle.pot_shared.specs.Members.{mark_at, opened_at}
-use Rattle.pot_shared.specs.Coming.{marks_of}
+use Rattle.pot_shared.specs.declared.member.Taking.{Taking}
+use Rattle.pot_shared.specs.Members.{opened_at, taking_at}
+use Rattle.pot_shared.specs.Coming.{taking_of}
+use Rattle.pot_shared.proofs.Takings.{taking_is, taking_same}
 use Rattle.pot_shared.specs.Groups.{IsFirstTable, IsOpened, IsStarted, IsEnded, AreStarted, AreMarked, AreEnded, MarksRose, RoseBy, had_by}
 use Rattle.pot_shared.specs.Hands.{times, AreSame, AreMeant}
 use Rattle.pot_shared.proofs.Lists.{each_more, pair_more, same_flat, flat_snoc, flat_parts, grown, all_at}
@@ -63,7 +64,7 @@ find_shelf (x ∷ xs) n has = elim (eqb_tells x.number n) [
     later ne (zero, l, e) = absurd (ne e)
     later ne (suc k, l, e) = (k, omega (arith, l), e)
 
--- the marks of its archives are what their numbers meant
+-- its archives were taken as their numbers meant
 pub marked_of : {A : Type 0} (told : Type 0) (meaning : A → Meaning) (meant : ℕ → Meaning) (number : ℕ) (t : Table) (handed : List (Shelf A)) (g : GroupParts A) → told → Begins told meaning number t handed g
     → numbers_of handed ≡ archives_in t → AreMeant meaning meant handed → AreMarked meant t (view_of meaning g).shelves
 marked_of {A} told meaning meant number t handed g tells b e are n has = same
@@ -74,17 +75,26 @@ marked_of {A} told meaning meant number t handed g tells b e are n has = same
     is : IsMeant (meant n) (meaning found.0.archive)
     is = subst (λ k. IsMeant (meant k) (meaning found.0.archive)) found.2 (are found.0 (subst (λ ss. Contains ss found.0) b.shelves found.3))
 
-    faulted : (plain meaning g.shelves).faults_taken n ≡ (meant n).faults
-    faulted = ap (λ s. (plain meaning s).faults_taken n) b.marked ∙ (b.opens.stays.keeps.faults_taken n ∙ (b.marks.faults n ∙ (ap (λ o. given (λ x. (meaning x).faults) 0 o) found.1 ∙ is.faulted)))
+    faulted : (plain meaning g.shelves).faults_taken n ≡ (meaning found.0.archive).faults
+    faulted = ap (λ s. (plain meaning s).faults_taken n) b.marked ∙ (b.opens.stays.keeps.faults_taken n ∙ (b.marks.faults n ∙ ap (λ o. given (λ x. (meaning x).faults) 0 o) found.1))
 
-    lost : (plain meaning g.shelves).losses_taken n ≡ (meant n).losses
-    lost = ap (λ s. (plain meaning s).losses_taken n) b.marked ∙ (b.opens.stays.keeps.losses_taken n ∙ (b.marks.losses tells n ∙ (ap (λ o. given (λ x. (meaning x).losses) 0 o) found.1 ∙ is.lost)))
+    lost : (plain meaning g.shelves).losses_taken n ≡ (meaning found.0.archive).losses
+    lost = ap (λ s. (plain meaning s).losses_taken n) b.marked ∙ (b.opens.stays.keeps.losses_taken n ∙ (b.marks.losses tells n ∙ ap (λ o. given (λ x. (meaning x).losses) 0 o) found.1))
 
-    marks : ℕ → ℕ → Marks
-    marks f l = record { faults = f; losses = l }
+    parts : Option (Shelf A) → Meaning
+    parts o = record {
+      held = λ slot. given (λ x. (meaning x).held slot) None o;
+      history = given (λ x. (meaning x).history) [] o;
+      heard = given (λ x. (meaning x).heard) [] o;
+      faults = given (λ x. (meaning x).faults) 0 o;
+      losses = given (λ x. (meaning x).losses) 0 o;
+    }
 
-    same : mark_at (plain meaning g.shelves) n ≡ marks_of (meant n)
-    same = ap (λ f. marks f ((plain meaning g.shelves).losses_taken n)) faulted ∙ ap (λ l. marks (meant n).faults l) lost
+    taken : (plain meaning g.shelves).taken n ≡ meaning found.0.archive
+    taken = ap (λ s. (plain meaning s).taken n) b.marked ∙ (b.opens.stays.keeps.taken n ∙ (b.marks.meant n ∙ ap parts found.1))
+
+    same : taking_at (plain meaning g.shelves) n ≡ taking_of (meant n)
+    same = taking_is (plain meaning g.shelves) n (meaning found.0.archive) faulted lost taken ∙ taking_same (meant n) (meaning found.0.archive) is
 
 -- what an archive holds, its number meant
 held_meant : {A : Type 0} (meaning : A → Meaning) (meant : ℕ → Meaning) (ss : List (Shelf A)) → AreMeant meaning meant ss → (n slot : ℕ) (block : List ℕ)
@@ -123,7 +133,7 @@ opened_of told meaning meant number t handed g tells b e are table = record {
   missed = λ s c ls lc is sound.
       (let has = serves_there t table s c lc in (
         has,
-        subst (λ m. MarksRose m (opened_at (view_of meaning g).shelves (serving_at t s c)))
+        subst (λ (m : Taking). MarksRose m.marks (opened_at (view_of meaning g).shelves (serving_at t s c)))
             (marked_of told meaning meant number t handed g tells b e are (serving_at t s c) has)
             (b.rose tells s c ls lc is (
               sound.0,

@@ -40,7 +40,10 @@ other_groups told meant Has Is read logs written is l = record {
     is_log = x.is_log;
     is = x.is;
     settled = x.settled;
+    course = x.course;
     marked = x.marked;
+    taken = x.taken;
+    within = x.within;
     archives = λ n has. is x.view.shelves n (x.archives n has);
   });
 }

@@ -17,13 +17,17 @@ use Rattle.pot_index.specs.Entries.{entries}
 use Rattle.pot_index.specs.Index.{IndexView, IsIndex, names_read, Replays}
 use Rattle.pot_group.specs.Arrivals.{arrivals}
 use Rattle.pot_group.specs.Group.{GroupView, GroupParts, IsSettled, view_of}
+use Rattle.pot_group.specs.Frames.{IsFramed}
+use Rattle.pot_group.specs.Heard.{HasHeard}
+use Rattle.pot_shared.specs.declared.member.Taking.{Taking}
+use Rattle.pot_shared.proofs.Takings.{blocks_same}
 use Rattle.pot_shelves.specs.Shelves.{numbers_of, shelf_of, given, plain}
 use Rattle.pot_shelves.proofs.ShelfLemmas.{rose_more}
 use Rattle.pot_index.proofs.RecordLaws.{few_published}
 use Rattle.pot_turn.specs.declared.name.TurnName.{TurnName}
 use Rattle.pot_worked.specs.Worked.{added}
 use Rattle.pot_rows.specs.Rows.{view_at}
-use Rattle.pot_shared.specs.Members.{entries_of, kept_log, opened_at, origin_of, mark_at}
+use Rattle.pot_shared.specs.Members.{entries_of, kept_log, opened_at, origin_of, taking_at}
 use Rattle.pot_shared.specs.Ready.{GroupPass, GroupPasses, AreReady}
 use Rattle.pot_shared.specs.Catalogs.{IndexPasses, IsIndexReady, records_in}
 use Rattle.pot_shared.specs.Sharing.{Ends}
@@ -31,9 +35,9 @@ use Rattle.pot_shared.specs.Works.{Known, known, gained, section_of}
 use Rattle.pot_shared.specs.Going.{AllSole}
 use Rattle.pot_shared.specs.Hands.{times, AreApart}
 use Rattle.pot_shared.proofs.Times.{times-append}
-use Rattle.pot_shared.specs.Coming.{AreMarkedBy, came_in, marks_of}
-use Rattle.pot_shared.specs.Groups.{AreServed, AreEnded, AreLow, AreTakenAt, HasMarks, HaveCome, IsOpened, MarksRose, RoseBy, had_by, tables_read, records_read}
-use Rattle.pot_shared.specs.Leaving.{AreOpened, IsInHand, RoseInHand, LeavesRecords, LeavesLogs, LeaveGroups, still}
+use Rattle.pot_shared.specs.Coming.{AreMarkedBy, came_in, marks_of, taking_of}
+use Rattle.pot_shared.specs.Groups.{AreServed, AreEnded, AreLow, AreTakenAt, HasMarks, HasTaken, HaveCome, IsOpened, MarksRose, RoseBy, had_by, tables_read, records_read}
+use Rattle.pot_shared.specs.Leaving.{AreOpened, AreWithin, IsInHand, RoseInHand, LeavesRecords, LeavesLogs, LeaveGroups, still}
 use Rattle.pot_shared.proofs.Lists.{same_at, flat_contains}
 use Rattle.pot_shared.proofs.GroupLemmas.{find_shelf}
 use Rattle.pot_shared.proofs.CloseLemmas.{closed_firsts, closed_kept, closed_log, closed_story, its_came, members_of, opened_none, sole_all}
@@ -111,6 +115,28 @@ module _ {M : Type 0} (see : M → GroupView) (rack : Rack) (names turn : List T
 
 -- WHAT THE GROUPS LEAVE
 
+-- what the archives of a group hold, held and heard, by what their numbers meant
+within_of : (meant : ℕ → Meaning) (g : GroupView) → IsFramed g.first g.log g.shelves → HasHeard g.first g.log g.blinds g.flights g.shelves → HasTaken meant g → AreWithin meant g
+within_of meant g frame heard taken = record {
+  givens = heard.givens;
+  are = heard.are;
+  fly = heard.fly;
+  each = λ n has. record {
+    held = λ slot block l e. elim (frame.held n slot block e) [
+      | inl before ↦ inl (sym (blocks_same (g.shelves.taken n).held (meant n).held (ap (λ (x : Taking). x.blocks) (taken n has)) slot l) ∙ before)
+      | inr now ↦ inr now
+    ];
+    history = λ block h. elim (frame.history n block h) [
+      | inl before ↦ inl (subst (λ bs. Contains bs block) (ap (λ (x : Taking). x.history) (taken n has)) before)
+      | inr now ↦ inr now
+    ];
+    heard = λ x h. elim (heard.sums n x h) [
+      | inl before ↦ inl (subst (λ xs. Contains xs x) (ap (λ (y : Taking). y.heard) (taken n has)) before)
+      | inr now ↦ inr now
+    ];
+  };
+}
+
 module _ {A M : Type 0} (told : Type 0) (meaning : A → Meaning) (parts : M → GroupParts A) (rack : Rack) (names turn : List TurnName) (groups : GroupPasses) (passes : IndexPasses) (ms : List M) (ended : IndexView)
     (ready : AreReady rack names groups) (index_ready : IsIndexReady rack names turn passes) (old : Known) (s : AreServed old (known groups passes))
     (e : Ends (λ m. kept_log (view_of meaning (parts m))) (λ m. origin_of (view_of meaning (parts m))) rack names groups (view_at passes 0) ms ended) (all : AreEnded told (λ m. view_of meaning (parts m)) ms)
@@ -120,11 +146,11 @@ module _ {A M : Type 0} (told : Type 0) (meaning : A → Meaning) (parts : M →
   origin_is : (n : ℕ) (m : M) → slice_get ms n ≡ Some m → (view_at old.groups n).origin ≡ Some (origin_of (view_of meaning (parts m)))
   origin_is n m q = sym (s.stays.groups.origin n) ∙ (sym (ap (λ (v : GroupPass). v.origin) (e.joined n).both) ∙ sym (e.closed.each n m q).named)
 
-  -- the marks of its archives are those that the first passes know, and those with which they came
-  marked : (n : ℕ) (m : M) → slice_get ms n ≡ Some m → told → HasMarks meant (view_of meaning (parts m))
-  marked n m q t k has = ⊎_elim
+  -- its archives were taken as the first passes know, and as they came
+  took : (n : ℕ) (m : M) → slice_get ms n ≡ Some m → told → HasTaken meant (view_of meaning (parts m))
+  took n m q t k has = ⊎_elim
       (λ (h : Contains (archives_in (parts m).first) k).
-      same_at (mark_at (plain meaning (parts m).shelves)) (λ x. marks_of (meant x)) (archives_in (parts m).first) k
+      same_at (taking_at (plain meaning (parts m).shelves)) (λ x. taking_of (meant x)) (archives_in (parts m).first) k
       (taken t n (origin_of (view_of meaning (parts m))) (origin_is n m q)).0 h)
       (λ (h : Contains (arrivals (parts m).log) k).
       came_marked meant (plain meaning (parts m).shelves) (parts m).log (view_at old.groups n).seen (added (view_at old.groups n) (view_at groups n))
@@ -134,6 +160,14 @@ module _ {A M : Type 0} (told : Type 0) (meaning : A → Meaning) (parts : M →
       (let a = slice_get_within ms n m q in let b = members_of (λ x. view_of meaning (parts x)) rack names turn groups passes ms ended ready index_ready old s e in omega (arith, a, b))) k h)
       (Contains-append_cases (archives_in (parts m).first) (arrivals (parts m).log) k has)
 
+  -- and so were their marks
+  marked : (n : ℕ) (m : M) → slice_get ms n ≡ Some m → told → HasMarks meant (view_of meaning (parts m))
+  marked n m q t k has = ap (λ (x : Taking). x.marks) (took n m q t k has)
+
+  -- what they hold, held and heard
+  within : (n : ℕ) (m : M) → slice_get ms n ≡ Some m → told → AreWithin meant (view_of meaning (parts m))
+  within n m q t = within_of meant (view_of meaning (parts m)) ((all n m q).settled.frame t) ((all n m q).settled.heard t) (took n m q t)
+
   -- its archives are in the hand
   handed : (n : ℕ) (m : M) → slice_get ms n ≡ Some m → (k : ℕ) → Contains (had_by (view_of meaning (parts m))) k → IsInHand meaning hand (plain meaning (parts m).shelves) k
   handed n m q k has = (
@@ -142,6 +176,7 @@ module _ {A M : Type 0} (told : Type 0) (meaning : A → Meaning) (parts : M →
     found.2,
     record {
       blocks = λ slot. ap (λ o. given (λ x. (meaning x).held slot) None o) found.1;
+      history = ap (λ o. given (λ x. (meaning x).history) [] o) found.1;
       sums = ap (λ o. given (λ x. (meaning x).heard) [] o) found.1;
       faults = ap (λ o. given (λ x. (meaning x).faults) 0 o) found.1;
       losses = ap (λ o. given (λ x. (meaning x).losses) 0 o) found.1;
@@ -195,7 +230,10 @@ module _ {A M : Type 0} (told : Type 0) (meaning : A → Meaning) (parts : M →
         is_log = refl;
         is = refl;
         settled = (all n m q).settled;
+        course = (all n m q).course;
         marked = marked n m q;
+        taken = took n m q;
+        within = within n m q;
         archives = handed n m q;
       }))))
 

@@ -1,3 +1,4 @@
+pub mod Takings
 pub mod MemberLemmas
 pub mod CallLemmas
 pub mod UseLemmas
@@ -20,3 +21,4 @@ pub mod ComingLemmas
 pub mod CloseLemmas
 pub mod LeavingWords
 pub mod LeftLemmas
+pub mod SessionLemmas

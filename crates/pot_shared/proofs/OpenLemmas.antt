@@ -16,7 +16,7 @@ use Rattle.pot_turn.specs.declared.name.TurnName.{TurnName}
 use Rattle.pot_turn.specs.Views.{first_view, spent_view}
 use Rattle.pot_rows.specs.Rows.{AreOf, view_at}
 use Rattle.pot_shared.specs.declared.catalog.CatalogOrigin.{CatalogOrigin}
-use Rattle.pot_shared.specs.Members.{kept_log, origin_of, entries_of, mark_at, opened_at}
+use Rattle.pot_shared.specs.Members.{kept_log, origin_of, entries_of, taking_at, opened_at}
 use Rattle.pot_shared.specs.Callers.{CanCall}
 use Rattle.pot_shared.specs.Vaults.{VaultView}
 use Rattle.pot_shared.specs.Ready.{AreReady, GroupPass, GroupPasses, IsTableOf}
@@ -25,7 +25,7 @@ use Rattle.pot_shared.specs.Sharing.{AreFirst, HaveLogs}
 use Rattle.pot_shared.specs.Works.{Known}
 use Rattle.pot_replies.specs.Sessions.{ByNobody}
 use Rattle.pot_shared.proofs.MemberLemmas.{entries_all, same_on}
-use Rattle.pot_shared.specs.Coming.{marks_of}
+use Rattle.pot_shared.specs.Coming.{taking_of}
 use Rattle.pot_shared.specs.Groups.{AreStarted, AreOfRack, AreTakenFrom, AreFirstPasses, AreTakenAt, IsFirstPass, IsFirstTable, IsOpened, IsOpenedAt, RoseBy, had_by, table_read, tables_read}
 use Rattle.pot_shared.proofs.Lists.{same_maps, same_flat, all_at_place}
 
@@ -108,10 +108,10 @@ taken_at {M} see ms names row meant first of long marked g o e = elim (cases_lt 
   | inr l ↦ absurd (let q = sym e ∙ ap (λ (v : GroupPass). v.origin) (at_past names row g of l) in cc)
 ]
   where
-    at : (m : M) → slice_get ms g ≡ Some m → (o.taken ≡ map (λ n. marks_of (meant n)) (archives_in o.first)) × IsOpenedAt meant o (entries_of (view_at row g).seen)
+    at : (m : M) → slice_get ms g ≡ Some m → (o.taken ≡ map (λ n. taking_of (meant n)) (archives_in o.first)) × IsOpenedAt meant o (entries_of (view_at row g).seen)
     at m q = (
-      subst (λ (p : GroupOrigin). p.taken ≡ map (λ n. marks_of (meant n)) (archives_in p.first)) same
-          (same_on (mark_at (see m).shelves) (λ n. marks_of (meant n)) (archives_in (see m).first) (marked g m q).marked),
+      subst (λ (p : GroupOrigin). p.taken ≡ map (λ n. taking_of (meant n)) (archives_in p.first)) same
+          (same_on (taking_at (see m).shelves) (λ n. taking_of (meant n)) (archives_in (see m).first) (marked g m q).marked),
       subst (λ (p : GroupOrigin). IsOpenedAt meant p (entries_of (view_at row g).seen)) same (record {
         marks = opened_at (see m).shelves;
         are = refl;

@@ -13,6 +13,7 @@ use Rattle.pot_steps.specs.GroupStep.{Breaks, FindsGone, Spared, as_read, openin
 use Rattle.pot_index.specs.declared.record.Record.{Record}
 use Rattle.pot_group.specs.Arrivals.{arrivals, HasArrived}
 use Rattle.pot_group.specs.Group.{GroupView, IsSettled}
+use Rattle.pot_followed.specs.Course.{HasCourse}
 use Rattle.pot_shelves.specs.Shelves.{Shelves}
 use Rattle.pot_turn.specs.Views.{first_view, cut_view}
 use Rattle.pot_worked.specs.Worked.{added}
@@ -21,13 +22,13 @@ use Rattle.pot_replies.specs.Sessions.{ByNobody}
 use Rattle.pot_shared.specs.declared.member.Logged.{Logged}
 use Rattle.pot_shared.specs.declared.member.GroupOrigin.{GroupOrigin}
 use Rattle.pot_shared.specs.declared.catalog.CatalogOrigin.{CatalogOrigin}
-use Rattle.pot_shared.specs.Members.{entries_of, mark_at, opened_at}
+use Rattle.pot_shared.specs.Members.{entries_of, mark_at, opened_at, taking_at}
 use Rattle.pot_shared.specs.Ready.{GroupPass, GroupPasses, IsTableOf}
 use Rattle.pot_shared.specs.Catalogs.{IndexPasses, records_in}
 use Rattle.pot_shared.specs.Works.{Known, gained}
 use Rattle.pot_shared.specs.Going.{AllSole, AllStay, AllWent}
 use Rattle.pot_shared.specs.Hands.{times}
-use Rattle.pot_shared.specs.Coming.{AreMarkedBy, came_in, marks_of}
+use Rattle.pot_shared.specs.Coming.{AreMarkedBy, came_in, marks_of, taking_of}
 
 -- the archives that a group has: those of the table that it began with, and those that its log
 -- brought
@@ -67,13 +68,19 @@ pub record AreOfRack {M : Type 0} (see : M → GroupView) (rack : Rack)
   pub none : (n : ℕ) (m : M) → slice_get members n ≡ Some m → arrivals (see m).log ≡ []
   pub nobody : (n : ℕ) (m : M) → slice_get members n ≡ Some m → ByNobody (see m).log
 
--- the marks of the archives of a table are the counts of what the numbers meant
+-- the archives of a table were taken as the numbers meant
 abbrev pub AreMarked : (ℕ → Meaning) → Table → Shelves → Type 0
-AreMarked meant t s = (n : ℕ) → Contains (archives_in t) n → mark_at s n ≡ marks_of (meant n)
+AreMarked meant t s =
+    (n : ℕ) → Contains (archives_in t) n → taking_at s n ≡ taking_of (meant n)
 
--- and so are those of all archives that a group has had
+-- the marks of all archives that a group has had are the counts of what their numbers meant
 abbrev pub HasMarks : (ℕ → Meaning) → GroupView → Type 0
 HasMarks meant g = (n : ℕ) → Contains (had_by g) n → mark_at g.shelves n ≡ marks_of (meant n)
+
+-- and these archives were taken as their numbers meant
+abbrev pub HasTaken : (ℕ → Meaning) → GroupView → Type 0
+HasTaken meant g =
+    (n : ℕ) → Contains (had_by g) n → taking_at g.shelves n ≡ taking_of (meant n)
 
 -- a count of faults or of losses is greater than it was, or stands at its last value
 abbrev pub MarksRose : Marks → Marks → Type 0
@@ -132,12 +139,11 @@ pub record IsOpenedAt (meant : ℕ → Meaning) (o : GroupOrigin) (log : List En
   pub are : o.opened ≡ map marks (archives_in o.first)
   pub opened : IsOpened meant (RoseBy meant o.first marks) o.first log
 
--- The marks at the taking of the archives of each group are the counts of what the numbers meant,
--- and what its pass has seen is what the opening logged over them.
+-- The archives of each group were taken as the numbers meant, and what its pass has seen is what the opening logged over them.
 abbrev pub AreTakenAt : (ℕ → Meaning) → GroupPasses → Type 0
 AreTakenAt meant row =
     (g : ℕ) (o : GroupOrigin) → (view_at row g).origin ≡ Some o
-    → (o.taken ≡ map (λ n. marks_of (meant n)) (archives_in o.first))
+    → (o.taken ≡ map (λ n. taking_of (meant n)) (archives_in o.first))
     × IsOpenedAt meant o (entries_of (view_at row g).seen)
 
 -- the first pass of a group of this number, whose opening brought no archive and is of no job
@@ -187,10 +193,11 @@ AreLow numbers = (n : ℕ) → 511 < n → times n numbers ≡ 0
 
 -- THE END
 
--- a group that ended: it keeps what a group keeps, and its archives are those of its first table
--- and those that its log brought
+-- a group that ended: it keeps what a group keeps, its archives are those of its first table and
+-- those that its log brought, and the course of its calls leads to it
 pub record IsEnded (told : Type 0) (g : GroupView) : Type 0 where
   pub settled : IsSettled told g
+  pub course : told → HasCourse g
   pub arrived : HasArrived g.first g.log g.shelves.numbers
 
 abbrev pub AreEnded : {M : Type 0} → Type 0 → (M → GroupView) → List M → Type 0

@@ -1,6 +1,6 @@
 -- What a vault leaves when it ends: the table and the log of each group, the records and the log of
 -- the index, and all archives.
-use Rattle.std.specs.Prelude.{◌≡◌, ◌<◌, ◌^◌, All, Contains, ◌++◌, ℕ, List, [], Some, length}
+use Rattle.std.specs.Prelude.{◌≡◌, ◌⊎◌, ◌<◌, ◌^◌, All, Contains, ◌++◌, ℕ, List, [], Some, length}
 use Rattle.std.specs.Prelude.{slice_get}
 use Rattle.pot_outside.specs.Archives.{Meaning}
 use Rattle.pot_outside.specs.declared.archive.Shelf.{Shelf}
@@ -8,6 +8,9 @@ use Rattle.pot_bytes.specs.declared.rack.Rack.{Rack}
 use Rattle.pot_machine.specs.declared.entry.Entry.{Entry}
 use Rattle.pot_machine.specs.Table.{Table}
 use Rattle.pot_group.specs.Group.{GroupView, IsSettled}
+use Rattle.pot_group.specs.Frames.{WrittenBy}
+use Rattle.pot_group.specs.Heard.{Sum, FlyBy, FoldedBy, blinds_in}
+use Rattle.pot_followed.specs.Course.{HasCourse}
 use Rattle.pot_shelves.specs.Shelves.{Shelves}
 use Rattle.pot_index.specs.declared.record.Record.{Record}
 use Rattle.pot_index.specs.declared.entry.IndexEntry.{IndexEntry}
@@ -18,7 +21,7 @@ use Rattle.pot_index.specs.Index as names
 use Rattle.pot_replies.specs.Sections.{Section}
 use Rattle.pot_shared.specs.Coming.{marks_of}
 use Rattle.pot_shared.specs.Going.{AllSole}
-use Rattle.pot_shared.specs.Groups.{HasMarks, IsOpened, MarksRose, had_by, records_read}
+use Rattle.pot_shared.specs.Groups.{HasMarks, HasTaken, IsOpened, MarksRose, had_by, records_read}
 use Rattle.pot_shared.specs.Works.{Known, section_of}
 
 -- each log has fewer than 2^32 entries
@@ -32,6 +35,7 @@ still t = record t { relays = [] }
 -- what is seen of an archive of a group is what it means
 pub record Shows (s : Shelves) (n : ℕ) (m : Meaning) : Type 0 where
   pub blocks : (slot : ℕ) → s.held n slot ≡ m.held slot
+  pub history : s.history n ≡ m.history
   pub sums : s.heard n ≡ m.heard
   pub faults : s.faults n ≡ m.faults
   pub losses : s.losses n ≡ m.losses
@@ -48,11 +52,33 @@ RoseInHand {A} meaning hand meant n =
     (x : Shelf A) × Contains hand x × (x.number ≡ n)
     × MarksRose (marks_of (meant n)) (marks_of (meaning x.archive))
 
+-- The frame of an archive of a group, which began with this table and has this log. Each block that
+-- is seen of it, in whatever slot, its number meant to stand there, or an entry of the log put it
+-- there; each that it ever held its number had meant to be among those, or an entry put it there;
+-- and each sum that it ever heard its number meant, or it is that of a relay as the log has it.
+pub record IsWithin (first : Table) (log : List Entry) (s : Shelves) (n : ℕ) (m : Meaning)
+    (givens : List (List ℕ)) : Type 0 where
+  pub held : (slot : ℕ) (block : List ℕ) → slot < 2 ^ 32 → s.held n slot ≡ Some block
+      → (m.held slot ≡ Some block) ⊎ WrittenBy first log n slot block
+  pub history : (block : List ℕ) → Contains (s.history n) block
+      → Contains m.history block ⊎ ((slot : ℕ) × WrittenBy first log n slot block)
+  pub heard : (x : Sum) → Contains (s.heard n) x
+      → Contains m.heard x ⊎ FoldedBy first [] log givens n x
+
+-- of each archive that it has had, with one list of the blocks given at the entries
+pub record AreWithin (meant : ℕ → Meaning) (g : GroupView) : Type 0 where
+  pub givens : List (List ℕ)
+  pub are : g.blinds ≡ blinds_in g.log givens
+  pub fly : FlyBy g.first [] g.log givens g.flights
+  pub each : (n : ℕ) → Contains (had_by g) n
+      → IsWithin g.first g.log g.shelves n (meant n) givens
+
 -- A group that began with this table, and ended with this log and a table that is written so. It
 -- keeps what a group keeps: its log leads from the first table to the last, its stripes keep their
 -- law over the blocks that its archives hold, and the log names no more faults and losses than
 -- these counted since they were taken. Its archives are those of the first table and those that its
--- log brought: the marks of each are what its number meant, and `Has` tells what each of them is.
+-- log brought: each was taken as its number meant, and so were its marks; what it holds now, ever held and
+-- ever heard is within that and what the log says; and `Has` tells what each of them is.
 pub record LeavesGroup (told : Type 0) (meant : ℕ → Meaning) (Has : Shelves → ℕ → Type 0)
     (read : Table) (log : List Entry) (written : Table) : Type 0 where
   pub view : GroupView
@@ -61,6 +87,9 @@ pub record LeavesGroup (told : Type 0) (meant : ℕ → Meaning) (Has : Shelves 
   pub is : written ≡ still view.table
   pub settled : IsSettled told view
   pub marked : told → HasMarks meant view
+  pub taken : told → HasTaken meant view
+  pub within : told → AreWithin meant view
+  pub course : told → HasCourse view
   pub archives : (n : ℕ) → Contains (had_by view) n → Has view.shelves n
 
 -- each group so

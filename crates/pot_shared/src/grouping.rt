@@ -2,6 +2,7 @@
 ghost use Rattle.std.specs.Prelude.{◌<◌, ◌≡◌, length};
 
 use crate::sealed_put::SealedPut;
+use crate::session::Session;
 use crate::vault::{Passes, Vault};
 use pot_bytes::{Block, Place};
 use pot_group::{Counts, Kind, LogFull, Looked, PutFault, Standing, Swept};
@@ -165,5 +166,45 @@ impl<A: Archive> Vault<A> {
         self.groups
             .leave(&mut passes.groups, group as usize, member);
         standing
+    }
+}
+
+impl<'v, A: Archive, R: Wait> Session<'v, A, R> {
+    ghost use Rattle.pot_group.specs.Calls.{PutCall, LookCall};
+    ghost use Rattle.pot_shared.specs.Calls.{MakesAt, StandingCall};
+    ghost use Rattle.pot_shared.specs.Ready.{HasSlot};
+    ghost use Rattle.pot_shared.specs.Sessions.{InGroups, names_of, rack_of};
+
+    /// Puts a block into a group, as `Vault::put`.
+    ///
+    /// # Errors
+    /// Those of `Group::put`.
+    pub fn put(&mut self, group: u8, next: &SealedPut) -> Result<Place, PutFault>
+        requires { group < length (names_of self.old) }
+        ensures { InGroups (λ b. MakesAt A.account
+            (λ told. PutCall told b.job next.now.block.block result) group) self.old self.new }
+    {
+        let (rt, vault, job) = (self.rt, self.vault, self.job);
+        vault.put(rt, &mut self.passes, group, job, next)
+    }
+
+    /// Looks at a slot, as `Vault::look`.
+    pub fn look(&mut self, place: Place, into: &mut Block) -> Looked
+        requires { HasSlot (rack_of self.old) (names_of self.old) place }
+        ensures { InGroups (λ b. MakesAt A.account
+            (λ told. LookCall told b.job place into.new result) place.group) self.old self.new }
+    {
+        let (rt, vault, job) = (self.rt, self.vault, self.job);
+        vault.look(rt, &mut self.passes, job, place, into)
+    }
+
+    /// Where a group stands, as `Vault::standing`.
+    pub fn standing(&mut self, group: u8) -> Standing
+        requires { group < length (names_of self.old) }
+        ensures { InGroups (λ b. MakesAt A.account (λ told. StandingCall result) group)
+            self.old self.new }
+    {
+        let (rt, vault) = (self.rt, self.vault);
+        vault.standing(rt, &mut self.passes, group)
     }
 }

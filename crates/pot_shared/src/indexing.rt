@@ -4,6 +4,7 @@ ghost use Rattle.pot_rows.specs.Rows.{HasMoreParts};
 ghost use Rattle.pot_index.specs.Fits.{FitsRack};
 
 use crate::catalog::Strange;
+use crate::session::Session;
 use crate::vault::{Passes, Vault};
 use pot_bytes::Name;
 use pot_index::{FindFault, ListFault, Listed, Record, RenewFault, ReserveFault, Split};
@@ -178,5 +179,75 @@ impl<A: Archive> Vault<A> {
         catalog.rules();
         self.index.leave(&mut passes.index, 0, catalog);
         answer
+    }
+}
+
+impl<'v, A: Archive, R: Wait> Session<'v, A, R> {
+    ghost use Rattle.pot_shared.specs.Seen.{SeesFile};
+    ghost use Rattle.pot_shared.specs.IndexCalls.{IndexCall, HasReserved, ReservesName, ListsAll};
+    ghost use Rattle.pot_shared.specs.IndexCalls.{FindsRecord, Abandons, PublishesRecord};
+    ghost use Rattle.pot_shared.specs.IndexCalls.{MayRenewBy, RenewsSplit};
+    ghost use Rattle.pot_shared.specs.Sessions.{InIndex, InTied, job_of, knows, rack_of};
+
+    /// Reserves a name, as `Vault::reserve`.
+    pub fn reserve(&mut self, name: &Name) -> Result<(), ReserveFault>
+        ensures { InIndex (λ b. IndexCall (ReservesName b.job name.now result)) self.old self.new }
+    {
+        let (rt, vault, job) = (self.rt, self.vault, self.job);
+        vault.reserve(rt, &mut self.passes, job, name)
+    }
+
+    /// Lists the published names, as `Vault::names`.
+    pub fn names(&mut self) -> Result<Vec<Listed>, ListFault>
+        ensures { InIndex (λ b. IndexCall (ListsAll b.job result)) self.old self.new }
+    {
+        let (rt, vault, job) = (self.rt, self.vault, self.job);
+        vault.names(rt, self.alloc, &mut self.passes, job)
+    }
+
+    /// Ends the job's reservation of a name, as `Vault::abandon`.
+    ///
+    /// # Errors
+    /// `Strange` exactly where the name is not reserved by the job when the turn is had; nothing is logged then.
+    pub fn abandon(&mut self, name: &Name) -> Result<(), Strange>
+        requires { HasReserved (job_of self.old) name.now (knows self.old).index }
+        ensures { InIndex (λ b. IndexCall (Abandons b.job name.now result)) self.old self.new }
+    {
+        let (rt, vault, job) = (self.rt, self.vault, self.job);
+        vault.abandon(rt, &mut self.passes, job, name)
+    }
+
+    /// Publishes a record whose puts the passes have seen, as `Vault::publish`.
+    ///
+    /// # Errors
+    /// `Strange` exactly where the name is not reserved by the job when the turn is had; nothing is logged then.
+    pub fn publish(&mut self, kept: Record) -> Result<(), Strange>
+        requires reserved { HasReserved (job_of self.old) kept.name (knows self.old).index }
+        requires fits { FitsRack (rack_of self.old) kept }
+        requires seen { SeesFile (knows self.old).groups kept }
+        ensures { InTied (λ b row. IndexCall (PublishesRecord b.job kept result)) self.old self.new }
+    {
+        let (rt, vault, job) = (self.rt, self.vault, self.job);
+        vault.publish(rt, &mut self.passes, job, kept)
+    }
+
+    /// Finds a record, as `Vault::find`. Of a split that the record got in this session the passes have then seen every put.
+    pub fn find(&mut self, name: &Name) -> Result<Record, FindFault>
+        ensures { InTied (λ b row. IndexCall (FindsRecord b.job name.now result row))
+            self.old self.new }
+    {
+        let (rt, vault, job) = (self.rt, self.vault, self.job);
+        vault.find(rt, self.alloc, &mut self.passes, job, name)
+    }
+
+    /// Gives the record of a name a new current split whose puts the passes have seen, as `Vault::renew`.
+    pub fn renew(&mut self, name: &Name, split: Split) -> Result<(), RenewFault>
+        requires { MayRenewBy (rack_of self.old) name.now split (knows self.old).groups
+            (knows self.old).index }
+        ensures { InTied (λ b row. IndexCall (RenewsSplit b.job name.now split result))
+            self.old self.new }
+    {
+        let (rt, vault, job) = (self.rt, self.vault, self.job);
+        vault.renew(rt, &mut self.passes, job, name, split)
     }
 }

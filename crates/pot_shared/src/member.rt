@@ -1,29 +1,39 @@
 //! A group as a value under a turn.
-use pot_group::Group;
+use pot_bytes::Block;
+use pot_followed::Followed;
 use pot_machine::{Entry, GroupTable};
 use pot_outside::{Archive, Marks};
 use pot_turn::Kept;
 use std::collections::LinkedList;
 
-/// An entry as passes see it: with the marks, at its taking, of the archive that it brought. No value of it is made.
-pub struct Logged {
-    pub entry: Entry,
-    pub taken: Option<Marks>,
+/// All that an archive meant when its group took it: its marks, the block of each slot, the blocks that it ever held, and the
+/// sums that it ever heard. No value of it is made.
+pub struct Taking {
+    pub marks: Marks,
+    pub blocks: LinkedList<Option<Block>>,
+    pub history: LinkedList<Block>,
+    pub heard: LinkedList<(u32, Block)>,
 }
 
-/// What never changes of a group: its number, the table that was read, and the marks of the archives that it began with, at
-/// their taking and when the table had been opened. No value of it is made.
+/// An entry as passes see it: with what the archive that it brought meant at its taking. No value of it is made.
+pub struct Logged {
+    pub entry: Entry,
+    pub taken: Option<Taking>,
+}
+
+/// What never changes of a group: its number, the table that was read, what the archives that it began with meant at their
+/// taking, and their marks when the table had been opened. No value of it is made.
 pub struct GroupOrigin {
     pub number: u8,
     pub first: GroupTable,
-    pub taken: LinkedList<Marks>,
+    pub taken: LinkedList<Taking>,
     pub opened: LinkedList<Marks>,
 }
 
 /// A group under a turn.
 #[derive(Drop)]
 pub struct Member<A: Archive> {
-    pub group: Group<A>,
+    pub group: Followed<A>,
 }
 
 impl<A: Archive> Kept for Member<A> {

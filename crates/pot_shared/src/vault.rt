@@ -6,6 +6,7 @@ use crate::member::Member;
 use pot_bytes::Rack;
 use pot_outside::Archive;
 use pot_rows::Turns;
+use std::alloc::Global;
 use std::marker::Model;
 
 /// The groups of a session, each under a turn. Contracts see the rack, and the names of the turns.
@@ -51,6 +52,16 @@ impl<A: Archive> Model for Passes<A> {
     ghost Value = { Known };
 
     ghost view = { λ p. known p.groups p.index };
+}
+
+impl<A: Archive> Passes<A> {
+    /// No passes, of no turns.
+    pub(crate) fn none(alloc: Global) -> Passes<A> {
+        Passes {
+            groups: pot_rows::Passes::none(alloc),
+            index: pot_rows::Passes::none(alloc),
+        }
+    }
 }
 
 /// Room for the groups and the index of a vault at its end, so that a close takes no memory. A vault does not hold it, since

@@ -20,6 +20,7 @@ keeps_refl s = record {
   faults_opened = (λ n. refl);
   losses_opened = (λ n. refl);
   later = (λ n. omega arith);
+  taken = (λ n. refl);
 }
 
 pub keeps_then : (a b c : Shelves) → Keeps a b → Keeps b c → Keeps a c
@@ -30,6 +31,7 @@ keeps_then a b c o p = record {
   faults_opened = (λ n. p.faults_opened n ∙ o.faults_opened n);
   losses_opened = (λ n. p.losses_opened n ∙ o.losses_opened n);
   later = (λ n. omega (arith, o.later n, p.later n));
+  taken = (λ n. p.taken n ∙ o.taken n);
 }
 
 pub loses_refl : (s : Shelves) → LosesByCount s.held s s
@@ -39,13 +41,14 @@ pub loses_from_then : (h : Holdings) (a b c : Shelves) → LosesByCount h a b �
 loses_from_then h a b c o p = λ n. loses_more (h n) (b.held n) (c.held n) (a.losses n) (b.losses n) (c.losses n) (o n) (p n)
 
 pub stays_refl : (told : Type 0) (s : Shelves) → Stays told s s
-stays_refl told s = record { keeps = keeps_refl s; loses = (λ t. loses_refl s); heard = (λ t n. refl) }
+stays_refl told s = record { keeps = keeps_refl s; loses = (λ t. loses_refl s); heard = (λ t n. refl); history = (λ t n. refl) }
 
 pub stays_then : (told : Type 0) (a b c : Shelves) → Stays told a b → Stays told b c → Stays told a c
 stays_then told a b c o p = record {
   keeps = keeps_then a b c o.keeps p.keeps;
   loses = (λ t. loses_from_then a.held a b c (o.loses t) (p.loses t));
   heard = (λ t n. p.heard t n ∙ o.heard t n);
+  history = (λ t n. p.history t n ∙ o.history t n);
 }
 
 -- A SLOT OF AN ARCHIVE CHANGED

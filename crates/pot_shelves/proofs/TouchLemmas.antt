@@ -15,14 +15,14 @@ use Rattle.std.proofs.lemmas.Slice.Eq.{bytes_eq-Decides}
 use Rattle.pot_bytes.specs.declared.digest.Digest.{Digest}
 use Rattle.pot_bytes.specs.Digests.{digest_bytes, digest_of}
 use Rattle.pot_outside.specs.Failing.{MayLeave}
-use Rattle.pot_outside.specs.Archives.{Meaning, OnlyLoses, ReadTells, FoldTells, HearsFold, at_slot, Reads, Writes, Folds}
+use Rattle.pot_outside.specs.Archives.{Meaning, OnlyLoses, ReadTells, FoldTells, HearsFold, Remembers, at_slot, Reads, Writes, Folds}
 use Rattle.pot_outside.specs.Counts.{Rose}
 use Rattle.pot_outside.specs.declared.archive.Marks.{Marks}
 use Rattle.pot_outside.specs.declared.archive.Shelf.{Shelf}
 use Rattle.pot_outside.specs.declared.archive.Held.{Held as IsHeld}
 use Rattle.pot_outside.specs.declared.faults.Failed.{Failed}
 use Rattle.pot_outside.proofs.LossLemmas.{loses_nothing}
-use Rattle.pot_shelves.specs.Shelves.{Shelves, numbers_of, shelf_of, given, mark_of, plain, put_at, Touches, Calls, Keeps, LosesByCount, IsTaken, IsOpenedNow, WriteLeaves, WritesAt, FoldsAt, Stays, ReadsAt}
+use Rattle.pot_shelves.specs.Shelves.{Shelves, numbers_of, shelf_of, given, mark_of, nothing, plain, put_at, Touches, Calls, Keeps, LosesByCount, IsTaken, IsOpenedNow, WriteLeaves, WritesAt, FoldsAt, Stays, ReadsAt}
 
 -- what `==` of digests says of a block
 pub digest_tells : (block now bytes : List ℕ) (d : Digest) (r : Bool) → now ≡ block → bytes ≡ digest_bytes now
@@ -119,10 +119,10 @@ mark_is f count (s ∷ shelves) (m ∷ marks) e n =
       | inr t ↦ rw t.0 (mark_is f count shelves marks (let tail : map f marks ≡ map (λ s. count s.archive) shelves = cc in tail) n)
     ]
 
-module _ {A : Type 0} (told : Type 0) (meaning : A → Meaning) (marks opened : List Marks) where
+module _ {A : Type 0} (told : Type 0) (meaning : A → Meaning) (marks opened : List Marks) (taken : List (Shelf A)) where
   -- these archives as plain data
   abbrev pub data_of : List (Shelf A) → Shelves
-  data_of shelves = plain meaning (record { shelves = shelves; marks = marks; opened = opened })
+  data_of shelves = plain meaning (record { shelves = shelves; marks = marks; opened = opened; taken = taken })
 
   -- what holds where an archive stays and of the archive that was called holds at each number
   by_number : (number : ℕ) (R : A → A → Type 0) (old new : List (Shelf A)) (t : Touches number R old new)
@@ -149,11 +149,16 @@ module _ {A : Type 0} (told : Type 0) (meaning : A → Meaning) (marks opened : 
     faults_opened = (λ n. ap (λ ns. mark_of (λ m. m.faults) ns opened n) t.numbers);
     losses_opened = (λ n. ap (λ ns. mark_of (λ m. m.losses) ns opened n) t.numbers);
     later = by_number number R old new t (λ k o w. given (λ x. (meaning x).faults) 0 o ≤ given (λ x. (meaning x).faults) 0 w) (λ k s ne. omega arith) l;
+    taken = (λ n. refl);
   }
 
   hears : (number : ℕ) (R : A → A → Type 0) (old new : List (Shelf A)) (t : Touches number R old new)
       → (meaning t.after).heard ≡ (meaning t.shelf.archive).heard → (n : ℕ) → (data_of new).heard n ≡ (data_of old).heard n
   hears number R old new t e = by_number number R old new t (λ k o w. given (λ x. (meaning x).heard) [] w ≡ given (λ x. (meaning x).heard) [] o) (λ k s ne. refl) e
+
+  recalls : (number : ℕ) (R : A → A → Type 0) (old new : List (Shelf A)) (t : Touches number R old new)
+      → (meaning t.after).history ≡ (meaning t.shelf.archive).history → (n : ℕ) → (data_of new).history n ≡ (data_of old).history n
+  recalls number R old new t e = by_number number R old new t (λ k o w. given (λ x. (meaning x).history) [] w ≡ given (λ x. (meaning x).history) [] o) (λ k s ne. refl) e
 
   rose : (number : ℕ) (R : A → A → Type 0) (old new : List (Shelf A)) (t : Touches number R old new)
       → Rose ((meaning t.shelf.archive).faults) ((meaning t.after).faults) → Rose ((data_of old).faults number) ((data_of new).faults number)
@@ -190,6 +195,9 @@ module _ {A : Type 0} (told : Type 0) (meaning : A → Meaning) (marks opened : 
     keeps = keeps number _ old new t t.by.cause.later;
     wrote = leaves number slot block result old new t;
     heard = (λ z. hears number _ old new t (t.by.hears z));
+    remembers = (λ z. subst (λ (o : Option (Shelf A)). Remembers (given (λ x. (meaning x).history) [] o) ((data_of new).history number) block result) (sym t.was)
+        (subst (λ (w : Option (Shelf A)). Remembers ((meaning t.shelf.archive).history) (given (λ x. (meaning x).history) [] w) block result) (sym t.now) (t.by.past z)));
+    forgets = (λ z n ne. ap (given (λ x. (meaning x).history) []) (t.others n ne));
     cause = (λ h. rose number _ old new t (t.by.cause.rose h));
   }
 
@@ -207,6 +215,7 @@ module _ {A : Type 0} (told : Type 0) (meaning : A → Meaning) (marks opened : 
     hears = (λ z. subst (λ (o : Option (Shelf A)). HearsFold (given (λ x. (meaning x).heard) [] o) ((data_of new).heard number) slot before result) (sym t.was)
         (subst (λ (w : Option (Shelf A)). HearsFold ((meaning t.shelf.archive).heard) (given (λ x. (meaning x).heard) [] w) slot before result) (sym t.now) (t.by.hears z)));
     silent = (λ z n ne. ap (given (λ x. (meaning x).heard) []) (t.others n ne));
+    history = (λ z. recalls number _ old new t (t.by.past z));
     cause = (λ h. rose number _ old new t (t.by.cause.rose h));
   }
 
@@ -219,6 +228,7 @@ module _ {A : Type 0} (told : Type 0) (meaning : A → Meaning) (marks opened : 
         (λ k o w. OnlyLoses (λ m. given (λ x. (meaning x).held m) None o) (λ m. given (λ x. (meaning x).held m) None w) (given (λ x. (meaning x).losses) 0 o) (given (λ x. (meaning x).losses) 0 w))
         (λ k s ne. loses_nothing _ _) (t.by.loses z));
     heard = (λ z. hears number _ old new t (t.by.hears z));
+    history = (λ z. recalls number _ old new t (t.by.past z));
   }
 
   others : (number slot : ℕ) (into : List ℕ) (result : Result IsHeld Failed) (old new : List (Shelf A)) → Touches number (Calls meaning (Reads told slot into result)) old new
@@ -252,9 +262,21 @@ module _ {A : Type 0} (told : Type 0) (meaning : A → Meaning) (marks opened : 
     losses = (λ z. mark_is (λ m. m.losses) (λ x. (meaning x).losses) same opened (l z));
   })
 
+  -- what an archive means is its parts
+  meant_of : (o : Option (Shelf A)) → given meaning nothing o ≡ record {
+    held = λ slot. given (λ x. (meaning x).held slot) None o;
+    history = given (λ x. (meaning x).history) [] o;
+    heard = given (λ x. (meaning x).heard) [] o;
+    faults = given (λ x. (meaning x).faults) 0 o;
+    losses = given (λ x. (meaning x).losses) 0 o;
+  }
+  meant_of None = refl
+  meant_of (Some s) = refl
+
   -- archives with their marks now
-  pub is_taken : (same other shelves : List (Shelf A)) → same ≡ shelves → other ≡ shelves → AreCounts marks same → AreCounts opened other → IsTaken told (data_of shelves)
-  is_taken same other shelves v w (f, l) now = subst (λ ss. IsTaken told (data_of ss)) v (record {
+  pub is_taken : (same other shelves : List (Shelf A)) → same ≡ shelves → other ≡ shelves → taken ≡ shelves → AreCounts marks same → AreCounts opened other → IsTaken told (data_of shelves)
+  is_taken same other shelves v w t (f, l) now = subst (λ ss. IsTaken told (data_of ss)) v (record {
+    meant = (λ n. ap (λ ss. given meaning nothing (shelf_of ss n)) (t ∙ sym v) ∙ meant_of (shelf_of same n));
     faults = mark_is (λ m. m.faults) (λ x. (meaning x).faults) same marks f;
     losses = (λ z. mark_is (λ m. m.losses) (λ x. (meaning x).losses) same marks (l z));
     opened = is_opened other same (w ∙ sym v) now;

@@ -9,16 +9,17 @@ use Rattle.pot_outside.specs.declared.faults.Failed.{Failed}
 use Rattle.pot_outside.specs.declared.archive.Held.{Held as IsHeld}
 use Rattle.pot_outside.specs.Accounts.{Account}
 use Rattle.pot_outside.specs.Archives.{Meaning, OnlyLoses, ReadTells, FoldTells, LeavesSum}
-use Rattle.pot_outside.specs.Archives.{HearsFold, at_slot}
+use Rattle.pot_outside.specs.Archives.{HearsFold, Remembers, at_slot}
 use Rattle.pot_outside.specs.Counts.{Rose}
 use Rattle.pot_steps.specs.Holdings.{Holdings}
 
--- By number: the blocks held, the sums heard, the counts of faults and of losses now, and these two
--- when the archive was taken and when the table over it had been opened. A number without an
--- archive has nothing.
+-- By number: the blocks held, those ever held, the sums heard, the counts of faults and of losses
+-- now, and these two when the archive was taken and when the table over it had been opened; and all
+-- that it meant when it was taken. A number without an archive has nothing.
 pub record Shelves : Type 0 where
   pub numbers : List ℕ
   pub held : Holdings
+  pub history : ℕ → List (List ℕ)
   pub heard : ℕ → List (ℕ × List ℕ)
   pub faults : ℕ → ℕ
   pub losses : ℕ → ℕ
@@ -26,6 +27,23 @@ pub record Shelves : Type 0 where
   pub losses_taken : ℕ → ℕ
   pub faults_opened : ℕ → ℕ
   pub losses_opened : ℕ → ℕ
+  pub taken : ℕ → Meaning
+
+-- what an archive means that holds no block, held none, heard nothing, never failed and lost nothing
+abbrev pub nothing : Meaning
+nothing =
+    record { held = λ slot. None; history = []; heard = []; faults = 0; losses = 0 }
+
+-- what the archive of a number means now
+abbrev pub meant_now : Shelves → ℕ → Meaning
+meant_now s number =
+    record {
+      held = s.held number;
+      history = s.history number;
+      heard = s.heard number;
+      faults = s.faults number;
+      losses = s.losses number;
+    }
 
 -- what the archive of a number gives
 abbrev pub given : {A X : Type 0} → (A → X) → X → Option (Shelf A) → X
@@ -40,12 +58,13 @@ numbers_of shelves = map (λ s. s.number) shelves
 abbrev pub shelf_of : {A : Type 0} → List (Shelf A) → ℕ → Option (Shelf A)
 shelf_of shelves number = find (λ s. s.number == number) shelves
 
--- archives, and the marks of their taking and of the opening in the same order: what the contracts
--- see
+-- archives, and the marks of their taking and of the opening in the same order, and as they were
+-- when they were taken: what the contracts see
 pub record Shelved (A : Type 0) : Type 0 where
   pub shelves : List (Shelf A)
   pub marks : List Marks
   pub opened : List Marks
+  pub taken : List (Shelf A)
 
 -- the mark of the first archive that has a number
 abbrev pub mark_of : (Marks → ℕ) → List ℕ → List Marks → ℕ → ℕ
@@ -58,6 +77,7 @@ abbrev pub plain : {A : Type 0} → (A → Meaning) → Shelved A → Shelves
 plain meaning a = record {
   numbers = numbers_of a.shelves;
   held = λ number slot. given (λ x. (meaning x).held slot) None (shelf_of a.shelves number);
+  history = λ number. given (λ x. (meaning x).history) [] (shelf_of a.shelves number);
   heard = λ number. given (λ x. (meaning x).heard) [] (shelf_of a.shelves number);
   faults = λ number. given (λ x. (meaning x).faults) 0 (shelf_of a.shelves number);
   losses = λ number. given (λ x. (meaning x).losses) 0 (shelf_of a.shelves number);
@@ -65,6 +85,7 @@ plain meaning a = record {
   losses_taken = λ number. mark_of (λ m. m.losses) (numbers_of a.shelves) a.marks number;
   faults_opened = λ number. mark_of (λ m. m.faults) (numbers_of a.shelves) a.opened number;
   losses_opened = λ number. mark_of (λ m. m.losses) (numbers_of a.shelves) a.opened number;
+  taken = λ number. given meaning nothing (shelf_of a.taken number);
 }
 
 -- said of archives as plain data before and after, and of whether they tell what they hold
@@ -81,6 +102,7 @@ pub record IsOpenedNow (told : Type 0) (s : Shelves) : Type 0 where
 
 -- They are taken now. Until their table is opened, both marks are those of the taking.
 pub record IsTaken (told : Type 0) (s : Shelves) : Type 0 where
+  pub meant : (number : ℕ) → s.taken number ≡ meant_now s number
   pub faults : (number : ℕ) → s.faults_taken number ≡ s.faults number
   pub losses : told → (number : ℕ) → s.losses_taken number ≡ s.losses number
   pub opened : IsOpenedNow told s
@@ -120,6 +142,7 @@ pub record Keeps (old new : Shelves) : Type 0 where
   pub faults_opened : (number : ℕ) → new.faults_opened number ≡ old.faults_opened number
   pub losses_opened : (number : ℕ) → new.losses_opened number ≡ old.losses_opened number
   pub later : (number : ℕ) → old.faults number ≤ new.faults number
+  pub taken : (number : ℕ) → new.taken number ≡ old.taken number
 
 -- from what the archives were to hold to what they hold: blocks were lost, and nothing else
 abbrev pub LosesByCount : Holdings → Shelves → Shelves → Type 0
@@ -136,6 +159,7 @@ pub record Stays (told : Type 0) (old new : Shelves) : Type 0 where
   pub keeps : Keeps old new
   pub loses : told → LosesByCount old.held old new
   pub heard : told → (number : ℕ) → new.heard number ≡ old.heard number
+  pub history : told → (number : ℕ) → new.history number ≡ old.history number
 
 -- One archive was asked for the block of a slot. The others hold what they held.
 pub record ReadsAt (told : Type 0) (number slot : ℕ) (into : List ℕ) (result : Result IsHeld Failed)
@@ -154,6 +178,7 @@ pub record FoldsAt (told : Type 0) (number slot weight : ℕ) (before sum : List
   pub leaves : LeavesSum before sum result
   pub hears : told → HearsFold (old.heard number) (new.heard number) slot before result
   pub silent : told → (n : ℕ) → n ≢ number → new.heard n ≡ old.heard n
+  pub history : told → (n : ℕ) → new.history n ≡ old.history n
   pub cause : IsErr result → Rose (old.faults number) (new.faults number)
 
 -- An archive that means this comes under a number that no other has. Its marks, also those of the
@@ -162,6 +187,8 @@ pub record Brings (told : Type 0) (number : ℕ) (m : Meaning) (old new : Shelve
   pub numbers : new.numbers ≡ old.numbers ++ number ∷ []
   pub blocks : (slot : ℕ) → new.held number slot ≡ m.held slot
   pub sums : new.heard number ≡ m.heard
+  pub history : new.history number ≡ m.history
+  pub taken : new.taken number ≡ m
   pub counts : (new.faults number ≡ m.faults) × (new.losses number ≡ m.losses)
   pub marked : new.faults_taken number ≡ new.faults number
   pub marked_losses : told → new.losses_taken number ≡ new.losses number
@@ -172,6 +199,8 @@ pub record Brings (told : Type 0) (number : ℕ) (m : Meaning) (old new : Shelve
       × (old.losses_taken number ≡ 0)
   pub same_held : (n slot : ℕ) → n ≢ number → new.held n slot ≡ old.held n slot
   pub same_heard : (n : ℕ) → n ≢ number → new.heard n ≡ old.heard n
+  pub same_history : (n : ℕ) → n ≢ number → new.history n ≡ old.history n
+  pub same_taken : (n : ℕ) → n ≢ number → new.taken n ≡ old.taken n
   pub same_faults : (n : ℕ) → n ≢ number
       → (new.faults n ≡ old.faults n) × (new.faults_taken n ≡ old.faults_taken n)
   pub same_losses : (n : ℕ) → n ≢ number
@@ -202,4 +231,6 @@ pub record WritesAt (told : Type 0) (number slot : ℕ) (block : List ℕ)
   pub keeps : Keeps old new
   pub wrote : told → WritesInto number slot block result old new
   pub heard : told → (n : ℕ) → new.heard n ≡ old.heard n
+  pub remembers : told → Remembers (old.history number) (new.history number) block result
+  pub forgets : told → (n : ℕ) → n ≢ number → new.history n ≡ old.history n
   pub cause : IsErr result → Rose (old.faults number) (new.faults number)

@@ -12,9 +12,10 @@ use pot_bytes::{Block, Digest, digest_of};
 use pot_outside::{Archive, Failed, Held, Marks, Shelf};
 use std::alloc::{AllocError, Global};
 use std::marker::Model;
+use std::snapshot::Snapshot;
 
-/// Archives with their numbers, and their marks at the time when they were taken and when their table had been opened.
-/// Contracts see them as `plain` data by number.
+/// Archives with their numbers, their marks at the time when they were taken and when their table had been opened, and as
+/// they were when they were taken, which takes no memory. Contracts see them as `plain` data by number.
 #[derive(Drop)]
 pub struct Archives<A: Archive> {
     shelves: Vec<Shelf<A>>,
@@ -22,11 +23,13 @@ pub struct Archives<A: Archive> {
     marks: Vec<Marks>,
     /// Of each shelf, in the same order.
     opened: Vec<Marks>,
+    /// Each shelf as it was when it was taken, in the same order.
+    taken: Vec<Snapshot<Shelf<A>>>,
 }
 
 impl<A: Archive> Model for Archives<A> {
-    ghost use Rattle.pot_shelves.specs.Shelves.{Shelved};
-    ghost use Rattle.std.specs.Prelude.{◌≡◌, length};
+    ghost use Rattle.pot_shelves.specs.Shelves.{Shelved, numbers_of};
+    ghost use Rattle.std.specs.Prelude.{◌≡◌, length, map};
 
     ghost Value = { Shelved A };
 
@@ -34,10 +37,12 @@ impl<A: Archive> Model for Archives<A> {
       shelves = a.shelves.items;
       marks = a.marks.items;
       opened = a.opened.items;
+      taken = map (λ s. s.value) a.taken.items;
     } };
 
     ghost invariant = { λ a. (length a.shelves.items ≡ length a.marks.items)
-        × (length a.shelves.items ≡ length a.opened.items) };
+        × (length a.shelves.items ≡ length a.opened.items)
+        × (numbers_of (map (λ s. s.value) a.taken.items) ≡ numbers_of a.shelves.items) };
 }
 
 impl<A: Archive> Archives<A> {
@@ -57,10 +62,14 @@ impl<A: Archive> Archives<A> {
         let Ok(opened) = marks_of(alloc, &shelves) else {
             return Err(shelves);
         };
+        let Ok(taken) = snapshots_of(alloc, &shelves) else {
+            return Err(shelves);
+        };
         Ok(Archives {
             shelves,
             marks,
             opened,
+            taken,
         })
     }
 
@@ -81,6 +90,7 @@ impl<A: Archive> Archives<A> {
             shelves,
             marks: _,
             opened: _,
+            taken: _,
         } = self;
         shelves
     }
@@ -124,6 +134,10 @@ impl<A: Archive> Archives<A> {
         if self.opened.reserve(1).is_err() {
             return Err(shelf);
         }
+        if self.taken.reserve(1).is_err() {
+            return Err(shelf);
+        }
+        self.taken.push_reserved(Snapshot::of(&shelf));
         let marks = shelf.archive.marks();
         self.marks.push_reserved(marks);
         self.opened.push_reserved(marks);
@@ -174,6 +188,20 @@ fn marks_of<A: Archive>(alloc: Global, shelves: &[Shelf<A>]) -> Result<Vec<Marks
     let mut marks = Vec::with_capacity(alloc, shelves.len())?;
     mark_all(shelves, &mut marks);
     Ok(marks)
+}
+
+/// Archives as they are, in the same order.
+fn snapshots_of<A: Archive>(
+    alloc: Global,
+    shelves: &[Shelf<A>],
+) -> Result<Vec<Snapshot<Shelf<A>>>, AllocError>
+    ensures { IfOk result (λ v. map (λ s. s.value) v.items ≡ shelves.now) }
+{
+    let mut taken = Vec::with_capacity(alloc, shelves.len())?;
+    for shelf in shelves {
+        taken.push_reserved(Snapshot::of(shelf));
+    }
+    Ok(taken)
 }
 
 /// Fills an empty vector, which has room for them, with the marks of archives now, in the same order.

@@ -8,6 +8,7 @@ pub mod IndexLemmas
 pub mod StoreLemmas
 pub mod PublishLemmas
 pub mod ExitLemmas
+pub mod StoreSteps
 pub mod PlanLemmas
 pub mod LookLemmas
 pub mod EntryLemmas

@@ -1,12 +1,10 @@
 //! The fetch of a file.
 ghost use Rattle.std.specs.Prelude.{◌≡◌, ◌<◌, ◌≤◌, ◌*◌, [], true, length, IsTrue};
 ghost use Rattle.std.specs.Vec.{vec_capacity};
-ghost use Rattle.pot_bytes.specs.Rack.{IsRack};
 ghost use Rattle.pot_object.specs.Pieces.{pieces_of};
 ghost use Rattle.pot_index.specs.Fits.{FitsRack};
-ghost use Rattle.pot_rows.specs.Rows.{HasMoreParts};
-ghost use Rattle.pot_shared.specs.Callers.{AreReadyFor, IsIndexReadyFor, HasAllGroups, JudgedFor};
-ghost use Rattle.pot_shared.specs.Works.{JobWorked};
+ghost use Rattle.pot_shared.specs.Callers.{AreReadyFor, HasAllGroups};
+ghost use Rattle.pot_shared.specs.Sessions.{InGroups, Judges, Worked, job_of, knows, rack_of};
 ghost use Rattle.pot_store.specs.Reads.{FileRead, RecordRead};
 ghost use Rattle.pot_store.specs.Fetches.{AreFilled, FetchRow};
 ghost use Rattle.pot_store.specs.Stored.{FetchGives};
@@ -20,7 +18,7 @@ use pot_index::{FindFault, Record};
 use pot_object::count_pieces;
 use pot_outside::Archive;
 use pot_pads::PadStream;
-use pot_shared::{Caller, Passes};
+use pot_shared::{Caller, Passes, Session};
 use std::sync::Wait;
 
 /// Why a fetch gave no file.
@@ -68,44 +66,43 @@ pub enum FetchFault {
 /// too few points of a fragment can be seen, `Faulted` of the least one at which an archive failed, and `Lost` where there is
 /// none. `Odd` exactly where the bytes that were read have another digest than the file. `NoMemory` comes before the first look.
 pub fn fetch_file<A: Archive, R: Wait>(
-    caller: &Caller<'_, A, R>,
-    passes: &mut Passes<A>,
+    session: &mut Session<'_, A, R>,
     name: &Name,
     pads: &mut PadStream,
 ) -> Result<Vec<u8>, FetchFault>
-    requires ready { AreReadyFor caller.now passes.old.groups }
-    requires index { IsIndexReadyFor caller.now passes.old.index }
-    requires parts { HasMoreParts 1 passes.old.groups }
-    requires rack { IsRack caller.now.vault.now.rack }
-    requires count { HasAllGroups caller.now }
-    requires job { 0 < caller.now.job }
-    ensures ready { AreReadyFor caller.now passes.new.groups }
-    ensures index { IsIndexReadyFor caller.now passes.new.index }
-    ensures parts { HasMoreParts 1 passes.new.groups }
-    ensures worked { JobWorked caller.now.job passes.old passes.new }
-    ensures says { JudgedFor caller.now passes.old passes.new
-        (λ s w. s.mends ≡ true → AreFilled s → FetchRow s caller.now.job name.now result w) }
-    ensures stored { JudgedFor caller.now passes.old passes.new
-        (λ s w. s.mends ≡ true → AreFilled s → FetchGives s caller.now.job name.now result w) }
-    ensures blinds { Blinds (IsTrue A.account.tells) caller.now.job pads.old pads.new
-        passes.old.groups passes.new.groups }
+    ensures worked { Worked session.old session.new }
+    ensures says { Judges (λ b s w. s.mends ≡ true → AreFilled s
+        → FetchRow s b.job name.now result w) session.old session.new }
+    ensures stored { Judges (λ b s w. s.mends ≡ true → AreFilled s
+        → FetchGives s b.job name.now result w) session.old session.new }
+    ensures blinds { Blinds (IsTrue A.account.tells) (job_of session.old) pads.old pads.new
+        (knows session.old).groups (knows session.new).groups }
 {
-    let Caller {
-        rt,
-        alloc,
-        vault,
-        job,
-    } = *caller;
-    match vault.find(rt, alloc, passes, job, name) {
-        Ok(kept) => read_record(caller, passes, &kept, pads),
+    match session.find(name) {
+        Ok(kept) => read_kept(session, &kept, pads),
         Err(FindFault::LogFull) => Err(FetchFault::IndexLogFull),
         Err(FindFault::Absent) => Err(FetchFault::Absent),
         Err(FindFault::NoMemory) => Err(FetchFault::NoMemory),
     }
 }
 
+/// Reads the file of a record in the session of a job, as `read_record`.
+pub(crate) fn read_kept<A: Archive, R: Wait>(
+    session: &mut Session<'_, A, R>,
+    kept: &Record,
+    pads: &mut PadStream,
+) -> Result<Vec<u8>, FetchFault>
+    requires { FitsRack (rack_of session.old) kept.now }
+    ensures read { InGroups (λ b. RecordRead b.job kept.now result) session.old session.new }
+    ensures blinds { InGroups (λ b. Blinds (IsTrue A.account.tells) b.job pads.old pads.new)
+        session.old session.new }
+{
+    let caller = session.caller();
+    read_record(&caller, &mut session.passes, kept, pads)
+}
+
 /// Reads the file of a record, and compares its digest.
-pub(crate) fn read_record<A: Archive, R: Wait>(
+fn read_record<A: Archive, R: Wait>(
     caller: &Caller<'_, A, R>,
     passes: &mut Passes<A>,
     kept: &Record,

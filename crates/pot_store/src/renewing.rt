@@ -1,19 +1,17 @@
 //! A file is split anew: it is fetched, the blocks of its new split are put, and its record gets that
 //! split.
 ghost use Rattle.std.specs.Prelude.{◌≡◌, ◌<◌, ◌≤◌, true, length, IfOk, IfErr, IsTrue};
-ghost use Rattle.pot_bytes.specs.Rack.{IsRack};
 ghost use Rattle.pot_object.specs.Pieces.{longest};
 ghost use Rattle.pot_index.specs.Fits.{FitsGeometry};
-ghost use Rattle.pot_rows.specs.Rows.{HasMoreParts};
 ghost use Rattle.pot_rows.specs.Works.{RowWorked};
-ghost use Rattle.pot_shared.specs.Callers.{AreReadyFor, IsIndexReadyFor, HasAllGroups, JudgedFor};
-ghost use Rattle.pot_shared.specs.Works.{of_job, JobWorked};
+ghost use Rattle.pot_shared.specs.Sessions.{InGroups, Judges, Worked, job_of, knows, rack_of};
+ghost use Rattle.pot_shared.specs.Works.{of_job};
 ghost use Rattle.pot_store.specs.Fetches.{AreFilled};
 ghost use Rattle.pot_store.specs.Renewals.{of_find, of_fetch, of_put, of_renew, PutsSplit};
 ghost use Rattle.pot_store.specs.Renewals.{RenewsFrom, RenewRow};
 ghost use Rattle.pot_shared.specs.Blinds.{Blinds};
 
-use crate::fetching::{FetchFault, read_record};
+use crate::fetching::{FetchFault, read_kept};
 use crate::putting::{Stopped, put_all};
 use crate::storing::{Plan, Stored, prepare};
 use pot_bytes::{Digest, Geometry, Name};
@@ -21,7 +19,7 @@ use pot_group::PutFault;
 use pot_index::{FindFault, Places, RenewFault, Split};
 use pot_outside::Archive;
 use pot_pads::PadStream;
-use pot_shared::{Caller, Passes};
+use pot_shared::Session;
 use std::sync::Wait;
 
 /// How many older splits a record has at most, beside the current one.
@@ -128,26 +126,18 @@ fn of_renew(fault: RenewFault) -> RenewFileFault
 /// # Errors
 /// `NoMemory` before the first put, or the first put that is refused.
 fn put_split<A: Archive, R: Wait>(
-    caller: &Caller<'_, A, R>,
-    passes: &mut Passes<A>,
+    session: &mut Session<'_, A, R>,
     geometry: &Geometry,
     file: &[u8],
     pads: PadStream,
 ) -> Result<(Stored, Split), RenewFileFault>
-    requires ready { AreReadyFor caller.now passes.old.groups }
-    requires rack { IsRack caller.now.vault.now.rack }
-    requires groups { HasAllGroups caller.now }
-    requires job { 0 < caller.now.job }
-    requires geometry { FitsGeometry caller.now.vault.now.rack geometry.now }
+    requires geometry { FitsGeometry (rack_of session.old) geometry.now }
     requires short { length file.now ≤ longest }
-    ensures ready { AreReadyFor caller.now passes.new.groups }
-    ensures index { passes.new.index ≡ passes.old.index }
-    ensures worked { RowWorked (of_job caller.now.job) passes.old.groups passes.new.groups }
-    ensures puts { PutsSplit caller.now.vault.now.rack geometry.now caller.now.job file.now pads
-        result passes.old.groups passes.new.groups }
+    ensures worked { InGroups (λ b. RowWorked (of_job b.job)) session.old session.new }
+    ensures puts { PutsSplit (rack_of session.old) geometry.now (job_of session.old) file.now pads
+        result (knows session.old).groups (knows session.new).groups }
 {
-    let Caller { alloc, vault, .. } = *caller;
-    let Ok(plan) = prepare(alloc, vault.rack().columns, geometry, file, pads) else {
+    let Ok(plan) = prepare(session.alloc(), session.rack().columns, geometry, file, pads) else {
         return Err(RenewFileFault::NoMemory);
     };
     let Plan {
@@ -156,7 +146,7 @@ fn put_split<A: Archive, R: Wait>(
         mut drawing,
         mut places,
     } = plan;
-    match put_all(caller, passes, geometry, &mut drawing, shards, &mut places) {
+    match put_all(session, geometry, &mut drawing, shards, &mut places) {
         Ok(()) => {
             let split = Split {
                 geometry: *geometry,
@@ -181,51 +171,35 @@ fn put_split<A: Archive, R: Wait>(
 /// `Vault::renew`. `NoMemory` may come before the first look, before the first put and behind the last one.
 /// After a refusal the record is as it was, and blocks that were put stay.
 pub fn renew_file<A: Archive, R: Wait>(
-    caller: &Caller<'_, A, R>,
-    passes: &mut Passes<A>,
+    session: &mut Session<'_, A, R>,
     name: &Name,
     geometry: &Geometry,
     blinds: &mut PadStream,
     pads: PadStream,
 ) -> Result<Stored, RenewFileFault>
-    requires ready { AreReadyFor caller.now passes.old.groups }
-    requires index { IsIndexReadyFor caller.now passes.old.index }
-    requires parts { HasMoreParts 1 passes.old.groups }
-    requires rack { IsRack caller.now.vault.now.rack }
-    requires count { HasAllGroups caller.now }
-    requires job { 0 < caller.now.job }
-    requires geometry { FitsGeometry caller.now.vault.now.rack geometry.now }
-    ensures ready { AreReadyFor caller.now passes.new.groups }
-    ensures index { IsIndexReadyFor caller.now passes.new.index }
-    ensures worked { JobWorked caller.now.job passes.old passes.new }
-    ensures says { JudgedFor caller.now passes.old passes.new
-        (λ s w. s.mends ≡ true → AreFilled s → RenewsFrom s pads geometry.now caller.now.job
-        → RenewRow s caller.now.job name.now geometry.now result w) }
-    ensures blinds { Blinds (IsTrue A.account.tells) caller.now.job blinds.old blinds.new
-        passes.old.groups passes.new.groups }
+    requires { FitsGeometry (rack_of session.old) geometry.now }
+    ensures worked { Worked session.old session.new }
+    ensures says { Judges (λ b s w. s.mends ≡ true → AreFilled s → RenewsFrom s pads geometry.now b.job
+        → RenewRow s b.job name.now geometry.now result w) session.old session.new }
+    ensures blinds { Blinds (IsTrue A.account.tells) (job_of session.old) blinds.old blinds.new
+        (knows session.old).groups (knows session.new).groups }
 {
-    let Caller {
-        rt,
-        alloc,
-        vault,
-        job,
-    } = *caller;
-    let kept = match vault.find(rt, alloc, passes, job, name) {
+    let kept = match session.find(name) {
         Ok(kept) => kept,
         Err(fault) => return Err(of_find(fault)),
     };
     if kept.older.as_slice().len() == MOST_OLDER {
         return Err(RenewFileFault::TooOften);
     }
-    let file = match read_record(caller, passes, &kept, blinds) {
+    let file = match read_kept(session, &kept, blinds) {
         Ok(file) => file,
         Err(fault) => return Err(of_fetch(fault)),
     };
-    let (stored, split) = match put_split(caller, passes, geometry, &file, pads) {
+    let (stored, split) = match put_split(session, geometry, &file, pads) {
         Ok(put) => put,
         Err(fault) => return Err(fault),
     };
-    match vault.renew(rt, passes, job, name, split) {
+    match session.renew(name, split) {
         Ok(()) => Ok(stored),
         Err(fault) => Err(of_renew(fault)),
     }

@@ -2,10 +2,8 @@
 ghost use Rattle.std.specs.Prelude.{◌≡◌, ◌<◌, ◌≤◌, IfOk, IfErr, length};
 ghost use Rattle.std.specs.Vec.{vec_capacity};
 ghost use Rattle.pot_object.specs.Pieces.{longest};
-ghost use Rattle.pot_bytes.specs.Rack.{IsGeometry, IsRack};
-ghost use Rattle.pot_rows.specs.Rows.{HasMoreParts};
-ghost use Rattle.pot_shared.specs.Callers.{AreReadyFor, IsIndexReadyFor, HasAllGroups, JudgedFor};
-ghost use Rattle.pot_shared.specs.Works.{JobWorked};
+ghost use Rattle.pot_bytes.specs.Rack.{IsGeometry};
+ghost use Rattle.pot_shared.specs.Sessions.{Judges, Worked};
 ghost use Rattle.pot_store.specs.Stores.{DrawsFrom, StoreRow, record_of, fault_of, IsPlan};
 ghost use Rattle.pot_store.specs.Stores.{IsUnplanned};
 
@@ -18,7 +16,7 @@ use pot_index::{Places, Record, ReserveFault, Splits};
 use pot_object::{TooLong, cut_file};
 use pot_outside::Archive;
 use pot_pads::PadStream;
-use pot_shared::{Caller, Passes, Strange};
+use pot_shared::{Session, Strange};
 use std::alloc::Global;
 use std::sync::Wait;
 
@@ -130,32 +128,17 @@ pub(crate) fn prepare<'a>(
 /// In this order: `TooLong`; `IndexLogFull` and `Exists`, as `Index::reserve`; and the first put that is refused, after which the
 /// name is free again. `NoMemory` comes before anything is logged. `Strange` comes where another pass ended the job's reservation.
 pub fn store_file<A: Archive, R: Wait>(
-    caller: &Caller<'_, A, R>,
-    passes: &mut Passes<A>,
+    session: &mut Session<'_, A, R>,
     name: &Name,
     file: &[u8],
     pads: PadStream,
 ) -> Result<Stored, StoreFault>
-    requires ready { AreReadyFor caller.now passes.old.groups }
-    requires index { IsIndexReadyFor caller.now passes.old.index }
-    requires parts { HasMoreParts 1 passes.old.groups }
-    requires rack { IsRack caller.now.vault.now.rack }
-    requires groups { HasAllGroups caller.now }
-    requires job { 0 < caller.now.job }
-    ensures ready { AreReadyFor caller.now passes.new.groups }
-    ensures index { IsIndexReadyFor caller.now passes.new.index }
-    ensures worked { JobWorked caller.now.job passes.old passes.new }
-    ensures says { JudgedFor caller.now passes.old passes.new
-        (λ s w. DrawsFrom s pads caller.now.job file.now
-        → StoreRow s caller.now.job name.now file.now result w) }
+    ensures worked { Worked session.old session.new }
+    ensures says { Judges (λ b s w. DrawsFrom s pads b.job file.now
+        → StoreRow s b.job name.now file.now result w) session.old session.new }
 {
-    let Caller {
-        rt,
-        alloc,
-        vault,
-        job,
-    } = *caller;
-    let rack = vault.rack();
+    let alloc = session.alloc();
+    let rack = session.rack();
     let geometry = &rack.geometry;
     let Plan {
         pieces,
@@ -163,21 +146,21 @@ pub fn store_file<A: Archive, R: Wait>(
         mut drawing,
         mut places,
     } = prepare(alloc, rack.columns, geometry, file, pads)?;
-    match vault.reserve(rt, passes, job, name) {
+    match session.reserve(name) {
         Ok(()) => {}
         Err(ReserveFault::LogFull) => return Err(StoreFault::IndexLogFull),
         Err(ReserveFault::Exists) => return Err(StoreFault::Exists),
         Err(ReserveFault::NoMemory) => return Err(StoreFault::NoMemory),
     }
-    match put_all(caller, passes, geometry, &mut drawing, shards, &mut places) {
+    match put_all(session, geometry, &mut drawing, shards, &mut places) {
         Ok(()) => {
             let kept = record_of(alloc, name, file, geometry, places);
-            match vault.publish(rt, passes, job, kept) {
+            match session.publish(kept) {
                 Ok(()) => Ok(Stored { pieces, shards }),
                 Err(Strange { at }) => Err(StoreFault::Strange { at }),
             }
         }
-        Err(stopped) => match vault.abandon(rt, passes, job, name) {
+        Err(stopped) => match session.abandon(name) {
             Ok(()) => Err(fault_of(stopped)),
             Err(Strange { at }) => Err(StoreFault::Strange { at }),
         },

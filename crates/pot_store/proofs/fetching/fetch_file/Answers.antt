@@ -1,83 +1,121 @@
-use Rattle.std.proofs.Common.{◌≡◌, true, sym, subst}
+use Rattle.std.proofs.Common.{◌≡◌, ◌∙◌, true, sym, subst}
 use Rattle.pot_replies.specs.Settings.{Setting}
+use Rattle.pot_shared.specs.Sessions.{bound, job_of, knows, rack_of}
 use Rattle.pot_shared.specs.Works.{known, section_of, JobWorked, JobAlone, IsSettingOf}
+use Rattle.pot_shared.proofs.BlindLemmas.{blinds_quiet, blinds_then, none_known}
+use Rattle.pot_shared.proofs.SessionLemmas.{groups_at}
 use Rattle.pot_store.specs.Fetches.{AreFilled, FetchRow}
 use Rattle.pot_store.specs.Stored.{FetchGives}
-use Rattle.pot_shared.proofs.BlindLemmas.{blinds_quiet, blinds_then, none_known}
 use Rattle.pot_store.proofs.SearchLemmas.{lone_work, absent_row, silent_row, index_full_row}
 use Rattle.pot_store.proofs.FetchLemmas.{all_work, record_row, gives_row}
 use Rattle.pot_store.proofs.fetching.fetch_file.Goals as goal
 
 pub returns-in-Ok-clause-worked : goal.returns-in-Ok-clause-worked
 returns-in-Ok-clause-worked g c =
-    let old = c.args.passes.now in
-    let new = c.read_record.new.passes in
-    subst (λ i. JobWorked c.args.caller.now.job (known old.groups old.index) (known new.groups i)) (sym c.read_record.ensures.index)
-    (all_work c.args.caller.now.job c.args.name.now c.args.caller.now.vault.now.rack c.args.caller.now.vault.now.groups c.args.caller.now.vault.now.index old.groups c.find.new.passes.groups new.groups old.index c.find.new.passes.index
-    c.in-Ok.kept c.requires.ready c.requires.count c.requires.index c.find.ensures.groups c.in-Ok.ensures.call c.read_record.ensures.read.visits c.read_record.ensures.read.reads)
+    let s0 = c.args.session.now in
+    let b = bound s0 in
+    let read = groups_at c.find.ensures.same c.read_kept.ensures.read in
+    let new = knows c.read_kept.new.session in
+    record {
+      same = c.read_kept.ensures.read.same ∙ c.find.ensures.same;
+      worked = subst (λ i. JobWorked b.job (knows s0) (known new.groups i)) (sym c.read_kept.ensures.read.index)
+          (all_work b.job c.args.name.now b.vault.rack b.vault.groups b.vault.index (knows s0).groups (knows c.find.new.self).groups new.groups (knows s0).index (knows c.find.new.self).index
+    c.in-Ok.kept s0.ready s0.whole s0.index_ready c.find.ensures.groups c.in-Ok.ensures.is read.visits read.reads);
+    }
 
 pub returns-in-Ok-clause-says : goal.returns-in-Ok-clause-says
 returns-in-Ok-clause-says g c =
-    let old = c.args.passes.now in
-    let new = c.read_record.new.passes in
-    subst (λ i. JobAlone c.args.caller.now.job (known old.groups old.index) (known new.groups i) → (s : Setting) → IsSettingOf s c.args.caller.now.vault.now.rack (known old.groups old.index) → s.mends ≡ true → AreFilled s
-    → FetchRow s c.args.caller.now.job c.args.name.now c.read_record.result (section_of (known old.groups old.index) (known new.groups i))) (sym c.read_record.ensures.index)
-    (λ alone s set mends filled.
-    record_row c.args.caller.now.job c.args.name.now c.args.caller.now.vault.now.rack c.args.caller.now.vault.now.groups c.args.caller.now.vault.now.index old.groups c.find.new.passes.groups new.groups old.index c.find.new.passes.index
-    c.in-Ok.kept c.requires.ready c.requires.count c.requires.index c.find.ensures.groups c.in-Ok.ensures.call c.read_record.ensures.read.visits c.read_record.ensures.read.reads
-    alone s set mends filled c.read_record.result c.read_record.ensures.read.ends)
+    let s0 = c.args.session.now in
+    let b = bound s0 in
+    let read = groups_at c.find.ensures.same c.read_kept.ensures.read in
+    let new = knows c.read_kept.new.session in
+    subst (λ i. JobAlone b.job (knows s0) (known new.groups i) → (s : Setting) → IsSettingOf s b.vault.rack (knows s0) → s.mends ≡ true → AreFilled s
+    → FetchRow s b.job c.args.name.now c.read_kept.result (section_of (knows s0) (known new.groups i))) (sym c.read_kept.ensures.read.index)
+    (λ alone s set mends filled. record_row b.job c.args.name.now b.vault.rack b.vault.groups b.vault.index (knows s0).groups (knows c.find.new.self).groups new.groups (knows s0).index (knows c.find.new.self).index
+    c.in-Ok.kept s0.ready s0.whole s0.index_ready c.find.ensures.groups c.in-Ok.ensures.is read.visits read.reads
+    alone s set mends filled c.read_kept.result read.ends)
 
 pub returns-in-Ok-clause-stored : goal.returns-in-Ok-clause-stored
 returns-in-Ok-clause-stored g c =
-    let old = c.args.passes.now in
-    let new = c.read_record.new.passes in
-    subst (λ i. JobAlone c.args.caller.now.job (known old.groups old.index) (known new.groups i) → (s : Setting) → IsSettingOf s c.args.caller.now.vault.now.rack (known old.groups old.index) → s.mends ≡ true → AreFilled s
-    → FetchGives s c.args.caller.now.job c.args.name.now c.read_record.result (section_of (known old.groups old.index) (known new.groups i))) (sym c.read_record.ensures.index)
-    (λ alone s set mends filled.
-    gives_row c.args.caller.now.job c.args.name.now c.args.caller.now.vault.now.rack c.args.caller.now.vault.now.groups c.args.caller.now.vault.now.index old.groups c.find.new.passes.groups new.groups old.index c.find.new.passes.index
-    c.in-Ok.kept c.requires.ready c.requires.count c.requires.index c.find.ensures.groups c.in-Ok.ensures.call c.read_record.ensures.read.visits c.read_record.ensures.read.reads
-    alone s set mends filled c.read_record.result c.read_record.ensures.read.ends)
+    let s0 = c.args.session.now in
+    let b = bound s0 in
+    let read = groups_at c.find.ensures.same c.read_kept.ensures.read in
+    let new = knows c.read_kept.new.session in
+    subst (λ i. JobAlone b.job (knows s0) (known new.groups i) → (s : Setting) → IsSettingOf s b.vault.rack (knows s0) → s.mends ≡ true → AreFilled s
+    → FetchGives s b.job c.args.name.now c.read_kept.result (section_of (knows s0) (known new.groups i))) (sym c.read_kept.ensures.read.index)
+    (λ alone s set mends filled. gives_row b.job c.args.name.now b.vault.rack b.vault.groups b.vault.index (knows s0).groups (knows c.find.new.self).groups new.groups (knows s0).index (knows c.find.new.self).index
+    c.in-Ok.kept s0.ready s0.whole s0.index_ready c.find.ensures.groups c.in-Ok.ensures.is read.visits read.reads
+    alone s set mends filled c.read_kept.result read.ends)
 
 pub returns-in-Err-LogFull-clause-worked : goal.returns-in-Err-LogFull-clause-worked
 returns-in-Err-LogFull-clause-worked g c =
-    lone_work c.args.caller.now.job c.args.name.now c.args.caller.now.vault.now.rack c.args.caller.now.vault.now.groups c.args.caller.now.vault.now.index c.args.passes.now.groups c.find.new.passes.groups c.args.passes.now.index c.find.new.passes.index
-    c.in-Err-LogFull.field-0 c.requires.ready c.requires.index c.find.ensures.groups c.in-Err-LogFull.ensures.call
+    let s0 = c.args.session.now in
+    let b = bound s0 in
+    record {
+      same = c.find.ensures.same;
+      worked = lone_work b.job c.args.name.now b.vault.rack b.vault.groups b.vault.index (knows s0).groups (knows c.find.new.self).groups (knows s0).index (knows c.find.new.self).index c.in-Err-LogFull.field-0 s0.ready s0.index_ready c.find.ensures.groups c.in-Err-LogFull.ensures.is;
+    }
 
 pub returns-in-Err-LogFull-clause-says : goal.returns-in-Err-LogFull-clause-says
 returns-in-Err-LogFull-clause-says g c = λ alone s set mends filled.
-    index_full_row c.args.caller.now.job c.args.name.now c.args.caller.now.vault.now.rack c.args.caller.now.vault.now.groups c.args.caller.now.vault.now.index c.args.passes.now.groups c.find.new.passes.groups c.args.passes.now.index c.find.new.passes.index
-    c.in-Err-LogFull.field-0 c.requires.ready c.requires.index c.find.ensures.groups c.in-Err-LogFull.ensures.call alone c.in-Err-LogFull.field-0-is s set
+    let s0 = c.args.session.now in
+    let b = bound s0 in
+    index_full_row b.job c.args.name.now b.vault.rack b.vault.groups b.vault.index (knows s0).groups (knows c.find.new.self).groups (knows s0).index (knows c.find.new.self).index c.in-Err-LogFull.field-0 s0.ready s0.index_ready c.find.ensures.groups c.in-Err-LogFull.ensures.is
+    alone c.in-Err-LogFull.field-0-is s set
+
+pub returns-in-Err-LogFull-clause-blinds : goal.returns-in-Err-LogFull-clause-blinds
+returns-in-Err-LogFull-clause-blinds g c =
+    let s0 = c.args.session.now in
+    let b = bound s0 in
+    blinds_quiet (none_known b.job b.vault.rack b.vault.groups (knows s0).groups (knows c.find.new.self).groups s0.ready c.find.ensures.groups)
 
 pub returns-in-Err-Absent-clause-worked : goal.returns-in-Err-Absent-clause-worked
 returns-in-Err-Absent-clause-worked g c =
-    lone_work c.args.caller.now.job c.args.name.now c.args.caller.now.vault.now.rack c.args.caller.now.vault.now.groups c.args.caller.now.vault.now.index c.args.passes.now.groups c.find.new.passes.groups c.args.passes.now.index c.find.new.passes.index
-    c.in-Err-Absent.field-0 c.requires.ready c.requires.index c.find.ensures.groups c.in-Err-Absent.ensures.call
+    let s0 = c.args.session.now in
+    let b = bound s0 in
+    record {
+      same = c.find.ensures.same;
+      worked = lone_work b.job c.args.name.now b.vault.rack b.vault.groups b.vault.index (knows s0).groups (knows c.find.new.self).groups (knows s0).index (knows c.find.new.self).index c.in-Err-Absent.field-0 s0.ready s0.index_ready c.find.ensures.groups c.in-Err-Absent.ensures.is;
+    }
 
 pub returns-in-Err-Absent-clause-says : goal.returns-in-Err-Absent-clause-says
 returns-in-Err-Absent-clause-says g c = λ alone s set mends filled.
-    absent_row c.args.caller.now.job c.args.name.now c.args.caller.now.vault.now.rack c.args.caller.now.vault.now.groups c.args.caller.now.vault.now.index c.args.passes.now.groups c.find.new.passes.groups c.args.passes.now.index c.find.new.passes.index
-    c.in-Err-Absent.field-0 c.requires.ready c.requires.index c.find.ensures.groups c.in-Err-Absent.ensures.call alone c.in-Err-Absent.field-0-is
+    let s0 = c.args.session.now in
+    let b = bound s0 in
+    absent_row b.job c.args.name.now b.vault.rack b.vault.groups b.vault.index (knows s0).groups (knows c.find.new.self).groups (knows s0).index (knows c.find.new.self).index c.in-Err-Absent.field-0 s0.ready s0.index_ready c.find.ensures.groups c.in-Err-Absent.ensures.is
+    alone c.in-Err-Absent.field-0-is
+
+pub returns-in-Err-Absent-clause-blinds : goal.returns-in-Err-Absent-clause-blinds
+returns-in-Err-Absent-clause-blinds g c =
+    let s0 = c.args.session.now in
+    let b = bound s0 in
+    blinds_quiet (none_known b.job b.vault.rack b.vault.groups (knows s0).groups (knows c.find.new.self).groups s0.ready c.find.ensures.groups)
 
 pub returns-in-Err-NoMemory-clause-worked : goal.returns-in-Err-NoMemory-clause-worked
 returns-in-Err-NoMemory-clause-worked g c =
-    lone_work c.args.caller.now.job c.args.name.now c.args.caller.now.vault.now.rack c.args.caller.now.vault.now.groups c.args.caller.now.vault.now.index c.args.passes.now.groups c.find.new.passes.groups c.args.passes.now.index c.find.new.passes.index
-    c.in-Err-NoMemory.field-0 c.requires.ready c.requires.index c.find.ensures.groups c.in-Err-NoMemory.ensures.call
+    let s0 = c.args.session.now in
+    let b = bound s0 in
+    record {
+      same = c.find.ensures.same;
+      worked = lone_work b.job c.args.name.now b.vault.rack b.vault.groups b.vault.index (knows s0).groups (knows c.find.new.self).groups (knows s0).index (knows c.find.new.self).index c.in-Err-NoMemory.field-0 s0.ready s0.index_ready c.find.ensures.groups c.in-Err-NoMemory.ensures.is;
+    }
 
 pub returns-in-Err-NoMemory-clause-says : goal.returns-in-Err-NoMemory-clause-says
 returns-in-Err-NoMemory-clause-says g c = λ alone s set mends filled.
-    silent_row c.args.caller.now.job c.args.name.now c.args.caller.now.vault.now.rack c.args.caller.now.vault.now.groups c.args.caller.now.vault.now.index c.args.passes.now.groups c.find.new.passes.groups c.args.passes.now.index c.find.new.passes.index
-    c.in-Err-NoMemory.field-0 c.requires.ready c.requires.index c.find.ensures.groups c.in-Err-NoMemory.ensures.call alone c.in-Err-NoMemory.field-0-is s
+    let s0 = c.args.session.now in
+    let b = bound s0 in
+    silent_row b.job c.args.name.now b.vault.rack b.vault.groups b.vault.index (knows s0).groups (knows c.find.new.self).groups (knows s0).index (knows c.find.new.self).index c.in-Err-NoMemory.field-0 s0.ready s0.index_ready c.find.ensures.groups c.in-Err-NoMemory.ensures.is
+    alone c.in-Err-NoMemory.field-0-is s
+
+pub returns-in-Err-NoMemory-clause-blinds : goal.returns-in-Err-NoMemory-clause-blinds
+returns-in-Err-NoMemory-clause-blinds g c =
+    let s0 = c.args.session.now in
+    let b = bound s0 in
+    blinds_quiet (none_known b.job b.vault.rack b.vault.groups (knows s0).groups (knows c.find.new.self).groups s0.ready c.find.ensures.groups)
 
 pub returns-in-Ok-clause-blinds : goal.returns-in-Ok-clause-blinds
 returns-in-Ok-clause-blinds g c =
-    blinds_then (blinds_quiet (none_known c.args.caller.now.job c.args.caller.now.vault.now.rack c.args.caller.now.vault.now.groups c.args.passes.now.groups c.find.new.passes.groups c.requires.ready c.find.ensures.groups))
-    c.read_record.ensures.blinds
-
-pub returns-in-Err-LogFull-clause-blinds : goal.returns-in-Err-LogFull-clause-blinds
-returns-in-Err-LogFull-clause-blinds g c = blinds_quiet (none_known c.args.caller.now.job c.args.caller.now.vault.now.rack c.args.caller.now.vault.now.groups c.args.passes.now.groups c.find.new.passes.groups c.requires.ready c.find.ensures.groups)
-
-pub returns-in-Err-Absent-clause-blinds : goal.returns-in-Err-Absent-clause-blinds
-returns-in-Err-Absent-clause-blinds g c = blinds_quiet (none_known c.args.caller.now.job c.args.caller.now.vault.now.rack c.args.caller.now.vault.now.groups c.args.passes.now.groups c.find.new.passes.groups c.requires.ready c.find.ensures.groups)
-
-pub returns-in-Err-NoMemory-clause-blinds : goal.returns-in-Err-NoMemory-clause-blinds
-returns-in-Err-NoMemory-clause-blinds g c = blinds_quiet (none_known c.args.caller.now.job c.args.caller.now.vault.now.rack c.args.caller.now.vault.now.groups c.args.passes.now.groups c.find.new.passes.groups c.requires.ready c.find.ensures.groups)
+    let s0 = c.args.session.now in
+    let b = bound s0 in
+    blinds_then (blinds_quiet (none_known b.job b.vault.rack b.vault.groups (knows s0).groups (knows c.find.new.self).groups s0.ready c.find.ensures.groups))
+    (groups_at c.find.ensures.same c.read_kept.ensures.blinds)

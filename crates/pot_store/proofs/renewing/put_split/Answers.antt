@@ -1,6 +1,7 @@
-use Rattle.std.proofs.Common.{List, sym, subst}
+use Rattle.std.proofs.Common.{List, ◌∙◌, ap, sym, subst}
 use Rattle.std.specs.Prelude.{Err}
 use Rattle.pot_bytes.specs.declared.rack.Place.{Place}
+use Rattle.pot_shared.specs.Sessions.{bound, knows, job_of, rack_of}
 use Rattle.pot_store.specs.Drawing.{Drawn, all_blocks}
 use Rattle.pot_store.specs.Puts.{PutsEnd}
 use Rattle.pot_store.specs.Renewals.{IsSplit, PutsSplit}
@@ -10,16 +11,22 @@ use Rattle.pot_store.proofs.renewing.put_split.Goals as goal
 
 pub returns-in-Ok-put_all-clause-puts : goal.returns-in-Ok-put_all-clause-puts
 returns-in-Ok-put_all-clause-puts g c =
+    let b = bound c.args.session.now in
+    let old = (knows c.args.session.now).groups in
+    let new = (knows c.put_all.new.session).groups in
     let plan = c.in-Ok.plan in
     let put = c.in-Ok-put_all.ensures.put in
-    subst (λ (places : List Place). IsSplit c.args.caller.now.vault.now.rack c.args.geometry.now c.args.caller.now.job c.args.file.now c.args.pads (record { pieces = plan.pieces; shards = plan.shards })
-    (record { geometry = c.args.geometry.now; places = places }) c.args.passes.now.groups c.put_all.new.passes.groups) (sym c.from_vec.ensures)
-    (is_split c.args.caller.now.vault.now.rack c.args.geometry.now c.args.caller.now.job c.args.file.now c.args.pads plan.pieces plan.shards plan.drawing plan.places.items c.put_all.new.places.items
-    c.args.passes.now.groups c.put_all.new.passes.groups c.requires.geometry (λ i. (c.type_inv.file i).fits) c.in-Ok.ensures.planned put.0 put.1)
+    subst (λ (places : List Place). IsSplit b.vault.rack c.args.geometry.now b.job c.args.file.now c.args.pads (record { pieces = plan.pieces; shards = plan.shards })
+    (record { geometry = c.args.geometry.now; places = places }) old new) (sym c.from_vec.ensures)
+    (is_split b.vault.rack c.args.geometry.now b.job c.args.file.now c.args.pads plan.pieces plan.shards plan.drawing plan.places.items c.put_all.new.places.items
+    old new c.requires.geometry (λ i. (c.type_inv.file i).fits) c.in-Ok.ensures.planned put.0 put.1)
 
 pub returns-clause-puts : goal.returns-clause-puts
 returns-clause-puts g c =
-    subst (λ (e : RenewFileFault). PutsSplit c.args.caller.now.vault.now.rack c.args.geometry.now c.args.caller.now.job c.args.file.now c.args.pads (Err e) c.args.passes.now.groups c.put_all.new.passes.groups) (sym c.of_put.ensures)
-    (stopped_is c.args.caller.now.vault.now.rack c.args.geometry.now c.args.caller.now.job c.args.file.now c.args.pads c.in-Err.stopped.group c.in-Err.stopped.cause c.args.passes.now.groups c.put_all.new.passes.groups
-    (λ here. subst (λ (d : Drawn). PutsEnd c.args.caller.now.vault.now.rack c.args.geometry.now c.args.caller.now.job (all_blocks d) c.in-Err.stopped.group c.in-Err.stopped.cause c.args.passes.now.groups c.put_all.new.passes.groups)
+    let b = bound c.args.session.now in
+    let old = (knows c.args.session.now).groups in
+    let new = (knows c.put_all.new.session).groups in
+    subst (λ (e : RenewFileFault). PutsSplit b.vault.rack c.args.geometry.now b.job c.args.file.now c.args.pads (Err e) old new) (sym c.of_put.ensures)
+    (stopped_is b.vault.rack c.args.geometry.now b.job c.args.file.now c.args.pads c.in-Err.stopped.group c.in-Err.stopped.cause old new
+    (λ here. subst (λ (d : Drawn). PutsEnd b.vault.rack c.args.geometry.now b.job (all_blocks d) c.in-Err.stopped.group c.in-Err.stopped.cause old new)
     c.in-Ok.ensures.planned.drawing (c.in-Err.ensures.ends here)))

@@ -1,4 +1,4 @@
-use Rattle.std.proofs.Common.{◌<◌, IsTrue, [], ◌∷◌, length, refl, subst, sym, arith}
+use Rattle.std.proofs.Common.{◌<◌, IsTrue, [], ◌∷◌, length, refl, subst, sym, arith, map}
 use Rattle.std.specs.Prelude.{Contains}
 use Rattle.pot_shelves.specs.Shelves.{Shelved, plain, numbers_of}
 use Rattle.pot_group.specs.Group.{GroupParts, IsSettled, view_of, with_archives}
@@ -13,7 +13,7 @@ use Rattle.pot_group.proofs.group.Group.swap_to.Goals as goal
 pub invariant_of-self : goal.invariant_of-self
 invariant_of-self g c =
     let a = c.self.inside in
-    let v : GroupParts _ = record { number = a.number; first = a.first; table = a.table; log = a.log.items; flights = a.flights.items; shelves = a.archives } in (
+    let v : GroupParts _ = record { number = a.number; first = a.first; table = a.table; log = a.log.items; flights = a.flights.items; blinds = map (λ s. s.value) a.blinds.items; shelves = a.archives } in (
       swap_exit (IsTrue g.A.Archive.account.tells) (view_of g.A.Archive.account.meaning (with_archives v c.bring.new.self)) c.args.job c.args.column c.args.shelf.number c.note.new.table c.note.new.log.items
           (settled_brings (IsTrue g.A.Archive.account.tells) (view_of g.A.Archive.account.meaning v) c.args.shelf.number (g.A.Archive.account.meaning c.args.shelf.archive) (plain g.A.Archive.account.meaning c.bring.new.self) c.self.invariant.0
           (subst (λ (w : GroupParts _). Contains (plain g.A.Archive.account.meaning w.shelves).numbers c.args.shelf.number → ⊥) (sym c.self.view_is) c.requires.fresh) c.in-Ok.ensures.brought)
@@ -24,14 +24,16 @@ invariant_of-self g c =
       omega (arith, c.self.invariant.1, c.note.ensures.capacity),
       c.self.invariant.2,
       arrived a.first a.log.items c.note.new.log.items _ (c.args.shelf.number ∷ []) (numbers_of a.archives.shelves) (numbers_of c.bring.new.self.shelves) c.self.invariant.3 c.note.ensures.log refl c.in-Ok.ensures.brought.numbers,
+      c.self.invariant.4,
     )
 
 pub invariant_of-self-in-Err : goal.invariant_of-self-in-Err
 invariant_of-self-in-Err g c =
     let a = c.self.inside in
-    let v : GroupParts _ = record { number = a.number; first = a.first; table = a.table; log = a.log.items; flights = a.flights.items; shelves = a.archives } in (
+    let v : GroupParts _ = record { number = a.number; first = a.first; table = a.table; log = a.log.items; flights = a.flights.items; blinds = map (λ s. s.value) a.blinds.items; shelves = a.archives } in (
       subst (λ (b : Shelved _). IsSettled (IsTrue g.A.Archive.account.tells) (view_of g.A.Archive.account.meaning (with_archives v b))) (sym c.in-Err.ensures.refused.1) c.self.invariant.0,
       c.self.invariant.1,
       c.self.invariant.2,
       subst (λ (b : Shelved _). HasArrived a.first a.log.items (numbers_of b.shelves)) (sym c.in-Err.ensures.refused.1) c.self.invariant.3,
+      c.self.invariant.4,
     )

@@ -1,0 +1,57 @@
+-- The frame of a group: which blocks its archives may hold, and may ever have held, by what they
+-- had at their taking and by its log.
+use Rattle.std.specs.Prelude.{◌≡◌, ◌⊎◌, ◌+◌, ℕ, IsTrue, IsSomeAnd, List, [], ◌∷◌, Some, Contains}
+use Rattle.pot_machine.specs.declared.slot.SlotState.{SlotState}
+use Rattle.pot_machine.specs.declared.slot.SlotState.TheVariants.{Void}
+use Rattle.pot_machine.specs.declared.entry.Entry.{Entry}
+use Rattle.pot_machine.specs.declared.entry.Entry.TheVariants as entry
+use Rattle.pot_machine.specs.Slot.{digest_in}
+use Rattle.pot_machine.specs.Column.{names}
+use Rattle.pot_machine.specs.Table.{Table, slot_at, column_at, serving_at}
+use Rattle.pot_machine.specs.Machine.{after}
+use Rattle.pot_bytes.specs.Digests.{digest_of}
+use Rattle.pot_shelves.specs.Shelves.{Shelves}
+
+-- a block of the digest of a slot
+abbrev pub FitsIn : SlotState → List ℕ → Type 0
+FitsIn x block = digest_in x ≡ Some (digest_of block)
+
+-- What an entry may have written into a slot of an archive. Put: the block and the parity blocks,
+-- of the digests that it names, also where they were not kept. Mended, Moved: a block of the slot's
+-- digest. Fault: that too, and where the slot was Void, which is a put whose block was not written,
+-- that block, whose digest no entry names.
+abbrev pub MayWrite : Table → Entry → ℕ → ℕ → List ℕ → Type 0
+MayWrite t (entry.Put job s c digest parity_digest kept) number slot block =
+    (slot ≡ s)
+    × (((number ≡ serving_at t s c) × (digest_of block ≡ digest))
+    ⊎ ((number ≡ serving_at t s t.data_columns) × (digest_of block ≡ parity_digest)))
+MayWrite t (entry.Put2 job s c digest parity_digest second_digest kept kept2) number slot block =
+    (slot ≡ s)
+    × (((number ≡ serving_at t s c) × (digest_of block ≡ digest))
+    ⊎ (((number ≡ serving_at t s t.data_columns) × (digest_of block ≡ parity_digest))
+    ⊎ ((number ≡ serving_at t s (t.data_columns + 1)) × (digest_of block ≡ second_digest))))
+MayWrite t (entry.Mended job s c) number slot block =
+    (slot ≡ s) × (number ≡ serving_at t s c) × FitsIn (slot_at t s c) block
+MayWrite t (entry.Moved job s c copied) number slot block =
+    (slot ≡ s) × IsTrue copied × IsSomeAnd (column_at t c).moving (λ m. number ≡ m.to)
+    × FitsIn (slot_at t s c) block
+MayWrite t (entry.Fault job s c) number slot block =
+    (slot ≡ s) × IsTrue (names (column_at t c) number)
+    × ((slot_at t s c ≡ Void) ⊎ FitsIn (slot_at t s c) block)
+MayWrite t _ number slot block = ⊥
+
+-- an entry of the log may have
+abbrev pub WrittenBy : Table → List Entry → ℕ → ℕ → List ℕ → Type 0
+WrittenBy t [] number slot block = ⊥
+WrittenBy t (e ∷ log) number slot block =
+    MayWrite t e number slot block ⊎ WrittenBy (after t e) log number slot block
+
+-- Each block that an archive holds, in whatever slot, it held there when it was taken, or an entry
+-- put it there; and each that it ever held it had held by then, or an entry put it into one of its
+-- slots.
+pub record IsFramed (first : Table) (log : List Entry) (s : Shelves) : Type 0 where
+  pub held : (number slot : ℕ) (block : List ℕ) → s.held number slot ≡ Some block
+      → ((s.taken number).held slot ≡ Some block) ⊎ WrittenBy first log number slot block
+  pub history : (number : ℕ) (block : List ℕ) → Contains (s.history number) block
+      → Contains (s.taken number).history block
+      ⊎ ((slot : ℕ) × WrittenBy first log number slot block)

@@ -1,0 +1,55 @@
+-- What the archives of a session may hold and may have heard after it.
+use Rattle.std.proofs.Common.{◌≡◌, ◌<◌, ◌++◌, ℕ, IsTrue, List, [], Some, length, sym, ap, ◌∙◌, subst, arith}
+use Rattle.std.specs.Prelude.{Contains, slice_get}
+use Rattle.pot_bytes.proofs.Elements.{element_at}
+use Rattle.pot_outside.specs.Accounts.{Met}
+use Rattle.pot_outside.specs.Archives.{Meaning}
+use Rattle.pot_outside.specs.Rooms.{Lending}
+use Rattle.pot_machine.specs.declared.entry.Entry.{Entry}
+use Rattle.pot_machine.specs.Table.{Table, archives_in}
+use Rattle.pot_steps.specs.declared.flight.Flight.{Flight}
+use Rattle.pot_shelves.specs.Shelves.{Shelves}
+use Rattle.pot_group.specs.Arrivals.{arrivals}
+use Rattle.pot_group.specs.Group.{GroupView}
+use Rattle.pot_group.specs.Heard.{FlyBy}
+use Rattle.pot_image.specs.Images.{Contents}
+use Rattle.pot_replies.specs.Sections.{Section}
+use Rattle.pot_shared.specs.Groups.{had_by}
+use Rattle.pot_shared.specs.Hands.{times}
+use Rattle.pot_shared.specs.Leaving.{AreWithin, IsWithin, LeavesGroup, Shows}
+use Rattle.pot_session.specs.Serving.{IsInRoom, Leaves}
+use Rattle.pot_session.proofs.LossLemmas.{get_within}
+use Rattle.pot_promises.specs.Frames.{FrameOfRun, IsFramed}
+
+-- what is shown of an archive is what it means
+shown_framed : (read : Table) (log : List Entry) (givens : List (List ℕ)) (n : ℕ) (s : Shelves) (old new : Meaning) → IsWithin read log s n old givens → Shows s n new → IsFramed read log givens n old new
+shown_framed read log givens n s old new within shows = record {
+  held = λ slot block l e. within.held slot block l (shows.blocks slot ∙ e);
+  history = λ block h. within.history block (subst (λ bs. Contains bs block) (sym shows.history) h);
+  heard = λ x h. within.heard x (subst (λ xs. Contains xs x) (sym shows.sums) h);
+}
+
+-- a group that was left
+module _ (told : Type 0) (meant means : ℕ → Meaning) (missing : List ℕ) (is_told : told) where
+  abbrev Framed : Table → List Entry → Type 0
+  Framed read log =
+      (givens : List (List ℕ)) × (flights : List Flight) × FlyBy read [] log givens flights
+      × ((n : ℕ) → Contains (archives_in read ++ arrivals log) n → times n missing ≡ 0 → IsFramed read log givens n (meant n) (means n))
+
+  of_view : (g : GroupView) → AreWithin meant g → ((n : ℕ) → Contains (had_by g) n → IsInRoom told means missing g.shelves n) → Framed g.first g.log
+  of_view g w archives = (
+    w.givens,
+    g.flights,
+    w.fly,
+    λ n has back. shown_framed g.first g.log w.givens n g.shelves (meant n) (means n) (w.each n has) (archives n has is_told back),
+  )
+
+  of_group : (read written : Table) (log : List Entry) → LeavesGroup told meant (IsInRoom told means missing) read log written → Framed read log
+  of_group read written log left =
+      subst (λ t. Framed t log) left.first (subst (λ l. Framed left.view.first l) left.is_log (of_view left.view (left.within is_told) left.archives))
+
+pub frame_of_run : FrameOfRun
+frame_of_run first last room missing story told leaves group read log is_read is_log =
+    let in_last : group < length last.tables = (let a = leaves.groups.count in let b = get_within first.tables group read is_read in omega (arith, a, b)) in
+    let written = element_at last.tables group in_last in
+    of_group (IsTrue room.tells) room.before.means room.after.means missing told read written.0 log (leaves.groups.each group read written.0 log is_read written.1 is_log)

@@ -1,0 +1,171 @@
+-- What a coalition sees of sessions in a row.
+use Rattle.std.proofs.Common.{◌≡◌, ℕ, zero, suc, ◌<◌, List, [], ◌∷◌, ◌++◌, Option, Some, None, Bool, true, false, ◌||◌, IsTrue, map, refl, sym, ap, ◌∙◌, subst, arith, append-nil}
+use Rattle.std.specs.Prelude.{◌==◌, Contains}
+use Rattle.std.proofs.lemmas.Bool.Decides.{nat_tests}
+use Rattle.std.proofs.lemmas.List.Elements.{All-nil}
+use Rattle.pot_bytes.specs.declared.rack.Rack.{Rack}
+use Rattle.pot_bytes.specs.Lists.{IsBlock}
+use Rattle.pot_machine.specs.declared.column.Column.{Column}
+use Rattle.pot_machine.specs.declared.column.Moving.{Moving}
+use Rattle.pot_machine.specs.Column.{homes_of, names, names_moved, target_of}
+use Rattle.pot_machine.specs.Table.{Table, width, column_at}
+use Rattle.pot_machine.specs.Rules.{IsTable, IsStanding}
+use Rattle.pot_steps.specs.declared.flight.Flight.{Flight}
+use Rattle.pot_world.specs.Alike.{Alike, blank_table}
+use Rattle.pot_world.specs.Audit.{AllSame, SeesSame, Sight, Whole, One, Blind}
+use Rattle.pot_world.specs.Coalition.{Agrees, Hears, IsServed, Served}
+use Rattle.pot_world.specs.Group.{WorldGroup}
+use Rattle.pot_world.specs.Kept.{IsFlight}
+use Rattle.pot_world.specs.Later.{Known, Both, IsLow, RunsSeenOn, reopened, reopened_site, ReopenedBoth, FirstReopened, Sessions, SessionsFit, OtherSessions, SessionsSeenSame}
+use Rattle.pot_world.specs.Reached.{EachGroup, IsGood, Move, Site, first_group, first_groups, first_site, is_oddly}
+use Rattle.pot_world.proofs.Auditing.{first_both, runs_both}
+
+-- WHAT A GROUP KEEPS
+
+-- a table without its relays keeps the rules
+table_still : (t : Table) → IsTable t → IsTable (record t { relays = [] })
+table_still t h = record {
+  size = record { data_columns = h.size.data_columns; parity = h.size.parity; stripes = h.size.stripes; columns = h.size.columns; slots = h.size.slots; relays = omega arith };
+  cursor = record { stripe = h.cursor.stripe; column = h.cursor.column; behind = h.cursor.behind };
+  voids = record { first = h.voids.first; parity = h.voids.parity; after = h.voids.after; cursor = h.voids.cursor };
+  columns = record { target = h.columns.target; distinct = h.columns.distinct };
+  relays = record { apart = λ i j d lt within. absurd (omega arith); standing = All-nil (IsStanding (record t { relays = [] })) };
+}
+
+pub good_anew : (used : ℕ → Bool) (g : WorldGroup) → IsGood used g → IsGood used (reopened g)
+good_anew used g good = (
+  record {
+    replay = refl;
+    table = table_still g.state.table good.0.table;
+    unbroken = good.0.unbroken;
+    filled = good.0.filled;
+    holds = good.0.holds;
+    relays = refl;
+    flights = All-nil (IsFlight (reopened g).state.table (reopened g).state.held (reopened g).written);
+  },
+  record { named = good.1.named; empty = good.1.empty; silent = good.1.silent; targets = good.1.targets },
+  All-nil (λ e. is_oddly e ≡ false),
+)
+
+-- the home and the target of a column
+home_named : (c : Column) (n : ℕ) → Contains (homes_of c) n → IsTrue (names c n)
+home_named c n h = by c.moving h
+  where
+    same : (a b : ℕ) → a ≡ b → (a == b) ≡ true
+    same a b e = grind (arith, nat_tests)
+
+    left : (a b m : ℕ) → a ≡ b → ((a == b) || (m == b)) ≡ true
+    left a b m e = grind (arith, nat_tests)
+
+    right : (a b m : ℕ) → m ≡ b → ((a == b) || (m == b)) ≡ true
+    right a b m e = grind (arith, nat_tests)
+
+    by : (m : Option Moving) → Contains (c.home ∷ target_of m) n → IsTrue (names_moved m c.home n)
+    by None (zero, lt, e) = same c.home n e
+    by None (suc i, lt, e) = absurd (omega (arith, lt))
+    by (Some m) (zero, lt, e) = left c.home n m.to e
+    by (Some m) (suc zero, lt, e) = right c.home n m.to e
+    by (Some m) (suc (suc i), lt, e) = absurd (omega (arith, lt))
+
+-- an archive that has served a column since is one of its own
+served_now : (g : WorldGroup) (k n : ℕ) → Served (reopened g) k n → Contains (homes_of (column_at g.state.table k)) n
+served_now g k n s = subst (λ l. Contains l n) (append-nil (homes_of (column_at g.state.table k))) s
+
+served_before : (used : ℕ → Bool) (g : WorldGroup) (k n : ℕ) → IsServed used g → k < width g.state.table → Served (reopened g) k n → Served g k n
+served_before used g k n sv lk s = sv.names k n lk (home_named (column_at g.state.table k) n (served_now g k n s))
+
+served_anew : (used : ℕ → Bool) (g : WorldGroup) → IsServed used g → IsServed used (reopened g)
+served_anew used g sv = record {
+  names = λ k n lk h. subst (λ l. Contains l n) (sym (append-nil (homes_of (column_at g.state.table k)))) (named (column_at g.state.table k) n h);
+  in_use = λ k n lk s. sv.in_use k n lk (served_before used g k n sv lk s);
+  apart = λ k j n lk lj s q. sv.apart k j n lk lj (served_before used g k n sv lk s) (served_before used g j n sv lj q);
+}
+  where
+    is : (a b : ℕ) → (a == b) ≡ true → a ≡ b
+    is a b e = grind (arith, nat_tests)
+
+    named : (c : Column) (n : ℕ) → IsTrue (names c n) → Contains (homes_of c) n
+    named c n h = by c.moving h
+      where
+        by : (m : Option Moving) → IsTrue (names_moved m c.home n) → Contains (c.home ∷ target_of m) n
+        by None h = (0, omega arith, is c.home n h)
+        by (Some m) h = either (c.home == n) (m.to == n) refl refl h
+          where
+            either : (x y : Bool) → (c.home == n) ≡ x → (m.to == n) ≡ y → x || y ≡ true → Contains (c.home ∷ m.to ∷ []) n
+            either true y ex ey e = (0, omega arith, is c.home n ex)
+            either false true ex ey e = (1, omega arith, is m.to n ey)
+            either false false ex ey e = absurd (cc)
+
+known_anew : (rack : Rack) (used : ℕ → Bool) (g : WorldGroup) → Known rack used g → Known rack used (reopened g)
+known_anew rack used g x = record { good = good_anew used g x.good; served = served_anew used g x.served; sizes = x.sizes }
+
+-- WHAT IS SEEN
+
+alike_anew : (g h : WorldGroup) → Alike g h → Alike (reopened g) (reopened h)
+alike_anew g h a = record { table = ap {A = Table} (λ t. record t { relays = [] }) a.table; log = refl; held = a.held }
+
+same_anew : (rack : Rack) (exchanges : Bool) (used : ℕ → Bool) (sight : Sight) (g h : WorldGroup) → ((k : ℕ) → sight ≡ One k → k < rack.columns) → Known rack used g → SeesSame exchanges sight g h → SeesSame exchanges sight (reopened g) (reopened h)
+same_anew rack exchanges used Whole g h low x e = ap reopened e
+same_anew rack exchanges used (One k) g h low x s = (
+  record {
+    alike = alike_anew g h s.0.alike;
+    first = ap {A = Table} (λ t. t.columns) (sym s.0.alike.table);
+    written = s.0.written;
+    held = λ n slot v. s.0.held n slot (served_before used g k n x.served lk v);
+  },
+  λ e. record { heard = λ n v. (s.1 e).heard n (served_before used g k n x.served lk v); blinds = λ s f f' q q' last over. absurd (none q) },
+)
+  where
+    none : {f : Flight} → None ≡ Some f → ⊥
+    none e = cc
+
+    lk : k < width g.state.table
+    lk = let a = low k refl in let b = x.sizes.1 in omega (arith, a, b)
+same_anew rack exchanges used Blind g h low x a = alike_anew g h a
+
+all_anew : (rack : Rack) (exchanges : Bool) (used : ℕ → Bool) (sights : ℕ → Sight) (gs hs : List WorldGroup) → IsLow rack sights → EachGroup (Known rack used) gs → AllSame exchanges sights gs hs → AllSame exchanges sights (map reopened gs) (map reopened hs)
+unfolding AllSame EachGroup
+all_anew rack exchanges used sights [] [] low x s = tt
+all_anew rack exchanges used sights [] (h ∷ hs) low x s = absurd s
+all_anew rack exchanges used sights (g ∷ gs) [] low x s = absurd s
+all_anew rack exchanges used sights (g ∷ gs) (h ∷ hs) low x s =
+    (same_anew rack exchanges used (sights 0) g h (low 0) x.0 s.0, all_anew rack exchanges used (λ n. sights (suc n)) gs hs (λ n. low (suc n)) x.1 s.1)
+
+each_anew : (P Q : WorldGroup → Type 0) → ((g : WorldGroup) → P g → Q (reopened g)) → (gs : List WorldGroup) → EachGroup P gs → EachGroup Q (map reopened gs)
+unfolding EachGroup
+each_anew P Q f [] h = tt
+each_anew P Q f (g ∷ gs) h = (f g h.0, each_anew P Q f gs h.1)
+
+pub reopened_both : ReopenedBoth
+reopened_both rack exchanges sights x y low b = record {
+  used = b.used;
+  known = each_anew (Known rack x.used) (Known rack x.used) (known_anew rack x.used) x.groups b.known;
+  good = each_anew (IsGood y.used) (IsGood y.used) (good_anew y.used) y.groups b.good;
+  same = all_anew rack exchanges x.used sights x.groups y.groups low b.known b.same;
+}
+
+-- SESSIONS
+
+pub runs_seen_on : RunsSeenOn
+runs_seen_on rack exchanges sights bytes moves x y z low blocks b r fits = runs_both rack exchanges sights bytes moves x y z blocks low b r fits
+
+sessions_on : (rack : Rack) (exchanges : Bool) (sights : ℕ → Sight) (sessions : List (List Move)) (bytes : ℕ → ℕ → List ℕ) (x y z : Site) → IsLow rack sights → ((n m : ℕ) → IsBlock (bytes n m)) → Both rack exchanges sights x y
+    → (run : Sessions x sessions z) → SessionsFit sights bytes x sessions z run → (w : Site) × OtherSessions exchanges sights bytes x y sessions z run w × (w.used ≡ z.used) × AllSame exchanges sights z.groups w.groups
+sessions_on rack exchanges sights [] bytes x y z low blocks b run fits =
+    (y, refl, b.used ∙ ap (λ (s : Site). s.used) (sym run), subst (λ (s : Site). AllSame exchanges sights s.groups y.groups) (sym run) b.same)
+sessions_on rack exchanges sights (moves ∷ more) bytes x y z low blocks b run fits =
+    let one = runs_both rack exchanges sights (bytes 0) moves (reopened_site x) (reopened_site y) run.0 (blocks 0) low (reopened_both rack exchanges sights x y low b) run.1 fits.0 in
+    let rest = sessions_on rack exchanges sights more (λ n. bytes (suc n)) run.0 one.0 z low (λ n. blocks (suc n)) one.2 run.2 fits.1 in
+    (rest.0, (one.0, one.1, rest.1), rest.2, rest.3)
+
+pub sessions_seen_same : SessionsSeenSame
+sessions_seen_same rack exchanges sights bytes sessions z fits low blocks run seen =
+    sessions_on rack exchanges sights sessions bytes (first_site rack) (first_site rack) z low blocks (first_both rack exchanges sights fits) run seen
+
+first_anew : (rack : Rack) (n more : ℕ) → map reopened (first_groups rack n more) ≡ first_groups rack n more
+unfolding first_groups
+first_anew rack n zero = refl
+first_anew rack n (suc more) = ap (λ gs. first_group rack n ∷ gs) (first_anew rack (suc n) more)
+
+pub first_reopened : FirstReopened
+first_reopened rack = ap (λ gs. record (first_site rack) { groups = gs }) (first_anew rack 0 rack.groups)
