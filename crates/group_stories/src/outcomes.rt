@@ -117,7 +117,7 @@ impl Outcome {
         match mend {
             Mend::Whole => Outcome::Plain("whole"),
             Mend::Began => Outcome::Plain("began"),
-            Mend::Went => Outcome::Plain("went"),
+            Mend::Extends => Outcome::Plain("went"),
             Mend::Mended => Outcome::Plain("mended"),
             Mend::Passed => Outcome::Plain("passed"),
             Mend::TwoGone { first, second } => Outcome::TwoGone(first, second),

@@ -190,7 +190,7 @@ impl Trial {
         }
         match self.group.mend(1, place, blind) {
             Mend::Whole => Ok(true),
-            Mend::Began | Mend::Went | Mend::Mended => Ok(false),
+            Mend::Began | Mend::Extends | Mend::Mended => Ok(false),
             _ => Err(AllocError),
         }
     }

@@ -13,7 +13,7 @@ ghost use Rattle.pot_shared.specs.Sharing.{HasAllButKept, IsGroupOf};
 use crate::plain::{PlainArchive, shelf};
 use crate::rows::SEED;
 use pot_bytes::{Geometry, Name, Rack};
-use pot_followed::Followed;
+use pot_execution::TrackedGroup;
 use pot_group::{Ended, StartRefused, are_homes};
 use pot_image::{Image, read_image, write_image};
 use pot_index::{Index, IndexEnded};
@@ -148,7 +148,7 @@ fn start_group(
     if !is_of_rack(&table, rack) || !are_homes(table.columns(), &shelves) {
         return Err(AllocError);
     }
-    match Followed::start(alloc, number, table, shelves) {
+    match TrackedGroup::start(alloc, number, table, shelves) {
         Ok(group) => Ok(Member { group }),
         Err(
             StartRefused {
@@ -206,7 +206,7 @@ impl Session {
     ghost use Rattle.std.specs.Prelude.{true};
     ghost use Rattle.pot_pads.specs.Pads.{pads_of};
     ghost use Rattle.pot_replies.specs.Settings.{Setting};
-    ghost use Rattle.pot_shared.specs.Works.{section_of, JobAlone, JobWorked, IsSettingOf};
+    ghost use Rattle.pot_shared.specs.Works.{section_of, JobOnlyWriter, JobWroteOnly, IsSettingOf};
     ghost use Rattle.pot_store.specs.Stores.{DrawsFrom, StoreRow};
     ghost use Rattle.pot_store.specs.Fetches.{AreFilled, FetchRow};
     ghost use Rattle.pot_store.specs.Stored.{FetchGives};
@@ -226,8 +226,8 @@ impl Session {
         file: &[u8],
     ) -> Result<Stored, StoreFault>
         requires { 0 < job }
-        ensures worked { JobWorked job (knows self.old) (knows self.new) }
-        ensures says { JobAlone job (knows self.old) (knows self.new) → (s : Setting)
+        ensures worked { JobWroteOnly job (knows self.old) (knows self.new) }
+        ensures says { JobOnlyWriter job (knows self.old) (knows self.new) → (s : Setting)
             → IsSettingOf s self.old.vault.rack (knows self.old)
             → DrawsFrom s (pads_of SEED self.old.number job) job file.now
             → StoreRow s job name.now file.now result
@@ -240,9 +240,9 @@ impl Session {
             job,
         };
         let pads = PadStream::new(&SEED, self.number, job);
-        let mut session = caller.session(&mut self.passes);
-        let stored = store_file(&mut session, name, file, pads);
-        self.passes = session.end();
+        let mut connection = caller.connection(&mut self.passes);
+        let stored = store_file(&mut connection, name, file, pads);
+        self.passes = connection.end();
         stored
     }
 
@@ -258,12 +258,12 @@ impl Session {
         name: &Name,
     ) -> Result<Vec<u8>, FetchFault>
         requires { 0 < job }
-        ensures worked { JobWorked job (knows self.old) (knows self.new) }
-        ensures says { JobAlone job (knows self.old) (knows self.new) → (s : Setting)
+        ensures worked { JobWroteOnly job (knows self.old) (knows self.new) }
+        ensures says { JobOnlyWriter job (knows self.old) (knows self.new) → (s : Setting)
             → IsSettingOf s self.old.vault.rack (knows self.old)
             → s.mends ≡ true → AreFilled s
             → FetchRow s job name.now result (section_of (knows self.old) (knows self.new)) }
-        ensures stored { JobAlone job (knows self.old) (knows self.new) → (s : Setting)
+        ensures stored { JobOnlyWriter job (knows self.old) (knows self.new) → (s : Setting)
             → IsSettingOf s self.old.vault.rack (knows self.old)
             → s.mends ≡ true → AreFilled s
             → FetchGives s job name.now result (section_of (knows self.old) (knows self.new)) }
@@ -275,9 +275,9 @@ impl Session {
             job,
         };
         let mut pads = PadStream::new(&SEED, self.number, job);
-        let mut session = caller.session(&mut self.passes);
-        let fetched = fetch_file(&mut session, name, &mut pads);
-        self.passes = session.end();
+        let mut connection = caller.connection(&mut self.passes);
+        let fetched = fetch_file(&mut connection, name, &mut pads);
+        self.passes = connection.end();
         fetched
     }
 
@@ -325,7 +325,7 @@ impl Left {
     }
 
     /// Ends a group.
-    fn end_group(&mut self, group: Followed<PlainArchive>) -> Result<(), AllocError> {
+    fn end_group(&mut self, group: TrackedGroup<PlainArchive>) -> Result<(), AllocError> {
         let Ended {
             table,
             log,

@@ -13,7 +13,7 @@ use Rattle.pot_replies.specs.Settings.{Setting}
 use Rattle.pot_replies.specs.Sections.{Section, mine, IsSilent}
 use Rattle.pot_shared.specs.Ready.{GroupPasses, AreReady}
 use Rattle.pot_shared.specs.Catalogs.{IndexPasses, IsIndexReady}
-use Rattle.pot_shared.specs.Works.{of_job, Known, known, JobWorked}
+use Rattle.pot_shared.specs.Works.{of_job, Known, known, JobWroteOnly}
 use Rattle.pot_replies.specs.Renewals.{renewing}
 use Rattle.pot_store.specs.Drawing.{blocks_from}
 use Rattle.pot_store.specs.Renewals.{RenewsFrom}
@@ -25,7 +25,7 @@ use Rattle.pot_commands.specs.Taking.{asks}
 
 -- passes that did nothing worked for any job
 pub stayed_worked : (rack : Rack) (names turn : List TurnName) (job : ℕ) (row : GroupPasses) (i : IndexPasses) → AreReady rack names row → IsIndexReady rack names turn i
-    → JobWorked job (known row i) (known row i)
+    → JobWroteOnly job (known row i) (known row i)
 stayed_worked rack names turn job row i ready index_ready = record {
   groups = row_stays (of_job job) row ready.idle;
   index = row_stays (index.is_of job) i (index_idle rack names turn i index_ready);

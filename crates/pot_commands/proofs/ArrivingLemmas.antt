@@ -27,10 +27,10 @@ use Rattle.pot_group.specs.Causes.{brought_by}
 use Rattle.pot_group.specs.Group.{GroupView}
 use Rattle.pot_turn.specs.declared.name.TurnName.{TurnName}
 use Rattle.pot_worked.specs.Laws.{AllOf}
-use Rattle.pot_worked.specs.Worked.{added}
-use Rattle.pot_worked.proofs.SoleLemmas.{gain_in_parts}
+use Rattle.pot_worked.specs.WroteOnlyFor.{added}
+use Rattle.pot_worked.proofs.OnlyWriterLemmas.{gain_in_parts}
 use Rattle.pot_rows.specs.Rows.{view_at}
-use Rattle.pot_rows.specs.Works.{RowWorked}
+use Rattle.pot_rows.specs.Works.{RowWroteOnlyFor}
 use Rattle.pot_rows.proofs.RowLemmas.{at_set}
 use Rattle.pot_replies.specs.Settings.{Setting}
 use Rattle.pot_replies.specs.Sections.{Section, mine, IsSilent, IsOfJobs}
@@ -44,14 +44,14 @@ use Rattle.pot_shared.specs.Members.{all_logged, entries_of, logged_at, taking_a
 use Rattle.pot_shared.proofs.MemberLemmas.{marks_by, entries_all, entries_append}
 use Rattle.pot_group.specs.Calls.{ComesBy}
 use Rattle.pot_shared.specs.Ready.{AreReady, GroupPass, GroupPasses}
-use Rattle.pot_shared.specs.Works.{Known, known, of_job, gained, JobWorked, JobAlone, IsSettingOf, section_of}
+use Rattle.pot_shared.specs.Works.{Known, known, of_job, gained, JobWroteOnly, JobOnlyWriter, IsSettingOf, section_of}
 use Rattle.pot_shared.proofs.WorkLemmas.{row_stays, index_idle, group_work, group_own, group_else, work_more, alone_parts, own_more, all_none, all_one}
 use Rattle.pot_mend.specs.Moves.{IsAsked, seen_in}
 use Rattle.pot_mend.proofs.HadLemmas.{IsUsedIn, brought_here, brought_named, had_used, named_held, same_width}
-use Rattle.pot_shared.specs.Going.{AllSole}
+use Rattle.pot_shared.specs.Going.{AllOnlyWriters}
 use Rattle.pot_shared.specs.Hands.{times}
 use Rattle.pot_commands.specs.Taking.{Took, HasUse, AreUsed}
-use Rattle.pot_outside.specs.Rooms.{Lending}
+use Rattle.pot_outside.specs.Rooms.{RoomState}
 use Rattle.pot_shared.specs.Coming.{AreMarkedBy, came_in, taking_of}
 use Rattle.pot_commands.proofs.Brought.{its_setting, is_its}
 use Rattle.pot_commands.proofs.Going.{sole_alone, work_all_went}
@@ -91,7 +91,7 @@ pub of_jobs : (job : ℕ) (w : Section) → IsOfJobs job 1 w → (g : ℕ) (x y 
 of_jobs job w its g x y e at = eq-eqb (job_of e) job (let a = (its.groups g x y e at).0 in let b = (its.groups g x y e at).1 in omega (arith, a, b))
 
 -- a job that logged nothing brought no archive
-pub silent_arrivals : (job : ℕ) (old new : Known) → JobWorked job old new → (JobAlone job old new → IsSilent (mine job (section_of old new))) → AllSole old new → (g : ℕ) → arrivals (gained old.groups new.groups g) ≡ []
+pub silent_arrivals : (job : ℕ) (old new : Known) → JobWroteOnly job old new → (JobOnlyWriter job old new → IsSilent (mine job (section_of old new))) → AllOnlyWriters old new → (g : ℕ) → arrivals (gained old.groups new.groups g) ≡ []
 silent_arrivals job old new worked silent sole g =
     ap arrivals (sym (own_all job (gained old.groups new.groups g) ((its_jobs job old new worked sole).groups g)) ∙ (silent (sole_alone job old new worked sole)).0 g)
 
@@ -157,20 +157,20 @@ module _ {rack : Rack} {names turn : List TurnName} (job : ℕ) {row0 row1 : Gro
 
   -- A CHECK
 
-  index_worked : RowWorked (index.is_of job) i i1
-  index_worked = subst (λ x. RowWorked (index.is_of job) i x) (sym same) (row_stays (index.is_of job) i (index_idle rack names turn i iready))
+  index_worked : RowWroteOnlyFor (index.is_of job) i i1
+  index_worked = subst (λ x. RowWroteOnlyFor (index.is_of job) i x) (sym same) (row_stays (index.is_of job) i (index_idle rack names turn i iready))
 
-  pub checked_work : JobWorked job k0 k1
+  pub checked_work : JobWroteOnly job k0 k1
   checked_work = record { groups = asked.worked job; index = index_worked }
 
   index_silent : index.own job (added (view_at i 0) (view_at i1 0)) ≡ []
   index_silent = ap (λ x. index.own job (added (view_at i 0) (view_at x 0))) same ∙ ap (λ ls. index.own job ls) (drop-length (view_at i 0).seen)
 
-  pub checked_silent : JobAlone job k0 k1 → IsSilent (mine job (section_of k0 k1))
+  pub checked_silent : JobOnlyWriter job k0 k1 → IsSilent (mine job (section_of k0 k1))
   checked_silent alone = ((λ g. asked.silent job alone.groups g), index_silent)
 
   -- where all that was gained is the job's, the check met the logs as they were
-  module _ (alone : JobAlone job k0 k1) (its : (g : ℕ) (x y : List Entry) (e : Entry) → gained row0 row1 g ≡ x ++ e ∷ y → is_of job e ≡ true) where
+  module _ (alone : JobOnlyWriter job k0 k1) (its : (g : ℕ) (x y : List Entry) (e : Entry) → gained row0 row1 g ≡ x ++ e ∷ y → is_of job e ≡ true) where
     none_gained : (g : ℕ) → gained row0 row1 g ≡ []
     none_gained g = sym (own_each job (gained row0 row1 g) (its g)) ∙ asked.silent job alone.groups g
 
@@ -197,7 +197,7 @@ module _ {rack : Rack} {names turn : List TurnName} (job : ℕ) {row0 row1 : Gro
     )),
   )
 
-  pub free_home : (r : Lending) (n : ℕ) → length names ≡ rack.groups → AreUsed r row0 → ((s : Setting) → IsSettingOf s rack k0 → IsUsed s (seen_in row1) n → ⊥) → r.out n ≡ false
+  pub free_home : (r : RoomState) (n : ℕ) → length names ≡ rack.groups → AreUsed r row0 → ((s : Setting) → IsSettingOf s rack k0 → IsUsed s (seen_in row1) n → ⊥) → r.out n ≡ false
   free_home r n count used free = by (r.out n) refl
     where
       by : (b : Bool) → r.out n ≡ b → r.out n ≡ false
@@ -205,10 +205,10 @@ module _ {rack : Rack} {names turn : List TurnName} (job : ℕ) {row0 row1 : Gro
       by true e = absurd (free (its_setting rack [] 0 k0) (is_its rack [] 0 k0) (used_at (its_setting rack [] 0 k0) (is_its rack [] 0 k0) count n (used n e)))
 
   -- the room lends and means what it did
-  pub check_used : (r r' : Lending) → ((n : ℕ) → r'.out n ≡ r.out n) → AreUsed r row0 → AreUsed r' row1
+  pub check_used : (r r' : RoomState) → ((n : ℕ) → r'.out n ≡ r.out n) → AreUsed r row0 → AreUsed r' row1
   check_used r r' lends used = used_more job r r' row0 row1 (asked.worked job) same_names lends used
 
-  pub check_took : (told well : Type 0) (ns : List ℕ) (r r' : Lending) → ((n : ℕ) → r'.out n ≡ r.out n) → ((n : ℕ) → r'.means n ≡ r.means n) → Took told well ns r r' k0 k1
+  pub check_took : (told well : Type 0) (ns : List ℕ) (r r' : RoomState) → ((n : ℕ) → r'.out n ≡ r.out n) → ((n : ℕ) → r'.means n ≡ r.means n) → Took told well ns r r' k0 k1
   check_took told well ns r r' out means = took_none told well ns r r' k0 k1 out means (silent_arrivals job k0 k1 checked_work checked_silent)
 
   -- ONE CALL THEN, of the group of this number
@@ -220,24 +220,24 @@ module _ {rack : Rack} {names turn : List TurnName} (job : ℕ) {row0 row1 : Gro
     in_row : group < length row1.views
     in_row = (let a = ready1.of.1 in omega (arith, within, a))
 
-    group_worked : RowWorked (of_job job) row1 row2
+    group_worked : RowWroteOnlyFor (of_job job) row1 row2
     group_worked = group_work told job R group row1 row2 in_row call all ready1.idle
 
     iready1 : IsIndexReady rack names turn i1
     iready1 = subst (λ x. IsIndexReady rack names turn x) (sym same) iready
 
-    call_work : JobWorked job k1 k2
-    call_work = record { groups = group_worked; index = subst (λ x. RowWorked (index.is_of job) i1 x) (sym same2) (row_stays (index.is_of job) i1 (index_idle rack names turn i1 iready1)) }
+    call_work : JobWroteOnly job k1 k2
+    call_work = record { groups = group_worked; index = subst (λ x. RowWroteOnlyFor (index.is_of job) i1 x) (sym same2) (row_stays (index.is_of job) i1 (index_idle rack names turn i1 iready1)) }
 
-    pub whole_work : JobWorked job k0 k2
+    pub whole_work : JobWroteOnly job k0 k2
     whole_work = work_more job k0 k1 k2 checked_work call_work
 
     whole_index : index.own job (added (view_at i 0) (view_at i2 0)) ≡ []
     whole_index = ap (λ x. index.own job (added (view_at i 0) (view_at x 0))) (same2 ∙ same) ∙ ap (λ ls. index.own job ls) (drop-length (view_at i 0).seen)
 
     -- WHERE THE JOB WAS ALONE
-    module _ (alone : JobAlone job k0 k2) where
-      parts : JobAlone job k0 k1 × JobAlone job k1 k2
+    module _ (alone : JobOnlyWriter job k0 k2) where
+      parts : JobOnlyWriter job k0 k1 × JobOnlyWriter job k1 k2
       parts = alone_parts job k0 k1 k2 checked_work call_work alone
 
       own_at : (g : ℕ) → own job (gained row0 row2 g) ≡ own job (gained row1 row2 g)
@@ -301,7 +301,7 @@ module _ {rack : Rack} {names turn : List TurnName} (job : ℕ) {row0 row1 : Gro
         pub met_log : call.turn.old.log ≡ seen_in row0 group
         met_log =
             sym (entries_all call.turn.old.shelves call.turn.old.log)
-            ∙ (ap entries_of call.turn.met
+            ∙ (ap entries_of call.turn.transition
             ∙ (ap (λ l. entries_of ((view_at row1 group).seen ++ l)) no_others ∙ (ap entries_of (append-nil (view_at row1 group).seen) ∙ ap (λ f. f group) logs_met)))
 
         -- the table that the call met is that of the setting
@@ -316,11 +316,11 @@ module _ {rack : Rack} {names turn : List TurnName} (job : ℕ) {row0 row1 : Gro
               ∙ (ap (replayed call.turn.old.first) (sym met_log) ∙ replays_is call.turn.old.first call.turn.old.log call.turn.old.table call.turn.settled_old.replay)
 
     -- IF NOBODY ELSE LOGGED ANYTHING
-    module _ (sole : AllSole k0 k2) where
+    module _ (sole : AllOnlyWriters k0 k2) where
       its_all : (g : ℕ) (x y : List Entry) (e : Entry) → gained row0 row2 g ≡ x ++ e ∷ y → is_of job e ≡ true
       its_all = of_jobs job (section_of k0 k2) (its_jobs job k0 k2 whole_work sole)
 
-      alone_all : JobAlone job k0 k2
+      alone_all : JobOnlyWriter job k0 k2
       alone_all = sole_alone job k0 k2 whole_work sole
 
       gains_there : (h : ℕ) → h ≢ group → arrivals (gained row0 row2 h) ≡ []
@@ -338,7 +338,7 @@ module _ {rack : Rack} {names turn : List TurnName} (job : ℕ) {row0 row1 : Gro
         ap (λ v. entries_of v.seen) (ap (λ r. view_at r group) call.is ∙ at_set row1 group call.pass in_row)
         ∙ (ap (λ (v : GroupPass). entries_of v.seen) call.turn.turn
         ∙ (entries_append ((view_at row1 group).seen ++ call.turn.others) (all_logged call.turn.new.shelves call.turn.entries)
-        ∙ (ap (λ l. entries_of l ++ entries_of (all_logged call.turn.new.shelves call.turn.entries)) (sym call.turn.met)
+        ∙ (ap (λ l. entries_of l ++ entries_of (all_logged call.turn.new.shelves call.turn.entries)) (sym call.turn.transition)
         ∙ (ap (λ l. l ++ entries_of (all_logged call.turn.new.shelves call.turn.entries)) (entries_all call.turn.old.shelves call.turn.old.log)
         ∙ (ap (λ l. call.turn.old.log ++ l) (entries_all call.turn.new.shelves call.turn.entries) ∙ sym call.turn.log)))))
 
@@ -348,7 +348,7 @@ module _ {rack : Rack} {names turn : List TurnName} (job : ℕ) {row0 row1 : Gro
         ∙ (ap (λ t. replayed t call.turn.new.log) (sym call.turn.first) ∙ replays_is call.turn.new.first call.turn.new.log call.turn.new.table call.turn.settled.replay)
 
     -- the archives of the group have a use in the logs
-    pub group_used : (alone : JobAlone job k0 k2) → ((g : ℕ) (x y : List Entry) (e : Entry) → gained row0 row2 g ≡ x ++ e ∷ y → is_of job e ≡ true) → (s : Setting) → IsSettingOf s rack k0 → length names ≡ rack.groups
+    pub group_used : (alone : JobOnlyWriter job k0 k2) → ((g : ℕ) (x y : List Entry) (e : Entry) → gained row0 row2 g ≡ x ++ e ∷ y → is_of job e ≡ true) → (s : Setting) → IsSettingOf s rack k0 → length names ≡ rack.groups
         → HasArrived call.turn.old.first call.turn.old.log call.turn.old.shelves.numbers → (n : ℕ) → Contains call.turn.old.shelves.numbers n → IsUsed s (seen_in row0) n
     group_used alone its s set count arrived n has =
         let u = arrived_used call.turn.old.first call.turn.old.table call.turn.old.log n call.turn.read call.turn.settled_old.replay (subst (λ ns. Contains ns n) arrived has) in (
@@ -367,7 +367,7 @@ module _ {rack : Rack} {names turn : List TurnName} (job : ℕ) {row0 row1 : Gro
     pub came_all : AllOf (is_of job) call.turn.entries
     came_all = subst (λ es. AllOf (is_of job) es) (sym comes.entries_are) (all_one (is_of job) e (eq-eqb (job_of e) job by_job))
 
-    pub came_work : JobWorked job k0 with_it
+    pub came_work : JobWroteOnly job k0 with_it
     came_work = whole_work same2 ready2 within call came_all
 
     arrives : arrival e ≡ to ∷ []
@@ -376,7 +376,7 @@ module _ {rack : Rack} {names turn : List TurnName} (job : ℕ) {row0 row1 : Gro
     at_names : group < length row0.names
     at_names = (let a = ap length ready.of.0 in omega (arith, a, within))
 
-    come_are : AllSole k0 with_it → (n : ℕ) → times n (to ∷ []) ≡ times n (came_in (length row0.names) (gained row0 row2))
+    come_are : AllOnlyWriters k0 with_it → (n : ℕ) → times n (to ∷ []) ≡ times n (came_in (length row0.names) (gained row0 row2))
     come_are sole n =
         ap (times n) (sym (came_one (length row0.names) (gained row0 row2) group at_names (gains_there same2 ready2 within call came_all sole)
         ∙ (ap arrivals (gains_here same2 ready2 within call came_all sole ∙ comes.entries_are) ∙ (append-nil (arrival e) ∙ arrives))))
@@ -387,7 +387,7 @@ module _ {rack : Rack} {names turn : List TurnName} (job : ℕ) {row0 row1 : Gro
         subst (λ n. taking_at call.turn.new.shelves n ≡ taking_of (meant to)) number
         (taking_is call.turn.new.shelves shelf.number (meaning shelf.archive) (b.marked ∙ b.counts.0) (b.marked_losses tells ∙ b.counts.1) b.taken ∙ taking_same (meant to) (meaning shelf.archive) is)
 
-    come_marked : (meant : ℕ → Meaning) → told → IsMeant (meant to) (meaning shelf.archive) → AllSole k0 with_it → (g : ℕ) → g < length row0.names → AreMarkedBy meant (added (view_at row0 g) (view_at row2 g))
+    come_marked : (meant : ℕ → Meaning) → told → IsMeant (meant to) (meaning shelf.archive) → AllOnlyWriters k0 with_it → (g : ℕ) → g < length row0.names → AreMarkedBy meant (added (view_at row0 g) (view_at row2 g))
     come_marked meant tells is sole g lt l n has arr = ⊎_elim
         (λ (same_group : g ≡ group).
         (let there : Contains (all_logged call.turn.new.shelves (e ∷ [])) l =
@@ -401,7 +401,7 @@ module _ {rack : Rack} {names turn : List TurnName} (job : ℕ) {row0 row1 : Gro
         absurd (none_contained n (subst (λ ns. Contains ns n) (gains_there same2 ready2 within call came_all sole g ne) (arrival_in (added (view_at row0 g) (view_at row2 g)) l n has arr))))
         (cases_eq g group)
 
-    pub came_took : (well : Type 0) (r r' : Lending) → r.out to ≡ false → ((n : ℕ) → n ≢ to → (r'.means n ≡ r.means n) × (r'.out n ≡ r.out n)) → r'.out to ≡ true
+    pub came_took : (well : Type 0) (r r' : RoomState) → r.out to ≡ false → ((n : ℕ) → n ≢ to → (r'.means n ≡ r.means n) × (r'.out n ≡ r.out n)) → r'.out to ≡ true
         → (told → IsMeant (r.means to) (meaning shelf.archive)) → Took told well (to ∷ []) r r' k0 with_it
     came_took well r r' home others out is = record {
       taken = to ∷ [];
@@ -423,7 +423,7 @@ module _ {rack : Rack} {names turn : List TurnName} (job : ℕ) {row0 row1 : Gro
           ),
     )
 
-    pub came_used : (r r' : Lending) → ((n : ℕ) → n ≢ to → r'.out n ≡ r.out n) → AreUsed r row0 → AreUsed r' row2
+    pub came_used : (r r' : RoomState) → ((n : ℕ) → n ≢ to → r'.out n ≡ r.out n) → AreUsed r row0 → AreUsed r' row2
     came_used r r' others used n is = ⊎_elim
         (λ (e : n ≡ to). subst (λ k. HasUse row2 k) (sym e) now_use)
         (λ (ne : n ≢ to). use_more job row0 row2 came_work.groups (ready2.of.0 ∙ sym ready.of.0) n (used n (sym (others n ne) ∙ is)))
@@ -435,14 +435,14 @@ module _ {rack : Rack} {names turn : List TurnName} (job : ℕ) {row0 row1 : Gro
     pub back_all : AllOf (is_of job) call.turn.entries
     back_all = subst (λ es. AllOf (is_of job) es) (sym none) (all_none (is_of job))
 
-    pub back_work : JobWorked job k0 (known row2 i2)
+    pub back_work : JobWroteOnly job k0 (known row2 i2)
     back_work = whole_work same2 ready2 within call back_all
 
-    pub back_silent : JobAlone job k0 (known row2 i2) → IsSilent (mine job (section_of k0 (known row2 i2)))
+    pub back_silent : JobOnlyWriter job k0 (known row2 i2) → IsSilent (mine job (section_of k0 (known row2 i2)))
     back_silent alone = none_here same2 ready2 within call back_all alone none
 
     -- to the room that had lent it
-    module _ {A : Type 0} {shelf handed : Shelf A} {to : ℕ} (handed_is : handed ≡ shelf) (number : shelf.number ≡ to) (r r1 r2 : Lending) (home : r.out to ≡ false)
+    module _ {A : Type 0} {shelf handed : Shelf A} {to : ℕ} (handed_is : handed ≡ shelf) (number : shelf.number ≡ to) (r r1 r2 : RoomState) (home : r.out to ≡ false)
         (took_others : (n : ℕ) → n ≢ to → (r1.means n ≡ r.means n) × (r1.out n ≡ r.out n)) (back : r2.out handed.number ≡ false)
         (gave_others : (n : ℕ) → n ≢ handed.number → (r2.means n ≡ r1.means n) × (r2.out n ≡ r1.out n)) where
       handed_number : handed.number ≡ to

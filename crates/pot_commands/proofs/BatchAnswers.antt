@@ -5,7 +5,7 @@ use Rattle.pot_replies.specs.Settings.{Setting}
 use Rattle.pot_replies.specs.Sections.{Section}
 use Rattle.pot_shared.specs.Works.{Known, section_of}
 use Rattle.pot_commands.specs.Rows.{IsSessionSetting}
-use Rattle.pot_shared.specs.Going.{AllSole}
+use Rattle.pot_shared.specs.Going.{AllOnlyWriters}
 use Rattle.pot_commands.specs.Begun.{HasTask}
 use Rattle.pot_commands.specs.Jobs.{Says}
 use Rattle.pot_commands.specs.Batches.{Line, KnownJoins, IsLine, AreLines, IsAmongLines, AllSay}
@@ -27,7 +27,7 @@ setting_given s rack seed session v c its is = record {
   filled = is.filled;
 }
 
-module _ (rack : Rack) (seed : List ℕ) (session : ℕ) (v x : Known) (from : ℕ) (cs : List Line) (jobs : AreLines v from cs) (joins : KnownJoins v cs x) (sole : AllSole v x) (s : Setting)
+module _ (rack : Rack) (seed : List ℕ) (session : ℕ) (v x : Known) (from : ℕ) (cs : List Line) (jobs : AreLines v from cs) (joins : KnownJoins v cs x) (sole : AllOnlyWriters v x) (s : Setting)
     (is : IsSessionSetting s rack seed session v) where
   all_answer : (ds : List Line) → ((c : Line) → IsAmongLines c ds → IsAmongLines c cs) → AllSay rack seed session ds → AnswersAll rack s ds (section_of v x)
   all_answer [] among say = tt

@@ -7,21 +7,21 @@ use Rattle.pot_machine.specs.Logs.{job_of, is_of, own}
 use Rattle.pot_turn.specs.declared.view.View.{View}
 use Rattle.pot_turn.specs.Logs.{StartsWith}
 use Rattle.pot_turn.proofs.LogLemmas.{get_back}
-use Rattle.pot_worked.specs.Worked.{added, Worked, Alone}
+use Rattle.pot_worked.specs.WroteOnlyFor.{added, WroteOnlyFor, OnlyWriterOf}
 use Rattle.pot_worked.specs.Batches.{Carried, Apart, IsIn, AreCarried, TellsJobs}
-use Rattle.pot_worked.specs.Sole.{Went, Sole}
+use Rattle.pot_worked.specs.OnlyWriter.{Extends, OnlyWriter}
 use Rattle.pot_worked.proofs.BatchLemmas.{alone_in_batch, owned_in_batch}
-use Rattle.pot_worked.proofs.SoleLemmas.{batch_went}
-use Rattle.pot_worked.proofs.WorkedLemmas.{behind}
+use Rattle.pot_worked.proofs.OnlyWriterLemmas.{batch_went}
+use Rattle.pot_worked.proofs.WroteOnlyForLemmas.{behind}
 use Rattle.pot_rows.specs.Rows.{PassRow, view_at}
-use Rattle.pot_rows.specs.Works.{CarriedRow, RowJoins, RowWorked, carried_at}
+use Rattle.pot_rows.specs.Works.{CarriedRow, RowJoins, RowWroteOnlyFor, carried_at}
 use Rattle.pot_rows.proofs.WorkLemmas.{joins_at_places}
 use Rattle.pot_index.specs.Entries as index
 use Rattle.pot_shared.specs.declared.member.Logged.{Logged}
 use Rattle.pot_shared.specs.Members.{entries_of}
 use Rattle.pot_replies.specs.Sections.{Widens}
-use Rattle.pot_shared.specs.Works.{of_job, Known, JobAlone, section_of}
-use Rattle.pot_shared.specs.Going.{AllSole, AllWent}
+use Rattle.pot_shared.specs.Works.{of_job, Known, JobOnlyWriter, section_of}
+use Rattle.pot_shared.specs.Going.{AllOnlyWriters, AllExtend}
 use Rattle.pot_commands.specs.Batches.{Line, group_rows, index_rows, KnownJoins, IsGivenOf, IsLine, AreLines, IsAmongLines, JobsWiden}
 
 -- ONE TURN OF A BATCH
@@ -29,7 +29,7 @@ use Rattle.pot_commands.specs.Batches.{Line, group_rows, index_rows, KnownJoins,
 -- whatever its values and origins, the jobs' rows at a place are carried, no two of one number
 module _ {E O : Type 0} (of : ℕ → E → Bool) (rows : Line → CarriedRow E O) (numbered : (c : Line) → (rows c).job ≡ c.job) (start : PassRow E O) where
   abbrev pub Carries : Line → Type 0
-  Carries c = IsGivenOf start (rows c).given × RowWorked (of (rows c).job) (rows c).given (rows c).done
+  Carries c = IsGivenOf start (rows c).given × RowWroteOnlyFor (of (rows c).job) (rows c).given (rows c).done
 
   -- the jobs are numbered from this one on, and each carried its row
   abbrev pub AllCarry : ℕ → List Line → Type 0
@@ -64,12 +64,12 @@ module _ {E O : Type 0} (of : ℕ → E → Bool) (rows : Line → CarriedRow E 
   line_in at (d ∷ ds) c (inr later) = let rest = line_in at ds c later in (rest.0, inr rest.1, rest.2)
 
   module _ (x : PassRow E O) (from : ℕ) (cs : List Line) (all : AllCarry from cs) (joins : RowJoins start (map rows cs) x) (at : ℕ) where
-    pub went_at : Went (view_at start at) (view_at x at)
+    pub went_at : Extends (view_at start at) (view_at x at)
     went_at = (batch_went of (view_at start at) (view_at x at) (map (carried_at at) (map rows cs)) (joins_at_places start x (map rows cs) joins at) (carried at from cs all)).0
 
     -- at one place: the job was alone, and what it saw begins what the batch saw, with no entry of the job behind
-    pub at_place : TellsJobs of → Sole (view_at start at) (view_at x at) → (c : Line) → IsAmongLines c cs
-        → Alone (of (rows c).job) (view_at (rows c).given at) (view_at (rows c).done at) × StartsWith (view_at x at).seen (view_at (rows c).done at).seen
+    pub at_place : TellsJobs of → OnlyWriter (view_at start at) (view_at x at) → (c : Line) → IsAmongLines c cs
+        → OnlyWriterOf (of (rows c).job) (view_at (rows c).given at) (view_at (rows c).done at) × StartsWith (view_at x at).seen (view_at (rows c).done at).seen
         × (filter (of (rows c).job) (added (view_at start at) (view_at x at)) ≡ filter (of (rows c).job) (added (view_at (rows c).given at) (view_at (rows c).done at)))
     at_place tells sole c among =
         let j = joins_at_places start x (map rows cs) joins at in
@@ -78,7 +78,7 @@ module _ {E O : Type 0} (of : ℕ → E → Bool) (rows : Line → CarriedRow E 
         alone_in_batch of (view_at start at) (view_at x at) (map (carried_at at) (map rows cs)) tells j carry (went.1 sole) (carried_at at (rows c)) (is_in at c cs among)
 
     -- each entry that was gained is of a job of the batch
-    pub whose_at : Sole (view_at start at) (view_at x at) → (i : ℕ) (e : E) → slice_get (added (view_at start at) (view_at x at)) i ≡ Some e → (d : Line) × IsAmongLines d cs × (of d.job e ≡ true)
+    pub whose_at : OnlyWriter (view_at start at) (view_at x at) → (i : ℕ) (e : E) → slice_get (added (view_at start at) (view_at x at)) i ≡ Some e → (d : Line) × IsAmongLines d cs × (of d.job e ≡ true)
     whose_at sole i e is =
         let j = joins_at_places start x (map rows cs) joins at in
         let carry = carried at from cs all in
@@ -91,7 +91,7 @@ module _ {E O : Type 0} (of : ℕ → E → Bool) (rows : Line → CarriedRow E 
 
 -- WHAT COMES BEHIND A JOB
 
-module _ {E O : Type 0} (is_of_job : E → Bool) (start given done x : View E O) (same : given.seen ≡ start.seen) (worked : Worked is_of_job given done) (begins : StartsWith x.seen done.seen)
+module _ {E O : Type 0} (is_of_job : E → Bool) (start given done x : View E O) (same : given.seen ≡ start.seen) (worked : WroteOnlyFor is_of_job given done) (begins : StartsWith x.seen done.seen)
     (owns : filter is_of_job (added start x) ≡ filter is_of_job (added given done)) where
   abbrev rest_of : List E
   rest_of = begins.0
@@ -137,13 +137,13 @@ module _ (v x : Known) (from : ℕ) (cs : List Line) (jobs : AreLines v from cs)
   index_carry n (d ∷ ds) all = (all.0, (all.1.index, all.1.worked.index), index_carry (suc n) ds all.2)
 
   -- a batch is a going on of the passes
-  pub batch_all_went : AllWent v x
+  pub batch_all_went : AllExtend v x
   batch_all_went = record {
     groups = went_at of_job group_rows (λ c. refl) v.groups x.groups from cs (group_carry from cs jobs) joins.groups;
     index = went_at index.is_of index_rows (λ c. refl) v.index x.index from cs (index_carry from cs jobs) joins.index;
   }
 
-  module _ (sole : AllSole v x) where
+  module _ (sole : AllOnlyWriters v x) where
     pub whose_entry : (g i : ℕ) (l : Logged) → slice_get (added (view_at v.groups g) (view_at x.groups g)) i ≡ Some l → (d : Line) × IsAmongLines d cs × (of_job d.job l ≡ true)
     whose_entry g = whose_at of_job group_rows (λ c. refl) v.groups x.groups from cs (group_carry from cs jobs) joins.groups g (sole.groups g)
 
@@ -154,15 +154,15 @@ module _ (v x : Known) (from : ℕ) (cs : List Line) (jobs : AreLines v from cs)
       its : IsLine v c
       its = its_line v from cs jobs c among
 
-      in_group : (g : ℕ) → Alone (of_job c.job) (view_at c.given.groups g) (view_at c.done.groups g) × StartsWith (view_at x.groups g).seen (view_at c.done.groups g).seen
+      in_group : (g : ℕ) → OnlyWriterOf (of_job c.job) (view_at c.given.groups g) (view_at c.done.groups g) × StartsWith (view_at x.groups g).seen (view_at c.done.groups g).seen
           × (filter (of_job c.job) (added (view_at v.groups g) (view_at x.groups g)) ≡ filter (of_job c.job) (added (view_at c.given.groups g) (view_at c.done.groups g)))
       in_group g = at_place of_job group_rows (λ d. refl) v.groups x.groups from cs (group_carry from cs jobs) joins.groups g tells_job (sole.groups g) c among
 
-      in_index : (at : ℕ) → Alone (index.is_of c.job) (view_at c.given.index at) (view_at c.done.index at) × StartsWith (view_at x.index at).seen (view_at c.done.index at).seen
+      in_index : (at : ℕ) → OnlyWriterOf (index.is_of c.job) (view_at c.given.index at) (view_at c.done.index at) × StartsWith (view_at x.index at).seen (view_at c.done.index at).seen
           × (filter (index.is_of c.job) (added (view_at v.index at) (view_at x.index at)) ≡ filter (index.is_of c.job) (added (view_at c.given.index at) (view_at c.done.index at)))
       in_index at = at_place index.is_of index_rows (λ d. refl) v.index x.index from cs (index_carry from cs jobs) joins.index at tells_index (sole.index at) c among
 
-      pub job_alone : JobAlone c.job c.given c.done
+      pub job_alone : JobOnlyWriter c.job c.given c.done
       job_alone = record { groups = λ g. (in_group g).0; index = λ at. (in_index at).0 }
 
       pub job_widens : Widens c.job (section_of c.given c.done) (section_of v x)

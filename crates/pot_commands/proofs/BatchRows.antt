@@ -11,7 +11,7 @@ use Rattle.pot_machine.specs.Logs.{job_of, is_of, own}
 use Rattle.pot_group.specs.Arrivals.{arrivals}
 use Rattle.pot_index.specs.Entries.{job_in}
 use Rattle.pot_turn.proofs.LogLemmas.{get_back}
-use Rattle.pot_worked.specs.Worked.{added}
+use Rattle.pot_worked.specs.WroteOnlyFor.{added}
 use Rattle.pot_rows.specs.Rows.{view_at}
 use Rattle.pot_script.specs.declared.command.Command.{Command}
 use Rattle.pot_script.specs.declared.command.Command.TheVariants as commands
@@ -19,14 +19,14 @@ use Rattle.pot_script.specs.declared.reply.Reply.{Reply}
 use Rattle.pot_shared.specs.declared.member.Logged.{Logged}
 use Rattle.pot_shared.specs.Members.{entries_of}
 use Rattle.pot_replies.specs.Settings.{Setting}
-use Rattle.pot_replies.specs.Sections.{Section, Halves, Follows, IsAmong, IsOfJobs, work_of}
+use Rattle.pot_replies.specs.Sections.{Section, MovesThenRest, Follows, IsAmong, IsOfJobs, work_of}
 use Rattle.pot_replies.specs.Sessions.{Rows}
 use Rattle.pot_shared.specs.Works.{gained, Known, section_of}
 use Rattle.pot_commands.specs.declared.beginning.Task.{Task}
 use Rattle.pot_commands.specs.declared.beginning.Task.TheVariants as task
 use Rattle.pot_commands.specs.Rows.{IsSessionSetting, IsMigrateReply, AreReplies, IsIdle, Row}
 use Rattle.pot_commands.specs.Begun.{HasTask, IsBegun, HaveBegun}
-use Rattle.pot_shared.specs.Going.{AllSole}
+use Rattle.pot_shared.specs.Going.{AllOnlyWriters}
 use Rattle.pot_commands.specs.Taking.{asks}
 use Rattle.pot_commands.specs.Steps.{IsStill, IsLineLeft, AreLinesLeft}
 use Rattle.pot_commands.specs.Jobs.{Says, reply_in, has_reply}
@@ -93,7 +93,7 @@ among_jobs v from [] d jobs there = absurd there
 among_jobs v from (c ∷ cs) d jobs (inl same) = let n = sym (ap (λ (b : Line). b.job) same) ∙ jobs.0 in (omega (arith, n), omega (arith, n))
 among_jobs v from (c ∷ cs) d jobs (inr later) = let rest = among_jobs v (suc from) cs d jobs.2 later in (omega (arith, rest.0), omega (arith, rest.1))
 
-module _ (v x : Known) (from : ℕ) (cs : List Line) (jobs : AreLines v from cs) (joins : KnownJoins v cs x) (sole : AllSole v x) where
+module _ (v x : Known) (from : ℕ) (cs : List Line) (jobs : AreLines v from cs) (joins : KnownJoins v cs x) (sole : AllOnlyWriters v x) where
   -- each entry is of a job of the batch
   pub of_lines : IsOfJobs from (length (lines_of cs)) (section_of v x)
   of_lines = record {
@@ -124,7 +124,7 @@ module _ (v x : Known) (from : ℕ) (cs : List Line) (jobs : AreLines v from cs)
 
 -- A LINE, BY THE MOVES THAT BEGAN AND BY ITS ANSWER
 
-still_row : (s : Setting) (groups job : ℕ) (c : Command) (r : Reply) (w : Section) (h : Halves w) → IsStill groups c → ((g : ℕ) → own job (h.begun g) ≡ []) → AreReplies s job c (r ∷ []) (work_of w h) → Row s job c (r ∷ []) w h
+still_row : (s : Setting) (groups job : ℕ) (c : Command) (r : Reply) (w : Section) (h : MovesThenRest w) → IsStill groups c → ((g : ℕ) → own job (h.begun g) ≡ []) → AreReplies s job c (r ∷ []) (work_of w h) → Row s job c (r ∷ []) w h
 still_row s groups job (commands.Store name file) r w h q none row = (none, row)
 still_row s groups job (commands.Fetch name) r w h q none row = (none, row)
 still_row s groups job (commands.Renew name geometry) r w h q none row = (none, row)
@@ -132,7 +132,7 @@ still_row s groups job (commands.Scrub group) r w h q none row = (none, row)
 still_row s groups job (commands.Repair group) r w h q none row = (none, row)
 still_row s groups job _ r w h q none row = absurd q
 
-still_left : (s : Setting) (groups job : ℕ) (c : Command) (w : Section) (h : Halves w) → IsStill groups c → ((g : ℕ) → own job (h.begun g) ≡ []) → IsIdle s job c (work_of w h) → IsLineLeft s job c w h
+still_left : (s : Setting) (groups job : ℕ) (c : Command) (w : Section) (h : MovesThenRest w) → IsStill groups c → ((g : ℕ) → own job (h.begun g) ≡ []) → IsIdle s job c (work_of w h) → IsLineLeft s job c w h
 still_left s groups job (commands.Store name file) w h q none idle = inr (none, idle)
 still_left s groups job (commands.Fetch name) w h q none idle = inr (none, idle)
 still_left s groups job (commands.Renew name geometry) w h q none idle = inr (none, idle)
@@ -140,7 +140,7 @@ still_left s groups job (commands.Scrub group) w h q none idle = inr (none, idle
 still_left s groups job (commands.Repair group) w h q none idle = inr (none, idle)
 still_left s groups job _ w h q none idle = absurd q
 
-module _ (rack : Rack) (s : Setting) (w : Section) (h : Halves w) (brought : (g : ℕ) → filter brings (h.worked g) ≡ []) where
+module _ (rack : Rack) (s : Setting) (w : Section) (h : MovesThenRest w) (brought : (g : ℕ) → filter brings (h.worked g) ≡ []) where
   its_reply : (a b : Reply) → ◌≡◌ {A = Option (Result Reply NoMemory)} (Some (Ok a)) (Some (Ok b)) → a ≡ b
   its_reply a b same = cc same
 
@@ -207,7 +207,7 @@ module _ (rack : Rack) (s : Setting) (w : Section) (h : Halves w) (brought : (g 
 
 -- THE MOVES THAT BEGAN, AND THEN THE JOBS
 
-module _ (rack : Rack) (seed : List ℕ) (session : ℕ) (v x : Known) (from : ℕ) (cs : List Line) (jobs : AreLines v from cs) (joins : KnownJoins v cs x) (say : AllSay rack seed session cs) (sole : AllSole v x)
+module _ (rack : Rack) (seed : List ℕ) (session : ℕ) (v x : Known) (from : ℕ) (cs : List Line) (jobs : AreLines v from cs) (joins : KnownJoins v cs x) (say : AllSay rack seed session cs) (sole : AllOnlyWriters v x)
     (s : Setting) (is : IsSessionSetting s rack seed session v) (moves whole : Section) (begun : HaveBegun s from (lines_of cs) (tasks_of cs) moves) (follows : Follows moves (section_of v x) whole) where
   all : AnswersAll rack s cs (section_of v x)
   all = batch_answers rack seed session v x from cs jobs joins sole s is say
@@ -215,7 +215,7 @@ module _ (rack : Rack) (seed : List ℕ) (session : ℕ) (v x : Known) (from : �
   brought : (g : ℕ) → filter brings (gained v.groups x.groups g) ≡ []
   brought = none_brought v x from cs jobs joins sole rack s all
 
-  abbrev halves : Halves whole
+  abbrev halves : MovesThenRest whole
   halves = record {
     begun = moves.added;
     worked = gained v.groups x.groups;
@@ -258,10 +258,10 @@ module _ (rack : Rack) (seed : List ℕ) (session : ℕ) (v x : Known) (from : �
         index = λ a b e at. later.index a b e (sym (follows.index_is_added ∙ ap (λ l. l ++ (section_of v x).index_added) begun.none_index) ∙ at);
       }
 
-  pub gives_rows : have_replies cs ≡ true → IsOfJobs from (length (lines_of cs)) whole × ((h : Halves whole) × Rows (Row s) from (lines_of cs) (replies_of cs) whole h)
+  pub gives_rows : have_replies cs ≡ true → IsOfJobs from (length (lines_of cs)) whole × ((h : MovesThenRest whole) × Rows (Row s) from (lines_of cs) (replies_of cs) whole h)
   gives_rows have = (of_both, (halves, rows_from rack s whole halves brought v from cs jobs each_begun on_work have))
 
-  pub leaves_rows : IsOfJobs from (length (lines_of cs)) whole × ((h : Halves whole) × AreLinesLeft s from (lines_of cs) whole h)
+  pub leaves_rows : IsOfJobs from (length (lines_of cs)) whole × ((h : MovesThenRest whole) × AreLinesLeft s from (lines_of cs) whole h)
   leaves_rows = (of_both, (halves, left_from rack s whole halves brought v from cs jobs each_begun on_work))
 
 pub batch_gives : BatchGives
@@ -274,7 +274,7 @@ batch_leaves rack seed session v x from cs jobs joins say sole s is moves whole 
 
 -- no archive came to a group
 pub batch_brings_none : (rack : Rack) (seed : List ℕ) (session : ℕ) (v x : Known) (from : ℕ) (cs : List Line) → AreLines v from cs → KnownJoins v cs x → AllSay rack seed session cs → (s : Setting) → IsSessionSetting s rack seed session v
-    → AllSole v x → (g : ℕ) → arrivals (gained v.groups x.groups g) ≡ []
+    → AllOnlyWriters v x → (g : ℕ) → arrivals (gained v.groups x.groups g) ≡ []
 batch_brings_none rack seed session v x from cs jobs joins say s is sole g =
     let all = batch_answers rack seed session v x from cs jobs joins sole s is say in
     no_arrivals (gained v.groups x.groups g) (none_brought v x from cs jobs joins sole rack s all g)

@@ -17,7 +17,7 @@ use Rattle.pot_script.specs.declared.reply.Reply.TheVariants as replies
 use Rattle.pot_shared.specs.Catalogs.{Publishes}
 use Rattle.pot_replies.specs.Settings.{Setting}
 use Rattle.pot_replies.specs.Jobs.{is_copied, is_move_of, EachIs}
-use Rattle.pot_replies.specs.Sections.{Section, Mine, mine, Widens, IsOnlyIn, IsSilent}
+use Rattle.pot_replies.specs.Sections.{Section, JobEntries, mine, Widens, IsOnlyIn, IsSilent}
 use Rattle.pot_replies.specs.Stores.{Placed, IsLong, IsTaken, IsStored, IsStoreFault, IsFull, IsStoreLogFull, Stops}
 use Rattle.pot_replies.specs.Renewals.{AllPut}
 use Rattle.pot_replies.specs.Listings.{IsIndexFull}
@@ -47,7 +47,7 @@ module _ (s : Setting) (job : ℕ) (w w' : Section) (wide : Widens job w w') whe
   full_stands : (name file : List ℕ) (g : ℕ) → IsFull s job name file g w → IsFull s job name file g w'
   full_stands name file g is = record {
     passed = is.passed;
-    stops = subst (λ (m : Mine). Stops s job name file g (skips job is.passed) m) same is.stops;
+    stops = subst (λ (m : JobEntries). Stops s job name file g (skips job is.passed) m) same is.stops;
     log = is.log;
     moment = moment_stands job w w' wide g is.log is.moment;
     behind = is.behind;
@@ -59,7 +59,7 @@ module _ (s : Setting) (job : ℕ) (w w' : Section) (wide : Widens job w w') whe
     passed = is.passed;
     stripe = is.stripe;
     gone = is.gone;
-    stops = subst (λ (m : Mine). Stops s job name file g (skips job is.passed ++ gone_entries job is.stripe is.gone) m) same is.stops;
+    stops = subst (λ (m : JobEntries). Stops s job name file g (skips job is.passed ++ gone_entries job is.stripe is.gone) m) same is.stops;
     log = is.log;
     moment = moment_stands job w w' wide g is.log is.moment;
     full = is.full;
@@ -190,7 +190,7 @@ ends_on c es more (inr (by, to, has)) = inr (by, to, Contains-append_left es mor
 
 module _ (s : Setting) (job g c : ℕ) (w w' : Section) (wide : Widens job w w') where
   only_stands : IsOnlyIn g (mine job w) → IsOnlyIn g (mine job w')
-  only_stands is = subst (λ (m : Mine). IsOnlyIn g m) (sym (mine_stays job w w' wide)) is
+  only_stands is = subst (λ (m : JobEntries). IsOnlyIn g m) (sym (mine_stays job w w' wide)) is
 
   own_stands : own job (w'.added g) ≡ own job (w.added g)
   own_stands = same_own job w w' wide g

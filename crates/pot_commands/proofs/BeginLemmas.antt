@@ -12,7 +12,7 @@ use Rattle.pot_bytes.specs.declared.rack.Rack.{Rack}
 use Rattle.pot_group.specs.Arrivals.{arrivals}
 use Rattle.pot_turn.specs.declared.name.TurnName.{TurnName}
 use Rattle.pot_turn.proofs.LogLemmas.{get_front, get_back}
-use Rattle.pot_worked.specs.Worked.{added}
+use Rattle.pot_worked.specs.WroteOnlyFor.{added}
 use Rattle.pot_rows.specs.Rows.{view_at}
 use Rattle.pot_rows.proofs.Lists.{take_next}
 use Rattle.pot_script.specs.declared.command.Command.{Command}
@@ -25,16 +25,16 @@ use Rattle.pot_replies.specs.Sessions.{Together}
 use Rattle.pot_shared.specs.Catalogs.{IndexPasses, IsIndexReady}
 use Rattle.pot_shared.specs.Members.{entries_of}
 use Rattle.pot_shared.specs.Ready.{AreReady, GroupPasses}
-use Rattle.pot_shared.specs.Works.{Known, known, JobWorked, JobAlone, IsSettingOf, section_of}
+use Rattle.pot_shared.specs.Works.{Known, known, JobWroteOnly, JobOnlyWriter, IsSettingOf, section_of}
 use Rattle.pot_commands.specs.declared.arriving.Unanswered.{Unanswered}
 use Rattle.pot_commands.specs.declared.arriving.Unanswered.TheVariants as unanswered
 use Rattle.pot_commands.specs.declared.beginning.Task.{Task}
 use Rattle.pot_commands.specs.Begun.{HasTask, HaveTasks, LineBegins, HaveBegun, AreMovesBegun}
-use Rattle.pot_shared.specs.Going.{AllSole, AllStay, AllWent}
+use Rattle.pot_shared.specs.Going.{AllOnlyWriters, AllStay, AllExtend}
 use Rattle.pot_shared.specs.Hands.{times}
 use Rattle.pot_commands.specs.Steps.{IsBatched, IsStill, StepHalts, StepLeaves, StepStops}
 use Rattle.pot_commands.specs.Taking.{Took, asks}
-use Rattle.pot_outside.specs.Rooms.{Lending}
+use Rattle.pot_outside.specs.Rooms.{RoomState}
 use Rattle.pot_commands.proofs.AnswerLemmas.{stayed_worked}
 use Rattle.pot_commands.proofs.BegunLemmas.{begun_halted, more_begun, none_begun, same_begun}
 use Rattle.pot_commands.proofs.Going.{known_follows, setting_of_stays, sole_alone, sole_parts, stays_more, went_more, work_all_went}
@@ -48,16 +48,16 @@ abbrev pub asked_in : List Command → List ℕ
 asked_in lines = flat_map asks lines
 
 -- The first lines have their tasks, and their moves have begun.
-pub record IsBeginning (rack : Rack) (told : Type 0) (from : ℕ) (lines : List Command) (n : ℕ) (tasks : List Task) (lent lends : Lending) (old now : Known) : Type 0 where
+pub record IsBeginning (rack : Rack) (told : Type 0) (from : ℕ) (lines : List Command) (n : ℕ) (tasks : List Task) (lent lends : RoomState) (old now : Known) : Type 0 where
   pub count : length tasks ≡ n
   pub index : now.index ≡ old.index
   pub fits : (i : ℕ) (c : Command) (t : Task) → slice_get lines i ≡ Some c → slice_get tasks i ≡ Some t → HasTask rack c t
-  pub went : AllWent old now
+  pub went : AllExtend old now
   pub stays : AllStay old now
-  pub begun : AllSole old now → (s : Setting) → IsSettingOf s rack old → HaveBegun s from lines tasks (section_of old now)
+  pub begun : AllOnlyWriters old now → (s : Setting) → IsSettingOf s rack old → HaveBegun s from lines tasks (section_of old now)
   pub took : Took told (Unit {0}) (asked_in (take n lines)) lent lends old now
 
-pub begins_beginning : (rack : Rack) (told : Type 0) (from : ℕ) (lines : List Command) (tasks : List Task) (lent : Lending) (names turn : List TurnName) (row : GroupPasses) (i : IndexPasses)
+pub begins_beginning : (rack : Rack) (told : Type 0) (from : ℕ) (lines : List Command) (tasks : List Task) (lent : RoomState) (names turn : List TurnName) (row : GroupPasses) (i : IndexPasses)
     → tasks ≡ [] → AreReady rack names row → IsIndexReady rack names turn i → IsBeginning rack told from lines 0 tasks lent lent (known row i) (known row i)
 begins_beginning rack told from lines tasks lent names turn row i none ready index_ready = subst (λ ts. IsBeginning rack told from lines 0 ts lent lent (known row i) (known row i)) (sym none) (record {
   count = refl;
@@ -70,16 +70,16 @@ begins_beginning rack told from lines tasks lent names turn row i none ready ind
 })
 
 -- the moves of the first lines, wherever they end
-pub beginning_moves : (rack : Rack) (told : Type 0) (from : ℕ) (lines : List Command) (n : ℕ) (tasks : List Task) (lent lends : Lending) (old now : Known) → IsBeginning rack told from lines n tasks lent lends old now → n ≤ length lines
+pub beginning_moves : (rack : Rack) (told : Type 0) (from : ℕ) (lines : List Command) (n : ℕ) (tasks : List Task) (lent lends : RoomState) (old now : Known) → IsBeginning rack told from lines n tasks lent lends old now → n ≤ length lines
     → AreMovesBegun rack from lines tasks old now
 beginning_moves rack told from lines n tasks lent lends old now is le = record { few = (let c = is.count in omega (arith, c, le)); went = is.went; stays = is.stays; begun = is.begun }
 
 -- all lines have begun
-pub all_tasks : (rack : Rack) (told : Type 0) (from : ℕ) (lines : List Command) (n : ℕ) (tasks : List Task) (lent lends : Lending) (old now : Known) → IsBeginning rack told from lines n tasks lent lends old now → n ≡ length lines
+pub all_tasks : (rack : Rack) (told : Type 0) (from : ℕ) (lines : List Command) (n : ℕ) (tasks : List Task) (lent lends : RoomState) (old now : Known) → IsBeginning rack told from lines n tasks lent lends old now → n ≡ length lines
     → HaveTasks rack lines tasks
 all_tasks rack told from lines n tasks lent lends old now is all = record { count = is.count ∙ all; each = is.fits }
 
-pub all_asked : (rack : Rack) (told well : Type 0) (from : ℕ) (lines : List Command) (n : ℕ) (tasks : List Task) (lent lends : Lending) (old now : Known) → IsBeginning rack told from lines n tasks lent lends old now → n ≡ length lines
+pub all_asked : (rack : Rack) (told well : Type 0) (from : ℕ) (lines : List Command) (n : ℕ) (tasks : List Task) (lent lends : RoomState) (old now : Known) → IsBeginning rack told from lines n tasks lent lends old now → n ≡ length lines
     → Took told well (asked_in lines) lent lends old now
 all_asked rack told well from lines n tasks lent lends old now is all =
     took_wider told (Unit {0}) well (asked_in (take n lines)) (asked_in lines) lent lends old now
@@ -100,13 +100,13 @@ still_line groups _ batched ne = absurd batched
 pub still_silent : (job : ℕ) (k : Known) → IsSilent (mine job (section_of k k))
 still_silent job k = ((λ g. ap (λ ls. own job (entries_of ls)) (drop-length (view_at k.groups g).seen)), ap (index.own job) (drop-length (view_at k.index 0).seen))
 
-pub still_took : (told well : Type 0) (asked : List ℕ) (r : Lending) (k : Known) → Took told well asked r r k k
+pub still_took : (told well : Type 0) (asked : List ℕ) (r : RoomState) (k : Known) → Took told well asked r r k k
 still_took told well asked r k = took_none told well asked r r k k (λ n. refl) (λ n. refl) (λ sole g. ap (λ ls. arrivals (entries_of ls)) (drop-length (view_at k.groups g).seen))
 
 -- ONE LINE MORE
 
-module _ (rack : Rack) (told : Type 0) (from : ℕ) (lines : List Command) (n : ℕ) (tasks : List Task) (lent lends then : Lending) (old mid new : Known) (is : IsBeginning rack told from lines n tasks lent lends old mid)
-    (c : Command) (within : n < length lines) (at : c ≡ get_or lines n c) (worked : JobWorked (from + n) mid new) (stays : AllStay mid new) (same : new.index ≡ mid.index) where
+module _ (rack : Rack) (told : Type 0) (from : ℕ) (lines : List Command) (n : ℕ) (tasks : List Task) (lent lends then : RoomState) (old mid new : Known) (is : IsBeginning rack told from lines n tasks lent lends old mid)
+    (c : Command) (within : n < length lines) (at : c ≡ get_or lines n c) (worked : JobWroteOnly (from + n) mid new) (stays : AllStay mid new) (same : new.index ≡ mid.index) where
   there : slice_get lines n ≡ Some c
   there = slice_get_read lines (length lines) n c refl within at
 
@@ -116,7 +116,7 @@ module _ (rack : Rack) (told : Type 0) (from : ℕ) (lines : List Command) (n : 
   asked_next : asked_in (take (n + 1) lines) ≡ asked_in (take n lines) ++ asks c
   asked_next = ap asked_in one_more ∙ (flat_map-append asks (take n lines) (c ∷ []) ∙ ap (λ l. asked_in (take n lines) ++ l) (append-nil (asks c)))
 
-  went : AllWent mid new
+  went : AllExtend mid new
   went = work_all_went (from + n) mid new worked
 
   none_index : (section_of mid new).index_added ≡ []
@@ -128,8 +128,8 @@ module _ (rack : Rack) (told : Type 0) (from : ℕ) (lines : List Command) (n : 
   next_took : (well : Type 0) → Took told well (asks c) lends then mid new → Took told well (asked_in (take n lines) ++ asks c) lent then old new
   next_took well took = took_more told well (asked_in (take n lines)) (asks c) lent lends then old mid new is.went went is.stays.groups.names is.took took
 
-  module _ (t : Task) (fits : HasTask rack c t) (says : JobAlone (from + n) mid new → (s : Setting) → IsSettingOf s rack mid → IsOfJobs (from + n) 1 (section_of mid new) → LineBegins s (from + n) c t (section_of mid new)) where
-    now_begun : AllSole old new → (s : Setting) → IsSettingOf s rack old → HaveBegun s from lines (tasks ++ t ∷ []) (section_of old new)
+  module _ (t : Task) (fits : HasTask rack c t) (says : JobOnlyWriter (from + n) mid new → (s : Setting) → IsSettingOf s rack mid → IsOfJobs (from + n) 1 (section_of mid new) → LineBegins s (from + n) c t (section_of mid new)) where
+    now_begun : AllOnlyWriters old new → (s : Setting) → IsSettingOf s rack old → HaveBegun s from lines (tasks ++ t ∷ []) (section_of old new)
     now_begun sole s set =
         let parts = sole_parts old mid new is.went went sole in
         let its = its_jobs (from + n) mid new worked parts.1 in
@@ -162,8 +162,8 @@ module _ (rack : Rack) (told : Type 0) (from : ℕ) (lines : List Command) (n : 
             subst (λ b. HasTask rack b u) same_line (subst (λ b. HasTask rack c b) same_task fits)
 
   -- the line has no task, and nothing was logged
-  module _ (silent : JobAlone (from + n) mid new → (s : Setting) → IsSettingOf s rack mid → IsSilent (mine (from + n) (section_of mid new))) where
-    ended_begun : AllSole old new → (s : Setting) → IsSettingOf s rack old → HaveBegun s from lines tasks (section_of old new)
+  module _ (silent : JobOnlyWriter (from + n) mid new → (s : Setting) → IsSettingOf s rack mid → IsSilent (mine (from + n) (section_of mid new))) where
+    ended_begun : AllOnlyWriters old new → (s : Setting) → IsSettingOf s rack old → HaveBegun s from lines tasks (section_of old new)
     ended_begun sole s set =
         let parts = sole_parts old mid new is.went went sole in
         let its = its_jobs (from + n) mid new worked parts.1 in

@@ -22,7 +22,7 @@ use Rattle.pot_script.specs.declared.command.Command.{Command}
 use Rattle.pot_script.specs.declared.command.Command.TheVariants as commands
 use Rattle.pot_replies.specs.Jobs.{is_move_begin, EachIs}
 use Rattle.pot_replies.specs.Settings.{Setting}
-use Rattle.pot_replies.specs.Sections.{Section, Halves, Follows, JobsAscend, IsEmpty, IsOfJobs, IsSilent, checked, mine, work_of}
+use Rattle.pot_replies.specs.Sections.{Section, MovesThenRest, Follows, JobsAscend, IsEmpty, IsOfJobs, IsSilent, checked, mine, work_of}
 use Rattle.pot_replies.specs.Moves.{MayBegin, MayGoOn, moving_at}
 use Rattle.pot_commands.specs.declared.beginning.Task.{Task}
 use Rattle.pot_commands.specs.declared.beginning.Task.TheVariants as task
@@ -276,7 +276,7 @@ some_there (x ∷ xs) (suc k) lt none = some_there xs k (omega (arith, lt)) none
 -- A BATCH THAT ENDED WHEN SOME OF ITS MOVES HAD BEGUN
 
 module _ (s : Setting) (from : ℕ) (lines : List Command) (tasks : List Task) (w : Section) (begun : HaveBegun s from lines tasks w) where
-  abbrev begun_only : Halves w
+  abbrev begun_only : MovesThenRest w
   begun_only = record {
     begun = w.added;
     worked = λ g. [];
@@ -321,7 +321,7 @@ module _ (s : Setting) (from : ℕ) (lines : List Command) (tasks : List Task) (
     lines_left (suc n) cs (λ i d there. subst (λ j. IsLineLeft s j d w begun_only) (let e : n + suc i ≡ suc n + i = omega arith in e) (each (suc i) d there)),
   )
 
-  pub begun_halted : length tasks ≤ length lines → IsOfJobs from (length lines) w × ((h : Halves w) × AreLinesLeft s from lines w h × IsEmpty (work_of w h))
+  pub begun_halted : length tasks ≤ length lines → IsOfJobs from (length lines) w × ((h : MovesThenRest w) × AreLinesLeft s from lines w h × IsEmpty (work_of w h))
   begun_halted few = (
     record {
       groups = λ g x y e at. let a = (begun.its.groups g x y e at).0 in let b = (begun.its.groups g x y e at).1 in (a, omega (arith, b, few));

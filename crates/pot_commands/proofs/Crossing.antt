@@ -19,7 +19,7 @@ use Rattle.pot_shared.specs.contracts.catalog.Catalog as catalog
 use Rattle.pot_shared.specs.contracts.catalog.Catalog.TheInside as inside
 use Rattle.pot_shared.specs.contracts.catalog.CatalogOrigin as catalog_origin
 use Rattle.pot_shared.specs.contracts.catalog.CatalogKept.TheImpl as catalog_kept
-use Rattle.pot_shared.specs.contracts.session.Session as session
+use Rattle.pot_shared.specs.contracts.connection.Connection as connection
 use Rattle.pot_shared.specs.contracts.vault.Passes as all_passes
 use Rattle.pot_shared.specs.contracts.vault.Passes.TheInside as passes_inside
 use Rattle.pot_shared.specs.contracts.vault.Vault as vault
@@ -44,8 +44,8 @@ use Rattle.pot_shelves.specs.contracts.archives.Archives as archives
 use Rattle.pot_shelves.specs.contracts.archives.Archives.TheInside as archives_inside
 use Rattle.pot_group.specs.contracts.group.Group as group
 use Rattle.pot_group.specs.contracts.group.Group.TheInside as group_inside
-use Rattle.pot_followed.specs.contracts.followed.Followed as followed
-use Rattle.pot_followed.specs.contracts.followed.Followed.TheInside as followed_inside
+use Rattle.pot_execution.specs.contracts.tracked_group.TrackedGroup as tracked_group
+use Rattle.pot_execution.specs.contracts.tracked_group.TrackedGroup.TheInside as followed_inside
 use Rattle.pot_rows.proofs.Passes.TheSendSync as send_row
 use Rattle.pot_rows.proofs.Turns.TheSendSync as sync_row
 
@@ -89,7 +89,7 @@ module _ (A : RattleType) (g : Ghosts A.Denot) (s : IsSend A) where
         ),
       )))
 
-  send_followed : IsSend (followed.the_row A g)
+  send_followed : IsSend (tracked_group.the_row A g)
   send_followed =
       view_send (followed_inside.the_row A g) _ _ _ _ (recorded_send (followed_inside.the_field A g).row _ _ (followed_inside.the_type A g).to_one (struct_send (shape (followed_inside.the_type A g)) (send_group, tt)))
 
@@ -129,10 +129,10 @@ send_reply = search (sendable, crosses) depth 60 fits 200000
 send_task : IsSend (task.the_field).row
 send_task = search (sendable, crosses) depth 60 fits 200000
 
--- the session of a job
-send_session : (a : NamedLft) (A X : RattleType) (g : Ghosts A.Denot) → IsSend A → IsSync X → IsSend (session.the_field a A X g).row
-send_session a A X g s x =
-    struct_send (shape (session.the_type a A X g)) (
+-- the connection of a job
+send_connection : (a : NamedLft) (A X : RattleType) (g : Ghosts A.Denot) → IsSend A → IsSync X → IsSend (connection.the_field a A X g).row
+send_connection a A X g s x =
+    struct_send (shape (connection.the_type a A X g)) (
       shr_send a.mir a.lft X x,
       (
         search (sendable, crosses) depth 20,
@@ -147,7 +147,7 @@ send_session a A X g s x =
 pub send_line : (a : NamedLft) (A X : RattleType) (g : Ghosts A.Denot) → IsSend A → IsSync X → IsSend (line_job.the_row a A X g)
 send_line a A X g s x =
     view_send (line_inside.the_row a A X g) _ _ _ _ (recorded_send (line_inside.the_field a A X g).row _ _ (line_inside.the_type a A X g).to_one (struct_send (shape (line_inside.the_type a A X g)) (
-      send_session a A X g s x,
+      send_connection a A X g s x,
       (
         search (sendable, crosses) depth 20,
         (

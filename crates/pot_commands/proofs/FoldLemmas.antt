@@ -12,7 +12,7 @@ use Rattle.pot_replies.proofs.SessionLemmas.{replied_none, replied_more}
 use Rattle.pot_shared.specs.Members.{entries_of}
 use Rattle.pot_shared.specs.Works.{Known, section_of}
 use Rattle.pot_commands.specs.Rows.{Row}
-use Rattle.pot_shared.specs.Going.{AllWent, AllStay}
+use Rattle.pot_shared.specs.Going.{AllExtend, AllStay}
 use Rattle.pot_commands.specs.Steps.{step_of, steps_of, StepGives, StepLeaves, StepHalts}
 use Rattle.pot_commands.specs.Ends.{next_job, AreReplied, AreLeft, AreHalted, AreNext}
 use Rattle.pot_commands.proofs.Going.{sole_parts, known_follows, setting_stays}
@@ -35,8 +35,8 @@ module _ (rack : Rack) (seed : List ℕ) (session : ℕ) where
     drop-length (view_at known.index 0).seen,
   )
 
-  module _ (ss : List Step) (rs : List Reply) (d : Step) (old mid new : Known) (went : AllWent old mid) (stays : AllStay old mid)
-      (sofar : AreReplied rack seed session ss rs old mid) (then : AllWent mid new) where
+  module _ (ss : List Step) (rs : List Reply) (d : Step) (old mid new : Known) (went : AllExtend old mid) (stays : AllStay old mid)
+      (sofar : AreReplied rack seed session ss rs old mid) (then : AllExtend mid new) where
     abbrev job : ℕ
     job = next_job ss
 

@@ -3,8 +3,8 @@ use Rattle.std.proofs.Common.{◌≡◌, ℕ, List, length, refl, ap, sym, ◌�
 use Rattle.std.specs.Prelude.{IfSome}
 use Rattle.pot_bytes.specs.declared.rack.Rack.{Rack}
 use Rattle.pot_index.specs.Entries as index
-use Rattle.pot_worked.specs.Worked.{added}
-use Rattle.pot_worked.proofs.SoleLemmas.{gain_in_parts}
+use Rattle.pot_worked.specs.WroteOnlyFor.{added}
+use Rattle.pot_worked.proofs.OnlyWriterLemmas.{gain_in_parts}
 use Rattle.pot_rows.specs.Rows.{view_at}
 use Rattle.pot_rows.proofs.WorkLemmas.{row_work_went, row_went_in_parts, row_sole_in_parts, row_sole_alone}
 use Rattle.pot_replies.specs.Settings.{Setting}
@@ -13,32 +13,32 @@ use Rattle.pot_shared.specs.declared.member.GroupOrigin.{GroupOrigin}
 use Rattle.pot_shared.specs.declared.catalog.CatalogOrigin.{CatalogOrigin}
 use Rattle.pot_shared.specs.Members.{entries_of}
 use Rattle.pot_shared.proofs.MemberLemmas.{entries_append}
-use Rattle.pot_shared.specs.Works.{of_job, Known, JobWorked, JobAlone, IsSettingOf, section_of}
+use Rattle.pot_shared.specs.Works.{of_job, Known, JobWroteOnly, JobOnlyWriter, IsSettingOf, section_of}
 use Rattle.pot_commands.specs.Rows.{HasFilled, IsSessionSetting}
-use Rattle.pot_shared.specs.Going.{AllWent, AllSole, AllStay}
+use Rattle.pot_shared.specs.Going.{AllExtend, AllOnlyWriters, AllStay}
 
-pub work_all_went : (job : ℕ) (old new : Known) → JobWorked job old new → AllWent old new
+pub work_all_went : (job : ℕ) (old new : Known) → JobWroteOnly job old new → AllExtend old new
 work_all_went job old new worked = record { groups = row_work_went (of_job job) old.groups new.groups worked.groups; index = row_work_went (index.is_of job) old.index new.index worked.index }
 
-pub went_more : (old mid new : Known) → AllWent old mid → AllWent mid new → AllWent old new
+pub went_more : (old mid new : Known) → AllExtend old mid → AllExtend mid new → AllExtend old new
 went_more old mid new first then = record {
   groups = row_went_in_parts old.groups mid.groups new.groups first.groups then.groups;
   index = row_went_in_parts old.index mid.index new.index first.index then.index;
 }
 
-pub sole_parts : (old mid new : Known) → AllWent old mid → AllWent mid new → AllSole old new → AllSole old mid × AllSole mid new
+pub sole_parts : (old mid new : Known) → AllExtend old mid → AllExtend mid new → AllOnlyWriters old new → AllOnlyWriters old mid × AllOnlyWriters mid new
 sole_parts old mid new first then sole =
     let g = row_sole_in_parts old.groups mid.groups new.groups first.groups then.groups sole.groups in
     let i = row_sole_in_parts old.index mid.index new.index first.index then.index sole.index in
     (record { groups = g.0; index = i.0 }, record { groups = g.1; index = i.1 })
 
-pub sole_alone : (job : ℕ) (old new : Known) → JobWorked job old new → AllSole old new → JobAlone job old new
+pub sole_alone : (job : ℕ) (old new : Known) → JobWroteOnly job old new → AllOnlyWriters old new → JobOnlyWriter job old new
 sole_alone job old new worked sole = record {
   groups = row_sole_alone (of_job job) old.groups new.groups worked.groups sole.groups;
   index = row_sole_alone (index.is_of job) old.index new.index worked.index sole.index;
 }
 
-pub known_follows : (old mid new : Known) → AllWent old mid → AllWent mid new → Follows (section_of old mid) (section_of mid new) (section_of old new)
+pub known_follows : (old mid new : Known) → AllExtend old mid → AllExtend mid new → Follows (section_of old mid) (section_of mid new) (section_of old new)
 known_follows old mid new first then = record {
   begins = λ g. refl;
   is_added = λ g.

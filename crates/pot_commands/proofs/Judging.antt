@@ -1,6 +1,6 @@
 -- How steps end by what the logs gained, where nobody else logged anything.
 use Rattle.std.specs.Prelude.{ℕ, List}
-use Rattle.pot_outside.specs.Accounts.{Met}
+use Rattle.pot_outside.specs.Accounts.{Transition}
 use Rattle.pot_bytes.specs.declared.rack.Rack.{Rack}
 use Rattle.pot_script.specs.declared.grouping.Step.{Step}
 use Rattle.pot_replies.specs.Settings.{Setting}
@@ -9,10 +9,10 @@ use Rattle.pot_commands.specs.declared.working.Ending.{Ending}
 use Rattle.pot_commands.specs.declared.working.Ending.TheVariants as ending
 use Rattle.pot_commands.specs.Rows.{IsSessionSetting}
 use Rattle.pot_commands.specs.Ends.{Ends, EndsOver}
-use Rattle.pot_shared.specs.Going.{AllSole}
+use Rattle.pot_shared.specs.Going.{AllOnlyWriters}
 
-pub ends_over : (rack : Rack) (seed : List ℕ) (session : ℕ) (sink : Met (List ℕ)) (ss : List Step) (old new : Known) (e : Ending) → Ends rack seed session sink ss old new e
-    → AllSole old new → (s : Setting) → IsSessionSetting s rack seed session old → EndsOver s (section_of old new) sink ss e
+pub ends_over : (rack : Rack) (seed : List ℕ) (session : ℕ) (sink : Transition (List ℕ)) (ss : List Step) (old new : Known) (e : Ending) → Ends rack seed session sink ss old new e
+    → AllOnlyWriters old new → (s : Setting) → IsSessionSetting s rack seed session old → EndsOver s (section_of old new) sink ss e
 ends_over rack seed session sink ss old new (ending.Done refused) e sole s is = record {
   replies = e.replies;
   replied = e.replied sole s is;

@@ -10,9 +10,9 @@ use Rattle.pot_group.specs.declared.counting.Counts as of_group
 use Rattle.pot_group.specs.declared.telling.LogFull.{LogFull}
 use Rattle.pot_group.specs.Counting.{IsCounted}
 use Rattle.pot_group.specs.Group.{GroupView}
-use Rattle.pot_worked.specs.Worked.{added, Alone}
+use Rattle.pot_worked.specs.WroteOnlyFor.{added, OnlyWriterOf}
 use Rattle.pot_worked.specs.Laws.{AllOf}
-use Rattle.pot_worked.proofs.WorkedLemmas.{own_in_turn}
+use Rattle.pot_worked.proofs.WroteOnlyForLemmas.{own_in_turn}
 use Rattle.pot_script.specs.declared.reply.Reply.{Reply}
 use Rattle.pot_replies.specs.Settings.{Setting}
 use Rattle.pot_replies.specs.Sections.{Section}
@@ -61,7 +61,7 @@ line_counted told job group result reply old new is call =
           new = t.new;
           others = t.others;
           entries = t.entries;
-          met = t.met;
+          transition = t.transition;
           origin = t.origin;
           settled_old = t.settled_old;
           read = t.read;
@@ -107,7 +107,7 @@ module _ (told : Type 0) (job : ℕ) (line : StatusLine) (v w : GroupPass) (turn
   abbrev marked : List Logged
   marked = all_logged turn.new.shelves turn.entries
 
-  turn_own : Alone (of_job job) v w → own job (entries_of (added v w)) ≡ line_entries job line
+  turn_own : OnlyWriterOf (of_job job) v w → own job (entries_of (added v w)) ≡ line_entries job line
   turn_own alone =
       own_entries job (added v w)
       ∙ (ap entries_of (own_in_turn (of_job job) v w turn.others marked turn.turn (all_marked job turn.entries marked (entries_all turn.new.shelves turn.entries) all_own) alone)
@@ -119,7 +119,7 @@ module _ (told : Type 0) (job : ℕ) (line : StatusLine) (v w : GroupPass) (turn
       ∙ (entries_append turn.others marked ∙ ap (λ es. entries_of turn.others ++ es) (entries_all turn.new.shelves turn.entries ∙ its_entries))
 
   met_log : turn.old.log ≡ entries_of v.seen ++ entries_of turn.others
-  met_log = sym (entries_all turn.old.shelves turn.old.log) ∙ (ap entries_of turn.met ∙ entries_append v.seen turn.others)
+  met_log = sym (entries_all turn.old.shelves turn.old.log) ∙ (ap entries_of turn.transition ∙ entries_append v.seen turn.others)
 
   turn_leads : (first : Table) → first ≡ turn.old.first → replayed first (entries_of v.seen ++ entries_of turn.others) ≡ turn.old.table
   turn_leads first same =
@@ -128,7 +128,7 @@ module _ (told : Type 0) (job : ℕ) (line : StatusLine) (v w : GroupPass) (turn
 
 -- the line of a group, where the job was alone there
 pub line_stands : (told : Type 0) (job g : ℕ) (s : Setting) (it : Section) (v w : GroupPass) (line : StatusLine) → (turn : CallTurn told (CountsTable job line) v w)
-    → Alone (of_job job) v w → s.first g ≡ turn.old.first → it.before g ≡ entries_of v.seen → it.added g ≡ entries_of (added v w) → IsStatusLine s job g line it
+    → OnlyWriterOf (of_job job) v w → s.first g ≡ turn.old.first → it.before g ≡ entries_of v.seen → it.added g ≡ entries_of (added v w) → IsStatusLine s job g line it
 line_stands told job g s it v w (Group c) turn alone first before gains = record {
   own_is = ap (own job) gains ∙ turn_own told job (Group c) v w turn alone;
   sofar = entries_of turn.others;

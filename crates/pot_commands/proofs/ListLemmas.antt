@@ -15,7 +15,7 @@ use Rattle.pot_index.specs.Entries as index
 use Rattle.pot_index.specs.Calls.{ListsNames, listed_of}
 use Rattle.pot_index.specs.Index.{IndexView, names_read}
 use Rattle.pot_turn.specs.declared.name.TurnName.{TurnName}
-use Rattle.pot_worked.specs.Worked.{added}
+use Rattle.pot_worked.specs.WroteOnlyFor.{added}
 use Rattle.pot_worked.specs.Laws.{AllOf}
 use Rattle.pot_rows.specs.Rows.{view_at}
 use Rattle.pot_rows.proofs.RowLemmas.{at_set}
@@ -28,7 +28,7 @@ use Rattle.pot_shared.specs.Members.{entries_of}
 use Rattle.pot_shared.specs.Ready.{GroupPasses, AreReady}
 use Rattle.pot_shared.specs.Catalogs.{IndexPasses, IsIndexReady}
 use Rattle.pot_shared.specs.IndexCalls.{IndexCall, ListsAll}
-use Rattle.pot_shared.specs.Works.{of_job, gained, known, JobWorked, JobAlone, IsSettingOf, section_of}
+use Rattle.pot_shared.specs.Works.{of_job, gained, known, JobWroteOnly, JobOnlyWriter, IsSettingOf, section_of}
 use Rattle.pot_shared.proofs.WorkLemmas.{all_none, all_one, row_stays, index_work, index_own}
 use Rattle.pot_commands.proofs.Logs.{names_to, turn_added, same_end}
 
@@ -65,7 +65,7 @@ module _ (rack : Rack) (names turn : List TurnName) (job : ℕ) (row : GroupPass
   all_own : AllOf (index.is_of job) call.turn.entries
   all_own = subst (λ es. AllOf (index.is_of job) es) (sym logs) (list_own job result)
 
-  pub names_worked : AreReady rack names row → JobWorked job (known row v) (known row w)
+  pub names_worked : AreReady rack names row → JobWroteOnly job (known row v) (known row w)
   names_worked idle = record {
     groups = row_stays (of_job job) row idle.idle;
     index = index_work job rack names turn (ListsAll job result) v w ready call all_own;
@@ -77,7 +77,7 @@ module _ (rack : Rack) (names turn : List TurnName) (job : ℕ) (row : GroupPass
       let here : view_at w 0 ≡ call.pass = ap (λ (r : IndexPasses). view_at r 0) call.is ∙ at_set v 0 call.pass within in
       ap (added (view_at v 0)) here ∙ turn_added call.turn.others call.turn.entries (view_at v 0) call.pass call.turn.turn
 
-  module _ (alone : JobAlone job (known row v) (known row w)) (s : Setting) (setting : IsSettingOf s rack (known row v)) where
+  module _ (alone : JobOnlyWriter job (known row v) (known row w)) (s : Setting) (setting : IsSettingOf s rack (known row v)) where
     abbrev it : Section
     it = section_of (known row v) (known row w)
 
@@ -88,16 +88,16 @@ module _ (rack : Rack) (names turn : List TurnName) (job : ℕ) (row : GroupPass
     its_own = index_own job rack names turn (ListsAll job result) v w ready call all_own alone.index ∙ logs
 
     -- the log that the call met
-    abbrev met : List Logged
-    met = (view_at v 0).seen ++ call.turn.others
+    abbrev transition : List Logged
+    transition = (view_at v 0).seen ++ call.turn.others
 
     same_read : s.read ≡ call.turn.old.read
     same_read = subst (λ o. IfSome o (λ (x : CatalogOrigin). s.read ≡ x.read)) (sym call.turn.origin.1) setting.read
 
-    leads : names_after (names_read s.read) met ≡ call.turn.old.now
+    leads : names_after (names_read s.read) transition ≡ call.turn.old.now
     leads =
-        ap (λ rs. names_after (names_read rs) met) same_read
-        ∙ (ap (names_after (names_read call.turn.old.read)) (sym call.turn.met)
+        ap (λ rs. names_after (names_read rs) transition) same_read
+        ∙ (ap (names_after (names_read call.turn.old.read)) (sym call.turn.transition)
         ∙ names_to call.turn.old.rack (names_read call.turn.old.read) call.turn.old.now call.turn.old.log call.turn.is_old.replays)
 
     says : (r : Result (Vec Listed Global) ListFault) → ListsNames job call.turn.old call.turn.new r → call.turn.entries ≡ list_entries job r
@@ -112,9 +112,9 @@ module _ (rack : Rack) (names turn : List TurnName) (job : ℕ) (row : GroupPass
     }
     says (Err list_fault.LogFull) l log mine_is = record {
       silent = (no_groups, mine_is);
-      log = met;
+      log = transition;
       moment = record { sofar = call.turn.others; later = []; parts = its_added ∙ ap (λ es. call.turn.others ++ es) log; last = refl; is = refl };
-      full = subst (λ n. log_bound < (length met + length n.reserved) + 1) (sym leads) (subst (λ ls. log_bound < (length ls + length call.turn.old.now.reserved) + 1) call.turn.met l.0);
+      full = subst (λ n. log_bound < (length transition + length n.reserved) + 1) (sym leads) (subst (λ ls. log_bound < (length ls + length call.turn.old.now.reserved) + 1) call.turn.transition l.0);
     }
     says (Err list_fault.NoMemory) l log mine_is = (no_groups, mine_is)
 
@@ -125,9 +125,9 @@ module _ (rack : Rack) (names turn : List TurnName) (job : ℕ) (row : GroupPass
 
 module _ (rack : Rack) (names turn : List TurnName) (job : ℕ) (row row' : GroupPasses) (v w : IndexPasses) (idle : AreReady rack names row) (ready : IsIndexReady rack names turn v)
     (same : row' ≡ row) (result : Result (Vec Listed Global) ListFault) (call : IndexCall (ListsAll job result) v w) where
-  pub list_worked : JobWorked job (known row v) (known row' w)
-  list_worked = subst (λ (r : GroupPasses). JobWorked job (known row v) (known r w)) (sym same) (names_worked rack names turn job row v w ready result call idle)
+  pub list_worked : JobWroteOnly job (known row v) (known row' w)
+  list_worked = subst (λ (r : GroupPasses). JobWroteOnly job (known row v) (known r w)) (sym same) (names_worked rack names turn job row v w ready result call idle)
 
-  pub list_says : JobAlone job (known row v) (known row' w) → (s : Setting) → IsSettingOf s rack (known row v) → NamesSay s job result (section_of (known row v) (known row' w))
-  list_says = subst (λ (r : GroupPasses). JobAlone job (known row v) (known r w) → (s : Setting) → IsSettingOf s rack (known row v) → NamesSay s job result (section_of (known row v) (known r w))) (sym same)
+  pub list_says : JobOnlyWriter job (known row v) (known row' w) → (s : Setting) → IsSettingOf s rack (known row v) → NamesSay s job result (section_of (known row v) (known row' w))
+  list_says = subst (λ (r : GroupPasses). JobOnlyWriter job (known row v) (known r w) → (s : Setting) → IsSettingOf s rack (known row v) → NamesSay s job result (section_of (known row v) (known r w))) (sym same)
       (λ alone s setting. names_say rack names turn job row v w ready result call alone s setting)

@@ -6,8 +6,8 @@ use Rattle.pot_index.specs.declared.entry.Logged as plainly
 use Rattle.pot_index.specs.Index.{Names}
 use Rattle.pot_index.specs.Index as index_of
 use Rattle.pot_turn.specs.declared.view.View.{View}
-use Rattle.pot_worked.specs.Worked.{added, IsTurn}
-use Rattle.pot_worked.proofs.WorkedLemmas.{behind}
+use Rattle.pot_worked.specs.WroteOnlyFor.{added, IsTurn}
+use Rattle.pot_worked.proofs.WroteOnlyForLemmas.{behind}
 use Rattle.pot_replies.specs.Sections.{names_after}
 
 pub names_to : (rack : Rack) (n m : Names) (log : List plainly.Logged) → index_of.Replays rack n log m → names_after n log ≡ m

@@ -18,7 +18,7 @@ use Rattle.pot_group.specs.declared.moving.ShelfCause.TheVariants as cause
 use Rattle.pot_group.specs.declared.moving.ShelfRefused.{ShelfRefused}
 use Rattle.pot_group.specs.Moving.{RefusesMove}
 use Rattle.pot_turn.specs.declared.name.TurnName.{TurnName}
-use Rattle.pot_worked.specs.Worked.{added}
+use Rattle.pot_worked.specs.WroteOnlyFor.{added}
 use Rattle.pot_worked.specs.Laws.{AllOf}
 use Rattle.pot_rows.specs.Rows.{view_at}
 use Rattle.pot_script.specs.declared.reply.Reply.{Reply}
@@ -32,7 +32,7 @@ use Rattle.pot_shared.specs.Members.{entries_of}
 use Rattle.pot_group.specs.Calls.{MoveBeginCall}
 use Rattle.pot_shared.specs.Ready.{AreReady, GroupPasses}
 use Rattle.pot_shared.proofs.MemberLemmas.{entries_append}
-use Rattle.pot_shared.specs.Works.{Known, known, gained, JobAlone, IsSettingOf, section_of}
+use Rattle.pot_shared.specs.Works.{Known, known, gained, JobOnlyWriter, IsSettingOf, section_of}
 use Rattle.pot_mend.specs.Moves.{IsAsked, MayMove, MigrateChecked, seen_in}
 use Rattle.pot_mend.specs.declared.checking.UseFault.{UseFault}
 use Rattle.pot_mend.specs.declared.checking.UseFault.TheVariants as used
@@ -71,7 +71,7 @@ module _ {rack : Rack} {names turn : List TurnName} (job from to : ℕ) {row0 ro
   abbrev asked_section : Section
   asked_section = section_of first (known row1 i1)
 
-  pub refused_begins : (fault : UseFault) (reply : Reply) → reply ≡ use_reply fault → ((s : Setting) → IsSettingOf s rack first → MigrateChecked s (seen_in row1) from to (Err fault)) → JobAlone job first (known row1 i1)
+  pub refused_begins : (fault : UseFault) (reply : Reply) → reply ≡ use_reply fault → ((s : Setting) → IsSettingOf s rack first → MigrateChecked s (seen_in row1) from to (Err fault)) → JobOnlyWriter job first (known row1 i1)
       → (s : Setting) → IsSettingOf s rack first → Unbegins s job from to (Ok reply) asked_section
   refused_begins fault reply is says alone s set = λ its.
       let silent = checked_silent job ready ready1 iready same asked alone in (
@@ -86,14 +86,14 @@ module _ {rack : Rack} {names turn : List TurnName} (job from to : ℕ) {row0 ro
   some_moving None h = absurd (cc (h.1))
   some_moving (Some m) h = refl
 
-  pub goes_on : (g c : ℕ) (b : Bool) → b ≡ true → ((s : Setting) → IsSettingOf s rack first → MigrateChecked s (seen_in row1) from to (Ok (record { group = g; column = c; resumes = b }))) → JobAlone job first (known row1 i1)
+  pub goes_on : (g c : ℕ) (b : Bool) → b ≡ true → ((s : Setting) → IsSettingOf s rack first → MigrateChecked s (seen_in row1) from to (Ok (record { group = g; column = c; resumes = b }))) → JobOnlyWriter job first (known row1 i1)
       → (s : Setting) → IsSettingOf s rack first → IsOfJobs job 1 asked_section → HasBegun s job from to g c asked_section
   goes_on g c false on says alone s set its = absurd (cc on)
   goes_on g c true on says alone s set its =
       let silent = checked_silent job ready ready1 iready same asked alone in
       let all = of_jobs job asked_section its in
-      let met = met_logs job ready ready1 iready same asked alone all in
-      let may = subst (λ logs. MayGoOn s logs from to g c) met (says s set) in
+      let transition = met_logs job ready ready1 iready same asked alone all in
+      let may = subst (λ logs. MayGoOn s logs from to g c) transition (says s set) in
       let none : asked_section.added g ≡ [] = sym (own_each job (asked_section.added g) (all g)) ∙ silent.0 g in
       record {
         begins = inr (may, silent.0 g);
@@ -119,12 +119,12 @@ module _ {rack : Rack} {names turn : List TurnName} (job from to : ℕ) {row0 ro
           subst (λ (t : Table). IsSome (column_at t c).moving) (sym comes.acts.table)
           (subst (λ (k : Column). IsSome k.moving) (sym (column_same call.turn.old.table c x call.turn.settled_old.table.size.columns comes.acts.legal.0.0)) refl)
 
-      pub begin_says : (b : Bool) → b ≡ false → ((s : Setting) → IsSettingOf s rack first → MigrateChecked s (seen_in row1) from to (Ok (record { group = group; column = c; resumes = b }))) → JobAlone job first last → (s : Setting)
+      pub begin_says : (b : Bool) → b ≡ false → ((s : Setting) → IsSettingOf s rack first → MigrateChecked s (seen_in row1) from to (Ok (record { group = group; column = c; resumes = b }))) → JobOnlyWriter job first last → (s : Setting)
           → IsSettingOf s rack first → IsOfJobs job 1 (section_of first last) → HasBegun s job from to group c (section_of first last)
       begin_says true off says alone s set its = absurd (cc off)
       begin_says false off says alone s set its =
           let all = of_jobs job (section_of first last) its in
-          let met = logs_met job ready ready1 iready same asked same2 ready2 within call came_own alone all in
+          let transition = logs_met job ready ready1 iready same asked same2 ready2 within call came_own alone all in
           let began = its_first job ready ready1 iready same asked same2 ready2 within call came_own alone all s set in
           let grows : seen_in row0 group ++ gained row0 row2 group ≡ seen_in row2 group =
           sym (ap entries_of ((whole_work job ready ready1 iready same asked same2 ready2 within call came_own).groups group).seen ∙ entries_append (view_at row0 group).seen (added (view_at row0 group) (view_at row2 group))) in
@@ -133,7 +133,7 @@ module _ {rack : Rack} {names turn : List TurnName} (job from to : ℕ) {row0 ro
           ∙ (ap (λ t. replayed t (seen_in row2 group)) began ∙ table_now job ready ready1 iready same asked same2 ready2 within call came_own) in
           record {
             begins = inl (
-              subst (λ logs. MayBegin s logs from to group c) met (says s set),
+              subst (λ logs. MayBegin s logs from to group c) transition (says s set),
               own_here job ready ready1 iready same asked same2 ready2 within call came_own alone
                   ∙ (call.turn.call.entries_are ∙ ap (λ n. entry.MoveBegin job c n ∷ []) number),
             );
@@ -146,38 +146,38 @@ module _ {rack : Rack} {names turn : List TurnName} (job from to : ℕ) {row0 ro
       back_own : AllOf (is_of job) call.turn.entries
       back_own = back_all job ready ready1 iready same asked same2 ready2 within call call.turn.call.0.entries_are
 
-      its_silent : JobAlone job first last → IsSilent (mine job (section_of first last))
+      its_silent : JobOnlyWriter job first last → IsSilent (mine job (section_of first last))
       its_silent = back_silent job ready ready1 iready same asked same2 ready2 within call call.turn.call.0.entries_are
 
       no_move : (o : Option Moving) → o ≡ None → IsSome o → ⊥
       no_move None e h = cc h
       no_move (Some m) e h = cc e
 
-      module _ (s : Setting) (set : IsSettingOf s rack first) (count : length names ≡ rack.groups) (may : MayBegin s (seen_in row1) from to group c) (alone : JobAlone job first last)
+      module _ (s : Setting) (set : IsSettingOf s rack first) (count : length names ≡ rack.groups) (may : MayBegin s (seen_in row1) from to group c) (alone : JobOnlyWriter job first last)
           (all : (g : ℕ) (x y : List Entry) (e : Entry) → gained row0 row2 g ≡ x ++ e ∷ y → is_of job e ≡ true) (silent : IsSilent (mine job (section_of first last))) where
-        met : seen_in row1 ≡ seen_in row0
-        met = logs_met job ready ready1 iready same asked same2 ready2 within call back_own alone all
+        transition : seen_in row1 ≡ seen_in row0
+        transition = logs_met job ready ready1 iready same asked same2 ready2 within call back_own alone all
 
         full_row : (why : ShelfCause) → RefusesMove call.turn.old c shelf.number why → (reply : Reply) → HandsBack group why (Ok reply) → IsUnbegun s (seen_in row0) from to reply
         full_row cause.LogFull why (replies.LogFull g) e = subst (λ k. IsUnbegun s (seen_in row0) from to (replies.LogFull k)) (sym e) (
           c,
-          subst (λ logs. MayBegin s logs from to group c) met may,
+          subst (λ logs. MayBegin s logs from to group c) transition may,
           ap length (sym (met_log job ready ready1 iready same asked same2 ready2 within call back_own alone all)) ∙ why,
         )
         full_row (cause.InUse n) why (replies.InUse k) e = absurd (⊎_elim
             (λ (h : IsSome (column_at call.turn.old.table c).moving × (n ≡ (column_at call.turn.old.table c).home)).
             no_move (column_at call.turn.old.table c).moving
             (ap (λ (t : Table). (column_at t c).moving) (sym (met_table job ready ready1 iready same asked same2 ready2 within call back_own alone all s set))
-            ∙ subst (λ logs. moving_at s logs group c ≡ None) met may.1) h.0)
+            ∙ subst (λ logs. moving_at s logs group c ≡ None) transition may.1) h.0)
             (λ (h : ((column_at call.turn.old.table c).moving ≡ None) × Contains call.turn.old.shelves.numbers shelf.number × (n ≡ shelf.number)).
-            may.2 (subst (λ logs. IsUsed s logs to) (sym met)
+            may.2 (subst (λ logs. IsUsed s logs to) (sym transition)
             (group_used job ready ready1 iready same asked same2 ready2 within call back_own alone all s set count call.turn.call.0.arrived to
             (subst (λ m. Contains call.turn.old.shelves.numbers m) number h.1))))
             why.1)
         full_row _ why _ e = absurd e
 
       pub unbegun_says : (b : Bool) → b ≡ false → length names ≡ rack.groups → ((s : Setting) → IsSettingOf s rack first → MigrateChecked s (seen_in row1) from to (Ok (record { group = group; column = c; resumes = b })))
-          → (answer : Result Reply Unanswered) → HandsBack group r.cause answer → JobAlone job first last → (s : Setting) → IsSettingOf s rack first → Unbegins s job from to answer (section_of first last)
+          → (answer : Result Reply Unanswered) → HandsBack group r.cause answer → JobOnlyWriter job first last → (s : Setting) → IsSettingOf s rack first → Unbegins s job from to answer (section_of first last)
       unbegun_says true off count says answer h alone s set = absurd (cc off)
       unbegun_says false off count says (Ok reply) h alone s set = λ its.
           (full_row s set count (says s set) alone (of_jobs job (section_of first last) its) (its_silent alone) r.cause call.turn.call.1 reply h, its_silent alone)

@@ -11,31 +11,31 @@ use Rattle.pot_machine.specs.declared.entry.Entry.TheVariants as entry
 use Rattle.pot_machine.specs.Logs.{job_of, is_of, own}
 use Rattle.pot_group.specs.Arrivals.{arrivals}
 use Rattle.pot_turn.specs.declared.name.TurnName.{TurnName}
-use Rattle.pot_worked.specs.Worked.{added}
-use Rattle.pot_worked.proofs.SoleLemmas.{gain_in_parts}
+use Rattle.pot_worked.specs.WroteOnlyFor.{added}
+use Rattle.pot_worked.proofs.OnlyWriterLemmas.{gain_in_parts}
 use Rattle.pot_rows.specs.Rows.{view_at}
-use Rattle.pot_rows.specs.Works.{RowAlone, RowWorked}
+use Rattle.pot_rows.specs.Works.{RowOnlyWriterOf, RowWroteOnlyFor}
 use Rattle.pot_script.specs.declared.reply.Reply.{Reply}
 use Rattle.pot_script.specs.declared.reply.Reply.TheVariants as replies
 use Rattle.pot_replies.specs.Jobs.{is_move_begin, is_move_of, EachIs}
 use Rattle.pot_replies.specs.Settings.{Setting}
-use Rattle.pot_replies.specs.Sections.{Section, Halves, JobsAscend, checked, mine, work_of, IsSilent, IsOfJobs}
+use Rattle.pot_replies.specs.Sections.{Section, MovesThenRest, JobsAscend, checked, mine, work_of, IsSilent, IsOfJobs}
 use Rattle.pot_replies.specs.Moves.{BeganNone, MayBegin, MayGoOn, Begins, moving_at}
 use Rattle.pot_shared.specs.Catalogs.{IndexPasses, IsIndexReady}
 use Rattle.pot_shared.specs.Members.{entries_of}
 use Rattle.pot_shared.specs.Ready.{AreReady, GroupPasses}
 use Rattle.pot_shared.proofs.MemberLemmas.{entries_append}
-use Rattle.pot_shared.specs.Works.{Known, known, of_job, gained, JobWorked, JobAlone, IsSettingOf, section_of}
+use Rattle.pot_shared.specs.Works.{Known, known, of_job, gained, JobWroteOnly, JobOnlyWriter, IsSettingOf, section_of}
 use Rattle.pot_shared.proofs.WorkLemmas.{alone_parts, index_idle, row_stays, work_more}
 use Rattle.pot_mend.specs.Moves.{EndsMove, MoveRow, seen_in}
 use Rattle.pot_mend.specs.declared.fault.MendFault.{MendFault}
 use Rattle.pot_mend.specs.declared.fault.MendFault.TheVariants as fault
 use Rattle.pot_commands.specs.Arriving.{HasBegun, IsUnbegun, Unbegins, move_reply}
 use Rattle.pot_commands.specs.declared.arriving.Unanswered.{Unanswered}
-use Rattle.pot_shared.specs.Going.{AllSole}
+use Rattle.pot_shared.specs.Going.{AllOnlyWriters}
 use Rattle.pot_commands.specs.Rows.{IsMigrateReply}
 use Rattle.pot_commands.specs.Taking.{Took, AreUsed}
-use Rattle.pot_outside.specs.Rooms.{Lending}
+use Rattle.pot_outside.specs.Rooms.{RoomState}
 use Rattle.pot_commands.proofs.ArrivingLemmas.{front_jobs, of_jobs, own_each}
 use Rattle.pot_commands.proofs.Brought.{its_setting, is_its}
 use Rattle.pot_commands.proofs.Going.{setting_of_stays, sole_alone, work_all_went}
@@ -141,7 +141,7 @@ begins_one es job c to (inr one) = subst (λ l. EachIs is_move_begin l) (sym one
     each e (suc k, lt, at) = absurd (omega (arith, lt))
 
 module _ (rack : Rack) (names turn : List TurnName) (job from to g c : ℕ) (row0 row1 row2 : GroupPasses) (i i1 i2 : IndexPasses) (ready : AreReady rack names row0) (ready1 : AreReady rack names row1) (ready2 : AreReady rack names row2)
-    (iready : IsIndexReady rack names turn i) (same : i1 ≡ i) (same2 : i2 ≡ i1) (begun : JobWorked job (known row0 i) (known row1 i1)) (moved : RowWorked (of_job job) row1 row2) where
+    (iready : IsIndexReady rack names turn i) (same : i1 ≡ i) (same2 : i2 ≡ i1) (begun : JobWroteOnly job (known row0 i) (known row1 i1)) (moved : RowWroteOnlyFor (of_job job) row1 row2) where
   abbrev k0 : Known
   k0 = known row0 i
 
@@ -154,13 +154,13 @@ module _ (rack : Rack) (names turn : List TurnName) (job from to g c : ℕ) (row
   iready1 : IsIndexReady rack names turn i1
   iready1 = subst (λ x. IsIndexReady rack names turn x) (sym same) iready
 
-  moves_work : JobWorked job k1 k2
-  moves_work = record { groups = moved; index = subst (λ x. RowWorked (index.is_of job) i1 x) (sym same2) (row_stays (index.is_of job) i1 (index_idle rack names turn i1 iready1)) }
+  moves_work : JobWroteOnly job k1 k2
+  moves_work = record { groups = moved; index = subst (λ x. RowWroteOnlyFor (index.is_of job) i1 x) (sym same2) (row_stays (index.is_of job) i1 (index_idle rack names turn i1 iready1)) }
 
-  pub both_work : JobWorked job k0 k2
+  pub both_work : JobWroteOnly job k0 k2
   both_work = work_more job k0 k1 k2 begun moves_work
 
-  pub both_used : (r r' : Lending) → ((n : ℕ) → r'.out n ≡ r.out n) → AreUsed r row1 → AreUsed r' row2
+  pub both_used : (r r' : RoomState) → ((n : ℕ) → r'.out n ≡ r.out n) → AreUsed r row1 → AreUsed r' row2
   both_used r r' lends used n is = use_more job row1 row2 moved (ready2.of.0 ∙ sym ready1.of.0) n (used n (sym (lends n) ∙ is))
 
   gain : (h : ℕ) → gained row0 row2 h ≡ gained row0 row1 h ++ gained row1 row2 h
@@ -174,21 +174,21 @@ module _ (rack : Rack) (names turn : List TurnName) (job from to g c : ℕ) (row
   its_setting_then : (s : Setting) → IsSettingOf s rack k0 → IsSettingOf s rack k1
   its_setting_then s set = setting_of_stays s rack k0 k1 (ready1.of.0 ∙ sym ready.of.0) (λ at. (begun.groups at).origin) (λ at. (begun.index at).origin) set
 
-  module _ (result : Result ℕ MendFault) (says : RowAlone (of_job job) row1 row2 → (s : Setting) → IsSettingOf s rack k1 → MoveRow s job g c result (section_of k1 k2)) where
+  module _ (result : Result ℕ MendFault) (says : RowOnlyWriterOf (of_job job) row1 row2 → (s : Setting) → IsSettingOf s rack k1 → MoveRow s job g c result (section_of k1 k2)) where
     -- no archive came by its steps
-    none_came : AllSole k1 k2 → (h : ℕ) → arrivals (gained row1 row2 h) ≡ []
+    none_came : AllOnlyWriters k1 k2 → (h : ℕ) → arrivals (gained row1 row2 h) ≡ []
     none_came sole h =
         no_arrivals (gained row1 row2 h)
         (ap (filter brings) (sym (own_all job (gained row1 row2 h) ((its_jobs job k1 k2 moves_work sole).groups h)))
         ∙ moved_brings (its_setting rack [] 0 k1) job g c result (section_of k1 k2) (says (sole_alone job k1 k2 moves_work sole).groups (its_setting rack [] 0 k1) (is_its rack [] 0 k1)) h)
 
-    pub both_took : (told well : Type 0) (ns : List ℕ) (r r' : Lending) → well → Took told well ns r r' k0 k1 → (then : Type 0) → Took told then ns r r' k0 k2
+    pub both_took : (told well : Type 0) (ns : List ℕ) (r r' : RoomState) → well → Took told well ns r r' k0 k1 → (then : Type 0) → Took told then ns r r' k0 k2
     both_took told well ns r r' is took then =
         took_on told well then ns r r' k0 k1 k2 (work_all_went job k0 k1 begun) (work_all_went job k1 k2 moves_work) (ready1.of.0 ∙ sym ready.of.0) is took none_came
 
-    module _ (alone : JobAlone job k0 k2) (s : Setting) (set : IsSettingOf s rack k0) (its : IsOfJobs job 1 (section_of k0 k2))
-        (has : JobAlone job k0 k1 → (s : Setting) → IsSettingOf s rack k0 → IsOfJobs job 1 (section_of k0 k1) → HasBegun s job from to g c (section_of k0 k1)) where
-      parts : JobAlone job k0 k1 × JobAlone job k1 k2
+    module _ (alone : JobOnlyWriter job k0 k2) (s : Setting) (set : IsSettingOf s rack k0) (its : IsOfJobs job 1 (section_of k0 k2))
+        (has : JobOnlyWriter job k0 k1 → (s : Setting) → IsSettingOf s rack k0 → IsOfJobs job 1 (section_of k0 k1) → HasBegun s job from to g c (section_of k0 k1)) where
+      parts : JobOnlyWriter job k0 k1 × JobOnlyWriter job k1 k2
       parts = alone_parts job k0 k1 k2 begun moves_work alone
 
       row : MoveRow s job g c result (section_of k1 k2)
@@ -231,7 +231,7 @@ module _ (rack : Rack) (names turn : List TurnName) (job from to g c : ℕ) (row
           (λ (ne : h ≢ g). inl (sym (own_front h) ∙ here.only.0 h ne))
           (cases_eq h g)
 
-      abbrev halves : Halves (section_of k0 k2)
+      abbrev halves : MovesThenRest (section_of k0 k2)
       halves = record {
         begun = gained row0 row1;
         worked = gained row1 row2;
@@ -261,7 +261,7 @@ module _ (rack : Rack) (names turn : List TurnName) (job from to g c : ℕ) (row
           (λ (b : MayGoOn s (seen_in row0) from to g c × (own job (gained row0 row1 g) ≡ [])). inr (subst (λ logs. MayGoOn s logs from to g c) (sym at_check) b.0, b.1))
           here.begins
 
-      pub both_says : (h : Halves (section_of k0 k2)) × IsMigrateReply s (section_of k0 k2).before h.begun job from to (move_reply from to result) (work_of (section_of k0 k2) h)
+      pub both_says : (h : MovesThenRest (section_of k0 k2)) × IsMigrateReply s (section_of k0 k2).before h.begun job from to (move_reply from to result) (work_of (section_of k0 k2) h)
       both_says = (
         halves,
         subst (λ w. IsMigrateReply s (seen_in row0) (gained row0 row1) job from to (move_reply from to result) w) whole
@@ -271,11 +271,11 @@ module _ (rack : Rack) (names turn : List TurnName) (job from to g c : ℕ) (row
 
 -- The answer to a line that began no move: it is judged on all that the section has.
 pub unbegun_answer : (s : Setting) (job from to : ℕ) (answer : Result Reply Unanswered) (w : Section) → Unbegins s job from to answer w
-    → MatchResult answer (λ reply. IsOfJobs job 1 w → (h : Halves w) × IsMigrateReply s w.before h.begun job from to reply (work_of w h)) (λ e. IsSilent (mine job w))
+    → MatchResult answer (λ reply. IsOfJobs job 1 w → (h : MovesThenRest w) × IsMigrateReply s w.before h.begun job from to reply (work_of w h)) (λ e. IsSilent (mine job w))
 unbegun_answer s job from to (Err e) w silent = silent
 unbegun_answer s job from to (Ok reply) w begins = λ its.
     let row = begins its in
-    let h : Halves w = record {
+    let h : MovesThenRest w = record {
       begun = λ g. [];
       worked = w.added;
       parts = λ g. refl;

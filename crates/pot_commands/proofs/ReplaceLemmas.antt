@@ -24,7 +24,7 @@ use Rattle.pot_shared.specs.Calls.{CallAt}
 use Rattle.pot_shared.specs.Catalogs.{IndexPasses, IsIndexReady}
 use Rattle.pot_group.specs.Calls.{SwapCall}
 use Rattle.pot_shared.specs.Ready.{AreReady, GroupPasses}
-use Rattle.pot_shared.specs.Works.{Known, known, JobAlone, IsSettingOf, section_of}
+use Rattle.pot_shared.specs.Works.{Known, known, JobOnlyWriter, IsSettingOf, section_of}
 use Rattle.pot_mend.specs.Moves.{IsAsked, ReplaceChecked, seen_in}
 use Rattle.pot_mend.specs.declared.checking.UseFault.{UseFault}
 use Rattle.pot_mend.specs.declared.checking.UseFault.TheVariants as used
@@ -42,11 +42,11 @@ module _ {rack : Rack} {names turn : List TurnName} (job from to : ℕ) {row0 ro
 
   refused_row : (s : Setting) (fault : UseFault) → seen_in row1 ≡ seen_in row0 → IsSilent (mine job (section_of first (known row1 i1))) → ReplaceChecked s (seen_in row1) from to (Err fault)
       → IsReplaceReply s job from to (use_reply fault) (mine job (section_of first (known row1 i1)))
-  refused_row s (used.NoSuchArchive n) met silent says = (says.0, (subst (λ logs. NoHome s logs from) met says.1, silent))
-  refused_row s (used.InUse n) met silent says =
-      (says.0, (subst (λ logs. (g : ℕ) × (c : ℕ) × HasHome s logs from g c) met says.1, subst (λ logs. IsUsed s logs to) met says.2, silent))
+  refused_row s (used.NoSuchArchive n) transition silent says = (says.0, (subst (λ logs. NoHome s logs from) transition says.1, silent))
+  refused_row s (used.InUse n) transition silent says =
+      (says.0, (subst (λ logs. (g : ℕ) × (c : ℕ) × HasHome s logs from g c) transition says.1, subst (λ logs. IsUsed s logs to) transition says.2, silent))
 
-  pub refused_says : (fault : UseFault) (reply : Reply) → reply ≡ use_reply fault → ((s : Setting) → IsSettingOf s rack first → ReplaceChecked s (seen_in row1) from to (Err fault)) → JobAlone job first (known row1 i1) → (s : Setting) → IsSettingOf s rack first
+  pub refused_says : (fault : UseFault) (reply : Reply) → reply ≡ use_reply fault → ((s : Setting) → IsSettingOf s rack first → ReplaceChecked s (seen_in row1) from to (Err fault)) → JobOnlyWriter job first (known row1 i1) → (s : Setting) → IsSettingOf s rack first
       → IsOfJobs job 1 (section_of first (known row1 i1)) → IsReplaceReply s job from to reply (mine job (section_of first (known row1 i1)))
   refused_says fault reply is says alone s set its =
       subst (λ r. IsReplaceReply s job from to r (mine job (section_of first (known row1 i1)))) (sym is) (refused_row s fault (met_logs job ready ready1 iready same asked alone (of_jobs job (section_of first (known row1 i1)) its))
@@ -63,11 +63,11 @@ module _ {rack : Rack} {names turn : List TurnName} (job from to : ℕ) {row0 ro
       came_own : AllOf (is_of job) call.turn.entries
       came_own = came_all job ready ready1 iready same asked same2 ready2 within call call.turn.call.0 number refl refl
 
-      pub swap_says : (b : Bool) → ((s : Setting) → IsSettingOf s rack first → ReplaceChecked s (seen_in row1) from to (Ok (record { group = group; column = c; resumes = b }))) → JobAlone job first last → (s : Setting)
+      pub swap_says : (b : Bool) → ((s : Setting) → IsSettingOf s rack first → ReplaceChecked s (seen_in row1) from to (Ok (record { group = group; column = c; resumes = b }))) → JobOnlyWriter job first last → (s : Setting)
           → IsSettingOf s rack first → IsOfJobs job 1 (section_of first last) → IsReplaceReply s job from to (replies.Replaced from to slots) (mine job (section_of first last))
       swap_says b says alone s set its =
           let all = of_jobs job (section_of first last) its in
-          let met = logs_met job ready ready1 iready same asked same2 ready2 within call came_own alone all in
+          let transition = logs_met job ready ready1 iready same asked same2 ready2 within call came_own alone all in
           let table = met_table job ready ready1 iready same asked same2 ready2 within call came_own alone all s set in
           let began = its_first job ready ready1 iready same asked same2 ready2 within call came_own alone all s set in
           let row = says s set in (
@@ -76,8 +76,8 @@ module _ {rack : Rack} {names turn : List TurnName} (job from to : ℕ) {row0 ro
             record {
               group = group;
               column = c;
-              home = subst (λ logs. HasHome s logs from group c) met row.1;
-              free = subst (λ logs. IsUsed s logs to → ⊥) met row.2;
+              home = subst (λ logs. HasHome s logs from group c) transition row.1;
+              free = subst (λ logs. IsUsed s logs to → ⊥) transition row.2;
               own_is = own_here job ready ready1 iready same asked same2 ready2 within call came_own alone
                   ∙ (call.turn.call.0.entries_are ∙ ap (λ n. entry.Swapped job c n ∷ []) number);
               only = only_here job ready ready1 iready same asked same2 ready2 within call came_own alone;
@@ -91,33 +91,33 @@ module _ {rack : Rack} {names turn : List TurnName} (job from to : ℕ) {row0 ro
       back_own : AllOf (is_of job) call.turn.entries
       back_own = back_all job ready ready1 iready same asked same2 ready2 within call call.turn.call.0.entries_are
 
-      its_silent : JobAlone job first last → IsSilent (mine job (section_of first last))
+      its_silent : JobOnlyWriter job first last → IsSilent (mine job (section_of first last))
       its_silent = back_silent job ready ready1 iready same asked same2 ready2 within call call.turn.call.0.entries_are
 
-      full_row : (b : Bool) (s : Setting) → IsSettingOf s rack first → length names ≡ rack.groups → ReplaceChecked s (seen_in row1) from to (Ok (record { group = group; column = c; resumes = b })) → JobAlone job first last
+      full_row : (b : Bool) (s : Setting) → IsSettingOf s rack first → length names ≡ rack.groups → ReplaceChecked s (seen_in row1) from to (Ok (record { group = group; column = c; resumes = b })) → JobOnlyWriter job first last
           → ((g : ℕ) (x y : List Entry) (e : Entry) → (section_of first last).added g ≡ x ++ e ∷ y → is_of job e ≡ true) → IsSilent (mine job (section_of first last)) → (why : ShelfCause) → RefusesSwap call.turn.old shelf.number why
           → (reply : Reply) → HandsBack group why (Ok reply) → IsReplaceReply s job from to reply (mine job (section_of first last))
       full_row b s set count row alone all silent cause.LogFull why (replies.LogFull g) e = subst (λ k. IsReplaceReply s job from to (replies.LogFull k) (mine job (section_of first last))) (sym e) (record {
         column = c;
-        home = subst (λ logs. HasHome s logs from group c) met row.1;
-        free = subst (λ logs. IsUsed s logs to → ⊥) met row.2;
+        home = subst (λ logs. HasHome s logs from group c) transition row.1;
+        free = subst (λ logs. IsUsed s logs to → ⊥) transition row.2;
         silent = silent;
         full = ap length (sym (met_log job ready ready1 iready same asked same2 ready2 within call back_own alone all)) ∙ why;
       })
         where
-          met : seen_in row1 ≡ seen_in row0
-          met = logs_met job ready ready1 iready same asked same2 ready2 within call back_own alone all
+          transition : seen_in row1 ≡ seen_in row0
+          transition = logs_met job ready ready1 iready same asked same2 ready2 within call back_own alone all
       full_row b s set count row alone all silent (cause.InUse n) why (replies.InUse k) e =
-          absurd (row.2 (subst (λ logs. IsUsed s logs to) (sym met)
+          absurd (row.2 (subst (λ logs. IsUsed s logs to) (sym transition)
           (group_used job ready ready1 iready same asked same2 ready2 within call back_own alone all s set count call.turn.call.0.arrived to
           (subst (λ k. Contains call.turn.old.shelves.numbers k) number why.1))))
         where
-          met : seen_in row1 ≡ seen_in row0
-          met = logs_met job ready ready1 iready same asked same2 ready2 within call back_own alone all
+          transition : seen_in row1 ≡ seen_in row0
+          transition = logs_met job ready ready1 iready same asked same2 ready2 within call back_own alone all
       full_row b s set count row alone all silent _ why _ e = absurd e
 
       pub refused_ends : (b : Bool) → length names ≡ rack.groups → ((s : Setting) → IsSettingOf s rack first → ReplaceChecked s (seen_in row1) from to (Ok (record { group = group; column = c; resumes = b })))
-          → (result : Result Reply Unanswered) → HandsBack group r.cause result → JobAlone job first last → (s : Setting) → IsSettingOf s rack first
+          → (result : Result Reply Unanswered) → HandsBack group r.cause result → JobOnlyWriter job first last → (s : Setting) → IsSettingOf s rack first
           → MatchResult result (λ reply. IsOfJobs job 1 (section_of first last) → IsReplaceReply s job from to reply (mine job (section_of first last))) (λ e. IsSilent (mine job (section_of first last)))
       refused_ends b count says (Ok reply) e alone s set = λ its.
           full_row b s set count (says s set) alone (of_jobs job (section_of first last) its) (its_silent alone) r.cause call.turn.call.1 reply e

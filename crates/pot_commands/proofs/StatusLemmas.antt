@@ -6,10 +6,10 @@ use Rattle.std.proofs.lemmas.List.{length-append}
 use lib.Seq.{drop-length}
 use Rattle.pot_bytes.specs.declared.rack.Rack.{Rack}
 use Rattle.pot_turn.specs.declared.name.TurnName.{TurnName}
-use Rattle.pot_worked.specs.Worked.{added}
+use Rattle.pot_worked.specs.WroteOnlyFor.{added}
 use Rattle.pot_worked.specs.Laws.{AllOf}
 use Rattle.pot_rows.specs.Rows.{view_at}
-use Rattle.pot_rows.specs.Works.{RowWorked}
+use Rattle.pot_rows.specs.Works.{RowWroteOnlyFor}
 use Rattle.pot_rows.proofs.RowLemmas.{at_set, at_other}
 use Rattle.pot_rows.proofs.WorkLemmas.{row_work_in_parts}
 use Rattle.pot_index.specs.Entries as index
@@ -22,7 +22,7 @@ use Rattle.pot_shared.specs.Members.{entries_of}
 use Rattle.pot_shared.specs.Ready.{GroupPasses, AreReady}
 use Rattle.pot_shared.specs.Catalogs.{IndexPasses, IsIndexReady}
 use Rattle.pot_shared.specs.Calls.{CallTurn}
-use Rattle.pot_shared.specs.Works.{of_job, known, JobWorked, JobAlone, IsSettingOf, section_of}
+use Rattle.pot_shared.specs.Works.{of_job, known, JobWroteOnly, JobOnlyWriter, IsSettingOf, section_of}
 use Rattle.pot_shared.proofs.WorkLemmas.{row_stays, group_work, index_idle}
 use Rattle.pot_commands.specs.Rows.{reply_of_line, replies_from, AreStatusReplies}
 use Rattle.pot_commands.specs.Counting.{CountsTable, CountsLine}
@@ -45,7 +45,7 @@ get_more (z ∷ xs) x y (suc k) is = ⊎_elim (λ (h : slice_get xs k ≡ Some y
 -- The first `n` groups had their turns, and these are their replies; the passes of the others are as they were.
 pub record IsCounting (told : Type 0) (rack : Rack) (names : List TurnName) (job n : ℕ) (rs : List Reply) (old new : GroupPasses) : Type 0 where
   pub ready : AreReady rack names new
-  pub worked : RowWorked (of_job job) old new
+  pub worked : RowWroteOnlyFor (of_job job) old new
   pub lines : List StatusLine
   pub count : length lines ≡ n
   pub are : rs ≡ replies_from 0 lines
@@ -107,13 +107,13 @@ module _ (told : Type 0) (rack : Rack) (names : List TurnName) (job n : ℕ) (rs
 
 -- the index was not called
 pub counted_worked : (told : Type 0) (rack : Rack) (names turn : List TurnName) (job n : ℕ) (rs : List Reply) (old new : GroupPasses) (index : IndexPasses)
-    → IsIndexReady rack names turn index → IsCounting told rack names job n rs old new → JobWorked job (known old index) (known new index)
+    → IsIndexReady rack names turn index → IsCounting told rack names job n rs old new → JobWroteOnly job (known old index) (known new index)
 counted_worked told rack names turn job n rs old new row ready so = record { groups = so.worked; index = row_stays (index.is_of job) row (index_idle rack names turn row ready) }
 
 -- all groups had their turns
 pub counted_says : (told : Type 0) (rack : Rack) (names : List TurnName) (job n : ℕ) (rs : List Reply) (old new : GroupPasses) (row : IndexPasses)
     → IsCounting told rack names job n rs old new → n ≡ rack.groups → length names ≡ rack.groups → old.names ≡ names
-    → JobAlone job (known old row) (known new row) → (s : Setting) → IsSettingOf s rack (known old row) → AreStatusReplies s job rs (section_of (known old row) (known new row))
+    → JobOnlyWriter job (known old row) (known new row) → (s : Setting) → IsSettingOf s rack (known old row) → AreStatusReplies s job rs (section_of (known old row) (known new row))
 counted_says told rack names job n rs old new row so all long same alone s setting = record {
   lines = so.lines;
   are = so.are;

@@ -10,11 +10,11 @@ use Rattle.pot_machine.specs.Table.{holder_of}
 use Rattle.pot_machine.specs.Logs.{replayed}
 use Rattle.pot_group.specs.Arrivals.{arrivals}
 use Rattle.pot_group.proofs.Arriving.{arrivals-append}
-use Rattle.pot_worked.specs.Worked.{added}
-use Rattle.pot_worked.specs.Sole.{Went}
-use Rattle.pot_worked.proofs.SoleLemmas.{gain_in_parts}
+use Rattle.pot_worked.specs.WroteOnlyFor.{added}
+use Rattle.pot_worked.specs.OnlyWriter.{Extends}
+use Rattle.pot_worked.proofs.OnlyWriterLemmas.{gain_in_parts}
 use Rattle.pot_rows.specs.Rows.{view_at}
-use Rattle.pot_rows.specs.Works.{RowWorked}
+use Rattle.pot_rows.specs.Works.{RowWroteOnlyFor}
 use Rattle.pot_rows.proofs.WorkLemmas.{row_work_went}
 use Rattle.pot_shared.specs.declared.member.GroupOrigin.{GroupOrigin}
 use Rattle.pot_shared.specs.Members.{entries_of}
@@ -24,10 +24,10 @@ use Rattle.pot_shared.specs.Works.{Known, of_job, gained}
 use Rattle.pot_shared.proofs.Times.{one_if}
 use Rattle.pot_shared.proofs.ComingLemmas.{arrival_in}
 use Rattle.pot_shared.proofs.Times.{contains_times, times-append, times_here}
-use Rattle.pot_shared.specs.Going.{AllSole, AllStay, AllWent}
+use Rattle.pot_shared.specs.Going.{AllOnlyWriters, AllStay, AllExtend}
 use Rattle.pot_shared.specs.Hands.{times}
 use Rattle.pot_commands.specs.Taking.{Takes, Come, Took, HasUse, AreUsed}
-use Rattle.pot_outside.specs.Rooms.{Lending}
+use Rattle.pot_outside.specs.Rooms.{RoomState}
 use Rattle.pot_shared.proofs.Takings.{taking_same}
 use Rattle.pot_shared.specs.Coming.{AreMarkedBy, came_in, taking_of}
 use Rattle.pot_commands.proofs.Going.{sole_parts, known_follows}
@@ -64,7 +64,7 @@ meant_by a b m p q = record {
 
 module _ (told well : Type 0) where
   -- a room that lends what it lent, and means what it meant
-  pub takes_none : (asked : List ℕ) (r r' : Lending) → ((n : ℕ) → r'.out n ≡ r.out n) → ((n : ℕ) → r'.means n ≡ r.means n) → Takes told well asked [] r r'
+  pub takes_none : (asked : List ℕ) (r r' : RoomState) → ((n : ℕ) → r'.out n ≡ r.out n) → ((n : ℕ) → r'.means n ≡ r.means n) → Takes told well asked [] r r'
   takes_none asked r r' out means = record {
     out = λ n. (let e = ap one_if (out n) in omega (arith, e));
     among = λ n. omega arith;
@@ -72,7 +72,7 @@ module _ (told well : Type 0) where
     still = λ t w n o. subst (λ m. IsMeant (r.means n) m) (sym (means n)) (meant_self (r.means n));
   }
 
-  module _ (k : ℕ) (r r' : Lending) (home : r.out k ≡ false) (others : (n : ℕ) → n ≢ k → (r'.means n ≡ r.means n) × (r'.out n ≡ r.out n)) where
+  module _ (k : ℕ) (r r' : RoomState) (home : r.out k ≡ false) (others : (n : ℕ) → n ≢ k → (r'.means n ≡ r.means n) × (r'.out n ≡ r.out n)) where
     other : (n : ℕ) → times n (k ∷ []) ≡ 0 → n ≢ k
     other n z same = (let e = times_here n in let f = ap (λ m. times n (m ∷ [])) same in absurd (omega (arith, e, f, z)))
 
@@ -112,7 +112,7 @@ module _ (told well : Type 0) where
     }
 
   -- one command more
-  module _ (asked more t u : List ℕ) (r0 r1 r2 : Lending) (p : Takes told (Unit {0}) asked t r0 r1) (q : Takes told well more u r1 r2) where
+  module _ (asked more t u : List ℕ) (r0 r1 r2 : RoomState) (p : Takes told (Unit {0}) asked t r0 r1) (q : Takes told well more u r1 r2) where
     mid_home : (n : ℕ) → r2.out n ≡ false → r1.out n ≡ false
     mid_home n o = home_bit (r1.out n) (let e = q.out n in let f = ap one_if o in omega (arith, e, f))
 
@@ -179,24 +179,24 @@ came_within (suc k) f g n lt has =
     below ne l = grind (arith, ne, l)
 
 -- no archive came
-pub come_none : (told : Type 0) (meant : ℕ → Meaning) (old new : Known) → (AllSole old new → (g : ℕ) → arrivals (gained old.groups new.groups g) ≡ []) → Come told meant [] old new
+pub come_none : (told : Type 0) (meant : ℕ → Meaning) (old new : Known) → (AllOnlyWriters old new → (g : ℕ) → arrivals (gained old.groups new.groups g) ≡ []) → Come told meant [] old new
 come_none told meant old new none = record {
   are = λ sole n. sym (ap (times n) (came_none (length old.groups.names) (gained old.groups new.groups) (none sole)));
   marked = λ t sole g lt l n has arr. absurd (none_contained n (subst (λ ns. Contains ns n) (none sole g) (arrival_in (added (view_at old.groups g) (view_at new.groups g)) l n has arr)));
 }
 
 -- part after part
-pub come_more : (told : Type 0) (m0 m1 : ℕ → Meaning) (t u : List ℕ) (k0 k1 k2 : Known) → AllWent k0 k1 → AllWent k1 k2 → k1.groups.names ≡ k0.groups.names
+pub come_more : (told : Type 0) (m0 m1 : ℕ → Meaning) (t u : List ℕ) (k0 k1 k2 : Known) → AllExtend k0 k1 → AllExtend k1 k2 → k1.groups.names ≡ k0.groups.names
     → (told → (n : ℕ) → 1 ≤ times n u → taking_of (m1 n) ≡ taking_of (m0 n)) → Come told m0 t k0 k1 → Come told m1 u k1 k2 → Come told m0 (t ++ u) k0 k2
 come_more told m0 m1 t u k0 k1 k2 went then same_names marks p q = record { are = are; marked = marked }
   where
     long : length k1.groups.names ≡ length k0.groups.names
     long = ap length same_names
 
-    later : AllSole k1 k2 → (n : ℕ) → times n u ≡ times n (came_in (length k0.groups.names) (gained k1.groups k2.groups))
+    later : AllOnlyWriters k1 k2 → (n : ℕ) → times n u ≡ times n (came_in (length k0.groups.names) (gained k1.groups k2.groups))
     later sole n = q.are sole n ∙ ap (λ k. times n (came_in k (gained k1.groups k2.groups))) long
 
-    are : AllSole k0 k2 → (n : ℕ) → times n (t ++ u) ≡ times n (came_in (length k0.groups.names) (gained k0.groups k2.groups))
+    are : AllOnlyWriters k0 k2 → (n : ℕ) → times n (t ++ u) ≡ times n (came_in (length k0.groups.names) (gained k0.groups k2.groups))
     are sole n =
         let parts = sole_parts k0 k1 k2 went then sole in
         let a = times-append n t u in
@@ -205,7 +205,7 @@ come_more told m0 m1 t u k0 k1 k2 went then same_names marks p q = record { are 
         let d = came_both (length k0.groups.names) (gained k0.groups k1.groups) (gained k1.groups k2.groups) (gained k0.groups k2.groups) (known_follows k0 k1 k2 went then).is_added n in
         omega (arith, a, b, c, d)
 
-    marked : told → AllSole k0 k2 → (g : ℕ) → g < length k0.groups.names → AreMarkedBy m0 (added (view_at k0.groups g) (view_at k2.groups g))
+    marked : told → AllOnlyWriters k0 k2 → (g : ℕ) → g < length k0.groups.names → AreMarkedBy m0 (added (view_at k0.groups g) (view_at k2.groups g))
     marked tells sole g lt l n has arr =
         let parts = sole_parts k0 k1 k2 went then sole in
         let gain = gain_in_parts (view_at k0.groups g) (view_at k1.groups g) (view_at k2.groups g) (went.groups g) (then.groups g) in ⊎_elim
@@ -216,11 +216,11 @@ come_more told m0 m1 t u k0 k1 k2 went then same_names marks p q = record { are 
         let w = came_within (length k0.groups.names) (gained k1.groups k2.groups) g n lt (arrival_in (added (view_at k1.groups g) (view_at k2.groups g)) l n h arr) in omega (arith, c, w))))
         (Contains-append_cases (added (view_at k0.groups g) (view_at k1.groups g)) (added (view_at k1.groups g) (view_at k2.groups g)) l (subst (λ ls. Contains ls l) gain has))
 
-pub took_none : (told well : Type 0) (asked : List ℕ) (r r' : Lending) (old new : Known) → ((n : ℕ) → r'.out n ≡ r.out n) → ((n : ℕ) → r'.means n ≡ r.means n)
-    → (AllSole old new → (g : ℕ) → arrivals (gained old.groups new.groups g) ≡ []) → Took told well asked r r' old new
+pub took_none : (told well : Type 0) (asked : List ℕ) (r r' : RoomState) (old new : Known) → ((n : ℕ) → r'.out n ≡ r.out n) → ((n : ℕ) → r'.means n ≡ r.means n)
+    → (AllOnlyWriters old new → (g : ℕ) → arrivals (gained old.groups new.groups g) ≡ []) → Took told well asked r r' old new
 took_none told well asked r r' old new out means none = record { taken = []; takes = takes_none told well asked r r' out means; come = come_none told r.means old new none }
 
-pub took_more : (told well : Type 0) (asked more : List ℕ) (r0 r1 r2 : Lending) (k0 k1 k2 : Known) → AllWent k0 k1 → AllWent k1 k2 → k1.groups.names ≡ k0.groups.names
+pub took_more : (told well : Type 0) (asked more : List ℕ) (r0 r1 r2 : RoomState) (k0 k1 k2 : Known) → AllExtend k0 k1 → AllExtend k1 k2 → k1.groups.names ≡ k0.groups.names
     → Took told (Unit {0}) asked r0 r1 k0 k1 → Took told well more r1 r2 k1 k2 → Took told well (asked ++ more) r0 r2 k0 k2
 took_more told well asked more r0 r1 r2 k0 k1 k2 went then names p q = record {
   taken = p.taken ++ q.taken;
@@ -229,7 +229,7 @@ took_more told well asked more r0 r1 r2 k0 k1 k2 went then names p q = record {
 }
 
 -- more may be asked for, and less be known of the room's failures
-pub took_wider : (told well then : Type 0) (asked more : List ℕ) (r r' : Lending) (old new : Known) → ((n : ℕ) → times n asked ≤ times n more) → (then → well) → Took told well asked r r' old new → Took told then more r r' old new
+pub took_wider : (told well then : Type 0) (asked more : List ℕ) (r r' : RoomState) (old new : Known) → ((n : ℕ) → times n asked ≤ times n more) → (then → well) → Took told well asked r r' old new → Took told then more r r' old new
 took_wider told well then asked more r r' old new le from p = record {
   taken = p.taken;
   takes = record {
@@ -242,8 +242,8 @@ took_wider told well then asked more r r' old new le from p = record {
 }
 
 -- what was taken stays so where no more archives come
-pub took_on : (told well then : Type 0) (ns : List ℕ) (r r' : Lending) (k0 k1 k2 : Known) → AllWent k0 k1 → AllWent k1 k2 → k1.groups.names ≡ k0.groups.names → well → Took told well ns r r' k0 k1
-    → (AllSole k1 k2 → (g : ℕ) → arrivals (gained k1.groups k2.groups g) ≡ []) → Took told then ns r r' k0 k2
+pub took_on : (told well then : Type 0) (ns : List ℕ) (r r' : RoomState) (k0 k1 k2 : Known) → AllExtend k0 k1 → AllExtend k1 k2 → k1.groups.names ≡ k0.groups.names → well → Took told well ns r r' k0 k1
+    → (AllOnlyWriters k1 k2 → (g : ℕ) → arrivals (gained k1.groups k2.groups g) ≡ []) → Took told then ns r r' k0 k2
 took_on told well then ns r r' k0 k1 k2 went next names is took none =
     subst (λ l. Took told then l r r' k0 k2) (append-nil ns)
     (took_more told then ns [] r r' r' k0 k1 k2 went next names (took_wider told well (Unit {0}) ns ns r r' k0 k1 (λ n. omega arith) (λ u. is) took) (took_none told then [] r' r' k1 k2 (λ n. refl) (λ n. refl) none))
@@ -255,7 +255,7 @@ some_more None q P Q same f h = absurd h
 some_more (Some x) q P Q same f h = subst (λ y. IsSomeAnd y Q) (sym same) (f x h)
 
 -- what was in use is, by logs that went on
-pub use_on : (row new : GroupPasses) → ((at : ℕ) → Went (view_at row at) (view_at new at)) → ((at : ℕ) → (view_at new at).origin ≡ (view_at row at).origin) → new.names ≡ row.names
+pub use_on : (row new : GroupPasses) → ((at : ℕ) → Extends (view_at row at) (view_at new at)) → ((at : ℕ) → (view_at new at).origin ≡ (view_at row at).origin) → new.names ≡ row.names
     → (n : ℕ) → HasUse row n → HasUse new n
 use_on row new went origin names n (g, lt, is_use) = (
   g,
@@ -274,12 +274,12 @@ use_on row new went origin names n (g, lt, is_use) = (
 )
 
 -- by a job's work
-pub use_more : (job : ℕ) (row new : GroupPasses) → RowWorked (of_job job) row new → new.names ≡ row.names → (n : ℕ) → HasUse row n → HasUse new n
+pub use_more : (job : ℕ) (row new : GroupPasses) → RowWroteOnlyFor (of_job job) row new → new.names ≡ row.names → (n : ℕ) → HasUse row n → HasUse new n
 use_more job row new worked names = use_on row new (row_work_went (of_job job) row new worked) (λ at. (worked at).origin) names
 
-pub used_more : (job : ℕ) (r r' : Lending) (row new : GroupPasses) → RowWorked (of_job job) row new → new.names ≡ row.names → ((n : ℕ) → r'.out n ≡ r.out n) → AreUsed r row → AreUsed r' new
+pub used_more : (job : ℕ) (r r' : RoomState) (row new : GroupPasses) → RowWroteOnlyFor (of_job job) row new → new.names ≡ row.names → ((n : ℕ) → r'.out n ≡ r.out n) → AreUsed r row → AreUsed r' new
 used_more job r r' row new worked names same used n is = use_more job row new worked names n (used n (sym (same n) ∙ is))
 
 -- by the jobs of a batch, which take no archive
-pub used_on : (r r' : Lending) (old new : Known) → AllWent old new → AllStay old new → ((n : ℕ) → r'.out n ≡ r.out n) → AreUsed r old.groups → AreUsed r' new.groups
+pub used_on : (r r' : RoomState) (old new : Known) → AllExtend old new → AllStay old new → ((n : ℕ) → r'.out n ≡ r.out n) → AreUsed r old.groups → AreUsed r' new.groups
 used_on r r' old new went stays same used n is = use_on old.groups new.groups went.groups stays.groups.origin stays.groups.names n (used n (sym (same n) ∙ is))

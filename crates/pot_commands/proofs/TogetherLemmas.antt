@@ -8,21 +8,21 @@ use Rattle.pot_group.specs.Arrivals.{arrivals}
 use Rattle.pot_turn.specs.declared.name.TurnName.{TurnName}
 use Rattle.pot_turn.specs.declared.view.View.{View}
 use Rattle.pot_turn.specs.Views.{cut_view, new_view, spent_view}
-use Rattle.pot_worked.specs.Sole.{Went, Sole}
+use Rattle.pot_worked.specs.OnlyWriter.{Extends, OnlyWriter}
 use Rattle.pot_work.specs.Works.{AreWorked}
 use Rattle.pot_rows.specs.Rows.{PassRow, AreOf, HasMoreParts, view_at}
 use Rattle.pot_rows.specs.Parts.{RowCut, RowNew}
-use Rattle.pot_rows.specs.Works.{CarriedRow, RowJoins, RowWent, RowSole}
+use Rattle.pot_rows.specs.Works.{CarriedRow, RowJoins, RowExtends, RowOnlyWriter}
 use Rattle.pot_rows.proofs.RowLemmas.{at_past}
 use Rattle.pot_script.specs.declared.command.Command.{Command}
 use Rattle.pot_script.specs.declared.reply.Reply.{Reply}
 use Rattle.pot_shared.specs.Members.{entries_of}
 use Rattle.pot_replies.specs.Settings.{Setting}
-use Rattle.pot_replies.specs.Sections.{Section, Halves, Follows, IsOfJobs}
+use Rattle.pot_replies.specs.Sections.{Section, MovesThenRest, Follows, IsOfJobs}
 use Rattle.pot_replies.specs.Sessions.{Together, Rows}
 use Rattle.pot_shared.specs.Works.{Known, section_of, gained}
 use Rattle.pot_commands.specs.Rows.{IsSessionSetting, HasFilled, Row}
-use Rattle.pot_shared.specs.Going.{Stays, AllSole, AllStay, AllWent}
+use Rattle.pot_shared.specs.Going.{Stays, AllOnlyWriters, AllStay, AllExtend}
 use Rattle.pot_commands.specs.declared.beginning.Task.{Task}
 use Rattle.pot_commands.specs.Begun.{HasTask, HaveBegun, AreMovesBegun}
 use Rattle.pot_commands.specs.Steps.{StepGives, StepLeaves, AreLinesLeft}
@@ -77,13 +77,13 @@ module _ {E O : Type 0} where
 
 -- A batch is a going on of what was before the passes were shared out.
 module _ {E O : Type 0} (names : List TurnName) (old v x : PassRow E O) (o : AreOf names old) (of : AreOf names v) (n : ℕ) (cut : RowCut n old v) where
-  pub went_cut : RowWent v x → RowWent old x
+  pub went_cut : RowExtends v x → RowExtends old x
   went_cut went at =
-      let h = subst (λ (u : View E O). Went u (view_at x at)) (cut_at names old o n v of cut at) (went at) in
+      let h = subst (λ (u : View E O). Extends u (view_at x at)) (cut_at names old o n v of cut at) (went at) in
       record { seen = h.seen; turns = h.turns; joined = h.joined; lies = h.lies }
 
-  pub sole_cut : RowSole old x → RowSole v x
-  sole_cut sole at = subst (λ (u : View E O). Sole u (view_at x at)) (sym (cut_at names old o n v of cut at)) (sole at)
+  pub sole_cut : RowOnlyWriter old x → RowOnlyWriter v x
+  sole_cut sole at = subst (λ (u : View E O). OnlyWriter u (view_at x at)) (sym (cut_at names old o n v of cut at)) (sole at)
 
   pub seen_cut : (at : ℕ) → (view_at v at).seen ≡ (view_at old at).seen
   seen_cut at = ap (λ (u : View E O). u.seen) (cut_at names old o n v of cut at)
@@ -284,7 +284,7 @@ module _ (b : Common) (old v x : Known) (from : ℕ) (cs : List Command) (js ks 
   lines : lines_of zs ≡ cs
   lines = zip_lines b old from cs js ks shared.given did
 
-  sole : AllSole old x → AllSole v x
+  sole : AllOnlyWriters old x → AllOnlyWriters v x
   sole s = record {
     groups = sole_cut b.vault.groups old.groups v.groups x.groups can.ready.of can_v.ready.of n shared.groups s.groups;
     index = sole_cut b.vault.index old.index v.index x.index can.index_ready.of can_v.index_ready.of n shared.index s.index;
@@ -317,7 +317,7 @@ module _ (b : Common) (old v x : Known) (from : ℕ) (cs : List Command) (js ks 
     filled = is.filled;
   }
 
-  pub together_went : AllWent old x
+  pub together_went : AllExtend old x
   together_went =
       let went = batch_all_went v x from zs are joins in
       record {
@@ -348,8 +348,8 @@ module _ (b : Common) (old v x : Known) (from : ℕ) (cs : List Command) (js ks 
 
   -- the moves of the lines began before
   module _ (start : Known) (tasks : List Task) (same_tasks : tasks_in js ≡ tasks) (moves : AreMovesBegun b.vault.rack from cs tasks start old) where
-    module _ (s_start : AllSole start x) (s : Setting) (is : IsSessionSetting s b.vault.rack b.seed b.session start) where
-      soles : AllSole start old × AllSole old x
+    module _ (s_start : AllOnlyWriters start x) (s : Setting) (is : IsSessionSetting s b.vault.rack b.seed b.session start) where
+      soles : AllOnlyWriters start old × AllOnlyWriters old x
       soles = sole_parts start old x moves.went together_went s_start
 
       setting_old : IsSessionSetting s b.vault.rack b.seed b.session old
@@ -362,15 +362,15 @@ module _ (b : Common) (old v x : Known) (from : ℕ) (cs : List Command) (js ks 
       follows : Follows (section_of start old) (section_of v x) (section_of start x)
       follows = subst (λ (u : Section). Follows (section_of start old) u (section_of start x)) (sym section) (known_follows start old x moves.went together_went)
 
-      its_gives : all_replied ks ≡ true → IsOfJobs from (length cs) (section_of start x) × ((h : Halves (section_of start x)) × Rows (Row s) from cs (replies_in ks) (section_of start x) h)
+      its_gives : all_replied ks ≡ true → IsOfJobs from (length cs) (section_of start x) × ((h : MovesThenRest (section_of start x)) × Rows (Row s) from cs (replies_in ks) (section_of start x) h)
       its_gives all =
           let gives = batch_gives b.vault.rack b.seed b.session v x from zs are joins say (zip_have b old js ks did ∙ all) (sole soles.1) s (setting s setting_old) (section_of start old) (section_of start x) begun follows in
-          subst (λ rs. IsOfJobs from (length cs) (section_of start x) × ((h : Halves (section_of start x)) × Rows (Row s) from cs rs (section_of start x) h)) (zip_replies b old js ks did)
-          (subst (λ ls. IsOfJobs from (length ls) (section_of start x) × ((h : Halves (section_of start x)) × Rows (Row s) from ls (replies_of zs) (section_of start x) h)) lines gives)
+          subst (λ rs. IsOfJobs from (length cs) (section_of start x) × ((h : MovesThenRest (section_of start x)) × Rows (Row s) from cs rs (section_of start x) h)) (zip_replies b old js ks did)
+          (subst (λ ls. IsOfJobs from (length ls) (section_of start x) × ((h : MovesThenRest (section_of start x)) × Rows (Row s) from ls (replies_of zs) (section_of start x) h)) lines gives)
 
-      its_leaves : IsOfJobs from (length cs) (section_of start x) × ((h : Halves (section_of start x)) × AreLinesLeft s from cs (section_of start x) h)
+      its_leaves : IsOfJobs from (length cs) (section_of start x) × ((h : MovesThenRest (section_of start x)) × AreLinesLeft s from cs (section_of start x) h)
       its_leaves =
-          subst (λ ls. IsOfJobs from (length ls) (section_of start x) × ((h : Halves (section_of start x)) × AreLinesLeft s from ls (section_of start x) h)) lines
+          subst (λ ls. IsOfJobs from (length ls) (section_of start x) × ((h : MovesThenRest (section_of start x)) × AreLinesLeft s from ls (section_of start x) h)) lines
           (batch_leaves b.vault.rack b.seed b.session v x from zs are joins say (sole soles.1) s (setting s setting_old) (section_of start old) (section_of start x) begun follows)
 
     pub together_gives : all_replied ks ≡ true → StepGives b.vault.rack b.seed b.session from (Together cs) start x (replies_in ks)
@@ -420,7 +420,7 @@ module _ (b : Common) (old v x : Known) (from : ℕ) (cs : List Command) (tasks 
   did : AreDid is.worked.given ks
   did = are_did is.worked.given ks is.worked.are_worked
 
-  pub taken_went : AllWent old x
+  pub taken_went : AllExtend old x
   taken_went = together_went b old v x from cs is.worked.given ks is.can is.can_v is.can_x is.parts.0 is.parts.1 is.worked.shared did is.joined
 
   pub taken_stays : AllStay old x

@@ -9,8 +9,8 @@ use Rattle.pot_turn.specs.declared.name.TurnName.{TurnName}
 use Rattle.pot_turn.specs.declared.view.View.{View}
 use Rattle.pot_turn.specs.Logs.{longer}
 use Rattle.pot_turn.specs.Views.{cut_view, new_view, both_views}
-use Rattle.pot_worked.specs.Worked.{added}
-use Rattle.pot_worked.specs.Sole.{Went, Sole}
+use Rattle.pot_worked.specs.WroteOnlyFor.{added}
+use Rattle.pot_worked.specs.OnlyWriter.{Extends, OnlyWriter}
 use Rattle.pot_rows.specs.Rows.{PassRow, AreOf, HasMoreParts, view_at}
 use Rattle.pot_rows.specs.Parts.{RowCut, RowJoined}
 use Rattle.pot_rows.proofs.RowLemmas.{at_past}
@@ -22,7 +22,7 @@ use Rattle.pot_replies.specs.Sessions.{Together}
 use Rattle.pot_shared.specs.Works.{Known, section_of, gained}
 use Rattle.pot_commands.specs.declared.beginning.Task.{Task}
 use Rattle.pot_commands.specs.Begun.{AreMovesBegun}
-use Rattle.pot_shared.specs.Going.{AllSole, AllStay, AllWent}
+use Rattle.pot_shared.specs.Going.{AllOnlyWriters, AllStay, AllExtend}
 use Rattle.pot_commands.specs.Steps.{StepLeaves, IsStepLeft}
 use Rattle.pot_shared.specs.Callers.{CanCall}
 use Rattle.pot_commands.specs.Sharing.{Common}
@@ -129,12 +129,12 @@ unbegun b old v x from cs js can can_x more more_index shared joined =
 -- NOTHING WAS LOGGED
 
 module _ (b : Common) (old x : Known) (can : CanCall b.vault old) (can_x : CanCall b.vault x) (same : SameAt old.groups x.groups) (same_index : SameAt old.index x.index) where
-  pub unbegun_went : AllWent old x
+  pub unbegun_went : AllExtend old x
   unbegun_went =
       let went = work_all_went 1 old old (stayed_worked b.vault.rack b.vault.groups b.vault.index 1 old.groups old.index can.ready can.index_ready) in
       record {
-        groups = λ at. subst (λ (u : View _ _). Went (view_at old.groups at) u) (sym (same at)) (went.groups at);
-        index = λ at. subst (λ (u : View _ _). Went (view_at old.index at) u) (sym (same_index at)) (went.index at);
+        groups = λ at. subst (λ (u : View _ _). Extends (view_at old.groups at) u) (sym (same at)) (went.groups at);
+        index = λ at. subst (λ (u : View _ _). Extends (view_at old.index at) u) (sym (same_index at)) (went.index at);
       }
 
   pub unbegun_stays : AllStay old x
@@ -171,10 +171,10 @@ module _ (b : Common) (old x : Known) (can : CanCall b.vault old) (can_x : CanCa
         ap (λ (u : View _ _). drop (length (view_at start.index 0).seen) u.seen) (same_index 0) in
         λ i. record { before = (section_of start old).before; added = addeds i; index_before = (section_of start old).index_before; index_added = index_addeds i }
 
-    sole_since : AllSole start x → AllSole start old
+    sole_since : AllOnlyWriters start x → AllOnlyWriters start old
     sole_since sole = record {
-      groups = λ at. subst (λ (u : View _ _). Sole (view_at start.groups at) u) (same at) (sole.groups at);
-      index = λ at. subst (λ (u : View _ _). Sole (view_at start.index at) u) (same_index at) (sole.index at);
+      groups = λ at. subst (λ (u : View _ _). OnlyWriter (view_at start.groups at) u) (same at) (sole.groups at);
+      index = λ at. subst (λ (u : View _ _). OnlyWriter (view_at start.index at) u) (same_index at) (sole.index at);
     }
 
     pub unbegun_leaves : (from : ℕ) (lines : List Command) (tasks : List Task) → AreMovesBegun b.vault.rack from lines tasks start old → StepLeaves b.vault.rack b.seed b.session from (Together lines) start x
@@ -197,7 +197,7 @@ module _ (b : Common) (old v x : Known) (from : ℕ) (cs : List Command) (js : L
   same_both : SameAt old.groups x.groups × SameAt old.index x.index
   same_both = unbegun b old v x from cs js is.can is.can_x is.parts.0 is.parts.1 is.shared is.joined
 
-  pub back_went : AllWent old x
+  pub back_went : AllExtend old x
   back_went = unbegun_went b old x is.can is.can_x same_both.0 same_both.1
 
   pub back_stays : AllStay old x

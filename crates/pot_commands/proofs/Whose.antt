@@ -6,21 +6,21 @@ use Rattle.pot_machine.specs.declared.entry.Entry.{Entry}
 use Rattle.pot_machine.specs.Logs.{job_of, is_of, own}
 use Rattle.pot_index.specs.declared.entry.Logged as of_index
 use Rattle.pot_index.specs.Entries as index
-use Rattle.pot_worked.specs.Worked.{added}
+use Rattle.pot_worked.specs.WroteOnlyFor.{added}
 use Rattle.pot_worked.specs.Laws.{AllOf}
-use Rattle.pot_worked.proofs.SoleLemmas.{sole_owns}
+use Rattle.pot_worked.proofs.OnlyWriterLemmas.{sole_owns}
 use Rattle.pot_rows.specs.Rows.{view_at}
 use Rattle.pot_script.specs.declared.command.Command.{Command}
 use Rattle.pot_script.specs.declared.command.Command.TheVariants as commands
 use Rattle.pot_script.specs.declared.reply.Reply.{Reply}
 use Rattle.pot_replies.specs.Jobs.{is_move_begin}
 use Rattle.pot_replies.specs.Settings.{Setting}
-use Rattle.pot_replies.specs.Sections.{Section, IsAmong, IsOfJobs, Halves, work_of}
+use Rattle.pot_replies.specs.Sections.{Section, IsAmong, IsOfJobs, MovesThenRest, work_of}
 use Rattle.pot_shared.specs.declared.member.Logged.{Logged}
 use Rattle.pot_shared.specs.Members.{entries_of}
-use Rattle.pot_shared.specs.Works.{of_job, Known, JobWorked, section_of}
+use Rattle.pot_shared.specs.Works.{of_job, Known, JobWroteOnly, section_of}
 use Rattle.pot_commands.specs.Rows.{AreReplies, Row}
-use Rattle.pot_shared.specs.Going.{AllSole}
+use Rattle.pot_shared.specs.Going.{AllOnlyWriters}
 use Rattle.pot_commands.proofs.NoMoves.{begins_none}
 
 among_one : (job k : ℕ) → (k == job) ≡ true → IsAmong job 1 k
@@ -38,7 +38,7 @@ index_entry_of job [] all (z ∷ x) y e at = absurd (cc at)
 index_entry_of job (l ∷ ls) all [] y e at = let head : l ≡ e = cc at in ap (index.is_of job) (sym head) ∙ all 0 l refl
 index_entry_of job (l ∷ ls) all (z ∷ x) y e at = index_entry_of job ls (λ i f is. all (suc i) f is) x y e (cc at)
 
-pub its_jobs : (job : ℕ) (old new : Known) → JobWorked job old new → AllSole old new → IsOfJobs job 1 (section_of old new)
+pub its_jobs : (job : ℕ) (old new : Known) → JobWroteOnly job old new → AllOnlyWriters old new → IsOfJobs job 1 (section_of old new)
 its_jobs job old new worked sole = record {
   groups = λ g x y e at.
       let v = view_at old.groups g in
@@ -58,16 +58,16 @@ own_all job (e ∷ es) each =
     rw here (ap (λ l. e ∷ l) (own_all job es (λ x y f at. each (e ∷ x) y f (ap (λ l. e ∷ l) at))))
 
 -- the table of replies for a command that began no move
-row_of : (s : Setting) (job : ℕ) (c : Command) (rs : List Reply) (w : Section) (h : Halves w) → ((from to : ℕ) → c ≡ commands.Migrate from to → ⊥) → ((g : ℕ) → own job (h.begun g) ≡ []) → IsOfJobs job 1 (work_of w h)
+row_of : (s : Setting) (job : ℕ) (c : Command) (rs : List Reply) (w : Section) (h : MovesThenRest w) → ((from to : ℕ) → c ≡ commands.Migrate from to → ⊥) → ((g : ℕ) → own job (h.begun g) ≡ []) → IsOfJobs job 1 (work_of w h)
     → AreReplies s job c rs (work_of w h) → Row s job c rs w h
 row_of s job (commands.Replace from to) (r ∷ []) w h ne none its row = (none, row its)
 row_of s job (commands.Migrate from to) rs w h ne none its row = absurd (ne from to refl)
 row_of s job _ _ w h ne none its row = (none, row)
 
 -- it is judged on all that it added
-began_none : (s : Setting) (job : ℕ) (c : Command) (rs : List Reply) (w : Section) → ((from to : ℕ) → c ≡ commands.Migrate from to → ⊥) → IsOfJobs job 1 w → AreReplies s job c rs w → (h : Halves w) × Row s job c rs w h
+began_none : (s : Setting) (job : ℕ) (c : Command) (rs : List Reply) (w : Section) → ((from to : ℕ) → c ≡ commands.Migrate from to → ⊥) → IsOfJobs job 1 w → AreReplies s job c rs w → (h : MovesThenRest w) × Row s job c rs w h
 began_none s job c rs w ne its row =
-    let h : Halves w = record {
+    let h : MovesThenRest w = record {
       begun = λ g. [];
       worked = w.added;
       parts = λ g. refl;
@@ -80,7 +80,7 @@ began_none s job c rs w ne its row =
     (h, row_of s job c rs w h ne (λ g. refl) (subst (λ (x : Section). IsOfJobs job 1 x) (sym whole) its) (subst (λ (x : Section). AreReplies s job c rs x) (sym whole) row))
 
 -- a command that has its replies is judged by the table
-pub judged : (s : Setting) (job : ℕ) (c : Command) (rs : List Reply) (w : Section) → IsOfJobs job 1 w → AreReplies s job c rs w → (h : Halves w) × Row s job c rs w h
+pub judged : (s : Setting) (job : ℕ) (c : Command) (rs : List Reply) (w : Section) → IsOfJobs job 1 w → AreReplies s job c rs w → (h : MovesThenRest w) × Row s job c rs w h
 judged s job (commands.Migrate from to) (r ∷ []) w its row = row its
 judged s job (commands.Store name file) rs w its row = began_none s job (commands.Store name file) rs w (λ a b e. cc e) its row
 judged s job (commands.Fetch name) rs w its row = began_none s job (commands.Fetch name) rs w (λ a b e. cc e) its row

@@ -5,7 +5,7 @@ use Rattle.std.specs.List.{AllByRecursion}
 use Rattle.std.proofs.lemmas.Grind.{flat_map-append}
 use Rattle.std.proofs.lemmas.List.{take-append-drop}
 use lib.Seq.{drop-length}
-use Rattle.pot_outside.specs.Accounts.{met_by}
+use Rattle.pot_outside.specs.Accounts.{transition_by}
 use Rattle.pot_bytes.specs.declared.rack.Rack.{Rack}
 use Rattle.pot_turn.specs.declared.name.TurnName.{TurnName}
 use Rattle.pot_rows.specs.Rows.{HasMoreParts}
@@ -25,10 +25,10 @@ use Rattle.pot_commands.specs.declared.working.Ending.TheVariants as ending
 use Rattle.pot_commands.specs.Ones.{OneEnds}
 use Rattle.pot_commands.specs.Steps.{step_of, steps_of, StepGives, StepLeaves, StepHalts}
 use Rattle.pot_commands.specs.Ends.{next_job, texts_of, any_refusal, AreReplied, Ends}
-use Rattle.pot_shared.specs.Going.{AllStay, AllWent}
+use Rattle.pot_shared.specs.Going.{AllStay, AllExtend}
 use Rattle.pot_shared.specs.Hands.{times}
 use Rattle.pot_commands.specs.Taking.{Took, asks_in, asked_by}
-use Rattle.pot_outside.specs.Rooms.{Lending}
+use Rattle.pot_outside.specs.Rooms.{RoomState}
 use Rattle.pot_commands.proofs.AnswerLemmas.{stayed_worked}
 use Rattle.pot_commands.proofs.Going.{filled_stays, work_all_went, went_more, stays_more}
 use Rattle.pot_commands.proofs.TakingLemmas.{took_none, took_more, took_wider}
@@ -91,9 +91,9 @@ refusal_append (r ∷ rs) its = ap (λ b. is_refusal r || b) (refusal_append rs 
 
 -- THE STEPS SO FAR
 
-pub record IsWorking (told : Bool) (tells : Type 0) (rack : Rack) (seed : List ℕ) (session : ℕ) (before now : List ℕ) (ss : List Step) (n job : ℕ) (refused : Bool) (lent lends : Lending) (old mid : Known) : Type 0 where
+pub record IsWorking (told : Bool) (tells : Type 0) (rack : Rack) (seed : List ℕ) (session : ℕ) (before now : List ℕ) (ss : List Step) (n job : ℕ) (refused : Bool) (lent lends : RoomState) (old mid : Known) : Type 0 where
   pub number : job ≡ next_job (take n ss)
-  pub went : AllWent old mid
+  pub went : AllExtend old mid
   pub stays : AllStay old mid
   pub took : Took tells (Unit {0}) (asked_by (take n ss)) lent lends old mid
   pub filled : HasFilled rack mid
@@ -102,7 +102,7 @@ pub record IsWorking (told : Bool) (tells : Type 0) (rack : Rack) (seed : List �
   pub refusal : refused ≡ any_refusal replies
   pub written : IsTrue told → now ≡ before ++ texts_of replies
 
-pub begins_working : (told : Bool) (tells : Type 0) (rack : Rack) (seed : List ℕ) (session : ℕ) (before : List ℕ) (ss : List Step) (lent : Lending) (names turn : List TurnName) (row : GroupPasses) (i : IndexPasses)
+pub begins_working : (told : Bool) (tells : Type 0) (rack : Rack) (seed : List ℕ) (session : ℕ) (before : List ℕ) (ss : List Step) (lent : RoomState) (names turn : List TurnName) (row : GroupPasses) (i : IndexPasses)
     → AreReady rack names row → IsIndexReady rack names turn i → HasFilled rack (known row i) → IsWorking told tells rack seed session before before ss 0 1 false lent lent (known row i) (known row i)
 begins_working told tells rack seed session before ss lent names turn row i ready index_ready filled = record {
   number = refl;
@@ -116,9 +116,9 @@ begins_working told tells rack seed session before ss lent names turn row i read
   written = λ t. sym (append-nil before);
 }
 
-module _ (told : Bool) (tells : Type 0) (rack : Rack) (seed : List ℕ) (session : ℕ) (before now : List ℕ) (ss : List Step) (n job : ℕ) (refused : Bool) (lent lends then : Lending) (old mid new : Known)
+module _ (told : Bool) (tells : Type 0) (rack : Rack) (seed : List ℕ) (session : ℕ) (before now : List ℕ) (ss : List Step) (n job : ℕ) (refused : Bool) (lent lends then : RoomState) (old mid new : Known)
     (so : IsWorking told tells rack seed session before now ss n job refused lent lends old mid) (d : Step) (within : n < length ss) (is : d ≡ slice_index_or ss n d)
-    (went : AllWent mid new) (stays : AllStay mid new) where
+    (went : AllExtend mid new) (stays : AllStay mid new) where
   abbrev first : List Step
   first = take n ss ++ d ∷ []
 
@@ -128,7 +128,7 @@ module _ (told : Bool) (tells : Type 0) (rack : Rack) (seed : List ℕ) (session
   whole : ss ≡ first ++ drop (suc n) ss
   whole = sym (take-append-drop (suc n) ss) ∙ ap (λ l. l ++ drop (suc n) ss) (take_more ss n d within is)
 
-  pub new_went : AllWent old new
+  pub new_went : AllExtend old new
   new_went = went_more old mid new so.went went
 
   pub new_stays : AllStay old new
@@ -153,7 +153,7 @@ module _ (told : Bool) (tells : Type 0) (rack : Rack) (seed : List ℕ) (session
       let cut = times-append k (asked_by (take (n + 1) ss)) (asked_by (drop (n + 1) ss)) in omega (arith, a, b, cut)))
       from (next_took well took)
 
-  pub working_more : (after : List ℕ) (some : Bool) (well : Type 0) → well → Took tells well (asks_in d) lends then mid new → OneEnds rack seed session job (step_of d) mid new (met_by told now after) (Ok some)
+  pub working_more : (after : List ℕ) (some : Bool) (well : Type 0) → well → Took tells well (asks_in d) lends then mid new → OneEnds rack seed session job (step_of d) mid new (transition_by told now after) (Ok some)
       → (after_job : ℕ) → after_job ≡ job + jobs_in (step_of d) → IsWorking told tells rack seed session before after ss (n + 1) after_job (refused || some) lent then old new
   working_more after some well is_well took (its, gives, refuses, writes) after_job next = record {
     number = next ∙ (ap (λ j. j + jobs_in (step_of d)) so.number ∙ (sym (jobs_more (take n ss) d) ∙ ap next_job (sym one_more)));
@@ -167,7 +167,7 @@ module _ (told : Bool) (tells : Type 0) (rack : Rack) (seed : List ℕ) (session
     written = λ t. writes t ∙ (ap (λ l. l ++ texts_of its) (so.written t) ∙ (append_assoc before (texts_of so.replies) (texts_of its) ∙ ap (λ l. before ++ l) (sym (texts_append so.replies its))));
   }
 
-  left_short : (after : List ℕ) → StepLeaves rack seed session job (step_of d) mid new → (IsTrue told → after ≡ now) → Ends rack seed session (met_by told before after) ss old new ending.NoMemory
+  left_short : (after : List ℕ) → StepLeaves rack seed session job (step_of d) mid new → (IsTrue told → after ≡ now) → Ends rack seed session (transition_by told before after) ss old new ending.NoMemory
   left_short after leaves writes = record {
     first = take n ss;
     next = d;
@@ -178,7 +178,7 @@ module _ (told : Bool) (tells : Type 0) (rack : Rack) (seed : List ℕ) (session
     written = λ t. writes t ∙ so.written t;
   }
 
-  halted_short : (after : List ℕ) → StepHalts rack seed session job (step_of d) mid new → (IsTrue told → after ≡ now) → Ends rack seed session (met_by told before after) ss old new ending.RoomFailed
+  halted_short : (after : List ℕ) → StepHalts rack seed session job (step_of d) mid new → (IsTrue told → after ≡ now) → Ends rack seed session (transition_by told before after) ss old new ending.RoomFailed
   halted_short after halts writes = record {
     first = take n ss;
     next = d;
@@ -189,7 +189,7 @@ module _ (told : Bool) (tells : Type 0) (rack : Rack) (seed : List ℕ) (session
     written = λ t. writes t ∙ so.written t;
   }
 
-  pub working_ends : (after : List ℕ) (end : Ending) → OneEnds rack seed session job (step_of d) mid new (met_by told now after) (Err end) → Ends rack seed session (met_by told before after) ss old new end
+  pub working_ends : (after : List ℕ) (end : Ending) → OneEnds rack seed session job (step_of d) mid new (transition_by told now after) (Err end) → Ends rack seed session (transition_by told before after) ss old new end
   working_ends after ending.SinkFailed (its, gives, writes) = record {
     first = take n ss;
     next = d;
@@ -211,13 +211,13 @@ module _ (told : Bool) (tells : Type 0) (rack : Rack) (seed : List ℕ) (session
   working_ends after (ending.Done refused) none = absurd none
 
 -- all steps were worked
-pub all_took : (told : Bool) (tells well : Type 0) (rack : Rack) (seed : List ℕ) (session : ℕ) (before now : List ℕ) (ss : List Step) (n job : ℕ) (refused : Bool) (lent lends : Lending) (old new : Known)
+pub all_took : (told : Bool) (tells well : Type 0) (rack : Rack) (seed : List ℕ) (session : ℕ) (before now : List ℕ) (ss : List Step) (n job : ℕ) (refused : Bool) (lent lends : RoomState) (old new : Known)
     → IsWorking told tells rack seed session before now ss n job refused lent lends old new → take n ss ≡ ss → Took tells well (asked_by ss) lent lends old new
 all_took told tells well rack seed session before now ss n job refused lent lends old new so all =
     took_wider tells (Unit {0}) well (asked_by (take n ss)) (asked_by ss) lent lends old new (λ k. (let e = ap (λ ds. times k (asked_by ds)) all in omega (arith, e))) (λ w. tt) so.took
 
-pub ends_well : (told : Bool) (tells : Type 0) (rack : Rack) (seed : List ℕ) (session : ℕ) (before now : List ℕ) (ss : List Step) (n job : ℕ) (refused : Bool) (lent lends : Lending) (old new : Known)
-    → IsWorking told tells rack seed session before now ss n job refused lent lends old new → take n ss ≡ ss → Ends rack seed session (met_by told before now) ss old new (ending.Done refused)
+pub ends_well : (told : Bool) (tells : Type 0) (rack : Rack) (seed : List ℕ) (session : ℕ) (before now : List ℕ) (ss : List Step) (n job : ℕ) (refused : Bool) (lent lends : RoomState) (old new : Known)
+    → IsWorking told tells rack seed session before now ss n job refused lent lends old new → take n ss ≡ ss → Ends rack seed session (transition_by told before now) ss old new (ending.Done refused)
 ends_well told tells rack seed session before now ss n job refused lent lends old new so all = record {
   replies = so.replies;
   replied = subst (λ ds. AreReplied rack seed session ds so.replies old new) all so.replied;

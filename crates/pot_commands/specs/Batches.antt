@@ -14,13 +14,13 @@ use Rattle.pot_shared.specs.declared.catalog.CatalogOrigin.{CatalogOrigin}
 use Rattle.pot_shared.specs.declared.member.Logged.{Logged}
 use Rattle.pot_shared.specs.declared.member.GroupOrigin.{GroupOrigin}
 use Rattle.pot_replies.specs.Settings.{Setting}
-use Rattle.pot_replies.specs.Sections.{Section, Halves, Follows, IsOfJobs, Widens}
+use Rattle.pot_replies.specs.Sections.{Section, MovesThenRest, Follows, IsOfJobs, Widens}
 use Rattle.pot_replies.specs.Sessions.{Rows}
-use Rattle.pot_shared.specs.Works.{Known, JobWorked, JobAlone, section_of, gained}
+use Rattle.pot_shared.specs.Works.{Known, JobWroteOnly, JobOnlyWriter, section_of, gained}
 use Rattle.pot_commands.specs.declared.beginning.Task.{Task}
 use Rattle.pot_commands.specs.Rows.{IsSessionSetting, Row}
 use Rattle.pot_commands.specs.Begun.{HasTask, HaveBegun}
-use Rattle.pot_shared.specs.Going.{AllSole}
+use Rattle.pot_shared.specs.Going.{AllOnlyWriters}
 use Rattle.pot_commands.specs.Steps.{AreLinesLeft}
 use Rattle.pot_commands.specs.Jobs.{Says, reply_in, has_reply}
 
@@ -60,7 +60,7 @@ pub record IsLine (start : Known) (c : Line) : Type 0 where
   pub names : c.given.groups.names ≡ start.groups.names
   pub origin : (at : ℕ) → (view_at c.given.groups at).origin ≡ (view_at start.groups at).origin
   pub index_origin : (at : ℕ) → (view_at c.given.index at).origin ≡ (view_at start.index at).origin
-  pub worked : JobWorked c.job c.given c.done
+  pub worked : JobWroteOnly c.job c.given c.done
 
 -- each job so, their numbers from this one on
 abbrev pub AreLines : Known → ℕ → List Line → Type 0
@@ -72,7 +72,7 @@ AreLines start from (c ∷ cs) = (c.job ≡ from) × IsLine start c × AreLines 
 abbrev pub SaysIts : Rack → List ℕ → ℕ → Line → Type 0
 SaysIts rack seed session c =
     HasTask rack c.line c.task
-    × (JobAlone c.job c.given c.done → (s : Setting) → IsSessionSetting s rack seed session c.given
+    × (JobOnlyWriter c.job c.given c.done → (s : Setting) → IsSessionSetting s rack seed session c.given
     → Says s c.job c.line c.task c.answer (section_of c.given c.done))
 
 abbrev pub AllSay : Rack → List ℕ → ℕ → List Line → Type 0
@@ -100,7 +100,7 @@ have_replies (c ∷ cs) = has_reply c.answer && have_replies cs
 
 -- no archive came to a group, if nobody else logged anything
 abbrev pub BringsNone : Known → Known → Type 0
-BringsNone old new = AllSole old new → (g : ℕ) → arrivals (gained old.groups new.groups g) ≡ []
+BringsNone old new = AllOnlyWriters old new → (g : ℕ) → arrivals (gained old.groups new.groups g) ≡ []
 
 -- LAWS
 
@@ -108,9 +108,9 @@ BringsNone old new = AllSole old new → (g : ℕ) → arrivals (gained old.grou
 -- others.
 abbrev pub JobsWiden : Type 0
 JobsWiden =
-    (v x : Known) (from : ℕ) (cs : List Line) → AreLines v from cs → KnownJoins v cs x → AllSole v x
+    (v x : Known) (from : ℕ) (cs : List Line) → AreLines v from cs → KnownJoins v cs x → AllOnlyWriters v x
     → (c : Line) → IsAmongLines c cs
-    → JobAlone c.job c.given c.done × Widens c.job (section_of c.given c.done) (section_of v x)
+    → JobOnlyWriter c.job c.given c.done × Widens c.job (section_of c.given c.done) (section_of v x)
 
 -- an answer to a line of a batch stands when others log more
 abbrev pub AnswersWiden : Type 0
@@ -125,19 +125,19 @@ abbrev pub BatchGives : Type 0
 BatchGives =
     (rack : Rack) (seed : List ℕ) (session : ℕ) (v x : Known) (from : ℕ) (cs : List Line)
     → AreLines v from cs → KnownJoins v cs x → AllSay rack seed session cs → have_replies cs ≡ true
-    → AllSole v x → (s : Setting) → IsSessionSetting s rack seed session v
+    → AllOnlyWriters v x → (s : Setting) → IsSessionSetting s rack seed session v
     → (moves whole : Section) → HaveBegun s from (lines_of cs) (tasks_of cs) moves
     → Follows moves (section_of v x) whole
     → IsOfJobs from (length (lines_of cs)) whole
-    × ((h : Halves whole) × Rows (Row s) from (lines_of cs) (replies_of cs) whole h)
+    × ((h : MovesThenRest whole) × Rows (Row s) from (lines_of cs) (replies_of cs) whole h)
 
 -- and where some line has none, they were left
 abbrev pub BatchLeaves : Type 0
 BatchLeaves =
     (rack : Rack) (seed : List ℕ) (session : ℕ) (v x : Known) (from : ℕ) (cs : List Line)
     → AreLines v from cs → KnownJoins v cs x → AllSay rack seed session cs
-    → AllSole v x → (s : Setting) → IsSessionSetting s rack seed session v
+    → AllOnlyWriters v x → (s : Setting) → IsSessionSetting s rack seed session v
     → (moves whole : Section) → HaveBegun s from (lines_of cs) (tasks_of cs) moves
     → Follows moves (section_of v x) whole
     → IsOfJobs from (length (lines_of cs)) whole
-    × ((h : Halves whole) × AreLinesLeft s from (lines_of cs) whole h)
+    × ((h : MovesThenRest whole) × AreLinesLeft s from (lines_of cs) whole h)

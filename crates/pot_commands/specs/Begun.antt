@@ -15,7 +15,7 @@ use Rattle.pot_shared.specs.Works.{Known, IsSettingOf, section_of}
 use Rattle.pot_commands.specs.declared.beginning.Task.{Task}
 use Rattle.pot_commands.specs.declared.beginning.Task.TheVariants as task
 use Rattle.pot_commands.specs.Arriving.{HasBegun, IsUnbegun}
-use Rattle.pot_shared.specs.Going.{AllSole, AllStay, AllWent}
+use Rattle.pot_shared.specs.Going.{AllOnlyWriters, AllStay, AllExtend}
 use Rattle.pot_commands.specs.Steps.{IsStill}
 
 -- what the job of a line can have to do: a `migrate` goes on with a move of a column that there is,
@@ -72,7 +72,7 @@ pub record HaveBegun (s : Setting) (from : ℕ) (lines : List Command) (tasks : 
 pub record AreMovesBegun (rack : Rack) (from : ℕ) (lines : List Command) (tasks : List Task)
     (old new : Known) : Type 0 where
   pub few : length tasks ≤ length lines
-  pub went : AllWent old new
+  pub went : AllExtend old new
   pub stays : AllStay old new
-  pub begun : AllSole old new → (s : Setting) → IsSettingOf s rack old
+  pub begun : AllOnlyWriters old new → (s : Setting) → IsSettingOf s rack old
       → HaveBegun s from lines tasks (section_of old new)

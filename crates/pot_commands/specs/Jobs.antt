@@ -13,7 +13,7 @@ use Rattle.pot_mend.specs.declared.fault.MendFault.{MendFault}
 use Rattle.pot_mend.specs.declared.checking.MoveAt.{MoveAt}
 use Rattle.pot_replies.specs.Settings.{Setting}
 use Rattle.pot_replies.specs.Sections.{Section, mine, IsSilent}
-use Rattle.pot_shared.specs.Works.{Known, JobWorked, JobAlone, section_of}
+use Rattle.pot_shared.specs.Works.{Known, JobWroteOnly, JobOnlyWriter, section_of}
 use Rattle.pot_commands.specs.declared.beginning.Task.{Task}
 use Rattle.pot_commands.specs.declared.beginning.Task.TheVariants as task
 use Rattle.pot_commands.specs.Arriving.{move_reply}
@@ -84,8 +84,8 @@ pub record Did (j k : JobView) : Type 0 where
   pub number : k.job ≡ j.job
   pub line : k.line ≡ j.line
   pub passes : CanCall k.common.vault k.passes
-  pub worked : JobWorked j.job j.passes k.passes
-  pub says : JobAlone j.job j.passes k.passes → (s : Setting)
+  pub worked : JobWroteOnly j.job j.passes k.passes
+  pub says : JobOnlyWriter j.job j.passes k.passes → (s : Setting)
       → IsSessionSetting s j.common.vault.rack j.common.seed j.common.session j.passes
       → Says s j.job j.line j.task k.answer (section_of j.passes k.passes)
 

@@ -11,13 +11,13 @@ use Rattle.pot_script.specs.declared.grouping.Step.TheVariants as steps
 use Rattle.pot_script.specs.declared.reply.Reply.{Reply}
 use Rattle.pot_replies.specs.Settings.{Setting}
 use Rattle.pot_replies.specs.Moves.{BeganNone, Begins, BeganElsewhere}
-use Rattle.pot_replies.specs.Sections.{Section, Halves, mine, IsEmpty, IsOfJobs, IsSilent, work_of}
+use Rattle.pot_replies.specs.Sections.{Section, MovesThenRest, mine, IsEmpty, IsOfJobs, IsSilent, work_of}
 use Rattle.pot_replies.specs.Sessions.{Step, One, Together, Answered, jobs_in}
 use Rattle.pot_shared.specs.Works.{Known, section_of}
 use Rattle.pot_commands.specs.declared.arriving.Unanswered.{Unanswered}
 use Rattle.pot_commands.specs.declared.arriving.Unanswered.TheVariants as unanswered
 use Rattle.pot_commands.specs.Rows.{IsSessionSetting, Row, IsIdle, IsSingle, IsWorked}
-use Rattle.pot_shared.specs.Going.{AllSole}
+use Rattle.pot_shared.specs.Going.{AllOnlyWriters}
 
 -- a step of a script as a step of a session
 abbrev pub step_of : script.Step → Step Command
@@ -48,7 +48,7 @@ IsWorkedStep groups (steps.Together lines) =
 
 -- A line of a batch without a reply. A `migrate` began no move, or began that of its column or
 -- found it begun; and its job logged nothing else.
-abbrev pub IsLineIdle : Setting → ℕ → Command → (w : Section) → Halves w → Type 0
+abbrev pub IsLineIdle : Setting → ℕ → Command → (w : Section) → MovesThenRest w → Type 0
 IsLineIdle s job (commands.Migrate from to) w h =
     (BeganNone s w.before h.begun job from to
     ⊎ ((g : ℕ) × (c : ℕ) × Begins s w.before h.begun job from to g c
@@ -57,10 +57,10 @@ IsLineIdle s job (commands.Migrate from to) w h =
 IsLineIdle s job c w h = ((g : ℕ) → own job (h.begun g) ≡ []) × IsIdle s job c (work_of w h)
 
 -- A line of a batch that ended early: it has a reply which was not written, or has none.
-abbrev pub IsLineLeft : Setting → ℕ → Command → (w : Section) → Halves w → Type 0
+abbrev pub IsLineLeft : Setting → ℕ → Command → (w : Section) → MovesThenRest w → Type 0
 IsLineLeft s job c w h = ((r : Reply) × Row s job c (r ∷ []) w h) ⊎ IsLineIdle s job c w h
 
-abbrev pub AreLinesLeft : Setting → ℕ → List Command → (w : Section) → Halves w → Type 0
+abbrev pub AreLinesLeft : Setting → ℕ → List Command → (w : Section) → MovesThenRest w → Type 0
 AreLinesLeft s job [] w h = Unit {0}
 AreLinesLeft s job (c ∷ cs) w h = IsLineLeft s job c w h × AreLinesLeft s (suc job) cs w h
 
@@ -68,15 +68,15 @@ AreLinesLeft s job (c ∷ cs) w h = IsLineLeft s job c w h × AreLinesLeft s (su
 -- for want of memory
 abbrev pub IsStepLeft : Setting → ℕ → Step Command → Section → Type 0
 IsStepLeft s job (One c) w =
-    IsIdle s job c w ⊎ ((rs : List Reply) × (h : Halves w) × Row s job c rs w h)
-IsStepLeft s job (Together lines) w = (h : Halves w) × AreLinesLeft s job lines w h
+    IsIdle s job c w ⊎ ((rs : List Reply) × (h : MovesThenRest w) × Row s job c rs w h)
+IsStepLeft s job (Together lines) w = (h : MovesThenRest w) × AreLinesLeft s job lines w h
 
 -- a step at which the room failed: of a batch no line was worked, and all that was logged are the
 -- moves that began
 abbrev pub IsStepHalted : Setting → ℕ → Step Command → Section → Type 0
 IsStepHalted s job (One c) w = IsIdle s job c w
 IsStepHalted s job (Together lines) w =
-    (h : Halves w) × AreLinesLeft s job lines w h × IsEmpty (work_of w h)
+    (h : MovesThenRest w) × AreLinesLeft s job lines w h × IsEmpty (work_of w h)
 
 -- WHERE NOBODY ELSE LOGGED ANYTHING
 
@@ -85,21 +85,21 @@ module _ (rack : Rack) (seed : List ℕ) (session job : ℕ) (step : Step Comman
     -- what was logged is of the step's jobs alone, and gives these replies
     abbrev pub StepGives : List Reply → Type 0
     StepGives rs =
-        AllSole old new → (s : Setting) → IsSessionSetting s rack seed session old
+        AllOnlyWriters old new → (s : Setting) → IsSessionSetting s rack seed session old
         → IsOfJobs job (jobs_in step) (section_of old new)
-        × ((h : Halves (section_of old new)) × Answered (Row s) job step rs (section_of old new) h)
+        × ((h : MovesThenRest (section_of old new)) × Answered (Row s) job step rs (section_of old new) h)
 
     -- what was logged is of the step's jobs alone, and the step was left
     abbrev pub StepLeaves : Type 0
     StepLeaves =
-        AllSole old new → (s : Setting) → IsSessionSetting s rack seed session old
+        AllOnlyWriters old new → (s : Setting) → IsSessionSetting s rack seed session old
         → IsOfJobs job (jobs_in step) (section_of old new)
         × IsStepLeft s job step (section_of old new)
 
     -- what was logged is of the step's jobs alone, and the room failed at the step
     abbrev pub StepHalts : Type 0
     StepHalts =
-        AllSole old new → (s : Setting) → IsSessionSetting s rack seed session old
+        AllOnlyWriters old new → (s : Setting) → IsSessionSetting s rack seed session old
         → IsOfJobs job (jobs_in step) (section_of old new)
         × IsStepHalted s job step (section_of old new)
 

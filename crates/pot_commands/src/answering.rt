@@ -6,7 +6,7 @@ ghost use Rattle.pot_outside.specs.Counts.{Caused};
 ghost use Rattle.pot_rows.specs.Rows.{HasMoreParts};
 ghost use Rattle.pot_replies.specs.Settings.{Setting};
 ghost use Rattle.pot_replies.specs.Sections.{Section, mine, IsSilent};
-ghost use Rattle.pot_shared.specs.Works.{JobWorked, JobAlone, section_of};
+ghost use Rattle.pot_shared.specs.Works.{JobWroteOnly, JobOnlyWriter, section_of};
 ghost use Rattle.pot_store.specs.Stores.{StoreRow};
 ghost use Rattle.pot_store.specs.Fetches.{FetchRow, IsUnfinished};
 ghost use Rattle.pot_store.specs.Stored.{FetchGives};
@@ -39,7 +39,7 @@ use std::sync::Wait;
 /// The first of the numbers whose streams new splits are drawn from: the job's number is added.
 const RENEWING: u32 = 0x8000_0000;
 
-/// The reply to a store, by its answer. `Strange` has none, and comes only where another pass logged an entry of the job.
+/// The reply to a store, by its answer. `ReservationLost` has none, and comes only where another pass logged an entry of the job.
 fn store_reply(name: &Name, answer: Result<Stored, StoreFault>) -> Result<Reply, NoMemory>
     ensures { (s : Setting) → (job : ℕ) → (file : List ℕ) → (w : Section)
         → StoreRow s job name.now file answer w
@@ -59,7 +59,7 @@ fn store_reply(name: &Name, answer: Result<Stored, StoreFault>) -> Result<Reply,
         Err(StoreFault::Full { group }) => Ok(Reply::Full { group }),
         Err(StoreFault::Faulted { group, column }) => Ok(Reply::Fault { group, column }),
         Err(StoreFault::LogFull { group }) => Ok(Reply::LogFull { group }),
-        Err(StoreFault::Strange { at: _ }) => Err(NoMemory),
+        Err(StoreFault::ReservationLost { at: _ }) => Err(NoMemory),
         Err(StoreFault::NoMemory) => Err(NoMemory),
     }
 }
@@ -191,12 +191,12 @@ pub(crate) fn answer_one<A: Archive, X: Wait>(
     requires job { (0 < job) × (job < 2 ^ 31) }
     requires single { IsSingle shared.now.vault.now.rack.groups command.now }
     ensures can { CanCall shared.now.vault.now passes.new }
-    ensures worked { JobWorked job passes.old passes.new }
+    ensures worked { JobWroteOnly job passes.old passes.new }
     ensures blinds { HasBlinds (IsTrue A.account.tells) (common_of shared.now) job command.now
         passes.old.groups passes.new.groups }
     ensures says { let old = passes.old in let new = passes.new in
         let w = section_of old new in
-        JobAlone job old new → (s : Setting)
+        JobOnlyWriter job old new → (s : Setting)
         → IsSessionSetting s shared.now.vault.now.rack shared.now.seed.now shared.now.session old
         → MatchResult result (λ reply. AreReplies s job command.now (reply ∷ []) w)
         (λ e. IsIdle s job command.now w) }
@@ -260,12 +260,12 @@ fn answer_plain<A: Archive, X: Wait>(
     requires job { (0 < job) × (job < 2 ^ 31) }
     requires plain { IsPlain shared.now.vault.now.rack.groups command.now }
     ensures can { CanCall shared.now.vault.now passes.new }
-    ensures worked { JobWorked job passes.old passes.new }
+    ensures worked { JobWroteOnly job passes.old passes.new }
     ensures blinds { HasBlinds (IsTrue A.account.tells) (common_of shared.now) job command.now
         passes.old.groups passes.new.groups }
     ensures says { let old = passes.old in let new = passes.new in
         let w = section_of old new in
-        JobAlone job old new → (s : Setting)
+        JobOnlyWriter job old new → (s : Setting)
         → IsSessionSetting s shared.now.vault.now.rack shared.now.seed.now shared.now.session old
         → MatchResult result (λ replies. AreReplies s job command.now replies.items w)
         (λ e. IsIdle s job command.now w) }
@@ -300,12 +300,12 @@ pub(crate) fn answer<R: Room, X: Wait>(
     requires filled { HasFilled shared.now.vault.now.rack passes.old }
     requires used { AreUsed (R.meaning room.old) passes.old.groups }
     ensures can { CanCall shared.now.vault.now passes.new }
-    ensures worked { JobWorked job passes.old passes.new }
+    ensures worked { JobWroteOnly job passes.old passes.new }
     ensures blinds { HasBlinds (IsTrue R.A.account.tells) (common_of shared.now) job command.now
         passes.old.groups passes.new.groups }
     ensures says { let old = passes.old in let new = passes.new in
         let w = section_of old new in
-        JobAlone job old new → (s : Setting)
+        JobOnlyWriter job old new → (s : Setting)
         → IsSessionSetting s shared.now.vault.now.rack shared.now.seed.now shared.now.session old
         → MatchResult result (λ replies. AreReplies s job command.now replies.items w)
         (λ e. IsIdle s job command.now w) }

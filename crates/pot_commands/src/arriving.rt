@@ -6,7 +6,7 @@ ghost use Rattle.pot_outside.specs.Archives.{IsMeant};
 ghost use Rattle.pot_outside.specs.Counts.{Caused};
 ghost use Rattle.pot_replies.specs.Settings.{Setting};
 ghost use Rattle.pot_replies.specs.Sections.{mine, IsOfJobs, IsSilent};
-ghost use Rattle.pot_shared.specs.Works.{JobWorked, JobAlone, IsSettingOf, section_of};
+ghost use Rattle.pot_shared.specs.Works.{JobWroteOnly, JobOnlyWriter, IsSettingOf, section_of};
 ghost use Rattle.pot_shared.specs.Callers.{CanCall};
 ghost use Rattle.pot_commands.specs.Failures.{Fails};
 ghost use Rattle.pot_commands.specs.Arriving.{HandsBack, use_reply};
@@ -47,10 +47,10 @@ pub(crate) fn replace_archive<R: Room, X: Wait>(
     requires used { AreUsed (R.meaning room.old) passes.old.groups }
     ensures can { CanCall shared.now.vault.now passes.new }
     ensures index { passes.new.index ≡ passes.old.index }
-    ensures worked { JobWorked job passes.old passes.new }
+    ensures worked { JobWroteOnly job passes.old passes.new }
     ensures says { let old = passes.old in let new = passes.new in
         let w = section_of old new in
-        JobAlone job old new → (s : Setting) → IsSettingOf s shared.now.vault.now.rack old
+        JobOnlyWriter job old new → (s : Setting) → IsSettingOf s shared.now.vault.now.rack old
         → MatchResult result
         (λ reply. IsOfJobs job 1 w → IsReplaceReply s job from to reply (mine job w))
         (λ e. IsSilent (mine job w)) }

@@ -13,7 +13,7 @@ ghost use Rattle.pot_replies.specs.Sessions.{Together};
 ghost use Rattle.pot_shared.specs.Works.{Known};
 ghost use Rattle.pot_work.specs.Works.{AreWorked};
 ghost use Rattle.pot_commands.specs.Rows.{HasFilled};
-ghost use Rattle.pot_shared.specs.Going.{AllWent, AllStay};
+ghost use Rattle.pot_shared.specs.Going.{AllExtend, AllStay};
 ghost use Rattle.pot_commands.specs.Failures.{Fails};
 ghost use Rattle.pot_commands.specs.Steps.{IsBatched, StepGives, StepLeaves, StepStops};
 ghost use Rattle.pot_commands.specs.Begun.{HaveTasks, AreMovesBegun};
@@ -156,7 +156,7 @@ fn work_begun<A: Archive + Send, W: Gate, X: Threads + Wait + Sync>(
     requires workers { 0 < crew.now.workers }
     requires filled { HasFilled crew.now.shared.vault.now.rack passes.old }
     ensures can { CanCall crew.now.shared.vault.now passes.new }
-    ensures went { AllWent passes.old passes.new }
+    ensures went { AllExtend passes.old passes.new }
     ensures stays { AllStay passes.old passes.new }
     ensures says { let b = common_of crew.now.shared in let batch = Together lines.now in
         let old = passes.old in let new = passes.new in
@@ -206,7 +206,7 @@ pub(crate) fn answer_together<R: Room, W: Gate, X: Threads + Wait + Sync>(
     requires filled { HasFilled crew.now.shared.vault.now.rack passes.old }
     requires used { AreUsed (R.meaning room.old) passes.old.groups }
     ensures can { CanCall crew.now.shared.vault.now passes.new }
-    ensures went { AllWent passes.old passes.new }
+    ensures went { AllExtend passes.old passes.new }
     ensures stays { AllStay passes.old passes.new }
     ensures says { let b = common_of crew.now.shared in let batch = Together lines.now in
         let old = passes.old in let new = passes.new in

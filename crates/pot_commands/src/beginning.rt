@@ -5,7 +5,7 @@ ghost use Rattle.std.specs.List.{AllByRecursion};
 ghost use Rattle.pot_outside.specs.Counts.{Caused};
 ghost use Rattle.pot_replies.specs.Settings.{Setting};
 ghost use Rattle.pot_replies.specs.Sections.{mine, IsOfJobs, IsSilent};
-ghost use Rattle.pot_shared.specs.Works.{JobWorked, JobAlone, IsSettingOf, section_of};
+ghost use Rattle.pot_shared.specs.Works.{JobWroteOnly, JobOnlyWriter, IsSettingOf, section_of};
 ghost use Rattle.pot_shared.specs.Callers.{CanCall};
 ghost use Rattle.pot_commands.specs.declared.beginning.Task.{Task};
 ghost use Rattle.pot_commands.specs.Begun.{HasTask, HaveTasks, LineBegins, AreMovesBegun};
@@ -98,10 +98,10 @@ fn begin_line<R: Room, X: Wait>(
     requires used { AreUsed (R.meaning room.old) passes.old.groups }
     ensures can { CanCall shared.now.vault.now passes.new }
     ensures index { passes.new.index ≡ passes.old.index }
-    ensures worked { JobWorked job passes.old passes.new }
+    ensures worked { JobWroteOnly job passes.old passes.new }
     ensures task { IfOk result (λ t. HasTask shared.now.vault.now.rack line.now t) }
     ensures says { let old = passes.old in let new = passes.new in
-        JobAlone job old new → (s : Setting) → IsSettingOf s shared.now.vault.now.rack old
+        JobOnlyWriter job old new → (s : Setting) → IsSettingOf s shared.now.vault.now.rack old
         → MatchResult result (λ t. IsOfJobs job 1 (section_of old new)
         → LineBegins s job line.now t (section_of old new))
         (λ e. IsSilent (mine job (section_of old new))) }

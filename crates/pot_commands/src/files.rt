@@ -4,8 +4,8 @@ ghost use Rattle.pot_index.specs.Fits.{FitsGeometry};
 ghost use Rattle.pot_rows.specs.Rows.{HasMoreParts};
 ghost use Rattle.pot_replies.specs.Sections.{mine, IsSilent};
 ghost use Rattle.pot_shared.specs.Blinds.{Blinds};
-ghost use Rattle.pot_shared.specs.Callers.{CanCall, JudgedFor};
-ghost use Rattle.pot_shared.specs.Works.{JobWorked};
+ghost use Rattle.pot_shared.specs.Callers.{CanCall, IfOnlyWriterFor};
+ghost use Rattle.pot_shared.specs.Works.{JobWroteOnly};
 ghost use Rattle.pot_store.specs.Stores.{DrawsFrom, StoreRow};
 ghost use Rattle.pot_store.specs.Fetches.{AreFilled, FetchRow};
 ghost use Rattle.pot_store.specs.Stored.{FetchGives};
@@ -38,14 +38,14 @@ pub(crate) fn store<A: Archive, X: Wait>(
     requires parts { HasMoreParts 1 passes.old.groups }
     requires job { 0 < caller.now.job }
     ensures can { CanCall caller.now.vault.now passes.new }
-    ensures worked { JobWorked caller.now.job passes.old passes.new }
-    ensures says { JudgedFor caller.now passes.old passes.new
+    ensures worked { JobWroteOnly caller.now.job passes.old passes.new }
+    ensures says { IfOnlyWriterFor caller.now passes.old passes.new
         (λ s w. DrawsFrom s pads caller.now.job file.now
         → StoreRow s caller.now.job name.now file.now result w) }
 {
-    let mut session = caller.session(passes);
-    let stored = store_file(&mut session, name, file, pads);
-    *passes = session.end();
+    let mut connection = caller.connection(passes);
+    let stored = store_file(&mut connection, name, file, pads);
+    *passes = connection.end();
     stored
 }
 
@@ -63,17 +63,17 @@ pub(crate) fn fetch<A: Archive, X: Wait>(
     requires parts { HasMoreParts 1 passes.old.groups }
     requires job { 0 < caller.now.job }
     ensures can { CanCall caller.now.vault.now passes.new }
-    ensures worked { JobWorked caller.now.job passes.old passes.new }
-    ensures says { JudgedFor caller.now passes.old passes.new
+    ensures worked { JobWroteOnly caller.now.job passes.old passes.new }
+    ensures says { IfOnlyWriterFor caller.now passes.old passes.new
         (λ s w. s.mends ≡ true → AreFilled s → FetchRow s caller.now.job name.now result w) }
-    ensures stored { JudgedFor caller.now passes.old passes.new
+    ensures stored { IfOnlyWriterFor caller.now passes.old passes.new
         (λ s w. s.mends ≡ true → AreFilled s → FetchGives s caller.now.job name.now result w) }
     ensures blinds { Blinds (IsTrue A.account.tells) caller.now.job pads.old pads.new
         passes.old.groups passes.new.groups }
 {
-    let mut session = caller.session(passes);
-    let fetched = fetch_file(&mut session, name, pads);
-    *passes = session.end();
+    let mut connection = caller.connection(passes);
+    let fetched = fetch_file(&mut connection, name, pads);
+    *passes = connection.end();
     fetched
 }
 
@@ -94,16 +94,16 @@ pub(crate) fn renew<A: Archive, X: Wait>(
     requires job { 0 < caller.now.job }
     requires geometry { FitsGeometry caller.now.vault.now.rack geometry.now }
     ensures can { CanCall caller.now.vault.now passes.new }
-    ensures worked { JobWorked caller.now.job passes.old passes.new }
-    ensures says { JudgedFor caller.now passes.old passes.new
+    ensures worked { JobWroteOnly caller.now.job passes.old passes.new }
+    ensures says { IfOnlyWriterFor caller.now passes.old passes.new
         (λ s w. s.mends ≡ true → AreFilled s → RenewsFrom s pads geometry.now caller.now.job
         → RenewRow s caller.now.job name.now geometry.now result w) }
     ensures blinds { Blinds (IsTrue A.account.tells) caller.now.job blinds.old blinds.new
         passes.old.groups passes.new.groups }
 {
-    let mut session = caller.session(passes);
-    let renewed = renew_file(&mut session, name, geometry, blinds, pads);
-    *passes = session.end();
+    let mut connection = caller.connection(passes);
+    let renewed = renew_file(&mut connection, name, geometry, blinds, pads);
+    *passes = connection.end();
     renewed
 }
 
@@ -120,13 +120,13 @@ pub(crate) fn list<A: Archive, X: Wait>(
     requires job { 0 < caller.now.job }
     ensures can { CanCall caller.now.vault.now passes.new }
     ensures groups { passes.new.groups ≡ passes.old.groups }
-    ensures worked { JobWorked caller.now.job passes.old passes.new }
-    ensures says { JudgedFor caller.now passes.old passes.new
+    ensures worked { JobWroteOnly caller.now.job passes.old passes.new }
+    ensures says { IfOnlyWriterFor caller.now passes.old passes.new
         (λ s w. MatchResult result (λ reply. IsListReply s caller.now.job reply w)
         (λ e. IsSilent (mine caller.now.job w))) }
 {
-    let mut session = caller.session(passes);
-    let listed = list_names(&mut session);
-    *passes = session.end();
+    let mut connection = caller.connection(passes);
+    let listed = list_names(&mut connection);
+    *passes = connection.end();
     listed
 }

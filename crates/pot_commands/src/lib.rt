@@ -2,7 +2,7 @@
 //!
 //! It reads no script, starts no vault and closes none.
 //!
-//! 1. Each command is one job, numbered from 1, and works for that job alone (`JobWorked`).
+//! 1. Each command is one job, numbered from 1, and works for that job alone (`JobWroteOnly`).
 //! 2. Each reply is the one that the job's own entries give by the table of replies (specs/Rows.antt), if nobody else logged
 //!    anything meanwhile: who closes the vault learns that from the close.
 //! 3. An archive that a command asks for is taken from the room when the command is worked, or of a line of a batch when its move begins, and

@@ -4,7 +4,7 @@ ghost use Rattle.pot_rows.specs.Rows.{HasMoreParts};
 ghost use Rattle.pot_rows.specs.Parts.{RowCut};
 ghost use Rattle.pot_shared.specs.Sharing.{SameAt};
 ghost use Rattle.pot_replies.specs.Settings.{Setting};
-ghost use Rattle.pot_shared.specs.Works.{JobWorked, JobAlone, section_of};
+ghost use Rattle.pot_shared.specs.Works.{JobWroteOnly, JobOnlyWriter, section_of};
 ghost use Rattle.pot_commands.specs.Begun.{HasTask};
 ghost use Rattle.pot_commands.specs.Blinding.{HasBlinds};
 ghost use Rattle.pot_commands.specs.Rows.{IsSessionSetting};
@@ -20,7 +20,7 @@ use pot_bytes::NoMemory;
 use pot_mend::migrate;
 use pot_outside::Archive;
 use pot_script::{Command, Reply};
-use pot_shared::{Caller, Passes, Session};
+use pot_shared::{Caller, Connection, Passes};
 use pot_work::Job;
 use std::marker::Model;
 use std::mem::replace;
@@ -30,27 +30,27 @@ use std::sync::Wait;
 /// yet can be: its type keeps that.
 #[derive(Drop)]
 pub struct LineJob<'a, A: Archive, R> {
-    session: Session<'a, A, R>,
+    connection: Connection<'a, A, R>,
     seed: &'a [u8; 32],
-    number: u32,
+    session: u32,
     line: &'a Command,
     task: Task,
     answer: Option<Result<Reply, NoMemory>>,
 }
 
 impl<'a, A: Archive, R> Model for LineJob<'a, A, R> {
-    ghost use Rattle.pot_shared.specs.Sessions.{bound, job_of, knows};
+    ghost use Rattle.pot_shared.specs.Connections.{bound, job_of, knows};
     ghost use Rattle.pot_commands.specs.Sharing.{common};
     ghost use Rattle.pot_commands.specs.Jobs.{JobView, CanWork, job_view};
 
     ghost Value = { JobView };
 
-    ghost view = { λ j. job_view (common (bound j.session).vault j.seed.now j.number)
-        (knows j.session) (job_of j.session) j.line.now j.task j.answer };
+    ghost view = { λ j. job_view (common (bound j.connection).vault j.seed.now j.session)
+        (knows j.connection) (job_of j.connection) j.line.now j.task j.answer };
 
     ghost invariant = { λ j. CanWork
-        (job_view (common (bound j.session).vault j.seed.now j.number)
-        (knows j.session) (job_of j.session) j.line.now j.task j.answer) };
+        (job_view (common (bound j.connection).vault j.seed.now j.session)
+        (knows j.connection) (job_of j.connection) j.line.now j.task j.answer) };
 }
 
 impl<'a, A: Archive, R: Wait> Job for LineJob<'a, A, R> {
@@ -63,21 +63,21 @@ impl<'a, A: Archive, R: Wait> Job for LineJob<'a, A, R> {
 
     fn work(&mut self) {
         let task = replace(&mut self.task, Task::Line);
-        let session = &mut self.session;
+        let connection = &mut self.connection;
         let Caller {
             rt,
             alloc,
             vault,
             job,
-        } = session.caller();
+        } = connection.caller();
         let shared = Shared {
             rt,
             alloc,
             vault,
             seed: self.seed,
-            session: self.number,
+            session: self.session,
         };
-        let answer = answer_task(&shared, &mut session.passes, job, self.line, task);
+        let answer = answer_task(&shared, &mut connection.passes, job, self.line, task);
         self.answer = Some(answer);
     }
 }
@@ -98,11 +98,11 @@ fn answer_task<A: Archive, X: Wait>(
     requires job { (0 < job) × (job < 2 ^ 31) }
     requires fits { HasTask shared.now.vault.now.rack line.now task }
     ensures can { CanCall shared.now.vault.now passes.new }
-    ensures worked { JobWorked job passes.old passes.new }
+    ensures worked { JobWroteOnly job passes.old passes.new }
     ensures blinds { HasBlinds (IsTrue A.account.tells) (common_of shared.now) job line.now
         passes.old.groups passes.new.groups }
     ensures says { let old = passes.old in let new = passes.new in
-        JobAlone job old new → (s : Setting)
+        JobOnlyWriter job old new → (s : Setting)
         → IsSessionSetting s shared.now.vault.now.rack shared.now.seed.now shared.now.session old
         → Says s job line.now task (Some result) (section_of old new) }
 {
@@ -135,12 +135,12 @@ impl<'a, A: Archive, R> LineJob<'a, A, R> {
         ensures answer { result ≡ self.entry.answer }
     {
         let LineJob {
-            session,
+            connection,
             answer,
             ..
         } = self;
-        let vault = session.caller().vault;
-        vault.join(passes, session.end());
+        let vault = connection.caller().vault;
+        vault.join(passes, connection.end());
         answer
     }
 }
@@ -172,9 +172,9 @@ pub(crate) fn give_line<'a, A: Archive, X>(
 {
     match shared.vault.split(shared.alloc, passes, 2) {
         Ok(given) => Ok(LineJob {
-            session: Session::new(shared.rt, shared.alloc, shared.vault, given, job),
+            connection: Connection::new(shared.rt, shared.alloc, shared.vault, given, job),
             seed: shared.seed,
-            number: shared.session,
+            session: shared.session,
             line,
             task,
             answer: None,

@@ -2,9 +2,9 @@
 ghost use Rattle.std.specs.Prelude.{◌≡◌, ◌<◌, IsTrue, MatchResult, length};
 ghost use Rattle.pot_replies.specs.Settings.{Setting};
 ghost use Rattle.pot_replies.specs.Sections.{mine, IsSilent};
-ghost use Rattle.pot_shared.specs.Works.{JobWorked, JobAlone, IsSettingOf, section_of};
+ghost use Rattle.pot_shared.specs.Works.{JobWroteOnly, JobOnlyWriter, IsSettingOf, section_of};
 ghost use Rattle.pot_shared.specs.Callers.{CanCall};
-ghost use Rattle.pot_shared.specs.Sessions.{Judges, Worked, knows};
+ghost use Rattle.pot_shared.specs.Connections.{TellsIfOnlyWriter, WroteOnlyFor, knows};
 ghost use Rattle.pot_commands.specs.Rows.{IsListReply, AreStatusReplies};
 ghost use Rattle.pot_commands.specs.Counting.{CountsLine};
 
@@ -14,7 +14,7 @@ use pot_group::LogFull;
 use pot_index::ListFault;
 use pot_outside::Archive;
 use pot_script::{NameList, Reply};
-use pot_shared::{Passes, Session};
+use pot_shared::{Connection, Passes};
 use std::sync::Wait;
 
 /// Answers the published names.
@@ -22,14 +22,14 @@ use std::sync::Wait;
 /// # Errors
 /// `NoMemory`; nothing was logged then.
 pub(crate) fn list_names<A: Archive, X: Wait>(
-    session: &mut Session<'_, A, X>,
+    connection: &mut Connection<'_, A, X>,
 ) -> Result<Reply, NoMemory>
-    ensures groups { (knows session.new).groups ≡ (knows session.old).groups }
-    ensures worked { Worked session.old session.new }
-    ensures says { Judges (λ b s w. MatchResult result (λ reply. IsListReply s b.job reply w)
-        (λ e. IsSilent (mine b.job w))) session.old session.new }
+    ensures groups { (knows connection.new).groups ≡ (knows connection.old).groups }
+    ensures worked { WroteOnlyFor connection.old connection.new }
+    ensures says { TellsIfOnlyWriter (λ b s w. MatchResult result (λ reply. IsListReply s b.job reply w)
+        (λ e. IsSilent (mine b.job w))) connection.old connection.new }
 {
-    match session.names() {
+    match connection.names() {
         Ok(names) => Ok(Reply::Names {
             names: NameList::from_vec(names),
         }),
@@ -79,9 +79,9 @@ pub(crate) fn count_groups<A: Archive, X: Wait>(
     requires job { 0 < job }
     ensures can { CanCall shared.now.vault.now passes.new }
     ensures index { passes.new.index ≡ passes.old.index }
-    ensures worked { JobWorked job passes.old passes.new }
+    ensures worked { JobWroteOnly job passes.old passes.new }
     ensures says { let old = passes.old in let new = passes.new in
-        JobAlone job old new → (s : Setting) → IsSettingOf s shared.now.vault.now.rack old
+        JobOnlyWriter job old new → (s : Setting) → IsSettingOf s shared.now.vault.now.rack old
         → MatchResult result (λ replies. AreStatusReplies s job replies.items (section_of old new))
         (λ e. IsSilent (mine job (section_of old new))) }
 {

@@ -3,8 +3,8 @@ ghost use Rattle.std.specs.Prelude.{◌≡◌, ◌<◌, ◌≢◌, ◌+◌, [], 
 ghost use Rattle.std.specs.Prelude.{IfOk, IsTrue, IsErrOf, MatchResult, length};
 ghost use Rattle.pot_outside.specs.Counts.{Caused};
 ghost use Rattle.pot_replies.specs.Settings.{Setting};
-ghost use Rattle.pot_replies.specs.Sections.{mine, work_of, Halves, IsOfJobs, IsSilent};
-ghost use Rattle.pot_shared.specs.Works.{JobWorked, JobAlone, IsSettingOf, section_of};
+ghost use Rattle.pot_replies.specs.Sections.{mine, work_of, MovesThenRest, IsOfJobs, IsSilent};
+ghost use Rattle.pot_shared.specs.Works.{JobWroteOnly, JobOnlyWriter, IsSettingOf, section_of};
 ghost use Rattle.pot_shared.specs.Callers.{CanCall};
 ghost use Rattle.pot_commands.specs.Failures.{Fails};
 ghost use Rattle.pot_commands.specs.Arriving.{HasBegun, Unbegins, move_reply};
@@ -37,11 +37,11 @@ pub(crate) fn migrate_archive<R: Room, X: Wait>(
     requires used { AreUsed (R.meaning room.old) passes.old.groups }
     ensures can { CanCall shared.now.vault.now passes.new }
     ensures index { passes.new.index ≡ passes.old.index }
-    ensures worked { JobWorked job passes.old passes.new }
+    ensures worked { JobWroteOnly job passes.old passes.new }
     ensures says { let old = passes.old in let new = passes.new in
         let w = section_of old new in
-        JobAlone job old new → (s : Setting) → IsSettingOf s shared.now.vault.now.rack old
-        → MatchResult result (λ reply. IsOfJobs job 1 w → (h : Halves w)
+        JobOnlyWriter job old new → (s : Setting) → IsSettingOf s shared.now.vault.now.rack old
+        → MatchResult result (λ reply. IsOfJobs job 1 w → (h : MovesThenRest w)
         × IsMigrateReply s w.before h.begun job from to reply (work_of w h))
         (λ e. IsSilent (mine job w)) }
     ensures used { AreUsed (R.meaning room.new) passes.new.groups }
@@ -78,13 +78,13 @@ pub(crate) fn begin_move<R: Room, X: Wait>(
     requires used { AreUsed (R.meaning room.old) passes.old.groups }
     ensures can { CanCall shared.now.vault.now passes.new }
     ensures index { passes.new.index ≡ passes.old.index }
-    ensures worked { JobWorked job passes.old passes.new }
+    ensures worked { JobWroteOnly job passes.old passes.new }
     ensures place { let rack = shared.now.vault.now.rack in
         IfOk result (λ at. (at.group < length shared.now.vault.now.groups)
         × (at.column < rack.columns + rack.parity)) }
     ensures says { let old = passes.old in let new = passes.new in
         let w = section_of old new in
-        JobAlone job old new → (s : Setting) → IsSettingOf s shared.now.vault.now.rack old
+        JobOnlyWriter job old new → (s : Setting) → IsSettingOf s shared.now.vault.now.rack old
         → MatchResult result
         (λ at. IsOfJobs job 1 w → HasBegun s job from to at.group at.column w)
         (λ e. Unbegins s job from to e w) }

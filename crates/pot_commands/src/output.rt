@@ -1,6 +1,6 @@
 //! The text of replies, and its way to a sink.
 ghost use Rattle.std.specs.Prelude.{◌≡◌, IsErr, IfOk};
-ghost use Rattle.pot_outside.specs.Accounts.{Faults, met};
+ghost use Rattle.pot_outside.specs.Accounts.{Faults, transition};
 ghost use Rattle.pot_commands.specs.Ends.{texts_of, any_refusal};
 ghost use Rattle.pot_commands.specs.Streams.{Writes};
 
@@ -14,7 +14,7 @@ use std::alloc::Global;
 /// # Errors
 /// `Failed` only where the sink's count of faults rose; some first bytes of the text were written then.
 pub fn write_out<K: Sink>(sink: &mut K, text: &[u8]) -> Result<(), Failed>
-    ensures told { Writes (met K.account sink.old sink.new) text.now result }
+    ensures told { Writes (transition K.account sink.old sink.new) text.now result }
     ensures cause { Faults K.account sink.old sink.new (IsErr result) }
 {
     let mut rest = text;

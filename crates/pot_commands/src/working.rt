@@ -2,7 +2,7 @@
 ghost use Rattle.std.specs.Prelude.{◌≡◌, ◌≢◌, ◌<◌, ◌≤◌, ◌+◌, ◌^◌, Err};
 ghost use Rattle.std.specs.Prelude.{IsTrue, IsErrOf, MatchResult};
 ghost use Rattle.std.specs.List.{AllByRecursion};
-ghost use Rattle.pot_outside.specs.Accounts.{Faults, met};
+ghost use Rattle.pot_outside.specs.Accounts.{Faults, transition};
 ghost use Rattle.pot_outside.specs.Counts.{Caused};
 ghost use Rattle.pot_replies.specs.Sessions.{jobs_in};
 ghost use Rattle.pot_shared.specs.Callers.{CanCall, HaveParts};
@@ -10,7 +10,7 @@ ghost use Rattle.pot_commands.specs.Sharing.{common_of};
 ghost use Rattle.pot_commands.specs.Failures.{Fails};
 ghost use Rattle.pot_commands.specs.Rows.{HasFilled};
 ghost use Rattle.pot_commands.specs.Ones.{OneEnds};
-ghost use Rattle.pot_shared.specs.Going.{AllWent, AllStay};
+ghost use Rattle.pot_shared.specs.Going.{AllExtend, AllStay};
 ghost use Rattle.pot_commands.specs.Steps.{IsWorkedStep, StepGives, StepStops, step_of};
 ghost use Rattle.pot_commands.specs.Ends.{Ends, next_job};
 ghost use Rattle.pot_commands.specs.Taking.{AreUsed, Took, asked_by, asks_in};
@@ -54,7 +54,7 @@ fn answer_step<R: Room, W: Gate, X: Threads + Wait + Sync>(
     requires filled { HasFilled crew.now.shared.vault.now.rack passes.old }
     requires used { AreUsed (R.meaning room.old) passes.old.groups }
     ensures can { CanCall crew.now.shared.vault.now passes.new }
-    ensures went { AllWent passes.old passes.new }
+    ensures went { AllExtend passes.old passes.new }
     ensures stays { AllStay passes.old passes.new }
     ensures says { let b = common_of crew.now.shared in let its = step_of step.now in
         let old = passes.old in let new = passes.new in
@@ -94,12 +94,12 @@ fn work_one<K: Sink, R: Room, W: Gate, X: Threads + Wait + Sync>(
     requires filled { HasFilled crew.now.shared.vault.now.rack passes.old }
     requires used { AreUsed (R.meaning room.old) passes.old.groups }
     ensures can { CanCall crew.now.shared.vault.now passes.new }
-    ensures went { AllWent passes.old passes.new }
+    ensures went { AllExtend passes.old passes.new }
     ensures stays { AllStay passes.old passes.new }
     ensures ends { let b = common_of crew.now.shared in
         OneEnds b.vault.rack b.seed b.session job (step_of step.now)
         passes.old passes.new
-        (met K.account sink.old sink.new) result }
+        (transition K.account sink.old sink.new) result }
     ensures used { AreUsed (R.meaning room.new) passes.new.groups }
     ensures took { Took (IsTrue R.A.account.tells) (result ≢ Err Ending.RoomFailed)
         (asks_in step.now)
@@ -158,7 +158,7 @@ pub fn work<K: Sink, R: Room, W: Gate, X: Threads + Wait + Sync>(
         AllByRecursion (IsWorkedStep rack.groups) steps.now }
     requires used { AreUsed (R.meaning room.old) passes.old.groups }
     ensures can { CanCall crew.now.shared.vault.now passes.new }
-    ensures went { AllWent passes.old passes.new }
+    ensures went { AllExtend passes.old passes.new }
     ensures stays { AllStay passes.old passes.new }
     ensures took { Took (IsTrue R.A.account.tells) (result ≢ Ending.RoomFailed)
         (asked_by steps.now)
@@ -166,7 +166,7 @@ pub fn work<K: Sink, R: Room, W: Gate, X: Threads + Wait + Sync>(
         passes.old passes.new }
     ensures ends { let b = common_of crew.now.shared in
         Ends b.vault.rack b.seed b.session
-        (met K.account sink.old sink.new) steps.now
+        (transition K.account sink.old sink.new) steps.now
         passes.old passes.new result }
     ensures sink { Faults K.account sink.old sink.new (result ≡ Ending.SinkFailed) }
     ensures room { Caused (R.meaning room.old).faults (R.meaning room.new).faults

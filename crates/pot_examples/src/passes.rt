@@ -53,9 +53,9 @@ fn store<R: Wait>(
         job,
     };
     let pads = PadStream::new(&[7; 32], 1, job);
-    let mut session = caller.session(passes);
-    let stored = store_file(&mut session, name, b"hello", pads);
-    *passes = session.end();
+    let mut connection = caller.connection(passes);
+    let stored = store_file(&mut connection, name, b"hello", pads);
+    *passes = connection.end();
     stored
 }
 
@@ -86,9 +86,9 @@ fn fetch<R: Wait>(
         job,
     };
     let mut pads = PadStream::new(&[7; 32], 1, job);
-    let mut session = caller.session(passes);
-    let fetched = fetch_file(&mut session, name, &mut pads);
-    *passes = session.end();
+    let mut connection = caller.connection(passes);
+    let fetched = fetch_file(&mut connection, name, &mut pads);
+    *passes = connection.end();
     fetched
 }
 

@@ -10,7 +10,7 @@ ghost use Rattle.pot_shared.specs.Sharing.{HasAllButKept, IsGroupOf};
 
 use pot_bytes::{Geometry, Rack};
 use pot_doubles::LossyArchive;
-use pot_followed::Followed;
+use pot_execution::TrackedGroup;
 use pot_group::{StartRefused, are_homes};
 use pot_index::Index;
 use pot_machine::GroupTable;
@@ -67,7 +67,7 @@ fn member(alloc: Global, rack: &Rack) -> Result<Member<LossyArchive>, Fail>
     if !are_homes(table.columns(), &shelves) {
         return Err(Fail::from("the table is another one"));
     }
-    match Followed::start(alloc, 0, table, shelves) {
+    match TrackedGroup::start(alloc, 0, table, shelves) {
         Ok(group) => Ok(Member { group }),
         Err(
             StartRefused {

@@ -187,7 +187,7 @@ module _ (told : Type 0) (job : ℕ) (place : Place) (blind : List ℕ) where
       entries,
       grows,
       record {
-        tells = (room, (drives own (Ok advanced.Hopped) mend.Went owns refl row.tells.1, row.tells.2));
+        tells = (room, (drives own (Ok advanced.Hopped) mend.Extends owns refl row.tells.1, row.tells.2));
         keeps = row.keeps;
         step = λ t. (unsound, (n, which, inl (row.step t)));
         lossless = row.lossless;
@@ -209,7 +209,7 @@ module _ (told : Type 0) (job : ℕ) (place : Place) (blind : List ℕ) where
       entries,
       grows,
       record {
-        tells = (room, (drives own (Ok advanced.Ended) mend.Went owns refl row.tells.1, row.tells.2));
+        tells = (room, (drives own (Ok advanced.Ended) mend.Extends owns refl row.tells.1, row.tells.2));
         keeps = row.keeps;
         step = λ t. (unsound, (n, which, inr (inr (inl (row.step t)))));
         lossless = row.lossless;

@@ -21,7 +21,7 @@ use Rattle.pot_bytes.specs.Digests.{digest_of}
 use Rattle.pot_steps.specs.Stripe.{Stripe, Sound}
 use Rattle.pot_steps.specs.declared.flight.Flight.{Flight}
 use Rattle.pot_steps.specs.Flights.{AreFlights, FlightsHold}
-use Rattle.pot_steps.specs.Holdings.{HoldsUp, LiveLaw, stripe_of}
+use Rattle.pot_steps.specs.Holdings.{StripesConsistent, LiveLaw, stripe_of}
 use Rattle.pot_steps.specs.GroupStep.{GroupState, Passed}
 use Rattle.pot_steps.specs.GroupStep as step
 use Rattle.pot_group.specs.declared.answers.Looked.{Looked}
@@ -125,7 +125,7 @@ pub record IsSettled (told : Type 0) (g : GroupView) : Type 0 where
   pub losses : told → (number : ℕ) → g.shelves.losses_taken number ≤ g.shelves.losses number
   pub opened_faults : (number : ℕ) → g.shelves.faults_opened number ≤ g.shelves.faults number
   pub opened_losses : told → (number : ℕ) → g.shelves.losses_opened number ≤ g.shelves.losses number
-  pub holds : told → HoldsUp g.table g.shelves.held
+  pub holds : told → StripesConsistent g.table g.shelves.held
   pub flying : told → FlightsHold g.table g.shelves.held g.flights
   pub live : told → LiveLaw g.table g.shelves.held (LostSince g.shelves)
   pub causes : CauseLaw told g.first g.log g.shelves

@@ -204,9 +204,9 @@ pub record Advances (told : Type 0) (job s : ℕ) (result : Result Advanced Adva
 abbrev pub mend_as : Mend → step.MendAnswer
 mend_as mend.Whole = step.NoNeed
 mend_as mend.Began = step.Began
-mend_as mend.Went = step.Went
-mend_as mend.Mended = step.Went
-mend_as mend.Passed = step.Went
+mend_as mend.Extends = step.Extends
+mend_as mend.Mended = step.Extends
+mend_as mend.Passed = step.Extends
 mend_as (mend.TwoGone first second) = step.Stuck first second
 mend_as (mend.Odd wanted found) = step.MendOdd wanted found
 mend_as (mend.Faulted column) = step.MendFaulted column
@@ -214,8 +214,8 @@ mend_as mend.LogFull = step.MendFull
 
 -- the answer of a mend that makes an advance, of the slot's own relay or of another
 abbrev pub answered : Bool → Result Advanced AdvanceFault → Mend
-answered own (Ok advanced.Hopped) = mend.Went
-answered own (Ok advanced.Ended) = mend.Went
+answered own (Ok advanced.Hopped) = mend.Extends
+answered own (Ok advanced.Ended) = mend.Extends
 answered own (Ok advanced.Mended) = mend.Mended
 answered own (Err (failed.Odd wanted found)) = if own then mend.Odd wanted found else mend.Passed
 answered own (Err (failed.Faulted column)) = mend.Faulted column

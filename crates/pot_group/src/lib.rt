@@ -30,7 +30,7 @@
 //!    `opened_losses`).
 //! 7. The law of every stripe: where no slot is Broken and a relay stands or no more slots are Lost than there are parity columns,
 //!    there is a filling, which gives each slot a block of its digest, the one held where the slot is sound, and adds up to zeros
-//!    (`holds`, by `HoldsUp` of `pot_steps`). `start` makes it hold, every entry keeps it, and a loss breaks none.
+//!    (`holds`, by `StripesConsistent` of `pot_steps`). `start` makes it hold, every entry keeps it, and a loss breaks none.
 //! 8. The law of the Live slots: the archive that serves one holds a block of its digest, or its count of losses rose above
 //!    the mark (`live`). `start` makes it hold, and so do `put`, `advance` and `move_step` for the slots that they write.
 //! 9. The cause law (`causes`). The log names no more faults of a column than its archives counted above their marks, unless one

@@ -59,7 +59,7 @@ pub enum Mend {
     /// A relay began.
     Began,
     /// A relay went over one column, or gave up.
-    Went,
+    Extends,
     /// A relay ended, and its target was written.
     Mended,
     /// The relay of another slot came to a block of another digest, and ended.
@@ -447,8 +447,8 @@ fn answered(step: Result<Advanced, AdvanceFault>, own: bool) -> Mend
     ensures { result ≡ answered own step }
 {
     match step {
-        Ok(Advanced::Hopped) => Mend::Went,
-        Ok(Advanced::Ended) => Mend::Went,
+        Ok(Advanced::Hopped) => Mend::Extends,
+        Ok(Advanced::Ended) => Mend::Extends,
         Ok(Advanced::Mended) => Mend::Mended,
         Err(AdvanceFault::Odd { wanted, found }) => {
             if own {

@@ -22,10 +22,10 @@ use Rattle.pot_group.specs.Group.{GroupView, IsSettled}
 use Rattle.pot_group.specs.Uses.{IsHomeAt, IsRole, IsUse, target_in}
 use Rattle.pot_turn.specs.declared.name.TurnName.{TurnName}
 use Rattle.pot_worked.specs.Laws.{AllOf}
-use Rattle.pot_worked.specs.Worked.{added, Alone, Worked}
-use Rattle.pot_worked.proofs.WorkedLemmas.{work_goes_on, own_in_turn, more_is_work, more_has_none}
+use Rattle.pot_worked.specs.WroteOnlyFor.{added, OnlyWriterOf, WroteOnlyFor}
+use Rattle.pot_worked.proofs.WroteOnlyForLemmas.{work_goes_on, own_in_turn, more_is_work, more_has_none}
 use Rattle.pot_rows.specs.Rows.{view_at}
-use Rattle.pot_rows.specs.Works.{RowAlone, RowWorked}
+use Rattle.pot_rows.specs.Works.{RowOnlyWriterOf, RowWroteOnlyFor}
 use Rattle.pot_rows.proofs.TieLemmas.{knows_same}
 use Rattle.pot_replies.specs.Settings.{Setting}
 use Rattle.pot_replies.specs.Moves.{HasHome, IsUsed, NoHome, moving_at}
@@ -138,15 +138,15 @@ module _ (told : Type 0) (rack : Rack) (turns : List TurnName) (from to : ℕ) (
     none_of : (job : ℕ) → AllOf (of_job job) (all_logged turn.new.shelves turn.entries)
     none_of job = subst (λ ls. AllOf (of_job job) ls) (sym nothing) (all_none (of_job job))
 
-    its_work : (job : ℕ) → Worked (of_job job) (view_at old g) (view_at new g)
+    its_work : (job : ℕ) → WroteOnlyFor (of_job job) (view_at old g) (view_at new g)
     its_work job = work_goes_on (of_job job) (view_at old g) (view_at new g) turn.others (all_logged turn.new.shelves turn.entries) turn.turn (none_of job)
 
     -- the log that the pass has seen is the one that the call met
-    met : seen_in new g ≡ turn.old.log
-    met =
+    transition : seen_in new g ≡ turn.old.log
+    transition =
         let seen : (view_at new g).seen ≡ ((view_at old g).seen ++ turn.others) ++ all_logged turn.new.shelves turn.entries = ap (λ (v : GroupPass). v.seen) turn.turn in
         let same : (view_at new g).seen ≡ kept_log turn.old =
-        seen ∙ (ap (λ ls. ((view_at old g).seen ++ turn.others) ++ ls) nothing ∙ (append-nil ((view_at old g).seen ++ turn.others) ∙ sym turn.met)) in
+        seen ∙ (ap (λ ls. ((view_at old g).seen ++ turn.others) ++ ls) nothing ∙ (append-nil ((view_at old g).seen ++ turn.others) ∙ sym turn.transition)) in
         ap entries_of same ∙ entries_all turn.old.shelves turn.old.log
 
     number_is : turn.old.number ≡ g
@@ -169,14 +169,14 @@ module _ (told : Type 0) (rack : Rack) (turns : List TurnName) (from to : ℕ) (
     now_wide : width turn.old.table ≡ rack.columns + rack.parity
     now_wide = (let a = turn.settled_old.sizes in let b = first_sizes in let c = a.0 in let d = a.1 in let e = b.0 in let f = b.1 in omega (arith, c, d, e, f))
 
-  asked_work : (job : ℕ) → RowWorked (of_job job) old new
+  asked_work : (job : ℕ) → RowWroteOnlyFor (of_job job) old new
   asked_work job g = ⊎_elim
       (λ (lt : g < length traces.answers). (let x = there_is traces.answers g lt in its_work g x.0 x.1 job))
-      (λ (past : length traces.answers ≤ g). subst (λ v. Worked (of_job job) (view_at old g) v) (sym (traces.asked.rest g past))
+      (λ (past : length traces.answers ≤ g). subst (λ v. WroteOnlyFor (of_job job) (view_at old g) v) (sym (traces.asked.rest g past))
       (more_is_work (of_job job) (view_at old g) (view_at old g) (knows_same (view_at old g)) (ready.idle g)))
       (cases_lt g (length traces.answers))
 
-  asked_none : (job : ℕ) → RowAlone (of_job job) old new → (g : ℕ) → own job (gained old new g) ≡ []
+  asked_none : (job : ℕ) → RowOnlyWriterOf (of_job job) old new → (g : ℕ) → own job (gained old new g) ≡ []
   asked_none job alone g = own_entries job (added (view_at old g) (view_at new g)) ∙ ap entries_of (⊎_elim
       (λ (lt : g < length traces.answers).
       let x = there_is traces.answers g lt in
@@ -185,7 +185,7 @@ module _ (told : Type 0) (rack : Rack) (turns : List TurnName) (from to : ℕ) (
       (λ (past : length traces.answers ≤ g).
       let same : view_at new g ≡ view_at old g = traces.asked.rest g past in
       subst (λ (v : GroupPass). filter (of_job job) (added (view_at old g) v) ≡ []) (sym same)
-      (more_has_none (of_job job) (view_at old g) (view_at old g) (knows_same (view_at old g)) (subst (λ (v : GroupPass). Alone (of_job job) (view_at old g) v) same (alone g))))
+      (more_has_none (of_job job) (view_at old g) (view_at old g) (knows_same (view_at old g)) (subst (λ (v : GroupPass). OnlyWriterOf (of_job job) (view_at old g) v) same (alone g))))
       (cases_lt g (length traces.answers)))
 
   pub all_asked : IsAsked old new
@@ -218,7 +218,7 @@ module _ (told : Type 0) (rack : Rack) (turns : List TurnName) (from to : ℕ) (
 
       table_is : replayed (s.first g) (logs g) ≡ (turn g x at).old.table
       table_is = ap (λ (f : Table). replayed f (logs g)) first_is
-          ∙ (ap (replayed (turn g x at).old.first) (met g x at) ∙ replays_is (turn g x at).old.first (turn g x at).old.log (turn g x at).old.table (turn g x at).settled_old.replay)
+          ∙ (ap (replayed (turn g x at).old.first) (transition g x at) ∙ replays_is (turn g x at).old.first (turn g x at).old.log (turn g x at).old.table (turn g x at).settled_old.replay)
 
       wide : width (s.first g) ≡ width (turn g x at).old.table
       wide =
@@ -242,7 +242,7 @@ module _ (told : Type 0) (rack : Rack) (turns : List TurnName) (from to : ℕ) (
           no c (omega (arith, lt, w)) (sym (ap (λ (u : Table). (column_at u c).home) table_is) ∙ has.home)
 
       carry : (P : Table → List Entry → Type 0) → P (turn g x at).old.first (turn g x at).old.log → P (s.first g) (logs g)
-      carry P p = subst (λ f. P f (logs g)) (sym first_is) (subst (λ l. P (turn g x at).old.first l) (sym (met g x at)) p)
+      carry P p = subst (λ f. P f (logs g)) (sym first_is) (subst (λ l. P (turn g x at).old.first l) (sym (transition g x at)) p)
 
       taken_there : x.taken ≡ true → IsUsedIn (s.first g) (logs g) to
       taken_there is =

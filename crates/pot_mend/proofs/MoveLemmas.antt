@@ -23,9 +23,9 @@ use Rattle.pot_group.specs.declared.copying.MoveFault.TheVariants as failed
 use Rattle.pot_group.specs.Group.{GroupView}
 use Rattle.pot_turn.specs.declared.name.TurnName.{TurnName}
 use Rattle.pot_worked.specs.Laws.{AllOf}
-use Rattle.pot_worked.specs.Worked.{added}
+use Rattle.pot_worked.specs.WroteOnlyFor.{added}
 use Rattle.pot_rows.specs.Rows.{view_at}
-use Rattle.pot_rows.specs.Works.{RowAlone, RowWorked}
+use Rattle.pot_rows.specs.Works.{RowOnlyWriterOf, RowWroteOnlyFor}
 use Rattle.pot_rows.proofs.RowLemmas.{at_set}
 use Rattle.pot_rows.proofs.WorkLemmas.{row_alone_in_parts, row_work_in_parts}
 use Rattle.pot_index.specs.Entries as index
@@ -120,10 +120,10 @@ all_its job c (Err failed.Idle) es h = subst (λ l. AllOf (is_of job) l) (sym h)
 
 -- The job stepped the move, and copied so many blocks.
 pub record IsMoving (job group c copied : ℕ) (old now : GroupPasses) : Type 0 where
-  pub worked : RowWorked (of_job job) old now
-  pub steps : RowAlone (of_job job) old now → EachIs (is_step c) (own job (gained old now group))
-  pub copied_is : RowAlone (of_job job) old now → copied ≡ length (filter is_copied (own job (gained old now group)))
-  pub elsewhere : RowAlone (of_job job) old now → (h : ℕ) → h ≢ group → own job (gained old now h) ≡ []
+  pub worked : RowWroteOnlyFor (of_job job) old now
+  pub steps : RowOnlyWriterOf (of_job job) old now → EachIs (is_step c) (own job (gained old now group))
+  pub copied_is : RowOnlyWriterOf (of_job job) old now → copied ≡ length (filter is_copied (own job (gained old now group)))
+  pub elsewhere : RowOnlyWriterOf (of_job job) old now → (h : ℕ) → h ≢ group → own job (gained old now h) ≡ []
   pub few : copied ≤ length (view_at now group).seen
 
 pub moving_none : (job group c : ℕ) (rack : Rack) (names : List TurnName) (row : GroupPasses) → AreReady rack names row → IsMoving job group c 0 row row
@@ -146,10 +146,10 @@ module _ (told : Type 0) (job group c copied : ℕ) (rack : Rack) (names : List 
   all : AllOf (is_of job) call.turn.entries
   all = all_its job c result call.turn.entries logs
 
-  next_work : RowWorked (of_job job) now next
+  next_work : RowWroteOnlyFor (of_job job) now next
   next_work = group_work told job (MoveStepCall told job c result) group now next long call all ready.idle
 
-  pub move_work : RowWorked (of_job job) old next
+  pub move_work : RowWroteOnlyFor (of_job job) old next
   move_work = row_work_in_parts (of_job job) old now next sofar.worked next_work
 
   here : view_at next group ≡ call.pass
@@ -169,10 +169,10 @@ module _ (told : Type 0) (job group c copied : ℕ) (rack : Rack) (names : List 
   -- the log that was left is all that was seen
   left : seen_in next group ≡ call.turn.new.log
   left =
-      let met : entries_of ((view_at now group).seen ++ call.turn.others) ≡ call.turn.old.log = ap entries_of (sym call.turn.met) ∙ entries_all call.turn.old.shelves call.turn.old.log in
+      let transition : entries_of ((view_at now group).seen ++ call.turn.others) ≡ call.turn.old.log = ap entries_of (sym call.turn.transition) ∙ entries_all call.turn.old.shelves call.turn.old.log in
       ap entries_of next_seen
       ∙ (map-append (λ l. l.entry) ((view_at now group).seen ++ call.turn.others) (all_logged call.turn.new.shelves call.turn.entries)
-      ∙ (ap (λ l. l ++ entries_of (all_logged call.turn.new.shelves call.turn.entries)) met
+      ∙ (ap (λ l. l ++ entries_of (all_logged call.turn.new.shelves call.turn.entries)) transition
       ∙ (ap (λ l. call.turn.old.log ++ l) (entries_all call.turn.new.shelves call.turn.entries) ∙ sym call.turn.log)))
 
   bounded : length (view_at next group).seen ≤ log_bound
@@ -186,8 +186,8 @@ module _ (told : Type 0) (job group c copied : ℕ) (rack : Rack) (names : List 
   pub move_falls : 1 ≤ length call.turn.entries → 262145 - length (view_at next group).seen < 262145 - length (view_at now group).seen
   move_falls some = (let a = longer in let b = bounded in omega (arith, a, b, some))
 
-  module _ (alone : RowAlone (of_job job) old next) where
-    parts : RowAlone (of_job job) old now × RowAlone (of_job job) now next
+  module _ (alone : RowOnlyWriterOf (of_job job) old next) where
+    parts : RowOnlyWriterOf (of_job job) old now × RowOnlyWriterOf (of_job job) now next
     parts = row_alone_in_parts (of_job job) old now next sofar.worked next_work alone
 
     own_here : own job (gained old next group) ≡ own job (gained old now group) ++ call.turn.entries
@@ -227,7 +227,7 @@ module _ (told : Type 0) (job group c copied : ℕ) (rack : Rack) (names : List 
 
   -- THE ENDS
 
-  module _ (alone : RowAlone (of_job job) old next) (s : Setting) (i j : IndexPasses) (same : j ≡ i) where
+  module _ (alone : RowOnlyWriterOf (of_job job) old next) (s : Setting) (i j : IndexPasses) (same : j ≡ i) where
     abbrev whole : Section
     whole = section_of (known old i) (known next j)
 
@@ -340,7 +340,7 @@ module _ (told : Type 0) (job group c copied : ℕ) (rack : Rack) (names : List 
 module _ (told : Type 0) (job group c copied : ℕ) (rack : Rack) (names : List TurnName) (old now next : GroupPasses) (ready : AreReady rack names now) (within : group < length names)
     (sofar : IsMoving job group c copied old now) (i j : IndexPasses) (same : j ≡ i) (of : old.names ≡ names) where
   abbrev Says : Result ℕ MendFault → Type 0
-  Says answer = RowAlone (of_job job) old next → (s : Setting) → IsSettingOf s rack (known old i) → MoveRow s job group c answer (section_of (known old i) (known next j))
+  Says answer = RowOnlyWriterOf (of_job job) old next → (s : Setting) → IsSettingOf s rack (known old i) → MoveRow s job group c answer (section_of (known old i) (known next j))
 
   pub says_ended : CallAt told (MoveStepCall told job c (Ok moved.Ended)) group now next → Says (Ok copied)
   says_ended call alone s set =
@@ -367,5 +367,5 @@ module _ (told : Type 0) (job group c copied : ℕ) (rack : Rack) (names : List 
 
 module _ (told : Type 0) (job group c copied : ℕ) (rack : Rack) (names : List TurnName) (old now next : GroupPasses) (ready : AreReady rack names now) (within : group < length names)
     (sofar : IsMoving job group c copied old now) where
-  pub worked_on : (result : Result MoveStep MoveFault) → CallAt told (MoveStepCall told job c result) group now next → RowWorked (of_job job) old next
+  pub worked_on : (result : Result MoveStep MoveFault) → CallAt told (MoveStepCall told job c result) group now next → RowWroteOnlyFor (of_job job) old next
   worked_on result call = move_work told job group c copied rack names old now next ready within sofar result call

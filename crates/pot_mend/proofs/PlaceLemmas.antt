@@ -15,7 +15,7 @@ use Rattle.pot_group.specs.Calls.{MendCall}
 use Rattle.pot_pads.specs.Pads.{Pads, moved}
 use Rattle.pot_turn.specs.declared.name.TurnName.{TurnName}
 use Rattle.pot_rows.specs.Rows.{view_at, with_view}
-use Rattle.pot_rows.specs.Works.{AllIdle, RowWorked}
+use Rattle.pot_rows.specs.Works.{AllIdle, RowWroteOnlyFor}
 use Rattle.pot_rows.proofs.RowLemmas.{at_set}
 use Rattle.pot_rows.proofs.WorkLemmas.{row_work_in_parts}
 use Rattle.pot_shared.specs.declared.mending.Mending.{Mending}
@@ -186,7 +186,7 @@ module _ (job : ℕ) (p : Place) (mended left draws : ℕ) (u v w : GroupPasses)
 
 -- So many were mended and left at some steps, and so many blinds drawn, whatever was done before.
 pub record Placing (job : ℕ) (p : Place) (mended left more : ℕ) (v now : GroupPasses) : Type 0 where
-  pub worked : RowWorked (of_job job) v now
+  pub worked : RowWroteOnlyFor (of_job job) v now
   pub few : length (view_at v p.group).seen + (mended + left) ≤ length (view_at now p.group).seen
   pub sofar : (old : GroupPasses) (m l draws : ℕ) → RepairSofar job p.group p.stripe p.column m l draws old v → PlaceSofar job p (m + mended) (l + left) (draws + more) old now
 
@@ -218,7 +218,7 @@ module _ (job : ℕ) (p : Place) (mended left more : ℕ) (v now next : GroupPas
   placing_step : (a : Mend) → GoesOn a → StepsAt job p a now next → Placing job p (mended + mends a) (left + passes a) (more + begins a) v next
   placing_step mend.Began go steps =
       placing_on (entry.Begin job p.stripe p.column) (subst (λ es. Adds job p.group es now next) steps.says steps.adds) refl (λ j n k o e. cc e) (λ f e. cc e) (λ j n k e. (sym (cc e), sym (cc e))) (omega arith)
-  placing_step mend.Went go steps = ⊎_elim
+  placing_step mend.Extends go steps = ⊎_elim
       (λ (is : (n : ℕ) × (k : ℕ) × (steps.entries ≡ entry.Hop job n k ∷ [])).
       placing_on (entry.Hop job is.0 is.1) (subst (λ es. Adds job p.group es now next) is.2 steps.adds) refl (λ j n k o e. cc e) (λ f e. cc e) (λ j n k e. absurd (cc e)) (omega arith))
       (λ (is : (n : ℕ) × (k : ℕ) × (o : ℕ) × (steps.entries ≡ entry.GaveUp job n k o ∷ [])).

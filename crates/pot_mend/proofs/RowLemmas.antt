@@ -13,7 +13,7 @@ use Rattle.pot_pads.specs.Pads.{Pads}
 use Rattle.pot_group.specs.declared.finding.Kind.TheVariants as kind
 use Rattle.pot_turn.specs.declared.name.TurnName.{TurnName}
 use Rattle.pot_rows.specs.Rows.{view_at}
-use Rattle.pot_rows.specs.Works.{AllIdle, RowAlone, RowWorked}
+use Rattle.pot_rows.specs.Works.{AllIdle, RowOnlyWriterOf, RowWroteOnlyFor}
 use Rattle.pot_rows.proofs.WorkLemmas.{row_work_in_parts}
 use Rattle.pot_shared.specs.Catalogs.{IndexPasses}
 use Rattle.pot_shared.specs.Members.{entries_of}
@@ -133,7 +133,7 @@ mends_are job added es are one_stuck none_again = record {
 -- THE ANSWERS
 
 module _ (st : Setting) (job g : ℕ) (rack : Rack) (u w : GroupPasses) (ui wi : IndexPasses) (same : wi ≡ ui) (within : g < length u.names)
-    (alone : RowAlone (of_job job) u w) (set : IsSettingOf st rack (known u ui)) where
+    (alone : RowOnlyWriterOf (of_job job) u w) (set : IsSettingOf st rack (known u ui)) where
   abbrev its : Section
   its = section_of (known u ui) (known w wi)
 
@@ -203,7 +203,7 @@ module _ (told : Type 0) (job : ℕ) (rack : Rack) (names : List TurnName) (g s 
     last_finds : FindsNext is_unsound s c None g v x
     last_finds = next_finds told job rack names g s c kind.Unsound None v x within ready call
 
-    pub group_work : RowWorked (of_job job) u x
+    pub group_work : RowWroteOnlyFor (of_job job) u x
     group_work = row_work_in_parts (of_job job) u v x sofar.sofar.adds.worked last_more.worked
 
     pub group_blinds : Blinds told job pads after u v → Blinds told job pads after u x
@@ -214,7 +214,7 @@ module _ (told : Type 0) (job : ℕ) (rack : Rack) (names : List TurnName) (g s 
         let adds : Adds job g sofar.sofar.entries u x = subst (λ es. Adds job g es u x) (append-nil sofar.sofar.entries) (adds_then job g sofar.sofar.entries [] u v x sofar.sofar.adds last_more) in
         (sofar.draws, sofar.stream, λ alone. subst (λ es. length (filter is_begin es) ≤ sofar.draws) (sym (adds.own_is alone)) sofar.sofar.are.blinds)
 
-    pub group_row : (st : Setting) (ui wi : IndexPasses) → wi ≡ ui → g < length u.names → RowAlone (of_job job) u x → IsSettingOf st rack (known u ui)
+    pub group_row : (st : Setting) (ui wi : IndexPasses) → wi ≡ ui → g < length u.names → RowOnlyWriterOf (of_job job) u x → IsSettingOf st rack (known u ui)
         → RepairRow st job g (Ok r) (section_of (known u ui) (known x wi))
     group_row st ui wi same has alone set = repaired_row st job g rack u x ui wi same has alone set s c sofar.draws r v sofar.sofar last_finds last_more
 
@@ -261,7 +261,7 @@ module _ (told : Type 0) (job : ℕ) (rack : Rack) (names : List TurnName) (g s 
       stop_stream more is = is ∙ (ap (λ q. drawn q more) sofar.stream ∙ drawn_more pads sofar.draws more)
 
       -- at the first fault, or full log
-      pub stop_work : (e : MendFault) → RepairsPlace job p (Err e) after after' x w → RowWorked (of_job job) u w
+      pub stop_work : (e : MendFault) → RepairsPlace job p (Err e) after after' x w → RowWroteOnlyFor (of_job job) u w
       stop_work (fault.Faulted group column) place = (place.ends.1 u r.mended r.left sofar.draws there).adds.worked
       stop_work (fault.LogFull group) place = (place.ends.1 u r.mended r.left sofar.draws there).adds.worked
 
@@ -284,7 +284,7 @@ module _ (told : Type 0) (job : ℕ) (rack : Rack) (names : List TurnName) (g s 
                 (subst (λ es. length (filter is_begin es) ≤ d) (sym (fills.adds.own_is alone)) fills.are.blinds),
           )
 
-      module _ (st : Setting) (ui wi : IndexPasses) (same : wi ≡ ui) (has : g < length u.names) (alone : RowAlone (of_job job) u w) (set : IsSettingOf st rack (known u ui)) where
+      module _ (st : Setting) (ui wi : IndexPasses) (same : wi ≡ ui) (has : g < length u.names) (alone : RowOnlyWriterOf (of_job job) u w) (set : IsSettingOf st rack (known u ui)) where
         pub stop_row : (e : MendFault) → RepairsPlace job p (Err e) after after' x w → RepairRow st job g (Err e) (section_of (known u ui) (known w wi))
         stop_row (fault.Faulted group column) place = (
           place.ends.0 ∙ found_group,

@@ -21,7 +21,7 @@ use Rattle.pot_group.specs.Sweeping.{IsReached, Look, LooksOn, SweepCall}
 use Rattle.pot_turn.specs.declared.name.TurnName.{TurnName}
 use Rattle.pot_worked.specs.Laws.{AllOf}
 use Rattle.pot_rows.specs.Rows.{view_at}
-use Rattle.pot_rows.specs.Works.{AllIdle, RowAlone, RowWorked}
+use Rattle.pot_rows.specs.Works.{AllIdle, RowOnlyWriterOf, RowWroteOnlyFor}
 use Rattle.pot_rows.proofs.WorkLemmas.{row_alone_in_parts}
 use Rattle.pot_shared.specs.Members.{entries_of}
 use Rattle.pot_shared.specs.Ready.{GroupPasses, AreReady}
@@ -50,7 +50,7 @@ pub record ScrubSofar (job g s c seen gone : ℕ) (old now : GroupPasses) : Type
   pub seen_is : seen ≡ length (filter is_seen entries)
   pub gone_is : gone ≡ length (filter is_gone entries)
   pub both : seen + gone ≡ length entries
-  pub on : (first : Table) → IsFirst g old first → RowAlone (of_job job) old now
+  pub on : (first : Table) → IsFirst g old first → RowOnlyWriterOf (of_job job) old now
       → ScrubOn job s c entries first (entries_of (view_at old g).seen) (gained old now g)
 
 pub scrub_begin : (job g : ℕ) (row : GroupPasses) → AllIdle row → ScrubSofar job g 0 0 0 0 row row
@@ -66,7 +66,7 @@ scrub_begin job g row idle = record {
 
 -- THE ANSWERS
 
-module _ (st : Setting) (job g : ℕ) (rack : Rack) (u w : GroupPasses) (ui wi : IndexPasses) (same : wi ≡ ui) (within : g < length u.names) (alone : RowAlone (of_job job) u w)
+module _ (st : Setting) (job g : ℕ) (rack : Rack) (u w : GroupPasses) (ui wi : IndexPasses) (same : wi ≡ ui) (within : g < length u.names) (alone : RowOnlyWriterOf (of_job job) u w)
     (set : IsSettingOf st rack (known u ui)) where
   abbrev its : Section
   its = section_of (known u ui) (known w wi)
@@ -165,7 +165,7 @@ module _ {told : Type 0} {job : ℕ} {rack : Rack} {names : List TurnName} {g s 
   all_adds : Adds job g (sofar.entries ++ logged_by job looks) u w
   all_adds = adds_then job g sofar.entries (logged_by job looks) u v w sofar.adds turn_adds
 
-  pub scrub_works : RowWorked (of_job job) u w
+  pub scrub_works : RowWroteOnlyFor (of_job job) u w
   scrub_works = all_adds.worked
 
   last_is : (front : List Look) (p : Place) (answer : Looked) → sofar.entries ++ logged_by job (front ++ (p, answer) ∷ []) ≡ (sofar.entries ++ logged_by job front) ++ logged job p answer
@@ -184,17 +184,17 @@ module _ {told : Type 0} {job : ℕ} {rack : Rack} {names : List TurnName} {g s 
       omega (arith, both, most, seen_is, gone_is, grew, parts, bound)
 
   -- where nobody else logged an entry of the job
-  module _ (first : Table) (read : IsFirst g u first) (alone : RowAlone (of_job job) u w) where
+  module _ (first : Table) (read : IsFirst g u first) (alone : RowOnlyWriterOf (of_job job) u w) where
     abbrev before : List Entry
     before = entries_of (view_at u g).seen
 
     abbrev others : List Entry
     others = entries_of call.turn.others
 
-    abbrev met : List Entry
-    met = gained u v g ++ others
+    abbrev transition : List Entry
+    transition = gained u v g ++ others
 
-    parts : RowAlone (of_job job) u v × RowAlone (of_job job) v w
+    parts : RowOnlyWriterOf (of_job job) u v × RowOnlyWriterOf (of_job job) v w
     parts = row_alone_in_parts (of_job job) u v w sofar.adds.worked turn_adds.worked alone
 
     gain : gained v w g ≡ others ++ logged_by job looks
@@ -204,34 +204,34 @@ module _ {told : Type 0} {job : ℕ} {rack : Rack} {names : List TurnName} {g s 
     none_of_others = nothing_before (own job others) (logged_by job looks)
         (ap (λ es. own job others ++ es) (sym (own_by job looks)) ∙ (sym (own_append job others (logged_by job looks)) ∙ (ap (own job) (sym gain) ∙ turn_adds.own_is parts.1)))
 
-    all_gain : gained u w g ≡ met ++ logged_by job looks
+    all_gain : gained u w g ≡ transition ++ logged_by job looks
     all_gain = both_gained job g u v w sofar.adds.worked turn_adds.worked ∙ (ap (λ es. gained u v g ++ es) gain ∙ sym (append_assoc (gained u v g) others (logged_by job looks)))
 
-    its_table : call.turn.old.table ≡ replayed first (before ++ met)
+    its_table : call.turn.old.table ≡ replayed first (before ++ transition)
     its_table =
         met_table told job Sweep g v w long call first (subst (λ o. IfSome o (λ t. first ≡ t.first)) (sym (sofar.adds.worked g).origin) read)
         ∙ ap (replayed first) (ap (λ es. es ++ others) (seen_parts job g u v sofar.adds.worked) ∙ append_assoc before (gained u v g) others)
 
-    on_met : ScrubOn job s c sofar.entries first before met
+    on_met : ScrubOn job s c sofar.entries first before transition
     on_met = on_others job s c sofar.entries first before (gained u v g) (sofar.on first read parts.0) others none_of_others
 
-    its_gain_is : met ++ call.turn.entries ≡ gained u w g
-    its_gain_is = ap (λ es. met ++ es) its_logs ∙ sym all_gain
+    its_gain_is : transition ++ call.turn.entries ≡ gained u w g
+    its_gain_is = ap (λ es. transition ++ es) its_logs ∙ sym all_gain
 
     on_turn : AreAnswered looks → ScrubOn job (behind s c looks).0 (behind s c looks).1 (sofar.entries ++ logged_by job looks) first before (gained u w g)
     on_turn all = subst (λ es. ScrubOn job (behind s c looks).0 (behind s c looks).1 (sofar.entries ++ logged_by job looks) first before es) its_gain_is
-        (turn_done told job first before s c looks call.turn.old call.turn.new call.turn.entries call.turn.call.goes all sofar.entries met its_table on_met)
+        (turn_done told job first before s c looks call.turn.old call.turn.new call.turn.entries call.turn.call.goes all sofar.entries transition its_table on_met)
 
     on_last : (front : List Look) (p : Place) (answer : Looked) → looks ≡ front ++ (p, answer) ∷ [] → AreAnswered front
         → LastLook job (sofar.entries ++ logged_by job front) p answer first before (gained u w g)
     on_last front p answer is all = subst (λ es. LastLook job (sofar.entries ++ logged_by job front) p answer first before es) its_gain_is
         (turn_last told job first before p answer s c front call.turn.old call.turn.new call.turn.entries (subst (λ ls. LooksOn told job s c ls call.turn.old call.turn.new call.turn.entries) is call.turn.call.goes) all
-        sofar.entries met its_table on_met)
+        sofar.entries transition its_table on_met)
 
     -- where nothing was looked at
     none_next : looks ≡ [] → IsNext call.turn.old.table is_live s c None → IsNext (replayed first (before ++ gained u w g)) is_live s c None
     none_next none next = subst (λ t. IsNext t is_live s c None)
-        (its_table ∙ ap (λ es. replayed first (before ++ es)) (sym (append-nil met) ∙ (ap (λ ls. met ++ logged_by job ls) (sym none) ∙ sym all_gain))) next
+        (its_table ∙ ap (λ es. replayed first (before ++ es)) (sym (append-nil transition) ∙ (ap (λ ls. transition ++ logged_by job ls) (sym none) ∙ sym all_gain))) next
 
   -- all looks were answered
   scrub_went : AreAnswered looks → ScrubSofar job g (behind s c looks).0 (behind s c looks).1 (seen + swept.seen) (gone + swept.gone) u w
@@ -281,7 +281,7 @@ module _ {told : Type 0} {job : ℕ} {rack : Rack} {names : List TurnName} {g s 
         omega (arith, some, grew, bound)
 
   -- it stopped
-  module _ (st : Setting) (ui wi : IndexPasses) (same : wi ≡ ui) (has : g < length u.names) (alone : RowAlone (of_job job) u w) (set : IsSettingOf st rack (known u ui)) where
+  module _ (st : Setting) (ui wi : IndexPasses) (same : wi ≡ ui) (has : g < length u.names) (alone : RowOnlyWriterOf (of_job job) u w) (set : IsSettingOf st rack (known u ui)) where
     pub scrub_end_row : swept.reached ≡ reached.End → IsScrubbed st job g (seen + swept.seen) (gone + swept.gone) (section_of (known u ui) (known w wi))
     scrub_end_row at =
         let (none, next) = subst (λ r. IsReached call.turn.old s c r looks) at call.turn.call.reaches in

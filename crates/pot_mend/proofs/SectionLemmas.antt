@@ -15,14 +15,14 @@ use Rattle.pot_machine.specs.Logs.{replayed}
 use Rattle.pot_machine.proofs.LeftAlone.{sizes_stay}
 use Rattle.pot_machine.proofs.Logs.{replayed_append}
 use Rattle.pot_group.specs.Group.{GroupView}
-use Rattle.pot_worked.specs.Worked.{added}
+use Rattle.pot_worked.specs.WroteOnlyFor.{added}
 use Rattle.pot_rows.specs.Rows.{view_at}
-use Rattle.pot_rows.specs.Works.{RowAlone}
+use Rattle.pot_rows.specs.Works.{RowOnlyWriterOf}
 use Rattle.pot_shared.specs.Members.{entries_of}
 use Rattle.pot_shared.specs.Calls.{CallAt}
 use Rattle.pot_shared.specs.Catalogs.{IndexPasses}
 use Rattle.pot_shared.specs.Ready.{GroupPasses}
-use Rattle.pot_replies.specs.Sections.{Section, mine, AlwaysAt, IsOnlyIn, Moment}
+use Rattle.pot_replies.specs.Sections.{Section, mine, AlwaysAt, IsOnlyIn, LogPoint}
 use Rattle.pot_replies.specs.Settings.{Setting}
 use Rattle.pot_replies.specs.Scrubs.{WasAt}
 use Rattle.pot_shared.specs.Works.{of_job, known, section_of, IsSettingOf}
@@ -72,7 +72,7 @@ module _ (test : SlotState → Bool) (first : Table) (before added : List Entry)
 -- A SECTION
 
 module _ (st : Setting) (job g : ℕ) (rack : Rack) (u w : GroupPasses) (ui wi : IndexPasses) (same : wi ≡ ui) (within : g < length u.names)
-    (alone : RowAlone (of_job job) u w) (set : IsSettingOf st rack (known u ui)) where
+    (alone : RowOnlyWriterOf (of_job job) u w) (set : IsSettingOf st rack (known u ui)) where
   abbrev its : Section
   its = section_of (known u ui) (known w wi)
 
@@ -100,7 +100,7 @@ module _ (st : Setting) (job g : ℕ) (rack : Rack) (u w : GroupPasses) (ui wi :
 
   -- the log at the end of the section, where it is full
   pub last_full : (entries : List Entry) → Adds job g entries u w → length (view_at w g).seen ≡ log_bound
-      → Moment job (its.before g) (its.added g) (entries_of (view_at w g).seen) × (length (entries_of (view_at w g).seen) ≡ log_bound)
+      → LogPoint job (its.before g) (its.added g) (entries_of (view_at w g).seen) × (length (entries_of (view_at w g).seen) ≡ log_bound)
   last_full entries adds full = (
     record { sofar = its.added g; later = []; parts = sym (append-nil (its.added g)); last = refl; is = seen_parts job g u w adds.worked },
     length-map (view_at w g).seen _ ∙ full,

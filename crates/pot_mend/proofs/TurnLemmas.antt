@@ -36,7 +36,7 @@ use Rattle.pot_shared.proofs.WorkLemmas.{all_none, all_one}
 -- for the place of this stripe and column
 abbrev pub StepEntries : ℕ → ℕ → ℕ → Mend → List Entry → Type 0
 StepEntries job s c mend.Began entries = entries ≡ entry.Begin job s c ∷ []
-StepEntries job s c mend.Went entries = ((n : ℕ) × (k : ℕ) × (entries ≡ entry.Hop job n k ∷ [])) ⊎ ((n : ℕ) × (k : ℕ) × (o : ℕ) × (entries ≡ entry.GaveUp job n k o ∷ []))
+StepEntries job s c mend.Extends entries = ((n : ℕ) × (k : ℕ) × (entries ≡ entry.Hop job n k ∷ [])) ⊎ ((n : ℕ) × (k : ℕ) × (o : ℕ) × (entries ≡ entry.GaveUp job n k o ∷ []))
 StepEntries job s c mend.Mended entries = (n : ℕ) × (k : ℕ) × (entries ≡ entry.Mended job n k ∷ [])
 StepEntries job s c mend.Passed entries = (n : ℕ) × (k : ℕ) × (f : Digest) × (entries ≡ entry.Oddly job n k f ∷ []) × (n ≡ s → k ≡ c → ⊥)
 StepEntries job s c (mend.TwoGone first second) entries = entries ≡ entry.Stuck job s c second ∷ []
@@ -80,7 +80,7 @@ module _ (told : Type 0) (job : ℕ) (p : Place) (blind : List ℕ) (old new : G
 
   step_says : (a : Mend) → MendTells job p.stripe p.column blind a old new entries → StepEntries job p.stripe p.column a entries
   step_says mend.Began tells = tells.0
-  step_says mend.Went tells = driven mend.Went tells.1
+  step_says mend.Extends tells = driven mend.Extends tells.1
   step_says mend.Mended tells = driven mend.Mended tells.1
   step_says mend.Passed tells = driven mend.Passed tells.1
   step_says (mend.TwoGone first second) tells = tells.0
@@ -112,8 +112,8 @@ module _ (job : ℕ) (es : List Entry) where
 
   steps_all : (s c : ℕ) (answer : Mend) → StepEntries job s c answer es → AllOf (is_of job) es
   steps_all s c mend.Began is = just_one _ is (eq-eqb job job refl)
-  steps_all s c mend.Went (inl (n, k, is)) = just_one _ is (eq-eqb job job refl)
-  steps_all s c mend.Went (inr (n, k, o, is)) = just_one _ is (eq-eqb job job refl)
+  steps_all s c mend.Extends (inl (n, k, is)) = just_one _ is (eq-eqb job job refl)
+  steps_all s c mend.Extends (inr (n, k, o, is)) = just_one _ is (eq-eqb job job refl)
   steps_all s c mend.Mended (n, k, is) = just_one _ is (eq-eqb job job refl)
   steps_all s c mend.Passed (n, k, f, is, other) = just_one _ is (eq-eqb job job refl)
   steps_all s c (mend.TwoGone first second) is = just_one _ is (eq-eqb job job refl)
@@ -134,7 +134,7 @@ module _ (told : Type 0) (job : ℕ) (p : Place) (blind : List ℕ) (answer : Me
   why mend.Whole tells = met_once told job Call p.group v w within call (λ first t. p.stripe < first.stripes → p.column < width first → is_unsound (slot_at t p.stripe p.column) ≡ false) (λ first same a b. tells.3)
   why mend.LogFull tells = left_long told job Call p.group v w within call ∙ (ap (λ (g : GroupView). length g.log) tells.1 ∙ tells.2)
   why mend.Began tells = tt
-  why mend.Went tells = tt
+  why mend.Extends tells = tt
   why mend.Mended tells = tt
   why mend.Passed tells = tt
   why (mend.TwoGone first second) tells = tt

@@ -6,9 +6,9 @@ use Rattle.pot_machine.specs.declared.entry.Entry.{Entry}
 use Rattle.pot_machine.specs.declared.entry.Entry.TheVariants.{Fault, MoveEnd, Swapped}
 use Rattle.pot_machine.specs.Logs.{own}
 use Rattle.pot_rows.specs.Rows.{view_at}
-use Rattle.pot_rows.specs.Works.{RowAlone, RowWorked}
+use Rattle.pot_rows.specs.Works.{RowOnlyWriterOf, RowWroteOnlyFor}
 use Rattle.pot_replies.specs.Jobs.{is_copied, is_move_of, EachIs}
-use Rattle.pot_replies.specs.Sections.{Section, mine, Moment, IsOnlyIn}
+use Rattle.pot_replies.specs.Sections.{Section, mine, LogPoint, IsOnlyIn}
 use Rattle.pot_replies.specs.Settings.{Setting}
 use Rattle.pot_replies.specs.Moves.{HasHome, IsUsed, NoHome, GoesElsewhere, IsTakenTo, MayBegin}
 use Rattle.pot_replies.specs.Moves.{MayGoOn, moving_at}
@@ -30,8 +30,8 @@ seen_in row g = entries_of (view_at row g).seen
 -- Nothing was logged. That is work of any job, and where the job was alone, what was seen meanwhile
 -- has no entry of it.
 pub record IsAsked (old new : GroupPasses) : Type 0 where
-  pub worked : (job : ℕ) → RowWorked (of_job job) old new
-  pub silent : (job : ℕ) → RowAlone (of_job job) old new → (g : ℕ) → own job (gained old new g) ≡ []
+  pub worked : (job : ℕ) → RowWroteOnlyFor (of_job job) old new
+  pub silent : (job : ℕ) → RowOnlyWriterOf (of_job job) old new → (g : ℕ) → own job (gained old new g) ≡ []
 
 -- the column moves to the archive already, or can begin to
 abbrev pub MayMove : Bool → Setting → (ℕ → List Entry) → ℕ → ℕ → ℕ → ℕ → Type 0
@@ -83,7 +83,7 @@ pub record IsMoveLogFull (job g c : ℕ) (w : Section) : Type 0 where
   pub moves : EachIs (is_move_of c) (own job (w.added g))
   pub unended : Contains (own job (w.added g)) (MoveEnd job c) → ⊥
   pub log : List Entry
-  pub moment : Moment job (w.before g) (w.added g) log
+  pub moment : LogPoint job (w.before g) (w.added g) log
   pub full : length log ≡ log_bound
 
 -- what each answer of `migrate` says

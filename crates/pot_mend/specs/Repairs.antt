@@ -10,7 +10,7 @@ use Rattle.pot_machine.specs.Slot.{is_unsound}
 use Rattle.pot_machine.specs.Logs.{own}
 use Rattle.pot_pads.specs.Pads.{Pads}
 use Rattle.pot_rows.specs.Rows.{view_at}
-use Rattle.pot_rows.specs.Works.{RowAlone, RowWorked}
+use Rattle.pot_rows.specs.Works.{RowOnlyWriterOf, RowWroteOnlyFor}
 use Rattle.pot_shared.specs.Ready.{GroupPasses}
 use Rattle.pot_shared.specs.MendCalls.{drawn}
 use Rattle.pot_replies.specs.Jobs.{is_relay, is_mended, is_left, is_stuck_at, EachIs, Precedes}
@@ -125,7 +125,7 @@ pub record RepairsPlace (job : ℕ) (p : Place) (result : Result Repaired MendFa
     (pads after : Pads) (v w : GroupPasses) : Type 0 where
   pub more : ℕ
   pub stream : after ≡ drawn pads more
-  pub worked : RowWorked (of_job job) v w
+  pub worked : RowWroteOnlyFor (of_job job) v w
   pub few : length (view_at v p.group).seen + counted result ≤ length (view_at w p.group).seen
   pub bound : length (view_at w p.group).seen ≤ log_bound
   pub ends : EndsPlace job p result more v w
@@ -136,7 +136,7 @@ pub record RepairsPlace (job : ℕ) (p : Place) (result : Result Repaired MendFa
 abbrev pub Draws : ℕ → ℕ → Pads → Pads → GroupPasses → GroupPasses → Type 0
 Draws job g pads after old new =
     (n : ℕ) × (after ≡ drawn pads n)
-    × (RowAlone (of_job job) old new
+    × (RowOnlyWriterOf (of_job job) old new
     → length (filter is_begin (own job (gained old new g))) ≤ n)
 
 -- what each answer of a repair says of the section

@@ -1,6 +1,6 @@
 //! The repair of a group.
 ghost use Rattle.std.specs.Prelude.{◌≡◌, ◌<◌, IsTrue, length};
-ghost use Rattle.pot_rows.specs.Works.{RowWorked, RowAlone};
+ghost use Rattle.pot_rows.specs.Works.{RowWroteOnlyFor, RowOnlyWriterOf};
 ghost use Rattle.pot_replies.specs.Settings.{Setting};
 ghost use Rattle.pot_shared.specs.Ready.{AreReady, HasSlot};
 ghost use Rattle.pot_shared.specs.Blinds.{Blinds};
@@ -41,8 +41,8 @@ pub fn repair_group<A: Archive, R: Wait>(
     requires job { 0 < job }
     ensures ready { AreReady vault.now.rack vault.now.groups passes.new.groups }
     ensures index { passes.new.index ≡ passes.old.index }
-    ensures worked { RowWorked (of_job job) passes.old.groups passes.new.groups }
-    ensures says { RowAlone (of_job job) passes.old.groups passes.new.groups
+    ensures worked { RowWroteOnlyFor (of_job job) passes.old.groups passes.new.groups }
+    ensures says { RowOnlyWriterOf (of_job job) passes.old.groups passes.new.groups
         → (s : Setting) → IsSettingOf s vault.now.rack (known passes.old.groups passes.old.index)
         → RepairRow s job group result
         (section_of (known passes.old.groups passes.old.index)
@@ -116,7 +116,7 @@ fn repair_place<A: Archive, R: Wait>(
         }),
         Mend::LogFull => Err(MendFault::LogFull { group: place.group }),
         Mend::Began => unreachable!(),
-        Mend::Went => unreachable!(),
+        Mend::Extends => unreachable!(),
         Mend::Mended => unreachable!(),
         Mend::Passed => unreachable!(),
     }

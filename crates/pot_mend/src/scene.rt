@@ -8,7 +8,7 @@ ghost use Rattle.pot_shared.specs.Sharing.{IsGroupOf};
 
 use pot_bytes::{Block, Geometry, Rack};
 use pot_doubles::{Loss, LossyArchive};
-use pot_followed::Followed;
+use pot_execution::TrackedGroup;
 use pot_group::{StartRefused, are_homes};
 use pot_index::Index;
 use pot_machine::GroupTable;
@@ -81,7 +81,7 @@ fn member(
     if !are_homes(table.columns(), &shelves) {
         return Err(Fail::from("the table is another one"));
     }
-    match Followed::start(alloc, 0, table, shelves) {
+    match TrackedGroup::start(alloc, 0, table, shelves) {
         Ok(group) => Ok(Member { group }),
         Err(
             StartRefused {

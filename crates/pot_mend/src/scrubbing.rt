@@ -1,6 +1,6 @@
 //! The scrub of a group.
 ghost use Rattle.std.specs.Prelude.{◌≡◌, ◌<◌, length};
-ghost use Rattle.pot_rows.specs.Works.{RowWorked, RowAlone};
+ghost use Rattle.pot_rows.specs.Works.{RowWroteOnlyFor, RowOnlyWriterOf};
 ghost use Rattle.pot_replies.specs.Settings.{Setting};
 ghost use Rattle.pot_shared.specs.Ready.{AreReady};
 ghost use Rattle.pot_shared.specs.Works.{of_job, known, section_of, IsSettingOf};
@@ -37,8 +37,8 @@ pub fn scrub_group<A: Archive, R: Wait>(
     requires job { 0 < job }
     ensures ready { AreReady vault.now.rack vault.now.groups passes.new.groups }
     ensures index { passes.new.index ≡ passes.old.index }
-    ensures worked { RowWorked (of_job job) passes.old.groups passes.new.groups }
-    ensures says { RowAlone (of_job job) passes.old.groups passes.new.groups
+    ensures worked { RowWroteOnlyFor (of_job job) passes.old.groups passes.new.groups }
+    ensures says { RowOnlyWriterOf (of_job job) passes.old.groups passes.new.groups
         → (s : Setting) → IsSettingOf s vault.now.rack (known passes.old.groups passes.old.index)
         → ScrubRow s job group result
         (section_of (known passes.old.groups passes.old.index)

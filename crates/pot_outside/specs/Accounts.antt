@@ -14,33 +14,33 @@ pub record Content (H : Type 0) : Type 0 where
 
 -- what a call met of what an object holds: whether the object tells it, what it was before the
 -- call, and what it is after it
-pub record Met (H : Type 0) : Type 0 where
+pub record Transition (H : Type 0) : Type 0 where
   pub tells : Bool
   pub before : H
   pub after : H
 
-abbrev pub met_by : {H : Type 0} → Bool → H → H → Met H
-met_by tells before after = record { tells = tells; before = before; after = after }
+abbrev pub transition_by : {H : Type 0} → Bool → H → H → Transition H
+transition_by tells before after = record { tells = tells; before = before; after = after }
 
 -- of all that an object means, and of what it holds
-abbrev pub met_whole : {A M : Type 0} → Account A M → A → A → Met M
-met_whole account old new = met_by account.tells (account.meaning old) (account.meaning new)
+abbrev pub whole_transition : {A M : Type 0} → Account A M → A → A → Transition M
+whole_transition account old new = transition_by account.tells (account.meaning old) (account.meaning new)
 
-abbrev pub held_in : {H : Type 0} → Met (Content H) → Met H
-held_in m = met_by m.tells m.before.held m.after.held
+abbrev pub held_in : {H : Type 0} → Transition (Content H) → Transition H
+held_in m = transition_by m.tells m.before.held m.after.held
 
-abbrev pub met : {A H : Type 0} → Account A (Content H) → A → A → Met H
-met account old new = held_in (met_whole account old new)
+abbrev pub transition : {A H : Type 0} → Account A (Content H) → A → A → Transition H
+transition account old new = held_in (whole_transition account old new)
 
 -- the first part of a call, until the object held this, and the part since
-abbrev pub until : {H : Type 0} → Met H → H → Met H
-until m held = met_by m.tells m.before held
+abbrev pub until : {H : Type 0} → Transition H → H → Transition H
+until m held = transition_by m.tells m.before held
 
-abbrev pub since : {H : Type 0} → Met H → H → Met H
-since m held = met_by m.tells held m.after
+abbrev pub since : {H : Type 0} → Transition H → H → Transition H
+since m held = transition_by m.tells held m.after
 
 -- what the object holds stays
-abbrev pub Stays : {H : Type 0} → Met H → Type 0
+abbrev pub Stays : {H : Type 0} → Transition H → Type 0
 Stays m = IsTrue m.tells → m.after ≡ m.before
 
 -- the count of faults never falls, and an answer that says so comes only where it rose in the call

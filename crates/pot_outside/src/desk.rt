@@ -1,6 +1,6 @@
 ghost use Rattle.std.specs.Prelude.{◌≡◌, ℕ, List, Option, Some, None, IsTrue, IfOk};
 ghost use Rattle.std.specs.Prelude.{MatchOption, IsErr, IsErrOf};
-ghost use Rattle.pot_outside.specs.Accounts.{Account, Content, Faults, Stays, met};
+ghost use Rattle.pot_outside.specs.Accounts.{Account, Content, Faults, Stays, transition};
 ghost use Rattle.pot_outside.specs.Streams.{Replaces};
 
 use crate::{DeskFault, Failed};
@@ -19,7 +19,7 @@ pub trait Desk {
         ensures told { IsTrue account.tells
             → IfOk result (λ o. MatchOption o ((account.meaning self.old).held ≡ None)
             (λ v. (account.meaning self.old).held ≡ Some v.items)) }
-        ensures keeps { Stays (met account self.old self.new) }
+        ensures keeps { Stays (transition account self.old self.new) }
         ensures cause { Faults account self.old self.new (IsErrOf result DeskFault.Failed) };
 
     /// Puts an image in the place of the one before.

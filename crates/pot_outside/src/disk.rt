@@ -1,5 +1,5 @@
 ghost use Rattle.std.specs.Prelude.{◌≡◌, List, IsTrue, IsErr, length};
-ghost use Rattle.pot_outside.specs.Accounts.{Account, Content, Faults, Stays, met};
+ghost use Rattle.pot_outside.specs.Accounts.{Account, Content, Faults, Stays, transition};
 ghost use Rattle.pot_outside.specs.Disks.{DiskCall, ReadsBytes, WritesBytes, SyncsBytes};
 
 use crate::Failed;
@@ -21,7 +21,7 @@ pub trait Disk {
     fn read(&mut self, at: u64, into: &mut [u8]) -> Result<(), Failed>
         ensures told { IsTrue account.tells
             → ReadsBytes (account.meaning self.old).held at into.new result }
-        ensures keeps { Stays (met account self.old self.new) }
+        ensures keeps { Stays (transition account self.old self.new) }
         ensures cause { Faults account self.old self.new (IsErr result) };
 
     /// Writes bytes from a place on.

@@ -2,7 +2,7 @@ ghost use Rattle.std.specs.Prelude.{◌≡◌, ◌≢◌, ℕ, IsTrue, IfOk, OnO
 ghost use Rattle.std.specs.Prelude.{true, false};
 ghost use Rattle.pot_outside.specs.Counts.{Caused, Rose};
 ghost use Rattle.pot_outside.specs.Archives.{IsMeant};
-ghost use Rattle.pot_outside.specs.Rooms.{Lending, IsLeft};
+ghost use Rattle.pot_outside.specs.Rooms.{RoomState, IsLeft};
 
 use crate::{Archive, Failed, RoomFault};
 
@@ -14,7 +14,7 @@ pub trait Room {
 
     /// What a room means: which archives are out, what it means by each number that is not out, and how
     /// often it failed.
-    ghost meaning: { Self → Lending };
+    ghost meaning: { Self → RoomState };
 
     /// Hands out the archive of a number.
     ///

@@ -2,7 +2,7 @@
 use Rattle.std.proofs.Common.{◌≡◌, inl, inr, ℕ, List, Option, Some, Result, Ok, Err, refl, ap, sym, ◌∙◌, subst, arith, MatchResult}
 use Rattle.std.specs.Prelude.{IsTrue}
 use Rattle.std.proofs.lemmas.Option.{same_Some}
-use Rattle.pot_outside.specs.Accounts.{Met, held_in}
+use Rattle.pot_outside.specs.Accounts.{Transition, held_in}
 use Rattle.pot_bytes.specs.declared.rack.Rack.{Rack}
 use Rattle.pot_options.specs.Options.{Text}
 use Rattle.pot_script.specs.declared.grouping.Step.{Step}
@@ -130,7 +130,7 @@ module _ (answer : Status) (no_fault_said : IsFault answer → ⊥) (had_memory 
     at_desk stop.RoomFault d refused is = d
     at_desk stop.TooWide d refused is = d
 
-  at_script : (rack : Rack) (source : Met (List ℕ)) (told : IsTrue source.tells) (steps : List Step) → IsRead rack source steps
+  at_script : (rack : Rack) (source : Transition (List ℕ)) (told : IsTrue source.tells) (steps : List Step) → IsRead rack source steps
       → (s : Stop) → RefusesScript rack source s → answer ≡ status_of s → ⊥
   at_script rack source told steps read (stop.BadLine number) refused is =
       no_fault read.script (subst (λ b. LeavesAt rack b number) (read.read told) (refused told))
@@ -163,7 +163,7 @@ module _ (answer : Status) (no_fault_said : IsFault answer → ⊥) (had_memory 
   at_keeping stop.TooWide k is = k
 
   -- so what did not stop before its steps ended well
-  refused_so : (sink : Met (List ℕ)) (s : Stop) → Refuses sink s answer → (answer ≡ status_of s → ⊥) → ⊥
+  refused_so : (sink : Transition (List ℕ)) (s : Stop) → Refuses sink s answer → (answer ≡ status_of s → ⊥) → ⊥
   refused_so sink s (inl p) never = never p.0
   refused_so sink s (inr (inl p)) never = no_sink p.0
   refused_so sink s (inr (inr p)) never = had_memory p.0

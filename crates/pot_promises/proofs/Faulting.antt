@@ -8,10 +8,10 @@ use Rattle.pot_bytes.specs.declared.digest.Digest.{Digest}
 use Rattle.pot_bytes.specs.declared.rack.Geometry.{Geometry}
 use Rattle.pot_bytes.specs.declared.rack.Rack.{Rack}
 use Rattle.pot_bytes.proofs.Elements.{contains_later, element_at, none_contained, parted_at}
-use Rattle.pot_outside.specs.Accounts.{Met}
+use Rattle.pot_outside.specs.Accounts.{Transition}
 use Rattle.pot_outside.specs.declared.archive.Marks.{Marks}
 use Rattle.pot_outside.specs.Counts.{Rose}
-use Rattle.pot_outside.specs.Rooms.{Lending}
+use Rattle.pot_outside.specs.Rooms.{RoomState}
 use Rattle.pot_machine.specs.declared.entry.Entry.{Entry}
 use Rattle.pot_machine.specs.declared.entry.Entry.TheVariants as entry
 use Rattle.pot_machine.specs.Column.{homes_of}
@@ -33,7 +33,7 @@ use Rattle.pot_image.specs.Rules.{FitsTable, FitsTogether}
 use Rattle.pot_steps.specs.GroupStep.{skips}
 use Rattle.pot_replies.specs.Fetches.{IsFetchFault}
 use Rattle.pot_replies.specs.Listings.{StatusLine, Group, GroupFull}
-use Rattle.pot_replies.specs.Sections.{Section, Halves, mine, work_of}
+use Rattle.pot_replies.specs.Sections.{Section, MovesThenRest, mine, work_of}
 use Rattle.pot_replies.specs.Settings.{Setting}
 use Rattle.pot_replies.specs.Stores.{IsStoreFault, IsUnkept}
 use Rattle.pot_replies.specs.Renewals.{IsPutFault, IsRenewFault}
@@ -65,7 +65,7 @@ HasFault data_columns column log = (e : Entry) × Contains log e × IsFaultOf da
 last_of : (own sofar : List Entry) (e : Entry) → own ≡ sofar ++ e ∷ [] → Contains own e
 last_of own sofar e is = subst (λ l. Contains l e) (sym is) (Contains-append_right sofar (e ∷ []) e (contains_here e []))
 
-module _ (s : Setting) (job : ℕ) (w : Section) (h : Halves w) (group column : ℕ) where
+module _ (s : Setting) (job : ℕ) (w : Section) (h : MovesThenRest w) (group column : ℕ) where
   abbrev work : Section
   work = work_of w h
 
@@ -283,7 +283,7 @@ of_group t log c n lt has =
 
 -- THE WHOLE
 
-module _ (first last : Contents) (room : Met Lending) (missing : List ℕ) (story : Section) (fits : FitsTogether first) (told : IsTrue room.tells) (leaves : Leaves room missing first last story)
+module _ (first last : Contents) (room : Transition RoomState) (missing : List ℕ) (story : Section) (fits : FitsTogether first) (told : IsTrue room.tells) (leaves : Leaves room missing first last story)
     (group column : ℕ) (read : Table) (log : List Entry) (is_read : slice_get first.tables group ≡ Some read) (is_log : slice_get last.group_logs group ≡ Some log) where
   by_entry : HasFault first.rack.columns column log → HasFailed room.before.means room.after.means missing (archives_of read log column)
   by_entry has =

@@ -8,7 +8,7 @@ use Rattle.pot_script.specs.declared.command.Command.{Command}
 use Rattle.pot_script.specs.declared.grouping.Step.{Step}
 use Rattle.pot_script.specs.declared.grouping.Step.TheVariants as steps
 use Rattle.pot_script.specs.declared.reply.Reply.{Reply}
-use Rattle.pot_replies.specs.Sections.{Section, Halves}
+use Rattle.pot_replies.specs.Sections.{Section, MovesThenRest}
 use Rattle.pot_replies.specs.Sessions.{AreSections, Answered, Answers, jobs_in}
 use Rattle.pot_replies.specs.Settings.{Setting}
 use Rattle.pot_commands.specs.Rows.{Row}
@@ -21,7 +21,7 @@ use Rattle.pot_promises.proofs.Replying.{as_many}
 pub record HasReply (s : Setting) (w : Section) (c : Command) (r : Reply) : Type 0 where
   pub job : ℕ
   pub one : Section
-  pub halves : Halves one
+  pub halves : MovesThenRest one
   pub its : List Reply
   pub row : Row s job c its one halves
   pub first : slice_get its 0 ≡ Some r
@@ -32,7 +32,7 @@ first_of [] later r some first = absurd (omega (arith, some))
 first_of (x ∷ now) later r some first = first
 
 module _ (s : Setting) where
-  here : (x : Step) (job i : ℕ) (now later rs : List Reply) (o w : Section) (h : Halves o) (c : Command) (r : Reply) → Answered (Row s) job (step_of x) now o h
+  here : (x : Step) (job i : ℕ) (now later rs : List Reply) (o w : Section) (h : MovesThenRest o) (c : Command) (r : Reply) → Answered (Row s) job (step_of x) now o h
       → rs ≡ now ++ later → 0 < count_replies s.rack c → StandsAt x i c → slice_get rs i ≡ Some r
       → ((g : ℕ) (e : Entry) → Contains (o.added g) e → Contains (w.added g) e) → HasReply s w c r
   here (steps.One d) job i now later rs o w h c r row is some (none, same) at within =

@@ -25,7 +25,7 @@ use Rattle.pot_image.specs.Images.{Contents}
 use Rattle.pot_image.specs.Rules.{FitsTogether}
 use Rattle.pot_replies.specs.Digests.{NoTwoAlike}
 use Rattle.pot_replies.specs.Fetches.{Found}
-use Rattle.pot_replies.specs.Sections.{Section, Halves, mine, names_after, work_of}
+use Rattle.pot_replies.specs.Sections.{Section, MovesThenRest, mine, names_after, work_of}
 use Rattle.pot_replies.specs.Settings.{Setting}
 use Rattle.pot_replies.specs.Stores.{IsStored}
 use Rattle.pot_commands.proofs.Logs.{names_to}
@@ -50,9 +50,9 @@ pub record IsMet (rack : Rack) (m : Names) (log : List Logged) (name : List ℕ)
 
 module _ (s : Setting) where
   -- the record that was found is that of the name, by the log up to then
-  pub met : (w one : Section) (h : Halves one) (job : ℕ) (name : List ℕ) (kept : Record) (m n : Names) (cut : IsCut one w) (found : Found s job name kept (work_of one h))
+  pub transition : (w one : Section) (h : MovesThenRest one) (job : ℕ) (name : List ℕ) (kept : Record) (m n : Names) (cut : IsCut one w) (found : Found s job name kept (work_of one h))
       → names_after (names_read s.read) w.index_before ≡ m → Replays s.rack m w.index_added n → IsMet s.rack m (cut.index_earlier ++ found.sofar) name kept
-  met w one h job name kept m n cut found at rep =
+  transition w one h job name kept m n cut found at rep =
       let front : List Logged = cut.index_earlier ++ found.sofar in
       let back : List Logged = (plain (Find job name true) ∷ found.later) ++ cut.index_later in
       let parted : w.index_added ≡ front ++ back =
@@ -70,7 +70,7 @@ module _ (s : Setting) where
       record { now = parts.0; to = parts.1; is = subst (λ x. IsRecordOf x name kept) to found.published }
 
   -- the record of a store was published in the section of its step
-  pub published_in : (job : ℕ) (name file : List ℕ) (pieces shards : ℕ) (one : Section) (h : Halves one) (stored : IsStored s job name file pieces shards (mine job (work_of one h)))
+  pub published_in : (job : ℕ) (name file : List ℕ) (pieces shards : ℕ) (one : Section) (h : MovesThenRest one) (stored : IsStored s job name file pieces shards (mine job (work_of one h)))
       → Contains one.index_added (bringing (Publish job name (mark_of stored.kept)) stored.kept)
   published_in job name file pieces shards one h stored =
       let it : Logged = bringing (Publish job name (mark_of stored.kept)) stored.kept in
@@ -119,7 +119,7 @@ gives_back seed first last ss rs session p i q j lt name file of pieces shards s
     let its = put.row.1.1 in
     let file_is = got.row.1.1 in
     let behind = behind_at ss 1 session.replied.ones session.done p q put.one got.one lt session.replied.are put.there got.there in
-    let found = met s session.done got.one got.halves (job_at ss q j) name file_is.kept (names_of first) it.sofar behind.cut file_is.found it.begins it.to in
+    let found = transition s session.done got.one got.halves (job_at ss q j) name file_is.kept (names_of first) it.sofar behind.cut file_is.found it.begins it.to in
     let entry : Logged = bringing (Publish (job_at ss p i) name (mark_of its.kept)) its.kept in
     let has = published_has first.rack (names_of first) found.now (behind.cut.index_earlier ++ file_is.found.sofar) (job_at ss p i) name (mark_of its.kept) its.kept a found.to
     (Contains-append_left behind.cut.index_earlier file_is.found.sofar entry
@@ -190,7 +190,7 @@ gives_back_later seed first last ss rs session p i name file of pieces shards st
     let got = row_at s2 ss2 session2.replied.ones rs2 q j (commands.Fetch name) (replies.File given bytes) session2.replied.answers refl fetched in
     let file_is = got.row.1.1 in
     let cut2 = cut_at ss2 1 session2.replied.ones session2.done q got.one session2.replied.are got.there in
-    let found = met s2 session2.done got.one got.halves (job_at ss2 q j) name file_is.kept (names_of first2) it2.sofar cut2 file_is.found it2.begins it2.to in
+    let found = transition s2 session2.done got.one got.halves (job_at ss2 q j) name file_is.kept (names_of first2) it2.sofar cut2 file_is.found it2.begins it2.to in
     let log : List Logged = cut2.index_earlier ++ file_is.found.sofar in
     same_text file bytes alike
     (file_is.digest

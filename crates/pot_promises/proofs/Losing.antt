@@ -7,8 +7,8 @@ use Rattle.std.proofs.lemmas.List.Elements.{All-contains, Contains-append_cases,
 use Rattle.std.proofs.lemmas.Option.{same_Some}
 use Rattle.pot_bytes.specs.declared.rack.Rack.{Rack}
 use Rattle.pot_bytes.proofs.Elements.{element_at, none_contained, parted_at}
-use Rattle.pot_outside.specs.Accounts.{Met}
-use Rattle.pot_outside.specs.Rooms.{Lending}
+use Rattle.pot_outside.specs.Accounts.{Transition}
+use Rattle.pot_outside.specs.Rooms.{RoomState}
 use Rattle.pot_pointer.proofs.FilterLemmas.{Contains-filter}
 use Rattle.pot_machine.specs.declared.entry.Entry.{Entry}
 use Rattle.pot_machine.specs.declared.entry.Entry.TheVariants as entry
@@ -27,7 +27,7 @@ use Rattle.pot_image.specs.Images.{Contents}
 use Rattle.pot_image.specs.Rules.{FitsTogether}
 use Rattle.pot_replies.specs.Fetches.{IsLost}
 use Rattle.pot_replies.specs.Jobs.{EachIs, is_move_begin, is_move_of}
-use Rattle.pot_replies.specs.Sections.{Section, Halves, Mine, Follows, IsOfJobs, IsOnlyIn, mine, names_after, work_of}
+use Rattle.pot_replies.specs.Sections.{Section, MovesThenRest, JobEntries, Follows, IsOfJobs, IsOnlyIn, mine, names_after, work_of}
 use Rattle.pot_replies.specs.Sessions.{AreSections, Answered, Answers, Rows, jobs_in}
 use Rattle.pot_replies.specs.Settings.{Setting}
 use Rattle.pot_commands.specs.Rows.{Row, IsMigrateReply}
@@ -38,7 +38,7 @@ use Rattle.pot_session.specs.Serving.{Leaves, setting_of}
 use Rattle.pot_session.proofs.LossLemmas.{lost_where_few}
 use Rattle.pot_promises.specs.Answers.{StandsAt, count_replies, job_at}
 use Rattle.pot_promises.specs.Lost.{Fetches, LostIsFew}
-use Rattle.pot_promises.proofs.Giving.{first_names, met, names_of}
+use Rattle.pot_promises.proofs.Giving.{first_names, transition, names_of}
 use Rattle.pot_promises.proofs.Walking.{HasRow, IsCut, cut_at, row_at}
 
 -- ENTRIES THAT SWAP NO ARCHIVE
@@ -67,7 +67,7 @@ swapless_moves : (c : ℕ) (es : List Entry) → EachIs (is_move_of c) es → Sw
 swapless_moves c es each e has = not_moved c e (each e has)
 
 -- what a job logged in one group, and nothing in any other
-swapless_in : (m : Mine) (group : ℕ) → IsOnlyIn group m → Swapless (m.own group) → (g : ℕ) → Swapless (m.own g)
+swapless_in : (m : JobEntries) (group : ℕ) → IsOnlyIn group m → Swapless (m.own group) → (g : ℕ) → Swapless (m.own g)
 swapless_in m group only here g = elim (cases_eq g group) [
   | inl same ↦ subst (λ n. Swapless (m.own n)) (sym same) here
   | inr apart ↦ swapless_none (m.own g) (only.0 g apart)
@@ -102,7 +102,7 @@ module _ (s : Setting) where
   brought_none es none e has = not_brought e (not_among brings es none e has)
 
   -- the line of a batch
-  line_swaps : (job : ℕ) (c : Command) (r : Reply) (w : Section) (h : Halves w) → IsJobLine s.rack c → Row s job c (r ∷ []) w h → (g : ℕ) → Swapless (own job (h.worked g))
+  line_swaps : (job : ℕ) (c : Command) (r : Reply) (w : Section) (h : MovesThenRest w) → IsJobLine s.rack c → Row s job c (r ∷ []) w h → (g : ℕ) → Swapless (own job (h.worked g))
   line_swaps job (commands.Store name file) r w h line row g = brought_none _ (no_moves s job (commands.Store name file) (r ∷ []) (work_of w h) refl row.1 g)
   line_swaps job (commands.Fetch name) r w h line row g = brought_none _ (no_moves s job (commands.Fetch name) (r ∷ []) (work_of w h) refl row.1 g)
   line_swaps job (commands.Renew name geometry) r w h line row g = brought_none _ (no_moves s job (commands.Renew name geometry) (r ∷ []) (work_of w h) refl row.1 g)
@@ -112,7 +112,7 @@ module _ (s : Setting) where
   line_swaps job _ r w h line row g = absurd (let no = line.0 in cc no)
 
   -- each line has a row
-  rows_at : (lines : List Command) (job i : ℕ) (now : List Reply) (w : Section) (h : Halves w) (l : Command) → Rows (Row s) job lines now w h → AllByRecursion (IsJobLine s.rack) lines
+  rows_at : (lines : List Command) (job i : ℕ) (now : List Reply) (w : Section) (h : MovesThenRest w) (l : Command) → Rows (Row s) job lines now w h → AllByRecursion (IsJobLine s.rack) lines
       → slice_get lines i ≡ Some l → IsJobLine s.rack l × ((r : Reply) × Row s (job + i) l (r ∷ []) w h)
   rows_at [] job i now w h l rows each at = absurd (cc at)
   rows_at (x ∷ lines) job zero now w h l (r, more, is, row, rest) each at =
@@ -123,7 +123,7 @@ module _ (s : Setting) where
       (it.0, (it.1.0, subst (λ j. Row s j l (it.1.0 ∷ []) w h) (let e : suc job + i ≡ job + suc i = omega arith in e) it.1.1))
 
   -- what a job of a step logged as its work; a step alone fetches or renews
-  job_swaps : (d : Step) (from i : ℕ) (c : Command) (name : List ℕ) (now : List Reply) (w : Section) (h : Halves w) → IsWholeStep s.rack d → StandsAt d i c → Fetches name c
+  job_swaps : (d : Step) (from i : ℕ) (c : Command) (name : List ℕ) (now : List Reply) (w : Section) (h : MovesThenRest w) → IsWholeStep s.rack d → StandsAt d i c → Fetches name c
       → Answered (Row s) from (step_of d) now w h → (n : ℕ) → n < jobs_in (step_of d) → (g : ℕ) → Swapless (own (from + n) (h.worked g))
   job_swaps (steps.One x) from i c name now w h whole (none, same) fetches row n lt g =
       subst (λ j. Swapless (own j (h.worked g))) (let e : from ≡ from + n = omega (arith, lt) in e) (by fetches)
@@ -141,7 +141,7 @@ module _ (s : Setting) where
       line_swaps (from + n) line.0 it.1.0 w h it.0 it.1.1 g
 
   -- what a step logged is of its jobs, and swaps no archive
-  step_swaps : (d : Step) (from i : ℕ) (c : Command) (name : List ℕ) (now : List Reply) (w : Section) (h : Halves w) → IsWholeStep s.rack d → StandsAt d i c → Fetches name c
+  step_swaps : (d : Step) (from i : ℕ) (c : Command) (name : List ℕ) (now : List Reply) (w : Section) (h : MovesThenRest w) → IsWholeStep s.rack d → StandsAt d i c → Fetches name c
       → 0 < from → IsOfJobs from (jobs_in (step_of d)) w → Answered (Row s) from (step_of d) now w h → SwapsNone w
   step_swaps d from i c name now w h whole stands fetches some its row g e has =
       let parts = parted_at (w.added g) e has in
@@ -174,15 +174,15 @@ parted a b c d e f =
     ap (λ l. a ++ l) (append_assoc b ((c ++ d) ++ e) f ∙ ap (λ l. b ++ l) (append_assoc (c ++ d) e f ∙ append_assoc c d (e ++ f)))
     ∙ sym (append_assoc ((a ++ b) ++ c) d (e ++ f) ∙ (append_assoc (a ++ b) c (d ++ (e ++ f)) ∙ append_assoc a b (c ++ (d ++ (e ++ f)))))
 
-worked_swaps : (one : Section) (h : Halves one) → SwapsNone one → SwapsNone (work_of one h)
+worked_swaps : (one : Section) (h : MovesThenRest one) → SwapsNone one → SwapsNone (work_of one h)
 worked_swaps one h swaps g e has = swaps g e (subst (λ l. Contains l e) (sym (h.parts g)) (Contains-append_right (h.begun g) (h.worked g) e has))
 
-module _ (seed : List ℕ) (first last : Contents) (room : Met Lending) (missing : List ℕ) (story : Section) (fits : FitsTogether first) (leaves : Leaves room missing first last story)
+module _ (seed : List ℕ) (first last : Contents) (room : Transition RoomState) (missing : List ℕ) (story : Section) (fits : FitsTogether first) (leaves : Leaves room missing first last story)
     (done later : Section) (follows : Follows done later story) where
   abbrev s : Setting
   s = setting_of seed first
 
-  stands_in : (one : Section) (h : Halves one) → IsCut one done → BeginWith (work_of one h) last.group_logs
+  stands_in : (one : Section) (h : MovesThenRest one) → IsCut one done → BeginWith (work_of one h) last.group_logs
   stands_in one h cut g log is_log = (
     cut.later g ++ later.added g,
     leaves.logs g log is_log
@@ -192,11 +192,11 @@ module _ (seed : List ℕ) (first last : Contents) (room : Met Lending) (missing
   )
 
   -- the record that was found has room in the rack
-  found_fits : (job : ℕ) (name : List ℕ) (piece number have need : ℕ) (one : Section) (h : Halves one) → IsCut one done → (lost : IsLost s job name piece number have need (work_of one h)) → FitsRack first.rack lost.kept
+  found_fits : (job : ℕ) (name : List ℕ) (piece number have need : ℕ) (one : Section) (h : MovesThenRest one) → IsCut one done → (lost : IsLost s job name piece number have need (work_of one h)) → FitsRack first.rack lost.kept
   found_fits job name piece number have need one h cut lost =
       let parts = went_on first.rack (names_of first) leaves.records.ended done.index_added later.index_added
       (subst (λ l. Replays first.rack (names_of first) l leaves.records.ended) follows.index_is_added leaves.records.replays) in
-      let found = met s done one h job name lost.kept (names_of first) parts.0 cut lost.found
+      let found = transition s done one h job name lost.kept (names_of first) parts.0 cut lost.found
       (ap (names_after (names_of first)) (follows.index_begins ∙ leaves.index_opened)) parts.1 in
       let names : AreNames first.rack found.now = replay_keeps first.rack (names_of first) found.now (cut.index_earlier ++ lost.found.sofar) (first_names first fits) found.to in
       All-contains (FitsRack first.rack) found.now.published lost.kept names.fits found.is.0
@@ -205,7 +205,7 @@ one_reply : (rack : Rack) (name : List ℕ) (c : Command) → Fetches name c →
 one_reply rack name c (inl is) = ap (count_replies rack) is
 one_reply rack name c (inr (geometry, is)) = ap (count_replies rack) is
 
-lost_row : (s : Setting) (job : ℕ) (name of : List ℕ) (c : Command) (piece fragment have need : ℕ) (w : Section) (h : Halves w) → Fetches name c → Row s job c (replies.Lost of piece fragment have need ∷ []) w h
+lost_row : (s : Setting) (job : ℕ) (name of : List ℕ) (c : Command) (piece fragment have need : ℕ) (w : Section) (h : MovesThenRest w) → Fetches name c → Row s job c (replies.Lost of piece fragment have need ∷ []) w h
     → (j : ℕ) × (fragment ≡ suc j) × IsLost s job name piece j have need (work_of w h)
 lost_row s job name of c piece fragment have need w h (inl is) row =
     let its : Row s job (commands.Fetch name) (replies.Lost of piece fragment have need ∷ []) w h = subst (λ d. Row s job d (replies.Lost of piece fragment have need ∷ []) w h) is row in

@@ -53,7 +53,7 @@ use Rattle.pot_image.specs.Rules.{FitsTable}
 use Rattle.pot_replies.specs.Digests.{NoTwoAlike}
 use Rattle.pot_replies.specs.Fetches.{IsOdd, ReadAt, SeenAs, has_seen}
 use Rattle.pot_replies.specs.Joined.{AreJoined, Read, point_in, points_read, share_in, shares_read}
-use Rattle.pot_replies.specs.Sections.{Section, Halves, mine, work_of}
+use Rattle.pot_replies.specs.Sections.{Section, MovesThenRest, mine, work_of}
 use Rattle.pot_replies.specs.Stores.{Placed, Puts, in_group, place_of}
 use Rattle.pot_store.specs.Visits.{Came, Seen, Unknown, block_in, was_seen}
 use Rattle.pot_store.proofs.FitLemmas.{current_fits, fragment_within, point_within}
@@ -64,7 +64,7 @@ use Rattle.pot_promises.specs.Answers.{job_at}
 use Rattle.pot_promises.specs.Chains.{IsSession}
 use Rattle.pot_promises.specs.Odds.{NeverOdd, OddReads}
 use Rattle.pot_promises.specs.Veils.{random_of}
-use Rattle.pot_promises.proofs.Giving.{first_names, led, met, names_of, published_in}
+use Rattle.pot_promises.proofs.Giving.{first_names, led, transition, names_of, published_in}
 use Rattle.pot_promises.proofs.Keeping.{published_stays}
 use Rattle.pot_promises.proofs.Quiet.{Quiet, quiet_both, quiet_none, steps_quiet}
 use Rattle.pot_promises.proofs.Veils.{IsKept, digest_at, kept_at, place_of_number, store_of}
@@ -171,7 +171,7 @@ parted [] (y ∷ e) m x s c l = ap (λ t. y ∷ t) (parted [] e m x s c l)
 parted (y ∷ b) e m x s c l = ap (λ t. y ∷ t) (parted b e m x s c l)
 
 module _ (seed : List ℕ) (first last : Contents) (ss : List Step) (rs : List Reply) (session : IsSession seed first last ss rs) (p i : ℕ)
-    (name file : List ℕ) (pieces shards : ℕ) (put : IsKept seed first last ss rs session p i name file pieces shards) (two : Section) (halves : Halves two)
+    (name file : List ℕ) (pieces shards : ℕ) (put : IsKept seed first last ss rs session p i name file pieces shards) (two : Section) (halves : MovesThenRest two)
     (behind : IsBehind put.one two session.done) where
   abbrev w : Section
   w = work_of two halves
@@ -373,7 +373,7 @@ never_odd seed first last ss rs session p i q j lt name file of pieces shards an
     let behind = behind_at ss 1 session.replied.ones session.done p q put.one was.one lt session.replied.are put.there was.its in
     let earlier : List Logged = behind.cut.index_earlier in
     let sofar : List Logged = was.odd.found.sofar in
-    let found = met s session.done was.one was.halves (job_at ss q j) name was.odd.kept (names_of first) it.sofar behind.cut was.odd.found it.begins it.to in
+    let found = transition s session.done was.one was.halves (job_at ss q j) name was.odd.kept (names_of first) it.sofar behind.cut was.odd.found it.begins it.to in
     let names = first_names first session.fits in
     let quiet = steps_quiet name s ss 1 session.replied.ones rs session.done q was.one session.replied.are session.replied.answers was.its none
     (subst (Quiet name) (sym (session.follows.index_begins ∙ session.opened)) (quiet_none name)) in

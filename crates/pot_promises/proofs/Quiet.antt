@@ -18,7 +18,7 @@ use Rattle.pot_script.specs.declared.grouping.Step.TheVariants as steps
 use Rattle.pot_script.specs.declared.reply.Reply.{Reply}
 use Rattle.pot_script.specs.declared.reply.Reply.TheVariants as replies
 use Rattle.pot_machine.specs.declared.entry.Entry.{Entry}
-use Rattle.pot_replies.specs.Sections.{Section, Halves, Mine, mine, work_of, IsAmong, IsOfJobs}
+use Rattle.pot_replies.specs.Sections.{Section, MovesThenRest, JobEntries, mine, work_of, IsAmong, IsOfJobs}
 use Rattle.pot_replies.specs.Sessions.{AreSections, Answered, Answers, Rows, jobs_in}
 use Rattle.pot_replies.specs.Settings.{Setting}
 use Rattle.pot_commands.specs.Rows.{Row, IsStoreReply, IsFetchReply, IsRenewReply, IsListReply, IsScrubReply, IsRepairReply, IsReplaceReply, IsMigrateReply}
@@ -112,7 +112,7 @@ module _ (name : List ℕ) where
     repair_quiet g (replies.LogFull a) w row = nothing (mine job w).index row.1.only.1
     repair_quiet g _ w row = absurd row
 
-    replace_quiet : (from to : ℕ) (r : Reply) (m : Mine) → IsReplaceReply s job from to r m → Quiet m.index
+    replace_quiet : (from to : ℕ) (r : Reply) (m : JobEntries) → IsReplaceReply s job from to r m → Quiet m.index
     replace_quiet from to (replies.Replaced a b n) m row = nothing m.index row.2.only.1
     replace_quiet from to (replies.NoArchive n) m row = nothing m.index row.1.1.1
     replace_quiet from to (replies.InUse n) m row = nothing m.index row.1.2.1
@@ -129,7 +129,7 @@ module _ (name : List ℕ) where
     migrate_quiet before begun from to _ w row = absurd row
 
     -- a command that did not renew the name, by its row
-    row_quiet : (c : Command) (rs : List Reply) (w : Section) (h : Halves w) → Row s job c rs w h
+    row_quiet : (c : Command) (rs : List Reply) (w : Section) (h : MovesThenRest w) → Row s job c rs w h
         → ((geometry : Geometry) (a : List ℕ) (p n : ℕ) → c ≡ commands.Renew name geometry → rs ≡ replies.Renewed a p n ∷ [] → ⊥)
         → Quiet (own job w.index_added)
     row_quiet (commands.Store of file) [] w h row ne = absurd row.1
@@ -170,7 +170,7 @@ module _ (name : List ℕ) where
     NoneOf Stands now =
         (i : ℕ) (geometry : Geometry) (a : List ℕ) (p n : ℕ) → Stands i (commands.Renew name geometry) → slice_get now i ≡ Some (replies.Renewed a p n) → ⊥
 
-    rows_quiet : (lines : List Command) (job : ℕ) (now : List Reply) (w : Section) (h : Halves w) → Rows (Row s) job lines now w h
+    rows_quiet : (lines : List Command) (job : ℕ) (now : List Reply) (w : Section) (h : MovesThenRest w) → Rows (Row s) job lines now w h
         → NoneOf (λ i c. slice_get lines i ≡ Some c) now → (j : ℕ) → IsAmong job (length lines) j → Quiet (own j w.index_added)
     rows_quiet [] job now w h rows ne j among = absurd (let a = among.0 in let b = among.1 in let no : ⊥ = omega (arith, a, b) in no)
     rows_quiet (l ∷ ls) job now w h (x, more, is, row, rest) ne j among = ⊎_elim
@@ -186,7 +186,7 @@ module _ (name : List ℕ) where
         (cases_eq job j)
 
     -- the jobs of a step that did not renew the name log no such entry
-    jobs_quiet : (d : Step) (job : ℕ) (now : List Reply) (w : Section) (h : Halves w) → Answered (Row s) job (step_of d) now w h
+    jobs_quiet : (d : Step) (job : ℕ) (now : List Reply) (w : Section) (h : MovesThenRest w) → Answered (Row s) job (step_of d) now w h
         → NoneOf (StandsAt d) now → (j : ℕ) → IsAmong job (jobs_in (step_of d)) j → Quiet (own j w.index_added)
     jobs_quiet (steps.One c) job now w h row none j among =
         let low = among.0 in
@@ -195,7 +195,7 @@ module _ (name : List ℕ) where
         (row_quiet s job c now w h row (λ geometry a p n same one. none zero geometry a p n (refl, same) (ap (λ q. slice_get q zero) one)))
     jobs_quiet (steps.Together lines) job now w h rows none j among = rows_quiet lines job now w h rows none j among
 
-    step_quiet : (d : Step) (job : ℕ) (now : List Reply) (w : Section) (h : Halves w) → Answered (Row s) job (step_of d) now w h → IsOfJobs job (jobs_in (step_of d)) w
+    step_quiet : (d : Step) (job : ℕ) (now : List Reply) (w : Section) (h : MovesThenRest w) → Answered (Row s) job (step_of d) now w h → IsOfJobs job (jobs_in (step_of d)) w
         → NoneOf (StandsAt d) now → Quiet w.index_added
     step_quiet d job now w h row of none x has is =
         let parts = parted_at w.index_added x has in

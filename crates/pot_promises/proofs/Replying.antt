@@ -4,7 +4,7 @@ use Rattle.std.specs.Prelude.{slice_get}
 use Rattle.pot_script.specs.declared.command.Command.{Command}
 use Rattle.pot_script.specs.declared.command.Command.TheVariants as commands
 use Rattle.pot_script.specs.declared.reply.Reply.{Reply}
-use Rattle.pot_replies.specs.Sections.{Section, Halves}
+use Rattle.pot_replies.specs.Sections.{Section, MovesThenRest}
 use Rattle.pot_replies.specs.Settings.{Setting}
 use Rattle.pot_replies.specs.Listings.{StatusLine}
 use Rattle.pot_commands.specs.Rows.{Row, replies_from}
@@ -15,7 +15,7 @@ length-replies_from g [] = refl
 length-replies_from g (l ∷ ls) = ap suc (length-replies_from (suc g) ls)
 
 -- each command has as many replies as its kind says
-pub as_many : (s : Setting) (job : ℕ) (c : Command) (rs : List Reply) (w : Section) (h : Halves w) → Row s job c rs w h → length rs ≡ count_replies s.rack c
+pub as_many : (s : Setting) (job : ℕ) (c : Command) (rs : List Reply) (w : Section) (h : MovesThenRest w) → Row s job c rs w h → length rs ≡ count_replies s.rack c
 as_many s job (commands.Store name file) [] w h row = absurd row.1
 as_many s job (commands.Store name file) (r ∷ []) w h row = refl
 as_many s job (commands.Store name file) (r ∷ q ∷ rs) w h row = absurd row.1

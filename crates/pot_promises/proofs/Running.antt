@@ -3,9 +3,9 @@ use Rattle.std.proofs.Common.{◌≡◌, ◌⊎◌, inl, inr, ℕ, List, [], ◌
 use Rattle.std.specs.Prelude.{IfErr, IsTrue, None}
 use Rattle.std.proofs.lemmas.Grind.{flat_map-append}
 use Rattle.std.proofs.lemmas.List.{take-append-drop}
-use Rattle.pot_outside.specs.Accounts.{Met, held_in, since}
+use Rattle.pot_outside.specs.Accounts.{Transition, held_in, since}
 use Rattle.pot_outside.specs.Failing.{MayLeave}
-use Rattle.pot_outside.specs.Rooms.{Lending}
+use Rattle.pot_outside.specs.Rooms.{RoomState}
 use Rattle.pot_script.specs.Replies.{reply_text}
 use Rattle.pot_script.specs.declared.command.Command.{Command}
 use Rattle.pot_script.specs.declared.grouping.Step.{Step}
@@ -55,7 +55,7 @@ not_done stop.TooWide d = d
 not_done stop.NoMemory d = d
 
 -- what was refused is not done
-refused_not : (sink : Met (List ℕ)) (s : Stop) (answer : Status) → Refuses sink s answer → IsDone answer → ⊥
+refused_not : (sink : Transition (List ℕ)) (s : Stop) (answer : Status) → Refuses sink s answer → IsDone answer → ⊥
 refused_not sink s answer (inl p) d = not_done s (subst IsDone p.0 d)
 refused_not sink s answer (inr (inl p)) d = subst IsDone p.0 d
 refused_not sink s answer (inr (inr p)) d = subst IsDone p.0 d
@@ -80,7 +80,7 @@ whole_follows w = record {
 }
 
 -- the log of each group of a session that closed leads from its first table
-all_lead : (room : Met Lending) (missing : List ℕ) (first last : Contents) (w : Section) → Leaves room missing first last w → AllLead first.tables w
+all_lead : (room : Transition RoomState) (missing : List ℕ) (first last : Contents) (w : Section) → Leaves room missing first last w → AllLead first.tables w
 all_lead room missing first last w leaves g t at =
     let lt = slice_get_within first.tables g t at in
     let many = leaves.groups.count in
@@ -92,7 +92,7 @@ all_lead room missing first last w leaves g t at =
 
 -- A SESSION THAT CLOSED
 
-module _ (seed : List ℕ) (room : Met Lending) (missing : List ℕ) (first last : Contents) (w : Section) (fits : FitsTogether first) (leaves : Leaves room missing first last w) where
+module _ (seed : List ℕ) (room : Transition RoomState) (missing : List ℕ) (first last : Contents) (w : Section) (fits : FitsTogether first) (leaves : Leaves room missing first last w) where
   -- these steps have their replies when the logs had gained so much
   session_of : (ss : List Step) (rs : List Reply) (done later : Section) → Follows done later w → Replied (Row (setting_of seed first)) 1 (steps_of ss) rs done → IsSession seed first last ss rs
   session_of ss rs done later follows replied = record {
@@ -115,15 +115,15 @@ module _ (seed : List ℕ) (room : Met Lending) (missing : List ℕ) (first last
 -- WHAT WAS WRITTEN
 
 -- first bytes of the texts of these replies
-abbrev WroteFirst : Met (List ℕ) → List Reply → Type 0
+abbrev WroteFirst : Transition (List ℕ) → List Reply → Type 0
 WroteFirst sink rs = IsTrue sink.tells → (more : List ℕ) × (sink.before ++ texts_of rs ≡ sink.after ++ more)
 
 -- so it is where it is the texts of all of them
-all_written : (sink : Met (List ℕ)) (rs : List Reply) → Wrote sink (texts_of rs) → WroteFirst sink rs
+all_written : (sink : Transition (List ℕ)) (rs : List Reply) → Wrote sink (texts_of rs) → WroteFirst sink rs
 all_written sink rs wrote told = ([], sym (wrote told) ∙ sym (append-nil sink.after))
 
 -- and where it is first bytes of the last
-cut_written : (sink : Met (List ℕ)) (rs its : List Reply) (count : ℕ) → sink.after ≡ sink.before ++ (texts_of rs ++ take count (texts_of its))
+cut_written : (sink : Transition (List ℕ)) (rs its : List Reply) (count : ℕ) → sink.after ≡ sink.before ++ (texts_of rs ++ take count (texts_of its))
     → (more : List ℕ) × (sink.before ++ texts_of (rs ++ its) ≡ sink.after ++ more)
 cut_written sink rs its count is = (
   drop count (texts_of its),
@@ -136,7 +136,7 @@ cut_written sink rs its count is = (
 -- WHAT THE DESK HOLDS
 
 -- where it did not take an image
-refused_by : (desk : Met (Option (List ℕ))) (bytes : List ℕ) (s : Stop) → IsKeepStop s → Keeps desk bytes (Err s) → MayLeave desk.before bytes desk.after
+refused_by : (desk : Transition (Option (List ℕ))) (bytes : List ℕ) (s : Stop) → IsKeepStop s → Keeps desk bytes (Err s) → MayLeave desk.before bytes desk.after
 refused_by desk bytes stop.DeskFault which is = is
 refused_by desk bytes stop.NoMemory which is = inl is
 refused_by desk bytes stop.Words which is = absurd which
@@ -152,7 +152,7 @@ refused_by desk bytes stop.RoomFault which is = absurd which
 refused_by desk bytes stop.TooWide which is = absurd which
 
 -- and by how it took the image of a close
-left_by : (desk : Met (Option (List ℕ))) (bytes : List ℕ) (r : Result (Unit {0}) Stop) → IfErr r IsKeepStop → Keeps desk bytes r → MayLeave desk.before bytes desk.after
+left_by : (desk : Transition (Option (List ℕ))) (bytes : List ℕ) (r : Result (Unit {0}) Stop) → IfErr r IsKeepStop → Keeps desk bytes r → MayLeave desk.before bytes desk.after
 left_by desk bytes (Ok u) which is = inr (inl is)
 left_by desk bytes (Err s) which is = refused_by desk bytes s which is
 
@@ -284,27 +284,27 @@ module _ (seed : List ℕ) (seen : Seen) (answer : Status) (told : IsTrue seen.d
 
 module _ (seed : List ℕ) (seen : Seen) (from left : Contents) (sofar : Later from left) (is_image : IsImage left) (has : seen.desk.before.held ≡ Some (image_bytes left))
     (bytes : List ℕ) (there : seen.desk.after.held ≡ Some bytes) where
-  abbrev Went : Type 0
-  Went = (now : Contents) × (bytes ≡ image_bytes now) × Later from now
+  abbrev Extends : Type 0
+  Extends = (now : Contents) × (bytes ≡ image_bytes now) × Later from now
 
   -- the desk holds this one now
-  went : (now : Contents) → seen.desk.after.held ≡ Some (image_bytes now) → Later from now → Went
+  went : (now : Contents) → seen.desk.after.held ≡ Some (image_bytes now) → Later from now → Extends
   went now is later = (now, same_Some bytes (image_bytes now) (sym there ∙ is), later)
 
-  not_none : seen.desk.after.held ≡ None → Went
+  not_none : seen.desk.after.held ≡ None → Extends
   not_none none = (let no = sym there ∙ none in absurd (cc no))
 
   -- the session that follows the one that left it
   begins : (i : Image) → HoldsImage seen.desk.before.held i → Begins left (begun (contents i))
   begins i was_held = runs_go_on left seen.desk.before.held i is_image has was_held
 
-  closed_by : (c : ClosedAs seed seen) → MayLeave (Some (image_bytes (begun (contents c.read)))) (image_bytes c.last) seen.desk.after.held → Went
+  closed_by : (c : ClosedAs seed seen) → MayLeave (Some (image_bytes (begun (contents c.read)))) (image_bytes c.last) seen.desk.after.held → Extends
   closed_by c (inl is) = went (begun (contents c.read)) is (Begun sofar (begins c.read c.was_held))
   closed_by c (inr (inl is)) =
       went c.last is (More sofar (begins c.read c.was_held) (record { story = c.session.story.index_added; rack = c.session.rack; records = c.session.records }))
   closed_by c (inr (inr none)) = not_none none
 
-  later_by : ClosedAs seed seen ⊎ NoneClosed (held_in seen.desk) → Went
+  later_by : ClosedAs seed seen ⊎ NoneClosed (held_in seen.desk) → Extends
   later_by (inl c) = closed_by c c.left
   later_by (inr (inl same)) = went left (same ∙ has) sofar
   later_by (inr (inr (inl none))) = not_none none

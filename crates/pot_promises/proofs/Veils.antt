@@ -35,7 +35,7 @@ use Rattle.pot_script.specs.declared.reply.Reply.{Reply}
 use Rattle.pot_script.specs.declared.reply.Reply.TheVariants as replies
 use Rattle.pot_image.specs.Images.{Contents}
 use Rattle.pot_image.specs.Rules.{FitsTogether}
-use Rattle.pot_replies.specs.Sections.{Section, Halves, mine, work_of}
+use Rattle.pot_replies.specs.Sections.{Section, MovesThenRest, mine, work_of}
 use Rattle.pot_replies.specs.Stores.{IsStored, Placed, Puts, in_group, place_of}
 use Rattle.pot_store.specs.Drawing.{random_from}
 use Rattle.pot_store.proofs.FitLemmas.{current_fits, many_places}
@@ -54,7 +54,7 @@ pub record IsKept (seed : List ℕ) (first last : Contents) (ss : List Step) (rs
     (name file : List ℕ) (pieces shards : ℕ) : Type 0 where
   pub one : Section
   pub there : slice_get session.replied.ones p ≡ Some one
-  pub halves : Halves one
+  pub halves : MovesThenRest one
   pub begun : (g : ℕ) → own (job_at ss p i) (halves.begun g) ≡ []
   pub its : IsStored (setting_of seed first) (job_at ss p i) name file pieces shards (mine (job_at ss p i) (work_of one halves))
   pub fits : FitsRack first.rack its.kept

@@ -8,7 +8,7 @@ use Rattle.pot_index.specs.declared.entry.Logged.{Logged}
 use Rattle.pot_index.specs.Entries as index
 use Rattle.pot_machine.specs.declared.entry.Entry.{Entry}
 use Rattle.pot_machine.specs.Logs.{own}
-use Rattle.pot_replies.specs.Sections.{Section, Halves, Follows}
+use Rattle.pot_replies.specs.Sections.{Section, MovesThenRest, Follows}
 use Rattle.pot_replies.specs.Sessions.{AreSections, Answered, Answers, Rows, jobs_in, jobs_of}
 use Rattle.pot_replies.specs.Settings.{Setting}
 use Rattle.pot_replies.proofs.SessionLemmas.{own_in_sections}
@@ -25,7 +25,7 @@ module _ (s : Setting) where
   -- THE REPLY OF A PLACE
 
   -- a line of a batch has the reply of its place
-  pub line_row : (lines : List Command) (job i : ℕ) (now : List Reply) (w : Section) (h : Halves w) (c : Command) (r : Reply) (later : List Reply) → Rows (Row s) job lines now w h
+  pub line_row : (lines : List Command) (job i : ℕ) (now : List Reply) (w : Section) (h : MovesThenRest w) (c : Command) (r : Reply) (later : List Reply) → Rows (Row s) job lines now w h
       → slice_get lines i ≡ Some c → slice_get (now ++ later) i ≡ Some r → Row s (job + i) c (r ∷ []) w h
   line_row [] job i now w h c r later rows at first = absurd (cc at)
   line_row (l ∷ ls) job zero now w h c r later (x, more, is, row, rest) at first =
@@ -37,7 +37,7 @@ module _ (s : Setting) where
       (line_row ls (suc job) i more w h c r later rest at (subst (λ n. slice_get (n ++ later) (suc i) ≡ Some r) is first))
 
   -- and so has a command alone that has one
-  one_row : (d : Command) (job : ℕ) (now : List Reply) (w : Section) (h : Halves w) (c : Command) (r : Reply) (later : List Reply) → Row s job d now w h
+  one_row : (d : Command) (job : ℕ) (now : List Reply) (w : Section) (h : MovesThenRest w) (c : Command) (r : Reply) (later : List Reply) → Row s job d now w h
       → d ≡ c → count_replies s.rack c ≡ 1 → slice_get (now ++ later) 0 ≡ Some r → Row s job c (r ∷ []) w h
   one_row d job [] w h c r later row same one first =
       absurd (let none : 0 ≡ 1 = as_many s job d [] w h row ∙ (ap (count_replies s.rack) same ∙ one) in let no : ⊥ = omega (arith, none) in no)
@@ -46,23 +46,23 @@ module _ (s : Setting) where
   one_row d job (x ∷ y ∷ now) w h c r later row same one first =
       absurd (let two : suc (suc (length now)) ≡ 1 = as_many s job d (x ∷ y ∷ now) w h row ∙ (ap (count_replies s.rack) same ∙ one) in let no : ⊥ = omega (arith, two) in no)
 
-  its_row : (d : Step) (job i : ℕ) (now : List Reply) (w : Section) (h : Halves w) (c : Command) (r : Reply) (later : List Reply) → Answered (Row s) job (step_of d) now w h
+  its_row : (d : Step) (job i : ℕ) (now : List Reply) (w : Section) (h : MovesThenRest w) (c : Command) (r : Reply) (later : List Reply) → Answered (Row s) job (step_of d) now w h
       → StandsAt d i c → count_replies s.rack c ≡ 1 → slice_get (now ++ later) i ≡ Some r → Row s (job + i) c (r ∷ []) w h
   its_row (steps.One d) job i now w h c r later row (none, same) one first =
       subst (λ j. Row s j c (r ∷ []) w h) (let e : job ≡ job + i = omega (arith, none) in e)
       (one_row d job now w h c r later row same one (subst (λ n. slice_get (now ++ later) n ≡ Some r) none first))
   its_row (steps.Together lines) job i now w h c r later rows at one first = line_row lines job i now w h c r later rows at first
 
-  rows_many : (lines : List Command) (job : ℕ) (now : List Reply) (w : Section) (h : Halves w) → Rows (Row s) job lines now w h → length now ≡ length lines
+  rows_many : (lines : List Command) (job : ℕ) (now : List Reply) (w : Section) (h : MovesThenRest w) → Rows (Row s) job lines now w h → length now ≡ length lines
   rows_many [] job now w h rows = ap length rows
   rows_many (l ∷ ls) job now w h (x, more, is, row, rest) = ap length is ∙ ap suc (rows_many ls (suc job) more w h rest)
 
-  step_many : (d : Step) (job : ℕ) (now : List Reply) (w : Section) (h : Halves w) → Answered (Row s) job (step_of d) now w h → length now ≡ count_in s.rack d
+  step_many : (d : Step) (job : ℕ) (now : List Reply) (w : Section) (h : MovesThenRest w) → Answered (Row s) job (step_of d) now w h → length now ≡ count_in s.rack d
   step_many (steps.One c) job now w h row = as_many s job c now w h row
   step_many (steps.Together lines) job now w h rows = rows_many lines job now w h rows
 
   -- what is answered in a later step has its reply behind those of the first
-  pub answered_behind : (d : Step) (ss : List Step) (job : ℕ) (now later rs : List Reply) (w : Section) (h : Halves w) (k i : ℕ) (c : Command) (r : Reply)
+  pub answered_behind : (d : Step) (ss : List Step) (job : ℕ) (now later rs : List Reply) (w : Section) (h : MovesThenRest w) (k i : ℕ) (c : Command) (r : Reply)
       → Answered (Row s) job (step_of d) now w h → rs ≡ now ++ later → IsAnswered s.rack (d ∷ ss) rs (suc k) i c r → IsAnswered s.rack ss later k i c r
   answered_behind d ss job now later rs w h k i c r row is answered = record {
     step = answered.step;
@@ -75,7 +75,7 @@ module _ (s : Setting) where
   }
 
   -- and what is answered in the first has its row
-  answered_here : (d : Step) (ss : List Step) (job : ℕ) (now later rs : List Reply) (w : Section) (h : Halves w) (i : ℕ) (c : Command) (r : Reply)
+  answered_here : (d : Step) (ss : List Step) (job : ℕ) (now later rs : List Reply) (w : Section) (h : MovesThenRest w) (i : ℕ) (c : Command) (r : Reply)
       → Answered (Row s) job (step_of d) now w h → rs ≡ now ++ later → count_replies s.rack c ≡ 1 → IsAnswered s.rack (d ∷ ss) rs zero i c r → Row s (job + i) c (r ∷ []) w h
   answered_here d ss job now later rs w h i c r row is one answered =
       its_row d job i now w h c r later row (subst (λ x. StandsAt x i c) (sym (same_Some d answered.step answered.there)) answered.command) one
@@ -93,7 +93,7 @@ module _ (s : Setting) where
   }
 
   -- and so is one of a later step
-  pub is_answered_behind : (d : Step) (ss : List Step) (job : ℕ) (now later rs : List Reply) (w : Section) (h : Halves w) (k i : ℕ) (c : Command) (r : Reply)
+  pub is_answered_behind : (d : Step) (ss : List Step) (job : ℕ) (now later rs : List Reply) (w : Section) (h : MovesThenRest w) (k i : ℕ) (c : Command) (r : Reply)
       → Answered (Row s) job (step_of d) now w h → rs ≡ now ++ later → IsAnswered s.rack ss later k i c r → IsAnswered s.rack (d ∷ ss) rs (suc k) i c r
   is_answered_behind d ss job now later rs w h k i c r row is answered = record {
     step = answered.step;
@@ -109,7 +109,7 @@ module _ (s : Setting) where
   pub record HasRow (ones : List Section) (k job : ℕ) (c : Command) (r : Reply) : Type 0 where
     pub one : Section
     pub there : slice_get ones k ≡ Some one
-    pub halves : Halves one
+    pub halves : MovesThenRest one
     pub row : Row s job c (r ∷ []) one halves
 
   row_from : (ss : List Step) (job : ℕ) (ones : List Section) (rs : List Reply) (k i : ℕ) (c : Command) (r : Reply)

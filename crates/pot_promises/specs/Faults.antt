@@ -1,9 +1,9 @@
 -- Where a reply `fault` comes from.
 use Rattle.std.specs.Prelude.{◌≡◌, ℕ, IsTrue, List, Contains, Some, slice_get}
-use Rattle.pot_outside.specs.Accounts.{Met}
+use Rattle.pot_outside.specs.Accounts.{Transition}
 use Rattle.pot_outside.specs.Archives.{Meaning}
 use Rattle.pot_outside.specs.Counts.{Rose}
-use Rattle.pot_outside.specs.Rooms.{Lending}
+use Rattle.pot_outside.specs.Rooms.{RoomState}
 use Rattle.pot_machine.specs.declared.entry.Entry.{Entry}
 use Rattle.pot_machine.specs.Table.{Table}
 use Rattle.pot_group.specs.Causes.{archives_of}
@@ -32,7 +32,7 @@ HasFailed meant means missing numbers =
 -- home or target in the image that was read, or one that the group's log brought to the column.
 abbrev pub FaultsAreCounted : Type 0
 FaultsAreCounted =
-    (seed : List ℕ) (first last : Contents) (room : Met Lending) (missing : List ℕ)
+    (seed : List ℕ) (first last : Contents) (room : Transition RoomState) (missing : List ℕ)
     (story : Section)
     → FitsTogether first → IsTrue room.tells → Leaves room missing first last story
     → (ss : List Step) (rs : List Reply) (done later : Section) → Follows done later story

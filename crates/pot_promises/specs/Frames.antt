@@ -1,9 +1,9 @@
 -- What the archives of a session may hold and may have heard after it: what they did before it, and
 -- what its logs name.
 use Rattle.std.specs.Prelude.{◌≡◌, ◌⊎◌, ◌<◌, ◌^◌, ◌++◌, ℕ, IsTrue, List, [], Contains, Some, slice_get}
-use Rattle.pot_outside.specs.Accounts.{Met}
+use Rattle.pot_outside.specs.Accounts.{Transition}
 use Rattle.pot_outside.specs.Archives.{Meaning}
-use Rattle.pot_outside.specs.Rooms.{Lending}
+use Rattle.pot_outside.specs.Rooms.{RoomState}
 use Rattle.pot_machine.specs.declared.entry.Entry.{Entry}
 use Rattle.pot_machine.specs.Table.{Table, archives_in}
 use Rattle.pot_steps.specs.declared.flight.Flight.{Flight}
@@ -34,7 +34,7 @@ pub record IsFramed (read : Table) (log : List Entry) (givens : List (List ℕ))
 -- their blinds, and went on as its log says.
 abbrev pub FrameOfRun : Type 0
 FrameOfRun =
-    (first last : Contents) (room : Met Lending) (missing : List ℕ) (story : Section)
+    (first last : Contents) (room : Transition RoomState) (missing : List ℕ) (story : Section)
     → IsTrue room.tells → Leaves room missing first last story
     → (group : ℕ) (read : Table) (log : List Entry)
     → slice_get first.tables group ≡ Some read → slice_get last.group_logs group ≡ Some log

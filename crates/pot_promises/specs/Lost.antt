@@ -2,8 +2,8 @@
 use Rattle.std.specs.Prelude.{◌≡◌, ◌⊎◌, ℕ, suc, IsTrue, List}
 use Rattle.std.specs.List.{AllByRecursion}
 use Rattle.pot_bytes.specs.declared.rack.Geometry.{Geometry}
-use Rattle.pot_outside.specs.Accounts.{Met}
-use Rattle.pot_outside.specs.Rooms.{Lending}
+use Rattle.pot_outside.specs.Accounts.{Transition}
+use Rattle.pot_outside.specs.Rooms.{RoomState}
 use Rattle.pot_machine.specs.declared.entry.Entry.{Entry}
 use Rattle.pot_script.specs.declared.command.Command.{Command}
 use Rattle.pot_script.specs.declared.command.Command.TheVariants as commands
@@ -44,7 +44,7 @@ pub record IsFew (s : Setting) (job : ℕ) (name : List ℕ) (piece fragment hav
 -- its job.
 abbrev pub LostIsFew : Type 0
 LostIsFew =
-    (seed : List ℕ) (first last : Contents) (room : Met Lending) (missing : List ℕ)
+    (seed : List ℕ) (first last : Contents) (room : Transition RoomState) (missing : List ℕ)
     (story : Section)
     → FitsTogether first → IsTrue room.tells → Leaves room missing first last story
     → AreBack missing first.tables last.group_logs

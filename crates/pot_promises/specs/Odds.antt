@@ -10,7 +10,7 @@ use Rattle.pot_script.specs.declared.reply.Reply.TheVariants as replies
 use Rattle.pot_image.specs.Images.{Contents}
 use Rattle.pot_replies.specs.Digests.{NoTwoAlike}
 use Rattle.pot_replies.specs.Fetches.{IsOdd}
-use Rattle.pot_replies.specs.Sections.{Section, Halves, work_of}
+use Rattle.pot_replies.specs.Sections.{Section, MovesThenRest, work_of}
 use Rattle.pot_session.specs.Serving.{setting_of}
 use Rattle.pot_promises.specs.Answers.{IsAnswered, job_at}
 use Rattle.pot_promises.specs.Chains.{IsSession}
@@ -21,7 +21,7 @@ use Rattle.pot_promises.specs.Veils.{stream_blocks}
 pub record WasOdd (read : List (List ℕ)) (seed : List ℕ) (first : Contents) (ss : List Step)
     (ones : List Section) (q j : ℕ) (name : List ℕ) (wanted got : Digest) : Type 0 where
   pub one : Section
-  pub halves : Halves one
+  pub halves : MovesThenRest one
   pub its : slice_get ones q ≡ Some one
   pub odd : IsOdd (Some read) (setting_of seed first) (job_at ss q j) name wanted got
       (work_of one halves)

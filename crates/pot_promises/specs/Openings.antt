@@ -1,8 +1,8 @@
 -- What the openings of a session log where no count rises in it.
 use Rattle.std.specs.Prelude.{◌≡◌, ◌⊎◌, ◌<◌, ℕ, Bool, IsTrue, List, Contains, Some, slice_get}
-use Rattle.pot_outside.specs.Accounts.{Met}
+use Rattle.pot_outside.specs.Accounts.{Transition}
 use Rattle.pot_outside.specs.Archives.{Meaning}
-use Rattle.pot_outside.specs.Rooms.{Lending}
+use Rattle.pot_outside.specs.Rooms.{RoomState}
 use Rattle.pot_machine.specs.declared.entry.Entry.{Entry}
 use Rattle.pot_machine.specs.Table.{Table, archives_in, width}
 use Rattle.pot_steps.specs.Holdings.{stripe_of}
@@ -39,7 +39,7 @@ AreUndisturbed meant means missing t =
 -- the room meant, and nothing else.
 abbrev pub OpeningsAreTrue : Type 0
 OpeningsAreTrue =
-    (first last : Contents) (room : Met Lending) (missing : List ℕ)
+    (first last : Contents) (room : Transition RoomState) (missing : List ℕ)
     (story : Section)
     → FitsTogether first → IsTrue room.tells → Leaves room missing first last story
     → (group : ℕ) (read : Table) → slice_get first.tables group ≡ Some read

@@ -1,6 +1,6 @@
 -- What a run of the program is, and what it leaves on its desk.
 use Rattle.std.specs.Prelude.{◌≡◌, ◌⊎◌, ◌++◌, ℕ, IsTrue, List, Option, Some, None}
-use Rattle.pot_outside.specs.Accounts.{Met, held_in}
+use Rattle.pot_outside.specs.Accounts.{Transition, held_in}
 use Rattle.pot_outside.specs.Failing.{MayLeave}
 use Rattle.pot_script.specs.declared.grouping.Step.{Step}
 use Rattle.pot_script.specs.declared.reply.Reply.{Reply}
@@ -66,7 +66,7 @@ pub record ClosedAs (seed : List ℕ) (seen : Seen) : Type 0 where
       seen.desk.after.held
 
 -- No session closed: the desk holds what it held, the image with which the session began, or none.
-abbrev pub NoneClosed : Met (Option (List ℕ)) → Type 0
+abbrev pub NoneClosed : Transition (Option (List ℕ)) → Type 0
 NoneClosed desk =
     (desk.after ≡ desk.before) ⊎ ((desk.after ≡ None)
     ⊎ ((read : Image) × HoldsImage desk.before read

@@ -7,7 +7,7 @@ use Rattle.pot_machine.specs.declared.entry.Entry.{Entry}
 use Rattle.pot_machine.specs.declared.entry.Entry.TheVariants.{Gone, Fault}
 use Rattle.pot_machine.specs.Logs.{is_of, own}
 use Rattle.pot_index.specs.declared.record.Record.{Record}
-use Rattle.pot_replies.specs.Sections.{Section, Mine, mine}
+use Rattle.pot_replies.specs.Sections.{Section, JobEntries, mine}
 use Rattle.pot_replies.specs.Settings.{Setting}
 use Rattle.pot_replies.specs.Fetches.{FirstShort, IsUnseen, HopelessIf, IsHopeless, FailsAt}
 use Rattle.pot_replies.specs.Laws.{LostNotFault}
@@ -21,7 +21,7 @@ tell (suc a) (suc b) = ⊎_elim (λ (l : a < b). inl (omega (arith, l)))
     (λ (r : (a ≡ b) ⊎ (b < a)). inr (⊎_elim (λ (e : a ≡ b). inl (ap suc e)) (λ (l : b < a). inr (omega (arith, l))) r)) (tell a b)
 
 -- there is one first fragment with too few points seen
-module _ (kept : Record) (m : Mine) where
+module _ (kept : Record) (m : JobEntries) where
   not_before : (i j have k l have' : ℕ) → FirstShort kept i j have m → FirstShort kept k l have' m → (i < k) ⊎ ((i ≡ k) × (j < l)) → ⊥
   not_before i j have k l have' one two less =
       let all = two.before i j one.in_fragments less in
@@ -70,7 +70,7 @@ not_both false s job column w p (sofar, e, is, gone) (before, t, ends, why) =
 
 pub lost_not_fault : LostNotFault
 lost_not_fault s job name piece fragment have need group column w lost fault same =
-    let m : Mine = mine job w in
+    let m : JobEntries = mine job w in
     let short : FirstShort fault.kept piece fragment have m = subst (λ (k : Record). FirstShort k piece fragment have m) same lost.short in
     let first = same_first fault.kept m piece fragment have fault.piece fault.fragment fault.have short fault.short in
     let unseen : IsUnseen lost.kept piece fragment m fault.point =

@@ -12,7 +12,7 @@ use Rattle.pot_index.specs.declared.record.Record.{Record}
 use Rattle.pot_index.specs.Entries.{plain, bringing}
 use Rattle.pot_index.specs.Records.{mark_of}
 use Rattle.pot_steps.specs.GroupStep.{skips, gone_entries}
-use Rattle.pot_replies.specs.Sections.{Section, Mine, NoneInGroups, Widens}
+use Rattle.pot_replies.specs.Sections.{Section, JobEntries, NoneInGroups, Widens}
 use Rattle.pot_replies.specs.Settings.{Setting}
 use Rattle.pot_replies.specs.Stores.{Placed}
 use Rattle.pot_replies.specs.Renewals.{Fetched, AllPut, RenewStops, IsPutFault}
@@ -89,7 +89,7 @@ often_stands s job name w w' wide is = record {
   kept = is.kept;
   found = found_stands job w w' wide [] s name is.kept is.found;
   many = is.many;
-  groups = subst (λ (m : Mine). NoneInGroups m) (sym (mine_stays job w w' wide)) is.groups;
+  groups = subst (λ (m : JobEntries). NoneInGroups m) (sym (mine_stays job w w' wide)) is.groups;
 }
 
 pub often_late_stands : OftenLateStands

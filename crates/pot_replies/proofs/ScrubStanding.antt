@@ -9,7 +9,7 @@ use Rattle.pot_machine.specs.Slot.{is_live, is_unsound}
 use Rattle.pot_machine.specs.Table.{slot_at}
 use Rattle.pot_machine.specs.Logs.{own, replayed}
 use Rattle.pot_replies.specs.Jobs.{is_seen, is_gone, is_mended, is_left, is_relay, is_move_of, is_copied, place_in, EachIs, Ascend}
-use Rattle.pot_replies.specs.Sections.{Section, Mine, mine, Widens, IsOnlyIn, AlwaysAt}
+use Rattle.pot_replies.specs.Sections.{Section, JobEntries, mine, Widens, IsOnlyIn, AlwaysAt}
 use Rattle.pot_replies.specs.Settings.{Setting}
 use Rattle.pot_replies.specs.Scrubs.{AreLooks, AreRelays, PassesOnce, WasAt, WereLive}
 use Rattle.pot_replies.specs.Laws.{ScrubbedStands, ScrubFaultStands, ScrubLogFullStands, RepairedStands, RepairFaultStands, RepairLogFullStands, MigratedStands, StepLogFullStands}
@@ -17,7 +17,7 @@ use Rattle.pot_replies.proofs.Standing.{ahead, same_own, mine_stays, moment_stan
 
 module _ (job : ℕ) (w w' : Section) (wide : Widens job w w') where
   only_stands : (g : ℕ) → IsOnlyIn g (mine job w) → IsOnlyIn g (mine job w')
-  only_stands g is = subst (λ (m : Mine). IsOnlyIn g m) (sym (mine_stays job w w' wide)) is
+  only_stands g is = subst (λ (m : JobEntries). IsOnlyIn g m) (sym (mine_stays job w w' wide)) is
 
   -- what was so all the time in the wider section was so in this one
   always_in : (s : Setting) (test : SlotState → Bool) (g n c : ℕ) → AlwaysAt test (replayed (s.first g) (w'.before g)) (w'.added g) n c → AlwaysAt test (replayed (s.first g) (w.before g)) (w.added g) n c

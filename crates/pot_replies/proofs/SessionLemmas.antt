@@ -5,7 +5,7 @@ use Rattle.std.proofs.lemmas.Option.{same_Some}
 use Rattle.std.proofs.lemmas.List.Elements.{filter-append}
 use Rattle.pot_index.specs.Entries as index
 use Rattle.pot_machine.specs.Logs.{job_of, own}
-use Rattle.pot_replies.specs.Sections.{Section, Halves, IsAmong, IsOfJobs, Follows}
+use Rattle.pot_replies.specs.Sections.{Section, MovesThenRest, IsAmong, IsOfJobs, Follows}
 use Rattle.pot_replies.specs.Sessions.{Step, jobs_in, jobs_of, AreSections, Answered, Answers}
 use Rattle.pot_replies.specs.SessionLaws.{OwnInSections, RepliedNone, RepliedMore}
 
@@ -118,8 +118,8 @@ module _ {Line : Type 0} where
             (subst (λ n. IsOfJobs n (jobs_in c) one) number of),
       )
 
-module _ {Line Reply : Type 0} (Row : ℕ → Line → List Reply → (w : Section) → Halves w → Type 0) where
-  answers_more : (job : ℕ) (steps : List (Step Line)) (ones : List Section) (rs : List Reply) (c : Step Line) (now : List Reply) (one : Section) (h : Halves one)
+module _ {Line Reply : Type 0} (Row : ℕ → Line → List Reply → (w : Section) → MovesThenRest w → Type 0) where
+  answers_more : (job : ℕ) (steps : List (Step Line)) (ones : List Section) (rs : List Reply) (c : Step Line) (now : List Reply) (one : Section) (h : MovesThenRest one)
       → Answers Row job steps ones rs → Answered Row (job + jobs_of steps) c now one h → Answers Row job (steps ++ c ∷ []) (ones ++ one ∷ []) (rs ++ now)
   answers_more job [] [] rs c now one h none answered =
       let same : job + 0 ≡ job = omega arith in

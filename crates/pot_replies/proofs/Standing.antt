@@ -17,7 +17,7 @@ use Rattle.pot_index.specs.declared.record.Record.{Record}
 use Rattle.pot_index.specs.Entries as index
 use Rattle.pot_index.specs.Index.{names_read, IsRecordOf}
 use Rattle.pot_replies.specs.Jobs.{is_stuck_at}
-use Rattle.pot_replies.specs.Sections.{Section, Mine, mine, Moment, IndexMoment, Widens, names_after}
+use Rattle.pot_replies.specs.Sections.{Section, JobEntries, mine, LogPoint, IndexMoment, Widens, names_after}
 use Rattle.pot_replies.specs.Settings.{Setting}
 use Rattle.pot_replies.specs.Fetches.{FoundThen, AreReads, Mends, FetchEntries, SeenAs, LastIs, GoneAgain, HopelessIf, IsHopeless}
 
@@ -57,7 +57,7 @@ module _ (job : ℕ) (w w' : Section) (wide : Widens job w w') where
       let owns : (mine job w').own ≡ (mine job w).own = fun_ext same_own in
       λ i. record { before = befores i; own = owns i; index_before = wide.index_before i; index = same_index i }
 
-  pub moment_stands : (g : ℕ) (log : List Entry) → Moment job (w.before g) (w.added g) log → Moment job (w'.before g) (w'.added g) log
+  pub moment_stands : (g : ℕ) (log : List Entry) → LogPoint job (w.before g) (w.added g) log → LogPoint job (w'.before g) (w'.added g) log
   moment_stands g log m = record {
     sofar = m.sofar;
     later = m.later ++ wide.more g;
@@ -93,7 +93,7 @@ module _ (job : ℕ) (w w' : Section) (wide : Widens job w w') where
   }
 
   pub entries_stand : (kept : Record) → FetchEntries kept job w → FetchEntries kept job w'
-  entries_stand kept is = record { reads = subst (λ (m : Mine). AreReads kept job m.own) (sym mine_stays) is.reads; mends = λ g. mends_stand g (is.mends g) }
+  entries_stand kept is = record { reads = subst (λ (m : JobEntries). AreReads kept job m.own) (sym mine_stays) is.reads; mends = λ g. mends_stand g (is.mends g) }
 
   pub seen_as_stands : (first : Table) (g s c : ℕ) (d : Digest) → SeenAs first job (w.before g) (w.added g) s c d → SeenAs first job (w'.before g) (w'.added g) s c d
   seen_as_stands first g s c d (x, y, at, live) = (

@@ -21,12 +21,12 @@ use Rattle.pot_index.specs.declared.record.Record.{Record}
 use Rattle.pot_index.specs.Entries.{plain}
 use Rattle.pot_index.specs.Index.{names_read, IsRecordOf}
 use Rattle.pot_replies.specs.Jobs.{is_seen_at, is_look_at, is_stuck_at, ends_relay}
-use Rattle.pot_replies.specs.Sections.{Section, Mine, mine, Moment, NoneInGroups, names_after}
+use Rattle.pot_replies.specs.Sections.{Section, JobEntries, mine, LogPoint, NoneInGroups, names_after}
 use Rattle.pot_replies.specs.Settings.{Setting}
 use Rattle.pot_replies.specs.Joined.{AreJoined}
 
 -- `absent`: the name was looked for and not published, and nothing else was logged
-pub record IsAbsent (job : ℕ) (name : List ℕ) (m : Mine) : Type 0 where
+pub record IsAbsent (job : ℕ) (name : List ℕ) (m : JobEntries) : Type 0 where
   pub index : m.index ≡ plain (Find job name false) ∷ []
   pub groups : NoneInGroups m
 
@@ -156,7 +156,7 @@ pub record IsOdd (held : Option (List (List ℕ))) (s : Setting) (job : ℕ) (na
 -- WHY A POINT WAS NOT SEEN
 
 -- (piece, fragment), from 0, is the first with too few points seen, and has so many
-pub record FirstShort (kept : Record) (piece fragment have : ℕ) (m : Mine) : Type 0 where
+pub record FirstShort (kept : Record) (piece fragment have : ℕ) (m : JobEntries) : Type 0 where
   pub in_pieces : piece < pieces_of kept.length
   pub in_fragments : fragment < kept.geometry.fragments
   pub before : (i j : ℕ) → j < kept.geometry.fragments
@@ -194,13 +194,13 @@ abbrev pub IsHopeless : Setting → ℕ → Section → Place → Type 0
 IsHopeless s job w p = HopelessIf s.mends s job w p
 
 -- the job's last entry there is a Fault of this column: at the place, or after a Gone of it
-abbrev pub FailsAt : ℕ → Mine → Place → ℕ → Type 0
+abbrev pub FailsAt : ℕ → JobEntries → Place → ℕ → Type 0
 FailsAt job m p column =
     (sofar : List Entry) × (t : ℕ) × (m.own p.group ≡ sofar ++ Fault job t column ∷ [])
     × (((t ≡ p.stripe) × (column ≡ p.column)) ⊎ Contains sofar (Gone job p.stripe p.column))
 
 -- a point of the fragment that was not seen
-abbrev pub IsUnseen : Record → ℕ → ℕ → Mine → ℕ → Type 0
+abbrev pub IsUnseen : Record → ℕ → ℕ → JobEntries → ℕ → Type 0
 IsUnseen kept piece fragment m x =
     (x < kept.geometry.shards)
     × (has_seen m.own (place_at kept.geometry kept.places piece fragment x) ≡ false)
@@ -253,5 +253,5 @@ pub record IsFetchLogFull (s : Setting) (job : ℕ) (name : List ℕ) (group : �
   pub unseen : IsUnseen kept piece fragment (mine job w) point
   pub group_is : group ≡ (place_at kept.geometry kept.places piece fragment point).group
   pub log : List Entry
-  pub moment : Moment job (w.before group) (w.added group) log
+  pub moment : LogPoint job (w.before group) (w.added group) log
   pub full : length log ≡ log_bound

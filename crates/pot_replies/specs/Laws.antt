@@ -7,7 +7,7 @@ use Rattle.pot_machine.specs.Logs.{own}
 use Rattle.pot_index.specs.declared.entry.Logged.{Logged}
 use Rattle.pot_index.specs.declared.listed.Listed as listed
 use Rattle.pot_index.specs.Entries as index
-use Rattle.pot_replies.specs.Sections.{Section, Moment, IndexMoment, Widens, mine}
+use Rattle.pot_replies.specs.Sections.{Section, LogPoint, IndexMoment, Widens, mine}
 use Rattle.pot_replies.specs.Settings.{Setting}
 use Rattle.pot_replies.specs.Stores.{IsFull, IsStoreLogFull}
 use Rattle.pot_replies.specs.Listings.{IsIndexFull, IsStoreIndexFull, IsListed, StatusLine}
@@ -28,8 +28,8 @@ MineStays = (job : ℕ) (w w' : Section) → Widens job w w' → mine job w' ≡
 -- a moment stays
 abbrev pub MomentStands : Type 0
 MomentStands =
-    (job : ℕ) (before added more log : List Entry) → own job more ≡ [] → Moment job before added log
-    → Moment job before (added ++ more) log
+    (job : ℕ) (before added more log : List Entry) → own job more ≡ [] → LogPoint job before added log
+    → LogPoint job before (added ++ more) log
 
 abbrev pub IndexMomentStands : Type 0
 IndexMomentStands =

@@ -14,7 +14,7 @@ use Rattle.pot_index.specs.declared.listed.Listed as listed
 use Rattle.pot_index.specs.Entries.{plain}
 use Rattle.pot_index.specs.Index.{names_read}
 use Rattle.pot_index.specs.Calls.{listed_of}
-use Rattle.pot_replies.specs.Sections.{Section, mine, Moment, IndexMoment, NoneInGroups, IsSilent}
+use Rattle.pot_replies.specs.Sections.{Section, mine, LogPoint, IndexMoment, NoneInGroups, IsSilent}
 use Rattle.pot_replies.specs.Sections.{names_after}
 use Rattle.pot_replies.specs.Settings.{Setting}
 
@@ -73,7 +73,7 @@ pub record IsCounted (s : Setting) (job g : ℕ) (counts : Counts) (w : Section)
 pub record IsUncounted (job g : ℕ) (w : Section) : Type 0 where
   pub none : own job (w.added g) ≡ []
   pub log : List Entry
-  pub moment : Moment job (w.before g) (w.added g) log
+  pub moment : LogPoint job (w.before g) (w.added g) log
   pub full : length log ≡ log_bound
 
 pub data StatusLine : Type 0 where

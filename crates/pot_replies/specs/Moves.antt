@@ -10,7 +10,7 @@ use Rattle.pot_machine.specs.Slot.{is_live}
 use Rattle.pot_machine.specs.Table.{width, column_at, slot_at, holder_of, count}
 use Rattle.pot_machine.specs.Logs.{own, replayed}
 use Rattle.pot_replies.specs.Jobs.{is_copied, is_move_of, EachIs}
-use Rattle.pot_replies.specs.Sections.{Section, Mine, mine, Moment, IsSilent, IsOnlyIn, checked}
+use Rattle.pot_replies.specs.Sections.{Section, JobEntries, mine, LogPoint, IsSilent, IsOnlyIn, checked}
 use Rattle.pot_replies.specs.Settings.{Setting}
 
 -- WHO HAS AN ARCHIVE, over these logs
@@ -55,16 +55,16 @@ MayGoOn s logs from to g c =
 -- REPLACE, a command alone
 
 -- `noarchive`
-abbrev pub IsNoHome : Setting → ℕ → Mine → Type 0
+abbrev pub IsNoHome : Setting → ℕ → JobEntries → Type 0
 IsNoHome s from m = NoHome s m.before from × IsSilent m
 
 -- `inuse`, of the new archive
-abbrev pub IsInUse : Setting → ℕ → ℕ → Mine → Type 0
+abbrev pub IsInUse : Setting → ℕ → ℕ → JobEntries → Type 0
 IsInUse s from to m =
     ((g : ℕ) × (c : ℕ) × HasHome s m.before from g c) × IsUsed s m.before to × IsSilent m
 
 -- `replaced`: the home of a column became another, and so many Live slots went with it
-pub record IsReplaced (s : Setting) (job from to slots : ℕ) (m : Mine) : Type 0 where
+pub record IsReplaced (s : Setting) (job from to slots : ℕ) (m : JobEntries) : Type 0 where
   pub group : ℕ
   pub column : ℕ
   pub home : HasHome s m.before from group column
@@ -76,7 +76,7 @@ pub record IsReplaced (s : Setting) (job from to slots : ℕ) (m : Mine) : Type 
       (λ n. is_live (slot_at (replayed (s.first group) (m.before group)) n column))
 
 -- `logfull g`
-pub record IsReplaceLogFull (s : Setting) (from to g : ℕ) (m : Mine) : Type 0 where
+pub record IsReplaceLogFull (s : Setting) (from to g : ℕ) (m : JobEntries) : Type 0 where
   pub column : ℕ
   pub home : HasHome s m.before from g column
   pub free : IsUsed s m.before to → ⊥
@@ -96,11 +96,11 @@ module _ (s : Setting) (before begun : ℕ → List Entry) (job from to : ℕ) w
   BeganNone = (g : ℕ) → own job (begun g) ≡ []
 
   -- `noarchive`
-  abbrev pub IsMigrateNoHome : Mine → Type 0
+  abbrev pub IsMigrateNoHome : JobEntries → Type 0
   IsMigrateNoHome m = NoHome s at_check from × BeganNone × IsSilent m
 
   -- `inuse`, of either archive
-  abbrev pub IsMigrateInUse : ℕ → Mine → Type 0
+  abbrev pub IsMigrateInUse : ℕ → JobEntries → Type 0
   IsMigrateInUse number m =
       (((number ≡ from) × GoesElsewhere s at_check from to)
       ⊎ ((number ≡ to) × IsTakenTo s at_check from to))
@@ -154,5 +154,5 @@ module _ (s : Setting) (before begun : ℕ → List Entry) (job from to : ℕ) w
     pub moves : EachIs (is_move_of column) (own job (w.added g))
     pub unended : Contains (own job (w.added g)) (MoveEnd job column) → ⊥
     pub log : List Entry
-    pub moment : Moment job (w.before g) (w.added g) log
+    pub moment : LogPoint job (w.before g) (w.added g) log
     pub full : length log ≡ log_bound

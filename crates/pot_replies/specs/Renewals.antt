@@ -20,7 +20,7 @@ use Rattle.pot_index.specs.Entries.{plain, bringing}
 use Rattle.pot_index.specs.Fits.{group_of}
 use Rattle.pot_index.specs.Index.{names_read}
 use Rattle.pot_index.specs.Records.{mark_of}
-use Rattle.pot_replies.specs.Sections.{Section, mine, Moment, IndexMoment, NoneInGroups}
+use Rattle.pot_replies.specs.Sections.{Section, mine, LogPoint, IndexMoment, NoneInGroups}
 use Rattle.pot_replies.specs.Sections.{names_after}
 use Rattle.pot_replies.specs.Settings.{Setting}
 use Rattle.pot_replies.specs.Stores.{Placed, place_of, in_group, AreSpread, Puts, IsUnkept}
@@ -137,7 +137,7 @@ pub record IsRenewFull (s : Setting) (job : ℕ) (name : List ℕ) (geometry : G
   pub passed : List Passed
   pub stops : RenewStops s job name geometry g (skips job passed) w
   pub log : List Entry
-  pub moment : Moment job (w.before g) (w.added g) log
+  pub moment : LogPoint job (w.before g) (w.added g) log
   pub behind : (replayed (s.first g) log).cursor.stripe ≡ (s.first g).stripes
   pub room : (length log < log_bound) ⊎ (passed ≢ [])
 
@@ -149,7 +149,7 @@ pub record IsRenewLogFull (s : Setting) (job : ℕ) (name : List ℕ) (geometry 
   pub gone : Option ℕ
   pub stops : RenewStops s job name geometry g (skips job passed ++ gone_entries job stripe gone) w
   pub log : List Entry
-  pub moment : Moment job (w.before g) (w.added g) log
+  pub moment : LogPoint job (w.before g) (w.added g) log
   pub full : length log ≡ log_bound
   pub next : ((passed ≡ []) × (gone ≡ None))
       ⊎ ((replayed (s.first g) log).cursor.stripe < (s.first g).stripes)

@@ -11,7 +11,7 @@ use Rattle.pot_machine.specs.Table.{Table, width, slot_at}
 use Rattle.pot_machine.specs.Logs.{is_of, own, replayed}
 use Rattle.pot_replies.specs.Jobs.{is_seen, is_gone, is_look, is_relay, is_mended, is_left}
 use Rattle.pot_replies.specs.Jobs.{place_in, EachIs, Ascend}
-use Rattle.pot_replies.specs.Sections.{Section, mine, Moment, IsOnlyIn, AlwaysAt}
+use Rattle.pot_replies.specs.Sections.{Section, mine, LogPoint, IsOnlyIn, AlwaysAt}
 use Rattle.pot_replies.specs.Settings.{Setting}
 use Rattle.pot_replies.specs.Fetches.{Mends}
 
@@ -93,7 +93,7 @@ pub record IsScrubLogFull (s : Setting) (job g : ℕ) (w : Section) : Type 0 whe
   pub looks : AreLooks (own job (w.added g))
   pub only : IsOnlyIn g (mine job w)
   pub log : List Entry
-  pub moment : Moment job (w.before g) (w.added g) log
+  pub moment : LogPoint job (w.before g) (w.added g) log
   pub full : length log ≡ log_bound
   pub stripe : ℕ
   pub column : ℕ
@@ -108,7 +108,7 @@ pub record IsRepairLogFull (s : Setting) (job g : ℕ) (w : Section) : Type 0 wh
   pub relays : AreRelays job (w.added g)
   pub only : IsOnlyIn g (mine job w)
   pub log : List Entry
-  pub moment : Moment job (w.before g) (w.added g) log
+  pub moment : LogPoint job (w.before g) (w.added g) log
   pub full : length log ≡ log_bound
   pub stripe : ℕ
   pub column : ℕ

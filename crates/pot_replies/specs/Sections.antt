@@ -22,13 +22,13 @@ pub record Section : Type 0 where
   pub index_added : List Logged
 
 -- what a section has of one job, and what stood before
-pub record Mine : Type 0 where
+pub record JobEntries : Type 0 where
   pub before : ℕ → List Entry
   pub own : ℕ → List Entry
   pub index_before : List Logged
   pub index : List Logged
 
-abbrev pub mine : ℕ → Section → Mine
+abbrev pub mine : ℕ → Section → JobEntries
 mine job w =
     record {
       before = w.before;
@@ -43,7 +43,7 @@ names_after n [] = n
 names_after n (x ∷ log) = names_after (index_of.after n x) log
 
 -- A moment of a job in the log of a group, after all that it logged there: the log then.
-pub record Moment (job : ℕ) (before added log : List Entry) : Type 0 where
+pub record LogPoint (job : ℕ) (before added log : List Entry) : Type 0 where
   pub sofar : List Entry
   pub later : List Entry
   pub parts : added ≡ sofar ++ later
@@ -64,13 +64,13 @@ AlwaysAt test t added s c =
     (x y : List Entry) → added ≡ x ++ y → IsTrue (test (slot_at (replayed t x) s c))
 
 -- the job logged nothing in any group; nothing anywhere; nothing but in one group
-abbrev pub NoneInGroups : Mine → Type 0
+abbrev pub NoneInGroups : JobEntries → Type 0
 NoneInGroups m = (g : ℕ) → m.own g ≡ []
 
-abbrev pub IsSilent : Mine → Type 0
+abbrev pub IsSilent : JobEntries → Type 0
 IsSilent m = NoneInGroups m × (m.index ≡ [])
 
-abbrev pub IsOnlyIn : ℕ → Mine → Type 0
+abbrev pub IsOnlyIn : ℕ → JobEntries → Type 0
 IsOnlyIn g m = ((h : ℕ) → h ≢ g → m.own h ≡ []) × (m.index ≡ [])
 
 -- Other jobs logged more before the section ended.
@@ -119,7 +119,7 @@ JobsAscend (e ∷ []) = Unit {0}
 JobsAscend (e ∷ f ∷ es) = (job_of e < job_of f) × JobsAscend (f ∷ es)
 
 -- What a command added: first the moves that it began, one a line at most, and then all else.
-pub record Halves (w : Section) : Type 0 where
+pub record MovesThenRest (w : Section) : Type 0 where
   pub begun : ℕ → List Entry
   pub worked : ℕ → List Entry
   pub parts : (g : ℕ) → w.added g ≡ begun g ++ worked g
@@ -128,7 +128,7 @@ pub record Halves (w : Section) : Type 0 where
   pub in_order : (g : ℕ) → JobsAscend (begun g)
 
 -- the section on which the work of each line is judged
-abbrev pub work_of : (w : Section) → Halves w → Section
+abbrev pub work_of : (w : Section) → MovesThenRest w → Section
 work_of w h =
     record {
       before = λ g. w.before g ++ h.begun g;

@@ -2,7 +2,7 @@
 use Rattle.std.specs.Prelude.{◌≡◌, ℕ, ◌+◌, List, [], ◌∷◌, ◌++◌, Some, take, slice_get}
 use Rattle.pot_index.specs.Entries as index
 use Rattle.pot_machine.specs.Logs.{own}
-use Rattle.pot_replies.specs.Sections.{Section, Halves, IsAmong, IsOfJobs, Follows, IsEmpty}
+use Rattle.pot_replies.specs.Sections.{Section, MovesThenRest, IsAmong, IsOfJobs, Follows, IsEmpty}
 use Rattle.pot_replies.specs.Sessions.{Step, jobs_in, jobs_of, AreSections, Answered, Replied}
 
 -- What all logs of a session have of a job is what its step's section has.
@@ -16,7 +16,7 @@ OwnInSections Line =
     → ((g : ℕ) → own j (w.added g) ≡ own j (one.added g))
     × (index.own j w.index_added ≡ index.own j one.index_added)
 
-module _ {Line Reply : Type 0} (Row : ℕ → Line → List Reply → (w : Section) → Halves w → Type 0)
+module _ {Line Reply : Type 0} (Row : ℕ → Line → List Reply → (w : Section) → MovesThenRest w → Type 0)
   where
     -- where nothing was added, no step has no replies
     abbrev pub RepliedNone : Type 0
@@ -26,7 +26,7 @@ module _ {Line Reply : Type 0} (Row : ℕ → Line → List Reply → (w : Secti
     abbrev pub RepliedMore : Type 0
     RepliedMore =
         (job : ℕ) (steps : List (Step Line)) (rs : List Reply) (c : Step Line) (now : List Reply)
-        (sofar one whole : Section) (h : Halves one)
+        (sofar one whole : Section) (h : MovesThenRest one)
         → Replied Row job steps rs sofar → Follows sofar one whole
         → IsOfJobs (job + jobs_of steps) (jobs_in c) one
         → Answered Row (job + jobs_of steps) c now one h

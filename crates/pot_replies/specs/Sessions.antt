@@ -3,7 +3,7 @@
 use Rattle.std.specs.Prelude.{◌≡◌, ℕ, suc, ◌+◌, List, [], ◌∷◌, ◌++◌, length}
 use Rattle.pot_machine.specs.declared.entry.Entry.{Entry}
 use Rattle.pot_machine.specs.Logs.{job_of}
-use Rattle.pot_replies.specs.Sections.{Section, Halves, IsOfJobs, Follows, IsEmpty}
+use Rattle.pot_replies.specs.Sections.{Section, MovesThenRest, IsOfJobs, Follows, IsEmpty}
 
 -- one line, or the lines of a batch
 pub data Step (Line : Type 0) : Type 0 where
@@ -31,16 +31,16 @@ module _ {Line : Type 0} where
 
 -- `Row` is the table of replies: it is given the job, the line, its replies, the section of its
 -- step, and the halves of that.
-module _ {Line Reply : Type 0} (Row : ℕ → Line → List Reply → (w : Section) → Halves w → Type 0)
+module _ {Line Reply : Type 0} (Row : ℕ → Line → List Reply → (w : Section) → MovesThenRest w → Type 0)
   where
     -- each line of a batch, the first of which is this job, has one reply
-    abbrev pub Rows : ℕ → List Line → List Reply → (w : Section) → Halves w → Type 0
+    abbrev pub Rows : ℕ → List Line → List Reply → (w : Section) → MovesThenRest w → Type 0
     Rows job [] rs w h = rs ≡ []
     Rows job (l ∷ ls) rs w h =
         (r : Reply) × (more : List Reply) × (rs ≡ r ∷ more) × Row job l (r ∷ []) w h
         × Rows (suc job) ls more w h
 
-    abbrev pub Answered : ℕ → Step Line → List Reply → (w : Section) → Halves w → Type 0
+    abbrev pub Answered : ℕ → Step Line → List Reply → (w : Section) → MovesThenRest w → Type 0
     Answered job (One l) rs w h = Row job l rs w h
     Answered job (Together ls) rs w h = Rows job ls rs w h
 
@@ -48,7 +48,7 @@ module _ {Line Reply : Type 0} (Row : ℕ → Line → List Reply → (w : Secti
     abbrev pub Answers : ℕ → List (Step Line) → List Section → List Reply → Type 0
     Answers job [] [] rs = rs ≡ []
     Answers job (c ∷ cs) (one ∷ ones) rs =
-        (h : Halves one) × (now : List Reply) × (more : List Reply) × (rs ≡ now ++ more)
+        (h : MovesThenRest one) × (now : List Reply) × (more : List Reply) × (rs ≡ now ++ more)
         × Answered job c now one h × Answers (job + jobs_in c) cs ones more
     Answers job _ _ rs = ⊥
 

@@ -17,7 +17,7 @@ use Rattle.pot_index.specs.declared.entry.IndexEntry.TheVariants.{Reserve, Taken
 use Rattle.pot_index.specs.Entries.{plain, bringing}
 use Rattle.pot_index.specs.Fits.{group_of}
 use Rattle.pot_index.specs.Records.{mark_of}
-use Rattle.pot_replies.specs.Sections.{Section, Mine, mine, Moment, IsSilent, NoneInGroups}
+use Rattle.pot_replies.specs.Sections.{Section, JobEntries, mine, LogPoint, IsSilent, NoneInGroups}
 use Rattle.pot_replies.specs.Settings.{Setting}
 
 -- a block that was put, by its digest, and where it stands
@@ -68,12 +68,12 @@ pub record IsRecord (s : Setting) (name file : List ℕ) (placed : List Placed)
   pub once : kept.older ≡ []
 
 -- `long`: the file is too long, and nothing was logged
-pub record IsLong (size : ℕ) (m : Mine) : Type 0 where
+pub record IsLong (size : ℕ) (m : JobEntries) : Type 0 where
   pub long : longest < size
   pub silent : IsSilent m
 
 -- `exists`: the name was taken, and nothing else was logged
-pub record IsTaken (job : ℕ) (name : List ℕ) (size : ℕ) (m : Mine) : Type 0 where
+pub record IsTaken (job : ℕ) (name : List ℕ) (size : ℕ) (m : JobEntries) : Type 0 where
   pub short : size ≤ longest
   pub index : m.index ≡ plain (Taken job name) ∷ []
   pub groups : NoneInGroups m
@@ -82,7 +82,7 @@ pub record IsTaken (job : ℕ) (name : List ℕ) (size : ℕ) (m : Mine) : Type 
 -- put, each in its own group, in order; and a record of their places, with the file's length and
 -- digest, was published.
 pub record IsStored (s : Setting) (job : ℕ) (name file : List ℕ) (pieces shards : ℕ)
-    (m : Mine) : Type 0 where
+    (m : JobEntries) : Type 0 where
   pub bytes : AreBytes file
   pub short : length file ≤ longest
   pub placed : List Placed
@@ -99,7 +99,7 @@ pub record IsStored (s : Setting) (job : ℕ) (name file : List ℕ) (pieces sha
 -- A store ended at its block for group g: the blocks before were put, the name was abandoned, and
 -- the job's entries in g end by these.
 pub record Stops (s : Setting) (job : ℕ) (name file : List ℕ) (g : ℕ) (last : List Entry)
-    (m : Mine) : Type 0 where
+    (m : JobEntries) : Type 0 where
   pub short : length file ≤ longest
   pub placed : List Placed
   pub next : Digest
@@ -116,7 +116,7 @@ pub record Stops (s : Setting) (job : ℕ) (name file : List ℕ) (g : ℕ) (las
 -- `fault`: the last entry is Fault at that column, or the put of the next block that did not keep a
 -- parity block
 pub record IsStoreFault (s : Setting) (job : ℕ) (name file : List ℕ) (g column : ℕ)
-    (m : Mine) : Type 0 where
+    (m : JobEntries) : Type 0 where
   pub passed : List Passed
   pub last : Entry
   pub stops : Stops s job name file g (skips job passed ++ last ∷ []) m
@@ -129,7 +129,7 @@ pub record IsFull (s : Setting) (job : ℕ) (name file : List ℕ) (g : ℕ) (w 
   pub passed : List Passed
   pub stops : Stops s job name file g (skips job passed) (mine job w)
   pub log : List Entry
-  pub moment : Moment job (w.before g) (w.added g) log
+  pub moment : LogPoint job (w.before g) (w.added g) log
   pub behind : (replayed (s.first g) log).cursor.stripe ≡ (s.first g).stripes
   pub room : (length log < log_bound) ⊎ (passed ≢ [])
 
@@ -143,7 +143,7 @@ pub record IsStoreLogFull (s : Setting) (job : ℕ) (name file : List ℕ) (g : 
   pub stops : Stops s job name file g (skips job passed ++ gone_entries job stripe gone)
       (mine job w)
   pub log : List Entry
-  pub moment : Moment job (w.before g) (w.added g) log
+  pub moment : LogPoint job (w.before g) (w.added g) log
   pub full : length log ≡ log_bound
   pub next : ((passed ≡ []) × (gone ≡ None))
       ⊎ ((replayed (s.first g) log).cursor.stripe < (s.first g).stripes)

@@ -8,8 +8,8 @@
 //!    the section are those in the whole log (`session_laws`).
 //! 2. A row stands however much other jobs log behind it in the section (`Widens`). Most rows speak of what the section has of
 //!    the job alone, which stays the same (`section_laws`); the others have a law of their own.
-//! 3. A moment is a cut of what was added behind all entries of the job (`Moment`), and so stays one.
-//! 4. A step has two halves: the moves that its lines began, and all else (`Halves`). All lines are judged on the second, and a
+//! 3. A moment is a cut of what was added behind all entries of the job (`LogPoint`), and so stays one.
+//! 4. A step has two halves: the moves that its lines began, and all else (`MovesThenRest`). All lines are judged on the second, and a
 //!    `migrate` line on both.
 //!
 //! It has definitions and laws alone. It knows no archive, no turn and no grammar: which line has which row is a `ReplyTable`.
@@ -104,10 +104,10 @@ pub trait ReplyTable {
     type Reply;
 
     ghost use Rattle.std.specs.Prelude.{ℕ, List};
-    ghost use Rattle.pot_replies.specs.Sections.{Section, Halves};
+    ghost use Rattle.pot_replies.specs.Sections.{Section, MovesThenRest};
 
     // Which replies a line has, given its job, the section of its step and the halves of that.
-    ghost answers: { ℕ → Self.Line → List Self.Reply → (w : Section) → Halves w → Type 0 };
+    ghost answers: { ℕ → Self.Line → List Self.Reply → (w : Section) → MovesThenRest w → Type 0 };
 }
 
 /// A session step by step, for any table of replies.

@@ -5,7 +5,7 @@ use Rattle.pot_turn.specs.declared.view.View.{View}
 use Rattle.pot_turn.specs.declared.name.TurnName.{TurnName}
 use Rattle.pot_turn.specs.Views.{spent_view}
 use Rattle.pot_turn.proofs.LogLemmas.{starts_self}
-use Rattle.pot_worked.specs.Worked.{KnowsMore}
+use Rattle.pot_worked.specs.WroteOnlyFor.{KnowsMore}
 use Rattle.pot_rows.specs.Rows.{PassRow, AreOf, view_at}
 use Rattle.pot_rows.specs.Ties.{Tied, TiedAt, RowTied, TiedSofar}
 use Rattle.pot_rows.proofs.RowLemmas.{at_set, at_other, at_past, still_of, below_or_at}

@@ -3,7 +3,7 @@ use Rattle.std.specs.Prelude.{◌≡◌, ℕ, ◌<◌, ◌≤◌, List}
 use Rattle.pot_turn.specs.declared.view.View.{View}
 use Rattle.pot_turn.specs.declared.name.TurnName.{TurnName}
 use Rattle.pot_turn.specs.Logs.{StartsWith}
-use Rattle.pot_worked.specs.Worked.{KnowsMore}
+use Rattle.pot_worked.specs.WroteOnlyFor.{KnowsMore}
 use Rattle.pot_rows.specs.Rows.{PassRow, AreOf, view_at, with_view}
 
 module _ {E O : Type 0} where

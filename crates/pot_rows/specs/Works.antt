@@ -1,10 +1,10 @@
 -- What a job did with a row of passes: at each place what it did there with the pass of one turn.
 use Rattle.std.specs.Prelude.{◌≡◌, ◌≢◌, ◌<◌, ℕ, Bool, false, List, [], ◌∷◌, length, map, filter}
 use Rattle.pot_turn.specs.declared.view.View.{View}
-use Rattle.pot_worked.specs.Worked.{added, Worked, Alone, IsTurn}
+use Rattle.pot_worked.specs.WroteOnlyFor.{added, WroteOnlyFor, OnlyWriterOf, IsTurn}
 use Rattle.pot_worked.specs.Laws.{AllOf}
 use Rattle.pot_worked.specs.Batches.{Carried, Joins}
-use Rattle.pot_worked.specs.Sole.{Went, Sole, IsWhole}
+use Rattle.pot_worked.specs.OnlyWriter.{Extends, OnlyWriter, IsWhole}
 use Rattle.pot_rows.specs.Rows.{PassRow, view_at, with_view}
 use Rattle.pot_rows.specs.Ties.{RowTied}
 use Rattle.pot_rows.specs.Parts.{RowJoined}
@@ -15,11 +15,11 @@ module _ {E O : Type 0} where
   AllIdle row = (at : ℕ) → (view_at row at).holds ≡ false
 
   -- the row went on, and alone logged what its logs gained
-  abbrev pub RowWent : PassRow E O → PassRow E O → Type 0
-  RowWent old new = (at : ℕ) → Went (view_at old at) (view_at new at)
+  abbrev pub RowExtends : PassRow E O → PassRow E O → Type 0
+  RowExtends old new = (at : ℕ) → Extends (view_at old at) (view_at new at)
 
-  abbrev pub RowSole : PassRow E O → PassRow E O → Type 0
-  RowSole old new = (at : ℕ) → Sole (view_at old at) (view_at new at)
+  abbrev pub RowOnlyWriter : PassRow E O → PassRow E O → Type 0
+  RowOnlyWriter old new = (at : ℕ) → OnlyWriter (view_at old at) (view_at new at)
 
   -- one locked call at a place, and nothing at any other
   pub record TurnAt (others entries : List E) (old : PassRow E O) (at : ℕ)
@@ -30,11 +30,11 @@ module _ {E O : Type 0} where
 
 module _ {E O : Type 0} (is_of : E → Bool) where
   -- the row worked for a job, and for no other; and nobody else logged an entry of it
-  abbrev pub RowWorked : PassRow E O → PassRow E O → Type 0
-  RowWorked old new = (at : ℕ) → Worked is_of (view_at old at) (view_at new at)
+  abbrev pub RowWroteOnlyFor : PassRow E O → PassRow E O → Type 0
+  RowWroteOnlyFor old new = (at : ℕ) → WroteOnlyFor is_of (view_at old at) (view_at new at)
 
-  abbrev pub RowAlone : PassRow E O → PassRow E O → Type 0
-  RowAlone old new = (at : ℕ) → Alone is_of (view_at old at) (view_at new at)
+  abbrev pub RowOnlyWriterOf : PassRow E O → PassRow E O → Type 0
+  RowOnlyWriterOf old new = (at : ℕ) → OnlyWriterOf is_of (view_at old at) (view_at new at)
 
 -- LAWS
 
@@ -43,59 +43,59 @@ abbrev pub TurnIsWork : (E O : Type 0) → Type 0
 TurnIsWork E O =
     (is_of : E → Bool) (others entries : List E) (old new : PassRow E O) (at : ℕ)
     → at < length old.views → AllIdle old → TurnAt others entries old at new → AllOf is_of entries
-    → RowWorked is_of old new
+    → RowWroteOnlyFor is_of old new
 
 -- where the job was alone, its entries are those of the call at that place, and none at any other
 abbrev pub OwnInTurnAt : (E O : Type 0) → Type 0
 OwnInTurnAt E O =
     (is_of : E → Bool) (others entries : List E) (old new : PassRow E O) (at : ℕ)
     → at < length old.views → TurnAt others entries old at new → AllOf is_of entries
-    → RowAlone is_of old new
+    → RowOnlyWriterOf is_of old new
     → (filter is_of (added (view_at old at) (view_at new at)) ≡ entries)
     × ((i : ℕ) → at ≢ i → filter is_of (added (view_at old i) (view_at new i)) ≡ [])
 
 -- part after part
 abbrev pub RowWorkInParts : (E O : Type 0) → Type 0
 RowWorkInParts E O =
-    (is_of : E → Bool) (u v w : PassRow E O) → RowWorked is_of u v → RowWorked is_of v w
-    → RowWorked is_of u w
+    (is_of : E → Bool) (u v w : PassRow E O) → RowWroteOnlyFor is_of u v → RowWroteOnlyFor is_of v w
+    → RowWroteOnlyFor is_of u w
 
-abbrev pub RowAloneInParts : (E O : Type 0) → Type 0
-RowAloneInParts E O =
-    (is_of : E → Bool) (u v w : PassRow E O) → RowWorked is_of u v → RowWorked is_of v w
-    → RowAlone is_of u w → RowAlone is_of u v × RowAlone is_of v w
+abbrev pub RowOnlyWriterOfInParts : (E O : Type 0) → Type 0
+RowOnlyWriterOfInParts E O =
+    (is_of : E → Bool) (u v w : PassRow E O) → RowWroteOnlyFor is_of u v → RowWroteOnlyFor is_of v w
+    → RowOnlyWriterOf is_of u w → RowOnlyWriterOf is_of u v × RowOnlyWriterOf is_of v w
 
 -- a tie is work of any job, and where that was alone, what is seen has no entry of it
 abbrev pub TieIsWork : (E O : Type 0) → Type 0
 TieIsWork E O =
     (is_of : E → Bool) (mine others mine' others' : PassRow E O) → RowTied mine others mine' others'
-    → AllIdle mine → RowWorked is_of mine mine'
+    → AllIdle mine → RowWroteOnlyFor is_of mine mine'
 
 abbrev pub TieHasNone : (E O : Type 0) → Type 0
 TieHasNone E O =
     (is_of : E → Bool) (mine others mine' others' : PassRow E O) → RowTied mine others mine' others'
-    → RowAlone is_of mine mine'
+    → RowOnlyWriterOf is_of mine mine'
     → (at : ℕ) → filter is_of (added (view_at mine at) (view_at mine' at)) ≡ []
 
 -- commands in a row
-abbrev pub RowWorkWent : (E O : Type 0) → Type 0
-RowWorkWent E O = (is_of : E → Bool) (v w : PassRow E O) → RowWorked is_of v w → RowWent v w
+abbrev pub RowWorkExtends : (E O : Type 0) → Type 0
+RowWorkExtends E O = (is_of : E → Bool) (v w : PassRow E O) → RowWroteOnlyFor is_of v w → RowExtends v w
 
-abbrev pub RowWentInParts : (E O : Type 0) → Type 0
-RowWentInParts E O = (u v w : PassRow E O) → RowWent u v → RowWent v w → RowWent u w
+abbrev pub RowExtendsInParts : (E O : Type 0) → Type 0
+RowExtendsInParts E O = (u v w : PassRow E O) → RowExtends u v → RowExtends v w → RowExtends u w
 
-abbrev pub RowSoleInParts : (E O : Type 0) → Type 0
-RowSoleInParts E O =
-    (u v w : PassRow E O) → RowWent u v → RowWent v w → RowSole u w → RowSole u v × RowSole v w
+abbrev pub RowOnlyWriterInParts : (E O : Type 0) → Type 0
+RowOnlyWriterInParts E O =
+    (u v w : PassRow E O) → RowExtends u v → RowExtends v w → RowOnlyWriter u w → RowOnlyWriter u v × RowOnlyWriter v w
 
-abbrev pub RowSoleAlone : (E O : Type 0) → Type 0
-RowSoleAlone E O =
-    (is_of : E → Bool) (v w : PassRow E O) → RowWorked is_of v w → RowSole v w → RowAlone is_of v w
+abbrev pub RowOnlyWriterOfAny : (E O : Type 0) → Type 0
+RowOnlyWriterOfAny E O =
+    (is_of : E → Bool) (v w : PassRow E O) → RowWroteOnlyFor is_of v w → RowOnlyWriter v w → RowOnlyWriterOf is_of v w
 
-abbrev pub RowSoleAtClose : (E O : Type 0) → Type 0
-RowSoleAtClose E O =
-    (u x : PassRow E O) → RowWent u x → ((at : ℕ) → IsWhole (view_at u at) (view_at x at))
-    → RowSole u x
+abbrev pub RowOnlyWriterAtClose : (E O : Type 0) → Type 0
+RowOnlyWriterAtClose E O =
+    (u x : PassRow E O) → RowExtends u x → ((at : ℕ) → IsWhole (view_at u at) (view_at x at))
+    → RowOnlyWriter u x
 
 -- A BATCH
 

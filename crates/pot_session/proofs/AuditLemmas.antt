@@ -10,7 +10,7 @@ use Rattle.std.proofs.lemmas.List.Elements.{All-cons, All-push}
 use Rattle.std.proofs.lemmas.List.Folds.{list_any-append}
 use Rattle.std.proofs.lemmas.List.Kept.{AllPairs-cons}
 use Rattle.pot_bytes.specs.declared.rack.Rack.{Rack}
-use Rattle.pot_outside.specs.Accounts.{Met}
+use Rattle.pot_outside.specs.Accounts.{Transition}
 use Rattle.pot_index.specs.declared.record.Record.{Record}
 use Rattle.pot_audit.specs.declared.spot.Spot.{Spot}
 use Rattle.pot_audit.specs.declared.veil.Veil.{Veil}
@@ -135,12 +135,12 @@ stop_is stop.Exists h = absurd h
 stop_is stop.RoomFault h = absurd h
 stop_is stop.TooWide h = absurd h
 
-refused : (sink : Met (List ℕ)) (s : Stop) (answer : Status) → IsAuditStatus (status_of s) → Refuses sink s answer → IsAuditStatus answer
+refused : (sink : Transition (List ℕ)) (s : Stop) (answer : Status) → IsAuditStatus (status_of s) → Refuses sink s answer → IsAuditStatus answer
 refused sink s answer h (inl r) = subst IsAuditStatus (sym r.0) h
 refused sink s answer h (inr (inl r)) = subst IsAuditStatus (sym r.0) tt
 refused sink s answer h (inr (inr r)) = subst IsAuditStatus (sym r.0) tt
 
-module _ (a : Audit) (desk : Met (Option (List ℕ))) (sink : Met (List ℕ)) (answer : Status) where
+module _ (a : Audit) (desk : Transition (Option (List ℕ))) (sink : Transition (List ℕ)) (answer : Status) where
   audit_status : Audits a desk sink answer → IsAuditStatus answer
   audit_status (Stopped s which reads refuses) = refused sink s answer (stop_is s which) refuses
   audit_status (Outside i holds of refuses) = refused sink stop.Words answer tt refuses

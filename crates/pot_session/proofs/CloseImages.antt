@@ -5,10 +5,10 @@ use Rattle.std.proofs.lemmas.Bool.{cases_lt}
 use Rattle.byteorder.specs.Endian.{big_bytes}
 use Rattle.pot_bytes.specs.Digests.{digest_bytes}
 use Rattle.pot_bytes.specs.declared.rack.Rack.{Rack}
-use Rattle.pot_outside.specs.Accounts.{Account, Content, Met, held_in, met_by, since}
+use Rattle.pot_outside.specs.Accounts.{Account, Content, Transition, held_in, transition_by, since}
 use Rattle.pot_outside.specs.Archives.{Meaning, IsMeant}
 use Rattle.pot_outside.specs.Counts.{Caused, Rose}
-use Rattle.pot_outside.specs.Rooms.{Lending}
+use Rattle.pot_outside.specs.Rooms.{RoomState}
 use Rattle.pot_outside.specs.declared.archive.Shelf.{Shelf}
 use Rattle.pot_outside.specs.declared.faults.Failed.{Failed}
 use Rattle.pot_machine.specs.Table.{Table}
@@ -58,7 +58,7 @@ same_image v = ap (λ t. t ++ digest_bytes t) (same_text v)
 -- THE ROOM
 
 -- archives that were in the hand are in the room, where it took them back
-in_room : {A : Type 0} (archives : Account A Meaning) (hand : List (Shelf A)) (old new : Lending) (given : Result (Unit {0}) Failed) (b : GivesBack archives hand old new given)
+in_room : {A : Type 0} (archives : Account A Meaning) (hand : List (Shelf A)) (old new : RoomState) (given : Result (Unit {0}) Failed) (b : GivesBack archives hand old new given)
     → (s : Shelves) (n : ℕ) → IsInHand archives.meaning hand s n → IsInRoom (IsTrue archives.tells) new.means b.missing s n
 in_room archives hand old new given b s n (x, has, e, shows) t back =
     let is : IsMeant (new.means x.number) (archives.meaning x.archive) = b.back t x has (subst (λ k. times k b.missing ≡ 0) (sym e) back) in
@@ -71,7 +71,7 @@ in_room archives hand old new given b s n (x, has, e, shows) t back =
     })
 
 -- a count that rose at an archive in the hand rose in the room, where it took that archive back
-rose_in_room : {A : Type 0} (archives : Account A Meaning) (hand : List (Shelf A)) (meant : ℕ → Meaning) (old new : Lending) (given : Result (Unit {0}) Failed)
+rose_in_room : {A : Type 0} (archives : Account A Meaning) (hand : List (Shelf A)) (meant : ℕ → Meaning) (old new : RoomState) (given : Result (Unit {0}) Failed)
     (b : GivesBack archives hand old new given) → IsTrue archives.tells → (n : ℕ) → RoseInHand archives.meaning hand meant n → RoseInRoom meant new.means b.missing n
 rose_in_room archives hand meant old new given b t n (x, has, e, rose) back =
     let is : IsMeant (new.means x.number) (archives.meaning x.archive) = b.back t x has (subst (λ k. times k b.missing ≡ 0) (sym e) back) in
@@ -100,7 +100,7 @@ opened_by old first g = elim (cases_lt g (length old.groups.names)) [
     of_none (x ∷ xs) y e q = absurd (cc q)
 
 -- what the image of a close is, from its parts
-leaves_of : (read : List Table) (old new : Known) (room : Met Lending) (missing : List ℕ) (first last : Contents) → AreFirstPasses old.groups old.index → IsBegun first last.session last.rack read (records_read new.index)
+leaves_of : (read : List Table) (old new : Known) (room : Transition RoomState) (missing : List ℕ) (first last : Contents) → AreFirstPasses old.groups old.index → IsBegun first last.session last.rack read (records_read new.index)
     → LeaveGroups (IsTrue room.tells) room.before.means (IsInRoom (IsTrue room.tells) room.after.means missing) read last.group_logs (map still last.tables) → LeavesLogs old new last.rack last.group_logs last.index_log last.records
     → (IsTrue room.tells → AreOpened room.before.means (RoseInRoom room.before.means room.after.means missing) first.tables (section_of old new))
     → Leaves room missing first (record last { tables = map still last.tables }) (section_of old new)
@@ -135,19 +135,19 @@ desk_failure (Err f) kept e = absurd (cc)
 desk_failure (Ok u) kept e = e
 
 -- A close leaves the image of what its vault left. `meant` is what the room meant when the session was opened, `worked` what it meant before the close, and `means` what it means after it.
-pub closes : {A : Type 0} (archives : Account A Meaning) (hand : List (Shelf A)) (meant worked means : Lending) (read : List Table) (old new : Known) (rack : Rack) (desk : Met (Content (Option (List ℕ)))) (first last : Contents)
+pub closes : {A : Type 0} (archives : Account A Meaning) (hand : List (Shelf A)) (meant worked means : RoomState) (read : List Table) (old new : Known) (rack : Rack) (desk : Transition (Content (Option (List ℕ)))) (first last : Contents)
     (given : Result (Unit {0}) Failed) (kept closed : Result (Unit {0}) Stop) → (IsTrue desk.tells → Keeps (held_in desk) (image_bytes last) kept) → IfErr kept IsKeepStop → Caused desk.before.faults desk.after.faults (kept ≡ Err stop.DeskFault)
     → GivesBack archives hand worked means given → AreFirstPasses old.groups old.index
     → IsBegun first last.session last.rack read (records_read new.index) → last.rack ≡ rack → LeaveGroups (IsTrue archives.tells) meant.means (IsInHand archives.meaning hand) read last.group_logs (map still last.tables)
     → LeavesLogs old new rack last.group_logs last.index_log last.records
     → (IsTrue archives.tells → AreOpened meant.means (RoseInHand archives.meaning hand meant.means) first.tables (section_of old new))
-    → closed ≡ first_failure given kept → Closes old new (met_by archives.tells meant means) worked.failures desk first closed
+    → closed ≡ first_failure given kept → Closes old new (transition_by archives.tells meant means) worked.failures desk first closed
 closes archives hand meant worked means read old new rack desk first last given kept closed k which cause back opened b same groups left found is = record {
   last = record last { tables = map still last.tables };
   sole = left.sole;
   missing = back.missing;
   failed_at = back.failed_at;
-  leaves = leaves_of read old new (met_by archives.tells meant means) back.missing first last opened b
+  leaves = leaves_of read old new (transition_by archives.tells meant means) back.missing first last opened b
       (other_groups (IsTrue archives.tells) meant.means (IsInHand archives.meaning hand) (IsInRoom (IsTrue archives.tells) means.means back.missing) read last.group_logs (map still last.tables)
       (in_room archives hand worked means given back) groups)
       (subst (λ r. LeavesLogs old new r last.group_logs last.index_log last.records) (sym same) left)

@@ -4,9 +4,9 @@ use Rattle.std.proofs.Common.{◌≡◌, ◌<◌, ◌+◌, ℕ, inl, inr, arith,
 use Rattle.std.specs.Prelude.{Result, Ok, Err}
 use Rattle.std.specs.Result.{is_ok}
 use Rattle.pot_bytes.specs.declared.rack.Rack.{Rack}
-use Rattle.pot_outside.specs.Accounts.{Content, Met, met_by}
+use Rattle.pot_outside.specs.Accounts.{Content, Transition, transition_by}
 use Rattle.pot_outside.specs.Archives.{Meaning}
-use Rattle.pot_outside.specs.Rooms.{Lending}
+use Rattle.pot_outside.specs.Rooms.{RoomState}
 use Rattle.pot_outside.specs.declared.archive.Shelf.{Shelf}
 use Rattle.pot_outside.specs.declared.faults.Failed.{Failed}
 use Rattle.pot_doubles.specs.declared.archive.LossyArchive.{LossyArchive}
@@ -23,10 +23,10 @@ use Rattle.pot_session.specs.Making.{Makes, empty_contents}
 use Rattle.pot_session.specs.Runs.{Holds, seen_by}
 
 -- a session over these objects is one of the number
-pub is_generated : (number : ℕ) (rack : Rack) (seed input rest before bytes : List ℕ) (desk leaves : Content (Option (List ℕ))) (room lends : Lending) (ended : Status)
+pub is_generated : (number : ℕ) (rack : Rack) (seed input rest before bytes : List ℕ) (desk leaves : Content (Option (List ℕ))) (room lends : RoomState) (ended : Status)
     → rack ≡ rack_of_runs → seed ≡ seed_of number → input ≡ script_text (generated number) → before ≡ [] → desk.held ≡ Some (image_bytes (empty_contents rack))
     → ((n : ℕ) → room.means n ≡ meaning_of None) → AreSound lends.means → room.failures ≡ 0
-    → Holds seed (seen_by (met_by true input rest) (met_by true before bytes) (met_by true desk leaves) (met_by true room lends)) ended → IsGenerated number bytes ended
+    → Holds seed (seen_by (transition_by true input rest) (transition_by true before bytes) (transition_by true desk leaves) (transition_by true room lends)) ended → IsGenerated number bytes ended
 is_generated number rack seed input rest before bytes desk leaves room lends ended same_rack same_seed same_input none is_held empty are_sound none_failed session = record {
   rest = rest;
   desk = desk;
@@ -38,13 +38,13 @@ is_generated number rack seed input rest before bytes desk leaves room lends end
   unfailed = none_failed;
   sound = are_sound;
   session =
-      subst (λ b. Holds (seed_of number) (seen_by (met_by true (script_text (generated number)) rest) (met_by true b bytes) (met_by true desk leaves) (met_by true room lends)) ended) none
-      (subst (λ i. Holds (seed_of number) (seen_by (met_by true i rest) (met_by true before bytes) (met_by true desk leaves) (met_by true room lends)) ended) same_input
-      (subst (λ s. Holds s (seen_by (met_by true input rest) (met_by true before bytes) (met_by true desk leaves) (met_by true room lends)) ended) same_seed session));
+      subst (λ b. Holds (seed_of number) (seen_by (transition_by true (script_text (generated number)) rest) (transition_by true b bytes) (transition_by true desk leaves) (transition_by true room lends)) ended) none
+      (subst (λ i. Holds (seed_of number) (seen_by (transition_by true i rest) (transition_by true before bytes) (transition_by true desk leaves) (transition_by true room lends)) ended) same_input
+      (subst (λ s. Holds s (seen_by (transition_by true input rest) (transition_by true before bytes) (transition_by true desk leaves) (transition_by true room lends)) ended) same_seed session));
 }
 
 -- a new archive was made
-pub image_made : (rack : Rack) (desk : Met (Option (List ℕ))) (r : Result (Unit {0}) Stop) → is_ok r ≡ true → Makes rack desk r → desk.after ≡ Some (image_bytes (empty_contents rack))
+pub image_made : (rack : Rack) (desk : Transition (Option (List ℕ))) (r : Result (Unit {0}) Stop) → is_ok r ≡ true → Makes rack desk r → desk.after ≡ Some (image_bytes (empty_contents rack))
 image_made rack desk (Ok u) h made = made.1
 image_made rack desk (Err e) h made = absurd (cc h)
 
@@ -79,7 +79,7 @@ wrote_status : (ended : Status) (wrote : Result (Unit {0}) Failed) → is_answer
 wrote_status ended (Ok u) h = answered_status ended h
 wrote_status ended (Err e) h = tt
 
-module _ (number : ℕ) (sink : Met (List ℕ)) (answer : Status) where
+module _ (number : ℕ) (sink : Transition (List ℕ)) (answer : Status) where
   generate_status : Generates number sink answer → IsGenerateStatus answer
   generate_status (Told bytes ended is answered wrote writes gives) = subst IsGenerateStatus (sym gives) (wrote_status ended wrote answered)
   generate_status (Starved is same) = subst IsGenerateStatus (sym is) tt

@@ -5,10 +5,10 @@ use Rattle.std.specs.List.{remove}
 use Rattle.std.proofs.lemmas.Bool.{cases_lt}
 use Rattle.std.proofs.lemmas.Bool.Decides.{eqb_tells}
 use Rattle.pot_bytes.proofs.Elements.{none_contained}
-use Rattle.pot_outside.specs.Accounts.{Account, met_by}
+use Rattle.pot_outside.specs.Accounts.{Account, transition_by}
 use Rattle.pot_outside.specs.Archives.{Meaning, IsMeant}
 use Rattle.pot_outside.specs.Counts.{Rose, Caused}
-use Rattle.pot_outside.specs.Rooms.{Lending, StaysAt}
+use Rattle.pot_outside.specs.Rooms.{RoomState, StaysAt}
 use Rattle.pot_outside.specs.declared.archive.Shelf.{Shelf}
 use Rattle.pot_outside.specs.declared.faults.Failed.{Failed}
 use Rattle.pot_shared.proofs.Times.{one_if}
@@ -67,13 +67,13 @@ failed_none n = record { later = omega arith; counted = inl (omega arith); still
 
 module _ {A : Type 0} (archives : Account A Meaning) where
   -- Some of these archives are still in the hand, and the others were given back. `first` is what the room meant before any was, and `room` what it means now.
-  pub record GivenSofar (all hand : List (Shelf A)) (first room : Lending) (answer : Result (Unit {0}) Failed) : Type 0 where
+  pub record GivenSofar (all hand : List (Shelf A)) (first room : RoomState) (answer : Result (Unit {0}) Failed) : Type 0 where
     pub missing : List ℕ
     pub failed_at : FailsAt first.failures room.failures missing
     pub answers : AnswersFor missing answer
     pub each : (s : Shelf A) → Contains all s → HeldOrGiven archives.meaning (IsTrue archives.tells × (times s.number missing ≡ 0)) room hand s
 
-  pub none_given : (all : List (Shelf A)) (room : Lending) → GivenSofar all all room room (Ok tt)
+  pub none_given : (all : List (Shelf A)) (room : RoomState) → GivenSofar all all room room (Ok tt)
   none_given all room = record {
     missing = [];
     failed_at = failed_none room.failures;
@@ -81,7 +81,7 @@ module _ {A : Type 0} (archives : Account A Meaning) where
     each = λ s has. inl has;
   }
 
-  module _ (all hand : List (Shelf A)) (first room new : Lending) (p : ℕ) (x : Shelf A) (answer result : Result (Unit {0}) Failed)
+  module _ (all hand : List (Shelf A)) (first room new : RoomState) (p : ℕ) (x : Shelf A) (answer result : Result (Unit {0}) Failed)
       (g : GivenSofar all hand first room answer) (l : p < length hand) (e : x ≡ slice_index_or hand p x) (was : room.out x.number ≡ true) (back : new.out x.number ≡ false)
       (others : (n : ℕ) → n ≢ x.number → StaysAt room new n) where
     pub one_given : (given : Result (Unit {0}) Failed) → OnOk given (IsTrue archives.tells → IsMeant (new.means x.number) (archives.meaning x.archive)) → Caused room.failures new.failures (IsErr given)
@@ -102,7 +102,7 @@ module _ {A : Type 0} (archives : Account A Meaning) where
     }
 
   -- all of them were
-  pub all_given : (all hand : List (Shelf A)) (first room : Lending) (answer : Result (Unit {0}) Failed) → GivenSofar all hand first room answer → hand ≡ [] → GivesBack archives all first room answer
+  pub all_given : (all hand : List (Shelf A)) (first room : RoomState) (answer : Result (Unit {0}) Failed) → GivenSofar all hand first room answer → hand ≡ [] → GivesBack archives all first room answer
   all_given all hand first room answer g none = record {
     missing = g.missing;
     failed_at = g.failed_at;
@@ -114,15 +114,15 @@ module _ {A : Type 0} (archives : Account A Meaning) where
   }
 
 -- where the giving back failed, the room did
-pub missed : {A : Type 0} {archives : Account A Meaning} {hand : List (Shelf A)} {old new : Lending} (answer : Result (Unit {0}) Failed)
+pub missed : {A : Type 0} {archives : Account A Meaning} {hand : List (Shelf A)} {old new : RoomState} (answer : Result (Unit {0}) Failed)
     → GivesBack archives hand old new answer → IsErr answer → Rose old.failures new.failures
 missed (Ok u) g e = absurd (cc e)
 missed (Err f) g e = (let some : 0 < length g.missing = g.answers in elim g.failed_at.counted [ inl a ↦ inl (omega (arith, a, some)) | inr top ↦ inr top ])
 
 -- the room failed itself, and the archives that it had given were given back
-pub is_unlent : {A : Type 0} (archives : Account A Meaning) (hand : List (Shelf A)) (first worked last : Lending) (answer : Result (Unit {0}) Failed) → Rose first.failures worked.failures
+pub is_unlent : {A : Type 0} (archives : Account A Meaning) (hand : List (Shelf A)) (first worked last : RoomState) (answer : Result (Unit {0}) Failed) → Rose first.failures worked.failures
     → GivesBack archives hand worked last answer → (IsTrue archives.tells → AreMeant archives.meaning first.means hand) → ((n : ℕ) → times n (numbers_of hand) ≡ 0 → last.means n ≡ first.means n)
-    → IsUnlent (met_by archives.tells first last)
+    → IsUnlent (transition_by archives.tells first last)
 is_unlent {A} archives hand first worked last answer rose g are stay = record {
   worked = worked.failures;
   rose = rose;

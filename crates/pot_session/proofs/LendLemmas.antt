@@ -4,7 +4,7 @@ use Rattle.std.specs.Prelude.{Option, Some, None, All, Contains, IsSome, IsSomeA
 use Rattle.std.proofs.lemmas.List.Elements.{All-head, All-tail, Contains-append_cases, Contains-append_left, Contains-append_right}
 use Rattle.pot_bytes.proofs.Elements.{none_contained}
 use Rattle.pot_outside.specs.Archives.{IsMeant}
-use Rattle.pot_outside.specs.Rooms.{Lending}
+use Rattle.pot_outside.specs.Rooms.{RoomState}
 use Rattle.pot_machine.specs.declared.entry.Entry.{Entry}
 use Rattle.pot_machine.specs.Rules.{IsTable}
 use Rattle.pot_machine.specs.Table.{Table, holder_of, archives_in}
@@ -13,14 +13,14 @@ use Rattle.pot_image.specs.Images.{Contents}
 use Rattle.pot_image.specs.Rules.{FitsTable, FitsTogether}
 use Rattle.pot_rows.specs.Rows.{view_at}
 use Rattle.pot_turn.specs.Views.{spent_view}
-use Rattle.pot_worked.specs.Worked.{added}
+use Rattle.pot_worked.specs.WroteOnlyFor.{added}
 use Rattle.pot_shared.specs.declared.member.GroupOrigin.{GroupOrigin}
 use Rattle.pot_shared.specs.Members.{entries_of}
 use Rattle.pot_shared.specs.Ready.{GroupPass, GroupPasses}
 use Rattle.pot_shared.specs.Catalogs.{IndexPasses}
 use Rattle.pot_shared.specs.Works.{Known, gained}
 use Rattle.pot_shared.proofs.Times.{one_if}
-use Rattle.pot_shared.specs.Going.{AllSole}
+use Rattle.pot_shared.specs.Going.{AllOnlyWriters}
 use Rattle.pot_shared.specs.Hands.{times}
 use Rattle.pot_commands.specs.Holding.{AreOut, Untouched}
 use Rattle.pot_commands.specs.Taking.{Takes, Come, AreUsed}
@@ -79,7 +79,7 @@ read_in (v ∷ vs) (suc g) o lt is =
     Contains-append_right (table_read v.origin) (flat_map (λ (w : GroupPass). table_read w.origin) vs) o.first (read_in vs g o (omega (arith, lt)) is)
 
 -- the archives that a session begins with are in use
-pub first_used : (room : Lending) (first : Contents) (row : GroupPasses) (index : IndexPasses) → FitsTogether first → AreFirstPasses row index → tables_read row ≡ first.tables → AreOut room (flat_map archives_in first.tables)
+pub first_used : (room : RoomState) (first : Contents) (row : GroupPasses) (index : IndexPasses) → FitsTogether first → AreFirstPasses row index → tables_read row ≡ first.tables → AreOut room (flat_map archives_in first.tables)
     → AreUsed room row
 first_used room first row index fits passes read outs n is =
     let some : 1 ≤ times n (flat_map archives_in (tables_read row)) = (let a = outs n in let b = ap one_if is in let c = ap (λ ts. times n (flat_map archives_in ts)) read in omega (arith, a, b, c)) in
@@ -97,7 +97,7 @@ first_used room first row index fits passes read outs n is =
 pub none_before_asked : (n : ℕ) (ns asked : List ℕ) → times n (ns ++ asked) ≡ 0 → times n ns ≡ 0
 none_before_asked n ns asked none = (let a = times-append n ns asked in omega (arith, none, a))
 
-module _ (told well : Type 0) (asked : List ℕ) (r r' : Lending) (old new : Known) (taken : List ℕ) (takes : Takes told well asked taken r r') (come : Come told r.means taken old new) (ns : List ℕ) (outs : AreOut r ns) where
+module _ (told well : Type 0) (asked : List ℕ) (r r' : RoomState) (old new : Known) (taken : List ℕ) (takes : Takes told well asked taken r r') (come : Come told r.means taken old new) (ns : List ℕ) (outs : AreOut r ns) where
   -- those that were out, and those that were taken
   pub out_after : AreOut r' (ns ++ taken)
   out_after n = (let a = times-append n ns taken in let b = outs n in let c = takes.out n in omega (arith, a, b, c))
@@ -110,7 +110,7 @@ module _ (told well : Type 0) (asked : List ℕ) (r r' : Lending) (old new : Kno
   have_come read sole n = (let a = times-append n ns taken in let b = come.are sole n in let c = ap (times n) read in omega (arith, a, b, c))
 
   -- the marks of those that came are what the room meant before it lent any
-  pub marks_before : (first : Lending) → Untouched ns first r → told → AllSole old new → (g : ℕ) → g < length old.groups.names → AreMarkedBy first.means (added (view_at old.groups g) (view_at new.groups g))
+  pub marks_before : (first : RoomState) → Untouched ns first r → told → AllOnlyWriters old new → (g : ℕ) → g < length old.groups.names → AreMarkedBy first.means (added (view_at old.groups g) (view_at new.groups g))
   marks_before first untouched tells sole g lt l n has arr =
       let some = came_within (length old.groups.names) (gained old.groups new.groups) g n lt (arrival_in (added (view_at old.groups g) (view_at new.groups g)) l n has arr) in
       let a = come.are sole n in
@@ -139,7 +139,7 @@ module _ (told well : Type 0) (asked : List ℕ) (r r' : Lending) (old new : Kno
   none_first n none = none_before_asked n ns asked none
 
   -- a number that was not out, and that no log brought, is home and means what it meant
-  pub still_meant : told → well → AllSole old new → (n : ℕ) → times n ns ≡ 0 → times n (came_in (length old.groups.names) (gained old.groups new.groups)) ≡ 0
+  pub still_meant : told → well → AllOnlyWriters old new → (n : ℕ) → times n ns ≡ 0 → times n (came_in (length old.groups.names) (gained old.groups new.groups)) ≡ 0
       → (r'.out n ≡ false) × IsMeant (r.means n) (r'.means n)
   still_meant tells it sole n none unbrought = (home, takes.still tells it n home)
     where

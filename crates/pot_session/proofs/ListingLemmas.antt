@@ -10,7 +10,7 @@ use Rattle.std.proofs.lemmas.List.{take-append-drop, get_or-take, length-take, d
 use Rattle.std.proofs.lemmas.Bool.{cases_lt}
 use Rattle.std.proofs.lemmas.Bool.Decides.{nat_tests}
 use Rattle.pot_bytes.proofs.Elements.{at_range}
-use Rattle.pot_outside.specs.Accounts.{Met, until, since}
+use Rattle.pot_outside.specs.Accounts.{Transition, until, since}
 use Rattle.pot_session.specs.declared.recovery.listing.ListFault.{ListFault}
 use Rattle.pot_recover.specs.Fronts.{has_front}
 use Rattle.pot_commands.specs.Streams.{Wrote}
@@ -228,7 +228,7 @@ module _ (objects : List (List ℕ)) (object front : List ℕ) (piece : ℕ) (is
 
 -- ONE TEXT BEHIND ANOTHER
 
-pub puts_behind : {T : Type 0} (sink : Met (List ℕ)) (middle text more : List ℕ) (r : Result T ListFault) → Wrote (until sink middle) text → Puts (since sink middle) more r
+pub puts_behind : {T : Type 0} (sink : Transition (List ℕ)) (middle text more : List ℕ) (r : Result T ListFault) → Wrote (until sink middle) text → Puts (since sink middle) more r
     → Puts sink (text ++ more) r
 puts_behind sink middle text more (Ok t) written puts = λ h. written_behind sink.before middle sink.after text more (written h) (puts h)
 puts_behind sink middle text more (Err e) written puts = λ h. begun_behind sink.before middle sink.after text more (written h) (puts h)

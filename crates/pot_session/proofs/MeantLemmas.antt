@@ -4,7 +4,7 @@ use Rattle.std.specs.Prelude.{Contains, Result, Ok, Err, IsErr, OnOk, slice_inde
 use Rattle.std.specs.List.{remove}
 use Rattle.std.proofs.lemmas.List.Elements.{Contains-append_cases}
 use Rattle.pot_outside.specs.Archives.{Meaning, IsMeant}
-use Rattle.pot_outside.specs.Rooms.{Lending, StaysAt}
+use Rattle.pot_outside.specs.Rooms.{RoomState, StaysAt}
 use Rattle.pot_outside.specs.declared.archive.Shelf.{Shelf}
 use Rattle.pot_shared.specs.Hands.{AreMeant}
 
@@ -32,10 +32,10 @@ got_ok (Err e) P p none = absurd (none refl)
 
 module _ {A : Type 0} (meaning : A → Meaning) where
   -- an archive of the hand is there still; or it was given back, and the room means it
-  abbrev pub HeldOrGiven : Type 0 → Lending → List (Shelf A) → Shelf A → Type 0
+  abbrev pub HeldOrGiven : Type 0 → RoomState → List (Shelf A) → Shelf A → Type 0
   HeldOrGiven told room hand s = Contains hand s ⊎ ((room.out s.number ≡ false) × (told → IsMeant (room.means s.number) (meaning s.archive)))
 
-  pub given_more : (told now : Type 0) (room new : Lending) (hand : List (Shelf A)) (p : ℕ) (x s : Shelf A) → p < length hand → x ≡ slice_index_or hand p x
+  pub given_more : (told now : Type 0) (room new : RoomState) (hand : List (Shelf A)) (p : ℕ) (x s : Shelf A) → p < length hand → x ≡ slice_index_or hand p x
       → room.out x.number ≡ true → new.out x.number ≡ false → (now → told) → (s ≡ x → now → IsMeant (new.means x.number) (meaning x.archive))
       → ((n : ℕ) → n ≢ x.number → StaysAt room new n) → HeldOrGiven told room hand s → HeldOrGiven now new (remove hand p) s
   given_more told now room new hand p x s l e was back then its others (inl c) = elim (remove_contains hand p x s l e c) [

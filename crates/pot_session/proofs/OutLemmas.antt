@@ -4,7 +4,7 @@ use Rattle.std.specs.Prelude.{slice_index_or, nat_eq}
 use Rattle.std.specs.List.{remove, AllByRecursion, IsDistinct}
 use Rattle.std.proofs.lemmas.List.{take_more, take-append-drop, length-take-le, length-map, map-append}
 use Rattle.std.proofs.lemmas.Bool.Decides.{eqb_tells}
-use Rattle.pot_outside.specs.Rooms.{IsHome, Lending}
+use Rattle.pot_outside.specs.Rooms.{IsHome, RoomState}
 use Rattle.pot_outside.specs.declared.archive.Shelf.{Shelf}
 use Rattle.pot_shelves.specs.Shelves.{numbers_of}
 use Rattle.pot_shared.proofs.Times.{one_if}
@@ -41,25 +41,25 @@ step_in false o p t u d e on off = (let h = off refl in rw h (omega (arith, d, e
 -- THE CALLS OF A ROOM
 
 -- none is out
-pub none_out : (room : Lending) → IsHome room → AreOut room []
+pub none_out : (room : RoomState) → IsHome room → AreOut room []
 none_out room h n = sym (ap one_if (h n))
 
-pub all_home : (room : Lending) → AreOut room [] → IsHome room
+pub all_home : (room : RoomState) → AreOut room [] → IsHome room
 all_home room h n = one_or_none (room.out n) (times n []) refl (h n)
 
 -- archives that are out are distinct
-pub out_apart : (room : Lending) (ns : List ℕ) → AreOut room ns → AreApart ns
+pub out_apart : (room : RoomState) (ns : List ℕ) → AreOut room ns → AreApart ns
 out_apart room ns h n = (let e = h n in let l = at_most (room.out n) in omega (arith, e, l))
   where
     at_most : (b : Bool) → one_if b ≤ 1
     at_most true = omega arith
     at_most false = omega arith
 
-pub none_out_of : (room : Lending) (ns : List ℕ) (n : ℕ) → AreOut room ns → room.out n ≡ false → times n ns ≡ 0
+pub none_out_of : (room : RoomState) (ns : List ℕ) (n : ℕ) → AreOut room ns → room.out n ≡ false → times n ns ≡ 0
 none_out_of room ns n h e = h n ∙ ap one_if e
 
 -- a number of which there is none yet is not out
-pub is_home : (room : Lending) (ns : List ℕ) (n : ℕ) → AreOut room ns → times n ns ≡ 0 → room.out n ≡ false
+pub is_home : (room : RoomState) (ns : List ℕ) (n : ℕ) → AreOut room ns → times n ns ≡ 0 → room.out n ≡ false
 is_home room ns n h e = one_or_none (room.out n) (times n ns) e (h n)
 
 yes_eq : (b : Bool) (m n : ℕ) → ((b ≡ true) × (m ≡ n)) ⊎ ((b ≡ false) × (m ≢ n)) → b ≡ true → m ≡ n
@@ -71,7 +71,7 @@ no_eq b m n (inl h) e = absurd (let f : true ≡ false = sym h.0 ∙ e in (cc))
 no_eq b m n (inr h) e = h.1
 
 -- one more archive was taken
-pub out_more : (room new : Lending) (ns : List ℕ) (k : ℕ) → AreOut room ns → room.out k ≡ false → new.out k ≡ true → ((n : ℕ) → n ≢ k → new.out n ≡ room.out n) → AreOut new (ns ++ k ∷ [])
+pub out_more : (room new : RoomState) (ns : List ℕ) (k : ℕ) → AreOut room ns → room.out k ≡ false → new.out k ≡ true → ((n : ℕ) → n ≢ k → new.out n ≡ room.out n) → AreOut new (ns ++ k ∷ [])
 out_more room new ns k h was now others n =
     times-append n ns (k ∷ [])
     ∙ step_out (eqb k n) (room.out n) (new.out n) (times n ns) (h n)
@@ -79,7 +79,7 @@ out_more room new ns k h was now others n =
     (λ e. others n (λ same. no_eq (eqb k n) k n (eqb_tells k n) e (sym same)))
 
 -- a take that was refused changed nothing
-pub out_same : (room new : Lending) (ns : List ℕ) (k : ℕ) → AreOut room ns → room.out k ≡ false → new.out k ≡ false → ((n : ℕ) → n ≢ k → new.out n ≡ room.out n) → AreOut new ns
+pub out_same : (room new : RoomState) (ns : List ℕ) (k : ℕ) → AreOut room ns → room.out k ≡ false → new.out k ≡ false → ((n : ℕ) → n ≢ k → new.out n ≡ room.out n) → AreOut new ns
 out_same room new ns k h was now others n = h n ∙ ap one_if (each (eqb_tells k n))
   where
     each : ((eqb k n ≡ true) × (k ≡ n)) ⊎ ((eqb k n ≡ false) × (k ≢ n)) → room.out n ≡ new.out n
@@ -87,7 +87,7 @@ out_same room new ns k h was now others n = h n ∙ ap one_if (each (eqb_tells k
     each (inr e) = sym (others n (λ same. e.1 (sym same)))
 
 -- an archive in the hand is out
-pub is_out : {A : Type 0} (room : Lending) (ss : List (Shelf A)) (p : ℕ) (s : Shelf A) → AreOut room (numbers_of ss) → p < length ss → s ≡ slice_index_or ss p s → room.out s.number ≡ true
+pub is_out : {A : Type 0} (room : RoomState) (ss : List (Shelf A)) (p : ℕ) (s : Shelf A) → AreOut room (numbers_of ss) → p < length ss → s ≡ slice_index_or ss p s → room.out s.number ≡ true
 is_out room ss p s h l e =
     is_one (room.out s.number) (times s.number (numbers_of ss)) (h s.number)
     (let r = times-removed s.number ss p s l e in let o : cond (eqb s.number s.number) 1 0 ≡ 1 = ap one_if (self_eq s.number) in omega (arith, r, o))
@@ -96,7 +96,7 @@ is_out room ss p s h l e =
     self_eq n = elim (eqb_tells n n) [ inl e ↦ e.0 | inr e ↦ absurd (e.1 refl) ]
 
 -- it was given back
-pub out_less : {A : Type 0} (room new : Lending) (ss : List (Shelf A)) (p : ℕ) (s : Shelf A) → AreOut room (numbers_of ss) → p < length ss → s ≡ slice_index_or ss p s
+pub out_less : {A : Type 0} (room new : RoomState) (ss : List (Shelf A)) (p : ℕ) (s : Shelf A) → AreOut room (numbers_of ss) → p < length ss → s ≡ slice_index_or ss p s
     → new.out s.number ≡ false → ((n : ℕ) → n ≢ s.number → new.out n ≡ room.out n) → AreOut new (numbers_of (remove ss p))
 out_less room new ss p s h l e now others n =
     step_in (eqb s.number n) (room.out n) (new.out n) (times n (numbers_of ss)) (times n (numbers_of (remove ss p))) (times-removed n ss p s l e) (h n)

@@ -4,7 +4,7 @@ use Rattle.std.specs.Prelude.{Option, Some, None, MatchOption, decimal}
 use Rattle.std.proofs.lemmas.Fmt.{decimal_injective, length-decimal-le}
 use Rattle.std.proofs.lemmas.List.{get_or_default}
 use Rattle.std.proofs.lemmas.Str.Parse.{digit_at}
-use Rattle.pot_outside.specs.Accounts.{Met}
+use Rattle.pot_outside.specs.Accounts.{Transition}
 use Rattle.pot_script.specs.Lines.{Cuts}
 use Rattle.pot_script.proofs.Decimal.{IsDecimal-decimal}
 use Rattle.pot_script.proofs.WordLemmas.{Without, not_without, one_cut, tails}
@@ -85,16 +85,16 @@ short bytes file other p =
     )
 
 -- the bytes that were read are two files, and so are those of the source
-pub source_pair : (source : Met (List ℕ)) (bytes file other : List ℕ) → IsReadOut source bytes 1769481 → ArePair bytes file other → ArePair source.before file other
+pub source_pair : (source : Transition (List ℕ)) (bytes file other : List ℕ) → IsReadOut source bytes 1769481 → ArePair bytes file other → ArePair source.before file other
 source_pair source bytes file other read p =
     subst (λ b. ArePair b file other) (sym (whole_source source bytes 1769481 read (short bytes file other p))) p
 
 -- nothing is left behind them
-pub nothing_left : (source : Met (List ℕ)) (bytes file other : List ℕ) → IsReadOut source bytes 1769481 → ArePair bytes file other → source.after ≡ []
+pub nothing_left : (source : Transition (List ℕ)) (bytes file other : List ℕ) → IsReadOut source bytes 1769481 → ArePair bytes file other → source.after ≡ []
 nothing_left source bytes file other read p = read.all (short bytes file other p)
 
 -- the bytes that were read are no two files, and neither are those of the source
-pub source_none : (source : Met (List ℕ)) (bytes : List ℕ) → IsReadOut source bytes 1769481 → IsNoPair bytes → IsNoPair source.before
+pub source_none : (source : Transition (List ℕ)) (bytes : List ℕ) → IsReadOut source bytes 1769481 → IsNoPair bytes → IsNoPair source.before
 source_none source bytes read none file other p =
     let few : length bytes ≤ 1769481 = omega (arith, short source.before file other p, ap (λ l. length l) read.first, length-append bytes source.after) in
     none file other (subst (λ b. ArePair b file other) (whole_source source bytes 1769481 read few) p)

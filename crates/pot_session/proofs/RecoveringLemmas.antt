@@ -2,10 +2,10 @@
 use Rattle.std.proofs.Common.{◌≡◌, ◌≢◌, ◌<◌, ◌≤◌, ◌+◌, ◌-◌, ◌^◌, ◌⊎◌, inl, inr, ℕ, Bool, true, false, List, refl, sym, ap, subst, ◌∙◌, arith}
 use Rattle.std.specs.Prelude.{Some, Result, Ok, Err, IsErr, IsOk, IsTrue, OnOk}
 use Rattle.std.proofs.lemmas.Bool.{cases_lt, cases_order}
-use Rattle.pot_outside.specs.Accounts.{Met}
+use Rattle.pot_outside.specs.Accounts.{Transition}
 use Rattle.pot_outside.specs.Archives.{Meaning, IsMeant}
 use Rattle.pot_outside.specs.Counts.{Caused, Rose}
-use Rattle.pot_outside.specs.Rooms.{Lending}
+use Rattle.pot_outside.specs.Rooms.{RoomState}
 use Rattle.pot_outside.specs.declared.faults.Failed.{Failed}
 use Rattle.pot_outside.proofs.LossLemmas.{loses_more, loses_nothing}
 use Rattle.pot_doubles.proofs.CallLemmas.{rose_later}
@@ -114,7 +114,7 @@ held_more number stripes meant middle means before after h untouched g others = 
     apart n less e = omega (arith, less, e)
 
 -- one archive was read after those before it, and those behind it were not touched
-pub were_read : (archives number : ℕ) (old middle new : Lending) → ((n : ℕ) → n < number → WasRead (old.means n) (middle.means n))
+pub were_read : (archives number : ℕ) (old middle new : RoomState) → ((n : ℕ) → n < number → WasRead (old.means n) (middle.means n))
     → ((n : ℕ) → number ≤ n → middle.means n ≡ old.means n) → old.failures ≤ middle.failures
     → ((n : ℕ) → n ≢ number → new.means n ≡ middle.means n)
     → ((Rose middle.failures new.failures → ⊥) → WasRead (middle.means number) (new.means number))
@@ -141,7 +141,7 @@ ok_gives (Err e) P ok p = absurd (cc)
 -- FAILURES
 
 -- a read that failed at an archive which was then given back: the archive failed, or the room did
-pub why_failed : (room : Met Lending) (middle : Lending) (number : ℕ) (given : Result (Unit {0}) Failed) (old new : Meaning) → room.before.failures ≤ middle.failures
+pub why_failed : (room : Transition RoomState) (middle : RoomState) (number : ℕ) (given : Result (Unit {0}) Failed) (old new : Meaning) → room.before.failures ≤ middle.failures
     → Caused middle.failures room.after.failures (IsErr given) → OnOk given (IsTrue room.tells → IsMeant (room.after.means number) new) → (IsTrue room.tells → IsMeant (room.before.means number) old)
     → Rose old.faults new.faults → Rose room.before.failures room.after.failures ⊎ (IsTrue room.tells → HasFailed (room.before.means number) (room.after.means number))
 why_failed room middle number (Ok u) old new le cause back took rose =
@@ -155,7 +155,7 @@ read_back told (Ok u) before after old new m n still cause back t o r = read_mea
 read_back told (Err e) before after old new m n still cause back t o r = absurd (still (cause.rose refl))
 
 -- so one of the first archives did
-pub some_failed : (room : Met Lending) (middle : Lending) (archives number : ℕ) → number < archives → room.before.failures ≤ middle.failures → middle.means number ≡ room.before.means number
+pub some_failed : (room : Transition RoomState) (middle : RoomState) (archives number : ℕ) → number < archives → room.before.failures ≤ middle.failures → middle.means number ≡ room.before.means number
     → Rose middle.failures room.after.failures ⊎ (IsTrue room.tells → HasFailed (middle.means number) (room.after.means number))
     → Rose room.before.failures room.after.failures ⊎ (IsTrue room.tells → SomeFailed archives room.before room.after)
 some_failed room middle archives number lt le same (inl r) = inl (rose_later room.before.failures middle.failures room.after.failures le r)
@@ -181,7 +181,7 @@ told_is : (b : Bool) → IsRecoverStatus (told_status b)
 told_is true = tt
 told_is false = tt
 
-module _ (r : Recover) (room : Met Lending) where
+module _ (r : Recover) (room : Transition RoomState) where
   stop_is : (s : Stop) → FindsObjects r room (Err s) → IsRecoverStatus (status_of s)
   stop_is stop.TooWide h = tt
   stop_is stop.RoomFault h = tt
@@ -197,7 +197,7 @@ module _ (r : Recover) (room : Met Lending) where
   stop_is stop.Spent h = absurd h
   stop_is stop.Exists h = absurd h
 
-  module _ (sink : Met (List ℕ)) (answer : Status) where
+  module _ (sink : Transition (List ℕ)) (answer : Status) where
     answered : (found : Result (List (List ℕ)) Stop) → FindsObjects r room found → ListAnswers sink found answer → IsRecoverStatus answer
     answered (Ok objects) f (inl a) = subst IsRecoverStatus (sym a.0) (told_is (has_partial objects))
     answered (Ok objects) f (inr (inl e, w)) = subst IsRecoverStatus (sym e) tt

@@ -4,7 +4,7 @@ use Rattle.std.specs.Prelude.{None, flat_map, IsTrue}
 use Rattle.std.specs.List.{AllByRecursion}
 use Rattle.std.proofs.Math.Seq.{take-append_seam}
 use Rattle.pot_bytes.specs.declared.rack.Rack.{Rack}
-use Rattle.pot_outside.specs.Accounts.{Met}
+use Rattle.pot_outside.specs.Accounts.{Transition}
 use Rattle.pot_script.specs.declared.command.Command.{Command}
 use Rattle.pot_script.specs.declared.command.Command.TheVariants as command
 use Rattle.pot_script.specs.declared.grouping.Step.{Step}
@@ -59,7 +59,7 @@ module _ (rack : Rack) (bytes : List ℕ) (front cs : List Command) (s : IsScrip
   steps_closed = subst (λ l. after_commands None l ≡ None) (sym same) s.closed
 
 -- the steps of a script that was read
-pub is_read : (rack : Rack) (source : Met (List ℕ)) (bytes : List ℕ) (cs : List Command) (ss : List Step) → (IsTrue source.tells → source.before ≡ bytes) → (s : IsScript rack bytes cs)
+pub is_read : (rack : Rack) (source : Transition (List ℕ)) (bytes : List ℕ) (cs : List Command) (ss : List Step) → (IsTrue source.tells → source.before ≡ bytes) → (s : IsScript rack bytes cs)
     → flat_map spread ss ≡ s.steps → AllByRecursion (IsWholeStep rack) ss → IsRead rack source ss
 is_read rack source bytes cs ss read s spelled whole =
     let ended : cs ≡ flat_map spread ss ++ command.Quit ∷ [] = s.ended ∙ ap (λ l. l ++ command.Quit ∷ []) (sym spelled) in

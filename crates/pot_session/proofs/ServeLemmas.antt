@@ -3,8 +3,8 @@ use Rattle.std.proofs.Common.{◌≡◌, ◌<◌, ◌++◌, ◌⊎◌, inl, inr,
 use Rattle.std.specs.Prelude.{All, Contains, IsTrue, Option, Some, IfSome, Result, Ok, Err, IsErrOf, slice_index_or, flat_map}
 use Rattle.pot_bytes.specs.declared.rack.Rack.{Rack}
 use Rattle.pot_bytes.specs.declared.rack.Place.{Place}
-use Rattle.pot_outside.specs.Accounts.{Content, Met}
-use Rattle.pot_outside.specs.Rooms.{Lending}
+use Rattle.pot_outside.specs.Accounts.{Content, Transition}
+use Rattle.pot_outside.specs.Rooms.{RoomState}
 use Rattle.pot_index.specs.declared.record.Record.{Record}
 use Rattle.pot_index.specs.declared.record.Split.{Split}
 use Rattle.pot_index.specs.Records.{current_of, splits_of}
@@ -143,7 +143,7 @@ all_parts row h at l = (let p = h at l in omega (arith, p))
 -- THE END
 
 -- a session that worked its steps and closed
-pub serves_closed : (seed : List ℕ) (first : Contents) (steps : List Step) (room : Met Lending) (sink : Met (List ℕ)) (desk : Met (Content (Option (List ℕ)))) (rack : Rack) (session : ℕ) (old new : Known)
+pub serves_closed : (seed : List ℕ) (first : Contents) (steps : List Step) (room : Transition RoomState) (sink : Transition (List ℕ)) (desk : Transition (Content (Option (List ℕ)))) (rack : Rack) (session : ℕ) (old new : Known)
     (e : Ending) (worked : ℕ) (closed : Result (Unit {0}) Stop) (answer : Status) → AreFirstPasses old.groups old.index → tables_read old.groups ≡ first.tables → records_read old.index ≡ first.records → rack ≡ first.rack
     → session ≡ first.session → Ends rack seed session sink steps old new e → Fails room.before.failures worked (e ≡ ending.RoomFailed) → (closes : Closes old new room worked desk first closed)
     → (IsTrue desk.tells → desk.before.held ≡ Some (image_bytes first)) → (IsTrue room.tells → (e ≡ ending.RoomFailed → ⊥) → OthersStay first.tables closes.last.group_logs room.before.means room.after.means)

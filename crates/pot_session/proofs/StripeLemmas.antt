@@ -11,7 +11,7 @@ use Rattle.pot_machine.specs.declared.entry.Entry.TheVariants as entry
 use Rattle.pot_machine.specs.Column.{homes_of}
 use Rattle.pot_machine.specs.Table.{Table, width, archives_in, column_at, no_column, relay_at, serving_at}
 use Rattle.pot_machine.proofs.Columns.{names_serving}
-use Rattle.pot_steps.specs.Holdings.{HoldsUp, LiveLaw, stripe_of}
+use Rattle.pot_steps.specs.Holdings.{StripesConsistent, LiveLaw, stripe_of}
 use Rattle.pot_steps.specs.Law.{Worse}
 use Rattle.pot_steps.specs.Stripe.{Sound}
 use Rattle.pot_steps.proofs.Steps.{worse_keeps}
@@ -104,7 +104,7 @@ module _ (told : Type 0) (meant means : ℕ → Meaning) (missing : List ℕ) (t
     broken = λ c d lt e. e;
   }
 
-  holds : HoldsUp (still left.view.table) (held_in means)
+  holds : StripesConsistent (still left.view.table) (held_in means)
   holds s lt = worse_keeps left.view.table.data_columns left.view.table.parity (stripe_of left.view.table left.view.shelves.held s) (stripe_of (still left.view.table) (held_in means) s)
       (relay_at left.view.table s) (relay_at (still left.view.table) s) (worse s) (λ some. absurd (some refl)) (left.settled.holds is_told s lt)
 

@@ -1,8 +1,8 @@
 -- What a refusal and a session say of the failures of objects.
 use Rattle.std.proofs.Common.{◌≡◌, ◌≤◌, ◌++◌, inl, inr, ℕ, List, [], refl, sym, ap, subst, ◌∙◌, arith}
 use Rattle.std.specs.Prelude.{IsTrue, Option, Result, Ok, Err, IfErr, flat_map}
-use Rattle.pot_outside.specs.Accounts.{Content, Met, held_in, since, until}
-use Rattle.pot_outside.specs.Rooms.{Lending}
+use Rattle.pot_outside.specs.Accounts.{Content, Transition, held_in, since, until}
+use Rattle.pot_outside.specs.Rooms.{RoomState}
 use Rattle.pot_doubles.proofs.CallLemmas.{rose_later}
 use Rattle.pot_script.specs.declared.grouping.Step.{Step}
 use Rattle.pot_machine.specs.Table.{archives_in}
@@ -27,7 +27,7 @@ use Rattle.pot_session.specs.Making.{IsMakeStop, InitAnswers}
 use Rattle.pot_session.specs.Serving.{Closed, Serves, Unlent, Unopened, IsEnd}
 use Rattle.pot_session.specs.Stops.{Refuses, status_of}
 
-by_status : (sink : Met (List ℕ)) (s : Stop) (answer x : Status) → Refuses sink s answer → answer ≡ x → (x ≡ status.SinkFault → ⊥) → (x ≡ status.NoMemory → ⊥) → status_of s ≡ x
+by_status : (sink : Transition (List ℕ)) (s : Stop) (answer x : Status) → Refuses sink s answer → answer ≡ x → (x ≡ status.SinkFault → ⊥) → (x ≡ status.NoMemory → ⊥) → status_of s ≡ x
 by_status sink s answer x (inl h) e f k = sym h.0 ∙ e
 by_status sink s answer x (inr (inl h)) e f k = absurd (f (sym e ∙ h.0))
 by_status sink s answer x (inr (inr h)) e f k = absurd (k (sym e ∙ h.0))
@@ -62,25 +62,25 @@ of_room stop.Exists e = absurd (cc)
 of_room stop.TooWide e = absurd (cc)
 of_room stop.NoMemory e = absurd (cc)
 
-pub refused_source : (sink : Met (List ℕ)) (s : Stop) (answer : Status) → Refuses sink s answer → answer ≡ status.SourceFault → s ≡ stop.SourceFault
+pub refused_source : (sink : Transition (List ℕ)) (s : Stop) (answer : Status) → Refuses sink s answer → answer ≡ status.SourceFault → s ≡ stop.SourceFault
 refused_source sink s answer r e = of_source s (by_status sink s answer status.SourceFault r e (λ h. cc) (λ h. cc))
 
-pub refused_room : (sink : Met (List ℕ)) (s : Stop) (answer : Status) → Refuses sink s answer → answer ≡ status.RoomFault → s ≡ stop.RoomFault
+pub refused_room : (sink : Transition (List ℕ)) (s : Stop) (answer : Status) → Refuses sink s answer → answer ≡ status.RoomFault → s ≡ stop.RoomFault
 refused_room sink s answer r e = of_room s (by_status sink s answer status.RoomFault r e (λ h. cc) (λ h. cc))
 
 -- making an archive fails neither for the source nor for the room
-pub init_source : (sink : Met (List ℕ)) (made : Result (Unit {0}) Stop) (answer : Status) → IfErr made IsMakeStop → InitAnswers sink made answer → answer ≡ status.SourceFault → ⊥
+pub init_source : (sink : Transition (List ℕ)) (made : Result (Unit {0}) Stop) (answer : Status) → IfErr made IsMakeStop → InitAnswers sink made answer → answer ≡ status.SourceFault → ⊥
 init_source sink (Ok u) answer w (inl h) e = (let q : status.Good ≡ status.SourceFault = sym h.0 ∙ e in (cc))
 init_source sink (Ok u) answer w (inr h) e = (let q : status.SinkFault ≡ status.SourceFault = sym h.0 ∙ e in (cc))
 init_source sink (Err s) answer w r e = subst IsMakeStop (refused_source sink s answer r e) w
 
-pub init_room : (sink : Met (List ℕ)) (made : Result (Unit {0}) Stop) (answer : Status) → IfErr made IsMakeStop → InitAnswers sink made answer → answer ≡ status.RoomFault → ⊥
+pub init_room : (sink : Transition (List ℕ)) (made : Result (Unit {0}) Stop) (answer : Status) → IfErr made IsMakeStop → InitAnswers sink made answer → answer ≡ status.RoomFault → ⊥
 init_room sink (Ok u) answer w (inl h) e = (let q : status.Good ≡ status.RoomFault = sym h.0 ∙ e in (cc))
 init_room sink (Ok u) answer w (inr h) e = (let q : status.SinkFault ≡ status.RoomFault = sym h.0 ∙ e in (cc))
 init_room sink (Err s) answer w r e = subst IsMakeStop (refused_room sink s answer r e) w
 
 -- a session over a desk that failed before it too
-longer : (seed : List ℕ) (first : Contents) (steps : List Step) (room : Met Lending) (sink : Met (List ℕ)) (desk : Met (Content (Option (List ℕ)))) (mid : Content (Option (List ℕ))) (answer : Status)
+longer : (seed : List ℕ) (first : Contents) (steps : List Step) (room : Transition RoomState) (sink : Transition (List ℕ)) (desk : Transition (Content (Option (List ℕ)))) (mid : Content (Option (List ℕ))) (answer : Status)
     → desk.before.faults ≤ mid.faults → Serves seed first steps room sink (since desk mid) answer → Serves seed first steps room sink desk answer
 longer seed first steps room sink desk mid answer le (Unlent why same holds unlent others) = Unlent why same holds unlent others
 longer seed first steps room sink desk mid answer le (Unopened why same holds others) = Unopened why same holds others

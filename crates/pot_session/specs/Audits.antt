@@ -3,7 +3,7 @@ use Rattle.std.specs.Prelude.{◌≡◌, ◌⊎◌, ◌++◌, ◌+◌, ◌&&◌,
 use Rattle.std.specs.Prelude.{Option, Result, Ok, Err, All, codes, flat_map, map, take, IsTrue}
 use Rattle.std.specs.List.{list_all, list_any}
 use Rattle.pot_bytes.specs.declared.rack.Rack.{Rack}
-use Rattle.pot_outside.specs.Accounts.{Met}
+use Rattle.pot_outside.specs.Accounts.{Transition}
 use Rattle.pot_commands.specs.Streams.{Wrote}
 use Rattle.pot_script.specs.Replies.{spaced}
 use Rattle.pot_index.specs.declared.record.Record.{Record}
@@ -81,7 +81,7 @@ has_bare all = list_any (λ (a : Audited). list_any is_bare a.veils) all
 
 -- The lines of all records were written, and it is answered whether some piece is bare; or the sink
 -- failed or memory ran out, and some first bytes were written of the lines of some first records.
-abbrev pub PutsAudit : Met (List ℕ) → Rack → List Spot → List Record → Result Bool ListFault
+abbrev pub PutsAudit : Transition (List ℕ) → Rack → List Spot → List Record → Result Bool ListFault
     → Type 0
 PutsAudit sink rack spots records (Ok bare) =
     (all : List Audited) × AreAudited rack spots records all × (bare ≡ has_bare all)
@@ -91,7 +91,7 @@ PutsAudit sink rack spots records (Err e) =
     × Began sink (audit_text all)
 
 -- and so the answer
-abbrev pub AuditAnswers : Met (List ℕ) → Rack → List Spot → List Record → Status → Type 0
+abbrev pub AuditAnswers : Transition (List ℕ) → Rack → List Spot → List Record → Status → Type 0
 AuditAnswers sink rack spots records answer =
     ((bare : Bool) × PutsAudit sink rack spots records (Ok bare) × (answer ≡ told_status bare))
     ⊎ ((e : ListFault) × PutsAudit sink rack spots records (Err e)
@@ -99,7 +99,7 @@ AuditAnswers sink rack spots records answer =
 
 -- What `audit` comes to. The desk has no image; or it has one whose rack lacks a column that the
 -- words name, and the words are refused; or the audit of its records is told.
-pub data Audits (a : Audit) (desk : Met (Option (List ℕ))) (sink : Met (List ℕ))
+pub data Audits (a : Audit) (desk : Transition (Option (List ℕ))) (sink : Transition (List ℕ))
     (answer : Status) : Type 0 where
   Stopped : (s : Stop) → IsImageStop s → (IsTrue desk.tells → RefusesDesk desk.before s)
       → Refuses sink s answer → Audits a desk sink answer

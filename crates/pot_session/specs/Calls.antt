@@ -1,9 +1,9 @@
 -- What a call of the program comes to, by the words, the bytes of the source, what the sink got,
 -- what the desk held and holds, and what the room meant and means.
 use Rattle.std.specs.Prelude.{◌≡◌, ◌⊎◌, ℕ, List, IsTrue}
-use Rattle.pot_outside.specs.Accounts.{Met, Stays, held_in}
+use Rattle.pot_outside.specs.Accounts.{Transition, Stays, held_in}
 use Rattle.pot_outside.specs.Counts.{Rose}
-use Rattle.pot_outside.specs.Rooms.{Lending, MeansStay}
+use Rattle.pot_outside.specs.Rooms.{RoomState, MeansStay}
 use Rattle.pot_bytes.specs.declared.rack.Rack.{Rack}
 use Rattle.pot_options.specs.Options.{Text}
 use Rattle.pot_words.specs.Tasks.{SpellTask}
@@ -54,7 +54,7 @@ pub data Runs (words : List Text) (drawn : List ℕ) (seen : Seen) (answer : Sta
 
 -- Why a call fails at the room: the room failed itself, and not an archive that it lent; or the
 -- words spell `recover`, and one of the archives that it read failed, by what the room means of it.
-abbrev pub RoomFails : List Text → Met Lending → Type 0
+abbrev pub RoomFails : List Text → Transition RoomState → Type 0
 RoomFails words room =
     Rose room.before.failures room.after.failures
     ⊎ ((r : Recover) × SpellTask words (task.Recover r)

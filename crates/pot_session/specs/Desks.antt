@@ -1,7 +1,7 @@
 -- What a session reads from its desk and writes there.
 use Rattle.std.specs.Prelude.{◌≡◌, ◌<◌, ◌+◌, ◌-◌, ◌^◌, ℕ, List, [], Option, Some, None, Result, Ok}
 use Rattle.std.specs.Prelude.{Err, replicate, IsTrue}
-use Rattle.pot_outside.specs.Accounts.{Met}
+use Rattle.pot_outside.specs.Accounts.{Transition}
 use Rattle.pot_outside.specs.Failing.{MayLeave}
 use Rattle.pot_image.specs.declared.image.Image.{Image}
 use Rattle.pot_image.specs.declared.fault.ImageFault.TheVariants as faults
@@ -53,7 +53,7 @@ IsDeskStop stop.NoMemory = Unit {0}
 IsDeskStop _ = ⊥
 
 -- The desk's image was read, or it is said why not.
-abbrev pub OpensDesk : Met (Option (List ℕ)) → Result Image Stop → Type 0
+abbrev pub OpensDesk : Transition (Option (List ℕ)) → Result Image Stop → Type 0
 OpensDesk desk (Ok i) = GoesOn i × (IsTrue desk.tells → HoldsImage desk.before i)
 OpensDesk desk (Err s) = IsTrue desk.tells → RefusesDesk desk.before s
 
@@ -68,7 +68,7 @@ IsImageIn bytes (Ok i) = AnswersImage bytes (Ok i)
 IsImageIn bytes (Err s) = RefusesBytes bytes s
 
 -- The desk's image was read, whatever its session, or it is said why not.
-abbrev pub ReadsDesk : Met (Option (List ℕ)) → Result Image Stop → Type 0
+abbrev pub ReadsDesk : Transition (Option (List ℕ)) → Result Image Stop → Type 0
 ReadsDesk desk (Ok i) = IsTrue desk.tells → HoldsImage desk.before i
 ReadsDesk desk (Err s) = IsTrue desk.tells → RefusesDesk desk.before s
 
@@ -93,7 +93,7 @@ IsKeepStop _ = ⊥
 
 -- The desk holds these bytes now. Where it failed it holds them, what it held before or nothing,
 -- and for want of memory what it held before.
-abbrev pub Keeps : Met (Option (List ℕ)) → List ℕ → Result (Unit {0}) Stop → Type 0
+abbrev pub Keeps : Transition (Option (List ℕ)) → List ℕ → Result (Unit {0}) Stop → Type 0
 Keeps desk bytes (Ok u) = desk.after ≡ Some bytes
 Keeps desk bytes (Err stop.DeskFault) = MayLeave desk.before bytes desk.after
 Keeps desk bytes (Err stop.NoMemory) = desk.after ≡ desk.before

@@ -3,7 +3,7 @@ use Rattle.std.specs.Prelude.{◌≡◌, ◌≤◌, ◌-◌, ◌++◌, ℕ, true
 use Rattle.std.specs.Prelude.{OnOk, codes, decimal, length, unwrap_or, IsTrue}
 use Rattle.pot_bytes.specs.Rack.{IsGeometry}
 use Rattle.pot_bytes.specs.declared.rack.Geometry.{Geometry}
-use Rattle.pot_outside.specs.Accounts.{Met}
+use Rattle.pot_outside.specs.Accounts.{Transition}
 use Rattle.pot_object.specs.Pieces.{longest, pieces_of}
 use Rattle.pot_pads.specs.Pads.{pads_of, next_bytes}
 use Rattle.pot_script.specs.Replies.{spaced, in_hex}
@@ -79,7 +79,7 @@ pub data DrillsTo (d : Drill) (seed file other : List ℕ) (t : Telling) : Type 
 
 -- The source has two files, of which this is told; or it has no two files; or it failed, or memory
 -- ran out.
-abbrev pub Drilled : Drill → List ℕ → Met (List ℕ) → Result Telling Stop → Type 0
+abbrev pub Drilled : Drill → List ℕ → Transition (List ℕ) → Result Telling Stop → Type 0
 Drilled d seed source (Ok t) =
     (file : List ℕ) × (other : List ℕ) × (IsTrue source.tells → ArePair source.before file other)
     × DrillsTo d seed file other t
@@ -91,7 +91,7 @@ Drilled d seed source (Err _) = ⊥
 
 -- What `drill` comes to, and what it leaves of the source: nothing behind two files. Where the
 -- words give no seed it is the drawn one.
-pub record Drills (d : Drill) (drawn : List ℕ) (source sink : Met (List ℕ))
+pub record Drills (d : Drill) (drawn : List ℕ) (source sink : Transition (List ℕ))
     (answer : Status) : Type 0 where
   pub made : Result Telling Stop
   pub is : Drilled d (unwrap_or d.seed drawn) source made

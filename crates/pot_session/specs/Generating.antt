@@ -3,9 +3,9 @@ use Rattle.std.specs.Prelude.{◌≡◌, ◌<◌, ◌+◌, ◌*◌, ◌++◌, �
 use Rattle.std.specs.Prelude.{Option, Some, None, Result, Ok, Err, codes}
 use Rattle.std.specs.List.{count_by}
 use Rattle.pot_bytes.specs.Digests.{digest_bytes}
-use Rattle.pot_outside.specs.Accounts.{Content, Met, Stays, met_by}
+use Rattle.pot_outside.specs.Accounts.{Content, Transition, Stays, transition_by}
 use Rattle.pot_outside.specs.Archives.{Meaning}
-use Rattle.pot_outside.specs.Rooms.{Lending}
+use Rattle.pot_outside.specs.Rooms.{RoomState}
 use Rattle.pot_outside.specs.declared.faults.Failed.{Failed}
 use Rattle.pot_doubles.specs.Rooms.{meaning_of}
 use Rattle.pot_generator.specs.Generated.{generated}
@@ -34,16 +34,16 @@ pub record IsGenerated (number : ℕ) (bytes : List ℕ) (ended : Status) : Type
   pub rest : List ℕ
   pub desk : Content (Option (List ℕ))
   pub leaves : Content (Option (List ℕ))
-  pub room : Lending
-  pub lends : Lending
+  pub room : RoomState
+  pub lends : RoomState
   pub begun : desk.held ≡ Some (image_bytes (empty_contents rack_of_runs))
   pub empty : (n : ℕ) → room.means n ≡ meaning_of None
   pub unfailed : room.failures ≡ 0
   pub sound : AreSound lends.means
   pub session : Holds (seed_of number)
-      (seen_by (met_by true (script_text (generated number)) rest)
-      (met_by true [] bytes) (met_by true desk leaves)
-      (met_by true room lends))
+      (seen_by (transition_by true (script_text (generated number)) rest)
+      (transition_by true [] bytes) (transition_by true desk leaves)
+      (transition_by true room lends))
       ended
 
 -- all commands of such a session were answered
@@ -65,7 +65,7 @@ answer_of ended (Ok u) = ended
 answer_of ended (Err e) = status.SinkFault
 
 -- Such a session was held, and its summary was written; or memory ran out, and nothing was.
-pub data Generates (number : ℕ) (sink : Met (List ℕ)) (answer : Status) : Type 0 where
+pub data Generates (number : ℕ) (sink : Transition (List ℕ)) (answer : Status) : Type 0 where
   Told : (bytes : List ℕ) (ended : Status) → IsGenerated number bytes ended
       → is_answered ended ≡ true
       → (wrote : Result (Unit {0}) Failed)

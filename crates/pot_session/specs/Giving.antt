@@ -1,10 +1,10 @@
 -- Archives that are given back to a room, and those that it does not take back.
 use Rattle.std.specs.Prelude.{◌≡◌, ◌⊎◌, ◌<◌, ◌≤◌, ◌+◌, ◌-◌, ◌^◌, ℕ, List, [], Result, Ok, Err}
 use Rattle.std.specs.Prelude.{Contains, IsTrue, length}
-use Rattle.pot_outside.specs.Accounts.{Account, Met}
+use Rattle.pot_outside.specs.Accounts.{Account, Transition}
 use Rattle.pot_outside.specs.Archives.{Meaning, IsMeant}
 use Rattle.pot_outside.specs.Counts.{Rose}
-use Rattle.pot_outside.specs.Rooms.{Lending}
+use Rattle.pot_outside.specs.Rooms.{RoomState}
 use Rattle.pot_outside.specs.declared.archive.Shelf.{Shelf}
 use Rattle.pot_outside.specs.declared.faults.Failed.{Failed}
 use Rattle.pot_shared.specs.Hands.{times}
@@ -23,7 +23,7 @@ AnswersFor missing (Err e) = 0 < length missing
 
 -- These archives were given back: some are missing, and each other one is what its number means.
 pub record GivesBack {A : Type 0} (archives : Account A Meaning) (hand : List (Shelf A))
-    (old new : Lending) (result : Result (Unit {0}) Failed) : Type 0 where
+    (old new : RoomState) (result : Result (Unit {0}) Failed) : Type 0 where
   pub missing : List ℕ
   pub failed_at : FailsAt old.failures new.failures missing
   pub answers : AnswersFor missing result
@@ -33,7 +33,7 @@ pub record GivesBack {A : Type 0} (archives : Account A Meaning) (hand : List (S
 -- Archives were asked for and the room failed itself. Those that it had given were given back: some
 -- are missing, and each other number means what it meant. `worked` is how often the room had failed
 -- then.
-pub record IsUnlent (room : Met Lending) : Type 0 where
+pub record IsUnlent (room : Transition RoomState) : Type 0 where
   pub worked : ℕ
   pub rose : Rose room.before.failures worked
   pub missing : List ℕ

@@ -6,7 +6,7 @@ use Rattle.std.specs.List.{list_any, range_with_len, slice_index_or}
 use Rattle.std.specs.Str.{bytes_eq}
 use Rattle.byteorder.specs.Endian.{big_bytes}
 use Rattle.hex.specs.Hex.{encode_lower}
-use Rattle.pot_outside.specs.Accounts.{Met}
+use Rattle.pot_outside.specs.Accounts.{Transition}
 use Rattle.pot_object.specs.Objects.{head_at, part_length}
 use Rattle.pot_recover.specs.Fronts.{has_front}
 use Rattle.pot_script.specs.Replies.{spaced}
@@ -124,17 +124,17 @@ abbrev pub IsBegun : List ℕ → List ℕ → List ℕ → Type 0
 IsBegun before after text =
     (first : List ℕ) × (rest : List ℕ) × (text ≡ first ++ rest) × (after ≡ before ++ first)
 
-abbrev pub Began : Met (List ℕ) → List ℕ → Type 0
+abbrev pub Began : Transition (List ℕ) → List ℕ → Type 0
 Began sink text = IsTrue sink.tells → IsBegun sink.before sink.after text
 
 -- the text was written; or some first bytes of it, since the sink failed or memory ran out
-abbrev pub Puts : {T : Type 0} → Met (List ℕ) → List ℕ → Result T ListFault → Type 0
+abbrev pub Puts : {T : Type 0} → Transition (List ℕ) → List ℕ → Result T ListFault → Type 0
 Puts sink text (Ok t) = Wrote sink text
 Puts sink text (Err e) = Began sink text
 
 -- The listing was written, and the answer says whether some file is partial; or some first bytes of
 -- it were written, and the sink failed or memory ran out.
-abbrev pub Lists : Met (List ℕ) → List (List ℕ) → Status → Type 0
+abbrev pub Lists : Transition (List ℕ) → List (List ℕ) → Status → Type 0
 Lists sink objects answer =
     ((answer ≡ told_status (has_partial objects)) × Wrote sink (listing objects))
     ⊎ (((answer ≡ status.SinkFault) ⊎ (answer ≡ status.NoMemory)) × Began sink (listing objects))

@@ -3,7 +3,7 @@ use Rattle.std.specs.Prelude.{◌≡◌, ◌⊎◌, ℕ, List, [], Option, Some,
 use Rattle.std.specs.Prelude.{IsSome, codes, map, replicate, IsTrue}
 use Rattle.std.specs.List.{range_with_len}
 use Rattle.pot_bytes.specs.declared.rack.Rack.{Rack}
-use Rattle.pot_outside.specs.Accounts.{Met}
+use Rattle.pot_outside.specs.Accounts.{Transition}
 use Rattle.pot_outside.specs.Failing.{MayLeave}
 use Rattle.pot_machine.specs.Making.{empty_table}
 use Rattle.pot_image.specs.Images.{Contents}
@@ -29,7 +29,7 @@ empty_contents rack = record {
 -- The desk had no image and has the new one. It is refused where it has an image, which stays.
 -- Where it failed, one that had an image has it still, and one that had none has the new one or
 -- none.
-abbrev pub Makes : Rack → Met (Option (List ℕ)) → Result (Unit {0}) Stop → Type 0
+abbrev pub Makes : Rack → Transition (Option (List ℕ)) → Result (Unit {0}) Stop → Type 0
 Makes rack desk (Ok u) =
     (desk.before ≡ None) × (desk.after ≡ Some (image_bytes (empty_contents rack)))
 Makes rack desk (Err stop.Exists) = IsSome desk.before × (desk.after ≡ desk.before)
@@ -47,14 +47,14 @@ IsMakeStop stop.NoMemory = Unit {0}
 IsMakeStop _ = ⊥
 
 -- what is written and answered: `ready` where the image was made, and else why not
-abbrev pub InitAnswers : Met (List ℕ) → Result (Unit {0}) Stop → Status → Type 0
+abbrev pub InitAnswers : Transition (List ℕ) → Result (Unit {0}) Stop → Status → Type 0
 InitAnswers sink (Ok u) answer =
     ((answer ≡ status.Good) × Wrote sink (codes "ready\n"))
     ⊎ ((answer ≡ status.SinkFault) × WroteSome sink (codes "ready\n"))
 InitAnswers sink (Err s) answer = Refuses sink s answer
 
 -- what `init` comes to
-pub record Inits (rack : Rack) (desk : Met (Option (List ℕ))) (sink : Met (List ℕ))
+pub record Inits (rack : Rack) (desk : Transition (Option (List ℕ))) (sink : Transition (List ℕ))
     (answer : Status) : Type 0 where
   pub made : Result (Unit {0}) Stop
   pub makes : IsTrue desk.tells → Makes rack desk made

@@ -1,6 +1,6 @@
 -- A session that was opened, what was known then, and a session that can close.
 use Rattle.std.specs.Prelude.{◌≡◌, ◌≤◌, ℕ, List, length}
-use Rattle.pot_outside.specs.Rooms.{Lending}
+use Rattle.pot_outside.specs.Rooms.{RoomState}
 use Rattle.pot_bytes.specs.declared.rack.Rack.{Rack}
 use Rattle.pot_machine.specs.Table.{Table}
 use Rattle.pot_index.specs.declared.record.Record.{Record}
@@ -37,7 +37,7 @@ pub record IsBegun (first : Contents) (session : ℕ) (rack : Rack) (tables : Li
 pub record Start : Type 0 where
   pub old : Known
   pub first : Contents
-  pub room : Lending
+  pub room : RoomState
 
 -- the start of this session, whose room tells or does not
 pub record IsStartOf {A : Type 0} (told : Type 0) (s : Start) (o : Opened A) : Type 0 where
@@ -47,7 +47,7 @@ pub record IsStartOf {A : Type 0} (told : Type 0) (s : Start) (o : Opened A) : T
 
 -- A session can close: it was served since it was opened, and its archives are those that are out
 -- of the room.
-pub record CanClose {A : Type 0} (room : Lending) (o : Opened A) : Type 0 where
+pub record CanClose {A : Type 0} (room : RoomState) (o : Opened A) : Type 0 where
   pub old : Known
   pub numbers : List ℕ
   pub served : AreServed old o.passes

@@ -2,10 +2,10 @@
 -- `recover` comes to.
 use Rattle.std.specs.Prelude.{◌≡◌, ◌≢◌, ◌<◌, ◌≤◌, ◌-◌, ◌^◌, ◌⊎◌, ℕ, Bool, true, false, List, Some}
 use Rattle.std.specs.Prelude.{Result, Ok, Err, Contains, IsTrue}
-use Rattle.pot_outside.specs.Accounts.{Met}
+use Rattle.pot_outside.specs.Accounts.{Transition}
 use Rattle.pot_outside.specs.Archives.{Meaning, OnlyLoses}
 use Rattle.pot_outside.specs.Counts.{Rose}
-use Rattle.pot_outside.specs.Rooms.{Lending}
+use Rattle.pot_outside.specs.Rooms.{RoomState}
 use Rattle.pot_recover.specs.Recovered.{AreRecovered}
 use Rattle.pot_recover.specs.Robust.{AreRobustlyRecovered, IsRobustlyTooWide, IsRobustlyWithin}
 use Rattle.pot_recover.specs.Wide.{IsTooWide, IsWithin}
@@ -69,7 +69,7 @@ pub record AreHeldIn (archives stripes : ℕ) (meant means : ℕ → Meaning)
 
 -- The first archives were read and no more, by what the room meant before and means after; but for
 -- one, and for that only where the room failed itself.
-pub record WereRead (archives : ℕ) (old new : Lending) : Type 0 where
+pub record WereRead (archives : ℕ) (old new : RoomState) : Type 0 where
   pub but : ℕ
   pub read : (n : ℕ) → n < archives → n ≢ but ⊎ (Rose old.failures new.failures → ⊥)
       → WasRead (old.means n) (new.means n)
@@ -81,11 +81,11 @@ abbrev pub HasFailed : Meaning → Meaning → Type 0
 HasFailed old new = Rose old.faults new.faults
 
 -- one of the first archives did
-abbrev pub SomeFailed : ℕ → Lending → Lending → Type 0
+abbrev pub SomeFailed : ℕ → RoomState → RoomState → Type 0
 SomeFailed archives old new = (n : ℕ) × (n < archives) × HasFailed (old.means n) (new.means n)
 
 -- The room failed itself, by its count of own failures; or, where it tells, an archive of its did.
-pub record FailsOr (room : Met Lending) (archive failed : Type 0) : Type 0 where
+pub record FailsOr (room : Transition RoomState) (archive failed : Type 0) : Type 0 where
   pub later : room.before.failures ≤ room.after.failures
   pub why : failed
       → Rose room.before.failures room.after.failures ⊎ (IsTrue room.tells → archive)
@@ -106,7 +106,7 @@ GiveTooMany true blocks bits fault = IsRobustlyTooWide blocks bits fault
 
 -- The blocks that were read give these objects; or they are too wide; or an archive or the room
 -- failed, or memory ran out.
-abbrev pub FindsObjects : Recover → Met Lending → Result (List (List ℕ)) Stop → Type 0
+abbrev pub FindsObjects : Recover → Transition RoomState → Result (List (List ℕ)) Stop → Type 0
 FindsObjects r room (Ok objects) =
     (blocks : List (List ℕ))
     × (IsTrue room.tells → AreHeldIn r.archives r.stripes room.before.means room.after.means blocks)
@@ -120,13 +120,13 @@ FindsObjects r room (Err stop.NoMemory) = Unit {0}
 FindsObjects r room (Err _) = ⊥
 
 -- what is written and answered: the listing, or why there is none
-abbrev pub ListAnswers : Met (List ℕ) → Result (List (List ℕ)) Stop → Status → Type 0
+abbrev pub ListAnswers : Transition (List ℕ) → Result (List (List ℕ)) Stop → Status → Type 0
 ListAnswers sink (Ok objects) answer = Lists sink objects answer
 ListAnswers sink (Err s) answer = Refuses sink s answer
 
 -- What `recover` comes to. Whatever it answers, the archives were read and no more, and others are
 -- not touched.
-pub record Recovers (r : Recover) (room : Met Lending) (sink : Met (List ℕ))
+pub record Recovers (r : Recover) (room : Transition RoomState) (sink : Transition (List ℕ))
     (answer : Status) : Type 0 where
   pub found : Result (List (List ℕ)) Stop
   pub is : FindsObjects r room found

@@ -1,8 +1,8 @@
 -- What a session comes to that the words ask for, by the bytes of the source, what the sink got,
 -- what the desk held and holds, and what the room meant and means.
 use Rattle.std.specs.Prelude.{◌≡◌, ◌++◌, ℕ, List, [], Option, Some, Err, flat_map, IsTrue}
-use Rattle.pot_outside.specs.Accounts.{Content, Met, Stays, held_in}
-use Rattle.pot_outside.specs.Rooms.{Lending, MeansStay}
+use Rattle.pot_outside.specs.Accounts.{Content, Transition, Stays, held_in}
+use Rattle.pot_outside.specs.Rooms.{RoomState, MeansStay}
 use Rattle.pot_script.specs.declared.grouping.Step.{Step}
 use Rattle.pot_machine.specs.Table.{archives_in}
 use Rattle.pot_image.specs.declared.image.Image.{Image}
@@ -21,13 +21,13 @@ use Rattle.pot_image.specs.Rules.{FitsTogether}
 
 -- what a call met of the source, the sink, the desk and the room
 pub record Seen : Type 0 where
-  pub source : Met (List ℕ)
-  pub sink : Met (List ℕ)
-  pub desk : Met (Content (Option (List ℕ)))
-  pub room : Met Lending
+  pub source : Transition (List ℕ)
+  pub sink : Transition (List ℕ)
+  pub desk : Transition (Content (Option (List ℕ)))
+  pub room : Transition RoomState
 
 -- what was seen, from its parts
-abbrev pub seen_by : Met (List ℕ) → Met (List ℕ) → Met (Content (Option (List ℕ))) → Met Lending
+abbrev pub seen_by : Transition (List ℕ) → Transition (List ℕ) → Transition (Content (Option (List ℕ))) → Transition RoomState
     → Seen
 seen_by source sink desk room =
     record { source = source; sink = sink; desk = desk; room = room }
@@ -35,7 +35,7 @@ seen_by source sink desk room =
 -- BEFORE THE STEPS
 
 -- the desk held this image, from which a session may begin, and the source had these steps
-pub record IsOf (source : Met (List ℕ)) (desk : Met (Option (List ℕ))) (i : Image)
+pub record IsOf (source : Transition (List ℕ)) (desk : Transition (Option (List ℕ))) (i : Image)
     (steps : List Step) : Type 0 where
   pub goes_on : GoesOn i
   pub image : IsTrue desk.tells → HoldsImage desk.before i
@@ -43,7 +43,7 @@ pub record IsOf (source : Met (List ℕ)) (desk : Met (Option (List ℕ))) (i : 
 
 -- a session may begin with this image and these steps: the image is on the desk, one session on
 -- from the one that was read
-pub record IsPrepared (source : Met (List ℕ)) (desk : Met (Option (List ℕ))) (image : Image)
+pub record IsPrepared (source : Transition (List ℕ)) (desk : Transition (Option (List ℕ))) (image : Image)
     (steps : List Step) : Type 0 where
   pub read : Image
   pub of : IsOf source desk read steps
@@ -53,7 +53,7 @@ pub record IsPrepared (source : Met (List ℕ)) (desk : Met (Option (List ℕ)))
 
 -- Why no session begins: the desk has no image from which one may; or the source has no script; or
 -- the desk did not take the image with which it would begin.
-pub data Stops (source : Met (List ℕ)) (desk : Met (Option (List ℕ))) (s : Stop) : Type 0 where
+pub data Stops (source : Transition (List ℕ)) (desk : Transition (Option (List ℕ))) (s : Stop) : Type 0 where
   AtDesk : IsDeskStop s → (IsTrue desk.tells → RefusesDesk desk.before s) → Stays desk
       → Stops source desk s
   AtScript : (i : Image) → GoesOn i → (IsTrue desk.tells → HoldsImage desk.before i)

@@ -2,10 +2,10 @@
 -- which they have them.
 use Rattle.std.specs.Prelude.{◌≡◌, ℕ, true, List, [], ◌∷◌, Option, Some, Result, Ok, Err, IfErr}
 use Rattle.std.specs.Prelude.{flat_map, if◌then◌else◌, map, slice_index_or, IsTrue}
-use Rattle.pot_outside.specs.Accounts.{Content, Met, Stays, held_in, since}
+use Rattle.pot_outside.specs.Accounts.{Content, Transition, Stays, held_in, since}
 use Rattle.pot_outside.specs.Archives.{Meaning, IsMeant}
 use Rattle.pot_outside.specs.Counts.{Caused}
-use Rattle.pot_outside.specs.Rooms.{Lending}
+use Rattle.pot_outside.specs.Rooms.{RoomState}
 use Rattle.pot_outside.specs.declared.faults.Failed.{Failed}
 use Rattle.pot_pads.specs.Pads.{pads_of}
 use Rattle.pot_machine.specs.declared.entry.Entry.{Entry}
@@ -28,7 +28,7 @@ use Rattle.pot_commands.specs.declared.working.Ending.TheVariants.{RoomFailed}
 use Rattle.pot_commands.specs.Ends.{EndsOver}
 use Rattle.pot_commands.specs.Failures.{Fails}
 use Rattle.pot_commands.specs.Holding.{Untouched}
-use Rattle.pot_shared.specs.Going.{AllSole}
+use Rattle.pot_shared.specs.Going.{AllOnlyWriters}
 use Rattle.pot_shared.specs.Hands.{times}
 use Rattle.pot_shared.specs.Coming.{marks_of}
 use Rattle.pot_session.specs.declared.ending.status.Status.{Status}
@@ -57,7 +57,7 @@ RoseInRoom meant means missing n =
 -- openings, which are of no job, rest on blocks that the room meant, and call a slot Gone whose
 -- block the room meant only where a count of its archive rose; and then this section. `missing` has
 -- the archives that the room did not take back.
-pub record Leaves (room : Met Lending) (missing : List ℕ) (first last : Contents)
+pub record Leaves (room : Transition RoomState) (missing : List ℕ) (first last : Contents)
     (w : Section) : Type 0 where
   pub session : last.session ≡ first.session
   pub rack : last.rack ≡ first.rack
@@ -82,7 +82,7 @@ close_answer (n ∷ missing) kept = Err stop.RoomFault
 -- The desk holds the image that a session left. Where it failed, which its count shows, it holds
 -- that one, the one with which the session began or none, and for want of memory the one with which
 -- it began.
-pub record KeepsLast (desk : Met (Content (Option (List ℕ)))) (first last : Contents)
+pub record KeepsLast (desk : Transition (Content (Option (List ℕ)))) (first last : Contents)
     (kept : Result (Unit {0}) Stop) : Type 0 where
   pub holds : IsTrue desk.tells
       → Keeps (since (held_in desk) (Some (image_bytes first))) (image_bytes last) kept
@@ -91,11 +91,11 @@ pub record KeepsLast (desk : Met (Content (Option (List ℕ)))) (first last : Co
 
 -- A close leaves this image: nobody else logged anything since the passes knew the first, and its
 -- logs are what they saw. `worked` is how often the room had failed itself before the close.
-pub record Closes (old new : Known) (room : Met Lending) (worked : ℕ)
-    (desk : Met (Content (Option (List ℕ)))) (first : Contents)
+pub record Closes (old new : Known) (room : Transition RoomState) (worked : ℕ)
+    (desk : Transition (Content (Option (List ℕ)))) (first : Contents)
     (closed : Result (Unit {0}) Stop) : Type 0 where
   pub last : Contents
-  pub sole : AllSole old new
+  pub sole : AllOnlyWriters old new
   pub missing : List ℕ
   pub failed_at : FailsAt worked room.after.failures missing
   pub leaves : Leaves room missing first last (section_of old new)
@@ -158,8 +158,8 @@ OthersStay read logs meant means =
 -- has the logs by which the steps have their replies. The room failed itself at the steps exactly
 -- where they ended so, and in the close at each archive that is missing and at no other; `worked`
 -- is how often it had failed once the steps had ended.
-pub record IsClosed (seed : List ℕ) (first : Contents) (steps : List Step) (room : Met Lending)
-    (sink : Met (List ℕ)) (desk : Met (Content (Option (List ℕ)))) (answer : Status) : Type 0 where
+pub record IsClosed (seed : List ℕ) (first : Contents) (steps : List Step) (room : Transition RoomState)
+    (sink : Transition (List ℕ)) (desk : Transition (Content (Option (List ℕ)))) (answer : Status) : Type 0 where
   pub last : Contents
   pub story : Section
   pub ending : Ending
@@ -181,8 +181,8 @@ pub record IsClosed (seed : List ℕ) (first : Contents) (steps : List Step) (ro
 -- What a session comes to that begins with this image: before any step was worked the room did not
 -- give its archives, and those that it got back are as they were; or memory ran out before; or it
 -- closed. Archives that the image does not name were not touched before the steps.
-pub data Serves (seed : List ℕ) (first : Contents) (steps : List Step) (room : Met Lending)
-    (sink : Met (List ℕ)) (desk : Met (Content (Option (List ℕ)))) (answer : Status) : Type 0 where
+pub data Serves (seed : List ℕ) (first : Contents) (steps : List Step) (room : Transition RoomState)
+    (sink : Transition (List ℕ)) (desk : Transition (Content (Option (List ℕ)))) (answer : Status) : Type 0 where
   Unlent : answer ≡ status.RoomFault → Stays sink
       → (IsTrue desk.tells → desk.after.held ≡ Some (image_bytes first)) → IsUnlent room
       → Untouched (flat_map archives_in first.tables) room.before room.after

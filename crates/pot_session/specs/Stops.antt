@@ -1,7 +1,7 @@
 -- Why a call of the program stops before its commands, what it writes then, and the number of each
 -- status.
 use Rattle.std.specs.Prelude.{◌≡◌, ◌⊎◌, ◌++◌, ℕ, List, [], codes}
-use Rattle.pot_outside.specs.Accounts.{Met, Stays}
+use Rattle.pot_outside.specs.Accounts.{Transition, Stays}
 use Rattle.pot_script.specs.Replies.{spaced, in_hex, bad_line_text, words_refused_text}
 use Rattle.pot_commands.specs.Streams.{Wrote, WroteSome}
 use Rattle.pot_session.specs.declared.ending.status.Status.{Status}
@@ -60,7 +60,7 @@ stop_text stop.NoMemory = []
 
 -- The text of a stop was written, and its status is the answer; or some first bytes of the text
 -- were written and the sink failed; or nothing was written for want of memory.
-abbrev pub Refuses : Met (List ℕ) → Stop → Status → Type 0
+abbrev pub Refuses : Transition (List ℕ) → Stop → Status → Type 0
 Refuses sink s answer =
     ((answer ≡ status_of s) × Wrote sink (stop_text s))
     ⊎ ((answer ≡ status.SinkFault) × WroteSome sink (stop_text s))

@@ -4,7 +4,7 @@ use Rattle.pot_outside.specs.Archives.{Meaning}
 use Rattle.pot_outside.specs.Counts.{Rose}
 use Rattle.pot_machine.specs.declared.entry.Entry.{Entry}
 use Rattle.pot_machine.specs.Table.{Table, archives_in}
-use Rattle.pot_steps.specs.Holdings.{Holdings, HoldsUp, LiveLaw}
+use Rattle.pot_steps.specs.Holdings.{Holdings, StripesConsistent, LiveLaw}
 use Rattle.pot_group.specs.Arrivals.{arrivals}
 use Rattle.pot_image.specs.Images.{Contents}
 use Rattle.pot_image.specs.Rules.{FitsTogether}
@@ -20,7 +20,7 @@ held_in means n slot = (means n).held slot
 -- Live slot has its block, or the count of losses of the archive that serves it rose since the
 -- session began.
 pub record FitsRoom (meant means : ℕ → Meaning) (u : Table) : Type 0 where
-  pub holds : HoldsUp u (held_in means)
+  pub holds : StripesConsistent u (held_in means)
   pub live : LiveLaw u (held_in means) (λ n. Rose (meant n).losses (means n).losses)
 
 -- each archive that a group had came back: those of the table that it began with, and those that

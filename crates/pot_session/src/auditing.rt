@@ -6,7 +6,7 @@ ghost use Rattle.pot_bytes.specs.Rack.{IsRack};
 ghost use Rattle.pot_index.specs.Fits.{FitsRack};
 ghost use Rattle.pot_image.specs.Images.{contents};
 ghost use Rattle.pot_image.specs.Rules.{FitsTogether};
-ghost use Rattle.pot_outside.specs.Accounts.{Faults, Stays, met};
+ghost use Rattle.pot_outside.specs.Accounts.{Faults, Stays, transition};
 ghost use Rattle.pot_audit.specs.declared.veil.Veil.{Veil};
 ghost use Rattle.pot_audit.specs.Exposure.{AreSpots};
 ghost use Rattle.pot_audit.specs.Veils.{AreVeils};
@@ -123,7 +123,7 @@ fn put_audit<K: Sink>(
     requires rack { IsRack rack.now }
     requires fits { All (FitsRack rack.now) records.now }
     requires spots { AreSpots rack.now spots.now }
-    ensures puts { PutsAudit (met K.account sink.old sink.new)
+    ensures puts { PutsAudit (transition K.account sink.old sink.new)
         rack.now spots.now records.now result }
     ensures cause { Faults K.account sink.old sink.new
         (IsErrOf result ListFault.SinkFault) }
@@ -147,7 +147,7 @@ fn tell_audit<K: Sink>(alloc: Global, task: &Audit, image: &Image, sink: &mut K)
     requires task { IsAudit task.now }
     requires fits { FitsTogether (contents image.now) }
     requires of { IsTrue (are_of image.now.rack task.now) }
-    ensures answers { AuditAnswers (met K.account sink.old sink.new)
+    ensures answers { AuditAnswers (transition K.account sink.old sink.new)
         image.now.rack (spots_of task.now) image.now.records.items result }
     ensures cause { Faults K.account sink.old sink.new (result ≡ Status.SinkFault) }
 {
@@ -170,9 +170,9 @@ pub(crate) fn audit_files<K: Sink, D: Desk>(
     desk: &mut D,
 ) -> Status
     requires task { IsAudit task.now }
-    ensures audits { Audits task.now (met D.account desk.old desk.new)
-        (met K.account sink.old sink.new) result }
-    ensures keeps { Stays (met D.account desk.old desk.new) }
+    ensures audits { Audits task.now (transition D.account desk.old desk.new)
+        (transition K.account sink.old sink.new) result }
+    ensures keeps { Stays (transition D.account desk.old desk.new) }
     ensures sink { Faults K.account sink.old sink.new (result ≡ Status.SinkFault) }
     ensures desk { Faults D.account desk.old desk.new (result ≡ Status.DeskFault) }
 {

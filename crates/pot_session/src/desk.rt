@@ -2,7 +2,7 @@
 
 ghost use Rattle.std.specs.Prelude.{◌≡◌, ◌<◌, ◌+◌, ◌-◌, ◌^◌, [], IsTrue, IfOk, IfErr, IsErrOf, map};
 ghost use Rattle.std.specs.Prelude.{replicate};
-ghost use Rattle.pot_outside.specs.Accounts.{Faults, Stays, met};
+ghost use Rattle.pot_outside.specs.Accounts.{Faults, Stays, transition};
 ghost use Rattle.pot_image.specs.Images.{contents};
 ghost use Rattle.pot_image.specs.Spelling.{IsCountable, image_bytes};
 ghost use Rattle.pot_image.specs.Rules.{FitsTogether};
@@ -36,10 +36,10 @@ fn image_in(alloc: Global, bytes: &[u8]) -> Result<Image, Stop>
 /// # Errors
 /// `DeskFault` only where the desk's count of faults rose; `NoImage` where the desk has none; else why its bytes are no image.
 pub(crate) fn read_desk<D: Desk>(alloc: Global, desk: &mut D) -> Result<Image, Stop>
-    ensures reads { ReadsDesk (met D.account desk.old desk.new) result }
+    ensures reads { ReadsDesk (transition D.account desk.old desk.new) result }
     ensures fits { IfOk result (λ i. FitsTogether (contents i)) }
     ensures which { IfErr result IsImageStop }
-    ensures keeps { Stays (met D.account desk.old desk.new) }
+    ensures keeps { Stays (transition D.account desk.old desk.new) }
     ensures cause { Faults D.account desk.old desk.new (IsErrOf result Stop.DeskFault) }
 {
     match desk.read() {
@@ -69,10 +69,10 @@ fn open_image(alloc: Global, bytes: &[u8]) -> Result<Image, Stop>
 /// `DeskFault` only where the desk's count of faults rose; `NoImage` where the desk has none; else why its bytes are no image, or
 /// that no number of a session is left.
 pub(crate) fn open_desk<D: Desk>(alloc: Global, desk: &mut D) -> Result<Image, Stop>
-    ensures opens { OpensDesk (met D.account desk.old desk.new) result }
+    ensures opens { OpensDesk (transition D.account desk.old desk.new) result }
     ensures fits { IfOk result (λ i. FitsTogether (contents i)) }
     ensures which { IfErr result IsDeskStop }
-    ensures keeps { Stays (met D.account desk.old desk.new) }
+    ensures keeps { Stays (transition D.account desk.old desk.new) }
     ensures cause { Faults D.account desk.old desk.new (IsErrOf result Stop.DeskFault) }
 {
     match desk.read() {
@@ -127,7 +127,7 @@ pub(crate) fn keep_image<D: Desk>(alloc: Global, image: &Image, desk: &mut D) ->
     requires { IsCountable image.now }
     ensures which { IfErr result IsKeepStop }
     ensures told { IsTrue D.account.tells
-        → Keeps (met D.account desk.old desk.new) (image_bytes (contents image.now)) result }
+        → Keeps (transition D.account desk.old desk.new) (image_bytes (contents image.now)) result }
     ensures cause { Faults D.account desk.old desk.new (IsErrOf result Stop.DeskFault) }
 {
     let Ok(bytes) = write_image(alloc, image) else {

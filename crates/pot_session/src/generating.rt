@@ -1,7 +1,7 @@
 //! The generator: the script of a number, worked by a session over new archives in memory.
 
 ghost use Rattle.std.specs.Prelude.{◌≡◌, ◌≤◌, IsTrue, IfOk};
-ghost use Rattle.pot_outside.specs.Accounts.{Faults, met};
+ghost use Rattle.pot_outside.specs.Accounts.{Faults, transition};
 ghost use Rattle.pot_doubles.specs.Rooms.{means_in};
 ghost use Rattle.pot_doubles.specs.Streams.{written_to};
 ghost use Rattle.pot_session.specs.Generating.{AreSound, Generates, IsGenerated, is_answered};
@@ -121,7 +121,7 @@ pub(crate) fn generate<K: Sink, X: Threads + Wait + Sync>(
     sink: &mut K,
 ) -> Status
     requires limits { (1 ≤ number) × (number ≤ 1000000) }
-    ensures generates { Generates number (met K.account sink.old sink.new)
+    ensures generates { Generates number (transition K.account sink.old sink.new)
         result }
     ensures sink { Faults K.account sink.old sink.new (result ≡ Status.SinkFault) }
 {

@@ -3,7 +3,7 @@
 ghost use Rattle.std.specs.Prelude.{◌≡◌, IsTrue, IfOk, IfErr, IsErrOf, map};
 ghost use Rattle.std.specs.List.{range_with_len};
 ghost use Rattle.pot_machine.specs.Making.{empty_table};
-ghost use Rattle.pot_outside.specs.Accounts.{Faults, met};
+ghost use Rattle.pot_outside.specs.Accounts.{Faults, transition};
 ghost use Rattle.pot_bytes.specs.Rack.{IsRack};
 ghost use Rattle.pot_image.specs.Images.{contents};
 ghost use Rattle.pot_image.specs.Spelling.{image_bytes};
@@ -54,7 +54,7 @@ fn put_empty_image<D: Desk>(alloc: Global, rack: &Rack, desk: &mut D) -> Result<
     requires { IsRack rack.now }
     ensures which { IfErr result IsKeepStop }
     ensures told { IsTrue D.account.tells
-        → Keeps (met D.account desk.old desk.new) (image_bytes (empty_contents rack.now)) result }
+        → Keeps (transition D.account desk.old desk.new) (image_bytes (empty_contents rack.now)) result }
     ensures cause { Faults D.account desk.old desk.new (IsErrOf result Stop.DeskFault) }
 {
     match empty_image(alloc, rack) {
@@ -68,7 +68,7 @@ pub(crate) fn make_image<D: Desk>(alloc: Global, rack: &Rack, desk: &mut D) -> R
     requires { IsRack rack.now }
     ensures which { IfErr result IsMakeStop }
     ensures told { IsTrue D.account.tells
-        → Makes rack.now (met D.account desk.old desk.new) result }
+        → Makes rack.now (transition D.account desk.old desk.new) result }
     ensures cause { Faults D.account desk.old desk.new (IsErrOf result Stop.DeskFault) }
 {
     match desk.read() {
@@ -87,8 +87,8 @@ pub(crate) fn init<K: Sink, D: Desk>(
     desk: &mut D,
 ) -> Status
     requires { IsRack rack.now }
-    ensures inits { Inits rack.now (met D.account desk.old desk.new)
-        (met K.account sink.old sink.new) result }
+    ensures inits { Inits rack.now (transition D.account desk.old desk.new)
+        (transition K.account sink.old sink.new) result }
     ensures desk { Faults D.account desk.old desk.new (result ≡ Status.DeskFault) }
     ensures sink { Faults K.account sink.old sink.new (result ≡ Status.SinkFault) }
 {

@@ -2,7 +2,7 @@
 
 ghost use Rattle.std.specs.Prelude.{◌≡◌, ◌<◌, ◌^◌, ◌≤◌, ◌+◌, ◌++◌, [], List, ℕ, length, IsTrue};
 ghost use Rattle.std.specs.Prelude.{IfOk, IsErrOf};
-ghost use Rattle.pot_outside.specs.Accounts.{Faults, met};
+ghost use Rattle.pot_outside.specs.Accounts.{Faults, transition};
 ghost use Rattle.pot_session.specs.Streams.{IsReadOut, ReadsAtMost};
 
 use pot_outside::{Failed, Source};
@@ -46,9 +46,9 @@ pub(crate) fn read_out<S: Source>(
     requires { limit < 2 ^ 32 }
     ensures told { IsTrue S.account.tells
         → IfOk result
-        (λ bytes. IsReadOut (met S.account source.old source.new) bytes.items limit) }
+        (λ bytes. IsReadOut (transition S.account source.old source.new) bytes.items limit) }
     ensures least_left { IsTrue S.account.tells
-        → ReadsAtMost (limit + 1) (met S.account source.old source.new) }
+        → ReadsAtMost (limit + 1) (transition S.account source.old source.new) }
     ensures most { IfOk result (λ bytes. length bytes.items ≤ limit + 1) }
     ensures cause { Faults S.account source.old source.new
         (IsErrOf result IntakeFault.Failed) }

@@ -1,7 +1,7 @@
 //! What a word that holds no session writes.
 
 ghost use Rattle.std.specs.Prelude.{◌≡◌};
-ghost use Rattle.pot_outside.specs.Accounts.{Faults, met};
+ghost use Rattle.pot_outside.specs.Accounts.{Faults, transition};
 ghost use Rattle.pot_session.specs.Telling.{Tells};
 
 use crate::ending::status::Status;
@@ -17,7 +17,7 @@ pub(crate) struct Telling {
 
 /// Writes the text, and answers whether something was refused, or that the sink failed.
 pub(crate) fn tell<K: Sink>(telling: &Telling, sink: &mut K) -> Status
-    ensures told { Tells (met K.account sink.old sink.new) telling.now
+    ensures told { Tells (transition K.account sink.old sink.new) telling.now
         result }
     ensures cause { Faults K.account sink.old sink.new (result ≡ Status.SinkFault) }
 {

@@ -2,8 +2,8 @@
 
 ghost use Rattle.std.specs.Prelude.{◌≡◌, map};
 ghost use Rattle.std.specs.String.{string_bytes};
-ghost use Rattle.pot_outside.specs.Accounts.{Faults, met, met_whole};
-ghost use Rattle.pot_outside.specs.Rooms.{IsHome, met_room};
+ghost use Rattle.pot_outside.specs.Accounts.{Faults, transition, whole_transition};
+ghost use Rattle.pot_outside.specs.Rooms.{IsHome, room_transition};
 ghost use Rattle.pot_outside.specs.Counts.{Caused};
 ghost use Rattle.pot_session.specs.Stops.{code_of};
 ghost use Rattle.pot_session.specs.Tasks.{seed_of};
@@ -50,9 +50,9 @@ fn answer<S: Source, K: Sink, R: Room, D: Desk, W: Gate, X: Threads + Wait + Syn
 ) -> Status
     requires home { IsHome (R.meaning room.old) }
     ensures runs { Runs (map string_bytes words.now) host.now.seed.now
-        (seen_by (met S.account source.old source.new) (met K.account sink.old sink.new)
-        (met_whole D.account desk.old desk.new)
-        (met_room R.A.account R.meaning room.old room.new))
+        (seen_by (transition S.account source.old source.new) (transition K.account sink.old sink.new)
+        (whole_transition D.account desk.old desk.new)
+        (room_transition R.A.account R.meaning room.old room.new))
         result }
     ensures home { IsHome (R.meaning room.new) }
     ensures source { Faults S.account source.old source.new
@@ -62,7 +62,7 @@ fn answer<S: Source, K: Sink, R: Room, D: Desk, W: Gate, X: Threads + Wait + Syn
         (result ≡ Status.RoomFault) }
     ensures own { result ≡ Status.RoomFault
         → RoomFails (map string_bytes words.now)
-        (met_room R.A.account R.meaning room.old room.new) }
+        (room_transition R.A.account R.meaning room.old room.new) }
     ensures desk { Faults D.account desk.old desk.new (result ≡ Status.DeskFault) }
 {
     let alloc = host.alloc;
@@ -117,9 +117,9 @@ pub fn run<S: Source, K: Sink, R: Room, D: Desk, W: Gate, X: Threads + Wait + Sy
     requires home { IsHome (R.meaning room.old) }
     ensures runs { (status : Status) × (result ≡ code_of status)
         × Runs (map string_bytes words.now) drawn
-        (seen_by (met S.account source.old source.new) (met K.account sink.old sink.new)
-        (met_whole D.account desk.old desk.new)
-        (met_room R.A.account R.meaning room.old room.new))
+        (seen_by (transition S.account source.old source.new) (transition K.account sink.old sink.new)
+        (whole_transition D.account desk.old desk.new)
+        (room_transition R.A.account R.meaning room.old room.new))
         status }
     ensures home { IsHome (R.meaning room.new) }
     ensures source { Faults S.account source.old source.new (result ≡ 4) }
@@ -128,7 +128,7 @@ pub fn run<S: Source, K: Sink, R: Room, D: Desk, W: Gate, X: Threads + Wait + Sy
     ensures room { Caused (R.meaning room.old).faults (R.meaning room.new).faults (result ≡ 8) }
     ensures own { result ≡ 8
         → RoomFails (map string_bytes words.now)
-        (met_room R.A.account R.meaning room.old room.new) }
+        (room_transition R.A.account R.meaning room.old room.new) }
 {
     let host = Host {
         rt,

@@ -14,11 +14,11 @@ use Rattle.pot_group.specs.declared.finding.Kind.{Kind}
 use Rattle.pot_group.specs.Finding.{IsPlace, is_of as kind_of}
 use Rattle.pot_group.specs.Group.{GroupView}
 use Rattle.pot_turn.specs.declared.name.TurnName.{TurnName}
-use Rattle.pot_worked.specs.Worked.{added}
+use Rattle.pot_worked.specs.WroteOnlyFor.{added}
 use Rattle.pot_worked.specs.Laws.{AllOf}
-use Rattle.pot_worked.proofs.WorkedLemmas.{behind, both_added}
+use Rattle.pot_worked.proofs.WroteOnlyForLemmas.{behind, both_added}
 use Rattle.pot_rows.specs.Rows.{view_at}
-use Rattle.pot_rows.specs.Works.{AllIdle, RowWorked}
+use Rattle.pot_rows.specs.Works.{AllIdle, RowWroteOnlyFor}
 use Rattle.pot_rows.proofs.RowLemmas.{at_set}
 use Rattle.pot_rows.proofs.WorkLemmas.{row_work_in_parts, row_alone_in_parts}
 use Rattle.pot_shared.specs.declared.member.Logged.{Logged}
@@ -53,10 +53,10 @@ adds_none job g row idle = record {
 
 -- ONE CALL AFTER ANOTHER
 
-pub seen_parts : (job g : ℕ) (u v : GroupPasses) → RowWorked (of_job job) u v → entries_of (view_at v g).seen ≡ entries_of (view_at u g).seen ++ gained u v g
+pub seen_parts : (job g : ℕ) (u v : GroupPasses) → RowWroteOnlyFor (of_job job) u v → entries_of (view_at v g).seen ≡ entries_of (view_at u g).seen ++ gained u v g
 seen_parts job g u v worked = ap entries_of (worked g).seen ∙ map-append (λ l. l.entry) (view_at u g).seen (added (view_at u g) (view_at v g))
 
-module _ (job g : ℕ) (u v w : GroupPasses) (first : RowWorked (of_job job) u v) (then : RowWorked (of_job job) v w) where
+module _ (job g : ℕ) (u v w : GroupPasses) (first : RowWroteOnlyFor (of_job job) u v) (then : RowWroteOnlyFor (of_job job) v w) where
   pub both_gained : gained u w g ≡ gained u v g ++ gained v w g
   both_gained =
       ap entries_of (both_added (of_job job) (view_at u g) (view_at v g) (view_at w g) (first g) (then g))
@@ -120,12 +120,12 @@ module _ (told : Type 0) (job : ℕ) (R : GroupView → GroupView → List Entry
 
   -- the log that was met, and the one that the call left
   met_log : call.turn.old.log ≡ entries_of (view_at v group).seen ++ entries_of call.turn.others
-  met_log = sym (entries_all call.turn.old.shelves call.turn.old.log) ∙ (ap entries_of call.turn.met ∙ map-append (λ l. l.entry) (view_at v group).seen call.turn.others)
+  met_log = sym (entries_all call.turn.old.shelves call.turn.old.log) ∙ (ap entries_of call.turn.transition ∙ map-append (λ l. l.entry) (view_at v group).seen call.turn.others)
 
   met_long : length call.turn.old.log ≡ length (view_at v group).seen + length call.turn.others
   met_long =
       let a = length-map call.turn.old.log (logged_at call.turn.old.shelves) in
-      let b = ap length call.turn.met in
+      let b = ap length call.turn.transition in
       let c = length-append (view_at v group).seen call.turn.others in
       omega (arith, a, b, c)
 

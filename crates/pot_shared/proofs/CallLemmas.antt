@@ -51,8 +51,8 @@ module _ {rack : Rack} {names : List TurnName} {row : GroupPasses} {at : ℕ} (r
         let v = view_at row at in
         let entries = made.0 in
         let grows = grows_by old new entries arrived made.1 in
-        let met = v.seen ++ begins.0 in
-        let one : kept_log new ≡ met ++ all_logged new.shelves entries = grows.kept ∙ ap (λ w. w ++ all_logged new.shelves entries) begins.1 in
+        let transition = v.seen ++ begins.0 in
+        let one : kept_log new ≡ transition ++ all_logged new.shelves entries = grows.kept ∙ ap (λ w. w ++ all_logged new.shelves entries) begins.1 in
         let pass : GroupPass = left_view (kept_log new) (took_view (kept_log old) v) in
         let here : row2 ≡ with_view row1 at pass = left ∙ ap (λ (u : GroupPass). with_view row1 at (left_view (kept_log new) u)) (put_at (took_view (kept_log old) v) took) in
         let there : with_view row1 at pass ≡ with_view (with_view row at (took_view (kept_log old) v)) at pass = ap (λ (r : GroupPasses). with_view r at pass) took in
@@ -65,14 +65,14 @@ module _ {rack : Rack} {names : List TurnName} {row : GroupPasses} {at : ℕ} (r
             new = new;
             others = begins.0;
             entries = entries;
-            met = begins.1;
+            transition = begins.1;
             origin = origin;
             settled_old = settled_old;
             read = read;
             settled = settled;
             first = grows.first;
             log = grows.log;
-            turn = ap (λ l. left_view l (took_view (kept_log old) v)) one ∙ ap (λ l. left_view (met ++ all_logged new.shelves entries) (took_view l v)) begins.1;
+            turn = ap (λ l. left_view l (took_view (kept_log old) v)) one ∙ ap (λ l. left_view (transition ++ all_logged new.shelves entries) (took_view l v)) begins.1;
             call = made.2;
           };
         }

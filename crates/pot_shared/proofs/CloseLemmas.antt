@@ -14,11 +14,11 @@ use Rattle.pot_turn.specs.declared.name.TurnName.{TurnName}
 use Rattle.pot_turn.specs.declared.view.View.{View}
 use Rattle.pot_turn.specs.Stretches.{times, LieIn, IsOnceEach}
 use Rattle.pot_turn.specs.Views.{stretches_of}
-use Rattle.pot_worked.specs.Worked.{added, mine, theirs}
-use Rattle.pot_worked.specs.Sole.{Went, Sole}
-use Rattle.pot_worked.proofs.SoleLemmas.{went_in_parts, sole_in_parts, sole_at_close}
+use Rattle.pot_worked.specs.WroteOnlyFor.{added, mine, theirs}
+use Rattle.pot_worked.specs.OnlyWriter.{Extends, OnlyWriter}
+use Rattle.pot_worked.proofs.OnlyWriterLemmas.{went_in_parts, sole_in_parts, sole_at_close}
 use Rattle.pot_rows.specs.Rows.{view_at}
-use Rattle.pot_rows.specs.Works.{RowSole}
+use Rattle.pot_rows.specs.Works.{RowOnlyWriter}
 use Rattle.pot_rows.specs.Parts.{Joined}
 use Rattle.pot_rows.proofs.RowLemmas.{at_past}
 use Rattle.pot_shared.specs.declared.member.Logged.{Logged}
@@ -28,7 +28,7 @@ use Rattle.pot_shared.specs.Catalogs.{IndexPass, IndexPasses, IsIndexReady, IsKe
 use Rattle.pot_shared.specs.Sharing.{Ends}
 use Rattle.pot_shared.proofs.MemberLemmas.{entries_all, entries_append}
 use Rattle.pot_shared.specs.Works.{Known, known, gained}
-use Rattle.pot_shared.specs.Going.{AllSole}
+use Rattle.pot_shared.specs.Going.{AllOnlyWriters}
 use Rattle.pot_shared.specs.Groups.{IsFirstPass, AreServed, table_read, tables_read}
 use Rattle.pot_shared.proofs.OpenLemmas.{read_of}
 
@@ -42,7 +42,7 @@ behind (x ∷ xs) back i e q = subst (λ n. slice_get (x ∷ (xs ++ back)) n ≡
 
 module _ {E O : Type 0} where
   -- a pass that took in one that never called has gained nothing of its own
-  pub joined_went : (v w x : View E O) → Joined v w x → w.turns ≡ [] → w.joined ≡ [] → (Went v x) × (mine v x ++ theirs v x ≡ [])
+  pub joined_went : (v w x : View E O) → Joined v w x → w.turns ≡ [] → w.joined ≡ [] → (Extends v x) × (mine v x ++ theirs v x ≡ [])
   joined_went v w x j turns joined = (
     record {
       seen = j.begins.1 ∙ ap (λ l. v.seen ++ l) (sym (ap (drop (length v.seen)) j.begins.1 ∙ drop-append_seam v.seen j.begins.0));
@@ -69,7 +69,7 @@ module _ {E O : Type 0} where
       none = ap (λ l. l ++ theirs v x) no_mine ∙ no_theirs
 
   -- a pass that alone logged what was gained, and logged nothing, has gained nothing
-  pub none_gained : (v x : View E O) → Went v x → Sole v x → mine v x ++ theirs v x ≡ [] → added v x ≡ []
+  pub none_gained : (v x : View E O) → Extends v x → OnlyWriter v x → mine v x ++ theirs v x ≡ [] → added v x ≡ []
   none_gained v x went sole none = first_gained (added v x) (λ i e q.
       (let at : slice_get x.seen (length v.seen + i) ≡ Some e = subst (λ l. slice_get l (length v.seen + i) ≡ Some e) (sym went.seen) (behind v.seen (added v x) i e q) in
       let le : length v.seen ≤ length v.seen + i = omega arith in
@@ -98,11 +98,11 @@ module _ {M : Type 0} (see : M → GroupView) (rack : Rack) (names turn : List T
   kept_at : (n : ℕ) → n < length names → IsKept (view_at e.kept n)
   kept_at n l = e.are_kept n (let a = ap length e.kept_names in omega (arith, l, a))
 
-  last : (n : ℕ) → n < length names → (Went (view_at groups n) (view_at e.whole n)) × (mine (view_at groups n) (view_at e.whole n) ++ theirs (view_at groups n) (view_at e.whole n) ≡ [])
+  last : (n : ℕ) → n < length names → (Extends (view_at groups n) (view_at e.whole n)) × (mine (view_at groups n) (view_at e.whole n) ++ theirs (view_at groups n) (view_at e.whole n) ≡ [])
   last n l = joined_went (view_at groups n) (view_at e.kept n) (view_at e.whole n) (e.joined n) (kept_at n l).1 (kept_at n l).2
 
   -- at the close the passes had been sole since the start
-  sole_whole : (n : ℕ) → n < length names → Sole (view_at old.groups n) (view_at e.whole n)
+  sole_whole : (n : ℕ) → n < length names → OnlyWriter (view_at old.groups n) (view_at e.whole n)
   sole_whole n l = sole_at_close (view_at old.groups n) (view_at e.whole n) (went_in_parts (view_at old.groups n) (view_at groups n) (view_at e.whole n) (s.went.groups n) (last n l).0) (record {
     opened = (let a = ap (λ (v : GroupPass). length v.opened) (e.joined n).both in let b = ap length (s.stays.groups.opened n) in
         let c : length (view_at old.groups n).opened ≡ length (view_at old.groups n).seen = ap (λ (v : GroupPass). length v.opened) first.is ∙ sym (ap (λ (v : GroupPass). length v.seen) first.is) in
@@ -115,19 +115,19 @@ module _ {M : Type 0} (see : M → GroupView) (rack : Rack) (names turn : List T
       first : IsFirstPass n (view_at old.groups n)
       first = s.opened.each n (let a = ap length first_names in omega (arith, l, a))
 
-  sole_past : (n : ℕ) → length names ≤ n → Sole (view_at old.groups n) (view_at groups n)
+  sole_past : (n : ℕ) → length names ≤ n → OnlyWriter (view_at old.groups n) (view_at groups n)
   sole_past n l i x le q = absurd (let none : slice_get [] i ≡ Some x = subst (λ (v : GroupPass). slice_get v.seen i ≡ Some x) (at_past names groups n ready.of l) q in past i x none)
     where
       past : (i : ℕ) (x : Logged) → slice_get {X = Logged} [] i ≡ Some x → ⊥
       past i x h = (let b = slice_get_within {A = Logged} [] i x h in omega (arith, b))
 
-  pub sole_groups : RowSole old.groups groups
+  pub sole_groups : RowOnlyWriter old.groups groups
   sole_groups n = elim (cases_lt n (length names)) [
     | inl l ↦ (sole_in_parts (view_at old.groups n) (view_at groups n) (view_at e.whole n) (s.went.groups n) (last n l).0 (sole_whole n l)).0
     | inr l ↦ sole_past n l
   ]
 
-  sole_first : Sole (view_at old.index 0) (view_at passes 0)
+  sole_first : OnlyWriter (view_at old.index 0) (view_at passes 0)
   sole_first = sole_at_close (view_at old.index 0) (view_at passes 0) (s.went.index 0) (record {
     opened = (let b = ap length (s.stays.index.opened 0) in let a = ap (λ (v : IndexPass). length v.opened) s.opened.index_first in let c = ap (λ (v : IndexPass). length v.seen) s.opened.index_first in
         omega (arith, a, b, c));
@@ -135,15 +135,15 @@ module _ {M : Type 0} (see : M → GroupView) (rack : Rack) (names turn : List T
     once = subst (λ log. IsOnceEach (view_at passes 0).opened log (stretches_of (view_at passes 0))) e.index_closed.seen e.index_closed.once;
   })
 
-  sole_behind : (n : ℕ) → length turn ≤ n → Sole (view_at old.index n) (view_at passes n)
+  sole_behind : (n : ℕ) → length turn ≤ n → OnlyWriter (view_at old.index n) (view_at passes n)
   sole_behind n l i x le q = absurd (let none : slice_get [] i ≡ Some x = subst (λ (v : IndexPass). slice_get v.seen i ≡ Some x) (at_past turn passes n index_ready.of l) q in
       let b = slice_get_within [] i x none in omega (arith, b))
 
-  sole_index : RowSole old.index passes
+  sole_index : RowOnlyWriter old.index passes
   sole_index zero = sole_first
   sole_index (suc n) = sole_behind (suc n) (let one = index_ready.one in omega (arith, one))
 
-  pub sole_all : AllSole old (known groups passes)
+  pub sole_all : AllOnlyWriters old (known groups passes)
   sole_all = record { groups = sole_groups; index = sole_index }
 
   first_pass : (n : ℕ) (m : M) → slice_get ms n ≡ Some m → IsFirstPass n (view_at old.groups n)

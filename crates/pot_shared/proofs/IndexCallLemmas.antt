@@ -22,7 +22,7 @@ use Rattle.pot_turn.specs.Logs.{StartsWith}
 use Rattle.pot_turn.specs.Views.{took_view, left_view}
 use Rattle.pot_rows.specs.Rows.{AreOf, view_at, with_view}
 use Rattle.pot_rows.proofs.RowLemmas.{at_set, still_of}
-use Rattle.pot_shared.specs.declared.catalog.Strange.{Strange}
+use Rattle.pot_shared.specs.declared.catalog.ReservationLost.{ReservationLost}
 use Rattle.pot_shared.specs.Ready.{GroupPasses}
 use Rattle.pot_shared.specs.Catalogs.{CatalogView, IndexPass, IndexPasses, IsIndexReady, IsIndexOf, origin_of, records_in}
 use Rattle.pot_shared.specs.IndexCalls.{IndexCall, HasReserved, Abandons, PublishesRecord, MayRenew, MayRenewBy}
@@ -72,8 +72,8 @@ module _ {rack : Rack} {names turn : List TurnName} {row row1 : IndexPasses} (re
       pub called : {R : IndexView → IndexView → Type 0} → IsIndex old.index → IsIndex new.index → R old.index new.index → IndexCall R row row2
       called is_old is_new call =
           let v = view_at row 0 in
-          let met = v.seen ++ begins.0 in
-          let one : new.index.log ≡ met ++ on.more = on.log ∙ ap (λ w. w ++ on.more) begins.1 in
+          let transition = v.seen ++ begins.0 in
+          let one : new.index.log ≡ transition ++ on.more = on.log ∙ ap (λ w. w ++ on.more) begins.1 in
           record {
             pass = pass;
             is = is_pass;
@@ -82,14 +82,14 @@ module _ {rack : Rack} {names turn : List TurnName} {row row1 : IndexPasses} (re
               new = new.index;
               others = begins.0;
               entries = on.more;
-              met = begins.1;
+              transition = begins.1;
               is_old = is_old;
               is_new = is_new;
               read = on.read;
               rack = on.rack;
               origin = (old.kept.names, origin);
               log = on.log;
-              turn = ap (λ l. left_view l (took_view old.index.log v)) one ∙ ap (λ l. left_view (met ++ on.more) (took_view l v)) begins.1;
+              turn = ap (λ l. left_view l (took_view old.index.log v)) one ∙ ap (λ l. left_view (transition ++ on.more) (took_view l v)) begins.1;
               call = call;
             };
           }
@@ -116,11 +116,11 @@ same_on s t e = record { more = []; log = ap (λ (i : IndexView). i.log) e ∙ s
 pub small_on : (s t : IndexView) → IsSmall s t → GoesOn s t
 small_on s t small = record { more = (small_log s t small).0; log = (small_log s t small).1; rack = small_rack s t small; read = small_read s t small }
 
-pub abandons_on : (job : ℕ) (name : List ℕ) (result : Result (Unit {0}) Strange) (s t : IndexView) → Abandons job name result s t → GoesOn s t
+pub abandons_on : (job : ℕ) (name : List ℕ) (result : Result (Unit {0}) ReservationLost) (s t : IndexView) → Abandons job name result s t → GoesOn s t
 abandons_on job name (Ok u) s t a = record { more = _; log = ap (λ (i : IndexView). i.log) a.1; rack = ap (λ (i : IndexView). i.rack) a.1; read = ap (λ (i : IndexView). i.read) a.1 }
 abandons_on job name (Err e) s t a = same_on s t a.0
 
-pub publishes_on : (job : ℕ) (r : Record) (result : Result (Unit {0}) Strange) (s t : IndexView) → PublishesRecord job r result s t → GoesOn s t
+pub publishes_on : (job : ℕ) (r : Record) (result : Result (Unit {0}) ReservationLost) (s t : IndexView) → PublishesRecord job r result s t → GoesOn s t
 publishes_on job r (Ok u) s t a = record { more = _; log = ap (λ (i : IndexView). i.log) a.1; rack = ap (λ (i : IndexView). i.rack) a.1; read = ap (λ (i : IndexView). i.read) a.1 }
 publishes_on job r (Err e) s t a = same_on s t a.0
 

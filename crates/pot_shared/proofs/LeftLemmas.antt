@@ -25,14 +25,14 @@ use Rattle.pot_shelves.specs.Shelves.{numbers_of, shelf_of, given, plain}
 use Rattle.pot_shelves.proofs.ShelfLemmas.{rose_more}
 use Rattle.pot_index.proofs.RecordLaws.{few_published}
 use Rattle.pot_turn.specs.declared.name.TurnName.{TurnName}
-use Rattle.pot_worked.specs.Worked.{added}
+use Rattle.pot_worked.specs.WroteOnlyFor.{added}
 use Rattle.pot_rows.specs.Rows.{view_at}
 use Rattle.pot_shared.specs.Members.{entries_of, kept_log, opened_at, origin_of, taking_at}
 use Rattle.pot_shared.specs.Ready.{GroupPass, GroupPasses, AreReady}
 use Rattle.pot_shared.specs.Catalogs.{IndexPasses, IsIndexReady, records_in}
 use Rattle.pot_shared.specs.Sharing.{Ends}
 use Rattle.pot_shared.specs.Works.{Known, known, gained, section_of}
-use Rattle.pot_shared.specs.Going.{AllSole}
+use Rattle.pot_shared.specs.Going.{AllOnlyWriters}
 use Rattle.pot_shared.specs.Hands.{times, AreApart}
 use Rattle.pot_shared.proofs.Times.{times-append}
 use Rattle.pot_shared.specs.Coming.{AreMarkedBy, came_in, marks_of, taking_of}
@@ -141,7 +141,7 @@ module _ {A M : Type 0} (told : Type 0) (meaning : A → Meaning) (parts : M →
     (ready : AreReady rack names groups) (index_ready : IsIndexReady rack names turn passes) (old : Known) (s : AreServed old (known groups passes))
     (e : Ends (λ m. kept_log (view_of meaning (parts m))) (λ m. origin_of (view_of meaning (parts m))) rack names groups (view_at passes 0) ms ended) (all : AreEnded told (λ m. view_of meaning (parts m)) ms)
     (meant : ℕ → Meaning) (taken : told → AreTakenAt meant old.groups)
-    (marks : told → AllSole old (known groups passes) → (g : ℕ) → g < length old.groups.names → AreMarkedBy meant (added (view_at old.groups g) (view_at groups g))) (hand : List (Shelf A)) (is_hand : hand ≡ flat_map (λ m. (parts m).shelves.shelves) ms) where
+    (marks : told → AllOnlyWriters old (known groups passes) → (g : ℕ) → g < length old.groups.names → AreMarkedBy meant (added (view_at old.groups g) (view_at groups g))) (hand : List (Shelf A)) (is_hand : hand ≡ flat_map (λ m. (parts m).shelves.shelves) ms) where
   -- its origin is the one that its first pass knows
   origin_is : (n : ℕ) (m : M) → slice_get ms n ≡ Some m → (view_at old.groups n).origin ≡ Some (origin_of (view_of meaning (parts m)))
   origin_is n m q = sym (s.stays.groups.origin n) ∙ (sym (ap (λ (v : GroupPass). v.origin) (e.joined n).both) ∙ sym (e.closed.each n m q).named)
@@ -230,7 +230,7 @@ module _ {A M : Type 0} (told : Type 0) (meaning : A → Meaning) (parts : M →
         is_log = refl;
         is = refl;
         settled = (all n m q).settled;
-        course = (all n m q).course;
+        execution = (all n m q).execution;
         marked = marked n m q;
         taken = took n m q;
         within = within n m q;

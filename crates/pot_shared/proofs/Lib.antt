@@ -21,4 +21,4 @@ pub mod ComingLemmas
 pub mod CloseLemmas
 pub mod LeavingWords
 pub mod LeftLemmas
-pub mod SessionLemmas
+pub mod ConnectionLemmas

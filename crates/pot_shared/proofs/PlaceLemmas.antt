@@ -131,9 +131,9 @@ module _ (told : Type 0) (job : ℕ) (place : Place) (pads : Pads) where
     }
 
 -- an answer of another kind is the last
-pub is_last : (answer : Mend) → (answer ≡ mend.Began → ⊥) → (answer ≡ mend.Went → ⊥) → (answer ≡ mend.Mended → ⊥) → (answer ≡ mend.Passed → ⊥) → GoesOn answer → ⊥
+pub is_last : (answer : Mend) → (answer ≡ mend.Began → ⊥) → (answer ≡ mend.Extends → ⊥) → (answer ≡ mend.Mended → ⊥) → (answer ≡ mend.Passed → ⊥) → GoesOn answer → ⊥
 is_last mend.Began not_began not_went not_mended not_passed on = not_began refl
-is_last mend.Went not_began not_went not_mended not_passed on = not_went refl
+is_last mend.Extends not_began not_went not_mended not_passed on = not_went refl
 is_last mend.Mended not_began not_went not_mended not_passed on = not_mended refl
 is_last mend.Passed not_began not_went not_mended not_passed on = not_passed refl
 is_last _ not_began not_went not_mended not_passed on = on
@@ -166,7 +166,7 @@ relay_one job s (Err failed.Idle) old entries h = absurd h
 one_entry : (told : Type 0) (job : ℕ) (place : Place) (blind : List ℕ) (answer : Mend) (old new : GroupView) (entries : List Entry) → GoesOn answer
     → MendCall told job place blind answer old new entries → length entries ≡ 1
 one_entry told job place blind mend.Began old new entries on call = ap length call.tells.0
-one_entry told job place blind mend.Went old new entries on call =
+one_entry told job place blind mend.Extends old new entries on call =
     let d = call.tells.1 in relay_one job d.0.stripe d.0.result old entries d.1
 one_entry told job place blind mend.Mended old new entries on call =
     let d = call.tells.1 in relay_one job d.0.stripe d.0.result old entries d.1
@@ -190,10 +190,10 @@ grows told job place blind answer names now next of within on call =
     let front = length-append v.seen t.others in
     let own = length-map t.entries (logged_at t.new.shelves) in
     let one = one_entry told job place blind answer t.old t.new t.entries on t.call in
-    let met = sym (ap length t.met) ∙ length-map t.old.log (logged_at t.old.shelves) in
+    let transition = sym (ap length t.transition) ∙ length-map t.old.log (logged_at t.old.shelves) in
     let log = ap length t.log ∙ length-append t.old.log t.entries in
     let bound = t.settled.bound in
-    (omega (arith, seen, parts, front, own, one, met, log, bound), omega (arith, seen, parts, front, own, one, met, log, bound))
+    (omega (arith, seen, parts, front, own, one, transition, log, bound), omega (arith, seen, parts, front, own, one, transition, log, bound))
 
 pub falls : (told : Type 0) (job : ℕ) (place : Place) (blind : List ℕ) (answer : Mend) (names : List TurnName) (now next : GroupPasses) → AreOf names now → place.group < length names
     → GoesOn answer → CallAt told (MendCall told job place blind answer) place.group now next
@@ -227,8 +227,8 @@ module _ (told : Type 0) (job : ℕ) (place : Place) (pads : Pads) (names : List
       mending_more told job place pads names old now next blind after mended passed of within sofar answer call blind after mended1 passed1 on
       (sofar.blind_is ∙ ap (blind_at pads) same) (sofar.stream ∙ ap (λ n. drawn pads (suc n)) same) mended_is passed_is (omega (arith, more, few, one))
 
-  pub mending_went : Step mend.Went → Sofar blind after mended passed
-  mending_went call = goes_on mend.Went mended passed (tt) refl (omega arith) (omega arith) (omega arith) call
+  pub mending_went : Step mend.Extends → Sofar blind after mended passed
+  mending_went call = goes_on mend.Extends mended passed (tt) refl (omega arith) (omega arith) (omega arith) call
 
   pub mending_mended : (mended1 : ℕ) → mended1 ≡ mended + 1 → Step mend.Mended → Sofar blind after mended1 passed
   mending_mended mended1 is call = goes_on mend.Mended mended1 passed (tt) refl is (omega arith) (omega (arith, is)) call

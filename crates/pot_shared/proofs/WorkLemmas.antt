@@ -13,11 +13,11 @@ use Rattle.pot_group.specs.Group.{GroupView}
 use Rattle.pot_index.specs.Entries as index
 use Rattle.pot_index.specs.Index.{IndexView}
 use Rattle.pot_turn.specs.declared.name.TurnName.{TurnName}
-use Rattle.pot_worked.specs.Worked.{added, Worked}
+use Rattle.pot_worked.specs.WroteOnlyFor.{added, WroteOnlyFor}
 use Rattle.pot_worked.specs.Laws.{AllOf}
-use Rattle.pot_worked.proofs.WorkedLemmas.{own_in_parts, more_is_work, more_has_none}
+use Rattle.pot_worked.proofs.WroteOnlyForLemmas.{own_in_parts, more_is_work, more_has_none}
 use Rattle.pot_rows.specs.Rows.{PassRow, view_at}
-use Rattle.pot_rows.specs.Works.{AllIdle, RowWorked, RowAlone, TurnAt}
+use Rattle.pot_rows.specs.Works.{AllIdle, RowWroteOnlyFor, RowOnlyWriterOf, TurnAt}
 use Rattle.pot_rows.proofs.RowLemmas.{at_past}
 use Rattle.pot_rows.proofs.TieLemmas.{knows_same}
 use Rattle.pot_rows.proofs.WorkLemmas.{turn_is_work, own_in_turn_at, row_work_in_parts, row_alone_in_parts}
@@ -29,7 +29,7 @@ use Rattle.pot_shared.specs.Calls.{CallAt}
 use Rattle.pot_shared.specs.Catalogs.{IndexPasses, IsIndexReady}
 use Rattle.pot_shared.specs.IndexCalls.{IndexCall}
 use Rattle.pot_shared.proofs.MemberLemmas.{entries_all}
-use Rattle.pot_shared.specs.Works.{of_job, gained, Known, JobWorked, JobAlone, OnlySaw}
+use Rattle.pot_shared.specs.Works.{of_job, gained, Known, JobWroteOnly, JobOnlyWriter, OnlySaw}
 
 -- ENTRIES OF A JOB
 
@@ -65,7 +65,7 @@ own_entries job (l ∷ ls) = own_at job l ls (own_entries job ls) (is_of job l.e
 -- A ROW THAT STAYED
 
 module _ {E O : Type 0} (is_job : E → Bool) (row : PassRow E O) where
-  pub row_stays : AllIdle row → RowWorked is_job row row
+  pub row_stays : AllIdle row → RowWroteOnlyFor is_job row row
   row_stays idle at = more_is_work is_job (view_at row at) (view_at row at) (knows_same (view_at row at)) (idle at)
 
 -- A LOCKED CALL OF A GROUP
@@ -78,10 +78,10 @@ module _ (told : Type 0) (job : ℕ) (R : GroupView → GroupView → List Entry
   its_turn : TurnAt call.turn.others marked v group w
   its_turn = record { pass = call.pass; is = call.is; turn = call.turn.turn }
 
-  pub group_work : AllIdle v → RowWorked (of_job job) v w
+  pub group_work : AllIdle v → RowWroteOnlyFor (of_job job) v w
   group_work idle = turn_is_work (of_job job) call.turn.others marked v w group within idle its_turn (all_marked job call.turn.new.shelves call.turn.entries all)
 
-  module _ (alone : RowAlone (of_job job) v w) where
+  module _ (alone : RowOnlyWriterOf (of_job job) v w) where
     its_own : (filter (of_job job) (added (view_at v group) (view_at w group)) ≡ marked) × ((h : ℕ) → group ≢ h → filter (of_job job) (added (view_at v h) (view_at w h)) ≡ [])
     its_own = own_in_turn_at (of_job job) call.turn.others marked v w group within its_turn (all_marked job call.turn.new.shelves call.turn.entries all) alone
 
@@ -108,26 +108,26 @@ module _ (job : ℕ) (rack : Rack) (names turn : List TurnName) (R : IndexView �
   index_turn : TurnAt call.turn.others call.turn.entries v 0 w
   index_turn = record { pass = call.pass; is = call.is; turn = call.turn.turn }
 
-  pub index_work : RowWorked (index.is_of job) v w
+  pub index_work : RowWroteOnlyFor (index.is_of job) v w
   index_work = turn_is_work (index.is_of job) call.turn.others call.turn.entries v w 0 index_within (index_idle rack names turn v ready) index_turn all
 
-  pub index_own : RowAlone (index.is_of job) v w → index.own job (added (view_at v 0) (view_at w 0)) ≡ call.turn.entries
+  pub index_own : RowOnlyWriterOf (index.is_of job) v w → index.own job (added (view_at v 0) (view_at w 0)) ≡ call.turn.entries
   index_own alone = (own_in_turn_at (index.is_of job) call.turn.others call.turn.entries v w 0 index_within index_turn all alone).0
 
 -- TIES
 
 module _ (job : ℕ) (rack : Rack) (names : List TurnName) (v w : GroupPasses) (ready : AreReady rack names v) (knows : RowKnowsMore v w) where
-  pub known_work : RowWorked (of_job job) v w
+  pub known_work : RowWroteOnlyFor (of_job job) v w
   known_work at = ⊎_elim
       (λ (lt : at < length v.names). more_is_work (of_job job) (view_at v at) (view_at w at) (knows.2 at lt) (ready.idle at))
       (λ (past : length v.names ≤ at).
       let here = at_past v.names v at (refl, (let a = ready.of.1 in let b = ap length ready.of.0 in omega (arith, a, b))) past in
       let there = at_past w.names w at (refl, (let a = ready.of.1 in let b = ap length ready.of.0 in let c = knows.1 in let d = ap length knows.0 in omega (arith, a, b, c, d))) (let d = ap length knows.0 in omega (arith, past, d)) in
-      subst (λ x. Worked (of_job job) (view_at v at) x) (here ∙ sym there)
+      subst (λ x. WroteOnlyFor (of_job job) (view_at v at) x) (here ∙ sym there)
       (more_is_work (of_job job) (view_at v at) (view_at v at) (knows_same (view_at v at)) (ready.idle at)))
       (cases_lt at (length v.names))
 
-  pub known_none : RowAlone (of_job job) v w → (g : ℕ) → own job (gained v w g) ≡ []
+  pub known_none : RowOnlyWriterOf (of_job job) v w → (g : ℕ) → own job (gained v w g) ≡ []
   known_none alone at = ⊎_elim
       (λ (lt : at < length v.names).
       own_entries job (added (view_at v at) (view_at w at)) ∙ ap entries_of (more_has_none (of_job job) (view_at v at) (view_at w at) (knows.2 at lt) (alone at)))
@@ -139,19 +139,19 @@ module _ (job : ℕ) (rack : Rack) (names : List TurnName) (v w : GroupPasses) (
 
 -- PART AFTER PART
 
-pub work_more : (job : ℕ) (u v w : Known) → JobWorked job u v → JobWorked job v w → JobWorked job u w
+pub work_more : (job : ℕ) (u v w : Known) → JobWroteOnly job u v → JobWroteOnly job v w → JobWroteOnly job u w
 work_more job u v w p q = record {
   groups = row_work_in_parts (of_job job) u.groups v.groups w.groups p.groups q.groups;
   index = row_work_in_parts (index.is_of job) u.index v.index w.index p.index q.index;
 }
 
-pub alone_parts : (job : ℕ) (u v w : Known) → JobWorked job u v → JobWorked job v w → JobAlone job u w → JobAlone job u v × JobAlone job v w
+pub alone_parts : (job : ℕ) (u v w : Known) → JobWroteOnly job u v → JobWroteOnly job v w → JobOnlyWriter job u w → JobOnlyWriter job u v × JobOnlyWriter job v w
 alone_parts job u v w p q alone =
     let g = row_alone_in_parts (of_job job) u.groups v.groups w.groups p.groups q.groups alone.groups in
     let i = row_alone_in_parts (index.is_of job) u.index v.index w.index p.index q.index alone.index in
     (record { groups = g.0; index = i.0 }, record { groups = g.1; index = i.1 })
 
-pub own_more : (job : ℕ) (u v w : GroupPasses) → RowWorked (of_job job) u v → RowWorked (of_job job) v w
+pub own_more : (job : ℕ) (u v w : GroupPasses) → RowWroteOnlyFor (of_job job) u v → RowWroteOnlyFor (of_job job) v w
     → (g : ℕ) → own job (gained u w g) ≡ own job (gained u v g) ++ own job (gained v w g)
 own_more job u v w p q g =
     let ug = view_at u g in
@@ -163,7 +163,7 @@ own_more job u v w p q g =
     ∙ (ap (λ s. s ++ entries_of (filter (of_job job) (added vg wg))) (sym (own_entries job (added ug vg)))
     ∙ ap (λ s. own job (gained u v g) ++ s) (sym (own_entries job (added vg wg))))))
 
-pub index_own_more : (job : ℕ) (u v w : IndexPasses) → RowWorked (index.is_of job) u v → RowWorked (index.is_of job) v w
+pub index_own_more : (job : ℕ) (u v w : IndexPasses) → RowWroteOnlyFor (index.is_of job) u v → RowWroteOnlyFor (index.is_of job) v w
     → index.own job (added (view_at u 0) (view_at w 0)) ≡ index.own job (added (view_at u 0) (view_at v 0)) ++ index.own job (added (view_at v 0) (view_at w 0))
 index_own_more job u v w p q = own_in_parts (index.is_of job) (view_at u 0) (view_at v 0) (view_at w 0) (p 0) (q 0)
 

@@ -8,7 +8,7 @@ use Rattle.pot_machine.specs.Table.{Table, width, slot_at}
 use Rattle.pot_machine.specs.Logs.{own, replayed}
 use Rattle.pot_group.specs.Finding.{IsPlace}
 use Rattle.pot_rows.specs.Rows.{view_at}
-use Rattle.pot_rows.specs.Works.{RowWorked, RowAlone}
+use Rattle.pot_rows.specs.Works.{RowWroteOnlyFor, RowOnlyWriterOf}
 use Rattle.pot_shared.specs.Members.{entries_of}
 use Rattle.pot_shared.specs.Ready.{GroupPasses}
 use Rattle.pot_shared.specs.Works.{of_job, gained}
@@ -16,9 +16,9 @@ use Rattle.pot_shared.specs.Works.{of_job, gained}
 -- The job logged these entries in a group and none in any other, where nobody else logged an entry
 -- of it. What the pass has seen grew by no less, and fits a log.
 pub record Adds (job g : ℕ) (entries : List Entry) (old new : GroupPasses) : Type 0 where
-  pub worked : RowWorked (of_job job) old new
-  pub own_is : RowAlone (of_job job) old new → own job (gained old new g) ≡ entries
-  pub none_else : RowAlone (of_job job) old new → (h : ℕ) → h ≢ g → own job (gained old new h) ≡ []
+  pub worked : RowWroteOnlyFor (of_job job) old new
+  pub own_is : RowOnlyWriterOf (of_job job) old new → own job (gained old new g) ≡ entries
+  pub none_else : RowOnlyWriterOf (of_job job) old new → (h : ℕ) → h ≢ g → own job (gained old new h) ≡ []
   pub grew : length (view_at old g).seen + length entries ≤ length (view_at new g).seen
 
 -- the table that the group of a number read, as far as its pass knows one

@@ -6,7 +6,7 @@ use Rattle.pot_machine.specs.declared.entry.Entry.{Entry}
 use Rattle.pot_machine.specs.declared.entry.Entry.TheVariants as entry
 use Rattle.pot_machine.specs.Logs.{own}
 use Rattle.pot_pads.specs.Pads.{Pads}
-use Rattle.pot_rows.specs.Works.{RowWorked, RowAlone}
+use Rattle.pot_rows.specs.Works.{RowWroteOnlyFor, RowOnlyWriterOf}
 use Rattle.pot_shared.specs.Ready.{GroupPasses}
 use Rattle.pot_shared.specs.MendCalls.{MendsPlace}
 use Rattle.pot_shared.specs.declared.mending.Mending.{Mending}
@@ -18,8 +18,8 @@ is_begin _ = false
 
 -- The passes worked for the job and began no relay.
 pub record BeganNone (job : ℕ) (old new : GroupPasses) : Type 0 where
-  pub worked : RowWorked (of_job job) old new
-  pub none : RowAlone (of_job job) old new
+  pub worked : RowWroteOnlyFor (of_job job) old new
+  pub none : RowOnlyWriterOf (of_job job) old new
       → (g : ℕ) → filter is_begin (own job (gained old new g)) ≡ []
 
 -- A part of a job's work: it began no relay, or mended a place.

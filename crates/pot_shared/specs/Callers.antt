@@ -10,7 +10,7 @@ use Rattle.pot_bytes.specs.declared.rack.Place.{Place}
 use Rattle.pot_shared.specs.Ready.{AreReady, GroupPasses, HasSlot}
 use Rattle.pot_shared.specs.Catalogs.{IndexPasses, IsIndexReady}
 use Rattle.pot_shared.specs.Vaults.{VaultView}
-use Rattle.pot_shared.specs.Works.{Known, JobAlone, IsSettingOf, section_of}
+use Rattle.pot_shared.specs.Works.{Known, JobOnlyWriter, IsSettingOf, section_of}
 
 -- The vault has a turn for each group of its rack, and the passes can call all of its turns.
 pub record CanCall (v : VaultView) (k : Known) : Type 0 where
@@ -25,9 +25,9 @@ HaveParts n k = HasMoreParts n k.groups × HasMoreParts n k.index
 
 -- Where nobody else logged an entry of the job, this is said of what the logs gained, in every
 -- setting that the passes know.
-abbrev pub Judged : ℕ → Rack → Known → Known → (Setting → Section → Type 0) → Type 0
-Judged job rack old new says =
-    JobAlone job old new → (s : Setting) → IsSettingOf s rack old → says s (section_of old new)
+abbrev pub IfOnlyWriter : ℕ → Rack → Known → Known → (Setting → Section → Type 0) → Type 0
+IfOnlyWriter job rack old new says =
+    JobOnlyWriter job old new → (s : Setting) → IsSettingOf s rack old → says s (section_of old new)
 
 -- WHAT A CALLER ASKS OF ITS PASSES
 
@@ -48,6 +48,6 @@ abbrev pub HasSlotFor : {A X : Type 0} → Caller A X → Place → Type 0
 HasSlotFor c p = HasSlot c.vault.now.rack c.vault.now.groups p
 
 -- what is judged of its job
-abbrev pub JudgedFor : {A X : Type 0} → Caller A X → Known → Known → (Setting → Section → Type 0)
+abbrev pub IfOnlyWriterFor : {A X : Type 0} → Caller A X → Known → Known → (Setting → Section → Type 0)
     → Type 0
-JudgedFor c old new says = Judged c.job c.vault.now.rack old new says
+IfOnlyWriterFor c old new says = IfOnlyWriter c.job c.vault.now.rack old new says

@@ -10,7 +10,7 @@ use Rattle.pot_group.specs.Finding.{IsPlace, is_of}
 use Rattle.pot_group.specs.Group.{GroupView, IsSettled}
 use Rattle.pot_group.specs.Standing.{IsStanding}
 use Rattle.pot_group.specs.declared.standing.Standing.{Standing}
-use Rattle.pot_worked.specs.Worked.{IsTurn}
+use Rattle.pot_worked.specs.WroteOnlyFor.{IsTurn}
 use Rattle.pot_rows.specs.Rows.{view_at, with_view}
 use Rattle.pot_shared.specs.declared.member.Logged.{Logged}
 use Rattle.pot_shared.specs.Members.{kept_log, origin_of, all_logged}
@@ -24,7 +24,7 @@ pub record CallTurn (told : Type 0) (R : GroupView → GroupView → List Entry 
   pub new : GroupView
   pub others : List Logged
   pub entries : List Entry
-  pub met : kept_log old ≡ v.seen ++ others
+  pub transition : kept_log old ≡ v.seen ++ others
   pub origin : Some (origin_of old) ≡ v.origin
   pub settled_old : IsSettled told old
   pub read : IsTable old.first

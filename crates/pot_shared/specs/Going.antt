@@ -2,7 +2,7 @@
 -- else logged anything.
 use Rattle.std.specs.Prelude.{◌≡◌, ℕ}
 use Rattle.pot_rows.specs.Rows.{PassRow, view_at}
-use Rattle.pot_rows.specs.Works.{RowWent, RowSole}
+use Rattle.pot_rows.specs.Works.{RowExtends, RowOnlyWriter}
 use Rattle.pot_shared.specs.Works.{Known}
 
 -- each pass is of the same turn and the same value as before, began at the same log, and has as
@@ -18,11 +18,11 @@ pub record AllStay (old new : Known) : Type 0 where
   pub index : Stays old.index new.index
 
 -- the passes of all turns went on
-pub record AllWent (old new : Known) : Type 0 where
-  pub groups : RowWent old.groups new.groups
-  pub index : RowWent old.index new.index
+pub record AllExtend (old new : Known) : Type 0 where
+  pub groups : RowExtends old.groups new.groups
+  pub index : RowExtends old.index new.index
 
 -- nobody else logged anything meanwhile
-pub record AllSole (old new : Known) : Type 0 where
-  pub groups : RowSole old.groups new.groups
-  pub index : RowSole old.index new.index
+pub record AllOnlyWriters (old new : Known) : Type 0 where
+  pub groups : RowOnlyWriter old.groups new.groups
+  pub index : RowOnlyWriter old.index new.index

@@ -13,10 +13,10 @@ use Rattle.pot_steps.specs.GroupStep.{Breaks, FindsGone, Spared, as_read, openin
 use Rattle.pot_index.specs.declared.record.Record.{Record}
 use Rattle.pot_group.specs.Arrivals.{arrivals, HasArrived}
 use Rattle.pot_group.specs.Group.{GroupView, IsSettled}
-use Rattle.pot_followed.specs.Course.{HasCourse}
+use Rattle.pot_execution.specs.Execution.{HasExecution}
 use Rattle.pot_shelves.specs.Shelves.{Shelves}
 use Rattle.pot_turn.specs.Views.{first_view, cut_view}
-use Rattle.pot_worked.specs.Worked.{added}
+use Rattle.pot_worked.specs.WroteOnlyFor.{added}
 use Rattle.pot_rows.specs.Rows.{view_at}
 use Rattle.pot_replies.specs.Sessions.{ByNobody}
 use Rattle.pot_shared.specs.declared.member.Logged.{Logged}
@@ -26,7 +26,7 @@ use Rattle.pot_shared.specs.Members.{entries_of, mark_at, opened_at, taking_at}
 use Rattle.pot_shared.specs.Ready.{GroupPass, GroupPasses, IsTableOf}
 use Rattle.pot_shared.specs.Catalogs.{IndexPasses, records_in}
 use Rattle.pot_shared.specs.Works.{Known, gained}
-use Rattle.pot_shared.specs.Going.{AllSole, AllStay, AllWent}
+use Rattle.pot_shared.specs.Going.{AllOnlyWriters, AllStay, AllExtend}
 use Rattle.pot_shared.specs.Hands.{times}
 use Rattle.pot_shared.specs.Coming.{AreMarkedBy, came_in, marks_of, taking_of}
 
@@ -167,7 +167,7 @@ pub record AreFirstPasses (groups : GroupPasses) (index : IndexPasses) : Type 0 
 -- the passes of a vault from its start to the end of commands
 pub record AreServed (old new : Known) : Type 0 where
   pub opened : AreFirstPasses old.groups old.index
-  pub went : AllWent old new
+  pub went : AllExtend old new
   pub stays : AllStay old new
 
 -- So they were, and the archives were taken as they were meant: those of the tables at the start,
@@ -175,14 +175,14 @@ pub record AreServed (old new : Known) : Type 0 where
 pub record IsServedFrom (told : Type 0) (meant : ℕ → Meaning) (old new : Known) : Type 0 where
   pub served : AreServed old new
   pub taken : told → AreTakenAt meant old.groups
-  pub marked : told → AllSole old new → (g : ℕ) → g < length old.groups.names
+  pub marked : told → AllOnlyWriters old new → (g : ℕ) → g < length old.groups.names
       → AreMarkedBy meant (added (view_at old.groups g) (view_at new.groups g))
 
 -- If nobody else logged anything, these are the archives of the tables that were read and those
 -- that came since, in some order.
 abbrev pub HaveCome : Known → Known → List ℕ → Type 0
 HaveCome old new numbers =
-    AllSole old new → (n : ℕ)
+    AllOnlyWriters old new → (n : ℕ)
     → times n numbers
     ≡ times n (flat_map archives_in (tables_read new.groups))
     + times n (came_in (length old.groups.names) (gained old.groups new.groups))
@@ -197,7 +197,7 @@ AreLow numbers = (n : ℕ) → 511 < n → times n numbers ≡ 0
 -- those that its log brought, and the course of its calls leads to it
 pub record IsEnded (told : Type 0) (g : GroupView) : Type 0 where
   pub settled : IsSettled told g
-  pub course : told → HasCourse g
+  pub execution : told → HasExecution g
   pub arrived : HasArrived g.first g.log g.shelves.numbers
 
 abbrev pub AreEnded : {M : Type 0} → Type 0 → (M → GroupView) → List M → Type 0

@@ -19,9 +19,9 @@ use Rattle.pot_index.specs.Index.{IndexView, IsIndex, IsRecordOf, IsReservedBy, 
 use Rattle.pot_index.specs.Index.{names_read}
 use Rattle.pot_index.specs.Records.{renewed}
 use Rattle.pot_turn.specs.declared.name.TurnName.{TurnName}
-use Rattle.pot_worked.specs.Worked.{IsTurn}
+use Rattle.pot_worked.specs.WroteOnlyFor.{IsTurn}
 use Rattle.pot_rows.specs.Rows.{view_at, with_view}
-use Rattle.pot_shared.specs.declared.catalog.Strange.{Strange}
+use Rattle.pot_shared.specs.declared.catalog.ReservationLost.{ReservationLost}
 use Rattle.pot_shared.specs.Ready.{GroupPasses}
 use Rattle.pot_shared.specs.Seen.{SeesFile}
 use Rattle.pot_shared.specs.Catalogs.{AreTold, IndexPass, IndexPasses, Publishes, records_in}
@@ -33,7 +33,7 @@ pub record IndexTurn (R : IndexView → IndexView → Type 0) (v w : IndexPass) 
   pub new : IndexView
   pub others : List Logged
   pub entries : List Logged
-  pub met : old.log ≡ v.seen ++ others
+  pub transition : old.log ≡ v.seen ++ others
   pub is_old : IsIndex old
   pub is_new : IsIndex new
   pub read : new.read ≡ old.read
@@ -75,11 +75,11 @@ abbrev pub EndsStrangely : ℕ → List ℕ → ℕ → IndexView → IndexView 
 EndsStrangely job name at s t =
     (t ≡ s) × (IsReservedBy s.now job name → ⊥) × EndsAt job name (entries s.log) at
 
-abbrev pub Abandons : ℕ → List ℕ → Result (Unit {0}) Strange → IndexView → IndexView → Type 0
+abbrev pub Abandons : ℕ → List ℕ → Result (Unit {0}) ReservationLost → IndexView → IndexView → Type 0
 Abandons job name (Ok u) s t = IsReservedBy s.now job name × (t ≡ abandoned_by s job name)
 Abandons job name (Err e) s t = EndsStrangely job name e.at s t
 
-abbrev pub PublishesRecord : ℕ → Record → Result (Unit {0}) Strange → IndexView → IndexView → Type 0
+abbrev pub PublishesRecord : ℕ → Record → Result (Unit {0}) ReservationLost → IndexView → IndexView → Type 0
 PublishesRecord job r (Ok u) s t = IsReservedBy s.now job r.name × (t ≡ published_by s job r)
 PublishesRecord job r (Err e) s t = EndsStrangely job r.name e.at s t
 

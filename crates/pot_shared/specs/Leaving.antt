@@ -10,7 +10,7 @@ use Rattle.pot_machine.specs.Table.{Table}
 use Rattle.pot_group.specs.Group.{GroupView, IsSettled}
 use Rattle.pot_group.specs.Frames.{WrittenBy}
 use Rattle.pot_group.specs.Heard.{Sum, FlyBy, FoldedBy, blinds_in}
-use Rattle.pot_followed.specs.Course.{HasCourse}
+use Rattle.pot_execution.specs.Execution.{HasExecution}
 use Rattle.pot_shelves.specs.Shelves.{Shelves}
 use Rattle.pot_index.specs.declared.record.Record.{Record}
 use Rattle.pot_index.specs.declared.entry.IndexEntry.{IndexEntry}
@@ -20,7 +20,7 @@ use Rattle.pot_index.specs.Index.{Names, names_read}
 use Rattle.pot_index.specs.Index as names
 use Rattle.pot_replies.specs.Sections.{Section}
 use Rattle.pot_shared.specs.Coming.{marks_of}
-use Rattle.pot_shared.specs.Going.{AllSole}
+use Rattle.pot_shared.specs.Going.{AllOnlyWriters}
 use Rattle.pot_shared.specs.Groups.{HasMarks, HasTaken, IsOpened, MarksRose, had_by, records_read}
 use Rattle.pot_shared.specs.Works.{Known, section_of}
 
@@ -89,7 +89,7 @@ pub record LeavesGroup (told : Type 0) (meant : ℕ → Meaning) (Has : Shelves 
   pub marked : told → HasMarks meant view
   pub taken : told → HasTaken meant view
   pub within : told → AreWithin meant view
-  pub course : told → HasCourse view
+  pub execution : told → HasExecution view
   pub archives : (n : ℕ) → Contains (had_by view) n → Has view.shelves n
 
 -- each group so
@@ -124,7 +124,7 @@ AreOpened meant Rises read w =
 -- its logs are what the passes saw.
 pub record LeavesLogs (old new : Known) (rack : Rack) (logs : List (List Entry))
     (log : List IndexEntry) (written : List Record) : Type 0 where
-  pub sole : AllSole old new
+  pub sole : AllOnlyWriters old new
   pub are_logs : AreLogs logs (section_of old new)
   pub records : LeavesRecords rack (records_read new.index) (section_of old new).index_added log
       written

@@ -12,7 +12,7 @@ pub mod Adds
 pub mod Blinds
 pub mod Vaults
 pub mod Callers
-pub mod Sessions
+pub mod Connections
 pub mod Going
 pub mod Hands
 pub mod Coming

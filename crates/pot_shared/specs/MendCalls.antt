@@ -21,7 +21,7 @@ blind_at pads n = next_bytes (drawn pads n) 1024
 -- the answers after which a mend of the place goes on
 abbrev pub GoesOn : Mend → Type 0
 GoesOn mend.Began = Unit {0}
-GoesOn mend.Went = Unit {0}
+GoesOn mend.Extends = Unit {0}
 GoesOn mend.Mended = Unit {0}
 GoesOn mend.Passed = Unit {0}
 GoesOn _ = ⊥

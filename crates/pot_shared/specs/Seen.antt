@@ -10,7 +10,7 @@ use Rattle.pot_index.specs.declared.record.Record.{Record}
 use Rattle.pot_shard.specs.FileBlocks.{file_blocks}
 use Rattle.pot_shard.specs.FileLaws.{IsStore}
 use Rattle.pot_rows.specs.Rows.{view_at}
-use Rattle.pot_worked.specs.Worked.{KnowsMore}
+use Rattle.pot_worked.specs.WroteOnlyFor.{KnowsMore}
 use Rattle.pot_shared.specs.Members.{entries_of}
 use Rattle.pot_shared.specs.Ready.{GroupPasses}
 

@@ -4,9 +4,9 @@ use Rattle.pot_bytes.specs.declared.rack.Rack.{Rack}
 use Rattle.pot_machine.specs.declared.entry.Entry.{Entry}
 use Rattle.pot_machine.specs.Logs.{is_of, own}
 use Rattle.pot_index.specs.Entries as index
-use Rattle.pot_worked.specs.Worked.{added}
+use Rattle.pot_worked.specs.WroteOnlyFor.{added}
 use Rattle.pot_rows.specs.Rows.{view_at}
-use Rattle.pot_rows.specs.Works.{RowWorked, RowAlone}
+use Rattle.pot_rows.specs.Works.{RowWroteOnlyFor, RowOnlyWriterOf}
 use Rattle.pot_shared.specs.declared.member.Logged.{Logged}
 use Rattle.pot_shared.specs.Members.{entries_of}
 use Rattle.pot_shared.specs.Ready.{GroupPasses}
@@ -25,8 +25,8 @@ gained old new g = entries_of (added (view_at old g) (view_at new g))
 -- The passes saw more and logged nothing: that is work of any job, and of one that nobody else
 -- worked for, no entry came.
 pub record OnlySaw (old new : GroupPasses) : Type 0 where
-  pub worked : (job : ℕ) → RowWorked (of_job job) old new
-  pub none : (job : ℕ) → RowAlone (of_job job) old new → (g : ℕ) → own job (gained old new g) ≡ []
+  pub worked : (job : ℕ) → RowWroteOnlyFor (of_job job) old new
+  pub none : (job : ℕ) → RowOnlyWriterOf (of_job job) old new → (g : ℕ) → own job (gained old new g) ≡ []
 
 -- what the passes of all turns know
 pub record Known : Type 0 where
@@ -37,14 +37,14 @@ abbrev pub known : GroupPasses → IndexPasses → Known
 known groups index = record { groups = groups; index = index }
 
 -- The passes worked for the job, and for no other.
-pub record JobWorked (job : ℕ) (old new : Known) : Type 0 where
-  pub groups : RowWorked (of_job job) old.groups new.groups
-  pub index : RowWorked (index.is_of job) old.index new.index
+pub record JobWroteOnly (job : ℕ) (old new : Known) : Type 0 where
+  pub groups : RowWroteOnlyFor (of_job job) old.groups new.groups
+  pub index : RowWroteOnlyFor (index.is_of job) old.index new.index
 
 -- Nobody else logged an entry of the job meanwhile.
-pub record JobAlone (job : ℕ) (old new : Known) : Type 0 where
-  pub groups : RowAlone (of_job job) old.groups new.groups
-  pub index : RowAlone (index.is_of job) old.index new.index
+pub record JobOnlyWriter (job : ℕ) (old new : Known) : Type 0 where
+  pub groups : RowOnlyWriterOf (of_job job) old.groups new.groups
+  pub index : RowOnlyWriterOf (index.is_of job) old.index new.index
 
 -- the logs that the passes had seen, and what these gained
 abbrev pub section_of : Known → Known → Section

@@ -2,9 +2,9 @@
 ghost use Rattle.std.specs.Prelude.{◌≡◌, ◌<◌};
 ghost use Rattle.pot_rows.specs.Rows.{HasMoreParts};
 ghost use Rattle.pot_shared.specs.Callers.{CanCall};
-ghost use Rattle.pot_shared.specs.Sessions.{bound, knows};
+ghost use Rattle.pot_shared.specs.Connections.{bound, knows};
 
-use crate::session::Session;
+use crate::connection::Connection;
 use crate::vault::{Passes, Vault};
 use pot_outside::Archive;
 use std::alloc::Global;
@@ -24,8 +24,8 @@ pub struct Caller<'a, A: Archive, X> {
 }
 
 impl<'a, A: Archive, X> Caller<'a, A, X> {
-    /// A session of its job, to which the passes go: `*passes = session.end();` brings them back.
-    pub fn session(&self, passes: &mut Passes<A>) -> Session<'a, A, X>
+    /// A session of its job, to which the passes go: `*passes = connection.end();` brings them back.
+    pub fn connection(&self, passes: &mut Passes<A>) -> Connection<'a, A, X>
         requires can { CanCall self.now.vault.now passes.old }
         requires parts { HasMoreParts 1 passes.old.groups }
         requires job { 0 < self.now.job }
@@ -33,6 +33,6 @@ impl<'a, A: Archive, X> Caller<'a, A, X> {
         ensures passes { knows result ≡ passes.old }
     {
         let own = replace(passes, Passes::none(self.alloc));
-        Session::new(self.rt, self.alloc, self.vault, own, self.job)
+        Connection::new(self.rt, self.alloc, self.vault, own, self.job)
     }
 }

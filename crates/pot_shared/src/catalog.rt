@@ -33,7 +33,7 @@ pub struct CatalogOrigin {
 /// The name is not reserved by the job any more: the entry at this place of the index's log ended that, and another pass logged
 /// it. Nothing was logged.
 #[derive(Clone, Copy, PartialEq, Eq, Debug)]
-pub struct Strange {
+pub struct ReservationLost {
     pub at: u32,
 }
 
@@ -119,14 +119,14 @@ impl<A: Archive> Catalog<A> {
     /// Ends the job's reservation of a name, as `Index::abandon`.
     ///
     /// # Errors
-    /// `Strange` exactly where the name is not reserved by the job.
-    pub(crate) fn abandon(&mut self, job: u32, name: &Name) -> Result<(), Strange>
+    /// `ReservationLost` exactly where the name is not reserved by the job.
+    pub(crate) fn abandon(&mut self, job: u32, name: &Name) -> Result<(), ReservationLost>
         requires { Any (IsReserving job name.now) (entries self.old.index.log) }
         ensures call { Abandons job name.now result self.old.index self.new.index }
         ensures kept { self.new.kept ≡ self.old.kept }
     {
         if let Some(at) = self.index.ended_at(job, name) {
-            return Err(Strange { at });
+            return Err(ReservationLost { at });
         }
         self.index.abandon(job, name);
         Ok(())
@@ -135,14 +135,14 @@ impl<A: Archive> Catalog<A> {
     /// Publishes a record whose puts the caller has seen, as `Index::publish`. The kept passes have then seen them too.
     ///
     /// # Errors
-    /// `Strange` exactly where the name is not reserved by the job.
+    /// `ReservationLost` exactly where the name is not reserved by the job.
     pub(crate) fn publish(
         &mut self,
         groups: &Turns<Member<A>>,
         passes: &mut Passes<Member<A>>,
         job: u32,
         kept: Record,
-    ) -> Result<(), Strange>
+    ) -> Result<(), ReservationLost>
         requires ready { AreReady self.old.index.rack groups.now passes.old }
         requires parts { HasMoreParts 1 passes.old }
         requires names { self.old.kept.names ≡ groups.now }
@@ -154,7 +154,7 @@ impl<A: Archive> Catalog<A> {
         ensures tied { RowKnowsMore passes.old passes.new }
     {
         if let Some(at) = self.index.ended_at(job, &kept.name) {
-            return Err(Strange { at });
+            return Err(ReservationLost { at });
         }
         groups.tie(passes, &mut self.kept);
         self.index.publish(job, kept);

@@ -1,8 +1,8 @@
 //! The locked calls of a group.
 ghost use Rattle.std.specs.Prelude.{◌<◌, ◌≡◌, length};
 
+use crate::connection::Connection;
 use crate::sealed_put::SealedPut;
-use crate::session::Session;
 use crate::vault::{Passes, Vault};
 use pot_bytes::{Block, Place};
 use pot_group::{Counts, Kind, LogFull, Looked, PutFault, Standing, Swept};
@@ -169,11 +169,11 @@ impl<A: Archive> Vault<A> {
     }
 }
 
-impl<'v, A: Archive, R: Wait> Session<'v, A, R> {
+impl<'v, A: Archive, R: Wait> Connection<'v, A, R> {
     ghost use Rattle.pot_group.specs.Calls.{PutCall, LookCall};
     ghost use Rattle.pot_shared.specs.Calls.{MakesAt, StandingCall};
     ghost use Rattle.pot_shared.specs.Ready.{HasSlot};
-    ghost use Rattle.pot_shared.specs.Sessions.{InGroups, names_of, rack_of};
+    ghost use Rattle.pot_shared.specs.Connections.{InGroups, names_of, rack_of};
 
     /// Puts a block into a group, as `Vault::put`.
     ///

@@ -3,8 +3,8 @@ ghost use Rattle.std.specs.Prelude.{◌≡◌};
 ghost use Rattle.pot_rows.specs.Rows.{HasMoreParts};
 ghost use Rattle.pot_index.specs.Fits.{FitsRack};
 
-use crate::catalog::Strange;
-use crate::session::Session;
+use crate::catalog::ReservationLost;
+use crate::connection::Connection;
 use crate::vault::{Passes, Vault};
 use pot_bytes::Name;
 use pot_index::{FindFault, ListFault, Listed, Record, RenewFault, ReserveFault, Split};
@@ -68,14 +68,14 @@ impl<A: Archive> Vault<A> {
     /// Ends the job's reservation of a name, in one turn of the index.
     ///
     /// # Errors
-    /// `Strange` exactly where the name is not reserved by the job when the turn is had; nothing is logged then.
+    /// `ReservationLost` exactly where the name is not reserved by the job when the turn is had; nothing is logged then.
     pub fn abandon<R: Wait>(
         &self,
         rt: &R,
         passes: &mut Passes<A>,
         job: u32,
         name: &Name,
-    ) -> Result<(), Strange>
+    ) -> Result<(), ReservationLost>
         requires index { IsIndexReady self.now.rack self.now.groups self.now.index
             passes.old.index }
         requires reserved { HasReserved job name.now passes.old.index }
@@ -94,14 +94,14 @@ impl<A: Archive> Vault<A> {
     /// Publishes a record whose puts the passes have seen, in one turn of the index.
     ///
     /// # Errors
-    /// `Strange` exactly where the name is not reserved by the job when the turn is had; nothing is logged then.
+    /// `ReservationLost` exactly where the name is not reserved by the job when the turn is had; nothing is logged then.
     pub fn publish<R: Wait>(
         &self,
         rt: &R,
         passes: &mut Passes<A>,
         job: u32,
         kept: Record,
-    ) -> Result<(), Strange>
+    ) -> Result<(), ReservationLost>
         requires ready { AreReady self.now.rack self.now.groups passes.old.groups }
         requires parts { HasMoreParts 1 passes.old.groups }
         requires index { IsIndexReady self.now.rack self.now.groups self.now.index
@@ -182,12 +182,12 @@ impl<A: Archive> Vault<A> {
     }
 }
 
-impl<'v, A: Archive, R: Wait> Session<'v, A, R> {
+impl<'v, A: Archive, R: Wait> Connection<'v, A, R> {
     ghost use Rattle.pot_shared.specs.Seen.{SeesFile};
     ghost use Rattle.pot_shared.specs.IndexCalls.{IndexCall, HasReserved, ReservesName, ListsAll};
     ghost use Rattle.pot_shared.specs.IndexCalls.{FindsRecord, Abandons, PublishesRecord};
     ghost use Rattle.pot_shared.specs.IndexCalls.{MayRenewBy, RenewsSplit};
-    ghost use Rattle.pot_shared.specs.Sessions.{InIndex, InTied, job_of, knows, rack_of};
+    ghost use Rattle.pot_shared.specs.Connections.{InIndex, InTied, job_of, knows, rack_of};
 
     /// Reserves a name, as `Vault::reserve`.
     pub fn reserve(&mut self, name: &Name) -> Result<(), ReserveFault>
@@ -208,8 +208,8 @@ impl<'v, A: Archive, R: Wait> Session<'v, A, R> {
     /// Ends the job's reservation of a name, as `Vault::abandon`.
     ///
     /// # Errors
-    /// `Strange` exactly where the name is not reserved by the job when the turn is had; nothing is logged then.
-    pub fn abandon(&mut self, name: &Name) -> Result<(), Strange>
+    /// `ReservationLost` exactly where the name is not reserved by the job when the turn is had; nothing is logged then.
+    pub fn abandon(&mut self, name: &Name) -> Result<(), ReservationLost>
         requires { HasReserved (job_of self.old) name.now (knows self.old).index }
         ensures { InIndex (λ b. IndexCall (Abandons b.job name.now result)) self.old self.new }
     {
@@ -220,8 +220,8 @@ impl<'v, A: Archive, R: Wait> Session<'v, A, R> {
     /// Publishes a record whose puts the passes have seen, as `Vault::publish`.
     ///
     /// # Errors
-    /// `Strange` exactly where the name is not reserved by the job when the turn is had; nothing is logged then.
-    pub fn publish(&mut self, kept: Record) -> Result<(), Strange>
+    /// `ReservationLost` exactly where the name is not reserved by the job when the turn is had; nothing is logged then.
+    pub fn publish(&mut self, kept: Record) -> Result<(), ReservationLost>
         requires reserved { HasReserved (job_of self.old) kept.name (knows self.old).index }
         requires fits { FitsRack (rack_of self.old) kept }
         requires seen { SeesFile (knows self.old).groups kept }

@@ -11,7 +11,7 @@ use crate::hand::put_back;
 use crate::member::Member;
 use crate::remains::Remains;
 use crate::vault::{Passes, Spaces, Vault};
-use pot_followed::Followed;
+use pot_execution::TrackedGroup;
 use pot_group::Ended;
 use pot_index::IndexEnded;
 use pot_outside::Archive;
@@ -46,7 +46,7 @@ pub(crate) fn end_groups<A: Archive>(members: Vec<Member<A>>, remains: &mut Rema
 }
 
 /// Ends a group: its table, its log and its archives come to what remains, behind those that are there.
-fn end_group<A: Archive>(group: Followed<A>, remains: &mut Remains<A>)
+fn end_group<A: Archive>(group: TrackedGroup<A>, remains: &mut Remains<A>)
     requires tables { length remains.old.tables.items < vec_capacity remains.old.tables }
     requires logs { length remains.old.logs.items < vec_capacity remains.old.logs }
     requires hand { length remains.old.hand.items

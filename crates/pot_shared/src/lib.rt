@@ -13,6 +13,7 @@
 
 mod caller;
 mod catalog;
+mod connection;
 mod ending;
 mod grouping;
 mod hand;
@@ -24,7 +25,6 @@ mod moving;
 mod opening;
 mod remains;
 mod sealed_put;
-mod session;
 mod sharing;
 mod starting;
 #[cfg(test)]
@@ -33,7 +33,8 @@ mod uses;
 mod vault;
 
 pub use caller::Caller;
-pub use catalog::{Catalog, CatalogOrigin, Strange};
+pub use catalog::{Catalog, CatalogOrigin, ReservationLost};
+pub use connection::Connection;
 pub use ending::Closed;
 pub use hand::numbers_in;
 pub use member::{GroupOrigin, Logged, Member, Taking};
@@ -41,6 +42,5 @@ pub use mending::Mending;
 pub use moving::ColumnAt;
 pub use remains::Remains;
 pub use sealed_put::SealedPut;
-pub use session::Session;
 pub use starting::VaultRefused;
 pub use vault::{Passes, Spaces, Vault};

@@ -1,6 +1,6 @@
 //! A group as a value under a turn.
 use pot_bytes::Block;
-use pot_followed::Followed;
+use pot_execution::TrackedGroup;
 use pot_machine::{Entry, GroupTable};
 use pot_outside::{Archive, Marks};
 use pot_turn::Kept;
@@ -33,7 +33,7 @@ pub struct GroupOrigin {
 /// A group under a turn.
 #[derive(Drop)]
 pub struct Member<A: Archive> {
-    pub group: Followed<A>,
+    pub group: TrackedGroup<A>,
 }
 
 impl<A: Archive> Kept for Member<A> {

@@ -64,7 +64,7 @@ impl<A: Archive> Vault<A> {
         answer
     }
 
-    /// Mends a slot as far as that goes: repeats `mend_step` until it answers other than `Began`, `Went`, `Mended` and `Passed`. It
+    /// Mends a slot as far as that goes: repeats `mend_step` until it answers other than `Began`, `Extends`, `Mended` and `Passed`. It
     /// draws a blind before the first step, and after each `Began`; one that began no relay is dropped. It ends, since each step
     /// that goes on logs an entry.
     pub fn mend_place<R: Wait>(
@@ -89,7 +89,7 @@ impl<A: Archive> Vault<A> {
         'steps: loop {
             match self.mend_step(rt, passes, job, place, &blind) {
                 Mend::Began => blind = draw_blind(pads),
-                Mend::Went => {}
+                Mend::Extends => {}
                 Mend::Mended => mended += 1,
                 Mend::Passed => passed += 1,
                 end => {

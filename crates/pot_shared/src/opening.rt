@@ -23,7 +23,7 @@ use crate::remains::Remains;
 use crate::starting::VaultRefused;
 use crate::vault::{Passes, Spaces, Vault};
 use pot_bytes::{NoMemory, Rack};
-use pot_followed::Followed;
+use pot_execution::TrackedGroup;
 use pot_group::StartRefused;
 use pot_index::{Index, IndexRefused, Record};
 use pot_machine::GroupTable;
@@ -61,7 +61,7 @@ fn start_group<A: Archive>(
     ensures space { vec_capacity hand.new ≡ vec_capacity hand.old }
 {
     let shelves = take_shelves(alloc, &table, hand)?;
-    match Followed::start(alloc, number, table, shelves) {
+    match TrackedGroup::start(alloc, number, table, shelves) {
         Ok(group) => {
             let _rules = group.logged();
             Ok(Member { group })

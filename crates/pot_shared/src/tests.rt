@@ -12,7 +12,7 @@ ghost use Rattle.pot_shared.specs.Sharing.{HasAllButKept, IsGroupOf};
 use crate::*;
 use pot_bytes::{Block, Geometry, Name, Place, Rack};
 use pot_doubles::{Loss, LossyArchive};
-use pot_followed::Followed;
+use pot_execution::TrackedGroup;
 use pot_group::{Kind, Looked, Mend, MoveFault, MoveStep, Role, StartRefused, are_homes};
 use pot_index::{FindFault, Index};
 use pot_machine::GroupTable;
@@ -49,7 +49,7 @@ fn member(alloc: Global, rack: &Rack, lost: &[Loss]) -> Result<Member<LossyArchi
     if !are_homes(table.columns(), &shelves) {
         return Err(Fail::from("the table is another one"));
     }
-    match Followed::start(alloc, 0, table, shelves) {
+    match TrackedGroup::start(alloc, 0, table, shelves) {
         Ok(group) => Ok(Member { group }),
         Err(
             StartRefused {

@@ -36,7 +36,7 @@ use Rattle.pot_steps.specs.Law.{StripeLaw, Worse, Repairs, lost_count}
 use Rattle.pot_steps.specs.declared.flight.Flight.{Flight}
 use Rattle.pot_steps.specs.Flight.{FlightLaw, weight, weight_in, left_out, partial_of}
 use Rattle.pot_steps.specs.Flight as flight
-use Rattle.pot_steps.specs.Holdings.{Holdings, HoldsUp, stripe_of}
+use Rattle.pot_steps.specs.Holdings.{Holdings, StripesConsistent, stripe_of}
 use Rattle.pot_steps.specs.Entries.{held_at, LosesAtLive}
 use Rattle.pot_steps.specs.Flights.{Acts, ActKeeps, LossKeepsAll, AreFlights, FliesOver, IsFlying, Stands, FoldsIn, WritesBack, Copies, begun, flight_in, flights_after, flown}
 use Rattle.pot_steps.proofs.BlockLemmas.{IsBlock-xor, IsBlock-scaled}
@@ -486,7 +486,7 @@ good_mended t job s c flights given h h' n legal acts x ln = elim (cases_eq n s)
         over = sym (ap (λ (r : Relay). r.stripe) relay) ∙ over_stripe flights s f e
 
 -- entries that put or break
-good_landed : (t : Table) (e : Entry) (flights : List Flight) (h h' : Holdings) (n : ℕ) → AreFlights t flights → HoldsUp (after t e) h' → relay_at (after t e) n ≡ relay_at t n
+good_landed : (t : Table) (e : Entry) (flights : List Flight) (h h' : Holdings) (n : ℕ) → AreFlights t flights → StripesConsistent (after t e) h' → relay_at (after t e) n ≡ relay_at t n
     → (after t e).data_columns ≡ t.data_columns → (after t e).parity ≡ t.parity → (after t e).stripes ≡ t.stripes → n < t.stripes
     → ((f : Flight) → flight_in flights n ≡ Some f → IsFlying t.data_columns t.parity (stripe_of (after t e) h' n) f)
     → Good t.data_columns t.parity (stripe_of (after t e) h' n) (flight_in flights n)

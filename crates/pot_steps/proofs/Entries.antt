@@ -20,7 +20,7 @@ use Rattle.pot_machine.proofs.Kept.{put_other, put_data, put_parity, put2_other,
 use Rattle.pot_bytes.specs.Digests.{digest_of}
 use Rattle.pot_steps.specs.Stripe.{Stripe, IsOld, IsNew, Puts}
 use Rattle.pot_steps.specs.Law.{StripeLaw, Worse, AllLive}
-use Rattle.pot_steps.specs.Holdings.{Holdings, HoldsUp, stripe_of}
+use Rattle.pot_steps.specs.Holdings.{Holdings, StripesConsistent, stripe_of}
 use Rattle.pot_steps.specs.Entries.{held_at, LosesAtLive, WritesStripe, EntryKeeps, EntryKeepsFlight, LossesKeep}
 use Rattle.pot_steps.proofs.Steps.{worse_keeps, worse_keeps_flight}
 use Rattle.pot_steps.proofs.PutLaw.{put_keeps_law}
@@ -52,7 +52,7 @@ broken (Live d) h = (d, refl)
 broken (Lost d) h = (d, refl)
 broken (Broken d) h = (d, refl)
 
-broke : (t : Table) (h h' : Holdings) (s c n : ℕ) → IsTable t → s < t.stripes → c < width t → TakesBroke t s c → n < t.stripes → LosesAtLive t h h' → HoldsUp t h
+broke : (t : Table) (h h' : Holdings) (s c n : ℕ) → IsTable t → s < t.stripes → c < width t → TakesBroke t s c → n < t.stripes → LosesAtLive t h h' → StripesConsistent t h
     → StripeLaw t.data_columns t.parity (stripe_of (with_slot t s c (broken_of (slot_at t s c))) h' n) (relay_at t n)
 broke t h h' s c n table ls lc takes lt loses up = elim (cases_eq n s) [
   | inl e ↦ subst (λ n. StripeLaw t.data_columns t.parity (stripe_of (with_slot t s c (broken_of (slot_at t s c))) h' n) (relay_at t n)) (sym e)
@@ -131,7 +131,7 @@ module _ (t : Table) (h h' : Holdings) (s c : ℕ) (digest parity_digest : Diges
       (λ k lk. inl (slots k lk)) (λ k b lk void e. sym (w.others n k ln lk (inl ne)) ∙ sym (held k) ∙ e)
 
   put_step : (u : Table) (n : ℕ) → ((n : ℕ) → n < t.stripes → n ≢ s → Worse t.data_columns t.parity (stripe_of t h n) (stripe_of u h' n))
-      → Puts t.data_columns t.parity (stripe_of t h s) (stripe_of u h' s) c block p q → HoldsUp t h → n < t.stripes → StripeLaw t.data_columns t.parity (stripe_of u h' n) (relay_at t n)
+      → Puts t.data_columns t.parity (stripe_of t h s) (stripe_of u h' s) c block p q → StripesConsistent t h → n < t.stripes → StripeLaw t.data_columns t.parity (stripe_of u h' n) (relay_at t n)
   put_step u n others puts up ln = elim (cases_eq n s) [
     | inl e ↦ subst (λ n. StripeLaw t.data_columns t.parity (stripe_of u h' n) (relay_at t n)) (sym e)
         (subst (λ o. StripeLaw t.data_columns t.parity (stripe_of u h' s) o) (sym takes.2.0)
@@ -140,7 +140,7 @@ module _ (t : Table) (h h' : Holdings) (s c : ℕ) (digest parity_digest : Diges
     | inr ne ↦ worse_stripe t (stripe_of t h n) (stripe_of u h' n) (relay_at t n) (others n ln ne) (up n ln)
   ]
 
-  put_holds : t.parity ≡ 1 → HoldsUp t h → HoldsUp (with_put t s c digest parity_digest kept) h'
+  put_holds : t.parity ≡ 1 → StripesConsistent t h → StripesConsistent (with_put t s c digest parity_digest kept) h'
   put_holds single up n ln = put_step (with_put t s c digest parity_digest kept) n
       (λ n ln ne. beside (with_put t s c digest parity_digest kept) n ln ne
       (λ k lk. put_other t s c digest parity_digest kept in_stripe column table.size n k lk (λ e. ne e.0) (λ e. ne e.0)) (λ k. refl))
@@ -178,7 +178,7 @@ module _ (t : Table) (h h' : Holdings) (s c : ℕ) (digest parity_digest : Diges
       other_held = λ k lk ne. w.others s k in_stripe (omega arith) (inr (lk, ne));
     }
 
-    put2_holds : HoldsUp t h → HoldsUp (with_slot (with_put t s c digest parity_digest kept) s (t.data_columns + 1) (parity_slot second_digest kept2)) h'
+    put2_holds : StripesConsistent t h → StripesConsistent (with_slot (with_put t s c digest parity_digest kept) s (t.data_columns + 1) (parity_slot second_digest kept2)) h'
     put2_holds up n ln = put_step both n
         (λ n ln ne. beside both n ln ne
         (λ k lk. second_other n k lk (λ e. ne e.0) ∙ put_other t s c digest parity_digest kept in_stripe column table.size n k lk (λ e. ne e.0) (λ e. ne e.0)) (λ k. refl))

@@ -23,7 +23,7 @@ use Rattle.pot_steps.specs.Holdings.{Holdings, stripe_of}
 use Rattle.pot_steps.specs.Entries.{held_at}
 use Rattle.pot_steps.specs.Losses.{KeepsHeld}
 use Rattle.pot_steps.specs.GroupStep.{GroupState, Settled, Seen, Gone, Faulted, LogFull}
-use Rattle.pot_steps.specs.RelaySteps.{Logged, MendStep, MendAnswer, Began, Went, NoNeed, Stuck, MendOdd, MendFaulted, MendFull, GoesBy, MovesRelay, Unchanged}
+use Rattle.pot_steps.specs.RelaySteps.{Logged, MendStep, MendAnswer, Began, Extends, NoNeed, Stuck, MendOdd, MendFaulted, MendFull, GoesBy, MovesRelay, Unchanged}
 use Rattle.pot_steps.specs.Mending.{LosesNothing, MendedWell, Mends, MendingLaw, mends_needed}
 use Rattle.pot_steps.proofs.Acting.{find_all, slots_less, broken_before, live_of_digest}
 use Rattle.pot_steps.proofs.AheadLemmas.{ahead_few}
@@ -110,7 +110,7 @@ module _ (s c n : ℕ) (test : ℕ → Bool) (old new : GroupState) (settled : S
 
   -- the place's own relay
   goes_own : (job : ℕ) (r : Relay) → relay_at old.table s ≡ Some r → r.target ≡ c → (IsClear old.table r test × (ahead old.table r + 1 ≤ n + 1)) ⊎ (ahead old.table r + old.table.data_columns + 2 ≤ n + 1)
-      → GoesBy job s s c Went old new → Nearer new s c n
+      → GoesBy job s s c Extends old new → Nearer new s c n
   goes_own job r here own calls (inl step) =
       goes_at (after old.table (entry.Hop job s step.0)) step.2.table (goes_own_hop old.table old.held new.held s c n test x settled.table kept r here own calls job step.0
       (some_of (relay_at old.table s) r (λ r. next_column old.table r ≡ Some step.0) step.2.legal.1 here))
@@ -124,7 +124,7 @@ module _ (s c n : ℕ) (test : ℕ → Bool) (old new : GroupState) (settled : S
   goes_own job r here own calls (inr (inr (inr step))) = absurd (step.3 (subst (λ o. IsSomeAnd o (λ r. (s ≡ s) × (r.target ≡ c))) (sym here) (refl, own)))
 
   -- another relay of the stripe
-  goes_other : (job m : ℕ) (r : Relay) → relay_at old.table s ≡ Some r → r.target ≢ c → Enough old.table s c test m → ahead old.table r + 1 + m ≤ n + 1 → GoesBy job s s c Went old new → Nearer new s c n
+  goes_other : (job m : ℕ) (r : Relay) → relay_at old.table s ≡ Some r → r.target ≢ c → Enough old.table s c test m → ahead old.table r + 1 + m ≤ n + 1 → GoesBy job s s c Extends old new → Nearer new s c n
   goes_other job m r here other enough calls (inl step) =
       goes_at (after old.table (entry.Hop job s step.0)) step.2.table (goes_other_hop old.table old.held new.held s c n test x settled.table kept m enough r here other calls job step.0
       (some_of (relay_at old.table s) r (λ r. next_column old.table r ≡ Some step.0) step.2.legal.1 here))
@@ -140,7 +140,7 @@ module _ (s c n : ℕ) (test : ℕ → Bool) (old new : GroupState) (settled : S
 
   -- the first relay of all
   goes_first : (job m : ℕ) → relay_at old.table s ≡ None → length old.table.relays ≡ 16 → Enough old.table s c test m → ahead old.table (first_of old.table.relays) + 1 + m ≤ n + 1
-      → GoesBy job (first_of old.table.relays).stripe s c Went old new → Nearer new s c n
+      → GoesBy job (first_of old.table.relays).stripe s c Extends old new → Nearer new s c n
   goes_first job m none full enough calls (inl step) =
       goes_at (after old.table (entry.Hop job (first_of old.table.relays).stripe step.0)) step.2.table (goes_first_hop old.table old.held new.held s c n test x settled.table kept m enough none full calls job step.0
       (some_of (relay_at old.table (first_of old.table.relays).stripe) (first_of old.table.relays) (λ r. next_column old.table r ≡ Some step.0) step.2.legal.1 (first_stands old.table.relays (some full))))
@@ -163,15 +163,15 @@ module _ (s c n : ℕ) (test : ℕ → Bool) (old new : GroupState) (settled : S
       (goes_first_oddly old.table old.held new.held s c n test x settled.table kept m enough none full calls job step.2.0 step.1)
 
   -- the relay that a mend moves
-  went : (job k : ℕ) → Left old.table s c test (n + 1) → MovesRelay old.table s c k → GoesBy job k s c Went old new → Nearer new s c n
-  went job k (Own r here own calls) (inl m) g = goes_own job r here own calls (subst (λ k. GoesBy job k s c Went old new) m.1 g)
+  went : (job k : ℕ) → Left old.table s c test (n + 1) → MovesRelay old.table s c k → GoesBy job k s c Extends old new → Nearer new s c n
+  went job k (Own r here own calls) (inl m) g = goes_own job r here own calls (subst (λ k. GoesBy job k s c Extends old new) m.1 g)
   went job k (Own r here own calls) (inr m) g = absurd (some_none r (sym here ∙ m.0))
-  went job k (Other r a here other enough calls) (inl m) g = goes_other job a r here other enough calls (subst (λ k. GoesBy job k s c Went old new) m.1 g)
+  went job k (Other r a here other enough calls) (inl m) g = goes_other job a r here other enough calls (subst (λ k. GoesBy job k s c Extends old new) m.1 g)
   went job k (Other r a here other enough calls) (inr m) g = absurd (some_none r (sym here ∙ m.0))
   went job k (Free none few enough) (inl m) g = absurd (m.0 none)
   went job k (Free none few enough) (inr m) g = absurd (few m.2)
   went job k (Crowded a none full enough calls) (inl m) g = absurd (m.0 none)
-  went job k (Crowded a none full enough calls) (inr m) g = goes_first job a none full enough calls (subst (λ k. GoesBy job k s c Went old new) m.3 g)
+  went job k (Crowded a none full enough calls) (inr m) g = goes_first job a none full enough calls (subst (λ k. GoesBy job k s c Extends old new) m.3 g)
 
   -- a relay of the place does not end oddly
   not_odd : (job k : ℕ) (wanted found : Digest) (o : Option Relay) → relay_at old.table k ≡ o → GoesBy job k s c (MendOdd wanted found) old new → ⊥
@@ -188,7 +188,7 @@ module _ (s c n : ℕ) (test : ℕ → Bool) (old new : GroupState) (settled : S
   nearer job blind MendFull left step well = absurd well
   nearer job blind (MendFaulted d) left step well = absurd well
   nearer job blind (MendOdd wanted found) left step well = absurd (not_odd job step.1.0 wanted found (relay_at old.table step.1.0) refl step.1.2)
-  nearer job blind Went left step well = went job step.1.0 left step.1.1 step.1.2
+  nearer job blind Extends left step well = went job step.1.0 left step.1.1 step.1.2
 
 -- a place that is sound stays so
 sound_live : (g : GroupState) (s c : ℕ) → Sound (stripe_of g.table g.held s) c → is_unsound (slot_at g.table s c) ≡ true → ⊥
@@ -223,7 +223,7 @@ stays job s c blind (Stuck a b) old new y step well = absurd (sound_live old s c
 stays job s c blind MendFull old new y step well = absurd well
 stays job s c blind (MendFaulted d) old new y step well = absurd well
 stays job s c blind (MendOdd wanted found) old new y step well = absurd (sound_live old s c y step.0)
-stays job s c blind Went old new y step well = absurd (sound_live old s c y step.0)
+stays job s c blind Extends old new y step well = absurd (sound_live old s c y step.0)
 
 -- MANY CALLS
 

@@ -17,7 +17,7 @@ use Rattle.pot_machine.proofs.Kept.{after_keeps}
 use Rattle.pot_steps.specs.Stripe.{Sound, IsSound, HasFilling}
 use Rattle.pot_steps.specs.Law.{StripeLaw, FindsUnsound}
 use Rattle.pot_steps.specs.Flights.{FliesOver, flight_in}
-use Rattle.pot_steps.specs.Holdings.{HoldsUp, stripe_of}
+use Rattle.pot_steps.specs.Holdings.{StripesConsistent, stripe_of}
 use Rattle.pot_steps.specs.GroupStep.{GroupState, StartStep, StartMakes, as_read, entries_where, opening}
 use Rattle.pot_steps.proofs.Steps.{filling_stays}
 use Rattle.pot_steps.proofs.Entries.{broken}
@@ -340,7 +340,7 @@ pub start_makes : StartMakes
 start_makes old new st table = record {
   table = (result old new st table).table;
   relays = ap (map (λ f. f.relay)) none ∙ sym (ap (λ t. t.relays) (result old new st table).shape ∙ st.no_relays);
-  holds = subst (λ v. HoldsUp v new.held) (sym (result old new st table).shape) (λ s ls. law old new st table s ls);
+  holds = subst (λ v. StripesConsistent v new.held) (sym (result old new st table).shape) (λ s ls. law old new st table s ls);
   flying = λ s ls. subst (λ fs. FliesOver new.table.data_columns new.table.parity (stripe_of new.table new.held s) (flight_in fs s)) (sym none) tt;
 }
   where

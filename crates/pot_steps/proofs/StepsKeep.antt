@@ -7,7 +7,7 @@ use Rattle.pot_steps.specs.Holdings.{Holdings}
 use Rattle.pot_steps.specs.Entries.{LosesAtLive}
 use Rattle.pot_steps.specs.Flights.{Stands, flights_after}
 use Rattle.pot_steps.specs.GroupStep.{GroupState, LosesBlocks, FullStep, Settled}
-use Rattle.pot_steps.specs.RelaySteps.{LoggedKeeps, Unchanged, BeginStepKeeps, AdvanceStepKeeps, MendStepKeeps, GoesBy, MendAnswer, Begun, NoRoom, Whole, Standing, TwoGone, Crowded, Hopped, Mended, Ended, Odd, Faulted, Idle, LogFull, Began, Went, NoNeed, Stuck, MendOdd, MendFaulted, MendFull}
+use Rattle.pot_steps.specs.RelaySteps.{LoggedKeeps, Unchanged, BeginStepKeeps, AdvanceStepKeeps, MendStepKeeps, GoesBy, MendAnswer, Begun, NoRoom, Whole, Standing, TwoGone, Crowded, Hopped, Mended, Ended, Odd, Faulted, Idle, LogFull, Began, Extends, NoNeed, Stuck, MendOdd, MendFaulted, MendFull}
 use Rattle.pot_steps.specs.MoveSteps.{BringStepKeeps, MoveStepKeeps, Copied, Passed, MoveEnded, MoveFaulted, MoveIdle, MoveFull}
 use Rattle.pot_steps.proofs.Acting.{act_keeps, loss_keeps_all}
 
@@ -48,10 +48,10 @@ advance_step_keeps job s Idle old new step x = unchanged old new step.0 x
 advance_step_keeps job s LogFull old new step x = full old new step x
 
 goes_keeps : (job n s c : ℕ) (answer : MendAnswer) (old new : GroupState) → GoesBy job n s c answer old new → Settled old → Settled new
-goes_keeps job n s c Went old new (inl step) x = advance_step_keeps job n Hopped old new step x
-goes_keeps job n s c Went old new (inr (inl step)) x = advance_step_keeps job n Mended old new step x
-goes_keeps job n s c Went old new (inr (inr (inl step))) x = advance_step_keeps job n Ended old new step x
-goes_keeps job n s c Went old new (inr (inr (inr step))) x = advance_step_keeps job n (Odd step.0 step.1) old new step.2 x
+goes_keeps job n s c Extends old new (inl step) x = advance_step_keeps job n Hopped old new step x
+goes_keeps job n s c Extends old new (inr (inl step)) x = advance_step_keeps job n Mended old new step x
+goes_keeps job n s c Extends old new (inr (inr (inl step))) x = advance_step_keeps job n Ended old new step x
+goes_keeps job n s c Extends old new (inr (inr (inr step))) x = advance_step_keeps job n (Odd step.0 step.1) old new step.2 x
 goes_keeps job n s c (MendOdd wanted found) old new step x = advance_step_keeps job n (Odd wanted found) old new step.0 x
 goes_keeps job n s c (MendFaulted column) old new step x = advance_step_keeps job n (Faulted column) old new step x
 goes_keeps job n s c _ old new step x = absurd step
@@ -61,7 +61,7 @@ mend_step_keeps job s c blind Began old new step x = begin_step_keeps job s c bl
 mend_step_keeps job s c blind NoNeed old new step x = begin_step_keeps job s c blind Whole old new step x
 mend_step_keeps job s c blind (Stuck first second) old new step x = begin_step_keeps job s c blind (TwoGone first second) old new step x
 mend_step_keeps job s c blind MendFull old new step x = full old new step x
-mend_step_keeps job s c blind Went old new step x = goes_keeps job step.1.0 s c Went old new step.1.2 x
+mend_step_keeps job s c blind Extends old new step x = goes_keeps job step.1.0 s c Extends old new step.1.2 x
 mend_step_keeps job s c blind (MendOdd wanted found) old new step x = goes_keeps job step.1.0 s c (MendOdd wanted found) old new step.1.2 x
 mend_step_keeps job s c blind (MendFaulted column) old new step x = goes_keeps job step.1.0 s c (MendFaulted column) old new step.1.2 x
 

@@ -15,7 +15,7 @@ use Rattle.pot_bytes.specs.Lists.{IsBlock}
 use Rattle.pot_bytes.specs.Digests.{digest_of}
 use Rattle.pot_steps.specs.Stripe.{IsOld}
 use Rattle.pot_steps.specs.Flight.{FlightLaw}
-use Rattle.pot_steps.specs.Holdings.{Holdings, HoldsUp, stripe_of}
+use Rattle.pot_steps.specs.Holdings.{Holdings, StripesConsistent, stripe_of}
 
 -- the block held at a place
 abbrev pub held_at : Table → Holdings → ℕ → ℕ → Option (List ℕ)
@@ -65,11 +65,11 @@ Enters t _ h h' = ⊥
 abbrev pub EntryKeeps : Type 0
 EntryKeeps =
     (t : Table) (e : Entry) (h h' : Holdings) → IsTable t → Legal t e → Enters t e h h'
-    → HoldsUp t h → HoldsUp (after t e) h'
+    → StripesConsistent t h → StripesConsistent (after t e) h'
 
 -- and so does any loss
 abbrev pub LossesKeep : Type 0
-LossesKeep = (t : Table) (h h' : Holdings) → LosesAtLive t h h' → HoldsUp t h → HoldsUp t h'
+LossesKeep = (t : Table) (h h' : Holdings) → LosesAtLive t h h' → StripesConsistent t h → StripesConsistent t h'
 
 -- it keeps the flight of a relay that stands, but for a Broke in its stripe, which the opening
 -- alone logs, before any relay

@@ -21,7 +21,7 @@ use Rattle.pot_bytes.specs.Digests.{digest_of}
 use Rattle.pot_steps.specs.Stripe.{Stripe, IsSound, NoneBroken}
 use Rattle.pot_steps.specs.declared.flight.Flight.{Flight}
 use Rattle.pot_steps.specs.Flight.{FlightLaw, partial_of, weight_in}
-use Rattle.pot_steps.specs.Holdings.{Holdings, HoldsUp, stripe_of}
+use Rattle.pot_steps.specs.Holdings.{Holdings, StripesConsistent, stripe_of}
 use Rattle.pot_steps.specs.Entries.{LosesAtLive, Enters, held_at}
 
 -- the flight over a stripe
@@ -130,7 +130,7 @@ FlightsHold t h flights =
 pub record Stands (t : Table) (h : Holdings) (flights : List Flight) : Type 0 where
   pub table : IsTable t
   pub relays : AreFlights t flights
-  pub holds : HoldsUp t h
+  pub holds : StripesConsistent t h
   pub flying : FlightsHold t h flights
 
 -- each entry keeps all of it, wherever relays stand

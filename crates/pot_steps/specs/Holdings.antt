@@ -14,8 +14,8 @@ abbrev pub stripe_of : Table → Holdings → ℕ → Stripe
 stripe_of t h s = record { slots = λ c. slot_at t s c; held = λ c. h (serving_at t s c) s }
 
 -- the law of every stripe
-abbrev pub HoldsUp : Table → Holdings → Type 0
-HoldsUp t h =
+abbrev pub StripesConsistent : Table → Holdings → Type 0
+StripesConsistent t h =
     (s : ℕ) → s < t.stripes → StripeLaw t.data_columns t.parity (stripe_of t h s) (relay_at t s)
 
 -- A Live slot is sound, or the count of losses of the archive that serves it rose since the group

@@ -146,7 +146,7 @@ AdvanceStep job s LogFull old new = FullStep old new
 
 pub data MendAnswer : Type 0 where
   Began : MendAnswer
-  Went : MendAnswer
+  Extends : MendAnswer
   NoNeed : MendAnswer
   Stuck : (first second : ℕ) → MendAnswer
   MendOdd : (wanted found : Digest) → MendAnswer
@@ -155,7 +155,7 @@ pub data MendAnswer : Type 0 where
 
 -- an advance over this stripe, asked for by a mend of that place
 abbrev pub GoesBy : ℕ → ℕ → ℕ → ℕ → MendAnswer → GroupState → GroupState → Type 0
-GoesBy job n s c Went old new =
+GoesBy job n s c Extends old new =
     AdvanceStep job n Hopped old new
     ⊎ (AdvanceStep job n Mended old new ⊎ (AdvanceStep job n Ended old new
     ⊎ ((wanted found : Digest) × AdvanceStep job n (Odd wanted found) old new

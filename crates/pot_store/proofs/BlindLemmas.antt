@@ -19,7 +19,7 @@ use Rattle.pot_index.specs.declared.record.Split.{Split}
 use Rattle.pot_pads.specs.Pads.{Pads}
 use Rattle.pot_replies.specs.Stores.{IsUnkept, Placed, Puts, in_group}
 use Rattle.pot_rows.specs.Rows.{view_at}
-use Rattle.pot_rows.specs.Works.{RowWorked}
+use Rattle.pot_rows.specs.Works.{RowWroteOnlyFor}
 use Rattle.pot_shared.specs.declared.mending.Mending.{Mending}
 use Rattle.pot_shared.specs.MendCalls.{MendsPlace}
 use Rattle.pot_shared.specs.Members.{entries_of}
@@ -110,7 +110,7 @@ module _ (rack : Rack) (geometry : Geometry) (job : ℕ) where
       (λ (ne : group ≢ g). puts_begin job (in_group g end.placed) (own job (gained old new g)) (end.puts g ne))
       (cases_eq group g)
 
-  module _ (file : List ℕ) (pads : Pads) (old new : GroupPasses) (worked : RowWorked (of_job job) old new) where
+  module _ (file : List ℕ) (pads : Pads) (old new : GroupPasses) (worked : RowWroteOnlyFor (of_job job) old new) where
     none_stop : (e : RenewFileFault) → StopsAt rack geometry job file pads e old new → BeganNone job old new
     none_stop e stop = record { worked = worked; none = λ alone g. none_end (blocks_from geometry file pads) stop.group stop.cause old new (stop.ends alone) g }
 

@@ -19,7 +19,7 @@ use Rattle.pot_group.specs.declared.answers.PutFault.TheVariants as fault
 use Rattle.pot_index.specs.Fits.{group_of}
 use Rattle.pot_turn.specs.declared.name.TurnName.{TurnName}
 use Rattle.pot_rows.specs.Rows.{view_at}
-use Rattle.pot_rows.specs.Works.{RowWorked, RowAlone}
+use Rattle.pot_rows.specs.Works.{RowWroteOnlyFor, RowOnlyWriterOf}
 use Rattle.pot_rows.proofs.WorkLemmas.{row_work_in_parts, row_alone_in_parts}
 use Rattle.pot_replies.specs.Renewals.{IsPutFault}
 use Rattle.pot_replies.specs.Stores.{Puts, in_group, IsUnkept}
@@ -178,7 +178,7 @@ ends_put rack names told job v w group block (fault.Faulted column) ready lt cal
         (passed, _, is, inr (not_kept rack names told job v w group block (fault.Faulted column) ready lt call s c column p q kept kept2 column_is unkept))
 
 pub refused_work : (rack : Rack) (names : List TurnName) (told : Type 0) (job : ℕ) (u v w : GroupPasses) (group : ℕ) (block : List ℕ) (cause : PutFault)
-    → AreReady rack names v → group < length names → CallAt told (PutCall told job block (Err cause)) group v w → RowWorked (of_job job) u v → RowWorked (of_job job) u w
+    → AreReady rack names v → group < length names → CallAt told (PutCall told job block (Err cause)) group v w → RowWroteOnlyFor (of_job job) u v → RowWroteOnlyFor (of_job job) u w
 refused_work rack names told job u v w group block cause ready lt call worked =
     let R = PutCall told job block (Err cause) in
     let in_views = within rack names told job v w group block cause ready lt call in
@@ -188,7 +188,7 @@ refused_work rack names told job u v w group block cause ready lt call worked =
 pub puts_end : (rack : Rack) (geometry : Geometry) (names : List TurnName) (told : Type 0) (job : ℕ) (u v w : GroupPasses) (group : ℕ) (block : List ℕ) (cause : PutFault)
     → AreReady rack names v → group < length names → CallAt told (PutCall told job block (Err cause)) group v w
     → (blocks : List (List ℕ)) (places : List Place) → ArePut rack geometry job blocks places u v → slice_get blocks (length places) ≡ Some block → group ≡ group_of rack geometry (length places)
-    → u.names ≡ names → RowAlone (of_job job) u w → PutsEnd rack geometry job blocks group cause u w
+    → u.names ≡ names → RowOnlyWriterOf (of_job job) u w → PutsEnd rack geometry job blocks group cause u w
 puts_end rack geometry names told job u v w group block cause ready lt call blocks places sofar is at_group named alone =
     let R = PutCall told job block (Err cause) in
     let in_views = within rack names told job v w group block cause ready lt call in

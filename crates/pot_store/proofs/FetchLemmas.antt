@@ -25,9 +25,9 @@ use Rattle.pot_index.specs.Entries.{plain, bringing}
 use Rattle.pot_index.specs.Fits.{FitsRack}
 use Rattle.pot_index.specs.Index.{IsRecordOf}
 use Rattle.pot_turn.specs.declared.name.TurnName.{TurnName}
-use Rattle.pot_worked.specs.Worked.{added}
+use Rattle.pot_worked.specs.WroteOnlyFor.{added}
 use Rattle.pot_rows.specs.Rows.{view_at}
-use Rattle.pot_rows.specs.Works.{RowWorked, RowAlone}
+use Rattle.pot_rows.specs.Works.{RowWroteOnlyFor, RowOnlyWriterOf}
 use Rattle.pot_rows.proofs.WorkLemmas.{row_work_in_parts, row_alone_in_parts}
 use Rattle.pot_replies.specs.Sections.{Section}
 use Rattle.pot_replies.specs.Settings.{Setting}
@@ -39,7 +39,7 @@ use Rattle.pot_shared.specs.Catalogs.{IndexPasses, IsIndexReady, Publishes}
 use Rattle.pot_shared.specs.IndexCalls.{IndexCall, FindsRecord}
 use Rattle.pot_store.specs.declared.fetching.FetchFault.{FetchFault}
 use Rattle.pot_store.specs.declared.fetching.FetchFault.TheVariants as fault
-use Rattle.pot_shared.specs.Works.{of_job, gained, known, section_of, JobWorked, JobAlone, IsSettingOf}
+use Rattle.pot_shared.specs.Works.{of_job, gained, known, section_of, JobWroteOnly, JobOnlyWriter, IsSettingOf}
 use Rattle.pot_store.specs.Visits.{Seen, Lost, Visit, IsReadAt, EndsGone, visit_at, came_at, place_in, logged_from, seen_in}
 use Rattle.pot_store.specs.Stored.{blocks_in, IsStoredAs, IsReadOf, FetchGives}
 use Rattle.pot_store.specs.Reads.{IsMade, AreMade, AreHad, IsStopped, IsFileIn, EndsFetch}
@@ -61,13 +61,13 @@ use Rattle.pot_store.proofs.SearchLemmas.{search_work, search_own, search_gain, 
 module _ (job : ℕ) (name : List ℕ) (rack : Rack) (names turn : List TurnName) (u v w : GroupPasses) (ui wi : IndexPasses) (kept : Record)
     (ready : AreReady rack names u) (count : length names ≡ rack.groups) (index_ready : IsIndexReady rack names turn ui) (knows : RowKnowsMore u v)
     (call : IndexCall (FindsRecord job name (Ok kept) v) ui wi) (visits : List Visit) (reads : AreMade job kept.places 0 visits v w) where
-  tied : RowWorked (of_job job) u v
+  tied : RowWroteOnlyFor (of_job job) u v
   tied = known_work job rack names u v ready knows
 
-  groups_work : RowWorked (of_job job) u w
+  groups_work : RowWroteOnlyFor (of_job job) u w
   groups_work = row_work_in_parts (of_job job) u v w tied reads.worked
 
-  pub all_work : JobWorked job (known u ui) (known w wi)
+  pub all_work : JobWroteOnly job (known u ui) (known w wi)
   all_work = record { groups = groups_work; index = search_work job name rack names turn ui wi v (Ok kept) index_ready call }
 
   abbrev all : Section
@@ -85,8 +85,8 @@ module _ (job : ℕ) (name : List ℕ) (rack : Rack) (names turn : List TurnName
       let d = ap length (groups_work g).seen ∙ length-append (view_at u g).seen (added (view_at u g) (view_at w g)) in
       omega (arith, a, b, c, d)
 
-  module _ (alone : JobAlone job (known u ui) (known w wi)) (s : Setting) (set : IsSettingOf s rack (known u ui)) (mends : s.mends ≡ true) (filled : AreFilled s) where
-    parts : RowAlone (of_job job) u v × RowAlone (of_job job) v w
+  module _ (alone : JobOnlyWriter job (known u ui) (known w wi)) (s : Setting) (set : IsSettingOf s rack (known u ui)) (mends : s.mends ≡ true) (filled : AreFilled s) where
+    parts : RowOnlyWriterOf (of_job job) u v × RowOnlyWriterOf (of_job job) v w
     parts = row_alone_in_parts (of_job job) u v w tied reads.worked alone.groups
 
     pub logs : (g : ℕ) → own job (all.added g) ≡ logged_from kept.places g 0 visits
@@ -212,7 +212,7 @@ module _ (job : ℕ) (name : List ℕ) (rack : Rack) (names turn : List TurnName
         let gain = search_gain job name rack names turn ui wi v (Ok kept) index_ready call in
         let log : all.index_before ++ all.index_added ≡ call.turn.old.log ++ plain (Find job name true) ∷ [] =
         ap (λ l. all.index_before ++ l) gain
-        ∙ (sym (append_assoc all.index_before call.turn.others (plain (Find job name true) ∷ [])) ∙ ap (λ l. l ++ plain (Find job name true) ∷ []) (sym call.turn.met)) in
+        ∙ (sym (append_assoc all.index_before call.turn.others (plain (Find job name true) ∷ [])) ∙ ap (λ l. l ++ plain (Find job name true) ∷ []) (sym call.turn.transition)) in
         let it : Logged = bringing e kept in
         let has : Contains (all.index_before ++ all.index_added) it =
         subst (λ l. Contains l it) (append_assoc all.index_before found.sofar (plain (Find job name true) ∷ found.later) ∙ ap (λ l. all.index_before ++ l) (sym found.at))

@@ -15,13 +15,13 @@ use Rattle.pot_index.specs.Entries as index
 use Rattle.pot_index.specs.Entries.{plain, bringing, entries, IsReserving, IsEnding}
 use Rattle.pot_index.specs.Index.{IndexView, Names, Replays, after}
 use Rattle.pot_index.specs.Records.{mark_of}
-use Rattle.pot_worked.specs.Worked.{added}
+use Rattle.pot_worked.specs.WroteOnlyFor.{added}
 use Rattle.pot_worked.specs.Laws.{AllOf}
-use Rattle.pot_worked.proofs.WorkedLemmas.{behind}
+use Rattle.pot_worked.proofs.WroteOnlyForLemmas.{behind}
 use Rattle.pot_rows.specs.Rows.{view_at}
 use Rattle.pot_rows.proofs.RowLemmas.{at_set}
 use Rattle.pot_replies.specs.Sections.{names_after}
-use Rattle.pot_shared.specs.declared.catalog.Strange.{Strange}
+use Rattle.pot_shared.specs.declared.catalog.ReservationLost.{ReservationLost}
 use Rattle.pot_shared.specs.Catalogs.{IndexPass, IndexPasses}
 use Rattle.pot_shared.specs.IndexCalls.{IndexCall, ReservesName, Abandons, PublishesRecord}
 use Rattle.pot_shared.proofs.WorkLemmas.{all_none, all_one}
@@ -63,34 +63,34 @@ all_reserve job name result s t es call log = subst (λ xs. AllOf (index.is_of j
 
 -- PUBLISH AND ABANDON
 
-abbrev pub publish_entries : ℕ → Record → Result (Unit {0}) Strange → List Logged
+abbrev pub publish_entries : ℕ → Record → Result (Unit {0}) ReservationLost → List Logged
 publish_entries job r (Ok u) = bringing (entry.Publish job r.name (mark_of r)) r ∷ []
 publish_entries job r (Err e) = []
 
-pub publish_adds : (job : ℕ) (r : Record) (result : Result (Unit {0}) Strange) (s t : IndexView) (es : List Logged) → PublishesRecord job r result s t → t.log ≡ s.log ++ es → es ≡ publish_entries job r result
+pub publish_adds : (job : ℕ) (r : Record) (result : Result (Unit {0}) ReservationLost) (s t : IndexView) (es : List Logged) → PublishesRecord job r result s t → t.log ≡ s.log ++ es → es ≡ publish_entries job r result
 publish_adds job r (Ok u) s t es (reserved, is) log = same_added s.log es _ (sym (ap (λ (i : IndexView). i.log) is) ∙ log)
 publish_adds job r (Err e) s t es (is, not, ended) log = none_added s.log es (sym (ap (λ (i : IndexView). i.log) is) ∙ log)
 
-publish_of : (job : ℕ) (r : Record) (result : Result (Unit {0}) Strange) → AllOf (index.is_of job) (publish_entries job r result)
+publish_of : (job : ℕ) (r : Record) (result : Result (Unit {0}) ReservationLost) → AllOf (index.is_of job) (publish_entries job r result)
 publish_of job r (Ok u) = all_one (index.is_of job) (bringing (entry.Publish job r.name (mark_of r)) r) (eq-eqb job job refl)
 publish_of job r (Err e) = all_none (index.is_of job)
 
-pub all_publish : (job : ℕ) (r : Record) (result : Result (Unit {0}) Strange) (s t : IndexView) (es : List Logged) → PublishesRecord job r result s t → t.log ≡ s.log ++ es → AllOf (index.is_of job) es
+pub all_publish : (job : ℕ) (r : Record) (result : Result (Unit {0}) ReservationLost) (s t : IndexView) (es : List Logged) → PublishesRecord job r result s t → t.log ≡ s.log ++ es → AllOf (index.is_of job) es
 all_publish job r result s t es call log = subst (λ xs. AllOf (index.is_of job) xs) (sym (publish_adds job r result s t es call log)) (publish_of job r result)
 
-abbrev pub abandon_entries : ℕ → List ℕ → Result (Unit {0}) Strange → List Logged
+abbrev pub abandon_entries : ℕ → List ℕ → Result (Unit {0}) ReservationLost → List Logged
 abandon_entries job name (Ok u) = plain (entry.Abandon job name) ∷ []
 abandon_entries job name (Err e) = []
 
-pub abandon_adds : (job : ℕ) (name : List ℕ) (result : Result (Unit {0}) Strange) (s t : IndexView) (es : List Logged) → Abandons job name result s t → t.log ≡ s.log ++ es → es ≡ abandon_entries job name result
+pub abandon_adds : (job : ℕ) (name : List ℕ) (result : Result (Unit {0}) ReservationLost) (s t : IndexView) (es : List Logged) → Abandons job name result s t → t.log ≡ s.log ++ es → es ≡ abandon_entries job name result
 abandon_adds job name (Ok u) s t es (reserved, is) log = same_added s.log es _ (sym (ap (λ (i : IndexView). i.log) is) ∙ log)
 abandon_adds job name (Err e) s t es (is, not, ended) log = none_added s.log es (sym (ap (λ (i : IndexView). i.log) is) ∙ log)
 
-abandon_of : (job : ℕ) (name : List ℕ) (result : Result (Unit {0}) Strange) → AllOf (index.is_of job) (abandon_entries job name result)
+abandon_of : (job : ℕ) (name : List ℕ) (result : Result (Unit {0}) ReservationLost) → AllOf (index.is_of job) (abandon_entries job name result)
 abandon_of job name (Ok u) = all_one (index.is_of job) (plain (entry.Abandon job name)) (eq-eqb job job refl)
 abandon_of job name (Err e) = all_none (index.is_of job)
 
-pub all_abandon : (job : ℕ) (name : List ℕ) (result : Result (Unit {0}) Strange) (s t : IndexView) (es : List Logged) → Abandons job name result s t → t.log ≡ s.log ++ es → AllOf (index.is_of job) es
+pub all_abandon : (job : ℕ) (name : List ℕ) (result : Result (Unit {0}) ReservationLost) (s t : IndexView) (es : List Logged) → Abandons job name result s t → t.log ≡ s.log ++ es → AllOf (index.is_of job) es
 all_abandon job name result s t es call log = subst (λ xs. AllOf (index.is_of job) xs) (sym (abandon_adds job name result s t es call log)) (abandon_of job name result)
 
 -- A RESERVATION THAT NOBODY ELSE ENDED

@@ -24,7 +24,7 @@ use Rattle.pot_index.specs.declared.record.Record.{Record}
 use Rattle.pot_index.specs.Fits.{FitsGeometry, FitsRack, FitsSplit, FitsPlace}
 use Rattle.pot_turn.specs.declared.name.TurnName.{TurnName}
 use Rattle.pot_rows.specs.Rows.{HasMoreParts}
-use Rattle.pot_rows.specs.Works.{RowWorked}
+use Rattle.pot_rows.specs.Works.{RowWroteOnlyFor}
 use Rattle.pot_rows.proofs.Lists.{get_or_last}
 use Rattle.pot_replies.specs.Stores.{Placed, place_of}
 use Rattle.pot_shared.specs.Ready.{GroupPasses, AreReady}
@@ -63,7 +63,7 @@ any_last job name xs =
     (length xs, entry.Reserve job name, (let l = length-append xs (entry.Reserve job name ∷ []) in omega (arith, l)), get_or_last xs (entry.Reserve job name) (entry.Reserve job name), (refl, refl))
 
 -- the passes have as many parts as before
-pub more_parts : (n job : ℕ) (rack : Rack) (names : List TurnName) (old new : GroupPasses) → AreReady rack names old → AreReady rack names new → RowWorked (of_job job) old new
+pub more_parts : (n job : ℕ) (rack : Rack) (names : List TurnName) (old new : GroupPasses) → AreReady rack names old → AreReady rack names new → RowWroteOnlyFor (of_job job) old new
     → HasMoreParts n old → HasMoreParts n new
 more_parts n job rack names old new ready ready2 worked parts at lt =
     let p = parts at (let a = ap length ready.of.0 in let b = ap length ready2.of.0 in omega (arith, lt, a, b)) in

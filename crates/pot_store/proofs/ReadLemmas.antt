@@ -15,10 +15,10 @@ use Rattle.pot_machine.specs.Machine.{Replays}
 use Rattle.pot_machine.specs.Table.{slot_at}
 use Rattle.pot_machine.specs.Logs.{is_of, own, replayed}
 use Rattle.pot_bytes.specs.Digests.{digest_of}
-use Rattle.pot_worked.specs.Worked.{added}
-use Rattle.pot_worked.proofs.WorkedLemmas.{both_added}
+use Rattle.pot_worked.specs.WroteOnlyFor.{added}
+use Rattle.pot_worked.proofs.WroteOnlyForLemmas.{both_added}
 use Rattle.pot_rows.specs.Rows.{view_at}
-use Rattle.pot_rows.specs.Works.{RowWorked, RowAlone, AllIdle}
+use Rattle.pot_rows.specs.Works.{RowWroteOnlyFor, RowOnlyWriterOf, AllIdle}
 use Rattle.pot_rows.proofs.WorkLemmas.{row_work_in_parts, row_alone_in_parts}
 use Rattle.pot_shared.specs.Members.{entries_of}
 use Rattle.pot_shared.specs.Ready.{GroupPasses}
@@ -57,7 +57,7 @@ pub record GoesOn (job : ℕ) (p : Place) (before : List Entry) (v : Visit) (old
 
 -- ONE PART AND THE NEXT
 
-module _ (job : ℕ) (u v w : GroupPasses) (first : RowWorked (of_job job) u v) (next : RowWorked (of_job job) v w) where
+module _ (job : ℕ) (u v w : GroupPasses) (first : RowWroteOnlyFor (of_job job) u v) (next : RowWroteOnlyFor (of_job job) v w) where
   pub both_gained : (g : ℕ) → gained u w g ≡ gained u v g ++ gained v w g
   both_gained g =
       ap entries_of (both_added (of_job job) (view_at u g) (view_at v g) (view_at w g) (first g) (next g))
@@ -189,7 +189,7 @@ module _ (job : ℕ) (u v w : GroupPasses) (places : List Place) (from : ℕ) (v
   abbrev gone : Entry
   gone = entry.Gone job p.stripe p.column
 
-  own_set : RowAlone (of_job job) u w → (g : ℕ) → own job (gained u w g) ≡ logged_from places g from (slice_set vs x new)
+  own_set : RowOnlyWriterOf (of_job job) u w → (g : ℕ) → own job (gained u w g) ≡ logged_from places g from (slice_set vs x new)
   own_set alone g =
       let parts = row_alone_in_parts (of_job job) u v w reads.worked on.adds.worked alone in
       own_more job u v w reads.worked on.adds.worked g
@@ -204,7 +204,7 @@ module _ (job : ℕ) (u v w : GroupPasses) (places : List Place) (from : ℕ) (v
       (cases_eq p.group g))
 
   -- the Gone of before stands in what the first part gained
-  gone_there : RowAlone (of_job job) u v → Contains (visit_at vs x).entries gone → Contains (gained u v p.group) gone
+  gone_there : RowOnlyWriterOf (of_job job) u v → Contains (visit_at vs x).entries gone → Contains (gained u v p.group) gone
   gone_there alone has =
       let last = logged_last places p.group from vs x lt refl later in
       from_filter (is_of job) (gained u v p.group) gone

@@ -197,9 +197,9 @@ turn_step told job p blind mend.Began v w go t = (
   t.call.tells.0,
   record { own = eq-eqb job job refl; may = (refl, refl, refl); no_look = refl; no_seen = refl; no_stuck = refl; no_oddly = refl },
 )
-turn_step told job p blind mend.Went v w go t =
+turn_step told job p blind mend.Extends v w go t =
     let (d, m) = t.call.tells.1 in
-    went_step told job p t.old t.settled_old d.stripe t.entries mend.Went tt d.own d.owns d.result d.is m
+    went_step told job p t.old t.settled_old d.stripe t.entries mend.Extends tt d.own d.owns d.result d.is m
 turn_step told job p blind mend.Mended v w go t =
     let (d, m) = t.call.tells.1 in
     went_step told job p t.old t.settled_old d.stripe t.entries mend.Mended tt d.own d.owns d.result d.is m

@@ -42,14 +42,14 @@ use Rattle.pot_index.proofs.NamesKept.{went_on, leads_once}
 use Rattle.pot_index.proofs.RecordLaws.{one_record, splits_stay}
 use Rattle.pot_index.specs.Records.{mark_of, renewed}
 use Rattle.pot_turn.specs.declared.name.TurnName.{TurnName}
-use Rattle.pot_worked.specs.Worked.{added}
+use Rattle.pot_worked.specs.WroteOnlyFor.{added}
 use Rattle.pot_worked.specs.Laws.{AllOf}
-use Rattle.pot_worked.proofs.WorkedLemmas.{both_added}
+use Rattle.pot_worked.proofs.WroteOnlyForLemmas.{both_added}
 use Rattle.pot_rows.specs.Rows.{view_at}
-use Rattle.pot_rows.specs.Works.{RowWorked, RowAlone}
+use Rattle.pot_rows.specs.Works.{RowWroteOnlyFor, RowOnlyWriterOf}
 use Rattle.pot_rows.proofs.WorkLemmas.{row_work_in_parts, row_alone_in_parts}
 use Rattle.pot_replies.specs.Jobs.{is_stuck_at}
-use Rattle.pot_replies.specs.Sections.{Section, Moment, names_after}
+use Rattle.pot_replies.specs.Sections.{Section, LogPoint, names_after}
 use Rattle.pot_replies.specs.Settings.{Setting}
 use Rattle.pot_replies.specs.Stores.{Placed, Puts, IsUnkept, in_group, place_of}
 use Rattle.pot_replies.specs.Fetches.{FoundThen, Found, IsFile, Mends}
@@ -72,7 +72,7 @@ use Rattle.pot_store.specs.Reads.{AreMade, EndsFetch}
 use Rattle.pot_store.specs.Renewals.{of_find, of_fetch, of_put, of_renew, IsSplit, StopsAt, PutsSplit, RenewRow, RenewsFrom}
 use Rattle.pot_store.specs.Stores.{IsPlan}
 use Rattle.pot_store.specs.Visits.{Visit, is_begin_at}
-use Rattle.pot_shared.specs.Works.{of_job, gained, known, section_of, JobWorked, JobAlone, IsSettingOf}
+use Rattle.pot_shared.specs.Works.{of_job, gained, known, section_of, JobWroteOnly, JobOnlyWriter, IsSettingOf}
 use Rattle.pot_store.proofs.EndLemmas.{fault_wider}
 use Rattle.pot_store.proofs.EntryLemmas.{mends_then}
 use Rattle.pot_store.proofs.FetchLemmas.{all_work, record_row, record_kept, fits, found, logs, are, file_room, unfinished}
@@ -113,7 +113,7 @@ made_split rack geometry job file pads (x, split) old new is = is
 
 -- puts that stopped
 pub stopped_is : (rack : Rack) (geometry : Geometry) (job : ℕ) (file : List ℕ) (pads : Pads) (group : ℕ) (cause : PutFault) (old new : GroupPasses)
-    → (RowAlone (of_job job) old new → PutsEnd rack geometry job (blocks_from geometry file pads) group cause old new) → PutsSplit rack geometry job file pads (Err (of_put group cause)) old new
+    → (RowOnlyWriterOf (of_job job) old new → PutsEnd rack geometry job (blocks_from geometry file pads) group cause old new) → PutsSplit rack geometry job file pads (Err (of_put group cause)) old new
 stopped_is rack geometry job file pads group put_fault.LogFull old new ends = record { group = group; cause = put_fault.LogFull; is = refl; ends = ends }
 stopped_is rack geometry job file pads group put_fault.Full old new ends = record { group = group; cause = put_fault.Full; is = refl; ends = ends }
 stopped_is rack geometry job file pads group (put_fault.Faulted column) old new ends = record { group = group; cause = put_fault.Faulted column; is = refl; ends = ends }
@@ -196,11 +196,11 @@ fetch_is s job name geometry w fetch_fault.NoMemory is = inl is
 module _ (job : ℕ) (name : List ℕ) (rack : Rack) (names turn : List TurnName) (u v w : GroupPasses) (ui wi : IndexPasses) (kept : Record)
     (ready : AreReady rack names u) (count : length names ≡ rack.groups) (index_ready : IsIndexReady rack names turn ui) (knows : RowKnowsMore u v)
     (call : IndexCall (FindsRecord job name (Ok kept) v) ui wi) (visits : List Visit) (reads : AreMade job kept.places 0 visits v w)
-    (ready_w : AreReady rack names w) (y : GroupPasses) (yi : IndexPasses) (behind : JobWorked job (known w wi) (known y yi)) where
-  fetch_work : JobWorked job (known u ui) (known w wi)
+    (ready_w : AreReady rack names w) (y : GroupPasses) (yi : IndexPasses) (behind : JobWroteOnly job (known w wi) (known y yi)) where
+  fetch_work : JobWroteOnly job (known u ui) (known w wi)
   fetch_work = all_work job name rack names turn u v w ui wi kept ready count index_ready knows call visits reads
 
-  pub whole_work : JobWorked job (known u ui) (known y yi)
+  pub whole_work : JobWroteOnly job (known u ui) (known y yi)
   whole_work = work_more job (known u ui) (known w wi) (known y yi) fetch_work behind
 
   abbrev fetch_section : Section
@@ -222,9 +222,9 @@ module _ (job : ℕ) (name : List ℕ) (rack : Rack) (names turn : List TurnName
     published = f.published;
   }
 
-  module _ (alone : JobAlone job (known u ui) (known y yi)) (s : Setting) (set : IsSettingOf s rack (known u ui)) (mends : s.mends ≡ true) (filled : AreFilled s)
+  module _ (alone : JobOnlyWriter job (known u ui) (known y yi)) (s : Setting) (set : IsSettingOf s rack (known u ui)) (mends : s.mends ≡ true) (filled : AreFilled s)
       (bytes : Vec ℕ Global) (ends : EndsFetch kept visits (Ok bytes) w) (few : length kept.older < 15) where
-    pub both_alone : JobAlone job (known u ui) (known w wi) × JobAlone job (known w wi) (known y yi)
+    pub both_alone : JobOnlyWriter job (known u ui) (known w wi) × JobOnlyWriter job (known w wi) (known y yi)
     both_alone = alone_parts job (known u ui) (known w wi) (known y yi) fetch_work behind alone
 
     pub read_file : IsFile s job name bytes.items fetch_section
@@ -310,13 +310,13 @@ module _ (job : ℕ) (name : List ℕ) (rack : Rack) (names turn : List TurnName
       group_within : group < length u.names
       group_within = let l = puts_end.within in let a = ap length ready.of.0 in let b = ap length ready_w.of.0 in omega (arith, l, a, b)
 
-      whole_groups : RowWorked (of_job job) u y
+      whole_groups : RowWroteOnlyFor (of_job job) u y
       whole_groups = whole_work.groups
 
       abbrev log : List Entry
       log = entries_of (view_at u group).seen ++ gained u y group
 
-      now : Moment job (entries_of (view_at u group).seen) (gained u y group) log
+      now : LogPoint job (entries_of (view_at u group).seen) (gained u y group) log
       now = record { sofar = gained u y group; later = []; parts = sym (append-nil (gained u y group)); last = refl; is = refl }
 
       firsts : s.first group ≡ puts_end.origin.first
@@ -380,8 +380,8 @@ module _ (job : ℕ) (name : List ℕ) (rack : Rack) (names turn : List TurnName
 pub stopped_row : (job : ℕ) (name : List ℕ) (rack : Rack) (names turn : List TurnName) (u v w : GroupPasses) (ui wi : IndexPasses) (kept : Record)
     (ready : AreReady rack names u) (count : length names ≡ rack.groups) (index_ready : IsIndexReady rack names turn ui) (knows : RowKnowsMore u v)
     (call : IndexCall (FindsRecord job name (Ok kept) v) ui wi) (visits : List Visit) (reads : AreMade job kept.places 0 visits v w)
-    (ready_w : AreReady rack names w) (y : GroupPasses) (yi : IndexPasses) (behind : JobWorked job (known w wi) (known y yi))
-    (alone : JobAlone job (known u ui) (known y yi)) (s : Setting) (set : IsSettingOf s rack (known u ui)) (mends : s.mends ≡ true) (filled : AreFilled s)
+    (ready_w : AreReady rack names w) (y : GroupPasses) (yi : IndexPasses) (behind : JobWroteOnly job (known w wi) (known y yi))
+    (alone : JobOnlyWriter job (known u ui) (known y yi)) (s : Setting) (set : IsSettingOf s rack (known u ui)) (mends : s.mends ≡ true) (filled : AreFilled s)
     (bytes : Vec ℕ Global) (ends : EndsFetch kept visits (Ok bytes) w) (few : length kept.older < 15)
     (geometry : Geometry) (pads : Pads) (draws : RenewsFrom s pads geometry job) (group : ℕ) (cause : PutFault) (none : index.own job (added (view_at wi 0) (view_at yi 0)) ≡ [])
     (puts_end : PutsEnd rack geometry job (blocks_from geometry bytes.items pads) group cause w y)
@@ -437,7 +437,7 @@ module _ (job : ℕ) (name : List ℕ) (rack : Rack) (names turn : List TurnName
   its_seen : (view_at wi 0).seen ≡ left.log
   its_seen =
       index_seen (FindsRecord job name (Ok kept) row) ui wi call index_within
-      ∙ (sym (append_assoc (view_at ui 0).seen call.turn.others call.turn.entries) ∙ (ap (λ l. l ++ call.turn.entries) (sym call.turn.met) ∙ sym call.turn.log))
+      ∙ (sym (append_assoc (view_at ui 0).seen call.turn.others call.turn.entries) ∙ (ap (λ l. l ++ call.turn.entries) (sym call.turn.transition) ∙ sym call.turn.log))
 
   its_origin : Some (record { rack = call.turn.old.rack; read = call.turn.old.read; names = call.turn.origin.0 }) ≡ (view_at wi 0).origin
   its_origin = call.turn.origin.1 ∙ sym ((search_work job name rack names turn ui wi row (Ok kept) index_ready call 0).origin)
@@ -488,7 +488,7 @@ module _ (job : ℕ) (name : List ℕ) (rack : Rack) (names turn : List TurnName
     pub same_file : (r : Record) → IsRecordOf later.turn.old.now name r → r.length ≡ kept.length
     same_file r is =
         let all : Replays left.rack (names_read left.read) (left.log ++ later.turn.others) later.turn.old.now =
-        subst (λ (l : List Logged). Replays left.rack (names_read left.read) l later.turn.old.now) (later.turn.met ∙ ap (λ l. l ++ later.turn.others) its_seen)
+        subst (λ (l : List Logged). Replays left.rack (names_read left.read) l later.turn.old.now) (later.turn.transition ∙ ap (λ l. l ++ later.turn.others) its_seen)
         (subst (λ (rs : List Record). Replays left.rack (names_read rs) later.turn.old.log later.turn.old.now) later_read
         (subst (λ (k : Rack). Replays k (names_read later.turn.old.read) later.turn.old.log later.turn.old.now) later_rack later.turn.is_old.replays)) in
         let cut = went_on left.rack (names_read left.read) later.turn.old.now left.log later.turn.others all in
@@ -503,7 +503,7 @@ module _ (job : ℕ) (name : List ℕ) (rack : Rack) (names turn : List TurnName
 module _ (job : ℕ) (name : List ℕ) (rack : Rack) (names turn : List TurnName) (u v w : GroupPasses) (ui wi : IndexPasses) (kept : Record)
     (ready : AreReady rack names u) (count : length names ≡ rack.groups) (index_ready : IsIndexReady rack names turn ui) (knows : RowKnowsMore u v)
     (call : IndexCall (FindsRecord job name (Ok kept) v) ui wi) (visits : List Visit) (reads : AreMade job kept.places 0 visits v w)
-    (ready_w : AreReady rack names w) (x : GroupPasses) (ready_x : AreReady rack names x) (put_work : RowWorked (of_job job) w x) (ready_wi : IsIndexReady rack names turn wi)
+    (ready_w : AreReady rack names w) (x : GroupPasses) (ready_x : AreReady rack names x) (put_work : RowWroteOnlyFor (of_job job) w x) (ready_wi : IsIndexReady rack names turn wi)
     (split : Split) (result : Result (Unit {0}) RenewFault) (y : GroupPasses) (yi : IndexPasses) (knows_y : RowKnowsMore x y) (last : IndexCall (RenewsSplit job name split result) wi yi) where
   last_adds : last.turn.entries ≡ renew_entries job name last.turn.call.0 split result
   last_adds = renew_adds job name split result last.turn.old last.turn.new last.turn.entries last.turn.call last.turn.log
@@ -511,22 +511,22 @@ module _ (job : ℕ) (name : List ℕ) (rack : Rack) (names turn : List TurnName
   last_all : AllOf (index.is_of job) last.turn.entries
   last_all = subst (λ es. AllOf (index.is_of job) es) (sym last_adds) (renew_of job name last.turn.call.0 split result)
 
-  pub put_behind : JobWorked job (known w wi) (known y yi)
+  pub put_behind : JobWroteOnly job (known w wi) (known y yi)
   put_behind = record {
     groups = row_work_in_parts (of_job job) w x y put_work (known_work job rack names x y ready_x knows_y);
     index = index_work job rack names turn (RenewsSplit job name split result) wi yi ready_wi last last_all;
   }
 
-  pub renewed_work : JobWorked job (known u ui) (known y yi)
+  pub renewed_work : JobWroteOnly job (known u ui) (known y yi)
   renewed_work = whole_work job name rack names turn u v w ui wi kept ready count index_ready knows call visits reads ready_w y yi put_behind
 
-  module _ (alone : JobAlone job (known u ui) (known y yi)) (s : Setting) (set : IsSettingOf s rack (known u ui)) (mends : s.mends ≡ true) (filled : AreFilled s)
+  module _ (alone : JobOnlyWriter job (known u ui) (known y yi)) (s : Setting) (set : IsSettingOf s rack (known u ui)) (mends : s.mends ≡ true) (filled : AreFilled s)
       (bytes : Vec ℕ Global) (ends : EndsFetch kept visits (Ok bytes) w) (few : length kept.older < 15) (geometry : Geometry) (pads : Pads) (draws : RenewsFrom s pads geometry job)
       (made : Stored) (is : IsSplit rack geometry job bytes.items pads made split w x) where
-    abbrev its_parts : JobAlone job (known u ui) (known w wi) × JobAlone job (known w wi) (known y yi)
+    abbrev its_parts : JobOnlyWriter job (known u ui) (known w wi) × JobOnlyWriter job (known w wi) (known y yi)
     its_parts = both_alone job name rack names turn u v w ui wi kept ready count index_ready knows call visits reads ready_w y yi put_behind alone s set mends filled bytes ends few
 
-    put_parts : RowAlone (of_job job) w x × RowAlone (of_job job) x y
+    put_parts : RowOnlyWriterOf (of_job job) w x × RowOnlyWriterOf (of_job job) x y
     put_parts = row_alone_in_parts (of_job job) w x y put_work (known_work job rack names x y ready_x knows_y) its_parts.1.groups
 
     own_y : (g : ℕ) → own job (gained w y g) ≡ own job (gained w x g)
@@ -562,7 +562,7 @@ module _ (job : ℕ) (name : List ℕ) (rack : Rack) (names turn : List TurnName
         let none : last.turn.entries ≡ [] = last_adds ∙ ap (renew_entries job name last.turn.call.0 split) e in
         let within : 0 < length wi.views = (let a = ready_wi.of.1 in let b = ready_wi.one in omega (arith, a, b)) in
         let seen : (view_at yi 0).seen ≡ old.log =
-        index_seen (RenewsSplit job name split result) wi yi last within ∙ (ap (λ es. (view_at wi 0).seen ++ (last.turn.others ++ es)) none ∙ (ap (λ es. (view_at wi 0).seen ++ es) (append-nil last.turn.others) ∙ sym last.turn.met)) in
+        index_seen (RenewsSplit job name split result) wi yi last within ∙ (ap (λ es. (view_at wi 0).seen ++ (last.turn.others ++ es)) none ∙ (ap (λ es. (view_at wi 0).seen ++ es) (append-nil last.turn.others) ∙ sym last.turn.transition)) in
         let log : w2.index_before ++ w2.index_added ≡ old.log = sym (renewed_work.index 0).seen ∙ seen in
         let origin : (view_at wi 0).origin ≡ (view_at ui 0).origin = (search_work job name rack names turn ui wi v (Ok kept) index_ready call 0).origin in
         let read : s.read ≡ old.read = subst (λ o. IfSome o (λ q. s.read ≡ q.read)) (sym (last.turn.origin.1 ∙ origin)) set.read in
@@ -609,7 +609,7 @@ module _ (job : ℕ) (name : List ℕ) (rack : Rack) (names turn : List TurnName
 pub often_now : (job : ℕ) (name : List ℕ) (rack : Rack) (names turn : List TurnName) (u v : GroupPasses) (ui wi : IndexPasses) (kept : Record)
     (ready : AreReady rack names u) (ready_v : AreReady rack names v) (count : length names ≡ rack.groups) (index_ready : IsIndexReady rack names turn ui) (knows : RowKnowsMore u v)
     (call : IndexCall (FindsRecord job name (Ok kept) v) ui wi) → length kept.older ≡ 15
-    → JobAlone job (known u ui) (known v wi) → (s : Setting) → IsSettingOf s rack (known u ui) → s.mends ≡ true → AreFilled s → IsOften s job name (section_of (known u ui) (known v wi))
+    → JobOnlyWriter job (known u ui) (known v wi) → (s : Setting) → IsSettingOf s rack (known u ui) → s.mends ≡ true → AreFilled s → IsOften s job name (section_of (known u ui) (known v wi))
 often_now job name rack names turn u v ui wi kept ready ready_v count index_ready knows call many alone s set mends filled =
     let none = no_reads job kept.places 0 0 v ready_v.idle in
     record {
@@ -621,7 +621,7 @@ often_now job name rack names turn u v ui wi kept ready ready_v count index_read
 
 pub often_work : (job : ℕ) (name : List ℕ) (rack : Rack) (names turn : List TurnName) (u v : GroupPasses) (ui wi : IndexPasses) (kept : Record)
     (ready : AreReady rack names u) (ready_v : AreReady rack names v) (count : length names ≡ rack.groups) (index_ready : IsIndexReady rack names turn ui) (knows : RowKnowsMore u v)
-    (call : IndexCall (FindsRecord job name (Ok kept) v) ui wi) → JobWorked job (known u ui) (known v wi)
+    (call : IndexCall (FindsRecord job name (Ok kept) v) ui wi) → JobWroteOnly job (known u ui) (known v wi)
 often_work job name rack names turn u v ui wi kept ready ready_v count index_ready knows call =
     all_work job name rack names turn u v v ui wi kept ready count index_ready knows call [] (no_reads job kept.places 0 0 v ready_v.idle)
 
@@ -631,7 +631,7 @@ pub unplanned_row : (job : ℕ) (name : List ℕ) (rack : Rack) (names turn : Li
     (ready : AreReady rack names u) (count : length names ≡ rack.groups) (index_ready : IsIndexReady rack names turn ui) (knows : RowKnowsMore u v)
     (call : IndexCall (FindsRecord job name (Ok kept) v) ui wi) (visits : List Visit) (reads : AreMade job kept.places 0 visits v w)
     (bytes : Vec ℕ Global) (ends : EndsFetch kept visits (Ok bytes) w) (geometry : Geometry)
-    → JobAlone job (known u ui) (known w wi) → (s : Setting) → IsSettingOf s rack (known u ui) → s.mends ≡ true → AreFilled s
+    → JobOnlyWriter job (known u ui) (known w wi) → (s : Setting) → IsSettingOf s rack (known u ui) → s.mends ≡ true → AreFilled s
     → RenewRow s job name geometry (Err fault.NoMemory) (section_of (known u ui) (known w wi))
 unplanned_row job name rack names turn u v w ui wi kept ready count index_ready knows call visits reads bytes ends geometry alone s set mends filled =
     inl (unfinished job name rack names turn u v w ui wi kept ready count index_ready knows call visits reads alone s set mends filled
@@ -642,14 +642,14 @@ unplanned_row job name rack names turn u v w ui wi kept ready count index_ready 
 module _ (job : ℕ) (name : List ℕ) (rack : Rack) (names turn : List TurnName) (u v w : GroupPasses) (ui wi : IndexPasses) (kept : Record)
     (ready : AreReady rack names u) (count : length names ≡ rack.groups) (index_ready : IsIndexReady rack names turn ui) (knows : RowKnowsMore u v)
     (call : IndexCall (FindsRecord job name (Ok kept) v) ui wi) (visits : List Visit) (reads : AreMade job kept.places 0 visits v w)
-    (ready_w : AreReady rack names w) (x : GroupPasses) (put_work : RowWorked (of_job job) w x) (ready_wi : IsIndexReady rack names turn wi) where
-  puts_behind : JobWorked job (known w wi) (known x wi)
+    (ready_w : AreReady rack names w) (x : GroupPasses) (put_work : RowWroteOnlyFor (of_job job) w x) (ready_wi : IsIndexReady rack names turn wi) where
+  puts_behind : JobWroteOnly job (known w wi) (known x wi)
   puts_behind = record { groups = put_work; index = row_stays (index.is_of job) wi (index_idle rack names turn wi ready_wi) }
 
-  pub split_work : JobWorked job (known u ui) (known x wi)
+  pub split_work : JobWroteOnly job (known u ui) (known x wi)
   split_work = whole_work job name rack names turn u v w ui wi kept ready count index_ready knows call visits reads ready_w x wi puts_behind
 
-  module _ (alone : JobAlone job (known u ui) (known x wi)) (s : Setting) (set : IsSettingOf s rack (known u ui)) (mends : s.mends ≡ true) (filled : AreFilled s)
+  module _ (alone : JobOnlyWriter job (known u ui) (known x wi)) (s : Setting) (set : IsSettingOf s rack (known u ui)) (mends : s.mends ≡ true) (filled : AreFilled s)
       (bytes : Vec ℕ Global) (ends : EndsFetch kept visits (Ok bytes) w) (few : length kept.older < 15) (geometry : Geometry) (pads : Pads) (draws : RenewsFrom s pads geometry job) where
     stops_row : (e : RenewFileFault) → StopsAt rack geometry job bytes.items pads e w x → RenewRow s job name geometry (Err e) (section_of (known u ui) (known x wi))
     stops_row e is =
@@ -660,7 +660,7 @@ module _ (job : ℕ) (name : List ℕ) (rack : Rack) (names turn : List TurnName
 
     unplanned : x ≡ w → RenewRow s job name geometry (Err fault.NoMemory) (section_of (known u ui) (known x wi))
     unplanned same =
-        subst (λ (y : GroupPasses). JobAlone job (known u ui) (known y wi) → RenewRow s job name geometry (Err fault.NoMemory) (section_of (known u ui) (known y wi))) (sym same)
+        subst (λ (y : GroupPasses). JobOnlyWriter job (known u ui) (known y wi) → RenewRow s job name geometry (Err fault.NoMemory) (section_of (known u ui) (known y wi))) (sym same)
         (λ here. unplanned_row job name rack names turn u v w ui wi kept ready count index_ready knows call visits reads bytes ends geometry here s set mends filled) alone
 
     pub refused_row : (e : RenewFileFault) → PutsSplit rack geometry job bytes.items pads (Err e) w x → RenewRow s job name geometry (Err e) (section_of (known u ui) (known x wi))
@@ -678,7 +678,7 @@ module _ (job : ℕ) (name : List ℕ) (rack : Rack) (names turn : List TurnName
 
 pub unfound_row : (job : ℕ) (name : List ℕ) (rack : Rack) (names turn : List TurnName) (u v : GroupPasses) (ui wi : IndexPasses) (e : FindFault)
     (ready : AreReady rack names u) (index_ready : IsIndexReady rack names turn ui) (knows : RowKnowsMore u v) (call : IndexCall (FindsRecord job name (Err e) v) ui wi) (geometry : Geometry)
-    → JobAlone job (known u ui) (known v wi) → (s : Setting) → IsSettingOf s rack (known u ui) → RenewRow s job name geometry (Err (of_find e)) (section_of (known u ui) (known v wi))
+    → JobOnlyWriter job (known u ui) (known v wi) → (s : Setting) → IsSettingOf s rack (known u ui) → RenewRow s job name geometry (Err (of_find e)) (section_of (known u ui) (known v wi))
 unfound_row job name rack names turn u v ui wi find_fault.LogFull ready index_ready knows call geometry alone s set =
     inl (index_full job name rack names turn u v ui wi find_fault.LogFull ready index_ready knows call alone refl s set)
 unfound_row job name rack names turn u v ui wi find_fault.Absent ready index_ready knows call geometry alone s set =

@@ -11,9 +11,9 @@ use Rattle.pot_group.specs.Group.{GroupView}
 use Rattle.pot_group.specs.declared.standing.Standing.{Standing}
 use Rattle.pot_turn.specs.declared.name.TurnName.{TurnName}
 use Rattle.pot_worked.specs.Laws.{AllOf}
-use Rattle.pot_worked.specs.Worked.{added}
+use Rattle.pot_worked.specs.WroteOnlyFor.{added}
 use Rattle.pot_rows.specs.Rows.{view_at}
-use Rattle.pot_rows.specs.Works.{RowWorked, RowAlone}
+use Rattle.pot_rows.specs.Works.{RowWroteOnlyFor, RowOnlyWriterOf}
 use Rattle.pot_rows.proofs.WorkLemmas.{row_work_in_parts, row_alone_in_parts}
 use Rattle.pot_replies.specs.Stores.{Placed, Puts, place_of, in_group}
 use Rattle.pot_shared.specs.Ready.{GroupPasses, AreReady}
@@ -37,7 +37,7 @@ module _ {rack : Rack} {names : List TurnName} {told : Type 0} {group : ℕ} {v 
   all : (job : ℕ) → AllOf (is_of job) call.turn.entries
   all job = subst (λ es. AllOf (is_of job) es) (sym call.turn.call.0) (all_none (is_of job))
 
-  none_at : (job : ℕ) → RowAlone (of_job job) v w → (g : ℕ) → own job (gained v w g) ≡ []
+  none_at : (job : ℕ) → RowOnlyWriterOf (of_job job) v w → (g : ℕ) → own job (gained v w g) ≡ []
   none_at job alone g = ⊎_elim
       (λ (e : group ≡ g). subst (λ n. own job (gained v w n) ≡ []) e (group_own told job Stands group v w long call (all job) alone ∙ call.turn.call.0))
       (λ (ne : group ≢ g). group_else told job Stands group v w long call (all job) alone g ne)
@@ -56,9 +56,9 @@ module _ (rack : Rack) (names : List TurnName) (job : ℕ) (u v w : GroupPasses)
   still_seen = sees_more v w (ap length again.of.0 ∙ sym (ap length ready.of.0))
       (λ g lt. (added (view_at v g) (view_at w g), (saw.worked job g).seen))
 
-  puts_still : (placed : List Placed) → RowWorked (of_job job) u v
-      → (RowAlone (of_job job) u v → (g : ℕ) → Puts job (in_group g placed) (own job (gained u v g)))
-      → RowAlone (of_job job) u w → (g : ℕ) → Puts job (in_group g placed) (own job (gained u w g))
+  puts_still : (placed : List Placed) → RowWroteOnlyFor (of_job job) u v
+      → (RowOnlyWriterOf (of_job job) u v → (g : ℕ) → Puts job (in_group g placed) (own job (gained u v g)))
+      → RowOnlyWriterOf (of_job job) u w → (g : ℕ) → Puts job (in_group g placed) (own job (gained u w g))
   puts_still placed worked puts alone g =
       let parts = row_alone_in_parts (of_job job) u v w worked (saw.worked job) alone in
       subst (λ es. Puts job (in_group g placed) es)

@@ -14,11 +14,11 @@ use Rattle.pot_index.specs.Entries.{plain}
 use Rattle.pot_index.specs.Fits.{FitsRack}
 use Rattle.pot_index.specs.Index.{IndexView, Names, names_read}
 use Rattle.pot_turn.specs.declared.name.TurnName.{TurnName}
-use Rattle.pot_worked.specs.Worked.{added}
+use Rattle.pot_worked.specs.WroteOnlyFor.{added}
 use Rattle.pot_worked.specs.Laws.{AllOf}
-use Rattle.pot_worked.proofs.WorkedLemmas.{behind}
+use Rattle.pot_worked.proofs.WroteOnlyForLemmas.{behind}
 use Rattle.pot_rows.specs.Rows.{view_at}
-use Rattle.pot_rows.specs.Works.{RowWorked, RowAlone}
+use Rattle.pot_rows.specs.Works.{RowWroteOnlyFor, RowOnlyWriterOf}
 use Rattle.pot_rows.proofs.RowLemmas.{at_set}
 use Rattle.pot_machine.specs.Logs.{own}
 use Rattle.pot_replies.specs.Sections.{Section, mine, names_after}
@@ -30,7 +30,7 @@ use Rattle.pot_shared.specs.Ready.{GroupPasses, AreReady}
 use Rattle.pot_shared.specs.Seen.{RowKnowsMore}
 use Rattle.pot_shared.specs.Catalogs.{IndexPass, IndexPasses, IsIndexReady, IsIndexOf}
 use Rattle.pot_shared.specs.IndexCalls.{IndexCall, FindsRecord}
-use Rattle.pot_shared.specs.Works.{gained, known, section_of, JobWorked, JobAlone, IsSettingOf}
+use Rattle.pot_shared.specs.Works.{gained, known, section_of, JobWroteOnly, JobOnlyWriter, IsSettingOf}
 use Rattle.pot_store.specs.Fetches.{IsUnfinished}
 use Rattle.pot_shared.proofs.WorkLemmas.{all_none, all_one, known_work, known_none, index_work, index_own}
 use Rattle.pot_store.proofs.IndexLemmas.{names_to}
@@ -71,10 +71,10 @@ module _ (job : ℕ) (name : List ℕ) (rack : Rack) (names turn : List TurnName
   all_its : AllOf (index.is_of job) call.turn.entries
   all_its = subst (λ es. AllOf (index.is_of job) es) (sym search_entries) (all_found job name result)
 
-  pub search_work : RowWorked (index.is_of job) u w
+  pub search_work : RowWroteOnlyFor (index.is_of job) u w
   search_work = index_work job rack names turn (FindsRecord job name result row) u w ready call all_its
 
-  pub search_own : RowAlone (index.is_of job) u w → index.own job (added (view_at u 0) (view_at w 0)) ≡ found_entries job name result
+  pub search_own : RowOnlyWriterOf (index.is_of job) u w → index.own job (added (view_at u 0) (view_at w 0)) ≡ found_entries job name result
   search_own alone = index_own job rack names turn (FindsRecord job name result row) u w ready call all_its alone ∙ search_entries
 
   within : 0 < length u.views
@@ -104,7 +104,7 @@ module _ (job : ℕ) (name : List ℕ) (rack : Rack) (names turn : List TurnName
     pub met_names : names_after (names_read s.read) ((view_at u 0).seen ++ call.turn.others) ≡ call.turn.old.now
     met_names =
         ap (λ r. names_after (names_read r) ((view_at u 0).seen ++ call.turn.others)) met_read
-        ∙ (ap (names_after (names_read call.turn.old.read)) (sym call.turn.met)
+        ∙ (ap (names_after (names_read call.turn.old.read)) (sym call.turn.transition)
         ∙ names_to call.turn.old.rack (names_read call.turn.old.read) call.turn.old.log call.turn.old.now call.turn.is_old.replays)
 
 -- the record that was found fits the rack
@@ -118,13 +118,13 @@ found_fits job name rack names turn u w row kept ready call =
 
 module _ (job : ℕ) (name : List ℕ) (rack : Rack) (names turn : List TurnName) (u v : GroupPasses) (ui wi : IndexPasses) (e : FindFault)
     (ready : AreReady rack names u) (index_ready : IsIndexReady rack names turn ui) (knows : RowKnowsMore u v) (call : IndexCall (FindsRecord job name (Err e) v) ui wi) where
-  pub lone_work : JobWorked job (known u ui) (known v wi)
+  pub lone_work : JobWroteOnly job (known u ui) (known v wi)
   lone_work = record { groups = known_work job rack names u v ready knows; index = search_work job name rack names turn ui wi v (Err e) index_ready call }
 
   abbrev lone : Section
   lone = section_of (known u ui) (known v wi)
 
-  module _ (alone : JobAlone job (known u ui) (known v wi)) where
+  module _ (alone : JobOnlyWriter job (known u ui) (known v wi)) where
     none_logged : (g : ℕ) → own job (gained u v g) ≡ []
     none_logged g = known_none job rack names u v ready knows alone.groups g
 
@@ -150,7 +150,7 @@ module _ (job : ℕ) (name : List ℕ) (rack : Rack) (names turn : List TurnName
           silent = (none_logged, logged ∙ nothing);
           log = lone.index_before ++ lone.index_added;
           moment = record { sofar = lone.index_added; later = []; parts = sym (append-nil lone.index_added); last = refl; is = refl };
-          full = (let a : length (lone.index_before ++ lone.index_added) ≡ length old.log = ap length (log ∙ sym call.turn.met) in
+          full = (let a : length (lone.index_before ++ lone.index_added) ≡ length old.log = ap length (log ∙ sym call.turn.transition) in
               let b : length (names_after (names_read s.read) (lone.index_before ++ lone.index_added)).reserved ≡ length old.now.reserved = ap (λ (x : Names). length x.reserved) reserved in
               omega (arith, full, a, b));
         }

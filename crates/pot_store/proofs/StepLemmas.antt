@@ -22,7 +22,7 @@ use Rattle.pot_index.specs.Fits.{FitsPlace, group_of}
 use Rattle.pot_turn.specs.declared.name.TurnName.{TurnName}
 use Rattle.pot_turn.specs.Logs.{StartsWith}
 use Rattle.pot_rows.specs.Rows.{view_at}
-use Rattle.pot_rows.specs.Works.{RowWorked, RowAlone, AllIdle}
+use Rattle.pot_rows.specs.Works.{RowWroteOnlyFor, RowOnlyWriterOf, AllIdle}
 use Rattle.pot_rows.proofs.RowLemmas.{at_set, at_other}
 use Rattle.pot_rows.proofs.WorkLemmas.{row_work_in_parts, row_alone_in_parts}
 use Rattle.pot_replies.specs.Stores.{Placed, Puts, place_of, in_group}
@@ -64,7 +64,7 @@ module _ (told : Type 0) (R : GroupView → GroupView → List Entry → Type 0)
 
   -- the log that was met, and the log that was left
   pub met_log : call.turn.old.log ≡ entries_of (view_at v group).seen ++ entries_of call.turn.others
-  met_log = sym (entries_all call.turn.old.shelves call.turn.old.log) ∙ (ap entries_of call.turn.met ∙ map-append (λ l. l.entry) (view_at v group).seen call.turn.others)
+  met_log = sym (entries_all call.turn.old.shelves call.turn.old.log) ∙ (ap entries_of call.turn.transition ∙ map-append (λ l. l.entry) (view_at v group).seen call.turn.others)
 
   pub left_log : entries_of (view_at w group).seen ≡ call.turn.new.log
   left_log =
@@ -72,7 +72,7 @@ module _ (told : Type 0) (R : GroupView → GroupView → List Entry → Type 0)
       let seen : (view_at w group).seen ≡ ((view_at v group).seen ++ call.turn.others) ++ marked = ap (λ (x : GroupPass). x.seen) called_here ∙ ap (λ (x : GroupPass). x.seen) call.turn.turn in
       ap entries_of seen
       ∙ (map-append (λ l. l.entry) ((view_at v group).seen ++ call.turn.others) marked
-      ∙ (ap (λ s. s ++ entries_of marked) (sym (ap entries_of call.turn.met) ∙ entries_all call.turn.old.shelves call.turn.old.log)
+      ∙ (ap (λ s. s ++ entries_of marked) (sym (ap entries_of call.turn.transition) ∙ entries_all call.turn.old.shelves call.turn.old.log)
       ∙ (ap (λ s. call.turn.old.log ++ s) (entries_all call.turn.new.shelves call.turn.entries) ∙ sym call.turn.log)))
 
   -- each pass has seen more
@@ -153,9 +153,9 @@ module _ (rack : Rack) (geometry : Geometry) (names : List TurnName) (told : Typ
   its_new p d (p_within, (j, e, put, has)) same =
       let g : p.group ≡ group = ap (λ (x : Place). x.group) same in
       let here : Contains (entries_of (view_at v group).seen) e = subst (λ i. Contains (entries_of (view_at v i).seen) e) g has in
-      let met : Contains call.turn.old.log e = subst (λ l. Contains l e) (sym (met_log told (PutCall told job block (Ok place)) group v w within call)) (Contains-append_left (entries_of (view_at v group).seen) (entries_of call.turn.others) e here) in
+      let transition : Contains call.turn.old.log e = subst (λ l. Contains l e) (sym (met_log told (PutCall told job block (Ok place)) group v w within call)) (Contains-append_left (entries_of (view_at v group).seen) (entries_of call.turn.others) e here) in
       let behind : IsBefore p.stripe p.column at.0.cursor =
-      puts_behind call.turn.new.first (call.turn.old.log ++ skips job made.0) at.0 at.1 j p.stripe p.column d e put (Contains-append_left call.turn.old.log (skips job made.0) e met) in
+      puts_behind call.turn.new.first (call.turn.old.log ++ skips job made.0) at.0 at.1 j p.stripe p.column d e put (Contains-append_left call.turn.old.log (skips job made.0) e transition) in
       let s : p.stripe ≡ place.stripe = ap (λ (x : Place). x.stripe) same in
       let c : p.column ≡ place.column = ap (λ (x : Place). x.column) same in
       let ls : place.stripe ≡ at.0.cursor.stripe = at_takes.0.0 in
@@ -167,13 +167,13 @@ module _ (rack : Rack) (geometry : Geometry) (names : List TurnName) (told : Typ
   abbrev it : Placed
   it = record { group = group; stripe = place.stripe; column = place.column; digest = digest_of block }
 
-  pub work : RowWorked (of_job job) v w
+  pub work : RowWroteOnlyFor (of_job job) v w
   work = group_work told job (PutCall told job block (Ok place)) group v w within call (all_put job block (Ok place) call.turn.old call.turn.new call.turn.entries call.turn.call.tells) ready.idle
 
-  own_here : RowAlone (of_job job) v w → own job (gained v w group) ≡ call.turn.entries
+  own_here : RowOnlyWriterOf (of_job job) v w → own job (gained v w group) ≡ call.turn.entries
   own_here alone = group_own told job (PutCall told job block (Ok place)) group v w within call (all_put job block (Ok place) call.turn.old call.turn.new call.turn.entries call.turn.call.tells) alone
 
-  own_else : RowAlone (of_job job) v w → (h : ℕ) → group ≢ h → own job (gained v w h) ≡ []
+  own_else : RowOnlyWriterOf (of_job job) v w → (h : ℕ) → group ≢ h → own job (gained v w h) ≡ []
   own_else alone = group_else told job (PutCall told job block (Ok place)) group v w within call (all_put job block (Ok place) call.turn.old call.turn.new call.turn.entries call.turn.call.tells) alone
 
   pub is_place : place ≡ place_of it
@@ -195,9 +195,9 @@ module _ (rack : Rack) (geometry : Geometry) (names : List TurnName) (told : Typ
   still_sees = sees_more v w (ap length (called_names told (PutCall told job block (Ok place)) group v w within call))
       (λ g lt. called_grown told (PutCall told job block (Ok place)) group v w within call g)
 
-  puts_now : (u : GroupPasses) (worked : RowWorked (of_job job) u v) (placed : List Placed)
-      → (RowAlone (of_job job) u v → (g : ℕ) → Puts job (in_group g placed) (own job (gained u v g)))
-      → RowAlone (of_job job) u w → (g : ℕ) → Puts job (in_group g (placed ++ it ∷ [])) (own job (gained u w g))
+  puts_now : (u : GroupPasses) (worked : RowWroteOnlyFor (of_job job) u v) (placed : List Placed)
+      → (RowOnlyWriterOf (of_job job) u v → (g : ℕ) → Puts job (in_group g placed) (own job (gained u v g)))
+      → RowOnlyWriterOf (of_job job) u w → (g : ℕ) → Puts job (in_group g (placed ++ it ∷ [])) (own job (gained u w g))
   puts_now u worked placed puts alone g =
       let parts = row_alone_in_parts (of_job job) u v w worked work alone in
       let more = own_more job u v w worked work g in

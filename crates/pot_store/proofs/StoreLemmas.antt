@@ -29,13 +29,13 @@ use Rattle.pot_index.specs.Index.{IndexView, names_read}
 use Rattle.pot_index.specs.Fits.{FitsPlace, group_of}
 use Rattle.pot_index.specs.Records.{mark_of}
 use Rattle.pot_turn.specs.declared.name.TurnName.{TurnName}
-use Rattle.pot_worked.specs.Worked.{added}
+use Rattle.pot_worked.specs.WroteOnlyFor.{added}
 use Rattle.pot_worked.specs.Laws.{AllOf}
 use Rattle.pot_rows.specs.Rows.{view_at}
-use Rattle.pot_rows.specs.Works.{AllIdle, RowWorked, RowAlone}
+use Rattle.pot_rows.specs.Works.{AllIdle, RowWroteOnlyFor, RowOnlyWriterOf}
 use Rattle.pot_rows.proofs.WorkLemmas.{row_work_in_parts, row_alone_in_parts}
 use Rattle.pot_replies.specs.Settings.{Setting}
-use Rattle.pot_replies.specs.Sections.{mine, IsSilent, Moment, names_after}
+use Rattle.pot_replies.specs.Sections.{mine, IsSilent, LogPoint, names_after}
 use Rattle.pot_replies.specs.Renewals.{IsPutFault}
 use Rattle.pot_replies.specs.Stores.{Placed, Puts, IsStored, IsStoreFault, IsFull, IsStoreLogFull, IsUnkept, Stops, in_group, place_of}
 use Rattle.pot_shared.specs.declared.member.GroupOrigin.{GroupOrigin}
@@ -43,7 +43,7 @@ use Rattle.pot_shared.specs.Members.{entries_of}
 use Rattle.pot_shared.specs.Ready.{GroupPasses}
 use Rattle.pot_shared.specs.Catalogs.{IndexPasses, IsIndexReady}
 use Rattle.pot_shared.specs.IndexCalls.{IndexCall, ReservesName}
-use Rattle.pot_shared.specs.Works.{of_job, gained, Known, known, JobWorked, JobAlone, section_of, IsSettingOf}
+use Rattle.pot_shared.specs.Works.{of_job, gained, Known, known, JobWroteOnly, JobOnlyWriter, section_of, IsSettingOf}
 use Rattle.pot_store.specs.Puts.{EndsFull, EndsLogFull, PutsEnd}
 use Rattle.pot_store.specs.Stores.{StoreRow, DrawsFrom, drawn_blocks, record_of, fault_of}
 use Rattle.pot_store.specs.declared.storing.StoreFault.TheVariants as fault
@@ -52,7 +52,7 @@ use Rattle.pot_store.proofs.IndexLemmas.{names_to, reserve_entries, reserve_adds
 
 -- NOTHING WAS LOGGED
 
-pub stays : (job : ℕ) (k : Known) → AllIdle k.groups → AllIdle k.index → JobWorked job k k
+pub stays : (job : ℕ) (k : Known) → AllIdle k.groups → AllIdle k.index → JobWroteOnly job k k
 stays job k idle index_idle = record { groups = row_stays (of_job job) k.groups idle; index = row_stays (index.is_of job) k.index index_idle }
 
 pub silent : (job : ℕ) (k : Known) → IsSilent (mine job (section_of k k))
@@ -65,14 +65,14 @@ module _ (job : ℕ) (name : List ℕ) (rack : Rack) (names turn : List TurnName
   its_reserve : call.turn.entries ≡ reserve_entries job name result
   its_reserve = reserve_adds job name result call.turn.old call.turn.new call.turn.entries call.turn.call call.turn.log
 
-  pub reserve_work : RowWorked (index.is_of job) i0 i1
+  pub reserve_work : RowWroteOnlyFor (index.is_of job) i0 i1
   reserve_work = index_work job rack names turn (ReservesName job name result) i0 i1 ready call (all_reserve job name result call.turn.old call.turn.new call.turn.entries call.turn.call call.turn.log)
 
-  pub reserve_own : RowAlone (index.is_of job) i0 i1 → index.own job (added (view_at i0 0) (view_at i1 0)) ≡ reserve_entries job name result
+  pub reserve_own : RowOnlyWriterOf (index.is_of job) i0 i1 → index.own job (added (view_at i0 0) (view_at i1 0)) ≡ reserve_entries job name result
   reserve_own alone =
       index_own job rack names turn (ReservesName job name result) i0 i1 ready call (all_reserve job name result call.turn.old call.turn.new call.turn.entries call.turn.call call.turn.log) alone ∙ its_reserve
 
-  pub reserve_job : JobWorked job (known g0 i0) (known g0 i1)
+  pub reserve_job : JobWroteOnly job (known g0 i0) (known g0 i1)
   reserve_job = record { groups = row_stays (of_job job) g0 idle; index = reserve_work }
 
   none_in_groups : (g : ℕ) → own job (gained g0 g0 g) ≡ []
@@ -85,7 +85,7 @@ its_read s k rack R i set call = subst (λ o. IfSome o (λ x. s.read ≡ x.read)
 -- The log of the index was full, or the name was taken, or there was no memory for its record.
 module _ (job : ℕ) (name file : List ℕ) (rack : Rack) (names turn : List TurnName) (s : Setting) (g0 : GroupPasses) (i0 i1 : IndexPasses)
     (short : length file ≤ longest) (idle : AllIdle g0) (ready : IsIndexReady rack names turn i0) (set : IsSettingOf s rack (known g0 i0)) where
-  pub log_full : (call : IndexCall (ReservesName job name (Err reserve_fault.LogFull)) i0 i1) → JobAlone job (known g0 i0) (known g0 i1)
+  pub log_full : (call : IndexCall (ReservesName job name (Err reserve_fault.LogFull)) i0 i1) → JobOnlyWriter job (known g0 i0) (known g0 i1)
       → StoreRow s job name file (Err fault.IndexLogFull) (section_of (known g0 i0) (known g0 i1))
   log_full call alone =
       let e : Result (Unit {0}) ReserveFault = Err reserve_fault.LogFull in
@@ -104,19 +104,19 @@ module _ (job : ℕ) (name file : List ℕ) (rack : Rack) (names turn : List Tur
             later = [];
             parts = sym (append-nil (added (view_at i0 0) (view_at i1 0)));
             last = refl;
-            is = call.turn.met ∙ ap (λ l. (view_at i0 0).seen ++ l) (sym gain);
+            is = call.turn.transition ∙ ap (λ l. (view_at i0 0).seen ++ l) (sym gain);
           };
           full = subst (λ n. log_bound < (length old.log + length n.reserved) + 2) (sym leads) call.turn.call.0;
         },
       )
 
-  pub taken : (call : IndexCall (ReservesName job name (Err reserve_fault.Exists)) i0 i1) → JobAlone job (known g0 i0) (known g0 i1)
+  pub taken : (call : IndexCall (ReservesName job name (Err reserve_fault.Exists)) i0 i1) → JobOnlyWriter job (known g0 i0) (known g0 i1)
       → StoreRow s job name file (Err fault.Exists) (section_of (known g0 i0) (known g0 i1))
   taken call alone =
       let e : Result (Unit {0}) ReserveFault = Err reserve_fault.Exists in
       record { short = short; index = reserve_own job name rack names turn g0 i0 i1 e idle ready call alone.index; groups = none_in_groups job name rack names turn g0 i0 i1 e idle ready call }
 
-  pub no_memory : (call : IndexCall (ReservesName job name (Err reserve_fault.NoMemory)) i0 i1) → JobAlone job (known g0 i0) (known g0 i1)
+  pub no_memory : (call : IndexCall (ReservesName job name (Err reserve_fault.NoMemory)) i0 i1) → JobOnlyWriter job (known g0 i0) (known g0 i1)
       → StoreRow s job name file (Err fault.NoMemory) (section_of (known g0 i0) (known g0 i1))
   no_memory call alone =
       let e : Result (Unit {0}) ReserveFault = Err reserve_fault.NoMemory in
@@ -134,7 +134,7 @@ module _ (job : ℕ) (name file : List ℕ) (rack : Rack) (names turn : List Tur
   abbrev reserved : Result (Unit {0}) ReserveFault
   reserved = Ok u
 
-  first_work : RowWorked (index.is_of job) i0 i1
+  first_work : RowWroteOnlyFor (index.is_of job) i0 i1
   first_work = reserve_work job name rack names turn g0 i0 i1 reserved idle ready0 reserve
 
   -- what the passes have seen of the index's log ends by the reservation
@@ -146,13 +146,13 @@ module _ (job : ℕ) (name file : List ℕ) (rack : Rack) (names turn : List Tur
       ∙ map-append (λ (x : Logged). x.entry) ((view_at i0 0).seen ++ reserve.turn.others) (plain (entry.Reserve job name) ∷ [])
 
   module _ (R : IndexView → IndexView → Type 0) (i3 : IndexPasses) (call : IndexCall R i1 i3) (all : AllOf (index.is_of job) call.turn.entries) where
-    last_work : RowWorked (index.is_of job) i1 i3
+    last_work : RowWroteOnlyFor (index.is_of job) i1 i3
     last_work = index_work job rack names turn R i1 i3 ready1 call all
 
-    pub index_job : RowWorked (index.is_of job) i0 i3
+    pub index_job : RowWroteOnlyFor (index.is_of job) i0 i3
     index_job = row_work_in_parts (index.is_of job) i0 i1 i3 first_work last_work
 
-    pub index_owns : RowAlone (index.is_of job) i0 i3 → index.own job (added (view_at i0 0) (view_at i3 0)) ≡ plain (entry.Reserve job name) ∷ call.turn.entries
+    pub index_owns : RowOnlyWriterOf (index.is_of job) i0 i3 → index.own job (added (view_at i0 0) (view_at i3 0)) ≡ plain (entry.Reserve job name) ∷ call.turn.entries
     index_owns alone =
         let parts = row_alone_in_parts (index.is_of job) i0 i1 i3 first_work last_work alone in
         index_own_more job i0 i1 i3 first_work last_work
@@ -160,14 +160,14 @@ module _ (job : ℕ) (name file : List ℕ) (rack : Rack) (names turn : List Tur
         ∙ ap (λ es. plain (entry.Reserve job name) ∷ es) (index_own job rack names turn R i1 i3 ready1 call all parts.1))
 
     -- nobody else ended the reservation
-    pub not_strange : (at : ℕ) → EndsAt job name (entries call.turn.old.log) at → call.turn.entries ≡ [] → RowAlone (index.is_of job) i0 i3 → ⊥
+    pub not_strange : (at : ℕ) → EndsAt job name (entries call.turn.old.log) at → call.turn.entries ≡ [] → RowOnlyWriterOf (index.is_of job) i0 i3 → ⊥
     not_strange at ends none alone =
         let parts = row_alone_in_parts (index.is_of job) i0 i1 i3 first_work last_work alone in
         let within : 0 < length i1.views = (let a = ready1.of.1 in let b = ready1.one in omega (arith, a, b)) in
         let gain = index_added R i1 i3 call within ∙ (ap (λ es. call.turn.others ++ es) none ∙ append-nil call.turn.others) in
         let own_none : filter (index.is_of job) call.turn.others ≡ [] = ap (filter (index.is_of job)) (sym gain) ∙ (index_own job rack names turn R i1 i3 ready1 call all parts.1 ∙ none) in
         let log : entries call.turn.old.log ≡ entries ((view_at i0 0).seen ++ reserve.turn.others) ++ entry.Reserve job name ∷ entries call.turn.others =
-        ap entries call.turn.met ∙ (map-append (λ (x : Logged). x.entry) (view_at i1 0).seen call.turn.others ∙ (ap (λ l. l ++ entries call.turn.others) reserved_seen
+        ap entries call.turn.transition ∙ (map-append (λ (x : Logged). x.entry) (view_at i1 0).seen call.turn.others ∙ (ap (λ l. l ++ entries call.turn.others) reserved_seen
         ∙ append_assoc (entries ((view_at i0 0).seen ++ reserve.turn.others)) (entry.Reserve job name ∷ []) (entries call.turn.others))) in
         not_ended job name (entries ((view_at i0 0).seen ++ reserve.turn.others)) (entry.Reserve job name) (entries call.turn.others) at (refl, refl) (none_in job call.turn.others own_none)
         (subst (λ es. EndsAt job name es at) log ends)
@@ -204,7 +204,7 @@ stored_row job name file rack s pads g0 g3 i0 i3 blocks places pieces shards pla
 -- REFUSED
 
 -- what the log that a pass has seen leads to, in the words of a session
-module _ (s : Setting) (rack : Rack) (job : ℕ) (g0 g2 : GroupPasses) (i0 : IndexPasses) (g : ℕ) (within : g < length g0.names) (set : IsSettingOf s rack (known g0 i0)) (worked : RowWorked (of_job job) g0 g2)
+module _ (s : Setting) (rack : Rack) (job : ℕ) (g0 g2 : GroupPasses) (i0 : IndexPasses) (g : ℕ) (within : g < length g0.names) (set : IsSettingOf s rack (known g0 i0)) (worked : RowWroteOnlyFor (of_job job) g0 g2)
     (o : GroupOrigin) (named : (view_at g2 g).origin ≡ Some o) where
   pub seen_is : entries_of (view_at g2 g).seen ≡ entries_of (view_at g0 g).seen ++ gained g0 g2 g
   seen_is = ap entries_of (worked g).seen ∙ map-append (λ l. l.entry) (view_at g0 g).seen (added (view_at g0 g) (view_at g2 g))
@@ -241,12 +241,12 @@ module _ (job : ℕ) (name file : List ℕ) (rack : Rack) (s : Setting) (pads : 
     puts_here = ends.puts_here;
   }
 
-  module _ (set : IsSettingOf s rack (known g0 i0)) (worked : RowWorked (of_job job) g0 g2) (within : group < length g0.names) where
+  module _ (set : IsSettingOf s rack (known g0 i0)) (worked : RowWroteOnlyFor (of_job job) g0 g2) (within : group < length g0.names) where
     -- the log of the group at the end
     abbrev whole : List Entry
     whole = entries_of (view_at g0 group).seen ++ gained g0 g2 group
 
-    now : Moment job (entries_of (view_at g0 group).seen) (gained g0 g2 group) whole
+    now : LogPoint job (entries_of (view_at g0 group).seen) (gained g0 g2 group) whole
     now = record { sofar = gained g0 g2 group; later = []; parts = sym (append-nil (gained g0 g2 group)); last = refl; is = refl }
 
     leads : replayed (s.first group) whole ≡ replayed ends.origin.first (entries_of (view_at g2 group).seen)
@@ -298,7 +298,7 @@ module _ (job : ℕ) (name file : List ℕ) (rack : Rack) (s : Setting) (pads : 
 pub refused_row : (job : ℕ) (name file : List ℕ) (rack : Rack) (s : Setting) (pads : Pads) (g0 g2 : GroupPasses) (i0 i3 : IndexPasses) (group : ℕ) (cause : PutFault) (blocks : List (List ℕ))
     → length file ≤ longest → s.rack ≡ rack → DrawsFrom s pads job file → map digest_of blocks ≡ map digest_of (drawn_blocks s pads file)
     → index.own job (added (view_at i0 0) (view_at i3 0)) ≡ plain (entry.Reserve job name) ∷ plain (entry.Abandon job name) ∷ []
-    → PutsEnd rack rack.geometry job blocks group cause g0 g2 → IsSettingOf s rack (known g0 i0) → RowWorked (of_job job) g0 g2
+    → PutsEnd rack rack.geometry job blocks group cause g0 g2 → IsSettingOf s rack (known g0 i0) → RowWroteOnlyFor (of_job job) g0 g2
     → StoreRow s job name file (Err (fault_of group cause)) (section_of (known g0 i0) (known g2 i3))
 refused_row job name file rack s pads g0 g2 i0 i3 group put_fault.Full blocks short racks draws same index ends set worked =
     let e = ends.ends in

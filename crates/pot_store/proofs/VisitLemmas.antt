@@ -19,11 +19,11 @@ use Rattle.pot_bytes.specs.Digests.{digest_of}
 use Rattle.pot_group.specs.declared.answers.Looked.{Looked}
 use Rattle.pot_group.specs.declared.answers.Looked.TheVariants as looked
 use Rattle.pot_group.specs.Group.{GroupView, LookCause, looked_as}
-use Rattle.pot_worked.specs.Worked.{added}
+use Rattle.pot_worked.specs.WroteOnlyFor.{added}
 use Rattle.pot_worked.specs.Laws.{AllOf}
-use Rattle.pot_worked.proofs.WorkedLemmas.{behind, both_added}
+use Rattle.pot_worked.proofs.WroteOnlyForLemmas.{behind, both_added}
 use Rattle.pot_rows.specs.Rows.{view_at}
-use Rattle.pot_rows.specs.Works.{AllIdle, RowWorked}
+use Rattle.pot_rows.specs.Works.{AllIdle, RowWroteOnlyFor}
 use Rattle.pot_rows.proofs.RowLemmas.{at_set}
 use Rattle.pot_replies.specs.Fetches.{SeenAs}
 use Rattle.pot_shared.specs.declared.member.Logged.{Logged}
@@ -51,7 +51,7 @@ module _ (told : Type 0) (R : GroupView → GroupView → List Entry → Type 0)
 
   -- the log that it met
   pub log_met : call.turn.old.log ≡ entries_of (view_at v group).seen ++ entries_of call.turn.others
-  log_met = sym (entries_all call.turn.old.shelves call.turn.old.log) ∙ (ap entries_of call.turn.met ∙ map-append (λ l. l.entry) (view_at v group).seen call.turn.others)
+  log_met = sym (entries_all call.turn.old.shelves call.turn.old.log) ∙ (ap entries_of call.turn.transition ∙ map-append (λ l. l.entry) (view_at v group).seen call.turn.others)
 
   -- what the pass of the group gained
   pub gained_by : gained v w group ≡ entries_of call.turn.others ++ call.turn.entries
@@ -224,7 +224,7 @@ module _ (told : Type 0) (job : ℕ) (p : Place) (into : List ℕ) (a : Looked) 
 
 -- WORK AFTER WORK
 
-module _ (job : ℕ) (u v w : GroupPasses) (first : RowWorked (of_job job) u v) (next : RowWorked (of_job job) v w) where
+module _ (job : ℕ) (u v w : GroupPasses) (first : RowWroteOnlyFor (of_job job) u v) (next : RowWroteOnlyFor (of_job job) v w) where
   pub gained_both : (g : ℕ) → gained u w g ≡ gained u v g ++ gained v w g
   gained_both g =
       ap entries_of (both_added (of_job job) (view_at u g) (view_at v g) (view_at w g) (first g) (next g))

@@ -15,7 +15,7 @@ use Rattle.pot_group.specs.declared.answers.PutFault.{PutFault}
 use Rattle.pot_group.specs.declared.answers.PutFault.TheVariants as fault
 use Rattle.pot_index.specs.Fits.{FitsPlace, group_of}
 use Rattle.pot_rows.specs.Rows.{view_at}
-use Rattle.pot_rows.specs.Works.{RowWorked, RowAlone}
+use Rattle.pot_rows.specs.Works.{RowWroteOnlyFor, RowOnlyWriterOf}
 use Rattle.pot_replies.specs.Renewals.{IsPutFault}
 use Rattle.pot_replies.specs.Stores.{Placed, Puts, place_of, in_group, IsUnkept}
 use Rattle.pot_shared.specs.Members.{entries_of}
@@ -37,8 +37,8 @@ pub record ArePut (rack : Rack) (geometry : Geometry) (job : ℕ) (blocks : List
   pub seen : (b : ℕ) (x : Placed) → slice_get placed b ≡ Some x → SeesPut new (place_of x) x.digest
   pub apart : (a b : ℕ) (x y : Placed) → slice_get placed a ≡ Some x → slice_get placed b ≡ Some y
       → place_of x ≡ place_of y → a ≡ b
-  pub worked : RowWorked (of_job job) old new
-  pub puts : RowAlone (of_job job) old new → (g : ℕ)
+  pub worked : RowWroteOnlyFor (of_job job) old new
+  pub puts : RowOnlyWriterOf (of_job job) old new → (g : ℕ)
       → Puts job (in_group g placed) (own job (gained old new g))
 
 -- the log that a pass has seen leads to a table whose cursor is behind the last stripe; it has

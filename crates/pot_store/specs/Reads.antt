@@ -13,7 +13,7 @@ use Rattle.pot_split.specs.Threshold.{IsJoin}
 use Rattle.pot_shard.specs.FileLaws.{xor_of}
 use Rattle.pot_shard.specs.Fetches.{cut_to}
 use Rattle.pot_index.specs.declared.record.Record.{Record}
-use Rattle.pot_rows.specs.Works.{RowWorked, RowAlone}
+use Rattle.pot_rows.specs.Works.{RowWroteOnlyFor, RowOnlyWriterOf}
 use Rattle.pot_shared.specs.Ready.{GroupPasses}
 use Rattle.pot_replies.specs.Joined.{points_read, shares_read}
 use Rattle.pot_store.specs.declared.fetching.FetchFault.{FetchFault}
@@ -32,13 +32,13 @@ use Rattle.pot_shared.specs.Works.{of_job, gained}
 pub record IsMade (job : ℕ) (p : Place) (v : Visit) (old new : GroupPasses) : Type 0 where
   pub is : IsVisit job p v
   pub block : ReadsBlock job p v.came old new
-  pub again : RowAlone (of_job job) old new → IsGoneAgain job p v old new
+  pub again : RowOnlyWriterOf (of_job job) old new → IsGoneAgain job p v old new
 
 -- Visits of the job to the blocks from a number on.
 pub record AreMade (job : ℕ) (places : List Place) (from : ℕ) (visits : List Visit)
     (old new : GroupPasses) : Type 0 where
-  pub worked : RowWorked (of_job job) old new
-  pub own : RowAlone (of_job job) old new → (g : ℕ)
+  pub worked : RowWroteOnlyFor (of_job job) old new
+  pub own : RowOnlyWriterOf (of_job job) old new → (g : ℕ)
       → own job (gained old new g) ≡ logged_from places g from visits
   pub each : (x : ℕ) → x < length visits
       → IsMade job (place_in places (from + x)) (visit_at visits x) old new

@@ -15,7 +15,7 @@ use Rattle.pot_index.specs.declared.record.Record.{Record}
 use Rattle.pot_index.specs.declared.record.Split.{Split}
 use Rattle.pot_index.specs.Fits.{FitsSplit}
 use Rattle.pot_index.specs.Records.{renewed}
-use Rattle.pot_rows.specs.Works.{RowAlone}
+use Rattle.pot_rows.specs.Works.{RowOnlyWriterOf}
 use Rattle.pot_shared.specs.Ready.{GroupPasses}
 use Rattle.pot_shared.specs.Seen.{SeesFile}
 use Rattle.pot_replies.specs.Settings.{Setting}
@@ -69,7 +69,7 @@ pub record StopsAt (rack : Rack) (geometry : Geometry) (job : ℕ) (file : List 
   pub group : ℕ
   pub cause : PutFault
   pub is : e ≡ of_put group cause
-  pub ends : RowAlone (of_job job) old new
+  pub ends : RowOnlyWriterOf (of_job job) old new
       → PutsEnd rack geometry job (blocks_from geometry file pads) group cause old new
 
 -- The blocks of a file, by the next bytes of a stream, were put as a split of this geometry, which

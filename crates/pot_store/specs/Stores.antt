@@ -75,5 +75,5 @@ StoreRow s job name file (Err (fault.Full group)) w = IsFull s job name file gro
 StoreRow s job name file (Err (fault.Faulted group column)) w =
     IsStoreFault s job name file group column (mine job w)
 StoreRow s job name file (Err (fault.LogFull group)) w = IsStoreLogFull s job name file group w
-StoreRow s job name file (Err (fault.Strange at)) w = ⊥
+StoreRow s job name file (Err (fault.ReservationLost at)) w = ⊥
 StoreRow s job name file (Err fault.NoMemory) w = IsSilent (mine job w)

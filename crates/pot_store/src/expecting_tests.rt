@@ -32,7 +32,7 @@ enum Whose {
     /// Another job's, of which nothing is expected.
     Other,
     /// The store's, which seals the block alone.
-    Alone(u8),
+    OnlyWriterOf(u8),
     /// The store's, which seals the block together with that of the next put.
     First(u8),
     /// The store's, whose block was sealed together with that of the put before.
@@ -46,8 +46,10 @@ impl Whose {
     fn expects(self) -> Option<u8> {
         match self {
             Whose::Other => None,
-            Whose::Alone(byte) | Whose::First(byte) | Whose::Second(byte) | Whose::Seeing(byte) =>
-                Some(byte),
+            Whose::OnlyWriterOf(byte)
+            | Whose::First(byte)
+            | Whose::Second(byte)
+            | Whose::Seeing(byte) => Some(byte),
         }
     }
 }
@@ -124,7 +126,7 @@ impl Stage {
     /// Seals the block of the first of these puts, where it is the store's.
     fn seal(&mut self, puts: &[Put]) -> Option<SealedPut> {
         match puts {
-            [(group, byte, Whose::Alone(_), _), ..] => {
+            [(group, byte, Whose::OnlyWriterOf(_), _), ..] => {
                 Some(self.expected.seal(*group, &block(*byte)))
             }
             [(group, byte, Whose::First(_), _), (next, other, _, _), ..] => {
@@ -211,24 +213,24 @@ fn puts_sealed_alone(rt: HostRuntime) -> Result<(), Fail> {
     let puts = [
         // Another job begins the first stripe of group 1.
         (1, 0x01, Whose::Other, 0x01),
-        (0, 0x01, Whose::Alone(0x01), 0x01),
-        (1, 0x02, Whose::Alone(0x02), 0x03),
-        (0, 0x02, Whose::Alone(0x03), 0x03),
-        (1, 0x04, Whose::Alone(0x06), 0x07),
-        (0, 0x04, Whose::Alone(0x07), 0x07),
+        (0, 0x01, Whose::OnlyWriterOf(0x01), 0x01),
+        (1, 0x02, Whose::OnlyWriterOf(0x02), 0x03),
+        (0, 0x02, Whose::OnlyWriterOf(0x03), 0x03),
+        (1, 0x04, Whose::OnlyWriterOf(0x06), 0x07),
+        (0, 0x04, Whose::OnlyWriterOf(0x07), 0x07),
         // Both groups are at a new stripe.
-        (1, 0x08, Whose::Alone(0x08), 0x08),
-        (0, 0x08, Whose::Alone(0x08), 0x08),
-        (1, 0x10, Whose::Alone(0x18), 0x18),
+        (1, 0x08, Whose::OnlyWriterOf(0x08), 0x08),
+        (0, 0x08, Whose::OnlyWriterOf(0x08), 0x08),
+        (1, 0x10, Whose::OnlyWriterOf(0x18), 0x18),
         // Another job puts in between, and the stripe has one more block.
         (0, 0x10, Whose::Other, 0x18),
-        (0, 0x20, Whose::Alone(0x28), 0x38),
-        (0, 0x40, Whose::Alone(0x40), 0x40),
-        (0, 0x80, Whose::Alone(0xc0), 0xc0),
+        (0, 0x20, Whose::OnlyWriterOf(0x28), 0x38),
+        (0, 0x40, Whose::OnlyWriterOf(0x40), 0x40),
+        (0, 0x80, Whose::OnlyWriterOf(0xc0), 0xc0),
         // Another job ends the stripe, and the next put begins one.
         (0, 0x01, Whose::Other, 0xc1),
-        (0, 0x02, Whose::Alone(0xc2), 0x02),
-        (0, 0x04, Whose::Alone(0x06), 0x06),
+        (0, 0x02, Whose::OnlyWriterOf(0xc2), 0x02),
+        (0, 0x04, Whose::OnlyWriterOf(0x06), 0x06),
     ];
     see(&rt, rt.alloc(), &puts)
 }
@@ -289,12 +291,12 @@ fn others_met(rt: HostRuntime) -> Result<(), Fail> {
         (0, 0x01, Whose::Other, 0x01),
         (0, 0x02, Whose::First(0x02), 0x03),
         (0, 0x04, Whose::Second(0x06), 0x07),
-        (0, 0x08, Whose::Alone(0x08), 0x08),
+        (0, 0x08, Whose::OnlyWriterOf(0x08), 0x08),
     ];
     let beside = [
-        (0, 0x01, Whose::Alone(0x01), 0x01),
+        (0, 0x01, Whose::OnlyWriterOf(0x01), 0x01),
         (0, 0x02, Whose::Other, 0x03),
-        (0, 0x04, Whose::Alone(0x05), 0x07),
+        (0, 0x04, Whose::OnlyWriterOf(0x05), 0x07),
     ];
     assert_eq!(rt; meets(rt.alloc(), &alone)?, false);
     assert_eq!(rt; meets(rt.alloc(), &beside)?, true);

@@ -4,7 +4,7 @@ ghost use Rattle.std.specs.Vec.{vec_capacity};
 ghost use Rattle.pot_object.specs.Pieces.{pieces_of};
 ghost use Rattle.pot_index.specs.Fits.{FitsRack};
 ghost use Rattle.pot_shared.specs.Callers.{AreReadyFor, HasAllGroups};
-ghost use Rattle.pot_shared.specs.Sessions.{InGroups, Judges, Worked, job_of, knows, rack_of};
+ghost use Rattle.pot_shared.specs.Connections.{InGroups, TellsIfOnlyWriter, WroteOnlyFor, job_of, knows, rack_of};
 ghost use Rattle.pot_store.specs.Reads.{FileRead, RecordRead};
 ghost use Rattle.pot_store.specs.Fetches.{AreFilled, FetchRow};
 ghost use Rattle.pot_store.specs.Stored.{FetchGives};
@@ -18,7 +18,7 @@ use pot_index::{FindFault, Record};
 use pot_object::count_pieces;
 use pot_outside::Archive;
 use pot_pads::PadStream;
-use pot_shared::{Caller, Passes, Session};
+use pot_shared::{Caller, Connection, Passes};
 use std::sync::Wait;
 
 /// Why a fetch gave no file.
@@ -66,20 +66,20 @@ pub enum FetchFault {
 /// too few points of a fragment can be seen, `Faulted` of the least one at which an archive failed, and `Lost` where there is
 /// none. `Odd` exactly where the bytes that were read have another digest than the file. `NoMemory` comes before the first look.
 pub fn fetch_file<A: Archive, R: Wait>(
-    session: &mut Session<'_, A, R>,
+    connection: &mut Connection<'_, A, R>,
     name: &Name,
     pads: &mut PadStream,
 ) -> Result<Vec<u8>, FetchFault>
-    ensures worked { Worked session.old session.new }
-    ensures says { Judges (λ b s w. s.mends ≡ true → AreFilled s
-        → FetchRow s b.job name.now result w) session.old session.new }
-    ensures stored { Judges (λ b s w. s.mends ≡ true → AreFilled s
-        → FetchGives s b.job name.now result w) session.old session.new }
-    ensures blinds { Blinds (IsTrue A.account.tells) (job_of session.old) pads.old pads.new
-        (knows session.old).groups (knows session.new).groups }
+    ensures worked { WroteOnlyFor connection.old connection.new }
+    ensures says { TellsIfOnlyWriter (λ b s w. s.mends ≡ true → AreFilled s
+        → FetchRow s b.job name.now result w) connection.old connection.new }
+    ensures stored { TellsIfOnlyWriter (λ b s w. s.mends ≡ true → AreFilled s
+        → FetchGives s b.job name.now result w) connection.old connection.new }
+    ensures blinds { Blinds (IsTrue A.account.tells) (job_of connection.old) pads.old pads.new
+        (knows connection.old).groups (knows connection.new).groups }
 {
-    match session.find(name) {
-        Ok(kept) => read_kept(session, &kept, pads),
+    match connection.find(name) {
+        Ok(kept) => read_kept(connection, &kept, pads),
         Err(FindFault::LogFull) => Err(FetchFault::IndexLogFull),
         Err(FindFault::Absent) => Err(FetchFault::Absent),
         Err(FindFault::NoMemory) => Err(FetchFault::NoMemory),
@@ -88,17 +88,17 @@ pub fn fetch_file<A: Archive, R: Wait>(
 
 /// Reads the file of a record in the session of a job, as `read_record`.
 pub(crate) fn read_kept<A: Archive, R: Wait>(
-    session: &mut Session<'_, A, R>,
+    connection: &mut Connection<'_, A, R>,
     kept: &Record,
     pads: &mut PadStream,
 ) -> Result<Vec<u8>, FetchFault>
-    requires { FitsRack (rack_of session.old) kept.now }
-    ensures read { InGroups (λ b. RecordRead b.job kept.now result) session.old session.new }
+    requires { FitsRack (rack_of connection.old) kept.now }
+    ensures read { InGroups (λ b. RecordRead b.job kept.now result) connection.old connection.new }
     ensures blinds { InGroups (λ b. Blinds (IsTrue A.account.tells) b.job pads.old pads.new)
-        session.old session.new }
+        connection.old connection.new }
 {
-    let caller = session.caller();
-    read_record(&caller, &mut session.passes, kept, pads)
+    let caller = connection.caller();
+    read_record(&caller, &mut connection.passes, kept, pads)
 }
 
 /// Reads the file of a record, and compares its digest.

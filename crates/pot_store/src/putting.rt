@@ -2,8 +2,8 @@
 ghost use Rattle.std.specs.Prelude.{◌≡◌, ◌<◌, ◌≤◌, [], IfOk, IfErr, length};
 ghost use Rattle.std.specs.Vec.{vec_capacity};
 ghost use Rattle.pot_bytes.specs.Rack.{IsGeometry};
-ghost use Rattle.pot_rows.specs.Works.{RowWorked, RowAlone};
-ghost use Rattle.pot_shared.specs.Sessions.{InGroups, job_of, knows, names_of, rack_of};
+ghost use Rattle.pot_rows.specs.Works.{RowWroteOnlyFor, RowOnlyWriterOf};
+ghost use Rattle.pot_shared.specs.Connections.{InGroups, job_of, knows, names_of, rack_of};
 ghost use Rattle.pot_shared.specs.Works.{of_job, OnlySaw};
 ghost use Rattle.pot_store.specs.Drawing.{all_blocks, count_of};
 ghost use Rattle.pot_store.specs.Puts.{ArePut, PutsEnd};
@@ -13,7 +13,7 @@ use pot_bytes::{Geometry, Place};
 use pot_group::PutFault;
 use pot_index::group_of;
 use pot_outside::Archive;
-use pot_shared::Session;
+use pot_shared::Connection;
 use std::sync::Wait;
 
 /// The put that a store ended at.
@@ -25,21 +25,21 @@ pub(crate) struct Stopped {
 
 /// Sees where the groups of the next two puts stand, each in one turn, where others put into a group in between. It logs nothing.
 fn look_ahead<A: Archive, R: Wait>(
-    session: &mut Session<'_, A, R>,
+    connection: &mut Connection<'_, A, R>,
     drawing: &mut SealedDrawing,
     groups: (u8, u8),
 )
-    requires first { groups.0 < length (names_of session.old) }
-    requires second { groups.1 < length (names_of session.old) }
-    ensures saw { InGroups (λ b. OnlySaw) session.old session.new }
+    requires first { groups.0 < length (names_of connection.old) }
+    requires second { groups.1 < length (names_of connection.old) }
+    ensures saw { InGroups (λ b. OnlySaw) connection.old connection.new }
     ensures drawing { drawing.new ≡ drawing.old }
 {
     if !drawing.looks_ahead() {
         return;
     }
-    let first = session.standing(groups.0);
+    let first = connection.standing(groups.0);
     drawing.see(groups.0, &first);
-    let second = session.standing(groups.1);
+    let second = connection.standing(groups.1);
     drawing.see(groups.1, &second);
 }
 
@@ -48,7 +48,7 @@ fn look_ahead<A: Archive, R: Wait>(
 /// # Errors
 /// The first put that is refused.
 pub(crate) fn put_all<A: Archive, R: Wait>(
-    session: &mut Session<'_, A, R>,
+    connection: &mut Connection<'_, A, R>,
     geometry: &Geometry,
     drawing: &mut SealedDrawing,
     count: u32,
@@ -60,22 +60,22 @@ pub(crate) fn put_all<A: Archive, R: Wait>(
     requires count { count ≡ count_of drawing.old }
     requires few { count ≤ 131072 }
     requires room { (places.old.items ≡ []) × (count ≤ vec_capacity places.old) }
-    ensures worked { InGroups (λ b. RowWorked (of_job b.job)) session.old session.new }
+    ensures worked { InGroups (λ b. RowWroteOnlyFor (of_job b.job)) connection.old connection.new }
     ensures put { IfOk result (λ _. (length places.new.items ≡ count)
-        × ArePut (rack_of session.old) geometry.now (job_of session.old) (all_blocks drawing.old)
-        places.new.items (knows session.old).groups (knows session.new).groups) }
+        × ArePut (rack_of connection.old) geometry.now (job_of connection.old) (all_blocks drawing.old)
+        places.new.items (knows connection.old).groups (knows connection.new).groups) }
     ensures ends { IfErr result (λ e.
-        RowAlone (of_job (job_of session.old)) (knows session.old).groups (knows session.new).groups
-        → PutsEnd (rack_of session.old) geometry.now (job_of session.old) (all_blocks drawing.old)
-        e.group e.cause (knows session.old).groups (knows session.new).groups) }
+        RowOnlyWriterOf (of_job (job_of connection.old)) (knows connection.old).groups (knows connection.new).groups
+        → PutsEnd (rack_of connection.old) geometry.now (job_of connection.old) (all_blocks drawing.old)
+        e.group e.cause (knows connection.old).groups (knows connection.new).groups) }
 {
-    let rack = session.rack();
+    let rack = connection.rack();
     for number in 0..count {
         let group = group_of(rack, geometry, number);
         let groups = (group, group_of(rack, geometry, number + 1));
-        look_ahead(session, drawing, groups);
+        look_ahead(connection, drawing, groups);
         let next = drawing.next(groups);
-        match session.put(group, &next) {
+        match connection.put(group, &next) {
             Ok(place) => {
                 drawing.note(place, &next);
                 places.push_reserved(place);

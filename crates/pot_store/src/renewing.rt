@@ -3,8 +3,8 @@
 ghost use Rattle.std.specs.Prelude.{◌≡◌, ◌<◌, ◌≤◌, true, length, IfOk, IfErr, IsTrue};
 ghost use Rattle.pot_object.specs.Pieces.{longest};
 ghost use Rattle.pot_index.specs.Fits.{FitsGeometry};
-ghost use Rattle.pot_rows.specs.Works.{RowWorked};
-ghost use Rattle.pot_shared.specs.Sessions.{InGroups, Judges, Worked, job_of, knows, rack_of};
+ghost use Rattle.pot_rows.specs.Works.{RowWroteOnlyFor};
+ghost use Rattle.pot_shared.specs.Connections.{InGroups, TellsIfOnlyWriter, WroteOnlyFor, job_of, knows, rack_of};
 ghost use Rattle.pot_shared.specs.Works.{of_job};
 ghost use Rattle.pot_store.specs.Fetches.{AreFilled};
 ghost use Rattle.pot_store.specs.Renewals.{of_find, of_fetch, of_put, of_renew, PutsSplit};
@@ -19,7 +19,7 @@ use pot_group::PutFault;
 use pot_index::{FindFault, Places, RenewFault, Split};
 use pot_outside::Archive;
 use pot_pads::PadStream;
-use pot_shared::Session;
+use pot_shared::Connection;
 use std::sync::Wait;
 
 /// How many older splits a record has at most, beside the current one.
@@ -126,18 +126,24 @@ fn of_renew(fault: RenewFault) -> RenewFileFault
 /// # Errors
 /// `NoMemory` before the first put, or the first put that is refused.
 fn put_split<A: Archive, R: Wait>(
-    session: &mut Session<'_, A, R>,
+    connection: &mut Connection<'_, A, R>,
     geometry: &Geometry,
     file: &[u8],
     pads: PadStream,
 ) -> Result<(Stored, Split), RenewFileFault>
-    requires geometry { FitsGeometry (rack_of session.old) geometry.now }
+    requires geometry { FitsGeometry (rack_of connection.old) geometry.now }
     requires short { length file.now ≤ longest }
-    ensures worked { InGroups (λ b. RowWorked (of_job b.job)) session.old session.new }
-    ensures puts { PutsSplit (rack_of session.old) geometry.now (job_of session.old) file.now pads
-        result (knows session.old).groups (knows session.new).groups }
+    ensures worked { InGroups (λ b. RowWroteOnlyFor (of_job b.job)) connection.old connection.new }
+    ensures puts { PutsSplit (rack_of connection.old) geometry.now (job_of connection.old) file.now pads
+        result (knows connection.old).groups (knows connection.new).groups }
 {
-    let Ok(plan) = prepare(session.alloc(), session.rack().columns, geometry, file, pads) else {
+    let Ok(plan) = prepare(
+        connection.alloc(),
+        connection.rack().columns,
+        geometry,
+        file,
+        pads,
+    ) else {
         return Err(RenewFileFault::NoMemory);
     };
     let Plan {
@@ -146,7 +152,7 @@ fn put_split<A: Archive, R: Wait>(
         mut drawing,
         mut places,
     } = plan;
-    match put_all(session, geometry, &mut drawing, shards, &mut places) {
+    match put_all(connection, geometry, &mut drawing, shards, &mut places) {
         Ok(()) => {
             let split = Split {
                 geometry: *geometry,
@@ -171,35 +177,35 @@ fn put_split<A: Archive, R: Wait>(
 /// `Vault::renew`. `NoMemory` may come before the first look, before the first put and behind the last one.
 /// After a refusal the record is as it was, and blocks that were put stay.
 pub fn renew_file<A: Archive, R: Wait>(
-    session: &mut Session<'_, A, R>,
+    connection: &mut Connection<'_, A, R>,
     name: &Name,
     geometry: &Geometry,
     blinds: &mut PadStream,
     pads: PadStream,
 ) -> Result<Stored, RenewFileFault>
-    requires { FitsGeometry (rack_of session.old) geometry.now }
-    ensures worked { Worked session.old session.new }
-    ensures says { Judges (λ b s w. s.mends ≡ true → AreFilled s → RenewsFrom s pads geometry.now b.job
-        → RenewRow s b.job name.now geometry.now result w) session.old session.new }
-    ensures blinds { Blinds (IsTrue A.account.tells) (job_of session.old) blinds.old blinds.new
-        (knows session.old).groups (knows session.new).groups }
+    requires { FitsGeometry (rack_of connection.old) geometry.now }
+    ensures worked { WroteOnlyFor connection.old connection.new }
+    ensures says { TellsIfOnlyWriter (λ b s w. s.mends ≡ true → AreFilled s → RenewsFrom s pads geometry.now b.job
+        → RenewRow s b.job name.now geometry.now result w) connection.old connection.new }
+    ensures blinds { Blinds (IsTrue A.account.tells) (job_of connection.old) blinds.old blinds.new
+        (knows connection.old).groups (knows connection.new).groups }
 {
-    let kept = match session.find(name) {
+    let kept = match connection.find(name) {
         Ok(kept) => kept,
         Err(fault) => return Err(of_find(fault)),
     };
     if kept.older.as_slice().len() == MOST_OLDER {
         return Err(RenewFileFault::TooOften);
     }
-    let file = match read_kept(session, &kept, blinds) {
+    let file = match read_kept(connection, &kept, blinds) {
         Ok(file) => file,
         Err(fault) => return Err(of_fetch(fault)),
     };
-    let (stored, split) = match put_split(session, geometry, &file, pads) {
+    let (stored, split) = match put_split(connection, geometry, &file, pads) {
         Ok(put) => put,
         Err(fault) => return Err(fault),
     };
-    match session.renew(name, split) {
+    match connection.renew(name, split) {
         Ok(()) => Ok(stored),
         Err(fault) => Err(of_renew(fault)),
     }

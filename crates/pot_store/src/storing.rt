@@ -3,7 +3,7 @@ ghost use Rattle.std.specs.Prelude.{◌≡◌, ◌<◌, ◌≤◌, IfOk, IfErr, 
 ghost use Rattle.std.specs.Vec.{vec_capacity};
 ghost use Rattle.pot_object.specs.Pieces.{longest};
 ghost use Rattle.pot_bytes.specs.Rack.{IsGeometry};
-ghost use Rattle.pot_shared.specs.Sessions.{Judges, Worked};
+ghost use Rattle.pot_shared.specs.Connections.{TellsIfOnlyWriter, WroteOnlyFor};
 ghost use Rattle.pot_store.specs.Stores.{DrawsFrom, StoreRow, record_of, fault_of, IsPlan};
 ghost use Rattle.pot_store.specs.Stores.{IsUnplanned};
 
@@ -16,7 +16,7 @@ use pot_index::{Places, Record, ReserveFault, Splits};
 use pot_object::{TooLong, cut_file};
 use pot_outside::Archive;
 use pot_pads::PadStream;
-use pot_shared::{Session, Strange};
+use pot_shared::{Connection, ReservationLost};
 use std::alloc::Global;
 use std::sync::Wait;
 
@@ -43,7 +43,7 @@ pub enum StoreFault {
     /// The log of the group has no room.
     LogFull { group: u8 },
     /// Another pass ended the job's reservation, by the entry at this place of the index's log.
-    Strange { at: u32 },
+    ReservationLost { at: u32 },
     NoMemory,
 }
 
@@ -126,19 +126,19 @@ pub(crate) fn prepare<'a>(
 ///
 /// # Errors
 /// In this order: `TooLong`; `IndexLogFull` and `Exists`, as `Index::reserve`; and the first put that is refused, after which the
-/// name is free again. `NoMemory` comes before anything is logged. `Strange` comes where another pass ended the job's reservation.
+/// name is free again. `NoMemory` comes before anything is logged. `ReservationLost` comes where another pass ended the job's reservation.
 pub fn store_file<A: Archive, R: Wait>(
-    session: &mut Session<'_, A, R>,
+    connection: &mut Connection<'_, A, R>,
     name: &Name,
     file: &[u8],
     pads: PadStream,
 ) -> Result<Stored, StoreFault>
-    ensures worked { Worked session.old session.new }
-    ensures says { Judges (λ b s w. DrawsFrom s pads b.job file.now
-        → StoreRow s b.job name.now file.now result w) session.old session.new }
+    ensures worked { WroteOnlyFor connection.old connection.new }
+    ensures says { TellsIfOnlyWriter (λ b s w. DrawsFrom s pads b.job file.now
+        → StoreRow s b.job name.now file.now result w) connection.old connection.new }
 {
-    let alloc = session.alloc();
-    let rack = session.rack();
+    let alloc = connection.alloc();
+    let rack = connection.rack();
     let geometry = &rack.geometry;
     let Plan {
         pieces,
@@ -146,23 +146,23 @@ pub fn store_file<A: Archive, R: Wait>(
         mut drawing,
         mut places,
     } = prepare(alloc, rack.columns, geometry, file, pads)?;
-    match session.reserve(name) {
+    match connection.reserve(name) {
         Ok(()) => {}
         Err(ReserveFault::LogFull) => return Err(StoreFault::IndexLogFull),
         Err(ReserveFault::Exists) => return Err(StoreFault::Exists),
         Err(ReserveFault::NoMemory) => return Err(StoreFault::NoMemory),
     }
-    match put_all(session, geometry, &mut drawing, shards, &mut places) {
+    match put_all(connection, geometry, &mut drawing, shards, &mut places) {
         Ok(()) => {
             let kept = record_of(alloc, name, file, geometry, places);
-            match session.publish(kept) {
+            match connection.publish(kept) {
                 Ok(()) => Ok(Stored { pieces, shards }),
-                Err(Strange { at }) => Err(StoreFault::Strange { at }),
+                Err(ReservationLost { at }) => Err(StoreFault::ReservationLost { at }),
             }
         }
-        Err(stopped) => match session.abandon(name) {
+        Err(stopped) => match connection.abandon(name) {
             Ok(()) => Err(fault_of(stopped)),
-            Err(Strange { at }) => Err(StoreFault::Strange { at }),
+            Err(ReservationLost { at }) => Err(StoreFault::ReservationLost { at }),
         },
     }
 }

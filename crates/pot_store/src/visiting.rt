@@ -104,7 +104,7 @@ pub fn mend<A: Archive, R: Wait>(
         Mend::Faulted { column } => Some(Point::Failed { column }),
         Mend::LogFull => None,
         Mend::Began => unreachable!(),
-        Mend::Went => unreachable!(),
+        Mend::Extends => unreachable!(),
         Mend::Mended => unreachable!(),
         Mend::Passed => unreachable!(),
     }

@@ -44,13 +44,13 @@ pub wrote_more : (u v w : View Line ℕ) (author n count : ℕ) → count ≡ su
 wrote_more u v w author n count is pass sofar wrote =
     let before = wrote.0 in
     let new = line author n in
-    let met = v.seen ++ before in
-    let log = met ++ new ∷ [] in
-    let took : View Line ℕ = took_view met v in
-    let grown : StartsWith met v.seen = (before, refl) in
-    let passed : IsPass took = pass_took v pass met grown in
+    let transition = v.seen ++ before in
+    let log = transition ++ new ∷ [] in
+    let took : View Line ℕ = took_view transition v in
+    let grown : StartsWith transition v.seen = (before, refl) in
+    let passed : IsPass took = pass_took v pass transition grown in
     let other : (a : ℕ) → a ≢ author → NoneIn (by a) v.seen (stretches_of v) → NoneIn (by a) log (stretches_of (left_view log took)) =
-    λ a ne none. none_left (by a) took passed log (new ∷ []) refl (by_other author a n ne) (none_took (by a) v pass met grown none) in
+    λ a ne none. none_left (by a) took passed log (new ∷ []) refl (by_other author a n ne) (none_took (by a) v pass transition grown none) in
     subst (λ (x : View Line ℕ). Wrote author (author + 1) count u x) (sym wrote.1)
     (subst (λ (k : ℕ). Wrote author (author + 1) k u (left_view log took)) (sym is) (record {
       idle = refl;
@@ -60,12 +60,12 @@ wrote_more u v w author n count is pass sofar wrote =
           let size : author + 1 - author ≡ 1 = omega arith in
           let before_it : (author + 1 - author) * n ≡ 1 * n = ap (λ k. k * n) size in
           let with_it : (author + 1 - author) * suc n ≡ 1 * suc n = ap (λ k. k * suc n) size in
-          let long = length-append met (new ∷ []) in
+          let long = length-append transition (new ∷ []) in
           omega (arith, sofar.made, before_it, with_it, long);
       theirs = λ a le lt.
           let same : author ≡ a = omega (arith, le, lt) in
           let its = sofar.theirs author (omega arith) (omega arith) in
-          let more = carries_left (by author) took passed (lines_of author n) (carries_took (by author) v pass (lines_of author n) its met grown) log (new ∷ []) refl in
+          let more = carries_left (by author) took passed (lines_of author n) (carries_took (by author) v pass (lines_of author n) its transition grown) log (new ∷ []) refl in
           subst (λ (b : ℕ). Carries (by b) (left_view log took) (lines_of b (suc n))) same
           (subst (λ (es : List Line). Carries (by author) (left_view log took) (lines_of author n ++ es)) (by_self author n) more);
       before = λ a lt. other a (λ h. omega (arith, h, lt)) (sofar.before a lt);

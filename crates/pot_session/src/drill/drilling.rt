@@ -3,7 +3,7 @@
 ghost use Rattle.std.specs.Prelude.{◌≡◌, ◌≤◌, ◌++◌, [], codes, length, IsTrue, IfOk, OnOk, IsErrOf};
 ghost use Rattle.pot_bytes.specs.Rack.{IsGeometry};
 ghost use Rattle.pot_object.specs.Pieces.{longest, pieces_of};
-ghost use Rattle.pot_outside.specs.Accounts.{Faults, met};
+ghost use Rattle.pot_outside.specs.Accounts.{Faults, transition};
 ghost use Rattle.pot_shard.specs.FileBlocks.{random_len};
 ghost use Rattle.pot_session.specs.Drills.{DrillsTo, Drilled, Drills, IsDrill, exposed_text};
 ghost use Rattle.pot_session.specs.Drills.{random_of, read_most, report_text};
@@ -124,9 +124,9 @@ fn drill_source<S: Source>(
     source: &mut S,
 ) -> Result<Telling, Stop>
     requires { IsDrill task.now }
-    ensures drilled { Drilled task.now seed.now (met S.account source.old source.new) result }
+    ensures drilled { Drilled task.now seed.now (transition S.account source.old source.new) result }
     ensures read { IsTrue S.account.tells
-        → ReadsAtMost read_most (met S.account source.old source.new) }
+        → ReadsAtMost read_most (transition S.account source.old source.new) }
     ensures whole { IsTrue S.account.tells
         → OnOk result ((S.account.meaning source.new).held ≡ []) }
     ensures cause { Faults S.account source.old source.new
@@ -155,8 +155,8 @@ pub(crate) fn drill_files<S: Source, K: Sink>(
     sink: &mut K,
 ) -> Status
     requires { IsDrill task.now }
-    ensures drills { Drills task.now drawn (met S.account source.old source.new)
-        (met K.account sink.old sink.new) result }
+    ensures drills { Drills task.now drawn (transition S.account source.old source.new)
+        (transition K.account sink.old sink.new) result }
     ensures source { Faults S.account source.old source.new
         (result ≡ Status.SourceFault) }
     ensures sink { Faults K.account sink.old sink.new (result ≡ Status.SinkFault) }

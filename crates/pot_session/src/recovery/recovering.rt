@@ -2,8 +2,8 @@
 
 ghost use Rattle.std.specs.Prelude.{◌≡◌, ◌≢◌, ◌<◌, ◌≤◌, ◌+◌, ◌*◌, ◌^◌, ℕ, IsTrue, IfOk, OnOk};
 ghost use Rattle.std.specs.Prelude.{IfErr, IsErr, IsErrOf, IsOk, ◌⊎◌, false, length};
-ghost use Rattle.pot_outside.specs.Accounts.{Faults, met};
-ghost use Rattle.pot_outside.specs.Rooms.{IsHome, StaysAt, met_room};
+ghost use Rattle.pot_outside.specs.Accounts.{Faults, transition};
+ghost use Rattle.pot_outside.specs.Rooms.{IsHome, StaysAt, room_transition};
 ghost use Rattle.pot_outside.specs.Counts.{Caused, Rose};
 ghost use Rattle.pot_session.specs.Recovering.{Adds, AreHeldIn, FailsOr, FindsObjects, Gathers};
 ghost use Rattle.pot_session.specs.Recovering.{GiveObjects, GiveTooMany, HasFailed, IsRecovery};
@@ -115,7 +115,7 @@ fn read_archive<R: Room>(
         → StaysAt (R.meaning room.old) (R.meaning room.new) n }
     ensures cause { Caused (R.meaning room.old).faults (R.meaning room.new).faults
         (IsErrOf result RoomFault.Failed) }
-    ensures own { FailsOr (met_room R.A.account R.meaning room.old room.new)
+    ensures own { FailsOr (room_transition R.A.account R.meaning room.old room.new)
         (HasFailed ((R.meaning room.old).means number) ((R.meaning room.new).means number))
         (IsErrOf result RoomFault.Failed) }
 {
@@ -155,7 +155,7 @@ fn read_archives<R: Room>(
         → (R.meaning room.new).means n ≡ (R.meaning room.old).means n }
     ensures cause { Caused (R.meaning room.old).faults (R.meaning room.new).faults
         (IsErrOf result RoomFault.Failed) }
-    ensures own { FailsOr (met_room R.A.account R.meaning room.old room.new)
+    ensures own { FailsOr (room_transition R.A.account R.meaning room.old room.new)
         (SomeFailed task.now.archives (R.meaning room.old) (R.meaning room.new))
         (IsErrOf result RoomFault.Failed) }
 {
@@ -196,7 +196,7 @@ fn find_objects<R: Room>(alloc: Global, task: &Recover, room: &mut R) -> Result<
     requires task { IsRecovery task.now }
     requires home { IsHome (R.meaning room.old) }
     ensures finds { FindsObjects task.now
-        (met_room R.A.account R.meaning room.old room.new) result }
+        (room_transition R.A.account R.meaning room.old room.new) result }
     ensures read { IsTrue R.A.account.tells
         → WereRead task.now.archives (R.meaning room.old) (R.meaning room.new) }
     ensures home { IsHome (R.meaning room.new) }
@@ -204,7 +204,7 @@ fn find_objects<R: Room>(alloc: Global, task: &Recover, room: &mut R) -> Result<
         → (R.meaning room.new).means n ≡ (R.meaning room.old).means n }
     ensures cause { Caused (R.meaning room.old).faults (R.meaning room.new).faults
         (IsErrOf result Stop.RoomFault) }
-    ensures own { FailsOr (met_room R.A.account R.meaning room.old room.new)
+    ensures own { FailsOr (room_transition R.A.account R.meaning room.old room.new)
         (SomeFailed task.now.archives (R.meaning room.old) (R.meaning room.new))
         (IsErrOf result Stop.RoomFault) }
 {
@@ -231,13 +231,13 @@ pub(crate) fn recover_files<K: Sink, R: Room>(
 ) -> Status
     requires task { IsRecovery task.now }
     requires home { IsHome (R.meaning room.old) }
-    ensures recovers { Recovers task.now (met_room R.A.account R.meaning room.old room.new)
-        (met K.account sink.old sink.new) result }
+    ensures recovers { Recovers task.now (room_transition R.A.account R.meaning room.old room.new)
+        (transition K.account sink.old sink.new) result }
     ensures home { IsHome (R.meaning room.new) }
     ensures sink { Faults K.account sink.old sink.new (result ≡ Status.SinkFault) }
     ensures room { Caused (R.meaning room.old).faults (R.meaning room.new).faults
         (result ≡ Status.RoomFault) }
-    ensures own { FailsOr (met_room R.A.account R.meaning room.old room.new)
+    ensures own { FailsOr (room_transition R.A.account R.meaning room.old room.new)
         (SomeFailed task.now.archives (R.meaning room.old) (R.meaning room.new))
         (result ≡ Status.RoomFault) }
 {

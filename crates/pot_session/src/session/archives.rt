@@ -2,7 +2,7 @@
 
 ghost use Rattle.std.specs.Prelude.{◌≡◌, ◌⊎◌, ◌<◌, ◌≤◌, [], IsTrue, OnOk, OnErr, IsErr, IsErrOf};
 ghost use Rattle.std.specs.Prelude.{length, vec_capacity};
-ghost use Rattle.pot_outside.specs.Rooms.{IsHome, met_room};
+ghost use Rattle.pot_outside.specs.Rooms.{IsHome, room_transition};
 ghost use Rattle.pot_outside.specs.Counts.{Caused};
 ghost use Rattle.pot_shelves.specs.Shelves.{numbers_of};
 ghost use Rattle.pot_shared.specs.Hands.{AreApart, AreMeant};
@@ -38,7 +38,7 @@ pub(crate) fn take_all<R: Room>(
         (IsErrOf result RoomFault.Failed) }
     ensures sound { OnOk result ((R.meaning room.new).failures ≡ (R.meaning room.old).failures) }
     ensures unlent { IsErrOf result RoomFault.Failed
-        → IsUnlent (met_room R.A.account R.meaning room.old room.new) }
+        → IsUnlent (room_transition R.A.account R.meaning room.old room.new) }
 {
     for number in numbers {
         match room.take(*number) {

@@ -1,7 +1,7 @@
 //! How a session closes.
 
 ghost use Rattle.std.specs.Prelude.{◌≡◌, ℕ, IsTrue, IsErr, IsErrOf, false};
-ghost use Rattle.pot_outside.specs.Accounts.{Faults, met_by, met_whole};
+ghost use Rattle.pot_outside.specs.Accounts.{Faults, transition_by, whole_transition};
 ghost use Rattle.pot_outside.specs.Rooms.{IsHome};
 ghost use Rattle.pot_outside.specs.Counts.{Caused};
 ghost use Rattle.pot_shelves.specs.Shelves.{numbers_of};
@@ -49,8 +49,8 @@ pub(crate) fn close_session<R: Room, D: Desk>(
     // For each way in which it was opened and served:
     ensures closes { (s : Start) → IsStartOf (IsTrue R.A.account.tells) s opened
         → Closes s.old opened.passes
-        (met_by R.A.account.tells s.room (R.meaning room.new))
-        (R.meaning room.old).failures (met_whole D.account desk.old desk.new) s.first result }
+        (transition_by R.A.account.tells s.room (R.meaning room.new))
+        (R.meaning room.old).failures (whole_transition D.account desk.old desk.new) s.first result }
     ensures which { IsCloseStop result }
     ensures room { Caused (R.meaning room.old).faults (R.meaning room.new).faults
         (IsErrOf result Stop.RoomFault) }

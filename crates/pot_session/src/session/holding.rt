@@ -1,8 +1,8 @@
 //! A session, from the desk's image and the script to its close.
 
 ghost use Rattle.std.specs.Prelude.{◌≡◌, ◌<◌};
-ghost use Rattle.pot_outside.specs.Accounts.{Faults, met, met_whole};
-ghost use Rattle.pot_outside.specs.Rooms.{IsHome, met_room};
+ghost use Rattle.pot_outside.specs.Accounts.{Faults, transition, whole_transition};
+ghost use Rattle.pot_outside.specs.Rooms.{IsHome, room_transition};
 ghost use Rattle.pot_outside.specs.Counts.{Caused};
 ghost use Rattle.pot_session.specs.Runs.{Holds, seen_by};
 
@@ -26,9 +26,9 @@ pub(crate) fn hold<S: Source, K: Sink, R: Room, D: Desk, W: Gate, X: Threads + W
     requires home { IsHome (R.meaning room.old) }
     requires workers { 0 < staff.now.workers }
     ensures holds { Holds staff.now.host.seed.now
-        (seen_by (met S.account source.old source.new) (met K.account sink.old sink.new)
-        (met_whole D.account desk.old desk.new)
-        (met_room R.A.account R.meaning room.old room.new))
+        (seen_by (transition S.account source.old source.new) (transition K.account sink.old sink.new)
+        (whole_transition D.account desk.old desk.new)
+        (room_transition R.A.account R.meaning room.old room.new))
         result }
     ensures home { IsHome (R.meaning room.new) }
     ensures source { Faults S.account source.old source.new

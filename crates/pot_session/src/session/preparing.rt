@@ -1,7 +1,7 @@
 //! What stands before the steps of a session: its image, its script, and the image with which it begins.
 
 ghost use Rattle.std.specs.Prelude.{◌≡◌, [], IsTrue, IfOk, OnOk, IfErr, IsErrOf};
-ghost use Rattle.pot_outside.specs.Accounts.{Faults, met};
+ghost use Rattle.pot_outside.specs.Accounts.{Faults, transition};
 ghost use Rattle.pot_session.specs.Runs.{IsPrepared, Stops};
 
 use crate::desk::{begin, keep_image, open_desk};
@@ -30,12 +30,12 @@ pub(crate) fn prepare<S: Source, D: Desk>(
 ) -> Result<Prepared, Stop>
     ensures prepared { IfOk result
         (λ p.
-        IsPrepared (met S.account source.old source.new) (met D.account desk.old desk.new)
+        IsPrepared (transition S.account source.old source.new) (transition D.account desk.old desk.new)
         p.image p.steps.items) }
     ensures read { IsTrue S.account.tells
         → OnOk result ((S.account.meaning source.new).held ≡ []) }
     ensures stops { IfErr result
-        (Stops (met S.account source.old source.new) (met D.account desk.old desk.new)) }
+        (Stops (transition S.account source.old source.new) (transition D.account desk.old desk.new)) }
     ensures source { Faults S.account source.old source.new
         (IsErrOf result Stop.SourceFault) }
     ensures desk { Faults D.account desk.old desk.new (IsErrOf result Stop.DeskFault) }

@@ -1,7 +1,7 @@
 //! Reads the steps of a session.
 
 ghost use Rattle.std.specs.Prelude.{◌≡◌, [], IsTrue, IfOk, OnOk, IfErr, IsErrOf};
-ghost use Rattle.pot_outside.specs.Accounts.{Faults, met};
+ghost use Rattle.pot_outside.specs.Accounts.{Faults, transition};
 ghost use Rattle.pot_session.specs.Commands.{IsRead, RefusesScript};
 
 use crate::ending::stop::Stop;
@@ -21,10 +21,10 @@ pub(crate) fn read_steps<S: Source>(
     source: &mut S,
 ) -> Result<Vec<Step>, Stop>
     ensures script { IfOk result
-        (λ steps. IsRead rack.now (met S.account source.old source.new) steps.items) }
+        (λ steps. IsRead rack.now (transition S.account source.old source.new) steps.items) }
     ensures read { IsTrue S.account.tells
         → OnOk result ((S.account.meaning source.new).held ≡ []) }
-    ensures bad { IfErr result (RefusesScript rack.now (met S.account source.old source.new)) }
+    ensures bad { IfErr result (RefusesScript rack.now (transition S.account source.old source.new)) }
     ensures cause { Faults S.account source.old source.new
         (IsErrOf result Stop.SourceFault) }
 {

@@ -3,8 +3,8 @@
 ghost use Rattle.std.specs.Prelude.{◌≡◌, ◌<◌, ◌≤◌, ◌++◌, ◌^◌, IsTrue, IfOk, OnOk, OnErr};
 ghost use Rattle.std.specs.Prelude.{IsErr, IsErrOf, Some, length, flat_map};
 ghost use Rattle.std.specs.List.{AllByRecursion};
-ghost use Rattle.pot_outside.specs.Accounts.{Faults, met, met_whole};
-ghost use Rattle.pot_outside.specs.Rooms.{IsHome, met_room};
+ghost use Rattle.pot_outside.specs.Accounts.{Faults, transition, whole_transition};
+ghost use Rattle.pot_outside.specs.Rooms.{IsHome, room_transition};
 ghost use Rattle.pot_outside.specs.Counts.{Caused};
 ghost use Rattle.pot_image.specs.Images.{contents};
 ghost use Rattle.pot_image.specs.Spelling.{image_bytes};
@@ -69,7 +69,7 @@ fn take_archives<R: Room>(
         (IsErrOf result RoomFault.Failed) }
     ensures sound { OnOk result ((R.meaning room.new).failures ≡ (R.meaning room.old).failures) }
     ensures unlent { IsErrOf result RoomFault.Failed
-        → IsUnlent (met_room R.A.account R.meaning room.old room.new) }
+        → IsUnlent (room_transition R.A.account R.meaning room.old room.new) }
 {
     let Ok(numbers) = numbers_in(alloc, tables) else {
         return Err(RoomFault::NoMemory);
@@ -127,7 +127,7 @@ fn open_session<R: Room>(
         (IsErrOf result RoomFault.Failed) }
     ensures sound { OnOk result ((R.meaning room.new).failures ≡ (R.meaning room.old).failures) }
     ensures unlent { IsErrOf result RoomFault.Failed
-        → IsUnlent (met_room R.A.account R.meaning room.old room.new) }
+        → IsUnlent (room_transition R.A.account R.meaning room.old room.new) }
 {
     let Image {
         session,
@@ -177,8 +177,8 @@ pub(crate) fn serve<K: Sink, R: Room, D: Desk, W: Gate, X: Threads + Wait + Sync
     ensures untouched { Untouched (flat_map archives_in image.tables.items ++ asked_by steps.now)
         (R.meaning room.old) (R.meaning room.new) }
     ensures serves { Serves staff.now.host.seed.now (contents image) steps.now
-        (met_room R.A.account R.meaning room.old room.new) (met K.account sink.old sink.new)
-        (met_whole D.account desk.old desk.new) result }
+        (room_transition R.A.account R.meaning room.old room.new) (transition K.account sink.old sink.new)
+        (whole_transition D.account desk.old desk.new) result }
     ensures which { IsEnd result }
     ensures sink { Faults K.account sink.old sink.new (result ≡ Status.SinkFault) }
     ensures room { Caused (R.meaning room.old).faults (R.meaning room.new).faults

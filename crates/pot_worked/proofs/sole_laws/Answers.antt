@@ -1,4 +1,4 @@
-use Rattle.pot_worked.proofs.SoleLemmas.{work_went, went_in_parts, gain_in_parts, sole_in_parts, sole_is_alone, sole_owns, batch_went, sole_at_close}
+use Rattle.pot_worked.proofs.OnlyWriterLemmas.{work_went, went_in_parts, gain_in_parts, sole_in_parts, sole_is_alone, sole_owns, batch_went, sole_at_close}
 use Rattle.pot_worked.proofs.sole_laws.Goals as goal
 
 pub returns : goal.returns

@@ -1,4 +1,4 @@
-use Rattle.pot_worked.proofs.WorkedLemmas.{work_goes_on, work_in_parts, alone_in_parts, own_in_turn, own_in_parts, more_is_work, more_has_none, alone_at_close}
+use Rattle.pot_worked.proofs.WroteOnlyForLemmas.{work_goes_on, work_in_parts, alone_in_parts, own_in_turn, own_in_parts, more_is_work, more_has_none, alone_at_close}
 use Rattle.pot_worked.proofs.BatchLemmas.{alone_in_batch, owned_in_batch}
 use Rattle.pot_worked.proofs.work_laws.Goals as goal
 

@@ -1,7 +1,7 @@
 use Rattle.std.proofs.Common.{◌≡◌, ◌+◌, refl, ap, sym, ◌∙◌, subst, arith}
 use Rattle.pot_bytes.specs.declared.rack.Rack.{Rack}
 use Rattle.pot_replies.specs.Settings.{Setting}
-use Rattle.pot_shared.specs.Works.{JobWorked, JobAlone, IsSettingOf, known, section_of}
+use Rattle.pot_shared.specs.Works.{JobWroteOnly, JobOnlyWriter, IsSettingOf, known, section_of}
 use Rattle.pot_commands.specs.Rows.{AreStatusReplies}
 use Rattle.pot_commands.proofs.StatusLemmas.{begins_counting, counting_more, counted_worked, counted_says}
 use Rattle.pot_commands.proofs.listing.count_groups.Goals as goal
@@ -28,13 +28,13 @@ loop-group-preserved g c = record {
 
 pub returns-clause-worked : goal.returns-clause-worked
 returns-clause-worked g c =
-    subst (λ i. JobWorked c.args.job (known c.args.passes.now.groups c.args.passes.now.index) (known c.loop-group.passes.groups i)) (sym c.loop-group.invariant.index)
+    subst (λ i. JobWroteOnly c.args.job (known c.args.passes.now.groups c.args.passes.now.index) (known c.loop-group.passes.groups i)) (sym c.loop-group.invariant.index)
     (counted_worked _ _ _ _ _ _ _ _ _ _ c.requires.can.index_ready c.loop-group.invariant.counting)
 
 pub returns-clause-says : goal.returns-clause-says
 returns-clause-says g c =
     let all : c.loop-group.group ≡ c.args.shared.now.vault.now.rack.groups = (let r = ap (λ (r : Rack). r.groups) c.rack.ensures in omega (arith, r, c.loop-group.auto.group-end, c.loop-group-test.false)) in
-    subst (λ i. JobAlone c.args.job (known c.args.passes.now.groups c.args.passes.now.index) (known c.loop-group.passes.groups i)
+    subst (λ i. JobOnlyWriter c.args.job (known c.args.passes.now.groups c.args.passes.now.index) (known c.loop-group.passes.groups i)
     → (s : Setting) → IsSettingOf s c.args.shared.now.vault.now.rack (known c.args.passes.now.groups c.args.passes.now.index)
     → AreStatusReplies s c.args.job c.loop-group.replies.items (section_of (known c.args.passes.now.groups c.args.passes.now.index) (known c.loop-group.passes.groups i)))
     (sym c.loop-group.invariant.index)

@@ -1,5 +1,5 @@
 use Rattle.std.proofs.Common.{refl, sym, subst, arith}
-use Rattle.pot_replies.specs.Sections.{Halves, work_of}
+use Rattle.pot_replies.specs.Sections.{MovesThenRest, work_of}
 use Rattle.pot_shared.specs.Works.{known, section_of}
 use Rattle.pot_commands.specs.Rows.{IsMigrateReply}
 use Rattle.pot_commands.proofs.MovedLemmas.{both_says, both_took, both_used, both_work, unbegun_answer}
@@ -22,7 +22,7 @@ returns-clause-worked g c = both_work c.args.shared.now.vault.now.rack c.args.sh
 pub returns-clause-says : goal.returns-clause-says
 returns-clause-says g c alone s set its =
     let w = section_of (known c.args.passes.now.groups c.args.passes.now.index) (known c.migrate-moved.new.passes.groups c.migrate-moved.new.passes.index) in
-    subst (λ r. (h : Halves w) × IsMigrateReply s w.before h.begun c.args.job c.args.from c.args.to r (work_of w h)) (sym c.move_reply.ensures)
+    subst (λ r. (h : MovesThenRest w) × IsMigrateReply s w.before h.begun c.args.job c.args.from c.args.to r (work_of w h)) (sym c.move_reply.ensures)
     (both_says c.args.shared.now.vault.now.rack c.args.shared.now.vault.now.groups c.args.shared.now.vault.now.index c.args.job c.args.from c.args.to c.in-Ok.at.group c.in-Ok.at.column c.args.passes.now.groups c.begin_move.new.passes.groups c.migrate-moved.new.passes.groups
     c.args.passes.now.index c.begin_move.new.passes.index c.migrate-moved.new.passes.index c.requires.can.ready c.begin_move.ensures.can.ready c.migrate-moved.ensures.ready c.requires.can.index_ready c.begin_move.ensures.index c.migrate-moved.ensures.index
     c.begin_move.ensures.worked c.migrate-moved.ensures.worked c.migrate-moved.result c.migrate-moved.ensures.says alone s set its c.in-Ok.ensures.says)

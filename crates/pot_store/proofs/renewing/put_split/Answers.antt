@@ -1,7 +1,7 @@
 use Rattle.std.proofs.Common.{List, ◌∙◌, ap, sym, subst}
 use Rattle.std.specs.Prelude.{Err}
 use Rattle.pot_bytes.specs.declared.rack.Place.{Place}
-use Rattle.pot_shared.specs.Sessions.{bound, knows, job_of, rack_of}
+use Rattle.pot_shared.specs.Connections.{bound, knows, job_of, rack_of}
 use Rattle.pot_store.specs.Drawing.{Drawn, all_blocks}
 use Rattle.pot_store.specs.Puts.{PutsEnd}
 use Rattle.pot_store.specs.Renewals.{IsSplit, PutsSplit}
@@ -11,9 +11,9 @@ use Rattle.pot_store.proofs.renewing.put_split.Goals as goal
 
 pub returns-in-Ok-put_all-clause-puts : goal.returns-in-Ok-put_all-clause-puts
 returns-in-Ok-put_all-clause-puts g c =
-    let b = bound c.args.session.now in
-    let old = (knows c.args.session.now).groups in
-    let new = (knows c.put_all.new.session).groups in
+    let b = bound c.args.connection.now in
+    let old = (knows c.args.connection.now).groups in
+    let new = (knows c.put_all.new.connection).groups in
     let plan = c.in-Ok.plan in
     let put = c.in-Ok-put_all.ensures.put in
     subst (λ (places : List Place). IsSplit b.vault.rack c.args.geometry.now b.job c.args.file.now c.args.pads (record { pieces = plan.pieces; shards = plan.shards })
@@ -23,9 +23,9 @@ returns-in-Ok-put_all-clause-puts g c =
 
 pub returns-clause-puts : goal.returns-clause-puts
 returns-clause-puts g c =
-    let b = bound c.args.session.now in
-    let old = (knows c.args.session.now).groups in
-    let new = (knows c.put_all.new.session).groups in
+    let b = bound c.args.connection.now in
+    let old = (knows c.args.connection.now).groups in
+    let new = (knows c.put_all.new.connection).groups in
     subst (λ (e : RenewFileFault). PutsSplit b.vault.rack c.args.geometry.now b.job c.args.file.now c.args.pads (Err e) old new) (sym c.of_put.ensures)
     (stopped_is b.vault.rack c.args.geometry.now b.job c.args.file.now c.args.pads c.in-Err.stopped.group c.in-Err.stopped.cause old new
     (λ here. subst (λ (d : Drawn). PutsEnd b.vault.rack c.args.geometry.now b.job (all_blocks d) c.in-Err.stopped.group c.in-Err.stopped.cause old new)

@@ -1,5 +1,5 @@
 use Rattle.std.proofs.Common.{inl, inr, subst, sym, arith}
-use Rattle.pot_outside.specs.Rooms.{met_room}
+use Rattle.pot_outside.specs.Rooms.{room_transition}
 use Rattle.pot_doubles.proofs.CallLemmas.{rose_later}
 use Rattle.std.proofs.lemmas.Result.{on_ok_weaker}
 use Rattle.pot_session.specs.Recovering.{WasRead}
@@ -17,7 +17,7 @@ pub returns-in-Ok-clause-own : goal.returns-in-Ok-clause-own
 returns-in-Ok-clause-own g c = record {
   later = (let a = c.take.ensures.own.later in let b = c.give-given.ensures.own.later in omega (arith, a, b));
   why = λ e. elim (c.first_fault.ensures.cause e) [
-    | inl read ↦ why_failed (met_room g.R.A.Archive.account g.R.Room.meaning c.args.room.now c.give-given.new.self) (g.R.Room.meaning c.take.new.self) c.args.number c.give-given.result _ _ c.take.ensures.own.later c.give-given.ensures.own c.give-given.ensures.told c.in-Ok.ensures.told
+    | inl read ↦ why_failed (room_transition g.R.A.Archive.account g.R.Room.meaning c.args.room.now c.give-given.new.self) (g.R.Room.meaning c.take.new.self) c.args.number c.give-given.result _ _ c.take.ensures.own.later c.give-given.ensures.own c.give-given.ensures.told c.in-Ok.ensures.told
         (c.read_slots-read.ensures.cause.rose read)
     | inr given ↦ inl (rose_later _ _ _ c.take.ensures.own.later (c.give-given.ensures.own.rose given))
   ];

@@ -1,6 +1,6 @@
 use Rattle.std.proofs.Common.{◌≡◌, inl, inr, false, subst, ◌∙◌, arith}
 use Rattle.std.proofs.lemmas.Bool.{cases_lt}
-use Rattle.pot_outside.specs.Rooms.{met_room}
+use Rattle.pot_outside.specs.Rooms.{room_transition}
 use Rattle.pot_session.proofs.RecoveringLemmas.{held_more, some_failed, were_read}
 use Rattle.pot_session.proofs.Counts.{err_again}
 use Rattle.pot_session.proofs.recovery.recovering.read_archives.Goals as goal
@@ -28,7 +28,7 @@ loop-number-preserved g c =
 pub returns-in-Err-clause-own : goal.returns-in-Err-clause-own
 returns-in-Err-clause-own g c = record {
   later = (let a = c.loop-number.invariant.own in let b = c.read_archive.ensures.own.later in omega (arith, a, b));
-  why = λ e. some_failed (met_room g.R.A.Archive.account g.R.Room.meaning c.args.room.now c.read_archive.new.room) (g.R.Room.meaning c.loop-number.room) c.args.task.now.archives c.loop-number.number
+  why = λ e. some_failed (room_transition g.R.A.Archive.account g.R.Room.meaning c.args.room.now c.read_archive.new.room) (g.R.Room.meaning c.loop-number.room) c.args.task.now.archives c.loop-number.number
       c.loop-number-test.true c.loop-number.invariant.own (c.loop-number.invariant.others c.loop-number.number (omega arith)) (c.in-Err.ensures.own.why (err_again _ _ e));
 }
 

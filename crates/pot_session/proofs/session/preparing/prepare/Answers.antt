@@ -1,6 +1,6 @@
 use Rattle.std.proofs.Common.{subst}
 use Rattle.std.specs.Prelude.{Err}
-use Rattle.pot_outside.specs.Accounts.{met, met_by}
+use Rattle.pot_outside.specs.Accounts.{transition, transition_by}
 use Rattle.pot_image.specs.Images.{contents}
 use Rattle.pot_image.specs.Spelling.{image_bytes}
 use Rattle.pot_session.specs.Desks.{Keeps, begun}
@@ -26,5 +26,5 @@ returns-in-Ok-keep_image-clause-prepared g c = record {
 pub returns-in-Err-keep_image-clause-stops : goal.returns-in-Err-keep_image-clause-stops
 returns-in-Err-keep_image-clause-stops g c =
     AtOpening c.in-Ok.read c.in-Ok-read_steps.steps.items (record { goes_on = c.in-Ok.ensures.opens.0; image = c.in-Ok.ensures.opens.1; script = c.in-Ok-read_steps.ensures.script }) c.in-Err-keep_image.ensures.which
-    (λ t. subst (λ h. Keeps (met_by g.D.Desk.account.tells h (g.D.Desk.account.meaning c.keep_image.new.desk).held) (image_bytes (begun (contents c.in-Ok.read))) (Err c.in-Err-keep_image.stop)) (c.open_desk.ensures.keeps t)
-    (subst (λ v. Keeps (met g.D.Desk.account c.open_desk.new.desk c.keep_image.new.desk) (image_bytes v) (Err c.in-Err-keep_image.stop)) c.in_ok-image.ensures (c.in-Err-keep_image.ensures.told t)))
+    (λ t. subst (λ h. Keeps (transition_by g.D.Desk.account.tells h (g.D.Desk.account.meaning c.keep_image.new.desk).held) (image_bytes (begun (contents c.in-Ok.read))) (Err c.in-Err-keep_image.stop)) (c.open_desk.ensures.keeps t)
+    (subst (λ v. Keeps (transition g.D.Desk.account c.open_desk.new.desk c.keep_image.new.desk) (image_bytes v) (Err c.in-Err-keep_image.stop)) c.in_ok-image.ensures (c.in-Err-keep_image.ensures.told t)))

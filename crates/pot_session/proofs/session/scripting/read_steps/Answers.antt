@@ -1,6 +1,6 @@
 use Rattle.std.proofs.Common.{◌≡◌, ◌-◌, length, take, arith, sym, ap, ◌∙◌}
 use Rattle.std.specs.Prelude.{vec_len}
-use Rattle.pot_outside.specs.Accounts.{met}
+use Rattle.pot_outside.specs.Accounts.{transition}
 use Rattle.pot_session.proofs.ScriptLemmas.{before_quit, steps_closed, steps_each, is_read}
 use Rattle.pot_session.proofs.StreamLemmas.{whole_source}
 use Rattle.pot_session.proofs.session.scripting.read_steps.Goals as goal
@@ -19,7 +19,7 @@ returns-in-Ok-group_steps-clause-script g c =
     let cs = c.in-Ok-read_script.commands in
     let long : vec_len cs ≡ length cs.items = omega (arith, cs.ok.0) in
     let same = before_quit c.args.rack.now c.deref.result.now cs.items c.pop-quit.new.self.items script (c.pop-quit.ensures.rest ∙ ap (λ n. take (n - 1) cs.items) long) in
-    is_read c.args.rack.now (met g.S.Source.account c.args.source.now c.read_out.new.source) c.deref.result.now cs.items c.in-Ok-group_steps.steps.items
+    is_read c.args.rack.now (transition g.S.Source.account c.args.source.now c.read_out.new.source) c.deref.result.now cs.items c.in-Ok-group_steps.steps.items
     (λ t. whole_source _ c.in-Ok.bytes.items 67108864 (c.in-Ok.ensures.told t) (omega (arith, script.short, ap length c.deref.ensures.value)) ∙ sym c.deref.ensures.value)
     script
     (c.in-Ok-group_steps.ensures.spelled ∙ same)

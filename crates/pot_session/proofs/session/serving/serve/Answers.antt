@@ -2,9 +2,9 @@ use Rattle.std.proofs.Common.{◌≡◌, ◌++◌, IsTrue, List, length, sym, ap
 use Rattle.std.specs.Prelude.{flat_map}
 use Rattle.std.specs.List.{AllByRecursion}
 use Rattle.pot_bytes.specs.declared.rack.Rack.{Rack}
-use Rattle.pot_outside.specs.Accounts.{met_whole}
+use Rattle.pot_outside.specs.Accounts.{whole_transition}
 use Rattle.pot_outside.specs.Archives.{IsMeant}
-use Rattle.pot_outside.specs.Rooms.{met_room}
+use Rattle.pot_outside.specs.Rooms.{room_transition}
 use Rattle.pot_image.specs.Images.{contents}
 use Rattle.pot_machine.specs.Table.{Table, archives_in}
 use Rattle.pot_shared.specs.Works.{known}
@@ -90,8 +90,8 @@ returns-clause-serves g c =
     ap length c.in-Ok.ensures.opened.vault.can_call.ready.of.0 ∙ (c.in-Ok.ensures.opened.vault.can_call.count ∙ ap (λ (r : Rack). r.groups) c.in-Ok.ensures.opened.vault.is_rack) in
     let long : length closes.last.group_logs ≡ length c.in-Ok.opened.passes.groups.names = closes.leaves.groups.count_logs ∙ (c.requires.together.tables.count ∙ sym names) in
     serves_closed c.args.staff.now.host.seed.now (contents c.args.image) c.args.steps.now
-    (met_room g.R.A.Archive.account g.R.Room.meaning c.args.room.now c.close_session-closed.new.room) _
-    (met_whole g.D.Desk.account c.args.desk.now c.close_session-closed.new.desk) _ _ (known c.in-Ok.opened.passes.groups c.in-Ok.opened.passes.index) (known c.work-ending.new.passes.groups c.work-ending.new.passes.index) c.work-ending.result
+    (room_transition g.R.A.Archive.account g.R.Room.meaning c.args.room.now c.close_session-closed.new.room) _
+    (whole_transition g.D.Desk.account c.args.desk.now c.close_session-closed.new.desk) _ _ (known c.in-Ok.opened.passes.groups c.in-Ok.opened.passes.index) (known c.work-ending.new.passes.groups c.work-ending.new.passes.index) c.work-ending.result
     (g.R.Room.meaning c.work-ending.new.room).failures c.close_session-closed.result _ c.in-Ok.ensures.opened.vault.first c.in-Ok.ensures.opened.vault.are_tables c.in-Ok.ensures.opened.vault.are_records c.in-Ok.ensures.opened.vault.is_rack c.in-Ok.ensures.opened.session c.work-ending.ensures.ends
     (subst (λ k. Fails k (g.R.Room.meaning c.work-ending.new.room).failures (c.work-ending.result ≡ ending.RoomFailed)) c.in-Ok.ensures.sound c.work-ending.ensures.own) closes c.requires.kept
     (λ told well n none unbrought. (let still = still_meant (IsTrue g.R.A.Archive.account.tells) _ (asked_by c.args.steps.now) (g.R.Room.meaning c.open_session.new.room) (g.R.Room.meaning c.work-ending.new.room) (known c.in-Ok.opened.passes.groups c.in-Ok.opened.passes.index) (known c.work-ending.new.passes.groups c.work-ending.new.passes.index) c.work-ending.ensures.took.taken c.work-ending.ensures.took.takes c.work-ending.ensures.took.come (flat_map archives_in c.args.image.tables.items) c.in-Ok.ensures.out

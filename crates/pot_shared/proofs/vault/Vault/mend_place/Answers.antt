@@ -14,11 +14,11 @@ steps-preserved-in-Began g c = (
       c.draw_blind-blind-in-Began.ensures.block c.draw_blind-blind-in-Began.ensures.stream,
 )
 
-pub steps-preserved-in-Went : goal.steps-preserved-in-Went
-steps-preserved-in-Went g c = (
-  c.in-Went.ensures.ready,
-  c.in-Went.ensures.index ∙ c.steps.invariant.1,
-  mending_went _ _ _ _ _ _ _ _ _ _ _ _ c.requires.ready.of c.steps.invariant.0.of c.requires.place.0 c.steps.invariant.2 c.in-Went.ensures.call,
+pub steps-preserved-in-Extends : goal.steps-preserved-in-Extends
+steps-preserved-in-Extends g c = (
+  c.in-Extends.ensures.ready,
+  c.in-Extends.ensures.index ∙ c.steps.invariant.1,
+  mending_went _ _ _ _ _ _ _ _ _ _ _ _ c.requires.ready.of c.steps.invariant.0.of c.requires.place.0 c.steps.invariant.2 c.in-Extends.ensures.call,
 )
 
 pub overflow_add-mended : goal.overflow_add-mended
@@ -59,5 +59,5 @@ returns-in_default g c = record {
   ready = c.mend_step.ensures.ready;
   index = c.mend_step.ensures.index ∙ c.steps.invariant.1;
   mended = mending_ends _ _ _ _ _ _ _ _ _ _ _ _ c.requires.ready.of c.requires.place.0 c.steps.invariant.2 _ c.mend_step.ensures.call
-      (is_last c.mend_step.result c.in_default.not-Began c.in_default.not-Went c.in_default.not-Mended c.in_default.not-Passed);
+      (is_last c.mend_step.result c.in_default.not-Began c.in_default.not-Extends c.in_default.not-Mended c.in_default.not-Passed);
 }

@@ -7,15 +7,15 @@ use Rattle.pot_shared.proofs.vault.Vault.use_at.Goals as goal
 pub leave-requires-clause-grown : goal.leave-requires-clause-grown
 leave-requires-clause-grown g c =
     let ready = rw (← c.passes.view_is) at c.requires.ready in
-    let met = view_of g.A.Archive.account.meaning c.enter-member.result.group in
-    grown ready c.requires.group c.enter-member.ensures.took c.logged-before.ensures.arrived (grows_same met met refl)
+    let transition = view_of g.A.Archive.account.meaning c.enter-member.result.group in
+    grown ready c.requires.group c.enter-member.ensures.took c.logged-before.ensures.arrived (grows_same transition transition refl)
 
 pub returns-clause-call : goal.returns-clause-call
 returns-clause-call g c =
     let ready = rw (← c.passes.view_is) at c.requires.ready in
-    let met = view_of g.A.Archive.account.meaning c.enter-member.result.group in
+    let transition = view_of g.A.Archive.account.meaning c.enter-member.result.group in
     rw (← c.passes.view_is) (called ready c.requires.group c.enter-member.ensures.took c.logged-before.ensures.arrived c.enter-member.ensures.begins c.enter-member.ensures.origin
-    c.logged-before.ensures.settled c.logged-before.ensures.first ([], grows_same met met refl, (refl, refl, c.use_of-answer.ensures)) c.logged-before.ensures.settled c.leave.ensures.left)
+    c.logged-before.ensures.settled c.logged-before.ensures.first ([], grows_same transition transition refl, (refl, refl, c.use_of-answer.ensures)) c.logged-before.ensures.settled c.leave.ensures.left)
 
 pub returns-clause-ready : goal.returns-clause-ready
 returns-clause-ready g c = ready_again c.requires.ready c.requires.group (returns-clause-call g c)

@@ -1,0 +1,178 @@
+-- A course goes on by one call.
+use Rattle.std.proofs.Common.{◌≡◌, ◌<◌, ℕ, List, [], ◌∷◌, ◌++◌, ◌+◌, ◌∙◌, inl, inr, refl, sym, ap, subst, arith, append-nil}
+use Rattle.std.proofs.lemmas.Bool.Decides.{eqb_tells}
+use Rattle.std.proofs.lemmas.List.Elements.{Contains-append_left, Contains-append_right}
+use Rattle.std.specs.Prelude.{Result, Ok, Err, Option, Some, None, Contains, map}
+use Rattle.pot_bytes.specs.declared.rack.Place.{Place}
+use Rattle.pot_outside.specs.Accounts.{Account}
+use Rattle.pot_outside.specs.Archives.{Meaning}
+use Rattle.pot_outside.specs.declared.archive.Shelf.{Shelf}
+use Rattle.pot_machine.specs.declared.entry.Entry.{Entry}
+use Rattle.pot_machine.specs.Table.{Table, width, archives_in}
+use Rattle.pot_steps.specs.GroupStep.{GroupState, StartStep}
+use Rattle.pot_machine.specs.Rules.{IsTable}
+use Rattle.pot_shelves.specs.Shelves.{Shelved, Shelves, plain, numbers_of, shelf_of, given}
+use Rattle.pot_group.specs.Group.{GroupParts, GroupView, view_of, state_of, put_as, looked_as}
+use Rattle.pot_group.specs.Arrivals.{HasArrived, arrivals}
+use Rattle.pot_group.specs.Beginning.{Begins, unopened}
+use Rattle.pot_group.specs.declared.counting.Counts.{Counts}
+use Rattle.pot_group.specs.declared.telling.LogFull.{LogFull}
+use Rattle.pot_group.specs.declared.moving.ShelfRefused.{ShelfRefused}
+use Rattle.pot_group.specs.declared.sweeping.Swept.{Swept}
+use Rattle.pot_group.specs.Calls.{ComesBy, Grows, Made, CountCall, MoveBeginCall, SwapCall}
+use Rattle.pot_group.specs.Sweeping.{Look, LooksOn, SweepCall}
+use Rattle.pot_machine.specs.Slot.{is_live}
+use Rattle.pot_group.specs.Finding.{IsPlace}
+use Rattle.pot_execution.specs.Execution.{Call, IsAsked, StepOf, Leads, IsUnopened, HasExecution, AllCame, CameAs, blind_of, blinds_of, had}
+use Rattle.pot_execution.proofs.Came.{all_came_stay, came_more, had_brought, had_more}
+use Rattle.pot_machine.specs.declared.entry.Entry.TheVariants as entry
+use Rattle.pot_execution.proofs.Begun.{blinds_more, look_blinds, no_blind}
+use Rattle.pot_execution.specs.Execution as call
+
+-- one call more
+pub led : (calls : List Call) (c : Call) (old mid new : GroupState) → Leads calls old mid → IsAsked c mid → StepOf c mid new → Leads (calls ++ c ∷ []) old new
+led [] c old mid new same asked step = (new, subst (λ m. IsAsked c m) same asked, subst (λ m. StepOf c m new) same step, refl)
+led (x ∷ xs) c old mid new leads asked step = (leads.0, leads.1, leads.2, led xs c leads.0 mid new leads.3 asked step)
+
+-- the archives that a group began with meant the same at their taking
+pub unopened_stays : (first : Table) (a b : ℕ → Meaning) (start : GroupState) → ((n : ℕ) → Contains (archives_in first) n → b n ≡ a n) → IsUnopened first a start → IsUnopened first b start
+unopened_stays first a b start same u = record {
+  table = u.table;
+  log = u.log;
+  flights = u.flights;
+  held = λ n slot h. subst (λ (m : Meaning). start.held n slot ≡ m.held slot) (sym (same n h)) (u.held n slot h);
+  heard = λ n h. subst (λ (m : Meaning). start.heard n ≡ m.heard) (sym (same n h)) (u.heard n h);
+  none = u.none;
+  silent = u.silent;
+}
+
+-- one call more
+pub goes_on : (c : Call) (old new : GroupView) (entries : List Entry) → Grows old new entries → ((n : ℕ) → Contains (had old) n → new.shelves.taken n ≡ old.shelves.taken n)
+    → CameAs (had new) new.shelves.taken c → new.blinds ≡ old.blinds ++ blind_of c → IsAsked c (state_of old) → StepOf c (state_of old) (state_of new) → HasExecution old → HasExecution new
+goes_on c old new entries grows same came begun asked step execution = record {
+  start = execution.start;
+  unopened = subst (λ f. IsUnopened f new.shelves.taken execution.start) (sym grows.first)
+      (unopened_stays old.first old.shelves.taken new.shelves.taken execution.start (λ n h. same n (Contains-append_left (archives_in old.first) (arrivals old.log) n h)) execution.unopened);
+  calls = execution.calls ++ c ∷ [];
+  leads = led execution.calls c execution.start (state_of old) (state_of new) execution.leads asked step;
+  blinds = blinds_more execution.calls c ∙ ap (λ l. l ++ blind_of c) execution.blinds ∙ sym begun;
+  came = came_more execution.calls c (had new) new.shelves.taken (all_came_stay execution.calls (had old) (had new) old.shelves.taken new.shelves.taken (had_more old new entries grows) same execution.came) came;
+}
+
+-- what the archives that a group had meant at their taking stays
+taken_stays : (old new : GroupView) (entries : List Entry) → HasArrived old.first old.log old.shelves.numbers → Grows old new entries → (n : ℕ) → Contains (had old) n → new.shelves.taken n ≡ old.shelves.taken n
+taken_stays old new entries arrived grows n h = grows.taken n (subst (λ ns. Contains ns n) (sym arrived) h)
+
+-- so a call of the group whose step this is
+pub after : {told : Type 0} (old new : GroupView) (entries : List Entry) (c : Call) → HasArrived old.first old.log old.shelves.numbers → Grows old new entries
+    → CameAs (had new) new.shelves.taken c → new.blinds ≡ old.blinds ++ blind_of c → IsAsked c (state_of old) → (told → StepOf c (state_of old) (state_of new)) → (told → HasExecution old) → told → HasExecution new
+after old new entries c arrived grows came begun asked step execution tells =
+    goes_on c old new entries grows (taken_stays old new entries arrived grows) came begun asked (step tells) (execution tells)
+
+-- nothing changes
+pub still : {told : Type 0} (old new : GroupView) → new ≡ old → (told → HasExecution old) → told → HasExecution new
+still old new same execution tells = subst (λ (w : GroupView). HasExecution w) (sym same) (execution tells)
+
+-- ITS OPENING
+
+no_shelf : {A : Type 0} (shelves : List (Shelf A)) (n : ℕ) → (Contains (numbers_of shelves) n → ⊥) → shelf_of shelves n ≡ None
+no_shelf [] n none = refl
+no_shelf (s ∷ ss) n none = elim (eqb_tells s.number n) [
+  | inl e ↦ absurd (none (0, omega arith, e.1))
+  | inr e ↦ rw e.0 (no_shelf ss n (λ h. none (Contains-append_right (s.number ∷ []) (numbers_of ss) n h)))
+]
+
+pub begun : {A : Type 0} (told : Type 0) (meaning : A → Meaning) (number : ℕ) (t : Table) (handed : List (Shelf A)) (g : GroupParts A)
+    → numbers_of handed ≡ archives_in t → Begins told meaning number t handed g → told → HasExecution (view_of meaning g)
+begun {A} told meaning number t handed g apart begins tells = record {
+  start = state_of (view_of meaning (unopened number t begins.taken));
+  unopened = subst (λ f. IsUnopened f now.taken (state_of (view_of meaning (unopened number t begins.taken)))) (sym begins.first) here;
+  calls = call.Open ∷ [];
+  leads = (state_of (view_of meaning g), tt, begins.step tells, refl);
+  blinds = sym begins.blinds;
+  came = (tt, tt);
+}
+  where
+    now : Shelves
+    now = plain meaning g.shelves
+
+    then_taken : Shelves
+    then_taken = plain meaning begins.taken
+
+    -- what an archive meant when it was taken
+    meant : (n : ℕ) → now.taken n ≡ then_taken.taken n
+    meant n = ap (λ (s : Shelved A). (plain meaning s).taken n) begins.marked ∙ begins.opens.stays.keeps.taken n
+
+    absent : (n : ℕ) → (Contains (archives_in t) n → ⊥) → shelf_of begins.taken.shelves n ≡ None
+    absent n none = no_shelf begins.taken.shelves n (λ h. none (subst (λ ns. Contains ns n) (ap numbers_of begins.shelves ∙ apart) h))
+
+    here : IsUnopened t now.taken (state_of (view_of meaning (unopened number t begins.taken)))
+    here = record {
+      table = refl;
+      log = refl;
+      flights = refl;
+      held = λ n slot h. sym (ap (λ (m : Meaning). m.held slot) (meant n ∙ begins.marks.meant n));
+      heard = λ n h. sym (ap (λ (m : Meaning). m.heard) (meant n ∙ begins.marks.meant n));
+      none = λ n slot h. ap (λ o. given (λ x. (meaning x).held slot) None o) (absent n h);
+      silent = λ n h. ap (λ o. given (λ x. (meaning x).heard) [] o) (absent n h);
+    }
+
+-- THE CALLS OF TWO KINDS
+
+pub counted : (told : Type 0) (old new : GroupView) (job : ℕ) (result : Result Counts LogFull) → HasArrived old.first old.log old.shelves.numbers
+    → Made (CountCall told job result) old new → (told → HasExecution old) → told → HasExecution new
+counted told old new job (Ok counts) arrived made execution = after old new made.0 (call.Count job) arrived made.1 tt (no_blind old new made.2.4.blinds) tt made.2.3 execution
+counted told old new job (Err e) arrived made execution = still old new made.2.1 execution
+
+-- an archive came, or was handed back
+module _ {A : Type 0} (told : Type 0) (meaning : A → Meaning) (old new : GroupView) (job c : ℕ) (shelf : Shelf A) (arrived : HasArrived old.first old.log old.shelves.numbers) (within : c < width old.table) where
+  here : (e : Entry) {entries : List Entry} → ComesBy told meaning e shelf old new entries → Contains (arrivals (e ∷ [])) shelf.number
+      → Contains (had new) shelf.number × ((slot : ℕ) → (meaning shelf.archive).held slot ≡ (new.shelves.taken shelf.number).held slot) × ((meaning shelf.archive).heard ≡ (new.shelves.taken shelf.number).heard)
+  here e by brings = (
+    had_brought old new e shelf.number by.comes.acts.log brings,
+    (λ slot. sym (ap (λ (m : Meaning). m.held slot) by.comes.brings.taken)),
+    sym (ap (λ (m : Meaning). m.heard) by.comes.brings.taken),
+  )
+
+  pub move_begun : (result : Result (Unit {0}) (ShelfRefused A)) → Made (MoveBeginCall told meaning job c shelf result) old new → (told → HasExecution old) → told → HasExecution new
+  move_begun (Ok u) made execution =
+      after old new made.0 (call.MoveBegin job c shelf.number (meaning shelf.archive).held (meaning shelf.archive).heard) arrived made.1 (here (entry.MoveBegin job c shelf.number) made.2 (0, omega arith, refl)) (no_blind old new made.2.comes.acts.blinds) within made.2.comes.steps execution
+  move_begun (Err r) made execution = still old new made.2.0.same execution
+
+  pub swapped : (result : Result ℕ (ShelfRefused A)) → Made (SwapCall told meaning job c shelf result) old new → (told → HasExecution old) → told → HasExecution new
+  swapped (Ok n) made execution =
+      after old new made.0 (call.Swap job c shelf.number (meaning shelf.archive).held (meaning shelf.archive).heard) arrived made.1 (here (entry.Swapped job c shelf.number) made.2.0 (0, omega arith, refl)) (no_blind old new made.2.0.comes.acts.blinds) within made.2.0.comes.steps execution
+  swapped (Err r) made execution = still old new made.2.0.same execution
+
+-- LOOKS IN A ROW
+
+is_there : (old : GroupView) (s c : ℕ) (p : Place) → IsPlace old.number old.table is_live s c (Some p) → (p.stripe < old.table.stripes) × (p.column < width old.table)
+is_there old s c p is = is.1.0.0
+
+-- the calls of a sweep, behind calls that came before it
+looked_on : {told : Type 0} (ns : List ℕ) (taken : ℕ → Meaning) (job s c : ℕ) (looks : List Look) (start : GroupState) (calls : List Call) (old new : GroupView) (entries : List Entry)
+    → LooksOn told job s c looks old new entries → told → Leads calls start (state_of old) → AllCame ns taken calls
+    → (all : List Call) × Leads all start (state_of new) × (blinds_of all ≡ blinds_of calls) × AllCame ns taken all
+looked_on ns taken job s c [] start calls old new entries goes tells leads came = (calls, subst (λ (w : GroupView). Leads calls start (state_of w)) (sym goes.1) leads, refl, came)
+looked_on ns taken job s c ((p, answer) ∷ rest) start calls old new entries goes tells leads came =
+    let mid = goes.1 in
+    let one = call.Look job p.stripe p.column (looked_as answer goes.0) in
+    let more = looked_on ns taken job p.stripe (p.column + 1) rest start (calls ++ one ∷ []) mid new goes.3 goes.6 tells (led calls one start (state_of old) (state_of mid) leads (is_there old s c p goes.4) (goes.5.step tells)) (came_more calls one ns taken came tt) in
+    (more.0, more.1, more.2 ∙ blinds_more calls one ∙ append-nil (blinds_of calls), more.3)
+
+pub swept : (told : Type 0) (old new : GroupView) (job s c : ℕ) (result : Swept) → HasArrived old.first old.log old.shelves.numbers
+    → Made (SweepCall told job s c result) old new → (told → HasExecution old) → told → HasExecution new
+swept told old new job s c result arrived made execution tells =
+    let was = execution tells in
+    let same = taken_stays old new made.0 arrived made.1 in
+    let all = looked_on (had new) new.shelves.taken job s c made.2.looks was.start was.calls old new made.0 made.2.goes tells was.leads
+    (all_came_stay was.calls (had old) (had new) old.shelves.taken new.shelves.taken (had_more old new made.0 made.1) same was.came) in
+    record {
+      start = was.start;
+      unopened = subst (λ f. IsUnopened f new.shelves.taken was.start) (sym made.1.first)
+          (unopened_stays old.first old.shelves.taken new.shelves.taken was.start (λ n h. same n (Contains-append_left (archives_in old.first) (arrivals old.log) n h)) was.unopened);
+      calls = all.0;
+      leads = all.1;
+      blinds = all.2 ∙ was.blinds ∙ sym (look_blinds told job s c made.2.looks old new made.0 made.2.goes);
+      came = all.3;
+    }

@@ -1,0 +1,107 @@
+-- The calls of a group, one after another, and the states that they lead to. They are said of
+-- archives that tell what they hold.
+use Rattle.std.specs.Prelude.{◌≡◌, ◌<◌, ℕ, List, [], ◌∷◌, ◌++◌, Option, None, Contains}
+use Rattle.pot_outside.specs.Archives.{Meaning}
+use Rattle.pot_bytes.specs.Lists.{IsBlock}
+use Rattle.pot_machine.specs.declared.entry.Entry.TheVariants as entry
+use Rattle.pot_machine.specs.Table.{Table, width, archives_in}
+use Rattle.pot_steps.specs.GroupStep.{GroupState, StartStep, PutStep, PutAnswer, LookStep, Looked}
+use Rattle.pot_steps.specs.GroupStep.{CountStep}
+use Rattle.pot_steps.specs.RelaySteps.{MendStep, MendAnswer, Began}
+use Rattle.pot_steps.specs.MoveSteps.{BringStep, MoveStep, MoveAnswer}
+use Rattle.pot_group.specs.Arrivals.{arrivals}
+use Rattle.pot_group.specs.Group.{GroupView, state_of}
+
+-- A call of a group, with what was handed to it and its answer. The archive that a call brings has
+-- the contents and the sums heard with which it came.
+pub data Call : Type 0 where
+  Open : Call
+  Put : (job : ℕ) (block : List ℕ) (answer : PutAnswer) → Call
+  Look : (job s c : ℕ) (answer : Looked) → Call
+  Count : (job : ℕ) → Call
+  Mend : (job s c : ℕ) (blind : List ℕ) (answer : MendAnswer) → Call
+  MoveBegin : (job c to : ℕ) (held : ℕ → Option (List ℕ)) (heard : List (ℕ × List ℕ)) → Call
+  MoveOne : (job c : ℕ) (answer : MoveAnswer) → Call
+  Swap : (job c to : ℕ) (held : ℕ → Option (List ℕ)) (heard : List (ℕ × List ℕ)) → Call
+
+-- what it asks for
+abbrev pub IsAsked : Call → GroupState → Type 0
+IsAsked (Put job block answer) old = IsBlock block
+IsAsked (Look job s c answer) old = (s < old.table.stripes) × (c < width old.table)
+IsAsked (Mend job s c blind answer) old =
+    (s < old.table.stripes) × (c < width old.table) × IsBlock blind
+IsAsked (MoveBegin job c to held heard) old = c < width old.table
+IsAsked (Swap job c to held heard) old = c < width old.table
+IsAsked _ old = Unit {0}
+
+-- and its step
+abbrev pub StepOf : Call → GroupState → GroupState → Type 0
+StepOf Open old new = StartStep old new
+StepOf (Put job block answer) old new = PutStep job block answer old new
+StepOf (Look job s c answer) old new = LookStep job s c answer old new
+StepOf (Count job) old new = CountStep job old new
+StepOf (Mend job s c blind answer) old new = MendStep job s c blind answer old new
+StepOf (MoveBegin job c to held heard) old new =
+    BringStep (entry.MoveBegin job c to) to held heard old new
+StepOf (MoveOne job c answer) old new = MoveStep job c answer old new
+StepOf (Swap job c to held heard) old new =
+    BringStep (entry.Swapped job c to) to held heard old new
+
+-- call after call
+abbrev pub Leads : List Call → GroupState → GroupState → Type 0
+Leads [] old new = new ≡ old
+Leads (c ∷ cs) old new =
+    (mid : GroupState) × IsAsked c old × StepOf c old mid × Leads cs mid new
+
+-- the blind of the relay that a call began, if it began one
+abbrev pub blind_of : Call → List (List ℕ)
+blind_of (Mend job s c blind Began) = blind ∷ []
+blind_of _ = []
+
+-- those of calls, in order
+abbrev pub blinds_of : List Call → List (List ℕ)
+blinds_of [] = []
+blinds_of (c ∷ cs) = blind_of c ++ blinds_of cs
+
+-- The state of a group before its opening: its table is this, it has no log and no flight, each of
+-- its archives holds and has heard what it meant when it was taken, and no other holds or has heard
+-- anything.
+pub record IsUnopened (first : Table) (taken : ℕ → Meaning) (start : GroupState) : Type 0 where
+  pub table : start.table ≡ first
+  pub log : start.log ≡ []
+  pub flights : start.flights ≡ []
+  pub held : (n slot : ℕ) → Contains (archives_in first) n
+      → start.held n slot ≡ (taken n).held slot
+  pub heard : (n : ℕ) → Contains (archives_in first) n → start.heard n ≡ (taken n).heard
+  pub none : (n slot : ℕ) → (Contains (archives_in first) n → ⊥) → start.held n slot ≡ None
+  pub silent : (n : ℕ) → (Contains (archives_in first) n → ⊥) → start.heard n ≡ []
+
+-- the archives that a group has had: those of the table that it began with, and those that its log
+-- brought
+abbrev pub had : GroupView → List ℕ
+had g = archives_in g.first ++ arrivals g.log
+
+-- the archive that a call brought is one of these, and came as it meant when it was taken
+abbrev pub CameAs : List ℕ → (ℕ → Meaning) → Call → Type 0
+CameAs numbers taken (MoveBegin job c to held heard) =
+    Contains numbers to × ((slot : ℕ) → held slot ≡ (taken to).held slot)
+    × (heard ≡ (taken to).heard)
+CameAs numbers taken (Swap job c to held heard) =
+    Contains numbers to × ((slot : ℕ) → held slot ≡ (taken to).held slot)
+    × (heard ≡ (taken to).heard)
+CameAs numbers taken _ = Unit {0}
+
+abbrev pub AllCame : List ℕ → (ℕ → Meaning) → List Call → Type 0
+AllCame numbers taken [] = Unit {0}
+AllCame numbers taken (c ∷ cs) = CameAs numbers taken c × AllCame numbers taken cs
+
+-- There are calls that lead from the state of a group before its opening to its state now. Its
+-- relays had the blinds that they began with, and its archives came as they meant when they were
+-- taken.
+pub record HasExecution (g : GroupView) : Type 0 where
+  pub start : GroupState
+  pub unopened : IsUnopened g.first g.shelves.taken start
+  pub calls : List Call
+  pub leads : Leads calls start (state_of g)
+  pub blinds : blinds_of calls ≡ g.blinds
+  pub came : AllCame (had g) g.shelves.taken calls

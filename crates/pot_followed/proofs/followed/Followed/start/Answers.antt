@@ -1,6 +1,0 @@
-use Rattle.std.proofs.Common.{IsTrue}
-use Rattle.pot_followed.proofs.CourseLemmas.{begun}
-use Rattle.pot_followed.proofs.followed.Followed.start.Goals as goal
-
-pub invariant_of-result : goal.invariant_of-result
-invariant_of-result g c = begun (IsTrue g.A.Archive.account.tells) g.A.Archive.account.meaning c.args.number c.args.table c.args.shelves.items c.in-Ok.group c.requires.shelves c.in-Ok.ensures.begins

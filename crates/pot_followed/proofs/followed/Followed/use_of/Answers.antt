@@ -1,4 +1,0 @@
-use Rattle.pot_followed.proofs.followed.Followed.use_of.Goals as goal
-
-pub returns : goal.returns
-returns g c = rw (← c.self.view_is) c.use_of.ensures

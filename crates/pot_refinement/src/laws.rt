@@ -1,0 +1,43 @@
+//! What the course of a group makes of a group of the world, and the courses of all groups of a world.
+ghost use Rattle.pot_refinement.specs.Refinement.{ExecutionSimulated, ExecutionsReach, FirstSession, NextSession};
+ghost use Rattle.pot_refinement.specs.Refinement.{ReopenedSimulates, SessionReaches, SessionsReach, WellByLog};
+
+/// A group that a group of the world goes along with is followed by it through its calls, where none of them met a failing archive.
+pub fn execution_simulated()
+    ensures { ExecutionSimulated }
+{}
+
+/// So it is with all groups of a world.
+pub fn executions_reach()
+    ensures { ExecutionsReach }
+{}
+
+/// A first session is moves from the first groups of a rack.
+pub fn session_reaches()
+    ensures { SessionReaches }
+{}
+
+/// When the next session begins, a group of the world goes along with a running group still.
+pub fn reopened_simulates()
+    ensures { ReopenedSimulates }
+{}
+
+/// Whether calls went well is told by the log, but for openings and archives that came.
+pub fn well_by_log()
+    ensures { WellByLog }
+{}
+
+/// What a first session leaves.
+pub fn first_session()
+    ensures { FirstSession }
+{}
+
+/// What a later one leaves, from what the one before had left.
+pub fn next_session()
+    ensures { NextSession }
+{}
+
+/// What all sessions from the first one on leave.
+pub fn sessions_reach()
+    ensures { SessionsReach }
+{}

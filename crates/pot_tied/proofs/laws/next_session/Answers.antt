@@ -1,5 +1,0 @@
-use Rattle.pot_tied.proofs.Ended.{next_session}
-use Rattle.pot_tied.proofs.laws.next_session.Goals as goal
-
-pub returns : goal.returns
-returns c = next_session
