@@ -142,8 +142,8 @@ fn move_text(alloc: Global, entry: &Entry) -> Result<String, AllocError> {
     }
 }
 
-/// What the entry tells of calls that failed: of a Fault its place, and the place of each parity block that was not kept.
-/// `first` is the column of the first parity block.
+/// What the entry tells of calls that failed: of a Fault its place, and the place of each parity
+/// block that was not kept. `first` is the column of the first parity block.
 pub fn told_by(alloc: Global, entry: &Entry, first: u8) -> Result<Option<String>, AllocError> {
     match *entry {
         Entry::Fault { stripe, column, .. } => Ok(Some(format!(in alloc;

@@ -1,7 +1,8 @@
 //! A story once more for each call on each archive, which fails then.
 //!
-//! A step that is answered so is made again, and a parity block that a put did not keep is rebuilt. What the story was to come to
-//! is then compared: the outcomes, the slots, the blocks, and how often archives failed.
+//! A step that is answered so is made again, and a parity block that a put did not keep is rebuilt.
+//! What the story was to come to is then compared: the outcomes, the slots, the blocks, and how
+//! often archives failed.
 use crate::entries::told_by;
 use crate::lines::{Act, Call, Job, Line, Says};
 use crate::looks::{blocks_text, join, letters};
@@ -170,7 +171,8 @@ fn told(alloc: Global, stage: &Stage) -> Result<String, AllocError> {
     Ok(text)
 }
 
-/// Whether the slots and the blocks are the same, and the archive of this number alone failed once more.
+/// Whether the slots and the blocks are the same, and the archive of this number alone failed once
+/// more.
 fn ends_alike(
     alloc: Global,
     wanted: &Stage,

@@ -1,10 +1,13 @@
-//! Stories of one group of archives, told as text: the lines of standard input, each with what came of it.
+//! Stories of one group of archives, told as text: the lines of standard input, each with what came
+//! of it.
 //!
-//! A story says how a group begins, what becomes of its archives from outside, and which calls are made. So what a group does is
-//! read side by side with what it was asked. The archives are in memory and tell no contents, so nothing is claimed here: a story
-//! shows by example what the contracts of `pot_group` say of every group. docs/HACKING.md tells how to write one.
+//! A story says how a group begins, what becomes of its archives from outside, and which calls are
+//! made. So what a group does is read side by side with what it was asked. The archives are in
+//! memory and tell no contents, so nothing is claimed here: a story shows by example what the
+//! contracts of `pot_group` say of every group. docs/HACKING.md tells how to write one.
 //!
-//! The whole text is read first. A line that is no step, or stands where it may not, is told by its number, and no story is played.
+//! The whole text is read first. A line that is no step, or stands where it may not, is told by its
+//! number, and no story is played.
 #![tactic(auto)]
 
 mod archive;

@@ -20,7 +20,8 @@ pub enum Outcome {
     Faulted(u8),
     /// The byte that the block repeats, if it repeats one.
     Seen(Option<u8>),
-    /// Of so many slots a sweep saw the blocks, of so many it saw that they are gone, and so far it came.
+    /// Of so many slots a sweep saw the blocks, of so many it saw that they are gone, and so far it
+    /// came.
     Swept(Swept),
     Counted(Counts),
     Found(Place),

@@ -119,7 +119,8 @@ impl Stage {
         }
     }
 
-    /// The table that the next opening opens: that of the last close, or the one that the entries before led to.
+    /// The table that the next opening opens: that of the last close, or the one that the entries
+    /// before led to.
     fn next_table(&self) -> Result<Option<GroupTable>, AllocError> {
         if let Some(closed) = &self.closed {
             return closed

@@ -5,7 +5,8 @@ use crate::split::OpenSplit;
 use pot_world::Groups;
 use std::snapshot::Snapshot;
 
-/// The groups, the names, the actors, and what clauses alone see: the splits that were begun, and those that were published.
+/// The groups, the names, the actors, and what clauses alone see: the splits that were begun, and
+/// those that were published.
 #[derive(Drop)]
 pub(crate) struct Parts {
     pub(crate) groups: Groups,

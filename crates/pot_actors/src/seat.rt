@@ -15,8 +15,8 @@ use std::alloc::Global;
 use std::marker::Model;
 use std::mem;
 
-/// An actor: what it has under way, the record that it found last, the blocks of it that it gathered since, and the file that
-/// these give, if they are enough.
+/// An actor: what it has under way, the record that it found last, the blocks of it that it
+/// gathered since, and the file that these give, if they are enough.
 #[derive(Drop)]
 pub(crate) struct Seat {
     number: u32,
@@ -100,7 +100,8 @@ impl Seat {
         }
     }
 
-    /// What is gathered with the block of a place, if there is one and it is wanted, and the file that this gives.
+    /// What is gathered with the block of a place, if there is one and it is wanted, and the file
+    /// that this gives.
     pub(crate) fn gathering(
         &self,
         alloc: Global,

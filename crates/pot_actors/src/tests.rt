@@ -7,8 +7,8 @@ use pot_bytes::{Block, Bytes, Geometry, Name, Place, Rack};
 use std::alloc::Global;
 use std::test::Fail;
 
-/// One group of two data columns and one parity column, archives 0 to 2. A file of one piece has two blocks, and its store takes
-/// 976 random bytes; one of two pieces has four, and takes 1,936.
+/// One group of two data columns and one parity column, archives 0 to 2. A file of one piece has
+/// two blocks, and its store takes 976 random bytes; one of two pieces has four, and takes 1,936.
 const RACK: Rack = Rack {
     groups: 1,
     columns: 2,
@@ -143,7 +143,8 @@ fn play(alloc: Global, world: &mut World, rows: &[Row]) -> Result<Option<usize>,
     }
 }
 
-/// Whether all steps were made, and the actor then has a file of so many times the byte, or none where that is 0.
+/// Whether all steps were made, and the actor then has a file of so many times the byte, or none
+/// where that is 0.
 fn gives(
     alloc: Global,
     world: &mut World,
@@ -167,7 +168,8 @@ fn is_all(bytes: &[u8], byte: u8) -> bool {
     bytes.iter().all(|b| *b == byte)
 }
 
-/// Two blocks in stripe 0, of which the first is lost. While it is mended, the blocks of `b` go on in stripe 1.
+/// Two blocks in stripe 0, of which the first is lost. While it is mended, the blocks of `b` go on
+/// in stripe 1.
 const RELAY: [Row; 16] = [
     Row::Store {
         actor: 1,
@@ -257,7 +259,8 @@ fn alternating_puts(rt: HostRuntime) -> Result<(), Fail> {
     Ok(())
 }
 
-/// Actors 1 and 2 find a file, and one reads each block; the archive of the first column is exchanged.
+/// Actors 1 and 2 find a file, and one reads each block; the archive of the first column is
+/// exchanged.
 const SWAPPED: [Row; 9] = [
     Row::Store {
         actor: 3,

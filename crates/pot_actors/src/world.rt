@@ -129,8 +129,8 @@ impl World {
         Ok(())
     }
 
-    /// The file that the actor's last fetch gave. None where it has not gathered m blocks of each fragment of the record that it
-    /// found.
+    /// The file that the actor's last fetch gave. None where it has not gathered m blocks of each
+    /// fragment of the record that it found.
     pub fn fetched(&self, actor: u32) -> Option<&Bytes>
         ensures { Fetched (world_of self.now) actor (option_copied result) }
     {

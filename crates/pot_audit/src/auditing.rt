@@ -67,9 +67,11 @@ fn audit_split(
     Ok(())
 }
 
-/// How many points of each piece of each split of a record are exposed to a coalition, of the fragment that has the fewest.
+/// How many points of each piece of each split of a record are exposed to a coalition, of the
+/// fragment that has the fewest.
 ///
-/// The splits stand by age, the oldest first. The spots are of the rack, and ascend by group and then by column.
+/// The splits stand by age, the oldest first. The spots are of the rack, and ascend by group and
+/// then by column.
 pub fn audit_record(
     alloc: Global,
     kept: &Record,

@@ -57,7 +57,8 @@ impl Coalition<'_> {
         self.is_open(place.group) || self.has_column(place.group, place.column)
     }
 
-    /// How many points of a fragment are exposed. The numbers of the piece and of the fragment are from 0.
+    /// How many points of a fragment are exposed. The numbers of the piece and of the fragment are
+    /// from 0.
     pub fn exposed_points(
         &self,
         geometry: &Geometry,

@@ -6,8 +6,9 @@ use pot_shard::place_laws;
 use pot_veil::veil_laws;
 use pot_world::{audit_laws, coalition_laws, coalition_sees, run_laws, shape_laws};
 
-/// Where fewer points of some fragment of each piece are exposed than are needed, in each split, whatever a coalition sees of a run fits
-/// every other file of that length, under other random bytes, one for one.
+/// Where fewer points of some fragment of each piece are exposed than are needed, in each split,
+/// whatever a coalition sees of a run fits every other file of that length, under other random
+/// bytes, one for one.
 pub fn hiding_laws()
     ensures hides { AuditsHide }
     ensures returns { BytesReturn }

@@ -1,14 +1,17 @@
-//! What a coalition of columns is told of stored files by the blocks that it holds and the sums that it hears.
+//! What a coalition of columns is told of stored files by the blocks that it holds and the sums
+//! that it hears.
 //!
 //! It knows records, which say where blocks stand, and no archive, no table and no block.
 //!
-//! A coalition has some columns of some groups. A group is open to it where it has two of its columns, or a parity column. A point of a
-//! fragment is exposed where its group is open, or its column is the coalition's (`is_exposed`).
+//! A coalition has some columns of some groups. A group is open to it where it has two of its
+//! columns, or a parity column. A point of a fragment is exposed where its group is open, or its
+//! column is the coalition's (`is_exposed`).
 //!
-//! 1. For each split and piece of a record, `audit_record` answers the first fragment with the fewest exposed points, and how many
-//!    these are (`AreVeils`).
-//! 2. Where each of these numbers is below what the split needs, the coalition sees nothing that tells the file from any other of its
-//!    length: `hiding_laws`, over every run of the world of `pot_world`. The other file has other random bytes, one for one.
+//! 1. For each split and piece of a record, `audit_record` answers the first fragment with the
+//!    fewest exposed points, and how many these are (`AreVeils`).
+//! 2. Where each of these numbers is below what the split needs, the coalition sees nothing that
+//!    tells the file from any other of its length: `hiding_laws`, over every run of the world of
+//!    `pot_world`. The other file has other random bytes, one for one.
 //! 3. The other run has other blinds too, one for one: `blind_laws`.
 #![tactic(auto)]
 

@@ -64,7 +64,8 @@ fn small_record(alloc: Global) -> Result<Record, Fail>
     })
 }
 
-/// Whether the veils of both splits have this fragment and so many exposed points, for a coalition of one column.
+/// Whether the veils of both splits have this fragment and so many exposed points, for a coalition
+/// of one column.
 fn is_veiled(alloc: Global, column: u8, fragment: u8, have: u8) -> Result<bool, Fail>
     requires { column < 3 }
 {
@@ -85,7 +86,8 @@ fn is_veiled(alloc: Global, column: u8, fragment: u8, have: u8) -> Result<bool, 
 
 #[test]
 fn columns_of_a_group(rt: HostRuntime) -> Result<(), Fail> {
-    // The first data column has the first fragment, the second the second one; the parity column opens both.
+    // The first data column has the first fragment, the second the second one; the parity column
+    // opens both.
     for (column, fragment, have) in [(0, 2, 0), (1, 1, 0), (2, 1, 1)] {
         assert!(rt; is_veiled(rt.alloc(), column, fragment, have)?);
     }

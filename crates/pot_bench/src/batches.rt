@@ -1,4 +1,5 @@
-//! Batches: a session over archives in memory stores files on so many workers at once, and the next one fetches them so.
+//! Batches: a session over archives in memory stores files on so many workers at once, and the next
+//! one fetches them so.
 ghost use Rattle.std.specs.Prelude.{◌≡◌, ℕ, false};
 ghost use Rattle.pot_doubles.specs.Rooms.{is_out};
 

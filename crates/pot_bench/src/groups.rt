@@ -1,5 +1,5 @@
-//! A group over archives in memory: puts that fill it, looks at all that it holds, relays that rebuild a column, and a column
-//! that moves.
+//! A group over archives in memory: puts that fill it, looks at all that it holds, relays that
+//! rebuild a column, and a column that moves.
 
 use crate::plain::{PlainArchive, shelf};
 use crate::rows::SEED;
@@ -195,7 +195,8 @@ impl Trial {
         }
     }
 
-    /// Mends a slot until it is whole: its relay begins with the next blind, goes over three columns and ends.
+    /// Mends a slot until it is whole: its relay begins with the next blind, goes over three
+    /// columns and ends.
     fn mend_slot(&mut self, place: Place) -> Result<(), AllocError> {
         let mut blind = [0; 1024];
         self.blinds.fill(&mut blind);

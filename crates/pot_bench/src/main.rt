@@ -1,8 +1,10 @@
-//! Times the loops that touch every byte of a file, the calls of a group, and those of a session, over archives in memory.
+//! Times the loops that touch every byte of a file, the calls of a group, and those of a session,
+//! over archives in memory.
 //!
-//! The argument says how many megabytes of rows each loop goes over, over how many groups the calls of a group run, how many
-//! files the sessions store, ten at most, and how many a batch stores, 64 at most: 1 without it. To standard error goes how
-//! fast each was; to standard output a checksum of what was computed, the same at each run. It is no part of the archive.
+//! The argument says how many megabytes of rows each loop goes over, over how many groups the calls
+//! of a group run, how many files the sessions store, ten at most, and how many a batch stores, 64
+//! at most: 1 without it. To standard error goes how fast each was; to standard output a checksum
+//! of what was computed, the same at each run. It is no part of the archive.
 #![tactic(auto)]
 
 mod batches;

@@ -1,4 +1,5 @@
-//! Archives in memory that take no time of their own: their memory is there from the beginning, and they remember nothing.
+//! Archives in memory that take no time of their own: their memory is there from the beginning, and
+//! they remember nothing.
 ghost use Rattle.std.specs.Prelude.{◌≡◌, IfOk};
 
 use pot_bytes::{Block, fold_weighted};

@@ -20,7 +20,8 @@ pub const SEED: [u8; 32] = [7; 32];
 pub enum Round {
     /// XORs the content into the row.
     XorInto,
-    /// Adds each block of the content, times a weight that is greater by one each round, to a block.
+    /// Adds each block of the content, times a weight that is greater by one each round, to a
+    /// block.
     FoldWeighted,
     /// The share at 3 of the content, where two of them give it.
     ShareTwo,

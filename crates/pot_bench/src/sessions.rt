@@ -1,4 +1,5 @@
-//! Sessions over archives in memory: each begins with what a desk keeps, stores and fetches files, and leaves a desk again.
+//! Sessions over archives in memory: each begins with what a desk keeps, stores and fetches files,
+//! and leaves a desk again.
 ghost use Rattle.std.specs.Prelude.{◌≡◌, ◌<◌, ◌≤◌, [], ℕ, IsTrue, IfOk, Some, length, slice_get};
 ghost use Rattle.std.proofs.Props.{props};
 ghost use Rattle.std.specs.Vec.{vec_capacity};
@@ -25,7 +26,8 @@ use pot_store::{FetchFault, StoreFault, Stored, fetch_file, store_file};
 use std::alloc::{AllocError, Global};
 use std::sync::Wait;
 
-/// The rack of the sessions. It has room for ten files of 800 KB, whose blocks fill nine tenths of it.
+/// The rack of the sessions. It has room for ten files of 800 KB, whose blocks fill nine tenths of
+/// it.
 const RACK: Rack = Rack {
     groups: 5,
     columns: 3,
@@ -78,8 +80,9 @@ impl Desk {
         Ok(desk)
     }
 
-    /// What a session does before its first command: it reads the image, starts each group over its archives, which reads every
-    /// block that the image names, and puts the groups and the index under turns.
+    /// What a session does before its first command: it reads the image, starts each group over its
+    /// archives, which reads every block that the image names, and puts the groups and the index
+    /// under turns.
     pub fn open(self, alloc: Global) -> Result<Session, AllocError> {
         let Desk { image, archives } = self;
         let Ok(

@@ -81,8 +81,8 @@ fn time_group(rt: &(impl Eprint + Clock), alloc: Global, blocks: &[Block]) -> io
     Ok(trial)
 }
 
-/// A session stores so many files, ten at most; one that is opened after it fetches them, and so does one for which an archive
-/// is gone.
+/// A session stores so many files, ten at most; one that is opened after it fetches them, and so
+/// does one for which an archive is gone.
 pub fn time_sessions<R: Clock + Wait + Print + Eprint>(
     rt: &R,
     alloc: Global,
@@ -101,7 +101,8 @@ pub fn time_sessions<R: Clock + Wait + Print + Eprint>(
     tell(rt, "close", desk.image())
 }
 
-/// Batches of so many stores and fetches, 64 at most, on one worker, on two and on four, each over new archives.
+/// Batches of so many stores and fetches, 64 at most, on one worker, on two and on four, each over
+/// new archives.
 pub fn time_batches<R: Clock + Threads + Wait + Sync + Print + Eprint>(
     rt: &R,
     alloc: Global,

@@ -67,7 +67,8 @@ module _ {E O : Type 0} (of : ℕ → E → Bool) (rows : Line → CarriedRow E 
     pub went_at : Extends (view_at start at) (view_at x at)
     went_at = (batch_went of (view_at start at) (view_at x at) (map (carried_at at) (map rows cs)) (joins_at_places start x (map rows cs) joins at) (carried at from cs all)).0
 
-    -- at one place: the job was alone, and what it saw begins what the batch saw, with no entry of the job behind
+    -- at one place: the job was alone, and what it saw begins what the batch saw, with no entry of
+    -- the job behind
     pub at_place : TellsJobs of → OnlyWriter (view_at start at) (view_at x at) → (c : Line) → IsAmongLines c cs
         → OnlyWriterOf (of (rows c).job) (view_at (rows c).given at) (view_at (rows c).done at) × StartsWith (view_at x at).seen (view_at (rows c).done at).seen
         × (filter (of (rows c).job) (added (view_at start at) (view_at x at)) ≡ filter (of (rows c).job) (added (view_at (rows c).given at) (view_at (rows c).done at)))

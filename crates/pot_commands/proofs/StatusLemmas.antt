@@ -42,7 +42,8 @@ get_more [] x y (suc k) is = absurd (cc is)
 get_more (z ∷ xs) x y zero is = inl is
 get_more (z ∷ xs) x y (suc k) is = ⊎_elim (λ (h : slice_get xs k ≡ Some y). inl h) (λ (h : (k ≡ length xs) × (x ≡ y)). inr (ap suc h.0, h.1)) (get_more xs x y k is)
 
--- The first `n` groups had their turns, and these are their replies; the passes of the others are as they were.
+-- The first `n` groups had their turns, and these are their replies; the passes of the others are
+-- as they were.
 pub record IsCounting (told : Type 0) (rack : Rack) (names : List TurnName) (job n : ℕ) (rs : List Reply) (old new : GroupPasses) : Type 0 where
   pub ready : AreReady rack names new
   pub worked : RowWroteOnlyFor (of_job job) old new

@@ -39,7 +39,8 @@ use std::sync::Wait;
 /// The first of the numbers whose streams new splits are drawn from: the job's number is added.
 const RENEWING: u32 = 0x8000_0000;
 
-/// The reply to a store, by its answer. `ReservationLost` has none, and comes only where another pass logged an entry of the job.
+/// The reply to a store, by its answer. `ReservationLost` has none, and comes only where another
+/// pass logged an entry of the job.
 fn store_reply(name: &Name, answer: Result<Stored, StoreFault>) -> Result<Reply, NoMemory>
     ensures { (s : Setting) → (job : ℕ) → (file : List ℕ) → (w : Section)
         → StoreRow s job name.now file answer w
@@ -281,11 +282,12 @@ fn answer_plain<A: Archive, X: Wait>(
     }
 }
 
-/// Works a command as this job, and answers its replies: one, and for `status` one for each group. An archive that it asks for is taken
-/// from the room.
+/// Works a command as this job, and answers its replies: one, and for `status` one for each group.
+/// An archive that it asks for is taken from the room.
 ///
 /// # Errors
-/// `RoomFailed` exactly where the room itself failed, or `NoMemory`, each with what a command logs then.
+/// `RoomFailed` exactly where the room itself failed, or `NoMemory`, each with what a command logs
+/// then.
 pub(crate) fn answer<R: Room, X: Wait>(
     shared: &Shared<'_, R::A, X>,
     passes: &mut Passes<R::A>,

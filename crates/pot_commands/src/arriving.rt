@@ -29,8 +29,8 @@ pub enum Unanswered {
     NoMemory,
 }
 
-/// Takes an archive from the room, and lets it take the place of a column's home. A shelf that the group refuses is given back to the
-/// room at once.
+/// Takes an archive from the room, and lets it take the place of a column's home. A shelf that the
+/// group refuses is given back to the room at once.
 ///
 /// # Errors
 /// `RoomFailed` exactly where the room itself failed, or `NoMemory`. Nothing was logged then.
@@ -92,7 +92,8 @@ pub(crate) fn use_reply(fault: UseFault) -> Reply
 /// Takes the archive of a number from the room as a shelf.
 ///
 /// # Errors
-/// `RoomFailed` exactly where the room itself failed, or `NoMemory`. The room then lends and means what it did.
+/// `RoomFailed` exactly where the room itself failed, or `NoMemory`. The room then lends and means
+/// what it did.
 pub(crate) fn take_shelf<R: Room>(room: &mut R, number: u32) -> Result<Shelf<R::A>, Unanswered>
     requires home { (R.meaning room.old).out number ≡ false }
     ensures number { IfOk result (λ shelf. shelf.number ≡ number) }
@@ -116,7 +117,8 @@ pub(crate) fn take_shelf<R: Room>(room: &mut R, number: u32) -> Result<Shelf<R::
 /// Gives a shelf that a group refused back to the room, and answers why it was refused.
 ///
 /// # Errors
-/// `RoomFailed` exactly where the room itself failed; the archive may be lost then. `NoMemory` where the group had none.
+/// `RoomFailed` exactly where the room itself failed; the archive may be lost then. `NoMemory`
+/// where the group had none.
 pub(crate) fn hand_back<R: Room>(
     room: &mut R,
     group: u8,

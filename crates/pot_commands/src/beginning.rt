@@ -37,8 +37,8 @@ pub enum Task {
 /// of the jobs. An archive that a line asks for is taken from the room.
 ///
 /// # Errors
-/// `RoomFailed` exactly where the room failed itself, or `NoMemory`. The moves of the lines before have
-/// begun then, and no other.
+/// `RoomFailed` exactly where the room failed itself, or `NoMemory`. The moves of the lines before
+/// have begun then, and no other.
 pub(crate) fn begin_lines<R: Room, X: Wait>(
     shared: &Shared<'_, R::A, X>,
     passes: &mut Passes<R::A>,

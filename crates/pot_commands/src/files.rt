@@ -1,4 +1,4 @@
-//! The commands on files and names, each in a session of its own job.
+//! The commands on files and names, each through a connection of its own job.
 ghost use Rattle.std.specs.Prelude.{◌≡◌, ◌<◌, true, IsTrue, MatchResult};
 ghost use Rattle.pot_index.specs.Fits.{FitsGeometry};
 ghost use Rattle.pot_rows.specs.Rows.{HasMoreParts};

@@ -4,7 +4,7 @@ ghost use Rattle.pot_replies.specs.Settings.{Setting};
 ghost use Rattle.pot_replies.specs.Sections.{mine, IsSilent};
 ghost use Rattle.pot_shared.specs.Works.{JobWroteOnly, JobOnlyWriter, IsSettingOf, section_of};
 ghost use Rattle.pot_shared.specs.Callers.{CanCall};
-ghost use Rattle.pot_shared.specs.Connections.{TellsIfOnlyWriter, WroteOnlyFor, knows};
+ghost use Rattle.pot_shared.specs.Connections.{TellsIfOnlyWriter, WroteForItsJob, knows};
 ghost use Rattle.pot_commands.specs.Rows.{IsListReply, AreStatusReplies};
 ghost use Rattle.pot_commands.specs.Counting.{CountsLine};
 
@@ -25,7 +25,7 @@ pub(crate) fn list_names<A: Archive, X: Wait>(
     connection: &mut Connection<'_, A, X>,
 ) -> Result<Reply, NoMemory>
     ensures groups { (knows connection.new).groups ≡ (knows connection.old).groups }
-    ensures worked { WroteOnlyFor connection.old connection.new }
+    ensures worked { WroteForItsJob connection.old connection.new }
     ensures says { TellsIfOnlyWriter (λ b s w. MatchResult result (λ reply. IsListReply s b.job reply w)
         (λ e. IsSilent (mine b.job w))) connection.old connection.new }
 {

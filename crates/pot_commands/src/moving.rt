@@ -19,8 +19,9 @@ use pot_script::Reply;
 use pot_shared::{ColumnAt, Passes};
 use std::sync::Wait;
 
-/// Moves a column from one archive to another: the column begins to move to an archive that is taken from the room, unless it moves there
-/// already, and then moves to its end. A shelf that the group refuses is given back to the room at once.
+/// Moves a column from one archive to another: the column begins to move to an archive that is
+/// taken from the room, unless it moves there already, and then moves to its end. A shelf that the
+/// group refuses is given back to the room at once.
 ///
 /// # Errors
 /// `RoomFailed` exactly where the room itself failed, or `NoMemory`. Nothing was logged then.
@@ -61,7 +62,8 @@ pub(crate) fn migrate_archive<R: Room, X: Wait>(
     Ok(move_reply(from, to, moved))
 }
 
-/// Lets a column begin to move to an archive that is taken from the room, unless it moves there already.
+/// Lets a column begin to move to an archive that is taken from the room, unless it moves there
+/// already.
 ///
 /// # Errors
 /// The answer to the line, where no move began. Nothing was logged then.

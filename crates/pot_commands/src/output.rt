@@ -12,7 +12,8 @@ use std::alloc::Global;
 /// Writes all of a text.
 ///
 /// # Errors
-/// `Failed` only where the sink's count of faults rose; some first bytes of the text were written then.
+/// `Failed` only where the sink's count of faults rose; some first bytes of the text were written
+/// then.
 pub fn write_out<K: Sink>(sink: &mut K, text: &[u8]) -> Result<(), Failed>
     ensures told { Writes (transition K.account sink.old sink.new) text.now result }
     ensures cause { Faults K.account sink.old sink.new (IsErr result) }

@@ -77,7 +77,8 @@ fn answer_step<R: Room, W: Gate, X: Threads + Wait + Sync>(
     }
 }
 
-/// Works a step, and then writes its replies. It answers whether one of them is a refusal, or how the steps end at it.
+/// Works a step, and then writes its replies. It answers whether one of them is a refusal, or how
+/// the steps end at it.
 fn work_one<K: Sink, R: Room, W: Gate, X: Threads + Wait + Sync>(
     crew: &Crew<'_, R::A, X, W>,
     passes: &mut Passes<R::A>,
@@ -139,9 +140,10 @@ fn jobs_in(step: &Step) -> u32
     }
 }
 
-/// Works the steps of a script in order over a vault, and writes the replies of each after it. Their jobs are numbered from 1 in the
-/// order of the lines, and take the archives that they ask for from the room. It ends at the first reply that can't be written, where
-/// the room fails and where memory runs out.
+/// Works the steps of a script in order over a vault, and writes the replies of each after it.
+/// Their jobs are numbered from 1 in the order of the lines, and take the archives that they ask
+/// for from the room. It ends at the first reply that can't be written, where the room fails and
+/// where memory runs out.
 pub fn work<K: Sink, R: Room, W: Gate, X: Threads + Wait + Sync>(
     crew: &Crew<'_, R::A, X, W>,
     passes: &mut Passes<R::A>,

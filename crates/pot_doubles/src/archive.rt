@@ -40,8 +40,8 @@ impl LossyArchive {
     ghost use Rattle.pot_doubles.specs.Archives.{lost_by, losses_of, meaning_in, LosesListed};
     ghost use Rattle.pot_doubles.specs.Archives.{LosesOne};
 
-    /// An archive without blocks. The calls of the numbers `fails` are to fail, and the losses come at the
-    /// start of their calls.
+    /// An archive without blocks. The calls of the numbers `fails` are to fail, and the losses come
+    /// at the start of their calls.
     pub fn new(alloc: Global, fails: Vec<u32>, losses: Vec<Loss>) -> LossyArchive
         ensures held { (k : ℕ) → held_in result k ≡ None }
         ensures past { history_of result ≡ [] }

@@ -17,10 +17,11 @@ enum Note {
     Sync,
 }
 
-/// A disk in memory, zero where nothing was written. It notes what changed it, so that it can say what a crash
-/// leaves at each moment.
+/// A disk in memory, zero where nothing was written. It notes what changed it, so that it can say
+/// what a crash leaves at each moment.
 ///
-/// A write that is to fail has begun: a crash may leave any bytes in its places. They read as before.
+/// A write that is to fail has begun: a crash may leave any bytes in its places. They read as
+/// before.
 #[derive(Drop)]
 pub struct MemDisk {
     alloc: Global,
@@ -144,8 +145,8 @@ impl MemDisk {
     ghost use Rattle.pot_doubles.specs.Disks.{changes_of, disk_calls, stop_of, has_stopped};
     ghost use Rattle.pot_doubles.specs.Disks.{is_stopping, first_steps, left_by};
 
-    /// A disk on which nothing was written. The calls of the numbers `fails` are to fail, and each from the
-    /// number `stop` on.
+    /// A disk on which nothing was written. The calls of the numbers `fails` are to fail, and each
+    /// from the number `stop` on.
     pub fn new(alloc: Global, fails: Vec<u32>, stop: Option<u32>) -> MemDisk
         ensures changes { changes_of result ≡ [] }
         ensures calls { IsFresh (disk_calls result) fails.items }
@@ -166,7 +167,8 @@ impl MemDisk {
         self.calls.starved()
     }
 
-    /// The disk as a crash now leaves it: with all that is pending kept, or with all of it filled by the byte 1.
+    /// The disk as a crash now leaves it: with all that is pending kept, or with all of it filled
+    /// by the byte 1.
     pub fn crash(&self, keep: bool) -> Result<MemDisk, NoMemory>
         ensures changes { IfOk result (λ d. changes_of d
             ≡ Synced ∷ left_by keep (changes_of self.now)) }
@@ -212,7 +214,8 @@ impl MemDisk {
         stopped
     }
 
-    /// What a call answers that found no memory. It counts a fault, where it was not to fail anyway.
+    /// What a call answers that found no memory. It counts a fault, where it was not to fail
+    /// anyway.
     fn starve(&mut self, fails: bool) -> Failed
         ensures counted { disk_calls self.new
             ≡ (if fails then disk_calls self.old else starving (disk_calls self.old)) }

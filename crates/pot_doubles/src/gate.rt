@@ -11,8 +11,8 @@ impl Gate for OpenGate {
     fn after(&self, _position: u32) {}
 }
 
-/// A gate that holds the job at position 0 back until the one at position 1 is done. It stops waiting after
-/// some turns of its loop, so that a run on one worker ends too.
+/// A gate that holds the job at position 0 back until the one at position 1 is done. It stops
+/// waiting after some turns of its loop, so that a run on one worker ends too.
 #[derive(Drop)]
 pub struct PairGate {
     limit: u64,

@@ -77,8 +77,8 @@ impl MemRoom {
         Some(&self.shelves[place].archive)
     }
 
-    /// Whether a call of the room, or of an archive that it holds, found no memory and had no answer for
-    /// that.
+    /// Whether a call of the room, or of an archive that it holds, found no memory and had no
+    /// answer for that.
     pub fn starved(&self) -> bool
         ensures { result ≡ ((room_calls self.now).starved || any_starved (shelves_of self.now)) }
     {
@@ -86,8 +86,8 @@ impl MemRoom {
     }
 }
 
-/// Puts an archive in the place of the first of this number, and hands out the one that stood there. Where
-/// there is none, the archive comes back.
+/// Puts an archive in the place of the first of this number, and hands out the one that stood
+/// there. Where there is none, the archive comes back.
 fn exchange(
     shelves: &mut Vec<Shelf<LossyArchive>>,
     number: u32,

@@ -11,7 +11,8 @@ const LENGTHS: [usize; 6] = [0, 1, 31, 32, 33, 1024];
 /// Weights of no term, of one, and of some.
 const WEIGHTS: [u8; 6] = [0x00, 0x01, 0x02, 0x57, 0x80, 0xff];
 
-/// The product of two polynomials over two elements, divided at its end by z^8 + z^4 + z^3 + z + 1 (FIPS 197, 4.2).
+/// The product of two polynomials over two elements, divided at its end by z^8 + z^4 + z^3 + z + 1
+/// (FIPS 197, 4.2).
 fn product(a: u8, b: u8) -> u8 {
     let mut whole: u16 = 0;
     for bit in 0..8u32 {
@@ -67,7 +68,8 @@ fn adds(len: usize) -> bool
     true
 }
 
-/// Splits of this length and back: by XOR into two fragments, and by a threshold of two at two points.
+/// Splits of this length and back: by XOR into two fragments, and by a threshold of two at two
+/// points.
 fn splits(len: usize) -> bool
     requires some { 0 < len }
     requires few { len ≤ 1024 }

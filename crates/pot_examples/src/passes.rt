@@ -17,7 +17,8 @@ use std::alloc::Global;
 use std::sync::Wait;
 use std::test::Fail;
 
-/// The digest of the record of `hello` as `a`, whose two blocks stand in the two stripes (computed from the formats apart from the crates).
+/// The digest of the record of `hello` as `a`, whose two blocks stand in the two stripes (computed
+/// from the formats apart from the crates).
 const MARK: Digest = Digest {
     bytes: [
         0xa5, 0x5e, 0x78, 0x97, 0x9a, 0x4a, 0x68, 0xd0, 0x2b, 0x4c, 0xbe, 0xd8, 0xef, 0x2e, 0x54,
@@ -92,8 +93,8 @@ fn fetch<R: Wait>(
     fetched
 }
 
-/// What a session's index logged in which the one passes stored `a`, the others, split off before, fetched it, and `b` then found no
-/// room; and the bytes that came.
+/// What a session's index logged in which the one passes stored `a`, the others, split off before,
+/// fetched it, and `b` then found no room; and the bytes that came.
 fn logged<R: Wait>(
     rt: &R,
     alloc: Global,
@@ -119,7 +120,8 @@ fn logged<R: Wait>(
     }
 }
 
-/// What one pass published the other finds, though it was split off before; a store that is refused leaves its name free.
+/// What one pass published the other finds, though it was split off before; a store that is refused
+/// leaves its name free.
 #[test]
 fn found_by_another_pass(rt: HostRuntime) -> Result<(), Fail> {
     let (Some(a), Some(b)) = (Name::read(b"a"), Name::read(b"b")) else {

@@ -1,4 +1,5 @@
--- The blinds of a group over a call: a mend that began a relay adds its own, and no other call adds one.
+-- The blinds of a group over a call: a mend that began a relay adds its own, and no other call adds
+-- one.
 use Rattle.std.proofs.Common.{◌≡◌, ◌≢◌, ◌⊎◌, ◌<◌, IsTrue, true, false, ℕ, List, [], ◌∷◌, ◌++◌, ◌+◌, Option, Some, None, Result, Ok, Err, refl, sym, ap, ◌∙◌, append-nil, append_assoc}
 use Rattle.std.specs.Prelude.{IsSomeAnd}
 use Rattle.pot_bytes.specs.declared.rack.Place.{Place}

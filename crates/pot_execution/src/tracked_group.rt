@@ -1,4 +1,4 @@
-//! A group and its course.
+//! A group and its execution.
 ghost use Rattle.std.specs.Prelude.{◌≡◌, ◌<◌, ◌≤◌, [], IsTrue, IfOk, IfErr, map, length};
 ghost use Rattle.pot_machine.specs.Table.{width, archives_in};
 
@@ -13,7 +13,8 @@ use pot_sealed::Sealed;
 use std::alloc::Global;
 use std::marker::Model;
 
-/// A group of archives, whose type keeps the course of its calls. Contracts see it as a `Group`.
+/// A group of archives whose type keeps an execution: the calls that led to its state. Contracts see
+/// it as a `Group`.
 #[derive(Drop)]
 pub struct TrackedGroup<A: Archive> {
     group: Group<A>,
@@ -229,7 +230,8 @@ impl<A: Archive> TrackedGroup<A> {
         self.group.logged()
     }
 
-    /// As `Group::end`. What the archives hold and have heard comes of what they meant at their taking by the steps of the group's calls alone.
+    /// As `Group::end`. What the archives hold and have heard comes of what they meant at their
+    /// taking by the steps of the group's calls alone.
     pub fn end(self) -> Ended<A>
         ensures table { result.table ≡ self.table }
         ensures log { result.log.items ≡ self.log }

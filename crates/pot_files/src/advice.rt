@@ -1,8 +1,8 @@
 ghost use Rattle.std.specs.Prelude.{◌≡◌, IsSome, IsSomeAnd, codes};
 ghost use Rattle.pot_files.specs.Advice.{HasAdvice, Tells};
 
-/// The line on standard error for an exit status: what happened, and what to do. None for a status that says
-/// how a session went, which its output tells.
+/// The line on standard error for an exit status: what happened, and what to do. None for a status
+/// that says how a session went, which its output tells.
 pub fn advice_at(status: u8) -> Option<&'static str>
     ensures only { IsSome result → HasAdvice status }
     ensures source { status ≡ 4 → IsSomeAnd result (λ line. Tells (codes "standard input or the system's random bytes could not be read") line.now) }

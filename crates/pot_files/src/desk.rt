@@ -9,11 +9,11 @@ use std::fs::{File, OpenOptions};
 use std::io::ErrorKind;
 use std::{fs, io};
 
-/// The image in the file `desk.pss` of the working folder, or none. Where that has none and there is a file
-/// `desk.psi`, as earlier programs wrote it, the image is what that holds.
+/// The image in the file `desk.pss` of the working folder, or none. Where that has none and there
+/// is a file `desk.psi`, as earlier programs wrote it, the image is what that holds.
 ///
-/// The desk is for one run at a time: its first call locks the file `desk.lock`, and fails where another desk
-/// has the lock. It keeps the lock until it is dropped, and the file stays, empty.
+/// The desk is for one run at a time: its first call locks the file `desk.lock`, and fails where
+/// another desk has the lock. It keeps the lock until it is dropped, and the file stays, empty.
 #[derive(Drop)]
 pub struct DeskFile {
     rt: HostRuntime,
@@ -103,11 +103,11 @@ fn load_earlier(rt: &HostRuntime) -> Result<Option<Vec<u8>>, DeskFault> {
     }
 }
 
-/// Puts an image into `desk.pss`. Where it fails or the run stops at any moment, the old image stands, or the new
-/// one does.
+/// Puts an image into `desk.pss`. Where it fails or the run stops at any moment, the old image
+/// stands, or the new one does.
 ///
-/// The folder is synced first, so that the archive files that were made in this run have their names on the disk
-/// before an image speaks of them, and `desk.pss` has its own.
+/// The folder is synced first, so that the archive files that were made in this run have their
+/// names on the disk before an image speaks of them, and `desk.pss` has its own.
 fn put_image(rt: &HostRuntime, image: &[u8]) -> io::Result<()> {
     let mut desk = open_desk(rt)?;
     sync_folder(rt)?;

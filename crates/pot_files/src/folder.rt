@@ -11,9 +11,10 @@ use std::collections::BTreeSet;
 use std::fs;
 use std::io::ErrorKind;
 
-/// The working folder, with the archive of number N in its file `archive-N`. A file that is missing is made,
-/// and is an empty archive. A link of that name is followed and stays: the archive is where it leads. Where it
-/// leads to no file, none is made: most likely a disk is not mounted, and its blocks are not lost.
+/// The working folder, with the archive of number N in its file `archive-N`. A file that is missing
+/// is made, and is an empty archive. A link of that name is followed and stays: the archive is
+/// where it leads. Where it leads to no file, none is made: most likely a disk is not mounted, and
+/// its blocks are not lost.
 ///
 /// An archive that is given back is on the disk after `Ok`.
 #[derive(Drop)]

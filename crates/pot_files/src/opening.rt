@@ -9,8 +9,9 @@ use std::os::fd::AsRawFd;
 /// The greatest number of a standard stream, which is that of standard error.
 const LAST_STREAM: i32 = 2;
 
-/// Opens a file under a number that no standard stream has. Where one of these was closed before the program
-/// began, a file that took its number would be read as that stream, or get what is written to it.
+/// Opens a file under a number that no standard stream has. Where one of these was closed before
+/// the program began, a file that took its number would be read as that stream, or get what is
+/// written to it.
 pub fn open_apart(rt: &HostRuntime, how: &OpenOptions, name: &str) -> io::Result<File>
     ensures { IfOk result (λ file. pos 2 <ℤ file_raw_fd file) }
 {

@@ -3,8 +3,8 @@
 use std::io::IsTerminal;
 use std::time::{Duration, Instant};
 
-/// When the last line was written, or when there could have been a first one. None where standard error is no terminal, or where the
-/// clock cannot be read.
+/// When the last line was written, or when there could have been a first one. None where standard
+/// error is no terminal, or where the clock cannot be read.
 #[derive(Drop)]
 pub struct Progress {
     last: Option<Instant>,
@@ -21,7 +21,8 @@ impl Progress {
         Progress { last }
     }
 
-    /// Tells that the archive of a number is opened, where a second has passed. A line that cannot be written changes nothing.
+    /// Tells that the archive of a number is opened, where a second has passed. A line that cannot
+    /// be written changes nothing.
     pub fn at(&mut self, rt: &HostRuntime, number: u32) {
         let Some(last) = self.last else {
             return;

@@ -1,4 +1,5 @@
--- How the cause law goes on, over plain data: a log that grows by one entry, counts that rise, and the log of an opening.
+-- How the cause law goes on, over plain data: a log that grows by one entry, counts that rise, and
+-- the log of an opening.
 use Rattle.std.proofs.Common.{◌≡◌, ◌⊎◌, inl, inr, ℕ, zero, suc, ◌+◌, ◌<◌, ◌≤◌, List, [], ◌∷◌, ◌++◌, append_assoc, append-nil, Bool, true, false, if◌then◌else◌, refl, sym, ap, ◌∙◌, subst, arith}
 use Rattle.std.specs.Prelude.{Contains, All}
 use Rattle.std.proofs.lemmas.List.Elements.{All-nil, All-cons, All-head, All-tail, All-append}

@@ -1,4 +1,5 @@
--- What a group's archives may hold, over losses, over an archive that comes and over the entries of its calls.
+-- What a group's archives may hold, over losses, over an archive that comes and over the entries of
+-- its calls.
 use Rattle.std.proofs.Common.{◌≡◌, ◌≢◌, ◌⊎◌, inl, inr, ℕ, ◌+◌, ◌++◌, List, [], ◌∷◌, Option, Some, None, Bool, true, false, refl, sym, ap, ◌∙◌, subst}
 use Rattle.std.specs.Prelude.{Contains, Result, Ok, Err}
 use Rattle.std.proofs.lemmas.Bool.{cases_eq}
@@ -24,7 +25,8 @@ written_last : (t u : Table) (log : List Entry) (e : Entry) (n m : ℕ) (b : Lis
 written_last t u [] e n m b r h = inl (subst (λ v. MayWrite v e n m b) r h)
 written_last t u (x ∷ log) e n m b r h = inr (written_last (after t x) u log e n m b r.1 h)
 
--- What the archives were to hold after an entry, and what they remember then, was held and remembered before, or the entry may have written it.
+-- What the archives were to hold after an entry, and what they remember then, was held and
+-- remembered before, or the entry may have written it.
 pub record Frames (t : Table) (e : Entry) (old : Shelves) (h : Holdings) (new : Shelves) : Type 0 where
   pub held : (n m : ℕ) (b : List ℕ) → h n m ≡ Some b → (old.held n m ≡ Some b) ⊎ MayWrite t e n m b
   pub history : (n : ℕ) (b : List ℕ) → Contains (new.history n) b → Contains (old.history n) b ⊎ ((m : ℕ) × MayWrite t e n m b)

@@ -84,7 +84,8 @@ unsound_later told g x y s c stays none t sound = none t (
 
 -- NOTES UNDER WAY
 
--- So many reads are noted, each as a look, and these are left. The archives were as `mid` before them.
+-- So many reads are noted, each as a look, and these are left. The archives were as `mid` before
+-- them.
 pub record Noting (told : Type 0) (job s c n : ℕ) (swept : Swept) (lanes : List Lane) (old now : GroupView) (entries : List Entry) : Type 0 where
   pub stripe : ℕ
   pub column : ℕ

@@ -1,4 +1,5 @@
--- What a call of a group made, from what it did: its entries, how the group grew by them, and its row.
+-- What a call of a group made, from what it did: its entries, how the group grew by them, and its
+-- row.
 use Rattle.std.proofs.Common.{◌≡◌, ◌≢◌, ◌<◌, ◌++◌, ℕ, List, [], ◌∷◌, length, refl, ap, sym, subst, append-nil}
 use Rattle.std.specs.Prelude.{Option, None, Some, IsSomeAnd, Result, Ok, Err, Contains}
 use Rattle.pot_bytes.specs.declared.rack.Place.{Place}

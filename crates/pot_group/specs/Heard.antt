@@ -68,8 +68,8 @@ FoldedBy t flights (e ∷ log) (given ∷ givens) number x =
 
 -- Each sum that an archive ever heard it had heard when it was taken, or it is the sum of a flight
 -- that came to the archive. A flight begins with its blind, which is the one that the group had for
--- its Begin, and each hop adds to its sum a block of the digest of the slot that it goes over, times
--- its weight.
+-- its Begin, and each hop adds to its sum a block of the digest of the slot that it goes over,
+-- times its weight.
 pub record HasHeard (first : Table) (log : List Entry) (blinds : List (List ℕ))
     (flights : List Flight) (s : Shelves) : Type 0 where
   pub givens : List (List ℕ)

@@ -180,7 +180,8 @@ pub record FindsStripe (told : Type 0) (job : ℕ) (p q : List ℕ) (s : Stop)
 
 -- THE WRITES
 
--- this is the block, or the new parity block, that a put writes into its stripe's slot of this archive
+-- this is the block, or the new parity block, that a put writes into its stripe's slot of this
+-- archive
 abbrev pub IsPut : Table → ℕ → ℕ → List ℕ → List ℕ → List ℕ → ℕ → List ℕ → Type 0
 IsPut t s c block p q number x =
     ((number ≡ serving_at t s c) × (x ≡ block))

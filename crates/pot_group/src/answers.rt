@@ -3,7 +3,8 @@
 /// Why a put did not place its block.
 #[derive(Clone, Copy, PartialEq, Eq, Debug)]
 pub enum PutFault {
-    /// The log was full at once, or a stripe is still to be tried and the log has no room for its entry. Nothing was written.
+    /// The log was full at once, or a stripe is still to be tried and the log has no room for its
+    /// entry. Nothing was written.
     LogFull,
     /// No stripe is left. Nothing was written.
     Full,

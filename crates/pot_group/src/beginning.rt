@@ -20,8 +20,9 @@ pub struct StartRefused<A> {
     pub shelves: Vec<Shelf<A>>,
 }
 
-/// The memory that a group takes at its start, for its log, its flights, and the blocks whose digests it knows. These are 3 KB,
-/// and stand by themselves, so that a group that is handed from one to the next is small.
+/// The memory that a group takes at its start, for its log, its flights, and the blocks whose
+/// digests it knows. These are 3 KB, and stand by themselves, so that a group that is handed from
+/// one to the next is small.
 #[derive(Drop)]
 struct Memory {
     log: Vec<Entry>,
@@ -30,7 +31,8 @@ struct Memory {
     known: Box<Known>,
 }
 
-/// Whether these are the archives of the columns, as `Group::start` asks for them: the home of each, and then the target of its move.
+/// Whether these are the archives of the columns, as `Group::start` asks for them: the home of
+/// each, and then the target of its move.
 pub fn are_homes<A>(columns: &[Column], shelves: &[Shelf<A>]) -> bool
     ensures { IsTrue result ↔ (map (λ s. s.number) shelves.now ≡ flat_map homes_of columns.now) }
 {
@@ -53,9 +55,9 @@ impl<A: Archive> Group<A> {
     ghost use Rattle.pot_machine.specs.Table.{archives_in};
     ghost use Rattle.pot_group.specs.Beginning.{Begins};
 
-    /// The group of this number over a table and its archives, opened: the block of every Live slot is read, and what is
-    /// missing or does not fit its stripe is logged by job 0. The archives are, column by column, the home and then the
-    /// target of the move.
+    /// The group of this number over a table and its archives, opened: the block of every Live slot
+    /// is read, and what is missing or does not fit its stripe is logged by job 0. The archives
+    /// are, column by column, the home and then the target of the move.
     ///
     /// # Errors
     /// `StartRefused` for want of memory alone, before any read.

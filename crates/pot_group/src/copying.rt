@@ -45,11 +45,13 @@ impl<A: Archive> Group<A> {
     ghost use Rattle.pot_group.specs.Moving.{Steps};
     ghost use Rattle.pot_group.specs.Calls.{Makes, MoveStepCall};
 
-    /// Moves a column by one stripe, or ends its move. It writes to no other slot than that of the target at this stripe.
+    /// Moves a column by one stripe, or ends its move. It writes to no other slot than that of the
+    /// target at this stripe.
     ///
     /// # Errors
-    /// `LogFull` first, exactly where the log has 262,144 entries. `Idle` exactly where the column does not move. `Faulted` where the
-    /// archive that serves the slot failed, or the target; the move stays where it is.
+    /// `LogFull` first, exactly where the log has 262,144 entries. `Idle` exactly where the column
+    /// does not move. `Faulted` where the archive that serves the slot failed, or the target; the
+    /// move stays where it is.
     pub fn move_step(&mut self, job: u32, column: u8) -> Result<MoveStep, MoveFault>
         requires job { 0 < job }
         requires column { column < width self.old.table }

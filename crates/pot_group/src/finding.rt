@@ -36,8 +36,8 @@ impl Kind {
     }
 }
 
-/// The first place at or after this one, by stripe and then column, whose slot is of the kind. The stripe and the column
-/// may be beyond the last ones.
+/// The first place at or after this one, by stripe and then column, whose slot is of the kind. The
+/// stripe and the column may be beyond the last ones.
 pub(crate) fn next_place(
     table: &GroupTable,
     stripe: u32,

@@ -24,8 +24,8 @@ pub struct Ended<A> {
     pub shelves: Vec<Shelf<A>>,
 }
 
-/// A group of archives. Contracts see its number, the table that it began with, its table and its log now, the blinds of its
-/// relays, and its archives.
+/// A group of archives. Contracts see its number, the table that it began with, its table and its
+/// log now, the blinds of its relays, and its archives.
 #[derive(Drop)]
 pub struct Group<A: Archive> {
     pub(crate) number: u8,
@@ -33,7 +33,8 @@ pub struct Group<A: Archive> {
     pub(crate) table: GroupTable,
     pub(crate) log: Vec<Entry>,
     pub(crate) flights: Vec<Flight>,
-    /// The blind of each relay that the log begins, in order. They take no memory, and only contracts see them.
+    /// The blind of each relay that the log begins, in order. They take no memory, and only
+    /// contracts see them.
     pub(crate) blinds: Vec<Snapshot<Block>>,
     pub(crate) archives: Archives<A>,
     pub(crate) known: Box<Known>,
@@ -124,8 +125,8 @@ impl<A: Archive> Group<A> {
         note(&mut self.table, &mut self.log, entry);
     }
 
-    /// A block that is put next, and the parity block that it will make, if no other put comes between. Each spares a digest
-    /// where it is that block, and nothing else changes.
+    /// A block that is put next, and the parity block that it will make, if no other put comes
+    /// between. Each spares a digest where it is that block, and nothing else changes.
     pub fn expect(&mut self, block: &Sealed, parity: &Sealed)
         ensures { self.new ≡ self.old }
     {

@@ -5,8 +5,8 @@ ghost use Rattle.pot_bytes.specs.Digests.{digest_of};
 use pot_bytes::{Block, Digest};
 use pot_sealed::{Sealed, digest_knowing};
 
-/// Blocks with their digests: the last parity block that was written, and the block and the parity block that a caller
-/// expects next. What they are changes no answer.
+/// Blocks with their digests: the last parity block that was written, and the block and the parity
+/// block that a caller expects next. What they are changes no answer.
 #[derive(Clone, Copy)]
 pub(crate) struct Known {
     last: Sealed,
@@ -52,7 +52,8 @@ impl Known {
         digest_knowing(block, &self.parity)
     }
 
-    /// The digest of a block that is put. It keeps both, since the parity block of a new stripe is the same.
+    /// The digest of a block that is put. It keeps both, since the parity block of a new stripe is
+    /// the same.
     #[tactic(auto, unfolding(pot_bytes::specs::Digests::digest_of))]
     pub(crate) fn meet(&mut self, block: &Block) -> Digest
         ensures { result ≡ digest_of block.now }

@@ -110,8 +110,8 @@ impl<A: Archive> Group<A> {
     ghost use Rattle.pot_group.specs.Group.{with_archives};
     ghost use Rattle.pot_group.specs.Lanes.{Gathers, ReadsLane};
 
-    /// Reads the first Live slot at or after this place and those that follow it, so many at most. It ends behind a read that
-    /// failed.
+    /// Reads the first Live slot at or after this place and those that follow it, so many at most.
+    /// It ends behind a read that failed.
     pub(crate) fn gather(&mut self, stripe: u32, column: u8, most: usize) -> Lanes
         requires some { 0 < most }
         requires few { most ≤ 4 }

@@ -16,9 +16,10 @@ impl<A: Archive> Group<A> {
 
     /// Reads the block of a slot, and logs what it came to.
     ///
-    /// `Seen`: the slot is Live, and `into` is its block, of its digest. `Gone`: the slot is not Live, or its archive has no
-    /// block of its digest; a Live slot becomes Lost. `Faulted`: the slot is Live, and the archive failed. `LogFull` comes
-    /// first, exactly where the log has 262,144 entries, and nothing changes then.
+    /// `Seen`: the slot is Live, and `into` is its block, of its digest. `Gone`: the slot is not
+    /// Live, or its archive has no block of its digest; a Live slot becomes Lost. `Faulted`: the
+    /// slot is Live, and the archive failed. `LogFull` comes first, exactly where the log has
+    /// 262,144 entries, and nothing changes then.
     pub fn look(&mut self, job: u32, place: Place, into: &mut Block) -> Looked
         requires job { 0 < job }
         requires stripe { place.stripe < self.old.table.stripes }

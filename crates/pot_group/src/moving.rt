@@ -16,7 +16,8 @@ use pot_steps::move_begin;
 pub enum ShelfCause {
     /// The log has no room.
     LogFull,
-    /// For a move, the column moves and has this home. Else an archive of the group has the shelf's number, which is this one.
+    /// For a move, the column moves and has this home. Else an archive of the group has the shelf's
+    /// number, which is this one.
     InUse { number: u32 },
     /// Memory is short.
     NoMemory,
@@ -42,7 +43,8 @@ impl<A: Archive> Group<A> {
     /// A column begins to move to an archive that comes.
     ///
     /// # Errors
-    /// In this order: `LogFull`, `InUse`, `NoMemory`. The archive is handed back, and nothing changes.
+    /// In this order: `LogFull`, `InUse`, `NoMemory`. The archive is handed back, and nothing
+    /// changes.
     pub fn move_begin(
         &mut self,
         job: u32,
@@ -78,11 +80,13 @@ impl<A: Archive> Group<A> {
         Ok(())
     }
 
-    /// An archive that comes takes the place of a column's home, and of its target where it moves, which ends its move. The slots of
-    /// the column that were Live are Lost, and the answer is how many. The archives that it had stay in the group, and serve no slot.
+    /// An archive that comes takes the place of a column's home, and of its target where it moves,
+    /// which ends its move. The slots of the column that were Live are Lost, and the answer is how
+    /// many. The archives that it had stay in the group, and serve no slot.
     ///
     /// # Errors
-    /// In this order: `LogFull`, `InUse`, `NoMemory`. The archive is handed back, and nothing changes.
+    /// In this order: `LogFull`, `InUse`, `NoMemory`. The archive is handed back, and nothing
+    /// changes.
     pub fn swap(&mut self, job: u32, column: u8, shelf: Shelf<A>) -> Result<u32, ShelfRefused<A>>
         requires job { 0 < job }
         requires column { column < width self.old.table }
@@ -128,7 +132,8 @@ impl<A: Archive> Group<A> {
         None
     }
 
-    /// An archive comes, and a column begins to move to it. Where memory is short the archive comes back.
+    /// An archive comes, and a column begins to move to it. Where memory is short the archive comes
+    /// back.
     pub(crate) fn go_to(&mut self, job: u32, column: u8, shelf: Shelf<A>) -> Result<(), Shelf<A>>
         requires fresh { Contains (plain A.account.meaning self.old.shelves).numbers shelf.number
             → ⊥ }

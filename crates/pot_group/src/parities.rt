@@ -1,4 +1,5 @@
-//! The parity blocks of a stripe: their old blocks are read, and their new ones are made and written.
+//! The parity blocks of a stripe: their old blocks are read, and their new ones are made and
+//! written.
 ghost use Rattle.std.specs.Prelude.{◌≡◌, ◌<◌, ◌≤◌, ℕ, IsTrue, Contains};
 ghost use Rattle.pot_bytes.specs.Sums.{xor};
 ghost use Rattle.pot_bytes.specs.Weighted.{scaled};
@@ -92,7 +93,8 @@ impl<A: Archive> Group<A> {
     }
 }
 
-/// The parity blocks after a put of a block at a data column of a stripe with so many parity columns.
+/// The parity blocks after a put of a block at a data column of a stripe with so many parity
+/// columns.
 pub(crate) fn after_put(old: &Parity, block: &Block, column: u8, parity_columns: u8) -> Parity
     ensures first { result.first ≡ xor old.now.first block.now }
     ensures second { parity_columns ≡ 2
@@ -106,8 +108,9 @@ pub(crate) fn after_put(old: &Parity, block: &Block, column: u8, parity_columns:
     new
 }
 
-/// Writes a block at the cursor, and then the new parity blocks of its stripe, the second one even where the first failed.
-/// None where the block itself was not written; no parity block is written then.
+/// Writes a block at the cursor, and then the new parity blocks of its stripe, the second one even
+/// where the first failed. None where the block itself was not written; no parity block is written
+/// then.
 pub(crate) fn write_put<A: Archive>(
     archives: &mut Archives<A>,
     table: &GroupTable,

@@ -36,16 +36,18 @@ impl<A: Archive> Group<A> {
     ghost use Rattle.pot_shelves.specs.Shelves.{plain};
     ghost use Rattle.pot_group.specs.Putting.{Passes, FindsStripe, HasOld, BlockMeans};
 
-    /// Puts a block at the cursor, and changes each parity block by it: P to P XOR the block, and Q, where there is one, to Q XOR
-    /// 3^column times the block.
+    /// Puts a block at the cursor, and changes each parity block by it: P to P XOR the block, and
+    /// Q, where there is one, to Q XOR 3^column times the block.
     ///
-    /// A stripe that has a relay, or a slot that is Lost or Broken, is passed, and so is one of which a parity block is missing.
+    /// A stripe that has a relay, or a slot that is Lost or Broken, is passed, and so is one of
+    /// which a parity block is missing.
     ///
     /// # Errors
-    /// `LogFull` first, exactly where the log has 262,144 entries, and nothing changes then. It also comes before any
-    /// write where the cursor has a stripe left and the next entry has no room; the entries logged before it stay. `Full`
-    /// where the cursor has no stripe left. `Faulted` where the archive of that column failed, of two parity columns the
-    /// first whose block was not written.
+    /// `LogFull` first, exactly where the log has 262,144 entries, and nothing changes then. It
+    /// also comes before any write where the cursor has a stripe left and the next entry has no
+    /// room; the entries logged before it stay. `Full` where the cursor has no stripe left.
+    /// `Faulted` where the archive of that column failed, of two parity columns the first whose
+    /// block was not written.
     pub fn put(&mut self, job: u32, block: &Block) -> Result<Place, PutFault>
         requires job { 0 < job }
         ensures puts { Makes A.account (λ told. PutCall told job block.now result) self.old
@@ -78,7 +80,8 @@ impl<A: Archive> Group<A> {
         }
     }
 
-    /// Passes the cursor's stripe where it takes no block. Where it takes one, reads its old parity blocks.
+    /// Passes the cursor's stripe where it takes no block. Where it takes one, reads its old parity
+    /// blocks.
     fn pass(&mut self, job: u32, parity: &mut Parity) -> Option<Stop>
         ensures { OnGroup A.account
             (λ told. Passes told job parity.new.first parity.new.second result) self.old self.new }
@@ -188,7 +191,8 @@ impl<A: Archive> Group<A> {
     }
 }
 
-/// The answer of a put whose block was written: its place, or the first parity column whose block was not written.
+/// The answer of a put whose block was written: its place, or the first parity column whose block
+/// was not written.
 fn answered(place: Place, last: u8, kept: Kept) -> Result<Place, PutFault>
     requires { last ≤ 16 }
     ensures { result ≡ answered place last kept.first kept.second }

@@ -20,7 +20,8 @@ pub(crate) enum Found {
     NotRead,
 }
 
-/// Reads the block of a slot of an archive, which is to have this digest, into `into`. Some digests are known.
+/// Reads the block of a slot of an archive, which is to have this digest, into `into`. Some digests
+/// are known.
 pub(crate) fn read_sound<A: Archive>(
     archives: &mut Archives<A>,
     number: u32,

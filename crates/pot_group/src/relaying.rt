@@ -19,7 +19,8 @@ pub enum Advanced {
     Hopped,
     /// The target was written, and the relay ended.
     Mended,
-    /// The next column's slot is not Live, or its archive has no block of its digest; a Live slot is Lost now. The relay ended.
+    /// The next column's slot is not Live, or its archive has no block of its digest; a Live slot
+    /// is Lost now. The relay ended.
     Ended,
 }
 
@@ -103,7 +104,8 @@ impl<A: Archive> Group<A> {
     /// Begins to rebuild a slot that is Lost or Broken, with a random block.
     ///
     /// # Errors
-    /// In this order: `LogFull`, `Whole`, `Standing`, `TwoGone`, which is logged as Stuck, `Crowded`.
+    /// In this order: `LogFull`, `Whole`, `Standing`, `TwoGone`, which is logged as Stuck,
+    /// `Crowded`.
     pub fn begin(&mut self, job: u32, place: Place, blind: &Block) -> Result<(), BeginFault>
         requires job { 0 < job }
         requires stripe { place.stripe < self.old.table.stripes }
@@ -197,12 +199,13 @@ impl<A: Archive> Group<A> {
         None
     }
 
-    /// Moves the relay of a stripe by one column, or ends it. It writes to no other slot than the target's.
+    /// Moves the relay of a stripe by one column, or ends it. It writes to no other slot than the
+    /// target's.
     ///
     /// # Errors
-    /// `LogFull` first, exactly where the log has 262,144 entries, and nothing changes then. `Idle` exactly where no relay
-    /// stands in the stripe. `Faulted` where the archive of that column failed; the relay stays as it was. `Odd` where the relay
-    /// came to a block of another digest.
+    /// `LogFull` first, exactly where the log has 262,144 entries, and nothing changes then. `Idle`
+    /// exactly where no relay stands in the stripe. `Faulted` where the archive of that column
+    /// failed; the relay stays as it was. `Odd` where the relay came to a block of another digest.
     pub fn advance(&mut self, job: u32, stripe: u32) -> Result<Advanced, AdvanceFault>
         requires job { 0 < job }
         requires stripe { stripe < self.old.table.stripes }
@@ -255,11 +258,12 @@ impl<A: Archive> Group<A> {
         }
     }
 
-    /// Goes one step towards the rebuilding of a slot that is Lost or Broken: begins its relay, or moves the relay that stands
-    /// in its way, by one column. The blind is used exactly at `Began`.
+    /// Goes one step towards the rebuilding of a slot that is Lost or Broken: begins its relay, or
+    /// moves the relay that stands in its way, by one column. The blind is used exactly at `Began`.
     ///
-    /// `LogFull` comes first, then `Whole`, exactly where the slot is Void or Live. Where the stripe has a relay it is moved; else
-    /// `TwoGone` comes exactly where no relay can rebuild the slot. `Mended` and `Passed` may be ends of the relay of another slot.
+    /// `LogFull` comes first, then `Whole`, exactly where the slot is Void or Live. Where the
+    /// stripe has a relay it is moved; else `TwoGone` comes exactly where no relay can rebuild the
+    /// slot. `Mended` and `Passed` may be ends of the relay of another slot.
     pub fn mend(&mut self, job: u32, place: Place, blind: &Block) -> Mend
         requires job { 0 < job }
         requires stripe { place.stripe < self.old.table.stripes }
@@ -351,7 +355,8 @@ impl<A: Archive> Group<A> {
         self.archives.fold(number, stripe, weight, sum)
     }
 
-    /// Takes note of a fold over a flight's next column, whose slot is Live. `sum` is the sum after the fold.
+    /// Takes note of a fold over a flight's next column, whose slot is Live. `sum` is the sum after
+    /// the fold.
     fn hop_over(&mut self, job: u32, flight: Flight, sum: &Block) -> Advanced
         requires here { flight_in self.old.flights flight.relay.stripe ≡ Some flight }
         requires next { IsSomeAnd (next_column self.old.table flight.relay) (λ c.

@@ -6,12 +6,14 @@ use pot_bytes::Block;
 use pot_machine::Cursor;
 use pot_outside::Archive;
 
-/// Where the next put of a group goes, and the parity block that it will change, as far as the group still knows it.
+/// Where the next put of a group goes, and the parity block that it will change, as far as the
+/// group still knows it.
 #[derive(Clone, Copy)]
 pub struct Standing {
     /// The cursor.
     pub cursor: Cursor,
-    /// The block of P that was written last, or zeros where none was. It is a hint, and no answer rests on it.
+    /// The block of P that was written last, or zeros where none was. It is a hint, and no answer
+    /// rests on it.
     pub parity: Block,
 }
 

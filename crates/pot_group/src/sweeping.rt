@@ -114,9 +114,10 @@ impl<A: Archive> Group<A> {
     ghost use Rattle.pot_group.specs.Calls.{Makes, Made};
     ghost use Rattle.pot_group.specs.Sweeping.{SweepCall};
 
-    /// Looks at up to four Live slots, the first at or after this place and those that follow it by stripe and column, as `next` and
-    /// `look` by turns would, and with the same calls of the archives. It ends early where an archive fails and where the log has no
-    /// room. The stripe and the column may be beyond the last ones. All blocks are read before they are digested.
+    /// Looks at up to four Live slots, the first at or after this place and those that follow it by
+    /// stripe and column, as `next` and `look` by turns would, and with the same calls of the
+    /// archives. It ends early where an archive fails and where the log has no room. The stripe and
+    /// the column may be beyond the last ones. All blocks are read before they are digested.
     pub fn sweep(&mut self, job: u32, stripe: u32, column: u8) -> Swept
         requires job { 0 < job }
         ensures sweeps { Makes A.account (λ told. SweepCall told job stripe column result) self.old

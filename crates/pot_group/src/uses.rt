@@ -48,7 +48,8 @@ impl<A: Archive> Group<A> {
     ghost use Rattle.pot_group.specs.Group.{view_of};
     ghost use Rattle.pot_group.specs.Uses.{IsTrace, IsUse};
 
-    /// What the group uses the archive of this number as, if it does. An archive that was retired keeps its use.
+    /// What the group uses the archive of this number as, if it does. An archive that was retired
+    /// keeps its use.
     pub fn use_of(&self, number: u32) -> Option<Use>
         ensures { IsUse (view_of A.account.meaning self.now) number result }
     {
@@ -62,7 +63,8 @@ impl<A: Archive> Group<A> {
         }
     }
 
-    /// The column whose home is the archive `from`, and whether the archive `to` has a use in the group.
+    /// The column whose home is the archive `from`, and whether the archive `to` has a use in the
+    /// group.
     pub fn trace(&self, from: u32, to: u32) -> Trace
         ensures { IsTrace (view_of A.account.meaning self.now) from to result }
     {

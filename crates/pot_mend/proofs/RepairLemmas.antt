@@ -96,8 +96,8 @@ not_odd_none job xs n k none f x between y is =
 
 -- ONE ENTRY MORE
 
--- What may come behind the entries before a place: no Stuck but of a place before `stuck'` that has none yet, and no Begin but of one
--- before `begun'` with no Oddly of a relay that began.
+-- What may come behind the entries before a place: no Stuck but of a place before `stuck'` that has
+-- none yet, and no Begin but of one before `begun'` with no Oddly of a relay that began.
 pub record MayCome (job : ℕ) (xs : List Entry) (stuck' begun' : ℕ × ℕ) (e : Entry) : Type 0 where
   pub relay : is_relay e ≡ true
   pub stuck : (j n k o : ℕ) → e ≡ entry.Stuck j n k o → Precedes (n, k) stuck' × (length (filter (is_stuck_at n k) xs) ≡ 0)

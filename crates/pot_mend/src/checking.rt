@@ -23,15 +23,18 @@ pub struct MoveAt {
 pub enum UseFault {
     /// No column has this archive as its home.
     NoSuchArchive { number: u32 },
-    /// The archive is in use: its column moves elsewhere, or it is the home or the target of a column, or was.
+    /// The archive is in use: its column moves elsewhere, or it is the home or the target of a
+    /// column, or was.
     InUse { number: u32 },
 }
 
-/// Where the archive `from` can move to `to`: the column whose home it is. Every group is asked, in order, and nothing is logged.
+/// Where the archive `from` can move to `to`: the column whose home it is. Every group is asked, in
+/// order, and nothing is logged.
 ///
 /// # Errors
-/// `NoSuchArchive` of `from` exactly where it is no column's home. `InUse` of `from` exactly where its column moves to another
-/// archive than `to`. Of a column that does not move `InUse` of `to` exactly where that is or was a home or a target.
+/// `NoSuchArchive` of `from` exactly where it is no column's home. `InUse` of `from` exactly where
+/// its column moves to another archive than `to`. Of a column that does not move `InUse` of `to`
+/// exactly where that is or was a home or a target.
 pub fn check_migrate<A: Archive, R: Wait>(
     rt: &R,
     vault: &Vault<A>,
@@ -77,12 +80,12 @@ pub fn check_migrate<A: Archive, R: Wait>(
     })
 }
 
-/// Where the archive `to` can replace `from`: the column whose home that is, be it that it moves. Every group is asked, in order,
-/// and nothing is logged.
+/// Where the archive `to` can replace `from`: the column whose home that is, be it that it moves.
+/// Every group is asked, in order, and nothing is logged.
 ///
 /// # Errors
-/// `NoSuchArchive` of `from` exactly where it is no column's home, and else `InUse` of `to` exactly where that is or was a home or
-/// a target.
+/// `NoSuchArchive` of `from` exactly where it is no column's home, and else `InUse` of `to` exactly
+/// where that is or was a home or a target.
 pub fn check_replace<A: Archive, R: Wait>(
     rt: &R,
     vault: &Vault<A>,

@@ -126,7 +126,8 @@ fn archives_are_checked(rt: HostRuntime) -> Result<(), Fail> {
     Ok(())
 }
 
-/// Of the two stripes the first has a block, which stands in the archive 0. Archive 0 is retired then.
+/// Of the two stripes the first has a block, which stands in the archive 0. Archive 0 is retired
+/// then.
 #[test]
 fn a_column_moves_to_its_end(rt: HostRuntime) -> Result<(), Fail> {
     let rack = rack(2)?;

@@ -12,11 +12,12 @@ use pot_outside::Archive;
 use pot_shared::{ColumnAt, Passes, Vault};
 use std::sync::Wait;
 
-/// Steps the move of a column until it ends, or until the column moves no more: how many blocks were copied. It ends, since each
-/// step that goes on logs an entry.
+/// Steps the move of a column until it ends, or until the column moves no more: how many blocks
+/// were copied. It ends, since each step that goes on logs an entry.
 ///
 /// # Errors
-/// `Faulted` where an archive of the column failed, and `LogFull` where the log of the group has no room. The move stays where it is.
+/// `Faulted` where an archive of the column failed, and `LogFull` where the log of the group has no
+/// room. The move stays where it is.
 pub fn migrate<A: Archive, R: Wait>(
     rt: &R,
     vault: &Vault<A>,

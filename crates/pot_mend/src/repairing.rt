@@ -22,9 +22,10 @@ pub struct Repaired {
     pub left: u32,
 }
 
-/// Mends each slot of a group that is Lost or Broken as far as that goes, in order of stripe and column, each once. A relay of
-/// another slot that stands in the way is driven on, and its end counts too. A blind is drawn for each slot, and one after each
-/// relay that began: each relay has the next blind of the stream.
+/// Mends each slot of a group that is Lost or Broken as far as that goes, in order of stripe and
+/// column, each once. A relay of another slot that stands in the way is driven on, and its end
+/// counts too. A blind is drawn for each slot, and one after each relay that began: each relay has
+/// the next blind of the stream.
 ///
 /// # Errors
 /// At the first step that fails, or that the log has no room for.

@@ -1,4 +1,5 @@
-//! The stage of the tests: a vault of one group of one data column and one parity column, over archives in memory.
+//! The stage of the tests: a vault of one group of one data column and one parity column, over
+//! archives in memory.
 ghost use Rattle.std.specs.Prelude.{◌≡◌, ◌<◌, IfOk, length};
 ghost use Rattle.pot_bytes.specs.Rack.{IsRack};
 ghost use Rattle.pot_doubles.specs.Archives.{meaning_in};
@@ -58,7 +59,8 @@ pub(crate) fn shelf(
     Ok(Shelf { number, archive })
 }
 
-/// The first group of a rack with one parity column, over empty archives, of which the first has these failing calls and losses.
+/// The first group of a rack with one parity column, over empty archives, of which the first has
+/// these failing calls and losses.
 fn member(
     alloc: Global,
     rack: &Rack,

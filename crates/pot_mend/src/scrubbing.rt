@@ -20,8 +20,9 @@ pub struct Scrubbed {
     pub gone: u32,
 }
 
-/// Looks at the Live slots of a group, in order of stripe and column, at each once. A slot that is Live all the time is among
-/// them; one that turns Live or Lost meanwhile may be; and each was Live before it was looked at.
+/// Looks at the Live slots of a group, in order of stripe and column, at each once. A slot that is
+/// Live all the time is among them; one that turns Live or Lost meanwhile may be; and each was Live
+/// before it was looked at.
 ///
 /// # Errors
 /// At the first look that fails, or that the log has no room for.

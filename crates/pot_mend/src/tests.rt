@@ -11,8 +11,8 @@ use std::alloc::Global;
 use std::sync::Wait;
 use std::test::Fail;
 
-/// A scrub of four stripes over an archive with these failing calls and losses. Its calls 0 to 3 are the writes, and then come
-/// the reads of the looks.
+/// A scrub of four stripes over an archive with these failing calls and losses. Its calls 0 to 3
+/// are the writes, and then come the reads of the looks.
 fn scrubbed<R: Wait>(
     rt: &R,
     alloc: Global,
@@ -66,8 +66,8 @@ fn replace<R: Wait>(
     )
 }
 
-/// Two stripes whose archives were replaced in these columns: what a repair comes to, and a scrub after it. Calls 0 and 1 of the
-/// first archive are the writes.
+/// Two stripes whose archives were replaced in these columns: what a repair comes to, and a scrub
+/// after it. Calls 0 and 1 of the first archive are the writes.
 fn repaired<R: Wait>(
     rt: &R,
     alloc: Global,

@@ -3,8 +3,8 @@ use Rattle.std.specs.Prelude.{◌≡◌, ℕ, Bool, false}
 use Rattle.pot_outside.specs.Accounts.{Account, Transition, transition_by}
 use Rattle.pot_outside.specs.Archives.{Meaning}
 
--- What a room means: whether the archive of each number is out; what it means by each number that is
--- not, where a number without an archive means an empty one; for each number that is out the
+-- What a room means: whether the archive of each number is out; what it means by each number that
+-- is not, where a number without an archive means an empty one; for each number that is out the
 -- archive's count of faults when it was taken; how often the room failed, and the archives that it
 -- lent and got back; and how often it failed itself.
 pub record RoomState : Type 0 where

@@ -29,8 +29,8 @@ pub struct Shelf<A> {
 
 /// Blocks by slot number.
 ///
-/// Any call but `marks` may lose blocks, and a loss raises the count of losses. No call alters a block
-/// other than that of the slot which it writes. Only `fold` changes the sums heard.
+/// Any call but `marks` may lose blocks, and a loss raises the count of losses. No call alters a
+/// block other than that of the slot which it writes. Only `fold` changes the sums heard.
 pub trait Archive {
     /// Whether archives of this type tell what they hold, and what each means.
     ghost account: { Account Self Meaning };
@@ -43,11 +43,12 @@ pub trait Archive {
         ensures reads { Reads (IsTrue account.tells) slot into.new result (account.meaning self.old)
             (account.meaning self.new) };
 
-    /// XORs the block of a slot, times a weight, into `sum`, where the slot has one. The archive hears the
-    /// sum as it was before.
+    /// XORs the block of a slot, times a weight, into `sum`, where the slot has one. The archive
+    /// hears the sum as it was before.
     ///
     /// # Errors
-    /// `Failed` only where the count of faults rose; the sum is then as it was, and was heard or not.
+    /// `Failed` only where the count of faults rose; the sum is then as it was, and was heard or
+    /// not.
     fn fold(&mut self, slot: u32, weight: u8, sum: &mut Block) -> Result<Held, Failed>
         requires { 0 < weight }
         ensures folds { Folds (IsTrue account.tells) slot weight sum.old sum.new result
@@ -56,7 +57,8 @@ pub trait Archive {
     /// Writes the block of a slot. After `Ok` the slot holds it or has lost it.
     ///
     /// # Errors
-    /// `Failed` only where the count of faults rose; the slot then has the old block, the new one or none.
+    /// `Failed` only where the count of faults rose; the slot then has the old block, the new one
+    /// or none.
     fn write(&mut self, slot: u32, block: &Block) -> Result<(), Failed>
         ensures writes { Writes (IsTrue account.tells) slot block.now result
             (account.meaning self.old) (account.meaning self.new) };

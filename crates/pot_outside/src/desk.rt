@@ -7,8 +7,8 @@ use crate::{DeskFault, Failed};
 
 /// One image, or none.
 pub trait Desk {
-    /// Whether desks of this type tell their image, and what each means: its image, and how often it
-    /// failed.
+    /// Whether desks of this type tell their image, and what each means: its image, and how often
+    /// it failed.
     ghost account: { Account Self (Content (Option (List ℕ))) };
 
     /// A copy of the image. It leaves the image as it is.
@@ -25,7 +25,8 @@ pub trait Desk {
     /// Puts an image in the place of the one before.
     ///
     /// # Errors
-    /// `Failed` only where the count of faults rose; the desk then has the old image, the new one or none.
+    /// `Failed` only where the count of faults rose; the desk then has the old image, the new one
+    /// or none.
     fn replace(&mut self, image: &[u8]) -> Result<(), Failed>
         ensures told { IsTrue account.tells
             → Replaces (account.meaning self.old).held (account.meaning self.new).held image.now

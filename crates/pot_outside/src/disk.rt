@@ -6,12 +6,12 @@ use crate::Failed;
 
 /// A byte at every place, zero where nothing was written.
 ///
-/// Until a sync has answered `Ok`, a crash leaves any bytes in the places of each write that began since the
-/// last one that did. Elsewhere it leaves the byte that a read gives.
+/// Until a sync has answered `Ok`, a crash leaves any bytes in the places of each write that began
+/// since the last one that did. Elsewhere it leaves the byte that a read gives.
 pub trait Disk {
-    /// Whether disks of this type tell their bytes, and what each means: the calls that changed it so far,
-    /// the newest first, and how often it failed. The calls are its clock, and they say what it holds and
-    /// what a crash leaves at each moment.
+    /// Whether disks of this type tell their bytes, and what each means: the calls that changed it
+    /// so far, the newest first, and how often it failed. The calls are its clock, and they say
+    /// what it holds and what a crash leaves at each moment.
     ghost account: { Account Self (Content (List DiskCall)) };
 
     /// Reads the bytes from a place on.

@@ -12,8 +12,8 @@ use crate::{Archive, Failed, RoomFault};
 pub trait Room {
     type A: Archive + Send;
 
-    /// What a room means: which archives are out, what it means by each number that is not out, and how
-    /// often it failed.
+    /// What a room means: which archives are out, what it means by each number that is not out, and
+    /// how often it failed.
     ghost meaning: { Self → RoomState };
 
     /// Hands out the archive of a number.
@@ -41,8 +41,8 @@ pub trait Room {
         ensures starved { IsErrOf result RoomFault.NoMemory
             → (meaning self.new).failures ≡ (meaning self.old).failures };
 
-    /// Takes an archive back. After `Ok` it is in the room again; after a failure it may be lost. Where the
-    /// archive failed while it was out, the room's count of faults rises.
+    /// Takes an archive back. After `Ok` it is in the room again; after a failure it may be lost.
+    /// Where the archive failed while it was out, the room's count of faults rises.
     ///
     /// # Errors
     /// `Failed` only where both counts of the room rose, and that of its own failures rises at no

@@ -6,12 +6,12 @@ use crate::Failed;
 
 /// Bytes that come in, as standard input.
 pub trait Source {
-    /// Whether sources of this type tell their bytes, and what each means: the bytes left, and how often it
-    /// failed.
+    /// Whether sources of this type tell their bytes, and what each means: the bytes left, and how
+    /// often it failed.
     ghost account: { Account Self (Content (List ℕ)) };
 
-    /// Reads some of the next bytes into the front of `into`, and answers how many. 0 into a buffer with
-    /// room is the end of the input.
+    /// Reads some of the next bytes into the front of `into`, and answers how many. 0 into a buffer
+    /// with room is the end of the input.
     ///
     /// # Errors
     /// `Failed` only where the count of faults rose; a source that tells has then lost no byte.
@@ -25,14 +25,15 @@ pub trait Source {
 
 /// Bytes that go out, as standard output.
 pub trait Sink {
-    /// Whether sinks of this type tell their bytes, and what each means: the bytes written so far, and how
-    /// often it failed.
+    /// Whether sinks of this type tell their bytes, and what each means: the bytes written so far,
+    /// and how often it failed.
     ghost account: { Account Self (Content (List ℕ)) };
 
     /// Appends some first bytes of `from`, and answers how many: at least one, where there is one.
     ///
     /// # Errors
-    /// `Failed` only where the count of faults rose; some first bytes of `from` may have been appended.
+    /// `Failed` only where the count of faults rose; some first bytes of `from` may have been
+    /// appended.
     fn write(&mut self, from: &[u8]) -> Result<usize, Failed>
         ensures told { IsTrue account.tells
             → Appends (account.meaning self.old).held (account.meaning self.new).held from.now

@@ -17,7 +17,8 @@ use Rattle.pot_promises.specs.Answers.{IsAnswered, StandsAt, count_replies}
 use Rattle.pot_promises.proofs.Walking.{answered_behind, line_row}
 use Rattle.pot_promises.proofs.Replying.{as_many}
 
--- A command has its row on a section, whose entries stand in the whole, and this is its first reply.
+-- A command has its row on a section, whose entries stand in the whole, and this is its first
+-- reply.
 pub record HasReply (s : Setting) (w : Section) (c : Command) (r : Reply) : Type 0 where
   pub job : ℕ
   pub one : Section

@@ -1,4 +1,5 @@
--- Which row a command has by its place in the script, and where the section of its step stands in what a session added.
+-- Which row a command has by its place in the script, and where the section of its step stands in
+-- what a session added.
 use Rattle.std.proofs.Common.{◌≡◌, ◌+◌, ◌<◌, ℕ, zero, suc, List, [], ◌∷◌, ◌++◌, Some, length, refl, ap, sym, ◌∙◌, subst, arith, append_assoc, append-nil}
 use Rattle.std.specs.Prelude.{Contains, option_map, slice_get, take}
 use Rattle.std.proofs.lemmas.List.{take-map}

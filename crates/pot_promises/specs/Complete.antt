@@ -31,8 +31,8 @@ AsksSession words drawn seed =
 
 -- Where the words ask for a session, the desk holds an image from which one may begin and the
 -- source a script over its rack, and both tell it, each command is answered, unless an object
--- failed or memory ran out. So the status is 0 or 1, and it was a session with a seed that the words
--- ask for, over an image that the desk held and with a script that the source had.
+-- failed or memory ran out. So the status is 0 or 1, and it was a session with a seed that the
+-- words ask for, over an image that the desk held and with a script that the source had.
 abbrev pub RunsAreAnswered : Type 0
 RunsAreAnswered =
     (words : List Text) (drawn : List ℕ) (seen : Seen) (answer : Status)

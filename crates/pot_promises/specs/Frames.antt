@@ -15,11 +15,11 @@ use Rattle.pot_replies.specs.Sections.{Section}
 use Rattle.pot_shared.specs.Hands.{times}
 use Rattle.pot_session.specs.Serving.{Leaves}
 
--- The frame of an archive over a session in which its group began with this table and left this log:
--- `old` is what its number meant before, and `new` what it means after. Each block that it holds, in
--- whatever slot, it held there, or an entry of the log put it there; each that it ever held it had
--- held, or an entry put it into a slot; and each sum that it ever heard it had heard, or it is that
--- of a relay as the log has it, with these blocks given at its entries.
+-- The frame of an archive over a session in which its group began with this table and left this
+-- log: `old` is what its number meant before, and `new` what it means after. Each block that it
+-- holds, in whatever slot, it held there, or an entry of the log put it there; each that it ever
+-- held it had held, or an entry put it into a slot; and each sum that it ever heard it had heard,
+-- or it is that of a relay as the log has it, with these blocks given at its entries.
 pub record IsFramed (read : Table) (log : List Entry) (givens : List (List ℕ)) (n : ℕ)
     (old new : Meaning) : Type 0 where
   pub held : (slot : ℕ) (block : List ℕ) → slot < 2 ^ 32 → new.held slot ≡ Some block

@@ -1,30 +1,38 @@
-//! What is promised of files that were stored, by what the contract of a run of the program says of it.
+//! What is promised of files that were stored, by what the contract of a run of the program says of
+//! it.
 //!
-//! It has definitions and laws alone, and no code that does anything. A law is a function whose `ensures` is its statement.
+//! It has definitions and laws alone, and no code that does anything. A law is a function whose
+//! `ensures` is its statement.
 //!
-//! 1. A run that ends with 0 or 1 is a session over the image that its desk held: each command, in a batch too, has its replies, what is written
-//!    is their texts, and the desk holds what the session left; where that keeps the rules of images, the next run begins with
-//!    it (`run_laws`). A run that ends otherwise is such a session too, as far as its steps came, if it closed at all (`may_close`).
-//!    Where words, image and script are in their grammars it ends so, unless an object outside failed or memory ran out (`answered`).
-//! 2. Where a command stored a file and a later one of the session fetched its name, the bytes are the file (`file_laws`, `gives_back`).
-//! 3. So they are where the name was fetched in a later session, whatever sessions came in between, each over the image that
-//!    the one before left (`file_laws`, `gives_back_later`). Whatever its status, a run leaves the image that its desk held, a
-//!    later one so, or none (`go_later`).
-//! 4. Where a command stored a file, its job put the blocks that the stream of the seed, the session and
-//!    the job gives of it; and who sees fewer of them than are needed, of some fragment of each piece, sees
-//!    what every other file of that length gives as well (`veil_laws`).
-//! 5. No later fetch of its name is odd by blocks of which, with the file's own, no two different ones have
-//!    one digest (`odd_laws`).
-//! 6. A reply `fault` of a column comes only where an archive of that column counted a fault in the session (`fault_laws`).
-//! 7. Where no archive lost a block in the session, a fetch or a renewal is answered `lost` only where too few points of a
-//!    fragment lie in slots that are Live or can be mended (`lost_laws`).
-//! 8. Where the archives of a group came back with their counts as they were, the opening of its table logged what the blocks
-//!    say that the room meant, and nothing else (`opening_laws`).
-//! 9. What the archives hold, ever held and ever heard after a session that closed, they did before it, or its logs name it: a block
-//!    by its digest and its place, a sum by the relay that it belongs to (`frame_laws`).
+//! 1. A run that ends with 0 or 1 is a session over the image that its desk held: each command, in
+//!    a batch too, has its replies, what is written is their texts, and the desk holds what the
+//!    session left; where that keeps the rules of images, the next run begins with it (`run_laws`).
+//!    A run that ends otherwise is such a session too, as far as its steps came, if it closed at
+//!    all (`may_close`). Where words, image and script are in their grammars it ends so, unless an
+//!    object outside failed or memory ran out (`answered`).
+//! 2. Where a command stored a file and a later one of the session fetched its name, the bytes are
+//!    the file (`file_laws`, `gives_back`).
+//! 3. So they are where the name was fetched in a later session, whatever sessions came in between,
+//!    each over the image that the one before left (`file_laws`, `gives_back_later`). Whatever its
+//!    status, a run leaves the image that its desk held, a later one so, or none (`go_later`).
+//! 4. Where a command stored a file, its job put the blocks that the stream of the seed, the
+//!    session and the job gives of it; and who sees fewer of them than are needed, of some fragment
+//!    of each piece, sees what every other file of that length gives as well (`veil_laws`).
+//! 5. No later fetch of its name is odd by blocks of which, with the file's own, no two different
+//!    ones have one digest (`odd_laws`).
+//! 6. A reply `fault` of a column comes only where an archive of that column counted a fault in the
+//!    session (`fault_laws`).
+//! 7. Where no archive lost a block in the session, a fetch or a renewal is answered `lost` only
+//!    where too few points of a fragment lie in slots that are Live or can be mended (`lost_laws`).
+//! 8. Where the archives of a group came back with their counts as they were, the opening of its
+//!    table logged what the blocks say that the room meant, and nothing else (`opening_laws`).
+//! 9. What the archives hold, ever held and ever heard after a session that closed, they did before
+//!    it, or its logs name it: a block by its digest and its place, a sum by the relay that it
+//!    belongs to (`frame_laws`).
 //!
-//! The premises on digests name texts: the file and the bytes that were fetched, or the blocks of the file
-//! and those that were read. They say of these that they are equal where they have one digest.
+//! The premises on digests name texts: the file and the bytes that were fetched, or the blocks of
+//! the file and those that were read. They say of these that they are equal where they have one
+//! digest.
 #![tactic(auto)]
 
 ghost use Rattle.pot_promises.specs.Complete.{RunsAreAnswered};
@@ -57,7 +65,8 @@ pub fn fault_laws()
     ensures { FaultsAreCounted }
 {}
 
-/// What a session may have written into its archives, and what it may have let them hear. It does nothing.
+/// What a session may have written into its archives, and what it may have let them hear. It does
+/// nothing.
 pub fn frame_laws()
     ensures { FrameOfRun }
 {}

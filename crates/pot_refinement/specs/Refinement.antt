@@ -1,4 +1,4 @@
--- Groups of the world that go along with running groups, call by call.
+-- Groups of the world that simulate running groups, call by call: a forward simulation.
 use Rattle.std.specs.Prelude.{◌≡◌, ◌<◌, ℕ, zero, suc, List, [], ◌∷◌, ◌++◌, Bool, true, false, Some, None, map, All, IsTrue}
 use Rattle.std.specs.Prelude.{◌&&◌, length, Contains}
 use Rattle.pot_machine.specs.declared.entry.Entry.{Entry}
@@ -21,7 +21,7 @@ use Rattle.pot_world.specs.Reached.{Move, Makes, Site, Reaches, IsGood, first_gr
 use Rattle.pot_world.specs.Reached.{first_used}
 use Rattle.pot_world.specs.Ties.{SameState, IsFresh}
 
--- A group of the world goes along with a running group: it keeps its rules, the archives in use
+-- A group of the world simulates a running group: it keeps its rules, the archives in use
 -- have a bound, what they hold stands in slots of the stripes, and table, flights, contents and
 -- sums heard are those of the running group.
 pub record Simulates (used : ℕ → Bool) (g : WorldGroup) (s : GroupState) : Type 0 where
@@ -86,7 +86,7 @@ Acts used g [] after h = (after ≡ used) × (h ≡ g)
 Acts used g (a ∷ acts) after h =
     IsAllowed used a g × Acts (used_by a used) (act a g) acts after h
 
--- acts lead to a group of the world that goes along with this state
+-- acts lead to a group of the world that simulates this state
 pub record ActsTo (used : ℕ → Bool) (g : WorldGroup) (after : ℕ → Bool) (new : GroupState) : Type
     0 where
   pub acts : List Act
@@ -94,7 +94,7 @@ pub record ActsTo (used : ℕ → Bool) (g : WorldGroup) (after : ℕ → Bool) 
   pub go : Acts used g acts after group
   pub follows : Simulates after group new
 
--- so it is with the calls of a course that go well
+-- so it is with the calls of an execution that go well
 abbrev pub ExecutionSimulated : Type 0
 ExecutionSimulated =
     (used : ℕ → Bool) (g : WorldGroup) (calls : List Call) (old new : GroupState)
@@ -110,7 +110,7 @@ pub record Ran : Type 0 where
   pub calls : List Call
   pub leads : Leads calls old new
 
--- each group of the world goes along with the running group of its place, as it was
+-- each group of the world simulates the running group of its place, as it was
 abbrev pub SimulateOld : (ℕ → Bool) → List WorldGroup → List Ran → Type 0
 SimulateOld used [] [] = Unit {0}
 SimulateOld used [] (r ∷ rs) = ⊥
@@ -134,8 +134,8 @@ abbrev pub used_by_each : List Ran → (ℕ → Bool) → ℕ → Bool
 used_by_each [] used = used
 used_by_each (r ∷ rs) used = used_by_each rs (used_by_all r.calls used)
 
--- Moves of the world lead from groups that went along with the running ones as they were to groups
--- that go along with them as they are.
+-- Moves of the world lead from groups that simulated the running ones as they were to groups that
+-- simulate them as they are.
 abbrev pub ExecutionsReach : Type 0
 ExecutionsReach =
     (x : Site) (ran : List Ran) → SimulateOld x.used x.groups ran → EachRan x.used ran
@@ -210,7 +210,7 @@ WellByLog =
 
 -- GROUPS THAT ENDED
 
--- a running group as it ended, with its course
+-- a running group as it ended, with its execution
 pub record Past : Type 0 where
   pub view : GroupView
   pub execution : HasExecution view
@@ -270,8 +270,8 @@ BeginAnew [] (q ∷ qs) = ⊥
 BeginAnew (p ∷ ps) [] = ⊥
 BeginAnew (p ∷ ps) (q ∷ qs) = BeginsAnew (state_of p.view) q.execution.start × BeginAnew ps qs
 
--- From groups that went along with the ones before, reopened, moves lead to groups that go along
--- with those that it leaves.
+-- From groups that simulated the ones before, reopened, moves lead to groups that simulate those
+-- that it leaves.
 abbrev pub NextSession : Type 0
 NextSession =
     (x : Site) (ps qs : List Past) → SimulateNew x.used x.groups (all_ran ps) → BeginAnew ps qs

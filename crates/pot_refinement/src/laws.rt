@@ -1,8 +1,9 @@
-//! What the course of a group makes of a group of the world, and the courses of all groups of a world.
+//! Executions of running groups, as moves of a world.
 ghost use Rattle.pot_refinement.specs.Refinement.{ExecutionSimulated, ExecutionsReach, FirstSession, NextSession};
 ghost use Rattle.pot_refinement.specs.Refinement.{ReopenedSimulates, SessionReaches, SessionsReach, WellByLog};
 
-/// A group that a group of the world goes along with is followed by it through its calls, where none of them met a failing archive.
+/// A group of the world that simulates a running group does so through its calls, where none of
+/// them met a failing archive.
 pub fn execution_simulated()
     ensures { ExecutionSimulated }
 {}
@@ -17,7 +18,7 @@ pub fn session_reaches()
     ensures { SessionReaches }
 {}
 
-/// When the next session begins, a group of the world goes along with a running group still.
+/// A group of the world still simulates a running group when the next session begins.
 pub fn reopened_simulates()
     ensures { ReopenedSimulates }
 {}

@@ -1,18 +1,22 @@
 //! What each reply says of the logs that a session keeps.
 //!
-//! A session's logs are what the opening logged, and then a section for each step of the script, a batch being one step. A
-//! reply is judged on the section of its step and on what stood before, by a row of specs/: one record for each reply, which
-//! names the job's own entries, and the points of a log at which an answer was given that logged nothing.
+//! A session's logs are what the opening logged, and then a section for each step of the script, a
+//! batch being one step. A reply is judged on the section of its step and on what stood before, by
+//! a row of specs/: one record for each reply, which names the job's own entries, and the points of
+//! a log at which an answer was given that logged nothing.
 //!
-//! 1. In a section stand the entries of its step's jobs alone (`IsOfJobs` of specs/Sections.antt), so a job's own entries in
-//!    the section are those in the whole log (`session_laws`).
-//! 2. A row stands however much other jobs log behind it in the section (`Widens`). Most rows speak of what the section has of
-//!    the job alone, which stays the same (`section_laws`); the others have a law of their own.
-//! 3. A moment is a cut of what was added behind all entries of the job (`LogPoint`), and so stays one.
-//! 4. A step has two halves: the moves that its lines began, and all else (`MovesThenRest`). All lines are judged on the second, and a
-//!    `migrate` line on both.
+//! 1. In a section stand the entries of its step's jobs alone (`IsOfJobs` of specs/Sections.antt),
+//!    so a job's own entries in the section are those in the whole log (`session_laws`).
+//! 2. A row stands however much other jobs log behind it in the section (`Widens`). Most rows speak
+//!    of what the section has of the job alone, which stays the same (`section_laws`); the others
+//!    have a law of their own.
+//! 3. A moment is a cut of what was added behind all entries of the job (`LogPoint`), and so stays
+//!    one.
+//! 4. A step has two halves: the moves that its lines began, and all else (`MovesThenRest`). All
+//!    lines are judged on the second, and a `migrate` line on both.
 //!
-//! It has definitions and laws alone. It knows no archive, no turn and no grammar: which line has which row is a `ReplyTable`.
+//! It has definitions and laws alone. It knows no archive, no turn and no grammar: which line has
+//! which row is a `ReplyTable`.
 //!
 //! | replies | rows |
 //! |---|---|

@@ -16,7 +16,8 @@ impl<T: Kept> Turns<T> {
         self.turns.len()
     }
 
-    /// Waits for the value of the turn at a place and takes it, as `Turn::enter`. The passes of the other turns stay as they are.
+    /// Waits for the value of the turn at a place and takes it, as `Turn::enter`. The passes of the
+    /// other turns stay as they are.
     pub fn enter<R: Wait>(&self, rt: &R, passes: &mut Passes<T>, at: usize) -> T
         requires own { AreOf self.now passes.old }
         requires within { at < length self.now }
@@ -31,7 +32,8 @@ impl<T: Kept> Turns<T> {
         turn.enter(rt, pass)
     }
 
-    /// Gives the value of the turn at a place back, as `Turn::leave`. The passes of the other turns stay as they are.
+    /// Gives the value of the turn at a place back, as `Turn::leave`. The passes of the other turns
+    /// stay as they are.
     pub fn leave(&self, passes: &mut Passes<T>, at: usize, value: T)
         requires own { AreOf self.now passes.old }
         requires within { at < length self.now }

@@ -8,7 +8,8 @@ use crate::{Passes, Turns};
 use pot_turn::{Kept, NoMemory, Pass, Turn, TurnRefused};
 use std::alloc::Global;
 
-/// Makes a turn and its first pass of each value, from the last one to the first, until there is no memory for a turn. It says whether there was.
+/// Makes a turn and its first pass of each value, from the last one to the first, until there is no
+/// memory for a turn. It says whether there was.
 fn make_turns<T: Kept>(
     alloc: Global,
     values: &mut Vec<T>,
@@ -63,7 +64,9 @@ impl<T: Kept> Turns<T> {
     ghost use Rattle.pot_rows.specs.Rows.{AreOf, IsIdle};
     ghost use Rattle.pot_rows.specs.Ends.{HasAllParts, RowClosed};
 
-    /// A row of turns over the values, and the first pass of each, which has all parts and has seen its value's log. The vector is empty then and keeps its room, which `close` can have. Only memory can be wanting, and then the vector has its values as before.
+    /// A row of turns over the values, and the first pass of each, which has all parts and has seen
+    /// its value's log. The vector is empty then and keeps its room, which `close` can have. Only
+    /// memory can be wanting, and then the vector has its values as before.
     pub fn start(alloc: Global, values: &mut Vec<T>) -> Result<(Turns<T>, Passes<T>), NoMemory>
         ensures own { IfOk result (λ p. AreOf p.0 p.1) }
         ensures first { IfOk result (λ p. p.1.views
@@ -89,7 +92,8 @@ impl<T: Kept> Turns<T> {
         }
     }
 
-    /// Ends the turns with the row of passes that has all parts, and hands out the values, in order, into a vector with room for them. What each place says is what `Turn::close` says.
+    /// Ends the turns with the row of passes that has all parts, and hands out the values, in
+    /// order, into a vector with room for them. What each place says is what `Turn::close` says.
     pub fn close(self, passes: Passes<T>, values: &mut Vec<T>)
         requires own { AreOf self passes }
         requires idle { IsIdle passes }

@@ -1,9 +1,10 @@
 //! Turns in a row, and passes of all of them, as plain lists.
 //!
-//! Values that are used side by side each stand under a turn of their own, as the groups of a vault do. Whoever works with
-//! them has a row of passes, one of each turn. A contract sees two lists: the names of the turns (`Turns`), and what each
-//! pass knows of its turn (`PassRow` of specs/Rows.antt). So what is said of a place is one equation, and no caller meets a
-//! turn or a pass of its own.
+//! Values that are used side by side each stand under a turn of their own, as the groups of a vault
+//! do. Whoever works with them has a row of passes, one of each turn. A contract sees two lists:
+//! the names of the turns (`Turns`), and what each pass knows of its turn (`PassRow` of
+//! specs/Rows.antt). So what is said of a place is one equation, and no caller meets a turn or a
+//! pass of its own.
 //!
 //! | call | what it does at a place |
 //! |---|---|
@@ -14,7 +15,8 @@
 //!
 //! What a job did with a row is said at each place, in the words of `pot_worked` (`row_laws`).
 //!
-//! It knows nothing of what the values are. It promises no progress, as `pot_turn`, and no order among the turns.
+//! It knows nothing of what the values are. It promises no progress, as `pot_turn`, and no order
+//! among the turns.
 #![tactic(auto)]
 
 mod calls;

@@ -31,7 +31,8 @@ impl<T: Kept> Turns<T> {
         part
     }
 
-    /// A new row of passes, each of which has seen what the old one of its turn has, and takes these parts of it. Only memory can be wanting, and then nothing changes.
+    /// A new row of passes, each of which has seen what the old one of its turn has, and takes
+    /// these parts of it. Only memory can be wanting, and then nothing changes.
     pub fn split(
         &self,
         alloc: Global,
@@ -70,7 +71,8 @@ impl<T: Kept> Turns<T> {
         turn.join(pass, part);
     }
 
-    /// The passes take in those of another row, turn by turn, as `Turn::join`: each has then seen what either had, and has the parts of both.
+    /// The passes take in those of another row, turn by turn, as `Turn::join`: each has then seen
+    /// what either had, and has the parts of both.
     pub fn join(&self, passes: &mut Passes<T>, other: Passes<T>)
         requires own { AreOf self.now passes.old }
         requires idle { IsIdle passes.old }

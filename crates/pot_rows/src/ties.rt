@@ -44,7 +44,8 @@ impl<T: Kept> Turns<T> {
         tie_one(turn, one, other);
     }
 
-    /// The passes of two rows tell one another what they have seen, turn by turn: each has then seen what either had, and nothing else of them changes.
+    /// The passes of two rows tell one another what they have seen, turn by turn: each has then
+    /// seen what either had, and nothing else of them changes.
     pub fn tie(&self, mine: &mut Passes<T>, others: &mut Passes<T>)
         requires own { AreOf self.now mine.old × AreOf self.now others.old }
         requires idle { IsIdle mine.old × IsIdle others.old }

@@ -4,7 +4,8 @@ ghost use Rattle.pot_rows.specs.Works.{TieIsWork, TieHasNone};
 ghost use Rattle.pot_rows.specs.Works.{RowWorkExtends, RowExtendsInParts, RowOnlyWriterInParts, RowOnlyWriterOfAny};
 ghost use Rattle.pot_rows.specs.Works.{RowOnlyWriterAtClose, JoinsAtPlaces};
 
-/// The laws of `pot_worked` for a row: a locked call at one place and a tie are work of the whole row, part after part; commands in a row; and the rows of a batch are joined at each place.
+/// The laws of `pot_worked` for a row: a locked call at one place and a tie are work of the whole
+/// row, part after part; commands in a row; and the rows of a batch are joined at each place.
 pub fn row_laws<E, O>()
     ensures turn { TurnIsWork E O }
     ensures own { OwnInTurnAt E O }

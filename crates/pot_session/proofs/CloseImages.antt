@@ -88,7 +88,8 @@ failure_is missing (Ok u) kept none = sym (ap (λ m. close_answer m kept) none)
 failure_is [] (Err f) kept some = absurd (omega (arith, some))
 failure_is (n ∷ missing) (Err f) kept some = refl
 
--- what was seen at the start of a session: what the openings logged, which is of no job, and nothing of the index
+-- what was seen at the start of a session: what the openings logged, which is of no job, and
+-- nothing of the index
 opened_by : (old : Known) → AreFirstPasses old.groups old.index → (g : ℕ) → ByNobody (entries_of (view_at old.groups g).seen)
 opened_by old first g = elim (cases_lt g (length old.groups.names)) [
   | inl l ↦ (let p = first.each g l in subst (λ (v : GroupPass). ByNobody (entries_of v.seen)) (sym p.is) p.nobody)
@@ -134,7 +135,8 @@ pub desk_failure : (given : Result (Unit {0}) Failed) (kept : Result (Unit {0}) 
 desk_failure (Err f) kept e = absurd (cc)
 desk_failure (Ok u) kept e = e
 
--- A close leaves the image of what its vault left. `meant` is what the room meant when the session was opened, `worked` what it meant before the close, and `means` what it means after it.
+-- A close leaves the image of what its vault left. `meant` is what the room meant when the session
+-- was opened, `worked` what it meant before the close, and `means` what it means after it.
 pub closes : {A : Type 0} (archives : Account A Meaning) (hand : List (Shelf A)) (meant worked means : RoomState) (read : List Table) (old new : Known) (rack : Rack) (desk : Transition (Content (Option (List ℕ)))) (first last : Contents)
     (given : Result (Unit {0}) Failed) (kept closed : Result (Unit {0}) Stop) → (IsTrue desk.tells → Keeps (held_in desk) (image_bytes last) kept) → IfErr kept IsKeepStop → Caused desk.before.faults desk.after.faults (kept ≡ Err stop.DeskFault)
     → GivesBack archives hand worked means given → AreFirstPasses old.groups old.index

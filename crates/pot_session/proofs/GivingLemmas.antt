@@ -66,7 +66,8 @@ failed_none n = record { later = omega arith; counted = inl (omega arith); still
 -- ONE BY ONE
 
 module _ {A : Type 0} (archives : Account A Meaning) where
-  -- Some of these archives are still in the hand, and the others were given back. `first` is what the room meant before any was, and `room` what it means now.
+  -- Some of these archives are still in the hand, and the others were given back. `first` is what
+  -- the room meant before any was, and `room` what it means now.
   pub record GivenSofar (all hand : List (Shelf A)) (first room : RoomState) (answer : Result (Unit {0}) Failed) : Type 0 where
     pub missing : List ℕ
     pub failed_at : FailsAt first.failures room.failures missing

@@ -1,4 +1,5 @@
--- The archives of a session: those that it begins with are in use, and those that commands took are given back with them.
+-- The archives of a session: those that it begins with are in use, and those that commands took are
+-- given back with them.
 use Rattle.std.proofs.Common.{◌≡◌, ◌<◌, ◌≤◌, ◌++◌, ⊎_elim, ℕ, zero, suc, Bool, true, false, List, [], ◌∷◌, length, refl, sym, ap, subst, ◌∙◌, arith}
 use Rattle.std.specs.Prelude.{Option, Some, None, All, Contains, IsSome, IsSomeAnd, slice_index_or, flat_map}
 use Rattle.std.proofs.lemmas.List.Elements.{All-head, All-tail, Contains-append_cases, Contains-append_left, Contains-append_right}

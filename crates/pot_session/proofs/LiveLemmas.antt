@@ -54,7 +54,8 @@ module _ (t : Table) (n k : ℕ) (table : IsTable t) (is_data : k < t.data_colum
       reached : (a b : ℕ) → a ≡ b → nat_le a b ≡ true
       reached a b e = grind (arith, nat_tests)
 
-  -- a data slot stays Live through an entry of a job that does not say that its block is missing, and swaps no archive
+  -- a data slot stays Live through an entry of a job that does not say that its block is missing,
+  -- and swaps no archive
   pub live_stays : (e : Entry) → Legal t e → 0 < job_of e → is_swap e ≡ false → (Misses t e k → ⊥) → IsTrue (is_live (slot_at (after t e) n k))
   live_stays (entry.Put job s c d p kept) legal some none misses = untouched (entry.Put job s c d p kept) legal (λ w. not_put s c legal.1 w.0 w.1)
   live_stays (entry.Put2 job s c d p q kept kept2) legal some none misses = untouched (entry.Put2 job s c d p q kept kept2) legal (λ w. not_put s c legal.1 w.0 w.1)

@@ -43,7 +43,8 @@ use Rattle.pot_session.proofs.StripeLemmas.{column_had}
 
 -- THE LAST OF SOME ELEMENTS
 
--- where the elements that pass a test end with one, the list is split there, and none behind it passes
+-- where the elements that pass a test end with one, the list is split there, and none behind it
+-- passes
 module _ {X : Type 0} (test : X → Bool) where
   abbrev Cut : List X → X → Type 0
   Cut xs e = (x : List X) × (y : List X) × (xs ≡ x ++ e ∷ y) × (filter test y ≡ [])
@@ -146,7 +147,8 @@ module _ (told : Type 0) (seed : List ℕ) (first last : Contents) (meant means 
         (subst (λ f. WhereMissed f view.log c (HasLost view.shelves (archives_of f view.log c))) left.first
         (left.settled.causes.losses is_told c (subst (λ (f : Table). c < width f) (sym left.first) lt)))
 
-    -- a data slot that is Live at some moment is not Gone later, where all entries between are of jobs and swap no archive
+    -- a data slot that is Live at some moment is not Gone later, where all entries between are of
+    -- jobs and swap no archive
     never_gone : (s c job : ℕ) (front behind rest : List Entry) → log ≡ front ++ (behind ++ entry.Gone job s c ∷ rest) → c < t.data_columns → 0 < job
         → ((e : Entry) → Contains behind e → (0 < job_of e) × (is_swap e ≡ false)) → IsTrue (is_live (slot_at (replayed t front) s c)) → ⊥
     never_gone s c job front behind rest parts is_data some each live =

@@ -22,7 +22,8 @@ IsDrillStatus status.SinkFault = Unit {0}
 IsDrillStatus status.NoMemory = Unit {0}
 IsDrillStatus _ = ⊥
 
--- an answer has a property that the statuses of the text or of the stop have, and those that a sink and memory give
+-- an answer has a property that the statuses of the text or of the stop have, and those that a sink
+-- and memory give
 answered : (P : Status → Type 0) (sink : Transition (List ℕ)) (made : Result Telling Stop) (answer : Status)
     → P status.Good → P status.Refusals → P status.SinkFault → P status.NoMemory → ((s : Stop) → made ≡ Err s → P (status_of s))
     → WordAnswers sink made answer → P answer

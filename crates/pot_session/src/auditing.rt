@@ -162,7 +162,8 @@ fn tell_audit<K: Sink>(alloc: Global, task: &Audit, image: &Image, sink: &mut K)
     }
 }
 
-/// Tells how many points of each piece of each file of the desk are exposed to the coalition that the words name. The desk's image stays.
+/// Tells how many points of each piece of each file of the desk are exposed to the coalition that
+/// the words name. The desk's image stays.
 pub(crate) fn audit_files<K: Sink, D: Desk>(
     alloc: Global,
     task: &Audit,

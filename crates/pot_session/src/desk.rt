@@ -34,7 +34,8 @@ fn image_in(alloc: Global, bytes: &[u8]) -> Result<Image, Stop>
 /// The image of the desk, whatever its session. The desk's image stays.
 ///
 /// # Errors
-/// `DeskFault` only where the desk's count of faults rose; `NoImage` where the desk has none; else why its bytes are no image.
+/// `DeskFault` only where the desk's count of faults rose; `NoImage` where the desk has none; else
+/// why its bytes are no image.
 pub(crate) fn read_desk<D: Desk>(alloc: Global, desk: &mut D) -> Result<Image, Stop>
     ensures reads { ReadsDesk (transition D.account desk.old desk.new) result }
     ensures fits { IfOk result (λ i. FitsTogether (contents i)) }
@@ -66,8 +67,8 @@ fn open_image(alloc: Global, bytes: &[u8]) -> Result<Image, Stop>
 /// The image of the desk, from which one more session may begin. The desk's image stays.
 ///
 /// # Errors
-/// `DeskFault` only where the desk's count of faults rose; `NoImage` where the desk has none; else why its bytes are no image, or
-/// that no number of a session is left.
+/// `DeskFault` only where the desk's count of faults rose; `NoImage` where the desk has none; else
+/// why its bytes are no image, or that no number of a session is left.
 pub(crate) fn open_desk<D: Desk>(alloc: Global, desk: &mut D) -> Result<Image, Stop>
     ensures opens { OpensDesk (transition D.account desk.old desk.new) result }
     ensures fits { IfOk result (λ i. FitsTogether (contents i)) }
@@ -94,8 +95,8 @@ pub(crate) fn empty_logs(alloc: Global, count: usize) -> Result<Vec<Vec<Entry>>,
     Ok(logs)
 }
 
-/// The image with which the session after this one begins: one more session, the tables and the records as they were, and
-/// empty logs.
+/// The image with which the session after this one begins: one more session, the tables and the
+/// records as they were, and empty logs.
 pub(crate) fn begin(alloc: Global, image: Image) -> Result<Image, NoMemory>
     requires { image.session < 2 ^ 32 - 1 }
     ensures { IfOk result (λ i. contents i ≡ begun (contents image)) }
@@ -121,8 +122,8 @@ pub(crate) fn begin(alloc: Global, image: Image) -> Result<Image, NoMemory>
 /// Puts an image in the place of the desk's.
 ///
 /// # Errors
-/// `DeskFault` only where the desk's count of faults rose: the desk then has the old image, this one or none. `NoMemory` leaves the old
-/// one.
+/// `DeskFault` only where the desk's count of faults rose: the desk then has the old image, this
+/// one or none. `NoMemory` leaves the old one.
 pub(crate) fn keep_image<D: Desk>(alloc: Global, image: &Image, desk: &mut D) -> Result<(), Stop>
     requires { IsCountable image.now }
     ensures which { IfErr result IsKeepStop }

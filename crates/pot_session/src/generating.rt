@@ -92,7 +92,8 @@ fn run_in_memory<X: Threads + Wait + Sync>(
     Ok(Ran { status, sink })
 }
 
-/// Whether all commands of a session that ended so were answered. Objects in memory fail for want of memory alone.
+/// Whether all commands of a session that ended so were answered. Objects in memory fail for want
+/// of memory alone.
 fn is_answered(status: Status) -> bool
     ensures { result ≡ is_answered status }
 {
@@ -113,7 +114,8 @@ fn summary(alloc: Global, number: u32, written: &[u8]) -> Result<Vec<u8>, AllocE
     Ok(text)
 }
 
-/// Works the script of a number over objects in memory, and writes how many replies it has and the digest of all that was written.
+/// Works the script of a number over objects in memory, and writes how many replies it has and the
+/// digest of all that was written.
 pub(crate) fn generate<K: Sink, X: Threads + Wait + Sync>(
     rt: &X,
     alloc: Global,

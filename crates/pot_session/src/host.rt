@@ -8,7 +8,8 @@ pub(crate) struct Host<'a, X, W> {
     pub rt: &'a X,
     /// Where its memory is from.
     pub alloc: Global,
-    /// The seed of its random bytes: the one that was drawn, and in a session the one that the words give, if they give one.
+    /// The seed of its random bytes: the one that was drawn, and in a session the one that the
+    /// words give, if they give one.
     pub seed: &'a [u8; 32],
     /// What is called before each line of a batch is worked, and after it.
     pub gate: &'a W,

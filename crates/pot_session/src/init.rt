@@ -21,7 +21,8 @@ use pot_machine::GroupTable;
 use pot_outside::{Desk, DeskFault, Failed, Sink};
 use std::alloc::Global;
 
-/// The image of a new archive: session 0, a table of each group in which no slot is used, no record, and empty logs.
+/// The image of a new archive: session 0, a table of each group in which no slot is used, no
+/// record, and empty logs.
 fn empty_image(alloc: Global, rack: &Rack) -> Result<Image, NoMemory>
     requires { IsRack rack.now }
     ensures { IfOk result (λ i. contents i ≡ empty_contents rack.now) }
@@ -63,7 +64,8 @@ fn put_empty_image<D: Desk>(alloc: Global, rack: &Rack, desk: &mut D) -> Result<
     }
 }
 
-/// Puts the image of a new archive on a desk that has none. One that has an image keeps it, also where it can't be read.
+/// Puts the image of a new archive on a desk that has none. One that has an image keeps it, also
+/// where it can't be read.
 pub(crate) fn make_image<D: Desk>(alloc: Global, rack: &Rack, desk: &mut D) -> Result<(), Stop>
     requires { IsRack rack.now }
     ensures which { IfErr result IsMakeStop }

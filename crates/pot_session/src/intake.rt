@@ -37,7 +37,8 @@ impl From<AllocError> for IntakeFault {
     }
 }
 
-/// The bytes of the source up to its end, or its first bytes, one more than `limit`. No more of it is read.
+/// The bytes of the source up to its end, or its first bytes, one more than `limit`. No more of it
+/// is read.
 pub(crate) fn read_out<S: Source>(
     alloc: Global,
     source: &mut S,

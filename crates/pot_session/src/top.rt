@@ -90,19 +90,24 @@ fn answer<S: Source, K: Sink, R: Room, D: Desk, W: Gate, X: Threads + Wait + Syn
     }
 }
 
-/// The top call: all that the program does. It reads the words. `init` makes the image of a new archive. `run` reads the desk's
-/// image, reads the source to its end, puts the image with which the session begins in the place of the desk's, takes the archives of
-/// all columns, works the commands of the script in order and writes the replies of each after it, gives the archives back and puts the
-/// image of the close in the place of the desk's. `recover` reads the archives alone and lists what they give. `audit` reads the desk alone
-/// and tells what is exposed to a coalition. `drill` reads two files from the source alone and tells whether what is seen of the one fits
-/// the other. `generate` works a script of its own over objects in memory, and writes the digest of the replies. The answer is the exit status.
+/// The top call: all that the program does. It reads the words. `init` makes the image of a new
+/// archive. `run` reads the desk's image, reads the source to its end, puts the image with which
+/// the session begins in the place of the desk's, takes the archives of all columns, works the
+/// commands of the script in order and writes the replies of each after it, gives the archives back
+/// and puts the image of the close in the place of the desk's. `recover` reads the archives alone
+/// and lists what they give. `audit` reads the desk alone and tells what is exposed to a coalition.
+/// `drill` reads two files from the source alone and tells whether what is seen of the one fits the
+/// other. `generate` works a script of its own over objects in memory, and writes the digest of the
+/// replies. The answer is the exit status.
 ///
-/// 0 and 1 say that all was answered, and 1 that some reply is a refusal, that `recover` found a file in part, or that `audit` or `drill`
-/// found something exposed; 2 that the words spell no task, or name a column that the rack has not; 3 that the script leaves its grammar, or the
-/// source of `drill` has no two files of one length; 4, 5, 6 and 8 that the source, the sink, the desk or the room failed, 8 also that an archive
-/// failed which `recover` read; 7 that the desk holds no image from which a session may begin or which `audit` can read; 9 that no number of a
-/// session is left; 10 that `init` found an image; 11 that recovery is too wide; 70 that memory ran out. Each job of a batch passes the gate
-/// before it begins and when it has ended.
+/// 0 and 1 say that all was answered, and 1 that some reply is a refusal, that `recover` found a
+/// file in part, or that `audit` or `drill` found something exposed; 2 that the words spell no
+/// task, or name a column that the rack has not; 3 that the script leaves its grammar, or the
+/// source of `drill` has no two files of one length; 4, 5, 6 and 8 that the source, the sink, the
+/// desk or the room failed, 8 also that an archive failed which `recover` read; 7 that the desk
+/// holds no image from which a session may begin or which `audit` can read; 9 that no number of a
+/// session is left; 10 that `init` found an image; 11 that recovery is too wide; 70 that memory ran
+/// out. Each job of a batch passes the gate before it begins and when it has ended.
 pub fn run<S: Source, K: Sink, R: Room, D: Desk, W: Gate, X: Threads + Wait + Sync>(
     rt: &X,
     alloc: Global,

@@ -1,4 +1,5 @@
--- How a vault ends: its groups are those that it was opened with, and have the archives that came since.
+-- How a vault ends: its groups are those that it was opened with, and have the archives that came
+-- since.
 use Rattle.std.proofs.Common.{◌≡◌, ◌<◌, ◌≤◌, ◌+◌, ◌++◌, inl, inr, ℕ, zero, suc, List, [], ◌∷◌, length, drop, map, refl, sym, ap, subst, ◌∙◌, arith, append-nil, length-append}
 use Rattle.std.specs.Prelude.{Some, slice_get}
 use Rattle.std.proofs.Math.Seq.{drop-append_seam}
@@ -160,7 +161,8 @@ module _ {M : Type 0} (see : M → GroupView) (rack : Rack) (names turn : List T
   whole_seen n l = (last n l).0.seen ∙ (ap (λ x. (view_at groups n).seen ++ x) (none_gained (view_at groups n) (view_at e.whole n) (last n l).0
       (sole_in_parts (view_at old.groups n) (view_at groups n) (view_at e.whole n) (s.went.groups n) (last n l).0 (sole_whole n l)).1 (last n l).1) ∙ append-nil (view_at groups n).seen)
 
-  -- each group's log is what the passes saw at first, and what they gained, with the marks of archives
+  -- each group's log is what the passes saw at first, and what they gained, with the marks of
+  -- archives
   pub closed_kept : (n : ℕ) (m : M) → slice_get ms n ≡ Some m → kept_log (see m) ≡ (view_at old.groups n).seen ++ added (view_at old.groups n) (view_at groups n)
   closed_kept n m q = (e.closed.each n m q).seen ∙ (whole_seen n (below n m q) ∙ (s.went.groups n).seen)
 

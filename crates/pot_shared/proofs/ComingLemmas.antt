@@ -1,4 +1,5 @@
--- Archives that came to groups in a session: how many there can be, which groups have them, and with which marks.
+-- Archives that came to groups in a session: how many there can be, which groups have them, and
+-- with which marks.
 use Rattle.std.proofs.Common.{◌≡◌, ◌≢◌, ◌<◌, ◌≤◌, ◌+◌, ◌++◌, ◌⊎◌, ⊎_elim, inl, inr, ℕ, zero, suc, true, false, List, [], ◌∷◌, length, refl, sym, ap, subst, ◌∙◌, arith, eqb}
 use Rattle.std.specs.Prelude.{Some, Contains, slice_get, flat_map}
 use Rattle.std.proofs.lemmas.Bool.Decides.{eqb_tells}

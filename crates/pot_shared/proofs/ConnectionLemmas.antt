@@ -1,4 +1,5 @@
--- What is said of one session of a job, said of the first of them: their vault and their job are the same.
+-- What is said of one session of a job, said of the first of them: their vault and their job are
+-- the same.
 use Rattle.std.proofs.Common.{◌≡◌, ◌<◌, ℕ, length, ap, subst, arith}
 use Rattle.pot_bytes.specs.declared.rack.Rack.{Rack}
 use Rattle.pot_shared.specs.Ready.{GroupPasses, AreReady}

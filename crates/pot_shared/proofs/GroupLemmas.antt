@@ -120,7 +120,8 @@ meant_held meaning meant ss are n slot has =
 pub serves_there : (t : Table) → IsTable t → (s c : ℕ) → c < width t → Contains (archives_in t) (serving_at t s c)
 serves_there t table s c lc = handed_all t (archives_in t) table refl c (serving_at t s c) lc (names_serving (column_at t c) s)
 
--- its opening rests on blocks that the numbers meant, and missed none of them but where a count of its archive rose
+-- its opening rests on blocks that the numbers meant, and missed none of them but where a count of
+-- its archive rose
 pub opened_of : {A : Type 0} (told : Type 0) (meaning : A → Meaning) (meant : ℕ → Meaning) (number : ℕ) (t : Table) (handed : List (Shelf A)) (g : GroupParts A) → told → Begins told meaning number t handed g
     → numbers_of handed ≡ archives_in t → AreMeant meaning meant handed → IsTable t → IsOpened meant (RoseBy meant t (opened_at (view_of meaning g).shelves)) t g.log
 opened_of told meaning meant number t handed g tells b e are table = record {

@@ -1,4 +1,4 @@
--- A job's session with a vault: what clauses see of it, and what its calls do with it.
+-- A job's connection to a vault: what clauses see of it, and what its calls do with it.
 use Rattle.std.specs.Prelude.{◌≡◌, ℕ, List}
 use Rattle.pot_bytes.specs.declared.rack.Rack.{Rack}
 use Rattle.pot_rows.specs.Parts.{RowNew}
@@ -12,7 +12,7 @@ use Rattle.pot_shared.specs.Seen.{RowKnowsMore}
 use Rattle.pot_shared.specs.Vaults.{VaultView}
 use Rattle.pot_shared.specs.Works.{Known, JobWroteOnly, JobOnlyWriter, IsSettingOf, section_of}
 
--- what stays of a session: the vault that it calls, and its job
+-- what stays of a connection: the vault that it calls, and its job
 pub record Bound : Type 0 where
   pub vault : VaultView
   pub job : ℕ
@@ -37,14 +37,14 @@ module _ {A X : Type 0} where
   abbrev pub job_of : Connection A X → ℕ
   job_of s = s.job
 
-  -- this was done with the passes of the groups, and nothing else of the session changed
+  -- this was done with the passes of the groups, and nothing else of the connection changed
   pub record InGroups (R : Bound → GroupPasses → GroupPasses → Type 0)
       (old new : Connection A X) : Type 0 where
     pub same : bound new ≡ bound old
     pub index : (knows new).index ≡ (knows old).index
     pub is : R (bound old) (knows old).groups (knows new).groups
 
-  -- this was done with the pass of the index, and nothing else of the session changed
+  -- this was done with the pass of the index, and nothing else of the connection changed
   pub record InIndex (R : Bound → IndexPasses → IndexPasses → Type 0)
       (old new : Connection A X) : Type 0 where
     pub same : bound new ≡ bound old
@@ -58,12 +58,12 @@ module _ {A X : Type 0} where
     pub groups : RowKnowsMore (knows old).groups (knows new).groups
     pub is : R (bound old) (knows new).groups (knows old).index (knows new).index
 
-  -- The session worked for its job, and for no other.
-  pub record WroteOnlyFor (old new : Connection A X) : Type 0 where
+  -- Through the connection its job alone was worked for.
+  pub record WroteForItsJob (old new : Connection A X) : Type 0 where
     pub same : bound new ≡ bound old
     pub worked : JobWroteOnly (job_of old) (knows old) (knows new)
 
-  -- a session for this job over the same vault, whose passes took these parts and know what the old
+  -- a connection for this job to the same vault, whose passes took these parts and know what the old
   -- ones do
   pub record IsSplit (job parts : ℕ) (old new : Connection A X) : Type 0 where
     pub bound_is : bound new ≡ record { vault = (bound old).vault; job = job }

@@ -139,7 +139,8 @@ pub record IsOpenedAt (meant : ℕ → Meaning) (o : GroupOrigin) (log : List En
   pub are : o.opened ≡ map marks (archives_in o.first)
   pub opened : IsOpened meant (RoseBy meant o.first marks) o.first log
 
--- The archives of each group were taken as the numbers meant, and what its pass has seen is what the opening logged over them.
+-- The archives of each group were taken as the numbers meant, and what its pass has seen is what
+-- the opening logged over them.
 abbrev pub AreTakenAt : (ℕ → Meaning) → GroupPasses → Type 0
 AreTakenAt meant row =
     (g : ℕ) (o : GroupOrigin) → (view_at row g).origin ≡ Some o
@@ -194,7 +195,7 @@ AreLow numbers = (n : ℕ) → 511 < n → times n numbers ≡ 0
 -- THE END
 
 -- a group that ended: it keeps what a group keeps, its archives are those of its first table and
--- those that its log brought, and the course of its calls leads to it
+-- those that its log brought, and an execution of its calls leads to it
 pub record IsEnded (told : Type 0) (g : GroupView) : Type 0 where
   pub settled : IsSettled told g
   pub execution : told → HasExecution g

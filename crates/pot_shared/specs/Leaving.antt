@@ -77,8 +77,8 @@ pub record AreWithin (meant : ℕ → Meaning) (g : GroupView) : Type 0 where
 -- keeps what a group keeps: its log leads from the first table to the last, its stripes keep their
 -- law over the blocks that its archives hold, and the log names no more faults and losses than
 -- these counted since they were taken. Its archives are those of the first table and those that its
--- log brought: each was taken as its number meant, and so were its marks; what it holds now, ever held and
--- ever heard is within that and what the log says; and `Has` tells what each of them is.
+-- log brought: each was taken as its number meant, and so were its marks; what it holds now, ever
+-- held and ever heard is within that and what the log says; and `Has` tells what each of them is.
 pub record LeavesGroup (told : Type 0) (meant : ℕ → Meaning) (Has : Shelves → ℕ → Type 0)
     (read : Table) (log : List Entry) (written : Table) : Type 0 where
   pub view : GroupView

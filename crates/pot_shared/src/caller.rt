@@ -24,7 +24,8 @@ pub struct Caller<'a, A: Archive, X> {
 }
 
 impl<'a, A: Archive, X> Caller<'a, A, X> {
-    /// A session of its job, to which the passes go: `*passes = connection.end();` brings them back.
+    /// A connection of its job, to which the passes go: `*passes = connection.end();` brings them
+    /// back.
     pub fn connection(&self, passes: &mut Passes<A>) -> Connection<'a, A, X>
         requires can { CanCall self.now.vault.now passes.old }
         requires parts { HasMoreParts 1 passes.old.groups }

@@ -22,16 +22,16 @@ use std::alloc::Global;
 use std::collections::LinkedList;
 use std::marker::Model;
 
-/// What never changes of an index under its turn: its rack, the records that it began with, and the turns of the groups. No
-/// value of it is made.
+/// What never changes of an index under its turn: its rack, the records that it began with, and the
+/// turns of the groups. No value of it is made.
 pub struct CatalogOrigin {
     pub rack: Rack,
     pub read: LinkedList<Record>,
     pub names: LinkedList<TurnName>,
 }
 
-/// The name is not reserved by the job any more: the entry at this place of the index's log ended that, and another pass logged
-/// it. Nothing was logged.
+/// The name is not reserved by the job any more: the entry at this place of the index's log ended
+/// that, and another pass logged it. Nothing was logged.
 #[derive(Clone, Copy, PartialEq, Eq, Debug)]
 pub struct ReservationLost {
     pub at: u32,
@@ -94,7 +94,8 @@ impl<A: Archive> Catalog<A> {
         self.index.names(alloc, job)
     }
 
-    /// Finds a record, as `Index::find`. The caller's passes have then seen its puts, since the kept ones have.
+    /// Finds a record, as `Index::find`. The caller's passes have then seen its puts, since the
+    /// kept ones have.
     pub(crate) fn find(
         &mut self,
         alloc: Global,
@@ -132,7 +133,8 @@ impl<A: Archive> Catalog<A> {
         Ok(())
     }
 
-    /// Publishes a record whose puts the caller has seen, as `Index::publish`. The kept passes have then seen them too.
+    /// Publishes a record whose puts the caller has seen, as `Index::publish`. The kept passes have
+    /// then seen them too.
     ///
     /// # Errors
     /// `ReservationLost` exactly where the name is not reserved by the job.
@@ -161,8 +163,8 @@ impl<A: Archive> Catalog<A> {
         Ok(())
     }
 
-    /// Gives the record of a name a new current split whose puts the caller has seen, as `Index::renew`. The
-    /// kept passes have then seen them too.
+    /// Gives the record of a name a new current split whose puts the caller has seen, as
+    /// `Index::renew`. The kept passes have then seen them too.
     pub(crate) fn renew(
         &mut self,
         groups: &Turns<Member<A>>,

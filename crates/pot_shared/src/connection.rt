@@ -1,4 +1,4 @@
-//! A job's session with a vault: its passes are its own, and it makes the locked calls.
+//! A job's connection to a vault: its passes are its own, and it makes the locked calls.
 ghost use Rattle.std.specs.Prelude.{◌≡◌, ◌<◌, length};
 ghost use Rattle.std.proofs.Props.{props};
 ghost use Rattle.pot_bytes.specs.Rack.{IsRack};
@@ -13,9 +13,9 @@ use pot_outside::Archive;
 use pot_turn::NoMemory;
 use std::alloc::Global;
 
-/// A job at work over a vault, with passes of its own. What each call of a vault asks of its caller is
-/// a fact of this type: the vault has a turn for each group of its rack, and the passes can call all of
-/// its turns.
+/// A job at work over a vault, with passes of its own. What each call of a vault asks of its caller
+/// is a fact of this type: the vault has a turn for each group of its rack, and the passes can call
+/// all of its turns.
 #[derive(Drop)]
 pub struct Connection<'v, A: Archive, R> {
     // The handle by which it waits for a turn.
@@ -43,7 +43,7 @@ impl<'v, A: Archive, R> Connection<'v, A, R> {
     ghost use Rattle.pot_shared.specs.Sharing.{SameAt};
     ghost use Rattle.pot_shared.specs.Connections.{IsSplit, bound, knows, rack_of};
 
-    /// A session of this job over a vault, with these passes, which `end` hands out again.
+    /// A connection of this job to a vault, with these passes, which `end` hands out again.
     pub fn new(
         rt: &'v R,
         alloc: Global,
@@ -84,7 +84,7 @@ impl<'v, A: Archive, R> Connection<'v, A, R> {
         self.job = job;
     }
 
-    /// A session for one more job, whose passes take these parts of each pass.
+    /// A connection for one more job, whose passes take these parts of each pass.
     ///
     /// # Errors
     /// Want of memory alone; each pass is then as it was.

@@ -23,8 +23,8 @@ impl<A: Archive> Vault<A> {
     ghost use Rattle.pot_shared.specs.Catalogs.{IsIndexReady};
     ghost use Rattle.pot_shared.specs.Sharing.{HasAllButKept, Ends};
 
-    /// Ends the turns with passes that have all parts but those of the kept ones, and hands out the groups and the index. It takes
-    /// no memory, since the spaces that `start` made have room.
+    /// Ends the turns with passes that have all parts but those of the kept ones, and hands out the
+    /// groups and the index. It takes no memory, since the spaces that `start` made have room.
     pub fn close(self, passes: Passes<A>, spaces: Spaces<A>) -> Closed<A>
         requires ready { AreReady self.rack self.groups passes.groups }
         requires index { IsIndexReady self.rack self.groups self.index passes.index }

@@ -15,8 +15,9 @@ impl<A: Archive> Vault<A> {
     ghost use Rattle.pot_group.specs.Sweeping.{SweepCall};
     ghost use Rattle.pot_shared.specs.Calls.{MakesAt, NextCall, StandingCall};
 
-    /// Puts a block into a group, in one turn of it, as `Group::put`. The group takes over the block's digest, and that of the parity
-    /// block that is expected where this is the one that it writes: another one changes no answer.
+    /// Puts a block into a group, in one turn of it, as `Group::put`. The group takes over the
+    /// block's digest, and that of the parity block that is expected where this is the one that it
+    /// writes: another one changes no answer.
     ///
     /// # Errors
     /// Those of `Group::put`.
@@ -74,8 +75,8 @@ impl<A: Archive> Vault<A> {
         answer
     }
 
-    /// Looks at the next Live slots of its group from this place on, a few of them in one turn of it, as `Group::sweep`. The stripe and
-    /// the column may be beyond the last ones.
+    /// Looks at the next Live slots of its group from this place on, a few of them in one turn of
+    /// it, as `Group::sweep`. The stripe and the column may be beyond the last ones.
     pub fn sweep<R: Wait>(&self, rt: &R, passes: &mut Passes<A>, job: u32, from: Place) -> Swept
         requires ready { AreReady self.now.rack self.now.groups passes.old.groups }
         requires group { from.group < length self.now.groups }
@@ -125,8 +126,8 @@ impl<A: Archive> Vault<A> {
         answer
     }
 
-    /// The first place of its group at or after this one whose slot is of the kind, in one turn of it, as `Group::next`. The stripe and
-    /// the column may be beyond the last ones.
+    /// The first place of its group at or after this one whose slot is of the kind, in one turn of
+    /// it, as `Group::next`. The stripe and the column may be beyond the last ones.
     pub fn next<R: Wait>(
         &self,
         rt: &R,
@@ -151,7 +152,8 @@ impl<A: Archive> Vault<A> {
         found
     }
 
-    /// Where a group stands, in one turn of it, as `Group::standing`. Others may put into it as soon as the turn ends.
+    /// Where a group stands, in one turn of it, as `Group::standing`. Others may put into it as
+    /// soon as the turn ends.
     pub fn standing<R: Wait>(&self, rt: &R, passes: &mut Passes<A>, group: u8) -> Standing
         requires ready { AreReady self.now.rack self.now.groups passes.old.groups }
         requires group { group < length self.now.groups }

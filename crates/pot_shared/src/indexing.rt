@@ -68,7 +68,8 @@ impl<A: Archive> Vault<A> {
     /// Ends the job's reservation of a name, in one turn of the index.
     ///
     /// # Errors
-    /// `ReservationLost` exactly where the name is not reserved by the job when the turn is had; nothing is logged then.
+    /// `ReservationLost` exactly where the name is not reserved by the job when the turn is had;
+    /// nothing is logged then.
     pub fn abandon<R: Wait>(
         &self,
         rt: &R,
@@ -94,7 +95,8 @@ impl<A: Archive> Vault<A> {
     /// Publishes a record whose puts the passes have seen, in one turn of the index.
     ///
     /// # Errors
-    /// `ReservationLost` exactly where the name is not reserved by the job when the turn is had; nothing is logged then.
+    /// `ReservationLost` exactly where the name is not reserved by the job when the turn is had;
+    /// nothing is logged then.
     pub fn publish<R: Wait>(
         &self,
         rt: &R,
@@ -123,8 +125,8 @@ impl<A: Archive> Vault<A> {
         answer
     }
 
-    /// Gives the record of a name a new current split whose puts the passes have seen, in one turn of the
-    /// index, as `Index::renew`.
+    /// Gives the record of a name a new current split whose puts the passes have seen, in one turn
+    /// of the index, as `Index::renew`.
     pub fn renew<R: Wait>(
         &self,
         rt: &R,
@@ -153,8 +155,8 @@ impl<A: Archive> Vault<A> {
         answer
     }
 
-    /// Finds a record, in one turn of the index, as `Index::find`. Of a split that the record got in this
-    /// session the passes have then seen every put.
+    /// Finds a record, in one turn of the index, as `Index::find`. Of a split that the record got
+    /// in this session the passes have then seen every put.
     pub fn find<R: Wait>(
         &self,
         rt: &R,
@@ -208,7 +210,8 @@ impl<'v, A: Archive, R: Wait> Connection<'v, A, R> {
     /// Ends the job's reservation of a name, as `Vault::abandon`.
     ///
     /// # Errors
-    /// `ReservationLost` exactly where the name is not reserved by the job when the turn is had; nothing is logged then.
+    /// `ReservationLost` exactly where the name is not reserved by the job when the turn is had;
+    /// nothing is logged then.
     pub fn abandon(&mut self, name: &Name) -> Result<(), ReservationLost>
         requires { HasReserved (job_of self.old) name.now (knows self.old).index }
         ensures { InIndex (λ b. IndexCall (Abandons b.job name.now result)) self.old self.new }
@@ -220,7 +223,8 @@ impl<'v, A: Archive, R: Wait> Connection<'v, A, R> {
     /// Publishes a record whose puts the passes have seen, as `Vault::publish`.
     ///
     /// # Errors
-    /// `ReservationLost` exactly where the name is not reserved by the job when the turn is had; nothing is logged then.
+    /// `ReservationLost` exactly where the name is not reserved by the job when the turn is had;
+    /// nothing is logged then.
     pub fn publish(&mut self, kept: Record) -> Result<(), ReservationLost>
         requires reserved { HasReserved (job_of self.old) kept.name (knows self.old).index }
         requires fits { FitsRack (rack_of self.old) kept }
@@ -231,7 +235,8 @@ impl<'v, A: Archive, R: Wait> Connection<'v, A, R> {
         vault.publish(rt, &mut self.passes, job, kept)
     }
 
-    /// Finds a record, as `Vault::find`. Of a split that the record got in this session the passes have then seen every put.
+    /// Finds a record, as `Vault::find`. Of a split that the record got in this session the passes
+    /// have then seen every put.
     pub fn find(&mut self, name: &Name) -> Result<Record, FindFault>
         ensures { InTied (λ b row. IndexCall (FindsRecord b.job name.now result row))
             self.old self.new }
@@ -240,7 +245,8 @@ impl<'v, A: Archive, R: Wait> Connection<'v, A, R> {
         vault.find(rt, self.alloc, &mut self.passes, job, name)
     }
 
-    /// Gives the record of a name a new current split whose puts the passes have seen, as `Vault::renew`.
+    /// Gives the record of a name a new current split whose puts the passes have seen, as
+    /// `Vault::renew`.
     pub fn renew(&mut self, name: &Name, split: Split) -> Result<(), RenewFault>
         requires { MayRenewBy (rack_of self.old) name.now split (knows self.old).groups
             (knows self.old).index }

@@ -16,7 +16,8 @@ use pot_group::Ended;
 use pot_index::IndexEnded;
 use pot_outside::Archive;
 
-/// Ends groups: their tables, their logs and their archives come to what remains, behind those that are there.
+/// Ends groups: their tables, their logs and their archives come to what remains, behind those that
+/// are there.
 pub(crate) fn end_groups<A: Archive>(members: Vec<Member<A>>, remains: &mut Remains<A>)
     requires tables { length remains.old.tables.items + length members.items
         ≤ vec_capacity remains.old.tables }
@@ -45,7 +46,8 @@ pub(crate) fn end_groups<A: Archive>(members: Vec<Member<A>>, remains: &mut Rema
     members.destroy_empty();
 }
 
-/// Ends a group: its table, its log and its archives come to what remains, behind those that are there.
+/// Ends a group: its table, its log and its archives come to what remains, behind those that are
+/// there.
 fn end_group<A: Archive>(group: TrackedGroup<A>, remains: &mut Remains<A>)
     requires tables { length remains.old.tables.items < vec_capacity remains.old.tables }
     requires logs { length remains.old.logs.items < vec_capacity remains.old.logs }
@@ -84,9 +86,10 @@ impl<A: Archive> Vault<A> {
     ghost use Rattle.pot_shared.specs.Remains.{HasSpace, IsBare};
     ghost use Rattle.pot_shared.specs.Works.{Known, section_of};
 
-    /// Ends a vault that was opened, and takes no memory. The tables and logs of its groups, in their order, the records and the log of
-    /// its index, and all archives remain, those that came since it was opened too. In which order the archives are is not told, nor
-    /// what relays the tables have.
+    /// Ends a vault that was opened, and takes no memory. The tables and logs of its groups, in
+    /// their order, the records and the log of its index, and all archives remain, those that came
+    /// since it was opened too. In which order the archives are is not told, nor what relays the
+    /// tables have.
     pub fn end(self, passes: Passes<A>, spaces: Spaces<A>, remains: Remains<A>) -> Remains<A>
         requires served { (old : Known) × (numbers : List ℕ) × AreServed old passes
             × HaveCome old passes numbers × AreApart numbers × AreLow numbers }

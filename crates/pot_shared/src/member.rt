@@ -6,8 +6,8 @@ use pot_outside::{Archive, Marks};
 use pot_turn::Kept;
 use std::collections::LinkedList;
 
-/// All that an archive meant when its group took it: its marks, the block of each slot, the blocks that it ever held, and the
-/// sums that it ever heard. No value of it is made.
+/// All that an archive meant when its group took it: its marks, the block of each slot, the blocks
+/// that it ever held, and the sums that it ever heard. No value of it is made.
 pub struct Taking {
     pub marks: Marks,
     pub blocks: LinkedList<Option<Block>>,
@@ -15,14 +15,16 @@ pub struct Taking {
     pub heard: LinkedList<(u32, Block)>,
 }
 
-/// An entry as passes see it: with what the archive that it brought meant at its taking. No value of it is made.
+/// An entry as passes see it: with what the archive that it brought meant at its taking. No value
+/// of it is made.
 pub struct Logged {
     pub entry: Entry,
     pub taken: Option<Taking>,
 }
 
-/// What never changes of a group: its number, the table that was read, what the archives that it began with meant at their
-/// taking, and their marks when the table had been opened. No value of it is made.
+/// What never changes of a group: its number, the table that was read, what the archives that it
+/// began with meant at their taking, and their marks when the table had been opened. No value of it
+/// is made.
 pub struct GroupOrigin {
     pub number: u8,
     pub first: GroupTable,

@@ -64,9 +64,10 @@ impl<A: Archive> Vault<A> {
         answer
     }
 
-    /// Mends a slot as far as that goes: repeats `mend_step` until it answers other than `Began`, `Extends`, `Mended` and `Passed`. It
-    /// draws a blind before the first step, and after each `Began`; one that began no relay is dropped. It ends, since each step
-    /// that goes on logs an entry.
+    /// Mends a slot as far as that goes: repeats `mend_step` until it answers other than `Began`,
+    /// `Extends`, `Mended` and `Passed`. It draws a blind before the first step, and after each
+    /// `Began`; one that began no relay is dropped. It ends, since each step that goes on logs an
+    /// entry.
     pub fn mend_place<R: Wait>(
         &self,
         rt: &R,

@@ -18,7 +18,8 @@ impl<A: Archive> Vault<A> {
     ghost use Rattle.pot_shared.specs.Calls.{MakesAt};
     ghost use Rattle.pot_group.specs.Calls.{MoveBeginCall, MoveStepCall, SwapCall};
 
-    /// A column begins to move to an archive that comes, in one turn of its group, as `Group::move_begin`.
+    /// A column begins to move to an archive that comes, in one turn of its group, as
+    /// `Group::move_begin`.
     ///
     /// # Errors
     /// Those of `Group::move_begin`. The archive is handed back, and the group is as it was.
@@ -49,7 +50,8 @@ impl<A: Archive> Vault<A> {
         answer
     }
 
-    /// Moves a column by one stripe, or ends its move, in one turn of its group, as `Group::move_step`.
+    /// Moves a column by one stripe, or ends its move, in one turn of its group, as
+    /// `Group::move_step`.
     ///
     /// # Errors
     /// Those of `Group::move_step`.
@@ -78,7 +80,8 @@ impl<A: Archive> Vault<A> {
         answer
     }
 
-    /// An archive that comes takes the place of a column's home, in one turn of its group, as `Group::swap`.
+    /// An archive that comes takes the place of a column's home, in one turn of its group, as
+    /// `Group::swap`.
     ///
     /// # Errors
     /// Those of `Group::swap`. The archive is handed back, and the group is as it was.

@@ -30,7 +30,8 @@ use pot_machine::GroupTable;
 use pot_outside::{Archive, Shelf};
 use std::alloc::Global;
 
-/// Starts the group of this number over its table and the first shelves of the hand, which are its archives.
+/// Starts the group of this number over its table and the first shelves of the hand, which are its
+/// archives.
 ///
 /// # Errors
 /// Want of memory alone. The shelves are in the hand again, in another order.
@@ -74,10 +75,12 @@ fn start_group<A: Archive>(
     }
 }
 
-/// Starts the groups of these tables in order over the archives in the hand, which are those of the tables.
+/// Starts the groups of these tables in order over the archives in the hand, which are those of the
+/// tables.
 ///
 /// # Errors
-/// Want of memory alone. Those that were started are among the members, and the archives of all others are in the hand.
+/// Want of memory alone. Those that were started are among the members, and the archives of all
+/// others are in the hand.
 fn start_groups<A: Archive>(
     alloc: Global,
     rack: &Rack,
@@ -176,11 +179,13 @@ fn share<A: Archive>(
 }
 
 impl<A: Archive> Vault<A> {
-    /// Opens a vault over tables and records that were read, with the archives in the hand, which are those of the tables. Each
-    /// group is started with the number of its place, and reads the block of each of its Live slots.
+    /// Opens a vault over tables and records that were read, with the archives in the hand, which
+    /// are those of the tables. Each group is started with the number of its place, and reads the
+    /// block of each of its Live slots.
     ///
     /// # Errors
-    /// Want of memory alone. The archives are in the hand again, in another order, and what else remains is of no use.
+    /// Want of memory alone. The archives are in the hand again, in another order, and what else
+    /// remains is of no use.
     pub fn open(
         alloc: Global,
         rack: &Rack,

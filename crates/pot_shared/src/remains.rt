@@ -7,7 +7,8 @@ use pot_machine::{Entry, GroupTable};
 use pot_outside::{Archive, Shelf};
 use std::alloc::Global;
 
-/// What a vault leaves when it ends. Before that there is space for what comes from groups, so that an end takes no memory.
+/// What a vault leaves when it ends. Before that there is space for what comes from groups, so that
+/// an end takes no memory.
 pub struct Remains<A: Archive> {
     /// The table of each group.
     pub tables: Vec<GroupTable>,

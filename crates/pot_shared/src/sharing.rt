@@ -13,7 +13,8 @@ impl<A: Archive> Vault<A> {
     ghost use Rattle.pot_shared.specs.Catalogs.{IsIndexReady};
     ghost use Rattle.pot_shared.specs.Sharing.{SameAt};
 
-    /// Passes for one more job. Each has seen what the old one of its turn has, and takes these parts of it.
+    /// Passes for one more job. Each has seen what the old one of its turn has, and takes these
+    /// parts of it.
     ///
     /// # Errors
     /// Want of memory alone; each pass is then as it was.
@@ -56,7 +57,8 @@ impl<A: Archive> Vault<A> {
         }
     }
 
-    /// Takes in the passes of another job: each pass has then seen what either had, and has the parts of both.
+    /// Takes in the passes of another job: each pass has then seen what either had, and has the
+    /// parts of both.
     pub fn join(&self, passes: &mut Passes<A>, other: Passes<A>)
         requires ready { AreReady self.now.rack self.now.groups passes.old.groups }
         requires index { IsIndexReady self.now.rack self.now.groups self.now.index

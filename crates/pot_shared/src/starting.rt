@@ -26,7 +26,8 @@ pub struct VaultRefused<A: Archive> {
     pub index: Index,
 }
 
-/// Puts the index under a turn, with two parts of each group's pass. Where memory is short it comes back, and so do the parts.
+/// Puts the index under a turn, with two parts of each group's pass. Where memory is short it comes
+/// back, and so do the parts.
 fn share_index<A: Archive>(
     alloc: Global,
     rack: &Rack,
@@ -77,11 +78,13 @@ impl<A: Archive> Vault<A> {
     ghost use Rattle.pot_shared.specs.Catalogs.{IsIndexReady};
     ghost use Rattle.pot_shared.specs.Sharing.{HasAllButKept, IsGroupOf, AreFirst, HaveLogs};
 
-    /// Puts each group and the index under a turn. The passes have seen all logs, and have all parts of the index's turn and all but
-    /// two of each group's, which the index keeps. The group at place g has number g and a table of the rack. The spaces are those that `close` wants.
+    /// Puts each group and the index under a turn. The passes have seen all logs, and have all
+    /// parts of the index's turn and all but two of each group's, which the index keeps. The group
+    /// at place g has number g and a table of the rack. The spaces are those that `close` wants.
     ///
     /// # Errors
-    /// Want of memory alone. The index comes back as it was, and the groups in their order with the logs and origins that they had.
+    /// Want of memory alone. The index comes back as it was, and the groups in their order with the
+    /// logs and origins that they had.
     pub fn start(
         alloc: Global,
         rack: &Rack,

@@ -31,7 +31,8 @@ fn shelf(alloc: Global, number: u32, lost: &[Loss]) -> Result<Shelf<LossyArchive
     Ok(Shelf { number, archive })
 }
 
-/// The first group of a rack with one parity column, over empty archives, of which the first has these losses.
+/// The first group of a rack with one parity column, over empty archives, of which the first has
+/// these losses.
 fn member(alloc: Global, rack: &Rack, lost: &[Loss]) -> Result<Member<LossyArchive>, Fail>
     requires fits { IsRack rack.now }
     requires one { rack.now.groups ≡ 1 }

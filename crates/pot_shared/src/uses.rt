@@ -11,7 +11,8 @@ impl<A: Archive> Vault<A> {
     ghost use Rattle.pot_shared.specs.Calls.{MakesAt};
     ghost use Rattle.pot_shared.specs.UseCalls.{FindsUse, TraceCall, TracesAll, UseCall};
 
-    /// What the first group that uses the archive of this number uses it as. The groups are asked in order, each in one turn.
+    /// What the first group that uses the archive of this number uses it as. The groups are asked
+    /// in order, each in one turn.
     pub fn use_of<R: Wait>(&self, rt: &R, passes: &mut Passes<A>, number: u32) -> Option<Use>
         requires ready { AreReady self.now.rack self.now.groups passes.old.groups }
         ensures ready { AreReady self.now.rack self.now.groups passes.new.groups }
@@ -27,8 +28,8 @@ impl<A: Archive> Vault<A> {
         None
     }
 
-    /// The first column of all groups whose home is the archive `from`, and whether a group has a use of the archive `to`. Every
-    /// group is asked, in order, each in one turn.
+    /// The first column of all groups whose home is the archive `from`, and whether a group has a
+    /// use of the archive `to`. Every group is asked, in order, each in one turn.
     pub fn trace<R: Wait>(&self, rt: &R, passes: &mut Passes<A>, from: u32, to: u32) -> Trace
         requires ready { AreReady self.now.rack self.now.groups passes.old.groups }
         ensures ready { AreReady self.now.rack self.now.groups passes.new.groups }

@@ -64,8 +64,9 @@ impl<A: Archive> Passes<A> {
     }
 }
 
-/// Room for the groups and the index of a vault at its end, so that a close takes no memory. A vault does not hold it, since
-/// threads share the vault. Contracts see for how many groups it has room.
+/// Room for the groups and the index of a vault at its end, so that a close takes no memory. A
+/// vault does not hold it, since threads share the vault. Contracts see for how many groups it has
+/// room.
 #[derive(Drop)]
 pub struct Spaces<A: Archive> {
     pub(crate) members: Vec<Member<A>>,

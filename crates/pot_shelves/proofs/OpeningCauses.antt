@@ -37,7 +37,8 @@ failed_rose : (old new : Shelves) (number times : ℕ) → FailedSo old new numb
 failed_rose old new number times (inl top) some = inr top
 failed_rose old new number times (inr most) some = inl (omega (arith, most, some))
 
--- A slot is Gone that was sound before the opening only where a count of the archive that serves it rose meanwhile.
+-- A slot is Gone that was sound before the opening only where a count of the archive that serves it
+-- rose meanwhile.
 pub gone_rose : (told : Type 0) (n : ℕ) (t u : Table) (now : List Entry) (old new : Shelves) (o : Opens told n t u now old new) → told
     → (s c : ℕ) → s < n → c < width t → o.gone s c ≡ true → Sound (stripe_of t old.held s) c
     → Rose (old.faults (serving_at t s c)) (new.faults (serving_at t s c)) ⊎ Rose (old.losses (serving_at t s c)) (new.losses (serving_at t s c))

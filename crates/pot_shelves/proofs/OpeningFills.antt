@@ -1,4 +1,5 @@
--- Whether a stripe that was read has a filling, by the two sums of its blocks. Nothing here knows a table or an archive.
+-- Whether a stripe that was read has a filling, by the two sums of its blocks. Nothing here knows a
+-- table or an archive.
 use Rattle.std.proofs.Common.{◌≡◌, ◌≢◌, ◌⊎◌, inl, inr, ◌↔◌, ℕ, zero, suc, ◌+◌, ◌<◌, ◌≤◌, List, Option, Some, None, Bool, true, false, ◌||◌, IsTrue, nat_eq, get_or, bit_xor, refl, sym, ap, ap₂, ◌∙◌, subst, arith, if◌then◌else◌}
 use Rattle.std.proofs.lemmas.Bool.Decides.{nat_tests}
 use Rattle.std.specs.Int.Bits.{xor_self, xor_zero_l, xor_zero_r}

@@ -1,4 +1,5 @@
--- The slots of a stripe are read one after the other, their blocks are digested, and what is missing is noted.
+-- The slots of a stripe are read one after the other, their blocks are digested, and what is
+-- missing is noted.
 use Rattle.std.proofs.Common.{◌≡◌, ◌≢◌, inl, inr, ℕ, zero, suc, ◌+◌, ◌<◌, ◌≤◌, List, [], ◌∷◌, ◌++◌, length, length-set, set, get_or, Option, Some, None, Bool, true, false, ◌&&◌, IsTrue, Contains, refl, sym, ap, ◌∙◌, subst, arith, append-nil, if◌then◌else◌}
 use Rattle.std.specs.Prelude.{◌==◌, Result, Ok, Err, slice_get, map}
 use Rattle.std.proofs.lemmas.Bool.{false≢true}

@@ -29,7 +29,8 @@ pub record Shelves : Type 0 where
   pub losses_opened : ℕ → ℕ
   pub taken : ℕ → Meaning
 
--- what an archive means that holds no block, held none, heard nothing, never failed and lost nothing
+-- what an archive means that holds no block, held none, heard nothing, never failed and lost
+-- nothing
 abbrev pub nothing : Meaning
 nothing =
     record { held = λ slot. None; history = []; heard = []; faults = 0; losses = 0 }

@@ -14,8 +14,9 @@ use std::alloc::{AllocError, Global};
 use std::marker::Model;
 use std::snapshot::Snapshot;
 
-/// Archives with their numbers, their marks at the time when they were taken and when their table had been opened, and as
-/// they were when they were taken, which takes no memory. Contracts see them as `plain` data by number.
+/// Archives with their numbers, their marks at the time when they were taken and when their table
+/// had been opened, and as they were when they were taken, which takes no memory. Contracts see
+/// them as `plain` data by number.
 #[derive(Drop)]
 pub struct Archives<A: Archive> {
     shelves: Vec<Shelf<A>>,
@@ -46,7 +47,8 @@ impl<A: Archive> Model for Archives<A> {
 }
 
 impl<A: Archive> Archives<A> {
-    /// Takes archives, with their marks now. Where two have one number, each call reaches the first.
+    /// Takes archives, with their marks now. Where two have one number, each call reaches the
+    /// first.
     ///
     /// # Errors
     /// The archives come back as they were, for want of memory alone.
@@ -145,8 +147,8 @@ impl<A: Archive> Archives<A> {
         Ok(())
     }
 
-    /// Folds the block of a slot of the archive of this number, times a weight, into a sum, which that archive hears as
-    /// it was before.
+    /// Folds the block of a slot of the archive of this number, times a weight, into a sum, which
+    /// that archive hears as it was before.
     ///
     /// # Errors
     /// `Failed` only where the archive's count of faults rose; the sum is then as it was.
@@ -168,7 +170,8 @@ impl<A: Archive> Archives<A> {
     /// Writes a block into a slot of the archive of this number.
     ///
     /// # Errors
-    /// `Failed` only where the archive's count of faults rose; the slot then has the old block, the new one or none.
+    /// `Failed` only where the archive's count of faults rose; the slot then has the old block, the
+    /// new one or none.
     pub fn write(&mut self, number: u32, slot: u32, block: &Block) -> Result<(), Failed>
         requires { Contains (plain A.account.meaning self.old).numbers number }
         ensures { OnShelves A.account (λ told. WritesAt told number slot block.now result) self.old
@@ -204,7 +207,8 @@ fn snapshots_of<A: Archive>(
     Ok(taken)
 }
 
-/// Fills an empty vector, which has room for them, with the marks of archives now, in the same order.
+/// Fills an empty vector, which has room for them, with the marks of archives now, in the same
+/// order.
 fn mark_all<A: Archive>(shelves: &[Shelf<A>], marks: &mut Vec<Marks>)
     requires empty { marks.old.items ≡ [] }
     requires room { length shelves.now ≤ vec_capacity marks.old }

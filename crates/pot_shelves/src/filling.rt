@@ -25,8 +25,9 @@ pub(crate) struct Side {
     pub(crate) digest: Option<Digest>,
 }
 
-/// The two columns by which it is decided whether a stripe has a filling, and which slots break where it has none. With
-/// one parity column the second stands for the column behind it, which there is not.
+/// The two columns by which it is decided whether a stripe has a filling, and which slots break
+/// where it has none. With one parity column the second stands for the column behind it, which
+/// there is not.
 #[derive(Clone, Copy)]
 pub(crate) struct Trial {
     pub(crate) first: Side,
@@ -34,8 +35,9 @@ pub(crate) struct Trial {
     pub(crate) broken: Breaking,
 }
 
-/// The slots that break: of a stripe in which few slots gave no block, those where the other blocks do not give theirs,
-/// and where all gave one, the parity slots where the blocks do not add up to zeros.
+/// The slots that break: of a stripe in which few slots gave no block, those where the other blocks
+/// do not give theirs, and where all gave one, the parity slots where the blocks do not add up to
+/// zeros.
 pub(crate) fn broken(
     shortage: Shortage,
     sums: &Parity,
@@ -72,7 +74,8 @@ pub(crate) fn broken(
     trial.broken
 }
 
-/// How it is decided whether a stripe of this shortage has a filling. None where too many slots gave no block.
+/// How it is decided whether a stripe of this shortage has a filling. None where too many slots
+/// gave no block.
 fn trial_of(shortage: Shortage, data_columns: u8, parity_columns: u8) -> Option<Trial>
     requires small { data_columns ≤ 16 }
     ensures { result ≡ trial_of data_columns parity_columns shortage }
@@ -156,8 +159,9 @@ fn parity_slots(data_columns: u8, parity_columns: u8) -> Breaking
     }
 }
 
-/// Whether the block that the sums give for a column, where column `out` is left out, is of the digest that is wanted.
-/// Where the column gave its block, which stands in the sums too, whether they give zeros.
+/// Whether the block that the sums give for a column, where column `out` is left out, is of the
+/// digest that is wanted. Where the column gave its block, which stands in the sums too, whether
+/// they give zeros.
 fn suits(sums: &Parity, data_columns: u8, parity_columns: u8, side: Side, out: u8) -> bool
     requires small { data_columns ≤ 16 }
     requires apart { out ≢ side.column }

@@ -1,5 +1,6 @@
-//! The opening of a table: it is not trusted, and the block of every Live slot is read. The slots of a stripe are read
-//! first, then their blocks are digested side by side, and only then is it noted which are missing.
+//! The opening of a table: it is not trusted, and the block of every Live slot is read. The slots
+//! of a stripe are read first, then their blocks are digested side by side, and only then is it
+//! noted which are missing.
 ghost use Rattle.std.specs.Prelude.{◌≡◌, ◌<◌, ◌≤◌, ◌+◌, ◌↔◌, [], Bool, IsTrue, length, vec_len};
 ghost use Rattle.std.specs.Prelude.{vec_capacity};
 ghost use Rattle.pot_bytes.specs.Rack.{log_bound};
@@ -56,9 +57,10 @@ pub(crate) enum Shortage {
     More,
 }
 
-/// Opens every stripe of a table over its archives, in ascending order: what is missing or does not fit its stripe is
-/// logged by job 0, as the crate's page tells. Each home and each target of the table is one of the archives, and the
-/// log begins empty, with room for 262,144 entries; no more memory is taken.
+/// Opens every stripe of a table over its archives, in ascending order: what is missing or does not
+/// fit its stripe is logged by job 0, as the crate's page tells. Each home and each target of the
+/// table is one of the archives, and the log begins empty, with room for 262,144 entries; no more
+/// memory is taken.
 pub fn open_all<A: Archive>(
     table: &mut GroupTable,
     log: &mut Vec<Entry>,
@@ -79,7 +81,8 @@ pub fn open_all<A: Archive>(
     }
 }
 
-/// Reads a stripe, and notes first each slot whose block is missing, and then those that its stripe does not give back.
+/// Reads a stripe, and notes first each slot whose block is missing, and then those that its stripe
+/// does not give back.
 fn open_stripe<A: Archive>(
     table: &mut GroupTable,
     log: &mut Vec<Entry>,
@@ -121,7 +124,8 @@ fn broke(stripe: u32, column: u8) -> Entry
     }
 }
 
-/// Reads the columns of a stripe in ascending order, and sums up the blocks that they gave, by both equations.
+/// Reads the columns of a stripe in ascending order, and sums up the blocks that they gave, by both
+/// equations.
 fn open_columns<A: Archive>(
     table: &mut GroupTable,
     log: &mut Vec<Entry>,
@@ -161,8 +165,8 @@ fn open_columns<A: Archive>(
     shortage
 }
 
-/// Notes Gone of a slot that is Live and whose read gave no block of its digest. `digest` is that of the block that it
-/// gave.
+/// Notes Gone of a slot that is Live and whose read gave no block of its digest. `digest` is that
+/// of the block that it gave.
 fn open_slot(
     table: &mut GroupTable,
     log: &mut Vec<Entry>,
@@ -199,7 +203,8 @@ fn open_slot(
     Part::Missing(wanted)
 }
 
-/// Whether a read gave a block of the digest that is wanted. `digest` is that of the block that it gave.
+/// Whether a read gave a block of the digest that is wanted. `digest` is that of the block that it
+/// gave.
 fn is_sound(reading: &Reading, digest: Digest, wanted: Digest) -> bool
     requires digest { IsTrue (is_held reading.now.answer) → digest ≡ digest_of reading.now.block }
     ensures { IsTrue result ↔ IsTrue (is_held reading.now.answer)

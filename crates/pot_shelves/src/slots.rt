@@ -1,4 +1,5 @@
-//! The reads of the slots of one stripe, and the digests of the blocks that they gave, taken four at a time.
+//! The reads of the slots of one stripe, and the digests of the blocks that they gave, taken four
+//! at a time.
 ghost use Rattle.std.specs.Prelude.{◌≡◌, ◌<◌, ◌≤◌, ◌+◌, IsTrue, Contains};
 ghost use Rattle.pot_machine.specs.Table.{width, serving_at};
 ghost use Rattle.pot_machine.specs.Machine.{InRange};
@@ -58,7 +59,8 @@ impl StripeReads {
     }
 }
 
-/// Reads the block of each slot of a stripe that is Live, in ascending order of the columns, and then digests them.
+/// Reads the block of each slot of a stripe that is Live, in ascending order of the columns, and
+/// then digests them.
 pub(crate) fn read_stripe<A: Archive>(
     table: &GroupTable,
     archives: &mut Archives<A>,
@@ -132,8 +134,8 @@ fn digest_all(readings: &[Reading; PLACES], digests: &mut [Digest; PLACES])
     }
 }
 
-/// Digests those of the next four blocks that were read: all four side by side where two or more were, since that takes
-/// the time of two.
+/// Digests those of the next four blocks that were read: all four side by side where two or more
+/// were, since that takes the time of two.
 fn digest_next(readings: &[Reading; PLACES], digests: &mut [Digest; PLACES], place: usize)
     requires { place + 4 ≤ 20 }
     ensures { AreDigests place readings.now digests.old

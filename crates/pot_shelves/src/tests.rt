@@ -131,8 +131,8 @@ fn make(
     }
 }
 
-/// Each call reaches the archive of its number alone, one that comes too, and all are handed out in the order in which
-/// they came. Twice 0x80 is 0x1b.
+/// Each call reaches the archive of its number alone, one that comes too, and all are handed out in
+/// the order in which they came. Twice 0x80 is 0x1b.
 #[test]
 fn archives_by_number(rt: HostRuntime) -> Result<(), Fail> {
     let alloc = rt.alloc();

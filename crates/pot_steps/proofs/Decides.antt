@@ -1,4 +1,5 @@
--- A stripe of which all but two slots were read has a filling exactly where the two computed blocks serve.
+-- A stripe of which all but two slots were read has a filling exactly where the two computed blocks
+-- serve.
 use Rattle.std.proofs.Common.{◌≡◌, ◌≢◌, ◌⊎◌, ℕ, suc, ◌+◌, ◌<◌, ◌≤◌, bit_xor, sym, ap, ap₂, ◌∙◌, arith, List, Some, None, inl, inr, subst, get_or, nat_eq, if◌then◌else◌}
 use Rattle.std.proofs.lemmas.Bool.Decides.{nat_tests}
 use Rattle.std.specs.Int.Bits.{xor_zero_r, xor_zero_l}

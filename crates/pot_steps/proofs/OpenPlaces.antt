@@ -135,8 +135,8 @@ first_hopped (x ∷ relays) c ne = hopped_is x x.stripe c refl
 
 -- A PLACE ON ITS WAY
 
--- The place's slot is Lost and no slot of its stripe is Broken. The slots that are neither Void nor sound pass the test, and no
--- more pass it than there are parity columns.
+-- The place's slot is Lost and no slot of its stripe is Broken. The slots that are neither Void nor
+-- sound pass the test, and no more pass it than there are parity columns.
 pub record IsOpen (t : Table) (h : Holdings) (s c : ℕ) (test : ℕ → Bool) : Type 0 where
   pub stripe : s < t.stripes
   pub column : c < width t

@@ -29,7 +29,8 @@ split (x ∷ xs) ys t u r = let s : (v : Table) × Replays (after t x) xs v × R
 
 -- ENTRIES THAT EACH WRITE ONE SLOT OF A STRIPE
 
--- the slots in the first `m` columns of stripe `n` that pass the test were written by `change`, and nothing else was
+-- the slots in the first `m` columns of stripe `n` that pass the test were written by `change`, and
+-- nothing else was
 record Wrote (t u : Table) (n m : ℕ) (test : ℕ → Bool) (change : SlotState → SlotState) (Took : SlotState → Type 0) : Type 0 where
   shape : u ≡ record t { slots = u.slots }
   table : IsTable u

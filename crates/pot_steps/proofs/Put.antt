@@ -53,7 +53,8 @@ not_void x d h e = none (sym (ap digest_in e) ∙ h)
 pub old_is : (data_columns parity : ℕ) (s : Stripe) (blocks : ℕ → List ℕ) (c : ℕ) (old : List ℕ) → Filling data_columns parity s blocks → c < data_columns + parity → IsOld s c old → blocks c ≡ old
 old_is data_columns parity s blocks c old f lt h = elim h [ inl e ↦ f.void c lt e.0 ∙ sym e.1 | inr e ↦ f.held c old lt e ]
 
--- what holds at the column of the put, at the other data columns and at the parity columns holds at each
+-- what holds at the column of the put, at the other data columns and at the parity columns holds at
+-- each
 pub by_column : (P : ℕ → Type 0) (data_columns parity c : ℕ) → parity ≤ 2 → P c → ((k : ℕ) → k < data_columns → k ≢ c → P k) → P data_columns → (parity ≡ 2 → P (suc data_columns)) → (k : ℕ) → k < data_columns + parity → P k
 by_column P data_columns parity c le here others at_p at_q k lt = elim (which k data_columns c parity le lt) [
   | inl e ↦ subst P (sym e) here

@@ -50,7 +50,8 @@ module _ (data_columns parity : ℕ) (few : parity ≤ 2) (one : 1 ≤ parity) (
         ]),
       )
 
-  -- the target was Broken, and there is one parity column: the folded blocks and the partial are a filling
+  -- the target was Broken, and there is one parity column: the folded blocks and the partial are a
+  -- filling
   module _ (single : parity ≡ 1) (law : FlightLaw data_columns parity s r partial) where
     fresh : ℕ → List ℕ
     fresh k = if nat_eq k r.target then partial else if folded data_columns s.slots r k then law.some.0 k else zero_block
@@ -150,7 +151,8 @@ module _ (data_columns parity : ℕ) (few : parity ≤ 2) (one : 1 ≤ parity) (
   was_broken (Lost x) = inl (λ d e. cc)
   was_broken (Broken x) = inr (x, refl)
 
-  -- a stripe whose target was repaired keeps the law: with two parity columns no slot of it was Broken
+  -- a stripe whose target was repaired keeps the law: with two parity columns no slot of it was
+  -- Broken
   pub mended_keeps : FlightLaw data_columns parity s r partial → (parity ≡ 2 → NoneBroken data_columns parity s) → StripeLaw data_columns parity s' None
   mended_keeps law never none few' = elim (was_broken (s.slots r.target)) [
     | inl fine ↦ from_filling law (λ c d lt e. elim (cases_eq c r.target) [

@@ -1,5 +1,5 @@
--- With one parity column, a stripe that was read but for one column at most has a filling exactly where the XOR of what was
--- read says so.
+-- With one parity column, a stripe that was read but for one column at most has a filling exactly
+-- where the XOR of what was read says so.
 use Rattle.std.proofs.Common.{◌≡◌, ◌≢◌, ◌⊎◌, inl, inr, ℕ, suc, ◌≤◌, bit_xor, sym, ap, ap₂, ◌∙◌, subst, arith, List, Some, None, get_or, nat_eq, if◌then◌else◌}
 use Rattle.std.proofs.lemmas.Bool.Decides.{nat_tests}
 use Rattle.std.specs.Int.Bits.{xor_self, xor_zero_l}

@@ -1,4 +1,5 @@
--- Two columns that are each the weighted sum of the others leave both equations at zero, and no other blocks do.
+-- Two columns that are each the weighted sum of the others leave both equations at zero, and no
+-- other blocks do.
 use Rattle.std.proofs.Common.{◌≡◌, ◌≢◌, ℕ, zero, suc, ◌<◌, ◌≤◌, bit_xor, refl, sym, ap, ap₂, ◌∙◌, arith, inl, inr, subst, get_or, lit<, List}
 use Rattle.std.specs.Int.Bits.{xor_assoc, xor_self, xor_zero_r, xor_zero_l}
 use Rattle.std.proofs.lemmas.Nat.{xor_comm}

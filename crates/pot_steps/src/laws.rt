@@ -18,8 +18,8 @@ ghost use Rattle.pot_steps.specs.Laws.{MendedKeeps, RelayRebuilds, SingleParity,
 ghost use Rattle.pot_steps.specs.Laws.{SingleBut, WholeSums, RebuildableFilled, FillingComputed};
 ghost use Rattle.pot_steps.specs.Laws.{ComputedFilling, SumGrows, SumBegins, HeardIsBlinded};
 
-/// What keeps the law of a stripe, and what it says of a whole stripe, of a place that can be rebuilt and of one parity
-/// column.
+/// What keeps the law of a stripe, and what it says of a whole stripe, of a place that can be
+/// rebuilt and of one parity column.
 pub fn stripe_laws()
     ensures put { PutKeeps }
     ensures loss { LossKeeps }
@@ -47,7 +47,8 @@ pub fn entry_laws()
     ensures flight { EntryKeepsFlight }
 {}
 
-/// The opening makes the rules of the table and the law of every stripe hold, and a put, a look and a count keep them.
+/// The opening makes the rules of the table and the law of every stripe hold, and a put, a look and
+/// a count keep them.
 pub fn group_laws()
     ensures start { StartMakes }
     ensures put { PutStepKeeps }
@@ -56,8 +57,8 @@ pub fn group_laws()
     ensures full { FullStepKeeps }
 {}
 
-/// What it means that an archive's count of losses rose since the group took the archive, by its number. The law of the Live
-/// slots is kept whatever it means.
+/// What it means that an archive's count of losses rose since the group took the archive, by its
+/// number. The law of the Live slots is kept whatever it means.
 pub trait LossCount {
     /// That it rose by some moment.
     ghost rose: { ℕ → Type 0 };
@@ -100,7 +101,8 @@ pub fn act_laws()
     ensures loss { LossKeepsAll }
 {}
 
-/// The steps that begin, move and end relays, and those that bring an archive and move a column, keep every law.
+/// The steps that begin, move and end relays, and those that bring an archive and move a column,
+/// keep every law.
 pub fn step_laws()
     ensures logged { LoggedKeeps }
     ensures begin { BeginStepKeeps }
@@ -117,14 +119,14 @@ pub fn ahead_laws()
     ensures none { AheadNone }
 {}
 
-/// A place that can be rebuilt becomes sound by a look and 2C+3 calls of `mend` with one parity column, and 3C+4 with two,
-/// where no device fails, no log is full and no block is lost.
+/// A place that can be rebuilt becomes sound by a look and 2C+3 calls of `mend` with one parity
+/// column, and 3C+4 with two, where no device fails, no log is full and no block is lost.
 pub fn mending_laws()
     ensures { MendingLaw }
 {}
 
-/// What one archive hears of a relay fits every content of the columns that the relay went over before, by a bijection of
-/// blinds. Nothing is said of what several archives hear together.
+/// What one archive hears of a relay fits every content of the columns that the relay went over
+/// before, by a bijection of blinds. Nothing is said of what several archives hear together.
 pub fn listener_laws()
     ensures hands { FlightHands }
     ensures fits { ListenerFits }

@@ -67,8 +67,8 @@ pub fn begin(table: &mut GroupTable, job: u32, place: Place, blind: &Block) -> (
 
 /// Takes note of a fold over a relay's next column: `folded` is its sum after the fold.
 ///
-/// The relay goes on where what was added is a block of the digest of that column's slot. Else it ends, and the flight is as it
-/// was.
+/// The relay goes on where what was added is a block of the digest of that column's slot. Else it
+/// ends, and the flight is as it was.
 pub fn hop(table: &mut GroupTable, flight: &mut Flight, job: u32, folded: &Block) -> Hopped
     requires stands { StandsIn table.old flight.old.relay }
     requires next { IsSomeAnd (next_column table.old flight.old.relay)

@@ -306,7 +306,8 @@ fn a_relay_of_a_broken_slot(rt: HostRuntime) -> Result<(), Fail> {
     Ok(())
 }
 
-/// Two data slots are lost. The sums were computed apart: 8c times the block of P, and 8d times that of Q, are added.
+/// Two data slots are lost. The sums were computed apart: 8c times the block of P, and 8d times
+/// that of Q, are added.
 #[test]
 fn a_relay_with_a_skip(rt: HostRuntime) -> Result<(), Fail> {
     let mut table = group(rt.alloc(), 2)?;

@@ -59,8 +59,8 @@ fn weight(data_columns: u8, target: u8, out: u8, column: u8) -> u8
     mul(a, p_weight) ^ mul(b, q_weight(data_columns, column))
 }
 
-/// What the equations of P and of Q are taken times, so that in their sum column `target` has weight 1 and column `out` has
-/// weight 0.
+/// What the equations of P and of Q are taken times, so that in their sum column `target` has
+/// weight 1 and column `out` has weight 0.
 pub fn times_of(data_columns: u8, target: u8, out: u8) -> (u8, u8)
     requires small { data_columns ≤ 16 }
     requires apart { out ≢ target }

@@ -1,4 +1,5 @@
--- Which entries the visits to a record's blocks log: those that a fetch of the record may, each place being visited once.
+-- Which entries the visits to a record's blocks log: those that a fetch of the record may, each
+-- place being visited once.
 use Rattle.std.proofs.Common.{◌≡◌, ◌≢◌, ◌<◌, ◌≤◌, ◌⊎◌, inl, inr, ⊎_elim, ℕ, zero, suc, ◌+◌, Bool, true, false, List, [], ◌∷◌, ◌++◌, length, refl, ap, sym, ◌∙◌, subst, arith, append-nil, length-append, eq-eqb}
 use Rattle.std.specs.Prelude.{filter, if◌then◌else◌, ◌==◌, ◌&&◌, Contains, slice_index_or}
 use Rattle.std.proofs.lemmas.List.Elements.{filter-append, Contains-append_cases, Contains-append_right}

@@ -78,7 +78,8 @@ module _ (job s c : ℕ) where
   own_parts : (xs ys : List Entry) → own job (xs ++ gone ∷ ys) ≡ own job xs ++ gone ∷ own job ys
   own_parts xs ys = filter-append (is_of job) xs (gone ∷ ys) ∙ ap (λ l. own job xs ++ l) (own_cons job gone ys (eq-eqb job job refl))
 
-  -- where the last entry of the job is a Gone and it looks twice at most, the second Gone is the last
+  -- where the last entry of the job is a Gone and it looks twice at most, the second Gone is the
+  -- last
   pub gone_again : (first : Table) (before added : List Entry) → GoneTwice first job before added s c → LooksTwice job s c (own job added)
       → LastIs (own job added) (λ e. e ≡ gone) → GoneAgain first job before added s c
   gone_again first before added is twice (sofar, e, at, same) = record {

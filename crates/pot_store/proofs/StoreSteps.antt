@@ -18,7 +18,7 @@ use Rattle.pot_shared.specs.declared.connection.Connection.{Connection}
 use Rattle.pot_shared.specs.Ready.{GroupPasses}
 use Rattle.pot_shared.specs.Seen.{SeesFile}
 use Rattle.pot_shared.specs.IndexCalls.{IndexCall, HasReserved, ReservesName, Abandons, PublishesRecord}
-use Rattle.pot_shared.specs.Connections.{Bound, InGroups, InIndex, InTied, WroteOnlyFor, bound, job_of, knows, names_of, rack_of}
+use Rattle.pot_shared.specs.Connections.{Bound, InGroups, InIndex, InTied, WroteForItsJob, bound, job_of, knows, names_of, rack_of}
 use Rattle.pot_shared.specs.Works.{of_job, known, JobWroteOnly, JobOnlyWriter, section_of, IsSettingOf}
 use Rattle.pot_shared.proofs.ConnectionLemmas.{groups_at, index_at, pass_at, ready_at, tied_at}
 use Rattle.pot_store.specs.Drawing.{Drawn, all_blocks, blocks_from, count_of}
@@ -39,7 +39,7 @@ of_reserve reserve_fault.NoMemory = fault.NoMemory
 -- THE NAME WAS REFUSED
 
 module _ {A X : Type 0} (name file : List ℕ) (s0 s1 : Connection A X) where
-  pub unreserved_work : (e : ReserveFault) → InIndex (λ b. IndexCall (ReservesName b.job name (Err e))) s0 s1 → WroteOnlyFor s0 s1
+  pub unreserved_work : (e : ReserveFault) → InIndex (λ b. IndexCall (ReservesName b.job name (Err e))) s0 s1 → WroteForItsJob s0 s1
   unreserved_work e call = record {
     same = call.same;
     worked = subst (λ (x : GroupPasses). JobWroteOnly (job_of s0) (knows s0) (known x (knows s1).index)) (sym call.groups)
@@ -86,7 +86,7 @@ module _ {A X : Type 0} (name file : List ℕ) (s0 s1 s2 : Connection A X) (u : 
 
   -- the record was published, or not
   module _ (r : Record) (result : Result (Unit {0}) ReservationLost) (s3 : Connection A X) (named : r.name ≡ name) (call : InTied (λ b row. IndexCall (PublishesRecord b.job r result)) s2 s3) where
-    pub published_worked : WroteOnlyFor s0 s3
+    pub published_worked : WroteForItsJob s0 s3
     published_worked = record {
       same = call.same ∙ same2;
       worked = published_work (job_of s0) name file (rack_of s0) (names_of s0) (bound s0).vault.index g0 g1 g2 (knows s0).index (knows s1).index (knows s2).index u s0.ready s0.index_ready reserve.groups reserve.is (index_at s1 reserve.same) puts.index worked
@@ -101,7 +101,7 @@ module _ {A X : Type 0} (name file : List ℕ) (s0 s1 s2 : Connection A X) (u : 
 
   -- the name was given up, or not
   module _ (result : Result (Unit {0}) ReservationLost) (s3 : Connection A X) (call : InIndex (λ b. IndexCall (Abandons b.job name result)) s2 s3) where
-    pub abandoned_worked : WroteOnlyFor s0 s3
+    pub abandoned_worked : WroteForItsJob s0 s3
     abandoned_worked = record {
       same = call.same ∙ same2;
       worked = abandoned_work (job_of s0) name file (rack_of s0) (names_of s0) (bound s0).vault.index g0 g1 g2 (knows s0).index (knows s1).index (knows s2).index u s0.ready s0.index_ready reserve.groups reserve.is (index_at s1 reserve.same) puts.index worked

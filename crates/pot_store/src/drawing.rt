@@ -20,8 +20,8 @@ struct DrawnPiece {
     blocks: Vec<Block>,
 }
 
-/// The blocks of a file, one after another, by piece, fragment and point. Each piece is drawn when its first block is asked for, in
-/// place of the one before it.
+/// The blocks of a file, one after another, by piece, fragment and point. Each piece is drawn when
+/// its first block is asked for, in place of the one before it.
 #[derive(Drop)]
 pub(crate) struct Drawing<'a> {
     geometry: Geometry,

@@ -1,4 +1,5 @@
-//! What the next puts of a store are expected to write, so that its digests are taken four at a time.
+//! What the next puts of a store are expected to write, so that its digests are taken four at a
+//! time.
 ghost use Rattle.std.specs.Prelude.{◌≡◌};
 
 use pot_bytes::{Block, Place};
@@ -90,8 +91,9 @@ impl Expected {
         )
     }
 
-    /// Whether only puts of others can have led to a place: its column is neither the one behind the last block that was put into
-    /// its group, nor the first of a stripe, which comes behind one that is passed.
+    /// Whether only puts of others can have led to a place: its column is neither the one behind
+    /// the last block that was put into its group, nor the first of a stripe, which comes behind
+    /// one that is passed.
     fn is_by_others(&self, place: Place) -> bool {
         match self.behind[usize::from(place.group % 16)] {
             Some(behind) => place.column > 0 && place.column != behind,
@@ -99,7 +101,8 @@ impl Expected {
         }
     }
 
-    /// Notes where a block was put. Where it was expected in another column, what comes next in its group is expected behind it.
+    /// Notes where a block was put. Where it was expected in another column, what comes next in its
+    /// group is expected behind it.
     pub fn note(&mut self, place: Place, put: &SealedPut) {
         let group = usize::from(place.group % 16);
         let behind = self.after(place.column);
@@ -112,7 +115,8 @@ impl Expected {
         self.parities[group] = *put.block.block();
     }
 
-    /// Whether others put into a group in between. It stays so, and never is so where nobody else puts.
+    /// Whether others put into a group in between. It stays so, and never is so where nobody else
+    /// puts.
     pub fn met_others(&self) -> bool {
         self.others
     }

@@ -54,7 +54,8 @@ impl Whose {
     }
 }
 
-/// A put: its group, the byte that its block repeats, whose it is, and the byte of the parity block that its stripe has then.
+/// A put: its group, the byte that its block repeats, whose it is, and the byte of the parity block
+/// that its stripe has then.
 type Put = (u8, u8, Whose, u8);
 
 /// The first two groups, and what the store expects of them.
@@ -158,7 +159,8 @@ impl Stage {
         }
     }
 
-    /// Makes the first of these puts: the byte of the parity block that was expected, and where the block stands.
+    /// Makes the first of these puts: the byte of the parity block that was expected, and where the
+    /// block stands.
     fn make(&mut self, puts: &[Put]) -> Result<(Option<u8>, Place), Fail> {
         let Some((group, byte, _, _)) = puts.first() else {
             return Err(Fail::from("there is no such put"));
@@ -184,7 +186,8 @@ impl Stage {
     }
 }
 
-/// Makes the puts up to this one, and sees what is expected of it, and the parity block of its stripe then.
+/// Makes the puts up to this one, and sees what is expected of it, and the parity block of its
+/// stripe then.
 fn see_last(rt: &impl Abort, alloc: Global, puts: &[Put], last: usize) -> Result<(), Fail>
     requires { last < length puts.now }
 {
@@ -207,7 +210,8 @@ fn see(rt: &impl Abort, alloc: Global, puts: &[Put]) -> Result<(), Fail> {
     Ok(())
 }
 
-/// In a stripe that the store did not begin, or into which another job puts, it expects another parity block up to the end.
+/// In a stripe that the store did not begin, or into which another job puts, it expects another
+/// parity block up to the end.
 #[test]
 fn puts_sealed_alone(rt: HostRuntime) -> Result<(), Fail> {
     let puts = [
@@ -260,7 +264,8 @@ fn puts_sealed_in_twos(rt: HostRuntime) -> Result<(), Fail> {
     see(&rt, rt.alloc(), &puts)
 }
 
-/// Where it sees how the group stands, it expects the parity block that the stripe has then, whoever put in between.
+/// Where it sees how the group stands, it expects the parity block that the stripe has then,
+/// whoever put in between.
 #[test]
 fn puts_sealed_where_the_group_stands(rt: HostRuntime) -> Result<(), Fail> {
     let puts = [
@@ -284,7 +289,8 @@ fn meets(alloc: Global, puts: &[Put]) -> Result<bool, Fail> {
     Ok(stage.expected.met_others())
 }
 
-/// It meets others where a block lands neither behind its last one nor at the beginning of a stripe.
+/// It meets others where a block lands neither behind its last one nor at the beginning of a
+/// stripe.
 #[test]
 fn others_met(rt: HostRuntime) -> Result<(), Fail> {
     let alone = [

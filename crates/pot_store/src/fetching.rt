@@ -4,7 +4,7 @@ ghost use Rattle.std.specs.Vec.{vec_capacity};
 ghost use Rattle.pot_object.specs.Pieces.{pieces_of};
 ghost use Rattle.pot_index.specs.Fits.{FitsRack};
 ghost use Rattle.pot_shared.specs.Callers.{AreReadyFor, HasAllGroups};
-ghost use Rattle.pot_shared.specs.Connections.{InGroups, TellsIfOnlyWriter, WroteOnlyFor, job_of, knows, rack_of};
+ghost use Rattle.pot_shared.specs.Connections.{InGroups, TellsIfOnlyWriter, WroteForItsJob, job_of, knows, rack_of};
 ghost use Rattle.pot_store.specs.Reads.{FileRead, RecordRead};
 ghost use Rattle.pot_store.specs.Fetches.{AreFilled, FetchRow};
 ghost use Rattle.pot_store.specs.Stored.{FetchGives};
@@ -28,7 +28,8 @@ pub enum FetchFault {
     IndexLogFull,
     /// No file is published under the name.
     Absent,
-    /// The archive of this column failed at a point of a fragment, and too few of its points were seen.
+    /// The archive of this column failed at a point of a fragment, and too few of its points were
+    /// seen.
     Faulted {
         group: u8,
         column: u8,
@@ -52,25 +53,29 @@ pub enum FetchFault {
     NoMemory,
 }
 
-/// Fetches the file that is published under a name: looks the name up, and reads the blocks of its record in turn, of each
-/// fragment as many as give it back. Where a fragment has too few, it mends the places at which a look gave nothing, blinded by
-/// `pads`, and looks once more at each that is whole again. Of a piece no more is held at a time than its fragments.
+/// Fetches the file that is published under a name: looks the name up, and reads the blocks of its
+/// record in turn, of each fragment as many as give it back. Where a fragment has too few, it mends
+/// the places at which a look gave nothing, blinded by `pads`, and looks once more at each that is
+/// whole again. Of a piece no more is held at a time than its fragments.
 ///
-/// Each relay that it begins has the next 1,024 bytes of `pads` as its blind. A blind that was drawn and began no relay is dropped.
+/// Each relay that it begins has the next 1,024 bytes of `pads` as its blind. A blind that was
+/// drawn and began no relay is dropped.
 ///
-/// Of a record that was published in this session the bytes are the file that was stored, and `Odd` is not answered, where no
-/// two different ones of the blocks of that file and of those read have one digest.
+/// Of a record that was published in this session the bytes are the file that was stored, and `Odd`
+/// is not answered, where no two different ones of the blocks of that file and of those read have
+/// one digest.
 ///
 /// # Errors
-/// `IndexLogFull` and `Absent` as `Vault::find`, `LogFull` of the first group whose log has no room for a look or a mend. Where
-/// too few points of a fragment can be seen, `Faulted` of the least one at which an archive failed, and `Lost` where there is
-/// none. `Odd` exactly where the bytes that were read have another digest than the file. `NoMemory` comes before the first look.
+/// `IndexLogFull` and `Absent` as `Vault::find`, `LogFull` of the first group whose log has no room
+/// for a look or a mend. Where too few points of a fragment can be seen, `Faulted` of the least one
+/// at which an archive failed, and `Lost` where there is none. `Odd` exactly where the bytes that
+/// were read have another digest than the file. `NoMemory` comes before the first look.
 pub fn fetch_file<A: Archive, R: Wait>(
     connection: &mut Connection<'_, A, R>,
     name: &Name,
     pads: &mut PadStream,
 ) -> Result<Vec<u8>, FetchFault>
-    ensures worked { WroteOnlyFor connection.old connection.new }
+    ensures worked { WroteForItsJob connection.old connection.new }
     ensures says { TellsIfOnlyWriter (λ b s w. s.mends ≡ true → AreFilled s
         → FetchRow s b.job name.now result w) connection.old connection.new }
     ensures stored { TellsIfOnlyWriter (λ b s w. s.mends ≡ true → AreFilled s
@@ -86,7 +91,7 @@ pub fn fetch_file<A: Archive, R: Wait>(
     }
 }
 
-/// Reads the file of a record in the session of a job, as `read_record`.
+/// Reads the file of a record through the connection of a job, as `read_record`.
 pub(crate) fn read_kept<A: Archive, R: Wait>(
     connection: &mut Connection<'_, A, R>,
     kept: &Record,
@@ -136,7 +141,8 @@ fn read_record<A: Archive, R: Wait>(
     Ok(bytes)
 }
 
-/// Reads the pieces of a file one after another, each with the room for the fragments of one, and cuts the whole to its length.
+/// Reads the pieces of a file one after another, each with the room for the fragments of one, and
+/// cuts the whole to its length.
 ///
 /// # Errors
 /// Those of `read_piece`, at the first fragment that was not had.

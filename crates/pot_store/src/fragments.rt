@@ -26,7 +26,8 @@ use pot_shared::{Caller, Passes};
 use pot_split::secrecy_join;
 use std::sync::Wait;
 
-/// Looks at the place of a point, from 0, and notes what came of it. False where the log of its group has no room.
+/// Looks at the place of a point, from 0, and notes what came of it. False where the log of its
+/// group has no room.
 fn look_at_point<A: Archive, R: Wait>(
     caller: &Caller<'_, A, R>,
     passes: &mut Passes<A>,
@@ -51,7 +52,8 @@ fn look_at_point<A: Archive, R: Wait>(
     true
 }
 
-/// Looks at the points of a fragment in turn, from the block of this number on, until as many are seen as give it back.
+/// Looks at the points of a fragment in turn, from the block of this number on, until as many are
+/// seen as give it back.
 ///
 /// # Errors
 /// `LogFull` of the first group whose log has no room.
@@ -88,8 +90,8 @@ fn look_at_points<A: Archive, R: Wait>(
     Ok(())
 }
 
-/// Mends the place of a point, from 0, at which a look gave nothing, and notes what came of it. False where the log of its group
-/// has no room.
+/// Mends the place of a point, from 0, at which a look gave nothing, and notes what came of it.
+/// False where the log of its group has no room.
 fn mend_point<A: Archive, R: Wait>(
     caller: &Caller<'_, A, R>,
     passes: &mut Passes<A>,
@@ -117,8 +119,8 @@ fn mend_point<A: Archive, R: Wait>(
     true
 }
 
-/// Mends the places of a fragment at which a look gave nothing, in the order of their points, until as many points are seen as
-/// give it back.
+/// Mends the places of a fragment at which a look gave nothing, in the order of their points, until
+/// as many points are seen as give it back.
 ///
 /// # Errors
 /// `LogFull` of the first group whose log has no room.
@@ -161,7 +163,8 @@ fn mend_points<A: Archive, R: Wait>(
     Ok(())
 }
 
-/// Looks at the points of a fragment and mends those of which nothing came, until as many are seen as give it back.
+/// Looks at the points of a fragment and mends those of which nothing came, until as many are seen
+/// as give it back.
 ///
 /// # Errors
 /// `LogFull` of the first group whose log has no room.
@@ -191,7 +194,8 @@ fn see_points<A: Archive, R: Wait>(
     mend_points(caller, passes, kept, from, pads, points)
 }
 
-/// Which fragment of a file it is: the number of its piece, and its number in that piece, both from 0.
+/// Which fragment of a file it is: the number of its piece, and its number in that piece, both from
+/// 0.
 #[derive(Clone, Copy)]
 struct FragmentAt {
     piece: u32,
@@ -226,8 +230,8 @@ fn missing(kept: &Record, at: FragmentAt, from: usize, points: &Points) -> Fetch
 /// Reads a fragment, and appends it to the fragments of its piece before it.
 ///
 /// # Errors
-/// Where too few points can be seen, `Faulted` of the least one at which an archive failed, and `Lost` where there is none. `LogFull`
-/// of the first group whose log has no room.
+/// Where too few points can be seen, `Faulted` of the least one at which an archive failed, and
+/// `Lost` where there is none. `LogFull` of the first group whose log has no room.
 fn read_fragment<A: Archive, R: Wait>(
     caller: &Caller<'_, A, R>,
     passes: &mut Passes<A>,

@@ -23,7 +23,8 @@ pub(crate) struct Stopped {
     pub cause: PutFault,
 }
 
-/// Sees where the groups of the next two puts stand, each in one turn, where others put into a group in between. It logs nothing.
+/// Sees where the groups of the next two puts stand, each in one turn, where others put into a
+/// group in between. It logs nothing.
 fn look_ahead<A: Archive, R: Wait>(
     connection: &mut Connection<'_, A, R>,
     drawing: &mut SealedDrawing,
@@ -43,7 +44,8 @@ fn look_ahead<A: Archive, R: Wait>(
     drawing.see(groups.1, &second);
 }
 
-/// Puts the blocks of a split of this geometry, each into its own group, in order, and notes where they stand.
+/// Puts the blocks of a split of this geometry, each into its own group, in order, and notes where
+/// they stand.
 ///
 /// # Errors
 /// The first put that is refused.

@@ -1,10 +1,10 @@
-//! A file is split anew: it is fetched, the blocks of its new split are put, and its record gets that
-//! split.
+//! A file is split anew: it is fetched, the blocks of its new split are put, and its record gets
+//! that split.
 ghost use Rattle.std.specs.Prelude.{◌≡◌, ◌<◌, ◌≤◌, true, length, IfOk, IfErr, IsTrue};
 ghost use Rattle.pot_object.specs.Pieces.{longest};
 ghost use Rattle.pot_index.specs.Fits.{FitsGeometry};
 ghost use Rattle.pot_rows.specs.Works.{RowWroteOnlyFor};
-ghost use Rattle.pot_shared.specs.Connections.{InGroups, TellsIfOnlyWriter, WroteOnlyFor, job_of, knows, rack_of};
+ghost use Rattle.pot_shared.specs.Connections.{InGroups, TellsIfOnlyWriter, WroteForItsJob, job_of, knows, rack_of};
 ghost use Rattle.pot_shared.specs.Works.{of_job};
 ghost use Rattle.pot_store.specs.Fetches.{AreFilled};
 ghost use Rattle.pot_store.specs.Renewals.{of_find, of_fetch, of_put, of_renew, PutsSplit};
@@ -164,18 +164,19 @@ fn put_split<A: Archive, R: Wait>(
     }
 }
 
-/// Splits the file that is published under a name anew: fetches it, its relays blinded by `blinds`, puts the
-/// blocks of a split of this geometry with the next bytes of `pads`, and makes that split the record's current
-/// one. The older blocks stay.
+/// Splits the file that is published under a name anew: fetches it, its relays blinded by `blinds`,
+/// puts the blocks of a split of this geometry with the next bytes of `pads`, and makes that split
+/// the record's current one. The older blocks stay.
 ///
-/// Each relay that it begins has the next 1,024 bytes of `blinds` as its blind. A blind that was drawn and began
-/// no relay is dropped.
+/// Each relay that it begins has the next 1,024 bytes of `blinds` as its blind. A blind that was
+/// drawn and began no relay is dropped.
 ///
 /// # Errors
-/// In this order: `IndexLogFull` and `Absent`, as `Vault::find`; `TooOften` exactly where the record found has
-/// 16 splits; those of `fetch_file`; the first put that is refused; `IndexLogFull` and `TooOften`, as
-/// `Vault::renew`. `NoMemory` may come before the first look, before the first put and behind the last one.
-/// After a refusal the record is as it was, and blocks that were put stay.
+/// In this order: `IndexLogFull` and `Absent`, as `Vault::find`; `TooOften` exactly where the
+/// record found has 16 splits; those of `fetch_file`; the first put that is refused; `IndexLogFull`
+/// and `TooOften`, as `Vault::renew`. `NoMemory` may come before the first look, before the first
+/// put and behind the last one. After a refusal the record is as it was, and blocks that were put
+/// stay.
 pub fn renew_file<A: Archive, R: Wait>(
     connection: &mut Connection<'_, A, R>,
     name: &Name,
@@ -184,7 +185,7 @@ pub fn renew_file<A: Archive, R: Wait>(
     pads: PadStream,
 ) -> Result<Stored, RenewFileFault>
     requires { FitsGeometry (rack_of connection.old) geometry.now }
-    ensures worked { WroteOnlyFor connection.old connection.new }
+    ensures worked { WroteForItsJob connection.old connection.new }
     ensures says { TellsIfOnlyWriter (λ b s w. s.mends ≡ true → AreFilled s → RenewsFrom s pads geometry.now b.job
         → RenewRow s b.job name.now geometry.now result w) connection.old connection.new }
     ensures blinds { Blinds (IsTrue A.account.tells) (job_of connection.old) blinds.old blinds.new

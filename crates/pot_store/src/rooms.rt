@@ -8,7 +8,8 @@ use pot_bytes::NoMemory;
 use pot_object::OBJECT;
 use std::alloc::Global;
 
-/// The room that a fetch takes once, for the points and the shares of a fragment, and for the fragments of a piece one after another.
+/// The room that a fetch takes once, for the points and the shares of a fragment, and for the
+/// fragments of a piece one after another.
 #[derive(Drop)]
 pub struct Rooms {
     pub points: Points,

@@ -9,7 +9,8 @@ use pot_group::Standing;
 use pot_shared::SealedPut;
 use std::marker::Model;
 
-/// A drawing whose blocks are sealed two at a time, each beside the parity block that is expected of its put.
+/// A drawing whose blocks are sealed two at a time, each beside the parity block that is expected
+/// of its put.
 #[derive(Drop)]
 pub(crate) struct SealedDrawing<'a> {
     drawing: Drawing<'a>,
@@ -33,7 +34,8 @@ impl<'a> Model for SealedDrawing<'a> {
 }
 
 impl<'a> SealedDrawing<'a> {
-    /// A drawing that has handed out no block, of as many blocks, for groups of as many data columns.
+    /// A drawing that has handed out no block, of as many blocks, for groups of as many data
+    /// columns.
     pub(crate) fn new(drawing: Drawing<'a>, count: u32, columns: u8) -> SealedDrawing<'a>
         requires first { drawing.next ≡ 0 }
         requires count { count ≡ count_of drawing }

@@ -3,7 +3,7 @@ ghost use Rattle.std.specs.Prelude.{◌≡◌, ◌<◌, ◌≤◌, IfOk, IfErr, 
 ghost use Rattle.std.specs.Vec.{vec_capacity};
 ghost use Rattle.pot_object.specs.Pieces.{longest};
 ghost use Rattle.pot_bytes.specs.Rack.{IsGeometry};
-ghost use Rattle.pot_shared.specs.Connections.{TellsIfOnlyWriter, WroteOnlyFor};
+ghost use Rattle.pot_shared.specs.Connections.{TellsIfOnlyWriter, WroteForItsJob};
 ghost use Rattle.pot_store.specs.Stores.{DrawsFrom, StoreRow, record_of, fault_of, IsPlan};
 ghost use Rattle.pot_store.specs.Stores.{IsUnplanned};
 
@@ -80,7 +80,8 @@ fn record_of(
     }
 }
 
-/// What a split of a file has before its puts: the numbers of its pieces and blocks, the blocks, and room for their places.
+/// What a split of a file has before its puts: the numbers of its pieces and blocks, the blocks,
+/// and room for their places.
 pub(crate) struct Plan<'a> {
     pub pieces: u32,
     pub shards: u32,
@@ -88,7 +89,8 @@ pub(crate) struct Plan<'a> {
     pub places: Vec<Place>,
 }
 
-/// Takes the memory that a split of a file needs, whose puts go into groups of as many data columns.
+/// Takes the memory that a split of a file needs, whose puts go into groups of as many data
+/// columns.
 pub(crate) fn prepare<'a>(
     alloc: Global,
     columns: u8,
@@ -121,19 +123,21 @@ pub(crate) fn prepare<'a>(
     })
 }
 
-/// Stores a file under a name: its blocks are put into the groups, by piece, fragment and point, with the next bytes of the stream,
-/// and then its record is published. Never more than one piece of it stands in memory beside it.
+/// Stores a file under a name: its blocks are put into the groups, by piece, fragment and point,
+/// with the next bytes of the stream, and then its record is published. Never more than one piece
+/// of it stands in memory beside it.
 ///
 /// # Errors
-/// In this order: `TooLong`; `IndexLogFull` and `Exists`, as `Index::reserve`; and the first put that is refused, after which the
-/// name is free again. `NoMemory` comes before anything is logged. `ReservationLost` comes where another pass ended the job's reservation.
+/// In this order: `TooLong`; `IndexLogFull` and `Exists`, as `Index::reserve`; and the first put
+/// that is refused, after which the name is free again. `NoMemory` comes before anything is logged.
+/// `ReservationLost` comes where another pass ended the job's reservation.
 pub fn store_file<A: Archive, R: Wait>(
     connection: &mut Connection<'_, A, R>,
     name: &Name,
     file: &[u8],
     pads: PadStream,
 ) -> Result<Stored, StoreFault>
-    ensures worked { WroteOnlyFor connection.old connection.new }
+    ensures worked { WroteForItsJob connection.old connection.new }
     ensures says { TellsIfOnlyWriter (λ b s w. DrawsFrom s pads b.job file.now
         → StoreRow s b.job name.now file.now result w) connection.old connection.new }
 {

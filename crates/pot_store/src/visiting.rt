@@ -50,7 +50,8 @@ pub fn look_at<A: Archive, R: Wait>(
     }
 }
 
-/// Looks at a place once more, behind a mend of it. It is `Lost` where that gives nothing. None where the log of its group has no room.
+/// Looks at a place once more, behind a mend of it. It is `Lost` where that gives nothing. None
+/// where the log of its group has no room.
 fn look_again<A: Archive, R: Wait>(
     caller: &Caller<'_, A, R>,
     passes: &mut Passes<A>,
@@ -71,8 +72,9 @@ fn look_again<A: Archive, R: Wait>(
     }
 }
 
-/// Mends a place at which a look gave nothing, and looks at it once more where its slot is whole then. It is `Lost` where it can't
-/// be mended, or where that look gives nothing. None where the log of its group has no room.
+/// Mends a place at which a look gave nothing, and looks at it once more where its slot is whole
+/// then. It is `Lost` where it can't be mended, or where that look gives nothing. None where the
+/// log of its group has no room.
 pub fn mend<A: Archive, R: Wait>(
     caller: &Caller<'_, A, R>,
     passes: &mut Passes<A>,

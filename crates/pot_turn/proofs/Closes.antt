@@ -48,7 +48,8 @@ module _ {T E O : Type 0} (log : T → List E) (origin : T → O) (opened : T) w
         away = λ p. absurd (omega (arith, p));
       }
 
-  -- where one pass has all parts, and does not hold the value, the value is at home, the pass has seen its log, and its stretches have each entry that was logged
+  -- where one pass has all parts, and does not hold the value, the value is at home, the pass has
+  -- seen its log, and its stretches have each entry that was logged
   pub record Ended (s : Sight E O) (x : T) : Type 0 where
     pub seen : log x ≡ s.view.seen
     pub since : StartsWith (log x) s.view.opened

@@ -1,5 +1,6 @@
--- The entries of a job are those of the stretches of the passes that carried it.
--- A crate above keeps, for each pass, the entries of its job (`Carries`) and that it logged none of any other (`NoneIn`), by the laws below, one for each call.
+-- The entries of a job are those of the stretches of the passes that carried it. A crate above
+-- keeps, for each pass, the entries of its job (`Carries`) and that it logged none of any other
+-- (`NoneIn`), by the laws below, one for each call.
 use Rattle.std.proofs.Common.{◌≡◌, ℕ, ◌+◌, ◌-◌, ◌<◌, ◌≤◌, Bool, false, List, [], ◌∷◌, ◌++◌, length, take, drop, refl, ap, sym, ◌∙◌, arith, subst, ⊎_elim}
 use Rattle.std.specs.Prelude.{filter, slice_get, Some}
 use Rattle.std.proofs.lemmas.List.{take-append-drop, drop-drop}
@@ -180,7 +181,8 @@ module _ {E O : Type 0} (is_of : E → Bool) (v : View E O) (pass : IsPass v) (e
   carries_other u its grown grown' same none =
       carries_longer (both_views u v) grown' (sym same) (stretches_of u) (λ i. let both = both-times u v i in omega (arith, both)) (none_longer is_of (longer u.seen v.seen) u.seen (stretches_of u) grown (pass_within u its) none)
 
--- The law: where each position since the opening log stands in just one stretch, a job's entries are just those that the passes carry
+-- The law: where each position since the opening log stands in just one stretch, a job's entries
+-- are just those that the passes carry
 pub entries_are_carried : {E O : Type 0} (v : View E O) (log : List E) → log ≡ v.seen → StartsWith log v.opened → IsOnceEach v.opened log (stretches_of v) → EntriesAreCarried v log
 entries_are_carried v log seen begins once is_of entries c =
     let start = length v.opened in

@@ -35,7 +35,8 @@ module _ {V : Type 0} (f : V → ℕ) where
   total_none [] h = refl
   total_none (x ∷ xs) h = let first = h 0 x refl in let rest = total_none xs (λ k v e. h (suc k) v e) in omega (arith, first, rest)
 
-  -- The law of amounts: where an amount goes from one member to another, or to a new one, the sum stays
+  -- The law of amounts: where an amount goes from one member to another, or to a new one, the sum
+  -- stays
   pub record SumStays (views : List V) : Type 0 where
     pub to_another : (j k : ℕ) (u w u' w' : V) → get_elem? views j ≡ some u → get_elem? (set views j u') k ≡ some w → f u' + f w' ≡ f u + f w → total f (set (set views j u') k w') ≡ total f views
     pub to_new : (j : ℕ) (u u' w : V) → get_elem? views j ≡ some u → f u' + f w ≡ f u → total f (set views j u' ++ w ∷ []) ≡ total f views

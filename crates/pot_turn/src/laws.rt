@@ -2,7 +2,8 @@
 ghost use Rattle.pot_turn.specs.JobLaws.{IdleLogsNothing, PartBegins, PartSplits, PartEnters};
 ghost use Rattle.pot_turn.specs.JobLaws.{PartLogs, PartStays, PartsJoin, PartIsAll};
 
-/// What a pass carries of a job over a part of its turns, call by call, and that two passes that carry one part after the other carry both once they are joined.
+/// What a pass carries of a job over a part of its turns, call by call, and that two passes that
+/// carry one part after the other carry both once they are joined.
 pub fn job_laws<E, O>()
     ensures idle { IdleLogsNothing E O }
     ensures begins { PartBegins E O }

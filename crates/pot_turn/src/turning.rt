@@ -14,7 +14,8 @@ use std::marker::Brand;
 use std::snapshot::Snapshot;
 use std::sync::Wait;
 
-/// How often a pass looks for the value before its thread sleeps: a turn is kept for a few microseconds, and to be woken takes longer.
+/// How often a pass looks for the value before its thread sleeps: a turn is kept for a few
+/// microseconds, and to be woken takes longer.
 const LOOKS: u32 = 200;
 
 /// A value that one pass at a time can have.
@@ -24,7 +25,8 @@ pub struct Turn<T: Kept> {
     ghost shape: { (table.shared.table_id.words ≡ 3) × (table.shared.table_id.slots ≡ 1) },
 }
 
-/// The leave to take the value of one turn. It has no bytes, and it may be dropped; but only all 2^62 parts together close the turn.
+/// The leave to take the value of one turn. It has no bytes, and it may be dropped; but only all
+/// 2^62 parts together close the turn.
 #[derive(Drop)]
 pub struct Pass<T: Kept> {
     seat: Seat<Option<T>, Sight<T::Entry, T::Origin>>,
@@ -117,7 +119,8 @@ impl<T: Kept> Turn<T> {
         None
     }
 
-    /// Sleeps while another pass has the value, and is counted meanwhile, so that whoever gives it back wakes one that sleeps.
+    /// Sleeps while another pass has the value, and is counted meanwhile, so that whoever gives it
+    /// back wakes one that sleeps.
     fn sleep<R: Wait>(&self, rt: &R, pass: &mut Pass<T>)
         requires own { IsPassOf self.now pass.old }
         ensures same { turn_of pass.new ≡ turn_of pass.old }
@@ -129,7 +132,8 @@ impl<T: Kept> Turn<T> {
         shared.fetch_sub::<Doze>(&mut pass.seat, 2, 1);
     }
 
-    /// Waits for the value and takes it. Its log begins with all that the pass had seen, and the pass has then seen that log.
+    /// Waits for the value and takes it. Its log begins with all that the pass had seen, and the
+    /// pass has then seen that log.
     pub fn enter<R: Wait>(&self, rt: &R, pass: &mut Pass<T>) -> T
         requires own { IsPassOf self.now pass.old }
         requires idle { (view pass.old).holds ≡ false }
@@ -167,7 +171,8 @@ impl<T: Kept> Turn<T> {
         }
     }
 
-    /// As `split`, with the number of parts as a type too, since a split of a seat takes no operand.
+    /// As `split`, with the number of parts as a type too, since a split of a seat takes no
+    /// operand.
     fn cut<N: Parts>(&self, pass: &mut Pass<T>, parts: u64) -> Pass<T>
         requires own { IsPassOf self.now pass.old }
         requires idle { (view pass.old).holds ≡ false }
@@ -181,7 +186,8 @@ impl<T: Kept> Turn<T> {
         }
     }
 
-    /// A new pass, which has seen what the old one has, and takes these parts of it. It is never refused.
+    /// A new pass, which has seen what the old one has, and takes these parts of it. It is never
+    /// refused.
     pub fn split(&self, pass: &mut Pass<T>, parts: u64) -> Result<Pass<T>, NoMemory>
         requires own { IsPassOf self.now pass.old }
         requires idle { (view pass.old).holds ≡ false }
@@ -195,7 +201,8 @@ impl<T: Kept> Turn<T> {
         Ok(self.cut::<Brand>(pass, parts))
     }
 
-    /// The pass takes in the other, which is spent: it has then seen what either had, and has the parts of both. Its own stretches stay, and those of the other stand beside them.
+    /// The pass takes in the other, which is spent: it has then seen what either had, and has the
+    /// parts of both. Its own stretches stay, and those of the other stand beside them.
     pub fn join(&self, pass: &mut Pass<T>, other: Pass<T>)
         requires own { IsPassOf self.now pass.old }
         requires idle { (view pass.old).holds ≡ false }
@@ -215,7 +222,10 @@ impl<T: Kept> Turn<T> {
         shared.load::<Look>(&mut pass.seat, 0);
     }
 
-    /// Ends the turn with the pass that has all parts, and hands out the value. Every other pass is spent, so this one has seen the whole log, and each entry since `new` stands in just one of its stretches. Where no pass ever took the value, it is the very one that the turn was made with.
+    /// Ends the turn with the pass that has all parts, and hands out the value. Every other pass is
+    /// spent, so this one has seen the whole log, and each entry since `new` stands in just one of
+    /// its stretches. Where no pass ever took the value, it is the very one that the turn was made
+    /// with.
     pub fn close(self, pass: Pass<T>) -> T
         requires own { IsPassOf self pass }
         requires idle { (view pass).holds ≡ false }

@@ -1,11 +1,12 @@
-//! The line in which jobs wait to be taken, under a rule: each position stands in it or was taken, once.
+//! The line in which jobs wait to be taken, under a rule: each position stands in it or was taken,
+//! once.
 use crossbeam_queue::protocol::{Join, Lesson, Outcome, Protocol, Split};
 use crossbeam_queue::{Pass, RuledArrayQueue};
 use std::collections::LinkedList;
 use std::marker::PhantomData;
 
-/// What a worker knows: its parts, the jobs in line from the beginning, and the positions that it took.
-/// No value of it is made.
+/// What a worker knows: its parts, the jobs in line from the beginning, and the positions that it
+/// took. No value of it is made.
 pub struct Hand<J> {
     pub parts: u64,
     pub jobs: LinkedList<J>,

@@ -1,16 +1,17 @@
 //! Workers: jobs that are worked at once, on threads, and come back in their order.
 //!
-//! A batch of jobs stands in a line (claims.rt). Each worker takes the next position of the line, works
-//! its job between the two calls of the gate, and goes on until the line is empty.
+//! A batch of jobs stands in a line (claims.rt). Each worker takes the next position of the line,
+//! works its job between the two calls of the gate, and goes on until the line is empty.
 //!
 //! Invariants, each kept by what it names:
-//! 1. each position stands in the line or was taken, once (`Claims`, the rule of the line), so whichever
-//!    worker took which, every job is worked once;
+//! 1. each position stands in the line or was taken, once (`Claims`, the rule of the line), so
+//!    whichever worker took which, every job is worked once;
 //! 2. what a worker finished is the work of just the positions that it took (`work_until_empty`);
 //! 3. a place has the job of its position, worked, once that position was taken (`dismiss`);
 //! 4. all memory is taken before the first job begins (`take_rooms`).
 //!
-//! Nothing is promised of which worker takes a job, of when, or that two jobs are ever worked at once.
+//! Nothing is promised of which worker takes a job, of when, or that two jobs are ever worked at
+//! once.
 #![tactic(auto)]
 
 ghost use Rattle.std.specs.Prelude.{◌≡◌, ◌<◌, ◌^◌, length, IfOk, IfErr};
@@ -51,9 +52,9 @@ pub struct JobsRefused<J> {
     pub jobs: Vec<J>,
 }
 
-/// Works the jobs on so many workers. Each job's work is called once, between the gate's two calls for its
-/// position, and the jobs come back in their order. Where a thread can't be started, its worker's jobs are
-/// worked by the caller's.
+/// Works the jobs on so many workers. Each job's work is called once, between the gate's two calls
+/// for its position, and the jobs come back in their order. Where a thread can't be started, its
+/// worker's jobs are worked by the caller's.
 ///
 /// # Errors
 /// `JobsRefused` only for want of memory, before any job began.

@@ -155,7 +155,8 @@ fn work_on_threads<J: Job + Send + Drop, W: Gate, R: Threads + Wait + Sync>(
     );
 }
 
-/// Works what no worker took, which is nothing, and puts it at its place: then each place has its job.
+/// Works what no worker took, which is nothing, and puts it at its place: then each place has its
+/// job.
 fn work_what_is_left<J: Job + Drop, W: Gate, R: Wait>(
     rt: &R,
     line: &Line<J>,

@@ -1,16 +1,19 @@
 //! What a job does under its passes of one turn, said without the schedule.
 //!
-//! A pass knew v, and later it knows w. Three words say what happened in between, and none of them names another thread:
+//! A pass knew v, and later it knows w. Three words say what happened in between, and none of them
+//! names another thread:
 //!
-//! 1. `WroteOnlyFor`: what is certain whatever others did. The log that the pass has seen went on, and each entry in a stretch of
-//!    its own since is its job's.
-//! 2. `OnlyWriterOf`: no other pass logged an entry of the job meanwhile. Nobody knows it before the turn is closed. All that is
-//!    promised of a job's own entries is promised where the job was `OnlyWriterOf`; they are then those of its calls, in order.
-//! 3. `Extends` and `OnlyWriter`: the same of commands in a row, of which each is one job or a batch of jobs with passes of their
-//!    own. At the close the pass that is left was `OnlyWriter`, so each job of each command was `OnlyWriterOf`.
+//! 1. `WroteOnlyFor`: what is certain whatever others did. The log that the pass has seen went on,
+//!    and each entry in a stretch of its own since is its job's.
+//! 2. `OnlyWriterOf`: no other pass logged an entry of the job meanwhile. Nobody knows it before
+//!    the turn is closed. All that is promised of a job's own entries is promised where the job was
+//!    `OnlyWriterOf`; they are then those of its calls, in order.
+//! 3. `Extends` and `OnlyWriter`: the same of commands in a row, of which each is one job or a
+//!    batch of jobs with passes of their own. At the close the pass that is left was `OnlyWriter`,
+//!    so each job of each command was `OnlyWriterOf`.
 //!
-//! It is laws alone and has no code: `work_laws` for a job and a batch, `sole_laws` for commands in a row. How entries tell
-//! their job is a parameter.
+//! It is laws alone and has no code: `work_laws` for a job and a batch, `sole_laws` for commands in
+//! a row. How entries tell their job is a parameter.
 #![tactic(auto)]
 
 ghost use Rattle.pot_worked.specs.Laws.{WorkGoesOn, WorkInParts, OnlyWriterOfInParts, OwnInTurn};
@@ -19,7 +22,8 @@ ghost use Rattle.pot_worked.specs.Batches.{OnlyWriterOfInBatch, OwnedInBatch};
 ghost use Rattle.pot_worked.specs.OnlyWriter.{WorkExtends, ExtendsInParts, GainInParts, OnlyWriterInParts, OnlyWriterOfAny};
 ghost use Rattle.pot_worked.specs.OnlyWriter.{OnlyWriterOwns, BatchExtends, OnlyWriterAtClose};
 
-/// The laws of a job's work: of one locked call, of part after part, of a pass that only sees more, at a close, and of the jobs of a batch.
+/// The laws of a job's work: of one locked call, of part after part, of a pass that only sees more,
+/// at a close, and of the jobs of a batch.
 pub fn work_laws<E, O>()
     ensures goes_on { WorkGoesOn E O }
     ensures whole { WorkInParts E O }

@@ -30,7 +30,8 @@ pub fn drill<X: Threads + Wait + Sync>(
     Ok(ran.status)
 }
 
-// Tells what the first line of a drill says: `explained LEN PIECES BLOCKS`, or `exposed HIDDEN HAVE NEED`.
+// Tells what the first line of a drill says: `explained LEN PIECES BLOCKS`, or `exposed HIDDEN HAVE
+// NEED`.
 fn tell_drill(visit: &Visit, text: &str) -> Result<(), Stop> {
     let mut words = text.lines().next().unwrap_or("").split(' ');
     let explained = words.next() == Some("explained");

@@ -80,7 +80,8 @@ impl Waiting {
         }
     }
 
-    // Lets a file wait, or fetches it at once where it is in parts. Answers whether all that was fetched is there.
+    // Lets a file wait, or fetches it at once where it is in parts. Answers whether all that was
+    // fetched is there.
     fn take<X: Threads + Wait + Sync>(
         &mut self,
         turns: &X,
@@ -249,7 +250,8 @@ fn fetch_joined<X: Threads + Wait + Sync>(
     }
 }
 
-// The bytes of stored files, in their order. In place of one that is refused, which is told, there is none.
+// The bytes of stored files, in their order. In place of one that is refused, which is told, there
+// is none.
 fn fetched<X: Threads + Wait + Sync>(
     turns: &X,
     visit: &mut Visit,

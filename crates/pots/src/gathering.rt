@@ -35,7 +35,8 @@ impl Gathered {
         }
     }
 
-    /// Adds a file, and first holds a session where there would be too much for one. Answers whether nothing was refused.
+    /// Adds a file, and first holds a session where there would be too much for one. Answers
+    /// whether nothing was refused.
     pub fn add<X: Threads + Wait + Sync>(
         &mut self,
         turns: &X,
@@ -74,7 +75,8 @@ impl Gathered {
     }
 }
 
-// Tells of each file what came of it, of parts alone by the list of parts. Answers whether nothing was refused.
+// Tells of each file what came of it, of parts alone by the list of parts. Answers whether nothing
+// was refused.
 fn tell_stored(visit: &Visit, names: &[Name], replies: &[Reply]) -> Result<bool, Stop> {
     let mut good = true;
     for (name, reply) in names.iter().zip(replies.iter()) {

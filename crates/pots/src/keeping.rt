@@ -16,8 +16,8 @@ const KEPT: usize = 10;
 /// How many names beside a file are tried.
 const TRIES: u32 = 100;
 
-/// Writes a file under a name that is free beside it, brings it to the disk, and then gives it its name. Where there is a
-/// file of that name it stays as it is, unless it may be replaced.
+/// Writes a file under a name that is free beside it, brings it to the disk, and then gives it its
+/// name. Where there is a file of that name it stays as it is, unless it may be replaced.
 pub fn put_file(rt: &HostRuntime, path: &str, bytes: &[u8], may_replace: bool) -> io::Result<()> {
     let (file, beside) = open_beside(rt, path)?;
     let done = match fill(&file, bytes) {
@@ -30,7 +30,8 @@ pub fn put_file(rt: &HostRuntime, path: &str, bytes: &[u8], may_replace: bool) -
     done
 }
 
-// A new file beside the path, under a number that no standard stream has. What is there under such a name stays as it is.
+// A new file beside the path, under a number that no standard stream has. What is there under such
+// a name stays as it is.
 fn open_beside(rt: &HostRuntime, path: &str) -> io::Result<(File, String)> {
     let mut how = OpenOptions::new();
     how.write(true).create_new(true);
@@ -80,7 +81,8 @@ fn settle(rt: &HostRuntime, beside: &str, path: &str, may_replace: bool) -> io::
     sync_folder_of(rt, path)
 }
 
-// Gives the file a name that no file has. Where the file system has no links, whether there is one is looked at first.
+// Gives the file a name that no file has. Where the file system has no links, whether there is one
+// is looked at first.
 fn name_once(rt: &HostRuntime, beside: &str, path: &str) -> io::Result<()> {
     match fs::hard_link(rt, beside, path) {
         Ok(()) => fs::remove_file(rt, beside),
@@ -102,7 +104,8 @@ pub fn sync_folder_of(rt: &HostRuntime, path: &str) -> io::Result<()> {
     fs::open(rt, folder)?.sync_all()
 }
 
-/// Keeps an image of the desk as `desk-NNNN.bak`, by the number of the session that wrote it, and forgets those before the last ten.
+/// Keeps an image of the desk as `desk-NNNN.bak`, by the number of the session that wrote it, and
+/// forgets those before the last ten.
 pub fn keep_image(visit: &Visit, session: u32, image: &[u8]) -> Result<(), Stop> {
     let rt = &visit.rt;
     let name = kept_name(visit, session)?;
@@ -119,7 +122,8 @@ fn kept_name(visit: &Visit, session: u32) -> Result<String, Stop> {
     Ok(format!(in visit.alloc(); "desk-{session:04}.bak")?)
 }
 
-// Forgets images but for ten: first those of later sessions, from before the desk was put back, and then the oldest.
+// Forgets images but for ten: first those of later sessions, from before the desk was put back, and
+// then the oldest.
 fn forget_images(visit: &Visit, session: u32) -> Result<(), Stop> {
     let mut kept = kept_sessions(visit, session)?;
     kept.sort()?;
@@ -131,7 +135,8 @@ fn forget_images(visit: &Visit, session: u32) -> Result<(), Stop> {
     Ok(())
 }
 
-// The sessions of the images that are kept, each with whether it is no later than this one. A folder that cannot be listed has none.
+// The sessions of the images that are kept, each with whether it is no later than this one. A
+// folder that cannot be listed has none.
 fn kept_sessions(visit: &Visit, session: u32) -> Result<Vec<(bool, u32)>, Stop> {
     let mut kept = Vec::new(visit.alloc());
     let Ok(folder) = fs::read_dir(&visit.rt, ".") else {

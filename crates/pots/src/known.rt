@@ -41,7 +41,8 @@ impl Known {
         Room::left(alloc, &self.image)
     }
 
-    /// Takes the room of what is still to be stored of a file of this name and length. Answers whether there was so much.
+    /// Takes the room of what is still to be stored of a file of this name and length. Answers
+    /// whether there was so much.
     pub fn take_room(&self, room: &mut Room, name: &Name, length: u64) -> bool {
         let in_parts = length > PART_SIZE as u64;
         match self.kept(name) {

@@ -50,8 +50,8 @@ fn parsed(visit: &Visit, bytes: &[u8]) -> Result<Image, Stop> {
     }
 }
 
-/// The desk's image, once all archives are there of which it speaks, or of those that are not it was asked to go on without
-/// them. Before the first session the image is kept as it is.
+/// The desk's image, once all archives are there of which it speaks, or of those that are not it
+/// was asked to go on without them. Before the first session the image is kept as it is.
 pub fn image_for_session(visit: &mut Visit) -> Result<Image, Stop> {
     let bytes = image_bytes(visit)?;
     let image = parsed(visit, &bytes)?;
@@ -81,8 +81,8 @@ pub fn look_at(rt: &HostRuntime, holding: &Holding) -> Result<Standing, AllocErr
     }
 }
 
-// Ends the command where archives are missing or too short that it was not asked to go on without, or where no session can begin
-// without one.
+// Ends the command where archives are missing or too short that it was not asked to go on without,
+// or where no session can begin without one.
 fn look_at_archives(visit: &Visit, image: &Image) -> Result<(), Stop> {
     look_at_links(visit)?;
     let mut list = String::new(visit.alloc());
@@ -101,7 +101,8 @@ fn look_at_archives(visit: &Visit, image: &Image) -> Result<(), Stop> {
     Err(visit.refuse(8, line.as_str()))
 }
 
-// Ends the command where archives that it was asked to go on without are links that lead nowhere: no session makes their files.
+// Ends the command where archives that it was asked to go on without are links that lead nowhere:
+// no session makes their files.
 fn look_at_links(visit: &Visit) -> Result<(), Stop> {
     let mut links = String::new(visit.alloc());
     for number in visit.without.iter() {

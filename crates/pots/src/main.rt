@@ -1,8 +1,8 @@
-//! The program for people who keep things in an archive: it turns their words into a script, holds a session, and tells what came of it
-//! in lines.
+//! The program for people who keep things in an archive: it turns their words into a script, holds
+//! a session, and tells what came of it in lines.
 //!
-//! It works in the folder in which it is started. What a session does is the contract of `run`; of what this program writes and prints
-//! nothing is claimed but safety.
+//! It works in the folder in which it is started. What a session does is the contract of `run`; of
+//! what this program writes and prints nothing is claimed but safety.
 #![tactic(auto)]
 
 mod answering;

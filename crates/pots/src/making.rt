@@ -28,7 +28,8 @@ pub fn init<X: Threads + Wait + Sync>(
     Ok(0)
 }
 
-// Ends the command where an archive of this folder has blocks: a new desk would let them be written over.
+// Ends the command where an archive of this folder has blocks: a new desk would let them be written
+// over.
 fn look_for_archives(visit: &Visit) -> Result<(), Stop> {
     for number in 0..MOST_ARCHIVES {
         let name = archive_name(visit.alloc(), number)?;

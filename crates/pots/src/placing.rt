@@ -83,7 +83,8 @@ fn target_of(visit: &Visit, folder: &str, name: &str) -> Result<String, Stop> {
     }
 }
 
-// The archive as it is is copied, or an empty one made where there is none; then a link takes its place.
+// The archive as it is is copied, or an empty one made where there is none; then a link takes its
+// place.
 fn copy_and_link(rt: &HostRuntime, name: &str, target: &str) -> io::Result<()> {
     let bytes = match fs::read(rt, name) {
         Ok(bytes) => bytes,
@@ -101,7 +102,8 @@ fn copy_and_link(rt: &HostRuntime, name: &str, target: &str) -> io::Result<()> {
     sync_folder_of(rt, name)
 }
 
-// Makes a link, in the place of one that a command left which was stopped before it gave the link its name.
+// Makes a link, in the place of one that a command left which was stopped before it gave the link
+// its name.
 fn make_link(rt: &HostRuntime, target: &str, link: &str) -> io::Result<()> {
     if is_link(rt, link) {
         fs::remove_file(rt, link)?;

@@ -149,7 +149,8 @@ fn first_blur(visit: &Visit, archives: u32) -> Result<u32, Stop> {
     ))
 }
 
-// The blur of the first shard of an archive: a slot is 1 and its block, and a shard begins with PSH1, x, m, n and the blur.
+// The blur of the first shard of an archive: a slot is 1 and its block, and a shard begins with
+// PSH1, x, m, n and the blur.
 fn blur_in(file: &File) -> Option<u32> {
     let mut front = [0u8; 9];
     for slot in 0..MOST_SLOTS {
@@ -161,7 +162,8 @@ fn blur_in(file: &File) -> Option<u32> {
     None
 }
 
-// Writes what was found: files in parts joined under their names, and others under their ids. Answers whether all is whole.
+// Writes what was found: files in parts joined under their names, and others under their ids.
+// Answers whether all is whole.
 fn write_all(visit: &Visit, folder: &str, found: Vec<Found>) -> Result<bool, Stop> {
     let mut pieces = with_digests(visit, found)?;
     let mut good = true;
@@ -194,7 +196,8 @@ fn with_digests(visit: &Visit, found: Vec<Found>) -> Result<Vec<Piece>, Stop> {
     Ok(pieces)
 }
 
-// The lists of parts among the files. One that was split anew is found once for each split, and counts once.
+// The lists of parts among the files. One that was split anew is found once for each split, and
+// counts once.
 fn lists_in(visit: &Visit, pieces: &[Piece]) -> Result<Vec<Manifest>, Stop> {
     let mut lists = Vec::new(visit.alloc());
     for (at, piece) in pieces.iter().enumerate() {
@@ -211,7 +214,8 @@ fn lists_in(visit: &Visit, pieces: &[Piece]) -> Result<Vec<Manifest>, Stop> {
     Ok(lists)
 }
 
-// Joins the parts of a file, where all are there, and writes it under its name. Answers whether it is written.
+// Joins the parts of a file, where all are there, and writes it under its name. Answers whether it
+// is written.
 fn write_joined(
     visit: &Visit,
     folder: &str,

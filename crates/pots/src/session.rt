@@ -44,8 +44,8 @@ pub fn hold<X: Threads + Wait + Sync>(
 /// How many commands are worked side by side at most.
 pub const MOST_TOGETHER: usize = 1024;
 
-/// Holds a session that works these commands side by side, where there are several, and answers their replies in order. Where there
-/// are none it holds no session.
+/// Holds a session that works these commands side by side, where there are several, and answers
+/// their replies in order. Where there are none it holds no session.
 pub fn hold_together<X: Threads + Wait + Sync>(
     turns: &X,
     visit: &mut Visit,

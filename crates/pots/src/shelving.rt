@@ -44,7 +44,8 @@ impl Gone {
         self.idle = self.idle.saturating_add(u64::from(holding.idle));
     }
 
-    /// Tells how many of those that are to be mended are left, and what to do. Answers whether there are any.
+    /// Tells how many of those that are to be mended are left, and what to do. Answers whether
+    /// there are any.
     pub fn tell_left(&self, rt: &HostRuntime) -> bool {
         if self.to_mend > 0 {
             tell_stuck(rt, self.to_mend);

@@ -9,8 +9,8 @@ const NO_MEMORY: u8 = 70;
 /// The exit status where standard output could not be written.
 const SINK_FAULT: u8 = 5;
 
-/// The exit status where nobody reads standard output any more, and nothing else went wrong: that of a program which the system's signal
-/// for it, number 13, has ended.
+/// The exit status where nobody reads standard output any more, and nothing else went wrong: that
+/// of a program which the system's signal for it, number 13, has ended.
 pub const UNREAD: u8 = 141;
 
 /// Why a command ended early.

@@ -146,7 +146,8 @@ fn readable_name(visit: &Visit, path: &str, text: &str) -> Result<Name, Stop> {
     }
 }
 
-// A name that looks like the text. It begins with no hyphen, as an option does, and does not end as that of a part.
+// A name that looks like the text. It begins with no hyphen, as an option does, and does not end as
+// that of a part.
 fn close_name(alloc: Global, text: &str) -> Result<String, Stop> {
     let mut name = String::new(alloc);
     for byte in text.bytes().take(58) {
@@ -256,7 +257,8 @@ fn store_long<X: Threads + Wait + Sync>(
     Ok(added(is_added))
 }
 
-// Stores the parts of a file that are not there yet. Its list of parts comes last, in a session of its own.
+// Stores the parts of a file that are not there yet. Its list of parts comes last, in a session of
+// its own.
 fn store_parts<X: Threads + Wait + Sync>(
     turns: &X,
     visit: &mut Visit,
@@ -278,7 +280,8 @@ fn store_parts<X: Threads + Wait + Sync>(
     Ok(Outcome::Good)
 }
 
-// Stores a part, unless it is there already: of this file, or of another of its name that was not stored to its end.
+// Stores a part, unless it is there already: of this file, or of another of its name that was not
+// stored to its end.
 fn store_part<X: Threads + Wait + Sync>(
     turns: &X,
     visit: &mut Visit,

@@ -58,7 +58,8 @@ impl Visit {
         self.printed(self.rt.println(line))
     }
 
-    /// Prints a text as it is. Where nobody reads standard output any more the command goes on to its end.
+    /// Prints a text as it is. Where nobody reads standard output any more the command goes on to
+    /// its end.
     pub fn print<D: Display + Drop>(&self, text: D) -> Result<(), Stop> {
         self.printed(self.rt.print(text))
     }
@@ -74,7 +75,8 @@ impl Visit {
         }
     }
 
-    /// The exit status of a command that came to this one. Where all went well but nobody read what was printed, it is another.
+    /// The exit status of a command that came to this one. Where all went well but nobody read what
+    /// was printed, it is another.
     pub fn status(&self, status: u8) -> u8 {
         if status == 0 && self.unread.get() {
             UNREAD

@@ -1,7 +1,7 @@
 //! The program: it draws a seed, makes the real objects and calls `run` with them, once.
 //!
-//! Nothing is decided here but the status where no seed or no memory for the words is had. What a call does is the contract
-//! of `run`, and what the real objects promise that of their own types.
+//! Nothing is decided here but the status where no seed or no memory for the words is had. What a
+//! call does is the contract of `run`, and what the real objects promise that of their own types.
 #![tactic(auto)]
 
 #[cfg(test)]
@@ -21,8 +21,8 @@ const SOURCE_FAULT: u8 = 4;
 /// The exit status where memory ran out.
 const NO_MEMORY: u8 = 70;
 
-/// The words after the program's name. Where one is not UTF-8 there are none, which `run` refuses as it
-/// refuses all words that spell no task.
+/// The words after the program's name. Where one is not UTF-8 there are none, which `run` refuses
+/// as it refuses all words that spell no task.
 fn words(rt: &HostRuntime) -> Option<Vec<String>> {
     match env::args(rt) {
         Ok(all) => all.skip(1).collect::<Vec<String>>(rt.alloc()).ok(),

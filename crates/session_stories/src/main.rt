@@ -1,8 +1,11 @@
-//! Stories of sessions: calls of the program over objects in memory, told side by side with what came of them.
+//! Stories of sessions: calls of the program over objects in memory, told side by side with what
+//! came of them.
 //!
-//! It reads stories from standard input and prints each line as it was read, with what came of a step below it. A story makes calls, lets calls
-//! of objects fail, loses and alters blocks, changes the desk's image, and looks at what is there. `docs/HACKING.md` tells how one is written.
-//! Nothing is decided here: a story says what is done, and the text that is wanted comes from elsewhere.
+//! It reads stories from standard input and prints each line as it was read, with what came of a
+//! step below it. A story makes calls, lets calls of objects fail, loses and alters blocks, changes
+//! the desk's image, and looks at what is there. `docs/HACKING.md` tells how one is written.
+//! Nothing is decided here: a story says what is done, and the text that is wanted comes from
+//! elsewhere.
 #![tactic(auto)]
 
 mod blocks;
@@ -32,7 +35,8 @@ use std::thread::Threads;
 use story::tell_in_turn;
 use told::Told;
 
-/// The places at which stories begin, and that of the end. What is said directly above a title belongs to its story.
+/// The places at which stories begin, and that of the end. What is said directly above a title
+/// belongs to its story.
 fn starts_of(alloc: Global, lines: &[&str]) -> Result<Vec<usize>, AllocError> {
     let mut starts = Vec::new(alloc);
     let mut above = None;

@@ -16,7 +16,8 @@ use std::thread::Threads;
 /// One more than the greatest number of an archive.
 pub const ARCHIVES: u32 = 512;
 
-/// The calls that fail, of each object whose calls are numbered from the story's beginning, and the blocks that get lost.
+/// The calls that fail, of each object whose calls are numbered from the story's beginning, and the
+/// blocks that get lost.
 #[derive(Drop)]
 pub struct Troubles {
     pub room: Vec<u32>,
@@ -47,7 +48,8 @@ pub fn list_calls(fails: &mut Vec<u32>, first: u32, count: u32) -> Result<(), Al
 }
 
 impl Troubles {
-    /// Lists so many calls of the room, or of an archive, from one on, as the words behind `fail` or `stop` say.
+    /// Lists so many calls of the room, or of an archive, from one on, as the words behind `fail`
+    /// or `stop` say.
     pub fn list(&mut self, words: &str, count: u32) -> Result<(), Fault> {
         match words.split_once(' ') {
             Some(("room", call)) => list_calls(&mut self.room, number_of(call)?, count)?,

@@ -75,7 +75,8 @@ fn tell_item(alloc: Global, item: &Item, told: &mut Told) -> Result<(), Fault> {
     }
 }
 
-/// Tells what was written. There are fewer items than bytes, but for a file at the end of which nothing is left.
+/// Tells what was written. There are fewer items than bytes, but for a file at the end of which
+/// nothing is left.
 pub fn tell_written(alloc: Global, written: &[u8], told: &mut Told) -> Result<(), Fault> {
     let mut rest = written;
     let mut file = None;

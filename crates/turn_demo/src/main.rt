@@ -1,6 +1,8 @@
-//! Four authors write numbered lines into one book, each in a thread of its own and each line in a turn.
+//! Four authors write numbered lines into one book, each in a thread of its own and each line in a
+//! turn.
 //!
-//! Whatever the schedule, the book then has each author's lines, once and in their order. What is printed tells that, and not how the turns fell.
+//! Whatever the schedule, the book then has each author's lines, once and in their order. What is
+//! printed tells that, and not how the turns fell.
 #![tactic(auto)]
 
 mod book;

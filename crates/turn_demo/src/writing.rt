@@ -87,7 +87,8 @@ fn write_two<R: Threads + Wait + Sync>(
     Some(mine)
 }
 
-/// Four authors write, each in a thread of its own. Where there is memory for all their lines, the book has each author's, once and in their order, and no others.
+/// Four authors write, each in a thread of its own. Where there is memory for all their lines, the
+/// book has each author's, once and in their order, and no others.
 pub fn write_four<R: Threads + Wait + Sync>(rt: &R, alloc: Global, count: u32) -> Option<Book>
     ensures lines { IfSome result (λ b. (author : ℕ) → author < 4
         → filter (by author) b.lines.items ≡ lines_of author count) }

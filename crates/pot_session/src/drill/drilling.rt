@@ -25,10 +25,12 @@ use pot_veil::{DrillFault, DrillReport, drill};
 use pot_words::Drill;
 use std::alloc::{AllocError, Global};
 
-/// The most bytes that two files take with their length: its six digits, twice 884,736 bytes, and three LF.
+/// The most bytes that two files take with their length: its six digits, twice 884,736 bytes, and
+/// three LF.
 const LONGEST_PAIR: usize = 1_769_481;
 
-/// The random bytes of a store of a file of this length, from the first on: those of session 0 and job 0.
+/// The random bytes of a store of a file of this length, from the first on: those of session 0 and
+/// job 0.
 fn random_of(
     alloc: Global,
     geometry: &Geometry,
@@ -116,7 +118,8 @@ fn drill_pair(
 /// Reads two files from the source, and drills them.
 ///
 /// # Errors
-/// `SourceFault` only where the source's count of faults rose. `BadLine` where it does not have two files.
+/// `SourceFault` only where the source's count of faults rose. `BadLine` where it does not have two
+/// files.
 fn drill_source<S: Source>(
     alloc: Global,
     task: &Drill,
@@ -146,7 +149,8 @@ fn drill_source<S: Source>(
     }
 }
 
-/// Drills the two files of the source, and writes what is told of them. Where the words give no seed it is the drawn one.
+/// Drills the two files of the source, and writes what is told of them. Where the words give no
+/// seed it is the drawn one.
 pub(crate) fn drill_files<S: Source, K: Sink>(
     alloc: Global,
     task: &Drill,

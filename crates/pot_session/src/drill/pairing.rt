@@ -1,5 +1,5 @@
-//! Two files of one length, as the source of a drill has them: their length in decimal digits, and then each of them, with LF after
-//! the length and after each.
+//! Two files of one length, as the source of a drill has them: their length in decimal digits, and
+//! then each of them, with LF after the length and after each.
 
 ghost use Rattle.std.specs.Prelude.{MatchOption};
 ghost use Rattle.pot_session.specs.Drills.{ArePair, IsNoPair};

@@ -10,7 +10,8 @@ use pot_commands::write_out;
 use pot_outside::{Failed, Sink};
 use std::alloc::Global;
 
-/// Writes the text of a stop, and answers its status, or that the sink failed, or that memory ran out.
+/// Writes the text of a stop, and answers its status, or that the sink failed, or that memory ran
+/// out.
 pub(crate) fn refuse<K: Sink>(alloc: Global, stop: Stop, sink: &mut K) -> Status
     ensures told { Refuses (transition K.account sink.old sink.new) stop result }
     ensures cause { Faults K.account sink.old sink.new (result ≡ Status.SinkFault) }

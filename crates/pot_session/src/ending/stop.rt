@@ -15,7 +15,8 @@ pub enum Stop {
     Words,
     /// The source failed.
     SourceFault,
-    /// The script leaves its grammar at this line; 0 where it is too long, or the source of a drill has no two files of one length.
+    /// The script leaves its grammar at this line; 0 where it is too long, or the source of a drill
+    /// has no two files of one length.
     BadLine { number: u32 },
     /// The desk failed.
     DeskFault,

@@ -1,5 +1,6 @@
-//! What `recover` writes of the objects that it found. It is written line by line and part by part, so no second copy of the files is made:
-//! the longest text in memory is one line, of fewer than 64 bytes.
+//! What `recover` writes of the objects that it found. It is written line by line and part by part,
+//! so no second copy of the files is made: the longest text in memory is one line, of fewer than 64
+//! bytes.
 
 ghost use Rattle.std.specs.Prelude.{◌≡◌, ◌<◌, ◌≤◌, ◌++◌, ℕ, List, IfOk, OnOk, IsErrOf};
 ghost use Rattle.std.specs.Prelude.{codes, length, take, flat_map, not, is_some};
@@ -313,7 +314,8 @@ fn put_file<K: Sink>(
     }
 }
 
-/// Writes the file of the object at this place where it is the first of its file. Answers whether a piece is missing.
+/// Writes the file of the object at this place where it is the first of its file. Answers whether a
+/// piece is missing.
 fn put_first<K: Sink>(
     alloc: Global,
     found: &Recovered,
@@ -372,8 +374,9 @@ fn put_listing<K: Sink>(alloc: Global, found: &Recovered, sink: &mut K) -> Resul
     }
 }
 
-/// Lists objects that were found, and the files that they give: the number of objects, a line for each in byte order, and in the order of
-/// their first objects each file whose pieces are all there, or the least piece that is missing.
+/// Lists objects that were found, and the files that they give: the number of objects, a line for
+/// each in byte order, and in the order of their first objects each file whose pieces are all
+/// there, or the least piece that is missing.
 pub(crate) fn list_objects<K: Sink>(alloc: Global, found: &Recovered, sink: &mut K) -> Status
     requires { (object : List ℕ) → IsIn found.now object → IsSomeObject object }
     ensures lists { Lists (transition K.account sink.old sink.new) found.now

@@ -94,7 +94,8 @@ fn first_fault(read: Result<(), RoomFault>, given: Result<(), Failed>) -> Result
 /// Takes an archive, reads its first slots, and gives it back whatever became of that.
 ///
 /// # Errors
-/// `Failed` only where the room itself failed or the archive did. The room's count of faults rises for both.
+/// `Failed` only where the room itself failed or the archive did. The room's count of faults rises
+/// for both.
 fn read_archive<R: Room>(
     room: &mut R,
     number: u32,
@@ -130,7 +131,8 @@ fn read_archive<R: Room>(
     }
 }
 
-/// The blocks of the first slots of the first archives. Each archive is taken, read and given back, one after another.
+/// The blocks of the first slots of the first archives. Each archive is taken, read and given back,
+/// one after another.
 ///
 /// # Errors
 /// `Failed` only where the room itself failed or one of the archives did.
@@ -221,8 +223,8 @@ fn find_objects<R: Room>(alloc: Global, task: &Recover, room: &mut R) -> Result<
 
 /// Recovers what the first archives hold in their first slots, and lists it.
 ///
-/// The blocks are read once and not copied: they take 1,024 bytes each, in one vector that doubles as it grows, until the objects are
-/// found.
+/// The blocks are read once and not copied: they take 1,024 bytes each, in one vector that doubles
+/// as it grows, until the objects are found.
 pub(crate) fn recover_files<K: Sink, R: Room>(
     alloc: Global,
     task: &Recover,

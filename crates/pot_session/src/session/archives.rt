@@ -69,10 +69,12 @@ fn least_place<A>(shelves: &[Shelf<A>]) -> usize
     least
 }
 
-/// Gives archives back that are out, in ascending number. Each is tried, whatever became of those before.
+/// Gives archives back that are out, in ascending number. Each is tried, whatever became of those
+/// before.
 ///
 /// # Errors
-/// `Failed` exactly where the room itself failed at one of them. No archive is out then either, and those at which it did not fail are as they were.
+/// `Failed` exactly where the room itself failed at one of them. No archive is out then either, and
+/// those at which it did not fail are as they were.
 pub(crate) fn give_all<R: Room>(room: &mut R, hand: &mut Vec<Shelf<R::A>>) -> Result<(), Failed>
     requires { AreOut (R.meaning room.old) (numbers_of hand.old.items) }
     ensures home { IsHome (R.meaning room.new) }

@@ -30,12 +30,13 @@ pub(crate) struct Opened<A: Archive> {
     pub remains: Remains<A>,
 }
 
-/// Closes a session: ends its vault, gives all archives back, and puts the image of the close in the place of the desk's. Each is
-/// tried, whatever became of those before.
+/// Closes a session: ends its vault, gives all archives back, and puts the image of the close in
+/// the place of the desk's. Each is tried, whatever became of those before.
 ///
 /// # Errors
-/// The first failure: `RoomFault` exactly where the room itself failed at an archive, `DeskFault` only where the desk's count of faults rose,
-/// or `NoMemory`. No archive is out then either, and those at which the room did not fail are in it.
+/// The first failure: `RoomFault` exactly where the room itself failed at an archive, `DeskFault`
+/// only where the desk's count of faults rose, or `NoMemory`. No archive is out then either, and
+/// those at which the room did not fail are in it.
 pub(crate) fn close_session<R: Room, D: Desk>(
     alloc: Global,
     opened: Opened<R::A>,

@@ -1,4 +1,5 @@
-//! What stands before the steps of a session: its image, its script, and the image with which it begins.
+//! What stands before the steps of a session: its image, its script, and the image with which it
+//! begins.
 
 ghost use Rattle.std.specs.Prelude.{◌≡◌, [], IsTrue, IfOk, OnOk, IfErr, IsErrOf};
 ghost use Rattle.pot_outside.specs.Accounts.{Faults, transition};
@@ -19,7 +20,8 @@ pub(crate) struct Prepared {
     pub steps: Vec<Step>,
 }
 
-/// Reads the desk's image and the script, and puts the image with which the session begins in the place of the desk's.
+/// Reads the desk's image and the script, and puts the image with which the session begins in the
+/// place of the desk's.
 ///
 /// # Errors
 /// The first cause why the session does not begin.

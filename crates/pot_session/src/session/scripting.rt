@@ -14,7 +14,8 @@ use std::alloc::Global;
 /// Reads the source to its end, and the steps before `quit`.
 ///
 /// # Errors
-/// `SourceFault` only where the source's count of faults rose. `BadLine` has the number of the first line that leaves the grammar.
+/// `SourceFault` only where the source's count of faults rose. `BadLine` has the number of the
+/// first line that leaves the grammar.
 pub(crate) fn read_steps<S: Source>(
     alloc: Global,
     rack: &Rack,

@@ -38,7 +38,8 @@ use std::alloc::Global;
 use std::sync::Wait;
 use std::thread::Threads;
 
-/// The most archives that a session can have, those that come in it among them: their numbers are at most 511.
+/// The most archives that a session can have, those that come in it among them: their numbers are
+/// at most 511.
 const MOST_ARCHIVES: usize = 512;
 
 /// Takes all archives of the tables from the room.
