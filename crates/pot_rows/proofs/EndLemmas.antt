@@ -6,10 +6,10 @@ use Rattle.std.proofs.lemmas.Simd.{map-map}
 use Rattle.std.proofs.lemmas.Option.{get_or_from_slice_get, slice_get_within, same_Some}
 use Rattle.pot_turn.specs.declared.view.View.{View}
 use Rattle.pot_turn.specs.declared.name.TurnName.{TurnName}
-use Rattle.pot_turn.specs.Views.{spent_view}
+use Rattle.pot_turn.specs.Views.{spent_view, stretches_of}
 use Rattle.pot_turn.proofs.LogLemmas.{get_front, get_back}
 use Rattle.pot_rows.specs.Rows.{PassRow, view_at, IsIdle}
-use Rattle.pot_rows.specs.Ends.{HasAllParts, Closed, RowClosed, CloseSofar}
+use Rattle.pot_rows.specs.Ends.{HasAllParts, IsUntouched, Closed, RowClosed, CloseSofar}
 use Rattle.pot_rows.proofs.Lists.{drop_next, snoc_same}
 use Rattle.pot_rows.proofs.RowLemmas.{below_or_at}
 
@@ -27,6 +27,9 @@ module _ {T E O : Type 0} (log_of : T → List E) (origin_of : T → O) (row : P
 
     pub next_all : (name : TurnName) (names : List TurnName) (v : View E O) (rest : List (View E O)) → left.names ≡ name ∷ names → left.views ≡ v ∷ rest → HasAllParts row → v.parts ≡ 2 ^ 62
     next_all name names v rest named is all = sym (ap (λ (w : View E O). w.parts) (next_is v rest is)) ∙ all (length values) (next_within name names named)
+
+    pub next_untouched : (name : TurnName) (names : List TurnName) (v : View E O) (rest : List (View E O)) → left.names ≡ name ∷ names → left.views ≡ v ∷ rest → IsUntouched row → stretches_of v ≡ []
+    next_untouched name names v rest named is untouched = sym (ap stretches_of (next_is v rest is)) ∙ untouched (length values) (next_within name names named)
 
     pub close_more : (m : ℕ) (turns2 : List TurnName) (left2 : PassRow E O) (values2 : List T) (x : T) (turn name : TurnName) (v : View E O)
         → m + 1 ≡ n → turns ≡ turn ∷ turns2 → left.names ≡ name ∷ left2.names → left.views ≡ v ∷ left2.views → values2 ≡ values ++ x ∷ [] → Closed (log_of x) (origin_of x) v
@@ -81,9 +84,21 @@ module _ {A P N V T : Type 0} (name : A → N) (its : P → N) (know : P → V) 
       ∙ (append_assoc values (x ∷ []) (reverse (map made rest))
       ∙ (ap (λ y. values ++ (y ∷ reverse (map made rest))) same ∙ (ap (λ vs. values ++ vs) (sym order) ∙ sofar)))
 
--- where all values have turns, what was made with them in order is what they were
+-- one value more that its turn was made with
+pub made_more : {A T : Type 0} (made : A → T) (turns rest : List A) (t : A) (values values2 start : List T) (x : T) → turns ≡ t ∷ rest → values2 ≡ values ++ x ∷ [] → x ≡ made t → values ++ map made turns ≡ start
+    → values2 ++ map made rest ≡ start
+made_more made turns rest t values values2 start x split is same sofar =
+    ap (λ vs. vs ++ map made rest) is
+    ∙ (append_assoc values (x ∷ []) (map made rest)
+    ∙ (ap (λ y. values ++ (y ∷ map made rest)) same ∙ (ap (λ ts. values ++ map made ts) (sym split) ∙ sofar)))
+
+-- where all values have turns, these were made with them in order
+pub all_made : {A T : Type 0} (made : A → T) (ts : List A) (values turned left : List T) → turned ≡ reverse values → reverse turned ≡ map made ts ++ reverse left → left ≡ [] → map made ts ≡ values
+all_made made ts values turned left turn order none =
+    sym (append-nil (map made ts)) ∙ (ap (λ l. map made ts ++ reverse l) (sym none) ∙ (sym order ∙ (ap reverse turn ∙ reverse-reverse values)))
+
+-- and what was made with them in order is what they were
 pub first_made : {A P V T : Type 0} (know : P → V) (made : A → T) (of : T → V) (ps : List P) (ts : List A) (values turned left : List T)
     → map know ps ≡ map (λ a. of (made a)) ts → turned ≡ reverse values → reverse turned ≡ map made ts ++ reverse left → left ≡ [] → map know ps ≡ map of values
 first_made know made of ps ts values turned left knows turn order none =
-    let all : map made ts ≡ values = sym (append-nil (map made ts)) ∙ (ap (λ l. map made ts ++ reverse l) (sym none) ∙ (sym order ∙ (ap reverse turn ∙ reverse-reverse values))) in
-    knows ∙ (sym (map-map of made ts) ∙ ap (map of) all)
+    knows ∙ (sym (map-map of made ts) ∙ ap (map of) (all_made made ts values turned left turn order none))

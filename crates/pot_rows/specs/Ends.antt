@@ -1,5 +1,5 @@
 -- How a row of turns begins, and how it ends.
-use Rattle.std.specs.Prelude.{◌≡◌, ℕ, ◌+◌, ◌^◌, ◌<◌, List, length, drop, map, slice_get, Some}
+use Rattle.std.specs.Prelude.{◌≡◌, ℕ, ◌+◌, ◌^◌, ◌<◌, List, [], length, drop, map, slice_get, Some}
 use Rattle.pot_turn.specs.declared.Kept.{Ghosts}
 use Rattle.pot_turn.specs.declared.turning.Turn.{Turn}
 use Rattle.pot_turn.specs.declared.turning.Pass.{Pass}
@@ -26,6 +26,10 @@ module _ {E O : Type 0} where
   -- each pass of the row has all parts of its turn
   abbrev pub HasAllParts : PassRow E O → Type 0
   HasAllParts row = (at : ℕ) → at < length row.names → (view_at row at).parts ≡ 2 ^ 62
+
+  -- no pass of the row ever took a value, nor did one that it took in
+  abbrev pub IsUntouched : PassRow E O → Type 0
+  IsUntouched row = (at : ℕ) → at < length row.names → stretches_of (view_at row at) ≡ []
 
   -- A turn was closed with a pass that knew this, and its value has this log and this origin. Every
   -- other pass was spent, so this one had seen the whole log, and each entry since the turn was

@@ -4,6 +4,11 @@ use Rattle.pot_turn.specs.declared.view.View.{View}
 use Rattle.pot_turn.specs.declared.name.TurnName.{TurnName}
 use Rattle.pot_turn.specs.Views.{spent_view}
 
+-- the names of the turns, and the value that each was made with
+pub record TurnRow (T : Type 0) : Type 0 where
+  pub names : List TurnName
+  pub made : List T
+
 -- the names of the turns, and what the pass of each knows
 pub record PassRow (E O : Type 0) : Type 0 where
   pub names : List TurnName

@@ -11,7 +11,7 @@ impl<T: Kept> Turns<T> {
 
     /// How many turns there are.
     pub fn len(&self) -> usize
-        ensures { result ≡ length self.now }
+        ensures { result ≡ length self.now.names }
     {
         self.turns.len()
     }
@@ -19,8 +19,8 @@ impl<T: Kept> Turns<T> {
     /// Waits for the value of the turn at a place and takes it, as `Turn::enter`. The passes of the
     /// other turns stay as they are.
     pub fn enter<R: Wait>(&self, rt: &R, passes: &mut Passes<T>, at: usize) -> T
-        requires own { AreOf self.now passes.old }
-        requires within { at < length self.now }
+        requires own { AreOf self.now.names passes.old }
+        requires within { at < length self.now.names }
         requires idle { (view_at passes.old at).holds ≡ false }
         ensures took { passes.new
             ≡ with_view passes.old at (took_view (T.log result) (view_at passes.old at)) }
@@ -35,8 +35,8 @@ impl<T: Kept> Turns<T> {
     /// Gives the value of the turn at a place back, as `Turn::leave`. The passes of the other turns
     /// stay as they are.
     pub fn leave(&self, passes: &mut Passes<T>, at: usize, value: T)
-        requires own { AreOf self.now passes.old }
-        requires within { at < length self.now }
+        requires own { AreOf self.now.names passes.old }
+        requires within { at < length self.now.names }
         requires had { (view_at passes.old at).holds ≡ true }
         requires grown { StartsWith (T.log value) (view_at passes.old at).seen }
         requires origin { Some (T.origin value) ≡ (view_at passes.old at).origin }

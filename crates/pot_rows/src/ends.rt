@@ -62,15 +62,16 @@ impl<T: Kept> Turns<T> {
     ghost use Rattle.std.specs.Prelude.{IfOk, IfErr};
     ghost use Rattle.pot_turn.specs.Views.{first_view};
     ghost use Rattle.pot_rows.specs.Rows.{AreOf, IsIdle};
-    ghost use Rattle.pot_rows.specs.Ends.{HasAllParts, RowClosed};
+    ghost use Rattle.pot_rows.specs.Ends.{HasAllParts, IsUntouched, RowClosed};
 
     /// A row of turns over the values, and the first pass of each, which has all parts and has seen
     /// its value's log. The vector is empty then and keeps its room, which `close` can have. Only
     /// memory can be wanting, and then the vector has its values as before.
     pub fn start(alloc: Global, values: &mut Vec<T>) -> Result<(Turns<T>, Passes<T>), NoMemory>
-        ensures own { IfOk result (λ p. AreOf p.0 p.1) }
+        ensures own { IfOk result (λ p. AreOf p.0.names p.1) }
         ensures first { IfOk result (λ p. p.1.views
             ≡ map (λ x. first_view (T.log x) (T.origin x)) values.old.items) }
+        ensures made { IfOk result (λ p. p.0.made ≡ values.old.items) }
         ensures taken { IfOk result (λ _. values.new.items ≡ []) }
         ensures back { IfErr result (λ _. values.new.items ≡ values.old.items) }
         ensures capacity { vec_capacity values.new ≡ vec_capacity values.old }
@@ -94,13 +95,15 @@ impl<T: Kept> Turns<T> {
 
     /// Ends the turns with the row of passes that has all parts, and hands out the values, in
     /// order, into a vector with room for them. What each place says is what `Turn::close` says.
+    /// Where no pass ever took a value, they are the very ones that the turns were made with.
     pub fn close(self, passes: Passes<T>, values: &mut Vec<T>)
-        requires own { AreOf self passes }
+        requires own { AreOf self.names passes }
         requires idle { IsIdle passes }
         requires all { HasAllParts passes }
         requires empty { values.old.items ≡ [] }
-        requires room { length self ≤ vec_capacity values.old }
+        requires room { length self.names ≤ vec_capacity values.old }
         ensures closed { RowClosed T.log T.origin passes values.new.items }
+        ensures untouched { IsUntouched passes → values.new.items ≡ self.made }
         ensures capacity { vec_capacity values.new ≡ vec_capacity values.old }
     {
         let Turns { turns } = self;

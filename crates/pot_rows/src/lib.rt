@@ -1,9 +1,9 @@
 //! Turns in a row, and passes of all of them, as plain lists.
 //!
 //! Values that are used side by side each stand under a turn of their own, as the groups of a vault
-//! do. Whoever works with them has a row of passes, one of each turn. A contract sees two lists:
-//! the names of the turns (`Turns`), and what each pass knows of its turn (`PassRow` of
-//! specs/Rows.antt). So what is said of a place is one equation, and no caller meets a turn or a
+//! do. Whoever works with them has a row of passes, one of each turn. A contract sees lists: the
+//! names of the turns with the values that they were made with (`TurnRow` of specs/Rows.antt), and
+//! what each pass knows of its turn (`PassRow`). So what is said of a place is one equation, and no caller meets a turn or a
 //! pass of its own.
 //!
 //! | call | what it does at a place |
@@ -32,20 +32,20 @@ use std::alloc::Global;
 use std::marker::Model;
 pub use works::row_laws;
 
-/// Turns in a row. Contracts see their names.
+/// Turns in a row. Contracts see their names, and the value that each was made with.
 #[derive(Drop)]
 pub struct Turns<T: Kept> {
     turns: Vec<Turn<T>>,
 }
 
 impl<T: Kept> Model for Turns<T> {
-    ghost use Rattle.std.specs.Prelude.{List, map};
-    ghost use Rattle.pot_turn.specs.declared.name.TurnName.{TurnName};
-    ghost use Rattle.pot_turn.specs.Passes.{name_of};
+    ghost use Rattle.std.specs.Prelude.{map};
+    ghost use Rattle.pot_turn.specs.Passes.{name_of, made_with};
+    ghost use Rattle.pot_rows.specs.Rows.{TurnRow};
 
-    ghost Value = { List TurnName };
+    ghost Value = { TurnRow T };
 
-    ghost view = { λ t. map name_of t.turns.items };
+    ghost view = { λ t. record { names = map name_of t.turns.items; made = map made_with t.turns.items } };
 }
 
 /// A pass of each turn of a row. Contracts see the names of the turns, and what each pass knows.

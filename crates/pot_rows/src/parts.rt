@@ -14,13 +14,13 @@ impl<T: Kept> Turns<T> {
 
     /// A new pass of the turn at a place, which takes these parts of the old one.
     fn split_at(&self, passes: &mut Passes<T>, at: usize, parts: u64) -> Pass<T>
-        requires own { AreOf self.now passes.old }
-        requires within { at < length self.now }
+        requires own { AreOf self.now.names passes.old }
+        requires within { at < length self.now.names }
         requires idle { (view_at passes.old at).holds ≡ false }
         requires some { (0 < parts) × (parts < (view_at passes.old at).parts) }
         ensures left { passes.new
             ≡ with_view passes.old at (cut_view parts (view_at passes.old at)) }
-        ensures own { Some (turn_of result) ≡ slice_get self.now at }
+        ensures own { Some (turn_of result) ≡ slice_get self.now.names at }
         ensures given { view result ≡ new_view parts (view_at passes.old at) }
     {
         let turn = &self.turns[at];
@@ -39,12 +39,12 @@ impl<T: Kept> Turns<T> {
         passes: &mut Passes<T>,
         parts: u64,
     ) -> Result<Passes<T>, NoMemory>
-        requires own { AreOf self.now passes.old }
+        requires own { AreOf self.now.names passes.old }
         requires idle { IsIdle passes.old }
         requires some { (0 < parts) × HasMoreParts parts passes.old }
-        ensures own { AreOf self.now passes.new }
+        ensures own { AreOf self.now.names passes.new }
         ensures left { IfOk result (λ _. RowCut parts passes.old passes.new) }
-        ensures given { IfOk result (λ p. AreOf self.now p × RowNew parts passes.old p) }
+        ensures given { IfOk result (λ p. AreOf self.now.names p × RowNew parts passes.old p) }
         ensures refused { IfErr result (λ _. passes.new ≡ passes.old) }
     {
         let Ok(mut given) = Vec::with_capacity(alloc, self.len()) else {
@@ -59,10 +59,10 @@ impl<T: Kept> Turns<T> {
 
     /// The pass of the turn at a place takes in another.
     fn join_at(&self, passes: &mut Passes<T>, at: usize, part: Pass<T>)
-        requires own { AreOf self.now passes.old }
-        requires within { at < length self.now }
+        requires own { AreOf self.now.names passes.old }
+        requires within { at < length self.now.names }
         requires idle { (view_at passes.old at).holds ≡ false }
-        requires its_own { Some (turn_of part) ≡ slice_get self.now at }
+        requires its_own { Some (turn_of part) ≡ slice_get self.now.names at }
         requires its_idle { (view part).holds ≡ false }
         ensures { JoinedAt passes.old at (view part) passes.new }
     {
@@ -74,11 +74,11 @@ impl<T: Kept> Turns<T> {
     /// The passes take in those of another row, turn by turn, as `Turn::join`: each has then seen
     /// what either had, and has the parts of both.
     pub fn join(&self, passes: &mut Passes<T>, other: Passes<T>)
-        requires own { AreOf self.now passes.old }
+        requires own { AreOf self.now.names passes.old }
         requires idle { IsIdle passes.old }
-        requires its_own { AreOf self.now other }
+        requires its_own { AreOf self.now.names other }
         requires its_idle { IsIdle other }
-        ensures own { AreOf self.now passes.new }
+        ensures own { AreOf self.now.names passes.new }
         ensures joined { RowJoined passes.old other passes.new }
     {
         let Passes { passes: others } = other;

@@ -39,7 +39,7 @@ fn empty(alloc: Global, owner: u8) -> Ledger {
 
 /// Three turns over empty ledgers, whose owners are 7, 8 and 9, and the vector that they came in.
 fn opened(alloc: Global) -> Result<(Turns<Ledger>, Passes<Ledger>, Vec<Ledger>), Fail>
-    ensures own { IfOk result (λ r. AreOf r.0 r.1 × (length r.0 ≡ 3)) }
+    ensures own { IfOk result (λ r. AreOf r.0.names r.1 × (length r.0.names ≡ 3)) }
     ensures ready { IfOk result (λ r. IsIdle r.1 × HasAllParts r.1) }
     ensures room { IfOk result (λ r. (r.2.items ≡ []) × (3 ≤ vec_capacity r.2)) }
 {
@@ -60,10 +60,10 @@ fn write<R: Wait>(
     at: usize,
     number: u32,
 ) -> bool
-    requires own { AreOf turns.now passes.old }
-    requires within { at < length turns.now }
+    requires own { AreOf turns.now.names passes.old }
+    requires within { at < length turns.now.names }
     requires idle { IsIdle passes.old }
-    ensures own { AreOf turns.now passes.new }
+    ensures own { AreOf turns.now.names passes.new }
     ensures idle { IsIdle passes.new }
     ensures parts { (i : ℕ) → (view_at passes.new i).parts ≡ (view_at passes.old i).parts }
 {
@@ -80,9 +80,9 @@ fn write_by_two<R: Wait>(
     turns: &Turns<Ledger>,
     passes: &mut Passes<Ledger>,
 ) -> bool
-    requires own { AreOf turns.now passes.old × (length turns.now ≡ 3) }
+    requires own { AreOf turns.now.names passes.old × (length turns.now.names ≡ 3) }
     requires ready { IsIdle passes.old × HasAllParts passes.old }
-    ensures own { AreOf turns.now passes.new }
+    ensures own { AreOf turns.now.names passes.new }
     ensures ready { IsIdle passes.new × HasAllParts passes.new }
 {
     let Ok(mut others) = turns.split(alloc, passes, 2) else {

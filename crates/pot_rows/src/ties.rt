@@ -31,8 +31,8 @@ impl<T: Kept> Turns<T> {
 
     /// The passes of the turn at a place tell one another what they have seen.
     fn tie_at(&self, mine: &mut Passes<T>, others: &mut Passes<T>, at: usize)
-        requires own { AreOf self.now mine.old × AreOf self.now others.old }
-        requires within { at < length self.now }
+        requires own { AreOf self.now.names mine.old × AreOf self.now.names others.old }
+        requires within { at < length self.now.names }
         requires idle { ((view_at mine.old at).holds ≡ false)
             × ((view_at others.old at).holds ≡ false) }
         requires parts { (1 < (view_at mine.old at).parts) × (1 < (view_at others.old at).parts) }
@@ -47,10 +47,10 @@ impl<T: Kept> Turns<T> {
     /// The passes of two rows tell one another what they have seen, turn by turn: each has then
     /// seen what either had, and nothing else of them changes.
     pub fn tie(&self, mine: &mut Passes<T>, others: &mut Passes<T>)
-        requires own { AreOf self.now mine.old × AreOf self.now others.old }
+        requires own { AreOf self.now.names mine.old × AreOf self.now.names others.old }
         requires idle { IsIdle mine.old × IsIdle others.old }
         requires parts { HasMoreParts 1 mine.old × HasMoreParts 1 others.old }
-        ensures own { AreOf self.now mine.new × AreOf self.now others.new }
+        ensures own { AreOf self.now.names mine.new × AreOf self.now.names others.new }
         ensures tied { RowTied mine.old others.old mine.new others.new }
     {
         for at in 0..self.len() {

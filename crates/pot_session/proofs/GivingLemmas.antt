@@ -1,5 +1,5 @@
 -- Archives that are given back one by one, and those that the room does not take back.
-use Rattle.std.proofs.Common.{◌≡◌, ◌≢◌, ◌<◌, ◌≤◌, ◌⊎◌, inl, inr, ℕ, true, false, cond, List, [], ◌∷◌, length, refl, sym, ap, subst, arith, eqb}
+use Rattle.std.proofs.Common.{◌≡◌, ◌≢◌, ◌<◌, ◌≤◌, ◌⊎◌, inl, inr, ℕ, Bool, true, false, cond, List, [], ◌∷◌, length, refl, sym, ap, subst, arith, eqb}
 use Rattle.std.specs.Prelude.{Contains, IsTrue, Some, Result, Ok, Err, IsErr, OnOk, slice_index_or}
 use Rattle.std.specs.List.{remove}
 use Rattle.std.proofs.lemmas.Bool.{cases_lt}
@@ -13,11 +13,12 @@ use Rattle.pot_outside.specs.declared.archive.Shelf.{Shelf}
 use Rattle.pot_outside.specs.declared.faults.Failed.{Failed}
 use Rattle.pot_shared.proofs.Times.{one_if}
 use Rattle.pot_shelves.specs.Shelves.{numbers_of, shelf_of}
-use Rattle.pot_shared.specs.Hands.{AreMeant, times}
+use Rattle.pot_shared.specs.Hands.{AreMeant, AreMeantButLost, IsMeantButLost, times}
 use Rattle.pot_commands.proofs.TakingLemmas.{meant_by}
-use Rattle.pot_session.specs.Giving.{AnswersFor, FailsAt, GivesBack, IsUnlent}
+use Rattle.pot_session.specs.Giving.{AnswersFor, FailsAt, GivesBack, IsUnlent, IsUnopened}
 use Rattle.pot_shared.proofs.Times.{times_contains}
 use Rattle.pot_shared.proofs.GroupLemmas.{find_shelf}
+use Rattle.pot_shared.proofs.LostLemmas.{lost_none, lost_until}
 use Rattle.pot_session.proofs.MeantLemmas.{HeldOrGiven, given_more}
 
 -- a number stands in a list that it heads
@@ -120,6 +121,10 @@ pub missed : {A : Type 0} {archives : Account A Meaning} {hand : List (Shelf A)}
 missed (Ok u) g e = absurd (cc e)
 missed (Err f) g e = (let some : 0 < length g.missing = g.answers in elim g.failed_at.counted [ inl a ↦ inl (omega (arith, a, some)) | inr top ↦ inr top ])
 
+-- what means the same lost nothing
+unchanged : (m : Meaning) → IsMeantButLost m m
+unchanged m = lost_none m m (record { blocks = λ k. refl; past = refl; sums = refl; faulted = refl; lost = refl })
+
 -- the room failed itself, and the archives that it had given were given back
 pub is_unlent : {A : Type 0} (archives : Account A Meaning) (hand : List (Shelf A)) (first worked last : RoomState) (answer : Result (Unit {0}) Failed) → Rose first.failures worked.failures
     → GivesBack archives hand worked last answer → (IsTrue archives.tells → AreMeant archives.meaning first.means hand) → ((n : ℕ) → times n (numbers_of hand) ≡ 0 → last.means n ≡ first.means n)
@@ -142,3 +147,25 @@ is_unlent {A} archives hand first worked last answer rose g are stay = record {
     there t n none (s, is, number, has) =
         meant_by (first.means n) (last.means n) (archives.meaning s.archive) (subst (λ k. IsMeant (first.means k) (archives.meaning s.archive)) number (are t s has))
         (subst (λ k. IsMeant (last.means k) (archives.meaning s.archive)) number (g.back t s has (subst (λ k. times k g.missing ≡ 0) (sym number) none)))
+
+-- memory ran out, and the archives that the room had given were given back
+pub is_unopened : {A : Type 0} (archives : Account A Meaning) (hand : List (Shelf A)) (first worked last : RoomState) (answer : Result (Unit {0}) Failed) → worked.failures ≡ first.failures
+    → GivesBack archives hand worked last answer → (IsTrue archives.tells → AreMeantButLost archives.meaning first.means hand) → ((n : ℕ) → times n (numbers_of hand) ≡ 0 → last.means n ≡ first.means n)
+    → IsUnopened (transition_by archives.tells first last)
+is_unopened {A} archives hand first worked last answer same g are stay = record {
+  missing = g.missing;
+  failed_at = subst (λ k. FailsAt k last.failures g.missing) same g.failed_at;
+  others = λ t n none. elim (cases_lt 0 (times n (numbers_of hand))) [
+    | inl some ↦ there t n none (find_shelf hand n (times_contains (numbers_of hand) n some))
+    | inr le ↦ subst (λ m. IsMeantButLost (first.means n) m) (sym (stay n (omega (arith, le)))) (unchanged (first.means n))
+  ];
+}
+  where
+    there : IsTrue archives.tells → (n : ℕ) → times n g.missing ≡ 0 → (s : Shelf A) × (shelf_of hand n ≡ Some s) × (s.number ≡ n) × Contains hand s → IsMeantButLost (first.means n) (last.means n)
+    there t n none (s, is, number, has) =
+        lost_until (first.means n) (archives.meaning s.archive) (last.means n) (subst (λ k. IsMeantButLost (first.means k) (archives.meaning s.archive)) number (are t s has))
+        (subst (λ k. IsMeant (last.means k) (archives.meaning s.archive)) number (g.back t s has (subst (λ k. times k g.missing ≡ 0) (sym number) none)))
+
+-- and so where it had given none
+pub none_unopened : (tells : Bool) (room : RoomState) → IsUnopened (transition_by tells room room)
+none_unopened tells room = record { missing = []; failed_at = failed_none room.failures; others = λ t n none. unchanged (room.means n) }

@@ -7,7 +7,7 @@ use Rattle.pot_outside.specs.Counts.{Rose}
 use Rattle.pot_outside.specs.Rooms.{RoomState}
 use Rattle.pot_outside.specs.declared.archive.Shelf.{Shelf}
 use Rattle.pot_outside.specs.declared.faults.Failed.{Failed}
-use Rattle.pot_shared.specs.Hands.{times}
+use Rattle.pot_shared.specs.Hands.{IsMeantButLost, times}
 
 -- The room failed at the taking back of each of these archives: so often at least its count of own
 -- failures rose, and not at all where there are none.
@@ -40,3 +40,12 @@ pub record IsUnlent (room : Transition RoomState) : Type 0 where
   pub failed_at : FailsAt worked room.after.failures missing
   pub others : IsTrue room.tells → (n : ℕ) → times n missing ≡ 0
       → IsMeant (room.before.means n) (room.after.means n)
+
+-- Memory ran out over archives that were asked for. Those that the room had given were given back:
+-- some are missing, and each other number means what it meant, but for losses that its archive
+-- counted.
+pub record IsUnopened (room : Transition RoomState) : Type 0 where
+  pub missing : List ℕ
+  pub failed_at : FailsAt room.before.failures room.after.failures missing
+  pub others : IsTrue room.tells → (n : ℕ) → times n missing ≡ 0
+      → IsMeantButLost (room.before.means n) (room.after.means n)

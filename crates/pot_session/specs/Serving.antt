@@ -36,7 +36,7 @@ use Rattle.pot_session.specs.declared.ending.status.Status.TheVariants as status
 use Rattle.pot_session.specs.declared.ending.stop.Stop.{Stop}
 use Rattle.pot_session.specs.declared.ending.stop.Stop.TheVariants as stop
 use Rattle.pot_session.specs.Desks.{IsKeepStop, Keeps}
-use Rattle.pot_session.specs.Giving.{FailsAt, IsUnlent}
+use Rattle.pot_session.specs.Giving.{FailsAt, IsUnlent, IsUnopened}
 use Rattle.pot_shared.specs.Groups.{MarksRose}
 use Rattle.pot_shared.specs.Leaving.{AreLogs, AreOpened, LeaveGroups, LeavesRecords, Shows}
 use Rattle.pot_session.specs.Losses.{AreBack, LostNone, LostWhereFew}
@@ -179,8 +179,9 @@ pub record IsClosed (seed : List ℕ) (first : Contents) (steps : List Step) (ro
   pub status : answer ≡ status_after ending (close_answer missing kept)
 
 -- What a session comes to that begins with this image: before any step was worked the room did not
--- give its archives, and those that it got back are as they were; or memory ran out before; or it
--- closed. Archives that the image does not name were not touched before the steps.
+-- give its archives, and those that it got back are as they were; or memory ran out before, and
+-- those that it got back are as they were but for losses that they counted; or it closed. Archives
+-- that the image does not name were not touched before the steps.
 pub data Serves (seed : List ℕ) (first : Contents) (steps : List Step) (room : Transition RoomState)
     (sink : Transition (List ℕ)) (desk : Transition (Content (Option (List ℕ)))) (answer : Status) : Type 0 where
   Unlent : answer ≡ status.RoomFault → Stays sink
@@ -189,7 +190,7 @@ pub data Serves (seed : List ℕ) (first : Contents) (steps : List Step) (room :
       → Serves seed first steps room sink desk answer
   Unopened : answer ≡ status.NoMemory → Stays sink
       → (IsTrue desk.tells → desk.after.held ≡ Some (image_bytes first))
-      → Untouched (flat_map archives_in first.tables) room.before room.after
+      → IsUnopened room × Untouched (flat_map archives_in first.tables) room.before room.after
       → Serves seed first steps room sink desk answer
   Closed : IsClosed seed first steps room sink desk answer
       → Serves seed first steps room sink desk answer

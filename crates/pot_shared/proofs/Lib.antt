@@ -16,6 +16,7 @@ pub mod Times
 pub mod Lists
 pub mod Results
 pub mod GroupLemmas
+pub mod LostLemmas
 pub mod OpenLemmas
 pub mod ComingLemmas
 pub mod CloseLemmas

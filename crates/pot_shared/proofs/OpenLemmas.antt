@@ -21,7 +21,7 @@ use Rattle.pot_shared.specs.Callers.{CanCall}
 use Rattle.pot_shared.specs.Vaults.{VaultView}
 use Rattle.pot_shared.specs.Ready.{AreReady, GroupPass, GroupPasses, IsTableOf}
 use Rattle.pot_shared.specs.Catalogs.{IndexPasses, IsIndexReady}
-use Rattle.pot_shared.specs.Sharing.{AreFirst, HaveLogs}
+use Rattle.pot_shared.specs.Sharing.{AreFirst}
 use Rattle.pot_shared.specs.Works.{Known}
 use Rattle.pot_replies.specs.Sessions.{ByNobody}
 use Rattle.pot_shared.proofs.MemberLemmas.{entries_all, same_on}
@@ -90,15 +90,6 @@ pub first_read : {M : Type 0} (see : M → GroupView) (rack : Rack) (ms : List M
     → tables_read row ≡ map (λ m. (see m).first) ms
 first_read see rack ms names row of first are count =
     read_of see row.views ms (let a = are.1 in omega (arith, a, count, of.count)) (λ n m q. ap (λ (v : GroupPass). table_read v.origin) (first n m q))
-
--- groups that came back have the archives that they had
-pub same_had : {M : Type 0} (see : M → GroupView) (ms hs : List M) → HaveLogs see ms hs → flat_map (λ m. had_by (see m)) hs ≡ flat_map (λ m. had_by (see m)) ms
-same_had see ms hs h = same_flat (λ m. had_by (see m)) (λ m. had_by (see m)) hs ms h.0 (λ n y m ey em. each y m (h.1 n m y em ey))
-  where
-    each : (y m : _) → (kept_log (see y) ≡ kept_log (see m)) × (origin_of (see y) ≡ origin_of (see m)) → had_by (see y) ≡ had_by (see m)
-    each y m e =
-        ap (λ o. archives_in o.first ++ arrivals (see y).log) e.1
-        ∙ ap (λ l. archives_in (see m).first ++ arrivals l) (sym (entries_all (see y).shelves (see y).log) ∙ (ap entries_of e.0 ∙ entries_all (see m).shelves (see m).log))
 
 -- what the first passes know of the archives and of the openings is so of the groups
 pub taken_at : {M : Type 0} (see : M → GroupView) (ms : List M) (names : List TurnName) (row : GroupPasses) (meant : ℕ → Meaning) → AreFirst see ms row → AreOf names row → length names ≡ length ms → AreTakenFrom meant see ms

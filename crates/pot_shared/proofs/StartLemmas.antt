@@ -7,8 +7,8 @@ use Rattle.pot_group.specs.Group.{GroupView}
 use Rattle.pot_bytes.specs.declared.rack.Rack.{Rack}
 use Rattle.pot_index.specs.Index.{IndexView, Names, IsIndex, Replays, names_read}
 use Rattle.pot_turn.specs.declared.name.TurnName.{TurnName}
-use Rattle.pot_turn.specs.Views.{first_view, cut_view, spent_view}
-use Rattle.pot_rows.specs.Ends.{HasAllParts, RowClosed}
+use Rattle.pot_turn.specs.Views.{first_view, cut_view, spent_view, stretches_of}
+use Rattle.pot_rows.specs.Ends.{HasAllParts, IsUntouched}
 use Rattle.pot_rows.specs.Parts.{RowCut, RowNew}
 use Rattle.pot_rows.specs.Rows.{AreOf, HasMoreParts, IsIdle, view_at}
 use Rattle.pot_rows.proofs.RowLemmas.{at_past}
@@ -16,7 +16,7 @@ use Rattle.pot_shared.specs.declared.catalog.CatalogOrigin.{CatalogOrigin}
 use Rattle.pot_shared.specs.Members.{kept_log, origin_of as group_origin}
 use Rattle.pot_shared.specs.Ready.{GroupPass, GroupPasses, AreReady, IsOrigin}
 use Rattle.pot_shared.specs.Catalogs.{KeepsSeen, Publishes, IndexPasses, IsIndexReady, IsIndexOf}
-use Rattle.pot_shared.specs.Sharing.{SameAt, HasAllButKept, IsGroupOf, AreFirst, HaveLogs}
+use Rattle.pot_shared.specs.Sharing.{SameAt, HasAllButKept, IsGroupOf, AreFirst}
 use Rattle.pot_shared.proofs.SharingLemmas.{new_ready, cut_ready}
 
 -- an index that has published nothing, with new passes of two parts each
@@ -72,6 +72,12 @@ module _ {M : Type 0} (see : M → GroupView) (members : List M) (rack : Rack) (
     | inr p ↦ absurd (let q = p.0 in let w = within g lt in omega (arith, q, w))
   ]
 
+  at_first : (g : ℕ) → g < length row.names → stretches_of (view_at row g) ≡ []
+  at_first g lt = elim (slice_get_cases members g).1 [
+    | inl x ↦ ap (λ (v : GroupPass). stretches_of v) (begun_at g x.0 x.2)
+    | inr p ↦ absurd (let q = p.0 in let w = within g lt in omega (arith, q, w))
+  ]
+
   pub more_parts : HasMoreParts 2 row
   more_parts g lt = (let p = all_parts g lt in omega (arith, p))
 
@@ -102,15 +108,8 @@ module _ {M : Type 0} (see : M → GroupView) (members : List M) (rack : Rack) (
     pub back_parts : HasAllParts back
     back_parts g lt = ap (λ (v : GroupPass). v.parts) (same g) ∙ all_parts g (let a = ap length of_back.0 in let b = ap length of.0 in omega (arith, lt, a, b))
 
-    pub have_logs : (new : List M) → RowClosed (λ m. kept_log (see m)) (λ m. group_origin (see m)) back new → HaveLogs see members new
-    have_logs new closed = (
-      closed.count ∙ (ap length of_back.0 ∙ as_many),
-      λ n m h at now.
-          (let one = closed.each n h now in let v = same n ∙ begun_at n m at in (
-            one.seen ∙ ap (λ (w : GroupPass). w.seen) v,
-            same_Some (group_origin (see h)) (group_origin (see m)) (one.named ∙ ap (λ (w : GroupPass). w.origin) v),
-          )),
-    )
+    pub back_untouched : IsUntouched back
+    back_untouched g lt = ap (λ (v : GroupPass). stretches_of v) (same g) ∙ at_first g (let a = ap length of_back.0 in let b = ap length of.0 in omega (arith, lt, a, b))
 
 -- the one pass of the index
 pub index_ready : (rack : Rack) (names turn : List TurnName) (row : IndexPasses) (o : CatalogOrigin) → AreOf turn row → row.views ≡ first_view [] o ∷ [] → o.rack ≡ rack → o.names ≡ names

@@ -56,9 +56,3 @@ abbrev pub AreFirst : {M : Type 0} → (M → GroupView) → List M → GroupPas
 AreFirst {M} see members row =
     (n : ℕ) (m : M) → slice_get members n ≡ Some m
     → view_at row n ≡ cut_view 2 (first_view (kept_log (see m)) (group_origin (see m)))
-
--- as many groups, each with the log and the origin of the one at its place
-abbrev pub HaveLogs : {M : Type 0} → (M → GroupView) → List M → List M → Type 0
-HaveLogs {M} see old new = (length new ≡ length old)
-    × ((n : ℕ) (m h : M) → slice_get old n ≡ Some m → slice_get new n ≡ Some h
-    → (kept_log (see h) ≡ kept_log (see m)) × (group_origin (see h) ≡ group_origin (see m)))

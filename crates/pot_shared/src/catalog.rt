@@ -104,9 +104,9 @@ impl<A: Archive> Catalog<A> {
         job: u32,
         name: &Name,
     ) -> Result<Record, FindFault>
-        requires ready { AreReady self.old.index.rack groups.now passes.old }
+        requires ready { AreReady self.old.index.rack groups.now.names passes.old }
         requires parts { HasMoreParts 1 passes.old }
-        requires names { self.old.kept.names ≡ groups.now }
+        requires names { self.old.kept.names ≡ groups.now.names }
         ensures call { Finds job name.now self.old.index self.new.index result }
         ensures names { self.new.kept.names ≡ self.old.kept.names }
         ensures tied { RowKnowsMore passes.old passes.new }
@@ -145,9 +145,9 @@ impl<A: Archive> Catalog<A> {
         job: u32,
         kept: Record,
     ) -> Result<(), ReservationLost>
-        requires ready { AreReady self.old.index.rack groups.now passes.old }
+        requires ready { AreReady self.old.index.rack groups.now.names passes.old }
         requires parts { HasMoreParts 1 passes.old }
-        requires names { self.old.kept.names ≡ groups.now }
+        requires names { self.old.kept.names ≡ groups.now.names }
         requires reserved { Any (IsReserving job kept.name) (entries self.old.index.log) }
         requires fits { FitsRack self.old.index.rack kept }
         requires seen { SeesFile passes.old kept }
@@ -173,9 +173,9 @@ impl<A: Archive> Catalog<A> {
         name: &Name,
         split: Split,
     ) -> Result<(), RenewFault>
-        requires ready { AreReady self.old.index.rack groups.now passes.old }
+        requires ready { AreReady self.old.index.rack groups.now.names passes.old }
         requires parts { HasMoreParts 1 passes.old }
-        requires names { self.old.kept.names ≡ groups.now }
+        requires names { self.old.kept.names ≡ groups.now.names }
         requires rules { IsIndex self.old.index }
         requires renews { MayRenew self.old.index.rack self.old.index.now name.now split
             passes.old }

@@ -11,7 +11,7 @@ ghost use Rattle.pot_shelves.specs.Shelves.{numbers_of};
 ghost use Rattle.pot_shared.specs.Groups.{AreMarked, AreOfRack, AreStarted, AreTakenAt};
 ghost use Rattle.pot_shared.specs.Groups.{AreTakenFrom, IsFirstTable, IsOpened, IsStarted, RoseBy};
 ghost use Rattle.pot_shared.specs.Groups.{had_by};
-ghost use Rattle.pot_shared.specs.Hands.{AreMeant, AreSame};
+ghost use Rattle.pot_shared.specs.Hands.{AreAmong, AreApart, AreMeant, AreMeantButLost, AreSame};
 ghost use Rattle.pot_shared.specs.Members.{opened_at};
 ghost use Rattle.pot_shared.specs.Opening.{IsOpenedFrom};
 ghost use Rattle.pot_shared.specs.Remains.{IsFresh, HasSpace, IsBare, KeepsSpace};
@@ -34,7 +34,7 @@ use std::alloc::Global;
 /// archives.
 ///
 /// # Errors
-/// Want of memory alone. The shelves are in the hand again, in another order.
+/// Want of memory alone. The very shelves are in the hand again, in another order.
 fn start_group<A: Archive>(
     alloc: Global,
     number: u8,
@@ -55,9 +55,13 @@ fn start_group<A: Archive>(
         → AreMeant A.account.meaning meant hand.old.items
         → IfOk result (λ m. let g = view_of A.account.meaning m.group in
         IsOpened meant (RoseBy meant table (opened_at g.shelves)) table g.log) }
+    ensures lost { (meant : ℕ → Meaning) → IsTrue A.account.tells
+        → AreApart (numbers_of hand.old.items) → AreMeant A.account.meaning meant hand.old.items
+        → IfOk result (λ m. AreMeantButLost A.account.meaning meant m.group.shelves.shelves) }
     ensures rest { OnOk result (hand.new.items ≡ drop (length (archives_in table)) hand.old.items) }
     ensures refused { OnErr result
         (AreSame (numbers_of hand.new.items) (numbers_of hand.old.items)) }
+    ensures back { OnErr result (AreAmong hand.old.items hand.new.items) }
     ensures count { OnErr result (length hand.new.items ≡ length hand.old.items) }
     ensures space { vec_capacity hand.new ≡ vec_capacity hand.old }
 {
@@ -100,6 +104,10 @@ fn start_groups<A: Archive>(
         → AreMeant A.account.meaning meant hand.old.items
         → OnOk result
         (AreTakenFrom meant (λ m. view_of A.account.meaning m.group) members.new.items) }
+    ensures lost { (meant : ℕ → Meaning) → IsTrue A.account.tells
+        → AreApart (numbers_of hand.old.items) → AreMeant A.account.meaning meant hand.old.items
+        → AreMeantButLost A.account.meaning meant
+        (hand.new.items ++ flat_map (λ m. m.group.shelves.shelves) members.new.items) }
     ensures empty { OnOk result (hand.new.items ≡ []) }
     ensures refused { OnErr result
         (AreSame
@@ -160,6 +168,9 @@ fn share<A: Archive>(
         (numbers_of remains.new.hand.items
         ≡ numbers_of remains.old.hand.items
         ++ (flat_map (λ m. had_by (view_of A.account.meaning m.group)) members.items)) }
+    ensures back { OnErr result
+        (remains.new.hand.items
+        ≡ remains.old.hand.items ++ flat_map (λ m. m.group.shelves.shelves) members.items) }
 {
     let index = match Index::start(alloc, rack, records) {
         Ok(index) => index,
@@ -184,8 +195,8 @@ impl<A: Archive> Vault<A> {
     /// block of each of its Live slots.
     ///
     /// # Errors
-    /// Want of memory alone. The archives are in the hand again, in another order, and what else
-    /// remains is of no use.
+    /// Want of memory alone. The archives are in the hand again, in another order, and hold what
+    /// they held but for losses that they counted. What else remains is of no use.
     pub fn open(
         alloc: Global,
         rack: &Rack,
@@ -212,6 +223,10 @@ impl<A: Archive> Vault<A> {
         ensures space { OnOk result (KeepsSpace remains.old remains.new) }
         ensures refused { OnErr result
             (AreSame (numbers_of remains.new.hand.items) (flat_map archives_in tables.items)) }
+        ensures lost { (meant : ℕ → Meaning) → IsTrue A.account.tells
+            → AreApart (flat_map archives_in tables.items)
+            → AreMeant A.account.meaning meant remains.old.hand.items
+            → OnErr result (AreMeantButLost A.account.meaning meant remains.new.hand.items) }
     {
         let Ok(mut members) = Vec::with_capacity(alloc, tables.len()) else {
             return Err(NoMemory);

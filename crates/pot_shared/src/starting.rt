@@ -19,7 +19,7 @@ use pot_rows::Turns;
 use pot_turn::NoMemory;
 use std::alloc::Global;
 
-/// Want of memory for the turns. The groups, in their order, and the index come back.
+/// Want of memory for the turns. The very groups, in their order, and the very index come back.
 #[derive(Drop)]
 pub struct VaultRefused<A: Archive> {
     pub members: Vec<Member<A>>,
@@ -36,20 +36,20 @@ fn share_index<A: Archive>(
     index: Index,
     catalogs: &mut Vec<Catalog<A>>,
 ) -> Result<(Turns<Catalog<A>>, pot_rows::Passes<Catalog<A>>), Index>
-    requires ready { AreReady rack.now groups.now passes.old }
+    requires ready { AreReady rack.now groups.now.names passes.old }
     requires parts { HasMoreParts 2 passes.old }
     requires rack { index.rack ≡ rack.now }
     requires log { index.log ≡ [] }
-    requires count { length groups.now ≡ rack.now.groups }
+    requires count { length groups.now.names ≡ rack.now.groups }
     requires room { (catalogs.old.items ≡ []) × (1 ≤ vec_capacity catalogs.old) }
-    ensures own { AreOf groups.now passes.new }
+    ensures own { AreOf groups.now.names passes.new }
     ensures left { IfOk result (λ p. RowCut 2 passes.old passes.new) }
     ensures made { IfOk result
         (λ p.
-        AreOf p.0 p.1
+        AreOf p.0.names p.1
         × (p.1.views
         ≡ first_view []
-        (record { rack = rack.now; read = index.read; names = groups.now })
+        (record { rack = rack.now; read = index.read; names = groups.now.names })
         ∷ [])) }
     ensures refused { IfErr result (λ i. (i ≡ index) × SameAt passes.old passes.new) }
     ensures room { (catalogs.new.items ≡ [])
@@ -76,15 +76,14 @@ fn share_index<A: Archive>(
 
 impl<A: Archive> Vault<A> {
     ghost use Rattle.pot_shared.specs.Catalogs.{IsIndexReady};
-    ghost use Rattle.pot_shared.specs.Sharing.{HasAllButKept, IsGroupOf, AreFirst, HaveLogs};
+    ghost use Rattle.pot_shared.specs.Sharing.{HasAllButKept, IsGroupOf, AreFirst};
 
     /// Puts each group and the index under a turn. The passes have seen all logs, and have all
     /// parts of the index's turn and all but two of each group's, which the index keeps. The group
     /// at place g has number g and a table of the rack. The spaces are those that `close` wants.
     ///
     /// # Errors
-    /// Want of memory alone. The index comes back as it was, and the groups in their order with the
-    /// logs and origins that they had.
+    /// Want of memory alone. The very groups come back, in their order, and the very index.
     pub fn start(
         alloc: Global,
         rack: &Rack,
@@ -114,9 +113,7 @@ impl<A: Archive> Vault<A> {
         ensures room { IfOk result (λ p. length p.0.groups ≤ p.2) }
         ensures refused { IfErr result
             (λ r.
-            (r.index ≡ index)
-            × HaveLogs (λ m. view_of A.account.meaning m.group) members.items
-            r.members.items) }
+            (r.index ≡ index) × (r.members.items ≡ members.items)) }
     {
         let mut members = members;
         let Ok(mut catalogs) = Vec::with_capacity(alloc, 1) else {

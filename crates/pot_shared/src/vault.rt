@@ -25,7 +25,7 @@ impl<A: Archive> Model for Vault<A> {
 
     ghost Value = { VaultView };
 
-    ghost view = { λ v. vault_view v.rack v.groups v.index };
+    ghost view = { λ v. vault_view v.rack v.groups.names v.index.names };
 }
 
 impl<A: Archive> Vault<A> {

@@ -7,7 +7,7 @@ ghost use Rattle.pot_outside.specs.Counts.{Caused};
 ghost use Rattle.pot_shelves.specs.Shelves.{numbers_of};
 ghost use Rattle.pot_shared.specs.Hands.{AreApart, AreMeant};
 ghost use Rattle.pot_commands.specs.Holding.{AreOut, Untouched};
-ghost use Rattle.pot_session.specs.Giving.{GivesBack, IsUnlent};
+ghost use Rattle.pot_session.specs.Giving.{GivesBack, IsUnlent, IsUnopened};
 
 use pot_outside::{Failed, Room, RoomFault, Shelf};
 
@@ -39,6 +39,8 @@ pub(crate) fn take_all<R: Room>(
     ensures sound { OnOk result ((R.meaning room.new).failures ≡ (R.meaning room.old).failures) }
     ensures unlent { IsErrOf result RoomFault.Failed
         → IsUnlent (room_transition R.A.account R.meaning room.old room.new) }
+    ensures unopened { IsErrOf result RoomFault.NoMemory
+        → IsUnopened (room_transition R.A.account R.meaning room.old room.new) }
 {
     for number in numbers {
         match room.take(*number) {

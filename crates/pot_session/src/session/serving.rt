@@ -18,7 +18,7 @@ ghost use Rattle.pot_shared.specs.Remains.{IsFresh, HasSpace};
 ghost use Rattle.pot_commands.specs.Ends.{next_job};
 ghost use Rattle.pot_commands.specs.Taking.{asked_by};
 ghost use Rattle.pot_commands.specs.Holding.{AreOut, Untouched};
-ghost use Rattle.pot_session.specs.Giving.{IsUnlent};
+ghost use Rattle.pot_session.specs.Giving.{GivesBack, IsUnlent, IsUnopened};
 ghost use Rattle.pot_session.specs.Opened.{IsOpenedWith};
 ghost use Rattle.pot_session.specs.Serving.{Serves, IsEnd, status_after};
 
@@ -71,6 +71,8 @@ fn take_archives<R: Room>(
     ensures sound { OnOk result ((R.meaning room.new).failures ≡ (R.meaning room.old).failures) }
     ensures unlent { IsErrOf result RoomFault.Failed
         → IsUnlent (room_transition R.A.account R.meaning room.old room.new) }
+    ensures unopened { IsErrOf result RoomFault.NoMemory
+        → IsUnopened (room_transition R.A.account R.meaning room.old room.new) }
 {
     let Ok(numbers) = numbers_in(alloc, tables) else {
         return Err(RoomFault::NoMemory);
@@ -88,11 +90,16 @@ fn take_archives<R: Room>(
 }
 
 /// Gives back all archives of the hand.
+///
+/// # Errors
+/// `Failed` exactly where the room itself failed at one of them.
 fn give_back<R: Room>(room: &mut R, remains: Remains<R::A>) -> Result<(), Failed>
     requires { AreOut (R.meaning room.old) (numbers_of remains.hand.items) }
     ensures home { IsHome (R.meaning room.new) }
     ensures untouched { Untouched (numbers_of remains.hand.items) (R.meaning room.old)
         (R.meaning room.new) }
+    ensures back { GivesBack R.A.account remains.hand.items (R.meaning room.old)
+        (R.meaning room.new) result }
     ensures cause { Caused (R.meaning room.old).faults (R.meaning room.new).faults (IsErr result) }
     ensures own { Caused (R.meaning room.old).failures (R.meaning room.new).failures
         (IsErr result) }
@@ -106,7 +113,8 @@ fn give_back<R: Room>(room: &mut R, remains: Remains<R::A>) -> Result<(), Failed
 /// Takes the archives of the tables of an image from the room, and opens a vault over them.
 ///
 /// # Errors
-/// `Failed` only where the room itself failed, or `NoMemory`. No archive is out then.
+/// `Failed` only where the room itself failed, or `NoMemory`. No archive is out then, and those
+/// that the room took back are as they were, but for losses that they counted.
 fn open_session<R: Room>(
     alloc: Global,
     image: Image,
@@ -129,6 +137,8 @@ fn open_session<R: Room>(
     ensures sound { OnOk result ((R.meaning room.new).failures ≡ (R.meaning room.old).failures) }
     ensures unlent { IsErrOf result RoomFault.Failed
         → IsUnlent (room_transition R.A.account R.meaning room.old room.new) }
+    ensures unopened { IsErrOf result RoomFault.NoMemory
+        → IsUnopened (room_transition R.A.account R.meaning room.old room.new) }
 {
     let Image {
         session,

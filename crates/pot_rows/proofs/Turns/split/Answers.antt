@@ -10,10 +10,10 @@ pub loop-at-preserved : goal.loop-at-preserved
 loop-at-preserved g c =
     let now = c.loop-at in
     let part = c.split_at-part.result in
-    let within : now.at < length c.args.self.now = omega (arith, c.len-at-end.ensures, now.auto.at-end, c.loop-at-test.true) in
+    let within : now.at < length c.args.self.now.names = omega (arith, c.len-at-end.ensures, now.auto.at-end, c.loop-at-test.true) in
     let items = c.push_reserved.ensures.items in
-    let room : length c.args.self.now ≤ vec_capacity c.push_reserved.new.self = omega (arith, now.invariant.1, c.push_reserved.ensures.capacity) in (
-      split_more c.args.self.now c.args.passes.now now.at c.args.parts now.passes _ c.split_at-part.new.passes _ (turn_of part) (view part) within now.invariant.0
+    let room : length c.args.self.now.names ≤ vec_capacity c.push_reserved.new.self = omega (arith, now.invariant.1, c.push_reserved.ensures.capacity) in (
+      split_more c.args.self.now.names c.args.passes.now now.at c.args.parts now.passes _ c.split_at-part.new.passes _ (turn_of part) (view part) within now.invariant.0
           c.split_at-part.ensures.left c.split_at-part.ensures.own c.split_at-part.ensures.given
           (ap (map turn_of) items ∙ map-append turn_of now.given.items (part ∷ [])) (ap (map view) items ∙ map-append view now.given.items (part ∷ [])),
       room,

@@ -6,5 +6,5 @@ use Rattle.pot_rows.proofs.Turns.split.Given as goal
 
 abbrev pub invariant-loop-at : goal.invariant-loop-at
 invariant-loop-at g l =
-    SplitSofar l.self l.at l.parts l.fn.passes l.passes (record { names = map turn_of l.given.items; views = map view l.given.items })
-    × (length l.self ≤ vec_capacity l.given)
+    SplitSofar l.self.names l.at l.parts l.fn.passes l.passes (record { names = map turn_of l.given.items; views = map view l.given.items })
+    × (length l.self.names ≤ vec_capacity l.given)

@@ -8,7 +8,7 @@ use Rattle.pot_rows.proofs.Turns.split_at.Goals as goal
 pub split-requires-clause-own : goal.split-requires-clause-own
 split-requires-clause-own g c =
     one_name turn_of name_of c.passes.inside.passes.items c.self.inside.turns.items _ _ c.args.at c.index_mut-pass.result.now c.index-turn.result.now
-    (ap (λ r. r.names) c.passes.view_is) c.self.view_is c.requires.own.0 c.requires.within c.index_mut-pass.ensures.value c.index-turn.ensures
+    (ap (λ r. r.names) c.passes.view_is) (ap (λ r. r.names) c.self.view_is) c.requires.own.0 c.requires.within c.index_mut-pass.ensures.value c.index-turn.ensures
 
 pub returns-clause-left : goal.returns-clause-left
 returns-clause-left g c =
@@ -21,5 +21,5 @@ returns-clause-left g c =
 pub returns-clause-own : goal.returns-clause-own
 returns-clause-own g c =
     ap Some c.in-Ok.ensures.own
-    ∙ sym (named_at turn_of c.passes.inside.passes.items c.args.self.now c.args.at c.index_mut-pass.result.now
+    ∙ sym (named_at turn_of c.passes.inside.passes.items c.args.self.now.names c.args.at c.index_mut-pass.result.now
     (ap (λ r. r.names) c.passes.view_is ∙ c.requires.own.0) c.requires.within c.index_mut-pass.ensures.value)

@@ -8,9 +8,9 @@ use Rattle.pot_rows.proofs.Turns.tie_at.Goals as goal
 pub tie_one-requires-clause-own : goal.tie_one-requires-clause-own
 tie_one-requires-clause-own g c = (
   one_name turn_of name_of c.mine.inside.passes.items c.self.inside.turns.items _ _ c.args.at c.index_mut-one.result.now c.index-turn.result.now
-      (ap (λ r. r.names) c.mine.view_is) c.self.view_is c.requires.own.0.0 c.requires.within c.index_mut-one.ensures.value c.index-turn.ensures,
+      (ap (λ r. r.names) c.mine.view_is) (ap (λ r. r.names) c.self.view_is) c.requires.own.0.0 c.requires.within c.index_mut-one.ensures.value c.index-turn.ensures,
   one_name turn_of name_of c.others.inside.passes.items c.self.inside.turns.items _ _ c.args.at c.index_mut-other.result.now c.index-turn.result.now
-      (ap (λ r. r.names) c.others.view_is) c.self.view_is c.requires.own.1.0 c.requires.within c.index_mut-other.ensures.value c.index-turn.ensures,
+      (ap (λ r. r.names) c.others.view_is) (ap (λ r. r.names) c.self.view_is) c.requires.own.1.0 c.requires.within c.index_mut-other.ensures.value c.index-turn.ensures,
 )
 
 pub returns : goal.returns

@@ -7,7 +7,10 @@ use Rattle.pot_group.specs.Group.{view_of}
 use Rattle.pot_shelves.specs.Shelves.{numbers_of}
 use Rattle.pot_shared.specs.Groups.{IsOpened, IsStarted, IsTakenFrom, AreMarked, AreTakenFrom, RoseBy}
 use Rattle.pot_shared.specs.Members.{opened_at}
-use Rattle.pot_shared.proofs.Lists.{first_is, some_left, each_more, drop_contains, is_zero}
+use Rattle.pot_bytes.proofs.Elements.{none_contained}
+use Rattle.pot_shared.specs.Hands.{AreApart, AreMeantButLost}
+use Rattle.pot_shared.proofs.Lists.{first_is, some_left, each_more, drop_contains, flat_snoc, is_zero}
+use Rattle.pot_shared.proofs.LostLemmas.{all_lost_none, apart_drop, lost_append}
 use Rattle.pot_shared.proofs.GroupLemmas.{none_started, one_started, all_started, next_table, hand_rest, started_long, had_long, all_there}
 use Rattle.pot_shared.proofs.opening.start_groups.Goals as goal
 
@@ -15,6 +18,7 @@ pub loop-alloc-init : goal.loop-alloc-init
 loop-alloc-init g c = record {
   started = none_started _ _ _ _ c.requires.none c.requires.hand;
   marked = λ meant told are. (are, λ n m e. (let q = sym e ∙ ap (λ ms. slice_get ms n) c.requires.none in absurd (cc)));
+  lost = λ meant told apart are. (apart, λ s has. absurd (none_contained s (subst (λ ms. Contains (flat_map (λ m. m.group.shelves.shelves) ms) s) c.requires.none has)));
   number_is = sym (ap length c.requires.none);
   space = refl;
   fits = c.requires.space;
@@ -70,6 +74,13 @@ loop-alloc-preserved g c =
               opened = subst (λ t. IsOpened meant (RoseBy meant t (opened_at (view_of g.A.Archive.account.meaning c.in-Ok.member.group).shelves)) t (view_of g.A.Archive.account.meaning c.in-Ok.member.group).log) (sym c.in-Ok.ensures.started.first) (c.in-Ok.ensures.opened meant told sofar.0);
             })),
       ));
+      lost = λ meant told apart are. (let sofar = c.loop-alloc.invariant.lost meant told apart are in (
+        subst (λ ss. AreApart (numbers_of ss)) (sym c.in-Ok.ensures.rest) (apart_drop c.loop-alloc.hand.items (length (archives_in c.remove-table.result)) sofar.0),
+        subst (λ ss. AreMeantButLost g.A.Archive.account.meaning meant ss)
+            (sym (ap (flat_map (λ m. m.group.shelves.shelves)) c.push_reserved.ensures.items ∙ flat_snoc (λ m. m.group.shelves.shelves) c.loop-alloc.members.items c.in-Ok.member))
+            (lost_append g.A.Archive.account.meaning meant (flat_map (λ m. m.group.shelves.shelves) c.loop-alloc.members.items) c.in-Ok.member.group.shelves.shelves sofar.1
+            (c.in-Ok.ensures.lost meant told sofar.0 (c.loop-alloc.invariant.marked meant told are).0)),
+      ));
       number_is = omega (arith, c.loop-alloc.invariant.number_is, more, one);
       space = c.start_group.ensures.space ∙ c.loop-alloc.invariant.space;
       fits = omega (arith, gone, drops, a, b, c.loop-alloc.invariant.fits, c.start_group.ensures.space);
@@ -84,6 +95,10 @@ returns-in-Err g c =
     record {
       started = tt;
       marked = λ meant told are. tt;
+      lost = λ meant told apart are.
+          lost_append g.A.Archive.account.meaning meant c.start_group.new.hand.items (flat_map (λ m. m.group.shelves.shelves) c.loop-alloc.members.items)
+          (all_lost_none g.A.Archive.account.meaning meant c.start_group.new.hand.items (λ s has. (c.loop-alloc.invariant.marked meant told are).0 s (c.in-Err.ensures.back s has)))
+          (c.loop-alloc.invariant.lost meant told apart are).1;
       empty = tt;
       refused = all_there _ _ _ _ _ _ c.loop-alloc.invariant.started c.in-Err.ensures.refused;
       few = omega (arith, long);
@@ -100,6 +115,9 @@ returns g c =
     record {
       started = all_started _ _ _ _ _ c.loop-alloc.invariant.started none;
       marked = λ meant told are. (c.loop-alloc.invariant.marked meant told are).1;
+      lost = λ meant told apart are.
+          lost_append g.A.Archive.account.meaning meant c.loop-alloc.hand.items (flat_map (λ m. m.group.shelves.shelves) c.loop-alloc.members.items)
+          (all_lost_none g.A.Archive.account.meaning meant c.loop-alloc.hand.items (c.loop-alloc.invariant.marked meant told are).0) (c.loop-alloc.invariant.lost meant told apart are).1;
       empty = nil_from_length c.loop-alloc.hand.items (omega (arith, hand, a));
       refused = tt;
       few = tt;

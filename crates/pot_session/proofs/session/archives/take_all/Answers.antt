@@ -8,10 +8,11 @@ use Rattle.pot_outside.specs.Archives.{IsMeant}
 use Rattle.pot_outside.specs.Counts.{Rose}
 use Rattle.pot_doubles.proofs.CallLemmas.{rose_later}
 use Rattle.pot_shared.specs.Hands.{times, AreMeant}
+use Rattle.pot_shared.proofs.LostLemmas.{all_lost_none}
 use Rattle.pot_commands.specs.Holding.{AreOut}
 use Rattle.pot_commands.proofs.ArrivingLemmas.{same_at}
 use Rattle.pot_session.proofs.Counts.{rose_before, err_again}
-use Rattle.pot_session.proofs.GivingLemmas.{is_unlent}
+use Rattle.pot_session.proofs.GivingLemmas.{is_unlent, is_unopened}
 use Rattle.pot_session.proofs.OutLemmas.{none_out, is_home, out_more, out_same, apart_before, apart_from, apart_next, none_before, times-next, numbers-snoc, numbers-length}
 use Rattle.pot_session.proofs.MeantLemmas.{meant_more}
 use Rattle.pot_session.proofs.session.archives.take_all.Goals as goal
@@ -95,6 +96,12 @@ returns-in-Err g c = record {
       (λ n none. c.give_all-given.ensures.untouched n none
       ∙ (same_at (g.R.Room.meaning c.loop-number.room).means (g.R.Room.meaning c.take.new.self).means (get_or c.args.numbers.now c.loop-number.number-index 0) c.in-Err.ensures.unchanged (λ m ne. (c.take.ensures.others m ne).0) n
       ∙ c.loop-number.invariant.untouched n (sym (ap (times n) c.loop-number.invariant.taken) ∙ none)));
+  unopened = λ e. is_unopened g.R.A.Archive.account c.loop-number.hand.items (g.R.Room.meaning c.args.room.now) (g.R.Room.meaning c.take.new.self) (g.R.Room.meaning c.give_all-given.new.room) c.give_all-given.result
+      (c.in-Err.ensures.starved (err_again _ _ e) ∙ c.loop-number.invariant.own)
+      c.give_all-given.ensures.back (λ told. all_lost_none g.R.A.Archive.account.meaning (g.R.Room.meaning c.args.room.now).means c.loop-number.hand.items (c.loop-number.invariant.meant told))
+      (λ n none. c.give_all-given.ensures.untouched n none
+      ∙ (same_at (g.R.Room.meaning c.loop-number.room).means (g.R.Room.meaning c.take.new.self).means (get_or c.args.numbers.now c.loop-number.number-index 0) c.in-Err.ensures.unchanged (λ m ne. (c.take.ensures.others m ne).0) n
+      ∙ c.loop-number.invariant.untouched n (sym (ap (times n) c.loop-number.invariant.taken) ∙ none)));
 }
 
 pub returns : goal.returns
@@ -113,4 +120,5 @@ returns g c =
       own = record { later = (let a = c.loop-number.invariant.own in omega (arith, a)); rose = λ e. absurd (cc) };
       sound = c.loop-number.invariant.own;
       unlent = λ e. absurd (cc);
+      unopened = λ e. absurd (cc);
     }

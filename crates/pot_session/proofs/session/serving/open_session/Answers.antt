@@ -6,6 +6,7 @@ use Rattle.pot_shared.specs.Hands.{AreApart}
 use Rattle.pot_commands.specs.Holding.{AreOut, Untouched}
 use Rattle.pot_shared.specs.Groups.{AreLow}
 use Rattle.pot_session.proofs.ArchiveLemmas.{image_apart}
+use Rattle.pot_session.proofs.GivingLemmas.{is_unopened}
 use Rattle.pot_session.proofs.LendLemmas.{image_low}
 use Rattle.pot_session.proofs.ServeLemmas.{first_tables}
 use Rattle.pot_session.proofs.session.serving.open_session.Goals as goal
@@ -57,3 +58,11 @@ returns-in-Ok-open-clause-untouched g c =
 pub give_back-given-requires-after_bounds : goal.give_back-given-requires-after_bounds
 give_back-given-requires-after_bounds g c = λ bounds within n.
     c.in-Err-open.ensures.refused n ∙ subst (λ ts. AreOut (g.R.Room.meaning c.take_archives.new.room) (flat_map archives_in ts)) c.deref.ensures.value c.in-Ok.ensures.out n
+
+pub returns-in-Err-open-clause-unopened : goal.returns-in-Err-open-clause-unopened
+returns-in-Err-open-clause-unopened g c e =
+    is_unopened g.R.A.Archive.account c.open.new.remains.hand.items (g.R.Room.meaning c.args.room.now) (g.R.Room.meaning c.take_archives.new.room) (g.R.Room.meaning c.give_back-given.new.room) c.give_back-given.result
+    c.in-Ok.ensures.sound c.give_back-given.ensures.back
+    (λ told. c.in-Err-open.ensures.lost (g.R.Room.meaning c.args.room.now).means told (image_apart (contents c.args.image) c.requires.together) (c.in-Ok.ensures.meant told))
+    (λ n none. c.give_back-given.ensures.untouched n none
+    ∙ subst (λ ts. Untouched (flat_map archives_in ts) (g.R.Room.meaning c.args.room.now) (g.R.Room.meaning c.take_archives.new.room)) c.deref.ensures.value c.take_archives.ensures.untouched n (sym (c.in-Err-open.ensures.refused n) ∙ none))

@@ -7,7 +7,7 @@ use Rattle.pot_shelves.specs.Shelves.{numbers_of}
 use Rattle.pot_shared.specs.Groups.{had_by}
 use Rattle.pot_shared.specs.Opening.{IsOpenedFrom}
 use Rattle.pot_shared.specs.Remains.{IsBare, KeepsSpace}
-use Rattle.pot_shared.specs.Hands.{times}
+use Rattle.pot_shared.specs.Hands.{times, AreApart, AreMeantButLost}
 use Rattle.pot_shared.proofs.GroupLemmas.{had_all}
 use Rattle.pot_shared.proofs.OpenLemmas.{of_rack, firsts}
 use Rattle.pot_shared.proofs.Results.{on_err, on_ok}
@@ -53,3 +53,11 @@ returns-in-Ok-start_groups-clause-refused g c =
 
 pub returns-in-Ok-start_groups-clause-taken : goal.returns-in-Ok-start_groups-clause-taken
 returns-in-Ok-start_groups-clause-taken g c meant told are = c.share.ensures.taken meant (c.in-Ok-start_groups.ensures.marked meant told are)
+
+pub returns-in-Ok-start_groups-clause-lost : goal.returns-in-Ok-start_groups-clause-lost
+returns-in-Ok-start_groups-clause-lost g c meant told apart are =
+    on_err c.share.result c.share.ensures.back (λ e. subst (λ ss. AreMeantButLost g.A.Archive.account.meaning meant ss) (sym e) (c.start_groups.ensures.lost meant told (subst AreApart (sym c.requires.hand) apart) are))
+
+pub returns-in-Err-clause-lost : goal.returns-in-Err-clause-lost
+returns-in-Err-clause-lost g c meant told apart are =
+    subst (λ ss. AreMeantButLost g.A.Archive.account.meaning meant ss) (sym c.end_groups.ensures.shelves) (c.start_groups.ensures.lost meant told (subst AreApart (sym c.requires.hand) apart) are)
