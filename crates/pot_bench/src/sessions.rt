@@ -2,7 +2,6 @@
 //! and leaves a desk again.
 ghost use Rattle.std.specs.Prelude.{◌≡◌, ◌<◌, ◌≤◌, [], ℕ, IsTrue, IfOk, Some, length, slice_get};
 ghost use Rattle.std.proofs.Props.{props};
-ghost use Rattle.std.specs.Vec.{vec_capacity};
 ghost use Rattle.pot_bytes.specs.Rack.{IsRack};
 ghost use Rattle.pot_bench.specs.Plain.{meaning_in};
 ghost use Rattle.pot_group.specs.Group.{view_of};
@@ -212,7 +211,6 @@ impl Session {
     ghost use Rattle.pot_shared.specs.Works.{section_of, JobOnlyWriter, JobWroteOnly, IsSettingOf};
     ghost use Rattle.pot_store.specs.Stores.{DrawsFrom, StoreRow};
     ghost use Rattle.pot_store.specs.Fetches.{AreFilled, FetchRow};
-    ghost use Rattle.pot_store.specs.Stored.{FetchGives};
     ghost use Rattle.pot_bench.specs.declared.rows.TheConstants.{SEED};
     ghost use Rattle.pot_bench.specs.Sessions.{knows};
 
@@ -266,10 +264,6 @@ impl Session {
             → IsSettingOf s self.old.vault.rack (knows self.old)
             → s.mends ≡ true → AreFilled s
             → FetchRow s job name.now result (section_of (knows self.old) (knows self.new)) }
-        ensures stored { JobOnlyWriter job (knows self.old) (knows self.new) → (s : Setting)
-            → IsSettingOf s self.old.vault.rack (knows self.old)
-            → s.mends ≡ true → AreFilled s
-            → FetchGives s job name.now result (section_of (knows self.old) (knows self.new)) }
     {
         let caller = Caller {
             rt,

@@ -8,13 +8,11 @@ use Rattle.pot_machine.specs.declared.entry.Entry.TheVariants as entry
 use Rattle.pot_machine.specs.Logs.{own, replayed}
 use Rattle.pot_machine.specs.Table.{column_at}
 use Rattle.pot_bytes.specs.declared.rack.Geometry.{Geometry}
-use Rattle.pot_bytes.specs.Digests.{digest_of}
 use Rattle.pot_steps.specs.GroupStep.{skips, gone_entries}
 use Rattle.pot_script.specs.declared.command.Command.{Command}
 use Rattle.pot_script.specs.declared.command.Command.TheVariants as commands
 use Rattle.pot_script.specs.declared.reply.Reply.{Reply}
 use Rattle.pot_script.specs.declared.reply.Reply.TheVariants as replies
-use Rattle.pot_shared.specs.Catalogs.{Publishes}
 use Rattle.pot_replies.specs.Settings.{Setting}
 use Rattle.pot_replies.specs.Jobs.{is_copied, is_move_of, EachIs}
 use Rattle.pot_replies.specs.Sections.{Section, JobEntries, mine, Widens, IsOnlyIn, IsSilent}
@@ -22,12 +20,11 @@ use Rattle.pot_replies.specs.Stores.{Placed, IsLong, IsTaken, IsStored, IsStoreF
 use Rattle.pot_replies.specs.Renewals.{AllPut}
 use Rattle.pot_replies.specs.Listings.{IsIndexFull}
 use Rattle.pot_replies.specs.Fetches.{IsAbsent}
-use Rattle.pot_replies.proofs.Standing.{same_own, mine_stays, moment_stands, index_moment_stands, found_stands, mends_stand, entries_stand, seen_as_stands}
+use Rattle.pot_replies.proofs.Standing.{same_own, mine_stays, moment_stands, index_moment_stands, found_stands, mends_stand, entries_stand}
 use Rattle.pot_replies.proofs.FetchStanding.{file_stands, odd_stands, lost_stands, fetch_fault_stands, fetch_log_full_stands}
 use Rattle.pot_replies.proofs.RenewStanding.{renewed_stands, often_stands, often_late_stands, renew_index_full_stands, renew_fault_stands, renew_full_stands, renew_log_full_stands}
 use Rattle.pot_replies.proofs.ScrubStanding.{scrubbed_stands, scrub_fault_stands, scrub_log_full_stands, repaired_stands, repair_fault_stands, repair_log_full_stands}
 use Rattle.pot_store.specs.Fetches.{IsUnfinished}
-use Rattle.pot_store.specs.Stored.{GivesOf}
 use Rattle.pot_mend.specs.Moves.{EndsMove, MoveRow}
 use Rattle.pot_mend.specs.declared.fault.MendFault.{MendFault}
 use Rattle.pot_mend.specs.declared.fault.MendFault.TheVariants as fault
@@ -74,19 +71,6 @@ module _ (s : Setting) (job : ℕ) (w w' : Section) (wide : Widens job w w') whe
     full = is.full;
   }
 
-  gives_stands : (name : List ℕ) (So : List ℕ → Type 0) → GivesOf s job name w So → GivesOf s job name w' So
-  gives_stands name So (kept, found, (read, reads, so)) = (
-    kept,
-    found_stands job w w' wide [] s name kept found,
-    (
-      read,
-      (λ b there.
-          let r = reads b there in
-          (r.0, r.1, seen_as_stands job w w' wide (s.first r.0.group) r.0.group r.0.stripe r.0.column (digest_of b) r.2)),
-      (λ published. so (subst (λ l. Publishes (l ++ found.sofar) kept) wide.index_before published)),
-    ),
-  )
-
   store_stands : (name file : List ℕ) (r : Reply) → IsStoreReply s job name file r w → IsStoreReply s job name file r w'
   store_stands name file (replies.Stored of pieces shards) row = (row.0, subst (IsStored s job name file pieces shards) same row.1)
   store_stands name file (replies.Long of size) row = (row.0, row.1, subst (IsLong _) same row.2)
@@ -98,10 +82,10 @@ module _ (s : Setting) (job : ℕ) (w w' : Section) (wide : Widens job w w') whe
   store_stands name file _ row = absurd row
 
   fetch_stands : (name : List ℕ) (r : Reply) → IsFetchReply s job name r w → IsFetchReply s job name r w'
-  fetch_stands name (replies.File of bytes) row = (row.0, file_stands s job name _ w w' wide row.1, gives_stands name _ row.2)
+  fetch_stands name (replies.File of bytes) row = (row.0, file_stands s job name _ w w' wide row.1)
   fetch_stands name (replies.Absent of) row = (row.0, subst (IsAbsent job name) same row.1)
   fetch_stands name (replies.Lost of piece fragment have need) row = (row.0, (row.1.0, row.1.1, lost_stands s job name piece row.1.0 have need w w' wide row.1.2))
-  fetch_stands name (replies.Odd of wanted got) row = (row.0, odd_stands _ s job name wanted got w w' wide row.1, gives_stands name _ row.2)
+  fetch_stands name (replies.Odd of wanted got) row = (row.0, odd_stands _ s job name wanted got w w' wide row.1)
   fetch_stands name (replies.Fault group column) row = fetch_fault_stands s job name group column w w' wide row
   fetch_stands name (replies.LogFull group) row = fetch_log_full_stands s job name group w w' wide row
   fetch_stands name replies.IndexLogFull row = index_full_stands 1 row

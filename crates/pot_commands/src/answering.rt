@@ -9,7 +9,6 @@ ghost use Rattle.pot_replies.specs.Sections.{Section, mine, IsSilent};
 ghost use Rattle.pot_shared.specs.Works.{JobWroteOnly, JobOnlyWriter, section_of};
 ghost use Rattle.pot_store.specs.Stores.{StoreRow};
 ghost use Rattle.pot_store.specs.Fetches.{FetchRow, IsUnfinished};
-ghost use Rattle.pot_store.specs.Stored.{FetchGives};
 ghost use Rattle.pot_store.specs.Renewals.{RenewRow};
 ghost use Rattle.pot_mend.specs.Scrubs.{ScrubRow};
 ghost use Rattle.pot_mend.specs.Repairs.{RepairRow};
@@ -68,7 +67,7 @@ fn store_reply(name: &Name, answer: Result<Stored, StoreFault>) -> Result<Reply,
 /// The reply to a fetch, by its answer.
 fn fetch_reply(name: &Name, answer: Result<Vec<u8>, FetchFault>) -> Result<Reply, NoMemory>
     ensures { (s : Setting) → (job : ℕ) → (w : Section)
-        → FetchRow s job name.now answer w → FetchGives s job name.now answer w
+        → FetchRow s job name.now answer w
         → MatchResult result (λ reply. IsFetchReply s job name.now reply w)
         (λ e. IsUnfinished s job name.now w) }
 {

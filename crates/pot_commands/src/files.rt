@@ -8,7 +8,6 @@ ghost use Rattle.pot_shared.specs.Callers.{CanCall, IfOnlyWriterFor};
 ghost use Rattle.pot_shared.specs.Works.{JobWroteOnly};
 ghost use Rattle.pot_store.specs.Stores.{DrawsFrom, StoreRow};
 ghost use Rattle.pot_store.specs.Fetches.{AreFilled, FetchRow};
-ghost use Rattle.pot_store.specs.Stored.{FetchGives};
 ghost use Rattle.pot_store.specs.Renewals.{RenewsFrom, RenewRow};
 ghost use Rattle.pot_commands.specs.Rows.{IsListReply};
 
@@ -66,8 +65,6 @@ pub(crate) fn fetch<A: Archive, X: Wait>(
     ensures worked { JobWroteOnly caller.now.job passes.old passes.new }
     ensures says { IfOnlyWriterFor caller.now passes.old passes.new
         (λ s w. s.mends ≡ true → AreFilled s → FetchRow s caller.now.job name.now result w) }
-    ensures stored { IfOnlyWriterFor caller.now passes.old passes.new
-        (λ s w. s.mends ≡ true → AreFilled s → FetchGives s caller.now.job name.now result w) }
     ensures blinds { Blinds (IsTrue A.account.tells) caller.now.job pads.old pads.new
         passes.old.groups passes.new.groups }
 {

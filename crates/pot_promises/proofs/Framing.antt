@@ -1,10 +1,8 @@
 -- What the archives of a session may hold and may have heard after it.
-use Rattle.std.proofs.Common.{◌≡◌, ◌<◌, ◌++◌, ℕ, IsTrue, List, [], Some, length, sym, ap, ◌∙◌, subst, arith}
-use Rattle.std.specs.Prelude.{Contains, slice_get}
+use Rattle.std.proofs.Common.{◌≡◌, ◌<◌, ◌++◌, ℕ, IsTrue, List, [], length, sym, ◌∙◌, subst, arith}
+use Rattle.std.specs.Prelude.{Contains}
 use Rattle.pot_bytes.proofs.Elements.{element_at}
-use Rattle.pot_outside.specs.Accounts.{Transition}
 use Rattle.pot_outside.specs.Archives.{Meaning}
-use Rattle.pot_outside.specs.Rooms.{RoomState}
 use Rattle.pot_machine.specs.declared.entry.Entry.{Entry}
 use Rattle.pot_machine.specs.Table.{Table, archives_in}
 use Rattle.pot_steps.specs.declared.flight.Flight.{Flight}
@@ -12,12 +10,10 @@ use Rattle.pot_shelves.specs.Shelves.{Shelves}
 use Rattle.pot_group.specs.Arrivals.{arrivals}
 use Rattle.pot_group.specs.Group.{GroupView}
 use Rattle.pot_group.specs.Heard.{FlyBy}
-use Rattle.pot_image.specs.Images.{Contents}
-use Rattle.pot_replies.specs.Sections.{Section}
 use Rattle.pot_shared.specs.Groups.{had_by}
 use Rattle.pot_shared.specs.Hands.{times}
 use Rattle.pot_shared.specs.Leaving.{AreWithin, IsWithin, LeavesGroup, Shows}
-use Rattle.pot_session.specs.Serving.{IsInRoom, Leaves}
+use Rattle.pot_session.specs.Serving.{IsInRoom}
 use Rattle.pot_session.proofs.LossLemmas.{get_within}
 use Rattle.pot_promises.specs.Frames.{FrameOfRun, IsFramed}
 

@@ -1,14 +1,11 @@
 -- The reads of the record that was found, and what each answer says of them.
 use Rattle.std.proofs.Common.{◌≡◌, ◌<◌, ◌≤◌, inr, ⊎_elim, ℕ, ◌+◌, ◌*◌, true, false, List, [], ◌∷◌, ◌++◌, IsTrue, length, ap, sym, ◌∙◌, subst, arith, append_assoc, length-append}
-use Rattle.std.specs.Prelude.{IfSome, Result, Ok, Err, Vec, Contains, slice_index_or}
+use Rattle.std.specs.Prelude.{IfSome, Result, Ok, Err, Vec}
 use Rattle.std.specs.Global.{Global}
-use Rattle.std.proofs.lemmas.List.Elements.{Contains-append_cases, Contains-append_left}
 use Rattle.std.proofs.lemmas.List.{length-map}
 use Rattle.std.proofs.lemmas.Bool.{cases_lt}
-use Rattle.pot_bytes.specs.declared.digest.Digest.{Digest}
 use Rattle.pot_bytes.specs.declared.rack.Place.{Place}
 use Rattle.pot_bytes.specs.declared.rack.Rack.{Rack}
-use Rattle.pot_bytes.proofs.Elements.{one_contained}
 use Rattle.pot_machine.specs.declared.entry.Entry.{Entry}
 use Rattle.pot_machine.specs.declared.entry.Entry.TheVariants as entry
 use Rattle.pot_machine.specs.Slot.{is_live, is_void}
@@ -16,12 +13,7 @@ use Rattle.pot_machine.specs.Table.{slot_at}
 use Rattle.pot_machine.specs.Logs.{own, replayed}
 use Rattle.pot_machine.proofs.Logs.{replays_is}
 use Rattle.pot_bytes.specs.Digests.{digest_of}
-use Rattle.pot_shard.specs.FileBlocks.{file_blocks}
-use Rattle.pot_steps.proofs.CallLemmas.{is_digest}
-use Rattle.pot_index.specs.declared.entry.IndexEntry.TheVariants.{Find}
-use Rattle.pot_index.specs.declared.entry.Logged.{Logged}
 use Rattle.pot_index.specs.declared.record.Record.{Record}
-use Rattle.pot_index.specs.Entries.{plain, bringing}
 use Rattle.pot_index.specs.Fits.{FitsRack}
 use Rattle.pot_index.specs.Index.{IsRecordOf}
 use Rattle.pot_turn.specs.declared.name.TurnName.{TurnName}
@@ -34,23 +26,21 @@ use Rattle.pot_replies.specs.Settings.{Setting}
 use Rattle.pot_replies.specs.Fetches.{Found, SeenAs, IsLost, IsFetchFault}
 use Rattle.pot_shared.specs.Members.{entries_of}
 use Rattle.pot_shared.specs.Ready.{GroupPasses, AreReady}
-use Rattle.pot_shared.specs.Seen.{RowKnowsMore, SeesFile}
-use Rattle.pot_shared.specs.Catalogs.{IndexPasses, IsIndexReady, Publishes}
+use Rattle.pot_shared.specs.Seen.{RowKnowsMore}
+use Rattle.pot_shared.specs.Catalogs.{IndexPasses, IsIndexReady}
 use Rattle.pot_shared.specs.IndexCalls.{IndexCall, FindsRecord}
 use Rattle.pot_store.specs.declared.fetching.FetchFault.{FetchFault}
 use Rattle.pot_store.specs.declared.fetching.FetchFault.TheVariants as fault
 use Rattle.pot_shared.specs.Works.{of_job, gained, known, section_of, JobWroteOnly, JobOnlyWriter, IsSettingOf}
 use Rattle.pot_store.specs.Visits.{Seen, Lost, Visit, IsReadAt, EndsGone, visit_at, came_at, place_in, logged_from, seen_in}
-use Rattle.pot_store.specs.Stored.{blocks_in, IsStoredAs, IsReadOf, FetchGives}
 use Rattle.pot_store.specs.Reads.{IsMade, AreMade, AreHad, IsStopped, IsFileIn, EndsFetch}
 use Rattle.pot_store.specs.Fetches.{AreFilled, FetchRow, IsUnfinished}
 use Rattle.pot_shared.proofs.WorkLemmas.{known_work, known_none, own_more}
 use Rattle.pot_store.proofs.ReadLemmas.{both_gained, read_back, seen_parts}
 use Rattle.pot_store.proofs.EntryLemmas.{has_place}
-use Rattle.pot_store.proofs.StoredLemmas.{from_blocks, same_file}
 use Rattle.pot_store.proofs.FilledLemmas.{filled_of}
 use Rattle.pot_store.proofs.GoneLemmas.{GoneTwice, has_origin, live_is}
-use Rattle.pot_store.proofs.FitLemmas.{there_is, has_slot, many_places}
+use Rattle.pot_store.proofs.FitLemmas.{has_slot, many_places}
 use Rattle.pot_store.proofs.RowLemmas.{entries, file_row, file_kept, odd_row}
 use Rattle.pot_store.proofs.ShortLemmas.{lost_row, fault_row, full_row}
 use Rattle.pot_store.proofs.LookLemmas.{AreVisits, came_past}
@@ -121,7 +111,7 @@ module _ (job : ℕ) (name : List ℕ) (rack : Rack) (names turn : List TurnName
     seen_as room x b is =
         let p : Place = place_in kept.places x in
         let lt : x < length visits = seen_within x b is in
-        let it : IsReadAt job p b u w = read_back job u v w tied reads.worked p b ((made x lt).block.read b is) in
+        let it : IsReadAt job p b u w = read_back job u v w tied reads.worked p b ((made x lt).block b is) in
         let first : s.first p.group ≡ it.0.first = subst (λ o. IfSome o (λ y. s.first p.group ≡ y.first)) it.1 (set.first p.group (named x (omega (arith, lt, room)))) in
         subst (λ t. SeenAs t job (all.before p.group) (all.added p.group) p.stripe p.column (digest_of b)) (sym first) it.2
 
@@ -204,60 +194,3 @@ module _ (job : ℕ) (name : List ℕ) (rack : Rack) (names turn : List TurnName
     -- no memory, with these visits
     pub unfinished : length visits ≤ length kept.places → IsUnfinished s job name all
     unfinished room = inr (kept, found, entries s rack job name kept all visits fits logs room are)
-
-    -- THE FILE THAT WAS STORED
-
-    published_there : Publishes (all.index_before ++ found.sofar) kept → Publishes call.turn.old.log kept
-    published_there (e, soon) =
-        let gain = search_gain job name rack names turn ui wi v (Ok kept) index_ready call in
-        let log : all.index_before ++ all.index_added ≡ call.turn.old.log ++ plain (Find job name true) ∷ [] =
-        ap (λ l. all.index_before ++ l) gain
-        ∙ (sym (append_assoc all.index_before call.turn.others (plain (Find job name true) ∷ [])) ∙ ap (λ l. l ++ plain (Find job name true) ∷ []) (sym call.turn.transition)) in
-        let it : Logged = bringing e kept in
-        let has : Contains (all.index_before ++ all.index_added) it =
-        subst (λ l. Contains l it) (append_assoc all.index_before found.sofar (plain (Find job name true) ∷ found.later) ∙ ap (λ l. all.index_before ++ l) (sym found.at))
-        (Contains-append_left (all.index_before ++ found.sofar) (plain (Find job name true) ∷ found.later) it soon) in (
-          e,
-          ⊎_elim
-              (λ (before : Contains call.turn.old.log it). before)
-              (λ (last : Contains (plain (Find job name true) ∷ []) it). absurd (let none = ap (λ (x : Logged). x.brought) (one_contained (plain (Find job name true)) it last) in cc none))
-              (Contains-append_cases call.turn.old.log (plain (Find job name true) ∷ []) it (subst (λ l. Contains l it) log has)),
-        )
-
-    stored_as : (contents : List (List ℕ)) (bytes : List ℕ) (So : List ℕ → Type 0) → IsFileIn kept visits contents bytes → ((f : List ℕ) → bytes ≡ f → digest_of f ≡ kept.digest → So f)
-        → Publishes (all.index_before ++ found.sofar) kept → IsStoredAs kept (blocks_in visits) So
-    stored_as contents bytes So file make published =
-        let sees : SeesFile v kept = call.turn.call.1 kept (published_there published) in
-        let digest : digest_of sees.file ≡ kept.digest = sym (is_digest kept.digest sees.file (ap (λ (d : Digest). d.bytes) sees.digest)) in
-        record {
-          file = sees.file;
-          random = sees.random;
-          store = sees.store;
-          long = sees.long;
-          digest = digest;
-          so = λ alike. make sees.file
-              (same_file rack kept fits visits contents bytes sees.file sees.random file sees.store sees.long
-              (λ x b is lt.
-              let d : Digest = digest_of (slice_index_or (file_blocks kept.geometry sees.file sees.random) x []) in
-              (made x (seen_within x b is)).block.gives b is d (sees.puts x (place_in kept.places x) (there_is kept.places x lt)).1)
-              alike)
-              digest;
-        }
-
-    read_of : length visits ≤ length kept.places → (b : List ℕ) → Contains (blocks_in visits) b → IsReadOf s job kept all b
-    read_of room b has =
-        let r = from_blocks visits b has in
-        let lt : r.0 < length visits = seen_within r.0 b r.1 in
-        (place_in kept.places r.0, has_place kept.places r.0 (omega (arith, lt, room)), seen_as room r.0 b r.1)
-
-    pub gives_row : (result : Result (Vec ℕ Global) FetchFault) → EndsFetch kept visits result w → FetchGives s job name result all
-    gives_row (Ok bytes) (contents, file, digest) =
-        (kept, found, (blocks_in visits, read_of (file_room contents bytes.items file), stored_as contents bytes.items (λ f. bytes.items ≡ f) file (λ f e d. e)))
-    gives_row (Err (fault.Odd wanted got)) (contents, bytes, file, is, got_is, differs) =
-        (kept, found, (blocks_in visits, read_of (file_room contents bytes file), stored_as contents bytes (λ f. ⊥) file (λ f e d. differs (got_is ∙ (ap digest_of e ∙ (d ∙ sym is))))))
-    gives_row (Err fault.NoMemory) is = tt
-    gives_row (Err fault.IndexLogFull) is = tt
-    gives_row (Err fault.Absent) is = tt
-    gives_row (Err (fault.Faulted group column)) is = tt
-    gives_row (Err (fault.Lost piece number have m)) is = tt
-    gives_row (Err (fault.LogFull group)) is = tt

@@ -27,7 +27,6 @@ pub mod RowLemmas
 pub mod ShortLemmas
 pub mod PointLemmas
 pub mod PieceLemmas
-pub mod StoredLemmas
 pub mod RecordLemmas
 pub mod SearchLemmas
 pub mod FilledLemmas

@@ -105,7 +105,7 @@ no_gone : (job : ℕ) (p : Place) (xs : List Entry) (x : Entry) → (x ≡ entry
 no_gone job p xs x other (sofar, e, parts, is) = other (last_same xs sofar x e parts ∙ is)
 
 no_block : (job : ℕ) (p : Place) (c : Came) (old new : GroupPasses) → ((block : List ℕ) → c ≡ came.Seen block → ⊥) → ReadsBlock job p c old new
-no_block job p c old new unseen = record { read = λ block is. absurd (unseen block is); gives = λ block is d put. absurd (unseen block is) }
+no_block job p c old new unseen block is = absurd (unseen block is)
 
 module _ (told : Type 0) (rack : Rack) (names : List TurnName) (job : ℕ) (p : Place) (pads : Pads) (within : p.group < length names) (result : Mend) (old new : GroupPasses)
     (ends : EndsMend told rack names job p pads within result old new) where

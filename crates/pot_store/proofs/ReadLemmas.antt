@@ -1,11 +1,10 @@
 -- Visits after visits.
 use Rattle.std.proofs.Common.{◌≡◌, ◌≢◌, ◌<◌, ◌≤◌, inl, ⊎_elim, ℕ, zero, suc, ◌+◌, ◌-◌, Bool, true, false, List, [], ◌∷◌, ◌++◌, length, refl, ap, sym, ◌∙◌, subst, arith, append-nil, append_assoc, length-append, replicate}
 use Rattle.std.specs.Prelude.{IfSome, Contains, filter, slice_set, if◌then◌else◌}
-use Rattle.std.proofs.lemmas.List.Elements.{Contains-append_left, Contains-append_right}
+use Rattle.std.proofs.lemmas.List.Elements.{Contains-append_right}
 use Rattle.std.proofs.lemmas.List.{map-append}
 use Rattle.std.proofs.lemmas.Bool.{cases_eq, cases_lt}
 use lib.Seq.{drop-length}
-use Rattle.pot_bytes.specs.declared.digest.Digest.{Digest}
 use Rattle.pot_bytes.specs.declared.rack.Place.{Place}
 use Rattle.pot_bytes.proofs.Elements.{parted_at}
 use Rattle.pot_machine.specs.declared.entry.Entry.{Entry}
@@ -24,7 +23,7 @@ use Rattle.pot_shared.specs.Members.{entries_of}
 use Rattle.pot_shared.specs.Ready.{GroupPasses}
 use Rattle.pot_shared.specs.Works.{of_job, gained}
 use Rattle.pot_shared.specs.Adds.{Adds}
-use Rattle.pot_store.specs.Visits.{Came, Lost, Visit, unvisited, IsVisit, IsReadAt, HasPut, ReadsBlock, SoundThenGone, EndsGone, visit_at, place_in, logged_from}
+use Rattle.pot_store.specs.Visits.{Came, Lost, Visit, unvisited, IsVisit, IsReadAt, ReadsBlock, SoundThenGone, EndsGone, visit_at, place_in, logged_from}
 use Rattle.pot_store.specs.Reads.{IsMade, AreMade}
 use Rattle.pot_shared.proofs.WorkLemmas.{own_more, row_stays}
 use Rattle.pot_store.proofs.LookLemmas.{visit_front, visit_back, visit_none, visit_set, visit_other, set_long, logged-append, logged_none, logged_last, logged_set, logged_set_else}
@@ -92,15 +91,6 @@ module _ (job : ℕ) (u v w : GroupPasses) (first : RowWroteOnlyFor (of_job job)
     ),
   )
 
-  -- a put that was seen is seen later
-  put_later : (p : Place) (d : Digest) → HasPut u p d → HasPut v p d
-  put_later p d (by, e, put, has) = (
-    by,
-    e,
-    put,
-    subst (λ es. Contains es e) (sym (seen_parts p.group)) (Contains-append_left (entries_of (view_at u p.group).seen) (gained u v p.group) e has),
-  )
-
   -- a second Gone in the first part, or in the second
   gone_front : (p : Place) (Behind : List Entry → Type 0) → SoundThenGone job p Behind u v → SoundThenGone job p Behind u w
   gone_front p Behind is read at =
@@ -136,12 +126,12 @@ module _ (job : ℕ) (u v w : GroupPasses) (first : RowWroteOnlyFor (of_job job)
 
   -- the same of a whole visit
   block_back : (p : Place) (came : Came) → ReadsBlock job p came v w → ReadsBlock job p came u w
-  block_back p came is = record { read = λ b e. read_back p b (is.read b e); gives = λ b e d put. is.gives b e d (put_later p d put) }
+  block_back p came is b e = read_back p b (is b e)
 
   made_front : (p : Place) (x : Visit) → IsMade job p x u v → IsMade job p x u w
   made_front p x made = record {
     is = made.is;
-    block = record { read = λ b e. read_front p b (made.block.read b e); gives = made.block.gives };
+    block = λ b e. read_front p b (made.block b e);
     again = λ alone lost ends.
         gone_front p (λ y. (a : List Entry) × (between : List Entry) × (y ≡ a ++ entry.Gone job p.stripe p.column ∷ between))
         (made.again (row_alone_in_parts (of_job job) u v w first next alone).0 lost ends);
@@ -250,7 +240,7 @@ is_unvisited job p = record {
 unmade : (job : ℕ) (p : Place) (u : GroupPasses) → IsMade job p unvisited u u
 unmade job p u = record {
   is = is_unvisited job p;
-  block = record { read = λ b e. absurd (cc e); gives = λ b e d put. absurd (cc e) };
+  block = λ b e. absurd (cc e);
   again = λ alone lost ends. absurd (cc lost);
 }
 

@@ -1,16 +1,12 @@
 -- A look at a place, as a visit, and what was read behind other work.
 use Rattle.std.proofs.Common.{◌≡◌, ◌<◌, ◌⊎◌, inl, inr, ⊎_elim, ℕ, zero, suc, true, List, [], ◌∷◌, ◌++◌, length, refl, ap, sym, ◌∙◌, subst, arith, append_assoc, eq-eqb}
-use Rattle.std.specs.Prelude.{Some, Contains, ◌==◌, ◌&&◌}
-use Rattle.std.proofs.lemmas.List.Elements.{Contains-append_left}
+use Rattle.std.specs.Prelude.{Contains, ◌==◌, ◌&&◌}
 use Rattle.std.proofs.lemmas.List.{map-append}
-use Rattle.std.proofs.lemmas.Option.{same_Some}
-use Rattle.pot_bytes.specs.declared.digest.Digest.{Digest}
 use Rattle.pot_bytes.specs.declared.rack.Place.{Place}
 use Rattle.pot_bytes.specs.Rack.{log_bound}
 use Rattle.pot_machine.specs.declared.entry.Entry.{Entry}
 use Rattle.pot_machine.specs.declared.entry.Entry.TheVariants as entry
 use Rattle.pot_machine.specs.declared.slot.SlotState.TheVariants.{Live}
-use Rattle.pot_machine.specs.Slot.{digest_in}
 use Rattle.pot_machine.specs.Table.{slot_at}
 use Rattle.pot_machine.specs.Logs.{is_of, replayed}
 use Rattle.pot_machine.proofs.Logs.{replays_is}
@@ -34,10 +30,9 @@ use Rattle.pot_shared.specs.Calls.{CallAt}
 use Rattle.pot_shared.proofs.MemberLemmas.{entries_all}
 use Rattle.pot_shared.specs.Adds.{Adds}
 use Rattle.pot_shared.specs.Works.{gained, of_job}
-use Rattle.pot_store.specs.Visits.{Came, HasPut, IsFullLog, IsReadAt, IsVisit, LooksOnce, MayVisit, ReadsBlock, look_logs}
+use Rattle.pot_store.specs.Visits.{Came, IsFullLog, IsReadAt, IsVisit, LooksOnce, MayVisit, ReadsBlock, look_logs}
 use Rattle.pot_store.specs.Visits as came
 use Rattle.pot_shared.proofs.WorkLemmas.{all_none, all_one}
-use Rattle.pot_store.proofs.DigestLemmas.{put_stays}
 use Rattle.pot_shared.proofs.AddLemmas.{adds_call, left_long, seen_parts}
 
 -- ONE LOCKED CALL
@@ -181,15 +176,6 @@ module _ (told : Type 0) (job : ℕ) (p : Place) (into : List ℕ) (a : Looked) 
         ap (λ t. slot_at t p.stripe p.column) table ∙ its_digest block is,
       )
 
-  -- and where the pass had seen a put, it has the digest of the block that was put
-  its_gift : (block : List ℕ) → given ≡ came.Seen block → (d : Digest) → HasPut v p d → digest_of block ≡ d
-  its_gift block is d (by, e, put, has) =
-      let there : Contains call.turn.old.log e =
-      subst (λ es. Contains es e) (sym (log_met told Look p.group v w within call)) (Contains-append_left (entries_of (view_at v p.group).seen) (entries_of call.turn.others) e has) in
-      let stays : digest_in (slot_at call.turn.old.table p.stripe p.column) ≡ Some d =
-      put_stays call.turn.old.first call.turn.old.log call.turn.old.table call.turn.read call.turn.settled_old.replay by p.stripe p.column d e put there.0 there.1 there.2 in
-      same_Some (digest_of block) d (sym (ap digest_in (its_digest block is)) ∙ stays)
-
   -- a look is barred by a log that is full, and leaves it so
   its_bar : given ≡ came.Barred → IsFullLog p.group w
   its_bar is =
@@ -213,7 +199,7 @@ module _ (told : Type 0) (job : ℕ) (p : Place) (into : List ℕ) (a : Looked) 
       adds = subst (λ es. Adds job p.group es v w) its_entries
           (adds_call told job Look p.group v w within call idle (subst (λ es. AllOf (is_of job) es) (sym its_entries) (all_its job p a into)));
       is = visit_is job p into call.turn.old call.turn.new a call.turn.call.cause;
-      block = record { read = λ block is. (origin_of call.turn.old, sym call.turn.origin, its_block block is); gives = its_gift };
+      block = λ block is. (origin_of call.turn.old, sym call.turn.origin, its_block block is);
       again = λ lost ends. absurd (looked_known a into (inr lost));
       barred = its_bar;
     };
@@ -232,7 +218,7 @@ module _ (job : ℕ) (u v w : GroupPasses) (first : RowWroteOnlyFor (of_job job)
 
   -- a block that was read behind other work
   pub reads_behind : (p : Place) (c : Came) → ReadsBlock job p c v w → ReadsBlock job p c u w
-  reads_behind p c block = record { read = λ b is. back b (block.read b is); gives = λ b is d put. block.gives b is d (later d put) }
+  reads_behind p c block b is = back b (block b is)
     where
       back : (b : List ℕ) → IsReadAt job p b v w → IsReadAt job p b u w
       back b (o, is, (x, y, at, live)) = (
@@ -245,12 +231,4 @@ module _ (job : ℕ) (u v w : GroupPasses) (first : RowWroteOnlyFor (of_job job)
           subst (λ l. slot_at (replayed o.first l) p.stripe p.column ≡ Live (digest_of b))
               (ap (λ l. l ++ x) (seen_parts job p.group u v first) ∙ append_assoc (entries_of (view_at u p.group).seen) (gained u v p.group) x) live,
         ),
-      )
-
-      later : (d : Digest) → HasPut u p d → HasPut v p d
-      later d (by, e, put, has) = (
-        by,
-        e,
-        put,
-        subst (λ es. Contains es e) (sym (seen_parts job p.group u v first)) (Contains-append_left (entries_of (view_at u p.group).seen) (gained u v p.group) e has),
       )

@@ -8,4 +8,3 @@ pub mod Points
 pub mod Shares
 pub mod Reads
 pub mod Renewals
-pub mod Stored

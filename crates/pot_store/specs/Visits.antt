@@ -16,7 +16,6 @@ use Rattle.pot_rows.specs.Rows.{view_at}
 use Rattle.pot_shared.specs.declared.member.GroupOrigin.{GroupOrigin}
 use Rattle.pot_shared.specs.Members.{entries_of}
 use Rattle.pot_shared.specs.Ready.{GroupPasses}
-use Rattle.pot_machine.specs.Logs.{IsKeptPut}
 use Rattle.pot_replies.specs.Fetches.{LastIs, LooksTwice, SeenAs}
 use Rattle.pot_replies.specs.Joined.{Read}
 use Rattle.pot_replies.specs.Jobs.{is_look_at, is_seen_at, is_stuck_at}
@@ -167,18 +166,10 @@ IsReadAt job p block old new =
     × SeenAs o.first job (entries_of (view_at old p.group).seen) (gained old new p.group) p.stripe
     p.column (digest_of block)
 
--- a Put of a block of this digest that kept its parity blocks stands in the log that the pass of
--- its group has seen
-abbrev pub HasPut : GroupPasses → Place → Digest → Type 0
-HasPut row p d =
-    (by : ℕ) × (e : Entry) × IsKeptPut by p.stripe p.column d e
-    × Contains (entries_of (view_at row p.group).seen) e
-
--- the block that was read; where the pass had seen a Put there, it has the digest of that block
-pub record ReadsBlock (job : ℕ) (p : Place) (came : Came) (old new : GroupPasses) : Type 0 where
-  pub read : (block : List ℕ) → came ≡ Seen block → IsReadAt job p block old new
-  pub gives : (block : List ℕ) → came ≡ Seen block → (d : Digest) → HasPut old p d
-      → digest_of block ≡ d
+-- a block that came of a place was read there
+abbrev pub ReadsBlock : ℕ → Place → Came → GroupPasses → GroupPasses → Type 0
+ReadsBlock job p came old new =
+    (block : List ℕ) → came ≡ Seen block → IsReadAt job p block old new
 
 -- the log of a group that the pass has seen is at its bound
 abbrev pub IsFullLog : ℕ → GroupPasses → Type 0

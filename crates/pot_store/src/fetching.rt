@@ -7,7 +7,6 @@ ghost use Rattle.pot_shared.specs.Callers.{AreReadyFor, HasAllGroups};
 ghost use Rattle.pot_shared.specs.Connections.{InGroups, TellsIfOnlyWriter, WroteForItsJob, job_of, knows, rack_of};
 ghost use Rattle.pot_store.specs.Reads.{FileRead, RecordRead};
 ghost use Rattle.pot_store.specs.Fetches.{AreFilled, FetchRow};
-ghost use Rattle.pot_store.specs.Stored.{FetchGives};
 ghost use Rattle.pot_shared.specs.Blinds.{Blinds};
 
 use crate::fragments::read_piece;
@@ -61,10 +60,6 @@ pub enum FetchFault {
 /// Each relay that it begins has the next 1,024 bytes of `pads` as its blind. A blind that was
 /// drawn and began no relay is dropped.
 ///
-/// Of a record that was published in this session the bytes are the file that was stored, and `Odd`
-/// is not answered, where no two different ones of the blocks of that file and of those read have
-/// one digest.
-///
 /// # Errors
 /// `IndexLogFull` and `Absent` as `Vault::find`, `LogFull` of the first group whose log has no room
 /// for a look or a mend. Where too few points of a fragment can be seen, `Faulted` of the least one
@@ -78,8 +73,6 @@ pub fn fetch_file<A: Archive, R: Wait>(
     ensures worked { WroteForItsJob connection.old connection.new }
     ensures says { TellsIfOnlyWriter (λ b s w. s.mends ≡ true → AreFilled s
         → FetchRow s b.job name.now result w) connection.old connection.new }
-    ensures stored { TellsIfOnlyWriter (λ b s w. s.mends ≡ true → AreFilled s
-        → FetchGives s b.job name.now result w) connection.old connection.new }
     ensures blinds { Blinds (IsTrue A.account.tells) (job_of connection.old) pads.old pads.new
         (knows connection.old).groups (knows connection.new).groups }
 {

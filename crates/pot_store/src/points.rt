@@ -1,5 +1,5 @@
 //! What is known of the points of one fragment.
-ghost use Rattle.std.specs.Prelude.{◌≡◌, ◌<◌, ◌≤◌, [], length, slice_index_or, IfOk};
+ghost use Rattle.std.specs.Prelude.{◌≡◌, ◌<◌, ◌≤◌, length, slice_index_or, IfOk};
 
 use crate::shares::Shares;
 use crate::visiting::Point;

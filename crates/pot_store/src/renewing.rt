@@ -1,6 +1,6 @@
 //! A file is split anew: it is fetched, the blocks of its new split are put, and its record gets
 //! that split.
-ghost use Rattle.std.specs.Prelude.{◌≡◌, ◌<◌, ◌≤◌, true, length, IfOk, IfErr, IsTrue};
+ghost use Rattle.std.specs.Prelude.{◌≡◌, ◌<◌, ◌≤◌, true, length, IsTrue};
 ghost use Rattle.pot_object.specs.Pieces.{longest};
 ghost use Rattle.pot_index.specs.Fits.{FitsGeometry};
 ghost use Rattle.pot_rows.specs.Works.{RowWroteOnlyFor};

@@ -1,5 +1,5 @@
 //! The visits of a fetch to a place.
-ghost use Rattle.std.specs.Prelude.{◌≡◌, ◌<◌, ◌≤◌, IsTrue};
+ghost use Rattle.std.specs.Prelude.{◌≡◌, ◌<◌, IsTrue};
 ghost use Rattle.pot_shared.specs.Callers.{AreReadyFor, HasSlotFor};
 ghost use Rattle.pot_store.specs.Visits.{came_to, LooksAgain, LooksOnce, MendsOn};
 ghost use Rattle.pot_shared.specs.Blinds.{Blinds};

@@ -4,7 +4,7 @@ use Rattle.pot_index.specs.declared.fault.ListFault.{ListFault}
 use Rattle.pot_index.specs.declared.fault.ListFault.TheVariants as list_fault
 use Rattle.pot_replies.specs.Listings.{IsListed}
 use Rattle.pot_shared.specs.IndexCalls.{IndexCall, ListsAll}
-use Rattle.pot_shared.specs.Connections.{InIndex, bound, knows, job_of}
+use Rattle.pot_shared.specs.Connections.{bound, knows}
 use Rattle.pot_shared.specs.Works.{section_of}
 use Rattle.pot_commands.proofs.ListLemmas.{list_worked, list_says}
 use Rattle.pot_commands.proofs.listing.list_names.Goals as goal

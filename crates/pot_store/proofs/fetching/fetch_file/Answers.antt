@@ -1,13 +1,12 @@
 use Rattle.std.proofs.Common.{◌≡◌, ◌∙◌, true, sym, subst}
 use Rattle.pot_replies.specs.Settings.{Setting}
-use Rattle.pot_shared.specs.Connections.{bound, job_of, knows, rack_of}
+use Rattle.pot_shared.specs.Connections.{bound, knows}
 use Rattle.pot_shared.specs.Works.{known, section_of, JobWroteOnly, JobOnlyWriter, IsSettingOf}
 use Rattle.pot_shared.proofs.BlindLemmas.{blinds_quiet, blinds_then, none_known}
 use Rattle.pot_shared.proofs.ConnectionLemmas.{groups_at}
 use Rattle.pot_store.specs.Fetches.{AreFilled, FetchRow}
-use Rattle.pot_store.specs.Stored.{FetchGives}
 use Rattle.pot_store.proofs.SearchLemmas.{lone_work, absent_row, silent_row, index_full_row}
-use Rattle.pot_store.proofs.FetchLemmas.{all_work, record_row, gives_row}
+use Rattle.pot_store.proofs.FetchLemmas.{all_work, record_row}
 use Rattle.pot_store.proofs.fetching.fetch_file.Goals as goal
 
 pub returns-in-Ok-clause-worked : goal.returns-in-Ok-clause-worked
@@ -32,18 +31,6 @@ returns-in-Ok-clause-says g c =
     subst (λ i. JobOnlyWriter b.job (knows s0) (known new.groups i) → (s : Setting) → IsSettingOf s b.vault.rack (knows s0) → s.mends ≡ true → AreFilled s
     → FetchRow s b.job c.args.name.now c.read_kept.result (section_of (knows s0) (known new.groups i))) (sym c.read_kept.ensures.read.index)
     (λ alone s set mends filled. record_row b.job c.args.name.now b.vault.rack b.vault.groups b.vault.index (knows s0).groups (knows c.find.new.self).groups new.groups (knows s0).index (knows c.find.new.self).index
-    c.in-Ok.kept s0.ready s0.whole s0.index_ready c.find.ensures.groups c.in-Ok.ensures.is read.visits read.reads
-    alone s set mends filled c.read_kept.result read.ends)
-
-pub returns-in-Ok-clause-stored : goal.returns-in-Ok-clause-stored
-returns-in-Ok-clause-stored g c =
-    let s0 = c.args.connection.now in
-    let b = bound s0 in
-    let read = groups_at c.find.ensures.same c.read_kept.ensures.read in
-    let new = knows c.read_kept.new.connection in
-    subst (λ i. JobOnlyWriter b.job (knows s0) (known new.groups i) → (s : Setting) → IsSettingOf s b.vault.rack (knows s0) → s.mends ≡ true → AreFilled s
-    → FetchGives s b.job c.args.name.now c.read_kept.result (section_of (knows s0) (known new.groups i))) (sym c.read_kept.ensures.read.index)
-    (λ alone s set mends filled. gives_row b.job c.args.name.now b.vault.rack b.vault.groups b.vault.index (knows s0).groups (knows c.find.new.self).groups new.groups (knows s0).index (knows c.find.new.self).index
     c.in-Ok.kept s0.ready s0.whole s0.index_ready c.find.ensures.groups c.in-Ok.ensures.is read.visits read.reads
     alone s set mends filled c.read_kept.result read.ends)
 

@@ -1,7 +1,7 @@
-use Rattle.std.proofs.Common.{List, ◌∙◌, ap, sym, subst}
+use Rattle.std.proofs.Common.{List, sym, subst}
 use Rattle.std.specs.Prelude.{Err}
 use Rattle.pot_bytes.specs.declared.rack.Place.{Place}
-use Rattle.pot_shared.specs.Connections.{bound, knows, job_of, rack_of}
+use Rattle.pot_shared.specs.Connections.{bound, knows}
 use Rattle.pot_store.specs.Drawing.{Drawn, all_blocks}
 use Rattle.pot_store.specs.Puts.{PutsEnd}
 use Rattle.pot_store.specs.Renewals.{IsSplit, PutsSplit}

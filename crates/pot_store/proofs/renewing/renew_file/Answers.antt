@@ -3,7 +3,7 @@ use Rattle.std.specs.Prelude.{Ok, Err}
 use Rattle.pot_replies.specs.Settings.{Setting}
 use Rattle.pot_shared.specs.Catalogs.{IndexPasses}
 use Rattle.pot_shared.specs.IndexCalls.{IndexCall, MayRenewBy, RenewsSplit}
-use Rattle.pot_shared.specs.Connections.{Bound, bound, knows, rack_of}
+use Rattle.pot_shared.specs.Connections.{Bound, bound, knows}
 use Rattle.pot_shared.specs.Works.{known, section_of, JobWroteOnly, JobOnlyWriter, IsSettingOf}
 use Rattle.pot_shared.proofs.BlindLemmas.{blinds_quiet, blinds_then, none_known, none_more}
 use Rattle.pot_shared.proofs.ConnectionLemmas.{groups_at, index_at, ready_at, tied_at}
