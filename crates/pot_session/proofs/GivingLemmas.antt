@@ -1,5 +1,5 @@
 -- Archives that are given back one by one, and those that the room does not take back.
-use Rattle.std.proofs.Common.{◌≡◌, ◌≢◌, ◌<◌, ◌≤◌, ◌⊎◌, inl, inr, ℕ, Bool, true, false, cond, List, [], ◌∷◌, length, refl, sym, ap, subst, arith, eqb}
+use Rattle.std.proofs.Common.{◌≡◌, ◌≢◌, ◌<◌, ◌≤◌, ◌⊎◌, inl, inr, ℕ, true, false, cond, List, [], ◌∷◌, length, refl, sym, ap, subst, arith, eqb}
 use Rattle.std.specs.Prelude.{Contains, IsTrue, Some, Result, Ok, Err, IsErr, OnOk, slice_index_or}
 use Rattle.std.specs.List.{remove}
 use Rattle.std.proofs.lemmas.Bool.{cases_lt}
@@ -165,7 +165,3 @@ is_unopened {A} archives hand first worked last answer same g are stay = record 
     there t n none (s, is, number, has) =
         lost_until (first.means n) (archives.meaning s.archive) (last.means n) (subst (λ k. IsMeantButLost (first.means k) (archives.meaning s.archive)) number (are t s has))
         (subst (λ k. IsMeant (last.means k) (archives.meaning s.archive)) number (g.back t s has (subst (λ k. times k g.missing ≡ 0) (sym number) none)))
-
--- and so where it had given none
-pub none_unopened : (tells : Bool) (room : RoomState) → IsUnopened (transition_by tells room room)
-none_unopened tells room = record { missing = []; failed_at = failed_none room.failures; others = λ t n none. unchanged (room.means n) }

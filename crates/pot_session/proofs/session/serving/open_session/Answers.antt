@@ -59,8 +59,8 @@ pub give_back-given-requires-after_bounds : goal.give_back-given-requires-after_
 give_back-given-requires-after_bounds g c = λ bounds within n.
     c.in-Err-open.ensures.refused n ∙ subst (λ ts. AreOut (g.R.Room.meaning c.take_archives.new.room) (flat_map archives_in ts)) c.deref.ensures.value c.in-Ok.ensures.out n
 
-pub returns-in-Err-open-clause-unopened : goal.returns-in-Err-open-clause-unopened
-returns-in-Err-open-clause-unopened g c e =
+pub returns-clause-unopened : goal.returns-clause-unopened
+returns-clause-unopened g c e =
     is_unopened g.R.A.Archive.account c.open.new.remains.hand.items (g.R.Room.meaning c.args.room.now) (g.R.Room.meaning c.take_archives.new.room) (g.R.Room.meaning c.give_back-given.new.room) c.give_back-given.result
     c.in-Ok.ensures.sound c.give_back-given.ensures.back
     (λ told. c.in-Err-open.ensures.lost (g.R.Room.meaning c.args.room.now).means told (image_apart (contents c.args.image) c.requires.together) (c.in-Ok.ensures.meant told))
