@@ -45,10 +45,7 @@ impl<T: Kept> Model for Turns<T> {
 
     ghost Value = { TurnRow T };
 
-    ghost view = { λ t. record {
-      names = map name_of t.turns.items;
-      made = map made_with t.turns.items;
-    } };
+    ghost view = { λ t. record { names = map name_of t.turns.items; made = map made_with t.turns.items } };
 }
 
 /// A pass of each turn of a row. Contracts see the names of the turns, and what each pass knows.
