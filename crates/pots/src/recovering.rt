@@ -1,40 +1,37 @@
 //! Files that are got back without the desk.
 
-use crate::keeping::put_file;
 use crate::looking::archive_name;
 use crate::numbers::MOST_ARCHIVES;
-use crate::session::{call, ended, words_of};
+use crate::rejoining::write_all;
+use crate::remains::{Remains, Tally, no_tallies};
+use crate::session::words_of;
+use crate::shaping::{Fronting, MOST_COLUMNS, MOST_PARITY, SLOT, Shape};
 use crate::stop::Stop;
+use crate::surveying::{State, Survey, open_archive};
+use crate::telling::place_text;
 use crate::visit::{Visit, number_given};
 use clap::ArgMatches;
-use pot_bytes::{Digest, digest_of};
-use pot_report::{Found, Manifest, name_text, read_found};
+use pot_doubles::{MemSink, MemSource};
+use pot_files::NoGate;
+use pot_report::{Found, read_found};
+use pot_session::run;
+use std::alloc::Global;
 use std::fs;
 use std::fs::File;
 use std::os::unix::fs::FileExt;
 use std::sync::Wait;
 use std::thread::Threads;
 
-/// The bytes of a slot.
-const SLOT: u64 = 1025;
-
 /// The most slots of an archive.
 const MOST_SLOTS: u64 = 4096;
 
-/// Which blocks are read, and with which blur.
+/// Which blocks are read, with which blur, and what gives those that are gone.
 #[derive(Clone, Copy)]
 struct Reach {
     archives: u32,
     stripes: u32,
     blur: u32,
-}
-
-/// A file that was found, with its digest.
-#[derive(Drop)]
-struct Piece {
-    digest: Digest,
-    found: Found,
-    used: bool,
+    shape: Option<Shape>,
 }
 
 /// Gets files back from the blocks alone.
@@ -43,28 +40,27 @@ pub fn recover<X: Threads + Wait + Sync>(
     visit: &mut Visit,
     words: &ArgMatches,
 ) -> Result<u8, Stop> {
-    let reach = reach_of(visit, words)?;
+    let survey = Survey::of(visit)?;
+    let reach = reach_of(visit, words, &survey)?;
     let folder = words.get_str("to").unwrap_or(".");
     if fs::create_dir_all(&visit.rt, folder).is_err() {
-        return Err(visit.refuse(
-            5,
-            "the folder could not be made: see that its disk has room and may be written",
-        ));
+        let line = format!(in visit.alloc();
+            "the folder {folder} could not be made: see that its disk has room and may be written"
+        )?;
+        return Err(visit.refuse(5, line.as_str()));
     }
+    let complete = tell_gone(visit, &survey, reach)?;
     let line = recover_line(visit, words, reach)?;
-    let words = words_of(visit.alloc(), line.as_str())?;
-    let ran = call(turns, visit, &words, Vec::new(visit.alloc()))?;
-    if ran.status > 1 {
-        return Err(ended(visit, &ran));
+    let tallies = no_tallies(&visit.rt, reach.archives)?;
+    let mut room = Remains::new(&visit.rt, survey, reach.shape, tallies);
+    let (status, found) = read_all(turns, visit, line.as_str(), &mut room)?;
+    let sound = tell_tallies(visit, &room)?;
+    if found.is_empty() {
+        tell_nothing(visit);
+        return Ok(1);
     }
-    let Some(found) = read_found(visit.alloc(), &ran.written)? else {
-        return Err(visit.refuse(
-            5,
-            "what was recovered was not understood: pots and potshards are of different versions",
-        ));
-    };
     let good = write_all(visit, folder, found)?;
-    Ok(if good { ran.status } else { 1 })
+    Ok(if complete && sound && good { status } else { 1 })
 }
 
 fn recover_line(visit: &Visit, words: &ArgMatches, reach: Reach) -> Result<String, Stop> {
@@ -72,6 +68,7 @@ fn recover_line(visit: &Visit, words: &ArgMatches, reach: Reach) -> Result<Strin
         archives,
         stripes,
         blur,
+        ..
     } = reach;
     let mut line = format!(in visit.alloc();
         "recover --archives {archives} --stripes {stripes} --blur {blur}"
@@ -82,62 +79,119 @@ fn recover_line(visit: &Visit, words: &ArgMatches, reach: Reach) -> Result<Strin
     Ok(line)
 }
 
+// What the blocks give, and the status of the reading.
+fn read_all<X: Threads + Wait + Sync>(
+    turns: &X,
+    visit: &mut Visit,
+    line: &str,
+    room: &mut Remains,
+) -> Result<(u8, Vec<Found>), Stop> {
+    let alloc = visit.alloc();
+    let words = words_of(alloc, line)?;
+    let mut source = MemSource::new(Vec::new(alloc), Vec::new(alloc));
+    let mut sink = MemSink::new(alloc, Vec::new(alloc));
+    // No random bytes are needed to read.
+    let seed = [0u8; 32];
+    let desk = &mut visit.desk;
+    let status = run(
+        turns,
+        alloc,
+        &words,
+        seed,
+        &mut source,
+        &mut sink,
+        room,
+        desk,
+        &NoGate,
+    );
+    if status > 1 {
+        return Err(visit.refuse(status, reason(status)));
+    }
+    match read_found(alloc, sink.written())? {
+        Some(found) => Ok((status, found)),
+        None => Err(visit.refuse(
+            5,
+            "what was recovered was not understood: pots and potshards are of different versions",
+        )),
+    }
+}
+
+// What failed at a status of the reading, and what to do next.
+fn reason(status: u8) -> &'static str {
+    match status {
+        2 =>
+            "these numbers are beyond the limits: see pots help recover, and the limits in potshards(1)",
+        11 =>
+            "there are too many ways to read these blocks, as where an archive was tampered with: leave out one archive after another, as with --without 0; potshards-recovery(7) tells more",
+        _ => "memory ran out for what the blocks give: give it more",
+    }
+}
+
 // What the words say, and else what is in the folder.
-fn reach_of(visit: &Visit, words: &ArgMatches) -> Result<Reach, Stop> {
-    let archives = match number_given(visit, words, "archives")? {
-        Some(count) => count,
-        None => count_archives(visit)?,
-    };
+fn reach_of(visit: &Visit, words: &ArgMatches, survey: &Survey) -> Result<Reach, Stop> {
+    let archives = number_given(visit, words, "archives")?.unwrap_or(survey.count());
     if archives == 0 {
         return Err(visit.refuse(
             8,
             "there is no archive-0 in this folder: go to the folder of the archives, or put links to them into one",
         ));
     }
-    let stripes = match number_given(visit, words, "stripes")? {
-        Some(count) => count,
-        None => count_slots(visit, archives)?,
-    };
+    if archives > MOST_ARCHIVES {
+        return Err(visit.refuse(2, reason(2)));
+    }
+    let stripes = number_given(visit, words, "stripes")?.unwrap_or(count_slots(survey));
+    let fronting = Fronting::read(visit, survey, archives)?;
     let blur = match number_given(visit, words, "blur")? {
         Some(blur) => blur,
-        None => first_blur(visit, archives)?,
+        None => seen_blur(visit, &fronting, survey, archives)?,
     };
+    let columns = number_within(visit, words, "columns", MOST_COLUMNS)?;
+    let parity = number_within(visit, words, "parity", MOST_PARITY)?;
     Ok(Reach {
         archives,
         stripes,
         blur,
+        shape: fronting.shape(columns, parity),
     })
 }
 
-// One more than the greatest number of an archive that is here.
-fn count_archives(visit: &Visit) -> Result<u32, Stop> {
-    let mut count = 0;
-    for number in 0..MOST_ARCHIVES {
-        let name = archive_name(visit.alloc(), number)?;
-        if fs::metadata(&visit.rt, name.as_str()).is_ok() {
-            count = number.saturating_add(1);
+// The number of an option, where it is given, from 1 to the most that there may be.
+fn number_within(
+    visit: &Visit,
+    words: &ArgMatches,
+    name: &str,
+    most: u32,
+) -> Result<Option<u32>, Stop> {
+    match number_given(visit, words, name)? {
+        Some(number) if number == 0 || number > most => {
+            let line = format!(in visit.alloc(); "--{name} takes a number from 1 to {most}")?;
+            Err(visit.refuse(2, line.as_str()))
         }
+        number => Ok(number),
     }
-    Ok(count)
 }
 
 // The most slots that an archive has.
-fn count_slots(visit: &Visit, archives: u32) -> Result<u32, Stop> {
-    let mut most = 1u64;
-    for number in 0..archives {
-        let name = archive_name(visit.alloc(), number)?;
-        if let Ok(file) = fs::metadata(&visit.rt, name.as_str()) {
-            most = most.max(file.len().div_ceil(SLOT));
-        }
-    }
-    Ok(u32::try_from(most.min(MOST_SLOTS)).unwrap_or(1))
+fn count_slots(survey: &Survey) -> u32 {
+    let most = survey.longest().div_ceil(SLOT).clamp(1, MOST_SLOTS);
+    u32::try_from(most).unwrap_or(1)
 }
 
-// The blur of the first shard that is found.
-fn first_blur(visit: &Visit, archives: u32) -> Result<u32, Stop> {
+// The blur of most of the first shards, or else of the first one that is found.
+fn seen_blur(
+    visit: &Visit,
+    fronting: &Fronting,
+    survey: &Survey,
+    archives: u32,
+) -> Result<u32, Stop> {
+    if let Some(blur) = fronting.blur() {
+        return Ok(u32::from(blur));
+    }
     for number in 0..archives {
-        let name = archive_name(visit.alloc(), number)?;
-        if let Ok(file) = fs::open(&visit.rt, name.as_str()) {
+        if !survey.state(number).is_there() {
+            continue;
+        }
+        if let Some(file) = open_archive(&visit.rt, number) {
             if let Some(blur) = blur_in(&file) {
                 return Ok(blur);
             }
@@ -162,133 +216,167 @@ fn blur_in(file: &File) -> Option<u32> {
     None
 }
 
-// Writes what was found: files in parts joined under their names, and others under their ids.
-// Answers whether all is whole.
-fn write_all(visit: &Visit, folder: &str, found: Vec<Found>) -> Result<bool, Stop> {
-    let mut pieces = with_digests(visit, found)?;
-    let mut good = true;
-    for list in lists_in(visit, &pieces)?.iter() {
-        if !write_joined(visit, folder, list, &mut pieces)? {
-            good = false;
+// Tells of each archive whose file gives nothing what becomes of its blocks. Answers whether none
+// of them is missed.
+fn tell_gone(visit: &Visit, survey: &Survey, reach: Reach) -> Result<bool, Stop> {
+    let mut missed = Vec::new(visit.alloc());
+    for (number, state) in survey.gone(visit.alloc(), reach.archives)?.iter() {
+        if !is_borne(visit, survey, reach.shape, (*number, *state))? {
+            missed.push(*number)?;
         }
     }
-    for piece in pieces.iter() {
-        if !piece.used && !write_piece(visit, folder, &piece.found)? {
-            good = false;
-        }
+    if missed.is_empty() {
+        return Ok(true);
     }
-    Ok(good)
+    let rt = &visit.rt;
+    let list = listed(visit.alloc(), &missed)?;
+    let _ = eprintln!(rt; "pots: missed are the blocks of {list}");
+    tell_advice(visit, reach.shape);
+    Ok(false)
 }
 
-fn with_digests(visit: &Visit, found: Vec<Found>) -> Result<Vec<Piece>, Stop> {
-    let mut pieces = Vec::new(visit.alloc());
-    for found in found {
-        let digest = match &found.bytes {
-            Some(bytes) => digest_of(bytes),
-            None => digest_of(found.id.as_bytes()),
-        };
-        pieces.push(Piece {
-            digest,
-            found,
-            used: false,
-        })?;
-    }
-    Ok(pieces)
-}
-
-// The lists of parts among the files. One that was split anew is found once for each split, and
-// counts once.
-fn lists_in(visit: &Visit, pieces: &[Piece]) -> Result<Vec<Manifest>, Stop> {
-    let mut lists = Vec::new(visit.alloc());
-    for (at, piece) in pieces.iter().enumerate() {
-        let before = pieces
-            .iter()
-            .take(at)
-            .any(|other| other.digest == piece.digest);
-        if let (Some(bytes), false) = (&piece.found.bytes, before) {
-            if let Some(list) = Manifest::read(visit.alloc(), bytes)? {
-                lists.push(list)?;
-            }
-        }
-    }
-    Ok(lists)
-}
-
-// Joins the parts of a file, where all are there, and writes it under its name. Answers whether it
-// is written.
-fn write_joined(
+// Tells what becomes of the blocks of an archive whose file gives nothing. Answers whether they are
+// not missed.
+fn is_borne(
     visit: &Visit,
-    folder: &str,
-    list: &Manifest,
-    pieces: &mut [Piece],
+    survey: &Survey,
+    shape: Option<Shape>,
+    gone: (u32, State),
 ) -> Result<bool, Stop> {
     let rt = &visit.rt;
-    let name = name_text(&list.name);
-    let mut whole = Vec::new(visit.alloc());
-    for (at, digest) in list.parts.iter().enumerate() {
-        let Some(bytes) = bytes_with(pieces, digest) else {
-            let number = at.saturating_add(1);
-            let _ = eprintln!(rt;
-                "pots: part {number} of {name} was not found: its other parts are written one by one"
+    let (number, state) = gone;
+    let reason = state.reason();
+    if let Some(shape) = shape {
+        let text = named(visit, number)?;
+        if !shape.is_data(number) {
+            let _ = eprintln!(rt; "pots: {text} {reason}: it has parity alone, and no file");
+            return Ok(true);
+        }
+        if shape.gives(survey, number) {
+            tell_made(
+                visit,
+                text.as_str(),
+                state,
+                shape.data_of(number).start,
+                shape,
             );
-            return Ok(false);
-        };
-        whole.extend_from_slice(bytes)?;
-    }
-    if digest_of(&whole) != list.digest {
-        let _ = eprintln!(rt;
-            "pots: the parts of {name} do not fit their list: they are written one by one"
-        );
-        return Ok(false);
-    }
-    use_parts(visit, list, pieces)?;
-    write_under(visit, folder, name, &whole)
-}
-
-// The bytes of the file with this digest.
-fn bytes_with<'a>(pieces: &'a [Piece], digest: &Digest) -> Option<&'a [u8]> {
-    let piece = pieces.iter().find(|piece| piece.digest == *digest)?;
-    match &piece.found.bytes {
-        Some(bytes) => Some(bytes),
-        None => None,
-    }
-}
-
-// Marks the parts and the list of a file that was joined.
-fn use_parts(visit: &Visit, list: &Manifest, pieces: &mut [Piece]) -> Result<(), Stop> {
-    let text = list.text(visit.alloc())?;
-    let own = digest_of(text.as_bytes());
-    for piece in pieces.iter_mut() {
-        if piece.digest == own || list.parts.contains(&piece.digest) {
-            piece.used = true;
+            return Ok(true);
         }
     }
+    if state != State::Missing || is_link(visit, number)? {
+        let text = named(visit, number)?;
+        let _ = eprintln!(rt; "pots: {text} {reason}");
+    }
+    Ok(state == State::Empty)
+}
+
+fn is_link(visit: &Visit, number: u32) -> Result<bool, Stop> {
+    let name = archive_name(visit.alloc(), number)?;
+    Ok(fs::read_link(&visit.rt, name.as_str()).is_ok())
+}
+
+// Archives by their ascending numbers, as archives 4, 5 and 8 to 11 are written: 4,5,8-11.
+fn listed(alloc: Global, numbers: &[u32]) -> Result<String, Stop> {
+    let mut text = String::from_str(alloc, "archives ")?;
+    let mut run: Option<(u32, u32)> = None;
+    for number in numbers.iter() {
+        run = match run {
+            Some((first, last)) if last.saturating_add(1) == *number => Some((first, *number)),
+            Some(before) => {
+                append_run(alloc, &mut text, before)?;
+                text.push_str(",")?;
+                Some((*number, *number))
+            }
+            None => Some((*number, *number)),
+        };
+    }
+    if let Some(last) = run {
+        append_run(alloc, &mut text, last)?;
+    }
+    Ok(text)
+}
+
+fn append_run(alloc: Global, text: &mut String, run: (u32, u32)) -> Result<(), Stop> {
+    let (first, last) = run;
+    let written = if first == last {
+        format!(in alloc; "{first}")?
+    } else {
+        format!(in alloc; "{first}-{last}")?
+    };
+    text.push_str(written.as_str())?;
     Ok(())
 }
 
-fn write_piece(visit: &Visit, folder: &str, found: &Found) -> Result<bool, Stop> {
+fn tell_made(visit: &Visit, text: &str, state: State, first: u32, shape: Shape) {
     let rt = &visit.rt;
-    let id = found.id.as_str();
-    match &found.bytes {
-        Some(bytes) => write_under(visit, folder, id, bytes),
-        None => {
-            let _ = eprintln!(rt;
-                "pots: file {id} is not there as a whole: some of its blocks are missing"
-            );
-            Ok(false)
-        }
-    }
+    let reason = state.reason();
+    let last = first.saturating_add(shape.columns);
+    let _ = eprintln!(rt;
+        "pots: {text} {reason}: its blocks are made anew from the others of archives {first} to {last}"
+    );
 }
 
-fn write_under(visit: &Visit, folder: &str, name: &str, bytes: &[u8]) -> Result<bool, Stop> {
-    let rt = &visit.rt;
-    let path = format!(in visit.alloc(); "{folder}/{name}")?;
-    if put_file(rt, path.as_str(), bytes, false).is_err() {
-        let _ = eprintln!(rt;
-            "pots: {path} could not be written: see that there is no such file yet and that its disk has room"
-        );
-        return Ok(false);
+// An archive by its name, and where it leads.
+fn named(visit: &Visit, number: u32) -> Result<String, Stop> {
+    let place = place_text(visit, number)?;
+    let mut text = format!(in visit.alloc(); "archive-{number}")?;
+    if place.as_str() != text.as_str() {
+        text.push_str(" at ")?;
+        text.push_str(place.as_str())?;
     }
-    visit.tell_file("recovered", path.as_str())?;
-    Ok(true)
+    Ok(text)
+}
+
+// What to do where blocks are missed that no others give.
+fn tell_advice(visit: &Visit, shape: Option<Shape>) {
+    let rt = &visit.rt;
+    let _ = match shape {
+        Some(Shape { columns, parity }) => eprintln!(rt;
+            "pots: groups have {columns} data and {parity} parity archives here, and of one data archive of a group the others and the first parity archive give the blocks: see that all disks are mounted, give an archive that pots replace or pots migrate brought the number of the old one, as by mv archive-12 archive-4, and give the command once more; files of which a shard is missed are not found"
+        ),
+        None => eprintln!(rt;
+            "pots: how many data and parity archives a group has was not seen: see that all disks are mounted; with --columns and --parity, as pots init told them, the blocks of one archive of each group are made anew"
+        ),
+    };
+}
+
+// Tells what came of the archives. Answers whether nothing is in doubt.
+fn tell_tallies(visit: &Visit, room: &Remains) -> Result<bool, Stop> {
+    let mut sound = true;
+    for (number, tally) in room.tallies().iter().enumerate() {
+        let number = u32::try_from(number).unwrap_or(u32::MAX);
+        if !tell_tally(visit, number, *tally, room.has(number))? {
+            sound = false;
+        }
+    }
+    Ok(sound)
+}
+
+// Where the archive is there, a stripe that does not fit may be one that was being filled.
+fn tell_tally(visit: &Visit, number: u32, tally: Tally, is_there: bool) -> Result<bool, Stop> {
+    let rt = &visit.rt;
+    let Tally { made, unread, odd } = tally;
+    let text = named(visit, number)?;
+    if made > 0 {
+        let _ = eprintln!(rt; "pots: {text}: {made} blocks were made anew");
+    }
+    if unread > 0 {
+        let _ = eprintln!(rt;
+            "pots: {text}: {unread} slots could not be read: its disk may be dying, so copy what is left of it"
+        );
+    }
+    let misfit = odd > 0 && !is_there;
+    if misfit {
+        let _ = eprintln!(rt;
+            "pots: {text}: {odd} blocks could not be made anew: more than one block of their stripes is gone or wrong"
+        );
+    }
+    Ok(unread == 0 && !misfit)
+}
+
+fn tell_nothing(visit: &Visit) {
+    let rt = &visit.rt;
+    let _ = eprintln!(rt;
+        "pots: no file was found: one is found where all shards of its fragments are there; see that all disks are mounted, and try --robust, or another --blur"
+    );
 }

@@ -113,6 +113,24 @@ fn recover_command<'a>(alloc: Global) -> Result<Command<'a>, AllocError> {
             alloc,
             "robust",
             "Bear wrong shares, where there are more than enough",
+        ))?
+        .arg(option(
+            alloc,
+            "without",
+            "ARCHIVES",
+            "Leave these archives out, as 4,5: their blocks are made anew where the others give them",
+        ))?
+        .arg(option(
+            alloc,
+            "columns",
+            "C",
+            "Data archives of a group, by which a missing one is made anew; as the blocks say where it is left out",
+        ))?
+        .arg(option(
+            alloc,
+            "parity",
+            "P",
+            "Parity archives of a group; as the blocks say where it is left out",
         ))
 }
 
