@@ -2,3 +2,4 @@ pub mod Adding
 pub mod Exposing
 pub mod HidingLemmas
 pub mod Blinding
+pub mod Marking

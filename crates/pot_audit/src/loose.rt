@@ -77,6 +77,17 @@ fn named_stripes(
 
 // THE COLUMNS
 
+/// Whether a slot has a block and its stripe is not marked.
+fn is_unmarked(table: &GroupTable, stripe: u32, column: u8, marks: &[bool]) -> bool
+    requires stripe { stripe < table.now.stripes }
+    requires column { column < width table.now }
+    requires marks { length marks.now ≡ table.now.stripes }
+    ensures { result ≡ (not (is_void (slot_at table.now stripe column))
+        && not (is_marked marks.now stripe)) }
+{
+    !table.slot(stripe, column).is_void() && !marks[stripe as usize]
+}
+
 /// How many slots of a column have a block in a stripe that is not marked.
 fn count_unmarked(table: &GroupTable, column: u8, marks: &[bool]) -> u32
     requires column { column < width table.now }
@@ -86,7 +97,7 @@ fn count_unmarked(table: &GroupTable, column: u8, marks: &[bool]) -> u32
 {
     let mut count = 0;
     for stripe in 0..table.stripes() {
-        if !table.slot(stripe, column).is_void() && !marks[stripe as usize] {
+        if is_unmarked(table, stripe, column, marks) {
             count += 1;
         }
     }
