@@ -2,4 +2,3 @@ pub mod Adding
 pub mod Exposing
 pub mod HidingLemmas
 pub mod Blinding
-pub mod Marking

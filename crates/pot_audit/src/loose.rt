@@ -27,15 +27,30 @@ pub struct Loose {
 
 // THE STRIPES THAT RECORDS NAME
 
+/// Whether a place is in this column.
+fn is_in(place: Place, spot: Spot) -> bool
+    ensures { result ≡ ((place.group == spot.group) && (place.column == spot.column)) }
+{
+    place.group == spot.group && place.column == spot.column
+}
+
+/// Marks a stripe, where there is a mark for it.
+#[tactic(auto, using(std::proofs::lemmas::List::set_past))]
+fn mark(marks: &mut [bool], stripe: usize)
+    ensures { marks.new ≡ set marks.old stripe true }
+{
+    if stripe < marks.len() {
+        marks[stripe] = true;
+    }
+}
+
 /// Marks the stripe of a place that is in this column.
 fn mark_place(place: Place, spot: Spot, marks: &mut [bool])
     ensures { marks.new ≡ (if (place.group == spot.group) && (place.column == spot.column)
         then set marks.old place.stripe true else marks.old) }
 {
-    if place.group == spot.group && place.column == spot.column {
-        if let Some(mark) = marks.get_mut(place.stripe as usize) {
-            *mark = true;
-        }
+    if is_in(place, spot) {
+        mark(marks, place.stripe as usize);
     }
 }
 
@@ -140,7 +155,11 @@ fn add_column(
         return Ok(());
     }
     let Spot { group, column } = spot;
-    match columns.push(Loose { group, column, count }) {
+    match columns.push(Loose {
+        group,
+        column,
+        count,
+    }) {
         Ok(()) => Ok(()),
         Err(_) => Err(NoMemory),
     }

@@ -219,7 +219,11 @@ fn what_an_audit_says_of_each_file(rt: HostRuntime) -> Result<(), Fail> {
         blocks: 57,
     };
     assert!(rt; loose.as_slice() == [column].as_slice());
-    for text in [b"words refused\n".as_slice(), b"loose 1 3\n", b"loose 1 3 57 2\n"] {
+    for text in [
+        b"words refused\n".as_slice(),
+        b"loose 1 3\n",
+        b"loose 1 3 57 2\n",
+    ] {
         assert!(rt; read_exposures(alloc, text)?.is_none());
     }
     Ok(())

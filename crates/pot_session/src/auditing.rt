@@ -186,11 +186,7 @@ fn loose_of(
 }
 
 /// Writes the lines of columns. Answers whether there are any.
-fn put_loose<K: Sink>(
-    alloc: Global,
-    columns: &[Loose],
-    sink: &mut K,
-) -> Result<bool, ListFault>
+fn put_loose<K: Sink>(alloc: Global, columns: &[Loose], sink: &mut K) -> Result<bool, ListFault>
     ensures puts { Puts (transition K.account sink.old sink.new)
         (loose_lines columns.now) result }
     ensures some { IfOk result (λ some. some ≡ are_some columns.now) }

@@ -436,12 +436,19 @@ fn audit(rt: HostRuntime) -> Result<(), Fail> {
             &[spot(0, 17), spot(1, 0), spot(1, 1)],
             false,
         ),
-        ("audit --seen 9.10,15.17", &[spot(9, 10), spot(15, 17)], false),
+        (
+            "audit --seen 9.10,15.17",
+            &[spot(9, 10), spot(15, 17)],
+            false,
+        ),
         ("audit --loose yes --seen 0.3", &[spot(0, 3)], true),
         ("audit --seen 0.3 --loose no", &[spot(0, 3)], false),
     ];
     for (line, spots, loose) in good {
-        assert_eq!(rt; spots_of_audit(&task_of(alloc, line)?), Some((spots, loose)));
+        assert_eq!(rt;
+            spots_of_audit(&task_of(alloc, line)?),
+            Some((spots, loose))
+        );
     }
     let bad = [
         "audit",
