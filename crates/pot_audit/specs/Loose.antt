@@ -1,6 +1,6 @@
 -- Blocks that stand in no record: those of stores and renewals that were given up.
-use Rattle.std.specs.Prelude.{◌≡◌, ◌<◌, ◌==◌, ◌&&◌, ◌||◌, ℕ, suc, Bool, false, not, nat_lt, List, []}
-use Rattle.std.specs.Prelude.{◌∷◌, ◌++◌, if◌then◌else◌, length, flat_map}
+use Rattle.std.specs.Prelude.{◌≡◌, ◌<◌, ◌==◌, ◌&&◌, ◌||◌, ℕ, suc, Bool, false, not, nat_lt}
+use Rattle.std.specs.Prelude.{List, [], ◌∷◌, ◌++◌, if◌then◌else◌, length, flat_map}
 use Rattle.std.specs.List.{list_any, range_with_len, slice_index_or}
 use Rattle.pot_bytes.specs.declared.rack.Place.{Place}
 use Rattle.pot_bytes.specs.declared.rack.Rack.{Rack}

@@ -184,8 +184,8 @@ fn add_group(
     Ok(())
 }
 
-/// The data columns that are exposed to a coalition and have blocks that no split of any record names,
-/// ascending by group and then by column.
+/// The data columns that are exposed to a coalition and have blocks that no split of any record
+/// names, ascending by group and then by column.
 ///
 /// Stores and renewals that were given up leave such blocks. The tables are those of all groups.
 pub fn loose_columns(

@@ -1,8 +1,8 @@
--- An audit: how many points of each piece of each file of a desk are exposed to a coalition, and how
--- many of its blocks stand in no record.
+-- An audit: how many points of each piece of each file of a desk are exposed to a coalition, and
+-- how many of its blocks stand in no record.
 use Rattle.std.specs.Prelude.{◌≡◌, ◌⊎◌, ◌++◌, ◌+◌, ◌==◌, ◌&&◌, ◌||◌, ℕ, Bool, true, false, not}
-use Rattle.std.specs.Prelude.{nat_le, nat_lt, List, [], Option, Result, Ok, Err, All, codes, flat_map}
-use Rattle.std.specs.Prelude.{if◌then◌else◌, length, map, take, IsTrue}
+use Rattle.std.specs.Prelude.{nat_le, nat_lt, List, [], Option, Result, Ok, Err, All, codes}
+use Rattle.std.specs.Prelude.{flat_map, if◌then◌else◌, length, map, take, IsTrue}
 use Rattle.std.specs.List.{list_all, list_any}
 use Rattle.pot_bytes.specs.declared.rack.Rack.{Rack}
 use Rattle.pot_outside.specs.Accounts.{Transition}

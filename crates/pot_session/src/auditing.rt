@@ -1,5 +1,5 @@
-//! An audit: how many points of each piece of each file of a desk are exposed to a coalition, and how
-//! many of its blocks stand in no record.
+//! An audit: how many points of each piece of each file of a desk are exposed to a coalition, and
+//! how many of its blocks stand in no record.
 
 ghost use Rattle.std.specs.Prelude.{◌≡◌, ◌++◌, List, All, IsTrue, IfOk, OnOk, IsErrOf, length};
 ghost use Rattle.std.specs.List.{list_any};

@@ -9,8 +9,8 @@ use std::fs;
 /// How many bytes of an archive's file a slot has: the first is 1 where a block stands there.
 const SLOT_BYTES: usize = 1025;
 
-/// Ends the command where an archive that is to come holds blocks from before. Who kept a copy of it
-/// from then has shards that no audit counts.
+/// Ends the command where an archive that is to come holds blocks from before. Who kept a copy of
+/// it from then has shards that no audit counts.
 ///
 /// An archive of which the desk speaks is left to the session: a move that was begun goes on.
 pub fn look_for_empty(visit: &mut Visit, number: u32) -> Result<(), Stop> {

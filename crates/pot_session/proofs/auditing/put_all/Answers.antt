@@ -35,8 +35,8 @@ returns-in-Ok-put_loose-clause-puts g c =
           (subst (λ (xs : List Loose). Puts (transition g.K.Sink.account c.put_audit.new.sink c.put_loose.new.sink) (loose_lines xs) (Ok c.in-Ok-put_loose.some)) columns c.in-Ok-put_loose.ensures.puts told),
     )
 
-pub returns-in-Err-put_loose-clause-puts : goal.returns-in-Err-put_loose-clause-puts
-returns-in-Err-put_loose-clause-puts g c =
+pub returns-clause-puts : goal.returns-clause-puts
+returns-clause-puts g c =
     let middle = (g.K.Sink.account.meaning c.put_audit.new.sink).held in
     let it = subst (λ (rs : List Record). PutsAudit (transition g.K.Sink.account c.args.sink.now c.put_audit.new.sink) c.args.image.now.rack c.args.spots.now rs (Ok c.in-Ok.bare)) c.deref.ensures.value c.in-Ok.ensures.puts in
     let columns : c.deref-2.result.now ≡ loose_of c.args.task.now c.args.image.now = c.deref-2.ensures.value ∙ c.in-Ok-loose_of.ensures in

@@ -9,8 +9,8 @@ use Rattle.pot_session.proofs.auditing.put_loose.Goals as goal
 pub returns-in_default-clause-puts : goal.returns-in_default-clause-puts
 returns-in_default-clause-puts g c = λ told. begun_nothing _ _
 
-pub returns-in-Err-clause-puts : goal.returns-in-Err-clause-puts
-returns-in-Err-clause-puts g c =
+pub returns-clause-puts : goal.returns-clause-puts
+returns-clause-puts g c =
     subst (Began (transition g.K.Sink.account c.args.sink.now c.write_out.new.sink)) (c.deref.ensures.value ∙ c.in-Ok.ensures)
     (λ told. let w = c.in-Err.ensures.told told in begun_front _ _ c.deref.result.now w.0 w.2)
 
