@@ -1,4 +1,5 @@
 pub mod Blinds
 pub mod Exposure
 pub mod Hiding
+pub mod Loose
 pub mod Veils

@@ -49,12 +49,12 @@ impl Coalition<'_> {
         2 <= self.count_columns(group) || self.has_parity(group)
     }
 
-    /// Whether a block at this place is exposed.
-    fn is_exposed(&self, place: Place) -> bool
+    /// Whether the blocks of a column are exposed.
+    pub fn is_exposed(&self, spot: Spot) -> bool
         ensures { result
-            ≡ is_exposed self.now.rack.now self.now.spots.now place.group place.column }
+            ≡ is_exposed self.now.rack.now self.now.spots.now spot.group spot.column }
     {
-        self.is_open(place.group) || self.has_column(place.group, place.column)
+        self.is_open(spot.group) || self.has_column(spot.group, spot.column)
     }
 
     /// How many points of a fragment are exposed. The numbers of the piece and of the fragment are
@@ -76,7 +76,8 @@ impl Coalition<'_> {
         let first = fragments * usize::from(geometry.shards);
         let mut count = 0;
         for point in 0..geometry.shards {
-            if self.is_exposed(places[first + usize::from(point)]) {
+            let Place { group, column, .. } = places[first + usize::from(point)];
+            if self.is_exposed(Spot { group, column }) {
                 count += 1;
             }
         }

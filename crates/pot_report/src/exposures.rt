@@ -1,4 +1,4 @@
-//! What an audit wrote, told file by file.
+//! What an audit wrote, told file by file, and what it wrote of blocks that stand in no record.
 
 use pot_bytes::Name;
 use pot_client::read_part_name;
@@ -36,16 +36,36 @@ impl Exposure {
     }
 }
 
-/// The exposures by the names of files. None where these bytes are not what an audit writes.
-pub fn read_exposures(
-    alloc: Global,
-    bytes: &[u8],
-) -> Result<Option<BTreeMap<Name, Exposure>>, AllocError> {
+/// An exposed column with blocks that stand in no record.
+#[derive(Clone, Copy, Debug, PartialEq, Eq)]
+pub struct LooseColumn {
+    pub group: u8,
+    pub column: u8,
+    /// How many of its blocks these are.
+    pub blocks: u32,
+}
+
+/// What an audit wrote.
+#[derive(Drop)]
+pub struct Exposures {
+    /// How much of each file is exposed, by its name.
+    pub files: BTreeMap<Name, Exposure>,
+    /// The columns, ascending by group and then by column.
+    pub loose: Vec<LooseColumn>,
+}
+
+/// What these bytes tell, where they are what an audit writes.
+pub fn read_exposures(alloc: Global, bytes: &[u8]) -> Result<Option<Exposures>, AllocError> {
     let mut files = BTreeMap::new(alloc);
+    let mut loose = Vec::new(alloc);
     let Ok(text) = from_utf8(bytes) else {
         return Ok(None);
     };
     for line in text.lines() {
+        if let Some(column) = read_loose(line) {
+            loose.push(column)?;
+            continue;
+        }
         let Some((name, wanting)) = read_veil(line) else {
             return Ok(None);
         };
@@ -54,7 +74,23 @@ pub fn read_exposures(
             .or_insert(Exposure::none())
             .add(wanting);
     }
-    Ok(Some(files))
+    Ok(Some(Exposures { files, loose }))
+}
+
+// The column of a line `loose GROUP COLUMN COUNT`.
+fn read_loose(line: &str) -> Option<LooseColumn> {
+    let mut words = line.strip_prefix("loose ")?.split(' ');
+    let group = words.next()?.parse::<u8>().ok()?;
+    let column = words.next()?.parse::<u8>().ok()?;
+    let blocks = words.next()?.parse::<u32>().ok()?;
+    if words.next().is_some() {
+        return None;
+    }
+    Some(LooseColumn {
+        group,
+        column,
+        blocks,
+    })
 }
 
 // The name of the file of which this is the name, or that of a part.

@@ -21,7 +21,7 @@ mod uses;
 mod wording;
 
 pub use archives::{Holding, holdings};
-pub use exposures::{Exposure, read_exposures};
+pub use exposures::{Exposure, Exposures, LooseColumn, read_exposures};
 pub use json::reply_json;
 pub use leaving::{Room, blocks_of};
 pub use listing::{Kept, kept_files};

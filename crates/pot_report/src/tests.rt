@@ -198,8 +198,8 @@ fn raised(alloc: Global, text: &[u8]) -> Result<Vec<u8>, Fail> {
 fn what_an_audit_says_of_each_file(rt: HostRuntime) -> Result<(), Fail> {
     let alloc = rt.alloc();
     let written =
-        b"veil a 0 0 1 2 2\nveil a 1 0 2 0 3\nveil film.p0000 0 0 1 1 2\nveil film.p0001 0 0 2 0 2\n";
-    let files = read_exposures(alloc, written)?.ok_or("not read")?;
+        b"veil a 0 0 1 2 2\nveil a 1 0 2 0 3\nveil film.p0000 0 0 1 1 2\nveil film.p0001 0 0 2 0 2\nloose 1 3 57\n";
+    let Exposures { files, loose } = read_exposures(alloc, written)?.ok_or("not read")?;
     for (text, pieces, bare, wanting) in [("a", 2, 1, 0), ("film", 2, 0, 1)] {
         let name = Name::read(text.as_bytes()).ok_or("a name")?;
         let found = files.get(&name).copied();
@@ -213,7 +213,19 @@ fn what_an_audit_says_of_each_file(rt: HostRuntime) -> Result<(), Fail> {
             "at {text}"
         );
     }
-    assert!(rt; read_exposures(alloc, b"words refused\n")?.is_none());
+    let column = LooseColumn {
+        group: 1,
+        column: 3,
+        blocks: 57,
+    };
+    assert!(rt; loose.as_slice() == [column].as_slice());
+    for text in [
+        b"words refused\n".as_slice(),
+        b"loose 1 3\n",
+        b"loose 1 3 57 2\n",
+    ] {
+        assert!(rt; read_exposures(alloc, text)?.is_none());
+    }
     Ok(())
 }
 

@@ -1,6 +1,8 @@
--- An audit: how many points of each piece of each file of a desk are exposed to a coalition.
-use Rattle.std.specs.Prelude.{◌≡◌, ◌⊎◌, ◌++◌, ◌+◌, ◌&&◌, ℕ, Bool, true, false, nat_le, nat_lt, List}
-use Rattle.std.specs.Prelude.{Option, Result, Ok, Err, All, codes, flat_map, map, take, IsTrue}
+-- An audit: how many points of each piece of each file of a desk are exposed to a coalition, and
+-- how many of its blocks stand in no record.
+use Rattle.std.specs.Prelude.{◌≡◌, ◌⊎◌, ◌++◌, ◌+◌, ◌==◌, ◌&&◌, ◌||◌, ℕ, Bool, true, false, not}
+use Rattle.std.specs.Prelude.{nat_le, nat_lt, List, [], Option, Result, Ok, Err, All, codes}
+use Rattle.std.specs.Prelude.{flat_map, if◌then◌else◌, length, map, take, IsTrue}
 use Rattle.std.specs.List.{list_all, list_any}
 use Rattle.pot_bytes.specs.declared.rack.Rack.{Rack}
 use Rattle.pot_outside.specs.Accounts.{Transition}
@@ -8,8 +10,10 @@ use Rattle.pot_commands.specs.Streams.{Wrote}
 use Rattle.pot_script.specs.Replies.{spaced}
 use Rattle.pot_index.specs.declared.record.Record.{Record}
 use Rattle.pot_image.specs.declared.image.Image.{Image}
+use Rattle.pot_audit.specs.declared.loose.Loose.{Loose}
 use Rattle.pot_audit.specs.declared.spot.Spot.{Spot}
 use Rattle.pot_audit.specs.declared.veil.Veil.{Veil}
+use Rattle.pot_audit.specs.Loose.{loose_columns}
 use Rattle.pot_audit.specs.Veils.{AreVeils}
 use Rattle.pot_words.specs.declared.audit.Audit.{Audit}
 use Rattle.pot_words.specs.declared.spot.Spot as word
@@ -90,11 +94,47 @@ PutsAudit sink rack spots records (Err e) =
     (n : ℕ) × (all : List Audited) × AreAudited rack spots (take n records) all
     × Began sink (audit_text all)
 
+-- BLOCKS IN NO RECORD
+
+-- the columns that have such blocks, where the words ask for them
+abbrev pub loose_of : Audit → Image → List Loose
+loose_of a i =
+    if a.loose then loose_columns i.rack (spots_of a) i.tables.items i.records.items else []
+
+abbrev pub are_some : List Loose → Bool
+are_some columns = not (length columns == 0)
+
+-- the group, the column, and how many of its blocks stand in no record
+abbrev pub loose_line : Loose → List ℕ
+loose_line x =
+    codes "loose" ++ spaced x.group ++ spaced x.column ++ spaced x.count ++ codes "\n"
+
+abbrev pub loose_lines : List Loose → List ℕ
+loose_lines columns = flat_map loose_line columns
+
+-- THE WHOLE
+
+-- The lines of all records were written, and behind them those of these columns; and it is answered
+-- whether some piece is bare, or there are such columns. Or the sink failed or memory ran out: in
+-- the lines of the records, or in those of the columns behind them.
+abbrev pub PutsAll : Transition (List ℕ) → Rack → List Spot → List Record → List Loose
+    → Result Bool ListFault → Type 0
+PutsAll sink rack spots records columns (Ok found) =
+    (all : List Audited) × AreAudited rack spots records all
+    × (found ≡ (has_bare all || are_some columns))
+    × Wrote sink (audit_text all ++ loose_lines columns)
+PutsAll sink rack spots records columns (Err e) =
+    PutsAudit sink rack spots records (Err e)
+    ⊎ ((all : List Audited) × AreAudited rack spots records all
+    × Began sink (audit_text all ++ loose_lines columns))
+
 -- and so the answer
-abbrev pub AuditAnswers : Transition (List ℕ) → Rack → List Spot → List Record → Status → Type 0
-AuditAnswers sink rack spots records answer =
-    ((bare : Bool) × PutsAudit sink rack spots records (Ok bare) × (answer ≡ told_status bare))
-    ⊎ ((e : ListFault) × PutsAudit sink rack spots records (Err e)
+abbrev pub AuditAnswers : Transition (List ℕ) → Rack → List Spot → List Record → List Loose → Status
+    → Type 0
+AuditAnswers sink rack spots records columns answer =
+    ((found : Bool) × PutsAll sink rack spots records columns (Ok found)
+    × (answer ≡ told_status found))
+    ⊎ ((e : ListFault) × PutsAll sink rack spots records columns (Err e)
     × ((answer ≡ status.SinkFault) ⊎ (answer ≡ status.NoMemory)))
 
 -- What `audit` comes to. The desk has no image; or it has one whose rack lacks a column that the
@@ -106,4 +146,5 @@ pub data Audits (a : Audit) (desk : Transition (Option (List ℕ))) (sink : Tran
   Outside : (i : Image) → (IsTrue desk.tells → HoldsImage desk.before i) → are_of i.rack a ≡ false
       → Refuses sink stop.Words answer → Audits a desk sink answer
   Told : (i : Image) → (IsTrue desk.tells → HoldsImage desk.before i) → are_of i.rack a ≡ true
-      → AuditAnswers sink i.rack (spots_of a) i.records.items answer → Audits a desk sink answer
+      → AuditAnswers sink i.rack (spots_of a) i.records.items (loose_of a i) answer
+      → Audits a desk sink answer

@@ -1,6 +1,7 @@
-//! An audit: how many points of each piece of each file of a desk are exposed to a coalition.
+//! An audit: how many points of each piece of each file of a desk are exposed to a coalition, and
+//! how many of its blocks stand in no record.
 
-ghost use Rattle.std.specs.Prelude.{◌≡◌, ◌++◌, List, All, IsTrue, IfOk, OnOk, IsErrOf};
+ghost use Rattle.std.specs.Prelude.{◌≡◌, ◌++◌, List, All, IsTrue, IfOk, OnOk, IsErrOf, length};
 ghost use Rattle.std.specs.List.{list_any};
 ghost use Rattle.pot_bytes.specs.Rack.{IsRack};
 ghost use Rattle.pot_index.specs.Fits.{FitsRack};
@@ -10,8 +11,10 @@ ghost use Rattle.pot_outside.specs.Accounts.{Faults, Stays, transition};
 ghost use Rattle.pot_audit.specs.declared.veil.Veil.{Veil};
 ghost use Rattle.pot_audit.specs.Exposure.{AreSpots};
 ghost use Rattle.pot_audit.specs.Veils.{AreVeils};
-ghost use Rattle.pot_session.specs.Audits.{AuditAnswers, Audits, IsAudit, PutsAudit, are_of};
-ghost use Rattle.pot_session.specs.Audits.{is_bare, spots_of, veil_line, veil_lines};
+ghost use Rattle.pot_session.specs.Audits.{AuditAnswers, Audits, IsAudit, PutsAll, PutsAudit};
+ghost use Rattle.pot_session.specs.Audits.{are_of, are_some, is_bare, loose_line, loose_lines};
+ghost use Rattle.pot_session.specs.Audits.{loose_of, spots_of, veil_line, veil_lines};
+ghost use Rattle.pot_session.specs.Listing.{Puts};
 
 use crate::desk::read_desk;
 use crate::ending::refusing::refuse;
@@ -19,7 +22,7 @@ use crate::ending::status::Status;
 use crate::ending::stop::Stop;
 use crate::recovery::listing::ListFault;
 use crate::telling::Telling;
-use pot_audit::{Spot, Veil, audit_record};
+use pot_audit::{Loose, Spot, Veil, audit_record, loose_columns};
 use pot_bytes::{Name, NoMemory, Rack};
 use pot_commands::write_out;
 use pot_image::Image;
@@ -84,6 +87,28 @@ fn veil_lines(alloc: Global, name: &Name, veils: &[Veil]) -> Result<Vec<u8>, All
     Ok(text)
 }
 
+/// Adds the line of a column.
+fn append_loose(text: &mut Vec<u8>, loose: Loose) -> Result<(), AllocError>
+    ensures { OnOk result (text.new.items ≡ text.old.items ++ loose_line loose) }
+{
+    text.extend_from_slice(b"loose")?;
+    append_number(text, u64::from(loose.group))?;
+    append_number(text, u64::from(loose.column))?;
+    append_number(text, u64::from(loose.count))?;
+    text.extend_from_slice(b"\n")
+}
+
+/// The lines of columns.
+fn loose_lines(alloc: Global, columns: &[Loose]) -> Result<Vec<u8>, AllocError>
+    ensures { IfOk result (λ v. v.items ≡ loose_lines columns.now) }
+{
+    let mut text = Vec::new(alloc);
+    for loose in columns {
+        append_loose(&mut text, *loose)?;
+    }
+    Ok(text)
+}
+
 /// Whether some piece is bare: as many points of each of its fragments are exposed as give it back.
 fn has_bare(veils: &[Veil]) -> bool
     ensures { result ≡ list_any is_bare veils.now }
@@ -142,19 +167,85 @@ fn put_audit<K: Sink>(
     Ok(bare)
 }
 
+/// The columns with blocks in no record, where the words ask for them.
+fn loose_of(
+    alloc: Global,
+    task: &Audit,
+    image: &Image,
+    spots: &[Spot],
+) -> Result<Vec<Loose>, NoMemory>
+    requires tables { length image.now.tables.items ≡ image.now.rack.groups }
+    requires spots { spots.now ≡ spots_of task.now }
+    ensures { IfOk result (λ v. v.items ≡ loose_of task.now image.now) }
+{
+    if task.loose {
+        loose_columns(alloc, &image.rack, spots, &image.tables, &image.records)
+    } else {
+        Ok(Vec::new(alloc))
+    }
+}
+
+/// Writes the lines of columns. Answers whether there are any.
+fn put_loose<K: Sink>(alloc: Global, columns: &[Loose], sink: &mut K) -> Result<bool, ListFault>
+    ensures puts { Puts (transition K.account sink.old sink.new)
+        (loose_lines columns.now) result }
+    ensures some { IfOk result (λ some. some ≡ are_some columns.now) }
+    ensures cause { Faults K.account sink.old sink.new
+        (IsErrOf result ListFault.SinkFault) }
+{
+    let Ok(text) = loose_lines(alloc, columns) else {
+        return Err(ListFault::NoMemory);
+    };
+    match write_out(sink, &text) {
+        Ok(()) => Ok(!columns.is_empty()),
+        Err(Failed) => Err(ListFault::SinkFault),
+    }
+}
+
+/// Writes the lines of all records, and those of columns with blocks in no record. Answers whether
+/// some piece is bare, or there are such columns.
+fn put_all<K: Sink>(
+    alloc: Global,
+    task: &Audit,
+    image: &Image,
+    spots: &[Spot],
+    sink: &mut K,
+) -> Result<bool, ListFault>
+    requires fits { FitsTogether (contents image.now) }
+    requires fitting { AreSpots image.now.rack spots.now }
+    requires spots { spots.now ≡ spots_of task.now }
+    ensures puts { PutsAll (transition K.account sink.old sink.new)
+        image.now.rack spots.now image.now.records.items (loose_of task.now image.now) result }
+    ensures cause { Faults K.account sink.old sink.new
+        (IsErrOf result ListFault.SinkFault) }
+{
+    let bare = match put_audit(alloc, &image.records, &image.rack, spots, sink) {
+        Ok(bare) => bare,
+        Err(fault) => return Err(fault),
+    };
+    let Ok(columns) = loose_of(alloc, task, image, spots) else {
+        return Err(ListFault::NoMemory);
+    };
+    match put_loose(alloc, &columns, sink) {
+        Ok(some) => Ok(bare | some),
+        Err(fault) => Err(fault),
+    }
+}
+
 /// Tells the audit of an image whose rack has all columns that the words name.
 fn tell_audit<K: Sink>(alloc: Global, task: &Audit, image: &Image, sink: &mut K) -> Status
     requires task { IsAudit task.now }
     requires fits { FitsTogether (contents image.now) }
     requires of { IsTrue (are_of image.now.rack task.now) }
     ensures answers { AuditAnswers (transition K.account sink.old sink.new)
-        image.now.rack (spots_of task.now) image.now.records.items result }
+        image.now.rack (spots_of task.now) image.now.records.items
+        (loose_of task.now image.now) result }
     ensures cause { Faults K.account sink.old sink.new (result ≡ Status.SinkFault) }
 {
     let Ok(spots) = spots_of(alloc, task) else {
         return Status::NoMemory;
     };
-    match put_audit(alloc, &image.records, &image.rack, &spots, sink) {
+    match put_all(alloc, task, image, &spots, sink) {
         Ok(true) => Status::Refusals,
         Ok(false) => Status::Good,
         Err(ListFault::SinkFault) => Status::SinkFault,
@@ -163,7 +254,8 @@ fn tell_audit<K: Sink>(alloc: Global, task: &Audit, image: &Image, sink: &mut K)
 }
 
 /// Tells how many points of each piece of each file of the desk are exposed to the coalition that
-/// the words name. The desk's image stays.
+/// the words name, and where they ask for it which of its columns have blocks in no record. The
+/// desk's image stays.
 pub(crate) fn audit_files<K: Sink, D: Desk>(
     alloc: Global,
     task: &Audit,

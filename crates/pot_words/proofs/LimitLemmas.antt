@@ -30,7 +30,7 @@ command_within command.Run words t (run, is, (uses, spell, has)) = subst IsWithi
 command_within command.Generate words t (n, is, has) = subst IsWithinLimits (sym is) (has.0, has.1)
 command_within command.Recover words t (r, is, (uses, spell, has)) = subst IsWithinLimits (sym is) (has.0.0, has.0.1, has.1.0, has.1.1, has.2.1)
 command_within command.Drill words t (d, is, (uses, spell, has)) = subst IsWithinLimits (sym is) (has.0.0, has.1.0, has.1.1, points_within (given uses) _ d.geometry.shards d.seen.items has.2)
-command_within command.Audit words t (a, is, (uses, spell, has)) = subst IsWithinLimits (sym is) (some_listed _ has.0 a.seen.items has.3, has.2)
+command_within command.Audit words t (a, is, (uses, spell, has)) = subst IsWithinLimits (sym is) (some_listed _ has.0.0 a.seen.items has.0.3, has.0.2)
 
 -- the answer on words that spell it is within the limits
 pub answer_within : (words : List Text) (r : Result (Option Task) NoMemory) → IfOk r (IsOnly (SpellTask words)) → IfOk r (λ (o : Option Task). IfSome o IsWithinLimits)

@@ -69,4 +69,4 @@ module _ (value : Text → Option Text) where
       )
 
   pub audit_unhyphened : (a : Audit) → HasAudit a value → AreUnhyphenedAt value audit_names
-  audit_unhyphened a has = (unhyphened_spots value _ a.seen.items has, tt)
+  audit_unhyphened a has = (unhyphened_spots value _ a.seen.items has.0, (unhyphened_yes value _ a.loose has.1, tt))

@@ -85,10 +85,11 @@ abbrev pub SpellDrill : List Text → Drill → Type 0
 SpellDrill words d = SpellOptions drill_names (HasDrill d) words
 
 abbrev pub audit_names : List Text
-audit_names = codes "seen" ∷ []
+audit_names = codes "seen" ∷ codes "loose" ∷ []
 
 abbrev pub HasAudit : Audit → (Text → Option Text) → Type 0
 HasAudit a value = HasSpots value (codes "seen") a.seen.items
+    × HasYes value (codes "loose") a.loose
 
 -- the words spell the options of `audit`
 abbrev pub SpellAudit : List Text → Audit → Type 0

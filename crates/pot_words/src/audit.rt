@@ -9,6 +9,7 @@ ghost use Rattle.pot_words.specs.declared.audit.Audit.{Audit};
 
 use crate::spot::Spot;
 use crate::spots::spots_of;
+use crate::values::yes_of;
 use arrayvec::ArrayVec;
 use pot_bytes::NoMemory;
 use pot_options::{Options, read_options};
@@ -20,9 +21,11 @@ pub struct Audit {
     /// The columns that are seen, ascending by group and then by column; there is at least one. Whether
     /// a rack has them is not known here.
     pub seen: ArrayVec<Spot, 288>,
+    /// Whether blocks that stand in no record are counted too.
+    pub loose: bool,
 }
 
-static NAMES: [&str; 1] = ["seen"];
+static NAMES: [&str; 2] = ["seen", "loose"];
 
 /// The task that the words after `audit` spell.
 pub fn read_audit(alloc: Global, words: &[String]) -> Result<Option<Audit>, NoMemory>
@@ -39,5 +42,6 @@ fn audit_of(options: &Options<'_>) -> Option<Audit>
     ensures { IsOnly (λ (a : Audit). HasAudit a (given options.now)) result }
 {
     let seen = spots_of(options, "seen")?;
-    Some(Audit { seen })
+    let loose = yes_of(options, "loose")?;
+    Some(Audit { seen, loose })
 }

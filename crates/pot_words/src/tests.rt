@@ -412,10 +412,10 @@ fn refused_drills(rt: HostRuntime) -> Result<(), Fail> {
     Ok(())
 }
 
-// The spots of the task, where it is an audit.
-fn spots_of_audit(task: &Option<Task>) -> Option<&[Spot]> {
+// The spots of the task, and whether loose blocks are counted, where it is an audit.
+fn spots_of_audit(task: &Option<Task>) -> Option<(&[Spot], bool)> {
     match task {
-        Some(Task::Audit(audit)) => Some(audit.seen.as_slice()),
+        Some(Task::Audit(audit)) => Some((audit.seen.as_slice(), audit.loose)),
         _ => None,
     }
 }
@@ -424,17 +424,31 @@ fn spots_of_audit(task: &Option<Task>) -> Option<&[Spot]> {
 fn audit(rt: HostRuntime) -> Result<(), Fail> {
     let alloc = rt.alloc();
     let spot = |group: u8, column: u8| Spot { group, column };
-    let good: [(&str, &[Spot]); 4] = [
-        ("audit --seen 0.3", &[spot(0, 3)]),
-        ("audit --seen=0.0,1.0", &[spot(0, 0), spot(1, 0)]),
+    let good: [(&str, &[Spot], bool); 6] = [
+        ("audit --seen 0.3", &[spot(0, 3)], false),
+        (
+            "audit --seen=0.0,1.0 --loose=yes",
+            &[spot(0, 0), spot(1, 0)],
+            true,
+        ),
         (
             "audit --seen 0.17,1.0,1.1",
             &[spot(0, 17), spot(1, 0), spot(1, 1)],
+            false,
         ),
-        ("audit --seen 9.10,15.17", &[spot(9, 10), spot(15, 17)]),
+        (
+            "audit --seen 9.10,15.17",
+            &[spot(9, 10), spot(15, 17)],
+            false,
+        ),
+        ("audit --loose yes --seen 0.3", &[spot(0, 3)], true),
+        ("audit --seen 0.3 --loose no", &[spot(0, 3)], false),
     ];
-    for (line, spots) in good {
-        assert_eq!(rt; spots_of_audit(&task_of(alloc, line)?), Some(spots));
+    for (line, spots, loose) in good {
+        assert_eq!(rt;
+            spots_of_audit(&task_of(alloc, line)?),
+            Some((spots, loose))
+        );
     }
     let bad = [
         "audit",
@@ -460,6 +474,11 @@ fn audit(rt: HostRuntime) -> Result<(), Fail> {
         "audit --seen 0.0,",
         "audit --seen 0.0 1.0",
         "audit --seen 0.0 --seen 1.0",
+        "audit --loose yes",
+        "audit --seen 0.0 --loose",
+        "audit --seen 0.0 --loose true",
+        "audit --seen 0.0 --loose Yes",
+        "audit --seen 0.0 --loose yes --loose yes",
     ];
     assert!(rt; none_of(alloc, bad.as_slice())?);
     Ok(())

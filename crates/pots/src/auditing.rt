@@ -7,12 +7,14 @@ use crate::visit::{Visit, listed_archives};
 use clap::ArgMatches;
 use pot_bytes::Name;
 use pot_image::Image;
-use pot_report::{Exposure, Holding, holdings, name_text, read_exposures};
+use pot_report::{Exposure, Exposures, Holding, LooseColumn, holdings, name_text, read_exposures};
 use serde_json::json;
+use std::alloc::AllocError;
 use std::sync::Wait;
 use std::thread::Threads;
 
-/// Tells of each file how much is exposed to who has these archives.
+/// Tells of each file how much is exposed to who has these archives, and which of them have blocks
+/// that stand in no file.
 pub fn audit<X: Threads + Wait + Sync>(
     turns: &X,
     visit: &mut Visit,
@@ -26,7 +28,7 @@ pub fn audit<X: Threads + Wait + Sync>(
     if ran.status > 1 {
         return Err(ended(visit, &ran));
     }
-    let Some(files) = read_exposures(visit.alloc(), &ran.written)? else {
+    let Some(Exposures { files, loose }) = read_exposures(visit.alloc(), &ran.written)? else {
         return Err(visit.refuse(
             5,
             "what the audit says was not understood: pots and potshards are of different versions",
@@ -34,6 +36,10 @@ pub fn audit<X: Threads + Wait + Sync>(
     };
     for (name, exposure) in files.iter() {
         tell_exposure(visit, name, exposure)?;
+    }
+    let holdings = holdings(visit.alloc(), &image)?;
+    for column in loose.iter() {
+        tell_loose(visit, &holdings, column)?;
     }
     Ok(ran.status)
 }
@@ -53,6 +59,7 @@ fn audit_line(visit: &Visit, image: &Image, numbers: &[u32]) -> Result<String, S
         line.push_str(format!(in visit.alloc(); "{comma}{group}.{column}")?.as_str())?;
         last = Some((group, column));
     }
+    line.push_str(" --loose yes")?;
     Ok(line)
 }
 
@@ -96,4 +103,41 @@ fn tell_exposure_json(visit: &Visit, name: &Name, exposure: &Exposure) -> Result
         json!(in visit.alloc(); {"audit": name_text(name), "pieces": pieces, "exposed": bare, "wanting": wanting})?;
     let line = line.to_string(visit.alloc())?;
     println!(visit; "{line}")
+}
+
+// Tells of a column with blocks that stand in no file.
+fn tell_loose(visit: &Visit, holdings: &[Holding], loose: &LooseColumn) -> Result<(), Stop> {
+    let archives = archives_of(visit, holdings, loose)?;
+    let archives = archives.as_str();
+    let LooseColumn {
+        group,
+        column,
+        blocks,
+    } = *loose;
+    if visit.json {
+        let line =
+            json!(in visit.alloc(); {"loose": blocks, "group": group, "column": column, "archives": archives})?;
+        let line = line.to_string(visit.alloc())?;
+        return println!(visit; "{line}");
+    }
+    println!(visit;
+        "archive {archives}: exposed, {blocks} blocks of stores or renewals that were given up; they may be most of such a file"
+    )
+}
+
+// The archives of a column, two where it moves, as `3` or `3,9`.
+fn archives_of(
+    visit: &Visit,
+    holdings: &[Holding],
+    loose: &LooseColumn,
+) -> Result<String, AllocError> {
+    let mut archives = String::new(visit.alloc());
+    for holding in holdings.iter() {
+        if (holding.group, holding.column) == (loose.group, loose.column) {
+            let comma = if archives.is_empty() { "" } else { "," };
+            let number = holding.archive;
+            archives.push_str(format!(in visit.alloc(); "{comma}{number}")?.as_str())?;
+        }
+    }
+    Ok(archives)
 }

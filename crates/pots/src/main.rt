@@ -7,6 +7,7 @@
 
 mod answering;
 mod auditing;
+mod coming;
 mod drilling;
 mod fetching;
 mod gathering;

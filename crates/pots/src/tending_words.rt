@@ -135,7 +135,8 @@ fn recover_command<'a>(alloc: Global) -> Result<Command<'a>, AllocError> {
 }
 
 fn audit_command<'a>(alloc: Global) -> Result<Command<'a>, AllocError> {
-    let about = "Tell of each file how much is exposed to who has these archives, by the desk";
+    let about =
+        "Tell of each file how much is exposed to who has these archives, and of blocks in no file";
     command(alloc, "audit", about)?.arg(operand(
         alloc,
         "ARCHIVES",

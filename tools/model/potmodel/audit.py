@@ -1,6 +1,7 @@
-"""An audit: how many points of each piece of a record's splits are exposed to a coalition of columns."""
+"""An audit: how many points of each piece of a record's splits are exposed to a coalition, and which blocks no record names."""
 
 from . import pieces
+from .table import VOID
 
 
 def is_exposed(rack, spots, group, column):
@@ -30,3 +31,18 @@ def lines(rack, spots, record):
             texts.append(b"veil %s %d %d %d %d %d\n" % (record.name, number, piece, counts.index(have) + 1, have, need))
             is_bare = is_bare or have >= need
     return b"".join(texts), is_bare
+
+
+def loose_lines(rack, spots, tables, records):
+    """A line for each exposed data column with slots that have a block and that no split of any record names."""
+    named = {place for record in records for split in record.splits for place in split.places}
+    texts = []
+    for group in range(rack.groups):
+        for column in range(rack.columns):
+            if not is_exposed(rack, spots, group, column):
+                continue
+            count = sum(tables[group].state(stripe, column) != VOID and (group, column, stripe) not in named
+                        for stripe in range(rack.stripes))
+            if count > 0:
+                texts.append(b"loose %d %d %d\n" % (group, column, count))
+    return b"".join(texts)

@@ -194,7 +194,7 @@ def work_drill(task, drawn, source):
 
 
 def work_audit(task, sink, desk):
-    """An audit of the records of a desk; the lines of each are written before the next is looked at."""
+    """An audit of the records of a desk; the lines of each are written before the next is looked at, and loose blocks last."""
     image, spots = stands_on(desk), task[1]
     rack, status = image.rack, 0
     if any(group >= rack.groups or column >= rack.columns + rack.parity for group, column in spots):
@@ -206,6 +206,13 @@ def work_audit(task, sink, desk):
         except Failed:
             return 5
         status = 1 if is_bare else status
+    loose = audit.loose_lines(rack, spots, image.tables, image.records) if task[2] else b""
+    if loose:
+        try:
+            sink.write(loose)
+        except Failed:
+            return 5
+        status = 1
     return status
 
 

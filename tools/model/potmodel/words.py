@@ -119,14 +119,14 @@ def read_spot(text):
 
 
 def read_audit(words):
-    """`audit`: the columns that are seen."""
-    reader = Reader(words, {"seen"})
-    if not reader.is_fine or "seen" not in reader.values:
+    """`audit`: the columns that are seen, and whether loose blocks are counted."""
+    reader = Reader(words, {"seen", "loose"})
+    if not reader.is_fine or "seen" not in reader.values or reader.values.get("loose", "no") not in ("yes", "no"):
         return None
     seen = [read_spot(text) for text in reader.values["seen"].split(",")]
     if None in seen or sorted(set(seen)) != seen:
         return None
-    return "audit", seen
+    return "audit", seen, reader.values.get("loose") == "yes"
 
 
 def read_generate(words):
