@@ -1,28 +1,41 @@
 //! Files that are gathered until there is enough for a session.
+//!
+//! The list of parts of a long file is stored once each of its parts was answered `stored`, or was
+//! there before. So it goes into a session behind that of its last part.
 
+use crate::loads::Load;
 use crate::progress::Progress;
-use crate::session::{MOST_TOGETHER, hold_together};
+use crate::session::hold_together;
 use crate::stop::Stop;
 use crate::visit::Visit;
 use pot_bytes::{Bytes, Name};
-use pot_client::ends_as_part;
+use pot_client::{ends_as_part, read_part_name};
 use pot_report::{name_text, spoken_name};
 use pot_script::{Command, Reply};
-use std::alloc::Global;
+use std::alloc::{AllocError, Global};
 use std::mem;
 use std::sync::Wait;
 use std::thread::Threads;
 
-/// How many bytes of files a session stores at most, but for one that is longer.
-const MOST_BYTES: usize = 16_000_000;
+/// A list of parts.
+#[derive(Drop)]
+struct PartList {
+    file: Name,
+    name: Name,
+    text: Bytes,
+}
 
 /// Files that wait for a session.
 #[derive(Drop)]
 pub struct Gathered {
     commands: Vec<Command>,
     names: Vec<Name>,
-    bytes: usize,
-    pub progress: Progress,
+    load: Load,
+    /// The lists of files of which parts are in the session. They wait for the next one.
+    lists: Vec<PartList>,
+    /// The first file that lacks a part, which was refused.
+    lacking: Option<Name>,
+    progress: Progress,
 }
 
 impl Gathered {
@@ -30,9 +43,16 @@ impl Gathered {
         Gathered {
             commands: Vec::new(alloc),
             names: Vec::new(alloc),
-            bytes: 0,
+            load: Load::nothing(),
+            lists: Vec::new(alloc),
+            lacking: None,
             progress,
         }
+    }
+
+    /// The first long file of which a part was refused, once all its parts were added.
+    pub fn lacking(&self) -> Option<Name> {
+        self.lacking
     }
 
     /// Adds a file, and first holds a session where there would be too much for one. Answers
@@ -44,53 +64,122 @@ impl Gathered {
         name: Name,
         file: &[u8],
     ) -> Result<bool, Stop> {
-        if self.is_full(file.len()) && !self.flush(turns, visit)? {
+        if self.load.is_full(file.len() as u64) && !self.flush(turns, visit)? {
             return Ok(false);
         }
         let file = Bytes::from_vec(Vec::from_slice(visit.alloc(), file)?);
-        self.bytes = self.bytes.saturating_add(file.as_slice().len());
-        self.commands.push(Command::Store { name, file })?;
-        self.names.push(name)?;
+        self.push(name, file)?;
         Ok(true)
     }
 
-    // Whether a file of so many bytes would be too much for the session.
-    fn is_full(&self, length: usize) -> bool {
-        self.names.len() >= MOST_TOGETHER || self.bytes.saturating_add(length) > MOST_BYTES
+    /// Adds the list of parts of a file, whose parts were added right before, but for those that
+    /// were stored already. Answers whether nothing was refused.
+    pub fn add_list<X: Threads + Wait + Sync>(
+        &mut self,
+        turns: &X,
+        visit: &mut Visit,
+        (file, name): (Name, Name),
+        text: &[u8],
+    ) -> Result<bool, Stop> {
+        if !self
+            .names
+            .last()
+            .is_some_and(|last| is_part_of(last, &file))
+        {
+            return self.add(turns, visit, name, text);
+        }
+        let text = Bytes::from_vec(Vec::from_slice(visit.alloc(), text)?);
+        self.lists.push(PartList { file, name, text })?;
+        Ok(true)
     }
 
-    /// Holds a session that stores what waits, and answers whether nothing was refused.
-    pub fn flush<X: Threads + Wait + Sync>(
+    fn push(&mut self, name: Name, file: Bytes) -> Result<(), AllocError> {
+        self.load.add(file.as_slice().len() as u64);
+        self.names.push(name)?;
+        self.commands.push(Command::Store { name, file })?;
+        Ok(())
+    }
+
+    /// Stores all that waits, and at last the lists of parts. Answers whether nothing was refused.
+    pub fn finish<X: Threads + Wait + Sync>(
         &mut self,
         turns: &X,
         visit: &mut Visit,
     ) -> Result<bool, Stop> {
-        let commands = mem::replace(&mut self.commands, Vec::new(visit.alloc()));
+        let files = self.flush(turns, visit)?;
+        let lists = self.flush(turns, visit)?;
+        Ok(files && lists)
+    }
+
+    // Holds a session that stores what waits, and answers whether nothing was refused. Where
+    // nothing waits there is none.
+    fn flush<X: Threads + Wait + Sync>(
+        &mut self,
+        turns: &X,
+        visit: &mut Visit,
+    ) -> Result<bool, Stop> {
+        if self.names.is_empty() {
+            return Ok(true);
+        }
+        let alloc = visit.alloc();
+        let commands = mem::replace(&mut self.commands, Vec::new(alloc));
+        let names = mem::replace(&mut self.names, Vec::new(alloc));
+        let load = mem::replace(&mut self.load, Load::nothing());
         let replies = hold_together(turns, visit, commands)?;
-        self.progress.add(&visit.rt, self.bytes as u64);
-        let good = tell_stored(visit, &self.names, &replies)?;
-        self.names.clear();
-        self.bytes = 0;
-        Ok(good)
+        self.progress.add(&visit.rt, load.bytes());
+        let refused = tell_stored(visit, &names, &replies)?;
+        self.move_lists(alloc, &refused)?;
+        Ok(refused.is_empty())
+    }
+
+    // Adds the lists of the files that are stored but for their lists: of all up to the first that
+    // lacks a part.
+    fn move_lists(&mut self, alloc: Global, refused: &[Name]) -> Result<(), AllocError> {
+        for list in mem::replace(&mut self.lists, Vec::new(alloc)) {
+            if refused.iter().any(|name| is_part_of(name, &list.file)) {
+                self.lacking = Some(list.file);
+                break;
+            }
+            self.push(list.name, list.text)?;
+        }
+        Ok(())
     }
 }
 
-// Tells of each file what came of it, of parts alone by the list of parts. Answers whether nothing
-// was refused.
-fn tell_stored(visit: &Visit, names: &[Name], replies: &[Reply]) -> Result<bool, Stop> {
-    let mut good = true;
-    for (name, reply) in names.iter().zip(replies.iter()) {
-        match reply {
-            Reply::Stored { .. } if !visit.json => tell_name(visit, name)?,
-            _ => {
-                if visit.tell(reply)? {
-                    good = false;
-                    tell_refused(visit, name)?;
-                }
-            }
+// Whether a name is that of a part of the file.
+fn is_part_of(name: &Name, file: &Name) -> bool {
+    match read_part_name(name) {
+        Some((stem, _)) => stem == *file,
+        None => false,
+    }
+}
+
+// Tells of each file what came of it, of parts alone by the list of parts. Answers which of them
+// were not stored.
+fn tell_stored(visit: &Visit, names: &[Name], replies: &[Reply]) -> Result<Vec<Name>, Stop> {
+    let mut refused = Vec::new(visit.alloc());
+    let mut replies = replies.iter();
+    for name in names {
+        let stored = match replies.next() {
+            Some(reply) => tell_one(visit, name, reply)?,
+            None => false,
+        };
+        if !stored {
+            refused.push(*name)?;
         }
     }
-    Ok(good)
+    Ok(refused)
+}
+
+// Tells what came of a file, and answers whether it is stored.
+fn tell_one(visit: &Visit, name: &Name, reply: &Reply) -> Result<bool, Stop> {
+    let stored = matches!(reply, Reply::Stored { .. });
+    if stored && !visit.json {
+        tell_name(visit, name)?;
+    } else if visit.tell(reply)? {
+        tell_refused(visit, name)?;
+    }
+    Ok(stored)
 }
 
 fn tell_name(visit: &Visit, name: &Name) -> Result<(), Stop> {

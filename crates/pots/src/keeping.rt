@@ -16,18 +16,66 @@ const KEPT: usize = 10;
 /// How many names beside a file are tried.
 const TRIES: u32 = 100;
 
+/// A file that is written under a name that is free beside its own, and gets its own once it is
+/// whole.
+#[derive(Drop)]
+pub struct NewFile {
+    file: File,
+    beside: String,
+    path: String,
+    length: u64,
+}
+
+impl NewFile {
+    /// A file without a byte that is to be at this path.
+    pub fn begin(rt: &HostRuntime, path: &str) -> io::Result<NewFile> {
+        let own = String::from_str(rt.alloc(), path)?;
+        let (file, beside) = open_beside(rt, path)?;
+        Ok(NewFile {
+            file,
+            beside,
+            path: own,
+            length: 0,
+        })
+    }
+
+    /// Writes bytes behind those that it has.
+    pub fn append(&mut self, bytes: &[u8]) -> io::Result<()> {
+        self.file.write_all_at(bytes, self.length)?;
+        self.length = self.length.saturating_add(bytes.len() as u64);
+        Ok(())
+    }
+
+    /// Brings it to the disk, and then gives it its name. Where there is a file of that name it stays
+    /// as it is, unless it may be replaced, and the new one is taken away.
+    pub fn settle(self, rt: &HostRuntime, may_replace: bool) -> io::Result<()> {
+        let done = match self.file.sync_all() {
+            Ok(()) => settle(rt, self.beside.as_str(), self.path.as_str(), may_replace),
+            Err(e) => Err(e),
+        };
+        if done.is_err() {
+            self.abandon(rt);
+        }
+        done
+    }
+
+    /// Takes it away.
+    pub fn abandon(self, rt: &HostRuntime) {
+        let _ = fs::remove_file(rt, self.beside.as_str());
+    }
+}
+
 /// Writes a file under a name that is free beside it, brings it to the disk, and then gives it its
 /// name. Where there is a file of that name it stays as it is, unless it may be replaced.
 pub fn put_file(rt: &HostRuntime, path: &str, bytes: &[u8], may_replace: bool) -> io::Result<()> {
-    let (file, beside) = open_beside(rt, path)?;
-    let done = match fill(&file, bytes) {
-        Ok(()) => settle(rt, beside.as_str(), path, may_replace),
-        Err(e) => Err(e),
-    };
-    if done.is_err() {
-        let _ = fs::remove_file(rt, beside.as_str());
+    let mut file = NewFile::begin(rt, path)?;
+    match file.append(bytes) {
+        Ok(()) => file.settle(rt, may_replace),
+        Err(e) => {
+            file.abandon(rt);
+            Err(e)
+        }
     }
-    done
 }
 
 // A new file beside the path, under a number that no standard stream has. What is there under such
@@ -64,11 +112,6 @@ fn apart(file: File) -> io::Result<File> {
     } else {
         Err(ErrorKind::Unsupported.into())
     }
-}
-
-fn fill(file: &File, bytes: &[u8]) -> io::Result<()> {
-    file.write_all_at(bytes, 0)?;
-    file.sync_all()
 }
 
 // Gives the file its name, and brings that to the disk.

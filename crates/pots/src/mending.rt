@@ -11,7 +11,7 @@ use clap::ArgMatches;
 use pot_bytes::{Geometry, Name};
 use pot_client::part_name;
 use pot_image::Image;
-use pot_report::{Kept, kept_files};
+use pot_report::{Holding, Kept, holdings, kept_files};
 use pot_script::{Command, Reply};
 use std::alloc::AllocError;
 use std::sync::Wait;
@@ -20,24 +20,39 @@ use std::thread::Threads;
 /// How many files, or parts of files, a session splits anew at most.
 const MOST_RENEWED: usize = 16;
 
-/// Looks at each block of the groups, and tells which archives are ailing and what mends them.
+/// Looks at each block, and tells which archives are ailing and what mends them. The opening of a
+/// session reads each block that the desk names, and notes which are gone, so it has nothing else
+/// to do.
 pub fn check<X: Threads + Wait + Sync>(
     turns: &X,
     visit: &mut Visit,
     words: &ArgMatches,
 ) -> Result<u8, Stop> {
     let groups = asked_groups(visit, words)?;
-    let mut commands = Vec::new(visit.alloc());
-    for group in groups.iter() {
-        commands.push(Command::Scrub { group: *group })?;
-    }
-    let replies = hold_together(turns, visit, commands)?;
-    let status = visit.tell_all(&replies)?;
+    let nothing = Vec::new(visit.alloc());
+    let _ = hold(turns, visit, nothing)?;
     let image = image(visit)?;
-    if tell_ailing(visit, &image)? {
-        return Ok(1);
+    let all = holdings(visit.alloc(), &image)?;
+    for group in groups.iter() {
+        tell_seen(visit, &all, *group)?;
     }
-    Ok(status)
+    let is_ailing = tell_ailing(visit, &image)?;
+    Ok(if is_ailing { 1 } else { 0 })
+}
+
+// Tells how many blocks of a group the opening read, as the reply to a scrub behind it does: that
+// one looks at those that are there, and finds them once more.
+fn tell_seen(visit: &Visit, all: &[Holding], group: u8) -> Result<(), Stop> {
+    let seen = all
+        .iter()
+        .filter(|holding| holding.group == group)
+        .fold(0u32, |sum, holding| sum.saturating_add(holding.live));
+    let _ = visit.tell(&Reply::Scrubbed {
+        group,
+        seen,
+        gone: 0,
+    })?;
+    Ok(())
 }
 
 /// Makes lost blocks of the groups anew.
@@ -130,7 +145,7 @@ fn work_one<X: Threads + Wait + Sync>(
 ) -> Result<u8, Stop> {
     let mut commands = Vec::new(visit.alloc());
     commands.push(command)?;
-    let replies = hold(turns, visit, &commands)?;
+    let replies = hold(turns, visit, commands)?;
     visit.tell_all(&replies)
 }
 

@@ -1,5 +1,6 @@
 //! Sessions: a script is given to `run`, and its replies are read.
 
+use crate::loads::MOST_TOGETHER;
 use crate::looking::image_for_session;
 use crate::stop::Stop;
 use crate::visit::Visit;
@@ -23,10 +24,10 @@ pub struct Ran {
 pub fn hold<X: Threads + Wait + Sync>(
     turns: &X,
     visit: &mut Visit,
-    commands: &[Command],
+    commands: Vec<Command>,
 ) -> Result<Vec<Reply>, Stop> {
     let _ = image_for_session(visit)?;
-    let script = write_script(visit.alloc(), commands)?;
+    let script = script_of(visit.alloc(), commands)?;
     let words = words_of(visit.alloc(), "run")?;
     let ran = call(turns, visit, &words, script)?;
     if ran.status > 1 {
@@ -41,8 +42,10 @@ pub fn hold<X: Threads + Wait + Sync>(
     }
 }
 
-/// How many commands are worked side by side at most.
-pub const MOST_TOGETHER: usize = 1024;
+// The script of commands, which are not held in memory beside it.
+fn script_of(alloc: Global, commands: Vec<Command>) -> Result<Vec<u8>, Stop> {
+    Ok(write_script(alloc, &commands)?)
+}
 
 /// Holds a session that works these commands side by side, where there are several, and answers
 /// their replies in order. Where there are none it holds no session.
@@ -56,7 +59,7 @@ pub fn hold_together<X: Threads + Wait + Sync>(
         return Ok(Vec::new(visit.alloc()));
     }
     if count == 1 || count > MOST_TOGETHER {
-        return hold(turns, visit, &commands);
+        return hold(turns, visit, commands);
     }
     let count = u32::try_from(count).unwrap_or(u32::MAX);
     let mut batch = Vec::new(visit.alloc());
@@ -65,7 +68,7 @@ pub fn hold_together<X: Threads + Wait + Sync>(
         batch.push(command)?;
     }
     batch.push(Command::End)?;
-    hold(turns, visit, &batch)
+    hold(turns, visit, batch)
 }
 
 /// The words of a command line, which stand between spaces.

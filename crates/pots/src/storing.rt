@@ -35,22 +35,38 @@ pub fn store<X: Threads + Wait + Sync>(
     let image = image(visit)?;
     let known = Known::of(visit.alloc(), image)?;
     judge_room(visit, &known, &items)?;
+    store_all(turns, visit, &known, &items)
+}
+
+fn store_all<X: Threads + Wait + Sync>(
+    turns: &X,
+    visit: &mut Visit,
+    known: &Known,
+    items: &[Item],
+) -> Result<u8, Stop> {
     let all = items
         .iter()
         .fold(0u64, |sum, item| sum.saturating_add(item.length));
     let mut gathered = Gathered::new(visit.alloc(), Progress::begin(&visit.rt, all));
     let mut status = 0;
-    for item in items.iter() {
-        match store_item(turns, visit, &known, item, &mut gathered)? {
+    let mut ended = None;
+    for item in items {
+        match store_item(turns, visit, known, item, &mut gathered)? {
             Outcome::Good => {}
             Outcome::Refused => status = 1,
-            Outcome::Ended => return Ok(told_ended(visit, &item.name)),
+            Outcome::Ended => {
+                ended = Some(item.name);
+                break;
+            }
         }
     }
-    if !gathered.flush(turns, visit)? {
+    if !gathered.finish(turns, visit)? {
         status = 1;
     }
-    Ok(status)
+    match gathered.lacking().or(ended) {
+        Some(name) => Ok(told_ended(visit, &name)),
+        None => Ok(status),
+    }
 }
 
 // Tells where the command ended, and answers its status.
@@ -69,7 +85,7 @@ enum Outcome {
     Good,
     /// It was not stored, and others may be.
     Refused,
-    /// The archive refused something, and nothing more is stored.
+    /// The archive refused something, and nothing more is stored but lists of parts.
     Ended,
 }
 
@@ -253,12 +269,10 @@ fn store_long<X: Threads + Wait + Sync>(
         Outcome::Good => {}
         outcome => return Ok(outcome),
     }
-    let is_added = gathered.flush(turns, visit)? && gathered.add(turns, visit, list_name, list)?;
-    Ok(added(is_added))
+    Ok(added(gathered.add_list(turns, visit, (*name, list_name), list)?))
 }
 
-// Stores the parts of a file that are not there yet. Its list of parts comes last, in a session of
-// its own.
+// Stores the parts of a file that are not there yet.
 fn store_parts<X: Threads + Wait + Sync>(
     turns: &X,
     visit: &mut Visit,
