@@ -1,5 +1,6 @@
 //! Archives that are looked after.
 
+use crate::coming::look_for_empty;
 use crate::looking::image;
 use crate::making::geometry_of;
 use crate::numbers::{MOST_ARCHIVES, read_number};
@@ -124,6 +125,7 @@ pub fn replace<X: Threads + Wait + Sync>(
     words: &ArgMatches,
 ) -> Result<u8, Stop> {
     let (from, to) = two_archives(visit, words)?;
+    look_for_empty(visit, to)?;
     visit.without.push(from)?;
     work_one(turns, visit, Command::Replace { from, to })
 }
@@ -135,6 +137,7 @@ pub fn migrate<X: Threads + Wait + Sync>(
     words: &ArgMatches,
 ) -> Result<u8, Stop> {
     let (from, to) = two_archives(visit, words)?;
+    look_for_empty(visit, to)?;
     work_one(turns, visit, Command::Migrate { from, to })
 }
 
