@@ -59,10 +59,10 @@ reads_are {A} (wants f next) bytes rest a e = (let again = reads_are (next (take
     by_test : ((stands f bytes ≡ true) ⊎ (stands f bytes ≡ false))
         → (reading (next (take f.size bytes)) (drop f.size bytes) ≡ Ok (a, rest) → (xs : List (List ℕ)) × (drop f.size bytes ≡ joined xs ++ rest) × ReadsFields (next (take f.size bytes)) xs a)
         → (xs : List (List ℕ)) × (bytes ≡ joined xs ++ rest) × ReadsFields (wants f next) xs a
-    by_test (inl transition) again =
-        let read : reading (next (take f.size bytes)) (drop f.size bytes) ≡ Ok (a, rest) = ap (λ b. cond b (reading (next (take f.size bytes)) (drop f.size bytes)) (Err (length bytes))) (sym transition) ∙ e in
+    by_test (inl met) again =
+        let read : reading (next (take f.size bytes)) (drop f.size bytes) ≡ Ok (a, rest) = ap (λ b. cond b (reading (next (take f.size bytes)) (drop f.size bytes)) (Err (length bytes))) (sym met) ∙ e in
         let r = again read in
-        let is = and_parts (nat_le f.size (length bytes)) (f.holds (take f.size bytes)) transition in
+        let is = and_parts (nat_le f.size (length bytes)) (f.holds (take f.size bytes)) met in
         let long : f.size ≤ length bytes = leb-true _ _ is.0 in (
           take f.size bytes ∷ r.0,
           sym (take-append-drop f.size bytes) ∙ ap (λ z. take f.size bytes ++ z) r.1 ∙ sym (append_assoc (take f.size bytes) (joined r.0) rest),
@@ -78,8 +78,8 @@ reads_on f next x rest is =
     let front : take f.size (x ++ rest) ≡ x = ap (λ n. take n (x ++ rest)) (sym is.0) ∙ take-append_seam x rest in
     let back : drop f.size (x ++ rest) ≡ rest = ap (λ n. drop n (x ++ rest)) (sym is.0) ∙ drop-append_seam x rest in
     let long : f.size ≤ length (x ++ rest) = (let h = length-append x rest in omega (arith, is.0)) in
-    let transition : stands f (x ++ rest) ≡ true = ap₂ (λ a b. a && b) (le-leb _ _ long) (ap f.holds front ∙ is.1) in
-    ap (λ b. cond b (reading (next (take f.size (x ++ rest))) (drop f.size (x ++ rest))) (Err (length (x ++ rest)))) transition ∙ ap₂ (λ y r. reading (next y) r) front back
+    let met : stands f (x ++ rest) ≡ true = ap₂ (λ a b. a && b) (le-leb _ _ long) (ap f.holds front ∙ is.1) in
+    ap (λ b. cond b (reading (next (take f.size (x ++ rest))) (drop f.size (x ++ rest))) (Err (length (x ++ rest)))) met ∙ ap₂ (λ y r. reading (next y) r) front back
 
 pub is_read : {A : Type 0} (g : Grammar A) (xs : List (List ℕ)) (rest : List ℕ) (a : A) → ReadsFields g xs a → reading g (joined xs ++ rest) ≡ Ok (a, rest)
 unfolding reading
@@ -97,10 +97,10 @@ breaks_are {A} (wants f next) bytes n e = (let again = breaks_are (next (take f.
     by_test : ((stands f bytes ≡ true) ⊎ (stands f bytes ≡ false))
         → (reading (next (take f.size bytes)) (drop f.size bytes) ≡ Err n → (xs : List (List ℕ)) × (rest : List ℕ) × (drop f.size bytes ≡ joined xs ++ rest) × Breaks (next (take f.size bytes)) xs rest × (n ≡ length rest))
         → (xs : List (List ℕ)) × (rest : List ℕ) × (bytes ≡ joined xs ++ rest) × Breaks (wants f next) xs rest × (n ≡ length rest)
-    by_test (inl transition) again =
-        let read : reading (next (take f.size bytes)) (drop f.size bytes) ≡ Err n = ap (λ b. cond b (reading (next (take f.size bytes)) (drop f.size bytes)) (Err (length bytes))) (sym transition) ∙ e in
+    by_test (inl met) again =
+        let read : reading (next (take f.size bytes)) (drop f.size bytes) ≡ Err n = ap (λ b. cond b (reading (next (take f.size bytes)) (drop f.size bytes)) (Err (length bytes))) (sym met) ∙ e in
         let r = again read in
-        let is = and_parts (nat_le f.size (length bytes)) (f.holds (take f.size bytes)) transition in
+        let is = and_parts (nat_le f.size (length bytes)) (f.holds (take f.size bytes)) met in
         let long : f.size ≤ length bytes = leb-true _ _ is.0 in (
           take f.size bytes ∷ r.0,
           r.1,
@@ -116,8 +116,8 @@ breaks_are {A} (wants f next) bytes n e = (let again = breaks_are (next (take f.
         elsewhere front back q is =
             let first : take f.size bytes ≡ front = ap₂ (λ m z. take m z) (sym is.0) q ∙ take-append_seam front back in
             let long : f.size ≤ length bytes = (let h = ap length q ∙ length-append front back in omega (arith, is.0)) in
-            let transition : stands f bytes ≡ true = ap₂ (λ a b. a && b) (le-leb _ _ long) (ap f.holds first ∙ is.1) in
-            true≢false (sym transition ∙ unmet)
+            let met : stands f bytes ≡ true = ap₂ (λ a b. a && b) (le-leb _ _ long) (ap f.holds first ∙ is.1) in
+            true≢false (sym met ∙ unmet)
 
 pub breaks_read : {A : Type 0} (g : Grammar A) (xs : List (List ℕ)) (rest : List ℕ) → Breaks g xs rest → reading g (joined xs ++ rest) ≡ Err (length rest)
 unfolding reading
@@ -126,8 +126,8 @@ breaks_read (wants f next) [] rest h = stops (cases_Bool (stands f rest))
   where
     stops : ((stands f rest ≡ true) ⊎ (stands f rest ≡ false)) → cond (stands f rest) (reading (next (take f.size rest)) (drop f.size rest)) (Err (length rest)) ≡ Err (length rest)
     stops (inr unmet) = ap (λ b. cond b (reading (next (take f.size rest)) (drop f.size rest)) (Err (length rest))) unmet
-    stops (inl transition) =
-        let is = and_parts (nat_le f.size (length rest)) (f.holds (take f.size rest)) transition in
+    stops (inl met) =
+        let is = and_parts (nat_le f.size (length rest)) (f.holds (take f.size rest)) met in
         absurd (h (take f.size rest) (drop f.size rest) (sym (take-append-drop f.size rest)) (length-take-le f.size rest (leb-true _ _ is.0), is.1))
 breaks_read {A} (wants f next) (x ∷ xs) rest h =
     ap (reading (wants f next)) (append_assoc x (joined xs) rest) ∙ reads_on f next x (joined xs ++ rest) h.0 ∙ breaks_read (next x) xs rest h.1

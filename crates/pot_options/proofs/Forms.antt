@@ -51,11 +51,11 @@ form_of (x ∷ xs) = go (x == 45) refl
     go false e = let t = unhyphened_form x xs e in Plain t.0 t.1 t.2
 
 module _ (names : List Text) (rows : List Row) (p : Option (Text × List Text)) (word : Text) where
-  abbrev transition : Waiting → Bool → Option (Text × Option Text) → Held × Step
-  transition w b l = if b then (hold rows p, trailing 1) else long_or_other (rules names) w word l (hold rows p)
+  abbrev met : Waiting → Bool → Option (Text × Option Text) → Held × Step
+  met w b l = if b then (hold rows p, trailing 1) else long_or_other (rules names) w word l (hold rows p)
 
   abbrev turn : Waiting → Bool → Option (Text × Option Text) → Kinds
-  turn w b l = or_else (if b then [] else flag_word_fault (rules names) false l word (hold rows p)) (step_fault (shape names) 1 (transition w b l).0 (transition w b l).1)
+  turn w b l = or_else (if b then [] else flag_word_fault (rules names) false l word (hold rows p)) (step_fault (shape names) 1 (met w b l).0 (met w b l).1)
 
   -- the same once the word is no `--name`
   abbrev pub other_turn : Waiting → Option Text → Kinds
@@ -72,7 +72,7 @@ module _ (names : List Text) (rows : List Row) (p : Option (Text × List Text)) 
   pub asked_walk : (n : Text) (f : Option Text) → bytes_eq word bare ≡ false → long_of word ≡ None → short_of word ≡ f
       → walked (rules names) [] (at rows p (option n)) word ≡ after_step (rules names) word (at rows p (option n)) (short_or_plain (rules names) (option n) word f (hold rows p)).0 (short_or_plain (rules names) (option n) word f (hold rows p)).1
   unfolding walked
-  asked_walk n f b l s = ap₂ (λ (b' : Bool) (l' : Option (Text × Option Text)). after_step (rules names) word (at rows p (option n)) (transition (option n) b' l').0 (transition (option n) b' l').1) b l
+  asked_walk n f b l s = ap₂ (λ (b' : Bool) (l' : Option (Text × Option Text)). after_step (rules names) word (at rows p (option n)) (met (option n) b' l').0 (met (option n) b' l').1) b l
       ∙ ap (λ (f' : Option Text). after_step (rules names) word (at rows p (option n)) (short_or_plain (rules names) (option n) word f' (hold rows p)).0 (short_or_plain (rules names) (option n) word f' (hold rows p)).1) s
 
   -- a word that starts with one hyphen is an unknown flag, or (where it is no text) a plain word
