@@ -1,5 +1,5 @@
 use Rattle.std.proofs.Common.{inl, inr, ◌≡◌, ◌++◌, ◌||◌, List, ap, ◌∙◌, subst}
-use Rattle.std.specs.Prelude.{Result, Ok, Err}
+use Rattle.std.specs.Prelude.{Bool, Result, Ok, Err}
 use Rattle.pot_outside.specs.Accounts.{transition}
 use Rattle.pot_index.specs.declared.record.Record.{Record}
 use Rattle.pot_audit.specs.declared.loose.Loose.{Loose}
@@ -44,5 +44,5 @@ returns-clause-puts g c =
       it.0,
       it.1,
       λ told. begun_behind _ middle _ (audit_text it.0) (loose_lines (loose_of c.args.task.now c.args.image.now)) (it.3 told)
-          (subst (λ (xs : List Loose). Puts (transition g.K.Sink.account c.put_audit.new.sink c.put_loose.new.sink) (loose_lines xs) (Err c.in-Err-put_loose.fault)) columns c.in-Err-put_loose.ensures.puts told),
+          (subst (λ (xs : List Loose). Puts {T = Bool} (transition g.K.Sink.account c.put_audit.new.sink c.put_loose.new.sink) (loose_lines xs) (Err c.in-Err-put_loose.fault)) columns c.in-Err-put_loose.ensures.puts told),
     )
