@@ -1,4 +1,7 @@
 //! Files that are got back without the desk.
+ghost use Rattle.std.specs.Prelude.{◌≡◌, ℕ, false};
+ghost use Rattle.std.specs.Ordering.{nat_cmp};
+ghost use Rattle.std.specs.BTreeSet.{contains};
 
 use crate::looking::archive_name;
 use crate::numbers::MOST_ARCHIVES;
@@ -85,7 +88,9 @@ fn read_all<X: Threads + Wait + Sync>(
     visit: &mut Visit,
     line: &str,
     room: &mut Remains,
-) -> Result<(u8, Vec<Found>), Stop> {
+) -> Result<(u8, Vec<Found>), Stop>
+    requires home { (n : ℕ) → contains nat_cmp room.old.out n ≡ false }
+{
     let alloc = visit.alloc();
     let words = words_of(alloc, line)?;
     let mut source = MemSource::new(Vec::new(alloc), Vec::new(alloc));
