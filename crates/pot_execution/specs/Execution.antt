@@ -1,14 +1,18 @@
 -- The calls of a group, one after another, and the states that they lead to. They are said of
 -- archives that tell what they hold.
-use Rattle.std.specs.Prelude.{◌≡◌, ◌<◌, ℕ, List, [], ◌∷◌, ◌++◌, Option, None, Contains}
-use Rattle.pot_outside.specs.Archives.{Meaning}
+use Rattle.std.specs.Prelude.{◌≡◌, ◌<◌, ℕ, true, List, [], ◌∷◌, ◌++◌, Option, None, All, Contains}
+use Rattle.pot_outside.specs.Archives.{IsCoherent, Meaning}
+use Rattle.pot_outside.specs.Counts.{Rose}
 use Rattle.pot_bytes.specs.Lists.{IsBlock}
 use Rattle.pot_machine.specs.declared.entry.Entry.TheVariants as entry
-use Rattle.pot_machine.specs.Table.{Table, width, archives_in}
+use Rattle.pot_machine.specs.Table.{Table, width, archives_in, serving_at}
+use Rattle.pot_steps.specs.Stripe.{Sound}
+use Rattle.pot_steps.specs.Holdings.{stripe_of}
 use Rattle.pot_steps.specs.GroupStep.{GroupState, StartStep, PutStep, PutAnswer, LookStep, Looked}
 use Rattle.pot_steps.specs.GroupStep.{CountStep}
 use Rattle.pot_steps.specs.RelaySteps.{MendStep, MendAnswer, Began}
 use Rattle.pot_steps.specs.MoveSteps.{BringStep, MoveStep, MoveAnswer}
+use Rattle.pot_shelves.specs.Shelves.{Shelves}
 use Rattle.pot_group.specs.Arrivals.{arrivals}
 use Rattle.pot_group.specs.Group.{GroupView, state_of}
 
@@ -23,6 +27,11 @@ pub data Call : Type 0 where
   MoveBegin : (job c to : ℕ) (held : ℕ → Option (List ℕ)) (heard : List (ℕ × List ℕ)) → Call
   MoveOne : (job c : ℕ) (answer : MoveAnswer) → Call
   Swap : (job c to : ℕ) (held : ℕ → Option (List ℕ)) (heard : List (ℕ × List ℕ)) → Call
+
+-- a call once the table is opened: any but the opening
+abbrev pub IsAtWork : Call → Type 0
+IsAtWork Open = ⊥
+IsAtWork _ = Unit {0}
 
 -- what it asks for
 abbrev pub IsAsked : Call → GroupState → Type 0
@@ -95,13 +104,31 @@ abbrev pub AllCame : List ℕ → (ℕ → Meaning) → List Call → Type 0
 AllCame numbers taken [] = Unit {0}
 AllCame numbers taken (c ∷ cs) = CameAs numbers taken c × AllCame numbers taken cs
 
--- There are calls that lead from the state of a group before its opening to its state now. Its
--- relays had the blinds that they began with, and its archives came as they meant when they were
--- taken.
+-- the count of faults of the archive of this number rose while a group opened its table
+abbrev pub FailedInOpening : Shelves → ℕ → Type 0
+FailedInOpening s n = Rose (s.faults_taken n) (s.faults_opened n)
+
+-- What the opening of a group found gone is not sound after it, unless the count of faults of the
+-- archive that serves it rose in the opening.
+abbrev pub GoneOrFailed : (g : GroupView) → (start opened : GroupState) → StartStep start opened
+    → Type 0
+GoneOrFailed g start opened opening =
+    (s c : ℕ) → s < g.first.stripes → c < width g.first → opening.gone s c ≡ true
+    → Sound (stripe_of g.first opened.held s) c
+    → FailedInOpening g.shelves (serving_at g.first s c)
+
+-- A group opened its table, once and first of all, and its calls since lead from there to its state
+-- now. Its relays had the blinds that they began with, and its archives came as they meant when they
+-- were taken. Each then remembered the blocks that it held, and held none from slot 2^32 on.
 pub record HasExecution (g : GroupView) : Type 0 where
   pub start : GroupState
   pub unopened : IsUnopened g.first g.shelves.taken start
+  pub opened : GroupState
+  pub opening : StartStep start opened
+  pub finds : GoneOrFailed g start opened opening
   pub calls : List Call
-  pub leads : Leads calls start (state_of g)
+  pub at_work : All IsAtWork calls
+  pub leads : Leads calls opened (state_of g)
   pub blinds : blinds_of calls ≡ g.blinds
   pub came : AllCame (had g) g.shelves.taken calls
+  pub coherent : (n : ℕ) → IsCoherent (g.shelves.taken n)

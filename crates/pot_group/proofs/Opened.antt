@@ -182,6 +182,7 @@ module _ {A : Type 0} (told : Type 0) (meaning : A → Meaning) (number : ℕ) (
   rose_in z k (inr r) = inr (subst (λ x. Rose x (now.losses_opened k)) (sym (o.stays.keeps.losses_taken k ∙ taken.losses z k)) (subst (λ y. Rose (old.losses k) y) (sym (opened.losses z k)) r))
 
   pub opened_begins : Begins told meaning number t a.shelves group
+  unfolding start_step
   opened_begins = record {
     taken = a;
     shelves = refl;
@@ -195,6 +196,7 @@ module _ {A : Type 0} (told : Type 0) (meaning : A → Meaning) (number : ℕ) (
     opened = opened;
     rose = (λ z s c ls lc is sound. rose_in z (serving_at t s c) (gone_rose told t.stripes t u log old (plain meaning b) o z s c ls lc is sound));
     step = start_step;
+    same_gone = (λ z. refl);
   }
 
 -- THE ARCHIVES ONCE THEY ARE MARKED

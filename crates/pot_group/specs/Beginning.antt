@@ -18,7 +18,7 @@ unopened number t a =
 -- A group begins with a table and archives, whose marks are taken then, and every stripe is opened,
 -- after which the counts are marked again. Where the archives tell what they hold, that is the
 -- opening as a step of a group, and a slot is Gone that was sound before it only where a count of
--- its archive rose in it.
+-- its archive rose in it. What the step finds gone is what the opening found gone.
 pub record Begins {A : Type 0} (told : Type 0) (meaning : A → Meaning) (number : ℕ) (t : Table)
     (handed : List (Shelf A)) (g : GroupParts A) : Type 0 where
   pub taken : Shelved A
@@ -37,3 +37,4 @@ pub record Begins {A : Type 0} (told : Type 0) (meaning : A → Meaning) (number
   pub step : told
       → StartStep (state_of (view_of meaning (unopened number t taken)))
       (state_of (view_of meaning g))
+  pub same_gone : (tells : told) → (step tells).gone ≡ opens.gone

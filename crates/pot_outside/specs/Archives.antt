@@ -70,6 +70,10 @@ Remembers old new block (Err e) = (new ≡ old) ⊎ (new ≡ old ++ block ∷ []
 abbrev pub IsRemembered : Contents → List (List ℕ) → Type 0
 IsRemembered held history = (k : ℕ) (b : List ℕ) → held k ≡ Some b → Contains history b
 
+-- no slot from 2^32 on holds a block: a slot's number has 32 bits
+abbrev pub HoldsLow : Contents → Type 0
+HoldsLow held = (k : ℕ) (b : List ℕ) → held k ≡ Some b → k < 2 ^ 32
+
 -- What an archive means: the blocks, those ever held, the sums heard, and the two counts. Where
 -- archives don't tell what they hold, only the count of faults is meant.
 pub record Meaning : Type 0 where
@@ -78,6 +82,12 @@ pub record Meaning : Type 0 where
   pub heard : List (ℕ × List ℕ)
   pub faults : ℕ
   pub losses : ℕ
+
+-- so every archive is that tells: it remembers each block that it holds, and holds none from slot
+-- 2^32 on
+pub record IsCoherent (m : Meaning) : Type 0 where
+  pub past : IsRemembered m.held m.history
+  pub low : HoldsLow m.held
 
 -- two meanings say the same
 pub record IsMeant (m n : Meaning) : Type 0 where
@@ -113,8 +123,10 @@ pub record Writes (told : Type 0) (slot : ℕ) (block : List ℕ) (result : Resu
   pub hears : told → new.heard ≡ old.heard
   pub cause : Caused old.faults new.faults (IsErr result)
 
--- the counts now, and each block that is held is among those ever held
+-- the counts now; each block that is held is among those ever held, and no slot from 2^32 on holds
+-- one
 pub record IsMarked (told : Type 0) (m : Meaning) (marks : Marks) : Type 0 where
   pub faults : marks.faults ≡ m.faults
   pub losses : told → marks.losses ≡ m.losses
   pub past : told → IsRemembered m.held m.history
+  pub low : told → HoldsLow m.held

@@ -1,19 +1,23 @@
 -- Groups of the world that simulate running groups, call by call: a forward simulation.
 use Rattle.std.specs.Prelude.{◌≡◌, ◌<◌, ℕ, zero, suc, List, [], ◌∷◌, ◌++◌, Bool, true, false, Some, None, map, All, IsTrue}
-use Rattle.std.specs.Prelude.{◌&&◌, length, Contains}
+use Rattle.std.specs.Prelude.{◌&&◌, ◌^◌, length, Contains}
 use Rattle.pot_machine.specs.declared.entry.Entry.{Entry}
 use Rattle.pot_machine.specs.declared.entry.Entry.TheVariants as entry
 use Rattle.pot_bytes.specs.declared.rack.Rack.{Rack}
 use Rattle.pot_bytes.specs.Rack.{IsRack, log_bound}
+use Rattle.pot_outside.specs.Archives.{Meaning}
 use Rattle.pot_machine.specs.Making.{empty_table}
 use Rattle.pot_machine.specs.Table.{width, archives_in}
+use Rattle.pot_group.specs.Arrivals.{arrivals}
 use Rattle.pot_group.specs.Group.{GroupView, state_of}
+use Rattle.pot_steps.specs.Stripe.{Sound}
+use Rattle.pot_steps.specs.Holdings.{stripe_of}
 use Rattle.pot_steps.specs.GroupStep.{GroupState, StartStep, PutAnswer, Placed, NotPut, Full, NoRoom}
 use Rattle.pot_steps.specs.Mending.{MendedWell}
 use Rattle.pot_steps.specs.RelaySteps.{MendAnswer}
 use Rattle.pot_steps.specs.MoveSteps.{MoveAnswer, MoveFaulted, MoveFull}
 use Rattle.pot_execution.specs.Execution.{Call, Open, Put, Look, Count, Mend, MoveBegin, MoveOne, Swap}
-use Rattle.pot_execution.specs.Execution.{Leads, StepOf, HasExecution}
+use Rattle.pot_execution.specs.Execution.{FailedInOpening, Leads, StepOf, HasExecution}
 use Rattle.pot_world.specs.Group.{WorldGroup}
 use Rattle.pot_world.specs.Acts.{Act, act, used_by, with_use, IsAllowed}
 use Rattle.pot_world.specs.Later.{Sessions, reopened, reopened_site}
@@ -44,15 +48,16 @@ MoveFits MoveFaulted = ⊥
 MoveFits MoveFull = ⊥
 MoveFits _ = Unit {0}
 
--- no archive failed in an opening: what is gone is held no more
-abbrev pub NoneFailed : (old new : GroupState) → StartStep old new → Type 0
-NoneFailed old new step =
-    (s c : ℕ) → s < old.table.stripes → c < width old.table → step.failed s c ≡ false
+-- what an opening found gone is held no more
+abbrev pub GoneIsMissing : (old new : GroupState) → StartStep old new → Type 0
+GoneIsMissing old new step =
+    (s c : ℕ) → s < old.table.stripes → c < width old.table → step.gone s c ≡ true
+    → Sound (stripe_of old.table new.held s) c → ⊥
 
--- A call met no failing archive, or was a look; its log had room; and an archive that it brought
--- had no use and was empty.
+-- A call met no failing archive, or was a look, or an opening that found gone only what is held no
+-- more; its log had room; and an archive that it brought had no use and was empty.
 abbrev pub GoesWell : (ℕ → Bool) → (c : Call) → (old new : GroupState) → StepOf c old new → Type 0
-GoesWell used Open old new step = NoneFailed old new step
+GoesWell used Open old new step = GoneIsMissing old new step
 GoesWell used (Put job block answer) old new step = PutWell answer
 GoesWell used (Look job s c answer) old new step = Unit {0}
 GoesWell used (Count job) old new step = Unit {0}
@@ -161,52 +166,21 @@ SessionReaches =
     → (moves : List Move) × (y : Site) × Reaches (first_site rack) moves y
     × (y.used ≡ used_by_each ran (first_used rack)) × SimulateNew y.used y.groups ran
 
--- so a running group begins anew: its table as an image has it, and archives that hold and have
--- heard what they did
-pub record BeginsAnew (end start : GroupState) : Type 0 where
+-- so a running group begins anew: its table as an image has it; the archives of that table hold
+-- and have heard what they did, and no other holds or has heard anything
+pub record StartsAnew (end start : GroupState) : Type 0 where
   pub table : start.table ≡ record end.table { relays = [] }
   pub flights : start.flights ≡ []
-  pub held : (n slot : ℕ) → start.held n slot ≡ end.held n slot
-  pub heard : (n : ℕ) → start.heard n ≡ end.heard n
+  pub held : (n slot : ℕ) → Contains (archives_in start.table) n
+      → start.held n slot ≡ end.held n slot
+  pub heard : (n : ℕ) → Contains (archives_in start.table) n → start.heard n ≡ end.heard n
+  pub none : (n slot : ℕ) → (Contains (archives_in start.table) n → ⊥) → start.held n slot ≡ None
+  pub silent : (n : ℕ) → (Contains (archives_in start.table) n → ⊥) → start.heard n ≡ []
 
 abbrev pub ReopenedSimulates : Type 0
 ReopenedSimulates =
     (used : ℕ → Bool) (g : WorldGroup) (end start : GroupState) → Simulates used g end
-    → BeginsAnew end start → Simulates used (reopened g) start
-
--- BY THE LOG
-
--- an entry of no fault, and of no parity block that was not kept
-abbrev pub is_clean : Entry → Bool
-is_clean (entry.Fault job s c) = false
-is_clean (entry.Put job s c digest parity_digest kept) = kept
-is_clean (entry.Put2 job s c digest parity_digest second_digest kept kept2) = kept && kept2
-is_clean _ = true
-
--- what the log does not tell: no read failed in an opening, and archives that came had no use and
--- were empty
-abbrev pub ComesWell : (ℕ → Bool) → (c : Call) → (old new : GroupState) → StepOf c old new → Type 0
-ComesWell used Open old new step = NoneFailed old new step
-ComesWell used (MoveBegin job c to held heard) old new step =
-    (used to ≡ false) × IsFresh held heard
-ComesWell used (Swap job c to held heard) old new step = (used to ≡ false) × IsFresh held heard
-ComesWell used _ old new step = Unit {0}
-
-abbrev pub AllComeWell : (ℕ → Bool) → (calls : List Call) → (old new : GroupState)
-    → Leads calls old new → Type 0
-AllComeWell used [] old new leads = Unit {0}
-AllComeWell used (c ∷ calls) old new leads =
-    ComesWell used c old leads.0 leads.2
-    × AllComeWell (used_after used c) calls leads.0 new leads.3
-
--- Where the log has room and names no fault and no parity block that was not kept, each call went
--- well.
-abbrev pub WellByLog : Type 0
-WellByLog =
-    (used : ℕ → Bool) (calls : List Call) (old new : GroupState) (leads : Leads calls old new)
-    → AllComeWell used calls old new leads → All (λ e. IsTrue (is_clean e)) new.log
-    → length new.log < log_bound
-    → AllWell used calls old new leads
+    → StartsAnew end start → Simulates used (reopened g) start
 
 -- GROUPS THAT ENDED
 
@@ -215,25 +189,79 @@ pub record Past : Type 0 where
   pub view : GroupView
   pub execution : HasExecution view
 
+-- its opening and its calls
 abbrev pub ran_of : Past → Ran
 ran_of p =
     record {
       old = p.execution.start;
       new = state_of p.view;
-      calls = p.execution.calls;
-      leads = p.execution.leads;
+      calls = Open ∷ p.execution.calls;
+      leads = (p.execution.opened, tt, p.execution.opening, p.execution.leads);
     }
 
 abbrev pub all_ran : List Past → List Ran
 all_ran ps = map ran_of ps
 
--- It began over the empty table of its place, and over archives that held nothing and had heard
--- nothing when they were taken.
+-- WHAT A GROUP TELLS OF ITS CALLS
+
+-- an entry of no fault, and of no parity block that was not kept
+abbrev pub is_clean : Entry → Bool
+is_clean (entry.Fault job s c) = false
+is_clean (entry.Put job s c digest parity_digest kept) = kept
+is_clean (entry.Put2 job s c digest parity_digest second_digest kept kept2) = kept && kept2
+is_clean _ = true
+
+-- an archive that held nothing and had heard nothing
+pub record IsEmpty (m : Meaning) : Type 0 where
+  pub held : (slot : ℕ) → slot < 2 ^ 32 → m.held slot ≡ None
+  pub heard : m.heard ≡ []
+
+-- these archives have a use too
+abbrev pub with_uses : (ℕ → Bool) → List ℕ → ℕ → Bool
+with_uses used [] = used
+with_uses used (n ∷ ns) = with_uses (with_use used n) ns
+
+-- these archives came one after another: each had no use, and was empty when it was taken
+abbrev pub ComeEmpty : (ℕ → Bool) → (ℕ → Meaning) → List ℕ → Type 0
+ComeEmpty used taken [] = Unit {0}
+ComeEmpty used taken (n ∷ ns) =
+    (used n ≡ false) × IsEmpty (taken n) × ComeEmpty (with_use used n) taken ns
+
+-- Its log has room and names no fault and no parity block that was not kept. No count of faults of
+-- an archive of its first table rose while it opened that table. And the archives that its log
+-- brought had no use, and were empty when they were taken.
+pub record WentWell (used : ℕ → Bool) (v : GroupView) : Type 0 where
+  pub clean : All (λ e. IsTrue (is_clean e)) v.log
+  pub room : length v.log < log_bound
+  pub steady : (n : ℕ) → Contains (archives_in v.first) n → FailedInOpening v.shelves n → ⊥
+  pub come : ComeEmpty used v.shelves.taken (arrivals v.log)
+
+-- Then each of its calls went well, and the archives that they brought are those that its log
+-- brought.
+abbrev pub WellByLog : Type 0
+WellByLog =
+    (used : ℕ → Bool) (p : Past) → WentWell used p.view
+    → AllWell used (ran_of p).calls (ran_of p).old (ran_of p).new (ran_of p).leads
+    × (used_by_all (ran_of p).calls used ≡ with_uses used (arrivals p.view.log))
+
+-- the archives that have a use after these groups
+abbrev pub used_since : List Past → (ℕ → Bool) → ℕ → Bool
+used_since [] used = used
+used_since (p ∷ ps) used = used_since ps (with_uses used (arrivals p.view.log))
+
+-- each went well, and no archive came to two of them
+abbrev pub AllWentWell : (ℕ → Bool) → List Past → Type 0
+AllWentWell used [] = Unit {0}
+AllWentWell used (p ∷ ps) =
+    WentWell used p.view × AllWentWell (with_uses used (arrivals p.view.log)) ps
+
+-- SESSIONS
+
+-- It began over the empty table of its place, and over archives that were empty when they were
+-- taken.
 pub record IsNew (rack : Rack) (n : ℕ) (v : GroupView) : Type 0 where
   pub first : v.first ≡ empty_table rack n
-  pub held : (m slot : ℕ) → Contains (archives_in v.first) m
-      → (v.shelves.taken m).held slot ≡ None
-  pub heard : (m : ℕ) → Contains (archives_in v.first) m → (v.shelves.taken m).heard ≡ []
+  pub empty : (m : ℕ) → Contains (archives_in v.first) m → IsEmpty (v.shelves.taken m)
 
 -- so did each, from number n
 abbrev pub AreNew : Rack → ℕ → ℕ → List Past → Type 0
@@ -242,17 +270,6 @@ AreNew rack n zero (p ∷ ps) = ⊥
 AreNew rack n (suc more) [] = ⊥
 AreNew rack n (suc more) (p ∷ ps) = IsNew rack n p.view × AreNew rack (suc n) more ps
 
--- its log has room and names no fault and no parity block that was not kept, and what the log does
--- not tell went well
-pub record WentWell (used : ℕ → Bool) (p : Past) : Type 0 where
-  pub comes : AllComeWell used p.execution.calls p.execution.start (state_of p.view) p.execution.leads
-  pub clean : All (λ e. IsTrue (is_clean e)) p.view.log
-  pub room : length p.view.log < log_bound
-
-abbrev pub AllWentWell : (ℕ → Bool) → List Past → Type 0
-AllWentWell used [] = Unit {0}
-AllWentWell used (p ∷ ps) = WentWell used p × AllWentWell (used_by_all p.execution.calls used) ps
-
 -- The groups that a first session leaves are those that moves from the first groups of the rack
 -- lead to.
 abbrev pub FirstSession : Type 0
@@ -260,15 +277,23 @@ FirstSession =
     (rack : Rack) (ps : List Past) → IsRack rack → AreNew rack 0 rack.groups ps
     → AllWentWell (first_used rack) ps
     → (moves : List Move) × (y : Site) × Reaches (first_site rack) moves y
-    × SimulateNew y.used y.groups (all_ran ps)
+    × (y.used ≡ used_since ps (first_used rack)) × SimulateNew y.used y.groups (all_ran ps)
 
--- A later session: its groups began as those of the one before had ended, each with its table as an
--- image has it, and its archives as they were.
+-- A group began as one before it had ended: with that table as an image has it, and with archives
+-- that held and had heard, when they were taken, what they did at that end.
+pub record BeginsAnew (end v : GroupView) : Type 0 where
+  pub first : v.first ≡ record end.table { relays = [] }
+  pub held : (n slot : ℕ) → Contains (archives_in v.first) n → slot < 2 ^ 32
+      → (v.shelves.taken n).held slot ≡ end.shelves.held n slot
+  pub heard : (n : ℕ) → Contains (archives_in v.first) n
+      → (v.shelves.taken n).heard ≡ end.shelves.heard n
+
+-- A later session: its groups began so, each as that of its place in the session before.
 abbrev pub BeginAnew : List Past → List Past → Type 0
 BeginAnew [] [] = Unit {0}
 BeginAnew [] (q ∷ qs) = ⊥
 BeginAnew (p ∷ ps) [] = ⊥
-BeginAnew (p ∷ ps) (q ∷ qs) = BeginsAnew (state_of p.view) q.execution.start × BeginAnew ps qs
+BeginAnew (p ∷ ps) (q ∷ qs) = BeginsAnew p.view q.view × BeginAnew ps qs
 
 -- From groups that simulated the ones before, reopened, moves lead to groups that simulate those
 -- that it leaves.
@@ -278,13 +303,13 @@ NextSession =
     → AllWentWell x.used qs
     → (moves : List Move) × (y : Site)
     × Reaches (reopened_site x) moves y
-    × SimulateNew y.used y.groups (all_ran qs)
+    × (y.used ≡ used_since qs x.used) × SimulateNew y.used y.groups (all_ran qs)
 
 -- session after session, each from what the one before left
 abbrev pub Chain : (ℕ → Bool) → List Past → List (List Past) → Type 0
 Chain used ps [] = Unit {0}
 Chain used ps (qs ∷ more) =
-    BeginAnew ps qs × AllWentWell used qs × Chain (used_by_each (all_ran qs) used) qs more
+    BeginAnew ps qs × AllWentWell used qs × Chain (used_since qs used) qs more
 
 abbrev pub last_of : List Past → List (List Past) → List Past
 last_of ps [] = ps
@@ -295,6 +320,6 @@ abbrev pub SessionsReach : Type 0
 SessionsReach =
     (rack : Rack) (ps : List Past) (more : List (List Past)) → IsRack rack
     → AreNew rack 0 rack.groups ps → AllWentWell (first_used rack) ps
-    → Chain (used_by_each (all_ran ps) (first_used rack)) ps more
+    → Chain (used_since ps (first_used rack)) ps more
     → (sessions : List (List Move)) × (z : Site) × Sessions (first_site rack) sessions z
     × SimulateNew z.used z.groups (all_ran (last_of ps more))

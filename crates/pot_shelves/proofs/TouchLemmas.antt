@@ -1,5 +1,5 @@
 -- Archives in a list, seen by number: a call of one of them, and the marks of all.
-use Rattle.std.proofs.Common.{◌≡◌, ◌≢◌, ◌<◌, ◌≤◌, ◌==◌, ◌↔◌, ℕ, zero, suc, Bool, true, false, List, [], ◌∷◌, length, get_or, Option, Some, None, refl, ap, sym, ◌∙◌, arith, inl, inr, subst, IsTrue}
+use Rattle.std.proofs.Common.{◌≡◌, ◌≢◌, ◌⊎◌, ◌<◌, ◌≤◌, ◌==◌, ◌↔◌, ℕ, zero, suc, Bool, true, false, List, [], ◌∷◌, ◌++◌, length, take, get_or, Option, Some, None, refl, ap, sym, ◌∙◌, arith, inl, inr, subst, IsTrue}
 use Rattle.std.specs.Prelude.{cond, map, Result, Ok, Err, Contains, IsSome, is_some, slice_get, is_ok}
 use Rattle.std.specs.List.{position, position_or_len}
 use Rattle.std.specs.Str.{bytes_eq}
@@ -7,15 +7,17 @@ use Rattle.std.proofs.Math.ListN.{set}
 use Rattle.std.proofs.Math.Seq.{map-set_same}
 use Rattle.std.proofs.lemmas.Bool.{false≢true}
 use Rattle.std.proofs.lemmas.Bool.Decides.{eqb_tells, nat_tests}
+use Rattle.std.proofs.lemmas.List.Elements.{Contains-append_right}
 use Rattle.std.proofs.lemmas.List.Folds.{find_at, find-set, find_past}
 use Rattle.std.proofs.lemmas.List.Sums.{position_or_len_is}
 use Rattle.std.proofs.lemmas.List.Quantifiers.{position-Some}
-use Rattle.std.proofs.lemmas.Option.{slice_get-get_or}
+use Rattle.std.proofs.lemmas.List.{map-append}
+use Rattle.std.proofs.lemmas.Option.{same_Some, slice_get-get_or}
 use Rattle.std.proofs.lemmas.Slice.Eq.{bytes_eq-Decides}
 use Rattle.pot_bytes.specs.declared.digest.Digest.{Digest}
 use Rattle.pot_bytes.specs.Digests.{digest_bytes, digest_of}
 use Rattle.pot_outside.specs.Failing.{MayLeave}
-use Rattle.pot_outside.specs.Archives.{Meaning, OnlyLoses, ReadTells, FoldTells, HearsFold, Remembers, at_slot, Reads, Writes, Folds}
+use Rattle.pot_outside.specs.Archives.{IsCoherent, Meaning, OnlyLoses, ReadTells, FoldTells, HearsFold, Remembers, at_slot, Reads, Writes, Folds}
 use Rattle.pot_outside.specs.Counts.{Rose}
 use Rattle.pot_outside.specs.declared.archive.Marks.{Marks}
 use Rattle.pot_outside.specs.declared.archive.Shelf.{Shelf}
@@ -35,6 +37,40 @@ digest_tells block now bytes d r v h e =
   where
     made : List ℕ → Digest
     made xs = record { bytes = xs }
+
+-- what is among the first elements and one more is among the first, or is that one
+one_more : {X : Type 0} (xs : List X) (i : ℕ) (x : X) → Contains (take (suc i) xs) x → Contains (take i xs) x ⊎ (slice_get xs i ≡ Some x)
+one_more [] i x h = absurd (omega (arith, h.1))
+one_more (y ∷ xs) zero x (zero, lt, e) = inr (ap Some e)
+one_more (y ∷ xs) zero x (suc j, lt, e) = absurd (omega (arith, lt))
+one_more (y ∷ xs) (suc i) x (zero, lt, e) = inl (0, omega arith, e)
+one_more (y ∷ xs) (suc i) x (suc j, lt, e) = elim (one_more xs i x (j, omega (arith, lt), e)) [ inl k ↦ inl (suc k.0, omega (arith, k.1), k.2) | inr same ↦ inr same ]
+
+take_one : {X : Type 0} (xs : List X) (n i : ℕ) (x : X) → n ≡ suc i → Contains (take n xs) x → Contains (take i xs) x ⊎ (slice_get xs i ≡ Some x)
+take_one xs n i x e h = one_more xs i x (subst (λ m. Contains (take m xs) x) e h)
+
+item_is : {X : Type 0} (xs : List X) (i : ℕ) (x : X) → i < length xs → x ≡ get_or xs i x → slice_get xs i ≡ Some x
+item_is xs i x lt item = slice_get-get_or xs i x lt ∙ ap Some (sym item)
+
+-- what is said of each of the first elements, once it is said of the next
+pub all_more : {X : Type 0} (P : X → Type 0) (xs : List X) (n i : ℕ) (x : X) → n ≡ suc i → i < length xs → x ≡ get_or xs i x → ((y : X) → Contains (take i xs) y → P y) → P x
+    → (y : X) → Contains (take n xs) y → P y
+all_more P xs n i x e lt item all one y h = elim (take_one xs n i y e h) [
+  | inl k ↦ all y k
+  | inr same ↦ subst P (same_Some x y (sym (item_is xs i x lt item) ∙ same)) one
+]
+
+take_next : {X : Type 0} (xs : List X) (i : ℕ) (x : X) → slice_get xs i ≡ Some x → take (suc i) xs ≡ take i xs ++ x ∷ []
+take_next [] i x e = absurd (cc)
+take_next (y ∷ xs) zero x e = ap (λ z. z ∷ []) (same_Some y x e)
+take_next (y ∷ xs) (suc i) x e = ap (λ l. y ∷ l) (take_next xs i x e)
+
+-- what is told of the first elements in order, once it is told of the next
+pub told_more : {X Y Z : Type 0} (f : X → Z) (h : Y → Z) (old new : List X) (x : X) (ys : List Y) (n i : ℕ) (y : Y) → n ≡ suc i → i < length ys → y ≡ get_or ys i y → new ≡ old ++ x ∷ []
+    → map f old ≡ map h (take i ys) → f x ≡ h y → map f new ≡ map h (take n ys)
+told_more f h old new x ys n i y e lt item grown were one =
+    ap (map f) grown ∙ map-append f old (x ∷ []) ∙ ap (λ l. l ++ f x ∷ []) were ∙ ap (λ z. map h (take i ys) ++ z ∷ []) one
+    ∙ sym (ap (λ m. map h (take m ys)) e ∙ ap (map h) (take_next ys i y (item_is ys i y lt item)) ∙ map-append h (take i ys) (y ∷ []))
 
 -- THE PLACE OF A NUMBER
 
@@ -273,11 +309,21 @@ module _ {A : Type 0} (told : Type 0) (meaning : A → Meaning) (marks opened : 
   meant_of None = refl
   meant_of (Some s) = refl
 
+  -- archives of which each is coherent, by number
+  all_coherent : (shelves : List (Shelf A)) → ((s : Shelf A) → Contains shelves s → IsCoherent (meaning s.archive)) → (n : ℕ) → IsCoherent (given meaning nothing (shelf_of shelves n))
+  all_coherent [] fits n = record { past = λ k b h. absurd (cc); low = λ k b h. absurd (cc) }
+  all_coherent (s ∷ ss) fits n = elim (eqb_tells s.number n) [
+    | inl e ↦ rw e.0 (fits s (0, omega arith, refl))
+    | inr e ↦ rw e.0 (all_coherent ss (λ x h. fits x (Contains-append_right (s ∷ []) ss x h)) n)
+  ]
+
   -- archives with their marks now
-  pub is_taken : (same other shelves : List (Shelf A)) → same ≡ shelves → other ≡ shelves → taken ≡ shelves → AreCounts marks same → AreCounts opened other → IsTaken told (data_of shelves)
-  is_taken same other shelves v w t (f, l) now = subst (λ ss. IsTaken told (data_of ss)) v (record {
+  pub is_taken : (same other shelves : List (Shelf A)) → same ≡ shelves → other ≡ shelves → taken ≡ shelves → AreCounts marks same → AreCounts opened other
+      → (told → (s : Shelf A) → Contains same s → IsCoherent (meaning s.archive)) → IsTaken told (data_of shelves)
+  is_taken same other shelves v w t (f, l) now fits = subst (λ ss. IsTaken told (data_of ss)) v (record {
     meant = (λ n. ap (λ ss. given meaning nothing (shelf_of ss n)) (t ∙ sym v) ∙ meant_of (shelf_of same n));
     faults = mark_is (λ m. m.faults) (λ x. (meaning x).faults) same marks f;
     losses = (λ z. mark_is (λ m. m.losses) (λ x. (meaning x).losses) same marks (l z));
     opened = is_opened other same (w ∙ sym v) now;
+    coherent = (λ z n. subst (λ ss. IsCoherent (given meaning nothing (shelf_of ss n))) (v ∙ sym t) (all_coherent same (fits z) n));
   })

@@ -9,7 +9,7 @@ use Rattle.pot_outside.specs.declared.faults.Failed.{Failed}
 use Rattle.pot_outside.specs.declared.archive.Held.{Held as IsHeld}
 use Rattle.pot_outside.specs.Accounts.{Account}
 use Rattle.pot_outside.specs.Archives.{Meaning, OnlyLoses, ReadTells, FoldTells, LeavesSum}
-use Rattle.pot_outside.specs.Archives.{HearsFold, Remembers, at_slot}
+use Rattle.pot_outside.specs.Archives.{HearsFold, IsCoherent, Remembers, at_slot}
 use Rattle.pot_outside.specs.Counts.{Rose}
 use Rattle.pot_steps.specs.Holdings.{Holdings}
 
@@ -101,12 +101,14 @@ pub record IsOpenedNow (told : Type 0) (s : Shelves) : Type 0 where
   pub faults : (number : ℕ) → s.faults_opened number ≡ s.faults number
   pub losses : told → (number : ℕ) → s.losses_opened number ≡ s.losses number
 
--- They are taken now. Until their table is opened, both marks are those of the taking.
+-- They are taken now. Until their table is opened, both marks are those of the taking. An archive
+-- that tells remembers what it holds, and holds it below slot 2^32.
 pub record IsTaken (told : Type 0) (s : Shelves) : Type 0 where
   pub meant : (number : ℕ) → s.taken number ≡ meant_now s number
   pub faults : (number : ℕ) → s.faults_taken number ≡ s.faults number
   pub losses : told → (number : ℕ) → s.losses_taken number ≡ s.losses number
   pub opened : IsOpenedNow told s
+  pub coherent : told → (number : ℕ) → IsCoherent (s.taken number)
 
 -- ONE ARCHIVE OF SEVERAL
 
@@ -183,13 +185,15 @@ pub record FoldsAt (told : Type 0) (number slot weight : ℕ) (before sum : List
   pub cause : IsErr result → Rose (old.faults number) (new.faults number)
 
 -- An archive that means this comes under a number that no other has. Its marks, also those of the
--- opening, are its counts then; the others stay as they are.
+-- opening, are its counts then; the others stay as they are. If it tells, it remembers what it
+-- holds, and holds it below slot 2^32.
 pub record Brings (told : Type 0) (number : ℕ) (m : Meaning) (old new : Shelves) : Type 0 where
   pub numbers : new.numbers ≡ old.numbers ++ number ∷ []
   pub blocks : (slot : ℕ) → new.held number slot ≡ m.held slot
   pub sums : new.heard number ≡ m.heard
   pub history : new.history number ≡ m.history
   pub taken : new.taken number ≡ m
+  pub coherent : told → IsCoherent m
   pub counts : (new.faults number ≡ m.faults) × (new.losses number ≡ m.losses)
   pub marked : new.faults_taken number ≡ new.faults number
   pub marked_losses : told → new.losses_taken number ≡ new.losses number

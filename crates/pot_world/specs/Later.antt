@@ -1,8 +1,11 @@
 -- What a coalition sees of runs that go on from known groups, and of sessions in a row.
-use Rattle.std.specs.Prelude.{◌≡◌, ◌<◌, ℕ, suc, List, [], ◌∷◌, Bool, map}
+use Rattle.std.specs.Prelude.{◌≡◌, ◌<◌, ◌==◌, ℕ, suc, List, [], ◌∷◌, None, Bool, map}
+use Rattle.std.specs.Prelude.{if◌then◌else◌}
+use Rattle.std.specs.List.{list_any}
 use Rattle.pot_bytes.specs.declared.rack.Rack.{Rack}
 use Rattle.pot_bytes.specs.Lists.{IsBlock}
 use Rattle.pot_bytes.specs.Rack.{IsRack}
+use Rattle.pot_machine.specs.Table.{Table, archives_in}
 use Rattle.pot_world.specs.Group.{WorldGroup}
 use Rattle.pot_world.specs.Audit.{AllFits, AllSame, Sight, One, other_moves}
 use Rattle.pot_world.specs.Coalition.{IsServed}
@@ -43,13 +46,24 @@ RunsSeenOn =
 
 -- SESSIONS IN A ROW
 
--- A group when a session has ended and the next one begins: no relay stands, and its log is empty.
+-- what is said of an archive of a table by its number, and of no other archive
+abbrev pub of_table : {A : Type 0} → Table → A → (ℕ → A) → ℕ → A
+of_table t none f n = if list_any (λ m. m == n) (archives_in t) then f n else none
+
+-- A group when a session has ended and the next one begins: no relay stands, its log is empty, and
+-- it has the archives of its table alone, as they are. Those that were retired are no part of it.
 abbrev pub reopened : WorldGroup → WorldGroup
 reopened g =
     record g {
       first = record g.state.table { relays = [] };
-      state = record g.state
-          { table = record g.state.table { relays = [] }; log = []; flights = [] };
+      state =
+          record {
+            table = record g.state.table { relays = [] };
+            log = [];
+            held = λ n slot. of_table g.state.table None (λ m. g.state.held m slot) n;
+            heard = λ n. of_table g.state.table [] g.state.heard n;
+            flights = [];
+          };
     }
 
 abbrev pub reopened_site : Site → Site
