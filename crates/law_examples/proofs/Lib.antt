@@ -1,3 +1,4 @@
 pub mod Seeing
 pub mod Storing
 pub mod Hiding
+pub mod Keeping

@@ -1,3 +1,4 @@
 pub mod Sessions
 pub mod Stored
 pub mod Audited
+pub mod Kept

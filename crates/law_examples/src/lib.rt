@@ -7,9 +7,11 @@
 #![tactic(auto)]
 
 mod audits;
+mod groups;
 mod stored;
 mod worlds;
 
 pub use audits::{audit_hides, bytes_return};
+pub use groups::stripe_kept;
 pub use stored::{fetch_gives, loss_mended, store_written};
 pub use worlds::sessions_seen;
