@@ -1,12 +1,14 @@
 -- A store of a file of one byte, the loss of its first block, and a fetch of it.
-use Rattle.std.proofs.Common.{◌≡◌, ℕ, zero, suc, ◌<◌, ◌≤◌, List, [], ◌∷◌, ◌++◌, Option, Some, None, true, false, refl, sym, ap, subst, arith, Bool, ◌∙◌, ◌⊎◌, nat_eq, length, IsTrue}
+use Rattle.std.proofs.Common.{◌≡◌, ℕ, zero, suc, ◌<◌, ◌≤◌, List, [], ◌∷◌, ◌++◌, Option, Some, None, true, false, refl, sym, ap, subst, arith, Bool, ◌∙◌, ◌⊎◌, inl, inr, ◌-◌, nat_eq, length, IsTrue}
 use Rattle.std.specs.Prelude.{slice_get, Contains, IsSomeAnd, ◌≢◌, ◌↔◌}
 use Rattle.std.specs.Cmp.{nat_eq_equiv}
 use Rattle.std.proofs.lemmas.Option.{same_Some}
 use Rattle.std.proofs.lemmas.Map.Made.{IsDistinct-from_count}
 use Rattle.pot_bytes.specs.declared.digest.Digest.{Digest}
 use Rattle.pot_bytes.specs.Digests.{digest_of}
+use Rattle.pot_bytes.specs.declared.rack.Place.{Place}
 use Rattle.pot_bytes.specs.Lists.{IsBlock}
+use Rattle.pot_bytes.proofs.Elements.{one_contained}
 use Rattle.pot_bytes.specs.Rack.{IsRack}
 use Rattle.pot_machine.specs.declared.slot.SlotState.{SlotState}
 use Rattle.pot_machine.specs.declared.slot.SlotState.TheVariants.{Void, Live, Broken}
@@ -15,7 +17,7 @@ use Rattle.pot_steps.specs.Stripe.{Stripe, Sound, IsSound, NoneBroken}
 use Rattle.pot_steps.specs.Law.{FewUnsound, FindsUnsound, Rebuildable}
 use Rattle.pot_shard.specs.FileBlocks.{file_blocks}
 use Rattle.pot_shard.specs.FileLaws.{IsStore}
-use Rattle.pot_shard.specs.Places.{PlaceLaws, block_in}
+use Rattle.pot_shard.specs.Places.{PlaceLaws, block_in, place_at}
 use Rattle.pot_shard.specs.Fetches.{AreChosen}
 use Rattle.pot_world.specs.declared.step.Step.{Step}
 use Rattle.pot_world.specs.declared.step.Step.TheVariants as step
@@ -24,10 +26,13 @@ use Rattle.pot_world.specs.Group.{WorldGroup, look, mend, put_within, sound_bloc
 use Rattle.pot_world.specs.Reached.{at_group, first_groups}
 use Rattle.pot_world.specs.Remains.{HasPlacedAt}
 use Rattle.pot_world.specs.World.{UnderWay, World, Runs, Gathered, FragmentGathered, HasGathered, blocks_of, first_world, group_at, made, next_block, put_block, put_step, record_made, store_begun}
-use Rattle.pot_world.specs.Worlds.{Paired, RunFetches, RunJoins, RunMends, RunWrites}
+use Rattle.pot_world.specs.Worlds.{Gives, Paired, RunFetches, RunJoins, RunMends, RunWrites}
 use Rattle.law_examples.specs.Sessions.{rack}
 use Rattle.law_examples.specs.Stored.{FetchGivesFile, LossIsMended, StoreIsWritten, fetches, file, geometry, loses, mended, name, place_in, stores}
 use Rattle.law_examples.proofs.Seeing.{is_rack, one, two}
+
+one_two : 1 < 2
+one_two = omega arith
 
 abbrev block : List ℕ → ℕ → List ℕ
 block random j = block_in geometry file random 0 j 0
@@ -190,13 +195,31 @@ fetched_run : PlaceLaws → (random : List ℕ) → IsStore geometry file random
 unfolding Runs put_within least count at_group first_groups
 fetched_run laws random is =
     store_goes laws random is (step.Fetch 2 name ∷ step.LookAt 2 (place_in 0) ∷ step.LookAt 2 (place_in 1) ∷ []) (fetched_world random)
-    (tt, ((two, (two, omega arith)), ((two, (two, omega arith)), refl)))
+    (tt, ((two, (two, omega arith)), ((one_two, (two, omega arith)), refl)))
 
 chosen : AreChosen geometry (1 ∷ [])
 chosen = record { enough = refl; distinct = IsDistinct-from_count nat_eq_equiv _ refl; each = each }
   where
     each : (x : ℕ) → Contains (1 ∷ []) x → (1 ≤ x) × (x ≤ 1)
-    each x h = ?
+    each x h = let e = one_contained 1 x h in (omega (arith, e), omega (arith, e))
+
+abbrev gathered : List ℕ → List Gathered
+gathered random = record { place = place_in 0; block = block random 0 } ∷ record { place = place_in 1; block = block random 1 } ∷ []
+
+-- one point of a fragment was gathered
+fragment : (random : List ℕ) (j : ℕ) (b : List ℕ) → Contains (gathered random) (record { place = place_in j; block = b }) → place_at geometry (whole random).places 0 j 0 ≡ place_in j → FragmentGathered (record_made (whole random)) (gathered random) 0 j
+fragment random j b there at = record { points = 1 ∷ []; chosen = chosen; each = each }
+  where
+    each : (x : ℕ) → Contains (1 ∷ []) x → (block : List ℕ) × Contains (gathered random) (record { place = place_at geometry (whole random).places 0 j (x - 1); block = block })
+    each x h =
+        subst (λ (x : ℕ). (block : List ℕ) × Contains (gathered random) (record { place = place_at geometry (whole random).places 0 j (x - 1); block = block })) (one_contained 1 x h)
+        (b, subst (λ (p : Place). Contains (gathered random) (record { place = p; block = b })) (sym at) there)
+
+has_gathered : (random : List ℕ) (i j : ℕ) → i < 1 → j < 2 → FragmentGathered (record_made (whole random)) (gathered random) i j
+has_gathered random zero zero li lj = fragment random 0 (block random 0) (0, two, refl) refl
+has_gathered random zero (suc zero) li lj = fragment random 1 (block random 1) (1, one_two, refl) refl
+has_gathered random zero (suc (suc j)) li lj = absurd (omega (arith, lj))
+has_gathered random (suc i) j li lj = absurd (omega (arith, li))
 
 pub gives : PlaceLaws → RunJoins → RunFetches → FetchGivesFile
 unfolding put_within least count at_group first_groups
@@ -204,7 +227,6 @@ gives laws joins law random is =
     let run = fetched_run laws random is in
     let r = record_made (whole random) in
     let found : ((fetched_world random).actors 2).found ≡ Some r = refl in
-    let has : HasGathered r ((fetched_world random).actors 2).gathered = ? in
-    let joined = joins rack (fetches random) (fetched_world random) is_rack run 2 r found has in
-    let alone = λ (other : List ℕ) h. law rack (fetches random) (fetched_world random) is_rack run 2 r other found h in
-    (fetched_world random, run, record { found = r; is = found; gives = subst (λ (f : List ℕ). ?) (alone joined.0 joined.1) joined.1; alone = alone })
+    let joined = joins rack (fetches random) (fetched_world random) is_rack run 2 r found (has_gathered random) in
+    let alone : (other : List ℕ) → Gives r ((fetched_world random).actors 2).gathered other → other ≡ file = λ other h. law rack (fetches random) (fetched_world random) is_rack run 2 r other found h in
+    (fetched_world random, run, record { found = r; is = found; gives = subst (λ (f : List ℕ). Gives r ((fetched_world random).actors 2).gathered f) (alone joined.0 joined.1) joined.1; alone = alone })
