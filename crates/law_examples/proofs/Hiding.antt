@@ -1,5 +1,5 @@
 -- A stored file, as who has one of its two fragments sees it.
-use Rattle.std.proofs.Common.{◌≡◌, ℕ, zero, suc, ◌<◌, ◌≤◌, List, [], ◌∷◌, ◌++◌, Option, Some, None, true, false, refl, sym, ap, subst, arith, Bool, ◌∙◌, length}
+use Rattle.std.proofs.Common.{◌≡◌, ℕ, zero, suc, ◌<◌, ◌≤◌, List, [], ◌∷◌, ◌++◌, ◌+◌, ◌*◌, Option, Some, None, true, false, refl, sym, ap, subst, arith, Bool, ◌∙◌, length}
 use Rattle.std.specs.Prelude.{slice_get, slice_index_or, Contains, IsSomeAnd, All}
 use Rattle.std.proofs.lemmas.Option.{none-some, same_Some}
 use Rattle.std.proofs.lemmas.List.Elements.{All-cons, All-contains, All-nil}

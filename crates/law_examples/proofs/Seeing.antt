@@ -12,12 +12,14 @@ use Rattle.pot_machine.specs.Table.{count, least}
 use Rattle.pot_steps.specs.Equations.{p_weight, q_weight}
 use Rattle.pot_steps.specs.Flight.{left_out, p_times, q_times, weight}
 use Rattle.pot_world.specs.Group.{WorldGroup, put, put_within}
-use Rattle.pot_world.specs.Audit.{AllFits, AllSame, SeesSame, Sight, SightsFit, One, group_in, other_moves, sight_of}
+use Rattle.pot_world.specs.Audit.{AllFits, AllSame, RunsSeenSame, SeesSame, Sight, SightsFit, One, Whole, group_in, other_moves, sight_of}
 use Rattle.pot_world.specs.Coalition.{Served}
 use Rattle.pot_world.specs.Later.{Sessions, SessionsFit, SessionsSeenSame, reopened_site}
-use Rattle.pot_world.specs.Reached.{IsAllowedAt, Reaches, Site, at_group, first_groups, first_site, moved}
+use Rattle.pot_world.specs.Acts.{PutNext}
+use Rattle.pot_world.specs.Reached.{IsAllowedAt, Makes, Reaches, Site, at_group, first_groups, first_site, moved}
 use Rattle.pot_world.specs.World.{no_group}
-use Rattle.law_examples.specs.Sessions.{ColumnSeesTheSame, Sees, has, mends, rack, stores}
+use Rattle.pot_world.specs.Remains.{HasPlacedAt, PlacesRemain, PutsAt}
+use Rattle.law_examples.specs.Sessions.{BlockRemains, ColumnSeesTheSame, ParitySeesTheSame, Sees, has, has_parity, mends, rack, stores, two_stores, uses}
 
 pub is_rack : IsRack rack
 is_rack = record {
@@ -86,3 +88,47 @@ seen fits same x y b blind ix iy ib il =
     let t = same rack true (sight_of rack has) (other_bytes y b) (stores x b ∷ mends blind blind blind ∷ []) run.0 is_rack (fits rack has) (are_blocks y b iy ib) run.1 (fit x y b blind ix ib il) in
     let a : SeesSame true (One 1) (group_in run.0 0) (group_in t.0 0) = of_first true (sight_of rack has) (group_in run.0 0) (group_in run.0 1 ∷ []) t.0.groups t.3 in
     (_, _, _, t.0, (t.1.0, t.1.1, (t.1.2.0, t.1.2.1, t.1.2.2)), record { held = a.0.held 1 0 (0, one, refl) ∙ refl; heard = (a.1 refl).heard 1 (0, one, refl) ∙ refl })
+
+-- A PARITY COLUMN
+
+abbrev pair_bytes : List ℕ → List ℕ → ℕ → List ℕ
+pair_bytes x y n = if nat_eq n 0 then x else y
+
+two_run : (x z : List ℕ) → IsBlock x → IsBlock z → (v : Site) × Reaches (first_site rack) (two_stores x z) v
+unfolding Reaches IsAllowedAt at_group first_groups
+two_run x z ix iz = (_, (ix, (iz, (tt, refl))))
+
+two_fit : (x y z : List ℕ) → AllFits (sight_of rack has_parity) (pair_bytes x y) (two_stores x z) (first_site rack)
+unfolding AllFits at_group first_groups put_within least count
+two_fit x y z = ((λ s c e. refl), (tt, (tt, tt)))
+
+pair_blocks : (x y : List ℕ) → IsBlock x → IsBlock y → (n : ℕ) → IsBlock (pair_bytes x y n)
+pair_blocks x y ix iy n = by (nat_eq n 0)
+  where
+    by : (t : Bool) → IsBlock (if t then x else y)
+    by true = ix
+    by false = iy
+
+pub parity_seen : SightsFit → RunsSeenSame → ParitySeesTheSame
+unfolding other_moves Reaches IsAllowedAt at_group first_groups put_within least count two_run
+parity_seen fits same x y z ix iy iz =
+    let run = two_run x z ix iz in
+    let t = same rack true (sight_of rack has_parity) (pair_bytes x y) (two_stores x z) run.0 is_rack (fits rack has_parity) (pair_blocks x y ix iy) run.1 (two_fit x y z) in
+    let a : SeesSame true Whole (group_in run.0 0) (group_in t.0 0) = of_first true (sight_of rack has_parity) (group_in run.0 0) (group_in run.0 1 ∷ []) t.0.groups t.3 in
+    (t.0, t.1, ap (λ (g : WorldGroup). g.state.held 0 0) a ∙ refl)
+
+-- A BLOCK THAT STAYS
+
+use_run : (x b blind : List ℕ) → IsBlock x → IsBlock b → IsBlock blind → (w : Site) × Reaches (moved (Makes 0 (PutNext 1 x)) (first_site rack)) (uses b blind) w
+unfolding Reaches IsAllowedAt at_group first_groups put_within least count
+use_run x b blind ix ib il = (_, (ib, (tt, ((two, two_width), ((two, two_width, il), refl)))))
+  where
+    two_width : 0 < 3
+    two_width = omega arith
+
+pub remains : PlacesRemain → BlockRemains
+unfolding HasPlacedAt PutsAt Reaches IsAllowedAt at_group first_groups put_within least count use_run
+remains law x b blind ix ib il =
+    let run = use_run x b blind ix ib il in
+    let a = law rack [] (uses b blind) (first_site rack) run.0 0 1 0 0 x is_rack refl ix refl run.1 in
+    (run.0, (ix, run.1), a.written)

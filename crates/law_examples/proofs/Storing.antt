@@ -26,24 +26,24 @@ use Rattle.pot_world.specs.Group.{WorldGroup, look, mend, put_within, sound_bloc
 use Rattle.pot_world.specs.Reached.{at_group, first_groups}
 use Rattle.pot_world.specs.Remains.{HasPlacedAt}
 use Rattle.pot_world.specs.World.{UnderWay, World, Runs, Gathered, FragmentGathered, HasGathered, blocks_of, first_world, group_at, made, next_block, put_block, put_step, record_made, store_begun}
-use Rattle.pot_world.specs.Worlds.{Gives, Paired, RunFetches, RunJoins, RunMends, RunWrites}
+use Rattle.pot_world.specs.Worlds.{Gives, Paired, OneBlock, RunFetches, RunGathers, RunJoins, RunMends, RunWrites}
 use Rattle.law_examples.specs.Sessions.{rack}
-use Rattle.law_examples.specs.Stored.{FetchGivesFile, LossIsMended, StoreIsWritten, fetches, file, geometry, loses, mended, name, place_in, stores}
+use Rattle.law_examples.specs.Stored.{FetchGivesFile, GatheredIsBlock, LossIsMended, StoreIsWritten, fetches, file, geometry, loses, mended, name, place_in, stores}
 use Rattle.law_examples.proofs.Seeing.{is_rack, one, two}
 
 one_two : 1 < 2
 one_two = omega arith
 
-abbrev block : List ℕ → ℕ → List ℕ
+abbrev pub block : List ℕ → ℕ → List ℕ
 block random j = block_in geometry file random 0 j 0
 
 two_blocks : PlaceLaws → (random : List ℕ) → length (file_blocks geometry file random) ≡ 2
 two_blocks laws random = laws.count geometry file random
 
-block_0 : PlaceLaws → (random : List ℕ) → slice_get (file_blocks geometry file random) 0 ≡ Some (block random 0)
+pub block_0 : PlaceLaws → (random : List ℕ) → slice_get (file_blocks geometry file random) 0 ≡ Some (block random 0)
 block_0 laws random = laws.each geometry file random 0 0 0 one two one
 
-block_1 : PlaceLaws → (random : List ℕ) → slice_get (file_blocks geometry file random) 1 ≡ Some (block random 1)
+pub block_1 : PlaceLaws → (random : List ℕ) → slice_get (file_blocks geometry file random) 1 ≡ Some (block random 1)
 block_1 laws random = laws.each geometry file random 0 1 0 one (omega arith) one
 
 -- THE STEPS OF THE STORE
@@ -54,28 +54,28 @@ put_goes u b rest w v e f lt r =
     (subst (λ (o : Option UnderWay). IsSomeAnd o (λ u. length u.places < length (blocks_of u))) (sym e) lt,
     subst (λ (x : World). Runs rest x v) (sym (ap (λ (o : Option UnderWay). put_step 1 o w) e ∙ ap (λ (o : Option (List ℕ)). put_block 1 u o w) f)) r)
 
-abbrev under_way : List ℕ → UnderWay
+abbrev pub under_way : List ℕ → UnderWay
 under_way random = store_begun name file geometry random
 
-abbrev half_way : List ℕ → UnderWay
+abbrev pub half_way : List ℕ → UnderWay
 half_way random = record (under_way random) { places = place_in 0 ∷ [] }
 
-abbrev whole : List ℕ → UnderWay
+abbrev pub whole : List ℕ → UnderWay
 whole random = record (under_way random) { places = place_in 0 ∷ place_in 1 ∷ [] }
 
-abbrev begun_world : List ℕ → World
+abbrev pub begun_world : List ℕ → World
 begun_world random = made (step.Store 1 name file random) (first_world rack)
 
-abbrev half_world : List ℕ → World
+abbrev pub half_world : List ℕ → World
 half_world random = put_block 1 (under_way random) (Some (block random 0)) (begun_world random)
 
-abbrev stored_world : List ℕ → World
+abbrev pub stored_world : List ℕ → World
 stored_world random = made (step.Publish 1) (put_block 1 (half_way random) (Some (block random 1)) (half_world random))
 
-first_way : (random : List ℕ) → ((begun_world random).actors 1).under_way ≡ Some (under_way random)
+pub first_way : (random : List ℕ) → ((begun_world random).actors 1).under_way ≡ Some (under_way random)
 first_way random = refl
 
-second_way : (random : List ℕ) → ((half_world random).actors 1).under_way ≡ Some (half_way random)
+pub second_way : (random : List ℕ) → ((half_world random).actors 1).under_way ≡ Some (half_way random)
 unfolding put_within least count at_group first_groups
 second_way random = refl
 
@@ -83,7 +83,7 @@ third_way : (random : List ℕ) → ((put_block 1 (half_way random) (Some (block
 unfolding put_within least count at_group first_groups
 third_way random = refl
 
-store_goes : PlaceLaws → (random : List ℕ) → IsStore geometry file random → (rest : List Step) (v : World) → Runs rest (stored_world random) v → Runs (stores random ++ rest) (first_world rack) v
+pub store_goes : PlaceLaws → (random : List ℕ) → IsStore geometry file random → (rest : List Step) (v : World) → Runs rest (stored_world random) v → Runs (stores random ++ rest) (first_world rack) v
 unfolding Runs put_within least count at_group first_groups
 store_goes laws random is rest v r =
     ((refl, is), put_goes (under_way random) (block random 0) (step.PutNext 1 ∷ step.Publish 1 ∷ rest) (begun_world random) v (first_way random) (block_0 laws random) (subst (λ n. 0 < n) (sym (two_blocks laws random)) two)
@@ -230,3 +230,13 @@ gives laws joins law random is =
     let joined = joins rack (fetches random) (fetched_world random) is_rack run 2 r found (has_gathered random) in
     let alone : (other : List ℕ) → Gives r ((fetched_world random).actors 2).gathered other → other ≡ file = λ other h. law rack (fetches random) (fetched_world random) is_rack run 2 r other found h in
     (fetched_world random, run, record { found = r; is = found; gives = subst (λ (f : List ℕ). Gives r ((fetched_world random).actors 2).gathered f) (alone joined.0 joined.1) joined.1; alone = alone })
+
+pub gathered_is : PlaceLaws → RunWrites → RunGathers → OneBlock → GatheredIsBlock
+unfolding Paired put_within least count at_group first_groups
+gathered_is laws writes gathers one_block random is =
+    let run = fetched_run laws random is in
+    let x = writes rack (fetches random) (fetched_world random) is_rack run (record_made (whole random)) (0, one, refl) in
+    let a = x.splits.0.written 0 (place_in 0) refl in
+    let same : (b : List ℕ) → Contains ((fetched_world random).actors 2).gathered (record { place = place_in 0; block = b }) → b ≡ block random 0 = λ b h.
+        one_block (fetched_world random).site.groups 0 0 0 b a.0 (gathers rack (fetches random) (fetched_world random) is_rack run 2 (record { place = place_in 0; block = b }) h) a.2 ∙ same_Some _ _ (sym a.1 ∙ block_0 laws random) in
+    (fetched_world random, run, same)

@@ -8,7 +8,7 @@ use Rattle.pot_bytes.specs.Weighted.{scaled}
 use Rattle.pot_world.specs.Acts.{Look, Mend, PutNext}
 use Rattle.pot_world.specs.Audit.{group_in}
 use Rattle.pot_world.specs.Later.{Sessions}
-use Rattle.pot_world.specs.Reached.{Loses, Makes, Move, Site, first_site}
+use Rattle.pot_world.specs.Reached.{Loses, Makes, Move, Reaches, Site, first_site}
 
 abbrev pub rack : Rack
 rack =
@@ -49,3 +49,33 @@ ColumnSeesTheSame =
     (x y b blind : List ℕ) → IsBlock x → IsBlock y → IsBlock b → IsBlock blind
     → (other r s : List ℕ) × (w : Site)
     × Sessions (first_site rack) (stores y b ∷ mends other r s ∷ []) w × Sees x b blind w
+
+-- A PARITY COLUMN
+
+-- the parity column of group 0
+abbrev pub has_parity : ℕ → ℕ → Bool
+has_parity n c = nat_eq n 0 && nat_eq c 2
+
+abbrev pub two_stores : List ℕ → List ℕ → List Move
+two_stores x y = Makes 0 (PutNext 1 x) ∷ Makes 1 (PutNext 1 y) ∷ Loses 1 0 ∷ []
+
+-- Who has the parity column sees all of that group, and nothing of the other group: whatever block
+-- comes there, archive 0 holds x.
+abbrev pub ParitySeesTheSame : Type 0
+ParitySeesTheSame =
+    (x y z : List ℕ) → IsBlock x → IsBlock y → IsBlock z
+    → (w : Site) × Reaches (first_site rack) (two_stores x y) w
+    × ((group_in w 0).state.held 0 0 ≡ Some x)
+
+-- A BLOCK THAT STAYS
+
+abbrev pub uses : List ℕ → List ℕ → List Move
+uses b blind =
+    Makes 0 (PutNext 1 b) ∷ Loses 0 0 ∷ Makes 0 (Look 2 0 0) ∷ Makes 0 (Mend 2 0 0 blind) ∷ []
+
+-- A block that was put stays the one written there through a put, its loss, a look and a mend.
+abbrev pub BlockRemains : Type 0
+BlockRemains =
+    (x b blind : List ℕ) → IsBlock x → IsBlock b → IsBlock blind
+    → (w : Site) × Reaches (first_site rack) (Makes 0 (PutNext 1 x) ∷ uses b blind) w
+    × ((group_in w 0).written 0 0 ≡ x)

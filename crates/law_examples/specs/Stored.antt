@@ -1,5 +1,5 @@
 -- A file of one byte in two groups: stored, its first block lost and mended, and fetched.
-use Rattle.std.specs.Prelude.{◌≡◌, ◌≤◌, ℕ, zero, suc, false, Some, List, [], ◌∷◌, ◌++◌}
+use Rattle.std.specs.Prelude.{◌≡◌, ◌≤◌, ℕ, zero, suc, false, Some, List, [], ◌∷◌, ◌++◌, Contains}
 use Rattle.pot_bytes.specs.declared.rack.Geometry.{Geometry}
 use Rattle.pot_bytes.specs.declared.rack.Place.{Place}
 use Rattle.pot_bytes.specs.Lists.{IsBlock}
@@ -11,7 +11,7 @@ use Rattle.pot_index.specs.declared.record.Record.{Record}
 use Rattle.pot_world.specs.declared.step.Step.{Step}
 use Rattle.pot_world.specs.declared.step.Step.TheVariants as step
 use Rattle.pot_world.specs.Group.{WorldGroup, look, mend, sound_block}
-use Rattle.pot_world.specs.World.{World, Runs, first_world, group_at}
+use Rattle.pot_world.specs.World.{Gathered, World, Runs, first_world, group_at}
 use Rattle.pot_world.specs.Worlds.{Gives}
 use Rattle.law_examples.specs.Sessions.{rack}
 
@@ -84,3 +84,11 @@ abbrev pub FetchGivesFile : Type 0
 FetchGivesFile =
     (random : List ℕ) → IsStore geometry file random
     → (v : World) × Runs (fetches random) (first_world rack) v × GivesFile v
+
+-- and whatever it gathered at the first place is the first block
+abbrev pub GatheredIsBlock : Type 0
+GatheredIsBlock =
+    (random : List ℕ) → IsStore geometry file random
+    → (v : World) × Runs (fetches random) (first_world rack) v
+    × ((b : List ℕ) → Contains (v.actors 2).gathered (record { place = place_in 0; block = b })
+    → b ≡ block_in geometry file random 0 0 0)

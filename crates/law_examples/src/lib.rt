@@ -13,5 +13,5 @@ mod worlds;
 
 pub use audits::{audit_hides, bytes_return};
 pub use groups::stripe_kept;
-pub use stored::{fetch_gives, loss_mended, store_written};
-pub use worlds::sessions_seen;
+pub use stored::{fetch_gives, gathered_written, loss_mended, store_written};
+pub use worlds::{block_remains, parity_seen, sessions_seen};
