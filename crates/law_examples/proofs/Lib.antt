@@ -1,0 +1,4 @@
+pub mod Seeing
+pub mod Storing
+pub mod Hiding
+pub mod Keeping

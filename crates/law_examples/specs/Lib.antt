@@ -1,0 +1,4 @@
+pub mod Sessions
+pub mod Stored
+pub mod Audited
+pub mod Kept
