@@ -1,0 +1,88 @@
+-- What the archives hold still of the blocks that an image names.
+use Rattle.std.proofs.Common.{◌≡◌, ◌⊎◌, inl, inr, ◌<◌, ◌≤◌, ◌^◌, ◌+◌, ◌++◌, ℕ, IsTrue, List, [], length, refl, sym, ap, ◌∙◌, subst, arith}
+use Rattle.std.specs.Prelude.{Contains, Some, slice_get}
+use Rattle.std.proofs.lemmas.List.Elements.{Contains-append_left}
+use Rattle.std.proofs.lemmas.Option.{same_Some}
+use Rattle.pot_bytes.specs.declared.digest.Digest.{Digest}
+use Rattle.pot_bytes.specs.Digests.{digest_of}
+use Rattle.pot_bytes.proofs.Elements.{element_at}
+use Rattle.pot_outside.specs.Accounts.{Transition}
+use Rattle.pot_outside.specs.Archives.{Meaning}
+use Rattle.pot_outside.specs.Rooms.{RoomState}
+use Rattle.pot_machine.specs.declared.entry.Entry.{Entry}
+use Rattle.pot_machine.specs.Machine.{Replays}
+use Rattle.pot_machine.specs.Rules.{IsTable}
+use Rattle.pot_machine.specs.Slot.{digest_in}
+use Rattle.pot_machine.specs.Table.{Table, archives_in, width}
+use Rattle.pot_group.specs.Arrivals.{arrivals}
+use Rattle.pot_group.specs.Remaining.{HasServed, KeepsServed}
+use Rattle.pot_group.proofs.Remains.{served_kept, serving_has}
+use Rattle.pot_image.specs.Images.{Contents}
+use Rattle.pot_image.specs.Rules.{FitsTable, FitsTogether}
+use Rattle.pot_replies.specs.Sections.{Section}
+use Rattle.pot_shared.specs.Hands.{times}
+use Rattle.pot_shared.specs.Leaving.{LeavesGroup, still}
+use Rattle.pot_shared.proofs.GroupLemmas.{serves_there}
+use Rattle.pot_shared.proofs.Lists.{all_at_place}
+use Rattle.pot_session.specs.Serving.{IsInRoom, Leaves}
+use Rattle.pot_session.proofs.LossLemmas.{get_within}
+use Rattle.pot_promises.specs.Frames.{IsFramed}
+use Rattle.pot_promises.specs.Remaining.{BlocksRemain, HoldsStill, ServedRemain}
+use Rattle.pot_promises.proofs.Framing.{frame_of_run}
+
+-- a slot of a table is one of 2^32
+low_slot : (t : Table) (s : ℕ) → IsTable t → s < t.stripes → s < 2 ^ 32
+low_slot t s table lt = omega (arith, lt, table.size.stripes.1)
+
+-- what an archive holds that has served a slot, within its frame
+still_held : (read : Table) (log : List Entry) (u : Table) (givens : List (List ℕ)) (s c : ℕ) (d : Digest) (n : ℕ) (old new : Meaning) → s < 2 ^ 32 → IsFramed read log givens n old new → KeepsServed read u log s c d n
+    → HoldsStill read log s c d old new
+still_held read log u givens s c d n old new low framed kept has = elim (framed.kept s has.0 low has.1) [
+  | inl y ↦ inl (y.0, y.1, elim (framed.held s y.0 low y.1) [
+    | inl before ↦ ap digest_of (same_Some y.0 has.0 (sym before ∙ has.1)) ∙ has.2
+    | inr now ↦ kept.wrote y.0 now
+  ])
+  | inr y ↦ elim y [ inl z ↦ inr (inl (kept.failed z)) | inr z ↦ inr (inr z) ]
+]
+
+-- the log of a group that was left leads to a table that is written so
+left_leads : (told : Type 0) (meant means : ℕ → Meaning) (missing : List ℕ) (read written : Table) (log : List Entry) → LeavesGroup told meant (IsInRoom told means missing) read log written
+    → (u : Table) × Replays read log u × (written ≡ still u)
+left_leads told meant means missing read written log left =
+    (left.view.table, subst (λ t. Replays t log left.view.table) left.first (subst (λ l. Replays left.view.first l left.view.table) left.is_log left.settled.replay), left.is)
+
+-- as an image has a table, the same archives have served its slots
+served_still : (u : Table) (s c : ℕ) (d : Digest) (n : ℕ) → HasServed u s c d n → HasServed (still u) s c d n
+served_still u s c d n has = record { digest = has.digest; only = has.only; passed = has.passed }
+
+module _ (first last : Contents) (room : Transition RoomState) (missing : List ℕ) (story : Section) (fits : FitsTogether first) (told : IsTrue room.tells) (leaves : Leaves room missing first last story)
+    (group : ℕ) (read : Table) (log : List Entry) (is_read : slice_get first.tables group ≡ Some read) (is_log : slice_get last.group_logs group ≡ Some log) (s c : ℕ) (d : Digest) (low : s < read.stripes) (data : c < read.data_columns) where
+  table : IsTable read
+  table = (all_at_place (FitsTable first.rack) first.tables group read fits.tables.fits is_read).rules
+
+  kept_over : (written : Table) → slice_get last.tables group ≡ Some written → (n : ℕ) → HasServed read s c d n → (Contains (arrivals log) n → ⊥) → (u : Table) × KeepsServed read u log s c d n × (written ≡ still u)
+  kept_over written is_written n has fresh =
+      let leads = left_leads (IsTrue room.tells) room.before.means room.after.means missing read written log (leaves.groups.each group read written log is_read is_written is_log) in
+      (leads.0, served_kept read leads.0 log s c d n table leads.1 data has fresh, leads.2)
+
+  held_over : (u : Table) (n : ℕ) → KeepsServed read u log s c d n → Contains (archives_in read) n → times n missing ≡ 0 → HoldsStill read log s c d (room.before.means n) (room.after.means n)
+  held_over u n kept among back =
+      let frame = frame_of_run first last room missing story told leaves group read log is_read is_log in
+      still_held read log u frame.0 s c d n (room.before.means n) (room.after.means n) (low_slot read s table low)
+      (frame.3 n (Contains-append_left (archives_in read) (arrivals log) n among) back) kept
+
+pub served_remain : ServedRemain
+served_remain first last room missing story fits told leaves group read written log is_read is_written is_log s c d n low data has fresh =
+    let kept = kept_over first last room missing story fits told leaves group read log is_read is_log s c d low data written is_written n has fresh in (
+      subst (λ t. HasServed t s c d n) (sym kept.2) (served_still kept.0 s c d n kept.1.now),
+      held_over first last room missing story fits told leaves group read log is_read is_log s c d low data kept.0 n kept.1,
+    )
+
+pub blocks_remain : BlocksRemain
+blocks_remain first last room missing story fits told leaves group read log is_read is_log s c d low data live back fresh =
+    let rules : IsTable read = (all_at_place (FitsTable first.rack) first.tables group read fits.tables.fits is_read).rules in
+    let wide : c < width read = omega (arith, data) in
+    let in_last : group < length last.tables = (let a = leaves.groups.count in let b = get_within first.tables group read is_read in omega (arith, a, b)) in
+    let written = element_at last.tables group in_last in
+    (served_remain first last room missing story fits told leaves group read written.0 log is_read written.1 is_log s c d _ low data
+    (serving_has read s c d rules wide (ap digest_in live)) fresh).1 (serves_there read rules s c wide) back
