@@ -1,10 +1,12 @@
 -- What the archives hold still of the blocks that an image names.
-use Rattle.std.proofs.Common.{◌≡◌, ◌⊎◌, inl, inr, ◌<◌, ◌≤◌, ◌^◌, ◌+◌, ◌++◌, ℕ, IsTrue, List, [], length, refl, sym, ap, ◌∙◌, subst, arith}
-use Rattle.std.specs.Prelude.{Contains, Some, slice_get}
+use Rattle.std.proofs.Common.{◌≡◌, ◌≢◌, ◌⊎◌, inl, inr, ◌<◌, ◌≤◌, ◌^◌, ◌+◌, ◌++◌, ℕ, zero, suc, IsTrue, List, [], ◌∷◌, length, refl, sym, ap, ◌∙◌, subst, arith}
+use Rattle.std.specs.Prelude.{Contains, Some, flat_map, slice_get}
+use Rattle.std.proofs.lemmas.Bool.{cases_eq}
 use Rattle.std.proofs.lemmas.List.Elements.{Contains-append_left}
 use Rattle.std.proofs.lemmas.Option.{same_Some}
 use Rattle.pot_bytes.specs.declared.digest.Digest.{Digest}
 use Rattle.pot_bytes.specs.Digests.{digest_of}
+use Rattle.pot_bytes.specs.declared.rack.Rack.{Rack}
 use Rattle.pot_bytes.proofs.Elements.{element_at}
 use Rattle.pot_outside.specs.Accounts.{Transition}
 use Rattle.pot_outside.specs.Archives.{Meaning}
@@ -24,10 +26,12 @@ use Rattle.pot_shared.specs.Hands.{times}
 use Rattle.pot_shared.specs.Leaving.{LeavesGroup, still}
 use Rattle.pot_shared.proofs.GroupLemmas.{serves_there}
 use Rattle.pot_shared.proofs.Lists.{all_at_place}
-use Rattle.pot_session.specs.Serving.{IsInRoom, Leaves}
+use Rattle.pot_shared.proofs.Times.{contains_times, times-append, times_contains}
+use Rattle.pot_session.specs.Serving.{IsInRoom, Leaves, came_by}
 use Rattle.pot_session.proofs.LossLemmas.{get_within}
 use Rattle.pot_promises.specs.Frames.{IsFramed}
-use Rattle.pot_promises.specs.Remaining.{BlocksRemain, HoldsStill, ServedRemain}
+use Rattle.pot_promises.specs.Remaining.{BlocksRemain, HasClosed, HoldsOf, HoldsStill, InARow, OlderDeskFinds, OneTakes, Past, ServedRemain, Takes}
+use Rattle.pot_promises.specs.Remaining.{NotBack, Brought, Elsewhere, Failed, Lost}
 use Rattle.pot_promises.proofs.Framing.{frame_of_run}
 
 -- a slot of a table is one of 2^32
@@ -86,3 +90,73 @@ blocks_remain first last room missing story fits told leaves group read log is_r
     let written = element_at last.tables group in_last in
     (served_remain first last room missing story fits told leaves group read written.0 log is_read written.1 is_log s c d _ low data
     (serving_has read s c d rules wide (ap digest_in live)) fresh).1 (serves_there read rules s c wide) back
+
+-- SESSIONS IN A ROW
+
+-- how often a number stands in one of the lists is no more than in all
+times_within : {A : Type 0} (f : A → List ℕ) (xs : List A) (k : ℕ) (x : A) (n : ℕ) → slice_get xs k ≡ Some x → times n (f x) ≤ times n (flat_map f xs)
+times_within f [] k x n e = absurd (cc)
+times_within f (y ∷ ys) zero x n e = (let a = times-append n (f y) (flat_map f ys) in let b = ap (λ z. times n (f z)) (same_Some y x e) in omega (arith, a, b))
+times_within f (y ∷ ys) (suc k) x n e = (let a = times-append n (f y) (flat_map f ys) in let b = times_within f ys k x n e in omega (arith, a, b))
+
+some_times : (k : ℕ) → k ≢ 0 → 1 ≤ k
+some_times zero ne = absurd (ne refl)
+some_times (suc k) ne = omega arith
+
+module _ (g s c : ℕ) (d : Digest) (n : ℕ) where
+  -- one session: what the archive holds then, or what may have taken it
+  one_session : (x : Past) → HasClosed x → (read written : Table) (log : List Entry) → slice_get x.first.tables g ≡ Some read → slice_get x.last.tables g ≡ Some written → slice_get x.last.group_logs g ≡ Some log
+      → s < read.stripes → c < read.data_columns → HasServed read s c d n → HoldsOf (x.room.before.means n) s d
+      → (HasServed written s c d n × HoldsOf (x.room.after.means n) s d) ⊎ Takes x g s c n
+  one_session x closed read written log is_read is_written is_log low data has held = elim (cases_eq (times n x.missing) 0) [
+    | inr ne ↦ inr (NotBack ne)
+    | inl back ↦ elim (cases_eq (times n (came_by x.last.group_logs)) 0) [
+      | inr ne ↦ inr (Brought ne)
+      | inl none ↦ (
+          let kept = served_remain x.first x.last x.room x.missing x.story closed.fits closed.told closed.leaves g read written log is_read is_written is_log s c d n low data has (fresh none) in
+          elim (cases_eq (times n (archives_in read)) 0) [
+            | inr some ↦ elim (kept.1 (times_contains (archives_in read) n (some_times (times n (archives_in read)) some)) back held) [
+              | inl y ↦ inl (kept.0, y)
+              | inr y ↦ elim y [ inl z ↦ inr (Failed read log is_read is_log z) | inr z ↦ inr (Lost z) ]
+            ]
+            | inl gone ↦ elim (cases_eq (times n (flat_map archives_in x.first.tables)) 0) [
+              | inr other ↦ inr (Elsewhere read is_read gone other)
+              | inl nowhere ↦ inl (kept.0, (held.0, (closed.others n nowhere none).blocks s ∙ held.1, held.2))
+            ]
+          ]
+      )
+    ]
+  ]
+    where
+      fresh : times n (came_by x.last.group_logs) ≡ 0 → Contains (arrivals log) n → ⊥
+      fresh none h = (let a = contains_times (arrivals log) n h in let b = times_within arrivals x.last.group_logs g log n is_log in omega (arith, a, b, none))
+
+  -- session after session
+  in_a_row : (left : Contents) (meant : ℕ → Meaning) (xs : List Past) (now : ℕ → Meaning) → InARow left meant xs now → (t : Table) → slice_get left.tables g ≡ Some t
+      → s < left.rack.stripes → c < left.rack.columns → HasServed t s c d n → HoldsOf (meant n) s d → HoldsOf (now n) s d ⊎ OneTakes xs g s c n
+  in_a_row left meant [] now is t is_t low data has held = inl (subst (λ (f : ℕ → Meaning). HoldsOf (f n) s d) (sym is) held)
+  in_a_row left meant (x ∷ xs) now (begins, closed, is_meant, rest) t is_t low data has held =
+      let is_read : slice_get x.first.tables g ≡ Some t = ap (λ ts. slice_get ts g) begins.tables ∙ is_t in
+      let there : g < length x.first.tables = get_within x.first.tables g t is_read in
+      let written = element_at x.last.tables g (let a = closed.leaves.groups.count in omega (arith, a, there)) in
+      let log = element_at x.last.group_logs g (let a = closed.leaves.groups.count_logs in omega (arith, a, there)) in
+      let fits : FitsTable x.first.rack t = all_at_place (FitsTable x.first.rack) x.first.tables g t closed.fits.tables.fits is_read in
+      let racks = ap (λ (r : Rack). r.stripes) begins.rack in
+      let wide = ap (λ (r : Rack). r.columns) begins.rack in
+      let left_rack = ap (λ (r : Rack). r.stripes) closed.leaves.rack in
+      let left_wide = ap (λ (r : Rack). r.columns) closed.leaves.rack in
+      elim (one_session x closed t written.0 log.0 is_read written.1 log.1 (omega (arith, low, racks, fits.stripes)) (omega (arith, data, wide, fits.data_columns)) has
+        (subst (λ (f : ℕ → Meaning). HoldsOf (f n) s d) (sym is_meant) held)) [
+        | inl y ↦ elim (in_a_row x.last x.room.after.means xs now rest written.0 written.1 (omega (arith, low, racks, left_rack)) (omega (arith, data, wide, left_wide)) y.0 y.1) [
+          | inl z ↦ inl z
+          | inr z ↦ inr (inr z)
+        ]
+        | inr y ↦ inr (inl y)
+      ]
+
+pub older_desk_finds : OlderDeskFinds
+older_desk_finds desk meant now xs fits row g t is_t s c d low data live held =
+    let of_rack : FitsTable desk.rack t = all_at_place (FitsTable desk.rack) desk.tables g t fits.tables.fits is_t in
+    let wide : c < width t = omega (arith, data) in
+    in_a_row g s c d _ desk meant xs now row t is_t (omega (arith, low, of_rack.stripes)) (omega (arith, data, of_rack.data_columns))
+    (serving_has t s c d of_rack.rules wide (ap digest_in live)) held

@@ -30,7 +30,7 @@
 //!    it, or its logs name it: a block by its digest and its place, a sum by the relay that it
 //!    belongs to (`frame_laws`, `run`). Where they held a block they hold one still, unless a write
 //!    there failed or their count of losses rose. So by an older image, put back, the archives of
-//!    its data slots have their blocks, whatever a session did since (`remain`).
+//!    its data slots have their blocks, whatever sessions did since (`remain`, `older`).
 //!
 //! The premises on digests name texts: the file and the bytes that were fetched, or the blocks of
 //! the file and those that were read. They say of these that they are equal where they have one
@@ -44,7 +44,7 @@ ghost use Rattle.pot_promises.specs.Lost.{LostIsFew};
 ghost use Rattle.pot_promises.specs.Odds.{NeverOdd, OddReads};
 ghost use Rattle.pot_promises.specs.Openings.{OpeningsAreTrue};
 ghost use Rattle.pot_promises.specs.Promises.{GivesBack, GivesBackLater};
-ghost use Rattle.pot_promises.specs.Remaining.{BlocksRemain, ServedRemain};
+ghost use Rattle.pot_promises.specs.Remaining.{BlocksRemain, OlderDeskFinds, ServedRemain};
 ghost use Rattle.pot_promises.specs.Runs.{RunsAreSessions, RunsGoLater, RunsGoOn, RunsMayClose};
 ghost use Rattle.pot_promises.specs.Veils.{StaysVeiled};
 
@@ -74,6 +74,7 @@ pub fn frame_laws()
     ensures run { FrameOfRun }
     ensures remain { BlocksRemain }
     ensures served { ServedRemain }
+    ensures older { OlderDeskFinds }
 {}
 
 /// Where a reply `lost` comes from. It does nothing.
