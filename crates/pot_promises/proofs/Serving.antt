@@ -15,7 +15,7 @@ use Rattle.pot_machine.specs.declared.entry.Entry.{Entry}
 use Rattle.pot_machine.specs.Machine.{Replays}
 use Rattle.pot_machine.specs.Rules.{IsTable}
 use Rattle.pot_machine.specs.Slot.{digest_in}
-use Rattle.pot_machine.specs.Table.{Table, archives_in, width}
+use Rattle.pot_machine.specs.Table.{Table, archives_in, serving_at, width}
 use Rattle.pot_group.specs.Arrivals.{arrivals}
 use Rattle.pot_group.specs.Remaining.{HasServed, KeepsServed}
 use Rattle.pot_group.proofs.Remains.{served_kept, serving_has}
@@ -88,7 +88,7 @@ blocks_remain first last room missing story fits told leaves group read log is_r
     let wide : c < width read = omega (arith, data) in
     let in_last : group < length last.tables = (let a = leaves.groups.count in let b = get_within first.tables group read is_read in omega (arith, a, b)) in
     let written = element_at last.tables group in_last in
-    (served_remain first last room missing story fits told leaves group read written.0 log is_read written.1 is_log s c d _ low data
+    (served_remain first last room missing story fits told leaves group read written.0 log is_read written.1 is_log s c d (serving_at read s c) low data
     (serving_has read s c d rules wide (ap digest_in live)) fresh).1 (serves_there read rules s c wide) back
 
 -- SESSIONS IN A ROW
@@ -158,5 +158,5 @@ pub older_desk_finds : OlderDeskFinds
 older_desk_finds desk meant now xs fits row g t is_t s c d low data live held =
     let of_rack : FitsTable desk.rack t = all_at_place (FitsTable desk.rack) desk.tables g t fits.tables.fits is_t in
     let wide : c < width t = omega (arith, data) in
-    in_a_row g s c d _ desk meant xs now row t is_t (omega (arith, low, of_rack.stripes)) (omega (arith, data, of_rack.data_columns))
+    in_a_row g s c d (serving_at t s c) desk meant xs now row t is_t (omega (arith, low, of_rack.stripes)) (omega (arith, data, of_rack.data_columns))
     (serving_has t s c d of_rack.rules wide (ap digest_in live)) held
