@@ -211,12 +211,12 @@ module _ (told : Type 0) (g : GroupView) (job s c : ℕ) (block : List ℕ) (set
     may_two n x (inr (inr y)) = (refl, inr (inr (y.1, ap digest_of (y.2 ∙ is_q y.0))))
 
     fails_one : g.table.parity ≡ 1 → (n : ℕ) → IsNotKept g.table s kept kept2 n → MayFail g.table one_put n s
-    fails_one one n (inl y) = (refl, y)
+    fails_one one n (inl y) = (refl, y.0, y.1)
     fails_one one n (inr y) = absurd (omega (arith, one, y.0))
 
     fails_two : (n : ℕ) → IsNotKept g.table s kept kept2 n → MayFail g.table two_puts n s
     fails_two n (inl y) = (refl, inl y)
-    fails_two n (inr y) = (refl, inr y.1)
+    fails_two n (inr y) = (refl, inr (y.1, y.2))
 
     one_settled : g.table.parity ≡ 1 → IsSettled told (entered_with g one_put now)
     one_settled one = settled_entry told g one_put now ideal settled

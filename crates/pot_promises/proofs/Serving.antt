@@ -60,14 +60,14 @@ served_still : (u : Table) (s c : ℕ) (d : Digest) (n : ℕ) → HasServed u s 
 served_still u s c d n has = record { digest = has.digest; only = has.only; passed = has.passed }
 
 module _ (first last : Contents) (room : Transition RoomState) (missing : List ℕ) (story : Section) (fits : FitsTogether first) (told : IsTrue room.tells) (leaves : Leaves room missing first last story)
-    (group : ℕ) (read : Table) (log : List Entry) (is_read : slice_get first.tables group ≡ Some read) (is_log : slice_get last.group_logs group ≡ Some log) (s c : ℕ) (d : Digest) (low : s < read.stripes) (data : c < read.data_columns) where
+    (group : ℕ) (read : Table) (log : List Entry) (is_read : slice_get first.tables group ≡ Some read) (is_log : slice_get last.group_logs group ≡ Some log) (s c : ℕ) (d : Digest) (low : s < read.stripes) (within : c < read.data_columns) where
   table : IsTable read
   table = (all_at_place (FitsTable first.rack) first.tables group read fits.tables.fits is_read).rules
 
   kept_over : (written : Table) → slice_get last.tables group ≡ Some written → (n : ℕ) → HasServed read s c d n → (Contains (arrivals log) n → ⊥) → (u : Table) × KeepsServed read u log s c d n × (written ≡ still u)
   kept_over written is_written n has fresh =
       let leads = left_leads (IsTrue room.tells) room.before.means room.after.means missing read written log (leaves.groups.each group read written log is_read is_written is_log) in
-      (leads.0, served_kept read leads.0 log s c d n table leads.1 data has fresh, leads.2)
+      (leads.0, served_kept read leads.0 log s c d n table leads.1 within has fresh, leads.2)
 
   held_over : (u : Table) (n : ℕ) → KeepsServed read u log s c d n → Contains (archives_in read) n → times n missing ≡ 0 → HoldsStill read log s c d (room.before.means n) (room.after.means n)
   held_over u n kept among back =
@@ -76,19 +76,19 @@ module _ (first last : Contents) (room : Transition RoomState) (missing : List �
       (frame.3 n (Contains-append_left (archives_in read) (arrivals log) n among) back) kept
 
 pub served_remain : ServedRemain
-served_remain first last room missing story fits told leaves group read written log is_read is_written is_log s c d n low data has fresh =
-    let kept = kept_over first last room missing story fits told leaves group read log is_read is_log s c d low data written is_written n has fresh in (
+served_remain first last room missing story fits told leaves group read written log is_read is_written is_log s c d n low within has fresh =
+    let kept = kept_over first last room missing story fits told leaves group read log is_read is_log s c d low within written is_written n has fresh in (
       subst (λ t. HasServed t s c d n) (sym kept.2) (served_still kept.0 s c d n kept.1.now),
-      held_over first last room missing story fits told leaves group read log is_read is_log s c d low data kept.0 n kept.1,
+      held_over first last room missing story fits told leaves group read log is_read is_log s c d low within kept.0 n kept.1,
     )
 
 pub blocks_remain : BlocksRemain
-blocks_remain first last room missing story fits told leaves group read log is_read is_log s c d low data live back fresh =
+blocks_remain first last room missing story fits told leaves group read log is_read is_log s c d low within live back fresh =
     let rules : IsTable read = (all_at_place (FitsTable first.rack) first.tables group read fits.tables.fits is_read).rules in
-    let wide : c < width read = omega (arith, data) in
+    let wide : c < width read = omega (arith, within) in
     let in_last : group < length last.tables = (let a = leaves.groups.count in let b = get_within first.tables group read is_read in omega (arith, a, b)) in
     let written = element_at last.tables group in_last in
-    (served_remain first last room missing story fits told leaves group read written.0 log is_read written.1 is_log s c d (serving_at read s c) low data
+    (served_remain first last room missing story fits told leaves group read written.0 log is_read written.1 is_log s c d (serving_at read s c) low within
     (serving_has read s c d rules wide (ap digest_in live)) fresh).1 (serves_there read rules s c wide) back
 
 -- SESSIONS IN A ROW
@@ -108,12 +108,12 @@ module _ (g s c : ℕ) (d : Digest) (n : ℕ) where
   one_session : (x : Past) → HasClosed x → (read written : Table) (log : List Entry) → slice_get x.first.tables g ≡ Some read → slice_get x.last.tables g ≡ Some written → slice_get x.last.group_logs g ≡ Some log
       → s < read.stripes → c < read.data_columns → HasServed read s c d n → HoldsOf (x.room.before.means n) s d
       → (HasServed written s c d n × HoldsOf (x.room.after.means n) s d) ⊎ Takes x g s c n
-  one_session x closed read written log is_read is_written is_log low data has held = elim (cases_eq (times n x.missing) 0) [
+  one_session x closed read written log is_read is_written is_log low within has held = elim (cases_eq (times n x.missing) 0) [
     | inr ne ↦ inr (NotBack ne)
     | inl back ↦ elim (cases_eq (times n (came_by x.last.group_logs)) 0) [
       | inr ne ↦ inr (Brought ne)
       | inl none ↦ (
-          let kept = served_remain x.first x.last x.room x.missing x.story closed.fits closed.told closed.leaves g read written log is_read is_written is_log s c d n low data has (fresh none) in
+          let kept = served_remain x.first x.last x.room x.missing x.story closed.fits closed.told closed.leaves g read written log is_read is_written is_log s c d n low within has (fresh none) in
           elim (cases_eq (times n (archives_in read)) 0) [
             | inr some ↦ elim (kept.1 (times_contains (archives_in read) n (some_times (times n (archives_in read)) some)) back held) [
               | inl y ↦ inl (kept.0, y)
@@ -134,8 +134,8 @@ module _ (g s c : ℕ) (d : Digest) (n : ℕ) where
   -- session after session
   in_a_row : (left : Contents) (meant : ℕ → Meaning) (xs : List Past) (now : ℕ → Meaning) → InARow left meant xs now → (t : Table) → slice_get left.tables g ≡ Some t
       → s < left.rack.stripes → c < left.rack.columns → HasServed t s c d n → HoldsOf (meant n) s d → HoldsOf (now n) s d ⊎ OneTakes xs g s c n
-  in_a_row left meant [] now is t is_t low data has held = inl (subst (λ (f : ℕ → Meaning). HoldsOf (f n) s d) (sym is) held)
-  in_a_row left meant (x ∷ xs) now (begins, closed, is_meant, rest) t is_t low data has held =
+  in_a_row left meant [] now is t is_t low within has held = inl (subst (λ (f : ℕ → Meaning). HoldsOf (f n) s d) (sym is) held)
+  in_a_row left meant (x ∷ xs) now (begins, closed, is_meant, rest) t is_t low within has held =
       let is_read : slice_get x.first.tables g ≡ Some t = ap (λ ts. slice_get ts g) begins.tables ∙ is_t in
       let there : g < length x.first.tables = get_within x.first.tables g t is_read in
       let written = element_at x.last.tables g (let a = closed.leaves.groups.count in omega (arith, a, there)) in
@@ -145,9 +145,9 @@ module _ (g s c : ℕ) (d : Digest) (n : ℕ) where
       let wide = ap (λ (r : Rack). r.columns) begins.rack in
       let left_rack = ap (λ (r : Rack). r.stripes) closed.leaves.rack in
       let left_wide = ap (λ (r : Rack). r.columns) closed.leaves.rack in
-      elim (one_session x closed t written.0 log.0 is_read written.1 log.1 (omega (arith, low, racks, fits.stripes)) (omega (arith, data, wide, fits.data_columns)) has
+      elim (one_session x closed t written.0 log.0 is_read written.1 log.1 (omega (arith, low, racks, fits.stripes)) (omega (arith, within, wide, fits.data_columns)) has
         (subst (λ (f : ℕ → Meaning). HoldsOf (f n) s d) (sym is_meant) held)) [
-        | inl y ↦ elim (in_a_row x.last x.room.after.means xs now rest written.0 written.1 (omega (arith, low, racks, left_rack)) (omega (arith, data, wide, left_wide)) y.0 y.1) [
+        | inl y ↦ elim (in_a_row x.last x.room.after.means xs now rest written.0 written.1 (omega (arith, low, racks, left_rack)) (omega (arith, within, wide, left_wide)) y.0 y.1) [
           | inl z ↦ inl z
           | inr z ↦ inr (inr z)
         ]
@@ -155,8 +155,8 @@ module _ (g s c : ℕ) (d : Digest) (n : ℕ) where
       ]
 
 pub older_desk_finds : OlderDeskFinds
-older_desk_finds desk meant now xs fits row g t is_t s c d low data live held =
+older_desk_finds desk meant now xs fits row g t is_t s c d low within live held =
     let of_rack : FitsTable desk.rack t = all_at_place (FitsTable desk.rack) desk.tables g t fits.tables.fits is_t in
-    let wide : c < width t = omega (arith, data) in
-    in_a_row g s c d (serving_at t s c) desk meant xs now row t is_t (omega (arith, low, of_rack.stripes)) (omega (arith, data, of_rack.data_columns))
+    let wide : c < width t = omega (arith, within) in
+    in_a_row g s c d (serving_at t s c) desk meant xs now row t is_t (omega (arith, low, of_rack.stripes)) (omega (arith, within, of_rack.data_columns))
     (serving_has t s c d of_rack.rules wide (ap digest_in live)) held
