@@ -12,9 +12,9 @@ use Rattle.pot_machine.specs.declared.slot.SlotState.TheVariants.{Void, Live, Lo
 use Rattle.pot_machine.specs.declared.entry.Entry.{Entry}
 use Rattle.pot_machine.specs.declared.entry.Entry.TheVariants.{Begin, Hop, Mended, GaveUp, Fault}
 use Rattle.pot_machine.specs.Slot.{is_live, is_unsound, digest_in}
-use Rattle.pot_machine.specs.Table.{Table, width, slot_at, column_at, serving_at, relay_at, next_column}
+use Rattle.pot_machine.specs.Table.{Table, width, slot_at, serving_at, relay_at, next_column}
 use Rattle.pot_machine.specs.Machine.{Legal, after}
-use Rattle.pot_machine.proofs.Columns.{names_serving, serving_apart}
+use Rattle.pot_machine.proofs.Columns.{serving_apart}
 use Rattle.pot_steps.specs.declared.flight.Flight.{Flight}
 use Rattle.pot_bytes.specs.Lists.{IsBlock}
 use Rattle.pot_bytes.specs.Digests.{digest_of}

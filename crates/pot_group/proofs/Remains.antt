@@ -1,11 +1,10 @@
 -- What becomes of a block in a data slot, whatever its column does later.
-use Rattle.std.proofs.Common.{◌≡◌, ◌≢◌, ◌⊎◌, inl, inr, ℕ, ◌+◌, ◌<◌, ◌≤◌, ◌++◌, ◌==◌, ◌||◌, List, [], ◌∷◌, Option, Some, None, IfSome, IsSomeAnd, Bool, true, false, IsTrue, length, refl, sym, ap, ap₂, ◌∙◌, subst, arith, nat_lt, if◌then◌else◌}
+use Rattle.std.proofs.Common.{◌≡◌, ◌≢◌, ◌⊎◌, inl, inr, ℕ, ◌+◌, ◌<◌, ◌≤◌, ◌==◌, ◌||◌, List, [], ◌∷◌, Option, Some, None, IfSome, IsSomeAnd, Bool, true, false, IsTrue, length, refl, sym, ap, ap₂, ◌∙◌, subst, arith, nat_lt, if◌then◌else◌}
 use Rattle.std.specs.Prelude.{Contains, nat_le, slice_index_or}
 use Rattle.std.proofs.lemmas.Bool.Decides.{nat_tests}
 use Rattle.std.proofs.lemmas.Bool.{cases_eq, cases_lt, eqb-true, or_cases}
 use Rattle.std.proofs.lemmas.Option.{same_Some}
 use Rattle.std.proofs.lemmas.List.Elements.{Contains-append_left, Contains-append_right}
-use Rattle.pot_outside.specs.Counts.{Rose}
 use Rattle.pot_bytes.specs.declared.digest.Digest.{Digest}
 use Rattle.pot_machine.specs.declared.column.Column.{Column}
 use Rattle.pot_machine.specs.declared.column.Moving.{Moving}
@@ -16,18 +15,16 @@ use Rattle.pot_machine.specs.declared.entry.Entry.TheVariants.{Put, Put2, Mended
 use Rattle.pot_machine.specs.Slot.{digest_in, is_live, is_unsound, is_void}
 use Rattle.pot_machine.specs.Column.{names, names_moved, serving_moved}
 use Rattle.pot_machine.specs.Table.{Table, width, slot_at, column_at, serving_at, no_column}
-use Rattle.pot_machine.specs.Machine.{Legal, Replays, TakesPut, after, moved_home, moved_on, with_column, with_loss, with_losses}
+use Rattle.pot_machine.specs.Machine.{Legal, TakesPut, after, moved_home, moved_on, with_column, with_loss, with_losses}
 use Rattle.pot_machine.specs.Rules.{IsTable}
 use Rattle.pot_bytes.specs.Digests.{digest_of}
 use Rattle.pot_machine.proofs.Columns.{column_other, column_same, moved_home_names, names_serving}
 use Rattle.pot_machine.proofs.Filled.{not_void}
 use Rattle.pot_machine.proofs.Kept.{after_keeps, losses_keep}
 use Rattle.pot_machine.proofs.LeftAlone.{columns-with_losses, data_stays, put_column, sizes_stay}
-use Rattle.pot_steps.proofs.Entries.{is_void_at}
-use Rattle.pot_shelves.specs.Shelves.{Shelves}
 use Rattle.pot_group.specs.Arrivals.{arrival, arrivals}
-use Rattle.pot_group.specs.Frames.{FailedBy, FaultInto, FitsIn, IsFramed, MayFail, MayWrite, WrittenBy}
-use Rattle.pot_group.specs.Remaining.{BlocksRemain, HasServed, IsMendFault, KeepsServed, MendFailed, ServedIsKept, ServingHasServed}
+use Rattle.pot_group.specs.Frames.{FitsIn, MayFail, MayWrite}
+use Rattle.pot_group.specs.Remaining.{BlocksRemain, HasServed, IsMendFault, KeepsServed, ServedIsKept, ServingHasServed}
 
 -- WHO SERVES
 

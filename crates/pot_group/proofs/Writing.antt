@@ -15,9 +15,9 @@ use Rattle.pot_machine.specs.declared.entry.Entry.{Entry}
 use Rattle.pot_machine.specs.declared.entry.Entry.TheVariants.{Put, Put2, Fault}
 use Rattle.pot_machine.specs.declared.slot.SlotState.TheVariants.{Void}
 use Rattle.pot_machine.specs.Slot.{is_live, is_void}
-use Rattle.pot_machine.specs.Table.{Table, width, slot_at, column_at, serving_at}
+use Rattle.pot_machine.specs.Table.{Table, width, slot_at, serving_at}
 use Rattle.pot_machine.specs.Machine.{AtCursor, TakesBlocks, Legal, after}
-use Rattle.pot_machine.proofs.Columns.{names_serving, serving_apart}
+use Rattle.pot_machine.proofs.Columns.{serving_apart}
 use Rattle.pot_bytes.specs.Digests.{digest_of}
 use Rattle.pot_steps.specs.Holdings.{Holdings}
 use Rattle.pot_steps.specs.Entries.{WritesStripe, held_at}

@@ -17,8 +17,9 @@ use Rattle.pot_shelves.specs.Shelves.{Shelves}
 abbrev pub FitsIn : SlotState → List ℕ → Type 0
 FitsIn x block = digest_in x ≡ Some (digest_of block)
 
--- The archive into whose slot the write of a Fault went, if it tells of a write: that which serves
--- the slot, where it is not Live; and where it is, the target of a move that has come to its stripe.
+-- The archive into whose slot the write of a Fault went, if it tells of a write. Where the slot is
+-- not Live it is the one that serves it, and where it is, the target of a move that has come to its
+-- stripe.
 abbrev pub FaultInto : Table → ℕ → ℕ → ℕ → Type 0
 FaultInto t s c number =
     ((is_live (slot_at t s c) ≡ false) × (number ≡ serving_at t s c))
@@ -55,8 +56,8 @@ WrittenBy t [] number slot block = ⊥
 WrittenBy t (e ∷ log) number slot block =
     MayWrite t e number slot block ⊎ WrittenBy (after t e) log number slot block
 
--- Into which slot of which archive an entry tells that a write failed, or may have. Such a write may
--- leave nothing there. Put: a parity block that was not kept. Fault: the block.
+-- Into which slot of which archive an entry tells that a write failed, or may have failed. Such a
+-- write may leave nothing there. Put: a parity block that was not kept. Fault: the block.
 abbrev pub MayFail : Table → Entry → ℕ → ℕ → Type 0
 MayFail t (entry.Put job s c digest parity_digest kept) number slot =
     (slot ≡ s) × (kept ≡ false) × (number ≡ serving_at t s t.data_columns)

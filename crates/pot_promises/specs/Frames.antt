@@ -21,8 +21,8 @@ use Rattle.pot_session.specs.Serving.{Leaves}
 -- holds, in whatever slot, it held there, or an entry of the log put it there; each that it ever
 -- held it had held, or an entry put it into a slot; and each sum that it ever heard it had heard,
 -- or it is that of a relay as the log has it, with these blocks given at its entries. In each slot
--- in which it held a block it holds one, that block or by `held` one that an entry put there, unless
--- a write into that slot failed, as an entry tells, or its count of losses rose.
+-- in which it held a block it holds one, that block or, by `held`, one that an entry put there,
+-- unless a write into that slot failed, as an entry tells, or its count of losses rose.
 pub record IsFramed (read : Table) (log : List Entry) (givens : List (List ℕ)) (n : ℕ)
     (old new : Meaning) : Type 0 where
   pub held : (slot : ℕ) (block : List ℕ) → slot < 2 ^ 32 → new.held slot ≡ Some block

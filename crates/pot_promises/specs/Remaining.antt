@@ -1,7 +1,7 @@
 -- What the archives hold after a session of the blocks that the image names with which it began: by
 -- that image, put back, they are found.
-use Rattle.std.specs.Prelude.{◌≡◌, ◌≢◌, ◌⊎◌, ◌<◌, ℕ, IsTrue, List, [], ◌∷◌, Contains, Some, slice_get}
-use Rattle.std.specs.Prelude.{flat_map}
+use Rattle.std.specs.Prelude.{◌≡◌, ◌≢◌, ◌⊎◌, ◌<◌, ℕ, IsTrue, List, [], ◌∷◌, Contains, Some}
+use Rattle.std.specs.Prelude.{slice_get, flat_map}
 use Rattle.pot_bytes.specs.declared.digest.Digest.{Digest}
 use Rattle.pot_bytes.specs.Digests.{digest_of}
 use Rattle.pot_outside.specs.Accounts.{Transition}
