@@ -26,6 +26,7 @@ pub mod Stepping
 pub mod Used
 pub mod Keeping
 pub mod Rows
+pub mod Remains
 pub mod SweepLemmas
 pub mod LaneReads
 pub mod LaneNotes

@@ -9,7 +9,7 @@ use Rattle.pot_machine.specs.declared.column.Moving.{Moving}
 use Rattle.pot_machine.specs.declared.entry.Entry.{Entry}
 use Rattle.pot_machine.specs.declared.entry.Entry.TheVariants.{Fault, MoveBegin, Moved, MoveEnd, Swapped}
 use Rattle.pot_machine.specs.Column.{names, names_moved, serving, serving_moved}
-use Rattle.pot_machine.specs.Slot.{digest_in}
+use Rattle.pot_machine.specs.Slot.{digest_in, is_live}
 use Rattle.pot_machine.specs.Table.{width, slot_at, column_at, serving_at}
 use Rattle.pot_bytes.specs.Digests.{digest_of}
 use Rattle.pot_machine.specs.Machine.{Legal, after, moved_on}
@@ -23,6 +23,7 @@ use Rattle.pot_group.specs.Group.{GroupView, IsSettled}
 use Rattle.pot_group.proofs.CauseLemmas.{archives_of-snoc, covers-one, covers-stays}
 use Rattle.pot_group.proofs.ColumnExits.{archives-more, move_begins, moves_copied, moves_passed, move_ends, swaps}
 use Rattle.pot_shelves.proofs.ShelfLemmas.{keeps_refl, loses_refl, put_at-here, put_at-other}
+use Rattle.pot_group.specs.Frames.{FaultInto}
 use Rattle.pot_group.specs.Heard.{Gives, blinds_after}
 use Rattle.pot_group.proofs.Framing.{frames_still, frames_write}
 use Rattle.pot_group.proofs.Settled.{LeavesColumns, settled_act, same_columns, one_fault, gone_lost, no_fault}
@@ -141,7 +142,10 @@ module _ (told : Type 0) (g : GroupView) (s c : ℕ) (m : Moving) (settled : IsS
         (settled.causes.faults c (omega (arith, column, settled.sizes.0, settled.sizes.1))) (settled.serves c m.to column target_named) (settled.faults m.to) (w.cause refl))))
         (λ t k lk x. absurd x)
         (λ t. frames_write told g.table (Fault job s c) m.to s block (Err e) g.shelves now t w
-        (refl, target_named, inr (fits (sound t))) (w.wrote t).0 false (w.wrote t).1) w.heard (λ t. tt)
+        (refl, into t, inr (fits (sound t))) (w.wrote t).0 false (λ _. (refl, into t)) (w.wrote t).1) w.heard (λ t. tt)
+      where
+        into : told → FaultInto g.table s c m.to
+        into t = inr (ap is_live (sound t).live, subst (λ o. IsSomeAnd o (λ x. (x.upto ≡ s) × (m.to ≡ x.to))) (sym moving) (position, refl))
 
   -- The block that the home held was written to the target.
   module _ (now : Shelves) (job : ℕ) (block : List ℕ) (room : length g.log < log_bound)
@@ -165,7 +169,7 @@ module _ (told : Type 0) (g : GroupView) (s c : ℕ) (m : Moving) (settled : IsS
         (covers-stays g.shelves now (archives_of g.first g.log k) (faults_in g.first.data_columns k g.log) w.keeps.later w.keeps.faults_taken (settled.causes.faults k lk)))
         (λ t k lk x. absurd (clash x.0))
         (λ t. frames_write told g.table (Moved job s c true) m.to s block (Ok (tt)) g.shelves now t w
-        (refl, refl, subst (λ o. IsSomeAnd o (λ x. m.to ≡ x.to)) (sym moving) refl, fits (sound t)) (Some block) true refl) w.heard (λ t. tt)
+        (refl, refl, subst (λ o. IsSomeAnd o (λ x. m.to ≡ x.to)) (sym moving) refl, fits (sound t)) (Some block) true (λ e. absurd (clash e)) refl) w.heard (λ t. tt)
       where
         columns : LeavesColumns told g (Moved job s c true) now
         columns = moves_copied told g now settled w.keeps job c s legal

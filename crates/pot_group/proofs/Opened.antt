@@ -152,6 +152,7 @@ module _ {A : Type 0} (told : Type 0) (meaning : A → Meaning) (number : ℕ) (
     frame = (λ k. record {
       held = (λ n m x h. inl (ap (λ (y : Meaning). y.held m) (o.stays.keeps.taken n ∙ taken.meant n) ∙ (o.stays.loses k n).keeps m x h));
       history = (λ n x h. inl (subst (λ (y : Meaning). Contains y.history x) (sym (o.stays.keeps.taken n ∙ taken.meant n)) (subst (λ l. Contains l x) (o.stays.history k n) h)));
+      kept = (λ n m x h. elim (lost_then k n m x (sym (ap (λ (y : Meaning). y.held m) (o.stays.keeps.taken n ∙ taken.meant n)) ∙ h)) [ inl y ↦ inl (x, y) | inr y ↦ inr (inr y) ]);
     });
     replay = o.replay;
     table = rules_stay t u log table o.replay;

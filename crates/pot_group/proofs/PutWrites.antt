@@ -12,8 +12,8 @@ use Rattle.pot_machine.proofs.Columns.{serving_apart}
 use Rattle.pot_steps.specs.Holdings.{Holdings}
 use Rattle.pot_steps.specs.Entries.{held_at}
 use Rattle.pot_shelves.specs.Shelves.{Shelves, LosesByCount, WriteLeaves, WritesAt, put_at}
-use Rattle.pot_group.specs.Putting.{IsPut, PutsAt, WritesAll}
-use Rattle.pot_group.proofs.Framing.{put_frames, remembers_frames}
+use Rattle.pot_group.specs.Putting.{IsNotKept, IsPut, PutsAt, WritesAll}
+use Rattle.pot_group.proofs.Framing.{IsFull, put_frames, put_full, remembers_frames}
 use Rattle.pot_shelves.proofs.ShelfLemmas.{keeps_then, loses_refl, write_then, put_at-here, put_at-other, rose_more}
 
 failed_of : (r : Result (Unit {0}) Failed) → is_ok r ≡ false → IsErr r
@@ -90,6 +90,18 @@ module _ (t : Table) (rules : IsTable t) (s : ℕ) where
       | inr y ↦ inr (y.1, inr (inl (y.0, y.2)))
     ]
 
+    full_block : (n m : ℕ) (x : List ℕ) → h n m ≡ Some x → IsFull with_block n m
+    full_block n m x e = elim (put_full h (serving_at t s c) s block true (Some block) refl n m x e) [ inl y ↦ y | inr y ↦ absurd (went y.0) ]
+      where
+        went : true ≡ false → ⊥
+        went e = cc
+
+    full_one : (kept kept2 : Bool) → WriteLeaves kept (held_at t h s t.data_columns) p left → (n m : ℕ) (x : List ℕ) → h n m ≡ Some x → IsFull with_first n m ⊎ ((m ≡ s) × IsNotKept t s kept kept2 n)
+    full_one kept kept2 is n m x e = (let z : IsFull with_block n m = full_block n m x e in elim (put_full with_block (serving_at t s t.data_columns) s p kept left (last_was kept is) n m z.0 z.1) [
+      | inl y ↦ inl y
+      | inr y ↦ inr (y.2, inl (y.0, y.1))
+    ])
+
     -- one parity column
     pub puts_one : (q : List ℕ) (kept kept2 : Bool) → t.parity ≡ 1 → WriteLeaves kept (held_at t h s t.data_columns) p left → PutsAt t h with_first s c block p q kept kept2
     puts_one q kept kept2 one is = record {
@@ -99,6 +111,7 @@ module _ (t : Table) (rules : IsTable t) (s : ℕ) where
       others = (λ n k ln lk d. others n k lk d);
       elsewhere = elsewhere;
       frame = frame_one kept q is;
+      full = full_one kept kept2 is;
     }
 
     -- two parity columns
@@ -109,6 +122,10 @@ module _ (t : Table) (rules : IsTable t) (s : ℕ) where
       abbrev with_second : Holdings
       with_second = set_at with_first (t.data_columns + 1) left2
 
+      -- the write of Q, by what its slot held before all writes
+      second_was : (kept2 : Bool) → WriteLeaves kept2 (held_at t h s (t.data_columns + 1)) q left2 → WriteLeaves kept2 (held_at t with_first s (t.data_columns + 1)) q left2
+      second_was kept2 is2 = subst (λ o. WriteLeaves kept2 o q left2) (sym (set-other with_block t.data_columns left s (t.data_columns + 1) last_wide second_wide (inr (λ e. absurd (omega (arith, e)))) ∙ still (t.data_columns + 1) (omega arith) second_wide)) is2
+
       pub puts_two : (kept kept2 : Bool) → WriteLeaves kept (held_at t h s t.data_columns) p left → WriteLeaves kept2 (held_at t h s (t.data_columns + 1)) q left2 → PutsAt t h with_second s c block p q kept kept2
       puts_two kept kept2 is is2 = record {
         data_block = set-other with_first (t.data_columns + 1) left2 s c second_wide wide (inr (λ e. absurd (omega (arith, low, e)))) ∙ block_there;
@@ -117,11 +134,17 @@ module _ (t : Table) (rules : IsTable t) (s : ℕ) where
         second = (λ _. subst (λ x. WriteLeaves kept2 (held_at t h s (t.data_columns + 1)) q x) (sym (set-here with_first (t.data_columns + 1) left2)) is2);
         others = (λ n k ln lk d. set-other with_first (t.data_columns + 1) left2 n k second_wide lk (beside n k (t.data_columns + 1) (omega arith) d) ∙ others n k lk d);
         elsewhere = (λ number slot d. set-elsewhere with_first (t.data_columns + 1) left2 number slot second_wide d ∙ elsewhere number slot d);
-        frame = (λ n m x e. elim (put_frames with_first (serving_at t s (t.data_columns + 1)) s q kept2 left2
-            (subst (λ o. WriteLeaves kept2 o q left2) (sym (set-other with_block t.data_columns left s (t.data_columns + 1) last_wide second_wide (inr (λ e. absurd (omega (arith, e)))) ∙ still (t.data_columns + 1) (omega arith) second_wide)) is2) n m x e) [
+        frame = (λ n m x e. elim (put_frames with_first (serving_at t s (t.data_columns + 1)) s q kept2 left2 (second_was kept2 is2) n m x e) [
               | inl y ↦ frame_one kept q is n m x y
               | inr y ↦ inr (y.1, inr (inr (two, y.0, y.2)))
             ]);
+        full = (λ n m x e. elim (full_one kept kept2 is n m x e) [
+          | inl y ↦ elim (put_full with_first (serving_at t s (t.data_columns + 1)) s q kept2 left2 (second_was kept2 is2) n m y.0 y.1) [
+            | inl z ↦ inl z
+            | inr z ↦ inr (z.2, inr (two, z.0, z.1))
+          ]
+          | inr y ↦ inr y
+        ]);
       }
 
   -- ONE WRITE AFTER ANOTHER

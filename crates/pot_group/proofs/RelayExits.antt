@@ -12,9 +12,9 @@ use Rattle.pot_machine.specs.declared.slot.SlotState.TheVariants.{Void, Live, Lo
 use Rattle.pot_machine.specs.declared.entry.Entry.{Entry}
 use Rattle.pot_machine.specs.declared.entry.Entry.TheVariants.{Begin, Hop, Mended, GaveUp, Fault}
 use Rattle.pot_machine.specs.Slot.{is_live, is_unsound, digest_in}
-use Rattle.pot_machine.specs.Table.{Table, width, slot_at, column_at, serving_at, relay_at, next_column}
+use Rattle.pot_machine.specs.Table.{Table, width, slot_at, serving_at, relay_at, next_column}
 use Rattle.pot_machine.specs.Machine.{Legal, after}
-use Rattle.pot_machine.proofs.Columns.{names_serving, serving_apart}
+use Rattle.pot_machine.proofs.Columns.{serving_apart}
 use Rattle.pot_steps.specs.declared.flight.Flight.{Flight}
 use Rattle.pot_bytes.specs.Lists.{IsBlock}
 use Rattle.pot_bytes.specs.Digests.{digest_of}
@@ -33,7 +33,7 @@ use Rattle.pot_steps.proofs.Acting.{weight-below}
 use Rattle.pot_steps.proofs.CallLemmas.{unfolds, next_positive, next_within, stands, two_relay}
 use Rattle.std.proofs.lemmas.List.{length-map}
 use Rattle.std.proofs.Math.Seq.{take-append_seam}
-use Rattle.std.proofs.lemmas.Bool.{cases_eq}
+use Rattle.std.proofs.lemmas.Bool.{cases_eq, false≢true}
 use Rattle.std.proofs.lemmas.Option.{same_Some}
 use Rattle.pot_bytes.specs.Rack.{log_bound}
 use Rattle.pot_steps.proofs.FlightLists.{over_stripe, relay_of, relay_of_flight}
@@ -267,7 +267,7 @@ module _ (told : Type 0) (g : GroupView) (now : Shelves) (job s c : ℕ) (f : Fl
         (no_fault now (archives_of g.first g.log k) (faults_in g.first.data_columns k g.log)
         (covers-stays g.shelves now (archives_of g.first g.log k) (faults_in g.first.data_columns k g.log) w.keeps.later w.keeps.faults_taken (settled.causes.faults k lk))))
         (λ t k lk m. absurd m)
-        (λ t. frames_write told g.table (Mended job s c) (serving_at g.table s c) s (partial_of f) (Ok (tt)) g.shelves now t w (refl, refl, digest) (Some (partial_of f)) true refl) w.heard (λ t. tt)
+        (λ t. frames_write told g.table (Mended job s c) (serving_at g.table s c) s (partial_of f) (Ok (tt)) g.shelves now t w (refl, refl, digest) (Some (partial_of f)) true (λ e. absurd (false≢true (sym e))) refl) w.heard (λ t. tt)
 
 -- THE ENTRY AFTER A FOLD
 
@@ -455,7 +455,7 @@ module _ (told : Type 0) (g : GroupView) (now : Shelves) (job : ℕ) (f : Flight
       (covers_rise told g now f.relay.stripe f.relay.target settled at_place.target w.keeps (w.cause refl))))
       (λ t k lk m. absurd m)
       (λ t. frames_write told g.table (Fault job f.relay.stripe f.relay.target) (serving_at g.table f.relay.stripe f.relay.target) f.relay.stripe block (Err e) g.shelves now t w
-      (refl, names_serving (column_at g.table f.relay.target) f.relay.stripe, inr digest) (w.wrote t).0 false (w.wrote t).1) w.heard (λ t. tt)))
+      (refl, inl (dead, refl), inr digest) (w.wrote t).0 false (λ _. (refl, inl (dead, refl))) (w.wrote t).1) w.heard (λ t. tt)))
 
 -- the archive that serves a flight's target is one of the group
 pub target_served : (told : Type 0) (g : GroupView) (f : Flight) → IsSettled told g → flight_in g.flights f.relay.stripe ≡ Some f → Contains g.shelves.numbers (serving_at g.table f.relay.stripe f.relay.target)

@@ -90,7 +90,7 @@ pub settled_loses : (told : Type 0) (g : GroupView) (s : Shelves) → IsSettled 
 settled_loses told g s settled keeps loses same hears = record {
   blinds = settled.blinds;
   heard = (λ t. heard_on g.first g.table g.log g.blinds g.flights g.shelves s settled.replay keeps (hears t) (settled.heard t));
-  frame = (λ t. framed_loses g.first g.log g.shelves s keeps (loses t) (same t) (settled.frame t));
+  frame = (λ t. framed_loses g.first g.log g.shelves s keeps (loses t) (settled.losses t) (same t) (settled.frame t));
   replay = settled.replay;
   table = settled.table;
   relays = settled.relays;
@@ -136,7 +136,7 @@ pub settled_act : (told : Type 0) (g : GroupView) (e : Entry) (given : List ℕ)
 settled_act told g e given s h settled legal room keeps columns loses acts kept covers missed frames silent gives = record {
   blinds = begins_more g.log e given g.blinds settled.blinds;
   heard = (λ t. heard_entry g.first g.table g.log e given g.blinds g.flights g.shelves s settled.replay keeps (silent t) (gives t) (settled.heard t));
-  frame = (λ t. framed_entry g.first g.table g.log e g.shelves s (h t) settled.replay keeps (loses t) (frames t) (settled.frame t));
+  frame = (λ t. framed_entry g.first g.table g.log e g.shelves s (h t) settled.replay keeps (loses t) (settled.losses t) (frames t) (settled.frame t));
   replay = replays_more g.first g.log g.table e settled.replay legal;
   table = after_keeps g.table e settled.table legal;
   relays = flights_go_on g.table e given g.flights settled.relays;
@@ -199,7 +199,7 @@ pub settled_entry : (told : Type 0) (g : GroupView) (e : Entry) (s : Shelves) (h
 settled_entry told g e s h settled shape legal room keeps loses enters kept covers missed frames silent gives = record {
   blinds = subst (λ bs. length bs ≡ begins (g.log ++ e ∷ [])) (shape.blinds g.blinds) (begins_more g.log e [] g.blinds settled.blinds);
   heard = (λ t. subst (λ bs. HasHeard g.first (g.log ++ e ∷ []) bs g.flights s) (shape.blinds g.blinds) (subst (λ fs. HasHeard g.first (g.log ++ e ∷ []) (blinds_after e [] g.blinds) fs s) (shape.flights g.flights) (heard_entry g.first g.table g.log e [] g.blinds g.flights g.shelves s settled.replay keeps (silent t) (gives t) (settled.heard t))));
-  frame = (λ t. framed_entry g.first g.table g.log e g.shelves s (h t) settled.replay keeps (loses t) (frames t) (settled.frame t));
+  frame = (λ t. framed_entry g.first g.table g.log e g.shelves s (h t) settled.replay keeps (loses t) (settled.losses t) (frames t) (settled.frame t));
   replay = replays_more g.first g.log g.table e settled.replay legal;
   table = after_keeps g.table e settled.table legal;
   relays = subst (λ fs. AreFlights (after g.table e) fs) (shape.flights g.flights) (flights_go_on g.table e [] g.flights settled.relays);

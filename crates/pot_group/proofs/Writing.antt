@@ -14,10 +14,10 @@ use Rattle.pot_machine.specs.declared.cursor.Cursor.{Cursor}
 use Rattle.pot_machine.specs.declared.entry.Entry.{Entry}
 use Rattle.pot_machine.specs.declared.entry.Entry.TheVariants.{Put, Put2, Fault}
 use Rattle.pot_machine.specs.declared.slot.SlotState.TheVariants.{Void}
-use Rattle.pot_machine.specs.Slot.{is_void}
-use Rattle.pot_machine.specs.Table.{Table, width, slot_at, column_at, serving_at}
+use Rattle.pot_machine.specs.Slot.{is_live, is_void}
+use Rattle.pot_machine.specs.Table.{Table, width, slot_at, serving_at}
 use Rattle.pot_machine.specs.Machine.{AtCursor, TakesBlocks, Legal, after}
-use Rattle.pot_machine.proofs.Columns.{names_serving, serving_apart}
+use Rattle.pot_machine.proofs.Columns.{serving_apart}
 use Rattle.pot_bytes.specs.Digests.{digest_of}
 use Rattle.pot_steps.specs.Holdings.{Holdings}
 use Rattle.pot_steps.specs.Entries.{WritesStripe, held_at}
@@ -30,8 +30,8 @@ use Rattle.pot_group.specs.Arrivals.{arrival}
 use Rattle.pot_group.specs.Causes.{Covers, archives_of, faults_in}
 use Rattle.pot_group.specs.Group.{GroupView, IsSettled, FailedAt, CoversOne}
 use Rattle.pot_group.proofs.Framing.{Frames, frames_write}
-use Rattle.pot_group.specs.Frames.{MayWrite}
-use Rattle.pot_group.specs.Putting.{HasOld, IsPut, PutsAt, WritesAll, PutsAll, PutsNone, BlockMeans, made_entry, answered}
+use Rattle.pot_group.specs.Frames.{FaultInto, MayFail, MayWrite}
+use Rattle.pot_group.specs.Putting.{HasOld, IsNotKept, IsPut, PutsAt, WritesAll, PutsAll, PutsNone, BlockMeans, made_entry, answered}
 use Rattle.pot_group.specs.declared.answers.PutFault.TheVariants as fault
 use Rattle.pot_shelves.proofs.ShelfLemmas.{put_at-other, left_new}
 use Rattle.pot_group.proofs.CauseLemmas.{covers-stays}
@@ -84,7 +84,10 @@ module _ (told : Type 0) (g : GroupView) (job s c : ℕ) (block : List ℕ) (set
         (covers-stays g.shelves now (archives_of g.first g.log k) (faults_in g.first.data_columns k g.log) w.keeps.later w.keeps.faults_taken (settled.causes.faults k lk))
         (covers_rise told g now s c settled data_wide w.keeps rose))
         (λ t k lk m. absurd m)
-        (λ t. frames_write told g.table (Fault job s c) (serving_at g.table s c) s block (Err e) g.shelves now t w (refl, names_serving (column_at g.table c) s, inl void) (w.wrote t).0 false (w.wrote t).1) w.heard (λ t. tt)
+        (λ t. frames_write told g.table (Fault job s c) (serving_at g.table s c) s block (Err e) g.shelves now t w (refl, into, inl void) (w.wrote t).0 false (λ _. (refl, into)) (w.wrote t).1) w.heard (λ t. tt)
+      where
+        into : FaultInto g.table s c (serving_at g.table s c)
+        into = inl (ap is_live void, refl)
 
     pub none_put : PutsNone told job s c block g (entered_with g (Fault job s c) now)
     none_put = record {
@@ -190,10 +193,11 @@ module _ (told : Type 0) (g : GroupView) (job s c : ℕ) (block : List ℕ) (set
     two_puts = Put2 job s c (digest_of block) (digest_of (xor p block)) (digest_of (xor q (scaled (power 3 c) block))) kept kept2
 
     -- what the entry may have written
-    frames_put : (e : Entry) → ((n : ℕ) (x : List ℕ) → IsPut g.table s c block new_p new_q n x → MayWrite g.table e n s x) → (t : told) → Frames g.table e g.shelves (ideal t) now
-    frames_put e may t = record {
+    frames_put : (e : Entry) → ((n : ℕ) (x : List ℕ) → IsPut g.table s c block new_p new_q n x → MayWrite g.table e n s x) → ((n : ℕ) → IsNotKept g.table s kept kept2 n → MayFail g.table e n s) → (t : told) → Frames g.table e g.shelves (ideal t) now
+    frames_put e may fails t = record {
       held = λ n m x h. elim ((puts t).frame n m x h) [ inl y ↦ inl y | inr y ↦ inr (subst (λ m. MayWrite g.table e n m x) (sym y.0) (may n x y.1)) ];
       history = λ n x h. elim (w.remembers t n x h) [ inl y ↦ inl y | inr y ↦ inr (s, may n x y) ];
+      full = λ n m x h. elim ((puts t).full n m x h) [ inl y ↦ inl y | inr y ↦ inr (subst (λ m. MayFail g.table e n m) (sym y.0) (fails n y.1)) ];
     }
 
     may_one : g.table.parity ≡ 1 → (n : ℕ) (x : List ℕ) → IsPut g.table s c block new_p new_q n x → MayWrite g.table one_put n s x
@@ -206,6 +210,14 @@ module _ (told : Type 0) (g : GroupView) (job s c : ℕ) (block : List ℕ) (set
     may_two n x (inr (inl y)) = (refl, inr (inl (y.0, ap digest_of (y.1 ∙ is_p))))
     may_two n x (inr (inr y)) = (refl, inr (inr (y.1, ap digest_of (y.2 ∙ is_q y.0))))
 
+    fails_one : g.table.parity ≡ 1 → (n : ℕ) → IsNotKept g.table s kept kept2 n → MayFail g.table one_put n s
+    fails_one one n (inl y) = (refl, y.0, y.1)
+    fails_one one n (inr y) = absurd (omega (arith, one, y.0))
+
+    fails_two : (n : ℕ) → IsNotKept g.table s kept kept2 n → MayFail g.table two_puts n s
+    fails_two n (inl y) = (refl, inl y)
+    fails_two n (inr y) = (refl, inr (y.1, y.2))
+
     one_settled : g.table.parity ≡ 1 → IsSettled told (entered_with g one_put now)
     one_settled one = settled_entry told g one_put now ideal settled
         (record { flights = (λ fs. refl); blinds = (λ bs. refl); data_columns = refl; parity = refl; stripes = refl; columns = refl; none_brought = (λ c. refl) })
@@ -214,7 +226,7 @@ module _ (told : Type 0) (g : GroupView) (job s c : ℕ) (block : List ℕ) (set
         (λ t none. absurd (none s refl))
         (names_one kept (λ e. in_first g.table.data_columns settled.sizes.0 (covers_first e)))
         (λ t k lk m. absurd m)
-        (frames_put one_put (may_one one)) w.heard (λ t. tt)
+        (frames_put one_put (may_one one) (fails_one one)) w.heard (λ t. tt)
 
     two_settled : g.table.parity ≡ 2 → IsSettled told (entered_with g two_puts now)
     two_settled two = settled_entry told g two_puts now ideal settled
@@ -225,7 +237,7 @@ module _ (told : Type 0) (g : GroupView) (job s c : ℕ) (block : List ℕ) (set
         (names_two kept kept2 (λ e. in_first g.table.data_columns settled.sizes.0 (covers_first e))
         (λ e. in_first (g.table.data_columns + 1) (ap (λ n. n + 1) settled.sizes.0) (covers_second e)))
         (λ t k lk m. absurd m)
-        (frames_put two_puts may_two) w.heard (λ t. tt)
+        (frames_put two_puts may_two fails_two) w.heard (λ t. tt)
 
     -- the entry by the number of parity columns
     abbrev put_of : ℕ → Entry
@@ -262,6 +274,7 @@ module _ (told : Type 0) (g : GroupView) (job s c : ℕ) (block : List ℕ) (set
           others = (puts t).others;
           elsewhere = (puts t).elsewhere;
           frame = (λ n m x h. elim ((puts t).frame n m x h) [ inl y ↦ inl y | inr y ↦ inr (y.0, old_put n x y.1) ]);
+          full = (puts t).full;
         },
         (w.wrote t).2,
       ));

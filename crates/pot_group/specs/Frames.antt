@@ -1,12 +1,13 @@
--- The frame of a group: which blocks its archives may hold, and may ever have held, by what they
--- had at their taking and by its log.
-use Rattle.std.specs.Prelude.{◌≡◌, ◌⊎◌, ◌+◌, ℕ, IsTrue, IsSomeAnd, List, [], ◌∷◌, Some, Contains}
+-- The frame of a group: which blocks its archives may hold, and may ever have held, and in which
+-- slots they hold one still, by what they had at their taking and by its log.
+use Rattle.std.specs.Prelude.{◌≡◌, ◌⊎◌, ◌+◌, ℕ, false, IsTrue, IsSomeAnd, List, [], ◌∷◌, Some}
+use Rattle.std.specs.Prelude.{Contains}
+use Rattle.pot_outside.specs.Counts.{Rose}
 use Rattle.pot_machine.specs.declared.slot.SlotState.{SlotState}
 use Rattle.pot_machine.specs.declared.slot.SlotState.TheVariants.{Void}
 use Rattle.pot_machine.specs.declared.entry.Entry.{Entry}
 use Rattle.pot_machine.specs.declared.entry.Entry.TheVariants as entry
-use Rattle.pot_machine.specs.Slot.{digest_in}
-use Rattle.pot_machine.specs.Column.{names}
+use Rattle.pot_machine.specs.Slot.{digest_in, is_live}
 use Rattle.pot_machine.specs.Table.{Table, slot_at, column_at, serving_at}
 use Rattle.pot_machine.specs.Machine.{after}
 use Rattle.pot_bytes.specs.Digests.{digest_of}
@@ -15,6 +16,15 @@ use Rattle.pot_shelves.specs.Shelves.{Shelves}
 -- a block of the digest of a slot
 abbrev pub FitsIn : SlotState → List ℕ → Type 0
 FitsIn x block = digest_in x ≡ Some (digest_of block)
+
+-- The archive into whose slot the write of a Fault went, if it tells of a write. Where the slot is
+-- not Live it is the one that serves it, and where it is, the target of a move that has come to its
+-- stripe.
+abbrev pub FaultInto : Table → ℕ → ℕ → ℕ → Type 0
+FaultInto t s c number =
+    ((is_live (slot_at t s c) ≡ false) × (number ≡ serving_at t s c))
+    ⊎ (IsTrue (is_live (slot_at t s c))
+    × IsSomeAnd (column_at t c).moving (λ m. (m.upto ≡ s) × (number ≡ m.to)))
 
 -- What an entry may have written into a slot of an archive. Put: the block and the parity blocks,
 -- of the digests that it names, also where they were not kept. Mended, Moved: a block of the slot's
@@ -36,7 +46,7 @@ MayWrite t (entry.Moved job s c copied) number slot block =
     (slot ≡ s) × IsTrue copied × IsSomeAnd (column_at t c).moving (λ m. number ≡ m.to)
     × FitsIn (slot_at t s c) block
 MayWrite t (entry.Fault job s c) number slot block =
-    (slot ≡ s) × IsTrue (names (column_at t c) number)
+    (slot ≡ s) × FaultInto t s c number
     × ((slot_at t s c ≡ Void) ⊎ FitsIn (slot_at t s c) block)
 MayWrite t _ number slot block = ⊥
 
@@ -46,12 +56,33 @@ WrittenBy t [] number slot block = ⊥
 WrittenBy t (e ∷ log) number slot block =
     MayWrite t e number slot block ⊎ WrittenBy (after t e) log number slot block
 
+-- Into which slot of which archive an entry tells that a write failed, or may have failed. Such a
+-- write may leave nothing there. Put: a parity block that was not kept. Fault: the block.
+abbrev pub MayFail : Table → Entry → ℕ → ℕ → Type 0
+MayFail t (entry.Put job s c digest parity_digest kept) number slot =
+    (slot ≡ s) × (kept ≡ false) × (number ≡ serving_at t s t.data_columns)
+MayFail t (entry.Put2 job s c digest parity_digest second_digest kept kept2) number slot =
+    (slot ≡ s)
+    × (((kept ≡ false) × (number ≡ serving_at t s t.data_columns))
+    ⊎ ((kept2 ≡ false) × (number ≡ serving_at t s (t.data_columns + 1))))
+MayFail t (entry.Fault job s c) number slot = (slot ≡ s) × FaultInto t s c number
+MayFail t _ number slot = ⊥
+
+-- an entry of the log may tell so
+abbrev pub FailedBy : Table → List Entry → ℕ → ℕ → Type 0
+FailedBy t [] number slot = ⊥
+FailedBy t (e ∷ log) number slot = MayFail t e number slot ⊎ FailedBy (after t e) log number slot
+
 -- Each block that an archive holds, in whatever slot, it held there when it was taken, or an entry
 -- put it there; and each that it ever held it had held by then, or an entry put it into one of its
--- slots.
+-- slots. Each slot in which it held a block when it was taken has one still, unless a write into
+-- that slot failed, as an entry tells, or its count of losses rose.
 pub record IsFramed (first : Table) (log : List Entry) (s : Shelves) : Type 0 where
   pub held : (number slot : ℕ) (block : List ℕ) → s.held number slot ≡ Some block
       → ((s.taken number).held slot ≡ Some block) ⊎ WrittenBy first log number slot block
   pub history : (number : ℕ) (block : List ℕ) → Contains (s.history number) block
       → Contains (s.taken number).history block
       ⊎ ((slot : ℕ) × WrittenBy first log number slot block)
+  pub kept : (number slot : ℕ) (block : List ℕ) → (s.taken number).held slot ≡ Some block
+      → ((b : List ℕ) × (s.held number slot ≡ Some b))
+      ⊎ (FailedBy first log number slot ⊎ Rose (s.losses_taken number) (s.losses number))

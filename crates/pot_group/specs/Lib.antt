@@ -1,6 +1,7 @@
 pub mod Reads
 pub mod Causes
 pub mod Frames
+pub mod Remaining
 pub mod Heard
 pub mod Group
 pub mod Arrivals

@@ -188,6 +188,12 @@ IsPut t s c block p q number x =
     ⊎ (((number ≡ serving_at t s t.data_columns) × (x ≡ p))
     ⊎ ((t.parity ≡ 2) × (number ≡ serving_at t s (t.data_columns + 1)) × (x ≡ q)))
 
+-- the new parity block that goes into the stripe's slot of this archive was not kept
+abbrev pub IsNotKept : Table → ℕ → Bool → Bool → ℕ → Type 0
+IsNotKept t s kept kept2 number =
+    ((kept ≡ false) × (number ≡ serving_at t s t.data_columns))
+    ⊎ ((t.parity ≡ 2) × (kept2 ≡ false) × (number ≡ serving_at t s (t.data_columns + 1)))
+
 -- What is held once a block was written at a place and the parity blocks `p` and `q` of its stripe
 -- were, or what failed writes left of them. Nothing else changes.
 pub record PutsAt (t : Table) (h written : Holdings) (s c : ℕ) (block p q : List ℕ)
@@ -204,6 +210,9 @@ pub record PutsAt (t : Table) (h written : Holdings) (s c : ℕ) (block p q : Li
       → written number slot ≡ h number slot
   pub frame : (number slot : ℕ) (x : List ℕ) → written number slot ≡ Some x
       → (h number slot ≡ Some x) ⊎ ((slot ≡ s) × IsPut t s c block p q number x)
+  pub full : (number slot : ℕ) (x : List ℕ) → h number slot ≡ Some x
+      → ((y : List ℕ) × (written number slot ≡ Some y))
+      ⊎ ((slot ≡ s) × IsNotKept t s kept kept2 number)
 
 -- The block was written, and the new parity blocks as far as they were kept.
 pub record WritesAll (told : Type 0) (t : Table) (s c : ℕ) (block p q : List ℕ) (kept kept2 : Bool)

@@ -50,9 +50,12 @@
 //! 10. The archives of the group are those of the table that it began with, and then those that its
 //!    log brought, in order (`HasArrived`; `start` asks for the first, and `move_begin` and `swap`
 //!    bring the others). `end` hands out all of them.
+//! 11. The frame (`frame`). Each block that an archive holds or ever held was there at its taking,
+//!    or an entry may have written it; and each slot that had a block then has one, unless the log
+//!    tells of a failed write there or the archive's count of losses rose (`frame_laws`).
 //!
-//! `flying`, 7, 8 and the losses of 6 and 9 are said of archives that tell what they hold, and all
-//! else always.
+//! `flying`, 7, 8, 11 and the losses of 6 and 9 are said of archives that tell what they hold, and
+//! all else always.
 //!
 //! `start` opens the table by `open_all` of `pot_shelves`, whose page tells what it makes of a
 //! stripe, and marks the counts once more. A slot is Gone that was sound before only where a count
@@ -89,6 +92,7 @@ mod finding;
 mod group;
 mod known;
 mod lanes;
+mod laws;
 mod looking;
 mod moving;
 mod parities;
@@ -106,6 +110,7 @@ pub use copying::{MoveFault, MoveStep};
 pub use counting::Counts;
 pub use finding::Kind;
 pub use group::{Ended, Group};
+pub use laws::frame_laws;
 pub use moving::{ShelfCause, ShelfRefused};
 pub use relaying::{AdvanceFault, Advanced, BeginFault, Mend};
 pub use standing::Standing;

@@ -1,8 +1,9 @@
 -- What the archives of a session may hold and may have heard after it.
-use Rattle.std.proofs.Common.{◌≡◌, ◌<◌, ◌++◌, ℕ, IsTrue, List, [], length, sym, ◌∙◌, subst, arith}
+use Rattle.std.proofs.Common.{◌≡◌, ◌<◌, ◌++◌, inl, inr, ℕ, IsTrue, List, [], length, sym, ◌∙◌, subst, arith}
 use Rattle.std.specs.Prelude.{Contains}
 use Rattle.pot_bytes.proofs.Elements.{element_at}
 use Rattle.pot_outside.specs.Archives.{Meaning}
+use Rattle.pot_outside.specs.Counts.{Rose}
 use Rattle.pot_machine.specs.declared.entry.Entry.{Entry}
 use Rattle.pot_machine.specs.Table.{Table, archives_in}
 use Rattle.pot_steps.specs.declared.flight.Flight.{Flight}
@@ -23,6 +24,10 @@ shown_framed read log givens n s old new within shows = record {
   held = λ slot block l e. within.held slot block l (shows.blocks slot ∙ e);
   history = λ block h. within.history block (subst (λ bs. Contains bs block) (sym shows.history) h);
   heard = λ x h. within.heard x (subst (λ xs. Contains xs x) (sym shows.sums) h);
+  kept = λ slot block l e. elim (within.kept slot block l e) [
+    | inl y ↦ inl (y.0, sym (shows.blocks slot) ∙ y.1)
+    | inr y ↦ elim y [ inl z ↦ inr (inl z) | inr z ↦ inr (inr (subst (λ k. Rose old.losses k) shows.losses z)) ]
+  ];
 }
 
 -- a group that was left

@@ -9,6 +9,7 @@ pub mod Odds
 pub mod Quiet
 pub mod Replying
 pub mod Running
+pub mod Serving
 pub mod TrueOpenings
 pub mod Veils
 pub mod Walking

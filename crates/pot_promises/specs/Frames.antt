@@ -1,14 +1,15 @@
 -- What the archives of a session may hold and may have heard after it: what they did before it, and
--- what its logs name.
+-- what its logs name; and what of it they hold still.
 use Rattle.std.specs.Prelude.{◌≡◌, ◌⊎◌, ◌<◌, ◌^◌, ◌++◌, ℕ, IsTrue, List, [], Contains, Some, slice_get}
 use Rattle.pot_outside.specs.Accounts.{Transition}
 use Rattle.pot_outside.specs.Archives.{Meaning}
+use Rattle.pot_outside.specs.Counts.{Rose}
 use Rattle.pot_outside.specs.Rooms.{RoomState}
 use Rattle.pot_machine.specs.declared.entry.Entry.{Entry}
 use Rattle.pot_machine.specs.Table.{Table, archives_in}
 use Rattle.pot_steps.specs.declared.flight.Flight.{Flight}
 use Rattle.pot_group.specs.Arrivals.{arrivals}
-use Rattle.pot_group.specs.Frames.{WrittenBy}
+use Rattle.pot_group.specs.Frames.{FailedBy, WrittenBy}
 use Rattle.pot_group.specs.Heard.{Sum, FlyBy, FoldedBy}
 use Rattle.pot_image.specs.Images.{Contents}
 use Rattle.pot_replies.specs.Sections.{Section}
@@ -19,7 +20,9 @@ use Rattle.pot_session.specs.Serving.{Leaves}
 -- log: `old` is what its number meant before, and `new` what it means after. Each block that it
 -- holds, in whatever slot, it held there, or an entry of the log put it there; each that it ever
 -- held it had held, or an entry put it into a slot; and each sum that it ever heard it had heard,
--- or it is that of a relay as the log has it, with these blocks given at its entries.
+-- or it is that of a relay as the log has it, with these blocks given at its entries. In each slot
+-- in which it held a block it holds one, that block or, by `held`, one that an entry put there,
+-- unless a write into that slot failed, as an entry tells, or its count of losses rose.
 pub record IsFramed (read : Table) (log : List Entry) (givens : List (List ℕ)) (n : ℕ)
     (old new : Meaning) : Type 0 where
   pub held : (slot : ℕ) (block : List ℕ) → slot < 2 ^ 32 → new.held slot ≡ Some block
@@ -28,6 +31,9 @@ pub record IsFramed (read : Table) (log : List Entry) (givens : List (List ℕ))
       → Contains old.history block ⊎ ((slot : ℕ) × WrittenBy read log n slot block)
   pub heard : (x : Sum) → Contains new.heard x
       → Contains old.heard x ⊎ FoldedBy read [] log givens n x
+  pub kept : (slot : ℕ) (block : List ℕ) → slot < 2 ^ 32 → old.held slot ≡ Some block
+      → ((b : List ℕ) × (new.held slot ≡ Some b))
+      ⊎ (FailedBy read log n slot ⊎ Rose old.losses new.losses)
 
 -- In a session of which the room tells, so is each archive of a group, of the table that was read
 -- and of those that its log brought, that the room took back. The relays of the group began with

@@ -7,5 +7,6 @@ pub mod Lost
 pub mod Odds
 pub mod Openings
 pub mod Promises
+pub mod Remaining
 pub mod Runs
 pub mod Veils

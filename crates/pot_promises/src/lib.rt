@@ -28,7 +28,9 @@
 //!    table logged what the blocks say that the room meant, and nothing else (`opening_laws`).
 //! 9. What the archives hold, ever held and ever heard after a session that closed, they did before
 //!    it, or its logs name it: a block by its digest and its place, a sum by the relay that it
-//!    belongs to (`frame_laws`).
+//!    belongs to (`frame_laws`, `run`). Where they held a block they hold one still, unless a write
+//!    there failed or their count of losses rose. So by an older image, put back, the archives of
+//!    its data slots have their blocks, whatever sessions did since (`remain`, `older`).
 //!
 //! The premises on digests name texts: the file and the bytes that were fetched, or the blocks of
 //! the file and those that were read. They say of these that they are equal where they have one
@@ -42,6 +44,7 @@ ghost use Rattle.pot_promises.specs.Lost.{LostIsFew};
 ghost use Rattle.pot_promises.specs.Odds.{NeverOdd, OddReads};
 ghost use Rattle.pot_promises.specs.Openings.{OpeningsAreTrue};
 ghost use Rattle.pot_promises.specs.Promises.{GivesBack, GivesBackLater};
+ghost use Rattle.pot_promises.specs.Remaining.{BlocksRemain, OlderDeskFinds, ServedRemain};
 ghost use Rattle.pot_promises.specs.Runs.{RunsAreSessions, RunsGoLater, RunsGoOn, RunsMayClose};
 ghost use Rattle.pot_promises.specs.Veils.{StaysVeiled};
 
@@ -65,10 +68,13 @@ pub fn fault_laws()
     ensures { FaultsAreCounted }
 {}
 
-/// What a session may have written into its archives, and what it may have let them hear. It does
-/// nothing.
+/// What a session may have written into its archives, what it may have let them hear, and what they
+/// hold still. It does nothing.
 pub fn frame_laws()
-    ensures { FrameOfRun }
+    ensures run { FrameOfRun }
+    ensures remain { BlocksRemain }
+    ensures served { ServedRemain }
+    ensures older { OlderDeskFinds }
 {}
 
 /// Where a reply `lost` comes from. It does nothing.

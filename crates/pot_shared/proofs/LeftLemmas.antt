@@ -7,6 +7,7 @@ use Rattle.std.proofs.lemmas.Option.{slice_get_within}
 use Rattle.pot_bytes.specs.declared.rack.Rack.{Rack}
 use Rattle.pot_bytes.proofs.Elements.{contains_front, element_of_map}
 use Rattle.pot_outside.specs.Archives.{Meaning}
+use Rattle.pot_outside.specs.Counts.{Rose}
 use Rattle.pot_outside.specs.declared.archive.Marks.{Marks}
 use Rattle.pot_outside.specs.declared.archive.Shelf.{Shelf}
 use Rattle.pot_machine.specs.Table.{Table, archives_in}
@@ -133,6 +134,13 @@ within_of meant g frame heard taken = record {
     heard = λ x h. elim (heard.sums n x h) [
       | inl before ↦ inl (subst (λ xs. Contains xs x) (ap (λ (y : Taking). y.heard) (taken n has)) before)
       | inr now ↦ inr now
+    ];
+    kept = λ slot block l e. elim (frame.kept n slot block (blocks_same (g.shelves.taken n).held (meant n).held (ap (λ (x : Taking). x.blocks) (taken n has)) slot l ∙ e)) [
+      | inl y ↦ inl y
+      | inr y ↦ elim y [
+        | inl z ↦ inr (inl z)
+        | inr z ↦ inr (inr (subst (λ k. Rose k (g.shelves.losses n)) (ap (λ (x : Taking). x.marks.losses) (taken n has)) z))
+      ]
     ];
   };
 }

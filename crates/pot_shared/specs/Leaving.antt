@@ -3,12 +3,13 @@
 use Rattle.std.specs.Prelude.{◌≡◌, ◌⊎◌, ◌<◌, ◌^◌, All, Contains, ◌++◌, ℕ, List, [], Some, length}
 use Rattle.std.specs.Prelude.{slice_get}
 use Rattle.pot_outside.specs.Archives.{Meaning}
+use Rattle.pot_outside.specs.Counts.{Rose}
 use Rattle.pot_outside.specs.declared.archive.Shelf.{Shelf}
 use Rattle.pot_bytes.specs.declared.rack.Rack.{Rack}
 use Rattle.pot_machine.specs.declared.entry.Entry.{Entry}
 use Rattle.pot_machine.specs.Table.{Table}
 use Rattle.pot_group.specs.Group.{GroupView, IsSettled}
-use Rattle.pot_group.specs.Frames.{WrittenBy}
+use Rattle.pot_group.specs.Frames.{FailedBy, WrittenBy}
 use Rattle.pot_group.specs.Heard.{Sum, FlyBy, FoldedBy, blinds_in}
 use Rattle.pot_execution.specs.Execution.{HasExecution}
 use Rattle.pot_shelves.specs.Shelves.{Shelves}
@@ -55,7 +56,9 @@ RoseInHand {A} meaning hand meant n =
 -- The frame of an archive of a group, which began with this table and has this log. Each block that
 -- is seen of it, in whatever slot, its number meant to stand there, or an entry of the log put it
 -- there; each that it ever held its number had meant to be among those, or an entry put it there;
--- and each sum that it ever heard its number meant, or it is that of a relay as the log has it.
+-- and each sum that it ever heard its number meant, or it is that of a relay as the log has it. In
+-- each slot in which its number meant a block, a block is seen still, unless a write into that slot
+-- failed, as an entry tells, or its count of losses rose.
 pub record IsWithin (first : Table) (log : List Entry) (s : Shelves) (n : ℕ) (m : Meaning)
     (givens : List (List ℕ)) : Type 0 where
   pub held : (slot : ℕ) (block : List ℕ) → slot < 2 ^ 32 → s.held n slot ≡ Some block
@@ -64,6 +67,9 @@ pub record IsWithin (first : Table) (log : List Entry) (s : Shelves) (n : ℕ) (
       → Contains m.history block ⊎ ((slot : ℕ) × WrittenBy first log n slot block)
   pub heard : (x : Sum) → Contains (s.heard n) x
       → Contains m.heard x ⊎ FoldedBy first [] log givens n x
+  pub kept : (slot : ℕ) (block : List ℕ) → slot < 2 ^ 32 → m.held slot ≡ Some block
+      → ((b : List ℕ) × (s.held n slot ≡ Some b))
+      ⊎ (FailedBy first log n slot ⊎ Rose m.losses (s.losses n))
 
 -- of each archive that it has had, with one list of the blocks given at the entries
 pub record AreWithin (meant : ℕ → Meaning) (g : GroupView) : Type 0 where
