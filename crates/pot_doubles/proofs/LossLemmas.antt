@@ -1,6 +1,7 @@
 -- Losses, and the blocks that were ever held.
-use Rattle.std.proofs.Common.{◌≡◌, ◌<◌, ◌+◌, ◌^◌, ℕ, Bool, true, false, List, [], ◌∷◌, ◌++◌, refl, ap, sym, ◌∙◌, arith, cond, inl, inr}
+use Rattle.std.proofs.Common.{◌≡◌, ◌<◌, ◌+◌, ◌^◌, ℕ, Bool, true, false, List, [], ◌∷◌, ◌++◌, refl, ap, sym, ◌∙◌, arith, cond, inl, inr, subst}
 use Rattle.std.specs.Prelude.{Some, None, nat_eq, ◌==◌, ◌&&◌, ◌||◌}
+use Rattle.std.specs.Cmp.{unsigned_tied}
 use Rattle.std.specs.Ordering.{nat_cmp}
 use Rattle.std.specs.BTreeMap.{BTreeMap, get, is_at}
 use Rattle.std.specs.Cmp.Lexicographic.{pointwise}
@@ -11,7 +12,7 @@ use Rattle.std.proofs.lemmas.List.Sums.{sum_by-cons}
 use Rattle.std.proofs.lemmas.Map.Views.{Contains-from_any}
 use Rattle.pot_outside.specs.Archives.{Contents, OnlyLoses, at_slot, IsRemembered}
 use Rattle.pot_doubles.specs.Losses.{goes_missing, losses_at, without, raised_by}
-use Rattle.pot_doubles.specs.Kept.{IsKept, is_among}
+use Rattle.pot_doubles.specs.Kept.{IsKept, IsLow, is_among}
 use Rattle.pot_doubles.specs.declared.losses.Loss.{Loss}
 
 -- where no loss is listed for a call, no slot's block goes missing
@@ -71,3 +72,11 @@ kept_written m n past slot block kept after = λ k b h. at (is_at (nat_cmp slot)
     at false k b h =
         let r : is_among past b ≡ true = kept k b h in
         grind (arith, list_any-append)
+
+-- and none is held from slot 2^32 on, where none was and the slot is below it
+pub low_written : (m n : BTreeMap ℕ (List ℕ)) (slot : ℕ) (block : List ℕ) → slot < 2 ^ 32 → IsLow m
+    → ((q : ℕ) → get nat_cmp n q ≡ cond (is_at (nat_cmp slot) q) (Some block) (get nat_cmp m q)) → IsLow n
+low_written m n slot block fits low after = λ k b h. elim (eqb_tells slot k) [
+  | inl e ↦ subst (λ j. j < 2 ^ 32) e.1 fits
+  | inr e ↦ low k b (sym (after k ∙ ap (λ t. cond t (Some block) (get nat_cmp m k)) (unsigned_tied slot k ∙ e.0)) ∙ h)
+]

@@ -1,5 +1,5 @@
--- The blocks that an archive in memory ever held.
-use Rattle.std.specs.Prelude.{◌≡◌, ℕ, Bool, true, List, Some, nat_eq}
+-- The blocks that an archive in memory ever held, and the slots that hold one.
+use Rattle.std.specs.Prelude.{◌≡◌, ◌<◌, ◌^◌, ℕ, Bool, true, List, Some, nat_eq}
 use Rattle.std.specs.List.{list_any}
 use Rattle.std.specs.Ordering.{nat_cmp}
 use Rattle.std.specs.BTreeMap.{BTreeMap, get}
@@ -12,3 +12,7 @@ is_among past block = list_any (pointwise nat_eq block) past
 -- every block that is held is among those that were ever held
 abbrev pub IsKept : BTreeMap ℕ (List ℕ) → List (List ℕ) → Type 0
 IsKept blocks past = (k : ℕ) (b : List ℕ) → get nat_cmp blocks k ≡ Some b → is_among past b ≡ true
+
+-- no slot from 2^32 on holds a block
+abbrev pub IsLow : BTreeMap ℕ (List ℕ) → Type 0
+IsLow blocks = (k : ℕ) (b : List ℕ) → get nat_cmp blocks k ≡ Some b → k < 2 ^ 32

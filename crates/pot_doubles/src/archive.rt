@@ -1,5 +1,5 @@
 ghost use Rattle.std.specs.Prelude.{ℕ};
-ghost use Rattle.pot_doubles.specs.Kept.{IsKept};
+ghost use Rattle.pot_doubles.specs.Kept.{IsKept, IsLow};
 
 use crate::calls::Calls;
 use crate::fuse::{Fuse, begin_fused};
@@ -27,6 +27,7 @@ pub struct LossyArchive {
     calls: Calls,
     fuse: Option<Fuse>,
     ghost kept: { IsKept blocks past.items },
+    ghost low: { IsLow blocks },
 }
 
 impl LossyArchive {

@@ -1,6 +1,7 @@
 -- The archives that calls brought, over the calls that follow.
-use Rattle.std.proofs.Common.{◌≡◌, inl, inr, ℕ, List, [], ◌∷◌, ◌++◌, refl, sym, ap, ◌∙◌, subst, arith}
+use Rattle.std.proofs.Common.{◌≡◌, ◌⊎◌, inl, inr, ℕ, zero, suc, List, [], ◌∷◌, ◌++◌, refl, sym, ap, ◌∙◌, subst, arith}
 use Rattle.std.specs.Prelude.{Contains}
+use Rattle.std.proofs.lemmas.Bool.{cases_eq}
 use Rattle.std.proofs.lemmas.List.Elements.{Contains-append_cases, Contains-append_left, Contains-append_right}
 use Rattle.pot_outside.specs.Archives.{Meaning}
 use Rattle.pot_machine.specs.declared.entry.Entry.{Entry}
@@ -13,6 +14,18 @@ use Rattle.pot_group.specs.Group.{GroupView}
 use Rattle.pot_group.proofs.Arriving.{arrivals-append}
 use Rattle.pot_execution.specs.Execution.{Call, AllCame, CameAs, had}
 use Rattle.pot_execution.specs.Execution as call
+
+-- a number stands among these or does not
+pub among : (ns : List ℕ) (n : ℕ) → Contains ns n ⊎ (Contains ns n → ⊥)
+among [] n = inr (λ h. absurd (omega (arith, h.1)))
+among (m ∷ ns) n = elim (cases_eq m n) [
+  | inl e ↦ inl (0, omega arith, e)
+  | inr ne ↦ elim (among ns n) [ inl h ↦ inl (Contains-append_right (m ∷ []) ns n h) | inr none ↦ inr (λ h. elim (split h) [ inl e ↦ ne e | inr k ↦ none k ]) ]
+]
+  where
+    split : Contains (m ∷ ns) n → (m ≡ n) ⊎ Contains ns n
+    split (zero, lt, e) = inl e
+    split (suc i, lt, e) = inr (i, omega arith, e)
 
 came_stays : (ns ms : List ℕ) (a b : ℕ → Meaning) (c : Call) → ((n : ℕ) → Contains ns n → Contains ms n) → ((n : ℕ) → Contains ns n → b n ≡ a n) → CameAs ns a c → CameAs ms b c
 came_stays ns ms a b call.Open more same h = tt

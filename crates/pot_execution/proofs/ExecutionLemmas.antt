@@ -1,17 +1,21 @@
 -- An execution goes on by one call.
 use Rattle.std.proofs.Common.{◌≡◌, ◌<◌, ℕ, List, [], ◌∷◌, ◌++◌, ◌+◌, ◌∙◌, inl, inr, refl, sym, ap, subst, arith, append-nil}
 use Rattle.std.proofs.lemmas.Bool.Decides.{eqb_tells}
-use Rattle.std.proofs.lemmas.List.Elements.{Contains-append_left, Contains-append_right}
-use Rattle.std.specs.Prelude.{Result, Ok, Err, Option, Some, None, Contains, map}
+use Rattle.std.proofs.lemmas.List.Elements.{All-append, All-cons, All-nil, Contains-append_left, Contains-append_right}
+use Rattle.std.specs.Prelude.{Result, Ok, Err, Option, Some, None, Contains, map, All}
 use Rattle.pot_bytes.specs.declared.rack.Place.{Place}
 use Rattle.pot_outside.specs.Accounts.{Account}
-use Rattle.pot_outside.specs.Archives.{Meaning}
+use Rattle.pot_outside.specs.Archives.{IsCoherent, Meaning}
+use Rattle.pot_outside.specs.Counts.{Rose}
 use Rattle.pot_outside.specs.declared.archive.Shelf.{Shelf}
 use Rattle.pot_machine.specs.declared.entry.Entry.{Entry}
-use Rattle.pot_machine.specs.Table.{Table, width, archives_in}
+use Rattle.pot_machine.specs.Table.{Table, width, archives_in, serving_at}
+use Rattle.pot_steps.specs.Stripe.{Sound}
+use Rattle.pot_steps.specs.Holdings.{stripe_of}
 use Rattle.pot_steps.specs.GroupStep.{GroupState, StartStep}
 use Rattle.pot_machine.specs.Rules.{IsTable}
-use Rattle.pot_shelves.specs.Shelves.{Shelved, Shelves, plain, numbers_of, shelf_of, given}
+use Rattle.pot_shelves.specs.Shelves.{Keeps, Shelved, Shelves, plain, numbers_of, shelf_of, given}
+use Rattle.pot_shelves.proofs.OpeningCauses.{gone_failed}
 use Rattle.pot_group.specs.Group.{GroupParts, GroupView, view_of, state_of, put_as, looked_as}
 use Rattle.pot_group.specs.Arrivals.{HasArrived, arrivals}
 use Rattle.pot_group.specs.Beginning.{Begins, unopened}
@@ -23,7 +27,8 @@ use Rattle.pot_group.specs.Calls.{ComesBy, Grows, Made, CountCall, MoveBeginCall
 use Rattle.pot_group.specs.Sweeping.{Look, LooksOn, SweepCall}
 use Rattle.pot_machine.specs.Slot.{is_live}
 use Rattle.pot_group.specs.Finding.{IsPlace}
-use Rattle.pot_execution.specs.Execution.{Call, IsAsked, StepOf, Leads, IsUnopened, HasExecution, AllCame, CameAs, blind_of, blinds_of, had}
+use Rattle.pot_execution.specs.Execution.{Call, IsAsked, IsAtWork, StepOf, Leads, IsUnopened, HasExecution, AllCame, CameAs, blind_of, blinds_of, had}
+use Rattle.pot_execution.proofs.Taken.{AreCoherent, Finds, coherent_brings, coherent_keeps, finds_stay}
 use Rattle.pot_execution.proofs.Came.{all_came_stay, came_more, had_brought, had_more}
 use Rattle.pot_machine.specs.declared.entry.Entry.TheVariants as entry
 use Rattle.pot_execution.proofs.Begun.{blinds_more, look_blinds, no_blind}
@@ -46,28 +51,48 @@ unopened_stays first a b start same u = record {
   silent = u.silent;
 }
 
--- one call more
-pub goes_on : (c : Call) (old new : GroupView) (entries : List Entry) → Grows old new entries → ((n : ℕ) → Contains (had old) n → new.shelves.taken n ≡ old.shelves.taken n)
-    → CameAs (had new) new.shelves.taken c → new.blinds ≡ old.blinds ++ blind_of c → IsAsked c (state_of old) → StepOf c (state_of old) (state_of new) → HasExecution old → HasExecution new
-goes_on c old new entries grows same came begun asked step execution = record {
-  start = execution.start;
-  unopened = subst (λ f. IsUnopened f new.shelves.taken execution.start) (sym grows.first)
-      (unopened_stays old.first old.shelves.taken new.shelves.taken execution.start (λ n h. same n (Contains-append_left (archives_in old.first) (arrivals old.log) n h)) execution.unopened);
-  calls = execution.calls ++ c ∷ [];
-  leads = led execution.calls c execution.start (state_of old) (state_of new) execution.leads asked step;
-  blinds = blinds_more execution.calls c ∙ ap (λ l. l ++ blind_of c) execution.blinds ∙ sym begun;
-  came = came_more execution.calls c (had new) new.shelves.taken (all_came_stay execution.calls (had old) (had new) old.shelves.taken new.shelves.taken (had_more old new entries grows) same execution.came) came;
-}
-
 -- what the archives that a group had meant at their taking stays
 taken_stays : (old new : GroupView) (entries : List Entry) → HasArrived old.first old.log old.shelves.numbers → Grows old new entries → (n : ℕ) → Contains (had old) n → new.shelves.taken n ≡ old.shelves.taken n
 taken_stays old new entries arrived grows n h = grows.taken n (subst (λ ns. Contains ns n) (sym arrived) h)
 
+-- calls at work, and one more
+work_more : (cs : List Call) (c : Call) → All IsAtWork cs → IsAtWork c → All IsAtWork (cs ++ c ∷ [])
+work_more cs c all one = All-append IsAtWork cs (c ∷ []) all (All-cons IsAtWork c [] one (All-nil IsAtWork))
+
+-- one call more
+goes_on : (c : Call) (old new : GroupView) (entries : List Entry) → HasArrived old.first old.log old.shelves.numbers → Grows old new entries
+    → CameAs (had new) new.shelves.taken c → new.blinds ≡ old.blinds ++ blind_of c → IsAsked c (state_of old) → StepOf c (state_of old) (state_of new) → IsAtWork c → (AreCoherent old.shelves → AreCoherent new.shelves) → HasExecution old → HasExecution new
+goes_on c old new entries arrived grows came begun asked step work coherent execution = record {
+  start = execution.start;
+  unopened = subst (λ f. IsUnopened f new.shelves.taken execution.start) (sym grows.first)
+      (unopened_stays old.first old.shelves.taken new.shelves.taken execution.start (λ n h. same n (Contains-append_left (archives_in old.first) (arrivals old.log) n h)) execution.unopened);
+  opened = execution.opened;
+  opening = execution.opening;
+  finds = finds_stay old new entries execution.start execution.opened execution.opening arrived grows execution.unopened execution.finds;
+  calls = execution.calls ++ c ∷ [];
+  at_work = work_more execution.calls c execution.at_work work;
+  leads = led execution.calls c execution.opened (state_of old) (state_of new) execution.leads asked step;
+  blinds = blinds_more execution.calls c ∙ ap (λ l. l ++ blind_of c) execution.blinds ∙ sym begun;
+  came = came_more execution.calls c (had new) new.shelves.taken (all_came_stay execution.calls (had old) (had new) old.shelves.taken new.shelves.taken (had_more old new entries grows) same execution.came) came;
+  coherent = coherent execution.coherent;
+}
+  where
+    same : (n : ℕ) → Contains (had old) n → new.shelves.taken n ≡ old.shelves.taken n
+    same = taken_stays old new entries arrived grows
+
 -- so a call of the group whose step this is
 pub after : {told : Type 0} (old new : GroupView) (entries : List Entry) (c : Call) → HasArrived old.first old.log old.shelves.numbers → Grows old new entries
-    → CameAs (had new) new.shelves.taken c → new.blinds ≡ old.blinds ++ blind_of c → IsAsked c (state_of old) → (told → StepOf c (state_of old) (state_of new)) → (told → HasExecution old) → told → HasExecution new
-after old new entries c arrived grows came begun asked step execution tells =
-    goes_on c old new entries grows (taken_stays old new entries arrived grows) came begun asked (step tells) (execution tells)
+    → CameAs (had new) new.shelves.taken c → new.blinds ≡ old.blinds ++ blind_of c → IsAsked c (state_of old) → (told → StepOf c (state_of old) (state_of new)) → IsAtWork c → (told → AreCoherent old.shelves → AreCoherent new.shelves)
+    → (told → HasExecution old) → told → HasExecution new
+after old new entries c arrived grows came begun asked step work coherent execution tells =
+    goes_on c old new entries arrived grows came begun asked (step tells) work (coherent tells) (execution tells)
+
+-- one that keeps the archives
+pub after_kept : {told : Type 0} (old new : GroupView) (entries : List Entry) (c : Call) → HasArrived old.first old.log old.shelves.numbers → Grows old new entries → Keeps old.shelves new.shelves
+    → CameAs (had new) new.shelves.taken c → new.blinds ≡ old.blinds ++ blind_of c → IsAsked c (state_of old) → (told → StepOf c (state_of old) (state_of new)) → IsAtWork c
+    → (told → HasExecution old) → told → HasExecution new
+after_kept old new entries c arrived grows keeps came begun asked step work execution tells =
+    goes_on c old new entries arrived grows came begun asked (step tells) work (coherent_keeps old.shelves new.shelves keeps) (execution tells)
 
 -- nothing changes
 pub still : {told : Type 0} (old new : GroupView) → new ≡ old → (told → HasExecution old) → told → HasExecution new
@@ -85,12 +110,17 @@ no_shelf (s ∷ ss) n none = elim (eqb_tells s.number n) [
 pub begun : {A : Type 0} (told : Type 0) (meaning : A → Meaning) (number : ℕ) (t : Table) (handed : List (Shelf A)) (g : GroupParts A)
     → numbers_of handed ≡ archives_in t → Begins told meaning number t handed g → told → HasExecution (view_of meaning g)
 begun {A} told meaning number t handed g apart begins tells = record {
-  start = state_of (view_of meaning (unopened number t begins.taken));
-  unopened = subst (λ f. IsUnopened f now.taken (state_of (view_of meaning (unopened number t begins.taken)))) (sym begins.first) here;
-  calls = call.Open ∷ [];
-  leads = (state_of (view_of meaning g), tt, begins.step tells, refl);
+  start = first;
+  unopened = subst (λ f. IsUnopened f now.taken first) (sym begins.first) here;
+  opened = state_of (view_of meaning g);
+  opening = begins.step tells;
+  finds = subst (Finds now first (state_of (view_of meaning g)) (begins.step tells)) (sym begins.first) found;
+  calls = [];
+  at_work = All-nil IsAtWork;
+  leads = refl;
   blinds = sym begins.blinds;
-  came = (tt, tt);
+  came = tt;
+  coherent = λ n. subst IsCoherent (sym (meant n)) (begins.marks.coherent tells n);
 }
   where
     now : Shelves
@@ -99,14 +129,34 @@ begun {A} told meaning number t handed g apart begins tells = record {
     then_taken : Shelves
     then_taken = plain meaning begins.taken
 
+    then_read : Shelves
+    then_read = plain meaning begins.read
+
+    first : GroupState
+    first = state_of (view_of meaning (unopened number t begins.taken))
+
     -- what an archive meant when it was taken
     meant : (n : ℕ) → now.taken n ≡ then_taken.taken n
     meant n = ap (λ (s : Shelved A). (plain meaning s).taken n) begins.marked ∙ begins.opens.stays.keeps.taken n
 
+    -- the counts of faults at both marks
+    taken_at : (n : ℕ) → now.faults_taken n ≡ then_taken.faults n
+    taken_at n = ap (λ (s : Shelved A). (plain meaning s).faults_taken n) begins.marked ∙ begins.opens.stays.keeps.faults_taken n ∙ begins.marks.faults n
+
+    opened_at : (n : ℕ) → now.faults_opened n ≡ then_read.faults n
+    opened_at n = begins.opened.faults n ∙ ap (λ (s : Shelved A). (plain meaning s).faults n) begins.marked
+
+    found : Finds now first (state_of (view_of meaning g)) (begins.step tells) t
+    found s c ls lc gone sound =
+        let rose = gone_failed told t.stripes t g.table g.log then_taken then_read begins.opens tells s c ls lc (sym (ap (λ f. f s c) (begins.same_gone tells)) ∙ gone)
+        (subst (λ h. Sound (stripe_of t h s) c) (ap (λ (x : Shelved A). (plain meaning x).held) begins.marked) sound) in
+        subst (λ x. Rose x (now.faults_opened (serving_at t s c))) (sym (taken_at (serving_at t s c)))
+        (subst (λ y. Rose (then_taken.faults (serving_at t s c)) y) (sym (opened_at (serving_at t s c))) rose)
+
     absent : (n : ℕ) → (Contains (archives_in t) n → ⊥) → shelf_of begins.taken.shelves n ≡ None
     absent n none = no_shelf begins.taken.shelves n (λ h. none (subst (λ ns. Contains ns n) (ap numbers_of begins.shelves ∙ apart) h))
 
-    here : IsUnopened t now.taken (state_of (view_of meaning (unopened number t begins.taken)))
+    here : IsUnopened t now.taken first
     here = record {
       table = refl;
       log = refl;
@@ -121,7 +171,7 @@ begun {A} told meaning number t handed g apart begins tells = record {
 
 pub counted : (told : Type 0) (old new : GroupView) (job : ℕ) (result : Result Counts LogFull) → HasArrived old.first old.log old.shelves.numbers
     → Made (CountCall told job result) old new → (told → HasExecution old) → told → HasExecution new
-counted told old new job (Ok counts) arrived made execution = after old new made.0 (call.Count job) arrived made.1 tt (no_blind old new made.2.4.blinds) tt made.2.3 execution
+counted told old new job (Ok counts) arrived made execution = after old new made.0 (call.Count job) arrived made.1 tt (no_blind old new made.2.4.blinds) tt made.2.3 tt (λ tells. subst AreCoherent (sym made.2.2)) execution
 counted told old new job (Err e) arrived made execution = still old new made.2.1 execution
 
 -- an archive came, or was handed back
@@ -136,12 +186,14 @@ module _ {A : Type 0} (told : Type 0) (meaning : A → Meaning) (old new : Group
 
   pub move_begun : (result : Result (Unit {0}) (ShelfRefused A)) → Made (MoveBeginCall told meaning job c shelf result) old new → (told → HasExecution old) → told → HasExecution new
   move_begun (Ok u) made execution =
-      after old new made.0 (call.MoveBegin job c shelf.number (meaning shelf.archive).held (meaning shelf.archive).heard) arrived made.1 (here (entry.MoveBegin job c shelf.number) made.2 (0, omega arith, refl)) (no_blind old new made.2.comes.acts.blinds) within made.2.comes.steps execution
+      after old new made.0 (call.MoveBegin job c shelf.number (meaning shelf.archive).held (meaning shelf.archive).heard) arrived made.1 (here (entry.MoveBegin job c shelf.number) made.2 (0, omega arith, refl)) (no_blind old new made.2.comes.acts.blinds) within made.2.comes.steps tt
+      (coherent_brings told shelf.number (meaning shelf.archive) old.shelves new.shelves made.2.comes.brings) execution
   move_begun (Err r) made execution = still old new made.2.0.same execution
 
   pub swapped : (result : Result ℕ (ShelfRefused A)) → Made (SwapCall told meaning job c shelf result) old new → (told → HasExecution old) → told → HasExecution new
   swapped (Ok n) made execution =
-      after old new made.0 (call.Swap job c shelf.number (meaning shelf.archive).held (meaning shelf.archive).heard) arrived made.1 (here (entry.Swapped job c shelf.number) made.2.0 (0, omega arith, refl)) (no_blind old new made.2.0.comes.acts.blinds) within made.2.0.comes.steps execution
+      after old new made.0 (call.Swap job c shelf.number (meaning shelf.archive).held (meaning shelf.archive).heard) arrived made.1 (here (entry.Swapped job c shelf.number) made.2.0 (0, omega arith, refl)) (no_blind old new made.2.0.comes.acts.blinds) within made.2.0.comes.steps tt
+      (coherent_brings told shelf.number (meaning shelf.archive) old.shelves new.shelves made.2.0.comes.brings) execution
   swapped (Err r) made execution = still old new made.2.0.same execution
 
 -- LOOKS IN A ROW
@@ -149,30 +201,41 @@ module _ {A : Type 0} (told : Type 0) (meaning : A → Meaning) (old new : Group
 is_there : (old : GroupView) (s c : ℕ) (p : Place) → IsPlace old.number old.table is_live s c (Some p) → (p.stripe < old.table.stripes) × (p.column < width old.table)
 is_there old s c p is = is.1.0.0
 
+-- what looks leave as it was
+looks_keep : {told : Type 0} (job s c : ℕ) (looks : List Look) (old new : GroupView) (entries : List Entry) → LooksOn told job s c looks old new entries → AreCoherent old.shelves → AreCoherent new.shelves
+looks_keep job s c [] old new entries goes = subst (λ (w : GroupView). AreCoherent w.shelves) (sym goes.1)
+looks_keep job s c ((p, answer) ∷ rest) old new entries goes all =
+    looks_keep job p.stripe (p.column + 1) rest goes.1 new goes.3 goes.6 (coherent_keeps old.shelves goes.1.shelves goes.5.stays.keeps all)
+
 -- the calls of a sweep, behind calls that came before it
 looked_on : {told : Type 0} (ns : List ℕ) (taken : ℕ → Meaning) (job s c : ℕ) (looks : List Look) (start : GroupState) (calls : List Call) (old new : GroupView) (entries : List Entry)
-    → LooksOn told job s c looks old new entries → told → Leads calls start (state_of old) → AllCame ns taken calls
-    → (all : List Call) × Leads all start (state_of new) × (blinds_of all ≡ blinds_of calls) × AllCame ns taken all
-looked_on ns taken job s c [] start calls old new entries goes tells leads came = (calls, subst (λ (w : GroupView). Leads calls start (state_of w)) (sym goes.1) leads, refl, came)
-looked_on ns taken job s c ((p, answer) ∷ rest) start calls old new entries goes tells leads came =
+    → LooksOn told job s c looks old new entries → told → Leads calls start (state_of old) → AllCame ns taken calls → All IsAtWork calls
+    → (all : List Call) × Leads all start (state_of new) × (blinds_of all ≡ blinds_of calls) × AllCame ns taken all × All IsAtWork all
+looked_on ns taken job s c [] start calls old new entries goes tells leads came work = (calls, subst (λ (w : GroupView). Leads calls start (state_of w)) (sym goes.1) leads, refl, came, work)
+looked_on ns taken job s c ((p, answer) ∷ rest) start calls old new entries goes tells leads came work =
     let mid = goes.1 in
     let one = call.Look job p.stripe p.column (looked_as answer goes.0) in
-    let more = looked_on ns taken job p.stripe (p.column + 1) rest start (calls ++ one ∷ []) mid new goes.3 goes.6 tells (led calls one start (state_of old) (state_of mid) leads (is_there old s c p goes.4) (goes.5.step tells)) (came_more calls one ns taken came tt) in
-    (more.0, more.1, more.2 ∙ blinds_more calls one ∙ append-nil (blinds_of calls), more.3)
+    let more = looked_on ns taken job p.stripe (p.column + 1) rest start (calls ++ one ∷ []) mid new goes.3 goes.6 tells (led calls one start (state_of old) (state_of mid) leads (is_there old s c p goes.4) (goes.5.step tells)) (came_more calls one ns taken came tt) (work_more calls one work tt) in
+    (more.0, more.1, more.2 ∙ blinds_more calls one ∙ append-nil (blinds_of calls), more.3, more.4)
 
 pub swept : (told : Type 0) (old new : GroupView) (job s c : ℕ) (result : Swept) → HasArrived old.first old.log old.shelves.numbers
     → Made (SweepCall told job s c result) old new → (told → HasExecution old) → told → HasExecution new
 swept told old new job s c result arrived made execution tells =
     let was = execution tells in
     let same = taken_stays old new made.0 arrived made.1 in
-    let all = looked_on (had new) new.shelves.taken job s c made.2.looks was.start was.calls old new made.0 made.2.goes tells was.leads
-    (all_came_stay was.calls (had old) (had new) old.shelves.taken new.shelves.taken (had_more old new made.0 made.1) same was.came) in
+    let all = looked_on (had new) new.shelves.taken job s c made.2.looks was.opened was.calls old new made.0 made.2.goes tells was.leads
+    (all_came_stay was.calls (had old) (had new) old.shelves.taken new.shelves.taken (had_more old new made.0 made.1) same was.came) was.at_work in
     record {
       start = was.start;
       unopened = subst (λ f. IsUnopened f new.shelves.taken was.start) (sym made.1.first)
           (unopened_stays old.first old.shelves.taken new.shelves.taken was.start (λ n h. same n (Contains-append_left (archives_in old.first) (arrivals old.log) n h)) was.unopened);
+      opened = was.opened;
+      opening = was.opening;
+      finds = finds_stay old new made.0 was.start was.opened was.opening arrived made.1 was.unopened was.finds;
       calls = all.0;
+      at_work = all.4;
       leads = all.1;
       blinds = all.2 ∙ was.blinds ∙ sym (look_blinds told job s c made.2.looks old new made.0 made.2.goes);
       came = all.3;
+      coherent = looks_keep job s c made.2.looks old new made.0 made.2.goes was.coherent;
     }

@@ -1,3 +1,4 @@
 pub mod Begun
 pub mod Came
 pub mod ExecutionLemmas
+pub mod Taken

@@ -195,6 +195,7 @@ module _ {A : Type 0} (told : Type 0) (meaning : A → Meaning) (number : ℕ) (
     opened = opened;
     rose = (λ z s c ls lc is sound. rose_in z (serving_at t s c) (gone_rose told t.stripes t u log old (plain meaning b) o z s c ls lc is sound));
     step = start_step;
+    same_gone = (λ z. refl);
   }
 
 -- THE ARCHIVES ONCE THEY ARE MARKED

@@ -18,7 +18,7 @@ use Rattle.pot_steps.specs.GroupStep as looked
 use Rattle.pot_execution.specs.Execution as call
 use Rattle.pot_world.specs.Group.{WorldGroup}
 use Rattle.pot_world.proofs.OneEntry.{same_is}
-use Rattle.pot_refinement.specs.Refinement.{Simulates, Acts, ActsTo, NoneFailed}
+use Rattle.pot_refinement.specs.Refinement.{Simulates, Acts, ActsTo, GoneIsMissing}
 use Rattle.pot_refinement.proofs.Acting.{acts_join, by_losses, looks_gone}
 
 -- a log in two parts
@@ -39,7 +39,7 @@ live_of (Live d) h = (d, refl)
 live_of (Lost d) h = absurd (cc)
 live_of (Broken d) h = absurd (cc)
 
-module _ (used : ℕ → Bool) (g : WorldGroup) (old new : GroupState) (f : Simulates used g old) (st : StartStep old new) (well : NoneFailed old new st) where
+module _ (used : ℕ → Bool) (g : WorldGroup) (old new : GroupState) (f : Simulates used g old) (st : StartStep old new) (well : GoneIsMissing old new st) where
   -- the blocks that were written fill each stripe
   filled : (s : ℕ) → s < old.table.stripes → Filling old.table.data_columns old.table.parity (stripe_of old.table old.held s) (g.written s)
   filled = subst (λ (o : GroupState). (s : ℕ) → s < o.table.stripes → Filling o.table.data_columns o.table.parity (stripe_of o.table o.held s) (g.written s)) (same_is g old f.same) f.good.0.filled
@@ -78,8 +78,7 @@ module _ (used : ℕ → Bool) (g : WorldGroup) (old new : GroupState) (f : Simu
           let live = live_of (slot_at old.table s c) ((st.finds s ls).found c lc e).0 in
           let was = st.loses (serving_at old.table s c) s b q in
           let is : b ≡ g.written s c = holds s c b ls lc (not_void (slot_at old.table s c) live.0 live.1) was in
-          absurd (st.missing s c ls lc e (well s c ls lc)
-          (b, record { digest = live.0; live = live.1; held = q; right = ap digest_of is ∙ (filled s ls).digest c live.0 lc (ap digest_in live.1) }))
+          absurd (well s c ls lc e (b, record { digest = live.0; live = live.1; held = q; right = ap digest_of is ∙ (filled s ls).digest c live.0 lc (ap digest_in live.1) }))
 
   -- the state with this table, after the losses
   abbrev at : Table → GroupState

@@ -1,9 +1,11 @@
 -- The first session of a rack, and what a next one begins with.
-use Rattle.std.proofs.Common.{◌≡◌, ℕ, zero, suc, ◌+◌, ◌*◌, List, [], ◌∷◌, Bool, true, false, refl, sym, ap, ◌∙◌, subst, arith}
+use Rattle.std.proofs.Common.{◌≡◌, ℕ, zero, suc, ◌+◌, ◌*◌, List, [], ◌∷◌, None, inl, inr, Bool, true, false, refl, sym, ap, ◌∙◌, subst, arith}
+use Rattle.std.specs.Prelude.{Contains}
 use Rattle.std.proofs.lemmas.List.Elements.{All-nil}
 use Rattle.pot_bytes.specs.declared.rack.Rack.{Rack}
 use Rattle.pot_bytes.specs.Rack.{IsRack}
-use Rattle.pot_machine.specs.Table.{Table}
+use Rattle.pot_machine.specs.Table.{Table, archives_in}
+use Rattle.pot_execution.proofs.Came.{among}
 use Rattle.pot_machine.specs.Rules.{IsTable, IsStanding}
 use Rattle.pot_steps.specs.GroupStep.{GroupState}
 use Rattle.pot_world.specs.Group.{WorldGroup}
@@ -13,8 +15,8 @@ use Rattle.pot_world.specs.Reached.{Site, first_groups, first_site, first_used, 
 use Rattle.pot_world.specs.Ties.{SameState}
 use Rattle.pot_world.proofs.Inside.{Bounds, InsideOf, first_bounded}
 use Rattle.pot_world.proofs.Reaching.{reached_keeps}
-use Rattle.pot_world.proofs.Later.{good_anew}
-use Rattle.pot_refinement.specs.Refinement.{Simulates, Ran, SimulateOld, AreEmpty, SessionReaches, BeginsAnew, ReopenedSimulates}
+use Rattle.pot_world.proofs.Later.{good_anew, held_anew, of_listed, of_unlisted}
+use Rattle.pot_refinement.specs.Refinement.{Simulates, Ran, SimulateOld, AreEmpty, SessionReaches, StartsAnew, ReopenedSimulates}
 use Rattle.pot_refinement.proofs.Executions.{executions_reach}
 
 -- THE FIRST SESSION
@@ -44,11 +46,26 @@ reopened_simulates used g end start f anew = record {
   good = good_anew used g f.good;
   numbers = f.numbers;
   bound = f.bound;
-  inside = f.inside;
+  inside = λ n k b h. f.inside n k b (held_anew g n k b h);
   same = record {
     table = ap {A = Table} (λ t. record t { relays = [] }) f.same.table ∙ sym anew.table;
     flights = sym anew.flights;
-    held = λ n k. f.same.held n k ∙ sym (anew.held n k);
-    heard = λ n. f.same.heard n ∙ sym (anew.heard n);
+    held = λ n k. elim (among (archives_in start.table) n) [
+      | inl h ↦ of_listed g.state.table None (λ m. g.state.held m k) n (here n h) ∙ f.same.held n k ∙ sym (anew.held n k h)
+      | inr no ↦ of_unlisted g.state.table None (λ m. g.state.held m k) n (λ h. no (there n h)) ∙ sym (anew.none n k no)
+    ];
+    heard = λ n. elim (among (archives_in start.table) n) [
+      | inl h ↦ of_listed g.state.table [] g.state.heard n (here n h) ∙ f.same.heard n ∙ sym (anew.heard n h)
+      | inr no ↦ of_unlisted g.state.table [] g.state.heard n (λ h. no (there n h)) ∙ sym (anew.silent n no)
+    ];
   };
 }
+  where
+    archives : archives_in start.table ≡ archives_in g.state.table
+    archives = ap {A = Table} archives_in anew.table ∙ sym (ap {A = Table} archives_in f.same.table)
+
+    here : (n : ℕ) → Contains (archives_in start.table) n → Contains (archives_in g.state.table) n
+    here n h = subst (λ ns. Contains ns n) archives h
+
+    there : (n : ℕ) → Contains (archives_in g.state.table) n → Contains (archives_in start.table) n
+    there n h = subst (λ ns. Contains ns n) (sym archives) h

@@ -23,7 +23,7 @@ pub fn reopened_simulates()
     ensures { ReopenedSimulates }
 {}
 
-/// Whether calls went well is told by the log, but for openings and archives that came.
+/// Whether its calls went well is told by what a group shows at its end.
 pub fn well_by_log()
     ensures { WellByLog }
 {}

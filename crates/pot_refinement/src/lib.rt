@@ -4,12 +4,11 @@
 //! same table, flights, contents and sums heard. It does so through all calls of an execution that
 //! went well (`execution_simulated`), and so do all groups together (`executions_reach`): what a world
 //! says of all groups that moves lead to holds of the running ones. An opening is losses and looks; a
-//! count and a look that failed are losses. Whether calls went well is told by the log
-//! (`well_by_log`), but for what it does not tell: that no read failed in an opening, and that
-//! archives which came were empty and had no use.
+//! count and a look that failed are losses. Whether calls went well is told by what a group shows at
+//! its end (`well_by_log`): its log, the marks of its archives, and what those meant that came.
 //!
-//! `first_session` and `next_session` say it of groups with their executions as a session leaves them.
-//! It runs no code.
+//! `first_session`, `next_session` and `sessions_reach` say it of groups as sessions leave them, by
+//! what these show alone. It runs no code.
 #![tactic(auto)]
 
 mod laws;

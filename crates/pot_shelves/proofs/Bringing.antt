@@ -3,7 +3,7 @@ use Rattle.std.proofs.Common.{◌≡◌, ◌≢◌, ℕ, zero, suc, ◌++◌, �
 use Rattle.std.specs.Prelude.{Contains}
 use Rattle.std.proofs.lemmas.Bool.Decides.{eqb_tells}
 use Rattle.std.proofs.lemmas.List.{length-map, map-append}
-use Rattle.pot_outside.specs.Archives.{Meaning}
+use Rattle.pot_outside.specs.Archives.{IsCoherent, Meaning}
 use Rattle.pot_outside.specs.declared.archive.Marks.{Marks}
 use Rattle.pot_outside.specs.declared.archive.Shelf.{Shelf}
 use Rattle.pot_shelves.specs.Shelves.{Brings, given, numbers_of, shelf_of, mark_of, nothing, plain}
@@ -60,9 +60,10 @@ mark_none f (x ∷ ns) (y ∷ ms) k none = elim (eqb_tells x k) [
 -- an archive at the end of the list, with its marks
 pub brings_one : {A : Type 0} (told : Type 0) (meaning : A → Meaning) (xs : List (Shelf A)) (ms os : List Marks) (ts : List (Shelf A)) (s : Shelf A) (m : Marks)
     → length xs ≡ length ms → length xs ≡ length os → numbers_of ts ≡ numbers_of xs → (Contains (numbers_of xs) s.number → ⊥) → m.faults ≡ (meaning s.archive).faults → (told → m.losses ≡ (meaning s.archive).losses)
+    → (told → IsCoherent (meaning s.archive))
     → Brings told s.number (meaning s.archive) (plain meaning (record { shelves = xs; marks = ms; opened = os; taken = ts }))
     (plain meaning (record { shelves = xs ++ s ∷ []; marks = ms ++ m ∷ []; opened = os ++ m ∷ []; taken = ts ++ s ∷ [] }))
-brings_one told meaning xs ms os ts s m l k q none mf ml =
+brings_one told meaning xs ms os ts s m l k q none mf ml fits =
     let all : numbers_of (xs ++ s ∷ []) ≡ numbers_of xs ++ s.number ∷ [] = map-append (λ s. s.number) xs (s ∷ []) in
     let lens : length (numbers_of xs) ≡ length ms = length-map xs (λ s. s.number) ∙ l in
     let opened_lens : length (numbers_of xs) ≡ length os = length-map xs (λ s. s.number) ∙ k in
@@ -72,6 +73,7 @@ brings_one told meaning xs ms os ts s m l k q none mf ml =
       sums = ap (given (λ x. (meaning x).heard) []) (find_new xs s none);
       history = ap (given (λ x. (meaning x).history) []) (find_new xs s none);
       taken = ap (given meaning nothing) (find_new ts s (subst (λ ns. Contains ns s.number → ⊥) (sym q) none));
+      coherent = fits;
       counts = (ap (given (λ x. (meaning x).faults) 0) (find_new xs s none), ap (given (λ x. (meaning x).losses) 0) (find_new xs s none));
       marked = ap (λ ns. mark_of (λ m. m.faults) ns (ms ++ m ∷ []) s.number) all ∙ mark_new (λ m. m.faults) (numbers_of xs) ms s.number m lens none ∙ mf ∙ sym (ap (given (λ x. (meaning x).faults) 0) (find_new xs s none));
       marked_losses = (λ t. ap (λ ns. mark_of (λ m. m.losses) ns (ms ++ m ∷ []) s.number) all ∙ mark_new (λ m. m.losses) (numbers_of xs) ms s.number m lens none ∙ ml t ∙ sym (ap (given (λ x. (meaning x).losses) 0) (find_new xs s none)));

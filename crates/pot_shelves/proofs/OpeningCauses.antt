@@ -51,3 +51,14 @@ gone_rose told n t u now old new o z s c ls lc is (block, sound) = by (o.failed 
       | inl kept ↦ absurd (o.missing z s c ls lc is e (block, record { digest = sound.digest; live = sound.live; held = kept; right = sound.right }))
       | inr rose ↦ inr rose
     ]
+
+-- A slot is Gone that is sound after the opening only where the count of faults of the archive that
+-- serves it rose meanwhile.
+pub gone_failed : (told : Type 0) (n : ℕ) (t u : Table) (now : List Entry) (old new : Shelves) (o : Opens told n t u now old new) → told
+    → (s c : ℕ) → s < n → c < width t → o.gone s c ≡ true → Sound (stripe_of t new.held s) c
+    → Rose (old.faults (serving_at t s c)) (new.faults (serving_at t s c))
+gone_failed told n t u now old new o z s c ls lc is sound = by (o.failed s c) refl
+  where
+    by : (b : Bool) → o.failed s c ≡ b → Rose (old.faults (serving_at t s c)) (new.faults (serving_at t s c))
+    by true e = failed_rose old new (serving_at t s c) (failures t o.failed n (serving_at t s c)) (o.few (serving_at t s c)) (fails_one t o.failed n s c ls lc e)
+    by false e = absurd (o.missing z s c ls lc is e sound)

@@ -7,6 +7,7 @@ use Rattle.std.proofs.Math.ListN.{set}
 use Rattle.std.proofs.Math.Seq.{map-set_same}
 use Rattle.std.proofs.lemmas.Bool.{false≢true}
 use Rattle.std.proofs.lemmas.Bool.Decides.{eqb_tells, nat_tests}
+use Rattle.std.proofs.lemmas.List.Elements.{Contains-append_right}
 use Rattle.std.proofs.lemmas.List.Folds.{find_at, find-set, find_past}
 use Rattle.std.proofs.lemmas.List.Sums.{position_or_len_is}
 use Rattle.std.proofs.lemmas.List.Quantifiers.{position-Some}
@@ -15,7 +16,7 @@ use Rattle.std.proofs.lemmas.Slice.Eq.{bytes_eq-Decides}
 use Rattle.pot_bytes.specs.declared.digest.Digest.{Digest}
 use Rattle.pot_bytes.specs.Digests.{digest_bytes, digest_of}
 use Rattle.pot_outside.specs.Failing.{MayLeave}
-use Rattle.pot_outside.specs.Archives.{Meaning, OnlyLoses, ReadTells, FoldTells, HearsFold, Remembers, at_slot, Reads, Writes, Folds}
+use Rattle.pot_outside.specs.Archives.{IsCoherent, Meaning, OnlyLoses, ReadTells, FoldTells, HearsFold, Remembers, at_slot, Reads, Writes, Folds}
 use Rattle.pot_outside.specs.Counts.{Rose}
 use Rattle.pot_outside.specs.declared.archive.Marks.{Marks}
 use Rattle.pot_outside.specs.declared.archive.Shelf.{Shelf}
@@ -273,11 +274,21 @@ module _ {A : Type 0} (told : Type 0) (meaning : A → Meaning) (marks opened : 
   meant_of None = refl
   meant_of (Some s) = refl
 
+  -- archives of which each is coherent, by number
+  all_coherent : (shelves : List (Shelf A)) → ((s : Shelf A) → Contains shelves s → IsCoherent (meaning s.archive)) → (n : ℕ) → IsCoherent (given meaning nothing (shelf_of shelves n))
+  all_coherent [] fits n = record { past = λ k b h. absurd (cc); low = λ k b h. absurd (cc) }
+  all_coherent (s ∷ ss) fits n = elim (eqb_tells s.number n) [
+    | inl e ↦ rw e.0 (fits s (0, omega arith, refl))
+    | inr e ↦ rw e.0 (all_coherent ss (λ x h. fits x (Contains-append_right (s ∷ []) ss x h)) n)
+  ]
+
   -- archives with their marks now
-  pub is_taken : (same other shelves : List (Shelf A)) → same ≡ shelves → other ≡ shelves → taken ≡ shelves → AreCounts marks same → AreCounts opened other → IsTaken told (data_of shelves)
-  is_taken same other shelves v w t (f, l) now = subst (λ ss. IsTaken told (data_of ss)) v (record {
+  pub is_taken : (same other shelves : List (Shelf A)) → same ≡ shelves → other ≡ shelves → taken ≡ shelves → AreCounts marks same → AreCounts opened other
+      → (told → (s : Shelf A) → Contains same s → IsCoherent (meaning s.archive)) → IsTaken told (data_of shelves)
+  is_taken same other shelves v w t (f, l) now fits = subst (λ ss. IsTaken told (data_of ss)) v (record {
     meant = (λ n. ap (λ ss. given meaning nothing (shelf_of ss n)) (t ∙ sym v) ∙ meant_of (shelf_of same n));
     faults = mark_is (λ m. m.faults) (λ x. (meaning x).faults) same marks f;
     losses = (λ z. mark_is (λ m. m.losses) (λ x. (meaning x).losses) same marks (l z));
     opened = is_opened other same (w ∙ sym v) now;
+    coherent = (λ z n. subst (λ ss. IsCoherent (given meaning nothing (shelf_of ss n))) (v ∙ sym t) (all_coherent same (fits z) n));
   })

@@ -3,7 +3,7 @@ ghost use Rattle.std.specs.Prelude.{◌≡◌, ◌<◌, ◌≤◌, ◌==◌, ◌
 ghost use Rattle.std.specs.Prelude.{length, map, vec_capacity};
 ghost use Rattle.std.specs.List.{position};
 ghost use Rattle.pot_bytes.specs.Digests.{digest_of};
-ghost use Rattle.pot_outside.specs.Archives.{Reads, Writes, Folds};
+ghost use Rattle.pot_outside.specs.Archives.{IsCoherent, Reads, Writes, Folds};
 ghost use Rattle.pot_shelves.specs.Shelves.{plain, numbers_of, OnShelves, OnShelf};
 ghost use Rattle.pot_shelves.specs.Shelves.{IsTaken, IsOpenedNow, ReadsAt, WritesAt, FoldsAt};
 ghost use Rattle.pot_shelves.specs.Shelves.{Brings};
@@ -187,6 +187,8 @@ fn marks_of<A: Archive>(alloc: Global, shelves: &[Shelf<A>]) -> Result<Vec<Marks
         ≡ map (λ s. (A.account.meaning s.archive).faults) shelves.now) }
     ensures losses { IfOk result (λ v. IsTrue A.account.tells → map (λ m. m.losses) v.items
         ≡ map (λ s. (A.account.meaning s.archive).losses) shelves.now) }
+    ensures coherent { IfOk result (λ v. IsTrue A.account.tells → (s : Shelf A)
+        → Contains shelves.now s → IsCoherent (A.account.meaning s.archive)) }
 {
     let mut marks = Vec::with_capacity(alloc, shelves.len())?;
     mark_all(shelves, &mut marks);
@@ -216,6 +218,8 @@ fn mark_all<A: Archive>(shelves: &[Shelf<A>], marks: &mut Vec<Marks>)
         ≡ map (λ s. (A.account.meaning s.archive).faults) shelves.now }
     ensures losses { IsTrue A.account.tells → map (λ m. m.losses) marks.new.items
         ≡ map (λ s. (A.account.meaning s.archive).losses) shelves.now }
+    ensures coherent { IsTrue A.account.tells → (s : Shelf A) → Contains shelves.now s
+        → IsCoherent (A.account.meaning s.archive) }
 {
     for shelf in shelves {
         marks.push_reserved(shelf.archive.marks());

@@ -2,7 +2,7 @@ use Rattle.std.proofs.Common.{◌≡◌, true, inl, refl, arith, rules}
 use Rattle.std.specs.Result.{is_ok}
 use Rattle.std.proofs.lemmas.Grind.{common_steps}
 use Rattle.pot_doubles.specs.Archives.{held_in}
-use Rattle.pot_doubles.proofs.LossLemmas.{loses_at_same, kept_written}
+use Rattle.pot_doubles.proofs.LossLemmas.{loses_at_same, kept_written, low_written}
 use Rattle.pot_doubles.proofs.archive.LossyArchiveArchive.write.Goals as goal
 
 pub returns-then-begin-clause-writes : goal.returns-then-begin-clause-writes

@@ -20,4 +20,5 @@ returns-clause-brought g c =
     (brings_one (IsTrue g.A.Archive.account.tells) g.A.Archive.account.meaning c.self.inside.shelves.items c.self.inside.marks.items c.self.inside.opened.items ts c.args.shelf c.marks-marks.result
     c.self.invariant.0 c.self.invariant.1 c.self.invariant.2
     (subst (λ (w : Shelved g.row.A.Denot). Contains (numbers_of w.shelves) c.args.shelf.number → ⊥) (sym c.self.view_is) c.requires.fresh)
-    c.marks-marks.ensures.marks.faults c.marks-marks.ensures.marks.losses))
+    c.marks-marks.ensures.marks.faults c.marks-marks.ensures.marks.losses
+    (λ t. record { past = c.marks-marks.ensures.marks.past t; low = c.marks-marks.ensures.marks.low t })))
