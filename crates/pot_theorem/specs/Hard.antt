@@ -13,7 +13,7 @@ use Rattle.pot_machine.specs.Table.{Table, column_at, next_column, serving_at, s
 use Rattle.pot_steps.specs.declared.flight.Flight.{Flight}
 use Rattle.pot_steps.specs.Flight.{partial_of}
 use Rattle.pot_steps.specs.Flights.{flight_in}
-use Rattle.pot_steps.specs.Holdings.{StripesConsistent, stripe_of}
+use Rattle.pot_steps.specs.Holdings.{stripe_of}
 use Rattle.pot_steps.specs.Stripe.{Filling}
 use Rattle.pot_session.specs.Stripes.{held_in}
 use Rattle.pot_world.specs.Audit.{Blind, One, Sight, Whole, sight_of}
@@ -35,7 +35,6 @@ pub record AreCodewords (means : ℕ → Meaning) (t : Table) (blocks : ℕ → 
       → Filling t.data_columns t.parity (stripe_of t (held_in means) s) (blocks s)
   pub holds : (s k : ℕ) (b : List ℕ) → s < t.stripes → k < width t → slot_at t s k ≢ Void
       → (means (serving_at t s k)).held s ≡ Some b → b ≡ blocks s k
-  pub law : StripesConsistent t (held_in means)
 
 -- no relay comes to a block that is not the one written
 abbrev pub NoneIsOdd : WorldGroup → Type 0
